@@ -1,0 +1,6 @@
+use Rattle.std.proofs.Common.{false}
+use Rattle.std.proofs.lemmas.List.{get_or-replicate}
+use Rattle.sf_base.proofs.byte_set.ByteSet.empty.Goals as goal
+
+pub returns : goal.returns
+returns c k below = get_or-replicate 256 k false false below

@@ -1,0 +1,48 @@
+-- Values of destinations.
+use Rattle.std.specs.Prelude.{ℕ, ◌-◌, ◌%◌, ◌^◌, Bool, true, false, nat_eq, nat_lt, nat_le, if◌then◌else◌, List, find, ℤ, pos, neg_ℤ}
+use Rattle.std.specs.Prelude.{Option, Some, None}
+use Rattle.std.specs.Option.{option_map}
+use Rattle.sf_base.specs.declared.values.Kind.{Kind}
+use Rattle.sf_base.specs.declared.values.Kind.TheVariants.{I8, I16, I32, I64, U8, U16, U32, U64, Text}
+use Rattle.sf_base.specs.declared.values.Value.{Value}
+use Rattle.sf_base.specs.declared.values.Value.TheVariants as value
+
+-- what a destination was given: a number of its kind, or bytes
+pub data Datum : Type 0 where
+  Number : Kind → ℤ → Datum
+  Bytes : List ℕ → Datum
+
+-- a signed number of n bits beside the sign: from -2 ^ n to 2 ^ n - 1 (C11 6.2.6.2p2)
+abbrev pub signed_value : ℕ → Bool → ℕ → Option ℤ
+signed_value n false m = if nat_lt m (2 ^ n) then Some (pos m) else None
+signed_value n true m = if nat_le m (2 ^ n) then Some (neg_ℤ (pos m)) else None
+
+-- an unsigned number of n bits; a minus negates it modulo 2 ^ n (C11 6.2.5p9, 7.22.1.4p5)
+abbrev pub unsigned_value : ℕ → Bool → ℕ → Option ℤ
+unsigned_value n false m = if nat_lt m (2 ^ n) then Some (pos m) else None
+unsigned_value n true m = if nat_lt m (2 ^ n) then Some (pos ((2 ^ n - m) % 2 ^ n)) else None
+
+-- the value of a sign (true: a minus) and a magnitude in a kind, if the kind holds it (C11 7.21.6.2p10)
+abbrev pub value_of : Kind → Bool → ℕ → Option ℤ
+value_of I8 = signed_value 7
+value_of I16 = signed_value 15
+value_of I32 = signed_value 31
+value_of I64 = signed_value 63
+value_of U8 = unsigned_value 8
+value_of U16 = unsigned_value 16
+value_of U32 = unsigned_value 32
+value_of U64 = unsigned_value 64
+value_of Text = λ negative m. None
+
+-- a value without the Rust type that holds it
+abbrev pub datum_of : Value → Datum
+datum_of (value.I32 n) = Number I32 n
+
+-- a destination's slot, and what it was given
+pub record Assigned : Type 0 where
+  pub slot : ℕ
+  pub datum : Datum
+
+-- what a slot was given
+abbrev pub datum_at : ℕ → List Assigned → Option Datum
+datum_at slot values = option_map (λ a. a.datum) (find (λ a. nat_eq a.slot slot) values)

@@ -1,0 +1,4 @@
+pub mod Bytes
+pub mod Greatest
+pub mod Sets
+pub mod Data

@@ -1,0 +1,42 @@
+//! Sets of bytes.
+ghost use Rattle.std.specs.Prelude.{◌≡◌, ◌||◌, ◌==◌, ◌<◌, ℕ, List, Bool, false};
+ghost use Rattle.sf_base.specs.Sets.{has_byte};
+
+use std::marker::Model;
+
+/// A set of bytes.
+#[derive(Drop)]
+pub struct ByteSet {
+    marks: [bool; 256],
+}
+
+impl Model for ByteSet {
+    ghost Value = { List Bool };
+
+    ghost view = { λ s. s.marks };
+}
+
+impl ByteSet {
+    /// The set with no member.
+    pub fn empty() -> ByteSet
+        ensures { (k : ℕ) → k < 256 → has_byte result k ≡ false }
+    {
+        ByteSet {
+            marks: [false; 256],
+        }
+    }
+
+    /// Makes the byte a member.
+    pub fn insert(&mut self, b: u8)
+        ensures { (k : ℕ) → k < 256 → has_byte self.new k ≡ (k == b || has_byte self.old k) }
+    {
+        self.marks[b as usize] = true;
+    }
+
+    /// Whether the byte is a member.
+    pub fn contains(&self, b: u8) -> bool
+        ensures { result ≡ has_byte self.now b }
+    {
+        self.marks[b as usize]
+    }
+}

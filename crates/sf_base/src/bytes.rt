@@ -1,0 +1,25 @@
+//! Classes of bytes in the C locale.
+ghost use Rattle.std.specs.Prelude.{◌≡◌, ◌<◌, ◌≤◌, SomeIff};
+ghost use Rattle.std.specs.Char.{digit_value};
+ghost use Rattle.sf_base.specs.Bytes.{is_white};
+
+/// Whether the byte is white space: 9 to 13 or 32 (C11 7.4.1.10).
+pub fn is_space(b: u8) -> bool
+    ensures { result ≡ is_white b }
+{
+    b == 32 || (9 <= b && b <= 13)
+}
+
+/// The value of the byte as a digit of the base, letters in either case; None if it is no digit of it (C11 6.4.4.1).
+pub fn digit_value(b: u8, base: u8) -> Option<u8>
+    requires high { base ≤ 16 }
+    ensures { SomeIff result (digit_value b < base) (digit_value b) }
+{
+    let value = match b {
+        b'0'..=b'9' => b - b'0',
+        b'a'..=b'z' => b - b'a' + 10,
+        b'A'..=b'Z' => b - b'A' + 10,
+        _ => 36,
+    };
+    if value < base { Some(value) } else { None }
+}

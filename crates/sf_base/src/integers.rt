@@ -1,0 +1,55 @@
+//! Integers made of a sign and a magnitude.
+ghost use Rattle.std.specs.Prelude.{◌≡◌, ℤ, pos, neg_ℤ, Some, None, if◌then◌else◌};
+ghost use Rattle.std.specs.Option.{option_map};
+ghost use Rattle.sf_base.specs.declared.values.Kind.{Kind};
+ghost use Rattle.sf_base.specs.Data.{value_of};
+ghost use Rattle.num_traits.specs.Laws.{Casts};
+
+use crate::Kind;
+use num_traits::{NumCast, cast};
+
+/// An integer type that a destination can have.
+pub trait ScanInt: Sized {
+    ghost own_kind: { Kind };
+
+    ghost integer: { Self → ℤ };
+
+    /// The kind of the type.
+    fn kind() -> Kind
+        ensures { result ≡ own_kind };
+
+    /// The value of a sign (true: a minus) and a magnitude, where the type holds it (C11 7.21.6.2p10).
+    /// A magnitude that overflowed 64 bits has no value.
+    fn from_parts(negative: bool, magnitude: u64, overflowed: bool) -> Option<Self>
+        ensures { option_map integer result ≡ (if overflowed then None else value_of own_kind negative magnitude) };
+}
+
+fn signed<T: NumCast>(negative: bool, magnitude: u64) -> Option<T>
+    ensures { T.exact → Casts T.value T.fits (Some (if negative then neg_ℤ (pos magnitude) else pos magnitude)) result }
+{
+    let wide = if negative {
+        -(magnitude as i128)
+    } else {
+        magnitude as i128
+    };
+    cast::<i128, T>(wide)
+}
+
+impl ScanInt for i32 {
+    ghost use Rattle.sf_base.specs.declared.values.Kind.TheVariants.{I32};
+
+    ghost own_kind = { I32 };
+
+    ghost integer = { λ x. x };
+
+    fn kind() -> Kind {
+        Kind::I32
+    }
+
+    fn from_parts(negative: bool, magnitude: u64, overflowed: bool) -> Option<i32> {
+        if overflowed {
+            return None;
+        }
+        signed::<i32>(negative, magnitude)
+    }
+}

@@ -1,0 +1,51 @@
+//! The directives of a scan format.
+use sf_base::{ByteSet, Kind};
+
+/// Which conversions a format may have.
+#[derive(Clone, Copy, Debug, PartialEq, Eq)]
+pub enum Profile {
+    One,
+    Two,
+}
+
+/// How the digits of an integer are read.
+#[derive(Clone, Copy, Debug, PartialEq, Eq)]
+pub enum Base {
+    Dec,
+    Oct,
+    Hex,
+    /// Decimal, octal after `0`, hexadecimal after `0x`.
+    Auto,
+}
+
+/// What a conversion takes.
+#[derive(Drop)]
+pub enum Shape {
+    Int(Base),
+    Text,
+    Set(ByteSet),
+    Chars,
+    /// The number of bytes consumed so far; takes none.
+    Count,
+}
+
+/// A conversion. One without a slot is suppressed.
+#[derive(Drop)]
+pub struct Conversion {
+    pub shape: Shape,
+    pub kind: Kind,
+    pub width: Option<u16>,
+    pub slot: Option<u8>,
+}
+
+/// A directive of a scan format (C11 7.21.6.2p3).
+#[derive(Drop)]
+pub enum Directive {
+    /// A run of white space.
+    Space,
+    /// One ordinary byte.
+    Byte(u8),
+    /// `%%`.
+    Percent,
+    Conv(Conversion),
+}

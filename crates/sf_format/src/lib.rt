@@ -1,0 +1,10 @@
+//! Formats of scans.
+#![tactic(auto)]
+
+mod directive;
+mod fault;
+mod scan;
+
+pub use directive::{Base, Conversion, Directive, Profile, Shape};
+pub use fault::{FormatFault, FormatWhy};
+pub use scan::ScanFormat;
