@@ -21,10 +21,10 @@ impl Model for ScanFormat {
     ghost view = { λ f. f.directives.items };
 
     ghost invariant = { λ f. record {
-        proper : AreProper f.directives.items;
-        plain : are_plain f.directives.items ≡ true;
-        short : length f.directives.items ≤ 4096;
-        few : length (destinations_of f.directives.items) ≤ 32;
+      proper : AreProper f.directives.items;
+      plain : are_plain f.directives.items ≡ true;
+      short : length f.directives.items ≤ 4096;
+      few : length (destinations_of f.directives.items) ≤ 32;
     } };
 }
 

@@ -1,0 +1,5 @@
+pub mod Matching
+pub mod Progress
+pub mod Scan
+pub mod Taking
+pub mod Tests

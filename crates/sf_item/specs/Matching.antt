@@ -1,0 +1,71 @@
+-- Matching sequences and input items (C11 7.21.6.2p9, p12; 7.22.1.4p3 for integers).
+use Rattle.std.specs.Prelude.{◌≡◌, ℕ, ◌<◌, ◌≤◌, ◌⊎◌, Bool, true, false, List, [], ◌∷◌, ◌++◌, length, take, Option, IfSome, unwrap_or}
+use Rattle.std.specs.List.{AllByRecursion}
+use Rattle.std.specs.Str.Parse.{IsNumeral}
+use Rattle.sf_base.specs.Greatest.{IsGreatest}
+use Rattle.sf_base.specs.Bytes.{AreBytes, is_white, magnitude}
+use Rattle.sf_base.specs.Sets.{has_byte}
+use Rattle.sf_format.specs.declared.directive.Base.{Base}
+use Rattle.sf_format.specs.declared.directive.Base.TheVariants.{Dec, Oct, Hex, Auto}
+use Rattle.sf_format.specs.declared.directive.Shape.{Shape}
+use Rattle.sf_format.specs.declared.directive.Shape.TheVariants.{Int, Text, Set, Chars, Count}
+use Rattle.sf_format.specs.declared.directive.Conversion.{Conversion}
+
+-- one or more digits of the radix, and their number
+abbrev pub IsNumber : ℕ → List ℕ → ℕ → Type 0
+IsNumber radix ds m = IsNumeral radix ds × (m ≡ magnitude radix ds)
+
+-- 0, the letter in either case, and a number
+abbrev pub IsPrefixed : ℕ → ℕ → ℕ → List ℕ → ℕ → Type 0
+IsPrefixed lower upper radix [] m = ⊥
+IsPrefixed lower upper radix (zero_digit ∷ []) m = ⊥
+IsPrefixed lower upper radix (zero_digit ∷ letter ∷ ds) m =
+    (zero_digit ≡ 48) × ((letter ≡ lower) ⊎ (letter ≡ upper)) × IsNumber radix ds m
+
+abbrev pub StartsWithZero : List ℕ → Type 0
+StartsWithZero [] = ⊥
+StartsWithZero (b ∷ bs) = b ≡ 48
+
+-- what follows the sign of an integer, and its magnitude
+abbrev pub IsUnsigned : Base → List ℕ → ℕ → Type 0
+IsUnsigned Dec body m = IsNumber 10 body m
+IsUnsigned Oct body m = IsNumber 8 body m
+IsUnsigned Hex body m = IsNumber 16 body m ⊎ IsPrefixed 120 88 16 body m
+IsUnsigned Auto body m =
+    ((StartsWithZero body → ⊥) × IsNumber 10 body m)
+    ⊎ (StartsWithZero body × IsNumber 8 body m)
+    ⊎ IsPrefixed 120 88 16 body m
+
+-- an optional sign; a minus is negative
+abbrev pub IsSign : List ℕ → Bool → Type 0
+IsSign [] negative = negative ≡ false
+IsSign (b ∷ []) negative = (b ≡ 43) × (negative ≡ false) ⊎ (b ≡ 45) × (negative ≡ true)
+IsSign (b ∷ c ∷ bs) negative = ⊥
+
+-- an integer of the base, with its sign and magnitude
+abbrev pub IsInteger : Base → List ℕ → Bool → ℕ → Type 0
+IsInteger base s negative m =
+    (sign : List ℕ) × (body : List ℕ) × (s ≡ sign ++ body) × IsSign sign negative × IsUnsigned base body m
+
+abbrev pub ShapeMatches : Shape → Option ℕ → List ℕ → Type 0
+ShapeMatches (Int base) width s = (negative : Bool) × (m : ℕ) × IsInteger base s negative m
+ShapeMatches Text width s = (0 < length s) × AllByRecursion (λ b. is_white b ≡ false) s
+ShapeMatches (Set members) width s = (0 < length s) × AllByRecursion (λ b. has_byte members b ≡ true) s
+ShapeMatches Chars width s = length s ≡ unwrap_or width 1
+ShapeMatches Count width s = ⊥
+
+-- s is a matching sequence of the conversion
+abbrev pub Matches : Conversion → List ℕ → Type 0
+Matches c s = ShapeMatches c.shape c.width s
+
+-- f is a matching sequence or a front of one; no width bounds what may follow (our choice: C11 7.21.6.2p9 leaves it open)
+abbrev pub Begins : Conversion → List ℕ → Type 0
+Begins c f = (t : List ℕ) × AreBytes t × Matches c (f ++ t)
+
+-- n bytes are within the conversion's width, where it has one
+abbrev pub IsWithin : Conversion → ℕ → Type 0
+IsWithin c n = IfSome c.width (λ w. n ≤ w)
+
+-- the input item has k bytes: the longest front of x, within the width, that begins a matching sequence
+abbrev pub IsItem : Conversion → List ℕ → ℕ → Type 0
+IsItem c x k = IsGreatest (λ j. (j ≤ length x) × IsWithin c j × Begins c (take j x)) k

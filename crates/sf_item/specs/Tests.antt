@@ -1,0 +1,53 @@
+-- What matches and what begins a matching sequence, as tests that compute. proofs/Deciding shows that they say what Matching says.
+use Rattle.std.specs.Prelude.{ℕ, Bool, true, false, ◌&&◌, nat_eq, nat_lt, nat_le, List, [], ◌∷◌, length, Option, Some, None, is_some, unwrap_or, not}
+use Rattle.std.specs.List.{list_all}
+use Rattle.sf_base.specs.Bytes.{is_white}
+use Rattle.sf_base.specs.Sets.{has_byte}
+use Rattle.sf_format.specs.declared.directive.Base.{Base}
+use Rattle.sf_format.specs.declared.directive.Shape.{Shape}
+use Rattle.sf_format.specs.declared.directive.Shape.TheVariants.{Int, Text, Set, Chars, Count}
+use Rattle.sf_format.specs.declared.directive.Conversion.{Conversion}
+use Rattle.sf_item.specs.Progress.{Progress, Start, advance, integer_of}
+
+-- how far an integer is read with these bytes, where that can be
+abbrev pub read : Base → Option Progress → List ℕ → Option Progress
+read base None f = None
+read base (Some p) [] = Some p
+read base (Some p) (b ∷ f) = read base (advance base p b) f
+
+abbrev pub integer_in : Option Progress → Option (Bool × ℕ)
+integer_in None = None
+integer_in (Some p) = integer_of p
+
+-- the sign and magnitude of an integer
+abbrev pub integer_at : Base → List ℕ → Option (Bool × ℕ)
+integer_at base f = integer_in (read base (Some Start) f)
+
+abbrev pub is_ink : ℕ → Bool
+is_ink b = not (is_white b)
+
+abbrev pub shape_matches : Shape → Option ℕ → List ℕ → Bool
+shape_matches (Int base) width s = is_some (integer_at base s)
+shape_matches Text width s = nat_lt 0 (length s) && list_all is_ink s
+shape_matches (Set members) width s = nat_lt 0 (length s) && list_all (has_byte members) s
+shape_matches Chars width s = nat_eq (length s) (unwrap_or width 1)
+shape_matches Count width s = false
+
+abbrev pub shape_begins : Shape → Option ℕ → List ℕ → Bool
+shape_begins (Int base) width f = is_some (read base (Some Start) f)
+shape_begins Text width f = list_all is_ink f
+shape_begins (Set members) width f = list_all (has_byte members) f
+shape_begins Chars width f = nat_le (length f) (unwrap_or width 1)
+shape_begins Count width f = false
+
+abbrev pub is_within : Option ℕ → ℕ → Bool
+is_within None n = true
+is_within (Some w) n = nat_le n w
+
+-- s is a matching sequence
+abbrev pub matches : Conversion → List ℕ → Bool
+matches c s = shape_matches c.shape c.width s
+
+-- the front g is within the width and begins a matching sequence
+abbrev pub can_take : Conversion → List ℕ → Bool
+can_take c g = is_within c.width (length g) && shape_begins c.shape c.width g

@@ -1,0 +1,127 @@
+// Integers, read byte by byte.
+ghost use Rattle.std.specs.Prelude.{◌≡◌, false, ◌+◌, ◌*◌, ◌<◌, ◌≤◌, ◌↔◌, ℕ, List, [], ◌∷◌, ◌++◌};
+ghost use Rattle.sf_item.specs.Progress.{Progress, advance, first_radix, zero_radix, is_prefix_letter, with_digit, with_first_digit};
+ghost use Rattle.sf_item.specs.Scan.{HoldsNumber, Shows, ShowsNext};
+
+use crate::reached::{Digits, Reached};
+use sf_base::digit_value;
+use sf_format::Base;
+
+// The number with one digit more.
+fn with_digit(digits: Digits, digit: u8) -> Digits
+    requires below { digit < digits.radix }
+    ensures negative { result.negative ≡ digits.negative }
+    ensures radix { result.radix ≡ digits.radix }
+    ensures number { (value : ℕ) → HoldsNumber digits.magnitude digits.overflowed value
+        → HoldsNumber result.magnitude result.overflowed (value * digits.radix + digit) }
+{
+    if digits.overflowed {
+        return digits;
+    }
+    let product = digits.magnitude as u128 * digits.radix as u128 + digit as u128;
+    match u64::try_from(product) {
+        Ok(magnitude) => Digits {
+            negative: digits.negative,
+            radix: digits.radix,
+            magnitude,
+            overflowed: false,
+        },
+        Err(_) => Digits {
+            negative: digits.negative,
+            radix: digits.radix,
+            magnitude: 0,
+            overflowed: true,
+        },
+    }
+}
+
+// The digits with one byte more, if it is a digit.
+fn with_byte(digits: Digits, b: u8) -> Option<Reached>
+    ensures { (value : ℕ) → HoldsNumber digits.magnitude digits.overflowed value
+        → ShowsNext result (with_digit digits.negative digits.radix value b) }
+{
+    let digit = digit_value(b, digits.radix)?;
+    Some(Reached::Digits(with_digit(digits, digit)))
+}
+
+// The first digit of a radix.
+fn from_nothing(negative: bool, radix: u8, b: u8) -> Option<Reached>
+    requires some { 0 < radix }
+    requires small { radix ≤ 16 }
+    ensures { ShowsNext result (with_digit negative radix 0 b) }
+{
+    let nothing = Digits {
+        negative,
+        radix,
+        magnitude: 0,
+        overflowed: false,
+    };
+    with_byte(nothing, b)
+}
+
+// The radix of an integer that begins with another digit than 0.
+fn first_radix(base: Base) -> u8
+    ensures some { 0 < result }
+    ensures small { result ≤ 16 }
+    ensures radix { result ≡ first_radix base }
+{
+    match base {
+        Base::Dec | Base::Auto => 10,
+        Base::Oct => 8,
+        Base::Hex => 16,
+    }
+}
+
+// The radix of one that begins with 0.
+fn zero_radix(base: Base) -> u8
+    ensures some { 0 < result }
+    ensures small { result ≤ 16 }
+    ensures radix { result ≡ zero_radix base }
+{
+    match base {
+        Base::Dec => 10,
+        Base::Oct | Base::Auto => 8,
+        Base::Hex => 16,
+    }
+}
+
+fn is_prefix_letter(base: Base, b: u8) -> bool
+    ensures { result ≡ is_prefix_letter base b }
+{
+    match base {
+        Base::Dec | Base::Oct => false,
+        Base::Hex | Base::Auto => b == b'x' || b == b'X',
+    }
+}
+
+fn first_digit(base: Base, negative: bool, b: u8) -> Option<Reached>
+    ensures { ShowsNext result (with_first_digit base negative b) }
+{
+    if b == b'0' {
+        return Some(Reached::Zero(negative));
+    }
+    from_nothing(negative, first_radix(base), b)
+}
+
+// How far an integer of the base is read with one byte more, where that can be.
+pub fn advance(base: Base, reached: Reached, b: u8) -> Option<Reached>
+    ensures { (p : Progress) → Shows reached p → ShowsNext result (advance base p b) }
+{
+    match reached {
+        Reached::Start => match b {
+            b'+' => Some(Reached::Signed(false)),
+            b'-' => Some(Reached::Signed(true)),
+            _ => first_digit(base, false, b),
+        },
+        Reached::Signed(negative) => first_digit(base, negative, b),
+        Reached::Zero(negative) => {
+            if is_prefix_letter(base, b) {
+                Some(Reached::Prefix(negative))
+            } else {
+                from_nothing(negative, zero_radix(base), b)
+            }
+        }
+        Reached::Prefix(negative) => from_nothing(negative, 16, b),
+        Reached::Digits(digits) => with_byte(digits, b),
+    }
+}
