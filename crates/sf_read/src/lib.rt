@@ -1,0 +1,6 @@
+//! Whole scans.
+#![tactic(auto)]
+
+mod whole;
+
+pub use whole::sscan;

@@ -1,0 +1,7 @@
+pub mod Steps
+pub mod Runs
+pub mod Limits
+pub mod Laws
+pub mod Machine
+pub mod Residual
+pub mod Views

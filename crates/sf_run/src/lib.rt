@@ -1,0 +1,8 @@
+//! Runs of scan formats over bytes that are handed in.
+#![tactic(auto)]
+
+mod outcome;
+mod report;
+
+pub use outcome::{Ending, Fed, FeedState, Outcome, StartFault, Status};
+pub use report::{Report, Scanned};
