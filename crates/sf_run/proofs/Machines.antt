@@ -1,6 +1,7 @@
 -- Laws of the directives' machines that the run rests on.
-use Rattle.std.proofs.Common.{◌≡◌, ◌≢◌, ℕ, zero, suc, ◌+◌, ◌<◌, ◌≤◌, Bool, true, false, not, cond, ◌&&◌, nat_eq, List, [], ◌∷◌, ◌++◌, length, Option, Some, None, is_some, refl, sym, ap, subst, ◌∙◌, arith, lit<, lit≤, true≢false, ℤ}
+use Rattle.std.proofs.Common.{◌≡◌, ◌≢◌, ℕ, zero, suc, ◌+◌, ◌<◌, ◌≤◌, Bool, true, false, not, cond, ◌&&◌, nat_eq, List, [], ◌∷◌, ◌++◌, length, Option, Some, None, is_some, refl, sym, ap, subst, ◌∙◌, arith, lit<, lit≤, true≢false, nat_le, unwrap_or, length-append, ℤ}
 use Rattle.std.proofs.lemmas.Bool.Decides.{nat_tests}
+use Rattle.std.specs.List.{list_all}
 use Rattle.sf_base.specs.Bytes.{is_white}
 use Rattle.sf_base.specs.Data.{value_of}
 use Rattle.sf_format.specs.declared.directive.Shape.{Shape}
@@ -9,12 +10,16 @@ use Rattle.sf_format.specs.declared.directive.Conversion.{Conversion}
 use Rattle.sf_format.specs.declared.directive.Directive.{Directive}
 use Rattle.sf_format.specs.declared.directive.Directive.TheVariants.{Space, Byte, Percent, Conv}
 use Rattle.sf_format.specs.Proper.{IsProper, IsProperShape, IsProperWidth}
-use Rattle.sf_item.specs.Tests.{integer_at, matches, can_take}
-use Rattle.sf_item.proofs.Deciding.{Tests, fails, tests_same, tests_itself}
+use Rattle.sf_base.specs.Sets.{has_byte}
+use Rattle.sf_format.specs.declared.directive.Base.{Base}
+use Rattle.sf_item.specs.Taking.{IsInt}
+use Rattle.sf_item.specs.Tests.{integer_at, is_ink, is_within, shape_begins, matches, can_take}
+use Rattle.sf_item.proofs.Fronts.{HasItem, can_take_front, integer_goes_on}
+use Rattle.sf_item.proofs.Deciding.{Tests, fails, tests_same, tests_most}
 use Rattle.sf_run.specs.declared.outcome.Status.{Status}
 use Rattle.sf_run.specs.declared.outcome.Status.TheVariants.{InputFailure, MatchingFailure, OutOfRange, TooLong}
 use Rattle.sf_run.specs.Steps.{StepEnd, Passes, Stores, Fails}
-use Rattle.sf_run.specs.Machine.{Stage, Skipping, Taken, Item, shape_skips, stepped, conversion_stepped, some_below, is_full, finished, number_end, count_end, integer_end, stored_end, passed_end, item_end, nothing_end, byte_finished, item_finished, conversion_finished}
+use Rattle.sf_run.specs.Machine.{Stage, Skipping, Taken, Item, shape_skips, item_stepped, stepped, conversion_stepped, some_below, is_full, finished, number_end, count_end, integer_end, stored_end, passed_end, item_end, nothing_end, byte_finished, item_finished, conversion_finished}
 use Rattle.sf_run.specs.Residual.{Part, choose, one_from}
 
 -- ---- a byte that would be taken
@@ -81,6 +86,264 @@ full_of_none d q none = ap not (no_byte (some_below 256 (takes d q)) refl)
 
 -- ---- a full directive takes nothing
 
--- a byte beyond all bytes, that would be taken, has a byte that would be taken too
-abbrev ByteToo : Directive → Stage → ℕ → Type 0
-ByteToo d q b = is_some (stepped d q b) ≡ true → SomeBelow 256 (takes d q)
+left_of : (a b : Bool) → (a && b) ≡ true → a ≡ true
+left_of true b e = refl
+left_of false b e = e
+
+right_of : (a b : Bool) → (a && b) ≡ true → b ≡ true
+right_of true b e = e
+right_of false b e = absurd (true≢false (sym e))
+
+both : (a b : Bool) → a ≡ true → b ≡ true → (a && b) ≡ true
+both true b first second = second
+both false b first second = absurd (true≢false (sym first))
+
+-- whether a byte is last is all that the lengths see
+same_length : (f : List ℕ) (b e : ℕ) → length (f ++ b ∷ []) ≡ length (f ++ e ∷ [])
+same_length f b e = omega (arith, length-append f (b ∷ []), length-append f (e ∷ []))
+
+all_with : (p : ℕ → Bool) (f : List ℕ) (b e : ℕ) → list_all p (f ++ b ∷ []) ≡ true → p e ≡ true → list_all p (f ++ e ∷ []) ≡ true
+all_with p [] b e h one = both (p e) true one refl
+all_with p (x ∷ f) b e h one =
+    both (p x) (list_all p (f ++ e ∷ [])) (left_of (p x) (list_all p (f ++ b ∷ [])) h)
+    (all_with p f b e (right_of (p x) (list_all p (f ++ b ∷ [])) h) one)
+
+abbrev Begins : Shape → Option ℕ → List ℕ → ℕ → Type 0
+Begins shape width f b = shape_begins shape width (f ++ b ∷ []) ≡ true
+
+-- where some number goes on, a byte does, if the shape is no integer's
+another_begins : (shape : Shape) (width : Option ℕ) → (IsInt shape → ⊥) → IsProperShape shape → (f : List ℕ) (b : ℕ) → Begins shape width f b
+    → (e : ℕ) × (e < 256) × Begins shape width f e
+another_begins (Int base) width other proper f b h = absurd (other (base, refl))
+another_begins Text width other proper f b h = (65, lit< tt, all_with is_ink f b 65 h refl)
+another_begins (Set members) width other proper f b h = (proper.0, proper.1, all_with (has_byte members) f b proper.0 h proper.2)
+another_begins Chars width other proper f b h = (0, lit< tt, subst (λ n. nat_le n (unwrap_or width 1) ≡ true) (same_length f b 0) h)
+another_begins Count width other proper f b h = absurd (true≢false (sym h))
+
+abbrev another : Conversion → List ℕ → Type 0
+another c f = (e : ℕ) × (e < 256) × (can_take c (f ++ e ∷ []) ≡ true)
+
+-- where some number is taken, a byte is
+another_byte : (c : Conversion) → IsProperShape c.shape → (f : List ℕ) (b : ℕ) → can_take c (f ++ b ∷ []) ≡ true → another c f
+another_byte c proper f b h = by_shape c.shape refl
+  where
+    within : is_within c.width (length (f ++ b ∷ [])) ≡ true
+    within = left_of (is_within c.width (length (f ++ b ∷ []))) (shape_begins c.shape c.width (f ++ b ∷ [])) h
+
+    begins : Begins c.shape c.width f b
+    begins = right_of (is_within c.width (length (f ++ b ∷ []))) (shape_begins c.shape c.width (f ++ b ∷ [])) h
+
+    longer : length (f ++ b ∷ []) ≡ length f + 1
+    longer = omega (arith, length-append f (b ∷ []))
+
+    other : (IsInt c.shape → ⊥) → another c f
+    other no_integer =
+        let (e, byte, front) = another_begins c.shape c.width no_integer proper f b begins in
+        (e, byte, both (is_within c.width (length (f ++ e ∷ []))) (shape_begins c.shape c.width (f ++ e ∷ []))
+            (subst (λ n. is_within c.width n ≡ true) (same_length f b e) within) front)
+
+    integer : (base : Base) → c.shape ≡ Int base → another c f
+    integer base is =
+        (48, lit< tt, integer_goes_on c f (base, is) (can_take_front c f b h) (subst (λ n. is_within c.width n ≡ true) longer within))
+
+    by_shape : (shape : Shape) → c.shape ≡ shape → another c f
+    by_shape (Int base) e = integer base e
+    by_shape Text e = other (λ int. let k = sym e ∙ int.1 in absurd cc)
+    by_shape (Set members) e = other (λ int. let k = sym e ∙ int.1 in absurd cc)
+    by_shape Chars e = other (λ int. let k = sym e ∙ int.1 in absurd cc)
+    by_shape Count e = other (λ int. let k = sym e ∙ int.1 in absurd cc)
+
+-- one that takes a byte isn't full
+takes_one : (d : Directive) (q : Stage) (b : ℕ) (r : Stage) → b < 256 → stepped d q b ≡ Some r → is_full d q ≡ true → ⊥
+takes_one d q b r below e full = true≢false (sym full ∙ not_full d q b r below e)
+
+same_test : (a : ℕ) → nat_eq a a ≡ true
+same_test a = (tests_same a a).to refl
+
+item_nothing : (c : Conversion) → IsProperShape c.shape → (q : Stage) (f : List ℕ) → ((b : ℕ) → stepped (Conv c) q b ≡ item_stepped c f b) → is_full (Conv c) q ≡ true → (b : ℕ) → item_stepped c f b ≡ None
+item_nothing c proper q f is full b = by_case (can_take c (f ++ b ∷ [])) refl
+  where
+    by_case : (v : Bool) → can_take c (f ++ b ∷ []) ≡ v → cond v (Some (Item (f ++ b ∷ []))) None ≡ None
+    by_case false e = refl
+    by_case true e =
+        let (o, byte, h) = another_byte c proper f b e in
+        absurd (takes_one (Conv c) q o (Item (f ++ o ∷ [])) byte (is o ∙ ap (λ v. cond v (Some (Item (f ++ o ∷ []))) None) h) full)
+
+pub full_takes_nothing : (d : Directive) → IsProper d → (q : Stage) (b : ℕ) → is_full d q ≡ true → stepped d q b ≡ None
+full_takes_nothing Space proper Skipping b full = absurd (takes_one Space Skipping 32 Skipping (lit< tt) refl full)
+full_takes_nothing Space proper Taken b full = refl
+full_takes_nothing Space proper (Item f) b full = refl
+full_takes_nothing (Byte a) proper Skipping b full =
+    absurd (takes_one (Byte a) Skipping a Taken proper (ap (λ v. cond v (Some Taken) None) (same_test a)) full)
+full_takes_nothing (Byte a) proper Taken b full = refl
+full_takes_nothing (Byte a) proper (Item f) b full = refl
+full_takes_nothing Percent proper Skipping b full = absurd (takes_one Percent Skipping 37 Taken (lit< tt) refl full)
+full_takes_nothing Percent proper Taken b full = refl
+full_takes_nothing Percent proper (Item f) b full = refl
+full_takes_nothing (Conv c) proper Skipping b full = by_skips (shape_skips c.shape) refl
+  where
+    by_skips : (v : Bool) → shape_skips c.shape ≡ v → cond (shape_skips c.shape && is_white b) (Some Skipping) (item_stepped c [] b) ≡ None
+    by_skips true e = absurd (takes_one (Conv c) Skipping 32 Skipping (lit< tt) (ap (λ v. cond (v && true) (Some Skipping) (item_stepped c [] 32)) e) full)
+    by_skips false e =
+        ap (λ v. cond (v && is_white b) (Some Skipping) (item_stepped c [] b)) e
+        ∙ item_nothing c proper.0 Skipping [] (λ o. ap (λ v. cond (v && is_white o) (Some Skipping) (item_stepped c [] o)) e) full b
+full_takes_nothing (Conv c) proper Taken b full = refl
+full_takes_nothing (Conv c) proper (Item f) b full = item_nothing c proper.0 (Item f) f (λ o. refl) full b
+
+-- ---- the end of a full directive
+
+within_one : (width : Option ℕ) → IsProperWidth width → is_within width 1 ≡ true
+within_one None h = refl
+within_one (Some w) h = (tests_most 1 w).to h
+
+one_char : (width : Option ℕ) → IsProperWidth width → nat_le 1 (unwrap_or width 1) ≡ true
+one_char None h = refl
+one_char (Some w) h = (tests_most 1 w).to h
+
+-- some byte begins an item
+first_begins : (shape : Shape) (width : Option ℕ) → IsProperShape shape → IsProperWidth width → HasItem shape
+    → (e : ℕ) × (e < 256) × (shape_begins shape width (e ∷ []) ≡ true)
+first_begins (Int base) width proper wide item = (48, lit< tt, refl)
+first_begins Text width proper wide item = (65, lit< tt, refl)
+first_begins (Set members) width proper wide item = (proper.0, proper.1, both (has_byte members proper.0) true proper.2 refl)
+first_begins Chars width proper wide item = (0, lit< tt, one_char width wide)
+first_begins Count width proper wide item = absurd item
+
+-- a conversion with an item isn't full before it
+item_not_full : (c : Conversion) → IsProper (Conv c) → HasItem c.shape → is_full (Conv c) Skipping ≡ true → ⊥
+item_not_full c proper item full =
+    let (e, byte, begins) = first_begins c.shape c.width proper.0 proper.1 item in
+    let can : can_take c (e ∷ []) ≡ true = both (is_within c.width 1) (shape_begins c.shape c.width (e ∷ [])) (within_one c.width proper.1) begins in
+    by_skips e byte can (shape_skips c.shape && is_white e) refl
+  where
+    by_skips : (e : ℕ) → e < 256 → can_take c (e ∷ []) ≡ true → (v : Bool) → (shape_skips c.shape && is_white e) ≡ v → ⊥
+    by_skips e byte can true is = takes_one (Conv c) Skipping e Skipping byte (ap (λ v. cond v (Some Skipping) (item_stepped c [] e)) is) full
+    by_skips e byte can false is =
+        takes_one (Conv c) Skipping e (Item (e ∷ [])) byte
+            (ap (λ v. cond v (Some Skipping) (item_stepped c [] e)) is ∙ ap (λ v. cond v (Some (Item (e ∷ []))) None) can) full
+
+shape_full : (c : Conversion) (shape : Shape) (q : Stage) (n : ℕ) (more : Bool) → (q ≡ Skipping → HasItem shape → ⊥)
+    → conversion_finished c shape q n more ≡ conversion_finished c shape q n true
+shape_full c Count q n more none = refl
+shape_full c (Int base) Skipping n more none = absurd (none refl tt)
+shape_full c Text Skipping n more none = absurd (none refl tt)
+shape_full c (Set members) Skipping n more none = absurd (none refl tt)
+shape_full c Chars Skipping n more none = absurd (none refl tt)
+shape_full c (Int base) Taken n more none = refl
+shape_full c Text Taken n more none = refl
+shape_full c (Set members) Taken n more none = refl
+shape_full c Chars Taken n more none = refl
+shape_full c (Int base) (Item f) n more none = refl
+shape_full c Text (Item f) n more none = refl
+shape_full c (Set members) (Item f) n more none = refl
+shape_full c Chars (Item f) n more none = refl
+
+-- what follows a full directive makes no difference to its end
+pub full_finish : (d : Directive) → IsProper d → (q : Stage) (n : ℕ) (more : Bool) → is_full d q ≡ true → finished d q n more ≡ finished d q n true
+full_finish Space proper q n more full = refl
+full_finish (Byte a) proper Skipping n more full =
+    absurd (takes_one (Byte a) Skipping a Taken proper (ap (λ v. cond v (Some Taken) None) (same_test a)) full)
+full_finish (Byte a) proper Taken n more full = refl
+full_finish (Byte a) proper (Item f) n more full = refl
+full_finish Percent proper Skipping n more full = absurd (takes_one Percent Skipping 37 Taken (lit< tt) refl full)
+full_finish Percent proper Taken n more full = refl
+full_finish Percent proper (Item f) n more full = refl
+full_finish (Conv c) proper q n more full =
+    shape_full c c.shape q n more (λ e item. item_not_full c proper item (subst (λ r. is_full (Conv c) r ≡ true) e full))
+
+-- a full directive takes nothing, and ends alike whatever follows
+pub full_refuses : (d : Directive) → IsProper d → (q : Stage) (n : ℕ) (z : List ℕ) → is_full d q ≡ true
+    → one_from d q n z ≡ record { used = n; left = z; end = finished d q n true }
+full_refuses d proper q n [] full = ap (λ e. record { used = n; left = []; end = e }) (full_finish d proper q n false full)
+full_refuses d proper q n (b ∷ z) full =
+    ap (λ o. choose o (record { used = n; left = b ∷ z; end = finished d q n true }) (λ r. one_from d r (n + 1) z)) (full_takes_nothing d proper q b full)
+
+-- a byte that is not taken ends the directive
+pub byte_refused : (d : Directive) (q : Stage) (n b : ℕ) (z : List ℕ) → stepped d q b ≡ None
+    → one_from d q n (b ∷ z) ≡ record { used = n; left = b ∷ z; end = finished d q n true }
+byte_refused d q n b z e =
+    ap (λ o. choose o (record { used = n; left = b ∷ z; end = finished d q n true }) (λ r. one_from d r (n + 1) z)) e
+
+-- ---- no directive is too long by itself
+
+abbrev NotTooLong : StepEnd → Type 0
+NotTooLong end = end ≡ Fails TooLong → ⊥
+
+number_fits : (c : Conversion) (slot : ℕ) (v : Option ℤ) → NotTooLong (number_end c slot v)
+number_fits c slot None e = cc
+number_fits c slot (Some v) e = cc
+
+count_fits : (c : Conversion) (slot : Option ℕ) (n : ℕ) → NotTooLong (count_end c slot n)
+count_fits c None n e = cc
+count_fits c (Some slot) n e = number_fits c slot (value_of c.kind false n) e
+
+integer_fits : (c : Conversion) (slot : ℕ) (i : Option (Bool × ℕ)) → NotTooLong (integer_end c slot i)
+integer_fits c slot None e = cc
+integer_fits c slot (Some i) e = number_fits c slot (value_of c.kind i.0 i.1) e
+
+stored_fits : (c : Conversion) (slot : ℕ) (shape : Shape) (item : List ℕ) → NotTooLong (stored_end c slot shape item)
+stored_fits c slot (Int base) item e = integer_fits c slot (integer_at base item) e
+stored_fits c slot Text item e = cc
+stored_fits c slot (Set members) item e = cc
+stored_fits c slot Chars item e = cc
+stored_fits c slot Count item e = cc
+
+passed_fits : (c : Conversion) (slot : Option ℕ) (item : List ℕ) → NotTooLong (passed_end c slot item)
+passed_fits c None item e = cc
+passed_fits c (Some slot) item e = stored_fits c slot c.shape item e
+
+item_fits : (c : Conversion) (item : List ℕ) → NotTooLong (item_end c item)
+item_fits c item = by_case (matches c item)
+  where
+    by_case : (v : Bool) → NotTooLong (cond v (passed_end c c.slot item) (Fails MatchingFailure))
+    by_case true e = passed_fits c c.slot item e
+    by_case false e = cc
+
+nothing_fits : (more : Bool) → NotTooLong (nothing_end more)
+nothing_fits true e = cc
+nothing_fits false e = cc
+
+item_finish_fits : (c : Conversion) (q : Stage) (more : Bool) → NotTooLong (item_finished c q more)
+item_finish_fits c Skipping more e = nothing_fits more e
+item_finish_fits c Taken more e = cc
+item_finish_fits c (Item f) more e = item_fits c f e
+
+conversion_fits : (c : Conversion) (shape : Shape) (q : Stage) (n : ℕ) (more : Bool) → NotTooLong (conversion_finished c shape q n more)
+conversion_fits c Count q n more e = count_fits c c.slot n e
+conversion_fits c (Int base) q n more e = item_finish_fits c q more e
+conversion_fits c Text q n more e = item_finish_fits c q more e
+conversion_fits c (Set members) q n more e = item_finish_fits c q more e
+conversion_fits c Chars q n more e = item_finish_fits c q more e
+
+byte_fits : (q : Stage) (more : Bool) → NotTooLong (byte_finished q more)
+byte_fits Skipping more e = nothing_fits more e
+byte_fits Taken more e = cc
+byte_fits (Item f) more e = cc
+
+finish_fits : (d : Directive) (q : Stage) (n : ℕ) (more : Bool) → NotTooLong (finished d q n more)
+finish_fits Space q n more e = cc
+finish_fits (Byte a) q n more e = byte_fits q more e
+finish_fits Percent q n more e = byte_fits q more e
+finish_fits (Conv c) q n more e = conversion_fits c c.shape q n more e
+
+by_option : (P : Part → Type 0) (o : Option Stage) (y : Part) (f : Stage → Part) → P y → ((r : Stage) → P (f r)) → P (choose o y f)
+by_option P None y f a b = a
+by_option P (Some r) y f a b = b r
+
+pub never_too_long : (d : Directive) (q : Stage) (n : ℕ) (x : List ℕ) → (one_from d q n x).end ≡ Fails TooLong → ⊥
+never_too_long d q n [] = finish_fits d q n false
+never_too_long d q n (b ∷ x) =
+    by_option (λ p. p.end ≡ Fails TooLong → ⊥) (stepped d q b) _ _ (finish_fits d q n true) (λ r. never_too_long d r (n + 1) x)
+
+-- ---- bytes used and left
+
+-- a directive never uses fewer bytes than were used
+pub grows : (d : Directive) (q : Stage) (n : ℕ) (x : List ℕ) → n ≤ (one_from d q n x).used
+grows d q n [] = omega arith
+grows d q n (b ∷ x) = by_option (λ p. n ≤ p.used) (stepped d q b) _ _ (omega arith) (λ r. omega (arith, grows d r (n + 1) x))
+
+-- what is used and what is left are all
+pub keeps_all : (d : Directive) (q : Stage) (n : ℕ) (x : List ℕ) → (one_from d q n x).used + length (one_from d q n x).left ≡ n + length x
+keeps_all d q n [] = refl
+keeps_all d q n (b ∷ x) =
+    by_option (λ p. p.used + length p.left ≡ n + suc (length x)) (stepped d q b) _ _ refl (λ r. omega (arith, keeps_all d r (n + 1) x))

@@ -5,3 +5,4 @@ pub mod Laws
 pub mod Machine
 pub mod Residual
 pub mod Views
+pub mod Phases

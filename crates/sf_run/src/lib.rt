@@ -1,6 +1,7 @@
 //! Runs of scan formats over bytes that are handed in.
 #![tactic(auto)]
 
+mod directive;
 mod outcome;
 mod report;
 
