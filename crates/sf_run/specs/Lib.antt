@@ -6,3 +6,5 @@ pub mod Machine
 pub mod Residual
 pub mod Views
 pub mod Phases
+pub mod Tallies
+pub mod Places

@@ -1,10 +1,12 @@
 //! One directive, handed byte after byte.
-ghost use Rattle.std.specs.Prelude.{◌≡◌, true, ℕ, List};
+ghost use Rattle.std.specs.Prelude.{◌≡◌, true, false, ℕ, List, is_some};
 ghost use Rattle.sf_format.specs.declared.directive.Directive.{Directive};
 ghost use Rattle.sf_format.specs.declared.directive.Directive.TheVariants as directive;
 ghost use Rattle.sf_format.specs.Proper.{is_plain, is_i32, IsProper};
 ghost use Rattle.sf_item.specs.Taking.{IsInt, HasTaken, conversion_of};
 ghost use Rattle.sf_run.specs.Machine.{Stage, byte_stepped, item_stepped, conversion_stepped, percent_stepped, space_stepped, stepped, is_full, nothing_end, byte_finished, item_end, finished};
+ghost use Rattle.sf_run.specs.Places.{is_destination};
+ghost use Rattle.sf_run.specs.Runs.{stored};
 ghost use Rattle.sf_run.specs.Phases.{Shows, ShowsNext, end_of, passed_number};
 
 use crate::outcome::Status;
@@ -114,7 +116,8 @@ impl Phase<'_> {
 }
 
 fn finish_nothing(more: bool) -> Finished
-    ensures { end_of result ≡ nothing_end more }
+    ensures end { end_of result ≡ nothing_end more }
+    ensures stores { stored (end_of result) ≡ false }
 {
     Finished::Fails(if more {
         Status::MatchingFailure
@@ -124,7 +127,8 @@ fn finish_nothing(more: bool) -> Finished
 }
 
 fn finish_byte(phase: Phase<'_>, more: bool) -> Finished
-    ensures { (d : Directive) (q : Stage) → Shows d phase.entry q → end_of result ≡ byte_finished q more }
+    ensures end { (d : Directive) (q : Stage) → Shows d phase.entry q → end_of result ≡ byte_finished q more }
+    ensures stores { stored (end_of result) ≡ false }
 {
     match phase {
         Phase::Skipping => finish_nothing(more),
@@ -135,7 +139,8 @@ fn finish_byte(phase: Phase<'_>, more: bool) -> Finished
 
 fn finish_number(conversion: &Conversion, value: Option<i32>) -> Finished
     requires { is_i32 conversion.now.kind ≡ true }
-    ensures { end_of result ≡ passed_number conversion.now conversion.now.slot value }
+    ensures end { end_of result ≡ passed_number conversion.now conversion.now.slot value }
+    ensures stores { stored (end_of result) ≡ true → is_some conversion.now.slot ≡ true }
 {
     match (conversion.slot, value) {
         (None, _) => Finished::Passes,
@@ -150,7 +155,8 @@ fn finish_number(conversion: &Conversion, value: Option<i32>) -> Finished
 fn finish_item(conversion: &Conversion, scan: ItemScan<'_>) -> Finished
     requires int { IsInt conversion.now.shape }
     requires kind { is_i32 conversion.now.kind ≡ true }
-    ensures { (f : List ℕ) → conversion.now ≡ conversion_of scan.entry → HasTaken scan.entry f → end_of result ≡ item_end conversion.now f }
+    ensures end { (f : List ℕ) → conversion.now ≡ conversion_of scan.entry → HasTaken scan.entry f → end_of result ≡ item_end conversion.now f }
+    ensures stores { stored (end_of result) ≡ true → is_some conversion.now.slot ≡ true }
 {
     match scan.finish() {
         ItemEnd::Empty | ItemEnd::Unmatched | ItemEnd::Matched => {
@@ -170,7 +176,8 @@ fn finish_item(conversion: &Conversion, scan: ItemScan<'_>) -> Finished
 /// How the directive ends, which takes nothing more. `more`: a byte follows.
 pub(crate) fn finish(directive: &Directive, phase: Phase<'_>, used: u32, more: bool) -> Finished
     requires { is_plain directive.now ≡ true }
-    ensures { (q : Stage) → Shows directive.now phase.entry q → end_of result ≡ finished directive.now q used more }
+    ensures end { (q : Stage) → Shows directive.now phase.entry q → end_of result ≡ finished directive.now q used more }
+    ensures stores { stored (end_of result) ≡ true → is_destination directive.now ≡ true }
 {
     let _ = used;
     match directive {

@@ -4,6 +4,7 @@
 mod directive;
 mod outcome;
 mod report;
+mod tally;
 
 pub use outcome::{Ending, Fed, FeedState, Outcome, StartFault, Status};
 pub use report::{Report, Scanned};
