@@ -1,2 +1,3 @@
 pub mod Machines
 pub mod Stages
+pub mod Moves

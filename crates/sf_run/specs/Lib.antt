@@ -8,3 +8,4 @@ pub mod Views
 pub mod Phases
 pub mod Tallies
 pub mod Places
+pub mod Scanner

@@ -4,7 +4,9 @@
 mod directive;
 mod outcome;
 mod report;
+mod scanner;
 mod tally;
 
 pub use outcome::{Ending, Fed, FeedState, Outcome, StartFault, Status};
 pub use report::{Report, Scanned};
+pub use scanner::Scanner;

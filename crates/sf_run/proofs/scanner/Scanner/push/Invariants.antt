@@ -1,0 +1,16 @@
+use Rattle.std.proofs.Common.{◌≡◌, ◌+◌, ℕ, List, ◌++◌, take}
+use Rattle.std.specs.Prelude.{IsSome}
+use Rattle.sf_format.specs.Proper.{AreProper}
+use Rattle.sf_run.specs.Scanner.{Follows, Keeps, IsSettled}
+use Rattle.sf_run.proofs.scanner.Scanner.push.Given as goal
+
+-- the bytes so far were taken
+abbrev pub invariant-loop-b : goal.invariant-loop-b
+invariant-loop-b l = record {
+  same : AreProper l.fn.self.directives.now → (z : List ℕ) → Follows l.self l.fn.self z (take l.b-index l.piece ++ z);
+  taken : l.taken ≡ l.b-index;
+  used : l.self.tally.used ≡ l.fn.self.tally.used + l.b-index;
+  stays : IsSome l.fn.self.ended → IsSome l.self.ended;
+  keeps : Keeps l.self l.fn.self;
+  settled : IsSettled l.fn.self → IsSettled l.self;
+}
