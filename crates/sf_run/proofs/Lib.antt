@@ -1,3 +1,4 @@
 pub mod Machines
 pub mod Stages
 pub mod Moves
+pub mod Openness

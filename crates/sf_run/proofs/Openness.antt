@@ -1,0 +1,225 @@
+-- Either some byte would be consumed next, or nothing that follows changes the run.
+use Rattle.std.proofs.Common.{◌≡◌, ℕ, suc, ◌+◌, ◌<◌, ◌≤◌, ◌⊎◌, inl, inr, Bool, true, false, cond, List, [], ◌∷◌, ◌++◌, length, Option, Some, None, refl, sym, ap, subst, ◌∙◌, arith}
+use Rattle.std.proofs.lemmas.Bool.{le-ltb, lt-ltb, cases_lt}
+use Rattle.std.proofs.lemmas.List.{append-nil}
+use Rattle.sf_format.specs.declared.directive.Directive.{Directive}
+use Rattle.sf_format.specs.Proper.{IsProper, AreProper}
+use Rattle.sf_run.specs.declared.outcome.Status.{Status}
+use Rattle.sf_run.specs.declared.outcome.Status.TheVariants.{TooLong}
+use Rattle.sf_run.specs.Steps.{StepEnd, Passes, Stores, Fails}
+use Rattle.sf_run.specs.Runs.{RunReport}
+use Rattle.sf_run.specs.Machine.{Stage, Skipping, stepped, is_full, finished}
+use Rattle.sf_run.specs.Residual.{Tally, Part, choose, one_from, with_used, counted, out_of, by_end, is_over, or_zero, then_on, run_of, run_from}
+use Rattle.sf_run.proofs.Machines.{can_take_one, full_refuses, never_too_long, grows, keeps_all}
+
+-- ---- by the directive's end
+
+pub counted-used : (d : Directive) (o : StepEnd) (t : Tally) → (counted d o t).used ≡ t.used
+counted-used d Passes t = refl
+counted-used d (Stores slot v) t = refl
+counted-used d (Fails status) t = refl
+
+pub holds_by : (P : RunReport → Type 0) (o : StepEnd) (a : RunReport) (b : Status → RunReport) → P a → ((status : Status) → P (b status)) → P (by_end o a b)
+holds_by P Passes a b p q = p
+holds_by P (Stores slot v) a b p q = p
+holds_by P (Fails status) a b p q = q status
+
+-- ---- the bytes that a run uses
+
+-- with no input left nothing more is used
+pub uses_nothing : (m : Option ℕ) (ds : List Directive) (at : ℕ) (t : Tally) → is_over m t.used ≡ false → (run_of m ds at t []).used ≡ t.used
+uses_nothing m [] at t h = refl
+uses_nothing m (d ∷ ds) at t h =
+    let o : StepEnd = finished d Skipping t.used false in
+    rw h (holds_by (λ r. r.used ≡ t.used) o _ _ (uses_nothing m ds (at + 1) (counted d o t) (rw (counted-used d o t) h) ∙ counted-used d o t) (λ status. refl))
+
+pub rest_uses_nothing : (m : Option ℕ) (ds : List Directive) (q : Stage) (at : ℕ) (t : Tally) → is_over m t.used ≡ false → (run_from m ds q at t []).used ≡ t.used
+rest_uses_nothing m [] q at t h = refl
+rest_uses_nothing m (d ∷ ds) q at t h =
+    let o : StepEnd = finished d q t.used false in
+    rw h (holds_by (λ r. r.used ≡ t.used) o _ _ (uses_nothing m ds (at + 1) (counted d o t) (rw (counted-used d o t) h) ∙ counted-used d o t) (λ status. refl))
+
+-- a run uses no more than there is
+pub uses_within : (ds : List Directive) (at : ℕ) (t : Tally) (x : List ℕ) → (run_of None ds at t x).used ≤ t.used + length x
+uses_within [] at t x = omega arith
+uses_within (d ∷ ds) at t x =
+    let p : Part = one_from d Skipping t.used x in
+    let all = keeps_all d Skipping t.used x in
+    holds_by (λ r. r.used ≤ t.used + length x) p.end _ _
+    (omega (arith, uses_within ds (at + 1) (counted d p.end (with_used p.used t)) p.left, counted-used d p.end (with_used p.used t), all))
+    (λ status. omega (arith, all))
+
+pub uses_more : (ds : List Directive) (at : ℕ) (t : Tally) (x : List ℕ) → t.used ≤ (run_of None ds at t x).used
+uses_more [] at t x = omega arith
+uses_more (d ∷ ds) at t x =
+    let p : Part = one_from d Skipping t.used x in
+    let more = grows d Skipping t.used x in
+    holds_by (λ r. t.used ≤ r.used) p.end _ _
+    (omega (arith, more, uses_more ds (at + 1) (counted d p.end (with_used p.used t)) p.left, counted-used d p.end (with_used p.used t)))
+    (λ status. omega (arith, more))
+
+-- ---- under a limit
+
+same_by : (m : ℕ) (o : StepEnd) (a c : RunReport) (b : Status → RunReport) → (by_end o a b).used ≤ m → (a.used ≤ m → c ≡ a) → by_end o c b ≡ by_end o a b
+same_by m Passes a c b h e = e h
+same_by m (Stores slot v) a c b h e = e h
+same_by m (Fails status) a c b h e = refl
+
+-- a run within the limit is the run
+pub within_limit : (m : ℕ) (ds : List Directive) (at : ℕ) (t : Tally) (x : List ℕ) → (run_of None ds at t x).used ≤ m → run_of (Some m) ds at t x ≡ run_of None ds at t x
+within_limit m [] at t x h = refl
+within_limit m (d ∷ ds) at t x h =
+    let p : Part = one_from d Skipping t.used x in
+    let u = counted d p.end (with_used p.used t) in
+    let low : p.used ≤ (by_end p.end (run_of None ds (at + 1) u p.left) (λ status. out_of status at (with_used p.used t))).used =
+        holds_by (λ r. p.used ≤ r.used) p.end _ _ (omega (arith, uses_more ds (at + 1) u p.left, counted-used d p.end (with_used p.used t))) (λ status. omega arith) in
+    rw (le-ltb m p.used (omega (arith, low, h))) (same_by m p.end _ _ _ h (λ i. within_limit m ds (at + 1) u p.left i))
+
+-- a run without a limit is not too long
+pub run_not_too_long : (ds : List Directive) (at : ℕ) (t : Tally) (x : List ℕ) → (run_of None ds at t x).status ≡ TooLong → ⊥
+run_not_too_long [] at t x h = cc
+run_not_too_long (d ∷ ds) at t x h =
+    let p : Part = one_from d Skipping t.used x in
+    go p.end (run_of None ds (at + 1) (counted d p.end (with_used p.used t)) p.left) (with_used p.used t) (never_too_long d Skipping t.used x)
+    (run_not_too_long ds (at + 1) (counted d p.end (with_used p.used t)) p.left) h
+  where
+    go : (o : StepEnd) (a : RunReport) (u : Tally) → (o ≡ Fails TooLong → ⊥) → (a.status ≡ TooLong → ⊥) → (by_end o a (λ status. out_of status at u)).status ≡ TooLong → ⊥
+    go Passes a u ok h e = h e
+    go (Stores slot v) a u ok h e = h e
+    go (Fails status) a u ok h e = ok (ap Fails e)
+
+-- a run past the limit is too long
+pub over_is_too_long : (m : ℕ) (ds : List Directive) (at : ℕ) (t : Tally) (x : List ℕ) → t.used ≤ m → m < (run_of None ds at t x).used → (run_of (Some m) ds at t x).status ≡ TooLong
+over_is_too_long m [] at t x le h = absurd (omega arith)
+over_is_too_long m (d ∷ ds) at t x le h =
+    let p : Part = one_from d Skipping t.used x in
+    elim (cases_lt m p.used) [
+      | inl lt ↦ rw (lt-ltb m p.used lt) refl
+      | inr fits ↦ rw (le-ltb m p.used fits) (go p.end _ _ (with_used p.used t) h fits
+          (λ i. over_is_too_long m ds (at + 1) (counted d p.end (with_used p.used t)) p.left (omega (arith, counted-used d p.end (with_used p.used t), fits)) i))
+    ]
+  where
+    go : (o : StepEnd) (a c : RunReport) (u : Tally) → m < (by_end o a (λ status. out_of status at u)).used → u.used ≤ m → (m < a.used → c.status ≡ TooLong)
+        → (by_end o c (λ status. out_of status at u)).status ≡ TooLong
+    go Passes a c u h i e = e h
+    go (Stores slot v) a c u h i e = e h
+    go (Fails status) a c u h i e = absurd (omega arith)
+
+-- ---- open or closed
+
+-- the stage after all of x; None where some byte of x is not taken
+abbrev stage_after : Directive → Stage → List ℕ → Option Stage
+stage_after d q [] = Some q
+stage_after d q (b ∷ x) = choose (stepped d q b) None (λ r. stage_after d r x)
+
+abbrev more_left : Part → List ℕ → Part
+more_left p z = record { used = p.used; left = p.left ++ z; end = p.end }
+
+-- a directive that ended before a byte of x ends there on every longer input
+stops_early : (d : Directive) (q : Stage) (n : ℕ) (x z : List ℕ) → stage_after d q x ≡ None → one_from d q n (x ++ z) ≡ more_left (one_from d q n x) z
+stops_early d q n [] z e = absurd cc
+stops_early d q n (b ∷ x) z e = go (stepped d q b) e (λ r h. stops_early d r (n + 1) x z h)
+  where
+    go : (o : Option Stage) → choose o None (λ r. stage_after d r x) ≡ None → ((r : Stage) → stage_after d r x ≡ None → one_from d r (n + 1) (x ++ z) ≡ more_left (one_from d r (n + 1) x) z)
+        → choose o (record { used = n; left = b ∷ (x ++ z); end = finished d q n true }) (λ p. one_from d p (n + 1) (x ++ z))
+        ≡ more_left (choose o (record { used = n; left = b ∷ x; end = finished d q n true }) (λ p. one_from d p (n + 1) x)) z
+    go None h ih = refl
+    go (Some r) h ih = ih r h
+
+-- a directive that takes all of x goes on from there
+goes_on : (d : Directive) (q r : Stage) (n p : ℕ) (x z : List ℕ) → stage_after d q x ≡ Some r → p ≡ n + length x → one_from d q n (x ++ z) ≡ one_from d r p z
+goes_on d q r n p [] z e h = let same : n ≡ p = omega arith in let is : q ≡ r = cc in ap (λ (u : ℕ). one_from d q u z) same ∙ ap (λ (u : Stage). one_from d u p z) is
+goes_on d q r n p (b ∷ x) z e h = go (stepped d q b) e (λ s i. goes_on d s r (n + 1) p x z i (omega arith))
+  where
+    go : (o : Option Stage) → choose o None (λ s. stage_after d s x) ≡ Some r → ((s : Stage) → stage_after d s x ≡ Some r → one_from d s (n + 1) (x ++ z) ≡ one_from d r p z)
+        → choose o (record { used = n; left = b ∷ (x ++ z); end = finished d q n true }) (λ p. one_from d p (n + 1) (x ++ z)) ≡ one_from d r p z
+    go None i ih = absurd cc
+    go (Some s) i ih = ih s i
+
+pub record OpenAt (ds : List Directive) (at : ℕ) (t : Tally) (x : List ℕ) : Type 0 where
+  pub next : ℕ
+  pub is_byte : next < 256
+  pub takes : (run_of None ds at t (x ++ next ∷ [])).used ≡ t.used + length x + 1
+  pub all : (run_of None ds at t x).used ≡ t.used + length x
+
+abbrev pub ClosedAt : List Directive → ℕ → Tally → List ℕ → Type 0
+ClosedAt ds at t x = (m : Option ℕ) (z : List ℕ) → run_of m ds at t (x ++ z) ≡ run_of m ds at t x
+
+-- the rest of the run after a directive that leaves y
+abbrev after : Option ℕ → Directive → List Directive → ℕ → Tally → StepEnd → ℕ → List ℕ → RunReport
+after m d ds at t o n y = then_on m d at t (record { used = n; left = y; end = o }) (run_of m ds (at + 1))
+
+abbrev AfterEither : StepEnd → Directive → List Directive → ℕ → Tally → ℕ → List ℕ → ℕ → Type 0
+AfterEither o d ds at t n x k =
+    ((b : ℕ) × (b < 256) × ((after None d ds at t o n (x ++ b ∷ [])).used ≡ k + 1) × ((after None d ds at t o n x).used ≡ k))
+    ⊎ ((m : Option ℕ) (z : List ℕ) → after m d ds at t o n (x ++ z) ≡ after m d ds at t o n x)
+
+-- by the end of the first directive
+by_first : (o : StepEnd) (d : Directive) (ds : List Directive) (at : ℕ) (t : Tally) (n : ℕ) (x : List ℕ) (k : ℕ) → n + length x ≡ k
+    → OpenAt ds (at + 1) (counted d o (with_used n t)) x ⊎ ClosedAt ds (at + 1) (counted d o (with_used n t)) x → AfterEither o d ds at t n x k
+by_first Passes d ds at t n x k e (inl w) = inl (w.next, w.is_byte, omega (arith, w.takes), omega (arith, w.all))
+by_first Passes d ds at t n x k e (inr w) = inr (λ m z. ap (λ (r : RunReport). cond (is_over m n) (out_of TooLong at (with_used (or_zero m) t)) r) (w m z))
+by_first (Stores slot v) d ds at t n x k e (inl w) = inl (w.next, w.is_byte, omega (arith, w.takes), omega (arith, w.all))
+by_first (Stores slot v) d ds at t n x k e (inr w) = inr (λ m z. ap (λ (r : RunReport). cond (is_over m n) (out_of TooLong at (with_used (or_zero m) t)) r) (w m z))
+by_first (Fails status) d ds at t n x k e w = inr (λ m z. refl)
+
+abbrev Either : List Directive → ℕ → Tally → List ℕ → Type 0
+Either ds at t x = OpenAt ds at t x ⊎ ClosedAt ds at t x
+
+-- the first directive ends before a byte of x
+early : (d : Directive) (ds : List Directive) (at : ℕ) (t : Tally) (x : List ℕ) → stage_after d Skipping x ≡ None
+    → (let p = one_from d Skipping t.used x in Either ds (at + 1) (counted d p.end (with_used p.used t)) p.left) → Either (d ∷ ds) at t x
+early d ds at t x e ih =
+    let p : Part = one_from d Skipping t.used x in
+    elim (by_first p.end d ds at t p.used p.left (t.used + length x) (keeps_all d Skipping t.used x) ih) [
+      | inl w ↦ inl (record { next = w.0; is_byte = w.1; takes = rw (stops_early d Skipping t.used x (w.0 ∷ []) e) w.2; all = w.3 })
+      | inr w ↦ inr (λ m z. rw (stops_early d Skipping t.used x z e) (w m z))
+    ]
+
+-- it takes all of x, and would take no more
+full_end : (d : Directive) (ds : List Directive) (at : ℕ) (t : Tally) (x : List ℕ) (r : Stage) → IsProper d → stage_after d Skipping x ≡ Some r → is_full d r ≡ true
+    → (let o = finished d r (t.used + length x) true in Either ds (at + 1) (counted d o (with_used (t.used + length x) t)) []) → Either (d ∷ ds) at t x
+full_end d ds at t x r proper e full ih =
+    let n : ℕ = t.used + length x in
+    let o : StepEnd = finished d r n true in
+    let goes : (z : List ℕ) → one_from d Skipping t.used (x ++ z) ≡ record { used = n; left = z; end = o } =
+        λ z. goes_on d Skipping r t.used n x z e refl ∙ full_refuses d proper r n z full in
+    let here : one_from d Skipping t.used x ≡ record { used = n; left = []; end = o } =
+        subst (λ (y : List ℕ). one_from d Skipping t.used y ≡ record { used = n; left = []; end = o }) (append-nil x) (goes []) in
+    elim (by_first o d ds at t n [] n (omega arith) ih) [
+      | inl w ↦ inl (record { next = w.0; is_byte = w.1; takes = rw (goes (w.0 ∷ [])) w.2; all = rw here w.3 })
+      | inr w ↦ inr (λ m z. rw (goes z, here) (w m z))
+    ]
+
+-- it takes all of x, and would take one more
+takes_more : (d : Directive) (ds : List Directive) (at : ℕ) (t : Tally) (x : List ℕ) (r : Stage) → stage_after d Skipping x ≡ Some r → is_full d r ≡ false
+    → Either (d ∷ ds) at t x
+takes_more d ds at t x r e more =
+    let n : ℕ = t.used + length x in
+    let byte = can_take_one d r more in
+    let b : ℕ = byte.0 in
+    let next : one_from d Skipping t.used (x ++ b ∷ []) ≡ record { used = n + 1; left = []; end = finished d byte.2 (n + 1) false } =
+        goes_on d Skipping r t.used n x (b ∷ []) e refl ∙ rw byte.3 refl in
+    let here : one_from d Skipping t.used x ≡ record { used = n; left = []; end = finished d r n false } =
+        subst (λ (y : List ℕ). one_from d Skipping t.used y ≡ record { used = n; left = []; end = finished d r n false }) (append-nil x)
+        (goes_on d Skipping r t.used n x [] e refl) in
+    inl (record {
+      next = b;
+      is_byte = byte.1;
+      takes = rw next (holds_by (λ o. o.used ≡ n + 1) (finished d byte.2 (n + 1) false) _ _
+          (uses_nothing None ds (at + 1) _ refl ∙ counted-used d (finished d byte.2 (n + 1) false) (with_used (n + 1) t)) (λ status. refl));
+      all = rw here (holds_by (λ o. o.used ≡ n) (finished d r n false) _ _
+          (uses_nothing None ds (at + 1) _ refl ∙ counted-used d (finished d r n false) (with_used n t)) (λ status. refl));
+    })
+
+pub open_or_closed : (ds : List Directive) (at : ℕ) (t : Tally) (x : List ℕ) → AreProper ds → OpenAt ds at t x ⊎ ClosedAt ds at t x
+open_or_closed [] at t x proper = inr (λ m z. refl)
+open_or_closed (d ∷ ds) at t x proper = go (stage_after d Skipping x) refl (λ u y. open_or_closed ds (at + 1) u y proper.1)
+  where
+    full_or : (r : Stage) (c : Bool) → is_full d r ≡ c → stage_after d Skipping x ≡ Some r → ((u : Tally) (y : List ℕ) → Either ds (at + 1) u y) → Either (d ∷ ds) at t x
+    full_or r true f e ih = full_end d ds at t x r proper.0 e f (ih _ _)
+    full_or r false f e ih = takes_more d ds at t x r e f
+
+    go : (o : Option Stage) → stage_after d Skipping x ≡ o → ((u : Tally) (y : List ℕ) → Either ds (at + 1) u y) → Either (d ∷ ds) at t x
+    go None e ih = early d ds at t x e (ih _ _)
+    go (Some r) e ih = full_or r (is_full d r) refl e ih
