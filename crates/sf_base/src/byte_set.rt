@@ -4,9 +4,10 @@ ghost use Rattle.sf_base.specs.Sets.{has_byte};
 
 use std::marker::Model;
 
-/// A set of bytes.
+/// A set of bytes, as the scanlist of a format has one (C11 7.21.6.2p12).
 #[derive(Drop)]
 pub struct ByteSet {
+    // for each byte, whether it is a member
     marks: [bool; 256],
 }
 
@@ -26,7 +27,7 @@ impl ByteSet {
         }
     }
 
-    /// Makes the byte a member.
+    /// Makes the byte a member, if it is none yet.
     pub fn insert(&mut self, b: u8)
         ensures { (k : ℕ) → k < 256 → has_byte self.new k ≡ (k == b || has_byte self.old k) }
     {

@@ -3,14 +3,15 @@ ghost use Rattle.std.specs.Prelude.{◌≡◌, ◌<◌, ◌≤◌, SomeIff};
 ghost use Rattle.std.specs.Char.{digit_value};
 ghost use Rattle.sf_base.specs.Bytes.{is_white};
 
-/// Whether the byte is white space: 9 to 13 or 32 (C11 7.4.1.10).
+/// Whether the byte is white space: tab, line end, vertical tab, form feed, carriage return or blank (C11 7.4.1.10).
 pub fn is_space(b: u8) -> bool
     ensures { result ≡ is_white b }
 {
     b == 32 || (9 <= b && b <= 13)
 }
 
-/// The value of the byte as a digit of the base, letters in either case; None if it is no digit of it (C11 6.4.4.1).
+/// The value of the byte as a digit of the base, which is 2 to 16, letters in either case. None if it is no digit of that
+/// base (C11 6.4.4.1).
 pub fn digit_value(b: u8, base: u8) -> Option<u8>
     requires high { base ≤ 16 }
     ensures { SomeIff result (digit_value b < base) (digit_value b) }

@@ -8,7 +8,7 @@ ghost use Rattle.num_traits.specs.Laws.{Casts};
 use crate::Kind;
 use num_traits::{NumCast, cast};
 
-/// An integer type that a destination can have.
+/// An integer type that a destination can have, in two's complement.
 pub trait ScanInt: Sized {
     ghost own_kind: { Kind };
 
@@ -18,12 +18,14 @@ pub trait ScanInt: Sized {
     fn kind() -> Kind
         ensures { result ≡ own_kind };
 
-    /// The value of a sign (true: a minus) and a magnitude, where the type holds it (C11 7.21.6.2p10).
-    /// A magnitude that overflowed 64 bits has no value.
+    /// The value of a sign (true: a minus) and a magnitude. None if the type does not hold it, where C leaves open what
+    /// is stored (C11 7.21.6.2p10), or if the magnitude is above `u64::MAX`, which `overflowed` tells. A minus before an
+    /// unsigned value negates it in its type (C11 7.22.1.4p5).
     fn from_parts(negative: bool, magnitude: u64, overflowed: bool) -> Option<Self>
         ensures { option_map integer result ≡ (if overflowed then None else value_of own_kind negative magnitude) };
 }
 
+// The value of a sign and a magnitude in a type with a sign.
 fn signed<T: NumCast>(negative: bool, magnitude: u64) -> Option<T>
     ensures { T.exact → Casts T.value T.fits (Some (if negative then neg_ℤ (pos magnitude) else pos magnitude)) result }
 {

@@ -6,6 +6,9 @@ mod bytes;
 mod integers;
 mod values;
 
+#[cfg(test)]
+mod tests;
+
 pub use byte_set::ByteSet;
 pub use bytes::{digit_value, is_space};
 pub use integers::ScanInt;

@@ -1,5 +1,6 @@
 //! What a destination can hold.
-/// The kind of a destination: an integer type of the given sign and bits, or text.
+
+/// The kind of a destination: an integer type of the given sign and bits, or a text of bytes.
 #[derive(Clone, Copy, Debug, PartialEq, Eq)]
 pub enum Kind {
     I8,
@@ -16,5 +17,6 @@ pub enum Kind {
 /// What a destination was given.
 #[derive(Clone, Copy, Debug, PartialEq, Eq)]
 pub enum Value {
+    /// A number of 32 bits with a sign.
     I32(i32),
 }

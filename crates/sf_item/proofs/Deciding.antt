@@ -1,5 +1,5 @@
 -- The tests say what the definitions say.
-use Rattle.std.proofs.Common.{◌≡◌, ◌≢◌, ℕ, zero, suc, ◌-◌, ◌<◌, ◌≤◌, Bool, true, false, not, ◌&&◌, nat_eq, nat_lt, nat_le, List, [], ◌∷◌, ◌++◌, length, replicate, Option, Some, None, is_some, unwrap_or, refl, sym, ap, ◌∙◌, subst, inl, inr, lit≤, arith, append_assoc, append-nil, true≢false, length-append}
+use Rattle.std.proofs.Common.{◌≡◌, ℕ, zero, suc, ◌-◌, ◌<◌, ◌≤◌, Bool, true, false, not, ◌&&◌, nat_eq, nat_lt, nat_le, List, [], ◌∷◌, ◌++◌, length, replicate, Option, Some, None, is_some, unwrap_or, refl, sym, ap, ◌∙◌, subst, lit≤, arith, append_assoc, append-nil, true≢false, length-append}
 use Rattle.std.proofs.lemmas.List.{length-replicate}
 use Rattle.std.specs.Prelude.{IfSome}
 use Rattle.std.specs.List.{AllByRecursion, list_all}
@@ -11,8 +11,8 @@ use Rattle.sf_format.specs.declared.directive.Shape.{Shape}
 use Rattle.sf_format.specs.declared.directive.Shape.TheVariants.{Int, Text, Set, Chars, Count}
 use Rattle.sf_format.specs.declared.directive.Conversion.{Conversion}
 use Rattle.sf_format.specs.Proper.{IsProperShape}
-use Rattle.sf_item.specs.Matching.{IsInteger, ShapeMatches, Matches, Begins}
-use Rattle.sf_item.specs.Progress.{Progress, Start, IsAfter, advance, integer_of}
+use Rattle.sf_item.specs.Matching.{IsInteger, ShapeMatches, Matches}
+use Rattle.sf_item.specs.Progress.{Progress, Start, IsAfter, advance}
 use Rattle.sf_item.specs.Taking.{CanTake}
 use Rattle.sf_item.specs.Tests.{read, integer_in, integer_at, is_ink, shape_matches, shape_begins, is_within, matches, can_take}
 use Rattle.sf_item.proofs.Integers.{IsAfter-start, IsAfter-advance, stuck, completion, integer_next, integer_back}

@@ -1,4 +1,4 @@
-// Integers, read byte by byte.
+//! Integers, read byte by byte: sign, prefix, digits (C11 7.21.6.2p12, 7.22.1.4p3).
 ghost use Rattle.std.specs.Prelude.{◌≡◌, false, ◌+◌, ◌*◌, ◌<◌, ◌≤◌, ◌↔◌, ℕ, List, [], ◌∷◌, ◌++◌};
 ghost use Rattle.sf_item.specs.Progress.{Progress, advance, first_radix, zero_radix, is_prefix_letter, with_digit, with_first_digit};
 ghost use Rattle.sf_item.specs.Scan.{HoldsNumber, Shows, ShowsNext};
@@ -7,7 +7,7 @@ use crate::reached::{Digits, Reached};
 use sf_base::digit_value;
 use sf_format::Base;
 
-// The number with one digit more.
+// The number with one digit more. Once it has overflowed it takes digits on, as part of the item.
 fn with_digit(digits: Digits, digit: u8) -> Digits
     requires below { digit < digits.radix }
     ensures negative { result.negative ≡ digits.negative }
@@ -44,7 +44,7 @@ fn with_byte(digits: Digits, b: u8) -> Option<Reached>
     Some(Reached::Digits(with_digit(digits, digit)))
 }
 
-// The first digit of a radix.
+// The first digit of a radix, after nothing or a prefix.
 fn from_nothing(negative: bool, radix: u8, b: u8) -> Option<Reached>
     requires some { 0 < radix }
     requires small { radix ≤ 16 }
@@ -72,7 +72,7 @@ fn first_radix(base: Base) -> u8
     }
 }
 
-// The radix of one that begins with 0.
+// The radix of one that begins with 0 and has no prefix.
 fn zero_radix(base: Base) -> u8
     ensures some { 0 < result }
     ensures small { result ≤ 16 }
@@ -85,6 +85,7 @@ fn zero_radix(base: Base) -> u8
     }
 }
 
+// Whether the byte after a first 0 makes it a prefix.
 fn is_prefix_letter(base: Base, b: u8) -> bool
     ensures { result ≡ is_prefix_letter base b }
 {
@@ -94,6 +95,7 @@ fn is_prefix_letter(base: Base, b: u8) -> bool
     }
 }
 
+// The first digit, or the 0 of a prefix.
 fn first_digit(base: Base, negative: bool, b: u8) -> Option<Reached>
     ensures { ShowsNext result (with_first_digit base negative b) }
 {
@@ -103,7 +105,7 @@ fn first_digit(base: Base, negative: bool, b: u8) -> Option<Reached>
     from_nothing(negative, first_radix(base), b)
 }
 
-// How far an integer of the base is read with one byte more, where that can be.
+// How far an integer of the base is read with one byte more; None where none begins so.
 pub fn advance(base: Base, reached: Reached, b: u8) -> Option<Reached>
     ensures { (p : Progress) → Shows reached p → ShowsNext result (advance base p b) }
 {

@@ -1,4 +1,4 @@
-// The input item of one conversion, byte by byte.
+//! The input item of one conversion, byte by byte (C11 7.21.6.2p9).
 ghost use Rattle.std.specs.Prelude.{◌≡◌, ◌≢◌, ◌<◌, ◌↔◌, ℕ, List, [], ◌∷◌, ◌++◌, length, IsTrue};
 ghost use Rattle.sf_format.specs.declared.directive.Shape.TheVariants as shape;
 ghost use Rattle.sf_item.specs.Taking.{HasTaken, CanTake, IsInt, IsOneLess, conversion_of, Ends};
@@ -7,31 +7,49 @@ use crate::integer::advance;
 use crate::reached::{Digits, Reached};
 use sf_format::{Base, Conversion, Shape};
 
-/// Whether a byte was taken.
-#[derive(Clone, Copy)]
+/// Whether the item goes on with a byte.
+#[derive(Clone, Copy, Debug, PartialEq, Eq)]
 pub enum Step {
+    /// The byte is part of the item.
     Taken,
+    /// The item ends before the byte, which stays with the input. The scan is as before.
     Refused,
 }
 
-/// What the bytes that were taken are.
-#[derive(Clone, Copy)]
+/// What the bytes of an item are (C11 7.21.6.2p9, p10).
+#[derive(Clone, Copy, Debug, PartialEq, Eq)]
 pub enum ItemEnd {
+    /// No byte was taken.
     Empty,
+    /// Some were, and they only begin a matching sequence, as a lone sign or `0x`.
     Unmatched,
+    /// They are a matching sequence of a conversion that is of no integer.
     Matched,
+    /// They are an integer.
     Integer {
+        /// Whether it has a minus.
         negative: bool,
+        /// Its number without the sign; 0 where that is above `u64::MAX`.
         magnitude: u64,
+        /// Whether it is above `u64::MAX`.
         overflowed: bool,
     },
 }
 
-/// The item of a conversion, as far as it was read.
-#[derive(Drop)]
+/// The item of a conversion, as far as it was read. White space before an item is the caller's to skip.
+///
+/// ```
+/// let mut scan = ItemScan::start(&conversion);
+/// scan.step(b'7'); // Taken
+/// scan.step(b';'); // Refused
+/// scan.finish(); // Integer { negative: false, magnitude: 7, overflowed: false }
+/// ```
+#[derive(Clone, Copy)]
 pub struct ItemScan<'c> {
     conversion: &'c Conversion,
+    // the base of the conversion's shape
     base: Base,
+    // how many bytes of the width are left; None: no width
     left: Option<u16>,
     reached: Reached,
 }
@@ -54,6 +72,7 @@ fn one_less(left: Option<u16>) -> Option<u16>
     }
 }
 
+// An integer that ends here.
 fn end_of(digits: Digits) -> ItemEnd
     ensures { result ≡ ItemEnd.Integer digits.negative digits.magnitude digits.overflowed }
 {
@@ -65,7 +84,7 @@ fn end_of(digits: Digits) -> ItemEnd
 }
 
 impl<'c> ItemScan<'c> {
-    /// No byte was taken yet.
+    /// The item of the conversion, of which no byte was taken yet. The conversion has the shape of an integer.
     pub fn start(conversion: &'c Conversion) -> ItemScan<'c>
         requires { IsInt conversion.now.shape }
         ensures conversion { conversion_of result ≡ conversion.now }
@@ -83,7 +102,8 @@ impl<'c> ItemScan<'c> {
         }
     }
 
-    /// Takes the byte if the item goes on with it.
+    /// Takes the byte if the item goes on with it: if what was taken and the byte are within the width and begin a
+    /// matching sequence. The width does not bound what may follow them.
     pub fn step(&mut self, b: u8) -> Step
         ensures conversion { conversion_of self.new ≡ conversion_of self.old }
         ensures taken { (f : List ℕ) → HasTaken self.old f
@@ -104,7 +124,7 @@ impl<'c> ItemScan<'c> {
         }
     }
 
-    /// Whether no byte would be taken.
+    /// Whether `step` would take no byte, whichever it is.
     pub fn is_full(&self) -> bool
         ensures { (f : List ℕ) → HasTaken self.now f
             → (IsTrue result ↔ ((b : ℕ) → b < 256 → CanTake (conversion_of self.now) (f ++ b ∷ []) → ⊥)) }
@@ -112,7 +132,7 @@ impl<'c> ItemScan<'c> {
         is_used_up(self.left)
     }
 
-    /// What the bytes that were taken are.
+    /// What the bytes that were taken are. The item may go on after it.
     pub fn finish(&self) -> ItemEnd
         ensures { (f : List ℕ) → HasTaken self.now f → Ends (conversion_of self.now) f result }
     {

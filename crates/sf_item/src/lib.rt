@@ -1,8 +1,11 @@
-//! The input item of one conversion, byte by byte.
+//! The input item of one conversion, byte by byte: which bytes it takes, and what they are.
 #![tactic(auto)]
 
 mod integer;
 mod item;
 mod reached;
+
+#[cfg(test)]
+mod tests;
 
 pub use item::{ItemEnd, ItemScan, Step};

@@ -1,0 +1,168 @@
+-- A front of what can be taken can be taken, and an integer can go on.
+use Rattle.std.proofs.Common.{◌≡◌, ℕ, ◌+◌, ◌*◌, Bool, true, false, ◌&&◌, nat_le, cond, List, [], ◌∷◌, ◌++◌, length, Option, Some, None, is_some, unwrap_or, refl, sym, ap, ◌∙◌, subst, arith, true≢false}
+use Rattle.std.proofs.lemmas.Bool.Decides.{nat_tests}
+use Rattle.std.specs.Char.{digit_value}
+use Rattle.std.specs.List.{list_all}
+use Rattle.sf_base.specs.Sets.{has_byte}
+use Rattle.sf_format.specs.declared.directive.Base.{Base}
+use Rattle.sf_format.specs.declared.directive.Base.TheVariants.{Dec, Oct, Hex, Auto}
+use Rattle.sf_format.specs.declared.directive.Shape.{Shape}
+use Rattle.sf_format.specs.declared.directive.Shape.TheVariants.{Int, Text, Set, Chars, Count}
+use Rattle.sf_format.specs.declared.directive.Conversion.{Conversion}
+use Rattle.sf_item.specs.Progress.{Progress, Start, Signed, Zero, Prefix, Digits, first_radix, with_digit, with_first_digit, advance}
+use Rattle.sf_item.specs.Taking.{IsInt}
+use Rattle.sf_item.specs.Tests.{read, is_ink, shape_begins, is_within, can_take}
+use Rattle.sf_item.proofs.Integers.{by_lt, by_eq, by_sign, by_x}
+use Rattle.sf_item.proofs.Scanning.{length_more, HasRadix, goes_on}
+
+-- ---- tests
+
+both : (a b : Bool) → a ≡ true → b ≡ true → (a && b) ≡ true
+both true b first second = second
+both false b first second = absurd (true≢false (sym first))
+
+left_of : (a b : Bool) → (a && b) ≡ true → a ≡ true
+left_of true b e = refl
+left_of false b e = e
+
+right_of : (a b : Bool) → (a && b) ≡ true → b ≡ true
+right_of true b e = e
+right_of false b e = absurd (true≢false (sym e))
+
+-- ---- a front
+
+read_front : (base : Base) (o : Option Progress) (f : List ℕ) (b : ℕ)
+    → is_some (read base o (f ++ b ∷ [])) ≡ true → is_some (read base o f) ≡ true
+read_front base None f b e = e
+read_front base (Some p) [] b e = refl
+read_front base (Some p) (x ∷ f) b e = read_front base (advance base p x) f b e
+
+all_front : (p : ℕ → Bool) (f : List ℕ) (b : ℕ) → list_all p (f ++ b ∷ []) ≡ true → list_all p f ≡ true
+all_front p [] b e = refl
+all_front p (x ∷ f) b e =
+    both (p x) (list_all p f) (left_of (p x) (list_all p (f ++ b ∷ [])) e)
+    (all_front p f b (right_of (p x) (list_all p (f ++ b ∷ [])) e))
+
+less_at_most : (m n : ℕ) → nat_le (m + 1) n ≡ true → nat_le m n ≡ true
+less_at_most m n e = grind (arith, nat_tests)
+
+short_front : (f : List ℕ) (b n : ℕ) → nat_le (length (f ++ b ∷ [])) n ≡ true → nat_le (length f) n ≡ true
+short_front f b n e = less_at_most (length f) n (subst (λ m. nat_le m n ≡ true) (length_more f b) e)
+
+shape_front : (shape : Shape) (width : Option ℕ) (f : List ℕ) (b : ℕ)
+    → shape_begins shape width (f ++ b ∷ []) ≡ true → shape_begins shape width f ≡ true
+shape_front (Int base) width f b e = read_front base (Some Start) f b e
+shape_front Text width f b e = all_front is_ink f b e
+shape_front (Set members) width f b e = all_front (has_byte members) f b e
+shape_front Chars width f b e = short_front f b (unwrap_or width 1) e
+shape_front Count width f b e = e
+
+within_front : (width : Option ℕ) (f : List ℕ) (b : ℕ)
+    → is_within width (length (f ++ b ∷ [])) ≡ true → is_within width (length f) ≡ true
+within_front None f b e = refl
+within_front (Some w) f b e = short_front f b w e
+
+-- without its last byte, what can be taken can be taken
+pub can_take_front : (c : Conversion) (f : List ℕ) (b : ℕ) → can_take c (f ++ b ∷ []) ≡ true → can_take c f ≡ true
+can_take_front c f b e =
+    both (is_within c.width (length f)) (shape_begins c.shape c.width f)
+    (within_front c.width f b (left_of (is_within c.width (length (f ++ b ∷ []))) (shape_begins c.shape c.width (f ++ b ∷ [])) e))
+    (shape_front c.shape c.width f b (right_of (is_within c.width (length (f ++ b ∷ []))) (shape_begins c.shape c.width (f ++ b ∷ [])) e))
+
+-- ---- nothing
+
+nothing_within : (width : Option ℕ) → is_within width 0 ≡ true
+nothing_within None = refl
+nothing_within (Some w) = grind (arith, nat_tests)
+
+nothing_fits : (n : ℕ) → nat_le 0 n ≡ true
+nothing_fits n = grind (arith, nat_tests)
+
+-- the shape is of an item; the number of bytes consumed takes none
+abbrev pub HasItem : Shape → Type 0
+HasItem Count = ⊥
+HasItem _ = Unit {0}
+
+nothing_begins : (shape : Shape) (width : Option ℕ) → HasItem shape → shape_begins shape width [] ≡ true
+nothing_begins (Int base) width h = refl
+nothing_begins Text width h = refl
+nothing_begins (Set members) width h = refl
+nothing_begins Chars width h = nothing_fits (unwrap_or width 1)
+nothing_begins Count width h = absurd h
+
+-- before the first byte
+pub item_can_take_nothing : (c : Conversion) → HasItem c.shape → can_take c [] ≡ true
+item_can_take_nothing c h =
+    both (is_within c.width 0) (shape_begins c.shape c.width []) (nothing_within c.width) (nothing_begins c.shape c.width h)
+
+pub has_item : (shape : Shape) → IsInt shape → HasItem shape
+has_item shape int = subst HasItem (sym int.1) tt
+
+pub can_take_nothing : (c : Conversion) → IsInt c.shape → can_take c [] ≡ true
+can_take_nothing c int = item_can_take_nothing c (has_item c.shape int)
+
+-- ---- one 0 more
+
+-- the radix of the digits so far, if some were read, is above 0
+abbrev MayHaveRadix : Option Progress → Type 0
+MayHaveRadix None = Unit {0}
+MayHaveRadix (Some p) = HasRadix p
+
+digit_radix : (sign : Bool) (radix value b : ℕ) → MayHaveRadix (with_digit sign radix value b)
+digit_radix sign radix value b =
+    by_lt (digit_value b) radix (λ v. MayHaveRadix (cond v (Some (Digits sign radix (value * radix + digit_value b))) None))
+    (λ below. omega (arith, below))
+    (λ above. tt)
+
+first_radix_is : (base : Base) (sign : Bool) (b : ℕ) → MayHaveRadix (with_first_digit base sign b)
+first_radix_is base sign b =
+    by_eq b 48 (λ v. MayHaveRadix (cond v (Some (Zero sign)) (with_digit sign (first_radix base) 0 b))) (λ _. tt)
+    (λ _. digit_radix sign (first_radix base) 0 b)
+
+zero_radix_is : (base : Base) (sign : Bool) (b : ℕ) → MayHaveRadix (advance base (Zero sign) b)
+zero_radix_is Dec sign b = digit_radix sign 10 0 b
+zero_radix_is Oct sign b = digit_radix sign 8 0 b
+zero_radix_is Hex sign b =
+    by_x b (λ v. MayHaveRadix (cond v (Some (Prefix sign)) (with_digit sign 16 0 b))) (λ _. tt) (λ _. digit_radix sign 16 0 b)
+zero_radix_is Auto sign b =
+    by_x b (λ v. MayHaveRadix (cond v (Some (Prefix sign)) (with_digit sign 8 0 b))) (λ _. tt) (λ _. digit_radix sign 8 0 b)
+
+next_radix : (base : Base) (p : Progress) (b : ℕ) → MayHaveRadix (advance base p b)
+next_radix base Start b = by_sign base b MayHaveRadix (λ _. tt) (λ _. tt) (λ _ _. first_radix_is base false b)
+next_radix base (Signed sign) b = first_radix_is base sign b
+next_radix base (Zero sign) b = zero_radix_is base sign b
+next_radix base (Prefix sign) b = digit_radix sign 16 0 b
+next_radix base (Digits sign radix value) b = digit_radix sign radix value b
+
+read_radix : (base : Base) (o : Option Progress) (f : List ℕ) → MayHaveRadix o → MayHaveRadix (read base o f)
+read_radix base None f h = tt
+read_radix base (Some p) [] h = h
+read_radix base (Some p) (b ∷ f) h = read_radix base (advance base p b) f (next_radix base p b)
+
+read_more : (base : Base) (o : Option Progress) (f g : List ℕ) → read base o (f ++ g) ≡ read base (read base o f) g
+read_more base None f g = refl
+read_more base (Some p) [] g = refl
+read_more base (Some p) (b ∷ f) g = read_more base (advance base p b) f g
+
+zero_read : (base : Base) (o : Option Progress) → MayHaveRadix o → is_some o ≡ true → is_some (read base o (48 ∷ [])) ≡ true
+zero_read base None h some = some
+zero_read base (Some p) h some = let (q, is) = goes_on base p h in ap (λ o. is_some (read base o [])) is
+
+zero_begins : (base : Base) (f : List ℕ) → is_some (read base (Some Start) f) ≡ true → is_some (read base (Some Start) (f ++ 48 ∷ [])) ≡ true
+zero_begins base f some =
+    ap is_some (read_more base (Some Start) f (48 ∷ []))
+    ∙ zero_read base (read base (Some Start) f) (read_radix base (Some Start) f tt) some
+
+integer_shape_goes_on : (shape : Shape) (width : Option ℕ) (f : List ℕ) → IsInt shape
+    → shape_begins shape width f ≡ true → shape_begins shape width (f ++ 48 ∷ []) ≡ true
+integer_shape_goes_on shape width f int =
+    let (base, is) = int in
+    subst (λ s. shape_begins s width f ≡ true → shape_begins s width (f ++ 48 ∷ []) ≡ true) (sym is) (zero_begins base f)
+
+-- within the width, an integer can go on with a 0
+pub integer_goes_on : (c : Conversion) (f : List ℕ) → IsInt c.shape → can_take c f ≡ true → is_within c.width (length f + 1) ≡ true
+    → can_take c (f ++ 48 ∷ []) ≡ true
+integer_goes_on c f int can room =
+    both (is_within c.width (length (f ++ 48 ∷ []))) (shape_begins c.shape c.width (f ++ 48 ∷ []))
+    (subst (λ n. is_within c.width n ≡ true) (sym (length_more f 48)) room)
+    (integer_shape_goes_on c.shape c.width f int (right_of (is_within c.width (length f)) (shape_begins c.shape c.width f) can))
