@@ -1,2 +1,5 @@
 pub mod Skips
 pub mod Items
+pub mod StepLaws
+pub mod Ones
+pub mod RunLaws
