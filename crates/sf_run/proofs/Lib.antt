@@ -3,3 +3,4 @@ pub mod Items
 pub mod StepLaws
 pub mod Ones
 pub mod RunLaws
+pub mod Told
