@@ -1,5 +1,5 @@
 -- The running totals tell what the list of steps tells.
-use Rattle.std.proofs.Common.{◌≡◌, ℕ, zero, suc, ◌+◌, ◌<◌, ◌≤◌, ◌⊎◌, inl, inr, Bool, true, false, cond, ◌&&◌, List, [], ◌∷◌, ◌++◌, length, take, drop, Option, Some, None, is_some, refl, sym, ap, ap₂, ◌∙◌, subst, arith, append_assoc, append-nil, length-drop, true≢false, zero-add, add-zero}
+use Rattle.std.proofs.Common.{◌≡◌, ℕ, zero, suc, ◌+◌, ◌<◌, ◌≤◌, ◌⊎◌, inl, inr, Bool, true, false, cond, ◌&&◌, nat_eq, nat_le, List, [], ◌∷◌, ◌++◌, length, take, drop, Option, Some, None, is_some, refl, sym, ap, ap₂, ◌∙◌, subst, arith, append_assoc, append-nil, length-drop, true≢false, zero-add, add-zero}
 use Rattle.std.specs.Prelude.{SomeIff}
 use Rattle.std.specs.List.{list_any}
 use Rattle.std.proofs.lemmas.Bool.{cases_lt, cond-true, cond-false, lt-ltb, le-ltb}
@@ -13,7 +13,9 @@ use Rattle.sf_run.specs.declared.outcome.Status.TheVariants.{Done, TooLong}
 use Rattle.sf_run.specs.Steps.{StepEnd, Passes, Stores, Fails}
 use Rattle.sf_run.specs.Runs.{Ran, Steps, used, failure_of, status_of, place_of_failure, values, is_conversion, passed, stored, assigned, converted, RunReport, report_of, Uses, IsOpen, Run}
 use Rattle.sf_run.specs.Limits.{cut_report, IsCut, RunWithin, TellsWithin}
-use Rattle.sf_run.specs.Machine.{Skipping}
+use Rattle.sf_item.proofs.Deciding.{Tests, fails, tests_both, tests_same, tests_most}
+use Rattle.sf_run.specs.Laws.{EachHasOneReport}
+use Rattle.sf_run.specs.Machine.{some_below}
 use Rattle.sf_run.specs.Residual.{Tally, nothing_yet, with_used, counted, out_of, Part, one_from, is_over, or_zero, by_end, then_on, run_of}
 use Rattle.sf_run.proofs.StepLaws.{step_of, step_within}
 use Rattle.sf_run.proofs.Ones.{part_of, one_made}
@@ -429,3 +431,75 @@ module _ (open_all : UsesAll) (ds : List Directive) (proper : AreProper ds) (m :
   met_within r h =
       let told = met_told ds proper m x ending r h in
       (told.0, met_same r.met ending to_length from_length told.1)
+
+-- ---- whether an input is open
+
+abbrev IsBelow : (ℕ → Type 0) → ℕ → Type 0
+IsBelow P n = (b : ℕ) × (b < n) × P b
+
+tests_below : (n : ℕ) (P : ℕ → Type 0) (test : ℕ → Bool) → ((b : ℕ) → Tests (test b) (P b)) → Tests (some_below n test) (IsBelow P n)
+tests_below zero P test tests = record { from = λ e. absurd (true≢false (sym e)); to = λ h. let none = h.1 in absurd (omega (arith, none)) }
+tests_below (suc n) P test tests = by_case (test n) refl (tests_below n P test tests)
+  where
+    top : (b : ℕ) → b < suc n → P b → test n ≡ false → b < n
+    top b below h e = let other : b ≡ n → ⊥ = λ same. fails (tests b) (ap test same ∙ e) h in omega (arith, below, other)
+
+    by_case : (v : Bool) → test n ≡ v → Tests (some_below n test) (IsBelow P n) → Tests (cond v true (some_below n test)) (IsBelow P (suc n))
+    by_case true e lower = record { from = λ _. (n, omega arith, (tests n).from e); to = λ _. refl }
+    by_case false e lower = record {
+      from = λ some. let found = lower.from some in let below = found.1 in (found.0, omega (arith, below), found.2);
+      to = λ h. lower.to (h.0, top h.0 h.1 h.2 e, h.2);
+    }
+
+unfoldable pub is_open : List Directive → List ℕ → Bool
+is_open ds x = some_below 256 (λ b. nat_eq (run_of None ds 1 nothing_yet (x ++ b ∷ [])).used (length x + 1))
+
+tests_uses : (ds : List Directive) → AreProper ds → (x : List ℕ) (k : ℕ) → Tests (nat_eq (run_of None ds 1 nothing_yet x).used k) (Uses ds x k)
+tests_uses ds proper x k = record {
+  from = λ e. uses_from ds proper x k ((tests_same (uses ds x) k).from e);
+  to = λ h. (tests_same (uses ds x) k).to (uses_is ds proper x k h);
+}
+
+pub tests_open : (ds : List Directive) → AreProper ds → (x : List ℕ) → Tests (is_open ds x) (IsOpen ds x)
+unfolding is_open
+tests_open ds proper x = tests_below 256 _ _ (λ b. tests_uses ds proper (x ++ b ∷ []) (length x + 1))
+
+-- ---- one report
+
+met_is : {P : Type 0} {test : Bool} (ending : Ending) → Tests test P → SomeIff (cond test (Some ending) None) P ending
+met_is {test = true} ending tests = (tests.from refl, refl)
+met_is {test = false} ending tests = fails tests refl
+
+met_only : {P : Type 0} (test : Bool) (met : Option Ending) (ending : Ending) → Tests test P → SomeIff met P ending → met ≡ cond test (Some ending) None
+met_only true None ending tests h = absurd (h (tests.from refl))
+met_only false None ending tests h = refl
+met_only true (Some e) ending tests h = ap Some h.1
+met_only false (Some e) ending tests h = absurd (fails tests refl h.0)
+
+-- the run met the ending: its input is open, and it was not cut off
+abbrev pub meets : List Directive → ℕ → List ℕ → Bool
+meets ds m x = is_open ds x && nat_le (uses ds x) m
+
+tests_meets : (ds : List Directive) → AreProper ds → (m : ℕ) (x : List ℕ) → Tests (meets ds m x) (IsOpen ds x × (uses ds x ≤ m))
+tests_meets ds proper m x = tests_both (tests_open ds proper x) (tests_most (uses ds x) m)
+
+-- the report, computed
+abbrev pub report_within : List Directive → ℕ → List ℕ → Ending → RunReport
+report_within ds m x ending = with_met (run_of (Some m) ds 1 nothing_yet x) (cond (meets ds m x) (Some ending) None)
+
+pub report_is : (ds : List Directive) → AreProper ds → (m : ℕ) (x : List ℕ) (ending : Ending) → RunWithin ds m x ending (report_within ds m x ending)
+report_is ds proper m x ending =
+    told_met ds proper m x ending _ _ (told_exists ds proper m x) (met_is ending (tests_meets ds proper m x))
+
+pub report_only : (ds : List Directive) → AreProper ds → (m : ℕ) (x : List ℕ) (ending : Ending) (other : RunReport)
+    → RunWithin ds m x ending other → other ≡ report_within ds m x ending
+report_only ds proper m x ending other h =
+    let told = met_told ds proper m x ending other h in
+    ap₂ with_met (told_is ds proper m x _ told.0) (met_only (meets ds m x) other.met ending (tests_meets ds proper m x) told.1)
+
+pub one_report : EachHasOneReport
+one_report ds proper m x ending = record {
+  report = report_within ds m x ending;
+  is = report_is ds proper m x ending;
+  only = report_only ds proper m x ending;
+}

@@ -99,11 +99,11 @@ nothing_end more = Fails (if more then MatchingFailure else InputFailure)
 abbrev pub byte_finished : Stage → Bool → StepEnd
 byte_finished Skipping more = nothing_end more
 byte_finished Taken more = Passes
-byte_finished (Item f) more = nothing_end more
+byte_finished (Item f) more = Fails MatchingFailure
 
 abbrev pub item_finished : Conversion → Stage → Bool → StepEnd
 item_finished c Skipping more = nothing_end more
-item_finished c Taken more = nothing_end more
+item_finished c Taken more = Fails MatchingFailure
 item_finished c (Item f) more = item_end c f
 
 abbrev pub conversion_finished : Conversion → Shape → Stage → ℕ → Bool → StepEnd

@@ -1,6 +1,7 @@
 //! Runs of scan formats over bytes that are handed in.
 #![tactic(auto)]
 
+pub mod laws;
 mod outcome;
 mod report;
 
