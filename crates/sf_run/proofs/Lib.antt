@@ -4,3 +4,4 @@ pub mod StepLaws
 pub mod Ones
 pub mod RunLaws
 pub mod Told
+pub mod Rows
