@@ -1,5 +1,5 @@
 -- Each directive's machine makes its step.
-use Rattle.std.proofs.Common.{◌≡◌, ℕ, zero, suc, ◌+◌, ◌≤◌, Bool, true, false, cond, ◌&&◌, nat_eq, List, [], ◌∷◌, ◌++◌, length, take, drop, Option, Some, None, refl, sym, ap, ap₂, ◌∙◌, subst, arith, append_assoc, append-nil, add-zero}
+use Rattle.std.proofs.Common.{◌≡◌, ℕ, suc, ◌+◌, Bool, true, false, cond, ◌&&◌, nat_eq, List, [], ◌∷◌, ◌++◌, length, take, drop, Some, None, refl, sym, ap, ap₂, ◌∙◌, arith, append_assoc, append-nil}
 use Rattle.std.proofs.lemmas.Bool.{and_right}
 use Rattle.std.proofs.lemmas.List.{drop-drop}
 use Rattle.sf_base.specs.Bytes.{is_white}
@@ -10,12 +10,13 @@ use Rattle.sf_format.specs.declared.directive.Directive.{Directive}
 use Rattle.sf_format.specs.declared.directive.Directive.TheVariants.{Space, Byte, Percent, Conv}
 use Rattle.sf_format.specs.Proper.{IsProper}
 use Rattle.sf_item.specs.Tests.{shape_begins, is_within, can_take}
-use Rattle.sf_run.specs.Steps.{StepEnd, Passes, Fails}
-use Rattle.sf_run.specs.Machine.{Stage, Skipping, Taken, Item, shape_skips, stepped, item_stepped, conversion_stepped, finished, conversion_finished, item_finished, count_end, item_end, nothing_end}
+use Rattle.sf_item.proofs.Fronts.{HasItem}
+use Rattle.sf_run.specs.Steps.{StepEnd, Passes}
+use Rattle.sf_run.specs.Machine.{Stage, Skipping, Taken, Item, shape_skips, stepped, item_stepped, finished, conversion_finished, item_finished, count_end, item_end, nothing_end}
 use Rattle.sf_run.specs.Residual.{Part, choose, one_from}
 use Rattle.sf_run.proofs.Skips.{skip}
-use Rattle.sf_run.proofs.Items.{len, TakesItem}
-use Rattle.sf_run.proofs.StepLaws.{has_more, byte_choice, byte_step, skip_before, item_ended, item_part, item_step, conversion_step, percent_step, step_of}
+use Rattle.sf_run.proofs.Items.{len}
+use Rattle.sf_run.proofs.StepLaws.{byte_choice, byte_step, skip_before, item_ended, item_part, item_step, conversion_step, percent_step, step_of}
 
 -- a step of k bytes of x, after n bytes of the run
 abbrev pub part_of : ℕ → List ℕ → ℕ × StepEnd → Part
@@ -198,7 +199,7 @@ module _ (c : Conversion) where
 
   -- ---- each conversion
 
-  ends_item : (shape : Shape) → c.shape ≡ shape → TakesItem shape → EndsItem
+  ends_item : (shape : Shape) → c.shape ≡ shape → HasItem shape → EndsItem
   ends_item (Int base) e takes q n more = ap (λ (s : Shape). conversion_finished c s q n more) e
   ends_item Text e takes q n more = ap (λ (s : Shape). conversion_finished c s q n more) e
   ends_item (Set members) e takes q n more = ap (λ (s : Shape). conversion_finished c s q n more) e

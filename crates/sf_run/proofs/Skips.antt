@@ -14,13 +14,13 @@ greatest_only {P} {j} {k} g h =
     let down = g.above k h.holds in
     omega (arith, up, down)
 
-suc-le : (c : Bool) (k l : ℕ) → k ≤ l → cond c (suc k) 0 ≤ suc l
-suc-le true k l h = omega arith
-suc-le false k l h = omega arith
+pub one_more-le : (c : Bool) (k l : ℕ) → k ≤ l → cond c (suc k) 0 ≤ suc l
+one_more-le true k l h = omega arith
+one_more-le false k l h = omega arith
 
 pub skip-le : (x : List ℕ) → skip x ≤ length x
 skip-le [] = omega arith
-skip-le (b ∷ x) = suc-le (is_white b) (skip x) (length x) (skip-le x)
+skip-le (b ∷ x) = one_more-le (is_white b) (skip x) (length x) (skip-le x)
 
 -- the first byte is no white space
 none_white : (b : ℕ) (x : List ℕ) → is_white b ≡ false → (j : ℕ) → AreWhite (take j (b ∷ x)) → j ≤ 0

@@ -1,6 +1,5 @@
 -- Each directive makes exactly one step.
-use Rattle.std.proofs.Common.{◌≡◌, ◌≢◌, ℕ, zero, suc, ◌+◌, ◌-◌, ◌≤◌, Bool, true, false, cond, nat_eq, List, [], ◌∷◌, ◌++◌, length, take, drop, Option, Some, None, refl, sym, ap, ap₂, ◌∙◌, subst, inl, inr, arith, ℤ, length-drop}
-use Rattle.sf_base.specs.Bytes.{IsSkip}
+use Rattle.std.proofs.Common.{◌≡◌, ◌≢◌, ℕ, zero, suc, ◌+◌, ◌-◌, ◌≤◌, Bool, true, false, cond, nat_eq, List, [], ◌∷◌, length, take, drop, Option, Some, None, refl, sym, ap, ap₂, ◌∙◌, subst, inl, inr, arith, ℤ, length-drop}
 use Rattle.sf_base.specs.Data.{value_of}
 use Rattle.sf_format.specs.declared.directive.Shape.{Shape}
 use Rattle.sf_format.specs.declared.directive.Shape.TheVariants.{Int, Text, Set, Chars, Count}
@@ -11,11 +10,12 @@ use Rattle.sf_format.specs.Proper.{IsProperShape, IsProper}
 use Rattle.sf_item.specs.Matching.{ShapeMatches, Matches, IsItem}
 use Rattle.sf_item.specs.Tests.{matches}
 use Rattle.sf_item.proofs.Deciding.{integer_at_is, fails, tests_same, tests_matches}
-use Rattle.sf_run.specs.declared.outcome.Status.TheVariants.{InputFailure, MatchingFailure}
+use Rattle.sf_run.specs.declared.outcome.Status.TheVariants.{MatchingFailure}
+use Rattle.sf_item.proofs.Fronts.{HasItem}
 use Rattle.sf_run.specs.Steps.{StepEnd, Passes, Fails, ByteStep, NumberStored, CountStep, ItemStored, ItemPasses, EmptyItem, ItemEnds, IsSkipBefore, ItemStep, ConversionStep, Step}
 use Rattle.sf_run.specs.Machine.{number_end, count_end, integer_end, stored_end, passed_end, item_end, nothing_end}
 use Rattle.sf_run.proofs.Skips.{skip, skip_is, skip_only, skip-le}
-use Rattle.sf_run.proofs.Items.{len, len-le, TakesItem, item_is, item_only}
+use Rattle.sf_run.proofs.Items.{len, len-le, item_is, item_only}
 
 -- ---- the step as a function
 
@@ -204,7 +204,7 @@ item_step-le c x =
     let left : length (drop s x) ≡ length x - s = length-drop s x in
     omega (arith, skipped, item, left)
 
-module _ (c : Conversion) (proper : IsProperShape c.shape) (takes : TakesItem c.shape) (x : List ℕ) where
+module _ (c : Conversion) (proper : IsProperShape c.shape) (takes : HasItem c.shape) (x : List ℕ) where
   item_step_is : ItemStep c x (item_step c x).0 (item_step c x).1
   item_step_is =
       let s = skip_before c.shape x in
@@ -231,18 +231,18 @@ module _ (c : Conversion) (proper : IsProperShape c.shape) (takes : TakesItem c.
 
 conversion_is : (c : Conversion) (shape : Shape) → c.shape ≡ shape → IsProperShape shape → (x : List ℕ) (n : ℕ)
     → ConversionStep c shape x n (conversion_step c shape x n).0 (conversion_step c shape x n).1
-conversion_is c (Int base) e proper x n = item_step_is c (subst IsProperShape (sym e) proper) (subst TakesItem (sym e) tt) x
-conversion_is c Text e proper x n = item_step_is c (subst IsProperShape (sym e) proper) (subst TakesItem (sym e) tt) x
-conversion_is c (Set members) e proper x n = item_step_is c (subst IsProperShape (sym e) proper) (subst TakesItem (sym e) tt) x
-conversion_is c Chars e proper x n = item_step_is c (subst IsProperShape (sym e) proper) (subst TakesItem (sym e) tt) x
+conversion_is c (Int base) e proper x n = item_step_is c (subst IsProperShape (sym e) proper) (subst HasItem (sym e) tt) x
+conversion_is c Text e proper x n = item_step_is c (subst IsProperShape (sym e) proper) (subst HasItem (sym e) tt) x
+conversion_is c (Set members) e proper x n = item_step_is c (subst IsProperShape (sym e) proper) (subst HasItem (sym e) tt) x
+conversion_is c Chars e proper x n = item_step_is c (subst IsProperShape (sym e) proper) (subst HasItem (sym e) tt) x
 conversion_is c Count e proper x n = (refl, count_is c c.slot n)
 
 conversion_only : (c : Conversion) (shape : Shape) → c.shape ≡ shape → IsProperShape shape → (x : List ℕ) (n k : ℕ) (end : StepEnd)
     → ConversionStep c shape x n k end → Is (conversion_step c shape x n) k end
-conversion_only c (Int base) e proper x n k end h = item_step_only c (subst IsProperShape (sym e) proper) (subst TakesItem (sym e) tt) x k end h
-conversion_only c Text e proper x n k end h = item_step_only c (subst IsProperShape (sym e) proper) (subst TakesItem (sym e) tt) x k end h
-conversion_only c (Set members) e proper x n k end h = item_step_only c (subst IsProperShape (sym e) proper) (subst TakesItem (sym e) tt) x k end h
-conversion_only c Chars e proper x n k end h = item_step_only c (subst IsProperShape (sym e) proper) (subst TakesItem (sym e) tt) x k end h
+conversion_only c (Int base) e proper x n k end h = item_step_only c (subst IsProperShape (sym e) proper) (subst HasItem (sym e) tt) x k end h
+conversion_only c Text e proper x n k end h = item_step_only c (subst IsProperShape (sym e) proper) (subst HasItem (sym e) tt) x k end h
+conversion_only c (Set members) e proper x n k end h = item_step_only c (subst IsProperShape (sym e) proper) (subst HasItem (sym e) tt) x k end h
+conversion_only c Chars e proper x n k end h = item_step_only c (subst IsProperShape (sym e) proper) (subst HasItem (sym e) tt) x k end h
 conversion_only c Count e proper x n k end h = (h.0, count_only c c.slot n end h.1)
 
 conversion_within : (c : Conversion) (shape : Shape) (x : List ℕ) (n : ℕ) → (conversion_step c shape x n).0 ≤ length x

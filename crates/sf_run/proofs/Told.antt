@@ -1,5 +1,5 @@
 -- The running totals tell what the list of steps tells.
-use Rattle.std.proofs.Common.{◌≡◌, ℕ, zero, suc, ◌+◌, ◌<◌, ◌≤◌, ◌⊎◌, inl, inr, Bool, true, false, cond, ◌&&◌, nat_eq, nat_le, List, [], ◌∷◌, ◌++◌, length, take, drop, Option, Some, None, is_some, refl, sym, ap, ap₂, ◌∙◌, subst, arith, append_assoc, append-nil, length-drop, true≢false, zero-add, add-zero}
+use Rattle.std.proofs.Common.{◌≡◌, ℕ, zero, suc, ◌+◌, ◌<◌, ◌≤◌, ◌⊎◌, inl, inr, Bool, true, false, cond, ◌&&◌, nat_eq, nat_le, List, [], ◌∷◌, ◌++◌, length, drop, Option, Some, None, is_some, refl, sym, ap, ap₂, ◌∙◌, subst, arith, append_assoc, append-nil, true≢false, zero-add, add-zero}
 use Rattle.std.specs.Prelude.{SomeIff}
 use Rattle.std.specs.List.{list_any}
 use Rattle.std.proofs.lemmas.Bool.{cases_lt, cond-true, cond-false, lt-ltb, le-ltb}
@@ -11,13 +11,13 @@ use Rattle.sf_run.specs.declared.outcome.Ending.{Ending}
 use Rattle.sf_run.specs.declared.outcome.Status.{Status}
 use Rattle.sf_run.specs.declared.outcome.Status.TheVariants.{Done, TooLong}
 use Rattle.sf_run.specs.Steps.{StepEnd, Passes, Stores, Fails}
-use Rattle.sf_run.specs.Runs.{Ran, Steps, used, failure_of, status_of, place_of_failure, values, is_conversion, passed, stored, assigned, converted, RunReport, report_of, Uses, IsOpen, Run}
+use Rattle.sf_run.specs.Runs.{Ran, Steps, used, failure_of, status_of, values, is_conversion, passed, stored, assigned, converted, RunReport, report_of, Uses, IsOpen}
 use Rattle.sf_run.specs.Limits.{cut_report, IsCut, RunWithin, TellsWithin}
 use Rattle.sf_item.proofs.Deciding.{Tests, fails, tests_both, tests_same, tests_most}
 use Rattle.sf_run.specs.Laws.{EachHasOneReport}
 use Rattle.sf_run.specs.Machine.{some_below}
-use Rattle.sf_run.specs.Residual.{Tally, nothing_yet, with_used, counted, out_of, Part, one_from, is_over, or_zero, by_end, then_on, run_of}
-use Rattle.sf_run.proofs.StepLaws.{step_of, step_within}
+use Rattle.sf_run.specs.Residual.{Tally, nothing_yet, with_used, counted, out_of, by_end, then_on, run_of}
+use Rattle.sf_run.proofs.StepLaws.{step_of}
 use Rattle.sf_run.proofs.Ones.{part_of, one_made}
 use Rattle.sf_run.proofs.RunLaws.{go_on, ran_of, steps_is, steps_only}
 
@@ -266,11 +266,11 @@ cut_is (d ∷ ds) m a at t x (r ∷ before) cut rest e parts low high =
     limited_step m d ds at t x (omega (arith, low, size, all))
     ∙ elim (cases_passed end) [
       | inl h ↦
-        by_passed end _ _ h
-        ∙ cut_is ds m (a + 1) (at + 1) (next_tally d x t) (drop k x) before cut rest (omega (arith, e)) (parts_left d ds t x _ h tail)
-        (omega (arith, low, size, all, now)) (omega (arith, high, size, all, now))
-        ∙ cut_step d end k a m t before h
-        ∙ ap (λ (s : Ran). cut_from a t (s ∷ before) m) same
+          by_passed end _ _ h
+          ∙ cut_is ds m (a + 1) (at + 1) (next_tally d x t) (drop k x) before cut rest (omega (arith, e)) (parts_left d ds t x _ h tail)
+          (omega (arith, low, size, all, now)) (omega (arith, high, size, all, now))
+          ∙ cut_step d end k a m t before h
+          ∙ ap (λ (s : Ran). cut_from a t (s ∷ before) m) same
       | inr h ↦ absurd (no_split before cut rest (sym (go_failed end (later d ds x t.used) h) ∙ tail))
     ]
 
@@ -389,15 +389,13 @@ met_told ds proper m x ending r (inl w) =
     let fits : r.used ≤ m = w.0 in
     let told : uses ds x ≡ used run.0 = ap (λ (q : RunReport). q.used) (run_told ds proper x run.0 run.1) in
     let here : r.used ≡ used run.0 = ap (λ (q : RunReport). q.used) run.4 in
-    let met : r.met ≡ run.2 = ap (λ (q : RunReport). q.met) run.4 in
-    (
+    let met : r.met ≡ run.2 = ap (λ (q : RunReport). q.met) run.4 in (
       inl (run.0, run.1, omega (arith, fits, here), ap (λ q. with_met q None) run.4),
       subst (λ v. SomeIff v (IsOpen ds x × (uses ds x ≤ m)) ending) (sym met)
           (met_same run.2 ending (λ h. (h, omega (arith, told, here, fits))) (λ h. h.0) run.3),
     )
 met_told ds proper m x ending r (inr w) =
-    let over = cut_uses ds proper m x w.0 w.1 in
-    (
+    let over = cut_uses ds proper m x w.0 w.1 in (
       inr (w.0, w.1, ap (λ q. with_met q None) w.2),
       none_met r.met ending (λ h. let fits = h.1 in absurd (omega (arith, over, fits))) (ap (λ (q : RunReport). q.met) w.2),
     )
