@@ -1,3 +1,10 @@
+pub mod Skips
+pub mod Items
+pub mod StepLaws
+pub mod Ones
+pub mod RunLaws
+pub mod Told
+pub mod Rows
 pub mod Machines
 pub mod Stages
 pub mod Moves

@@ -2,6 +2,7 @@
 #![tactic(auto)]
 
 mod directive;
+pub mod laws;
 mod outcome;
 mod report;
 mod scanner;
