@@ -80,7 +80,7 @@ sums_fails d status k t =
     same_tally _ _ _ _ (sym (add-zero (t.used + k)) ∙ used_more t.used k 0 _ (used-cons r [])) (sym (add-zero t.assigned) ∙ count_none (is_conversion d) t.assigned 0 _ (assigned-cons r []))
     (sym (add-zero t.converted) ∙ count_none (is_conversion d) t.converted 0 _ (converted-cons r [])) (sym (append-nil t.values))
 
--- ---- reports of a list of steps, after a directives and the totals t
+-- ---- reports of a list of steps, where a directives passed before with the totals t
 
 abbrev place_from : ℕ → List Ran → ℕ
 place_from a ran = cond (list_any (λ r. is_some (failure_of r.end)) ran) (a + length ran) 0
@@ -94,12 +94,15 @@ cut_from a t before m = out_of TooLong (a + (length before + 1)) (with_used m (s
 same_out : (status : Status) (i j : ℕ) (t u : Tally) → i ≡ j → t ≡ u → out_of status i t ≡ out_of status j u
 same_out status i j t u p q = ap₂ (out_of status) p q
 
+place_more : (v : Bool) (a n : ℕ) → cond v (a + 1 + n) 0 ≡ cond v (a + suc n) 0
+place_more v a n = ap (λ i. cond v i 0) (let e : a + 1 + n ≡ a + suc n = omega arith in e)
+
 told_step : (d : Directive) (end : StepEnd) (k a : ℕ) (t : Tally) (ran : List Ran) → passed end ≡ true
     → told_from (a + 1) (counted d end (with_used (t.used + k) t)) ran ≡ told_from a t (ran_one d k end ∷ ran)
 told_step d Passes k a t ran h =
-    same_out (status_of ran) _ _ _ _ (ap (λ n. cond (list_any (λ r. is_some (failure_of r.end)) ran) n 0) (let e : a + 1 + length ran ≡ a + suc (length ran) = omega arith in e)) (sums_step d Passes k t ran h)
+    same_out (status_of ran) _ _ _ _ (place_more _ a (length ran)) (sums_step d Passes k t ran h)
 told_step d (Stores slot v) k a t ran h =
-    same_out (status_of ran) _ _ _ _ (ap (λ n. cond (list_any (λ r. is_some (failure_of r.end)) ran) n 0) (let e : a + 1 + length ran ≡ a + suc (length ran) = omega arith in e)) (sums_step d (Stores slot v) k t ran h)
+    same_out (status_of ran) _ _ _ _ (place_more _ a (length ran)) (sums_step d (Stores slot v) k t ran h)
 told_step d (Fails status) k a t ran h = absurd (true≢false (sym h))
 
 cut_step : (d : Directive) (end : StepEnd) (k a m : ℕ) (t : Tally) (before : List Ran) → passed end ≡ true
@@ -123,11 +126,6 @@ by_passed : (end : StepEnd) (y : RunReport) (f : Status → RunReport) → passe
 by_passed Passes y f h = refl
 by_passed (Stores slot v) y f h = refl
 by_passed (Fails status) y f h = absurd (true≢false (sym h))
-
-by_failed : (end : StepEnd) (y z : RunReport) (f : Status → RunReport) → passed end ≡ false → by_end end y f ≡ by_end end z f
-by_failed Passes y z f h = absurd (true≢false h)
-by_failed (Stores slot v) y z f h = absurd (true≢false h)
-by_failed (Fails status) y z f h = refl
 
 go_passed : (end : StepEnd) (rest : List Ran) → passed end ≡ true → go_on end rest ≡ rest
 go_passed Passes rest h = refl
