@@ -9,3 +9,4 @@ pub mod Machines
 pub mod Stages
 pub mod Moves
 pub mod Openness
+pub mod Waits

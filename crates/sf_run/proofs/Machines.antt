@@ -111,21 +111,43 @@ all_with p (x ∷ f) b e h one =
 abbrev Begins : Shape → Option ℕ → List ℕ → ℕ → Type 0
 Begins shape width f b = shape_begins shape width (f ++ b ∷ []) ≡ true
 
--- where some number goes on, a byte does, if the shape is no integer's
-another_begins : (shape : Shape) (width : Option ℕ) → (IsInt shape → ⊥) → IsProperShape shape → (f : List ℕ) (b : ℕ) → Begins shape width f b
-    → (e : ℕ) × (e < 256) × Begins shape width f e
-another_begins (Int base) width other proper f b h = absurd (other (base, refl))
-another_begins Text width other proper f b h = (65, lit< tt, all_with is_ink f b 65 h refl)
-another_begins (Set members) width other proper f b h = (proper.0, proper.1, all_with (has_byte members) f b proper.0 h proper.2)
-another_begins Chars width other proper f b h = (0, lit< tt, subst (λ n. nat_le n (unwrap_or width 1) ≡ true) (same_length f b 0) h)
-another_begins Count width other proper f b h = absurd (true≢false (sym h))
+-- a byte that goes on with each item of the shape, where some byte does
+pub item_byte : (shape : Shape) → IsProperShape shape → ℕ
+item_byte (Int base) proper = 48
+item_byte Text proper = 65
+item_byte (Set members) proper = proper.0
+item_byte Chars proper = 0
+item_byte Count proper = 0
 
-abbrev another : Conversion → List ℕ → Type 0
-another c f = (e : ℕ) × (e < 256) × (can_take c (f ++ e ∷ []) ≡ true)
+pub item_byte-below : (shape : Shape) (proper : IsProperShape shape) → item_byte shape proper < 256
+unfolding item_byte
+item_byte-below (Int base) proper = lit< tt
+item_byte-below Text proper = lit< tt
+item_byte-below (Set members) proper = proper.1
+item_byte-below Chars proper = lit< tt
+item_byte-below Count proper = lit< tt
 
--- where some number is taken, a byte is
-another_byte : (c : Conversion) → IsProperShape c.shape → (f : List ℕ) (b : ℕ) → can_take c (f ++ b ∷ []) ≡ true → another c f
-another_byte c proper f b h = by_shape c.shape refl
+other_begins : (shape : Shape) (width : Option ℕ) → (IsInt shape → ⊥) → (proper : IsProperShape shape) → (f : List ℕ) (b : ℕ) → Begins shape width f b
+    → Begins shape width f (item_byte shape proper)
+unfolding item_byte
+other_begins (Int base) width other proper f b h = absurd (other (base, refl))
+other_begins Text width other proper f b h = all_with is_ink f b 65 h refl
+other_begins (Set members) width other proper f b h = all_with (has_byte members) f b proper.0 h proper.2
+other_begins Chars width other proper f b h = subst (λ n. nat_le n (unwrap_or width 1) ≡ true) (same_length f b 0) h
+other_begins Count width other proper f b h = absurd (true≢false (sym h))
+
+integer_byte : (shape : Shape) (proper : IsProperShape shape) → IsInt shape → item_byte shape proper ≡ 48
+unfolding item_byte
+integer_byte (Int base) proper int = refl
+integer_byte Text proper int = let k = int.1 in absurd cc
+integer_byte (Set members) proper int = let k = int.1 in absurd cc
+integer_byte Chars proper int = let k = int.1 in absurd cc
+integer_byte Count proper int = let k = int.1 in absurd cc
+
+-- where some number is taken after f, that byte is
+pub item_byte-taken : (c : Conversion) (proper : IsProperShape c.shape) (f : List ℕ) (b : ℕ) → can_take c (f ++ b ∷ []) ≡ true
+    → can_take c (f ++ item_byte c.shape proper ∷ []) ≡ true
+item_byte-taken c proper f b h = by_shape c.shape refl
   where
     within : is_within c.width (length (f ++ b ∷ [])) ≡ true
     within = left_of (is_within c.width (length (f ++ b ∷ []))) (shape_begins c.shape c.width (f ++ b ∷ [])) h
@@ -136,18 +158,19 @@ another_byte c proper f b h = by_shape c.shape refl
     longer : length (f ++ b ∷ []) ≡ length f + 1
     longer = omega (arith, length-append f (b ∷ []))
 
-    other : (IsInt c.shape → ⊥) → another c f
+    other : (IsInt c.shape → ⊥) → can_take c (f ++ item_byte c.shape proper ∷ []) ≡ true
     other no_integer =
-        let (e, byte, front) = another_begins c.shape c.width no_integer proper f b begins in
-        (e, byte, both (is_within c.width (length (f ++ e ∷ []))) (shape_begins c.shape c.width (f ++ e ∷ []))
-            (subst (λ n. is_within c.width n ≡ true) (same_length f b e) within) front)
+        both (is_within c.width (length (f ++ item_byte c.shape proper ∷ []))) (shape_begins c.shape c.width (f ++ item_byte c.shape proper ∷ []))
+        (subst (λ n. is_within c.width n ≡ true) (same_length f b (item_byte c.shape proper)) within)
+        (other_begins c.shape c.width no_integer proper f b begins)
 
-    integer : (base : Base) → c.shape ≡ Int base → another c f
-    integer base is =
-        (48, lit< tt, integer_goes_on c f (base, is) (can_take_front c f b h) (subst (λ n. is_within c.width n ≡ true) longer within))
+    integer : IsInt c.shape → can_take c (f ++ item_byte c.shape proper ∷ []) ≡ true
+    integer int =
+        subst (λ n. can_take c (f ++ n ∷ []) ≡ true) (sym (integer_byte c.shape proper int))
+        (integer_goes_on c f int (can_take_front c f b h) (subst (λ n. is_within c.width n ≡ true) longer within))
 
-    by_shape : (shape : Shape) → c.shape ≡ shape → another c f
-    by_shape (Int base) e = integer base e
+    by_shape : (shape : Shape) → c.shape ≡ shape → can_take c (f ++ item_byte c.shape proper ∷ []) ≡ true
+    by_shape (Int base) e = integer (base, e)
     by_shape Text e = other (λ int. let k = sym e ∙ int.1 in absurd cc)
     by_shape (Set members) e = other (λ int. let k = sym e ∙ int.1 in absurd cc)
     by_shape Chars e = other (λ int. let k = sym e ∙ int.1 in absurd cc)
@@ -166,8 +189,9 @@ item_nothing c proper q f is full b = by_case (can_take c (f ++ b ∷ [])) refl
     by_case : (v : Bool) → can_take c (f ++ b ∷ []) ≡ v → cond v (Some (Item (f ++ b ∷ []))) None ≡ None
     by_case false e = refl
     by_case true e =
-        let (o, byte, h) = another_byte c proper f b e in
-        absurd (takes_one (Conv c) q o (Item (f ++ o ∷ [])) byte (is o ∙ ap (λ v. cond v (Some (Item (f ++ o ∷ []))) None) h) full)
+        let o : ℕ = item_byte c.shape proper in
+        absurd (takes_one (Conv c) q o (Item (f ++ o ∷ [])) (item_byte-below c.shape proper)
+            (is o ∙ ap (λ v. cond v (Some (Item (f ++ o ∷ []))) None) (item_byte-taken c proper f b e)) full)
 
 pub full_takes_nothing : (d : Directive) → IsProper d → (q : Stage) (b : ℕ) → is_full d q ≡ true → stepped d q b ≡ None
 full_takes_nothing Space proper Skipping b full = absurd (takes_one Space Skipping 32 Skipping (lit< tt) refl full)
@@ -347,3 +371,19 @@ pub keeps_all : (d : Directive) (q : Stage) (n : ℕ) (x : List ℕ) → (one_fr
 keeps_all d q n [] = refl
 keeps_all d q n (b ∷ x) =
     by_option (λ p. p.used + length p.left ≡ n + suc (length x)) (stepped d q b) _ _ refl (λ r. omega (arith, keeps_all d r (n + 1) x))
+
+-- ---- a byte that is taken whatever the item so far
+
+-- what is taken after the item f
+pub item_takes : (c : Conversion) (proper : IsProperShape c.shape) (f : List ℕ) → is_full (Conv c) (Item f) ≡ false
+    → (r : Stage) × (stepped (Conv c) (Item f) (item_byte c.shape proper) ≡ Some r)
+item_takes c proper f e =
+    let (b, below, r, is) = can_take_one (Conv c) (Item f) e in
+    (Item (f ++ item_byte c.shape proper ∷ []), ap (λ v. cond v (Some (Item (f ++ item_byte c.shape proper ∷ []))) None) (item_byte-taken c proper f b (can b r is)))
+  where
+    can : (b : ℕ) (r : Stage) → item_stepped c f b ≡ Some r → can_take c (f ++ b ∷ []) ≡ true
+    can b r = by_case (can_take c (f ++ b ∷ []))
+      where
+        by_case : (v : Bool) → cond v (Some (Item (f ++ b ∷ []))) None ≡ Some r → v ≡ true
+        by_case true is = refl
+        by_case false is = absurd cc

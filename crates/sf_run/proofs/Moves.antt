@@ -234,3 +234,12 @@ around xs i z h =
 pub if_none : {A : Type 0} (o : Option A) (P : Type 0) → P → IfNone o P
 if_none None P p = p
 if_none (Some a) P p = tt
+
+-- a directive that takes a byte has used one more, if nothing follows
+pub byte_took : (k : ℕ) (ds : List Directive) (p : ℕ) (d : Directive) (q r : Stage) (t : Tally) (b : ℕ) → slice_get ds p ≡ Some d → stepped d q b ≡ Some r
+    → run_from (Some k) (drop p ds) q (p + 1) t (b ∷ []) ≡ run_from (Some k) (drop p ds) r (p + 1) (with_used (t.used + 1) t) []
+byte_took k ds p d q r t b at e = took k ds p d q r t (with_used (t.used + 1) t) b [] at e refl
+
+pub byte_past : (k : ℕ) (ds : List Directive) (p : ℕ) (d : Directive) (q r : Stage) (t : Tally) (b : ℕ) → slice_get ds p ≡ Some d → stepped d q b ≡ Some r
+    → t.used ≡ k → run_from (Some k) (drop p ds) q (p + 1) t (b ∷ []) ≡ out_of TooLong (p + 1) t
+byte_past k ds p d q r t b at e full = passed_limit k ds p d q r t b [] at e full

@@ -1,0 +1,305 @@
+-- When a scanner waits, what it has used, and what it tells.
+use Rattle.std.proofs.Common.{◌≡◌, ℕ, ◌+◌, ◌<◌, ◌≤◌, ◌⊎◌, inl, inr, Bool, true, false, List, [], ◌∷◌, ◌++◌, length, drop, Option, Some, None, is_some, refl, sym, ap, subst, ◌∙◌, arith, append_assoc, length-append}
+use Rattle.std.specs.Prelude.{slice_get, IfNone, IsSome, SomeIff}
+use Rattle.std.proofs.lemmas.Bool.{le-ltb, cases_lt}
+use Rattle.std.proofs.lemmas.List.{append-nil}
+use Rattle.sf_format.specs.declared.directive.Directive.{Directive}
+use Rattle.sf_format.specs.declared.directive.Directive.TheVariants.{Conv}
+use Rattle.sf_format.specs.Proper.{IsProper, AreProper}
+use Rattle.sf_item.specs.Taking.{conversion_of}
+use Rattle.sf_run.specs.declared.directive.Phase.{Phase}
+use Rattle.sf_run.specs.declared.directive.Phase.TheVariants as phase
+use Rattle.sf_run.specs.declared.outcome.Ending.{Ending}
+use Rattle.sf_run.specs.declared.outcome.Status.TheVariants.{TooLong}
+use Rattle.sf_run.specs.declared.scanner.Scanner.{Scanner}
+use Rattle.sf_run.specs.declared.scanner.Stop.{Stop}
+use Rattle.sf_run.specs.Runs.{RunReport, Uses, IsOpen}
+use Rattle.sf_run.specs.Limits.{RunWithin, TellsWithin}
+use Rattle.sf_run.specs.Machine.{Stage, Skipping, Taken, Item, stepped, is_full}
+use Rattle.sf_run.specs.Phases.{Shows, ShowsNext}
+use Rattle.sf_run.specs.Residual.{Tally, nothing_yet, with_used, out_of, run_of, run_from}
+use Rattle.sf_run.specs.Scanner.{ShowsFirst, DoesBy, Does, Follows, Waits, IsSettled, Keeps, After, report_by, report_of, Gives}
+use Rattle.sf_run.specs.Tallies.{tally_of}
+use Rattle.sf_run.proofs.Machines.{can_take_one, item_byte, item_byte-below, item_takes}
+use Rattle.sf_run.proofs.Moves.{drop_at, proper_at, ended_does, waiting, byte_took, byte_past}
+use Rattle.sf_run.proofs.Openness.{OpenAt, open_or_closed, uses_within, within_limit, run_not_too_long, over_is_too_long, rest_uses_nothing}
+use Rattle.sf_run.proofs.Told.{told_exists, told_is, uses_is, uses_from, within_met, met_within}
+
+-- ---- laws of open inputs
+
+abbrev full : List Directive → List ℕ → RunReport
+full ds x = run_of None ds 1 nothing_yet x
+
+abbrev cut : ℕ → List Directive → List ℕ → RunReport
+cut k ds x = run_of (Some k) ds 1 nothing_yet x
+
+pub open_of : (ds : List Directive) → AreProper ds → (x : List ℕ) → OpenAt ds 1 nothing_yet x → IsOpen ds x
+open_of ds proper x w = (w.next, w.is_byte, uses_from ds proper (x ++ w.next ∷ []) (length x + 1) (let e : (full ds (x ++ w.next ∷ [])).used ≡ length x + 1 = omega (arith, w.takes) in e))
+
+pub open_all : (ds : List Directive) → AreProper ds → (x : List ℕ) → IsOpen ds x → (run_of None ds 1 nothing_yet x).used ≡ length x
+open_all ds proper x o =
+    elim (open_or_closed ds 1 nothing_yet x proper) [
+      | inl w ↦ omega (arith, w.all)
+      | inr w ↦ (let long : (full ds (x ++ o.0 ∷ [])).used ≡ length x + 1 = uses_is ds proper (x ++ o.0 ∷ []) (length x + 1) o.2 in
+          let same : (full ds (x ++ o.0 ∷ [])).used ≡ (full ds x).used = ap (λ (r : RunReport). r.used) (w None (o.0 ∷ [])) in
+          absurd (omega (arith, long, same, uses_within ds 1 nothing_yet x)))
+    ]
+
+-- what isn't open is told alike however it goes on
+pub closed_same : (ds : List Directive) → AreProper ds → (m : ℕ) (x z : List ℕ) (r : RunReport) → (IsOpen ds x → ⊥) → TellsWithin ds m x r → TellsWithin ds m (x ++ z) r
+closed_same ds proper m x z r closed h =
+    elim (open_or_closed ds 1 nothing_yet x proper) [
+      | inl w ↦ absurd (closed (open_of ds proper x w))
+      | inr w ↦ subst (λ (o : RunReport). TellsWithin ds m (x ++ z) o) (w (Some m) z ∙ sym (told_is ds proper m x r h)) (told_exists ds proper m (x ++ z))
+    ]
+
+-- ---- one byte that is taken, at each stage that the phase shows
+
+pub record OneByte (d : Directive) (current : Phase) : Type 0 where
+  pub byte : ℕ
+  pub is_byte : byte < 256
+  pub taken : (q : Stage) → Shows d current q → (r : Stage) × (stepped d q byte ≡ Some r)
+
+one_byte : (d : Directive) → IsProper d → (current : Phase) (q : Stage) → Shows d current q → ((p : Stage) → Shows d current p → is_full d p ≡ false) → OneByte d current
+one_byte d proper phase.Skipping q shows more =
+    let (b, below, r, is) = can_take_one d Skipping (more Skipping refl) in
+    record { byte = b; is_byte = below; taken = λ p e. (r, ap (λ s. stepped d s b) e ∙ is) }
+one_byte d proper phase.Taken q shows more =
+    let (b, below, r, is) = can_take_one d Taken (more Taken refl) in
+    record { byte = b; is_byte = below; taken = λ p e. (r, ap (λ s. stepped d s b) e ∙ is) }
+one_byte d proper (phase.Item scan) q shows more =
+    let own : IsProper (Conv (conversion_of scan)) = subst IsProper shows.2 proper in
+    record {
+      byte = item_byte (conversion_of scan).shape own.0;
+      is_byte = item_byte-below (conversion_of scan).shape own.0;
+      taken = λ p e.
+          let (r, is) = item_takes (conversion_of scan) own.0 e.0 (subst (λ s. is_full s (Item e.0) ≡ false) shows.2 (subst (λ s. is_full d s ≡ false) e.1 (more p e))) in
+          (r, ap (λ s. stepped d s (item_byte (conversion_of scan).shape own.0)) e.1 ∙ ap (λ s. stepped s (Item e.0) (item_byte (conversion_of scan).shape own.0)) shows.2 ∙ is);
+    }
+
+-- ---- what a scanner has used
+
+-- with no more input the scanner uses what it has used
+does_used : (s : Scanner) (k : ℕ) (report : RunReport) → s.tally.used ≤ k → Does s k [] report → report.used ≡ s.tally.used
+does_used s k report within does = by_case s.ended does
+  where
+    by_case : (o : Option Stop) → DoesBy o s.directives.now s.passed s.phase (tally_of s.tally) k [] report → report.used ≡ s.tally.used
+    by_case None does =
+        ap (λ (r : RunReport). r.used) does.2
+        ∙ rest_uses_nothing (Some k) (drop s.passed s.directives.now) does.0 (s.passed + 1) (tally_of s.tally) (le-ltb k s.tally.used within)
+    by_case (Some stop) does = ap (λ (r : RunReport). r.used) does
+
+module _ (ds : List Directive) (m : ℕ) (s : Scanner) (x : List ℕ) (h : After ds m s x) where
+  -- what is told of x alone, and of x and more
+  pub low : s.tally.used ≤ m
+  low = let e = h.limit in omega (arith, s.bounded, e)
+
+  pub told : (z : List ℕ) → (report : RunReport) × Does s m z report × TellsWithin ds m (x ++ z) report
+  told z = h.same m z low (omega arith)
+
+  pub told_end : (report : RunReport) × Does s m [] report × TellsWithin ds m x report
+  told_end = let w = told [] in (w.0, w.1, subst (λ y. TellsWithin ds m y w.0) (append-nil x) w.2)
+
+  -- the scanner has used what the run on x uses
+  pub used_is : (r : RunReport) → TellsWithin ds m x r → r.used ≡ s.tally.used
+  used_is r t =
+      let w = told_end in
+      ap (λ (r : RunReport). r.used) (told_is ds h.proper m x r t ∙ sym (told_is ds h.proper m x w.0 w.2)) ∙ does_used s m w.0 low w.1
+
+  -- the report of x and z under the limit is what the scanner does
+  does_cut : (z : List ℕ) → Does s m z (cut m ds (x ++ z))
+  does_cut z = let w = told z in subst (λ r. Does s m z r) (told_is ds h.proper m (x ++ z) w.0 w.2) w.1
+
+  -- a scanner that hasn't ended is open within the limit
+  module _ (e : s.ended ≡ None) where
+    waits : Waits s.directives.now s.passed s.phase
+    waits = subst (λ (o : Option Stop). IfNone o (Waits s.directives.now s.passed s.phase)) e h.settled
+
+    used : s.tally.used ≡ length x
+    used = subst (λ (o : Option Stop). IfNone o (s.tally.used ≡ length x)) e h.all
+
+    proper_own : IsProper waits.under_way
+    proper_own = proper_at s.directives.now s.passed waits.under_way (subst AreProper (sym h.format) h.proper) waits.current
+
+    shown : (z : List ℕ) (report : RunReport) (does : DoesBy None s.directives.now s.passed s.phase (tally_of s.tally) m z report) → Shows waits.under_way s.phase does.0
+    shown z report does = subst (λ rest. ShowsFirst rest s.phase does.0) (drop_at s.directives.now s.passed waits.under_way waits.current) does.1
+
+    one : OneByte waits.under_way s.phase
+    one =
+        let start = waiting s m [] (cut m ds (x ++ [])) e (does_cut []) in
+        one_byte waits.under_way proper_own s.phase start.0 (shown [] (cut m ds (x ++ [])) start) (λ p shows. waits.can_take p proper_own shows)
+
+    next : DoesBy None s.directives.now s.passed s.phase (tally_of s.tally) m (one.byte ∷ []) (cut m ds (x ++ one.byte ∷ []))
+    next = waiting s m (one.byte ∷ []) (cut m ds (x ++ one.byte ∷ [])) e (does_cut (one.byte ∷ []))
+
+    taken_by : (r : Stage) × (stepped waits.under_way next.0 one.byte ≡ Some r)
+    taken_by = one.taken next.0 (shown (one.byte ∷ []) (cut m ds (x ++ one.byte ∷ [])) next)
+
+    upper : (full ds (x ++ one.byte ∷ [])).used ≤ length x + 1
+    upper = omega (arith, uses_within ds 1 nothing_yet (x ++ one.byte ∷ []), length-append x (one.byte ∷ []))
+
+    -- below the limit the byte is taken
+    below : s.tally.used < m → (cut m ds (x ++ one.byte ∷ [])).used ≡ length x + 1
+    below lt =
+        let t : Tally = tally_of s.tally in
+        ap (λ (r : RunReport). r.used) (next.2 ∙ byte_took m s.directives.now s.passed waits.under_way next.0 taken_by.0 t one.byte waits.current taken_by.1)
+        ∙ rest_uses_nothing (Some m) (drop s.passed s.directives.now) taken_by.0 (s.passed + 1) (with_used (t.used + 1) t) (le-ltb m (t.used + 1) (omega arith))
+        ∙ ap (λ n. n + 1) used
+
+    -- at the limit it is too much
+    at_limit : s.tally.used ≡ m → (cut m ds (x ++ one.byte ∷ [])).status ≡ TooLong
+    at_limit same =
+        ap (λ (r : RunReport). r.status) (next.2 ∙ byte_past m s.directives.now s.passed waits.under_way next.0 taken_by.0 (tally_of s.tally) one.byte waits.current taken_by.1 same)
+
+    long : (full ds (x ++ one.byte ∷ [])).used ≡ length x + 1
+    long = elim (cases_lt m (full ds (x ++ one.byte ∷ [])).used) [
+      | inl over ↦ (let top = upper in let here = used in let fits = low in omega (arith, over, top, here, fits))
+      | inr fits ↦ (let all : cut m ds (x ++ one.byte ∷ []) ≡ full ds (x ++ one.byte ∷ []) = within_limit m ds 1 nothing_yet (x ++ one.byte ∷ []) fits in
+          elim (cases_lt s.tally.used m) [
+            | inl lt ↦ ap (λ (r : RunReport). r.used) (sym all) ∙ below lt
+            | inr ge ↦ absurd (run_not_too_long ds 1 nothing_yet (x ++ one.byte ∷ []) (ap (λ (r : RunReport). r.status) (sym all) ∙ at_limit (let fits = low in omega (arith, ge, fits))))
+          ])
+    ]
+
+    pub waits_open : IsOpen ds x × (length x ≤ m)
+    waits_open =
+        let here = used in let fits = low in
+        ((one.byte, one.is_byte, uses_from ds h.proper (x ++ one.byte ∷ []) (length x + 1) long), omega (arith, here, fits))
+
+  -- an ended one tells the same however the input goes on
+  module _ (stop : Stop) (e : s.ended ≡ Some stop) where
+    pub ended_is : (z : List ℕ) → cut m ds (x ++ z) ≡ out_of stop.status stop.at (tally_of s.tally)
+    ended_is z =
+        let does : DoesBy (Some stop) s.directives.now s.passed s.phase (tally_of s.tally) m z (cut m ds (x ++ z)) =
+            subst (λ o. DoesBy o s.directives.now s.passed s.phase (tally_of s.tally) m z (cut m ds (x ++ z))) e (does_cut z) in
+        does
+
+    cut_here : cut m ds x ≡ out_of stop.status stop.at (tally_of s.tally)
+    cut_here = subst (λ y. cut m ds y ≡ out_of stop.status stop.at (tally_of s.tally)) (append-nil x) (ended_is [])
+
+    -- it isn't open within the limit
+    stop_closed : IsOpen ds x → length x ≤ m → ⊥
+    stop_closed o fits =
+        let long : (full ds (x ++ o.0 ∷ [])).used ≡ length x + 1 = uses_is ds h.proper (x ++ o.0 ∷ []) (length x + 1) o.2 in
+        let short : (full ds x).used ≤ m = omega (arith, uses_within ds 1 nothing_yet x, fits) in
+        elim (cases_lt m (full ds (x ++ o.0 ∷ [])).used) [
+          | inl over ↦ run_not_too_long ds 1 nothing_yet x (ap (λ (r : RunReport). r.status)
+              (sym (within_limit m ds 1 nothing_yet x short) ∙ cut_here ∙ sym (ended_is (o.0 ∷ []))) ∙ over_is_too_long m ds 1 nothing_yet (x ++ o.0 ∷ []) (omega arith) over)
+          | inr within ↦ (let same : (full ds (x ++ o.0 ∷ [])).used ≡ s.tally.used = ap (λ (r : RunReport). r.used) (sym (within_limit m ds 1 nothing_yet (x ++ o.0 ∷ []) within) ∙ ended_is (o.0 ∷ [])) in
+              absurd (omega (arith, same, long, h.within)))
+        ]
+
+    -- what it tells is the report, with every ending
+    stop_gives : (z : List ℕ) (ending : Ending) → (IsOpen ds (x ++ z) → length (x ++ z) ≤ m → ⊥) → Gives ds m s (x ++ z) ending
+    stop_gives z ending closed = record {
+      report = out_of stop.status stop.at (tally_of s.tally);
+      is = ap (λ o. report_by o (tally_of s.tally) s.met) e ∙ ap (λ o. report_by (Some stop) (tally_of s.tally) o) h.fed;
+      right = within_met open_all ds h.proper m (x ++ z) ending None (out_of stop.status stop.at (tally_of s.tally))
+          (subst (λ r. TellsWithin ds m (x ++ z) r) (ended_is z) (told_exists ds h.proper m (x ++ z))) (λ o. closed o.0 o.1);
+    }
+
+  pub ended_closed : IsSome s.ended → IsOpen ds x → length x ≤ m → ⊥
+  ended_closed ended o fits = by_case s.ended refl ended
+    where
+      by_case : (o : Option Stop) → s.ended ≡ o → IsSome o → ⊥
+      by_case None e i = absurd cc
+      by_case (Some stop) e i = stop_closed stop e o fits
+
+-- an ended one was given whatever follows
+pub after_more : (ds : List Directive) (m : ℕ) (s : Scanner) (x z : List ℕ) → After ds m s x → IsSome s.ended → After ds m s (x ++ z)
+after_more ds m s x z h ended = record {
+  format = h.format;
+  limit = h.limit;
+  proper = h.proper;
+  same = λ k y below within.
+      let w = h.same k (z ++ y) below within in
+      (w.0, ended_does s k (z ++ y) y w.0 ended w.1, subst (λ v. TellsWithin ds k v w.0) (sym (append_assoc x z y)) w.2);
+  settled = h.settled;
+  all = ended_all s.ended ended;
+  within = let fits = h.within in omega (arith, fits, length-append x z);
+  fed = h.fed;
+}
+  where
+    ended_all : (o : Option Stop) → IsSome o → IfNone o (s.tally.used ≡ length (x ++ z))
+    ended_all None i = absurd cc
+    ended_all (Some stop) i = tt
+
+-- an ended one has the report of every longer input, with every ending
+pub ended_gives : (ds : List Directive) (m : ℕ) (s : Scanner) (x z : List ℕ) (ending : Ending) → After ds m s x → IsSome s.ended → Gives ds m s (x ++ z) ending
+ended_gives ds m s x z ending h ended = by_case s.ended refl ended
+  where
+    by_case : (o : Option Stop) → s.ended ≡ o → IsSome o → Gives ds m s (x ++ z) ending
+    by_case None e i = absurd cc
+    by_case (Some stop) e i = stop_gives ds m s x h stop e z ending (ended_closed ds m s (x ++ z) (after_more ds m s x z h ended) ended)
+
+-- ---- after a move
+
+none_before : {A : Type 0} (o p : Option A) → (IsSome o → IsSome p) → p ≡ None → o ≡ None
+none_before None p h e = refl
+none_before (Some a) p h e = absurd (let i = h refl in cc)
+
+-- after a piece was pushed
+pub after_push : (ds : List Directive) (m : ℕ) (old new : Scanner) (x piece : List ℕ) (n : ℕ) → After ds m old x
+    → (AreProper old.directives.now → (z : List ℕ) → Follows new old z (piece ++ z)) → new.tally.used ≡ old.tally.used + n → n ≤ length piece → IfNone new.ended (n ≡ length piece)
+    → (IsSome old.ended → IsSome new.ended) → Keeps new old → (IsSettled old → IsSettled new) → After ds m new (x ++ piece)
+after_push ds m old new x piece n h follows used within all stays keeps settled = record {
+  format = keeps.directives ∙ h.format;
+  limit = keeps.limit ∙ h.limit;
+  proper = h.proper;
+  same = λ k z below fits.
+      let w = h.same k (piece ++ z) (omega (arith, below, used)) fits in
+      let limit = h.limit in
+      (w.0, follows (subst AreProper (sym h.format) h.proper) z k w.0 below (omega (arith, fits, limit)) w.1, subst (λ v. TellsWithin ds k v w.0) (sym (append_assoc x piece z)) w.2);
+  settled = settled h.settled;
+  all = go new.ended refl;
+  within = let was = h.within in omega (arith, was, used, within, length-append x piece);
+  fed = keeps.met ∙ h.fed;
+}
+  where
+    go : (o : Option Stop) → new.ended ≡ o → IfNone o (new.tally.used ≡ length (x ++ piece))
+    go None e =
+        let was : old.ended ≡ None = none_before old.ended new.ended stays e in
+        let k : n ≡ length piece = subst (λ (o : Option Stop). IfNone o (n ≡ length piece)) e all in
+        let l : old.tally.used ≡ length x = subst (λ (o : Option Stop). IfNone o (old.tally.used ≡ length x)) was h.all in
+        omega (arith, k, l, used, length-append x piece)
+    go (Some stop) e = tt
+
+-- a waiting one that was run out has the report of its input with its ending
+pub run_out_gives : (ds : List Directive) (m : ℕ) (old new : Scanner) (x : List ℕ) (ending : Ending) → After ds m old x → old.ended ≡ None
+    → Follows new old [] [] → new.tally.used ≡ old.tally.used → IsSome new.ended → new.met ≡ Some ending → Gives ds m new x ending
+run_out_gives ds m old new x ending h waiting follows used ended met = by_case new.ended refl ended
+  where
+    run : (report : RunReport) × Does old m [] report × TellsWithin ds m x report
+    run = told_end ds m old x h
+
+    by_case : (o : Option Stop) → new.ended ≡ o → IsSome o → Gives ds m new x ending
+    by_case None e i = absurd cc
+    by_case (Some stop) e i =
+        let fits = low ds m old x h in
+        let limit = h.limit in
+        let is : run.0 ≡ out_of stop.status stop.at (tally_of new.tally) =
+            subst (λ o. DoesBy o new.directives.now new.passed new.phase (tally_of new.tally) m [] run.0) e (follows m run.0 (omega (arith, fits, used)) (omega (arith, limit)) run.1) in
+        record {
+          report = record (out_of stop.status stop.at (tally_of new.tally)) { met = Some ending };
+          is = ap (λ o. report_by o (tally_of new.tally) new.met) e ∙ ap (λ o. report_by (Some stop) (tally_of new.tally) o) met;
+          right = within_met open_all ds h.proper m x ending (Some ending) (out_of stop.status stop.at (tally_of new.tally))
+              (subst (λ r. TellsWithin ds m x r) is run.2) (waits_open ds m old x h waiting, refl);
+        }
+
+-- one that was given nothing yet
+pub after_nothing : (ds : List Directive) (m : ℕ) (s : Scanner) → s.directives.now ≡ ds → s.limit ≡ m → AreProper ds
+    → ((k : ℕ) (z : List ℕ) → k ≤ m → Does s k z (run_of (Some k) ds 1 nothing_yet z)) → IsSettled s → s.tally.used ≡ 0 → s.met ≡ None → After ds m s []
+after_nothing ds m s format limit proper does settled used met = record {
+  format = format;
+  limit = limit;
+  proper = proper;
+  same = λ k z below within. (run_of (Some k) ds 1 nothing_yet z, does k z within, told_exists ds proper k z);
+  settled = settled;
+  all = none_all s.ended;
+  within = omega (arith, used);
+  fed = met;
+}
+  where
+    none_all : (o : Option Stop) → IfNone o (s.tally.used ≡ 0)
+    none_all None = used
+    none_all (Some stop) = tt
