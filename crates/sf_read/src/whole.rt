@@ -1,26 +1,28 @@
 //! Scans of whole texts.
-ghost use Rattle.std.specs.Prelude.{◌≡◌, ◌<◌, ◌↔◌, IfOk};
+ghost use Rattle.std.specs.Prelude.{◌≡◌, ◌<◌, ◌↔◌, IfOk, IsErrOf};
 ghost use Rattle.sf_run.specs.Limits.{RunWithin};
 
 use sf_format::ScanFormat;
-use sf_run::{Ending, Scanned, StartFault};
+use sf_run::{Ending, Scanned, Scanner, StartFault};
 use std::alloc::Global;
 
-/// Scans a whole text by a format. The run consumes at most `limit` bytes.
+/// Scans a whole text by a format, as sscanf does (C11 7.21.6.7). The run consumes at most `limit` bytes.
+///
+/// Refuses a limit above 2147483647 with BadLimit, then answers NoMemory where room for the values was refused.
 pub fn sscan(
     alloc: Global,
     text: &[u8],
     format: &ScanFormat,
     limit: u32,
 ) -> Result<Scanned, StartFault>
-    ensures report { IfOk result (λ s. RunWithin format.now limit text.now Ending.End s) }
-    ensures limit { (result ≡ Err StartFault.BadLimit) ↔ (2147483647 < limit) }
+    ensures report { IfOk result (RunWithin format.now limit text.now Ending.End) }
+    ensures limit { IsErrOf result StartFault.BadLimit ↔ (2147483647 < limit) }
 {
-    let _ = alloc;
-    let _ = format;
-    let _ = text;
-    if limit > 2147483647 {
-        return Err(StartFault::BadLimit);
+    let mut scanner = Scanner::new(alloc, format, limit)?;
+    scanner.feed(text);
+    scanner.end(Ending::End);
+    match scanner.into_scanned() {
+        Ok(scanned) => Ok(scanned),
+        Err(_) => unreachable!(),
     }
-    Err(StartFault::NoMemory)
 }

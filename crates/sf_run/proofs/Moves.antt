@@ -94,7 +94,7 @@ pub fresh : (m : Option ℕ) (ds : List Directive) (at : ℕ) (t : Tally) (z : L
 fresh m [] at t z = refl
 fresh m (d ∷ ds) at t z = refl
 
-shows_fresh : (ds : List Directive) → ShowsFirst ds phase.Skipping Skipping
+pub shows_fresh : (ds : List Directive) → ShowsFirst ds phase.Skipping Skipping
 shows_fresh [] = tt
 shows_fresh (d ∷ ds) = refl
 

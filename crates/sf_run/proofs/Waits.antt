@@ -21,7 +21,7 @@ use Rattle.sf_run.specs.Residual.{Tally, nothing_yet, with_used, out_of, run_of,
 use Rattle.sf_run.specs.Scanner.{ShowsFirst, DoesBy, Does, Follows, Waits, IsSettled, Keeps, After, report_by, report_of, Gives}
 use Rattle.sf_run.specs.Tallies.{tally_of}
 use Rattle.sf_run.proofs.Machines.{can_take_one, item_byte, item_byte-below, item_takes}
-use Rattle.sf_run.proofs.Moves.{drop_at, proper_at, ended_does, waiting, byte_took, byte_past}
+use Rattle.sf_run.proofs.Moves.{drop_at, proper_at, ended_does, waiting, byte_took, byte_past, fresh, shows_fresh}
 use Rattle.sf_run.proofs.Openness.{OpenAt, open_or_closed, uses_within, within_limit, run_not_too_long, over_is_too_long, rest_uses_nothing}
 use Rattle.sf_run.proofs.Told.{told_exists, told_is, uses_is, uses_from, within_met, met_within}
 
@@ -303,3 +303,36 @@ after_nothing ds m s format limit proper does settled used met = record {
     none_all : (o : Option Stop) → IfNone o (s.tally.used ≡ 0)
     none_all None = used
     none_all (Some stop) = tt
+
+-- ---- what is told of an ended one
+
+pub ended_gives_own : (ds : List Directive) (m : ℕ) (s : Scanner) (x : List ℕ) (ending : Ending) → After ds m s x → IsSome s.ended → Gives ds m s x ending
+ended_gives_own ds m s x ending h ended = subst (λ y. Gives ds m s y ending) (append-nil x) (ended_gives ds m s x [] ending h ended)
+
+some_is : {A : Type 0} (a b : A) → Some a ≡ Some b → a ≡ b
+some_is a b e = cc
+
+pub gives_report : (ds : List Directive) (m : ℕ) (s : Scanner) (x : List ℕ) (ending : Ending) (stop : Stop) → Gives ds m s x ending → s.ended ≡ Some stop
+    → RunWithin ds m x ending (record (out_of stop.status stop.at (tally_of s.tally)) { met = s.met })
+gives_report ds m s x ending stop h e =
+    subst (RunWithin ds m x ending) (sym (some_is _ _ (ap (λ o. report_by o (tally_of s.tally) s.met) (sym e) ∙ h.is))) h.right
+
+none_is : {A : Type 0} (o : Option A) → is_some o ≡ false → o ≡ None
+none_is None h = refl
+none_is (Some a) h = absurd cc
+
+pub none_of : (s : Scanner) → is_some s.ended ≡ false → s.ended ≡ None
+none_of s = none_is s.ended
+
+-- the report of what it was given says how many bytes it has used
+pub within_used : (ds : List Directive) (m : ℕ) (s : Scanner) (x : List ℕ) (ending : Ending) (r : RunReport) → After ds m s x → RunWithin ds m x ending r → r.used ≡ s.tally.used
+within_used ds m s x ending r h run = used_is ds m s x h (record r { met = None }) (met_within open_all ds h.proper m x ending r run).0
+
+-- before the first byte
+pub start_does : (own ds : List Directive) (t : Tally) (k : ℕ) (z : List ℕ) → own ≡ ds → t ≡ nothing_yet
+    → DoesBy None own 0 phase.Skipping t k z (run_of (Some k) ds 1 nothing_yet z)
+start_does own ds t k z same nothing = (
+  Skipping,
+  shows_fresh own,
+  sym (fresh (Some k) ds 1 nothing_yet z) ∙ ap (λ u. run_from (Some k) ds Skipping 1 u z) (sym nothing) ∙ ap (λ d. run_from (Some k) d Skipping 1 t z) (sym same),
+)

@@ -1,5 +1,5 @@
 //! A scanner that is handed its input piece by piece.
-ghost use Rattle.std.specs.Prelude.{◌≡◌, ℕ, ◌+◌, ◌<◌, ◌≤◌, ◌∷◌, ◌++◌, [], List, length, true, IsTrue, slice_get, IsSome, IsNone, IfNone, IfSome, IfOk, IfErr, IsErr, IsOkAnd, IsSomeAnd, ◌↔◌, ◌^◌, if◌then◌else◌, Some, None, vec_len, vec_capacity};
+ghost use Rattle.std.specs.Prelude.{◌≡◌, ℕ, ◌+◌, ◌<◌, ◌≤◌, ◌∷◌, ◌++◌, [], List, length, true, false, slice_get, IsSome, IsNone, IfNone, IfSome, IfOk, IfErr, IsErr, IsErrOf, IsOkAnd, IsSomeAnd, ◌↔◌, ◌^◌, if◌then◌else◌, Some, None, vec_len, vec_capacity};
 ghost use Rattle.std.specs.Bool.{OnTrue, OnFalse};
 ghost use Rattle.sf_format.specs.declared.directive.Directive.{Directive};
 ghost use Rattle.sf_format.specs.Proper.{IsProper, AreProper, are_plain};
@@ -12,6 +12,9 @@ use crate::report::{Report, Scanned};
 use crate::tally::Tally;
 use sf_format::{Directive, ScanFormat};
 use std::alloc::Global;
+
+/// The most destinations of a format.
+const MOST_VALUES: usize = 32;
 
 /// Where and how a run stopped.
 #[derive(Clone, Copy, Debug, PartialEq, Eq)]
@@ -43,6 +46,9 @@ pub struct Scanner<'f> {
 }
 
 impl<'f> Scanner<'f> {
+    ghost use Rattle.sf_run.specs.Residual.{out_of};
+    ghost use Rattle.sf_run.specs.Tallies.{tally_of};
+    ghost use Rattle.sf_run.specs.Views.{report_by};
     ghost use Rattle.sf_run.specs.Runs.{RunReport, IsOpen};
     ghost use Rattle.sf_run.specs.Limits.{RunWithin};
     ghost use Rattle.sf_run.specs.Scanner.{Follows, IsRefused, Keeps, turns_left, IsSettled, After, Gives, used_by};
@@ -146,6 +152,8 @@ impl<'f> Scanner<'f> {
         ensures used { self.new.tally.used ≡ self.old.tally.used + (if result then 1 else 0) }
         ensures refused { OnFalse result (IsSome self.new.ended) }
         ensures stays { IsSome self.old.ended → IsSome self.new.ended }
+        ensures nothing { IsSome self.old.ended → result ≡ false }
+        ensures unchanged { IsSome self.old.ended → self.new ≡ self.old }
         ensures keeps { Keeps self.new self.old }
         ensures settled { IsSettled self.new }
     {
@@ -164,6 +172,8 @@ impl<'f> Scanner<'f> {
         ensures used { self.new.tally.used ≡ self.old.tally.used + result }
         ensures within { result ≤ length piece.now }
         ensures all { IfNone self.new.ended (result ≡ length piece.now) }
+        ensures nothing { IsSome self.old.ended → result ≡ 0 }
+        ensures unchanged { IsSome self.old.ended → self.new ≡ self.old }
         ensures stays { IsSome self.old.ended → IsSome self.new.ended }
         ensures keeps { Keeps self.new self.old }
         ensures settled { IsSettled self.old → IsSettled self.new }
@@ -190,6 +200,126 @@ impl<'f> Scanner<'f> {
                 None => self.conclude(),
                 Some(directive) => self.close(directive, false),
             }
+        }
+    }
+
+    /// A scanner that was given nothing yet. The run consumes at most `limit` bytes.
+    ///
+    /// Refuses a limit above 2147483647 with BadLimit, then answers NoMemory where room for the values was refused.
+    pub fn new(alloc: Global, format: &'f ScanFormat, limit: u32) -> Result<Self, StartFault>
+        ensures after { IfOk result (λ s. After format.now limit s []) }
+        ensures fresh { IfOk result (λ s. used_by s ≡ 0) }
+        ensures limit { IsErrOf result StartFault.BadLimit ↔ (2147483647 < limit) }
+    {
+        if limit > 2147483647 {
+            return Err(StartFault::BadLimit);
+        }
+        let directives = format.directives();
+        let Ok(tally) = Tally::new(alloc, MOST_VALUES) else {
+            return Err(StartFault::NoMemory);
+        };
+        let mut scanner = Scanner {
+            directives,
+            limit,
+            passed: 0,
+            phase: Phase::Skipping,
+            tally,
+            ended: None,
+            met: None,
+        };
+        scanner.settle();
+        Ok(scanner)
+    }
+
+    /// Whether some byte would be taken next.
+    pub fn state(&self) -> FeedState
+        ensures waits { (ds : List Directive) (m : ℕ) (x : List ℕ) → After ds m self.now x → (result ≡ FeedState.Wait) ↔ (IsOpen ds x × (length x ≤ m)) }
+        ensures ended { (ds : List Directive) (m : ℕ) (x : List ℕ) (ending : Ending) → Gives ds m self.now x ending → result ≡ FeedState.Ended }
+        ensures none { result ≡ FeedState.Wait → self.now.ended ≡ None }
+        ensures some { result ≡ FeedState.Ended → IsSome self.now.ended }
+    {
+        match self.ended {
+            None => FeedState::Wait,
+            Some(_) => FeedState::Ended,
+        }
+    }
+
+    /// Takes bytes until the run ends or the piece is used up. Takes nothing once the run has ended.
+    pub fn feed(&mut self, piece: &[u8]) -> Fed
+        ensures after { (ds : List Directive) (m : ℕ) (x : List ℕ) → After ds m self.old x → After ds m self.new (x ++ piece.now) }
+        ensures state { (ds : List Directive) (m : ℕ) (x : List ℕ) → After ds m self.old x
+            → (result.state ≡ FeedState.Wait) ↔ (IsOpen ds (x ++ piece.now) × (length (x ++ piece.now) ≤ m)) }
+        ensures taken { (ds : List Directive) (m : ℕ) (x : List ℕ) (first second : Ending) (before after : RunReport) → After ds m self.old x
+            → RunWithin ds m x first before → RunWithin ds m (x ++ piece.now) second after → after.used ≡ before.used + result.taken }
+        ensures within { result.taken ≤ length piece.now }
+        ensures all { result.state ≡ FeedState.Wait → result.taken ≡ length piece.now }
+        ensures used { used_by self.new ≡ used_by self.old + result.taken }
+        ensures waits { (ds : List Directive) (m : ℕ) (x : List ℕ) → After ds m self.old x → result.state ≡ FeedState.Wait → used_by self.new ≡ length (x ++ piece.now) }
+        ensures gives { (ds : List Directive) (m : ℕ) (x z : List ℕ) (ending : Ending) → After ds m self.old x → result.state ≡ FeedState.Ended
+            → Gives ds m self.new ((x ++ piece.now) ++ z) ending }
+        ensures nothing { (ds : List Directive) (m : ℕ) (x : List ℕ) (ending : Ending) → Gives ds m self.old x ending → result.taken ≡ 0 }
+        ensures unchanged { (ds : List Directive) (m : ℕ) (x : List ℕ) (ending : Ending) → Gives ds m self.old x ending → self.new ≡ self.old }
+    {
+        let taken = self.push(piece);
+        Fed {
+            taken,
+            state: self.state(),
+        }
+    }
+
+    /// Says that no more bytes come, and why. Changes nothing once the run has ended.
+    pub fn end(&mut self, ending: Ending)
+        ensures gives { (ds : List Directive) (m : ℕ) (x : List ℕ) → After ds m self.old x → Gives ds m self.new x ending }
+        ensures no_text { (ds : List Directive) (m : ℕ) (x y : List ℕ) → After ds m self.old x → IsOpen ds x → length x ≤ m → After ds m self.new y → ⊥ }
+        ensures unchanged { (ds : List Directive) (m : ℕ) (x : List ℕ) (before : Ending) → Gives ds m self.old x before → self.new ≡ self.old }
+        ensures used { used_by self.new ≡ used_by self.old }
+    {
+        if self.ended.is_none() {
+            self.met = Some(ending);
+            self.run_out();
+        }
+    }
+
+    /// The report, once the run has ended.
+    pub fn report(&self) -> Option<Report<'_>>
+        ensures gives { (ds : List Directive) (m : ℕ) (x : List ℕ) (ending : Ending) → Gives ds m self.now x ending → IsSomeAnd result (RunWithin ds m x ending) }
+        ensures after { (ds : List Directive) (m : ℕ) (x : List ℕ) (ending : Ending) → After ds m self.now x → IfSome result (RunWithin ds m x ending) }
+        ensures none { (ds : List Directive) (m : ℕ) (x : List ℕ) → After ds m self.now x → IsNone result → IsOpen ds x × (length x ≤ m) }
+    {
+        let stop = self.ended?;
+        Some(Report {
+            outcome: self.outcome(stop),
+            values: self.tally.values.as_slice(),
+        })
+    }
+
+    /// What a run that has ended gave. A scanner whose run hasn't is given back.
+    pub fn into_scanned(self) -> Result<Scanned, Self>
+        ensures gives { (ds : List Directive) (m : ℕ) (x : List ℕ) (ending : Ending) → Gives ds m self.entry x ending → IsOkAnd result (RunWithin ds m x ending) }
+        ensures after { (ds : List Directive) (m : ℕ) (x : List ℕ) (ending : Ending) → After ds m self.entry x → IfOk result (RunWithin ds m x ending) }
+        ensures waits { (ds : List Directive) (m : ℕ) (x : List ℕ) → After ds m self.entry x → IsErr result → IsOpen ds x × (length x ≤ m) }
+        ensures used { IfOk result (λ s. s.used ≡ used_by self.entry) }
+        ensures back { IfErr result (λ s. s ≡ self.entry) }
+    {
+        match self.ended {
+            None => Err(self),
+            Some(stop) => Ok(Scanned {
+                outcome: self.outcome(stop),
+                values: self.tally.values,
+            }),
+        }
+    }
+
+    fn outcome(&self, stop: Stop) -> Outcome
+        ensures { report_by result self.now.tally.values.items ≡ record (out_of stop.status stop.at (tally_of self.now.tally)) { met = self.now.met } }
+    {
+        Outcome {
+            status: stop.status,
+            at: stop.at,
+            assigned: self.tally.assigned,
+            converted: self.tally.converted,
+            used: self.tally.used,
+            met: self.met,
         }
     }
 }

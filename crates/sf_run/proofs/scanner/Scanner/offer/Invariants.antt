@@ -10,6 +10,7 @@ invariant-loop-self l = record {
   same : (z : List ℕ) → Follows l.self l.fn.self (l.b ∷ z) (l.b ∷ z);
   used : l.self.tally.used ≡ l.fn.self.tally.used;
   stays : IsSome l.fn.self.ended → IsSome l.self.ended;
+  unchanged : IsSome l.fn.self.ended → l.self ≡ l.fn.self;
   keeps : Keeps l.self l.fn.self;
 }
 

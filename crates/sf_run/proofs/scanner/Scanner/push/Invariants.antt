@@ -11,6 +11,8 @@ invariant-loop-b l = record {
   taken : l.taken ≡ l.b-index;
   used : l.self.tally.used ≡ l.fn.self.tally.used + l.b-index;
   stays : IsSome l.fn.self.ended → IsSome l.self.ended;
+  nothing : IsSome l.fn.self.ended → l.taken ≡ 0;
+  unchanged : IsSome l.fn.self.ended → l.self ≡ l.fn.self;
   keeps : Keeps l.self l.fn.self;
   settled : IsSettled l.fn.self → IsSettled l.self;
 }
