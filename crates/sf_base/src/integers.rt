@@ -25,7 +25,7 @@ pub trait ScanInt: Sized {
         ensures { option_map integer result ≡ (if overflowed then None else value_of own_kind negative magnitude) };
 }
 
-// The value of a sign and a magnitude in a type with a sign.
+// The number of a sign and a magnitude, as a type has it that negates as numbers do. None if the type does not hold it.
 fn signed<T: NumCast>(negative: bool, magnitude: u64) -> Option<T>
     ensures { T.exact → Casts T.value T.fits (Some (if negative then neg_ℤ (pos magnitude) else pos magnitude)) result }
 {

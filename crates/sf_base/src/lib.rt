@@ -4,10 +4,9 @@
 mod byte_set;
 mod bytes;
 mod integers;
-mod values;
-
 #[cfg(test)]
 mod tests;
+mod values;
 
 pub use byte_set::ByteSet;
 pub use bytes::{digit_value, is_space};

@@ -49,7 +49,13 @@ fn sets_have_members(rt: HostRuntime) {
     set.insert(b'-');
     set.insert(255);
     set.insert(255);
-    for (b, want) in [(0u8, true), (1, false), (b'-', true), (254, false), (255, true)] {
+    for (b, want) in [
+        (0u8, true),
+        (1, false),
+        (b'-', true),
+        (254, false),
+        (255, true),
+    ] {
         assert_eq!(rt; set.contains(b), want, "at {b}");
     }
 }
@@ -73,7 +79,11 @@ fn a_sign_and_a_magnitude_make_an_i32(rt: HostRuntime) {
         (false, 0, true, None),
         (true, 0, true, None),
     ] {
-        assert_eq!(rt; made::<i32>(negative, magnitude, overflowed), want, "{negative} {magnitude} {overflowed}");
+        assert_eq!(rt;
+            made::<i32>(negative, magnitude, overflowed),
+            want,
+            "{negative} {magnitude} {overflowed}"
+        );
     }
     assert_eq!(rt; i32::kind(), Kind::I32);
 }

@@ -22,6 +22,7 @@ IsPrefixed lower upper radix (zero_digit ∷ []) m = ⊥
 IsPrefixed lower upper radix (zero_digit ∷ letter ∷ ds) m =
     (zero_digit ≡ 48) × ((letter ≡ lower) ⊎ (letter ≡ upper)) × IsNumber radix ds m
 
+-- the first digit is 0
 abbrev pub StartsWithZero : List ℕ → Type 0
 StartsWithZero [] = ⊥
 StartsWithZero (b ∷ bs) = b ≡ 48
@@ -47,6 +48,7 @@ abbrev pub IsInteger : Base → List ℕ → Bool → ℕ → Type 0
 IsInteger base s negative m =
     (sign : List ℕ) × (body : List ℕ) × (s ≡ sign ++ body) × IsSign sign negative × IsUnsigned base body m
 
+-- s is a matching sequence of the shape; the width is the count of bytes that Chars takes, and bounds no other
 abbrev pub ShapeMatches : Shape → Option ℕ → List ℕ → Type 0
 ShapeMatches (Int base) width s = (negative : Bool) × (m : ℕ) × IsInteger base s negative m
 ShapeMatches Text width s = (0 < length s) × AllByRecursion (λ b. is_white b ≡ false) s

@@ -15,17 +15,20 @@ read base None f = None
 read base (Some p) [] = Some p
 read base (Some p) (b ∷ f) = read base (advance base p b) f
 
+-- the sign and magnitude of what was read, where that is an integer
 abbrev pub integer_in : Option Progress → Option (Bool × ℕ)
 integer_in None = None
 integer_in (Some p) = integer_of p
 
--- the sign and magnitude of an integer
+-- the sign and magnitude of the whole f, where that is an integer of the base
 abbrev pub integer_at : Base → List ℕ → Option (Bool × ℕ)
 integer_at base f = integer_in (read base (Some Start) f)
 
+-- no white space
 abbrev pub is_ink : ℕ → Bool
 is_ink b = not (is_white b)
 
+-- s is a matching sequence of the shape, of the width if the shape counts bytes
 abbrev pub shape_matches : Shape → Option ℕ → List ℕ → Bool
 shape_matches (Int base) width s = is_some (integer_at base s)
 shape_matches Text width s = nat_lt 0 (length s) && list_all is_ink s
@@ -33,6 +36,7 @@ shape_matches (Set members) width s = nat_lt 0 (length s) && list_all (has_byte 
 shape_matches Chars width s = nat_eq (length s) (unwrap_or width 1)
 shape_matches Count width s = false
 
+-- f is a matching sequence of the shape or a front of one
 abbrev pub shape_begins : Shape → Option ℕ → List ℕ → Bool
 shape_begins (Int base) width f = is_some (read base (Some Start) f)
 shape_begins Text width f = list_all is_ink f
@@ -40,6 +44,7 @@ shape_begins (Set members) width f = list_all (has_byte members) f
 shape_begins Chars width f = nat_le (length f) (unwrap_or width 1)
 shape_begins Count width f = false
 
+-- n bytes are within the width, where there is one
 abbrev pub is_within : Option ℕ → ℕ → Bool
 is_within None n = true
 is_within (Some w) n = nat_le n w

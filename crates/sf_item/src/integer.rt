@@ -46,7 +46,7 @@ fn with_byte(digits: Digits, b: u8) -> Option<Reached>
 
 // The first digit of a radix, after nothing or a prefix.
 fn from_nothing(negative: bool, radix: u8, b: u8) -> Option<Reached>
-    requires some { 0 < radix }
+    requires positive { 0 < radix }
     requires small { radix ≤ 16 }
     ensures { ShowsNext result (with_digit negative radix 0 b) }
 {
@@ -61,7 +61,7 @@ fn from_nothing(negative: bool, radix: u8, b: u8) -> Option<Reached>
 
 // The radix of an integer that begins with another digit than 0.
 fn first_radix(base: Base) -> u8
-    ensures some { 0 < result }
+    ensures positive { 0 < result }
     ensures small { result ≤ 16 }
     ensures radix { result ≡ first_radix base }
 {
@@ -74,7 +74,7 @@ fn first_radix(base: Base) -> u8
 
 // The radix of one that begins with 0 and has no prefix.
 fn zero_radix(base: Base) -> u8
-    ensures some { 0 < result }
+    ensures positive { 0 < result }
     ensures small { result ≤ 16 }
     ensures radix { result ≡ zero_radix base }
 {

@@ -138,7 +138,8 @@ impl<'c> ItemScan<'c> {
     {
         match self.reached {
             Reached::Start => ItemEnd::Empty,
-            Reached::Signed(_) | Reached::Prefix(_) => ItemEnd::Unmatched,
+            Reached::Signed(_) => ItemEnd::Unmatched,
+            Reached::Prefix(_) => ItemEnd::Unmatched,
             Reached::Zero(negative) => ItemEnd::Integer {
                 negative,
                 magnitude: 0,

@@ -4,7 +4,6 @@
 mod integer;
 mod item;
 mod reached;
-
 #[cfg(test)]
 mod tests;
 

@@ -72,19 +72,33 @@ fn the_width_bounds_what_is_taken(rt: HostRuntime) {
         (Base::Dec, 3, "12", (2, false, integer(false, 12))),
         (Base::Dec, 65535, "12", (2, false, integer(false, 12))),
     ] {
-        assert_eq!(rt; item_of(base, Some(width), text.as_bytes()), want, "{text} in {width}");
+        assert_eq!(rt;
+            item_of(base, Some(width), text.as_bytes()),
+            want,
+            "{text} in {width}"
+        );
     }
 }
 
 #[test]
 fn numbers_may_be_long(rt: HostRuntime) {
     for (text, want) in [
-        ("0000000000000000000000000000007", (31, false, integer(false, 7))),
-        ("18446744073709551615", (20, false, integer(false, 18446744073709551615))),
+        (
+            "0000000000000000000000000000007",
+            (31, false, integer(false, 7)),
+        ),
+        (
+            "18446744073709551615",
+            (20, false, integer(false, 18446744073709551615)),
+        ),
         ("18446744073709551616", (20, false, overflowed(false))),
         ("-184467440737095516160;", (22, false, overflowed(true))),
     ] {
-        assert_eq!(rt; item_of(Base::Dec, None, text.as_bytes()), want, "at {text}");
+        assert_eq!(rt;
+            item_of(Base::Dec, None, text.as_bytes()),
+            want,
+            "at {text}"
+        );
     }
 }
 
