@@ -3,6 +3,9 @@
 
 mod directive;
 mod fault;
+pub mod laws;
+mod letter;
+mod passing;
 mod scan;
 
 pub use directive::{Base, Conversion, Directive, Profile, Shape};

@@ -1,0 +1,136 @@
+//! The parts of a format, one after the other.
+ghost use Rattle.std.specs.Prelude.{◌≡◌, ◌<◌, ◌≤◌, ◌+◌, ℕ, List, ◌∷◌, ◌++◌, length, IfOk, slice_index};
+ghost use Rattle.sf_base.specs.Bytes.{is_white};
+ghost use Rattle.sf_format.specs.Lists.{behind};
+ghost use Rattle.sf_format.specs.Cut.{specification_at, part_at};
+ghost use Rattle.sf_format.specs.Faults.{letter_rules, slot_rules, percent_rules, part_rules};
+ghost use Rattle.sf_format.specs.Passing.{Passes, ConvertsBy};
+
+use crate::directive::{Conversion, Directive, Profile};
+use crate::fault::{FormatFault, FormatWhy};
+use crate::letter::letter_of;
+use sf_base::is_space;
+
+/// The directive of a part, what follows the part, and the count of destinations with it.
+#[derive(Drop)]
+pub struct Passed<'a> {
+    pub directive: Directive,
+    pub rest: &'a [u8],
+    pub assigned: u8,
+}
+
+/// What follows the white space in front.
+fn behind_space(text: &[u8]) -> &[u8]
+    ensures { result.now ≡ behind is_white text.now }
+{
+    let mut rest = text;
+    loop {
+        match rest {
+            [b, after @ ..] if is_space(*b) => rest = after,
+            _ => return rest,
+        }
+    }
+}
+
+/// The conversion by the letter behind the `%` at the place, after so many destinations.
+fn conversion(
+    profile: Profile,
+    b: u8,
+    percent: u16,
+    assigned: u8,
+) -> Result<Conversion, FormatFault>
+    requires { percent < 4096 }
+    ensures room { IfOk result (λ c. assigned < 32) }
+    ensures converts { (earlier : List ℕ) → length earlier ≡ assigned
+        → ConvertsBy profile b (letter_rules profile b (percent + 1) ++ slot_rules earlier percent) earlier result }
+{
+    if b == 0 {
+        return Err(FormatFault {
+            at: percent + 1,
+            why: FormatWhy::Nul,
+        });
+    }
+    let Some(letter) = letter_of(profile, b) else {
+        return Err(FormatFault {
+            at: percent + 1,
+            why: FormatWhy::UnknownLetter,
+        });
+    };
+    if assigned > 31 {
+        return Err(FormatFault {
+            at: percent,
+            why: FormatWhy::TooManyDestinations,
+        });
+    }
+    Ok(Conversion {
+        shape: letter.shape(),
+        kind: letter.kind(),
+        width: None,
+        slot: Some(assigned + 1),
+    })
+}
+
+/// Passes what stands behind the `%` at the place, after so many destinations.
+fn pass_specification<'a>(
+    profile: Profile,
+    text: &'a [u8],
+    percent: u16,
+    assigned: u8,
+) -> Result<Passed<'a>, FormatFault>
+    requires { percent < 4096 }
+    ensures { (earlier : List ℕ) → length earlier ≡ assigned
+        → Passes profile (percent_rules profile earlier percent text.now) (specification_at text.now) earlier result }
+{
+    match text {
+        [] => Err(FormatFault {
+            at: percent + 1,
+            why: FormatWhy::Truncated,
+        }),
+        [b, rest @ ..] => match conversion(profile, *b, percent, assigned) {
+            Err(fault) => Err(fault),
+            Ok(conversion) => Ok(Passed {
+                directive: Directive::Conv(conversion),
+                rest,
+                assigned: assigned + 1,
+            }),
+        },
+    }
+}
+
+/// Passes the part that begins at the place, after so many destinations.
+pub fn pass<'a>(
+    profile: Profile,
+    text: &'a [u8],
+    at: u16,
+    assigned: u8,
+) -> Result<Passed<'a>, FormatFault>
+    requires some { 0 < length text.now }
+    requires place { at < 4096 }
+    ensures byte { slice_index text.now 0 < 256 }
+    ensures passes { (earlier : List ℕ) → length earlier ≡ assigned
+        → Passes profile (part_rules profile earlier at text.now) (part_at text.now) earlier result }
+{
+    let first = text[0];
+    if first == 0 {
+        return Err(FormatFault {
+            at,
+            why: FormatWhy::Nul,
+        });
+    }
+    if is_space(first) {
+        return Ok(Passed {
+            directive: Directive::Space,
+            rest: behind_space(text),
+            assigned,
+        });
+    }
+    let rest = &text[1..];
+    if first == b'%' {
+        return pass_specification(profile, rest, at, assigned);
+    }
+    Ok(Passed {
+        directive: Directive::Byte(first),
+        rest,
+        assigned,
+    })
+}
