@@ -9,3 +9,5 @@ pub mod Judgements
 pub mod Meanings
 pub mod Accepted
 pub mod FormatLaws
+pub mod Walks
+pub mod Answers

@@ -1,15 +1,16 @@
 //! The parts of a format, one after the other.
-ghost use Rattle.std.specs.Prelude.{◌≡◌, ◌<◌, ◌≤◌, ◌+◌, ℕ, List, ◌∷◌, ◌++◌, length, IfOk, slice_index};
+ghost use Rattle.std.specs.Prelude.{◌≡◌, ◌<◌, ◌≤◌, ◌+◌, ℕ, List, ◌∷◌, ◌++◌, length, IfOk, IfErr, slice_index};
 ghost use Rattle.sf_base.specs.Bytes.{is_white};
 ghost use Rattle.sf_format.specs.Lists.{behind};
 ghost use Rattle.sf_format.specs.Cut.{specification_at, part_at};
 ghost use Rattle.sf_format.specs.Faults.{letter_rules, slot_rules, percent_rules, part_rules};
-ghost use Rattle.sf_format.specs.Passing.{Passes, ConvertsBy};
+ghost use Rattle.sf_format.specs.Passing.{Passes, ConvertsBy, Judged, Gathers, IsHindered};
 
 use crate::directive::{Conversion, Directive, Profile};
 use crate::fault::{FormatFault, FormatWhy};
 use crate::letter::letter_of;
 use sf_base::is_space;
+use std::alloc::Global;
 
 /// The directive of a part, what follows the part, and the count of destinations with it.
 #[derive(Drop)]
@@ -133,4 +134,58 @@ pub fn pass<'a>(
         rest,
         assigned,
     })
+}
+
+/// The count of the destinations of a text without a fault, or its first fault. It takes no memory.
+pub fn judge(profile: Profile, text: &[u8]) -> Result<u8, FormatFault>
+    ensures { Judged profile text.now result }
+{
+    if text.len() > 4096 {
+        return Err(FormatFault {
+            at: 4096,
+            why: FormatWhy::FormatTooLong,
+        });
+    }
+    let mut rest = text;
+    let mut at: u16 = 0;
+    let mut assigned: u8 = 0;
+    while rest.len() > 0 {
+        match pass(profile, rest, at, assigned) {
+            Err(fault) => return Err(fault),
+            Ok(passed) => {
+                at = (text.len() - passed.rest.len()) as u16;
+                rest = passed.rest;
+                assigned = passed.assigned;
+            }
+        }
+    }
+    Ok(assigned)
+}
+
+/// The directives of a text without a fault.
+pub fn gather(
+    alloc: Global,
+    profile: Profile,
+    text: &[u8],
+) -> Result<Vec<Directive>, FormatFault>
+    requires { length text.now ≤ 4096 }
+    ensures gathered { IfOk result (λ directives. Gathers profile text.now directives.items) }
+    ensures hindered { IfErr result (IsHindered profile text.now) }
+{
+    let mut directives = Vec::new(alloc);
+    let mut rest = text;
+    let mut at: u16 = 0;
+    let mut assigned: u8 = 0;
+    while rest.len() > 0 {
+        match pass(profile, rest, at, assigned) {
+            Err(fault) => return Err(fault),
+            Ok(passed) => {
+                at = (text.len() - passed.rest.len()) as u16;
+                rest = passed.rest;
+                assigned = passed.assigned;
+                directives.push(passed.directive)?;
+            }
+        }
+    }
+    Ok(directives)
 }
