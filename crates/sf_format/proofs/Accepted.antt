@@ -1,18 +1,14 @@
 -- What holds of the directives of each spelled text.
-use Rattle.std.proofs.Common.{◌≡◌, ◌&&◌, ℕ, zero, suc, ◌+◌, ◌<◌, ◌≤◌, true, List, [], ◌∷◌, ◌++◌, length, map, Some, None, refl, sym, ap, ◌∙◌, subst, arith, length-append}
-use Rattle.std.specs.Prelude.{IfSome}
+use Rattle.std.proofs.Common.{◌≡◌, ◌&&◌, ℕ, suc, ◌+◌, ◌≤◌, true, List, [], ◌∷◌, length, map, refl, sym, ap, ◌∙◌, subst, arith, length-append}
 use Rattle.std.specs.List.{AllByRecursion}
-use Rattle.sf_base.specs.declared.values.Kind.{Kind}
 use Rattle.sf_format.specs.declared.directive.Profile.{Profile}
-use Rattle.sf_format.specs.declared.directive.Conversion.{Conversion}
 use Rattle.sf_format.specs.declared.directive.Directive.{Directive}
 use Rattle.sf_format.specs.declared.directive.Directive.TheVariants as directive
 use Rattle.sf_format.specs.declared.letter.Letter.{Letter}
 use Rattle.sf_format.specs.declared.letter.Letter.TheVariants.{Signed}
-use Rattle.sf_format.specs.Letters.{kind_of}
 use Rattle.sf_format.specs.Pieces.{Piece, WhiteSpace, Ordinary, Specification, piece_text, text_of}
-use Rattle.sf_format.specs.Grammar.{IsPiece, AreFew, IsFormat, destinations, Means, MeanAll, Spells}
-use Rattle.sf_format.specs.Proper.{IsProper, AreProper, destinations_of, is_plain, are_plain, slots_from, AreInOrder, IsAccepted}
+use Rattle.sf_format.specs.Grammar.{IsPiece, IsFormat, destinations, Means, MeanAll}
+use Rattle.sf_format.specs.Proper.{IsProper, AreProper, destinations_of, is_plain, are_plain, slots_from, IsAccepted}
 use Rattle.sf_format.proofs.Meanings.{by_letter, conversion_is}
 use Rattle.sf_format.proofs.WholeTexts.{empty_text}
 

@@ -1,12 +1,12 @@
 -- What is answered about a text.
-use Rattle.std.proofs.Common.{◌≡◌, ℕ, suc, ◌<◌, inl, inr, List, [], ◌∷◌, length, get_or, Result, Ok, Err, sym, ap, ◌∙◌, subst}
+use Rattle.std.proofs.Common.{◌≡◌, ℕ, inl, inr, List, length, Result, Ok, Err, sym, ap, ◌∙◌, subst}
 use Rattle.sf_base.specs.Bytes.{AreBytes}
 use Rattle.sf_format.specs.declared.directive.Profile.{Profile}
 use Rattle.sf_format.specs.declared.directive.Directive.{Directive}
 use Rattle.sf_format.specs.declared.fault.FormatFault.{FormatFault}
 use Rattle.sf_format.specs.declared.fault.FormatWhy.{FormatWhy}
 use Rattle.sf_format.specs.Pieces.{Piece}
-use Rattle.sf_format.specs.Grammar.{IsFormat, Spells, destinations}
+use Rattle.sf_format.specs.Grammar.{Spells, destinations}
 use Rattle.sf_format.specs.Faults.{Fault, IsRefused, no_memory}
 use Rattle.sf_format.specs.Reading.{judged}
 use Rattle.sf_format.specs.Proper.{IsAccepted, destinations_of}
@@ -14,10 +14,6 @@ use Rattle.sf_format.specs.Passing.{Judged, Gathers, IsHindered, fault_of}
 use Rattle.sf_format.proofs.Judgements.{Judges, judged_tells, fault_judged}
 use Rattle.sf_format.proofs.Accepted.{destinations_count, format_accepted}
 use Rattle.sf_format.proofs.FormatLaws as laws
-
-pub bytes_of : (xs : List ℕ) → ((i : ℕ) → get_or xs i 0 < 256) → AreBytes xs
-bytes_of [] h = tt
-bytes_of (x ∷ xs) h = (h 0, bytes_of xs (λ i. h (suc i)))
 
 tells : (profile : Profile) (text : List ℕ) (r : Result (List Piece) (FormatWhy × ℕ)) → AreBytes text → judged profile text ≡ r → Judges profile text r
 tells profile text r bytes e = subst (Judges profile text) e (judged_tells profile text bytes)

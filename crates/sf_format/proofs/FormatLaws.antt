@@ -1,6 +1,5 @@
 -- Laws of scan formats, from what is judged.
 use Rattle.std.proofs.Common.{◌≡◌, ℕ, ◌⊎◌, inl, inr, List, Result, Ok, Err, sym, ap, ◌∙◌, subst}
-use Rattle.sf_base.specs.Bytes.{AreBytes}
 use Rattle.sf_format.specs.declared.directive.Profile.{Profile}
 use Rattle.sf_format.specs.declared.directive.Directive.{Directive}
 use Rattle.sf_format.specs.declared.fault.FormatWhy.{FormatWhy}

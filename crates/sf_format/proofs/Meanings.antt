@@ -8,7 +8,7 @@ use Rattle.sf_format.specs.declared.directive.Conversion.{Conversion}
 use Rattle.sf_format.specs.declared.directive.Directive.{Directive}
 use Rattle.sf_format.specs.declared.directive.Directive.TheVariants as directive
 use Rattle.sf_format.specs.declared.letter.Letter.{Letter}
-use Rattle.sf_format.specs.Letters.{letter_of, shape_of, kind_of}
+use Rattle.sf_format.specs.Letters.{shape_of, kind_of}
 use Rattle.sf_format.specs.Pieces.{Piece, WhiteSpace, Ordinary, Specification}
 use Rattle.sf_format.specs.Grammar.{IsPiece, destinations, IsConversion, Means, MeanAll}
 use Rattle.sf_format.proofs.Counts.{destinations_cons}

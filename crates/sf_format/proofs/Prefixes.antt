@@ -1,6 +1,5 @@
 -- Fronts of lists, and what follows them.
-use Rattle.std.proofs.lemmas.List.{take-append-drop, drop_more, take_all}
-use Rattle.std.proofs.Common.{◌≡◌, ℕ, ◌<◌, ◌≤◌, get_or, take, drop, subst, append-nil, Bool, true, false, cond, List, [], ◌∷◌, ◌++◌, length, refl, sym, ap, ◌∙◌}
+use Rattle.std.proofs.Common.{◌≡◌, ℕ, Bool, true, false, cond, List, [], ◌∷◌, ◌++◌, refl, ap, ◌∙◌}
 use Rattle.std.specs.List.{AllByRecursion}
 use Rattle.sf_format.specs.Lists.{front, behind}
 use Rattle.sf_format.proofs.Outcomes.{by_test}
@@ -46,4 +45,3 @@ pub behind_of : (test : ℕ → Bool) (x y : List ℕ) → AllPass test x → St
 behind_of test [] y passes stops = behind_at_stop test y stops
 behind_of test (b ∷ x) y passes stops =
     ap (λ v. cond v (behind test (x ++ y)) (b ∷ (x ++ y))) passes.0 ∙ behind_of test x y passes.1 stops
-

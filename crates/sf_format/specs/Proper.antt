@@ -6,8 +6,7 @@ use Rattle.sf_base.specs.declared.values.Kind.{Kind}
 use Rattle.sf_base.specs.declared.values.Kind.TheVariants.{I32}
 use Rattle.sf_base.specs.Sets.{has_byte}
 use Rattle.sf_format.specs.declared.directive.Shape.{Shape}
-use Rattle.sf_format.specs.declared.directive.Shape.TheVariants.{Int, Text, Set, Chars, Count}
-use Rattle.sf_format.specs.declared.directive.Conversion.{Conversion}
+use Rattle.sf_format.specs.declared.directive.Shape.TheVariants.{Int, Set}
 use Rattle.sf_format.specs.declared.directive.Directive.{Directive}
 use Rattle.sf_format.specs.declared.directive.Directive.TheVariants.{Space, Byte, Percent, Conv}
 

@@ -1,6 +1,4 @@
 //! The directives of a scan format.
-ghost use Rattle.std.specs.Prelude.{◌≡◌, ◌∷◌, []};
-
 use sf_base::{ByteSet, Kind};
 
 /// Which conversions a format may have.
@@ -50,22 +48,4 @@ pub enum Directive {
     /// `%%`.
     Percent,
     Conv(Conversion),
-}
-
-impl Directive {
-    ghost use Rattle.sf_format.specs.Proper.{kind_at};
-
-    /// The kind of the destination, if the directive has one with the slot.
-    pub fn kind(&self, slot: u8) -> Option<Kind>
-        ensures { result ≡ kind_at slot (self.now ∷ []) }
-    {
-        match self {
-            Directive::Conv(Conversion {
-                kind,
-                slot: Some(own),
-                ..
-            }) if *own == slot => Some(*kind),
-            _ => None,
-        }
-    }
 }

@@ -11,3 +11,6 @@ mod scan;
 pub use directive::{Base, Conversion, Directive, Profile, Shape};
 pub use fault::{FormatFault, FormatWhy};
 pub use scan::ScanFormat;
+
+#[cfg(test)]
+mod tests;

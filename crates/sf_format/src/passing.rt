@@ -1,5 +1,5 @@
 //! The parts of a format, one after the other.
-ghost use Rattle.std.specs.Prelude.{◌≡◌, ◌<◌, ◌≤◌, ◌+◌, ℕ, List, ◌∷◌, ◌++◌, length, IfOk, IfErr, slice_index};
+ghost use Rattle.std.specs.Prelude.{◌≡◌, ◌<◌, ◌≤◌, ◌+◌, ℕ, List, ◌∷◌, ◌++◌, length, IfOk, IfErr};
 ghost use Rattle.sf_base.specs.Bytes.{is_white};
 ghost use Rattle.sf_format.specs.Lists.{behind};
 ghost use Rattle.sf_format.specs.Cut.{specification_at, part_at};
@@ -87,31 +87,29 @@ fn pass_specification<'a>(
             at: percent + 1,
             why: FormatWhy::Truncated,
         }),
-        [b, rest @ ..] => match conversion(profile, *b, percent, assigned) {
-            Err(fault) => Err(fault),
-            Ok(conversion) => Ok(Passed {
+        [b, rest @ ..] => {
+            let conversion = conversion(profile, *b, percent, assigned)?;
+            Ok(Passed {
                 directive: Directive::Conv(conversion),
                 rest,
                 assigned: assigned + 1,
-            }),
-        },
+            })
+        }
     }
 }
 
-/// Passes the part that begins at the place, after so many destinations.
-pub fn pass<'a>(
+/// Passes the part that begins with the byte at the place, after so many destinations.
+fn pass<'a>(
     profile: Profile,
-    text: &'a [u8],
+    first: u8,
+    after: &'a [u8],
     at: u16,
     assigned: u8,
 ) -> Result<Passed<'a>, FormatFault>
-    requires some { 0 < length text.now }
-    requires place { at < 4096 }
-    ensures byte { slice_index text.now 0 < 256 }
-    ensures passes { (earlier : List ℕ) → length earlier ≡ assigned
-        → Passes profile (part_rules profile earlier at text.now) (part_at text.now) earlier result }
+    requires { at < 4096 }
+    ensures { (earlier : List ℕ) → length earlier ≡ assigned
+        → Passes profile (part_rules profile earlier at (first ∷ after.now)) (part_at (first ∷ after.now)) earlier result }
 {
-    let first = text[0];
     if first == 0 {
         return Err(FormatFault {
             at,
@@ -121,17 +119,16 @@ pub fn pass<'a>(
     if is_space(first) {
         return Ok(Passed {
             directive: Directive::Space,
-            rest: behind_space(text),
+            rest: behind_space(after),
             assigned,
         });
     }
-    let rest = &text[1..];
     if first == b'%' {
-        return pass_specification(profile, rest, at, assigned);
+        return pass_specification(profile, after, at, assigned);
     }
     Ok(Passed {
         directive: Directive::Byte(first),
-        rest,
+        rest: after,
         assigned,
     })
 }
@@ -149,25 +146,17 @@ pub fn judge(profile: Profile, text: &[u8]) -> Result<u8, FormatFault>
     let mut rest = text;
     let mut at: u16 = 0;
     let mut assigned: u8 = 0;
-    while rest.len() > 0 {
-        match pass(profile, rest, at, assigned) {
-            Err(fault) => return Err(fault),
-            Ok(passed) => {
-                at = (text.len() - passed.rest.len()) as u16;
-                rest = passed.rest;
-                assigned = passed.assigned;
-            }
-        }
+    while let [first, after @ ..] = rest {
+        let passed = pass(profile, *first, after, at, assigned)?;
+        rest = passed.rest;
+        at = (text.len() - rest.len()) as u16;
+        assigned = passed.assigned;
     }
     Ok(assigned)
 }
 
 /// The directives of a text without a fault.
-pub fn gather(
-    alloc: Global,
-    profile: Profile,
-    text: &[u8],
-) -> Result<Vec<Directive>, FormatFault>
+pub fn gather(alloc: Global, profile: Profile, text: &[u8]) -> Result<Vec<Directive>, FormatFault>
     requires { length text.now ≤ 4096 }
     ensures gathered { IfOk result (λ directives. Gathers profile text.now directives.items) }
     ensures hindered { IfErr result (IsHindered profile text.now) }
@@ -176,16 +165,12 @@ pub fn gather(
     let mut rest = text;
     let mut at: u16 = 0;
     let mut assigned: u8 = 0;
-    while rest.len() > 0 {
-        match pass(profile, rest, at, assigned) {
-            Err(fault) => return Err(fault),
-            Ok(passed) => {
-                at = (text.len() - passed.rest.len()) as u16;
-                rest = passed.rest;
-                assigned = passed.assigned;
-                directives.push(passed.directive)?;
-            }
-        }
+    while let [first, after @ ..] = rest {
+        let passed = pass(profile, *first, after, at, assigned)?;
+        rest = passed.rest;
+        at = (text.len() - rest.len()) as u16;
+        assigned = passed.assigned;
+        directives.push(passed.directive)?;
     }
     Ok(directives)
 }

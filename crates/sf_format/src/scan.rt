@@ -1,12 +1,12 @@
 //! Scan formats.
-ghost use Rattle.std.specs.Prelude.{◌≡◌, ◌≤◌, ℕ, List, true, length, Err, IfOk, IfErr, MatchResult};
+ghost use Rattle.std.specs.Prelude.{◌≡◌, ◌≤◌, ℕ, List, [], ◌∷◌, true, length, Err, IfOk, IfErr, MatchResult};
 ghost use Rattle.sf_format.specs.declared.fault.FormatWhy.{FormatWhy};
 ghost use Rattle.sf_format.specs.declared.directive.Directive.{Directive};
 ghost use Rattle.sf_format.specs.Proper.{AreProper, are_plain, destinations_of, AreInOrder, kind_at};
 ghost use Rattle.sf_format.specs.Grammar.{Spells};
 ghost use Rattle.sf_format.specs.Faults.{Fault, IsRefused, no_memory};
 
-use crate::directive::{Directive, Profile};
+use crate::directive::{Conversion, Directive, Profile};
 use crate::fault::FormatFault;
 use crate::passing::{gather, judge};
 use sf_base::Kind;
@@ -30,18 +30,30 @@ impl Model for ScanFormat {
     ghost view = { λ f. f.directives.items };
 
     ghost invariant = { λ f. record {
-        accepted : IsAccepted f.directives.items;
-        counted : f.destinations ≡ length (destinations_of f.directives.items);
+      accepted : IsAccepted f.directives.items;
+      counted : f.destinations ≡ length (destinations_of f.directives.items);
     } };
+}
+
+/// The kind of the destination, if the directive has one with the slot.
+fn kind_with(directive: &Directive, slot: u8) -> Option<Kind>
+    ensures { result ≡ kind_at slot (directive.now ∷ []) }
+{
+    match directive {
+        Directive::Conv(
+            Conversion {
+                kind,
+                slot: Some(own),
+                ..
+            },
+        ) if *own == slot => Some(*kind),
+        _ => None,
+    }
 }
 
 impl ScanFormat {
     /// The format that the text spells. Memory is taken only for a text that spells one.
-    pub fn parse(
-        alloc: Global,
-        profile: Profile,
-        text: &[u8],
-    ) -> Result<ScanFormat, FormatFault>
+    pub fn parse(alloc: Global, profile: Profile, text: &[u8]) -> Result<ScanFormat, FormatFault>
         ensures spelled { IfOk result (λ format. Spells profile text.now format) }
         ensures refused { IfErr result (λ fault. IsRefused profile text.now fault) }
 
@@ -73,17 +85,18 @@ impl ScanFormat {
 
     /// How many destinations the format has.
     pub fn destinations(&self) -> u8
-        ensures { result ≡ length (destinations_of self.now) }
+        ensures count { result ≡ length (destinations_of self.now) }
+        ensures few { result ≤ 32 }
     {
         self.destinations
     }
 
-    /// The kind of the destination with the slot; None if there is none.
+    /// The kind of the destination with the slot; None if there is none. Slots are counted from 1.
     pub fn kind(&self, slot: u8) -> Option<Kind>
         ensures { result ≡ kind_at slot self.now }
     {
         for directive in &self.directives {
-            let kind = directive.kind(slot);
+            let kind = kind_with(directive, slot);
             if kind.is_some() {
                 return kind;
             }

@@ -1,31 +1,38 @@
-use Rattle.std.proofs.Common.{length, arith}
+use Rattle.std.proofs.Common.{arith}
+use Rattle.std.proofs.lemmas.Result.{err_from_is_err_and}
 use Rattle.sf_format.specs.Grammar.{destinations}
-use Rattle.sf_format.proofs.Walks.{passing_more, passing_fault, passing_all, rest_shorter}
+use Rattle.sf_format.proofs.Walks.{bytes_of, passing_none, at_byte, passing_more, passing_fault, passing_all, rest_shorter}
 use Rattle.sf_format.proofs.passing.judge.Goals as goal
 
-pub returns-in-Err : goal.returns-in-Err
-returns-in-Err c =
-    let h = c.loop-rest.invariant in
-    passing_fault c.args.profile c.args.text.now c.loop-rest.at c.loop-rest.rest.now c.loop-rest.assigned c.in-Err.fault h
-    (omega arith) (c.in-Err.ensures.passes (destinations h.done) h.count)
+pub loop-rest-init : goal.loop-rest-init
+loop-rest-init c = passing_none c.args.profile c.args.text.now (bytes_of c.args.text.now (λ i. omega (arith, c.type_inv.text i)))
+
+pub returns-in_err-passed : goal.returns-in_err-passed
+returns-in_err-passed c =
+    let h = at_byte c.args.profile c.args.text.now c.loop-rest.at c.loop-rest.rest.now c.loop-rest.assigned c.in-len1-up.len_at_least c.loop-rest.invariant in
+    let p = err_from_is_err_and c.from_residual.result c.from_residual.ensures.1 in
+    rw (p.1, p.2)
+    (passing_fault c.args.profile c.args.text.now c.loop-rest.at _ c.loop-rest.assigned c.in_err-passed.field-0.0 h
+    (omega arith) (c.in_err-passed.ensures (destinations h.done) h.count))
 
 pub overflow_sub-at : goal.overflow_sub-at
 overflow_sub-at c =
-    let h = c.loop-rest.invariant in
-    let passes = c.in-Ok.ensures.passes (destinations h.done) h.count in
-    omega (arith, h.whole, rest_shorter c.args.profile (destinations h.done) c.loop-rest.at c.loop-rest.rest.now c.in-Ok.passed (omega arith) c.pass.ensures.byte passes)
+    let h = at_byte c.args.profile c.args.text.now c.loop-rest.at c.loop-rest.rest.now c.loop-rest.assigned c.in-len1-up.len_at_least c.loop-rest.invariant in
+    (rest_shorter c.args.profile c.args.text.now c.loop-rest.at _ _ c.loop-rest.assigned c.in_ok-passed.passed h
+    (c.in_ok-passed.ensures (destinations h.done) h.count)).1
 
 pub loop-rest-smaller : goal.loop-rest-smaller
 loop-rest-smaller c =
-    let h = c.loop-rest.invariant in
-    let passes = c.in-Ok.ensures.passes (destinations h.done) h.count in
-    rest_shorter c.args.profile (destinations h.done) c.loop-rest.at c.loop-rest.rest.now c.in-Ok.passed (omega arith) c.pass.ensures.byte passes
+    let h = at_byte c.args.profile c.args.text.now c.loop-rest.at c.loop-rest.rest.now c.loop-rest.assigned c.in-len1-up.len_at_least c.loop-rest.invariant in
+    let shorter = rest_shorter c.args.profile c.args.text.now c.loop-rest.at _ _ c.loop-rest.assigned c.in_ok-passed.passed h
+    (c.in_ok-passed.ensures (destinations h.done) h.count) in
+    omega (arith, shorter.0, h.whole, c.loop-rest.invariant.whole)
 
 pub loop-rest-preserved : goal.loop-rest-preserved
 loop-rest-preserved c =
-    let h = c.loop-rest.invariant in
-    passing_more c.args.profile c.args.text.now c.loop-rest.at c.loop-rest.rest.now c.loop-rest.assigned c.in-Ok.passed h
-    (omega arith) c.pass.ensures.byte (c.in-Ok.ensures.passes (destinations h.done) h.count)
+    let h = at_byte c.args.profile c.args.text.now c.loop-rest.at c.loop-rest.rest.now c.loop-rest.assigned c.in-len1-up.len_at_least c.loop-rest.invariant in
+    passing_more c.args.profile c.args.text.now c.loop-rest.at _ _ c.loop-rest.assigned c.in_ok-passed.passed h
+    (c.in_ok-passed.ensures (destinations h.done) h.count)
 
 pub returns : goal.returns
 returns c =

@@ -1,4 +1,4 @@
-use Rattle.std.proofs.Common.{length, ◌≤◌}
+use Rattle.std.proofs.Common.{length}
 use Rattle.sf_format.proofs.Walks.{Passing}
 use Rattle.sf_format.proofs.passing.judge.Given as goal
 

@@ -1,8 +1,7 @@
-use Rattle.std.proofs.Common.{◌≡◌, Result, Ok, Err, ap, arith, refl, length}
+use Rattle.std.proofs.Common.{Err, ap, arith}
 use Rattle.std.proofs.lemmas.Result.{err_from_is_err_and}
-use Rattle.sf_format.specs.declared.directive.Directive.{Directive}
-use Rattle.sf_format.specs.declared.fault.FormatFault.{FormatFault}
-use Rattle.sf_format.proofs.Answers.{bytes_of, gathers_spells, gathers_accepted, gathers_count, judged_fault, hindered, hindered_accepted, same_fault, no_fault, not_refused, gathers_one}
+use Rattle.sf_format.proofs.Answers.{gathers_spells, gathers_accepted, gathers_count, judged_fault, hindered, hindered_accepted, same_fault, no_fault, not_refused, gathers_one}
+use Rattle.sf_format.proofs.Walks.{bytes_of}
 use Rattle.sf_format.proofs.scan.ScanFormat.parse.Goals as goal
 
 pub returns-in_err-destinations-clause-refused : goal.returns-in_err-destinations-clause-refused
