@@ -9,5 +9,6 @@ pub mod Judgements
 pub mod Meanings
 pub mod Accepted
 pub mod FormatLaws
+pub mod SlotLookups
 pub mod Walks
 pub mod Answers

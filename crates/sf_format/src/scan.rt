@@ -1,12 +1,12 @@
 //! Scan formats.
-ghost use Rattle.std.specs.Prelude.{◌≡◌, ◌≤◌, ℕ, List, [], ◌∷◌, true, length, Err, IfOk, IfErr, MatchResult};
+ghost use Rattle.std.specs.Prelude.{◌≡◌, ◌≤◌, ◌↔◌, IsSome, ℕ, List, [], ◌∷◌, true, length, Err, IfOk, IfErr, MatchResult};
 ghost use Rattle.sf_format.specs.declared.fault.FormatWhy.{FormatWhy};
 ghost use Rattle.sf_format.specs.declared.directive.Directive.{Directive};
 ghost use Rattle.sf_format.specs.Proper.{AreProper, are_plain, destinations_of, AreInOrder, kind_at};
 ghost use Rattle.sf_format.specs.Grammar.{Spells};
 ghost use Rattle.sf_format.specs.Faults.{Fault, IsRefused, no_memory};
 
-use crate::directive::{Conversion, Directive, Profile};
+use crate::directive::{Directive, Profile};
 use crate::fault::FormatFault;
 use crate::passing::{gather, judge};
 use sf_base::Kind;
@@ -40,15 +40,22 @@ fn kind_with(directive: &Directive, slot: u8) -> Option<Kind>
     ensures { result ≡ kind_at slot (directive.now ∷ []) }
 {
     match directive {
-        Directive::Conv(
-            Conversion {
-                kind,
-                slot: Some(own),
-                ..
-            },
-        ) if *own == slot => Some(*kind),
+        Directive::Conv(conversion) if conversion.slot == Some(slot) => Some(conversion.kind),
         _ => None,
     }
+}
+
+/// The kind of the first destination with the slot.
+fn find_kind(directives: &[Directive], slot: u8) -> Option<Kind>
+    ensures { result ≡ kind_at slot directives.now }
+{
+    for directive in directives {
+        let kind = kind_with(directive, slot);
+        if kind.is_some() {
+            return kind;
+        }
+    }
+    None
 }
 
 impl ScanFormat {
@@ -93,14 +100,9 @@ impl ScanFormat {
 
     /// The kind of the destination with the slot; None if there is none. Slots are counted from 1.
     pub fn kind(&self, slot: u8) -> Option<Kind>
-        ensures { result ≡ kind_at slot self.now }
+        ensures kind { result ≡ kind_at slot self.now }
+        ensures some { IsSome result ↔ ((1 ≤ slot) × (slot ≤ length (destinations_of self.now))) }
     {
-        for directive in &self.directives {
-            let kind = kind_with(directive, slot);
-            if kind.is_some() {
-                return kind;
-            }
-        }
-        None
+        find_kind(self.directives(), slot)
     }
 }
