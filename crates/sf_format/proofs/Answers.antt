@@ -7,7 +7,7 @@ use Rattle.sf_format.specs.declared.fault.FormatFault.{FormatFault}
 use Rattle.sf_format.specs.declared.fault.FormatWhy.{FormatWhy}
 use Rattle.sf_format.specs.Pieces.{Piece}
 use Rattle.sf_format.specs.Grammar.{Spells, destinations}
-use Rattle.sf_format.specs.Faults.{Fault, IsRefused, no_memory}
+use Rattle.sf_format.specs.Faults.{Fault, IsRefused}
 use Rattle.sf_format.specs.Reading.{judged}
 use Rattle.sf_format.specs.Proper.{IsAccepted, destinations_of}
 use Rattle.sf_format.specs.Passing.{Judged, Gathers, IsHindered, fault_of}
@@ -68,14 +68,6 @@ no_fault profile text assigned at why judges h = let e = sym judges.1 ∙ fault_
 pub not_refused : {A : Type 0} (profile : Profile) (text : List ℕ) (fault : FormatFault) (ds : List Directive)
     → judged profile text ≡ Err (fault_of fault) → Spells profile text ds → A
 not_refused profile text fault ds e h = let f = sym e ∙ laws.spelled_judged profile text ds h in absurd (cc)
-
-pub hindered_accepted : (profile : Profile) (text : List ℕ) (fault : FormatFault) (ds : List Directive) → IsHindered profile text fault
-    → Spells profile text ds → fault ≡ no_memory
-hindered_accepted profile text fault ds h spelled =
-    elim h [
-      | inl e ↦ not_refused profile text fault ds e spelled
-      | inr none ↦ none
-    ]
 
 pub gathers_one : (profile : Profile) (text : List ℕ) (ds es : List Directive) → AreBytes text → Gathers profile text ds → Spells profile text es → ds ≡ es
 gathers_one profile text ds es bytes h spelled = laws.one_list profile text ds es (gathers_spells profile text ds bytes h) spelled

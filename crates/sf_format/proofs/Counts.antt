@@ -41,8 +41,3 @@ destinations_push (first ∷ done) piece =
     ∙ ap (λ ls. destinations (first ∷ []) ++ ls) (destinations_push done piece)
     ∙ sym (append_assoc (destinations (first ∷ [])) (destinations done) (destinations (piece ∷ [])))
     ∙ ap (λ ls. ls ++ destinations (piece ∷ [])) (sym (destinations_cons first done))
-
-pub at_most_one : (piece : Piece) → length (destinations (piece ∷ [])) ≤ 1
-at_most_one (WhiteSpace bs) = omega arith
-at_most_one (Ordinary b) = omega arith
-at_most_one (Specification letter) = omega arith

@@ -96,8 +96,5 @@ fault_judged profile text at why h =
     fault : FormatWhy → ℕ → Judgement
     fault w place = Err (w, place)
 
-pub long_judged : (profile : Profile) (text : List ℕ) → 4096 < length text → judged profile text ≡ Err (FormatTooLong, 4096)
-long_judged profile text much = ap (judged_as profile text) (is_long (length text) much)
-
 pub short_judged : (profile : Profile) (text : List ℕ) → length text ≤ 4096 → judged profile text ≡ read (length text) profile [] 0 text
 short_judged profile text below = ap (judged_as profile text) (is_short (length text) below)

@@ -1,11 +1,17 @@
 -- Formats and faults, computed.
-use Rattle.std.proofs.Common.{◌≡◌, ℕ, List, [], ◌∷◌, Result, Ok, Err, refl}
+use Rattle.std.proofs.Common.{◌≡◌, ℕ, List, [], ◌∷◌, Result, Ok, Err, refl, inr, lit<, lit≤}
 use Rattle.std.specs.Prelude.{codes, replicate}
 use Rattle.sf_format.specs.declared.directive.Profile.TheVariants.{One, Two}
+use Rattle.sf_format.specs.declared.directive.Base.TheVariants.{Dec}
+use Rattle.sf_format.specs.declared.directive.Directive.TheVariants.{Conv}
+use Rattle.sf_format.specs.declared.letter.Letter.TheVariants.{Signed}
 use Rattle.sf_format.specs.declared.fault.FormatWhy.{FormatWhy}
 use Rattle.sf_format.specs.declared.fault.FormatWhy.TheVariants.{Truncated, UnknownLetter, Nul, TooManyDestinations}
 use Rattle.sf_format.specs.Pieces.{Piece, WhiteSpace, Ordinary, Specification, text_of}
+use Rattle.sf_format.specs.Grammar.{Spells}
+use Rattle.sf_format.specs.Faults.{Fault}
 use Rattle.sf_format.specs.Reading.{judged}
+use Rattle.sf_format.proofs.Meanings.{by_letter}
 
 abbrev parts : List Piece → Result (List Piece) (FormatWhy × ℕ)
 parts pieces = Ok pieces
@@ -57,3 +63,20 @@ full = refl
 
 one_too_many : judged One (integers 33) ≡ at TooManyDestinations 64
 one_too_many = refl
+
+-- ---- by the definitions themselves
+
+spelled : Spells One (codes "%d") (Conv (by_letter 1 (Signed Dec)) ∷ [])
+spelled = (
+  Specification 100 ∷ [],
+  record { short = lit≤ tt; each = ((Signed Dec, refl), tt); apart = tt; few = lit≤ tt },
+  refl,
+  ((Signed Dec, by_letter 1 (Signed Dec), refl, record { shape = refl; kind = refl; width = refl; slot = refl }, refl), tt),
+)
+
+unknown : Fault One (codes " %%") 2 UnknownLetter
+unknown =
+    inr (
+      lit≤ tt,
+      (WhiteSpace (32 ∷ []) ∷ [], codes "%%", record { each = ((lit< tt, (refl, tt)), tt); apart = tt; few = lit≤ tt }, refl, refl),
+    )

@@ -44,38 +44,39 @@ put_push : (done : List Piece) (piece : Piece) (r : Judgement) → put_all (done
 put_push [] piece r = refl
 put_push (first ∷ done) piece r = ap (put first) (put_push done piece r)
 
--- a rest that isn't empty, by its first byte
-pub headed : (x : List ℕ) → 1 ≤ length x → x ≡ get_or x 0 0 ∷ take (length x - 1) (drop 1 x)
-headed [] some = absurd (omega (arith, some))
-headed (b ∷ x) some = ap (λ t. b ∷ t) (sym (take_rest (b ∷ x) 1))
-
+-- a rest that isn't empty, by its first byte and what follows it
 abbrev pub next : List ℕ → List ℕ
 next rest = get_or rest 0 0 ∷ take (length rest - 1) (drop 1 rest)
 
-pub at_byte : (profile : Profile) (text : List ℕ) (at : ℕ) (rest : List ℕ) (assigned : ℕ) → 1 ≤ length rest
-    → Passing profile text at rest assigned → Passing profile text at (next rest) assigned
-at_byte profile text at rest assigned some h = subst (λ x. Passing profile text at x assigned) (headed rest some) h
+headed : (x : List ℕ) → 1 ≤ length x → x ≡ next x
+headed [] some = absurd (omega (arith, some))
+headed (b ∷ x) some = ap (λ t. b ∷ t) (sym (take_rest (b ∷ x) 1))
 
--- how a text that no rule refuses begins, after the parts so far
-begins : (profile : Profile) (text : List ℕ) (at b : ℕ) (x : List ℕ) (assigned : ℕ) (passed : Passed) (h : Passing profile text at (b ∷ x) assigned)
-    → Passes profile (part_rules profile (destinations h.done) at (b ∷ x)) (part_at (b ∷ x)) (destinations h.done) (Ok passed)
-    → BeginsWith profile (destinations h.done) (b ∷ x) (part_at (b ∷ x))
-begins profile text at b x assigned passed h passes =
+pub at_byte : {profile : Profile} {text : List ℕ} {at : ℕ} {rest : List ℕ} {assigned : ℕ} → 1 ≤ length rest
+    → Passing profile text at rest assigned → Passing profile text at (next rest) assigned
+at_byte {profile} {text} {at} {rest} {assigned} some h = subst (λ x. Passing profile text at x assigned) (headed rest some) h
+
+-- the part in front of x was passed
+abbrev pub PassesFirst : Profile → List Piece → ℕ → List ℕ → Passed → Type 0
+PassesFirst profile done at x passed = Passes profile (part_rules profile (destinations done) at x) (part_at x) (destinations done) (Ok passed)
+
+begins : {profile : Profile} {text : List ℕ} {at b : ℕ} {x : List ℕ} {assigned : ℕ} (passed : Passed) (h : Passing profile text at (b ∷ x) assigned)
+    → PassesFirst profile h.done at (b ∷ x) passed → BeginsWith profile (destinations h.done) (b ∷ x) (part_at (b ∷ x))
+begins {profile} {at = at} {b = b} {x = x} passed h passes =
     begins_with profile (destinations h.done) at b x h.bytes.0 (quiet_is (part_rules profile (destinations h.done) at (b ∷ x)) passes.0)
 
 -- the lengths of a part and of what follows it
-part_length : (profile : Profile) (earlier : List ℕ) (x : List ℕ) (part : Part) → BeginsWith profile earlier x part
+part_length : {profile : Profile} {earlier x : List ℕ} {part : Part} → BeginsWith profile earlier x part
     → (0 < length (piece_text part.piece)) × (length (piece_text part.piece) + length part.rest ≡ length x)
-part_length profile earlier x part h =
+part_length {profile} {part = part} h =
     (empty_text profile part.piece h.is, sym (length-append (piece_text part.piece) part.rest) ∙ sym (ap length h.text))
 
 -- what follows a part is shorter
-pub rest_shorter : (profile : Profile) (text : List ℕ) (at b : ℕ) (x : List ℕ) (assigned : ℕ) (passed : Passed)
-    (h : Passing profile text at (b ∷ x) assigned)
-    → Passes profile (part_rules profile (destinations h.done) at (b ∷ x)) (part_at (b ∷ x)) (destinations h.done) (Ok passed)
+pub rest_shorter : {profile : Profile} {text : List ℕ} {at b : ℕ} {x : List ℕ} {assigned : ℕ} (passed : Passed)
+    (h : Passing profile text at (b ∷ x) assigned) → PassesFirst profile h.done at (b ∷ x) passed
     → (length passed.rest.now < length (b ∷ x)) × (length passed.rest.now ≤ length text)
-rest_shorter profile text at b x assigned passed h passes =
-    let lengths = part_length profile (destinations h.done) (b ∷ x) (part_at (b ∷ x)) (begins profile text at b x assigned passed h passes) in
+rest_shorter passed h passes =
+    let lengths = part_length (begins passed h passes) in
     (omega (arith, lengths.0, lengths.1, ap length passes.1), omega (arith, lengths.0, lengths.1, ap length passes.1, h.whole))
 
 reading_more : (profile : Profile) (earlier : List ℕ) (p b : ℕ) (x : List ℕ) (r : Judgement)
@@ -90,15 +91,14 @@ reading_more profile earlier p b x r quiet shorter reading = by_fuel
         ap (λ first. read_on n profile earlier p first (part_at (b ∷ x))) quiet
         ∙ ap (put (part_at (b ∷ x)).piece) (reading n (omega (arith, enough, shorter)))
 
-pub passing_more : (profile : Profile) (text : List ℕ) (at b : ℕ) (x : List ℕ) (assigned : ℕ) (passed : Passed)
-    (h : Passing profile text at (b ∷ x) assigned)
-    → Passes profile (part_rules profile (destinations h.done) at (b ∷ x)) (part_at (b ∷ x)) (destinations h.done) (Ok passed)
+pub passing_more : {profile : Profile} {text : List ℕ} {at b : ℕ} {x : List ℕ} {assigned : ℕ} (passed : Passed)
+    (h : Passing profile text at (b ∷ x) assigned) → PassesFirst profile h.done at (b ∷ x) passed
     → Passing profile text (length text - length passed.rest.now) passed.rest.now passed.assigned
-passing_more profile text at b x assigned passed h passes =
+passing_more {profile} {text} {at} {b} {x} passed h passes =
     let part = part_at (b ∷ x) in
     let all = destinations h.done ++ destinations (part.piece ∷ []) in
-    let is = begins profile text at b x assigned passed h passes in
-    let lengths = part_length profile (destinations h.done) (b ∷ x) part is in
+    let is = begins passed h passes in
+    let lengths = part_length is in
     let after = length passed.rest.now in
     let same : after ≡ length part.rest = ap length passes.1 in
     let place : length text - after ≡ at + length (piece_text part.piece) = omega (arith, lengths.0, lengths.1, same, h.whole) in
@@ -119,26 +119,31 @@ passing_more profile text at b x assigned passed h passes =
           (subst (λ ls. Reading profile ls (length text - after) passed.rest.now r) pushed reading)))));
     }
 
-pub passing_fault : (profile : Profile) (text : List ℕ) (at : ℕ) (rest : List ℕ) (assigned : ℕ) (fault : FormatFault)
+pub passing_fault : {profile : Profile} {text : List ℕ} {at : ℕ} {rest : List ℕ} {assigned : ℕ} (fault : FormatFault)
     (h : Passing profile text at rest assigned) → length text ≤ 4096
     → first_of (part_rules profile (destinations h.done) at rest) ≡ Some (fault_of fault) → judged profile text ≡ Err (fault_of fault)
-passing_fault profile text at rest assigned fault h below first =
+passing_fault {profile} {text} {at} {rest} fault h below first =
     short_judged profile text below
     ∙ subst (Reading profile [] 0 text) (fault_put h.done (fault_of fault))
     (h.decides (Err (fault_of fault)) (reading_refused profile (destinations h.done) at rest (fault_of fault) first))
     (length text) (omega arith)
 
-all_judged : (profile : Profile) (text : List ℕ) (at : ℕ) (rest : List ℕ) (assigned : ℕ) (h : Passing profile text at rest assigned)
-    → length text ≤ 4096 → length rest ≤ 0 → judged profile text ≡ Ok h.done
-all_judged profile text at [] assigned h below none =
-    short_judged profile text below
-    ∙ subst (Reading profile [] 0 text) (all_put h.done) (h.decides (Ok []) (λ n enough. nothing_read n profile (destinations h.done) at))
-    (length text) (omega arith)
-all_judged profile text at (b ∷ x) assigned h below none = absurd (omega (arith, none))
+no_bytes_left : (rest : List ℕ) → length rest ≤ 0 → rest ≡ []
+no_bytes_left [] none = refl
+no_bytes_left (b ∷ x) none = absurd (omega (arith, none))
 
-pub passing_all : (profile : Profile) (text : List ℕ) (at : ℕ) (rest : List ℕ) (assigned : ℕ) → Passing profile text at rest assigned
+all_judged : {profile : Profile} {text : List ℕ} {at : ℕ} {rest : List ℕ} {assigned : ℕ} (h : Passing profile text at rest assigned)
+    → length text ≤ 4096 → length rest ≤ 0 → judged profile text ≡ Ok h.done
+all_judged {profile} {text} {at} {rest} h below none =
+    let nothing : Reading profile (destinations h.done) at [] (Ok []) = λ n enough. nothing_read n profile (destinations h.done) at in
+    short_judged profile text below
+    ∙ subst (Reading profile [] 0 text) (all_put h.done)
+    (h.decides (Ok []) (subst (λ x. Reading profile (destinations h.done) at x (Ok [])) (sym (no_bytes_left rest none)) nothing))
+    (length text) (omega arith)
+
+pub passing_all : {profile : Profile} {text : List ℕ} {at : ℕ} {rest : List ℕ} {assigned : ℕ} → Passing profile text at rest assigned
     → length text ≤ 4096 → length rest ≤ 0 → Judged profile text (Ok assigned)
-passing_all profile text at rest assigned h below none = (h.done, all_judged profile text at rest assigned h below none, sym h.count)
+passing_all h below none = (h.done, all_judged h below none, sym h.count)
 
 -- ---- with the directives so far
 
@@ -150,21 +155,20 @@ pub gathering_none : (profile : Profile) (text : List ℕ) → AreBytes text →
 unfolding passing_none
 gathering_none profile text bytes = record { passing = passing_none profile text bytes; means = tt }
 
-pub gathering_at_byte : (profile : Profile) (text : List ℕ) (at : ℕ) (rest : List ℕ) (assigned : ℕ) (ds : List Directive) → 1 ≤ length rest
+pub gathering_at_byte : {profile : Profile} {text : List ℕ} {at : ℕ} {rest : List ℕ} {assigned : ℕ} {ds : List Directive} → 1 ≤ length rest
     → Gathering profile text at rest assigned ds → Gathering profile text at (next rest) assigned ds
-gathering_at_byte profile text at rest assigned ds some h = subst (λ x. Gathering profile text at x assigned ds) (headed rest some) h
+gathering_at_byte {profile} {text} {at} {rest} {assigned} {ds} some h =
+    subst (λ x. Gathering profile text at x assigned ds) (headed rest some) h
 
-pub gathering_more : (profile : Profile) (text : List ℕ) (at b : ℕ) (x : List ℕ) (assigned : ℕ) (ds : List Directive) (passed : Passed)
-    (h : Gathering profile text at (b ∷ x) assigned ds)
-    → Passes profile (part_rules profile (destinations h.passing.done) at (b ∷ x)) (part_at (b ∷ x)) (destinations h.passing.done) (Ok passed)
+pub gathering_more : {profile : Profile} {text : List ℕ} {at b : ℕ} {x : List ℕ} {assigned : ℕ} {ds : List Directive} (passed : Passed)
+    (h : Gathering profile text at (b ∷ x) assigned ds) → PassesFirst profile h.passing.done at (b ∷ x) passed
     → Gathering profile text (length text - length passed.rest.now) passed.rest.now passed.assigned (ds ++ passed.directive ∷ [])
 unfolding passing_more
-gathering_more profile text at b x assigned ds passed h passes = record {
-  passing = passing_more profile text at b x assigned passed h.passing passes;
+gathering_more {profile} {b = b} {x = x} {ds = ds} passed h passes = record {
+  passing = passing_more passed h.passing passes;
   means = mean_push profile 1 h.passing.done ds (part_at (b ∷ x)).piece passed.directive h.means passes.2;
 }
 
-pub gathering_all : (profile : Profile) (text : List ℕ) (at : ℕ) (rest : List ℕ) (assigned : ℕ) (ds : List Directive)
+pub gathering_all : {profile : Profile} {text : List ℕ} {at : ℕ} {rest : List ℕ} {assigned : ℕ} {ds : List Directive}
     → Gathering profile text at rest assigned ds → length text ≤ 4096 → length rest ≤ 0 → Gathers profile text ds
-gathering_all profile text at rest assigned ds h below none =
-    (h.passing.done, all_judged profile text at rest assigned h.passing below none, h.means)
+gathering_all h below none = (h.passing.done, all_judged h.passing below none, h.means)

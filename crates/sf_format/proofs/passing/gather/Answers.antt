@@ -11,37 +11,27 @@ loop-rest-init c =
 
 pub returns-in_err-passed-clause-hindered : goal.returns-in_err-passed-clause-hindered
 returns-in_err-passed-clause-hindered c =
-    let h = (gathering_at_byte c.args.profile c.args.text.now c.loop-rest.at c.loop-rest.rest.now c.loop-rest.assigned
-    c.loop-rest.directives.items c.in-len1-up.len_at_least c.loop-rest.invariant).passing in
+    let h = (gathering_at_byte c.in-len1-up.len_at_least c.loop-rest.invariant).passing in
     let p = err_from_is_err_and c.from_residual.result c.from_residual.ensures.1 in
     rw (p.1, p.2)
-    (inl (passing_fault c.args.profile c.args.text.now c.loop-rest.at _ c.loop-rest.assigned c.in_err-passed.field-0.0 h
-    (omega arith) (c.in_err-passed.ensures (destinations h.done) h.count)))
+    (inl (passing_fault c.in_err-passed.field-0.0 h (omega arith) (c.in_err-passed.ensures (destinations h.done) h.count)))
 
 pub overflow_sub-at : goal.overflow_sub-at
 overflow_sub-at c =
-    let h = (gathering_at_byte c.args.profile c.args.text.now c.loop-rest.at c.loop-rest.rest.now c.loop-rest.assigned
-    c.loop-rest.directives.items c.in-len1-up.len_at_least c.loop-rest.invariant).passing in
-    (rest_shorter c.args.profile c.args.text.now c.loop-rest.at _ _ c.loop-rest.assigned c.in_ok-passed.passed h
-    (c.in_ok-passed.ensures (destinations h.done) h.count)).1
+    let h = (gathering_at_byte c.in-len1-up.len_at_least c.loop-rest.invariant).passing in
+    (rest_shorter c.in_ok-passed.passed h (c.in_ok-passed.ensures (destinations h.done) h.count)).1
 
 pub loop-rest-smaller : goal.loop-rest-smaller
 loop-rest-smaller c =
-    let h = (gathering_at_byte c.args.profile c.args.text.now c.loop-rest.at c.loop-rest.rest.now c.loop-rest.assigned
-    c.loop-rest.directives.items c.in-len1-up.len_at_least c.loop-rest.invariant).passing in
-    let shorter = rest_shorter c.args.profile c.args.text.now c.loop-rest.at _ _ c.loop-rest.assigned c.in_ok-passed.passed h
-    (c.in_ok-passed.ensures (destinations h.done) h.count) in
+    let h = (gathering_at_byte c.in-len1-up.len_at_least c.loop-rest.invariant).passing in
+    let shorter = rest_shorter c.in_ok-passed.passed h (c.in_ok-passed.ensures (destinations h.done) h.count) in
     omega (arith, shorter.0, h.whole, c.loop-rest.invariant.passing.whole)
 
 pub loop-rest-preserved : goal.loop-rest-preserved
 loop-rest-preserved c =
-    let h = gathering_at_byte c.args.profile c.args.text.now c.loop-rest.at c.loop-rest.rest.now c.loop-rest.assigned
-    c.loop-rest.directives.items c.in-len1-up.len_at_least c.loop-rest.invariant in
+    let h = gathering_at_byte c.in-len1-up.len_at_least c.loop-rest.invariant in
     rw c.in_ok-push.ensures.items
-    (gathering_more c.args.profile c.args.text.now c.loop-rest.at _ _ c.loop-rest.assigned c.loop-rest.directives.items
-    c.in_ok-passed.passed h (c.in_ok-passed.ensures (destinations h.passing.done) h.passing.count))
+    (gathering_more c.in_ok-passed.passed h (c.in_ok-passed.ensures (destinations h.passing.done) h.passing.count))
 
 pub returns-clause-gathered : goal.returns-clause-gathered
-returns-clause-gathered c =
-    gathering_all c.args.profile c.args.text.now c.loop-rest.at c.loop-rest.rest.now c.loop-rest.assigned c.loop-rest.directives.items
-    c.loop-rest.invariant c.requires (omega arith)
+returns-clause-gathered c = gathering_all c.loop-rest.invariant c.requires (omega arith)

@@ -1,39 +1,30 @@
 use Rattle.std.proofs.Common.{arith}
 use Rattle.std.proofs.lemmas.Result.{err_from_is_err_and}
 use Rattle.sf_format.specs.Grammar.{destinations}
-use Rattle.sf_format.proofs.Walks.{bytes_of, passing_none, at_byte, passing_more, passing_fault, passing_all, rest_shorter}
+use Rattle.sf_format.proofs.Walks.{at_byte, passing_more, passing_fault, passing_all, rest_shorter}
 use Rattle.sf_format.proofs.passing.judge.Goals as goal
-
-pub loop-rest-init : goal.loop-rest-init
-loop-rest-init c = passing_none c.args.profile c.args.text.now (bytes_of c.args.text.now (λ i. omega (arith, c.type_inv.text i)))
 
 pub returns-in_err-passed : goal.returns-in_err-passed
 returns-in_err-passed c =
-    let h = at_byte c.args.profile c.args.text.now c.loop-rest.at c.loop-rest.rest.now c.loop-rest.assigned c.in-len1-up.len_at_least c.loop-rest.invariant in
+    let h = at_byte c.in-len1-up.len_at_least c.loop-rest.invariant in
     let p = err_from_is_err_and c.from_residual.result c.from_residual.ensures.1 in
-    rw (p.1, p.2)
-    (passing_fault c.args.profile c.args.text.now c.loop-rest.at _ c.loop-rest.assigned c.in_err-passed.field-0.0 h
-    (omega arith) (c.in_err-passed.ensures (destinations h.done) h.count))
+    rw (p.1, p.2) (passing_fault c.in_err-passed.field-0.0 h (omega arith) (c.in_err-passed.ensures (destinations h.done) h.count))
 
 pub overflow_sub-at : goal.overflow_sub-at
 overflow_sub-at c =
-    let h = at_byte c.args.profile c.args.text.now c.loop-rest.at c.loop-rest.rest.now c.loop-rest.assigned c.in-len1-up.len_at_least c.loop-rest.invariant in
-    (rest_shorter c.args.profile c.args.text.now c.loop-rest.at _ _ c.loop-rest.assigned c.in_ok-passed.passed h
-    (c.in_ok-passed.ensures (destinations h.done) h.count)).1
+    let h = at_byte c.in-len1-up.len_at_least c.loop-rest.invariant in
+    (rest_shorter c.in_ok-passed.passed h (c.in_ok-passed.ensures (destinations h.done) h.count)).1
 
 pub loop-rest-smaller : goal.loop-rest-smaller
 loop-rest-smaller c =
-    let h = at_byte c.args.profile c.args.text.now c.loop-rest.at c.loop-rest.rest.now c.loop-rest.assigned c.in-len1-up.len_at_least c.loop-rest.invariant in
-    let shorter = rest_shorter c.args.profile c.args.text.now c.loop-rest.at _ _ c.loop-rest.assigned c.in_ok-passed.passed h
-    (c.in_ok-passed.ensures (destinations h.done) h.count) in
+    let h = at_byte c.in-len1-up.len_at_least c.loop-rest.invariant in
+    let shorter = rest_shorter c.in_ok-passed.passed h (c.in_ok-passed.ensures (destinations h.done) h.count) in
     omega (arith, shorter.0, h.whole, c.loop-rest.invariant.whole)
 
 pub loop-rest-preserved : goal.loop-rest-preserved
 loop-rest-preserved c =
-    let h = at_byte c.args.profile c.args.text.now c.loop-rest.at c.loop-rest.rest.now c.loop-rest.assigned c.in-len1-up.len_at_least c.loop-rest.invariant in
-    passing_more c.args.profile c.args.text.now c.loop-rest.at _ _ c.loop-rest.assigned c.in_ok-passed.passed h
-    (c.in_ok-passed.ensures (destinations h.done) h.count)
+    let h = at_byte c.in-len1-up.len_at_least c.loop-rest.invariant in
+    passing_more c.in_ok-passed.passed h (c.in_ok-passed.ensures (destinations h.done) h.count)
 
 pub returns : goal.returns
-returns c =
-    passing_all c.args.profile c.args.text.now c.loop-rest.at c.loop-rest.rest.now c.loop-rest.assigned c.loop-rest.invariant (omega arith) (omega arith)
+returns c = passing_all c.loop-rest.invariant (omega arith) (omega arith)

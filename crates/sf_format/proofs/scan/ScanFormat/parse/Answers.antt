@@ -1,6 +1,6 @@
 use Rattle.std.proofs.Common.{Err, ap, arith}
 use Rattle.std.proofs.lemmas.Result.{err_from_is_err_and}
-use Rattle.sf_format.proofs.Answers.{gathers_spells, gathers_accepted, gathers_count, judged_fault, hindered, hindered_accepted, same_fault, no_fault, not_refused, gathers_one}
+use Rattle.sf_format.proofs.Answers.{gathers_spells, gathers_accepted, gathers_count, judged_fault, hindered, same_fault, no_fault, not_refused, gathers_one}
 use Rattle.sf_format.proofs.Walks.{bytes_of}
 use Rattle.sf_format.proofs.scan.ScanFormat.parse.Goals as goal
 
@@ -31,12 +31,6 @@ returns-in_err-directives-clause-refused c =
 pub returns-in_err-directives-clause-fault : goal.returns-in_err-directives-clause-fault
 returns-in_err-directives-clause-fault c = λ at why fault.
     no_fault c.args.profile c.args.text.now c.in_ok-destinations.destinations at why c.in_ok-destinations.ensures fault
-
-pub returns-in_err-directives-clause-accepted : goal.returns-in_err-directives-clause-accepted
-returns-in_err-directives-clause-accepted c = λ ds spelled.
-    let p = err_from_is_err_and c.from_residual-in_err-directives.result c.from_residual-in_err-directives.ensures.1 in
-    rw (p.1, p.2)
-    (hindered_accepted c.args.profile c.args.text.now c.in_err-directives.field-0.0 ds c.in_err-directives.ensures.hindered spelled)
 
 pub invariant_of-result : goal.invariant_of-result
 invariant_of-result c = record {
