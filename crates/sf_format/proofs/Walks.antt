@@ -11,7 +11,7 @@ use Rattle.sf_format.specs.Cut.{Part, part_at}
 use Rattle.sf_format.specs.Grammar.{destinations, MeanAll}
 use Rattle.sf_format.specs.Faults.{first_of, part_rules}
 use Rattle.sf_format.specs.Reading.{put, read, judged}
-use Rattle.sf_format.specs.Passing.{Passes, Judged, Gathers, fault_of}
+use Rattle.sf_format.specs.Passing.{PassesBy, Judged, Gathers, fault_of}
 use Rattle.sf_format.proofs.Rules.{quiet_is, all_back}
 use Rattle.sf_format.proofs.Counts.{destinations_push}
 use Rattle.sf_format.proofs.Meanings.{mean_push}
@@ -58,7 +58,7 @@ at_byte {profile} {text} {at} {rest} {assigned} some h = subst (λ x. Passing pr
 
 -- the part in front of x was passed
 abbrev pub PassesFirst : Profile → List Piece → ℕ → List ℕ → Passed → Type 0
-PassesFirst profile done at x passed = Passes profile (part_rules profile (destinations done) at x) (part_at x) (destinations done) (Ok passed)
+PassesFirst profile done at x passed = PassesBy profile (part_rules profile (destinations done) at x) (destinations done) (part_at x) (Ok passed)
 
 begins : {profile : Profile} {text : List ℕ} {at b : ℕ} {x : List ℕ} {assigned : ℕ} (passed : Passed) (h : Passing profile text at (b ∷ x) assigned)
     → PassesFirst profile h.done at (b ∷ x) passed → BeginsWith profile (destinations h.done) (b ∷ x) (part_at (b ∷ x))

@@ -1,4 +1,4 @@
--- The first fault of a text that is no scan format.
+-- The first fault of a text that is no scan format. C11 7.21.6.2p13 leaves such a text undefined; here it is refused.
 use Rattle.std.specs.Prelude.{◌≡◌, ℕ, ◌+◌, ◌<◌, ◌≤◌, ◌⊎◌, Bool, true, List, [], ◌∷◌, ◌++◌, length, Option, Some, None, is_none, nat_eq, nat_lt, if◌then◌else◌}
 use Rattle.std.specs.List.{AllByRecursion}
 use Rattle.sf_format.specs.declared.directive.Profile.{Profile}

@@ -10,25 +10,43 @@ use Rattle.sf_format.specs.Letters.{letter_of}
 use Rattle.sf_format.specs.declared.directive.Directive.{Directive}
 use Rattle.sf_format.specs.Pieces.{Piece}
 use Rattle.sf_format.specs.Reading.{judged}
-use Rattle.sf_format.specs.Cut.{Part}
+use Rattle.sf_format.specs.Cut.{Part, specification_at, part_at}
 use Rattle.sf_format.specs.Grammar.{destinations, IsConversion, Means, MeanAll}
-use Rattle.sf_format.specs.Faults.{Rule, first_of, no_memory}
+use Rattle.sf_format.specs.Faults.{Rule, first_of, letter_rules, slot_rules, percent_rules, part_rules, no_memory}
 
 abbrev pub fault_of : FormatFault → FormatWhy × ℕ
 fault_of fault = (fault.why, fault.at)
 
--- the first fault by the rules, or else the directive of the part, what follows it, and the count of destinations with it
-abbrev pub Passes : Profile → List Rule → Part → List ℕ → Result Passed FormatFault → Type 0
-Passes profile rules part earlier (Ok passed) =
-    (first_of rules ≡ None) × (passed.rest.now ≡ part.rest) × Means profile (1 + length earlier) part.piece passed.directive
-    × (passed.assigned ≡ length (earlier ++ destinations (part.piece ∷ [])))
-Passes profile rules part earlier (Err fault) = first_of rules ≡ Some (fault_of fault)
+-- ---- one part, after destinations of this count; its first byte stands at p
 
 -- the first fault by the rules, or else the conversion by the letter, which has the next slot
-abbrev pub ConvertsBy : Profile → ℕ → List Rule → List ℕ → Result Conversion FormatFault → Type 0
-ConvertsBy profile b rules earlier (Ok c) =
+abbrev pub ConvertsBy : Profile → List Rule → List ℕ → ℕ → Result Conversion FormatFault → Type 0
+ConvertsBy profile rules earlier b (Ok c) =
     (first_of rules ≡ None) × ((letter : Letter) × (letter_of profile b ≡ Some letter) × IsConversion (1 + length earlier) letter c)
-ConvertsBy profile b rules earlier (Err fault) = first_of rules ≡ Some (fault_of fault)
+ConvertsBy profile rules earlier b (Err fault) = first_of rules ≡ Some (fault_of fault)
+
+-- the byte where the letter is due
+abbrev pub PassesLetter : Profile → ℕ → ℕ → ℕ → Result Conversion FormatFault → Type 0
+PassesLetter profile assigned p b result =
+    (earlier : List ℕ) → length earlier ≡ assigned → ConvertsBy profile (letter_rules profile b (p + 1) ++ slot_rules earlier p) earlier b result
+
+-- the first fault by the rules, or else the directive of the part, what follows it, and the count of destinations with it
+abbrev pub PassesBy : Profile → List Rule → List ℕ → Part → Result Passed FormatFault → Type 0
+PassesBy profile rules earlier part (Ok passed) =
+    (first_of rules ≡ None) × (passed.rest.now ≡ part.rest) × Means profile (1 + length earlier) part.piece passed.directive
+    × (passed.assigned ≡ length (earlier ++ destinations (part.piece ∷ [])))
+PassesBy profile rules earlier part (Err fault) = first_of rules ≡ Some (fault_of fault)
+
+-- what stands behind a %
+abbrev pub PassesSpecification : Profile → ℕ → ℕ → List ℕ → Result Passed FormatFault → Type 0
+PassesSpecification profile assigned p x result =
+    (earlier : List ℕ) → length earlier ≡ assigned → PassesBy profile (percent_rules profile earlier p x) earlier (specification_at x) result
+
+abbrev pub PassesPart : Profile → ℕ → ℕ → List ℕ → Result Passed FormatFault → Type 0
+PassesPart profile assigned p x result =
+    (earlier : List ℕ) → length earlier ≡ assigned → PassesBy profile (part_rules profile earlier p x) earlier (part_at x) result
+
+-- ---- whole texts
 
 -- the count of the destinations of the text's parts, or its fault
 abbrev pub Judged : Profile → List ℕ → Result ℕ FormatFault → Type 0

@@ -1,5 +1,7 @@
-//! Laws of the definitions that the contracts cite. None of these functions does anything: its contract is the law.
-ghost use Rattle.sf_format.specs.Laws.{EachSpellsOne, EachHasOneFault, NoneIsBoth, EachIsEither, EachIsProper};
+//! Laws of the definitions that the contracts cite.
+//! None of these functions does anything: its contract is the law.
+ghost use Rattle.sf_format.specs.Laws.{EachSpellsOne, EachHasOneFault, NoneIsBoth};
+ghost use Rattle.sf_format.specs.Laws.{EachIsEither, EachIsProper};
 
 /// A text spells at most one list of directives.
 pub fn one_list()

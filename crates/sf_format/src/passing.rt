@@ -1,10 +1,8 @@
 //! The parts of a format, one after the other.
-ghost use Rattle.std.specs.Prelude.{◌≡◌, ◌<◌, ◌≤◌, ◌+◌, ℕ, List, ◌∷◌, ◌++◌, length, IfOk, IfErr};
+ghost use Rattle.std.specs.Prelude.{◌≡◌, ◌<◌, ◌≤◌, ◌∷◌, length, IfOk, IfErr};
 ghost use Rattle.sf_base.specs.Bytes.{is_white};
 ghost use Rattle.sf_format.specs.Lists.{behind};
-ghost use Rattle.sf_format.specs.Cut.{specification_at, part_at};
-ghost use Rattle.sf_format.specs.Faults.{letter_rules, slot_rules, percent_rules, part_rules};
-ghost use Rattle.sf_format.specs.Passing.{Passes, ConvertsBy, Judged, Gathers, IsHindered};
+ghost use Rattle.sf_format.specs.Passing.{PassesLetter, PassesSpecification, PassesPart, Judged, Gathers, IsHindered};
 
 use crate::directive::{Conversion, Directive, Profile};
 use crate::fault::{FormatFault, FormatWhy};
@@ -42,8 +40,7 @@ fn conversion(
 ) -> Result<Conversion, FormatFault>
     requires { percent < 4096 }
     ensures room { IfOk result (λ c. assigned < 32) }
-    ensures converts { (earlier : List ℕ) → length earlier ≡ assigned
-        → ConvertsBy profile b (letter_rules profile b (percent + 1) ++ slot_rules earlier percent) earlier result }
+    ensures converts { PassesLetter profile assigned percent b result }
 {
     if b == 0 {
         return Err(FormatFault {
@@ -79,8 +76,7 @@ fn pass_specification<'a>(
     assigned: u8,
 ) -> Result<Passed<'a>, FormatFault>
     requires { percent < 4096 }
-    ensures { (earlier : List ℕ) → length earlier ≡ assigned
-        → Passes profile (percent_rules profile earlier percent text.now) (specification_at text.now) earlier result }
+    ensures { PassesSpecification profile assigned percent text.now result }
 {
     match text {
         [] => Err(FormatFault {
@@ -107,8 +103,7 @@ fn pass<'a>(
     assigned: u8,
 ) -> Result<Passed<'a>, FormatFault>
     requires { at < 4096 }
-    ensures { (earlier : List ℕ) → length earlier ≡ assigned
-        → Passes profile (part_rules profile earlier at (first ∷ after.now)) (part_at (first ∷ after.now)) earlier result }
+    ensures { PassesPart profile assigned at (first ∷ after.now) result }
 {
     if first == 0 {
         return Err(FormatFault {

@@ -101,7 +101,8 @@ impl ScanFormat {
     /// The kind of the destination with the slot; None if there is none. Slots are counted from 1.
     pub fn kind(&self, slot: u8) -> Option<Kind>
         ensures kind { result ≡ kind_at slot self.now }
-        ensures some { IsSome result ↔ ((1 ≤ slot) × (slot ≤ length (destinations_of self.now))) }
+        ensures some { let count = length (destinations_of self.now) in
+            IsSome result ↔ ((1 ≤ slot) × (slot ≤ count)) }
     {
         find_kind(self.directives(), slot)
     }
