@@ -1,1 +1,10 @@
+pub mod Lists
+pub mod Letters
+pub mod Pieces
+pub mod Grammar
+pub mod Faults
+pub mod Cut
+pub mod Reading
 pub mod Proper
+pub mod Passing
+pub mod Laws

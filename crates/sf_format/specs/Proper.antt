@@ -1,12 +1,12 @@
 -- What holds of the directives of each accepted scan format.
-use Rattle.std.specs.Prelude.{◌≡◌, ℕ, ◌<◌, ◌≤◌, Bool, true, false, ◌&&◌, List, [], ◌∷◌, length, Option, Some, None, IfSome, is_some}
-use Rattle.std.specs.List.{AllByRecursion, list_all, count_by, filter_map}
+use Rattle.std.specs.Prelude.{◌≡◌, ℕ, zero, suc, ◌+◌, ◌<◌, ◌≤◌, Bool, true, false, ◌&&◌, nat_eq, List, [], ◌∷◌, length, map, find, Option, Some, None, IfSome}
+use Rattle.std.specs.List.{AllByRecursion, list_all, filter_map}
+use Rattle.std.specs.Option.{option_map}
 use Rattle.sf_base.specs.declared.values.Kind.{Kind}
 use Rattle.sf_base.specs.declared.values.Kind.TheVariants.{I32}
 use Rattle.sf_base.specs.Sets.{has_byte}
 use Rattle.sf_format.specs.declared.directive.Shape.{Shape}
-use Rattle.sf_format.specs.declared.directive.Shape.TheVariants.{Int, Text, Set, Chars, Count}
-use Rattle.sf_format.specs.declared.directive.Conversion.{Conversion}
+use Rattle.sf_format.specs.declared.directive.Shape.TheVariants.{Int, Set}
 use Rattle.sf_format.specs.declared.directive.Directive.{Directive}
 use Rattle.sf_format.specs.declared.directive.Directive.TheVariants.{Space, Byte, Percent, Conv}
 
@@ -39,6 +39,19 @@ destination_of _ = None
 abbrev pub destinations_of : List Directive → List (ℕ × Kind)
 destinations_of ds = filter_map destination_of ds
 
+-- the kind of the conversion with this slot
+abbrev pub kind_at : ℕ → List Directive → Option Kind
+kind_at slot ds = option_map (λ d. d.1) (find (λ d. nat_eq d.0 slot) (destinations_of ds))
+
+-- so many slots, one after the other from the place on
+abbrev pub slots_from : ℕ → ℕ → List ℕ
+slots_from place zero = []
+slots_from place (suc n) = place ∷ slots_from (place + 1) n
+
+-- the destinations have the slots from 1 to their count, each once and in order
+abbrev pub AreInOrder : List Directive → Type 0
+AreInOrder ds = map (λ d. d.0) (destinations_of ds) ≡ slots_from 1 (length (destinations_of ds))
+
 -- ---- what is accepted today
 
 abbrev pub is_integer : Shape → Bool
@@ -56,3 +69,12 @@ is_plain _ = true
 
 abbrev pub are_plain : List Directive → Bool
 are_plain ds = list_all is_plain ds
+
+-- ---- what each accepted format has
+
+pub record IsAccepted (ds : List Directive) : Type 0 where
+  pub proper : AreProper ds
+  pub plain : are_plain ds ≡ true
+  pub short : length ds ≤ 4096
+  pub few : length (destinations_of ds) ≤ 32
+  pub ordered : AreInOrder ds

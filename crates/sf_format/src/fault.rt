@@ -1,4 +1,6 @@
 //! What is wrong with a format.
+use std::alloc::AllocFailed;
+
 /// Why a format is refused.
 #[derive(Clone, Copy, Debug, PartialEq, Eq)]
 pub enum FormatWhy {
@@ -21,4 +23,18 @@ pub enum FormatWhy {
 pub struct FormatFault {
     pub at: u16,
     pub why: FormatWhy,
+}
+
+impl<T: Drop> From<AllocFailed<T>> for FormatFault {
+    ghost use Rattle.std.specs.Prelude.{◌≡◌};
+    ghost use Rattle.sf_format.specs.Faults.{no_memory};
+
+    ghost from_gives = { λ _ fault. fault ≡ no_memory };
+
+    fn from(_refused: AllocFailed<T>) -> FormatFault {
+        FormatFault {
+            at: 0,
+            why: FormatWhy::NoMemory,
+        }
+    }
 }

@@ -1,34 +1,83 @@
 //! Scan formats.
-ghost use Rattle.std.specs.Prelude.{◌≡◌, ◌≤◌, true, length};
-ghost use Rattle.sf_format.specs.Proper.{AreProper, are_plain, destinations_of};
+ghost use Rattle.std.specs.Prelude.{◌≡◌, ◌≤◌, ◌↔◌, IsSome, ℕ, List, [], ◌∷◌, true, length, Err, IfOk, IfErr, MatchResult};
+ghost use Rattle.sf_format.specs.declared.fault.FormatWhy.{FormatWhy};
+ghost use Rattle.sf_format.specs.declared.directive.Directive.{Directive};
+ghost use Rattle.sf_format.specs.Proper.{AreProper, are_plain, destinations_of, AreInOrder, kind_at};
+ghost use Rattle.sf_format.specs.Grammar.{Spells};
+ghost use Rattle.sf_format.specs.Faults.{Fault, IsRefused, no_memory};
 
-use crate::directive::Directive;
+use crate::directive::{Directive, Profile};
+use crate::fault::FormatFault;
+use crate::passing::{gather, judge};
+use sf_base::Kind;
+use std::alloc::Global;
 use std::marker::Model;
 
-/// A scan format: its directives.
+/// A scan format: its directives, and the count of its destinations.
 #[derive(Drop)]
 pub struct ScanFormat {
     directives: Vec<Directive>,
+    destinations: u8,
 }
 
 impl Model for ScanFormat {
-    ghost use Rattle.std.specs.Prelude.{◌≡◌, ◌≤◌, true, List, length};
+    ghost use Rattle.std.specs.Prelude.{◌≡◌, List, length};
     ghost use Rattle.sf_format.specs.declared.directive.Directive.{Directive};
-    ghost use Rattle.sf_format.specs.Proper.{AreProper, are_plain, destinations_of};
+    ghost use Rattle.sf_format.specs.Proper.{IsAccepted, destinations_of};
 
     ghost Value = { List Directive };
 
     ghost view = { λ f. f.directives.items };
 
     ghost invariant = { λ f. record {
-      proper : AreProper f.directives.items;
-      plain : are_plain f.directives.items ≡ true;
-      short : length f.directives.items ≤ 4096;
-      few : length (destinations_of f.directives.items) ≤ 32;
+      accepted : IsAccepted f.directives.items;
+      counted : f.destinations ≡ length (destinations_of f.directives.items);
     } };
 }
 
+/// The kind of the destination, if the directive has one with the slot.
+fn kind_with(directive: &Directive, slot: u8) -> Option<Kind>
+    ensures { result ≡ kind_at slot (directive.now ∷ []) }
+{
+    match directive {
+        Directive::Conv(conversion) if conversion.slot == Some(slot) => Some(conversion.kind),
+        _ => None,
+    }
+}
+
+/// The kind of the first destination with the slot.
+fn find_kind(directives: &[Directive], slot: u8) -> Option<Kind>
+    ensures { result ≡ kind_at slot directives.now }
+{
+    for directive in directives {
+        let kind = kind_with(directive, slot);
+        if kind.is_some() {
+            return kind;
+        }
+    }
+    None
+}
+
 impl ScanFormat {
+    /// The format that the text spells. Memory is taken only for a text that spells one.
+    pub fn parse(alloc: Global, profile: Profile, text: &[u8]) -> Result<ScanFormat, FormatFault>
+        ensures spelled { IfOk result (λ format. Spells profile text.now format) }
+        ensures refused { IfErr result (λ fault. IsRefused profile text.now fault) }
+
+        // A text with a fault is refused for it; one without is refused only for memory.
+        ensures fault { (at : ℕ) (why : FormatWhy) → Fault profile text.now at why
+            → result ≡ Err (record { at = at; why = why }) }
+        ensures accepted { (ds : List Directive) → Spells profile text.now ds
+            → MatchResult result (λ format. format ≡ ds) (λ fault. fault ≡ no_memory) }
+    {
+        let destinations = judge(profile, text)?;
+        let directives = gather(alloc, profile, text)?;
+        Ok(ScanFormat {
+            directives,
+            destinations,
+        })
+    }
+
     /// The directives, in order.
     pub fn directives(&self) -> &[Directive]
         ensures value { result.now ≡ self.now }
@@ -36,7 +85,25 @@ impl ScanFormat {
         ensures plain { are_plain result.now ≡ true }
         ensures short { length result.now ≤ 4096 }
         ensures few { length (destinations_of result.now) ≤ 32 }
+        ensures ordered { AreInOrder result.now }
     {
         &self.directives
+    }
+
+    /// How many destinations the format has.
+    pub fn destinations(&self) -> u8
+        ensures count { result ≡ length (destinations_of self.now) }
+        ensures few { result ≤ 32 }
+    {
+        self.destinations
+    }
+
+    /// The kind of the destination with the slot; None if there is none. Slots are counted from 1.
+    pub fn kind(&self, slot: u8) -> Option<Kind>
+        ensures kind { result ≡ kind_at slot self.now }
+        ensures some { let count = length (destinations_of self.now) in
+            IsSome result ↔ ((1 ≤ slot) × (slot ≤ count)) }
+    {
+        find_kind(self.directives(), slot)
     }
 }

@@ -1,0 +1,100 @@
+-- What is judged of a text is its parts or its fault.
+use Rattle.std.proofs.Common.{◌≡◌, ℕ, ◌+◌, ◌<◌, ◌≤◌, inl, inr, Bool, true, false, cond, nat_lt, List, [], length, Result, Ok, Err, refl, sym, ap, ◌∙◌, subst, arith, lit≤, append-nil}
+use Rattle.std.proofs.lemmas.Bool.Decides.{nat_tests}
+use Rattle.sf_base.specs.Bytes.{AreBytes}
+use Rattle.sf_format.specs.declared.directive.Profile.{Profile}
+use Rattle.sf_format.specs.declared.fault.FormatWhy.{FormatWhy}
+use Rattle.sf_format.specs.declared.fault.FormatWhy.TheVariants.{FormatTooLong}
+use Rattle.sf_format.specs.Pieces.{Piece, text_of}
+use Rattle.sf_format.specs.Grammar.{AreFew, IsFormat, destinations}
+use Rattle.sf_format.specs.Faults.{first_of, part_rules, AreFaultless, Fault}
+use Rattle.sf_format.specs.Reading.{read, judged}
+use Rattle.sf_format.proofs.Outcomes.{by_test}
+use Rattle.sf_format.proofs.WholeTexts.{Divides, Refuses, read_tells, parts_read, fault_read}
+
+abbrev pub Judgement : Type 0
+Judgement = Result (List Piece) (FormatWhy × ℕ)
+
+-- what the judgement says of a text
+abbrev pub Judges : Profile → List ℕ → Judgement → Type 0
+Judges profile text (Ok pieces) = IsFormat profile pieces × (text ≡ text_of pieces)
+Judges profile text (Err fault) = Fault profile text fault.1 fault.0
+
+long : (n : ℕ) → nat_lt 4096 n ≡ true → 4096 < n
+long n e = grind (arith, nat_tests)
+
+short : (n : ℕ) → nat_lt 4096 n ≡ false → n ≤ 4096
+short n e = grind (arith, nat_tests)
+
+is_short : (n : ℕ) → n ≤ 4096 → nat_lt 4096 n ≡ false
+is_short n h = grind (arith, nat_tests)
+
+is_long : (n : ℕ) → 4096 < n → nat_lt 4096 n ≡ true
+is_long n h = grind (arith, nat_tests)
+
+abbrev judged_as : Profile → List ℕ → Bool → Judgement
+judged_as profile text v = cond v (Err (FormatTooLong, 4096)) (read (length text) profile [] 0 text)
+
+none_before : AreFew []
+none_before = lit≤ tt
+
+-- what was read of a short text
+abbrev ReadAs : Profile → List ℕ → Judgement → Type 0
+ReadAs profile text (Ok pieces) = Divides profile [] text pieces []
+ReadAs profile text (Err fault) = Refuses profile [] 0 text fault
+
+read_judges : (profile : Profile) (text : List ℕ) (r : Judgement) → length text ≤ 4096 → ReadAs profile text r → Judges profile text r
+read_judges profile text (Ok pieces) below divides =
+    let same = divides.text ∙ append-nil (text_of pieces) in (
+      record {
+        short = subst (λ t. length t ≤ 4096) same below;
+        each = divides.each;
+        apart = divides.apart;
+        few = divides.few;
+      },
+      same,
+    )
+read_judges profile text (Err fault) below tells =
+    let divides = tells.divides in
+    let faultless : AreFaultless profile tells.done = record { each = divides.each; apart = divides.apart; few = divides.few } in
+    let places : length (text_of tells.done) ≡ 0 + length (text_of tells.done) = omega arith in
+    inr (
+      below,
+      (
+        tells.done,
+        tells.rest,
+        faultless,
+        divides.text,
+        ap (λ q. first_of (part_rules profile (destinations tells.done) q tells.rest)) places ∙ tells.first,
+      ),
+    )
+
+-- each text of bytes is judged rightly
+pub judged_tells : (profile : Profile) (text : List ℕ) → AreBytes text → Judges profile text (judged profile text)
+judged_tells profile text bytes =
+    by_test (nat_lt 4096 (length text)) (λ v. Judges profile text (judged_as profile text v))
+    (λ e. inl (long (length text) e, refl, refl))
+    (λ e. read_judges profile text (read (length text) profile [] 0 text) (short (length text) e)
+    (read_tells (length text) profile [] 0 text (omega arith) bytes none_before))
+
+-- the parts of a format are judged so
+pub format_judged : (profile : Profile) (pieces : List Piece) → IsFormat profile pieces → judged profile (text_of pieces) ≡ Ok pieces
+format_judged profile pieces is =
+    ap (judged_as profile (text_of pieces)) (is_short _ is.short)
+    ∙ parts_read profile pieces is.each is.apart is.few
+
+-- a fault of a text is judged so
+pub fault_judged : (profile : Profile) (text : List ℕ) (at : ℕ) (why : FormatWhy) → Fault profile text at why → judged profile text ≡ Err (why, at)
+fault_judged profile text at why h =
+    elim h [
+      | inl much ↦
+          ap (judged_as profile text) (is_long _ much.0)
+          ∙ ap (λ w. fault w 4096) (sym much.2) ∙ ap (fault why) (sym much.1)
+      | inr below ↦ ap (judged_as profile text) (is_short _ below.0) ∙ fault_read profile text (why, at) below.1
+    ]
+  where
+    fault : FormatWhy → ℕ → Judgement
+    fault w place = Err (w, place)
+
+pub short_judged : (profile : Profile) (text : List ℕ) → length text ≤ 4096 → judged profile text ≡ read (length text) profile [] 0 text
+short_judged profile text below = ap (judged_as profile text) (is_short (length text) below)

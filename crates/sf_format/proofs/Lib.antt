@@ -1,0 +1,14 @@
+pub mod Outcomes
+pub mod Prefixes
+pub mod Rules
+pub mod Rows
+pub mod Counts
+pub mod Parts
+pub mod WholeTexts
+pub mod Judgements
+pub mod Meanings
+pub mod Accepted
+pub mod FormatLaws
+pub mod SlotLookups
+pub mod Walks
+pub mod Answers

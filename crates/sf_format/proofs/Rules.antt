@@ -1,0 +1,23 @@
+-- Lists of rules of which none applies.
+use Rattle.std.proofs.Common.{◌≡◌, false, cond, List, [], ◌∷◌, ◌++◌, Some, None, refl, ap, ◌∙◌}
+use Rattle.std.specs.List.{AllByRecursion}
+use Rattle.sf_format.specs.Faults.{Rule, first_of}
+use Rattle.sf_format.proofs.Outcomes.{by_test}
+
+-- no rule applies
+abbrev pub Quiet : List Rule → Type 0
+Quiet rules = AllByRecursion (λ rule. rule.applies ≡ false) rules
+
+pub quiet_is : (rules : List Rule) → first_of rules ≡ None → Quiet rules
+quiet_is [] e = tt
+quiet_is (rule ∷ rules) e =
+    by_test rule.applies (λ v. cond v (Some (rule.why, rule.at)) (first_of rules) ≡ None → Quiet (rule ∷ rules))
+    (λ t h. absurd (cc)) (λ f h. (f, quiet_is rules h)) e
+
+pub quiet_from : (rules : List Rule) → Quiet rules → first_of rules ≡ None
+quiet_from [] h = refl
+quiet_from (rule ∷ rules) h = ap (λ v. cond v (Some (rule.why, rule.at)) (first_of rules)) h.0 ∙ quiet_from rules h.1
+
+pub all_back : {A : Type 0} (P : A → Type 0) (xs ys : List A) → AllByRecursion P (xs ++ ys) → AllByRecursion P ys
+all_back P [] ys h = h
+all_back P (x ∷ xs) ys h = all_back P xs ys h.1
