@@ -1,6 +1,8 @@
 //! Whole scans.
 #![tactic(auto)]
 
+#[cfg(test)]
+mod tests;
 mod whole;
 
 pub use whole::sscan;

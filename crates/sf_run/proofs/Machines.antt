@@ -191,7 +191,7 @@ item_nothing c proper q f is full b = by_case (can_take c (f ++ b ∷ [])) refl
     by_case true e =
         let o : ℕ = item_byte c.shape proper in
         absurd (takes_one (Conv c) q o (Item (f ++ o ∷ [])) (item_byte-below c.shape proper)
-            (is o ∙ ap (λ v. cond v (Some (Item (f ++ o ∷ []))) None) (item_byte-taken c proper f b e)) full)
+        (is o ∙ ap (λ v. cond v (Some (Item (f ++ o ∷ []))) None) (item_byte-taken c proper f b e)) full)
 
 pub full_takes_nothing : (d : Directive) → IsProper d → (q : Stage) (b : ℕ) → is_full d q ≡ true → stepped d q b ≡ None
 full_takes_nothing Space proper Skipping b full = absurd (takes_one Space Skipping 32 Skipping (lit< tt) refl full)
@@ -244,7 +244,7 @@ item_not_full c proper item full =
     by_skips e byte can true is = takes_one (Conv c) Skipping e Skipping byte (ap (λ v. cond v (Some Skipping) (item_stepped c [] e)) is) full
     by_skips e byte can false is =
         takes_one (Conv c) Skipping e (Item (e ∷ [])) byte
-            (ap (λ v. cond v (Some Skipping) (item_stepped c [] e)) is ∙ ap (λ v. cond v (Some (Item (e ∷ []))) None) can) full
+        (ap (λ v. cond v (Some Skipping) (item_stepped c [] e)) is ∙ ap (λ v. cond v (Some (Item (e ∷ []))) None) can) full
 
 shape_full : (c : Conversion) (shape : Shape) (q : Stage) (n : ℕ) (more : Bool) → (q ≡ Skipping → HasItem shape → ⊥)
     → conversion_finished c shape q n more ≡ conversion_finished c shape q n true

@@ -72,7 +72,7 @@ within_limit m (d ∷ ds) at t x h =
     let p : Part = one_from d Skipping t.used x in
     let u = counted d p.end (with_used p.used t) in
     let low : p.used ≤ (by_end p.end (run_of None ds (at + 1) u p.left) (λ status. out_of status at (with_used p.used t))).used =
-        holds_by (λ r. p.used ≤ r.used) p.end _ _ (omega (arith, uses_more ds (at + 1) u p.left, counted-used d p.end (with_used p.used t))) (λ status. omega arith) in
+    holds_by (λ r. p.used ≤ r.used) p.end _ _ (omega (arith, uses_more ds (at + 1) u p.left, counted-used d p.end (with_used p.used t))) (λ status. omega arith) in
     rw (le-ltb m p.used (omega (arith, low, h))) (same_by m p.end _ _ _ h (λ i. within_limit m ds (at + 1) u p.left i))
 
 -- a run without a limit is not too long
@@ -183,9 +183,9 @@ full_end d ds at t x r proper e full ih =
     let n : ℕ = t.used + length x in
     let o : StepEnd = finished d r n true in
     let goes : (z : List ℕ) → one_from d Skipping t.used (x ++ z) ≡ record { used = n; left = z; end = o } =
-        λ z. goes_on d Skipping r t.used n x z e refl ∙ full_refuses d proper r n z full in
+    λ z. goes_on d Skipping r t.used n x z e refl ∙ full_refuses d proper r n z full in
     let here : one_from d Skipping t.used x ≡ record { used = n; left = []; end = o } =
-        subst (λ (y : List ℕ). one_from d Skipping t.used y ≡ record { used = n; left = []; end = o }) (append-nil x) (goes []) in
+    subst (λ (y : List ℕ). one_from d Skipping t.used y ≡ record { used = n; left = []; end = o }) (append-nil x) (goes []) in
     elim (by_first o d ds at t n [] n (omega arith) ih) [
       | inl w ↦ inl (record { next = w.0; is_byte = w.1; takes = rw (goes (w.0 ∷ [])) w.2; all = rw here w.3 })
       | inr w ↦ inr (λ m z. rw (goes z, here) (w m z))
@@ -199,10 +199,10 @@ takes_more d ds at t x r e more =
     let byte = can_take_one d r more in
     let b : ℕ = byte.0 in
     let next : one_from d Skipping t.used (x ++ b ∷ []) ≡ record { used = n + 1; left = []; end = finished d byte.2 (n + 1) false } =
-        goes_on d Skipping r t.used n x (b ∷ []) e refl ∙ rw byte.3 refl in
+    goes_on d Skipping r t.used n x (b ∷ []) e refl ∙ rw byte.3 refl in
     let here : one_from d Skipping t.used x ≡ record { used = n; left = []; end = finished d r n false } =
-        subst (λ (y : List ℕ). one_from d Skipping t.used y ≡ record { used = n; left = []; end = finished d r n false }) (append-nil x)
-        (goes_on d Skipping r t.used n x [] e refl) in
+    subst (λ (y : List ℕ). one_from d Skipping t.used y ≡ record { used = n; left = []; end = finished d r n false }) (append-nil x)
+    (goes_on d Skipping r t.used n x [] e refl) in
     inl (record {
       next = b;
       is_byte = byte.1;

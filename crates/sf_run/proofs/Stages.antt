@@ -48,9 +48,9 @@ plain_int c e = integer_is c.shape (left_of (is_integer c.shape) (is_i32 c.kind)
 
 -- ---- a byte more
 
-module _ (scan : ItemScan) (f : List ℕ) (b : ℕ) (h : HasTaken scan f) where
+module _ (scan : ItemScan) (f : List ℕ) (b : ℕ) (proper : IsProperShape (conversion_of scan).shape) where
   decides : Tests (can_take (conversion_of scan) (f ++ b ∷ [])) (CanTake (conversion_of scan) (f ++ b ∷ []))
-  decides = tests_can_take (conversion_of scan) (int_proper (conversion_of scan).shape (scan.base, h.shape)) (f ++ b ∷ [])
+  decides = tests_can_take (conversion_of scan) proper (f ++ b ∷ [])
 
   pub item_taken : (new : ItemScan) → conversion_of new ≡ conversion_of scan → CanTake (conversion_of scan) (f ++ b ∷ []) → HasTaken new (f ++ b ∷ [])
       → ShowsNext (Conv (conversion_of scan)) (Some (phase.Item new)) (item_stepped (conversion_of scan) f b)
@@ -89,12 +89,12 @@ taken_full (Byte a) = sym (full_of_none (Byte a) Taken (λ b below. refl))
 taken_full Percent = sym (full_of_none Percent Taken (λ b below. refl))
 taken_full (Conv c) = sym (full_of_none (Conv c) Taken (λ b below. refl))
 
-pub item_full : (scan : ItemScan) (f : List ℕ) (full : Bool) → HasTaken scan f
+pub item_full : (scan : ItemScan) (f : List ℕ) (full : Bool) → IsProperShape (conversion_of scan).shape
     → (IsTrue full ↔ ((b : ℕ) → b < 256 → CanTake (conversion_of scan) (f ++ b ∷ []) → ⊥)) → full ≡ is_full (Conv (conversion_of scan)) (Item f)
-item_full scan f full h says = sym (by_case full says)
+item_full scan f full proper says = sym (by_case full says)
   where
     stops : (b : ℕ) → (CanTake (conversion_of scan) (f ++ b ∷ []) → ⊥) → (v : Bool) → can_take (conversion_of scan) (f ++ b ∷ []) ≡ v → cond v (Some (Item (f ++ b ∷ []))) None ≡ None
-    stops b none true e = absurd (none ((decides scan f b h).from e))
+    stops b none true e = absurd (none ((decides scan f b proper).from e))
     stops b none false e = refl
 
     goes : (b : ℕ) → b < 256 → (v : Bool) → can_take (conversion_of scan) (f ++ b ∷ []) ≡ v → is_full (Conv (conversion_of scan)) (Item f) ≡ true → v ≡ false
@@ -102,7 +102,7 @@ item_full scan f full h says = sym (by_case full says)
     goes b below false e e' = refl
 
     full_is : (v : Bool) → is_full (Conv (conversion_of scan)) (Item f) ≡ v → (((b : ℕ) → b < 256 → CanTake (conversion_of scan) (f ++ b ∷ []) → ⊥) → ⊥) → v ≡ false
-    full_is true e some = absurd (some (λ b below can. true≢false (sym ((decides scan f b h).to can) ∙ goes b below (can_take (conversion_of scan) (f ++ b ∷ [])) refl e)))
+    full_is true e some = absurd (some (λ b below can. true≢false (sym ((decides scan f b proper).to can) ∙ goes b below (can_take (conversion_of scan) (f ++ b ∷ [])) refl e)))
     full_is false e some = refl
 
     by_case : (v : Bool) → (IsTrue v ↔ ((b : ℕ) → b < 256 → CanTake (conversion_of scan) (f ++ b ∷ []) → ⊥)) → is_full (Conv (conversion_of scan)) (Item f) ≡ v

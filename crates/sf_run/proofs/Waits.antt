@@ -171,7 +171,7 @@ module _ (ds : List Directive) (m : ℕ) (s : Scanner) (x : List ℕ) (h : After
     pub ended_is : (z : List ℕ) → cut m ds (x ++ z) ≡ out_of stop.status stop.at (tally_of s.tally)
     ended_is z =
         let does : DoesBy (Some stop) s.directives.now s.passed s.phase (tally_of s.tally) m z (cut m ds (x ++ z)) =
-            subst (λ o. DoesBy o s.directives.now s.passed s.phase (tally_of s.tally) m z (cut m ds (x ++ z))) e (does_cut z) in
+        subst (λ o. DoesBy o s.directives.now s.passed s.phase (tally_of s.tally) m z (cut m ds (x ++ z))) e (does_cut z) in
         does
 
     cut_here : cut m ds x ≡ out_of stop.status stop.at (tally_of s.tally)
@@ -278,7 +278,7 @@ run_out_gives ds m old new x ending h waiting follows used ended met = by_case n
         let fits = low ds m old x h in
         let limit = h.limit in
         let is : run.0 ≡ out_of stop.status stop.at (tally_of new.tally) =
-            subst (λ o. DoesBy o new.directives.now new.passed new.phase (tally_of new.tally) m [] run.0) e (follows m run.0 (omega (arith, fits, used)) (omega (arith, limit)) run.1) in
+        subst (λ o. DoesBy o new.directives.now new.passed new.phase (tally_of new.tally) m [] run.0) e (follows m run.0 (omega (arith, fits, used)) (omega (arith, limit)) run.1) in
         record {
           report = record (out_of stop.status stop.at (tally_of new.tally)) { met = Some ending };
           is = ap (λ o. report_by o (tally_of new.tally) new.met) e ∙ ap (λ o. report_by (Some stop) (tally_of new.tally) o) met;

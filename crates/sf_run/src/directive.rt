@@ -2,7 +2,7 @@
 ghost use Rattle.std.specs.Prelude.{◌≡◌, true, false, ℕ, List, is_some};
 ghost use Rattle.sf_format.specs.declared.directive.Directive.{Directive};
 ghost use Rattle.sf_format.specs.declared.directive.Directive.TheVariants as directive;
-ghost use Rattle.sf_format.specs.Proper.{is_plain, is_i32, IsProper};
+ghost use Rattle.sf_format.specs.Proper.{is_plain, is_i32, IsProper, IsProperShape};
 ghost use Rattle.sf_item.specs.Taking.{IsInt, HasTaken, conversion_of};
 ghost use Rattle.sf_run.specs.Machine.{Stage, byte_stepped, item_stepped, conversion_stepped, percent_stepped, space_stepped, stepped, is_full, nothing_end, byte_finished, item_end, finished};
 ghost use Rattle.sf_run.specs.Places.{is_destination};
@@ -44,7 +44,7 @@ fn step_byte<'f>(due: u8, phase: Phase<'f>, b: u8) -> Option<Phase<'f>>
 }
 
 fn step_item<'f>(mut scan: ItemScan<'f>, b: u8) -> Option<Phase<'f>>
-    ensures { (f : List ℕ) → HasTaken scan.entry f
+    ensures { (f : List ℕ) → IsProperShape (conversion_of scan.entry).shape → HasTaken scan.entry f
         → ShowsNext (directive.Conv (conversion_of scan.entry)) result (item_stepped (conversion_of scan.entry) f b) }
 {
     match scan.step(b) {
@@ -166,10 +166,7 @@ fn finish_item(conversion: &Conversion, scan: ItemScan<'_>) -> Finished
             negative,
             magnitude,
             overflowed,
-        } => finish_number(
-            conversion,
-            i32::from_parts(negative, magnitude, overflowed),
-        ),
+        } => finish_number(conversion, i32::from_parts(negative, magnitude, overflowed)),
     }
 }
 

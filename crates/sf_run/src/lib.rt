@@ -7,6 +7,8 @@ mod outcome;
 mod report;
 mod scanner;
 mod tally;
+#[cfg(test)]
+mod tests;
 
 pub use outcome::{Ending, Fed, FeedState, Outcome, StartFault, Status};
 pub use report::{Report, Scanned};

@@ -14,6 +14,6 @@ pub returns-in-Integer-clause-end : goal.returns-in-Integer-clause-end
 returns-in-Integer-clause-end c f same h =
     let i = c.in-Integer in
     let ends : Ends c.args.conversion.now f (Integer i.negative i.magnitude i.overflowed) =
-        subst (λ (d : Conversion). Ends d f (Integer i.negative i.magnitude i.overflowed)) (sym same) (i.ensures f h) in
+    subst (λ (d : Conversion). Ends d f (Integer i.negative i.magnitude i.overflowed)) (sym same) (i.ensures f h) in
     c.finish_number.ensures.end
     ∙ integer_ends c.args.conversion.now c.requires.kind f i.negative i.magnitude i.overflowed ends c.from_parts.result c.from_parts.ensures

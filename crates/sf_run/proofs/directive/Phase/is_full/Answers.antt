@@ -1,5 +1,8 @@
 use Rattle.std.proofs.Common.{◌≡◌, sym, subst, ap, ◌∙◌}
 use Rattle.sf_format.specs.declared.directive.Directive.{Directive}
+use Rattle.sf_format.specs.declared.directive.Directive.TheVariants.{Conv}
+use Rattle.sf_format.specs.Proper.{IsProper}
+use Rattle.sf_item.specs.Taking.{conversion_of}
 use Rattle.sf_run.specs.declared.directive.Phase.{Phase}
 use Rattle.sf_run.specs.declared.directive.Phase.TheVariants as phase
 use Rattle.sf_run.specs.Machine.{Stage, Skipping, Taken, Item, is_full}
@@ -20,5 +23,6 @@ returns-in-Taken c d q plain proper shows =
 pub returns-in-Item : goal.returns-in-Item
 returns-in-Item c d q plain proper shows =
     let item : Shows d (phase.Item c.in-Item.scan) q = subst (λ (p : Phase). Shows d p q) c.in-Item.is shows in
-    item_full c.in-Item.scan item.0 c.is_full.result item.3 (c.is_full.ensures item.0 item.3)
+    let own : IsProper (Conv (conversion_of c.in-Item.scan)) = subst (λ (e : Directive). IsProper e) item.2 proper in
+    item_full c.in-Item.scan item.0 c.is_full.result own.0 (c.is_full.ensures item.0 item.3)
     ∙ ap (λ (e : Directive). is_full e (Item item.0)) (sym item.2) ∙ ap (is_full d) (sym item.1)

@@ -13,7 +13,7 @@ returns-then-not-offer-clause-same c proper z =
     let left : List ℕ = drop (i + 1) c.args.piece.now ++ z in
     let whole : take i c.args.piece.now ++ b ∷ left ≡ c.args.piece.now ++ z = around c.args.piece.now i z c.loop-b-test.true in
     let go : Follows c.offer.new.self c.args.self.now left (take i c.args.piece.now ++ b ∷ left) =
-        follows_on c.args.self.now s c.offer.new.self left (b ∷ left) (take i c.args.piece.now ++ b ∷ left) (omega (arith, c.if-not-offer.ensures.used)) c.loop-b.invariant.keeps.limit (c.loop-b.invariant.same proper (b ∷ left))
-        (c.offer.ensures.same (subst (λ (ds : List Directive). AreProper ds) (sym c.loop-b.invariant.keeps.directives) proper) left) in
+    follows_on c.args.self.now s c.offer.new.self left (b ∷ left) (take i c.args.piece.now ++ b ∷ left) (omega (arith, c.if-not-offer.ensures.used)) c.loop-b.invariant.keeps.limit (c.loop-b.invariant.same proper (b ∷ left))
+    (c.offer.ensures.same (subst (λ (ds : List Directive). AreProper ds) (sym c.loop-b.invariant.keeps.directives) proper) left) in
     λ k report low high does. ended_does c.offer.new.self k left z report c.if-not-offer.ensures.refused
-        (go k report low high (subst (λ (y : List ℕ). Does c.args.self.now k y report) (sym whole) does))
+    (go k report low high (subst (λ (y : List ℕ). Does c.args.self.now k y report) (sym whole) does))

@@ -1,0 +1,114 @@
+//! Examples of whole scans, their outcomes known from C.
+use crate::sscan;
+use sf_base::Value;
+use sf_format::{Profile, ScanFormat};
+use sf_run::{Ending, StartFault, Status};
+use std::test::Fail;
+
+/// A format, a text, and what is told: status, place, assigned, used, whether the end was met, and the values.
+#[derive(Drop)]
+struct Row {
+    format: &'static [u8],
+    text: &'static [u8],
+    told: (Status, u16, u8, u32, bool),
+    values: &'static [i32],
+}
+
+#[test]
+fn rows(rt: HostRuntime) -> Result<(), Fail> {
+    let rows = [
+        Row {
+            format: b"%d,%d",
+            text: b"12,-7",
+            told: (Status::Done, 0, 2, 5, true),
+            values: &[12, -7],
+        },
+        Row {
+            format: b"%d",
+            text: b"",
+            told: (Status::InputFailure, 1, 0, 0, true),
+            values: &[],
+        },
+        Row {
+            format: b"%d",
+            text: b"-",
+            told: (Status::MatchingFailure, 1, 0, 1, true),
+            values: &[],
+        },
+        Row {
+            format: b"%d",
+            text: b"+-5",
+            told: (Status::MatchingFailure, 1, 0, 1, false),
+            values: &[],
+        },
+        Row {
+            format: b"%d",
+            text: b"  ",
+            told: (Status::InputFailure, 1, 0, 2, true),
+            values: &[],
+        },
+        Row {
+            format: b"%d",
+            text: b"2147483648",
+            told: (Status::OutOfRange, 1, 0, 10, true),
+            values: &[],
+        },
+        Row {
+            format: b"%d",
+            text: b"-00000000000000000000000012;",
+            told: (Status::Done, 0, 1, 27, false),
+            values: &[-12],
+        },
+        Row {
+            format: b"%d %d",
+            text: b"1  ",
+            told: (Status::InputFailure, 3, 1, 3, true),
+            values: &[1],
+        },
+        Row {
+            format: b"%d",
+            text: b"-2147483648",
+            told: (Status::Done, 0, 1, 11, true),
+            values: &[-2147483648],
+        },
+        Row {
+            format: b" \t%d",
+            text: b"\x0b\x0c 7 ",
+            told: (Status::Done, 0, 1, 4, false),
+            values: &[7],
+        },
+    ];
+    for row in &rows {
+        let format = ScanFormat::parse(rt.alloc(), Profile::One, row.format)?;
+        let scanned = sscan(rt.alloc(), row.text, &format, 1048576)?;
+        let report = scanned.report();
+        let outcome = report.outcome();
+        let met = outcome.met == Some(Ending::End);
+        assert!(rt; met || outcome.met.is_none());
+        assert!(rt;
+            (outcome.status, outcome.at, outcome.assigned, outcome.used, met) == row.told,
+            "on {:?}",
+            row.text
+        );
+        for (i, value) in row.values.iter().enumerate() {
+            assert_eq!(rt; report.value(i as u8 + 1), Some(Value::I32(*value)));
+        }
+    }
+    Ok(())
+}
+
+#[test]
+fn limits(rt: HostRuntime) -> Result<(), Fail> {
+    let format = ScanFormat::parse(rt.alloc(), Profile::One, b"%d")?;
+    let scanned = sscan(rt.alloc(), b"1234", &format, 3)?;
+    let outcome = scanned.report().outcome();
+    assert!(rt; outcome.status == Status::TooLong && outcome.used == 3 && outcome.at == 1);
+    assert!(rt; sscan(rt.alloc(), b"123", &format, 3)?.report().outcome().status == Status::Done);
+    assert!(rt;
+        matches!(
+            sscan(rt.alloc(), b"1", &format, 2147483648),
+            Err(StartFault::BadLimit)
+        )
+    );
+    Ok(())
+}
