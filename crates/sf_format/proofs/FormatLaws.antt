@@ -7,10 +7,10 @@ use Rattle.sf_format.specs.Pieces.{Piece}
 use Rattle.sf_format.specs.Grammar.{MeanAll, Spells}
 use Rattle.sf_format.specs.Faults.{Fault}
 use Rattle.sf_format.specs.Reading.{judged}
-use Rattle.sf_format.specs.Laws.{EachSpellsOne, EachHasOneFault, NoneIsBoth, EachIsEither, EachIsProper}
+use Rattle.sf_format.specs.Laws.{EachSpellsOne, EachHasOneFault, NoneIsBoth, EachIsEither, EachIsProper, EachUnnumberedIsInOrder}
 use Rattle.sf_format.proofs.Judgements.{Judges, judged_tells, format_judged, fault_judged}
 use Rattle.sf_format.proofs.Meanings.{mean_all_one, some_meanings}
-use Rattle.sf_format.proofs.Accepted.{format_accepted}
+use Rattle.sf_format.proofs.Accepted as accepted
 
 -- the parts of a spelled text are those that are judged
 pub spelled_judged : (profile : Profile) (text : List ℕ) (ds : List Directive) (h : Spells profile text ds) → judged profile text ≡ Ok h.0
@@ -44,4 +44,7 @@ either profile text bytes = by_judgement (judged profile text) (judged_tells pro
     by_judgement (Err fault) h = inr (fault.1, fault.0, h)
 
 pub proper : EachIsProper
-proper profile text ds h = format_accepted profile h.0 ds h.1 h.3
+proper profile text ds h = accepted.format_accepted profile h.0 ds h.1 h.3
+
+pub in_order : EachUnnumberedIsInOrder
+in_order profile pieces ds is placed h = accepted.in_order profile pieces ds placed h

@@ -1,15 +1,16 @@
 -- What is judged of a text is its parts or its fault.
-use Rattle.std.proofs.Common.{◌≡◌, ℕ, ◌+◌, ◌<◌, ◌≤◌, inl, inr, Bool, true, false, cond, nat_lt, List, [], length, Result, Ok, Err, refl, sym, ap, ◌∙◌, subst, arith, lit≤, append-nil}
+use Rattle.std.proofs.Common.{◌≡◌, ℕ, ◌+◌, ◌<◌, ◌≤◌, inl, inr, Bool, true, false, cond, nat_lt, List, [], length, Option, Some, None, Result, Ok, Err, refl, sym, ap, ◌∙◌, subst, arith, lit≤, append-nil}
 use Rattle.std.proofs.lemmas.Bool.Decides.{nat_tests}
 use Rattle.sf_base.specs.Bytes.{AreBytes}
 use Rattle.sf_format.specs.declared.directive.Profile.{Profile}
 use Rattle.sf_format.specs.declared.fault.FormatWhy.{FormatWhy}
 use Rattle.sf_format.specs.declared.fault.FormatWhy.TheVariants.{FormatTooLong}
 use Rattle.sf_format.specs.Pieces.{Piece, text_of}
-use Rattle.sf_format.specs.Grammar.{AreFew, IsFormat, destinations}
-use Rattle.sf_format.specs.Faults.{first_of, part_rules, AreFaultless, Fault}
-use Rattle.sf_format.specs.Reading.{read, judged}
+use Rattle.sf_format.specs.Grammar.{AreAlike, IsFormat, destinations}
+use Rattle.sf_format.specs.Faults.{first_of, part_rules, number_rules, AreFaultless, NumberFault, Fault}
+use Rattle.sf_format.specs.Reading.{unless, read, numbers_judged, judged}
 use Rattle.sf_format.proofs.Outcomes.{by_test}
+use Rattle.sf_format.proofs.Numbers.{slots_from, slots_alike, slots_quiet}
 use Rattle.sf_format.proofs.WholeTexts.{Divides, Refuses, read_tells, parts_read, fault_read}
 
 abbrev pub Judgement : Type 0
@@ -33,34 +34,42 @@ is_long : (n : ℕ) → 4096 < n → nat_lt 4096 n ≡ true
 is_long n h = grind (arith, nat_tests)
 
 abbrev judged_as : Profile → List ℕ → Bool → Judgement
-judged_as profile text v = cond v (Err (FormatTooLong, 4096)) (read (length text) profile [] 0 text)
+judged_as profile text v = cond v (Err (FormatTooLong, 4096)) (numbers_judged (read (length text) profile [] 0 text))
 
-none_before : AreFew []
-none_before = lit≤ tt
+none_before : AreAlike []
+none_before = inl (tt, lit≤ tt)
 
 -- what was read of a short text
 abbrev ReadAs : Profile → List ℕ → Judgement → Type 0
 ReadAs profile text (Ok pieces) = Divides profile [] text pieces []
 ReadAs profile text (Err fault) = Refuses profile [] 0 text fault
 
-read_judges : (profile : Profile) (text : List ℕ) (r : Judgement) → length text ≤ 4096 → ReadAs profile text r → Judges profile text r
-read_judges profile text (Ok pieces) below divides =
+number_fault : (profile : Profile) (text : List ℕ) (pieces : List Piece) → length text ≤ 4096 → Divides profile [] text pieces []
+    → (first : Option (FormatWhy × ℕ)) → first_of (number_rules pieces) ≡ first → Judges profile text (unless first (Ok pieces))
+number_fault profile text pieces few divides None e =
     let same = divides.text ∙ append-nil (text_of pieces) in (
       record {
-        short = subst (λ t. length t ≤ 4096) same below;
+        short = subst (λ t. length t ≤ 4096) same few;
         each = divides.each;
         apart = divides.apart;
-        few = divides.few;
+        slots = slots_from pieces divides.alike e;
       },
       same,
     )
-read_judges profile text (Err fault) below tells =
+number_fault profile text pieces few divides (Some fault) e =
+    let faultless : AreFaultless profile pieces = record { each = divides.each; apart = divides.apart; alike = divides.alike } in
+    inr (few, inr (pieces, faultless, divides.text ∙ append-nil (text_of pieces), e))
+
+numbers_tell : (profile : Profile) (text : List ℕ) (r : Judgement) → length text ≤ 4096 → ReadAs profile text r
+    → Judges profile text (numbers_judged r)
+numbers_tell profile text (Ok pieces) few tells = number_fault profile text pieces few tells (first_of (number_rules pieces)) refl
+numbers_tell profile text (Err fault) few tells =
     let divides = tells.divides in
-    let faultless : AreFaultless profile tells.done = record { each = divides.each; apart = divides.apart; few = divides.few } in
+    let faultless : AreFaultless profile tells.done = record { each = divides.each; apart = divides.apart; alike = divides.alike } in
     let places : length (text_of tells.done) ≡ 0 + length (text_of tells.done) = omega arith in
     inr (
-      below,
-      (
+      few,
+      inl (
         tells.done,
         tells.rest,
         faultless,
@@ -74,14 +83,22 @@ pub judged_tells : (profile : Profile) (text : List ℕ) → AreBytes text → J
 judged_tells profile text bytes =
     by_test (nat_lt 4096 (length text)) (λ v. Judges profile text (judged_as profile text v))
     (λ e. inl (long (length text) e, refl, refl))
-    (λ e. read_judges profile text (read (length text) profile [] 0 text) (short (length text) e)
+    (λ e. numbers_tell profile text (read (length text) profile [] 0 text) (short (length text) e)
     (read_tells (length text) profile [] 0 text (omega arith) bytes none_before))
 
 -- the parts of a format are judged so
 pub format_judged : (profile : Profile) (pieces : List Piece) → IsFormat profile pieces → judged profile (text_of pieces) ≡ Ok pieces
 format_judged profile pieces is =
     ap (judged_as profile (text_of pieces)) (is_short _ is.short)
-    ∙ parts_read profile pieces is.each is.apart is.few
+    ∙ ap numbers_judged (parts_read profile pieces is.each is.apart (slots_alike pieces is.slots))
+    ∙ ap (λ first. unless first (Ok pieces)) (slots_quiet pieces is.slots)
+
+number_fault_judged : (profile : Profile) (text : List ℕ) (fault : FormatWhy × ℕ) → NumberFault profile text fault
+    → numbers_judged (read (length text) profile [] 0 text) ≡ Err fault
+number_fault_judged profile text fault h =
+    let good = h.1 in
+    subst (λ t. numbers_judged (read (length t) profile [] 0 t) ≡ Err fault) (sym h.2)
+    (ap numbers_judged (parts_read profile h.0 good.each good.apart good.alike) ∙ ap (λ first. unless first (Ok h.0)) h.3)
 
 -- a fault of a text is judged so
 pub fault_judged : (profile : Profile) (text : List ℕ) (at : ℕ) (why : FormatWhy) → Fault profile text at why → judged profile text ≡ Err (why, at)
@@ -90,11 +107,21 @@ fault_judged profile text at why h =
       | inl much ↦
           ap (judged_as profile text) (is_long _ much.0)
           ∙ ap (λ w. fault w 4096) (sym much.2) ∙ ap (fault why) (sym much.1)
-      | inr below ↦ ap (judged_as profile text) (is_short _ below.0) ∙ fault_read profile text (why, at) below.1
+      | inr few ↦
+          ap (judged_as profile text) (is_short _ few.0)
+          ∙ elim few.1 [
+            | inl part ↦ ap numbers_judged (fault_read profile text (why, at) part)
+            | inr number ↦ number_fault_judged profile text (why, at) number
+          ]
     ]
   where
     fault : FormatWhy → ℕ → Judgement
     fault w place = Err (w, place)
 
-pub short_judged : (profile : Profile) (text : List ℕ) → length text ≤ 4096 → judged profile text ≡ read (length text) profile [] 0 text
-short_judged profile text below = ap (judged_as profile text) (is_short (length text) below)
+pub short_judged : (profile : Profile) (text : List ℕ) → length text ≤ 4096 → judged profile text ≡ numbers_judged (read (length text) profile [] 0 text)
+short_judged profile text few = ap (judged_as profile text) (is_short (length text) few)
+
+pub judged_short : (profile : Profile) (text : List ℕ) (pieces : List Piece) → judged profile text ≡ Ok pieces → length text ≤ 4096
+judged_short profile text pieces e =
+    by_test (nat_lt 4096 (length text)) (λ v. judged_as profile text v ≡ Ok pieces → length text ≤ 4096)
+    (λ t h. absurd (cc)) (λ f h. short (length text) f) e

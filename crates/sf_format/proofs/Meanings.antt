@@ -1,39 +1,96 @@
 -- A part means one directive.
-use Rattle.std.proofs.Common.{◌≡◌, ℕ, ◌+◌, List, [], ◌∷◌, ◌++◌, length, Option, Some, None, refl, sym, ap, ◌∙◌, subst, arith, length-append}
+use Rattle.std.proofs.Common.{◌≡◌, ◌≢◌, ℕ, zero, suc, ◌+◌, ◌<◌, Bool, false, List, [], ◌∷◌, ◌++◌, length, get_or, Option, Some, None, refl, sym, ap, ◌∙◌, subst, arith, length-append}
+use Rattle.std.proofs.lemmas.List.{ext_get_or}
+use Rattle.std.specs.Prelude.{IsSome}
 use Rattle.std.specs.List.{AllByRecursion}
 use Rattle.sf_base.specs.declared.values.Kind.{Kind}
 use Rattle.sf_format.specs.declared.directive.Profile.{Profile}
+use Rattle.sf_format.specs.declared.directive.Profile.TheVariants.{One, Two}
 use Rattle.sf_format.specs.declared.directive.Shape.{Shape}
+use Rattle.sf_format.specs.declared.directive.Shape.TheVariants as shape
 use Rattle.sf_format.specs.declared.directive.Conversion.{Conversion}
 use Rattle.sf_format.specs.declared.directive.Directive.{Directive}
 use Rattle.sf_format.specs.declared.directive.Directive.TheVariants as directive
 use Rattle.sf_format.specs.declared.letter.Letter.{Letter}
-use Rattle.sf_format.specs.Letters.{shape_of, kind_of}
-use Rattle.sf_format.specs.Pieces.{Piece, WhiteSpace, Ordinary, Specification}
-use Rattle.sf_format.specs.Grammar.{IsPiece, destinations, IsConversion, Means, MeanAll}
-use Rattle.sf_format.proofs.Counts.{destinations_cons}
+use Rattle.sf_format.specs.declared.letter.Letter.TheVariants.{Signed, Unsigned, Chars, Text, Set, Count}
+use Rattle.sf_format.specs.Letters.{letters_of_one, letter_of, kind_of}
+use Rattle.sf_format.specs.Scanlist.{Scanlist, is_member, IsSetOf}
+use Rattle.sf_format.specs.Pieces.{Opening, Piece, WhiteSpace, Ordinary, Percents, Plain, Bracket}
+use Rattle.sf_format.specs.Grammar.{IsPiece, IsConversion, Means, MeanAll, shape_of, width_of, slot_of, destinations}
+use Rattle.sf_format.proofs.Destinations.{destinations_cons}
+use Rattle.sf_format.proofs.Suits.{found}
+
+-- ---- sets
+
+marks_from : ℕ → ℕ → (ℕ → Bool) → List Bool
+marks_from zero b test = []
+marks_from (suc n) b test = test b ∷ marks_from n (b + 1) test
+
+length-marks_from : (n b : ℕ) (test : ℕ → Bool) → length (marks_from n b test) ≡ n
+unfolding marks_from
+length-marks_from zero b test = refl
+length-marks_from (suc n) b test = ap suc (length-marks_from n (b + 1) test)
+
+marks_from_at : (n b k : ℕ) (test : ℕ → Bool) → k < n → get_or (marks_from n b test) k false ≡ test (b + k)
+unfolding marks_from
+marks_from_at zero b k test h = absurd (omega (arith, h))
+marks_from_at (suc n) b zero test h = let e : b ≡ b + 0 = omega arith in ap test e
+marks_from_at (suc n) b (suc k) test h =
+    let e : (b + 1) + k ≡ b + suc k = omega arith in
+    marks_from_at n (b + 1) k test (omega (arith, h)) ∙ ap test e
+
+set_of : Scanlist → List Bool
+set_of list = marks_from 256 0 (is_member list)
+
+set_is : (list : Scanlist) → IsSetOf list (set_of list)
+unfolding set_of
+set_is list = (
+  length-marks_from 256 0 (is_member list),
+  λ b h. let e : 0 + b ≡ b = omega arith in marks_from_at 256 0 b (is_member list) h ∙ ap (is_member list) e,
+)
+
+set_same : (list : Scanlist) (a b : List Bool) → IsSetOf list a → IsSetOf list b → a ≡ b
+set_same list a b h k =
+    ext_get_or false a b (h.0 ∙ sym k.0)
+    (λ i below. let low : i < 256 = omega (arith, below, h.0) in h.1 i low ∙ sym (k.1 i low))
+
+-- ---- conversions
+
+shape_same : (letter : Letter) (s t : Shape) → shape_of letter s → shape_of letter t → s ≡ t
+shape_same (Signed base) s t h k = h ∙ sym k
+shape_same (Unsigned base) s t h k = h ∙ sym k
+shape_same Chars s t h k = h ∙ sym k
+shape_same Text s t h k = h ∙ sym k
+shape_same Count s t h k = h ∙ sym k
+shape_same Set s t h k = absurd h
 
 abbrev pub made : Shape → Kind → Option ℕ → Option ℕ → Conversion
 made s k w n = record { shape = s; kind = k; width = w; slot = n }
 
--- the conversion by a letter at a place
-abbrev pub by_letter : ℕ → Letter → Conversion
-by_letter place letter = made (shape_of letter) (kind_of letter) None (Some place)
+conversion_same : (place : ℕ) (o : Opening) (letter : Letter) (c d : Conversion) → IsConversion place o letter c → IsConversion place o letter d
+    → c.shape ≡ d.shape → c ≡ d
+conversion_same place o letter c d h k same =
+    let kinds : c.kind ≡ d.kind = let e = sym h.kind ∙ k.kind in cc in
+    ap (λ s. made s c.kind c.width c.slot) same
+    ∙ ap (λ a. made d.shape a c.width c.slot) kinds
+    ∙ ap (λ a. made d.shape d.kind a c.slot) (h.width ∙ sym k.width)
+    ∙ ap (made d.shape d.kind d.width) (h.slot ∙ sym k.slot)
 
--- there is no other one
-pub conversion_is : (place : ℕ) (letter : Letter) (c : Conversion) → IsConversion place letter c → c ≡ by_letter place letter
-conversion_is place letter c h =
-    ap (λ s. made s c.kind c.width c.slot) h.shape
-    ∙ ap (λ k. made (shape_of letter) k c.width c.slot) h.kind
-    ∙ ap (λ w. made (shape_of letter) (kind_of letter) w c.slot) h.width
-    ∙ ap (made (shape_of letter) (kind_of letter) None) h.slot
+plain_same : (place : ℕ) (o : Opening) (l m : Letter) (c d : Conversion) → l ≡ m → IsConversion place o l c → IsConversion place o m d
+    → shape_of l c.shape → shape_of m d.shape → c ≡ d
+plain_same place o l m c d e h k s t =
+    conversion_same place o m c d (subst (λ a. IsConversion place o a c) e h) k (shape_same m c.shape d.shape (subst (λ a. shape_of a c.shape) e s) t)
 
-means_one : (profile : Profile) (place : ℕ) (piece : Piece) (d e : Directive) → Means profile place piece d → Means profile place piece e → d ≡ e
+pub means_one : (profile : Profile) (place : ℕ) (piece : Piece) (d e : Directive) → Means profile place piece d → Means profile place piece e → d ≡ e
 means_one profile place (WhiteSpace bs) d e h k = h ∙ sym k
 means_one profile place (Ordinary b) d e h k = h ∙ sym k
-means_one profile place (Specification b) d e h k =
+means_one profile place Percents d e h k = h ∙ sym k
+means_one profile place (Plain o b) d e h k =
     let same : h.0 ≡ k.0 = let f = sym h.2 ∙ k.2 in cc in
-    h.4 ∙ ap directive.Conv (conversion_is place h.0 h.1 h.3 ∙ ap (by_letter place) same ∙ sym (conversion_is place k.0 k.1 k.3)) ∙ sym k.4
+    h.5 ∙ ap directive.Conv (plain_same place o h.0 k.0 h.1 k.1 same h.3 k.3 h.4 k.4) ∙ sym k.5
+means_one profile place (Bracket o list) d e h k =
+    let shapes = h.4 ∙ ap shape.Set (set_same list h.1 k.1 h.3 k.3) ∙ sym k.4 in
+    h.5 ∙ ap directive.Conv (conversion_same place o Set h.0 k.0 h.2 k.2 shapes) ∙ sym k.5
 
 pub mean_all_one : (profile : Profile) (place : ℕ) (pieces : List Piece) (ds es : List Directive) → MeanAll profile place pieces ds
     → MeanAll profile place pieces es → ds ≡ es
@@ -48,12 +105,64 @@ mean_all_one profile place (piece ∷ pieces) (d ∷ ds) (e ∷ es) h k =
 
 -- ---- each part means a directive
 
-some_meaning : (profile : Profile) (place : ℕ) (piece : Piece) → IsPiece profile piece → (d : Directive) × Means profile place piece d
+abbrev IsSetLetter : Letter → Type 0
+IsSetLetter Set = Unit {0}
+IsSetLetter _ = ⊥
+
+abbrev NoOtherSet : ℕ → Letter → Type 0
+NoOtherSet b letter = IsSetLetter letter → b ≡ 91
+
+set_letter : (profile : Profile) (b : ℕ) → letter_of profile b ≡ Some Set → b ≡ 91
+set_letter profile b e = by_profile profile e
+  where
+    each : AllByRecursion (λ entry. NoOtherSet entry.0 entry.1) letters_of_one
+    each = (
+      λ h. absurd h,
+      (
+        λ h. absurd h,
+        (
+          λ h. absurd h,
+          (
+            λ h. absurd h,
+            (
+              λ h. absurd h,
+              (λ h. absurd h, (λ h. absurd h, (λ h. absurd h, (λ h. refl, (λ h. absurd h, tt))))),
+            ),
+          ),
+        ),
+      ),
+    )
+
+    by_profile : (p : Profile) → letter_of p b ≡ Some Set → b ≡ 91
+    by_profile One f = found NoOtherSet letters_of_one each b Set f tt
+    by_profile Two f = found NoOtherSet letters_of_one each b Set f tt
+
+some_kind : (o : Option Kind) → IsSome o → (kind : Kind) × (o ≡ Some kind)
+some_kind None h = absurd (cc)
+some_kind (Some kind) h = (kind, refl)
+
+pub some_shape : (profile : Profile) (b : ℕ) (letter : Letter) → b ≢ 91 → letter_of profile b ≡ Some letter → (s : Shape) × shape_of letter s
+some_shape profile b (Signed base) other e = (shape.Int base, refl)
+some_shape profile b (Unsigned base) other e = (shape.Int base, refl)
+some_shape profile b Chars other e = (shape.Chars, refl)
+some_shape profile b Text other e = (shape.Text, refl)
+some_shape profile b Count other e = (shape.Count, refl)
+some_shape profile b Set other e = absurd (other (set_letter profile b e))
+
+pub some_meaning : (profile : Profile) (place : ℕ) (piece : Piece) → IsPiece profile piece → (d : Directive) × Means profile place piece d
 some_meaning profile place (WhiteSpace bs) is = (directive.Space, refl)
 some_meaning profile place (Ordinary b) is = (directive.Byte b, refl)
-some_meaning profile place (Specification b) is =
-    let c = by_letter place is.0 in
-    (directive.Conv c, (is.0, c, is.1, record { shape = refl; kind = refl; width = refl; slot = refl }, refl))
+some_meaning profile place Percents is = (directive.Percent, refl)
+some_meaning profile place (Plain o b) is =
+    let letter = is.1.0 in
+    let s = some_shape profile b letter is.0 is.1.1 in
+    let k = some_kind (kind_of letter o.size) is.1.2.size in
+    let c = made s.0 k.0 (width_of letter o.width) (slot_of place o) in
+    (directive.Conv c, (letter, c, is.1.1, record { kind = k.1; width = refl; slot = refl }, s.1, refl))
+some_meaning profile place (Bracket o list) is =
+    let k = some_kind (kind_of Set o.size) is.0.size in
+    let c = made (shape.Set (set_of list)) k.0 (width_of Set o.width) (slot_of place o) in
+    (directive.Conv c, (c, set_of list, record { kind = k.1; width = refl; slot = refl }, set_is list, refl, refl))
 
 pub some_meanings : (profile : Profile) (place : ℕ) (pieces : List Piece) → AllByRecursion (IsPiece profile) pieces
     → (ds : List Directive) × MeanAll profile place pieces ds

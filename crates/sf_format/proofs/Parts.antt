@@ -1,21 +1,26 @@
 -- The part that a text without a fault there begins with, and the text of a part.
-use Rattle.std.proofs.Common.{◌≡◌, ◌≢◌, ℕ, ◌<◌, ◌⊎◌, inl, inr, Bool, true, false, cond, nat_eq, List, [], ◌∷◌, ◌++◌, length, Option, Some, None, is_none, refl, sym, ap, ◌∙◌, subst, arith, append-nil}
+use Rattle.std.proofs.Common.{◌≡◌, ℕ, ◌+◌, ◌<◌, ◌⊎◌, inl, inr, Bool, true, false, cond, not, nat_eq, List, [], ◌∷◌, ◌++◌, length, drop, Option, Some, None, is_none, refl, sym, ap, ◌∙◌, subst, arith, append_assoc, append-nil}
 use Rattle.std.proofs.lemmas.Bool.Decides.{nat_tests}
-use Rattle.sf_base.specs.Bytes.{is_white}
+use Rattle.sf_base.specs.Bytes.{AreBytes, is_white}
 use Rattle.sf_format.specs.declared.directive.Profile.{Profile}
 use Rattle.sf_format.specs.declared.directive.Profile.TheVariants.{One, Two}
 use Rattle.sf_format.specs.declared.fault.FormatWhy.TheVariants.{Nul}
+use Rattle.sf_format.specs.Lists.{front, behind, begins, mark_at}
 use Rattle.sf_format.specs.declared.letter.Letter.{Letter}
-use Rattle.sf_format.specs.Lists.{front, behind}
-use Rattle.sf_format.specs.Letters.{letter_of}
-use Rattle.sf_format.specs.Pieces.{Piece, WhiteSpace, Ordinary, Specification, piece_text}
-use Rattle.sf_format.specs.Cut.{Part, specification_at, part_at}
-use Rattle.sf_format.specs.Grammar.{IsPiece, AreFew, destinations}
-use Rattle.sf_format.specs.Faults.{Rule, percent_rules, part_rules}
+use Rattle.sf_format.specs.declared.letter.Letter.TheVariants.{Set}
+use Rattle.sf_format.specs.Letters.{letter_of, length_text}
+use Rattle.sf_format.specs.Scanlist.{Scanlist, scanlist_text}
+use Rattle.sf_format.specs.Pieces.{Opening, Piece, WhiteSpace, Ordinary, Percents, Plain, Bracket, number_text, star_text, opening_text, piece_text}
+use Rattle.sf_format.specs.Cut.{Cut, Part, cut, letter_at, specification_at, bracket_at, part_at}
+use Rattle.sf_format.specs.Grammar.{IsPiece, AreAlike, destinations}
+use Rattle.sf_format.specs.Faults.{Rule, opening_rules, letter_rules, scanlist_rules, after_caret, slot_rules, rest_rules, percent_rules, part_rules}
 use Rattle.sf_format.proofs.Outcomes.{by_test}
 use Rattle.sf_format.proofs.Prefixes.{Stops, front_behind, front_passes, behind_stops, front_of, behind_of}
-use Rattle.sf_format.proofs.Rules.{Quiet}
-use Rattle.sf_format.proofs.Counts.{few_after, room_before}
+use Rattle.sf_format.proofs.Cutting.{IsLast, HasDigits, inside, cut_of, cut_joined, cut_digits, no_percent, begins_joined, opening_regroup}
+use Rattle.sf_format.proofs.Rules.{Quiet, all_append, all_front, all_back}
+use Rattle.sf_format.proofs.Scanlists.{listed, marked, bracket_of, quiet_list, other_byte, byte_differs}
+use Rattle.sf_format.proofs.Suits.{letter_is, suits_from, suits_digits, opening_quiet, letter_quiet}
+use Rattle.sf_format.proofs.Destinations.{assigned_alike, slot_quiet}
 
 -- what follows a run of white space begins with none
 abbrev pub StopsAfter : Piece → List ℕ → Type 0
@@ -23,23 +28,30 @@ StopsAfter (WhiteSpace bs) rest = Stops is_white rest
 StopsAfter _ rest = Unit {0}
 
 -- the text begins with the part, which has no fault after these destinations
-pub record BeginsWith (profile : Profile) (earlier : List ℕ) (x : List ℕ) (part : Part) : Type 0 where
+pub record BeginsWith (profile : Profile) (earlier : List Opening) (x : List ℕ) (part : Part) : Type 0 where
   pub text : x ≡ piece_text part.piece ++ part.rest
   pub is : IsPiece profile part.piece
-  pub few : AreFew earlier → AreFew (earlier ++ destinations (part.piece ∷ []))
+  pub alike : AreAlike earlier → AreAlike (earlier ++ destinations (part.piece ∷ []))
   pub apart : StopsAfter part.piece part.rest
 
-nothing_more : (earlier : List ℕ) → AreFew earlier → AreFew (earlier ++ [])
-nothing_more earlier h = subst AreFew (sym (append-nil earlier)) h
+nothing_more : (earlier : List Opening) → AreAlike earlier → AreAlike (earlier ++ [])
+nothing_more earlier h = subst AreAlike (sym (append-nil earlier)) h
 
-same_byte : (a b : ℕ) → nat_eq a b ≡ true → a ≡ b
-same_byte a b e = grind (arith, nat_tests)
+plain_text : (o : Opening) (letter : ℕ) (y : List ℕ) → piece_text (Plain o letter) ++ y ≡ 37 ∷ inside o (letter ∷ y)
+plain_text o letter y = append_assoc (opening_text o) (letter ∷ []) y ∙ opening_regroup o (letter ∷ y)
 
-other_byte : (a b : ℕ) → nat_eq a b ≡ false → a ≢ b
-other_byte a b e = grind (arith, nat_tests)
+bracket_text : (o : Opening) (list : Scanlist) (y : List ℕ) → piece_text (Bracket o list) ++ y ≡ 37 ∷ inside o (91 ∷ (scanlist_text list ++ y))
+bracket_text o list y = append_assoc (opening_text o) (91 ∷ scanlist_text list) y ∙ opening_regroup o (91 ∷ (scanlist_text list ++ y))
 
-byte_differs : (a b : ℕ) → a ≢ b → nat_eq a b ≡ false
-byte_differs a b h = grind (arith, nat_tests)
+-- what stands behind an opening of bytes are bytes
+inside_bytes : (o : Opening) (y : List ℕ) → AreBytes (inside o y) → AreBytes y
+inside_bytes o y h =
+    let sized = length_text o.size ++ y in
+    let wide = o.width ++ sized in
+    let starred = star_text o.star ++ wide in
+    all_back (λ b. b < 256) (length_text o.size) y
+    (all_back (λ b. b < 256) o.width sized
+    (all_back (λ b. b < 256) (star_text o.star) wide (all_back (λ b. b < 256) (number_text o.number) starred h)))
 
 -- ---- from the text to the part
 
@@ -47,36 +59,114 @@ letter_some : (found : Option Letter) → is_none found ≡ false → (letter : 
 letter_some None e = absurd (cc)
 letter_some (Some letter) e = (letter, refl)
 
-specification_begins : (profile : Profile) (earlier : List ℕ) (p : ℕ) (x : List ℕ) → Quiet (percent_rules profile earlier p x)
+-- of the bracket's letter there is one
+bracket_letter : (profile : Profile) → letter_of profile 91 ≡ Some Set
+bracket_letter One = refl
+bracket_letter Two = refl
+
+abbrev QuietSpecification : Profile → List Opening → ℕ → Opening → ℕ → List ℕ → Type 0
+QuietSpecification profile earlier p o q rest = Quiet (opening_rules p o) × Quiet (rest_rules profile earlier p o q rest)
+
+plain_begins : (profile : Profile) (earlier : List Opening) (p : ℕ) (o : Opening) (q letter : ℕ) (y x : List ℕ) → inside o (letter ∷ y) ≡ x
+    → HasDigits o → nat_eq letter 91 ≡ false → Quiet (opening_rules p o) → Quiet (letter_rules profile o letter q) → Quiet (slot_rules earlier p o)
+    → BeginsWith profile earlier (37 ∷ x) (record { piece = Plain o letter; rest = y })
+plain_begins profile earlier p o q letter y x e digits other opening rules slot =
+    let l = letter_some (letter_of profile letter) rules.1.1.0 in
+    record {
+      text = ap (λ t. 37 ∷ t) (sym e) ∙ sym (plain_text o letter y);
+      is = (other_byte letter 91 other, (l.0, l.1, suits_from profile l.0 o letter p q l.1 digits opening rules));
+      alike = λ h. assigned_alike earlier p o h slot;
+      apart = tt;
+    }
+
+bracket_begins : (profile : Profile) (earlier : List Opening) (p : ℕ) (o : Opening) (q : ℕ) (y x : List ℕ) → inside o (91 ∷ y) ≡ x → AreBytes x
+    → HasDigits o → Quiet (opening_rules p o) → Quiet (letter_rules profile o 91 q) → Quiet (after_caret q (mark_at 94 y))
+    → Quiet (slot_rules earlier p o) → BeginsWith profile earlier (37 ∷ x) (bracket_at o (mark_at 94 y))
+bracket_begins profile earlier p o q y x e bytes digits opening rules list slot =
+    let h = listed q _ y (inside_bytes o (91 ∷ y) (subst AreBytes (sym e) bytes)).1 list in
+    record {
+      text = ap (λ t. 37 ∷ t) (sym e) ∙ ap (λ t. 37 ∷ inside o (91 ∷ t)) (sym h.text) ∙ sym (bracket_text o _ _);
+      is = (suits_from profile Set o 91 p q (bracket_letter profile) digits opening rules, h.is);
+      alike = λ k. assigned_alike earlier p o k slot;
+      apart = tt;
+    }
+
+same_byte : (a b : ℕ) → nat_eq a b ≡ true → a ≡ b
+same_byte a b e = grind (arith, nat_tests)
+
+letter_begins : (profile : Profile) (earlier : List Opening) (p : ℕ) (o : Opening) (q letter : ℕ) (y x : List ℕ) → inside o (letter ∷ y) ≡ x
+    → AreBytes x → HasDigits o → Quiet (opening_rules p o) → Quiet (letter_rules profile o letter q) → Quiet (scanlist_rules letter q y)
+    → Quiet (slot_rules earlier p o) → BeginsWith profile earlier (37 ∷ x) (letter_at o (letter ∷ y))
+letter_begins profile earlier p o q letter y x e bytes digits opening rules list slot =
+    by_test (nat_eq letter 91)
+    (λ v. Quiet (cond v (after_caret q (mark_at 94 y)) []) → BeginsWith profile earlier (37 ∷ x) (chosen v))
+    (λ same h.
+    let a : letter ≡ 91 = same_byte letter 91 same in
+    bracket_begins profile earlier p o q y x (ap (λ c. inside o (c ∷ y)) (sym a) ∙ e) bytes digits opening
+    (subst (λ c. Quiet (letter_rules profile o c q)) a rules) h slot)
+    (λ other h. plain_begins profile earlier p o q letter y x e digits other opening rules slot)
+    list
+  where
+    chosen : Bool → Part
+    chosen v = cond v (bracket_at o (mark_at 94 y)) (record { piece = Plain o letter; rest = y })
+
+rest_begins : (profile : Profile) (earlier : List Opening) (p : ℕ) (o : Opening) (q : ℕ) (rest x : List ℕ) → inside o rest ≡ x → AreBytes x
+    → HasDigits o → QuietSpecification profile earlier p o q rest → BeginsWith profile earlier (37 ∷ x) (letter_at o rest)
+rest_begins profile earlier p o q [] x e bytes digits quiet = absurd (let h = quiet.1.0 in cc)
+rest_begins profile earlier p o q (letter ∷ y) x e bytes digits quiet =
+    let none = λ (r : Rule). r.applies ≡ false in
+    let behind_letter = all_back none (letter_rules profile o letter q) (scanlist_rules letter q y ++ slot_rules earlier p o) quiet.1 in
+    letter_begins profile earlier p o q letter y x e bytes digits quiet.0
+    (all_front none (letter_rules profile o letter q) (scanlist_rules letter q y ++ slot_rules earlier p o) quiet.1)
+    (all_front none (scanlist_rules letter q y) (slot_rules earlier p o) behind_letter)
+    (all_back none (scanlist_rules letter q y) (slot_rules earlier p o) behind_letter)
+
+-- the rules of what stands behind a %
+abbrev specification_rules : Profile → List Opening → ℕ → Cut → List Rule
+specification_rules profile earlier p c =
+    opening_rules p c.opening ++ rest_rules profile earlier p c.opening (p + length (opening_text c.opening)) c.rest
+
+percents_text : (x : List ℕ) → begins (37 ∷ []) x ≡ true → 37 ∷ x ≡ 37 ∷ 37 ∷ drop 1 x
+percents_text x e = ap (λ t. 37 ∷ t) (sym (begins_joined (37 ∷ []) x e))
+
+specification_begins : (profile : Profile) (earlier : List Opening) (p : ℕ) (x : List ℕ) → AreBytes x
+    → Quiet (cond (not (begins (37 ∷ []) x)) (specification_rules profile earlier p (cut x)) [])
     → BeginsWith profile earlier (37 ∷ x) (specification_at x)
-specification_begins profile earlier p [] quiet = absurd (let h = quiet.0 in cc)
-specification_begins profile earlier p (letter ∷ x) quiet = record {
-  text = refl;
-  is = letter_some (letter_of profile letter) quiet.1.0;
-  few = λ h. few_after earlier letter quiet.1.1.0;
-  apart = tt;
-}
+specification_begins profile earlier p x bytes quiet =
+    by_test (begins (37 ∷ []) x)
+    (λ v. Quiet (cond (not v) (specification_rules profile earlier p (cut x)) []) → BeginsWith profile earlier (37 ∷ x) (chosen v))
+    (λ e h. record { text = percents_text x e; is = tt; alike = nothing_more earlier; apart = tt })
+    (λ e h.
+    let none = λ (r : Rule). r.applies ≡ false in
+    let q = p + length (opening_text (cut x).opening) in
+    let rest = rest_rules profile earlier p (cut x).opening q (cut x).rest in
+    rest_begins profile earlier p (cut x).opening q (cut x).rest x (cut_joined x) bytes (cut_digits x)
+    (all_front none (opening_rules p (cut x).opening) rest h, all_back none (opening_rules p (cut x).opening) rest h))
+    quiet
+  where
+    chosen : Bool → Part
+    chosen v = cond v (record { piece = Percents; rest = drop 1 x }) (letter_at (cut x).opening (cut x).rest)
 
 -- a text of bytes that no rule refuses begins with its part
-pub begins_with : (profile : Profile) (earlier : List ℕ) (p b : ℕ) (x : List ℕ) → b < 256 → Quiet (part_rules profile earlier p (b ∷ x))
+pub begins_with : (profile : Profile) (earlier : List Opening) (p b : ℕ) (x : List ℕ) → AreBytes (b ∷ x) → Quiet (part_rules profile earlier p (b ∷ x))
     → BeginsWith profile earlier (b ∷ x) (part_at (b ∷ x))
-begins_with profile earlier p b x byte quiet =
+begins_with profile earlier p b x bytes quiet =
     by_test (is_white b) (λ v. BeginsWith profile earlier (b ∷ x) (spaced v))
     (λ white. record {
       text = sym (front_behind is_white (b ∷ x));
       is = (subst (λ t. 0 < length t) (ap (λ v. cond v (b ∷ front is_white x) []) (sym white)) (omega arith), front_passes is_white (b ∷ x));
-      few = nothing_more earlier;
+      alike = nothing_more earlier;
       apart = behind_stops is_white (b ∷ x);
     })
     (λ black. by_test (nat_eq b 37)
     (λ v. Quiet (cond v (percent_rules profile earlier p x) [])
     → BeginsWith profile earlier (b ∷ x) (other v))
     (λ same h. subst (λ c. BeginsWith profile earlier (c ∷ x) (specification_at x)) (sym (same_byte b 37 same))
-    (specification_begins profile earlier p x h))
+    (specification_begins profile earlier p x bytes.1 h))
     (λ differs h. record {
       text = refl;
-      is = (byte, other_byte b 0 quiet.0, other_byte b 37 differs, black);
-      few = nothing_more earlier;
+      is = (bytes.0, other_byte b 0 quiet.0, other_byte b 37 differs, black);
+      alike = nothing_more earlier;
       apart = tt;
     })
     quiet.1)
@@ -97,38 +187,76 @@ white_not b mark white h = grind (arith, nat_tests)
 abbrev byte_rules : ℕ → ℕ → Bool → List Rule → List Rule
 byte_rules b p v rules = record { why = Nul; applies = nat_eq b 0; at = p } ∷ cond v rules []
 
-byte_quiet : (profile : Profile) (earlier : List ℕ) (p b : ℕ) (x : List ℕ) → nat_eq b 0 ≡ false → nat_eq b 37 ≡ false
+byte_quiet : (profile : Profile) (earlier : List Opening) (p b : ℕ) (x : List ℕ) → nat_eq b 0 ≡ false → nat_eq b 37 ≡ false
     → Quiet (part_rules profile earlier p (b ∷ x))
 byte_quiet profile earlier p b x zero percent =
     subst (λ v. Quiet (byte_rules b p v (percent_rules profile earlier p x))) (sym percent) (zero, tt)
 
-pub white_quiet : (profile : Profile) (earlier : List ℕ) (p b : ℕ) (x : List ℕ) → is_white b ≡ true
+pub white_quiet : (profile : Profile) (earlier : List Opening) (p b : ℕ) (x : List ℕ) → is_white b ≡ true
     → Quiet (part_rules profile earlier p (b ∷ x))
 white_quiet profile earlier p b x white =
     byte_quiet profile earlier p b x (white_not b 0 white (inl refl)) (white_not b 37 white (inr (omega arith)))
 
--- a NUL is no letter
-letter_not_nul : (profile : Profile) (b : ℕ) (letter : Letter) → letter_of profile b ≡ Some letter → nat_eq b 0 ≡ false
-letter_not_nul profile b letter found =
-    by_test (nat_eq b 0) (λ v. v ≡ false) (λ same. absurd (none profile (ap (letter_of profile) (sym (same_byte b 0 same)) ∙ found))) (λ e. refl)
-  where
-    none : (p : Profile) → letter_of p 0 ≡ Some letter → ⊥
-    none One e = cc
-    none Two e = cc
+-- a specification by its cut
+abbrev cut_rules : Profile → List Opening → ℕ → Bool → Cut → List Rule
+cut_rules profile earlier p v c = byte_rules 37 p (not v) (specification_rules profile earlier p c)
+
+specification_quiet : (profile : Profile) (earlier : List Opening) (p : ℕ) (o : Opening) (letter : ℕ) (y : List ℕ) → HasDigits o → IsLast letter
+    → Quiet (opening_rules p o) → ((q : ℕ) → Quiet (rest_rules profile earlier p o q (letter ∷ y)))
+    → Quiet (part_rules profile earlier p (37 ∷ inside o (letter ∷ y)))
+specification_quiet profile earlier p o letter y digits last opening rest =
+    let x = inside o (letter ∷ y) in
+    subst (λ v. Quiet (cut_rules profile earlier p v (cut x))) (sym (no_percent o letter y digits last))
+    (subst (λ c. Quiet (cut_rules profile earlier p false c)) (sym (cut_of o letter y digits last))
+    (refl, all_append (λ r. r.applies ≡ false) (opening_rules p o) (rest_rules profile earlier p o _ (letter ∷ y)) opening (rest _)))
+
+quiet_behind : (profile : Profile) (earlier : List Opening) (p : ℕ) (o : Opening) (q letter : ℕ) (y : List ℕ)
+    → Quiet (letter_rules profile o letter q) → Quiet (scanlist_rules letter q y) → Quiet (slot_rules earlier p o)
+    → Quiet (rest_rules profile earlier p o q (letter ∷ y))
+quiet_behind profile earlier p o q letter y rules list slot =
+    let none = λ (r : Rule). r.applies ≡ false in
+    all_append none (letter_rules profile o letter q) (scanlist_rules letter q y ++ slot_rules earlier p o) rules
+    (all_append none (scanlist_rules letter q y) (slot_rules earlier p o) list slot)
 
 -- no rule refuses a part
-pub piece_quiet : (profile : Profile) (earlier : List ℕ) (p : ℕ) (piece : Piece) (rest : List ℕ) → IsPiece profile piece
-    → AreFew (earlier ++ destinations (piece ∷ [])) → Quiet (part_rules profile earlier p (piece_text piece ++ rest))
-piece_quiet profile earlier p (WhiteSpace []) rest is few = absurd (omega (arith, is.0))
-piece_quiet profile earlier p (WhiteSpace (b ∷ bs)) rest is few = white_quiet profile earlier p b (bs ++ rest) is.1.0
-piece_quiet profile earlier p (Ordinary b) rest is few =
+pub piece_quiet : (profile : Profile) (earlier : List Opening) (p : ℕ) (piece : Piece) (rest : List ℕ) → IsPiece profile piece
+    → AreAlike (earlier ++ destinations (piece ∷ [])) → Quiet (part_rules profile earlier p (piece_text piece ++ rest))
+piece_quiet profile earlier p (WhiteSpace []) rest is alike = absurd (omega (arith, is.0))
+piece_quiet profile earlier p (WhiteSpace (b ∷ bs)) rest is alike = white_quiet profile earlier p b (bs ++ rest) is.1.0
+piece_quiet profile earlier p (Ordinary b) rest is alike =
     byte_quiet profile earlier p b rest (byte_differs b 0 is.1) (byte_differs b 37 is.2)
-piece_quiet profile earlier p (Specification b) rest is few =
-    (refl, (letter_not_nul profile b is.0 is.1, (ap is_none is.1, (room_before earlier b few, tt))))
+piece_quiet profile earlier p Percents rest is alike = (refl, tt)
+piece_quiet profile earlier p (Plain o b) rest is alike =
+    let letter = is.1.0 in
+    let found = is.1.1 in
+    let suits = is.1.2 in
+    subst (λ t. Quiet (part_rules profile earlier p t)) (sym (plain_text o b rest))
+    (specification_quiet profile earlier p o b rest (suits_digits letter o suits) (letter_is profile b letter found).last
+    (opening_quiet letter o p suits)
+    (λ q. quiet_behind profile earlier p o q b rest (letter_quiet profile letter o b q found suits)
+    (subst (λ v. Quiet (cond v (after_caret q (mark_at 94 rest)) [])) (sym (byte_differs b 91 is.0)) tt)
+    (slot_quiet earlier p o alike)))
+piece_quiet profile earlier p (Bracket o list) rest is alike =
+    let found = bracket_letter profile in
+    let y = scanlist_text list ++ rest in
+    subst (λ t. Quiet (part_rules profile earlier p t)) (sym (bracket_text o list rest))
+    (specification_quiet profile earlier p o 91 y (suits_digits Set o is.0) (letter_is profile 91 Set found).last
+    (opening_quiet Set o p is.0)
+    (λ q. quiet_behind profile earlier p o q 91 y (letter_quiet profile Set o 91 q found is.0)
+    (subst (λ m. Quiet (after_caret q m)) (sym (marked list rest is.1)) (quiet_list q _ list rest is.1))
+    (slot_quiet earlier p o alike)))
 
 -- the part that its text begins with
 abbrev chosen_part : Bool → Part → Part → Part
 chosen_part v a b = cond v a b
+
+specification_of : (o : Opening) (letter : ℕ) (y : List ℕ) → HasDigits o → IsLast letter
+    → part_at (37 ∷ inside o (letter ∷ y)) ≡ letter_at o (letter ∷ y)
+specification_of o letter y digits last =
+    let x = inside o (letter ∷ y) in
+    let by_cut : Cut → Part = λ c. letter_at c.opening c.rest in
+    ap (λ v. chosen_part v (record { piece = Percents; rest = drop 1 x }) (by_cut (cut x))) (no_percent o letter y digits last)
+    ∙ ap by_cut (cut_of o letter y digits last)
 
 pub part_of : (profile : Profile) (piece : Piece) (rest : List ℕ) → IsPiece profile piece → StopsAfter piece rest
     → part_at (piece_text piece ++ rest) ≡ record { piece = piece; rest = rest }
@@ -145,4 +273,15 @@ part_of profile (Ordinary b) rest is stops =
     let byte : Part = record { piece = Ordinary b; rest = rest } in
     ap (λ v. chosen_part v run (chosen_part (nat_eq b 37) (specification_at rest) byte)) is.3
     ∙ ap (λ v. chosen_part v (specification_at rest) byte) (byte_differs b 37 is.2)
-part_of profile (Specification b) rest is stops = refl
+part_of profile Percents rest is stops = refl
+part_of profile (Plain o b) rest is stops =
+    let letter = is.1.0 in
+    let plain : Part = record { piece = Plain o b; rest = rest } in
+    ap part_at (plain_text o b rest)
+    ∙ specification_of o b rest (suits_digits letter o is.1.2) (letter_is profile b letter is.1.1).last
+    ∙ ap (λ v. chosen_part v (bracket_at o (mark_at 94 rest)) plain) (byte_differs b 91 is.0)
+part_of profile (Bracket o list) rest is stops =
+    let y = scanlist_text list ++ rest in
+    ap part_at (bracket_text o list rest)
+    ∙ specification_of o 91 y (suits_digits Set o is.0) (letter_is profile 91 Set (bracket_letter profile)).last
+    ∙ bracket_of o list rest is.1

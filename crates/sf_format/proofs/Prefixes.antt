@@ -1,5 +1,6 @@
 -- Fronts of lists, and what follows them.
-use Rattle.std.proofs.Common.{◌≡◌, ℕ, Bool, true, false, cond, List, [], ◌∷◌, ◌++◌, refl, ap, ◌∙◌}
+use Rattle.std.proofs.lemmas.List.{take-append-drop, drop_more, take_all}
+use Rattle.std.proofs.Common.{◌≡◌, ℕ, ◌<◌, ◌≤◌, get_or, take, drop, subst, append-nil, Bool, true, false, cond, List, [], ◌∷◌, ◌++◌, length, refl, sym, ap, ◌∙◌}
 use Rattle.std.specs.List.{AllByRecursion}
 use Rattle.sf_format.specs.Lists.{front, behind}
 use Rattle.sf_format.proofs.Outcomes.{by_test}
@@ -45,3 +46,26 @@ pub behind_of : (test : ℕ → Bool) (x y : List ℕ) → AllPass test x → St
 behind_of test [] y passes stops = behind_at_stop test y stops
 behind_of test (b ∷ x) y passes stops =
     ap (λ v. cond v (behind test (x ++ y)) (b ∷ (x ++ y))) passes.0 ∙ behind_of test x y passes.1 stops
+
+-- ---- by place
+
+stops_at : (test : ℕ → Bool) (x : List ℕ) (i : ℕ) → i < length x → test (get_or x i 0) ≡ false → Stops test (drop i x)
+stops_at test x i below fails = subst (Stops test) (sym (drop_more x i 0 below)) fails
+
+-- the bytes before i pass, and the one at i doesn't
+pub front_at : (test : ℕ → Bool) (x : List ℕ) (i : ℕ) → i < length x → AllPass test (take i x) → test (get_or x i 0) ≡ false
+    → (front test x ≡ take i x) × (behind test x ≡ drop i x)
+front_at test x i below passes fails =
+    let whole = take-append-drop i x in
+    let stops = stops_at test x i below fails in (
+      ap (front test) (sym whole) ∙ front_of test (take i x) (drop i x) passes stops,
+      ap (behind test) (sym whole) ∙ behind_of test (take i x) (drop i x) passes stops,
+    )
+
+-- all bytes pass
+pub front_all : (test : ℕ → Bool) (x : List ℕ) (i : ℕ) → length x ≤ i → AllPass test (take i x) → (front test x ≡ x) × (behind test x ≡ [])
+front_all test x i whole passes =
+    let all = subst (AllPass test) (take_all i x whole) passes in (
+      ap (front test) (sym (append-nil x)) ∙ front_of test x [] all tt,
+      ap (behind test) (sym (append-nil x)) ∙ behind_of test x [] all tt,
+    )

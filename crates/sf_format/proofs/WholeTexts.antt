@@ -4,15 +4,15 @@ use Rattle.std.specs.List.{AllByRecursion}
 use Rattle.sf_base.specs.Bytes.{AreBytes, is_white}
 use Rattle.sf_format.specs.declared.directive.Profile.{Profile}
 use Rattle.sf_format.specs.declared.fault.FormatWhy.{FormatWhy}
-use Rattle.sf_format.specs.Pieces.{Piece, WhiteSpace, Ordinary, Specification, piece_text, text_of}
+use Rattle.sf_format.specs.Pieces.{Opening, Piece, WhiteSpace, Ordinary, Percents, Plain, Bracket, piece_text, text_of}
 use Rattle.sf_format.specs.Cut.{Part, part_at}
-use Rattle.sf_format.specs.Grammar.{IsPiece, RunsApart, AreFew, destinations}
+use Rattle.sf_format.specs.Grammar.{IsPiece, RunsApart, AreAlike, destinations}
 use Rattle.sf_format.specs.Faults.{first_of, part_rules, PartFault}
 use Rattle.sf_format.specs.Reading.{unless, put, read}
 use Rattle.sf_format.proofs.Outcomes.{by_test}
 use Rattle.sf_format.proofs.Prefixes.{Stops}
 use Rattle.sf_format.proofs.Rules.{quiet_is, quiet_from, all_back}
-use Rattle.sf_format.proofs.Counts.{few_front, regroup}
+use Rattle.sf_format.proofs.Destinations.{alike_front, regroup}
 use Rattle.sf_format.proofs.Parts.{StopsAfter, BeginsWith, begins_with, white_quiet, piece_quiet, part_of}
 
 -- ---- runs of white space
@@ -20,7 +20,9 @@ use Rattle.sf_format.proofs.Parts.{StopsAfter, BeginsWith, begins_with, white_qu
 pub empty_text : (profile : Profile) (piece : Piece) → IsPiece profile piece → 0 < length (piece_text piece)
 empty_text profile (WhiteSpace bs) is = is.0
 empty_text profile (Ordinary b) is = omega arith
-empty_text profile (Specification letter) is = omega arith
+empty_text profile Percents is = omega arith
+empty_text profile (Plain o letter) is = omega arith
+empty_text profile (Bracket o list) is = omega arith
 
 -- a run before such a text is apart from its parts
 run_apart : (profile : Profile) (a : List ℕ) (pieces : List Piece) (rest : List ℕ) → AllByRecursion (IsPiece profile) pieces
@@ -29,49 +31,61 @@ run_apart profile a [] rest each stops apart = tt
 run_apart profile a (WhiteSpace [] ∷ pieces) rest each stops apart = absurd (omega (arith, each.0.0))
 run_apart profile a (WhiteSpace (b ∷ bs) ∷ pieces) rest each stops apart = absurd (let white = each.0.1.0 in cc)
 run_apart profile a (Ordinary b ∷ pieces) rest each stops apart = apart
-run_apart profile a (Specification letter ∷ pieces) rest each stops apart = apart
+run_apart profile a (Percents ∷ pieces) rest each stops apart = apart
+run_apart profile a (Plain o letter ∷ pieces) rest each stops apart = apart
+run_apart profile a (Bracket o list ∷ pieces) rest each stops apart = apart
 
 apart_more : (profile : Profile) (piece : Piece) (pieces : List Piece) (rest : List ℕ) → AllByRecursion (IsPiece profile) pieces
     → StopsAfter piece (text_of pieces ++ rest) → RunsApart pieces → RunsApart (piece ∷ pieces)
 apart_more profile (WhiteSpace a) pieces rest each stops apart = run_apart profile a pieces rest each stops apart
 apart_more profile (Ordinary b) pieces rest each stops apart = apart
-apart_more profile (Specification letter) pieces rest each stops apart = apart
+apart_more profile Percents pieces rest each stops apart = apart
+apart_more profile (Plain o letter) pieces rest each stops apart = apart
+apart_more profile (Bracket o list) pieces rest each stops apart = apart
 
 run_stops : (profile : Profile) (a : List ℕ) (pieces : List Piece) (rest : List ℕ) → AllByRecursion (IsPiece profile) pieces
     → RunsApart (WhiteSpace a ∷ pieces) → Stops is_white rest → Stops is_white (text_of pieces ++ rest)
 run_stops profile a [] rest each apart stops = stops
 run_stops profile a (WhiteSpace b ∷ pieces) rest each apart stops = absurd apart
 run_stops profile a (Ordinary b ∷ pieces) rest each apart stops = each.0.3
-run_stops profile a (Specification letter ∷ pieces) rest each apart stops = refl
+run_stops profile a (Percents ∷ pieces) rest each apart stops = refl
+run_stops profile a (Plain o letter ∷ pieces) rest each apart stops = refl
+run_stops profile a (Bracket o list ∷ pieces) rest each apart stops = refl
 
 stops_after : (profile : Profile) (piece : Piece) (pieces : List Piece) (rest : List ℕ) → AllByRecursion (IsPiece profile) pieces
     → RunsApart (piece ∷ pieces) → Stops is_white rest → StopsAfter piece (text_of pieces ++ rest)
 stops_after profile (WhiteSpace a) pieces rest each apart stops = run_stops profile a pieces rest each apart stops
 stops_after profile (Ordinary b) pieces rest each apart stops = tt
-stops_after profile (Specification letter) pieces rest each apart stops = tt
+stops_after profile Percents pieces rest each apart stops = tt
+stops_after profile (Plain o letter) pieces rest each apart stops = tt
+stops_after profile (Bracket o list) pieces rest each apart stops = tt
 
 apart_tail : (piece : Piece) (pieces : List Piece) → RunsApart (piece ∷ pieces) → RunsApart pieces
 apart_tail (WhiteSpace a) [] apart = tt
 apart_tail (WhiteSpace a) (WhiteSpace b ∷ pieces) apart = absurd apart
 apart_tail (WhiteSpace a) (Ordinary b ∷ pieces) apart = apart
-apart_tail (WhiteSpace a) (Specification letter ∷ pieces) apart = apart
+apart_tail (WhiteSpace a) (Percents ∷ pieces) apart = apart
+apart_tail (WhiteSpace a) (Plain o letter ∷ pieces) apart = apart
+apart_tail (WhiteSpace a) (Bracket o list ∷ pieces) apart = apart
 apart_tail (Ordinary b) pieces apart = apart
-apart_tail (Specification letter) pieces apart = apart
+apart_tail Percents pieces apart = apart
+apart_tail (Plain o letter) pieces apart = apart
+apart_tail (Bracket o list) pieces apart = apart
 
 -- ---- from what is read
 
 -- x is these parts, and then the rest
-pub record Divides (profile : Profile) (earlier : List ℕ) (x : List ℕ) (pieces : List Piece) (rest : List ℕ) : Type 0 where
+pub record Divides (profile : Profile) (earlier : List Opening) (x : List ℕ) (pieces : List Piece) (rest : List ℕ) : Type 0 where
   pub text : x ≡ text_of pieces ++ rest
   pub each : AllByRecursion (IsPiece profile) pieces
   pub apart : RunsApart pieces
-  pub few : AreFew (earlier ++ destinations pieces)
+  pub alike : AreAlike (earlier ++ destinations pieces)
 
-divides_none : (profile : Profile) (earlier : List ℕ) (x : List ℕ) → AreFew earlier → Divides profile earlier x [] x
-divides_none profile earlier x few =
-    record { text = refl; each = tt; apart = tt; few = subst AreFew (sym (append-nil earlier)) few }
+divides_none : (profile : Profile) (earlier : List Opening) (x : List ℕ) → AreAlike earlier → Divides profile earlier x [] x
+divides_none profile earlier x alike =
+    record { text = refl; each = tt; apart = tt; alike = subst AreAlike (sym (append-nil earlier)) alike }
 
-divides_more : (profile : Profile) (earlier : List ℕ) (x : List ℕ) (part : Part) (pieces : List Piece) (rest : List ℕ)
+divides_more : (profile : Profile) (earlier : List Opening) (x : List ℕ) (part : Part) (pieces : List Piece) (rest : List ℕ)
     → BeginsWith profile earlier x part → Divides profile (earlier ++ destinations (part.piece ∷ [])) part.rest pieces rest
     → Divides profile earlier x (part.piece ∷ pieces) rest
 divides_more profile earlier x part pieces rest begins divides = record {
@@ -80,27 +94,27 @@ divides_more profile earlier x part pieces rest begins divides = record {
       ∙ sym (append_assoc (piece_text part.piece) (text_of pieces) rest);
   each = (begins.is, divides.each);
   apart = apart_more profile part.piece pieces rest divides.each (subst (StopsAfter part.piece) divides.text begins.apart) divides.apart;
-  few = subst AreFew (sym (regroup earlier part.piece pieces)) divides.few;
+  alike = subst AreAlike (sym (regroup earlier part.piece pieces)) divides.alike;
 }
 
 -- the rules refuse what follows the parts
-pub record Refuses (profile : Profile) (earlier : List ℕ) (p : ℕ) (x : List ℕ) (fault : FormatWhy × ℕ) : Type 0 where
+pub record Refuses (profile : Profile) (earlier : List Opening) (p : ℕ) (x : List ℕ) (fault : FormatWhy × ℕ) : Type 0 where
   pub done : List Piece
   pub rest : List ℕ
   pub divides : Divides profile earlier x done rest
   pub first : first_of (part_rules profile (earlier ++ destinations done) (p + length (text_of done)) rest) ≡ Some fault
 
 -- what a result says of the text
-abbrev Tells : Profile → List ℕ → ℕ → List ℕ → Result (List Piece) (FormatWhy × ℕ) → Type 0
+abbrev Tells : Profile → List Opening → ℕ → List ℕ → Result (List Piece) (FormatWhy × ℕ) → Type 0
 Tells profile earlier p x (Ok pieces) = Divides profile earlier x pieces []
 Tells profile earlier p x (Err fault) = Refuses profile earlier p x fault
 
-refuses_now : (profile : Profile) (earlier : List ℕ) (p : ℕ) (x : List ℕ) (fault : FormatWhy × ℕ) → AreFew earlier
+refuses_now : (profile : Profile) (earlier : List Opening) (p : ℕ) (x : List ℕ) (fault : FormatWhy × ℕ) → AreAlike earlier
     → first_of (part_rules profile earlier p x) ≡ Some fault → Refuses profile earlier p x fault
-refuses_now profile earlier p x fault few first = record {
+refuses_now profile earlier p x fault alike first = record {
   done = [];
   rest = x;
-  divides = divides_none profile earlier x few;
+  divides = divides_none profile earlier x alike;
   first =
       let zero_more : p + 0 ≡ p = omega arith in
       ap (λ q. first_of (part_rules profile (earlier ++ []) q x)) zero_more
@@ -108,7 +122,7 @@ refuses_now profile earlier p x fault few first = record {
       ∙ first;
 }
 
-refuses_later : (profile : Profile) (earlier : List ℕ) (p : ℕ) (x : List ℕ) (part : Part) (fault : FormatWhy × ℕ)
+refuses_later : (profile : Profile) (earlier : List Opening) (p : ℕ) (x : List ℕ) (part : Part) (fault : FormatWhy × ℕ)
     → BeginsWith profile earlier x part
     → Refuses profile (earlier ++ destinations (part.piece ∷ [])) (p + length (piece_text part.piece)) part.rest fault
     → Refuses profile earlier p x fault
@@ -129,59 +143,59 @@ no_bytes : (x : List ℕ) → length x ≤ 0 → x ≡ []
 no_bytes [] h = refl
 no_bytes (b ∷ x) h = absurd (omega (arith, h))
 
-shorter : (profile : Profile) (earlier : List ℕ) (n : ℕ) (b : ℕ) (x : List ℕ) (part : Part) → BeginsWith profile earlier (b ∷ x) part
+shorter : (profile : Profile) (earlier : List Opening) (n : ℕ) (b : ℕ) (x : List ℕ) (part : Part) → BeginsWith profile earlier (b ∷ x) part
     → length (b ∷ x) ≤ suc n → length part.rest ≤ n
 shorter profile earlier n b x part begins short =
     omega (arith, short, ap length begins.text, length-append (piece_text part.piece) part.rest, empty_text profile part.piece begins.is)
 
-tells_put : (profile : Profile) (earlier : List ℕ) (p : ℕ) (x : List ℕ) (part : Part) (r : Result (List Piece) (FormatWhy × ℕ))
+tells_put : (profile : Profile) (earlier : List Opening) (p : ℕ) (x : List ℕ) (part : Part) (r : Result (List Piece) (FormatWhy × ℕ))
     → BeginsWith profile earlier x part
     → Tells profile (earlier ++ destinations (part.piece ∷ [])) (p + length (piece_text part.piece)) part.rest r
     → Tells profile earlier p x (put part.piece r)
 tells_put profile earlier p x part (Ok pieces) begins tells = divides_more profile earlier x part pieces [] begins tells
 tells_put profile earlier p x part (Err fault) begins tells = refuses_later profile earlier p x part fault begins tells
 
-tells_unless : (profile : Profile) (earlier : List ℕ) (p : ℕ) (x : List ℕ) (r : Result (List Piece) (FormatWhy × ℕ))
-    (first : Option (FormatWhy × ℕ)) → AreFew earlier → first_of (part_rules profile earlier p x) ≡ first
+tells_unless : (profile : Profile) (earlier : List Opening) (p : ℕ) (x : List ℕ) (r : Result (List Piece) (FormatWhy × ℕ))
+    (first : Option (FormatWhy × ℕ)) → AreAlike earlier → first_of (part_rules profile earlier p x) ≡ first
     → (first_of (part_rules profile earlier p x) ≡ None → Tells profile earlier p x r) → Tells profile earlier p x (unless first r)
-tells_unless profile earlier p x r None few e otherwise = otherwise e
-tells_unless profile earlier p x r (Some fault) few e otherwise = refuses_now profile earlier p x fault few e
+tells_unless profile earlier p x r None alike e otherwise = otherwise e
+tells_unless profile earlier p x r (Some fault) alike e otherwise = refuses_now profile earlier p x fault alike e
 
 -- what is read is told of the text
-pub read_tells : (n : ℕ) (profile : Profile) (earlier : List ℕ) (p : ℕ) (x : List ℕ) → length x ≤ n → AreBytes x → AreFew earlier
+pub read_tells : (n : ℕ) (profile : Profile) (earlier : List Opening) (p : ℕ) (x : List ℕ) → length x ≤ n → AreBytes x → AreAlike earlier
     → Tells profile earlier p x (read n profile earlier p x)
-read_tells zero profile earlier p x short bytes few =
-    subst (λ y. Divides profile earlier y [] []) (sym (no_bytes x short)) (divides_none profile earlier [] few)
-read_tells (suc n) profile earlier p [] short bytes few = divides_none profile earlier [] few
-read_tells (suc n) profile earlier p (b ∷ x) short bytes few =
+read_tells zero profile earlier p x short bytes alike =
+    subst (λ y. Divides profile earlier y [] []) (sym (no_bytes x short)) (divides_none profile earlier [] alike)
+read_tells (suc n) profile earlier p [] short bytes alike = divides_none profile earlier [] alike
+read_tells (suc n) profile earlier p (b ∷ x) short bytes alike =
     let part = part_at (b ∷ x) in
     let after = earlier ++ destinations (part.piece ∷ []) in
     let q = p + length (piece_text part.piece) in
     tells_unless profile earlier p (b ∷ x) (put part.piece (read n profile after q part.rest)) (first_of (part_rules profile earlier p (b ∷ x)))
-    few refl
+    alike refl
     (λ e.
-    let begins = begins_with profile earlier p b x bytes.0 (quiet_is (part_rules profile earlier p (b ∷ x)) e) in
+    let begins = begins_with profile earlier p b x bytes (quiet_is (part_rules profile earlier p (b ∷ x)) e) in
     tells_put profile earlier p (b ∷ x) part (read n profile after q part.rest) begins
     (read_tells n profile after q part.rest (shorter profile earlier n b x part begins short)
-    (all_back (λ c. c < 256) (piece_text part.piece) part.rest (subst AreBytes begins.text bytes)) (begins.few few)))
+    (all_back (λ c. c < 256) (piece_text part.piece) part.rest (subst AreBytes begins.text bytes)) (begins.alike alike)))
 
 -- ---- to what is read
 
 -- each fuel that is enough gives this result
-abbrev pub Reading : Profile → List ℕ → ℕ → List ℕ → Result (List Piece) (FormatWhy × ℕ) → Type 0
+abbrev pub Reading : Profile → List Opening → ℕ → List ℕ → Result (List Piece) (FormatWhy × ℕ) → Type 0
 Reading profile earlier p x r = (n : ℕ) → length x ≤ n → read n profile earlier p x ≡ r
 
 -- what is read of a text that isn't empty, by its part
-abbrev pub read_on : ℕ → Profile → List ℕ → ℕ → Option (FormatWhy × ℕ) → Part → Result (List Piece) (FormatWhy × ℕ)
+abbrev pub read_on : ℕ → Profile → List Opening → ℕ → Option (FormatWhy × ℕ) → Part → Result (List Piece) (FormatWhy × ℕ)
 read_on n profile earlier p first part =
     unless first (put part.piece (read n profile (earlier ++ destinations (part.piece ∷ [])) (p + length (piece_text part.piece)) part.rest))
 
-pub read_step : (n : ℕ) (profile : Profile) (earlier : List ℕ) (p : ℕ) (x : List ℕ) → 0 < length x
+pub read_step : (n : ℕ) (profile : Profile) (earlier : List Opening) (p : ℕ) (x : List ℕ) → 0 < length x
     → read (suc n) profile earlier p x ≡ read_on n profile earlier p (first_of (part_rules profile earlier p x)) (part_at x)
 read_step n profile earlier p [] some = absurd (omega (arith, some))
 read_step n profile earlier p (b ∷ x) some = refl
 
-pub reading_refused : (profile : Profile) (earlier : List ℕ) (p : ℕ) (x : List ℕ) (fault : FormatWhy × ℕ)
+pub reading_refused : (profile : Profile) (earlier : List Opening) (p : ℕ) (x : List ℕ) (fault : FormatWhy × ℕ)
     → first_of (part_rules profile earlier p x) ≡ Some fault → Reading profile earlier p x (Err fault)
 reading_refused profile earlier p [] fault first = λ n enough. absurd (cc)
 reading_refused profile earlier p (b ∷ x) fault first = by_fuel
@@ -190,11 +204,11 @@ reading_refused profile earlier p (b ∷ x) fault first = by_fuel
     by_fuel zero enough = absurd (omega (arith, enough))
     by_fuel (suc n) enough = ap (λ f. read_on n profile earlier p f (part_at (b ∷ x))) first
 
-reading_piece : (profile : Profile) (earlier : List ℕ) (p : ℕ) (piece : Piece) (rest : List ℕ) (r : Result (List Piece) (FormatWhy × ℕ))
-    → IsPiece profile piece → StopsAfter piece rest → AreFew (earlier ++ destinations (piece ∷ []))
+reading_piece : (profile : Profile) (earlier : List Opening) (p : ℕ) (piece : Piece) (rest : List ℕ) (r : Result (List Piece) (FormatWhy × ℕ))
+    → IsPiece profile piece → StopsAfter piece rest → AreAlike (earlier ++ destinations (piece ∷ []))
     → Reading profile (earlier ++ destinations (piece ∷ [])) (p + length (piece_text piece)) rest r
     → Reading profile earlier p (piece_text piece ++ rest) (put piece r)
-reading_piece profile earlier p piece rest r is stops few reading = by_fuel
+reading_piece profile earlier p piece rest r is stops alike reading = by_fuel
   where
     x : List ℕ
     x = piece_text piece ++ rest
@@ -206,7 +220,7 @@ reading_piece profile earlier p piece rest r is stops few reading = by_fuel
         let some = empty_text profile piece is in
         read_step n profile earlier p (piece_text piece ++ rest) (omega (arith, lengths, some))
         ∙ ap (λ first. read_on n profile earlier p first (part_at (piece_text piece ++ rest)))
-        (quiet_from (part_rules profile earlier p (piece_text piece ++ rest)) (piece_quiet profile earlier p piece rest is few))
+        (quiet_from (part_rules profile earlier p (piece_text piece ++ rest)) (piece_quiet profile earlier p piece rest is alike))
         ∙ ap (read_on n profile earlier p None) (part_of profile piece rest is stops)
         ∙ ap (put piece) (reading n (omega (arith, enough, lengths, some)))
 
@@ -215,24 +229,24 @@ put_all [] r = r
 put_all (piece ∷ pieces) r = put piece (put_all pieces r)
 
 -- what is read behind whole parts is read with them
-reading_all : (profile : Profile) (earlier : List ℕ) (p : ℕ) (done : List Piece) (rest : List ℕ) (r : Result (List Piece) (FormatWhy × ℕ))
-    → AllByRecursion (IsPiece profile) done → RunsApart done → Stops is_white rest → AreFew (earlier ++ destinations done)
+reading_all : (profile : Profile) (earlier : List Opening) (p : ℕ) (done : List Piece) (rest : List ℕ) (r : Result (List Piece) (FormatWhy × ℕ))
+    → AllByRecursion (IsPiece profile) done → RunsApart done → Stops is_white rest → AreAlike (earlier ++ destinations done)
     → Reading profile (earlier ++ destinations done) (p + length (text_of done)) rest r
     → Reading profile earlier p (text_of done ++ rest) (put_all done r)
-reading_all profile earlier p [] rest r each apart stops few reading =
+reading_all profile earlier p [] rest r each apart stops alike reading =
     let zero_more : p + 0 ≡ p = omega arith in
     subst (λ q. Reading profile earlier q rest r) zero_more
     (subst (λ os. Reading profile os (p + 0) rest r) (append-nil earlier) reading)
-reading_all profile earlier p (piece ∷ done) rest r each apart stops few reading =
+reading_all profile earlier p (piece ∷ done) rest r each apart stops alike reading =
     let after = earlier ++ destinations (piece ∷ []) in
     let q = p + length (piece_text piece) in
     let regrouped = regroup earlier piece done in
     let places : p + length (piece_text piece ++ text_of done) ≡ q + length (text_of done) = omega (arith, length-append (piece_text piece) (text_of done)) in
-    let few_all = subst AreFew regrouped few in
+    let alike_all = subst AreAlike regrouped alike in
     subst (λ t. Reading profile earlier p t (put piece (put_all done r))) (sym (append_assoc (piece_text piece) (text_of done) rest))
     (reading_piece profile earlier p piece (text_of done ++ rest) (put_all done r) each.0
-    (stops_after profile piece done rest each.1 apart stops) (few_front after (destinations done) few_all)
-    (reading_all profile after q done rest r each.1 (apart_tail piece done apart) stops few_all
+    (stops_after profile piece done rest each.1 apart stops) (alike_front after (destinations done) alike_all)
+    (reading_all profile after q done rest r each.1 (apart_tail piece done apart) stops alike_all
     (subst (λ s. Reading profile (after ++ destinations done) s rest r) places
     (subst (λ os. Reading profile os (p + length (piece_text piece ++ text_of done)) rest r) regrouped reading))))
 
@@ -244,20 +258,20 @@ pub fault_put : (done : List Piece) (fault : FormatWhy × ℕ) → put_all done 
 fault_put [] fault = refl
 fault_put (piece ∷ done) fault = ap (put piece) (fault_put done fault)
 
-pub nothing_read : (n : ℕ) (profile : Profile) (earlier : List ℕ) (p : ℕ) → read n profile earlier p [] ≡ Ok []
+pub nothing_read : (n : ℕ) (profile : Profile) (earlier : List Opening) (p : ℕ) → read n profile earlier p [] ≡ Ok []
 nothing_read zero profile earlier p = refl
 nothing_read (suc n) profile earlier p = refl
 
 pub parts_read : (profile : Profile) (pieces : List Piece) → AllByRecursion (IsPiece profile) pieces → RunsApart pieces
-    → AreFew (destinations pieces) → read (length (text_of pieces)) profile [] 0 (text_of pieces) ≡ Ok pieces
-parts_read profile pieces each apart few =
-    let reading = reading_all profile [] 0 pieces [] (Ok []) each apart tt few (λ n enough. nothing_read n profile _ _) in
+    → AreAlike (destinations pieces) → read (length (text_of pieces)) profile [] 0 (text_of pieces) ≡ Ok pieces
+parts_read profile pieces each apart alike =
+    let reading = reading_all profile [] 0 pieces [] (Ok []) each apart tt alike (λ n enough. nothing_read n profile _ _) in
     subst (Reading profile [] 0 (text_of pieces)) (all_put pieces)
     (subst (λ t. Reading profile [] 0 t (put_all pieces (Ok []))) (append-nil (text_of pieces)) reading)
     (length (text_of pieces)) (omega arith)
 
 -- what a rule refuses begins with no white space
-refused_stops : (profile : Profile) (earlier : List ℕ) (p : ℕ) (x : List ℕ) (fault : FormatWhy × ℕ)
+refused_stops : (profile : Profile) (earlier : List Opening) (p : ℕ) (x : List ℕ) (fault : FormatWhy × ℕ)
     → first_of (part_rules profile earlier p x) ≡ Some fault → Stops is_white x
 refused_stops profile earlier p [] fault first = tt
 refused_stops profile earlier p (b ∷ x) fault first =
@@ -273,7 +287,7 @@ fault_read profile text fault h =
     let good = h.2 in
     let first = h.4 in
     let reading = reading_all profile [] 0 done rest (Err fault) good.each good.apart
-    (refused_stops profile _ _ rest fault first) good.few
+    (refused_stops profile _ _ rest fault first) good.alike
     (reading_refused profile (destinations done) (0 + length (text_of done)) rest fault
     (let e : 0 + length (text_of done) ≡ length (text_of done) = omega arith in
     ap (λ q. first_of (part_rules profile (destinations done) q rest)) e ∙ first)) in

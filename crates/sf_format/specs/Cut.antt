@@ -1,22 +1,92 @@
 -- How a text is cut where a part of a format begins.
-use Rattle.std.specs.Prelude.{ℕ, List, [], ◌∷◌, nat_eq, if◌then◌else◌}
+use Rattle.std.specs.Prelude.{ℕ, Bool, List, [], ◌∷◌, length, drop, nat_eq, if◌then◌else◌}
 use Rattle.sf_base.specs.Bytes.{is_white}
-use Rattle.sf_format.specs.Lists.{front, behind}
-use Rattle.sf_format.specs.Pieces.{Piece, WhiteSpace, Ordinary, Specification}
+use Rattle.sf_format.specs.Digits.{is_decimal}
+use Rattle.sf_format.specs.Lists.{front, behind, begins, mark_at}
+use Rattle.sf_format.specs.declared.letter.Length.{Length}
+use Rattle.sf_format.specs.declared.letter.Length.TheVariants.{NoLength, HH, H, LL, L, J, Z, T}
+use Rattle.sf_format.specs.Letters.{length_text}
+use Rattle.sf_format.specs.Scanlist.{Scanlist, is_inner}
+use Rattle.sf_format.specs.Pieces.{Opening, Piece, WhiteSpace, Ordinary, Percents, Plain, Bracket}
 
--- a part, and what follows it
+-- ---- a conversion specification up to its letter
+
+-- digits are a number if $ follows them
+abbrev pub number_before : List ℕ → List ℕ → List ℕ → List ℕ × List ℕ
+number_before [] after x = ([], x)
+number_before (d ∷ ds) [] x = ([], x)
+number_before (d ∷ ds) (b ∷ after) x = if nat_eq b 36 then (d ∷ ds, after) else ([], x)
+
+-- the number that the text begins with, and what follows its $
+abbrev pub number_at : List ℕ → List ℕ × List ℕ
+number_at x = number_before (front is_decimal x) (behind is_decimal x) x
+
+abbrev pub first_length : List Length → List ℕ → Length
+first_length [] x = NoLength
+first_length (size ∷ sizes) x = if begins (length_text size) x then size else first_length sizes x
+
+-- the longest length that stands there
+abbrev pub length_at : List ℕ → Length
+length_at x = first_length (HH ∷ H ∷ LL ∷ L ∷ J ∷ Z ∷ T ∷ []) x
+
+-- the parts of a specification up to where its letter is due, and the rest
+pub record Cut : Type 0 where
+  pub opening : Opening
+  pub rest : List ℕ
+
+-- what follows the width, with the parts before it
+abbrev pub cut_length : List ℕ → Bool → List ℕ → List ℕ → Cut
+cut_length number star width x = record {
+  opening = record { number = number; star = star; width = width; size = length_at x };
+  rest = drop (length (length_text (length_at x))) x;
+}
+
+-- what follows a %
+abbrev pub cut : List ℕ → Cut
+cut x =
+    let number = number_at x in
+    let star = mark_at 42 number.1 in
+    cut_length number.0 star.0 (front is_decimal star.1) (behind is_decimal star.1)
+
+-- ---- a scanlist
+
+-- its members, which begin behind the ^
+abbrev pub members_at : List ℕ → List ℕ
+members_at [] = []
+members_at (b ∷ x) = b ∷ front is_inner x
+
+-- what follows the members: nothing, or the ] that closes them
+abbrev pub close_at : List ℕ → List ℕ
+close_at [] = []
+close_at (b ∷ x) = behind is_inner x
+
+abbrev pub list_of : Bool → List ℕ → Scanlist
+list_of complemented [] = record { complemented = complemented; first = 0; others = [] }
+list_of complemented (b ∷ x) = record { complemented = complemented; first = b; others = front is_inner x }
+
+-- ---- a part, and what follows it
+
 pub record Part : Type 0 where
   pub piece : Piece
   pub rest : List ℕ
 
+abbrev pub bracket_at : Opening → Bool × List ℕ → Part
+bracket_at o x = record { piece = Bracket o (list_of x.0 x.1); rest = drop 1 (close_at x.1) }
+
+-- from the letter on
+abbrev pub letter_at : Opening → List ℕ → Part
+letter_at o [] = record { piece = Percents; rest = [] }
+letter_at o (letter ∷ x) =
+    if nat_eq letter 91 then bracket_at o (mark_at 94 x) else record { piece = Plain o letter; rest = x }
+
 -- behind a %
 abbrev pub specification_at : List ℕ → Part
-specification_at [] = record { piece = Specification 0; rest = [] }
-specification_at (letter ∷ x) = record { piece = Specification letter; rest = x }
+specification_at x =
+    if begins (37 ∷ []) x then record { piece = Percents; rest = drop 1 x } else letter_at (cut x).opening (cut x).rest
 
 -- the part that a text without a fault there begins with; what it is elsewhere has no meaning
 abbrev pub part_at : List ℕ → Part
-part_at [] = record { piece = Specification 0; rest = [] }
+part_at [] = record { piece = Percents; rest = [] }
 part_at (b ∷ x) =
     if is_white b then record { piece = WhiteSpace (front is_white (b ∷ x)); rest = behind is_white (b ∷ x) }
     else if nat_eq b 37 then specification_at x

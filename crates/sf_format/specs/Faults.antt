@@ -1,14 +1,20 @@
 -- The first fault of a text that is no scan format. C11 7.21.6.2p13 leaves such a text undefined; here it is refused.
-use Rattle.std.specs.Prelude.{◌≡◌, ℕ, ◌+◌, ◌<◌, ◌≤◌, ◌⊎◌, Bool, true, List, [], ◌∷◌, ◌++◌, length, Option, Some, None, is_none, nat_eq, nat_lt, if◌then◌else◌}
-use Rattle.std.specs.List.{AllByRecursion}
+use Rattle.std.specs.Prelude.{◌≡◌, ℕ, ◌+◌, ◌<◌, ◌≤◌, ◌⊎◌, Bool, true, false, not, ◌&&◌, ◌||◌, List, [], ◌∷◌, ◌++◌, length, map, Option, Some, None, is_some, is_none, nat_eq, nat_lt, if◌then◌else◌}
+use Rattle.std.specs.List.{AllByRecursion, position_from, list_any, list_all}
+use Rattle.sf_base.specs.Bytes.{magnitude}
 use Rattle.sf_format.specs.declared.directive.Profile.{Profile}
 use Rattle.sf_format.specs.declared.directive.Directive.{Directive}
 use Rattle.sf_format.specs.declared.fault.FormatFault.{FormatFault}
 use Rattle.sf_format.specs.declared.fault.FormatWhy.{FormatWhy}
-use Rattle.sf_format.specs.declared.fault.FormatWhy.TheVariants.{Truncated, UnknownLetter, Nul, FormatTooLong, TooManyDestinations, NoMemory}
+use Rattle.sf_format.specs.declared.fault.FormatWhy.TheVariants.{Truncated, ZeroWidth, TooWide, UnknownLetter, LeftOut, BadLength, OpenSet, BackwardRange, BadCount, MixedNumbering, BadNumber, NumberTwice, NumberGap, Nul, FormatTooLong, TooManyDestinations, NoMemory}
+use Rattle.sf_format.specs.declared.letter.Length.{Length}
+use Rattle.sf_format.specs.declared.letter.Length.TheVariants.{NoLength, L}
 use Rattle.sf_format.specs.Letters.{letter_of}
-use Rattle.sf_format.specs.Pieces.{Piece, text_of}
-use Rattle.sf_format.specs.Grammar.{IsPiece, RunsApart, AreFew, destinations, Spells}
+use Rattle.sf_format.specs.Scanlist.{backward_range, caret_text}
+use Rattle.sf_format.specs.Lists.{begins, mark_at, is_written}
+use Rattle.sf_format.specs.Cut.{cut, members_at, close_at}
+use Rattle.sf_format.specs.Pieces.{Opening, Piece, number_text, star_text, opening_text, piece_text, text_of}
+use Rattle.sf_format.specs.Grammar.{IsPiece, RunsApart, AreAlike, destinations, Spells}
 
 -- a reason, the test whether it applies, and the place where it is told
 pub record Rule : Type 0 where
@@ -21,38 +27,143 @@ abbrev pub first_of : List Rule → Option (FormatWhy × ℕ)
 first_of [] = None
 first_of (rule ∷ rules) = if rule.applies then Some (rule.why, rule.at) else first_of rules
 
--- ---- the faults inside one specification, whose % stands at p
+abbrev pub is_any_of : List ℕ → ℕ → Bool
+is_any_of bytes b = list_any (λ a. nat_eq a b) bytes
 
--- the byte where its letter is due, at q
-abbrev pub letter_rules : Profile → ℕ → ℕ → List Rule
-letter_rules profile letter q =
-    record { why = Nul; applies = nat_eq letter 0; at = q }
-    ∷ record { why = UnknownLetter; applies = is_none (letter_of profile letter); at = q }
+-- c, s and [
+abbrev pub takes_text : ℕ → Bool
+takes_text b = is_any_of (99 ∷ 115 ∷ 91 ∷ []) b
+
+-- m L a A e E f F g G p C S
+abbrev pub is_left_out : ℕ → Bool
+is_left_out b = is_any_of (109 ∷ 76 ∷ 97 ∷ 65 ∷ 101 ∷ 69 ∷ 102 ∷ 70 ∷ 103 ∷ 71 ∷ 112 ∷ 67 ∷ 83 ∷ []) b
+
+abbrev pub has_length : Length → Bool
+has_length NoLength = false
+has_length _ = true
+
+abbrev pub is_l : Length → Bool
+is_l L = true
+is_l _ = false
+
+-- ---- the faults inside one specification
+
+-- the parts before the letter; p is the place of the %
+abbrev pub opening_rules : ℕ → Opening → List Rule
+opening_rules p o =
+    let star_at = p + 1 + length (number_text o.number) in
+    let width_at = star_at + length (star_text o.star) in
+    let number = magnitude 10 o.number in
+    let width = magnitude 10 o.width in
+    record { why = BadNumber; applies = is_written o.number && (nat_eq number 0 || nat_lt 32 number); at = p + 1 }
+    ∷ record { why = BadNumber; applies = is_written o.number && o.star; at = star_at }
+    ∷ record { why = ZeroWidth; applies = is_written o.width && nat_eq width 0; at = width_at }
+    ∷ record { why = TooWide; applies = nat_lt 65535 width; at = width_at }
     ∷ []
 
--- the destinations so far: one too many
-abbrev pub slot_rules : List ℕ → ℕ → List Rule
-slot_rules earlier p = record { why = TooManyDestinations; applies = nat_lt 31 (length earlier); at = p } ∷ []
+-- the letter, at q
+abbrev pub letter_rules : Profile → Opening → ℕ → ℕ → List Rule
+letter_rules profile o letter q =
+    record { why = Nul; applies = nat_eq letter 0; at = q }
+    ∷ record { why = LeftOut; applies = is_left_out letter; at = q }
+    ∷ record { why = UnknownLetter; applies = is_none (letter_of profile letter); at = q }
+    ∷ record { why = LeftOut; applies = takes_text letter && is_l o.size; at = q }
+    ∷ record { why = BadLength; applies = takes_text letter && has_length o.size; at = q }
+    ∷ record { why = BadCount; applies = nat_eq letter 110 && (o.star || is_written o.width); at = q }
+    ∷ []
 
--- what stands behind the %
-abbrev pub percent_rules : Profile → List ℕ → ℕ → List ℕ → List Rule
-percent_rules profile earlier p [] = record { why = Truncated; applies = true; at = p + 1 } ∷ []
-percent_rules profile earlier p (letter ∷ x) = letter_rules profile letter (p + 1) ++ slot_rules earlier p
+-- where the byte stands first, counted from n
+abbrev pub place_of : ℕ → ℕ → List ℕ → Option ℕ
+place_of b n xs = position_from (λ x. nat_eq x b) n xs
+
+abbrev pub or_zero : Option ℕ → ℕ
+or_zero None = 0
+or_zero (Some n) = n
+
+-- the members of a scanlist; q is the place of the [, m that of the first member
+abbrev pub member_rules : ℕ → ℕ → List ℕ → Bool → List Rule
+member_rules q m members closed =
+    record { why = Nul; applies = is_some (place_of 0 m members); at = or_zero (place_of 0 m members) }
+    ∷ record { why = OpenSet; applies = not closed; at = q }
+    ∷ record { why = BackwardRange; applies = is_some (backward_range m members); at = or_zero (backward_range m members) }
+    ∷ []
+
+-- the scanlist, where x are the bytes from the first member on
+abbrev pub list_rules : ℕ → ℕ → List ℕ → List Rule
+list_rules q m x = member_rules q m (members_at x) (is_written (close_at x))
+
+abbrev pub after_caret : ℕ → Bool × List ℕ → List Rule
+after_caret q x = list_rules q (q + 1 + length (caret_text x.0)) x.1
+
+-- what stands behind the letter, which is a [ or isn't
+abbrev pub bracket_rules : Bool → ℕ → List ℕ → List Rule
+bracket_rules bracket q x = if bracket then after_caret q (mark_at 94 x) else []
+
+abbrev pub scanlist_rules : ℕ → ℕ → List ℕ → List Rule
+scanlist_rules letter q x = bracket_rules (nat_eq letter 91) q x
+
+-- both have a number, or neither has
+abbrev pub alike : Opening → Opening → Bool
+alike e o = if is_written e.number then is_written o.number else not (is_written o.number)
+
+-- the destinations so far: a number beside none, or one too many without
+abbrev pub slot_rules : List Opening → ℕ → Opening → List Rule
+slot_rules earlier p o =
+    record { why = MixedNumbering; applies = not o.star && list_any (λ e. not (alike e o)) earlier; at = p }
+    ∷ record { why = TooManyDestinations; applies = not o.star && not (is_written o.number) && nat_lt 31 (length earlier); at = p }
+    ∷ []
+
+-- from where the letter of the specification is due, at q
+abbrev pub rest_rules : Profile → List Opening → ℕ → Opening → ℕ → List ℕ → List Rule
+rest_rules profile earlier p o q [] = record { why = Truncated; applies = true; at = q } ∷ []
+rest_rules profile earlier p o q (letter ∷ x) =
+    letter_rules profile o letter q ++ (scanlist_rules letter q x ++ slot_rules earlier p o)
+
+-- what stands behind a %
+abbrev pub percent_rules : Profile → List Opening → ℕ → List ℕ → List Rule
+percent_rules profile earlier p x =
+    if not (begins (37 ∷ []) x) then
+    opening_rules p (cut x).opening
+    ++ rest_rules profile earlier p (cut x).opening (p + length (opening_text (cut x).opening)) (cut x).rest
+    else []
 
 -- ---- the faults of a text
 
 -- where the next part begins, at p, with these bytes
-abbrev pub part_rules : Profile → List ℕ → ℕ → List ℕ → List Rule
+abbrev pub part_rules : Profile → List Opening → ℕ → List ℕ → List Rule
 part_rules profile earlier p [] = []
 part_rules profile earlier p (b ∷ x) =
     record { why = Nul; applies = nat_eq b 0; at = p }
     ∷ (if nat_eq b 37 then percent_rules profile earlier p x else [])
 
--- whole parts, none of which has a fault
+-- the numbers of the destinations, each with the place of its %
+abbrev pub numbered : ℕ → List Piece → List (ℕ × ℕ)
+numbered p [] = []
+numbered p (piece ∷ pieces) =
+    map (λ o. (magnitude 10 o.number, p)) (destinations (piece ∷ [])) ++ numbered (p + length (piece_text piece)) pieces
+
+-- a number that stands a second time, and one above the count
+abbrev pub repeated : List ℕ → List (ℕ × ℕ) → List Rule
+repeated earlier [] = []
+repeated earlier (n ∷ ns) =
+    record { why = NumberTwice; applies = is_any_of earlier n.0; at = n.1 } ∷ repeated (n.0 ∷ earlier) ns
+
+abbrev pub beyond : ℕ → List (ℕ × ℕ) → List Rule
+beyond count [] = []
+beyond count (n ∷ ns) = record { why = NumberGap; applies = nat_lt count n.0; at = n.1 } ∷ beyond count ns
+
+-- the destinations of the whole format
+abbrev pub number_rules : List Piece → List Rule
+number_rules pieces =
+    if list_all (λ o. is_written o.number) (destinations pieces) then
+    repeated [] (numbered 0 pieces) ++ beyond (length (destinations pieces)) (numbered 0 pieces)
+    else []
+
+-- whole parts, none of which has a fault so far
 pub record AreFaultless (profile : Profile) (done : List Piece) : Type 0 where
   pub each : AllByRecursion (IsPiece profile) done
   pub apart : RunsApart done
-  pub few : AreFew (destinations done)
+  pub alike : AreAlike (destinations done)
 
 -- after whole parts without a fault, the first fault of what follows
 abbrev pub PartFault : Profile → List ℕ → FormatWhy × ℕ → Type 0
@@ -60,11 +171,16 @@ PartFault profile text fault =
     (done : List Piece) × (rest : List ℕ) × AreFaultless profile done × (text ≡ text_of done ++ rest)
     × (first_of (part_rules profile (destinations done) (length (text_of done)) rest) ≡ Some fault)
 
+-- the whole text has no such fault, and its numbers have one
+abbrev pub NumberFault : Profile → List ℕ → FormatWhy × ℕ → Type 0
+NumberFault profile text fault =
+    (done : List Piece) × AreFaultless profile done × (text ≡ text_of done) × (first_of (number_rules done) ≡ Some fault)
+
 -- the first fault of the text, and its place
 abbrev pub Fault : Profile → List ℕ → ℕ → FormatWhy → Type 0
 Fault profile text at why =
     (4096 < length text) × (at ≡ 4096) × (why ≡ FormatTooLong)
-    ⊎ (length text ≤ 4096) × PartFault profile text (why, at)
+    ⊎ (length text ≤ 4096) × (PartFault profile text (why, at) ⊎ NumberFault profile text (why, at))
 
 -- ---- why a format is not had
 

@@ -1,20 +1,51 @@
--- The grammar of scan formats (C11 7.21.6.2p3 to p12).
-use Rattle.std.specs.Prelude.{◌≡◌, ◌≢◌, ℕ, ◌+◌, ◌<◌, ◌≤◌, false, List, [], ◌∷◌, length, Some, None}
+-- The grammar of scan formats (C11 7.21.6.2p3 to p12, POSIX fscanf for the numbers).
+use Rattle.std.specs.Prelude.{◌≡◌, ◌≢◌, ℕ, ◌+◌, ◌<◌, ◌≤◌, ◌⊎◌, Bool, true, false, List, [], ◌∷◌, length, map, Option, Some, None, IsSome, if◌then◌else◌}
 use Rattle.std.specs.List.{AllByRecursion}
-use Rattle.sf_base.specs.Bytes.{is_white, AreWhite}
+use Rattle.sf_base.specs.Bytes.{is_white, AreWhite, magnitude}
+use Rattle.sf_format.specs.Digits.{is_decimal}
 use Rattle.sf_format.specs.declared.directive.Profile.{Profile}
+use Rattle.sf_format.specs.declared.directive.Shape.{Shape}
+use Rattle.sf_format.specs.declared.directive.Shape.TheVariants as shape
 use Rattle.sf_format.specs.declared.directive.Conversion.{Conversion}
 use Rattle.sf_format.specs.declared.directive.Directive.{Directive}
 use Rattle.sf_format.specs.declared.directive.Directive.TheVariants as directive
 use Rattle.sf_format.specs.declared.letter.Letter.{Letter}
-use Rattle.sf_format.specs.Letters.{letter_of, shape_of, kind_of}
-use Rattle.sf_format.specs.Pieces.{Piece, WhiteSpace, Ordinary, Specification, text_of}
+use Rattle.sf_format.specs.declared.letter.Letter.TheVariants.{Signed, Unsigned, Chars, Text, Set, Count}
+use Rattle.sf_format.specs.Letters.{letter_of, kind_of}
+use Rattle.sf_format.specs.Scanlist.{IsScanlist, IsSetOf}
+use Rattle.sf_format.specs.Proper.{AreDistinct}
+use Rattle.sf_format.specs.Pieces.{Opening, Piece, WhiteSpace, Ordinary, Percents, Plain, Bracket, text_of}
+
+-- digits that aren't written, or that stand for a number from 1 to the limit; leading zeros are allowed
+abbrev pub IsOptionalNumber : ℕ → List ℕ → Type 0
+IsOptionalNumber limit [] = Unit {0}
+IsOptionalNumber limit (d ∷ ds) =
+    AllByRecursion (λ b. is_decimal b ≡ true) (d ∷ ds) × (0 < magnitude 10 (d ∷ ds)) × (magnitude 10 (d ∷ ds) ≤ limit)
+
+abbrev pub optional_number : List ℕ → Option ℕ
+optional_number [] = None
+optional_number (d ∷ ds) = Some (magnitude 10 (d ∷ ds))
+
+-- n is never suppressed and takes no width
+abbrev pub SuitsCount : Letter → Opening → Type 0
+SuitsCount Count o = (o.star ≡ false) × (o.width ≡ [])
+SuitsCount _ o = Unit {0}
+
+-- the letter may end a conversion specification that opens so
+pub record Suits (letter : Letter) (o : Opening) : Type 0 where
+  pub number : IsOptionalNumber 32 o.number
+  pub suppressed : o.star ≡ true → o.number ≡ []
+  pub width : IsOptionalNumber 65535 o.width
+  pub size : IsSome (kind_of letter o.size)
+  pub count : SuitsCount letter o
 
 -- a part of a format, seen alone
 abbrev pub IsPiece : Profile → Piece → Type 0
 IsPiece profile (WhiteSpace bs) = (0 < length bs) × AreWhite bs
 IsPiece profile (Ordinary b) = (b < 256) × (b ≢ 0) × (b ≢ 37) × (is_white b ≡ false)
-IsPiece profile (Specification b) = (letter : Letter) × (letter_of profile b ≡ Some letter)
+IsPiece profile Percents = Unit {0}
+IsPiece profile (Plain o b) = (b ≢ 91) × ((letter : Letter) × (letter_of profile b ≡ Some letter) × Suits letter o)
+IsPiece profile (Bracket o list) = Suits Set o × IsScanlist list
 
 -- no run of white space meets another
 abbrev pub RunsApart : List Piece → Type 0
@@ -22,37 +53,73 @@ RunsApart [] = Unit {0}
 RunsApart (WhiteSpace a ∷ WhiteSpace b ∷ pieces) = ⊥
 RunsApart (piece ∷ pieces) = RunsApart pieces
 
--- the assigned conversions, by their letters
-abbrev pub destinations : List Piece → List ℕ
+-- the openings of the assigned conversions
+abbrev pub assigned_opening : Opening → List Opening → List Opening
+assigned_opening o rest = if o.star then rest else o ∷ rest
+
+abbrev pub destinations : List Piece → List Opening
 destinations [] = []
-destinations (Specification letter ∷ pieces) = letter ∷ destinations pieces
+destinations (Plain o letter ∷ pieces) = assigned_opening o (destinations pieces)
+destinations (Bracket o list ∷ pieces) = assigned_opening o (destinations pieces)
 destinations (_ ∷ pieces) = destinations pieces
 
--- no more destinations than a format can have
-abbrev pub AreFew : List ℕ → Type 0
-AreFew letters = length letters ≤ 32
+-- destinations without numbers, at most 32
+abbrev pub ArePlaced : List Opening → Type 0
+ArePlaced os = AllByRecursion (λ o. o.number ≡ []) os × (length os ≤ 32)
+
+-- destinations that have no fault so far: no number beside none, and at most 32 without numbers
+abbrev pub AreAlike : List Opening → Type 0
+AreAlike os = ArePlaced os ⊎ AllByRecursion (λ o. o.number ≢ []) os
+
+-- destinations by the numbers 1 to their count, each once
+abbrev pub AreNumbered : List Opening → Type 0
+AreNumbered os =
+    AllByRecursion (λ o. (o.number ≢ []) × (magnitude 10 o.number ≤ length os)) os
+    × AreDistinct (map (λ o. magnitude 10 o.number) os)
 
 pub record IsFormat (profile : Profile) (pieces : List Piece) : Type 0 where
   pub short : length (text_of pieces) ≤ 4096
   pub each : AllByRecursion (IsPiece profile) pieces
   pub apart : RunsApart pieces
-  pub few : AreFew (destinations pieces)
+  pub slots : ArePlaced (destinations pieces) ⊎ AreNumbered (destinations pieces)
 
--- the conversion that a letter stands for, where the next destination has this place
-pub record IsConversion (place : ℕ) (letter : Letter) (c : Conversion) : Type 0 where
-  pub shape : c.shape ≡ shape_of letter
-  pub kind : c.kind ≡ kind_of letter
-  pub width : c.width ≡ None
-  pub slot : c.slot ≡ Some place
+-- the slot of a conversion, where place is that of the next one without a number
+abbrev pub slot_of : ℕ → Opening → Option ℕ
+slot_of place o =
+    if o.star then None else (elim (optional_number o.number) [ None ↦ Some place | Some n ↦ Some n ])
+
+-- the width; c has the width 1 where none is written (C11 7.21.6.2p12)
+abbrev pub width_of : Letter → List ℕ → Option ℕ
+width_of Chars [] = Some 1
+width_of letter ds = optional_number ds
+
+abbrev pub shape_of : Letter → Shape → Type 0
+shape_of (Signed base) s = s ≡ shape.Int base
+shape_of (Unsigned base) s = s ≡ shape.Int base
+shape_of Chars s = s ≡ shape.Chars
+shape_of Text s = s ≡ shape.Text
+shape_of Count s = s ≡ shape.Count
+shape_of Set s = ⊥
+
+-- what a conversion specification stands for, but for its shape
+pub record IsConversion (place : ℕ) (o : Opening) (letter : Letter) (c : Conversion) : Type 0 where
+  pub kind : kind_of letter o.size ≡ Some c.kind
+  pub width : c.width ≡ width_of letter o.width
+  pub slot : c.slot ≡ slot_of place o
 
 -- the directive that a part stands for
 abbrev pub Means : Profile → ℕ → Piece → Directive → Type 0
 Means profile place (WhiteSpace bs) d = d ≡ directive.Space
 Means profile place (Ordinary b) d = d ≡ directive.Byte b
-Means profile place (Specification b) d =
-    (letter : Letter) × (c : Conversion) × (letter_of profile b ≡ Some letter) × IsConversion place letter c × (d ≡ directive.Conv c)
+Means profile place Percents d = d ≡ directive.Percent
+Means profile place (Plain o b) d =
+    (letter : Letter) × (c : Conversion) × (letter_of profile b ≡ Some letter) × IsConversion place o letter c
+    × shape_of letter c.shape × (d ≡ directive.Conv c)
+Means profile place (Bracket o list) d =
+    (c : Conversion) × (members : List Bool) × IsConversion place o Set c × IsSetOf list members × (c.shape ≡ shape.Set members)
+    × (d ≡ directive.Conv c)
 
--- the directives that the parts stand for, where the next destination has this place
+-- the directives that the parts stand for, where place is that of the next destination
 abbrev pub MeanAll : Profile → ℕ → List Piece → List Directive → Type 0
 MeanAll profile place [] [] = Unit {0}
 MeanAll profile place (piece ∷ pieces) (d ∷ ds) =

@@ -4,9 +4,10 @@ use Rattle.sf_base.specs.Bytes.{AreBytes}
 use Rattle.sf_format.specs.declared.directive.Profile.{Profile}
 use Rattle.sf_format.specs.declared.directive.Directive.{Directive}
 use Rattle.sf_format.specs.declared.fault.FormatWhy.{FormatWhy}
-use Rattle.sf_format.specs.Grammar.{Spells}
+use Rattle.sf_format.specs.Pieces.{Piece}
+use Rattle.sf_format.specs.Grammar.{Spells, IsFormat, ArePlaced, destinations, MeanAll}
 use Rattle.sf_format.specs.Faults.{Fault}
-use Rattle.sf_format.specs.Proper.{IsAccepted}
+use Rattle.sf_format.specs.Proper.{IsAccepted, AreInOrder}
 
 -- a text spells at most one list of directives
 abbrev pub EachSpellsOne : Type 0
@@ -32,3 +33,9 @@ EachIsEither =
 -- what is spelled is proper
 abbrev pub EachIsProper : Type 0
 EachIsProper = (profile : Profile) (text : List ℕ) (ds : List Directive) → Spells profile text ds → IsAccepted ds
+
+-- without numbers the slots are assigned in order
+abbrev pub EachUnnumberedIsInOrder : Type 0
+EachUnnumberedIsInOrder =
+    (profile : Profile) (pieces : List Piece) (ds : List Directive) → IsFormat profile pieces → ArePlaced (destinations pieces)
+    → MeanAll profile 1 pieces ds → AreInOrder ds

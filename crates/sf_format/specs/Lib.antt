@@ -1,10 +1,14 @@
+pub mod Digits
 pub mod Lists
 pub mod Letters
+pub mod Scanlist
 pub mod Pieces
+pub mod Proper
+pub mod Cut
 pub mod Grammar
 pub mod Faults
-pub mod Cut
 pub mod Reading
-pub mod Proper
-pub mod Passing
+pub mod Widths
 pub mod Laws
+pub mod Classes
+pub mod Passing

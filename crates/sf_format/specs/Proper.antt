@@ -1,5 +1,5 @@
 -- What holds of the directives of each accepted scan format.
-use Rattle.std.specs.Prelude.{◌≡◌, ℕ, zero, suc, ◌+◌, ◌<◌, ◌≤◌, Bool, true, false, ◌&&◌, nat_eq, List, [], ◌∷◌, length, map, find, Option, Some, None, IfSome}
+use Rattle.std.specs.Prelude.{◌≡◌, ◌≢◌, ℕ, zero, suc, ◌+◌, ◌<◌, ◌≤◌, Bool, true, false, ◌&&◌, nat_eq, List, [], ◌∷◌, length, map, find, Option, Some, None, IfSome}
 use Rattle.std.specs.List.{AllByRecursion, list_all, filter_map}
 use Rattle.std.specs.Option.{option_map}
 use Rattle.sf_base.specs.declared.values.Kind.{Kind}
@@ -48,11 +48,25 @@ abbrev pub slots_from : ℕ → ℕ → List ℕ
 slots_from place zero = []
 slots_from place (suc n) = place ∷ slots_from (place + 1) n
 
--- the destinations have the slots from 1 to their count, each once and in order
-abbrev pub AreInOrder : List Directive → Type 0
-AreInOrder ds = map (λ d. d.0) (destinations_of ds) ≡ slots_from 1 (length (destinations_of ds))
+-- the slots that are assigned, in the order of the directives
+abbrev pub slots_of : List Directive → List ℕ
+slots_of ds = map (λ d. d.0) (destinations_of ds)
 
--- ---- what is accepted today
+-- the destinations have the slots from 1 to their count in order
+abbrev pub AreInOrder : List Directive → Type 0
+AreInOrder ds = slots_of ds ≡ slots_from 1 (length (destinations_of ds))
+
+-- no two of the numbers are the same
+abbrev pub AreDistinct : List ℕ → Type 0
+AreDistinct [] = Unit {0}
+AreDistinct (n ∷ ns) = AllByRecursion (λ m. m ≢ n) ns × AreDistinct ns
+
+-- the slots of the destinations are the numbers from 1 to their count, each once
+pub record AreSlots (ds : List Directive) : Type 0 where
+  pub each : AllByRecursion (λ n. (1 ≤ n) × (n ≤ length (destinations_of ds))) (slots_of ds)
+  pub distinct : AreDistinct (slots_of ds)
+
+-- ---- integers of 32 bits
 
 abbrev pub is_integer : Shape → Bool
 is_integer (Int base) = true
@@ -74,7 +88,6 @@ are_plain ds = list_all is_plain ds
 
 pub record IsAccepted (ds : List Directive) : Type 0 where
   pub proper : AreProper ds
-  pub plain : are_plain ds ≡ true
   pub short : length ds ≤ 4096
   pub few : length (destinations_of ds) ≤ 32
-  pub ordered : AreInOrder ds
+  pub slots : AreSlots ds

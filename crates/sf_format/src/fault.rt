@@ -4,15 +4,37 @@ use std::alloc::AllocFailed;
 /// Why a format is refused.
 #[derive(Clone, Copy, Debug, PartialEq, Eq)]
 pub enum FormatWhy {
-    /// F1: the text ends inside a conversion specification.
+    /// F1: the text ends inside a conversion specification, before its letter.
     Truncated,
+    /// F2: the width is 0.
+    ZeroWidth,
+    /// F3: the width is above 65535.
+    TooWide,
     /// F4: a byte that is no letter of a conversion stands where one is due.
     UnknownLetter,
+    /// F5: a letter or a length that C or POSIX has and scan formats here do not.
+    LeftOut,
+    /// F6: a length other than `l` with `c`, `s` or `[`.
+    BadLength,
+    /// F7: the scanlist does not close.
+    OpenSet,
+    /// F8: a range of a scanlist whose low end is above its high end.
+    BackwardRange,
+    /// F9: `n` with `*` or a width.
+    BadCount,
+    /// F10: a destination with a number and one without.
+    MixedNumbering,
+    /// F11: the number of a destination is 0 or above 32, or stands with a `*`.
+    BadNumber,
+    /// F12: a number stands twice.
+    NumberTwice,
+    /// F13: a number is above the count of the destinations.
+    NumberGap,
     /// F14: a NUL.
     Nul,
     /// F15: more than 4096 bytes.
     FormatTooLong,
-    /// F16: the 33rd destination.
+    /// F16: the 33rd destination without numbers.
     TooManyDestinations,
     /// F19: memory was refused.
     NoMemory,

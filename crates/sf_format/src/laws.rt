@@ -1,7 +1,7 @@
 //! Laws of the definitions that the contracts cite.
 //! None of these functions does anything: its contract is the law.
 ghost use Rattle.sf_format.specs.Laws.{EachSpellsOne, EachHasOneFault, NoneIsBoth};
-ghost use Rattle.sf_format.specs.Laws.{EachIsEither, EachIsProper};
+ghost use Rattle.sf_format.specs.Laws.{EachIsEither, EachIsProper, EachUnnumberedIsInOrder};
 
 /// A text spells at most one list of directives.
 pub fn one_list()
@@ -23,7 +23,12 @@ pub fn either()
     ensures { EachIsEither }
 {}
 
-/// What is spelled is proper, with slots from 1 on in order.
+/// What is spelled is proper, with the slots from 1 to their count, each once.
 pub fn proper()
     ensures { EachIsProper }
+{}
+
+/// Without numbers the slots are assigned in order.
+pub fn in_order()
+    ensures { EachUnnumberedIsInOrder }
 {}

@@ -1,15 +1,33 @@
-//! The letters of conversion specifications.
+//! Letters and lengths of conversion specifications.
 ghost use Rattle.std.specs.Prelude.{◌≡◌};
-ghost use Rattle.sf_format.specs.Letters.{letter_of, shape_of, kind_of};
+ghost use Rattle.sf_format.specs.Letters.{letter_of, kind_of, signed_kind, unsigned_kind};
+ghost use Rattle.sf_format.specs.Faults.{is_left_out, takes_text, has_length};
 
-use crate::directive::{Base, Profile, Shape};
+use crate::directive::{Base, Profile};
 use sf_base::Kind;
 
 /// What a letter converts.
 #[derive(Clone, Copy)]
 pub enum Letter {
-    /// A signed integer.
     Signed(Base),
+    Unsigned(Base),
+    Chars,
+    Text,
+    Set,
+    Count,
+}
+
+/// The length between the width and the letter.
+#[derive(Clone, Copy)]
+pub enum Length {
+    NoLength,
+    HH,
+    H,
+    LL,
+    L,
+    J,
+    Z,
+    T,
 }
 
 /// What the byte converts as a letter.
@@ -19,27 +37,82 @@ pub fn letter_of(profile: Profile, b: u8) -> Option<Letter>
     match profile {
         Profile::One | Profile::Two => match b {
             b'd' => Some(Letter::Signed(Base::Dec)),
+            b'i' => Some(Letter::Signed(Base::Auto)),
+            b'u' => Some(Letter::Unsigned(Base::Dec)),
+            b'o' => Some(Letter::Unsigned(Base::Oct)),
+            b'x' | b'X' => Some(Letter::Unsigned(Base::Hex)),
+            b'c' => Some(Letter::Chars),
+            b's' => Some(Letter::Text),
+            b'[' => Some(Letter::Set),
+            b'n' => Some(Letter::Count),
             _ => None,
         },
     }
 }
 
-impl Letter {
-    /// What a conversion by the letter takes.
-    pub fn shape(self) -> Shape
-        ensures { result ≡ shape_of self }
+/// Whether the byte is a letter or a length that C or POSIX has and scan formats here do not.
+pub fn left_out(b: u8) -> bool
+    ensures { result ≡ is_left_out b }
+{
+    matches!(
+        b,
+        b'm' | b'L' | b'a' | b'A' | b'e' | b'E' | b'f' | b'F' | b'g' | b'G' | b'p' | b'C' | b'S'
+    )
+}
+
+/// Whether the letter takes a text.
+pub fn of_text(b: u8) -> bool
+    ensures { result ≡ takes_text b }
+{
+    matches!(b, b'c' | b's' | b'[')
+}
+
+impl Length {
+    /// Whether a length is written.
+    pub fn is_written(self) -> bool
+        ensures { result ≡ has_length self }
     {
         match self {
-            Letter::Signed(base) => Shape::Int(base),
+            Length::NoLength => false,
+            _ => true,
         }
     }
+}
 
-    /// The kind of a destination by the letter.
-    pub fn kind(self) -> Kind
-        ensures { result ≡ kind_of self }
+fn signed_kind(size: Length) -> Kind
+    ensures { result ≡ signed_kind size }
+{
+    match size {
+        Length::NoLength => Kind::I32,
+        Length::HH => Kind::I8,
+        Length::H => Kind::I16,
+        _ => Kind::I64,
+    }
+}
+
+fn unsigned_kind(size: Length) -> Kind
+    ensures { result ≡ unsigned_kind size }
+{
+    match size {
+        Length::NoLength => Kind::U32,
+        Length::HH => Kind::U8,
+        Length::H => Kind::U16,
+        _ => Kind::U64,
+    }
+}
+
+impl Letter {
+    /// The kind of a destination by the letter and its length, if the letter has that length.
+    pub fn kind(self, size: Length) -> Option<Kind>
+        ensures { result ≡ kind_of self size }
     {
         match self {
-            Letter::Signed(_) => Kind::I32,
+            Letter::Signed(_) | Letter::Count => Some(signed_kind(size)),
+            Letter::Unsigned(_) => Some(unsigned_kind(size)),
+            Letter::Chars | Letter::Text | Letter::Set => match size {
+                Length::NoLength => Some(Kind::Text),
+                _ => None,
+            },
         }
     }
 }

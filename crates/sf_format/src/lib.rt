@@ -3,10 +3,17 @@
 
 mod directive;
 mod fault;
+mod fronts;
+mod judging;
 pub mod laws;
 mod letter;
+mod numbering;
+mod opening;
 mod passing;
 mod scan;
+mod scanlist;
+mod shaping;
+mod slots;
 
 pub use directive::{Base, Conversion, Directive, Profile, Shape};
 pub use fault::{FormatFault, FormatWhy};

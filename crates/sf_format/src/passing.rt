@@ -1,110 +1,144 @@
 //! The parts of a format, one after the other.
-ghost use Rattle.std.specs.Prelude.{◌≡◌, ◌<◌, ◌≤◌, ◌∷◌, length, IfOk, IfErr};
-ghost use Rattle.sf_base.specs.Bytes.{is_white};
-ghost use Rattle.sf_format.specs.Lists.{behind};
-ghost use Rattle.sf_format.specs.Passing.{PassesLetter, PassesSpecification, PassesPart, Judged, Gathers, IsHindered};
+ghost use Rattle.std.specs.Prelude.{◌≡◌, ◌≤◌, ◌<◌, ◌+◌, List, [], ◌∷◌, None, true, length, IfOk, IfErr};
+ghost use Rattle.std.specs.List.{AllByRecursion};
+ghost use Rattle.sf_format.specs.Digits.{is_decimal};
+ghost use Rattle.sf_format.specs.Pieces.{Opening};
+ghost use Rattle.sf_format.specs.Lists.{begins};
+ghost use Rattle.sf_format.specs.Cut.{letter_at, specification_at, part_at};
+ghost use Rattle.sf_format.specs.Faults.{first_of, opening_rules, rest_rules, percent_rules, part_rules};
+ghost use Rattle.sf_format.specs.Passing.{opening_of, Holds, PassesBy, Walked, Gathers, IsHindered};
 
 use crate::directive::{Conversion, Directive, Profile};
 use crate::fault::{FormatFault, FormatWhy};
-use crate::letter::letter_of;
+use crate::fronts::{Class, split_front};
+use crate::opening::{Written, opening, opening_fault};
+use crate::shaping::{converted, shape_behind, width_of};
+use crate::slots::{Slots, pushed, slot_fault, slot_of};
 use sf_base::is_space;
 use std::alloc::Global;
 
-/// The directive of a part, what follows the part, and the count of destinations with it.
+/// The directive of a part, what follows the part, and the destinations with it.
 #[derive(Drop)]
 pub struct Passed<'a> {
     pub directive: Directive,
     pub rest: &'a [u8],
-    pub assigned: u8,
+    pub slots: Slots,
 }
 
-/// What follows the white space in front.
-fn behind_space(text: &[u8]) -> &[u8]
-    ensures { result.now ≡ behind is_white text.now }
-{
-    let mut rest = text;
-    loop {
-        match rest {
-            [b, after @ ..] if is_space(*b) => rest = after,
-            _ => return rest,
-        }
-    }
-}
-
-/// The conversion by the letter behind the `%` at the place, after so many destinations.
-fn conversion(
+/// Passes a specification from its letter on, which stands at the second place. Its `%` stands at the first.
+fn pass_letter<'a>(
     profile: Profile,
-    b: u8,
+    o: &Written,
+    letter: u8,
+    text: &'a [u8],
     percent: u16,
-    assigned: u8,
-) -> Result<Conversion, FormatFault>
-    requires { percent < 4096 }
-    ensures room { IfOk result (λ c. assigned < 32) }
-    ensures converts { PassesLetter profile assigned percent b result }
+    at: u16,
+    slots: Slots,
+) -> Result<Passed<'a>, FormatFault>
+    requires place { at + 1 + length text.now ≤ 4096 }
+    requires count { slots.count ≤ 4096 }
+    requires number { AllByRecursion (λ b. is_decimal b ≡ true) o.now.number.now }
+    requires width { AllByRecursion (λ b. is_decimal b ≡ true) o.now.width.now }
+    requires opening { first_of (opening_rules percent (opening_of o.now)) ≡ None }
+    ensures { (earlier : List Opening) → Holds slots earlier
+        → PassesBy profile (rest_rules profile earlier percent (opening_of o.now) at (letter ∷ text.now)) earlier
+        (letter_at (opening_of o.now) (letter ∷ text.now)) result }
 {
-    if b == 0 {
-        return Err(FormatFault {
-            at: percent + 1,
-            why: FormatWhy::Nul,
-        });
+    let (found, kind) = converted(profile, o, letter, at)?;
+    let shaped = shape_behind(found, at, text)?;
+    if let Some(fault) = slot_fault(slots, o, percent) {
+        return Err(fault);
     }
-    let Some(letter) = letter_of(profile, b) else {
-        return Err(FormatFault {
-            at: percent + 1,
-            why: FormatWhy::UnknownLetter,
-        });
+    let conversion = Conversion {
+        shape: shaped.shape,
+        kind,
+        width: width_of(found, o.width),
+        slot: slot_of(slots, o),
     };
-    if assigned > 31 {
-        return Err(FormatFault {
-            at: percent,
-            why: FormatWhy::TooManyDestinations,
-        });
-    }
-    Ok(Conversion {
-        shape: letter.shape(),
-        kind: letter.kind(),
-        width: None,
-        slot: Some(assigned + 1),
+    Ok(Passed {
+        directive: Directive::Conv(conversion),
+        rest: shaped.rest,
+        slots: pushed(slots, o),
     })
 }
 
-/// Passes what stands behind the `%` at the place, after so many destinations.
-fn pass_specification<'a>(
+/// Passes a specification from where its letter is due, at the second place. Its `%` stands at the first.
+fn pass_rest<'a>(
     profile: Profile,
+    o: &Written,
     text: &'a [u8],
     percent: u16,
-    assigned: u8,
+    at: u16,
+    slots: Slots,
 ) -> Result<Passed<'a>, FormatFault>
-    requires { percent < 4096 }
-    ensures { PassesSpecification profile assigned percent text.now result }
+    requires place { at + length text.now ≤ 4096 }
+    requires count { slots.count ≤ 4096 }
+    requires number { AllByRecursion (λ b. is_decimal b ≡ true) o.now.number.now }
+    requires width { AllByRecursion (λ b. is_decimal b ≡ true) o.now.width.now }
+    requires opening { first_of (opening_rules percent (opening_of o.now)) ≡ None }
+    ensures { (earlier : List Opening) → Holds slots earlier
+        → PassesBy profile (rest_rules profile earlier percent (opening_of o.now) at text.now) earlier (letter_at (opening_of o.now) text.now) result }
 {
     match text {
         [] => Err(FormatFault {
-            at: percent + 1,
+            at,
             why: FormatWhy::Truncated,
         }),
-        [b, rest @ ..] => {
-            let conversion = conversion(profile, *b, percent, assigned)?;
-            Ok(Passed {
-                directive: Directive::Conv(conversion),
-                rest,
-                assigned: assigned + 1,
-            })
-        }
+        [letter, rest @ ..] => pass_letter(profile, o, *letter, rest, percent, at, slots),
     }
 }
 
-/// Passes the part that begins with the byte at the place, after so many destinations.
-fn pass<'a>(
-    profile: Profile,
-    first: u8,
-    after: &'a [u8],
-    at: u16,
-    assigned: u8,
-) -> Result<Passed<'a>, FormatFault>
-    requires { at < 4096 }
-    ensures { PassesPart profile assigned at (first ∷ after.now) result }
+fn percent_follows(text: &[u8]) -> bool
+    ensures begins { result ≡ begins (37 ∷ []) text.now }
+    ensures some { result ≡ true → 1 ≤ length text.now }
 {
+    match text {
+        [b'%', ..] => true,
+        _ => false,
+    }
+}
+
+/// Passes what stands behind the `%` at the place.
+fn pass_specification<'a>(
+    profile: Profile,
+    text: &'a [u8],
+    at: u16,
+    slots: Slots,
+) -> Result<Passed<'a>, FormatFault>
+    requires place { at + 1 + length text.now ≤ 4096 }
+    requires count { slots.count ≤ 4096 }
+    ensures { (earlier : List Opening) → Holds slots earlier
+        → PassesBy profile (percent_rules profile earlier at text.now) earlier (specification_at text.now) result }
+{
+    if percent_follows(text) {
+        return Ok(Passed {
+            directive: Directive::Percent,
+            rest: &text[1..],
+            slots,
+        });
+    }
+    let (o, rest) = opening(text);
+    if let Some(fault) = opening_fault(at, &o) {
+        return Err(fault);
+    }
+    let letter_at = at + 1 + (text.len() - rest.len()) as u16;
+    pass_rest(profile, &o, rest, at, letter_at, slots)
+}
+
+/// Passes the part that begins with the byte at the place, after these destinations.
+pub fn pass<'a>(
+    profile: Profile,
+    text: &'a [u8],
+    at: u16,
+    slots: Slots,
+) -> Result<Passed<'a>, FormatFault>
+    requires some { 0 < length text.now }
+    requires place { at + length text.now ≤ 4096 }
+    requires count { slots.count ≤ 4096 }
+    ensures { (earlier : List Opening) → Holds slots earlier
+        → PassesBy profile (part_rules profile earlier at text.now) earlier (part_at text.now) result }
+{
+    let first = text[0];
     if first == 0 {
         return Err(FormatFault {
             at,
@@ -112,45 +146,52 @@ fn pass<'a>(
         });
     }
     if is_space(first) {
+        let (_run, rest) = split_front(text, Class::White);
         return Ok(Passed {
             directive: Directive::Space,
-            rest: behind_space(after),
-            assigned,
+            rest,
+            slots,
         });
     }
+    let rest = &text[1..];
     if first == b'%' {
-        return pass_specification(profile, after, at, assigned);
+        return pass_specification(profile, rest, at, slots);
     }
     Ok(Passed {
         directive: Directive::Byte(first),
-        rest: after,
-        assigned,
+        rest,
+        slots,
     })
 }
 
-/// The count of the destinations of a text without a fault, or its first fault. It takes no memory.
-pub fn judge(profile: Profile, text: &[u8]) -> Result<u8, FormatFault>
-    ensures { Judged profile text.now result }
+/// No destination, before the first part.
+pub fn no_slots() -> Slots
+    ensures { Holds result [] }
 {
-    if text.len() > 4096 {
-        return Err(FormatFault {
-            at: 4096,
-            why: FormatWhy::FormatTooLong,
-        });
+    Slots {
+        count: 0,
+        numbered: false,
     }
-    let mut rest = text;
-    let mut at: u16 = 0;
-    let mut assigned: u8 = 0;
-    while let [first, after @ ..] = rest {
-        let passed = pass(profile, *first, after, at, assigned)?;
-        rest = passed.rest;
-        at = (text.len() - rest.len()) as u16;
-        assigned = passed.assigned;
-    }
-    Ok(assigned)
 }
 
-/// The directives of a text without a fault.
+/// The destinations of a text without a fault in its parts, or the first such fault. It takes no memory.
+pub fn pass_all(profile: Profile, text: &[u8]) -> Result<Slots, FormatFault>
+    requires { length text.now ≤ 4096 }
+    ensures { Walked profile text.now result }
+{
+    let mut rest = text;
+    let mut at: u16 = 0;
+    let mut slots = no_slots();
+    while !rest.is_empty() {
+        let passed = pass(profile, rest, at, slots)?;
+        rest = passed.rest;
+        at = (text.len() - rest.len()) as u16;
+        slots = passed.slots;
+    }
+    Ok(slots)
+}
+
+/// The directives of a text without a fault in its parts.
 pub fn gather(alloc: Global, profile: Profile, text: &[u8]) -> Result<Vec<Directive>, FormatFault>
     requires { length text.now ≤ 4096 }
     ensures gathered { IfOk result (λ directives. Gathers profile text.now directives.items) }
@@ -159,12 +200,12 @@ pub fn gather(alloc: Global, profile: Profile, text: &[u8]) -> Result<Vec<Direct
     let mut directives = Vec::new(alloc);
     let mut rest = text;
     let mut at: u16 = 0;
-    let mut assigned: u8 = 0;
-    while let [first, after @ ..] = rest {
-        let passed = pass(profile, *first, after, at, assigned)?;
+    let mut slots = no_slots();
+    while !rest.is_empty() {
+        let passed = pass(profile, rest, at, slots)?;
         rest = passed.rest;
         at = (text.len() - rest.len()) as u16;
-        assigned = passed.assigned;
+        slots = passed.slots;
         directives.push(passed.directive)?;
     }
     Ok(directives)

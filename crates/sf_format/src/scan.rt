@@ -1,14 +1,16 @@
 //! Scan formats.
-ghost use Rattle.std.specs.Prelude.{◌≡◌, ◌≤◌, ◌↔◌, IsSome, ℕ, List, [], ◌∷◌, true, length, Err, IfOk, IfErr, MatchResult};
+ghost use Rattle.std.specs.Prelude.{◌≡◌, ◌≤◌, ◌↔◌, IsSome, ℕ, List, [], ◌∷◌, true, length, Err, IfOk, IfErr, MatchResult, IfSome};
 ghost use Rattle.sf_format.specs.declared.fault.FormatWhy.{FormatWhy};
 ghost use Rattle.sf_format.specs.declared.directive.Directive.{Directive};
-ghost use Rattle.sf_format.specs.Proper.{AreProper, are_plain, destinations_of, AreInOrder, kind_at};
+ghost use Rattle.sf_format.specs.Proper.{AreProper, destinations_of, AreSlots, kind_at};
+ghost use Rattle.sf_format.specs.Widths.{width_sum, stored_width};
 ghost use Rattle.sf_format.specs.Grammar.{Spells};
 ghost use Rattle.sf_format.specs.Faults.{Fault, IsRefused, no_memory};
 
-use crate::directive::{Directive, Profile};
+use crate::directive::{Directive, Profile, Shape};
 use crate::fault::FormatFault;
-use crate::passing::{gather, judge};
+use crate::judging::judge;
+use crate::passing::gather;
 use sf_base::Kind;
 use std::alloc::Global;
 use std::marker::Model;
@@ -58,6 +60,35 @@ fn find_kind(directives: &[Directive], slot: u8) -> Option<Kind>
     None
 }
 
+/// The bytes that the directive stores at most; a suppressed conversion stores none.
+fn stored_width(directive: &Directive) -> Option<u32>
+    ensures value { result ≡ stored_width directive.now }
+    ensures bound { IfSome result (λ w. w ≤ 65535) }
+{
+    let Directive::Conv(conversion) = directive else {
+        return Some(0);
+    };
+    if conversion.slot.is_none() {
+        return Some(0);
+    }
+    match &conversion.shape {
+        Shape::Int(_) | Shape::Count => Some(0),
+        Shape::Text | Shape::Set(_) | Shape::Chars => conversion.width.map(|w| w as u32),
+    }
+}
+
+/// The sum of the bytes that each directive stores at most.
+fn sum_of_widths(directives: &[Directive]) -> Option<u32>
+    requires { length directives.now ≤ 4096 }
+    ensures { result ≡ width_sum directives.now }
+{
+    let mut sum: u32 = 0;
+    for directive in directives {
+        sum += stored_width(directive)?;
+    }
+    Some(sum)
+}
+
 impl ScanFormat {
     /// The format that the text spells. Memory is taken only for a text that spells one.
     pub fn parse(alloc: Global, profile: Profile, text: &[u8]) -> Result<ScanFormat, FormatFault>
@@ -82,10 +113,9 @@ impl ScanFormat {
     pub fn directives(&self) -> &[Directive]
         ensures value { result.now ≡ self.now }
         ensures proper { AreProper result.now }
-        ensures plain { are_plain result.now ≡ true }
         ensures short { length result.now ≤ 4096 }
         ensures few { length (destinations_of result.now) ≤ 32 }
-        ensures ordered { AreInOrder result.now }
+        ensures slots { AreSlots result.now }
     {
         &self.directives
     }
@@ -105,5 +135,12 @@ impl ScanFormat {
             IsSome result ↔ ((1 ≤ slot) × (slot ≤ count)) }
     {
         find_kind(self.directives(), slot)
+    }
+
+    /// The sum of the widths of the assigned `c`, `s` and `[`. None if one of them has no width.
+    pub fn width_sum(&self) -> Option<u32>
+        ensures { result ≡ width_sum self.now }
+    {
+        sum_of_widths(self.directives())
     }
 }

@@ -3,7 +3,7 @@ use Rattle.sf_format.proofs.Walks.{Gathering}
 use Rattle.sf_format.proofs.passing.gather.Given as goal
 
 abbrev pub invariant-loop-rest : goal.invariant-loop-rest
-invariant-loop-rest l = Gathering l.profile l.text l.at l.rest l.assigned l.directives.items
+invariant-loop-rest l = Gathering l.profile l.text l.at l.rest l.slots l.directives.items
 
 abbrev pub decreases-loop-rest : goal.decreases-loop-rest
 decreases-loop-rest l = length l.rest

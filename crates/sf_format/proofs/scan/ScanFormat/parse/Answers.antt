@@ -35,8 +35,8 @@ returns-in_err-directives-clause-fault c = λ at why fault.
 pub invariant_of-result : goal.invariant_of-result
 invariant_of-result c = record {
   accepted =
-      gathers_accepted c.args.profile c.args.text.now c.in_ok-directives.directives.items
-      (bytes_of c.args.text.now (λ i. omega (arith, c.type_inv.text i))) c.in_ok-directives.ensures.gathered;
+      gathers_accepted c.args.profile c.args.text.now c.in_ok-destinations.destinations c.in_ok-directives.directives.items
+      (bytes_of c.args.text.now (λ i. omega (arith, c.type_inv.text i))) c.in_ok-destinations.ensures c.in_ok-directives.ensures.gathered;
   counted =
       gathers_count c.args.profile c.args.text.now c.in_ok-destinations.destinations c.in_ok-directives.directives.items
       c.in_ok-destinations.ensures c.in_ok-directives.ensures.gathered;
@@ -44,8 +44,8 @@ invariant_of-result c = record {
 
 pub returns-clause-spelled : goal.returns-clause-spelled
 returns-clause-spelled c =
-    gathers_spells c.args.profile c.args.text.now c.in_ok-directives.directives.items
-    (bytes_of c.args.text.now (λ i. omega (arith, c.type_inv.text i))) c.in_ok-directives.ensures.gathered
+    gathers_spells c.args.profile c.args.text.now c.in_ok-destinations.destinations c.in_ok-directives.directives.items
+    (bytes_of c.args.text.now (λ i. omega (arith, c.type_inv.text i))) c.in_ok-destinations.ensures c.in_ok-directives.ensures.gathered
 
 pub returns-clause-fault : goal.returns-clause-fault
 returns-clause-fault c = λ at why fault.
@@ -53,5 +53,5 @@ returns-clause-fault c = λ at why fault.
 
 pub returns-clause-accepted : goal.returns-clause-accepted
 returns-clause-accepted c = λ ds spelled.
-    gathers_one c.args.profile c.args.text.now c.in_ok-directives.directives.items ds
-    (bytes_of c.args.text.now (λ i. omega (arith, c.type_inv.text i))) c.in_ok-directives.ensures.gathered spelled
+    gathers_one c.args.profile c.args.text.now c.in_ok-destinations.destinations c.in_ok-directives.directives.items ds
+    (bytes_of c.args.text.now (λ i. omega (arith, c.type_inv.text i))) c.in_ok-destinations.ensures c.in_ok-directives.ensures.gathered spelled

@@ -1,0 +1,185 @@
+-- What follows a part that no rule refuses.
+use Rattle.std.proofs.Common.{◌≡◌, ℕ, ◌+◌, ◌≤◌, Bool, true, false, cond, not, ◌&&◌, ◌||◌, nat_eq, nat_lt, List, [], ◌∷◌, ◌++◌, length, drop, Some, None, Result, Ok, Err, refl, sym, ap, ◌∙◌, subst, arith, append-nil}
+use Rattle.std.proofs.lemmas.Bool.Decides.{nat_tests}
+use Rattle.std.specs.List.{AllByRecursion}
+use Rattle.sf_base.specs.Bytes.{magnitude}
+use Rattle.sf_format.specs.declared.directive.Profile.{Profile}
+use Rattle.sf_format.specs.declared.directive.Profile.TheVariants.{One, Two}
+use Rattle.sf_format.specs.declared.directive.Conversion.{Conversion}
+use Rattle.sf_format.specs.declared.directive.Directive.TheVariants as directive
+use Rattle.sf_format.specs.declared.fault.FormatFault.{FormatFault}
+use Rattle.sf_format.specs.declared.fault.FormatWhy.{FormatWhy}
+use Rattle.sf_format.specs.declared.letter.Letter.{Letter}
+use Rattle.sf_format.specs.declared.letter.Letter.TheVariants.{Signed, Unsigned, Chars, Text, Set, Count}
+use Rattle.sf_format.specs.declared.slots.Slots.{Slots}
+use Rattle.sf_format.specs.declared.passing.Passed.{Passed}
+use Rattle.sf_format.specs.Letters.{letters_of_one, letter_of}
+use Rattle.sf_format.specs.Lists.{is_written, mark_at, begins}
+use Rattle.sf_format.specs.Pieces.{Opening, Percents, Plain, opening_text}
+use Rattle.sf_format.specs.Cut.{Part, cut, letter_at, bracket_at, specification_at}
+use Rattle.sf_format.specs.Grammar.{destinations, assigned_opening, IsConversion, Means}
+use Rattle.sf_format.specs.Faults.{Rule, first_of, letter_rules, bracket_rules, scanlist_rules, slot_rules, rest_rules, opening_rules, percent_rules}
+use Rattle.sf_format.specs.Passing.{Holds, rest_behind, is_set, IsShape, PassesAs, PassesBy}
+use Rattle.sf_format.proofs.Outcomes.{by_test}
+use Rattle.sf_format.proofs.Rules.{quiet_is}
+use Rattle.sf_format.proofs.Suits.{found}
+
+pub first_left : (a b : List Rule) (f : FormatWhy × ℕ) → first_of a ≡ Some f → first_of (a ++ b) ≡ Some f
+first_left [] b f e = absurd (cc)
+first_left (rule ∷ a) b f e =
+    by_test rule.applies
+    (λ v. cond v (Some (rule.why, rule.at)) (first_of a) ≡ Some f → cond v (Some (rule.why, rule.at)) (first_of (a ++ b)) ≡ Some f)
+    (λ t h. h) (λ n h. first_left a b f h) e
+
+pub first_right : (a b : List Rule) → first_of a ≡ None → first_of (a ++ b) ≡ first_of b
+first_right [] b e = refl
+first_right (rule ∷ a) b e =
+    by_test rule.applies
+    (λ v. cond v (Some (rule.why, rule.at)) (first_of a) ≡ None → cond v (Some (rule.why, rule.at)) (first_of (a ++ b)) ≡ first_of b)
+    (λ t h. absurd (cc)) (λ n h. first_right a b h) e
+
+abbrev chosen : Opening → ℕ → List ℕ → Bool → Part
+chosen o letter x v = cond v (bracket_at o (mark_at 94 x)) (record { piece = Plain o letter; rest = x })
+
+pub letter_rest : (o : Opening) (letter : ℕ) (x : List ℕ) → (letter_at o (letter ∷ x)).rest ≡ rest_behind (nat_eq letter 91) x
+letter_rest o letter x =
+    by_test (nat_eq letter 91) (λ v. (chosen o letter x v).rest ≡ rest_behind v x) (λ t. refl) (λ f. refl)
+
+pub letter_destination : (o : Opening) (letter : ℕ) (x : List ℕ) → destinations ((letter_at o (letter ∷ x)).piece ∷ []) ≡ assigned_opening o []
+letter_destination o letter x =
+    by_test (nat_eq letter 91) (λ v. destinations ((chosen o letter x v).piece ∷ []) ≡ assigned_opening o []) (λ t. refl) (λ f. refl)
+
+-- the rules of what stands from the letter on, one group after the other
+pub list_fault_first : (profile : Profile) (earlier : List Opening) (p : ℕ) (o : Opening) (q letter : ℕ) (x : List ℕ) (f : FormatWhy × ℕ)
+    → first_of (letter_rules profile o letter q) ≡ None → first_of (scanlist_rules letter q x) ≡ Some f
+    → first_of (rest_rules profile earlier p o q (letter ∷ x)) ≡ Some f
+list_fault_first profile earlier p o q letter x f rules list =
+    first_right (letter_rules profile o letter q) (scanlist_rules letter q x ++ slot_rules earlier p o) rules
+    ∙ first_left (scanlist_rules letter q x) (slot_rules earlier p o) f list
+
+pub slot_fault_first : (profile : Profile) (earlier : List Opening) (p : ℕ) (o : Opening) (q letter : ℕ) (x : List ℕ)
+    → first_of (letter_rules profile o letter q) ≡ None → first_of (scanlist_rules letter q x) ≡ None
+    → first_of (rest_rules profile earlier p o q (letter ∷ x)) ≡ first_of (slot_rules earlier p o)
+slot_fault_first profile earlier p o q letter x rules list =
+    first_right (letter_rules profile o letter q) (scanlist_rules letter q x ++ slot_rules earlier p o) rules
+    ∙ first_right (scanlist_rules letter q x) (slot_rules earlier p o) list
+
+pub held_there : (slots : Slots) (earlier : List Opening) (o : Opening) (letter : ℕ) (x : List ℕ) → Holds slots (earlier ++ assigned_opening o [])
+    → Holds slots (earlier ++ destinations ((letter_at o (letter ∷ x)).piece ∷ []))
+held_there slots earlier o letter x h = subst (λ os. Holds slots (earlier ++ os)) (sym (letter_destination o letter x)) h
+
+pub held_none : (slots : Slots) (earlier : List Opening) → Holds slots earlier → Holds slots (earlier ++ [])
+held_none slots earlier h = subst (Holds slots) (sym (append-nil earlier)) h
+
+-- ---- the conversion by a letter
+
+abbrev IsBracket : ℕ → Letter → Type 0
+IsBracket b letter = is_set letter ≡ nat_eq b 91
+
+set_is : (profile : Profile) (b : ℕ) (letter : Letter) → letter_of profile b ≡ Some letter → is_set letter ≡ nat_eq b 91
+set_is profile b letter e = by_profile profile e
+  where
+    each : AllByRecursion (λ entry. IsBracket entry.0 entry.1) letters_of_one
+    each = (refl, (refl, (refl, (refl, (refl, (refl, (refl, (refl, (refl, (refl, tt))))))))))
+
+    by_profile : (p : Profile) → letter_of p b ≡ Some letter → is_set letter ≡ nat_eq b 91
+    by_profile One f = found IsBracket letters_of_one each b letter f
+    by_profile Two f = found IsBracket letters_of_one each b letter f
+
+only_set : (letter : Letter) → is_set letter ≡ true → letter ≡ Set
+only_set (Signed base) e = absurd (cc)
+only_set (Unsigned base) e = absurd (cc)
+only_set Chars e = absurd (cc)
+only_set Text e = absurd (cc)
+only_set Set e = refl
+only_set Count e = absurd (cc)
+
+means_by : (profile : Profile) (place b : ℕ) (x : List ℕ) (o : Opening) (letter : Letter) (c : Conversion) (v : Bool) → is_set letter ≡ v
+    → letter_of profile b ≡ Some letter → IsConversion place o letter c → IsShape v letter x c.shape
+    → Means profile place (chosen o b x v).piece (directive.Conv c)
+means_by profile place b x o letter c true set found is shape =
+    (c, shape.0, subst (λ l. IsConversion place o l c) (only_set letter set) is, shape.1, shape.2, refl)
+means_by profile place b x o letter c false set found is shape = (letter, c, found, is, shape, refl)
+
+pub passes_letter : (profile : Profile) (earlier : List Opening) (p q b : ℕ) (x : List ℕ) (o : Opening) (letter : Letter) (c : Conversion)
+    (rest : List ℕ) (slots : Slots) → first_of (letter_rules profile o b q) ≡ None → letter_of profile b ≡ Some letter
+    → IsConversion (1 + length earlier) o letter c → first_of (bracket_rules (is_set letter) q x) ≡ None → IsShape (is_set letter) letter x c.shape
+    → rest ≡ rest_behind (is_set letter) x → first_of (slot_rules earlier p o) ≡ None
+    → Holds slots (earlier ++ assigned_opening o [])
+    → PassesAs profile (rest_rules profile earlier p o q (b ∷ x)) earlier (letter_at o (b ∷ x)) (directive.Conv c) rest slots
+passes_letter profile earlier p q b x o letter c rest slots rules found is list shape after slot holds =
+    let v = set_is profile b letter found in (
+      slot_fault_first profile earlier p o q b x rules (ap (λ a. first_of (bracket_rules a q x)) (sym v) ∙ list) ∙ slot,
+      after ∙ ap (λ a. rest_behind a x) v ∙ sym (letter_rest o b x),
+      means_by profile (1 + length earlier) b x o letter c (nat_eq b 91) v found is (subst (λ a. IsShape a letter x c.shape) v shape),
+      held_there slots earlier o b x holds,
+    )
+
+-- the first fault of the scanlist
+pub passes_list : (profile : Profile) (earlier : List Opening) (p q b : ℕ) (x : List ℕ) (o : Opening) (letter : Letter) (f : FormatWhy × ℕ)
+    → first_of (letter_rules profile o b q) ≡ None → letter_of profile b ≡ Some letter
+    → first_of (bracket_rules (is_set letter) q x) ≡ Some f → first_of (rest_rules profile earlier p o q (b ∷ x)) ≡ Some f
+passes_list profile earlier p q b x o letter f rules found list =
+    list_fault_first profile earlier p o q b x f rules (ap (λ a. first_of (bracket_rules a q x)) (sym (set_is profile b letter found)) ∙ list)
+
+-- the first fault of the destination
+pub passes_slot : (profile : Profile) (earlier : List Opening) (p q b : ℕ) (x : List ℕ) (o : Opening) (letter : Letter) (f : FormatWhy × ℕ)
+    → first_of (letter_rules profile o b q) ≡ None → letter_of profile b ≡ Some letter
+    → first_of (bracket_rules (is_set letter) q x) ≡ None → first_of (slot_rules earlier p o) ≡ Some f
+    → first_of (rest_rules profile earlier p o q (b ∷ x)) ≡ Some f
+passes_slot profile earlier p q b x o letter f rules found list slot =
+    slot_fault_first profile earlier p o q b x rules (ap (λ a. first_of (bracket_rules a q x)) (sym (set_is profile b letter found)) ∙ list) ∙ slot
+
+-- an opening without a fault has numbers within their limits
+pub number_bound : (p : ℕ) (o : Opening) → first_of (opening_rules p o) ≡ None → magnitude 10 o.number ≤ 32
+number_bound p o none = by_number o.number (quiet_is (opening_rules p o) none).0
+  where
+    above : (n : ℕ) → (nat_eq n 0 || nat_lt 32 n) ≡ false → n ≤ 32
+    above n e = grind (arith, nat_tests)
+
+    by_number : (ds : List ℕ) → (is_written ds && (nat_eq (magnitude 10 ds) 0 || nat_lt 32 (magnitude 10 ds))) ≡ false → magnitude 10 ds ≤ 32
+    by_number [] e = omega arith
+    by_number (d ∷ ds) e = above (magnitude 10 (d ∷ ds)) e
+
+-- ---- one contract from another
+
+pub passes_by : (profile : Profile) (a b : List Rule) (s t : Part) (earlier : List Opening) (r : Result Passed FormatFault)
+    → first_of a ≡ first_of b → s ≡ t → PassesBy profile b earlier t r → PassesBy profile a earlier s r
+passes_by profile a b s t earlier r e f h = by_rules r (subst (λ u. PassesBy profile b earlier u r) (sym f) h)
+  where
+    by_rules : (r : Result Passed FormatFault) → PassesBy profile b earlier s r → PassesBy profile a earlier s r
+    by_rules (Ok passed) k = (e ∙ k.0, k.1, k.2, k.3)
+    by_rules (Err fault) k = e ∙ k
+
+abbrev percent_choice : List Rule → Bool → List Rule
+percent_choice rules v = cond (not v) rules []
+
+abbrev part_choice : List ℕ → Bool → Part
+part_choice x v = cond v (record { piece = Percents; rest = drop 1 x }) (letter_at (cut x).opening (cut x).rest)
+
+pub specification_fault : (profile : Profile) (earlier : List Opening) (p : ℕ) (x : List ℕ) (o : Opening) (f : FormatWhy × ℕ)
+    → begins (37 ∷ []) x ≡ false → o ≡ (cut x).opening → first_of (opening_rules p o) ≡ Some f
+    → first_of (percent_rules profile earlier p x) ≡ Some f
+specification_fault profile earlier p x o f other same first =
+    let o' = (cut x).opening in
+    let rest = rest_rules profile earlier p o' (p + length (opening_text o')) (cut x).rest in
+    ap (λ v. first_of (percent_choice (opening_rules p o' ++ rest) v)) other
+    ∙ first_left (opening_rules p o') rest f (ap (λ a. first_of (opening_rules p a)) (sym same) ∙ first)
+
+pub passes_specification : (profile : Profile) (earlier : List Opening) (p q : ℕ) (x rest : List ℕ) (o : Opening) (r : Result Passed FormatFault)
+    → begins (37 ∷ []) x ≡ false → o ≡ (cut x).opening → rest ≡ (cut x).rest → q ≡ p + length (opening_text o)
+    → first_of (opening_rules p o) ≡ None
+    → PassesBy profile (rest_rules profile earlier p o q rest) earlier (letter_at o rest) r
+    → PassesBy profile (percent_rules profile earlier p x) earlier (specification_at x) r
+passes_specification profile earlier p q x rest o r other same behind place quiet passes =
+    let o' = (cut x).opening in
+    let q' = p + length (opening_text o') in
+    let rules : Opening → List ℕ → ℕ → List Rule = λ a y n. rest_rules profile earlier p a n y in
+    let moved : PassesBy profile (rules o' (cut x).rest q') earlier (letter_at o' (cut x).rest) r =
+    subst (λ n. PassesBy profile (rules o' (cut x).rest n) earlier (letter_at o' (cut x).rest) r) (place ∙ ap (λ a. p + length (opening_text a)) same)
+    (subst (λ y. PassesBy profile (rules o' y q) earlier (letter_at o' y) r) behind
+    (subst (λ a. PassesBy profile (rules a rest q) earlier (letter_at a rest) r) same passes)) in
+    passes_by profile (percent_rules profile earlier p x) (rules o' (cut x).rest q') (specification_at x) (letter_at o' (cut x).rest) earlier r
+    (ap (λ v. first_of (percent_choice (opening_rules p o' ++ rules o' (cut x).rest q') v)) other
+    ∙ first_right (opening_rules p o') (rules o' (cut x).rest q') (ap (λ a. first_of (opening_rules p a)) (sym same) ∙ quiet))
+    (ap (part_choice x) other) moved

@@ -1,0 +1,218 @@
+-- An opening and a letter that no rule refuses suit each other.
+use Rattle.std.proofs.Common.{◌≡◌, ℕ, ◌<◌, ◌≤◌, Bool, true, false, cond, ◌&&◌, ◌||◌, nat_eq, nat_lt, List, [], ◌∷◌, Some, refl, sym, ap, ◌∙◌, subst, arith}
+use Rattle.std.specs.Prelude.{IsSome}
+use Rattle.std.proofs.lemmas.Bool.Decides.{nat_tests}
+use Rattle.std.specs.List.{AllByRecursion}
+use Rattle.sf_base.specs.Bytes.{magnitude}
+use Rattle.sf_format.specs.Digits.{is_decimal}
+use Rattle.sf_format.specs.declared.directive.Profile.{Profile}
+use Rattle.sf_format.specs.declared.directive.Profile.TheVariants.{One, Two}
+use Rattle.sf_format.specs.Lists.{is_written}
+use Rattle.sf_format.specs.declared.letter.Letter.{Letter}
+use Rattle.sf_format.specs.declared.letter.Letter.TheVariants.{Count}
+use Rattle.sf_format.specs.declared.letter.Length.{Length}
+use Rattle.sf_format.specs.declared.letter.Length.TheVariants.{NoLength, HH, H, LL, L, J, Z, T}
+use Rattle.sf_format.specs.Letters.{letters_of_one, find_letter, letter_of, kind_of, text_kind}
+use Rattle.sf_format.specs.Pieces.{Opening}
+use Rattle.sf_format.specs.Grammar.{IsOptionalNumber, SuitsCount, Suits}
+use Rattle.sf_format.specs.Faults.{has_length, is_l, opening_rules, letter_rules}
+use Rattle.sf_format.proofs.Outcomes.{by_test, or_left, or_right}
+use Rattle.sf_format.proofs.Prefixes.{AllPass}
+use Rattle.sf_format.proofs.Cutting.{IsLast, HasDigits}
+use Rattle.sf_format.proofs.Rules.{Quiet}
+
+-- ---- letters
+
+-- what is known of a letter's byte in the first profile
+pub record IsLetterOf (b : ℕ) (letter : Letter) : Type 0 where
+  pub last : IsLast b
+  pub allowed : (o : Opening) (q : ℕ) → Quiet (letter_rules One o b q) → IsSome (kind_of letter o.size) × SuitsCount letter o
+  pub quiet : (o : Opening) (q : ℕ) → IsSome (kind_of letter o.size) → SuitsCount letter o → Quiet (letter_rules One o b q)
+
+text_allowed : (size : Length) → has_length size ≡ false → IsSome (text_kind size)
+text_allowed NoLength e = refl
+text_allowed HH e = absurd (cc)
+text_allowed H e = absurd (cc)
+text_allowed LL e = absurd (cc)
+text_allowed L e = absurd (cc)
+text_allowed J e = absurd (cc)
+text_allowed Z e = absurd (cc)
+text_allowed T e = absurd (cc)
+
+text_quiet : (size : Length) → IsSome (text_kind size) → (is_l size ≡ false) × (has_length size ≡ false)
+text_quiet NoLength e = (refl, refl)
+text_quiet HH e = absurd (cc)
+text_quiet H e = absurd (cc)
+text_quiet LL e = absurd (cc)
+text_quiet L e = absurd (cc)
+text_quiet J e = absurd (cc)
+text_quiet Z e = absurd (cc)
+text_quiet T e = absurd (cc)
+
+nothing_written : (x : List ℕ) → is_written x ≡ false → x ≡ []
+nothing_written [] e = refl
+nothing_written (b ∷ x) e = absurd (cc)
+
+last_byte : (b : ℕ) → nat_eq b 104 ≡ false → nat_eq b 106 ≡ false → nat_eq b 108 ≡ false → nat_eq b 116 ≡ false → nat_eq b 122 ≡ false
+    → is_decimal b ≡ false → nat_eq b 36 ≡ false → nat_eq b 37 ≡ false → nat_eq b 42 ≡ false → IsLast b
+last_byte b h j l t z decimal dollar percent star = record {
+  plain = record { decimal = decimal; dollar = dollar; percent = percent; star = star };
+  h = h;
+  j = j;
+  l = l;
+  t = t;
+  z = z;
+}
+
+abbrev all_quiet : (false ≡ false) × ((false ≡ false) × ((false ≡ false) × ((false ≡ false) × ((false ≡ false) × ((false ≡ false) × Unit {0})))))
+all_quiet = (refl, (refl, (refl, (refl, (refl, (refl, tt))))))
+
+pub each_letter : AllByRecursion (λ entry. IsLetterOf entry.0 entry.1) letters_of_one
+each_letter = (
+  record { last = last_byte 100 refl refl refl refl refl refl refl refl refl; allowed = λ o q h. (refl, tt); quiet = λ o q s c. all_quiet },
+  (
+    record { last = last_byte 105 refl refl refl refl refl refl refl refl refl; allowed = λ o q h. (refl, tt); quiet = λ o q s c. all_quiet },
+    (
+      record { last = last_byte 117 refl refl refl refl refl refl refl refl refl; allowed = λ o q h. (refl, tt); quiet = λ o q s c. all_quiet },
+      (
+        record { last = last_byte 111 refl refl refl refl refl refl refl refl refl; allowed = λ o q h. (refl, tt); quiet = λ o q s c. all_quiet },
+        (
+          record { last = last_byte 120 refl refl refl refl refl refl refl refl refl; allowed = λ o q h. (refl, tt); quiet = λ o q s c. all_quiet },
+          (
+            record { last = last_byte 88 refl refl refl refl refl refl refl refl refl; allowed = λ o q h. (refl, tt); quiet = λ o q s c. all_quiet },
+            (
+              record { last = last_byte 99 refl refl refl refl refl refl refl refl refl; allowed = of_text; quiet = quiet_text },
+              (
+                record { last = last_byte 115 refl refl refl refl refl refl refl refl refl; allowed = of_text; quiet = quiet_text },
+                (
+                  record { last = last_byte 91 refl refl refl refl refl refl refl refl refl; allowed = of_text; quiet = quiet_text },
+                  (
+                    record { last = last_byte 110 refl refl refl refl refl refl refl refl refl; allowed = of_count; quiet = quiet_count },
+                    tt,
+                  ),
+                ),
+              ),
+            ),
+          ),
+        ),
+      ),
+    ),
+  ),
+)
+  where
+    of_text : (o : Opening) (q : ℕ) → Quiet (letter_rules One o 99 q) → IsSome (text_kind o.size) × Unit {0}
+    of_text o q h = (text_allowed o.size h.1.1.1.1.0, tt)
+
+    quiet_text : (o : Opening) (q : ℕ) → IsSome (text_kind o.size) → Unit {0} → Quiet (letter_rules One o 99 q)
+    quiet_text o q s c = let t = text_quiet o.size s in (refl, (refl, (refl, (t.0, (t.1, (refl, tt))))))
+
+    of_count : (o : Opening) (q : ℕ) → Quiet (letter_rules One o 110 q) → IsSome (kind_of Count o.size) × SuitsCount Count o
+    of_count o q h = (refl, (or_left o.star _ h.1.1.1.1.1.0, nothing_written o.width (or_right o.star _ h.1.1.1.1.1.0)))
+
+    quiet_count : (o : Opening) (q : ℕ) → IsSome (kind_of Count o.size) → SuitsCount Count o → Quiet (letter_rules One o 110 q)
+    quiet_count o q s c =
+        (refl, (refl, (refl, (refl, (refl, (ap (λ v. v || is_written o.width) c.0 ∙ ap is_written c.1, tt))))))
+
+same_byte : (a b : ℕ) → nat_eq a b ≡ true → a ≡ b
+same_byte a b e = grind (arith, nat_tests)
+
+pub found : (P : ℕ → Letter → Type 0) (entries : List (ℕ × Letter)) → AllByRecursion (λ entry. P entry.0 entry.1) entries
+    → (b : ℕ) (letter : Letter) → find_letter entries b ≡ Some letter → P b letter
+found P [] all b letter e = absurd (cc)
+found P (entry ∷ entries) all b letter e =
+    by_test (nat_eq entry.0 b) (λ v. cond v (Some entry.1) (find_letter entries b) ≡ Some letter → P b letter)
+    (λ same h. let l : entry.1 ≡ letter = cc in subst (λ a. P a letter) (same_byte entry.0 b same) (subst (P entry.0) l all.0))
+    (λ other h. found P entries all.1 b letter h) e
+
+pub letter_is : (profile : Profile) (b : ℕ) (letter : Letter) → letter_of profile b ≡ Some letter → IsLetterOf b letter
+letter_is One b letter e = found IsLetterOf letters_of_one each_letter b letter e
+letter_is Two b letter e = found IsLetterOf letters_of_one each_letter b letter e
+
+pub rules_of_one : (profile : Profile) (o : Opening) (b q : ℕ) → letter_rules profile o b q ≡ letter_rules One o b q
+rules_of_one One o b q = refl
+rules_of_one Two o b q = refl
+
+-- ---- numbers
+
+above_zero : (n : ℕ) → nat_eq n 0 ≡ false → 0 < n
+above_zero n e = grind (arith, nat_tests)
+
+not_zero : (n : ℕ) → 0 < n → nat_eq n 0 ≡ false
+not_zero n h = grind (arith, nat_tests)
+
+within : (limit n : ℕ) → nat_lt limit n ≡ false → n ≤ limit
+within limit n e = grind (arith, nat_tests)
+
+not_above : (limit n : ℕ) → n ≤ limit → nat_lt limit n ≡ false
+not_above limit n h = grind (arith, nat_tests)
+
+number_from : (limit : ℕ) (ds : List ℕ) → AllPass is_decimal ds → (is_written ds && nat_eq (magnitude 10 ds) 0) ≡ false
+    → nat_lt limit (magnitude 10 ds) ≡ false → IsOptionalNumber limit ds
+number_from limit [] digits zero high = tt
+number_from limit (d ∷ ds) digits zero high = (digits, above_zero _ zero, within limit _ high)
+
+number_low : (limit : ℕ) (ds : List ℕ) → IsOptionalNumber limit ds → (is_written ds && nat_eq (magnitude 10 ds) 0) ≡ false
+number_low limit [] h = refl
+number_low limit (d ∷ ds) h = not_zero _ h.1
+
+number_high : (limit : ℕ) (ds : List ℕ) → IsOptionalNumber limit ds → nat_lt limit (magnitude 10 ds) ≡ false
+number_high limit [] h = not_above limit 0 (omega arith)
+number_high limit (d ∷ ds) h = not_above limit _ h.2
+
+pub number_digits : (limit : ℕ) (ds : List ℕ) → IsOptionalNumber limit ds → AllPass is_decimal ds
+number_digits limit [] h = tt
+number_digits limit (d ∷ ds) h = h.0
+
+-- the test of a slot's number
+slot_from : (ds : List ℕ) → AllPass is_decimal ds → (is_written ds && (nat_eq (magnitude 10 ds) 0 || nat_lt 32 (magnitude 10 ds))) ≡ false
+    → IsOptionalNumber 32 ds
+slot_from [] digits e = tt
+slot_from (d ∷ ds) digits e =
+    (digits, above_zero _ (or_left _ _ e), within 32 _ (or_right (nat_eq (magnitude 10 (d ∷ ds)) 0) _ e))
+
+slot_test : (ds : List ℕ) → IsOptionalNumber 32 ds → (is_written ds && (nat_eq (magnitude 10 ds) 0 || nat_lt 32 (magnitude 10 ds))) ≡ false
+slot_test [] h = refl
+slot_test (d ∷ ds) h = ap (λ v. v || nat_lt 32 (magnitude 10 (d ∷ ds))) (not_zero _ h.1) ∙ not_above 32 _ h.2
+
+suppressed_from : (ds : List ℕ) (star : Bool) → (is_written ds && star) ≡ false → star ≡ true → ds ≡ []
+suppressed_from [] star e s = refl
+suppressed_from (d ∷ ds) star e s = absurd (cc)
+
+suppressed_test : (ds : List ℕ) (star : Bool) → (star ≡ true → ds ≡ []) → (is_written ds && star) ≡ false
+suppressed_test [] star h = refl
+suppressed_test (d ∷ ds) false h = refl
+suppressed_test (d ∷ ds) true h = absurd (let e = h refl in cc)
+
+-- ---- both
+
+pub suits_from : (profile : Profile) (letter : Letter) (o : Opening) (b p q : ℕ) → letter_of profile b ≡ Some letter → HasDigits o
+    → Quiet (opening_rules p o) → Quiet (letter_rules profile o b q) → Suits letter o
+suits_from profile letter o b p q e digits opening rules =
+    let h = (letter_is profile b letter e).allowed o q (subst Quiet (rules_of_one profile o b q) rules) in
+    record {
+      number = slot_from o.number digits.0 opening.0;
+      suppressed = suppressed_from o.number o.star opening.1.0;
+      width = number_from 65535 o.width digits.1 opening.1.1.0 opening.1.1.1.0;
+      size = h.0;
+      count = h.1;
+    }
+
+pub opening_quiet : (letter : Letter) (o : Opening) (p : ℕ) → Suits letter o → Quiet (opening_rules p o)
+opening_quiet letter o p suits = (
+  slot_test o.number suits.number,
+  (
+    suppressed_test o.number o.star suits.suppressed,
+    (
+      number_low 65535 o.width suits.width,
+      (number_high 65535 o.width suits.width, tt),
+    ),
+  ),
+)
+
+pub letter_quiet : (profile : Profile) (letter : Letter) (o : Opening) (b q : ℕ) → letter_of profile b ≡ Some letter → Suits letter o
+    → Quiet (letter_rules profile o b q)
+letter_quiet profile letter o b q e suits =
+    subst Quiet (sym (rules_of_one profile o b q)) ((letter_is profile b letter e).quiet o q suits.size suits.count)
+
+pub suits_digits : (letter : Letter) (o : Opening) → Suits letter o → HasDigits o
+suits_digits letter o suits = (number_digits 32 o.number suits.number, number_digits 65535 o.width suits.width)

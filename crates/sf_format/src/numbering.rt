@@ -1,0 +1,109 @@
+//! The numbers of the destinations of a whole format.
+ghost use Rattle.std.specs.Prelude.{◌≡◌, ◌≤◌, ◌+◌, ℕ, List, [], ◌∷◌, ◌++◌, Ok, length};
+ghost use Rattle.sf_format.specs.Pieces.{Piece};
+ghost use Rattle.sf_format.specs.Reading.{read};
+ghost use Rattle.sf_format.specs.Faults.{first_of, repeated, beyond, number_rules};
+ghost use Rattle.sf_format.specs.Passing.{fault_in, slot_in, placed_slot, first_place, Notes, Walked};
+
+use crate::directive::{Directive, Profile};
+use crate::fault::{FormatFault, FormatWhy};
+use crate::passing::{no_slots, pass};
+use crate::slots::Slots;
+use sf_base::ByteSet;
+
+/// What was noted of the numbers so far.
+#[derive(Drop)]
+pub struct Noted {
+    /// The numbers.
+    pub used: ByteSet,
+    /// Where the first one stands that was used before.
+    pub twice: Option<u16>,
+    /// Where the first one stands that is above the count.
+    pub gap: Option<u16>,
+}
+
+/// The slot that the directive assigns, if it assigns one.
+fn slot_in(directive: &Directive) -> Option<u8>
+    ensures { result ≡ slot_in directive.now }
+{
+    match directive {
+        Directive::Conv(conversion) => conversion.slot,
+        _ => None,
+    }
+}
+
+/// Nothing, before the first destination.
+fn nothing_noted() -> Noted
+    ensures { (count : ℕ) → Notes count [] result }
+{
+    Noted {
+        used: ByteSet::empty(),
+        twice: None,
+        gap: None,
+    }
+}
+
+/// The place that was found before, or else this one if it applies.
+fn first_place(before: Option<u16>, applies: bool, at: u16) -> Option<u16>
+    ensures { result ≡ first_place before applies at }
+{
+    match before {
+        None if applies => Some(at),
+        _ => before,
+    }
+}
+
+/// Notes the slot of the directive, if it assigns one, with the place.
+fn note(noted: &mut Noted, directive: &Directive, at: u16, count: u16)
+    ensures { (ns : List (ℕ × ℕ)) → Notes count ns noted.old → Notes count (ns ++ placed_slot directive.now at) noted.new }
+{
+    let Some(number) = slot_in(directive) else {
+        return;
+    };
+    noted.twice = first_place(noted.twice, noted.used.contains(number), at);
+    noted.gap = first_place(noted.gap, count < number as u16, at);
+    noted.used.insert(number);
+}
+
+/// The first fault of what was noted.
+fn noted_fault(noted: &Noted) -> Option<FormatFault>
+    ensures { (count : ℕ) (ns : List (ℕ × ℕ)) → Notes count ns noted.now → fault_in result ≡ first_of (repeated [] ns ++ beyond count ns) }
+{
+    match (noted.twice, noted.gap) {
+        (Some(at), _) => Some(FormatFault {
+            at,
+            why: FormatWhy::NumberTwice,
+        }),
+        (None, Some(at)) => Some(FormatFault {
+            at,
+            why: FormatWhy::NumberGap,
+        }),
+        (None, None) => None,
+    }
+}
+
+/// The first fault of the numbers of a text without a fault in its parts, which has these destinations.
+pub fn number_fault(profile: Profile, text: &[u8], slots: Slots) -> Option<FormatFault>
+    requires short { length text.now ≤ 4096 }
+    requires walked { Walked profile text.now (Ok slots) }
+    ensures { (pieces : List Piece) → read (length text.now) profile [] 0 text.now ≡ Ok pieces
+        → fault_in result ≡ first_of (number_rules pieces) }
+{
+    if !slots.numbered {
+        return None;
+    }
+    let mut noted = nothing_noted();
+    let mut rest = text;
+    let mut at: u16 = 0;
+    let mut earlier = no_slots();
+    while !rest.is_empty() {
+        let Ok(passed) = pass(profile, rest, at, earlier) else {
+            unreachable!()
+        };
+        note(&mut noted, &passed.directive, at, slots.count);
+        rest = passed.rest;
+        at = (text.len() - rest.len()) as u16;
+        earlier = passed.slots;
+    }
+    noted_fault(&noted)
+}

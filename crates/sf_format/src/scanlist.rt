@@ -1,0 +1,165 @@
+//! Scanlists.
+ghost use Rattle.std.specs.Prelude.{◌≡◌, ◌≤◌, ◌+◌, false, None, length};
+ghost use Rattle.sf_format.specs.Scanlist.{backward_range, IsSetBy};
+ghost use Rattle.sf_format.specs.Faults.{first_of, place_of, list_rules, member_rules};
+ghost use Rattle.sf_format.specs.Cut.{close_at, members_at};
+ghost use Rattle.sf_format.specs.Passing.{fault_in, ReadsList};
+
+use crate::fault::{FormatFault, FormatWhy};
+use crate::fronts::{Class, split_front};
+use sf_base::ByteSet;
+
+/// The set of a scanlist, and what follows its `]`.
+#[derive(Drop)]
+pub struct Listed<'a> {
+    pub set: ByteSet,
+    pub rest: &'a [u8],
+}
+
+/// Where the byte stands first, counted from the place.
+fn place(b: u8, from: u16, bytes: &[u8]) -> Option<u16>
+    requires { from + length bytes.now ≤ 4096 }
+    ensures { result ≡ place_of b from bytes.now }
+{
+    for (i, x) in bytes.iter().enumerate() {
+        if *x == b {
+            return Some(from + i as u16);
+        }
+    }
+    None
+}
+
+/// Where the leftmost range begins whose low end is above its high end, counted from the place.
+fn backward(from: u16, bytes: &[u8]) -> Option<u16>
+    requires { from + length bytes.now ≤ 4096 }
+    ensures { result ≡ backward_range from bytes.now }
+{
+    let mut at = from;
+    let mut rest = bytes;
+    while let [low, dash, high, after @ ..] = rest {
+        if *dash != b'-' {
+            at += 1;
+            rest = &rest[1..];
+        } else if *high < *low {
+            return Some(at);
+        } else {
+            at += 3;
+            rest = after;
+        }
+    }
+    None
+}
+
+/// The first fault of these members of a scanlist. Its `[` stands at the first place and its first member at the second.
+fn member_fault(at: u16, from: u16, members: &[u8], closed: bool) -> Option<FormatFault>
+    requires { from + length members.now ≤ 4096 }
+    ensures { fault_in result ≡ first_of (member_rules at from members.now closed) }
+{
+    let nul = place(0, from, members);
+    let range = backward(from, members);
+    match nul {
+        Some(at) => Some(FormatFault {
+            why: FormatWhy::Nul,
+            at,
+        }),
+        None => {
+            if !closed {
+                return Some(FormatFault {
+                    why: FormatWhy::OpenSet,
+                    at,
+                });
+            }
+            match range {
+                Some(at) => Some(FormatFault {
+                    why: FormatWhy::BackwardRange,
+                    at,
+                }),
+                None => None,
+            }
+        }
+    }
+}
+
+/// The members of a scanlist, and what follows them.
+fn members(text: &[u8]) -> (&[u8], &[u8])
+    ensures members { result.0.now ≡ members_at text.now }
+    ensures close { result.1.now ≡ close_at text.now }
+    ensures shorter { length result.0.now ≤ length text.now }
+{
+    match text {
+        [] => (text, text),
+        [_first, rest @ ..] => {
+            let (others, _close) = split_front(rest, Class::Inner);
+            text.split_at(1 + others.len())
+        }
+    }
+}
+
+/// The first fault of a scanlist. Its `[` stands at the first place and its first member at the second.
+fn list_fault(at: u16, from: u16, text: &[u8]) -> Option<FormatFault>
+    requires { from + length text.now ≤ 4096 }
+    ensures { fault_in result ≡ first_of (list_rules at from text.now) }
+{
+    let (members, close) = members(text);
+    member_fault(at, from, members, !close.is_empty())
+}
+
+/// The set of a list of ranges and single members.
+fn members_set(members: &[u8]) -> ByteSet
+    requires { backward_range 0 members.now ≡ None }
+    ensures { IsSetBy false members.now result }
+{
+    let mut set = ByteSet::empty();
+    let mut rest = members;
+    loop {
+        match rest {
+            [] => return set,
+            [low] | [low, _] => {
+                set.insert(*low);
+                rest = &rest[1..];
+            }
+            [low, dash, high, after @ ..] => {
+                if *dash == b'-' {
+                    set.insert_range(*low, *high);
+                    rest = after;
+                } else {
+                    set.insert(*low);
+                    rest = &rest[1..];
+                }
+            }
+        }
+    }
+}
+
+/// The set of a list of ranges and single members, or its complement.
+fn set_of(complemented: bool, members: &[u8]) -> ByteSet
+    requires { backward_range 0 members.now ≡ None }
+    ensures { IsSetBy complemented members.now result }
+{
+    let mut set = members_set(members);
+    if complemented {
+        set.complement();
+    }
+    set
+}
+
+/// The scanlist whose `[` stands at the first place and whose first member at the second.
+pub fn scanlist(
+    complemented: bool,
+    at: u16,
+    from: u16,
+    text: &[u8],
+) -> Result<Listed<'_>, FormatFault>
+    requires { from + length text.now ≤ 4096 }
+    ensures { ReadsList (list_rules at from text.now) (complemented, text.now) result }
+{
+    if let Some(fault) = list_fault(at, from, text) {
+        return Err(fault);
+    }
+    let (members, close) = members(text);
+    let set = set_of(complemented, members);
+    match close {
+        [_bracket, rest @ ..] => Ok(Listed { set, rest }),
+        [] => Ok(Listed { set, rest: close }),
+    }
+}

@@ -1,0 +1,87 @@
+//! The destinations of a format, as far as it was read.
+ghost use Rattle.std.specs.Prelude.{◌≡◌, ◌+◌, ◌<◌, ◌≤◌, ℕ, List, [], ◌++◌, true, false, not, ◌&&◌, nat_lt, None, length};
+ghost use Rattle.std.specs.List.{AllByRecursion, list_any};
+ghost use Rattle.sf_base.specs.Bytes.{magnitude};
+ghost use Rattle.sf_format.specs.Digits.{is_decimal};
+ghost use Rattle.sf_format.specs.Pieces.{Opening};
+ghost use Rattle.sf_format.specs.Lists.{is_written};
+ghost use Rattle.sf_format.specs.Grammar.{assigned_opening, slot_of};
+ghost use Rattle.sf_format.specs.Faults.{first_of, alike, slot_rules};
+ghost use Rattle.sf_format.specs.Passing.{opening_of, fault_in, Holds};
+
+use crate::fault::{FormatFault, FormatWhy};
+use crate::opening::{Written, capped};
+
+/// How many destinations there are, and whether they have numbers.
+#[derive(Clone, Copy)]
+pub struct Slots {
+    pub count: u16,
+    pub numbered: bool,
+}
+
+/// Whether one destination of the two has a number and the other has none.
+fn mixes(slots: Slots, o: &Written) -> bool
+    ensures { (earlier : List Opening) → Holds slots earlier
+        → result ≡ (not o.now.star && list_any (λ e. not (alike e (opening_of o.now))) earlier) }
+{
+    !o.star && slots.count > 0 && slots.numbered == o.number.is_empty()
+}
+
+/// Whether the destination is one too many without a number.
+fn is_beyond(slots: Slots, o: &Written) -> bool
+    ensures { result ≡ (not o.now.star && not (is_written o.now.number.now) && nat_lt 31 slots.count) }
+{
+    !o.star && o.number.is_empty() && slots.count > 31
+}
+
+/// The first fault of one more destination, whose `%` stands at the place.
+pub fn slot_fault(slots: Slots, o: &Written, at: u16) -> Option<FormatFault>
+    ensures first { (earlier : List Opening) → Holds slots earlier → fault_in result ≡ first_of (slot_rules earlier at (opening_of o.now)) }
+    ensures room { result ≡ None → (not o.now.star && not (is_written o.now.number.now) && nat_lt 31 slots.count) ≡ false }
+{
+    if mixes(slots, o) {
+        return Some(FormatFault {
+            why: FormatWhy::MixedNumbering,
+            at,
+        });
+    }
+    if is_beyond(slots, o) {
+        return Some(FormatFault {
+            why: FormatWhy::TooManyDestinations,
+            at,
+        });
+    }
+    None
+}
+
+/// The slot of one more destination, which has no fault. None if it is suppressed.
+pub fn slot_of(slots: Slots, o: &Written) -> Option<u8>
+    requires digits { AllByRecursion (λ b. is_decimal b ≡ true) o.now.number.now }
+    requires bound { magnitude 10 o.now.number.now ≤ 32 }
+    requires room { (not o.now.star && not (is_written o.now.number.now) && nat_lt 31 slots.count) ≡ false }
+    ensures { result ≡ slot_of (1 + slots.count) (opening_of o.now) }
+{
+    if o.star {
+        None
+    } else if o.number.is_empty() {
+        Some(slots.count as u8 + 1)
+    } else {
+        Some(capped(o.number) as u8)
+    }
+}
+
+/// The destinations with one more, which has no fault.
+pub fn pushed(slots: Slots, o: &Written) -> Slots
+    requires { slots.count ≤ 4096 }
+    ensures { (earlier : List Opening) (at : ℕ) → Holds slots earlier → first_of (slot_rules earlier at (opening_of o.now)) ≡ None
+        → Holds result (earlier ++ assigned_opening (opening_of o.now) []) }
+{
+    if o.star {
+        slots
+    } else {
+        Slots {
+            count: slots.count + 1,
+            numbered: !o.number.is_empty(),
+        }
+    }
+}
