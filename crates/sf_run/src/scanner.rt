@@ -51,7 +51,7 @@ impl<'f> Scanner<'f> {
     ghost use Rattle.sf_run.specs.Views.{report_by};
     ghost use Rattle.sf_run.specs.Runs.{RunReport, IsOpen};
     ghost use Rattle.sf_run.specs.Limits.{RunWithin};
-    ghost use Rattle.sf_run.specs.Scanner.{Follows, IsRefused, Keeps, turns_left, IsSettled, After, Gives, used_by};
+    ghost use Rattle.sf_run.specs.Scanner.{Follows, IsRefused, Keeps, turns_left, IsSettled, After, Gives, has_ended, used_by};
 
     /// Ends the directive under way, which takes nothing more. `more`: a byte follows.
     fn close(&mut self, directive: &Directive, more: bool)
@@ -235,8 +235,7 @@ impl<'f> Scanner<'f> {
     pub fn state(&self) -> FeedState
         ensures waits { (ds : List Directive) (m : ℕ) (x : List ℕ) → After ds m self.now x → (result ≡ FeedState.Wait) ↔ (IsOpen ds x × (length x ≤ m)) }
         ensures ended { (ds : List Directive) (m : ℕ) (x : List ℕ) (ending : Ending) → Gives ds m self.now x ending → result ≡ FeedState.Ended }
-        ensures none { result ≡ FeedState.Wait → self.now.ended ≡ None }
-        ensures some { result ≡ FeedState.Ended → IsSome self.now.ended }
+        ensures exactly { (result ≡ FeedState.Ended) ↔ (has_ended self.now ≡ true) }
     {
         match self.ended {
             None => FeedState::Wait,
