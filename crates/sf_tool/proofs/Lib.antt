@@ -1,0 +1,5 @@
+pub mod Answering
+pub mod Consuming
+pub mod Joining
+pub mod Pairs
+pub mod Records

@@ -1,0 +1,5 @@
+pub mod Commands
+pub mod Lines
+pub mod Records
+pub mod Texts
+pub mod Turns
