@@ -1,6 +1,6 @@
 -- What follows for sets of bytes: when two are equal, and how many members there are.
-use Rattle.std.specs.Prelude.{◌≡◌, ◌+◌, ◌<◌, ◌≤◌, ℕ, Bool, true, false, List, length, if◌then◌else◌, refl}
-use Rattle.std.proofs.Common.{arith, add-one, get_or, sym, ◌∙◌}
+use Rattle.std.specs.Prelude.{◌≡◌, ◌+◌, ◌<◌, ℕ, Bool, false, List, length, if◌then◌else◌, refl}
+use Rattle.std.proofs.Common.{arith, add-one, sym, ◌∙◌}
 use Rattle.std.proofs.lemmas.List.{same_lists, get_or_default}
 use Rattle.sf_base.specs.Sets.{has_byte, count_below}
 

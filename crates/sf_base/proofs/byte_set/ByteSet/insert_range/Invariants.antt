@@ -1,4 +1,4 @@
-use Rattle.std.proofs.Common.{◌≡◌, ◌<◌, ◌≤◌, ◌||◌, ◌&&◌, nat_le, nat_lt, ℕ, length}
+use Rattle.std.proofs.Common.{◌≡◌, ◌<◌, ◌||◌, ◌&&◌, nat_le, nat_lt, ℕ, length}
 use Rattle.sf_base.specs.Sets.{has_byte}
 use Rattle.sf_base.proofs.byte_set.ByteSet.insert_range.Given as goal
 
