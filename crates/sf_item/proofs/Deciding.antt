@@ -205,3 +205,22 @@ tests_within (Some w) n = tests_most n w
 
 pub tests_can_take : (c : Conversion) → IsProperShape c.shape → (g : List ℕ) → Tests (can_take c g) (CanTake c g)
 tests_can_take c proper g = tests_both (tests_within c.width (length g)) (tests_begins c.shape c.width proper g)
+
+-- ---- fronts with a byte, for which a set without a member needs no word
+
+some_begins : (shape : Shape) (width : Option ℕ) (f : List ℕ) (b : ℕ)
+    → Tests (shape_begins shape width (f ++ b ∷ [])) (ShapeBegins shape width (f ++ b ∷ []))
+some_begins (Int base) width f b = integer_begins base width (f ++ b ∷ [])
+some_begins Text width f b = tests_begins Text width tt (f ++ b ∷ [])
+some_begins (Set members) width f b =
+    let g = f ++ b ∷ [] in
+    let all = tests_all (λ x. has_byte members x ≡ true) (has_byte members) (λ x. tests_itself (has_byte members x)) g in
+    record {
+      from = λ e. ([], tt, subst (ShapeMatches (Set members) width) (sym (append-nil g)) (some_push f b, all.from e));
+      to = λ h. all.to (all_front (λ x. has_byte members x ≡ true) g h.0 h.2.1);
+    }
+some_begins Chars width f b = tests_begins Chars width tt (f ++ b ∷ [])
+some_begins Count width f b = tests_begins Count width tt (f ++ b ∷ [])
+
+pub tests_can_take_more : (c : Conversion) (f : List ℕ) (b : ℕ) → Tests (can_take c (f ++ b ∷ [])) (CanTake c (f ++ b ∷ []))
+tests_can_take_more c f b = tests_both (tests_within c.width (length (f ++ b ∷ []))) (some_begins c.shape c.width f b)

@@ -4,6 +4,7 @@
 mod integer;
 mod item;
 mod reached;
+mod reading;
 #[cfg(test)]
 mod tests;
 
