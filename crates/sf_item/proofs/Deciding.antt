@@ -139,7 +139,7 @@ tests_matches c s = tests_shape c.shape c.width s
 
 -- ---- fronts of matching sequences
 
-abbrev ShapeBegins : Shape → Option ℕ → List ℕ → Type 0
+abbrev pub ShapeBegins : Shape → Option ℕ → List ℕ → Type 0
 ShapeBegins shape width f = (t : List ℕ) × AreBytes t × ShapeMatches shape width (f ++ t)
 
 integer_begins : (base : Base) (width : Option ℕ) (f : List ℕ) → Tests (is_some (read base (Some Start) f)) (ShapeBegins (Int base) width f)
@@ -191,7 +191,7 @@ count_begins f w = record {
   to = λ h. let long = length-append f h.0 in let whole = h.2 in (tests_most (length f) w).to (omega (arith, long, whole));
 }
 
-tests_begins : (shape : Shape) (width : Option ℕ) → IsProperShape shape → (f : List ℕ) → Tests (shape_begins shape width f) (ShapeBegins shape width f)
+pub tests_begins : (shape : Shape) (width : Option ℕ) → IsProperShape shape → (f : List ℕ) → Tests (shape_begins shape width f) (ShapeBegins shape width f)
 tests_begins (Int base) width proper f = integer_begins base width f
 tests_begins Text width proper f = each_begins (λ b. is_white b ≡ false) is_ink 65 (lit≤ tt) refl tests_ink f
 tests_begins (Set members) width proper f =

@@ -12,7 +12,8 @@ use Rattle.sf_format.specs.declared.directive.Shape.TheVariants.{Int, Text, Set,
 use Rattle.sf_format.specs.declared.directive.Conversion.{Conversion}
 use Rattle.sf_item.specs.Progress.{Progress, Start, Signed, Zero, Prefix, Digits, first_radix, with_digit, with_first_digit, advance}
 use Rattle.sf_item.specs.Taking.{IsInt}
-use Rattle.sf_item.specs.Tests.{read, is_ink, shape_begins, is_within, can_take}
+use Rattle.sf_item.specs.Tests.{read, is_ink, shape_begins, is_within, can_take, has_item}
+use Rattle.sf_item.proofs.Deciding.{Tests}
 use Rattle.sf_item.proofs.Integers.{by_lt, by_eq, by_sign, by_x}
 
 -- ---- tests
@@ -52,7 +53,7 @@ less_at_most m n e = grind (arith, nat_tests)
 short_front : (f : List ℕ) (b n : ℕ) → nat_le (length (f ++ b ∷ [])) n ≡ true → nat_le (length f) n ≡ true
 short_front f b n e = less_at_most (length f) n (subst (λ m. nat_le m n ≡ true) (length_more f b) e)
 
-shape_front : (shape : Shape) (width : Option ℕ) (f : List ℕ) (b : ℕ)
+pub shape_front : (shape : Shape) (width : Option ℕ) (f : List ℕ) (b : ℕ)
     → shape_begins shape width (f ++ b ∷ []) ≡ true → shape_begins shape width f ≡ true
 shape_front (Int base) width f b e = read_front base (Some Start) f b e
 shape_front Text width f b e = all_front is_ink f b e
@@ -98,11 +99,13 @@ pub item_can_take_nothing : (c : Conversion) → HasItem c.shape → can_take c 
 item_can_take_nothing c h =
     both (is_within c.width 0) (shape_begins c.shape c.width []) (nothing_within c.width) (nothing_begins c.shape c.width h)
 
-pub has_item : (shape : Shape) → IsInt shape → HasItem shape
-has_item shape int = subst HasItem (sym int.1) tt
-
-pub can_take_nothing : (c : Conversion) → IsInt c.shape → can_take c [] ≡ true
-can_take_nothing c int = item_can_take_nothing c (has_item c.shape int)
+-- the test says so
+pub tests_item : (shape : Shape) → Tests (has_item shape) (HasItem shape)
+tests_item (Int base) = record { from = λ e. tt; to = λ h. refl }
+tests_item Text = record { from = λ e. tt; to = λ h. refl }
+tests_item (Set members) = record { from = λ e. tt; to = λ h. refl }
+tests_item Chars = record { from = λ e. tt; to = λ h. refl }
+tests_item Count = record { from = λ e. absurd (true≢false (sym e)); to = λ h. absurd h }
 
 -- ---- one 0 more
 

@@ -142,7 +142,8 @@ impl<'c> ItemScan<'c> {
         }
     }
 
-    /// Whether `step` would take no byte, whichever it is. A set without a member takes none either; it is not told here.
+    /// Whether `step` would take no byte, whichever it is. Of a set without a member, which no format has, it tells only
+    /// whether the width is used up.
     pub fn is_full(&self) -> bool
         ensures { (f : List ℕ) → HasTaken self.now f → IsProperShape (conversion_of self.now).shape
             → (IsTrue result ↔ ((b : ℕ) → b < 256 → CanTake (conversion_of self.now) (f ++ b ∷ []) → ⊥)) }

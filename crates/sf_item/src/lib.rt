@@ -3,6 +3,7 @@
 
 mod integer;
 mod item;
+pub mod laws;
 mod reached;
 mod reading;
 #[cfg(test)]
