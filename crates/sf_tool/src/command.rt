@@ -1,7 +1,7 @@
 //! The command: its words, its input and what it writes.
-ghost use Rattle.std.specs.Prelude.{◌≡◌, ◌↔◌, ◌∷◌, [], ℕ, List, Some, map, codes, string_bytes, IfOk, IfErr, IfSome, IfNone, OnOk, IsErrOf};
+ghost use Rattle.std.specs.Prelude.{◌≡◌, ℕ, List, map, string_bytes, IfErr, IfSome, IfNone, OnOk};
 ghost use Rattle.std.specs.Io.KnownBytes.{Appends};
-ghost use Rattle.sf_tool.specs.Commands.{IsScan, Answered, Exits, IsOfInput, IsScan, Scans, scan_of};
+ghost use Rattle.sf_tool.specs.Commands.{Answered, Exits, IsOfInput, IsScan, Scans, scan_of};
 
 use crate::fault::CommandFault;
 use crate::input::read_input;
