@@ -10,7 +10,7 @@ use Rattle.sf_format.specs.Faults.{Fault, IsRefused}
 use Rattle.sf_format.specs.Grammar.{Spells}
 use Rattle.sf_tool.specs.declared.fault.CommandFault.{CommandFault}
 use Rattle.sf_tool.specs.declared.fault.CommandFault.TheVariants.{Usage, Format, TooLong, Read, Record, Write, Memory}
-use Rattle.sf_tool.specs.Commands.{Answered, IsOfInput, Runs, Scans, Unread, format_fault, format_fault_by, scan_of}
+use Rattle.sf_tool.specs.Commands.{Answered, IsOfInput, ScansBy, Scans, Unread, format_fault, format_fault_by, scan_of}
 
 abbrev pub Answer : Type 0
 Answer = Result (Unit {0}) CommandFault
@@ -48,14 +48,14 @@ nothing_read FormatTooLong fault input out = (refl, refl)
 nothing_read TooManyDestinations fault input out = (refl, refl)
 nothing_read NoMemory fault input out = tt
 
-runs_refused : (format text : List ℕ) (held : Option (List ℕ)) (fault : FormatFault) (why : FormatWhy) → fault.why ≡ why → IsRefused One format fault
-    → Runs format text held held (Err (format_fault_by why fault))
-runs_refused format text held fault Truncated is refused = fault_of format fault (ap is_memory is) refused
-runs_refused format text held fault UnknownLetter is refused = fault_of format fault (ap is_memory is) refused
-runs_refused format text held fault Nul is refused = fault_of format fault (ap is_memory is) refused
-runs_refused format text held fault FormatTooLong is refused = fault_of format fault (ap is_memory is) refused
-runs_refused format text held fault TooManyDestinations is refused = fault_of format fault (ap is_memory is) refused
-runs_refused format text held fault NoMemory is refused = refl
+refused_scans : (format text : List ℕ) (held : Option (List ℕ)) (fault : FormatFault) (why : FormatWhy) → fault.why ≡ why → IsRefused One format fault
+    → ScansBy format text held held (Err (format_fault_by why fault))
+refused_scans format text held fault Truncated is refused = fault_of format fault (ap is_memory is) refused
+refused_scans format text held fault UnknownLetter is refused = fault_of format fault (ap is_memory is) refused
+refused_scans format text held fault Nul is refused = fault_of format fault (ap is_memory is) refused
+refused_scans format text held fault FormatTooLong is refused = fault_of format fault (ap is_memory is) refused
+refused_scans format text held fault TooManyDestinations is refused = fault_of format fault (ap is_memory is) refused
+refused_scans format text held fault NoMemory is refused = refl
 
 module _ {R W : Type 0} {remaining : R → Option (List ℕ)} {contents : W → Option (List ℕ)} {words : List (List ℕ)} {format : List ℕ} (is : words ≡ scan_of format) where
   -- the format is refused
@@ -67,9 +67,9 @@ module _ {R W : Type 0} {remaining : R → Option (List ℕ)} {contents : W → 
     unread = nothing_read fault.why fault input out;
     refused = λ other at why also faulty.
         ap (λ (f : FormatFault). Err (format_fault f)) (only at why (subst (λ (f : List ℕ). Fault One f at why) (same_format words other format also is) faulty));
-    runs = λ other text also known.
-        subst (λ (f : List ℕ). Runs f text (contents out) (contents out) (Err (format_fault fault))) (same_format words format other is also)
-        (runs_refused format text (contents out) fault fault.why refl refused);
+    scans = λ other text also known.
+        subst (λ (f : List ℕ). ScansBy f text (contents out) (contents out) (Err (format_fault fault))) (same_format words format other is also)
+        (refused_scans format text (contents out) fault fault.why refl refused);
   })
 
   -- the format has these directives
@@ -81,8 +81,8 @@ module _ {R W : Type 0} {remaining : R → Option (List ℕ)} {contents : W → 
     usage = (λ e. absurd (let no : IfErr {T = Unit {0}} (Err Usage) IsOfInput = subst (λ (a : Answer). IfErr a IsOfInput) e kind in no), λ no_scan. absurd (no_scan (format, is)));
     unread = unread answer kind;
     refused = λ other at why also faulty. absurd (faultless at why (subst (λ (f : List ℕ). Fault One f at why) (same_format words other format also is) faulty));
-    runs = λ other text also known.
-        subst (λ (f : List ℕ). Runs f text (contents out) (contents out') answer) (same_format words format other is also) (runs answer kind text (scans text known));
+    scans = λ other text also known.
+        subst (λ (f : List ℕ). ScansBy f text (contents out) (contents out') answer) (same_format words format other is also) (scans_by answer kind text (scans text known));
   }
     where
       unread : (a : Answer) → IfErr a IsOfInput → IfErr a (λ fault. Unread fault input input' out out')
@@ -95,12 +95,12 @@ module _ {R W : Type 0} {remaining : R → Option (List ℕ)} {contents : W → 
       unread (Err Write) of_input = tt
       unread (Err Memory) of_input = tt
 
-      runs : (a : Answer) → IfErr a IsOfInput → (text : List ℕ) → Scans ds text (contents out) (contents out') a → Runs format text (contents out) (contents out') a
-      runs (Ok nothing) of_input text scanned = (ds, spelled, scanned)
-      runs (Err Usage) of_input text scanned = absurd of_input
-      runs (Err (Format fault)) of_input text scanned = absurd of_input
-      runs (Err TooLong) of_input text scanned = (ds, spelled, scanned)
-      runs (Err Read) of_input text scanned = (ds, spelled, scanned)
-      runs (Err (Record fault)) of_input text scanned = (ds, spelled, scanned)
-      runs (Err Write) of_input text scanned = (ds, spelled, scanned)
-      runs (Err Memory) of_input text scanned = scanned
+      scans_by : (a : Answer) → IfErr a IsOfInput → (text : List ℕ) → Scans ds text (contents out) (contents out') a → ScansBy format text (contents out) (contents out') a
+      scans_by (Ok nothing) of_input text scanned = (ds, spelled, scanned)
+      scans_by (Err Usage) of_input text scanned = absurd of_input
+      scans_by (Err (Format fault)) of_input text scanned = absurd of_input
+      scans_by (Err TooLong) of_input text scanned = (ds, spelled, scanned)
+      scans_by (Err Read) of_input text scanned = (ds, spelled, scanned)
+      scans_by (Err (Record fault)) of_input text scanned = (ds, spelled, scanned)
+      scans_by (Err Write) of_input text scanned = (ds, spelled, scanned)
+      scans_by (Err Memory) of_input text scanned = scanned

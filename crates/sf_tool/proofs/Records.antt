@@ -43,11 +43,11 @@ passed_more : (ds : List Directive) (m : ℕ) (x : List ℕ) (written : List Run
 passed_more ds m x [] y r h ran goes = rw h (ran, goes, refl)
 passed_more ds m x (q ∷ rs) y r h ran goes = (h.0, h.1, passed_more ds m (drop q.used x) rs y r h.2 ran goes)
 
-abbrev is_goes : Turn → Bool
+abbrev pub is_goes : Turn → Bool
 is_goes Goes = true
 is_goes _ = false
 
-other : {A : Type 0} {turn : Turn} → is_goes turn ≡ false → turn ≡ Goes → A
+pub other : {A : Type 0} {turn : Turn} → is_goes turn ≡ false → turn ≡ Goes → A
 other not_goes goes = let no : false ≡ true = sym not_goes ∙ ap is_goes goes in absurd (cc)
 
 ends_or_fails : (b : Bool) → is_goes (cond b Ends Failed) ≡ false

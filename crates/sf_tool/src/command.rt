@@ -1,7 +1,7 @@
 //! The command: its words, its input and what it writes.
-ghost use Rattle.std.specs.Prelude.{◌≡◌, ◌↔◌, ◌∷◌, [], ℕ, List, Some, map, codes, string_bytes, IfOk, IfErr, IfSome, IfNone, OnOk, IsErrOf};
+ghost use Rattle.std.specs.Prelude.{◌≡◌, ℕ, List, map, string_bytes, IfErr, IfSome, IfNone, OnOk};
 ghost use Rattle.std.specs.Io.KnownBytes.{Appends};
-ghost use Rattle.sf_tool.specs.Commands.{IsScan, Answered, Exits, IsOfInput, IsScan, Scans, scan_of};
+ghost use Rattle.sf_tool.specs.Commands.{Answered, Exits, IsOfInput, IsScan, Scans, scan_of};
 
 use crate::fault::CommandFault;
 use crate::input::read_input;
@@ -20,7 +20,7 @@ fn write_out<W: Write>(out: &mut W, bytes: &[u8]) -> Result<(), CommandFault>
     Ok(())
 }
 
-/// Scans the records of an input by a format, and writes their lines.
+/// Scans the records of an input by a format, and writes their lines, flushed.
 pub fn scan_input<R: Read, W: Write>(
     alloc: Global,
     format: &ScanFormat,
@@ -72,8 +72,8 @@ fn command<R: Read, W: Write>(
     scan_input(alloc, &format, input, out)
 }
 
-/// Runs the command of the words, without the program's name. Answers the exit status. A fault in writing to
-/// `err` is ignored.
+/// Runs the command of the words, which are those after the program's name, and answers its exit status. Where it
+/// does not end cleanly, it says why in one line on `err`; a fault in writing that is ignored.
 pub fn tool<R: Read, W: Write, E: Write>(
     alloc: Global,
     words: &[String],

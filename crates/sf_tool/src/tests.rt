@@ -1,3 +1,4 @@
+//! Rows of the command, and readers and writers that fail.
 use super::*;
 use sf_format::{FormatFault, FormatWhy, Profile, ScanFormat};
 use sf_run::{Ending, Outcome, Status};
