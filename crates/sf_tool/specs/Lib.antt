@@ -4,3 +4,4 @@ pub mod Lines
 pub mod Records
 pub mod Texts
 pub mod Turns
+pub mod Show

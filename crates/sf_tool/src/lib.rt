@@ -7,6 +7,7 @@ mod input;
 pub mod laws;
 mod line;
 mod scan;
+mod show;
 #[cfg(test)]
 mod tests;
 mod turn;
