@@ -206,7 +206,7 @@ tests_within (Some w) n = tests_most n w
 pub tests_can_take : (c : Conversion) → IsProperShape c.shape → (g : List ℕ) → Tests (can_take c g) (CanTake c g)
 tests_can_take c proper g = tests_both (tests_within c.width (length g)) (tests_begins c.shape c.width proper g)
 
--- ---- fronts with a byte, for which a set without a member needs no word
+-- ---- fronts that have a byte: none of a set without a member begins a matching sequence, so each set will do
 
 some_begins : (shape : Shape) (width : Option ℕ) (f : List ℕ) (b : ℕ)
     → Tests (shape_begins shape width (f ++ b ∷ [])) (ShapeBegins shape width (f ++ b ∷ []))
