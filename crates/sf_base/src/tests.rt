@@ -60,6 +60,107 @@ fn sets_have_members(rt: HostRuntime) {
     }
 }
 
+#[test]
+fn ranges_have_members(rt: HostRuntime) {
+    for (lo, hi, count, b, want) in [
+        (b'a', b'z', 26u16, b'a', true),
+        (b'a', b'z', 26, b'z', true),
+        (b'a', b'z', 26, b'`', false),
+        (b'a', b'z', 26, b'{', false),
+        (b'-', b'-', 1, b'-', true),
+        (b'-', b'-', 1, b',', false),
+        (b'-', b'-', 1, b'.', false),
+        (0, 0, 1, 0, true),
+        (0, 0, 1, 255, false),
+        (255, 255, 1, 255, true),
+        (255, 255, 1, 254, false),
+        (0, 254, 255, 255, false),
+        (1, 255, 255, 0, false),
+        (0, 255, 256, 0, true),
+        (0, 255, 256, 255, true),
+    ] {
+        assert!(rt; lo <= hi);
+        let mut set = ByteSet::empty();
+        set.insert_range(lo, hi);
+        assert_eq!(rt; set.count(), count, "{lo} to {hi}");
+        assert_eq!(rt; set.contains(b), want, "{lo} to {hi} at {b}");
+    }
+}
+
+#[test]
+fn a_range_keeps_members(rt: HostRuntime) {
+    let mut set = ByteSet::empty();
+    set.insert(b'_');
+    set.insert(b'5');
+    set.insert_range(b'0', b'9');
+    set.insert_range(b'8', b':');
+    assert_eq!(rt; set.count(), 12);
+    assert!(rt; set.contains(b'_'));
+    assert!(rt; set.contains(b'0'));
+    assert!(rt; set.contains(b':'));
+    assert!(rt; !set.contains(b';'));
+}
+
+#[test]
+fn complements_have_the_others(rt: HostRuntime) {
+    let mut set = ByteSet::empty();
+    set.complement();
+    assert_eq!(rt; set.count(), 256);
+    assert!(rt; set.contains(0) && set.contains(255));
+    set.complement();
+    assert_eq!(rt; set.count(), 0);
+    set.insert(b'\n');
+    set.complement();
+    assert_eq!(rt; set.count(), 255);
+    for (b, want) in [
+        (0u8, true),
+        (b'\t', true),
+        (b'\n', false),
+        (11, true),
+        (255, true),
+    ] {
+        assert_eq!(rt; set.contains(b), want, "at {b}");
+    }
+    set.insert(b'\n');
+    assert_eq!(rt; set.count(), 256);
+}
+
+#[test]
+fn sets_are_compared(rt: HostRuntime) {
+    for (a, b, c, d, meets, subset) in [
+        (b'0', b'9', b'2', b'4', true, false),
+        (b'2', b'4', b'0', b'9', true, true),
+        (b'0', b'9', b'0', b'9', true, true),
+        (b'0', b'9', b'9', b'z', true, false),
+        (b'0', b'9', b':', b'z', false, false),
+        (0, 0, 255, 255, false, false),
+        (255, 255, 0, 255, true, true),
+        (0, 255, 255, 255, true, false),
+        (0, 255, 1, 255, true, false),
+        (0, 255, 0, 254, true, false),
+        (0, 0, 0, 0, true, true),
+    ] {
+        assert!(rt; a <= b && c <= d);
+        let mut one = ByteSet::empty();
+        one.insert_range(a, b);
+        let mut other = ByteSet::empty();
+        other.insert_range(c, d);
+        assert_eq!(rt; one.meets(&other), meets, "{a} to {b}, {c} to {d}");
+        assert_eq!(rt; other.meets(&one), meets, "{c} to {d}, {a} to {b}");
+        assert_eq!(rt; one.subset(&other), subset, "{a} to {b}, {c} to {d}");
+    }
+}
+
+#[test]
+fn the_empty_set_is_compared(rt: HostRuntime) {
+    let none = ByteSet::empty();
+    let mut all = ByteSet::empty();
+    all.complement();
+    assert!(rt; !none.meets(&none) && !none.meets(&all) && !all.meets(&none));
+    assert!(rt; none.subset(&none) && none.subset(&all) && !all.subset(&none));
+    assert!(rt; all.meets(&all) && all.subset(&all));
+}
+
 fn made<T: ScanInt>(negative: bool, magnitude: u64, overflowed: bool) -> Option<T> {
     T::from_parts(negative, magnitude, overflowed)
 }
@@ -86,4 +187,181 @@ fn a_sign_and_a_magnitude_make_an_i32(rt: HostRuntime) {
         );
     }
     assert_eq!(rt; i32::kind(), Kind::I32);
+}
+
+#[test]
+fn a_sign_and_a_magnitude_make_an_i8(rt: HostRuntime) {
+    for (negative, magnitude, overflowed, want) in [
+        (false, 127u64, false, Some(127i8)),
+        (false, 128, false, None),
+        (true, 128, false, Some(-128)),
+        (true, 129, false, None),
+        (true, 1, false, Some(-1)),
+        (false, 0, false, Some(0)),
+        (true, 0, false, Some(0)),
+        (false, 256, false, None),
+        (true, 255, false, None),
+        (false, u64::MAX, false, None),
+        (true, u64::MAX, false, None),
+        (false, 0, true, None),
+        (true, 0, true, None),
+    ] {
+        assert_eq!(rt;
+            made::<i8>(negative, magnitude, overflowed),
+            want,
+            "{negative} {magnitude} {overflowed}"
+        );
+    }
+    assert_eq!(rt; i8::kind(), Kind::I8);
+}
+
+#[test]
+fn a_sign_and_a_magnitude_make_an_i16(rt: HostRuntime) {
+    for (negative, magnitude, overflowed, want) in [
+        (false, 32767u64, false, Some(32767i16)),
+        (false, 32768, false, None),
+        (true, 32768, false, Some(-32768)),
+        (true, 32769, false, None),
+        (true, 1, false, Some(-1)),
+        (false, 0, false, Some(0)),
+        (true, 0, false, Some(0)),
+        (false, 65536, false, None),
+        (true, 65535, false, None),
+        (false, u64::MAX, false, None),
+        (true, u64::MAX, false, None),
+        (false, 0, true, None),
+        (true, 0, true, None),
+    ] {
+        assert_eq!(rt;
+            made::<i16>(negative, magnitude, overflowed),
+            want,
+            "{negative} {magnitude} {overflowed}"
+        );
+    }
+    assert_eq!(rt; i16::kind(), Kind::I16);
+}
+
+#[test]
+fn a_sign_and_a_magnitude_make_an_i64(rt: HostRuntime) {
+    for (negative, magnitude, overflowed, want) in [
+        (
+            false,
+            9223372036854775807u64,
+            false,
+            Some(9223372036854775807i64),
+        ),
+        (false, 9223372036854775808, false, None),
+        (true, 9223372036854775808, false, Some(i64::MIN)),
+        (true, 9223372036854775809, false, None),
+        (true, 1, false, Some(-1)),
+        (false, 0, false, Some(0)),
+        (true, 0, false, Some(0)),
+        (false, u64::MAX, false, None),
+        (true, u64::MAX, false, None),
+        (false, 0, true, None),
+        (true, 0, true, None),
+    ] {
+        assert_eq!(rt;
+            made::<i64>(negative, magnitude, overflowed),
+            want,
+            "{negative} {magnitude} {overflowed}"
+        );
+    }
+    assert_eq!(rt; i64::kind(), Kind::I64);
+}
+
+#[test]
+fn a_sign_and_a_magnitude_make_a_u8(rt: HostRuntime) {
+    for (negative, magnitude, overflowed, want) in [
+        (false, 0u64, false, Some(0u8)),
+        (true, 0, false, Some(0)),
+        (false, 255, false, Some(255)),
+        (true, 255, false, Some(1)),
+        (true, 1, false, Some(255)),
+        (true, 128, false, Some(128)),
+        (false, 256, false, None),
+        (true, 256, false, None),
+        (true, 257, false, None),
+        (true, u64::MAX, false, None),
+        (false, 0, true, None),
+        (true, 0, true, None),
+    ] {
+        assert_eq!(rt;
+            made::<u8>(negative, magnitude, overflowed),
+            want,
+            "{negative} {magnitude} {overflowed}"
+        );
+    }
+    assert_eq!(rt; u8::kind(), Kind::U8);
+}
+
+#[test]
+fn a_sign_and_a_magnitude_make_a_u16(rt: HostRuntime) {
+    for (negative, magnitude, overflowed, want) in [
+        (false, 0u64, false, Some(0u16)),
+        (true, 0, false, Some(0)),
+        (false, 65535, false, Some(65535)),
+        (true, 65535, false, Some(1)),
+        (true, 1, false, Some(65535)),
+        (true, 32768, false, Some(32768)),
+        (false, 65536, false, None),
+        (true, 65536, false, None),
+        (true, 65537, false, None),
+        (true, u64::MAX, false, None),
+        (false, 0, true, None),
+        (true, 0, true, None),
+    ] {
+        assert_eq!(rt;
+            made::<u16>(negative, magnitude, overflowed),
+            want,
+            "{negative} {magnitude} {overflowed}"
+        );
+    }
+    assert_eq!(rt; u16::kind(), Kind::U16);
+}
+
+#[test]
+fn a_sign_and_a_magnitude_make_a_u32(rt: HostRuntime) {
+    for (negative, magnitude, overflowed, want) in [
+        (false, 0u64, false, Some(0u32)),
+        (true, 0, false, Some(0)),
+        (false, 4294967295, false, Some(4294967295)),
+        (true, 4294967295, false, Some(1)),
+        (true, 1, false, Some(4294967295)),
+        (true, 2147483648, false, Some(2147483648)),
+        (false, 4294967296, false, None),
+        (true, 4294967296, false, None),
+        (true, 4294967297, false, None),
+        (true, u64::MAX, false, None),
+        (false, 0, true, None),
+        (true, 0, true, None),
+    ] {
+        assert_eq!(rt;
+            made::<u32>(negative, magnitude, overflowed),
+            want,
+            "{negative} {magnitude} {overflowed}"
+        );
+    }
+    assert_eq!(rt; u32::kind(), Kind::U32);
+}
+
+#[test]
+fn a_sign_and_a_magnitude_make_a_u64(rt: HostRuntime) {
+    for (negative, magnitude, overflowed, want) in [
+        (false, 0u64, false, Some(0u64)),
+        (true, 0, false, Some(0)),
+        (false, u64::MAX, false, Some(u64::MAX)),
+        (true, u64::MAX, false, Some(1)),
+        (true, 1, false, Some(u64::MAX)),
+        (true, 9223372036854775808, false, Some(9223372036854775808)),
+        (false, 0, true, None),
+        (true, 0, true, None),
+    ] {
+        assert_eq!(rt;
+            made::<u64>(negative, magnitude, overflowed),
+            want,
+            "{negative} {magnitude} {overflowed}"
+        );
+    }
+    assert_eq!(rt; u64::kind(), Kind::U64);
 }

@@ -139,7 +139,7 @@ tests_matches c s = tests_shape c.shape c.width s
 
 -- ---- fronts of matching sequences
 
-abbrev ShapeBegins : Shape → Option ℕ → List ℕ → Type 0
+abbrev pub ShapeBegins : Shape → Option ℕ → List ℕ → Type 0
 ShapeBegins shape width f = (t : List ℕ) × AreBytes t × ShapeMatches shape width (f ++ t)
 
 integer_begins : (base : Base) (width : Option ℕ) (f : List ℕ) → Tests (is_some (read base (Some Start) f)) (ShapeBegins (Int base) width f)
@@ -191,7 +191,7 @@ count_begins f w = record {
   to = λ h. let long = length-append f h.0 in let whole = h.2 in (tests_most (length f) w).to (omega (arith, long, whole));
 }
 
-tests_begins : (shape : Shape) (width : Option ℕ) → IsProperShape shape → (f : List ℕ) → Tests (shape_begins shape width f) (ShapeBegins shape width f)
+pub tests_begins : (shape : Shape) (width : Option ℕ) → IsProperShape shape → (f : List ℕ) → Tests (shape_begins shape width f) (ShapeBegins shape width f)
 tests_begins (Int base) width proper f = integer_begins base width f
 tests_begins Text width proper f = each_begins (λ b. is_white b ≡ false) is_ink 65 (lit≤ tt) refl tests_ink f
 tests_begins (Set members) width proper f =
@@ -205,3 +205,22 @@ tests_within (Some w) n = tests_most n w
 
 pub tests_can_take : (c : Conversion) → IsProperShape c.shape → (g : List ℕ) → Tests (can_take c g) (CanTake c g)
 tests_can_take c proper g = tests_both (tests_within c.width (length g)) (tests_begins c.shape c.width proper g)
+
+-- ---- fronts that have a byte: none of a set without a member begins a matching sequence, so each set will do
+
+some_begins : (shape : Shape) (width : Option ℕ) (f : List ℕ) (b : ℕ)
+    → Tests (shape_begins shape width (f ++ b ∷ [])) (ShapeBegins shape width (f ++ b ∷ []))
+some_begins (Int base) width f b = integer_begins base width (f ++ b ∷ [])
+some_begins Text width f b = tests_begins Text width tt (f ++ b ∷ [])
+some_begins (Set members) width f b =
+    let g = f ++ b ∷ [] in
+    let all = tests_all (λ x. has_byte members x ≡ true) (has_byte members) (λ x. tests_itself (has_byte members x)) g in
+    record {
+      from = λ e. ([], tt, subst (ShapeMatches (Set members) width) (sym (append-nil g)) (some_push f b, all.from e));
+      to = λ h. all.to (all_front (λ x. has_byte members x ≡ true) g h.0 h.2.1);
+    }
+some_begins Chars width f b = tests_begins Chars width tt (f ++ b ∷ [])
+some_begins Count width f b = tests_begins Count width tt (f ++ b ∷ [])
+
+pub tests_can_take_more : (c : Conversion) (f : List ℕ) (b : ℕ) → Tests (can_take c (f ++ b ∷ [])) (CanTake c (f ++ b ∷ []))
+tests_can_take_more c f b = tests_both (tests_within c.width (length (f ++ b ∷ []))) (some_begins c.shape c.width f b)

@@ -1,6 +1,7 @@
 -- A front of what can be taken can be taken, and an integer can go on.
-use Rattle.std.proofs.Common.{◌≡◌, ℕ, ◌+◌, ◌*◌, Bool, true, false, ◌&&◌, nat_le, cond, List, [], ◌∷◌, ◌++◌, length, Option, Some, None, is_some, unwrap_or, refl, sym, ap, ◌∙◌, subst, arith, true≢false}
+use Rattle.std.proofs.Common.{◌≡◌, ℕ, ◌+◌, ◌*◌, ◌<◌, Bool, true, false, ◌&&◌, nat_le, cond, List, [], ◌∷◌, ◌++◌, length, Option, Some, None, is_some, unwrap_or, refl, sym, ap, ◌∙◌, subst, arith, true≢false}
 use Rattle.std.proofs.lemmas.Bool.Decides.{nat_tests}
+use Rattle.std.proofs.lemmas.Grind.{common_steps}
 use Rattle.std.specs.Char.{digit_value}
 use Rattle.std.specs.List.{list_all}
 use Rattle.sf_base.specs.Sets.{has_byte}
@@ -11,25 +12,28 @@ use Rattle.sf_format.specs.declared.directive.Shape.TheVariants.{Int, Text, Set,
 use Rattle.sf_format.specs.declared.directive.Conversion.{Conversion}
 use Rattle.sf_item.specs.Progress.{Progress, Start, Signed, Zero, Prefix, Digits, first_radix, with_digit, with_first_digit, advance}
 use Rattle.sf_item.specs.Taking.{IsInt}
-use Rattle.sf_item.specs.Tests.{read, is_ink, shape_begins, is_within, can_take}
+use Rattle.sf_item.specs.Tests.{read, is_ink, shape_begins, is_within, can_take, has_item}
+use Rattle.sf_item.proofs.Deciding.{Tests}
 use Rattle.sf_item.proofs.Integers.{by_lt, by_eq, by_sign, by_x}
-use Rattle.sf_item.proofs.Scanning.{length_more, HasRadix, goes_on}
 
 -- ---- tests
 
-both : (a b : Bool) → a ≡ true → b ≡ true → (a && b) ≡ true
+pub both : (a b : Bool) → a ≡ true → b ≡ true → (a && b) ≡ true
 both true b first second = second
 both false b first second = absurd (true≢false (sym first))
 
-left_of : (a b : Bool) → (a && b) ≡ true → a ≡ true
+pub left_of : (a b : Bool) → (a && b) ≡ true → a ≡ true
 left_of true b e = refl
 left_of false b e = e
 
-right_of : (a b : Bool) → (a && b) ≡ true → b ≡ true
+pub right_of : (a b : Bool) → (a && b) ≡ true → b ≡ true
 right_of true b e = e
 right_of false b e = absurd (true≢false (sym e))
 
 -- ---- a front
+
+pub length_more : (f : List ℕ) (b : ℕ) → length (f ++ b ∷ []) ≡ length f + 1
+length_more f b = grind (arith, common_steps)
 
 read_front : (base : Base) (o : Option Progress) (f : List ℕ) (b : ℕ)
     → is_some (read base o (f ++ b ∷ [])) ≡ true → is_some (read base o f) ≡ true
@@ -49,7 +53,7 @@ less_at_most m n e = grind (arith, nat_tests)
 short_front : (f : List ℕ) (b n : ℕ) → nat_le (length (f ++ b ∷ [])) n ≡ true → nat_le (length f) n ≡ true
 short_front f b n e = less_at_most (length f) n (subst (λ m. nat_le m n ≡ true) (length_more f b) e)
 
-shape_front : (shape : Shape) (width : Option ℕ) (f : List ℕ) (b : ℕ)
+pub shape_front : (shape : Shape) (width : Option ℕ) (f : List ℕ) (b : ℕ)
     → shape_begins shape width (f ++ b ∷ []) ≡ true → shape_begins shape width f ≡ true
 shape_front (Int base) width f b e = read_front base (Some Start) f b e
 shape_front Text width f b e = all_front is_ink f b e
@@ -95,13 +99,33 @@ pub item_can_take_nothing : (c : Conversion) → HasItem c.shape → can_take c 
 item_can_take_nothing c h =
     both (is_within c.width 0) (shape_begins c.shape c.width []) (nothing_within c.width) (nothing_begins c.shape c.width h)
 
-pub has_item : (shape : Shape) → IsInt shape → HasItem shape
-has_item shape int = subst HasItem (sym int.1) tt
-
-pub can_take_nothing : (c : Conversion) → IsInt c.shape → can_take c [] ≡ true
-can_take_nothing c int = item_can_take_nothing c (has_item c.shape int)
+-- the test says so
+pub tests_item : (shape : Shape) → Tests (has_item shape) (HasItem shape)
+tests_item (Int base) = record { from = λ e. tt; to = λ h. refl }
+tests_item Text = record { from = λ e. tt; to = λ h. refl }
+tests_item (Set members) = record { from = λ e. tt; to = λ h. refl }
+tests_item Chars = record { from = λ e. tt; to = λ h. refl }
+tests_item Count = record { from = λ e. absurd (true≢false (sym e)); to = λ h. absurd h }
 
 -- ---- one 0 more
+
+abbrev HasRadix : Progress → Type 0
+HasRadix (Digits sign radix value) = 0 < radix
+HasRadix _ = Unit {0}
+
+-- an integer can always go on with a 0
+goes_on : (base : Base) (p : Progress) → HasRadix p → (q : Progress) × (advance base p 48 ≡ Some q)
+goes_on base Start h = (Zero false, refl)
+goes_on base (Signed sign) h = (Zero sign, refl)
+goes_on Dec (Zero sign) h = (Digits sign 10 0, refl)
+goes_on Oct (Zero sign) h = (Digits sign 8 0, refl)
+goes_on Hex (Zero sign) h = (Digits sign 16 0, refl)
+goes_on Auto (Zero sign) h = (Digits sign 8 0, refl)
+goes_on base (Prefix sign) h = (Digits sign 16 0, refl)
+goes_on base (Digits sign radix value) h =
+    by_lt 0 radix (λ v. (q : Progress) × (◌≡◌ {A = Option Progress} (cond v (Some (Digits sign radix (value * radix + 0))) None) (Some q)))
+    (λ below. (Digits sign radix (value * radix + 0), refl))
+    (λ above. absurd (omega (arith, h)))
 
 -- the radix of the digits so far, if some were read, is above 0
 abbrev MayHaveRadix : Option Progress → Type 0
@@ -139,7 +163,7 @@ read_radix base None f h = tt
 read_radix base (Some p) [] h = h
 read_radix base (Some p) (b ∷ f) h = read_radix base (advance base p b) f (next_radix base p b)
 
-read_more : (base : Base) (o : Option Progress) (f g : List ℕ) → read base o (f ++ g) ≡ read base (read base o f) g
+pub read_more : (base : Base) (o : Option Progress) (f g : List ℕ) → read base o (f ++ g) ≡ read base (read base o f) g
 read_more base None f g = refl
 read_more base (Some p) [] g = refl
 read_more base (Some p) (b ∷ f) g = read_more base (advance base p b) f g
@@ -148,7 +172,7 @@ zero_read : (base : Base) (o : Option Progress) → MayHaveRadix o → is_some o
 zero_read base None h some = some
 zero_read base (Some p) h some = let (q, is) = goes_on base p h in ap (λ o. is_some (read base o [])) is
 
-zero_begins : (base : Base) (f : List ℕ) → is_some (read base (Some Start) f) ≡ true → is_some (read base (Some Start) (f ++ 48 ∷ [])) ≡ true
+pub zero_begins : (base : Base) (f : List ℕ) → is_some (read base (Some Start) f) ≡ true → is_some (read base (Some Start) (f ++ 48 ∷ [])) ≡ true
 zero_begins base f some =
     ap is_some (read_more base (Some Start) f (48 ∷ []))
     ∙ zero_read base (read base (Some Start) f) (read_radix base (Some Start) f tt) some

@@ -1,3 +1,4 @@
+pub mod Laws
 pub mod Matching
 pub mod Progress
 pub mod Scan

@@ -56,3 +56,8 @@ matches c s = shape_matches c.shape c.width s
 -- the front g is within the width and begins a matching sequence
 abbrev pub can_take : Conversion → List ℕ → Bool
 can_take c g = is_within c.width (length g) && shape_begins c.shape c.width g
+
+-- the shape has an item; the number of bytes consumed takes none
+abbrev pub has_item : Shape → Bool
+has_item Count = false
+has_item _ = true

@@ -1,11 +1,14 @@
 //! The input item of one conversion, byte by byte (C11 7.21.6.2p9).
-ghost use Rattle.std.specs.Prelude.{◌≡◌, ◌≢◌, ◌<◌, ◌↔◌, ℕ, List, [], ◌∷◌, ◌++◌, length, IsTrue};
-ghost use Rattle.sf_format.specs.declared.directive.Shape.TheVariants as shape;
-ghost use Rattle.sf_item.specs.Taking.{HasTaken, CanTake, IsInt, IsOneLess, conversion_of, Ends};
+ghost use Rattle.std.specs.Prelude.{◌≡◌, ◌≢◌, ◌<◌, ◌↔◌, true, ℕ, List, [], ◌∷◌, ◌++◌, IsTrue};
+ghost use Rattle.sf_format.specs.Proper.{IsProperShape};
+ghost use Rattle.sf_item.specs.Tests.{has_item};
+ghost use Rattle.sf_item.specs.Progress.{Progress, integer_of};
+ghost use Rattle.sf_item.specs.Scan.{Shows, most_bytes, IsOneLess};
+ghost use Rattle.sf_item.specs.Taking.{HasTaken, CanTake, conversion_of, Ends, EndsAt};
 
-use crate::integer::advance;
-use crate::reached::{Digits, Reached};
-use sf_format::{Base, Conversion, Shape};
+use crate::reached::Reached;
+use crate::reading::{Reading, read_on, reading_of};
+use sf_format::{Conversion, Shape};
 
 /// Whether the item goes on with a byte.
 #[derive(Clone, Copy, Debug, PartialEq, Eq)]
@@ -47,21 +50,31 @@ pub enum ItemEnd {
 #[derive(Clone, Copy)]
 pub struct ItemScan<'c> {
     conversion: &'c Conversion,
-    // the base of the conversion's shape
-    base: Base,
-    // how many bytes of the width are left; None: no width
+    // whether a byte was taken
+    begun: bool,
+    // how many more bytes the item may have; None: any number
     left: Option<u16>,
-    reached: Reached,
+    reading: Reading<'c>,
 }
 
-// Whether a width has no byte left.
+// How many bytes an item may have; None: any number. Characters are one where no width is written.
+fn most_bytes(shape: &Shape, width: Option<u16>) -> Option<u16>
+    ensures { result ≡ most_bytes shape.now width }
+{
+    match shape {
+        Shape::Chars => Some(width.unwrap_or(1)),
+        _ => width,
+    }
+}
+
+// Whether no byte is left.
 fn is_used_up(left: Option<u16>) -> bool
     ensures { IsTrue result ↔ (left ≡ Some 0) }
 {
     matches!(left, Some(0))
 }
 
-// A width with one byte less.
+// What is left with one byte less.
 fn one_less(left: Option<u16>) -> Option<u16>
     requires { left ≢ Some 0 }
     ensures { IsOneLess left result }
@@ -72,38 +85,42 @@ fn one_less(left: Option<u16>) -> Option<u16>
     }
 }
 
-// An integer that ends here.
-fn end_of(digits: Digits) -> ItemEnd
-    ensures { result ≡ ItemEnd.Integer digits.negative digits.magnitude digits.overflowed }
+// What an integer is that was read so far.
+fn end_of(reached: Reached) -> ItemEnd
+    ensures { (p : Progress) → Shows reached p → EndsAt (integer_of p) result }
 {
-    ItemEnd::Integer {
-        negative: digits.negative,
-        magnitude: digits.magnitude,
-        overflowed: digits.overflowed,
+    match reached {
+        Reached::Start | Reached::Signed(_) | Reached::Prefix(_) => ItemEnd::Unmatched,
+        Reached::Zero(negative) => ItemEnd::Integer {
+            negative,
+            magnitude: 0,
+            overflowed: false,
+        },
+        Reached::Digits(digits) => ItemEnd::Integer {
+            negative: digits.negative,
+            magnitude: digits.magnitude,
+            overflowed: digits.overflowed,
+        },
     }
 }
 
 impl<'c> ItemScan<'c> {
-    /// The item of the conversion, of which no byte was taken yet. The conversion has the shape of an integer.
+    /// The item of the conversion, of which no byte was taken yet. The number of bytes consumed has no item.
     pub fn start(conversion: &'c Conversion) -> ItemScan<'c>
-        requires { IsInt conversion.now.shape }
+        requires { has_item conversion.now.shape ≡ true }
         ensures conversion { conversion_of result ≡ conversion.now }
         ensures nothing { HasTaken result [] }
     {
-        let base = match &conversion.shape {
-            Shape::Int(base) => *base,
-            _ => unreachable!(),
-        };
         ItemScan {
             conversion,
-            base,
-            left: conversion.width,
-            reached: Reached::Start,
+            begun: false,
+            left: most_bytes(&conversion.shape, conversion.width),
+            reading: reading_of(&conversion.shape),
         }
     }
 
     /// Takes the byte if the item goes on with it: if what was taken and the byte are within the width and begin a
-    /// matching sequence. The width does not bound what may follow them.
+    /// matching sequence. The width does not bound what may follow them, but it is the number of bytes of characters.
     pub fn step(&mut self, b: u8) -> Step
         ensures conversion { conversion_of self.new ≡ conversion_of self.old }
         ensures taken { (f : List ℕ) → HasTaken self.old f
@@ -114,19 +131,21 @@ impl<'c> ItemScan<'c> {
         if is_used_up(self.left) {
             return Step::Refused;
         }
-        match advance(self.base, self.reached, b) {
+        match read_on(self.reading, b) {
             None => Step::Refused,
-            Some(reached) => {
-                self.reached = reached;
+            Some(reading) => {
+                self.reading = reading;
                 self.left = one_less(self.left);
+                self.begun = true;
                 Step::Taken
             }
         }
     }
 
-    /// Whether `step` would take no byte, whichever it is.
+    /// Whether `step` would take no byte, whichever it is. Of a set without a member, which no format has, it tells only
+    /// whether the width is used up.
     pub fn is_full(&self) -> bool
-        ensures { (f : List ℕ) → HasTaken self.now f
+        ensures { (f : List ℕ) → HasTaken self.now f → IsProperShape (conversion_of self.now).shape
             → (IsTrue result ↔ ((b : ℕ) → b < 256 → CanTake (conversion_of self.now) (f ++ b ∷ []) → ⊥)) }
     {
         is_used_up(self.left)
@@ -136,16 +155,14 @@ impl<'c> ItemScan<'c> {
     pub fn finish(&self) -> ItemEnd
         ensures { (f : List ℕ) → HasTaken self.now f → Ends (conversion_of self.now) f result }
     {
-        match self.reached {
-            Reached::Start => ItemEnd::Empty,
-            Reached::Signed(_) => ItemEnd::Unmatched,
-            Reached::Prefix(_) => ItemEnd::Unmatched,
-            Reached::Zero(negative) => ItemEnd::Integer {
-                negative,
-                magnitude: 0,
-                overflowed: false,
-            },
-            Reached::Digits(digits) => end_of(digits),
+        if !self.begun {
+            return ItemEnd::Empty;
+        }
+        match self.reading {
+            Reading::Integer(_, reached) => end_of(reached),
+            Reading::Text | Reading::Set(_) => ItemEnd::Matched,
+            Reading::Chars if is_used_up(self.left) => ItemEnd::Matched,
+            Reading::Chars => ItemEnd::Unmatched,
         }
     }
 }

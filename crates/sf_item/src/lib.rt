@@ -3,7 +3,9 @@
 
 mod integer;
 mod item;
+pub mod laws;
 mod reached;
+mod reading;
 #[cfg(test)]
 mod tests;
 

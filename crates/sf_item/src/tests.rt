@@ -1,6 +1,8 @@
-//! Items of integers, with the values that C's rules give.
+//! Items of each shape, with the values that C's rules give.
+ghost use Rattle.std.specs.Prelude.{◌≡◌};
+
 use crate::{ItemEnd, ItemScan, Step};
-use sf_base::Kind;
+use sf_base::{ByteSet, Kind};
 use sf_format::{Base, Conversion, Shape};
 
 fn integer(negative: bool, magnitude: u64) -> ItemEnd {
@@ -19,21 +21,49 @@ fn overflowed(negative: bool) -> ItemEnd {
     }
 }
 
-// How many bytes of the text are taken, whether the item is then full, and what it is.
-fn item_of(base: Base, width: Option<u16>, text: &[u8]) -> (usize, bool, ItemEnd) {
-    let conversion = Conversion {
-        shape: Shape::Int(base),
+fn conversion_of(shape: Shape, width: Option<u16>) -> Conversion
+    ensures { result.shape ≡ shape }
+{
+    Conversion {
+        shape,
         kind: Kind::I32,
         width,
         slot: None,
-    };
-    let mut scan = ItemScan::start(&conversion);
+    }
+}
+
+// How many bytes of the text are taken, whether the item is then full, and what it is.
+fn taken(mut scan: ItemScan<'_>, text: &[u8]) -> (usize, bool, ItemEnd) {
     for i in 0..text.len() {
         if scan.step(text[i]) == Step::Refused {
             return (i, scan.is_full(), scan.finish());
         }
     }
     (text.len(), scan.is_full(), scan.finish())
+}
+
+fn item_of(base: Base, width: Option<u16>, text: &[u8]) -> (usize, bool, ItemEnd) {
+    let conversion = conversion_of(Shape::Int(base), width);
+    taken(ItemScan::start(&conversion), text)
+}
+
+fn text_of(width: Option<u16>, text: &[u8]) -> (usize, bool, ItemEnd) {
+    let conversion = conversion_of(Shape::Text, width);
+    taken(ItemScan::start(&conversion), text)
+}
+
+fn digits_of(width: Option<u16>, text: &[u8]) -> (usize, bool, ItemEnd) {
+    let mut digits = ByteSet::empty();
+    for b in b'0'..=b'9' {
+        digits.insert(b);
+    }
+    let conversion = conversion_of(Shape::Set(digits), width);
+    taken(ItemScan::start(&conversion), text)
+}
+
+fn chars_of(width: Option<u16>, text: &[u8]) -> (usize, bool, ItemEnd) {
+    let conversion = conversion_of(Shape::Chars, width);
+    taken(ItemScan::start(&conversion), text)
 }
 
 #[test]
@@ -103,13 +133,51 @@ fn numbers_may_be_long(rt: HostRuntime) {
 }
 
 #[test]
+fn texts_end_at_white_space(rt: HostRuntime) {
+    for (width, text, want) in [
+        (None, " a", (0usize, false, ItemEnd::Empty)),
+        (None, "", (0, false, ItemEnd::Empty)),
+        (None, "+-5\n", (3, false, ItemEnd::Matched)),
+        (None, "a\u{b}b", (1, false, ItemEnd::Matched)),
+        (None, "\u{0}\u{e}\u{7f} ", (3, false, ItemEnd::Matched)),
+        (Some(5u16), "abcdefg", (5, true, ItemEnd::Matched)),
+        (Some(5), "abc", (3, false, ItemEnd::Matched)),
+        (Some(1), " ", (0, false, ItemEnd::Empty)),
+    ] {
+        assert_eq!(rt; text_of(width, text.as_bytes()), want, "at {text}");
+    }
+}
+
+#[test]
+fn sets_take_their_members(rt: HostRuntime) {
+    for (width, text, want) in [
+        (None, "1", (1usize, false, ItemEnd::Matched)),
+        (None, " ", (0, false, ItemEnd::Empty)),
+        (None, "-1", (0, false, ItemEnd::Empty)),
+        (None, "0090a", (4, false, ItemEnd::Matched)),
+        (Some(2u16), "123", (2, true, ItemEnd::Matched)),
+    ] {
+        assert_eq!(rt; digits_of(width, text.as_bytes()), want, "at {text}");
+    }
+}
+
+#[test]
+fn characters_are_counted(rt: HostRuntime) {
+    for (width, text, want) in [
+        (Some(3u16), "", (0usize, false, ItemEnd::Empty)),
+        (Some(3), "ab", (2, false, ItemEnd::Unmatched)),
+        (Some(3), "ab ", (3, true, ItemEnd::Matched)),
+        (Some(3), " \n\tabc", (3, true, ItemEnd::Matched)),
+        (None, " b", (1, true, ItemEnd::Matched)),
+        (None, "", (0, false, ItemEnd::Empty)),
+    ] {
+        assert_eq!(rt; chars_of(width, text.as_bytes()), want, "at {text}");
+    }
+}
+
+#[test]
 fn a_copy_goes_its_own_way(rt: HostRuntime) {
-    let conversion = Conversion {
-        shape: Shape::Int(Base::Dec),
-        kind: Kind::I32,
-        width: None,
-        slot: Some(1),
-    };
+    let conversion = conversion_of(Shape::Int(Base::Dec), None);
     let mut scan = ItemScan::start(&conversion);
     let before = scan;
     assert_eq!(rt; scan.step(b'7'), Step::Taken);

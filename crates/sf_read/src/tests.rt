@@ -86,12 +86,20 @@ fn rows(rt: HostRuntime) -> Result<(), Fail> {
         let met = outcome.met == Some(Ending::End);
         assert!(rt; met || outcome.met.is_none());
         assert!(rt;
-            (outcome.status, outcome.at, outcome.assigned, outcome.used, met) == row.told,
+            (
+                outcome.status,
+                outcome.at,
+                outcome.assigned,
+                outcome.used,
+                met
+            ) == row.told,
             "on {:?}",
             row.text
         );
-        for (i, value) in row.values.iter().enumerate() {
-            assert_eq!(rt; report.value(i as u8 + 1), Some(Value::I32(*value)));
+        let mut slot = 1u8;
+        for value in row.values {
+            assert_eq!(rt; report.value(slot), Some(Value::I32(*value)));
+            slot = slot.saturating_add(1);
         }
     }
     Ok(())
@@ -103,7 +111,13 @@ fn limits(rt: HostRuntime) -> Result<(), Fail> {
     let scanned = sscan(rt.alloc(), b"1234", &format, 3)?;
     let outcome = scanned.report().outcome();
     assert!(rt; outcome.status == Status::TooLong && outcome.used == 3 && outcome.at == 1);
-    assert!(rt; sscan(rt.alloc(), b"123", &format, 3)?.report().outcome().status == Status::Done);
+    assert!(rt;
+        sscan(rt.alloc(), b"123", &format, 3)?
+            .report()
+            .outcome()
+            .status
+            == Status::Done
+    );
     assert!(rt;
         matches!(
             sscan(rt.alloc(), b"1", &format, 2147483648),

@@ -1,5 +1,5 @@
 -- What a scanner holds, and of what input.
-use Rattle.std.specs.Prelude.{ℕ, suc, ◌+◌, ◌-◌, ◌≡◌, ◌≤◌, ◌⊎◌, Bool, true, false, not, List, [], ◌∷◌, ◌++◌, length, drop, slice_get, Option, Some, None, IfNone, IsSome, SomeIff, map}
+use Rattle.std.specs.Prelude.{ℕ, suc, ◌+◌, ◌-◌, ◌≡◌, ◌≤◌, Bool, true, false, List, [], ◌∷◌, ◌++◌, length, drop, slice_get, Option, Some, None, IfNone, IsSome, is_some}
 use Rattle.sf_format.specs.declared.directive.Directive.{Directive}
 use Rattle.sf_format.specs.Proper.{IsProper, AreProper}
 use Rattle.sf_run.specs.declared.directive.Phase.{Phase}
@@ -75,6 +75,10 @@ report_by (Some stop) t met = Some (record (out_of stop.status stop.at t) { met 
 
 abbrev pub report_of : Scanner → Option RunReport
 report_of s = report_by s.ended (tally_of s.tally) s.met
+
+-- the run has ended
+abbrev pub has_ended : Scanner → Bool
+has_ended s = is_some s.ended
 
 -- how many bytes the run has used
 abbrev pub used_by : Scanner → ℕ

@@ -11,8 +11,8 @@ ghost use Rattle.sf_run.specs.Phases.{Shows, ShowsNext, end_of, passed_number};
 
 use crate::outcome::Status;
 use crate::report::Assigned;
-use sf_base::{ScanInt, Value, is_space};
-use sf_format::{Conversion, Directive};
+use sf_base::{Kind, ScanInt, Value, is_space};
+use sf_format::{Conversion, Directive, Shape};
 use sf_item::{ItemEnd, ItemScan, Step};
 
 /// How far a directive has come.
@@ -32,6 +32,18 @@ pub(crate) enum Finished {
     Passes,
     Stores(Assigned),
     Fails(Status),
+}
+
+/// Whether a scanner runs the directive yet: white space, bytes, `%%`, and integers of 32 bits.
+pub(crate) fn is_plain(directive: &Directive) -> bool
+    ensures { result ≡ is_plain directive.now }
+{
+    match directive {
+        Directive::Space | Directive::Byte(_) | Directive::Percent => true,
+        Directive::Conv(conversion) => {
+            matches!(conversion.shape, Shape::Int(_)) && conversion.kind == Kind::I32
+        }
+    }
 }
 
 fn step_byte<'f>(due: u8, phase: Phase<'f>, b: u8) -> Option<Phase<'f>>

@@ -48,6 +48,8 @@ pub enum StartFault {
     NoMemory,
     /// The limit is above 2147483647.
     BadLimit,
+    /// The format has a directive that a scanner doesn't run yet.
+    NotYet,
 }
 
 /// Whether a scanner may take another byte.

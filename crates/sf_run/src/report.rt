@@ -84,7 +84,8 @@ impl<'r> Report<'r> {
         ensures used { result.used ≡ self.now.used }
         ensures met { result.met ≡ self.now.met }
     {
-        self.outcome
+        let Report { outcome, .. } = self;
+        *outcome
     }
 
     /// What the slot was given, where it was.

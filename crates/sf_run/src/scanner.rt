@@ -6,7 +6,7 @@ ghost use Rattle.sf_format.specs.Proper.{IsProper, AreProper, are_plain};
 ghost use Rattle.sf_run.specs.declared.outcome.Ending.{Ending};
 ghost use Rattle.sf_run.specs.Places.{places_left};
 
-use crate::directive::{Finished, Phase, finish, step};
+use crate::directive::{Finished, Phase, finish, is_plain, step};
 use crate::outcome::{Ending, Fed, FeedState, Outcome, StartFault, Status};
 use crate::report::{Report, Scanned};
 use crate::tally::Tally;
@@ -51,7 +51,7 @@ impl<'f> Scanner<'f> {
     ghost use Rattle.sf_run.specs.Views.{report_by};
     ghost use Rattle.sf_run.specs.Runs.{RunReport, IsOpen};
     ghost use Rattle.sf_run.specs.Limits.{RunWithin};
-    ghost use Rattle.sf_run.specs.Scanner.{Follows, IsRefused, Keeps, turns_left, IsSettled, After, Gives, used_by};
+    ghost use Rattle.sf_run.specs.Scanner.{Follows, IsRefused, Keeps, turns_left, IsSettled, After, Gives, has_ended, used_by};
 
     /// Ends the directive under way, which takes nothing more. `more`: a byte follows.
     fn close(&mut self, directive: &Directive, more: bool)
@@ -205,16 +205,21 @@ impl<'f> Scanner<'f> {
 
     /// A scanner that was given nothing yet. The run consumes at most `limit` bytes.
     ///
-    /// Refuses a limit above 2147483647 with BadLimit, then answers NoMemory where room for the values was refused.
+    /// Refuses a limit above 2147483647 with BadLimit, then a format with a directive that it doesn't run yet with
+    /// NotYet; then it answers NoMemory where room for the values was refused.
     pub fn new(alloc: Global, format: &'f ScanFormat, limit: u32) -> Result<Self, StartFault>
         ensures after { IfOk result (λ s. After format.now limit s []) }
         ensures fresh { IfOk result (λ s. used_by s ≡ 0) }
         ensures limit { IsErrOf result StartFault.BadLimit ↔ (2147483647 < limit) }
+        ensures not_yet { IsErrOf result StartFault.NotYet ↔ ((limit ≤ 2147483647) × (are_plain format.now ≡ false)) }
     {
         if limit > 2147483647 {
             return Err(StartFault::BadLimit);
         }
         let directives = format.directives();
+        if !directives.iter().all(is_plain) {
+            return Err(StartFault::NotYet);
+        }
         let Ok(tally) = Tally::new(alloc, MOST_VALUES) else {
             return Err(StartFault::NoMemory);
         };
@@ -235,8 +240,7 @@ impl<'f> Scanner<'f> {
     pub fn state(&self) -> FeedState
         ensures waits { (ds : List Directive) (m : ℕ) (x : List ℕ) → After ds m self.now x → (result ≡ FeedState.Wait) ↔ (IsOpen ds x × (length x ≤ m)) }
         ensures ended { (ds : List Directive) (m : ℕ) (x : List ℕ) (ending : Ending) → Gives ds m self.now x ending → result ≡ FeedState.Ended }
-        ensures none { result ≡ FeedState.Wait → self.now.ended ≡ None }
-        ensures some { result ≡ FeedState.Ended → IsSome self.now.ended }
+        ensures exactly { (result ≡ FeedState.Ended) ↔ (has_ended self.now ≡ true) }
     {
         match self.ended {
             None => FeedState::Wait,

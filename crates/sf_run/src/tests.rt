@@ -64,10 +64,12 @@ fn run(rt: &(impl Abort + AllocGlobal), row: &Row) -> Result<(), Fail> {
     };
     let report = scanned.report();
     assert_eq!(rt; report.outcome(), row.outcome);
-    for (i, value) in row.values.iter().enumerate() {
-        assert_eq!(rt; report.value(i as u8 + 1), Some(Value::I32(*value)));
+    let mut slot = 1u8;
+    for value in row.values {
+        assert_eq!(rt; report.value(slot), Some(Value::I32(*value)));
+        slot = slot.saturating_add(1);
     }
-    assert_eq!(rt; report.value(row.values.len() as u8 + 1), None);
+    assert_eq!(rt; report.value(slot), None);
     Ok(())
 }
 

@@ -24,5 +24,5 @@ pub returns-in-Item : goal.returns-in-Item
 returns-in-Item c d q plain proper shows =
     let item : Shows d (phase.Item c.in-Item.scan) q = subst (λ (p : Phase). Shows d p q) c.in-Item.is shows in
     let own : IsProper (Conv (conversion_of c.in-Item.scan)) = subst (λ (e : Directive). IsProper e) item.2 proper in
-    item_full c.in-Item.scan item.0 c.is_full.result own.0 (c.is_full.ensures item.0 item.3)
+    item_full c.in-Item.scan item.0 c.is_full.result own.0 (c.is_full.ensures item.0 item.3 own.0)
     ∙ ap (λ (e : Directive). is_full e (Item item.0)) (sym item.2) ∙ ap (is_full d) (sym item.1)

@@ -28,4 +28,4 @@ returns-clause-gives c ds m x z ending h is =
     let e = c.push-taken.ensures in
     let then : After ds m c.push-taken.new.self (x ++ c.args.piece.now) =
     after_push ds m c.args.self.now c.push-taken.new.self x c.args.piece.now c.push-taken.result h e.same e.used e.within e.all e.stays e.keeps e.settled in
-    ended_gives ds m c.push-taken.new.self (x ++ c.args.piece.now) z ending then (c.state.ensures.some is)
+    ended_gives ds m c.push-taken.new.self (x ++ c.args.piece.now) z ending then (c.state.ensures.exactly.0 is)

@@ -1,0 +1,17 @@
+//! Laws of the definitions.
+ghost use Rattle.sf_item.specs.Laws.{EachHasOneItem, EndedItemsStay, WidthsCutItems};
+
+/// Each input has an item of each proper conversion, and no other.
+pub fn one_item()
+    ensures { EachHasOneItem }
+{}
+
+/// An item that ends before a byte of the input is the item of every longer input.
+pub fn ended_items_stay()
+    ensures { EndedItemsStay }
+{}
+
+/// The item under a width is the item without it, cut at the width.
+pub fn widths_cut_items()
+    ensures { WidthsCutItems }
+{}

@@ -1,0 +1,56 @@
+//! How an item is read, by the shape of its conversion.
+ghost use Rattle.std.specs.Prelude.{◌≡◌, true, ℕ, List, [], ◌∷◌, ◌++◌};
+ghost use Rattle.sf_item.specs.Tests.{has_item};
+ghost use Rattle.sf_item.specs.Scan.{shape_of, HasRead, ReadsNext};
+
+use crate::integer::advance;
+use crate::reached::Reached;
+use sf_base::{ByteSet, is_space};
+use sf_format::{Base, Shape};
+
+/// What an item is read as, and of an integer how far.
+#[derive(Clone, Copy)]
+pub enum Reading<'c> {
+    /// An integer of the base.
+    Integer(Base, Reached),
+    /// Bytes that are no white space.
+    Text,
+    /// Members of the set.
+    Set(&'c ByteSet),
+    /// As many bytes as the width says, whichever they are.
+    Chars,
+}
+
+// How an item of the shape is read, of which no byte was taken yet.
+pub fn reading_of(shape: &Shape) -> Reading<'_>
+    requires { has_item shape.now ≡ true }
+    ensures shape { shape_of result ≡ shape.now }
+    ensures nothing { HasRead result [] }
+{
+    match shape {
+        Shape::Int(base) => Reading::Integer(*base, Reached::Start),
+        Shape::Text => Reading::Text,
+        Shape::Set(members) => Reading::Set(members),
+        Shape::Chars => Reading::Chars,
+        Shape::Count => unreachable!(),
+    }
+}
+
+// How the item is read with one byte more; None where none begins so.
+pub fn read_on(reading: Reading<'_>, b: u8) -> Option<Reading<'_>>
+    ensures { (f : List ℕ) → HasRead reading.entry f → ReadsNext reading.entry result (f ++ b ∷ []) }
+{
+    match reading {
+        Reading::Integer(base, reached) => {
+            let reached = advance(base, reached, b)?;
+            Some(Reading::Integer(base, reached))
+        }
+        Reading::Text => if is_space(b) { None } else { Some(reading) },
+        Reading::Set(members) => if members.contains(b) {
+            Some(reading)
+        } else {
+            None
+        },
+        Reading::Chars => Some(reading),
+    }
+}

@@ -1,0 +1,67 @@
+-- A run consumes no more bytes than there are.
+use Rattle.std.proofs.Common.{ℕ, ◌+◌, ◌≤◌, List, [], ◌∷◌, ◌++◌, length, drop, inl, inr, arith, length-drop}
+use Rattle.std.proofs.lemmas.List.Sums.{sum_by-cons, sum_by-append}
+use Rattle.sf_format.specs.declared.directive.Shape.{Shape}
+use Rattle.sf_format.specs.declared.directive.Shape.TheVariants.{Int, Text, Set, Chars, Count}
+use Rattle.sf_format.specs.declared.directive.Conversion.{Conversion}
+use Rattle.sf_format.specs.declared.directive.Directive.{Directive}
+use Rattle.sf_format.specs.declared.directive.Directive.TheVariants.{Space, Byte, Percent, Conv}
+use Rattle.sf_run.specs.declared.outcome.Ending.{Ending}
+use Rattle.sf_run.specs.Steps.{StepEnd, Passes, Stores, Fails, Step, ByteStep, ItemStep, ConversionStep, IsSkipBefore}
+use Rattle.sf_run.specs.Runs.{Ran, RunReport, GoesOn, Steps, used}
+use Rattle.sf_run.specs.Limits.{RunWithin}
+
+byte_within : (b : ℕ) (x : List ℕ) (k : ℕ) (end : StepEnd) → ByteStep b x k end → k ≤ length x
+byte_within b [] k end (zero_bytes, e) = omega arith
+byte_within b (y ∷ x) k end (inl h) = omega (arith, h.1)
+byte_within b (y ∷ x) k end (inr h) = omega (arith, h.1)
+
+skip_within : (shape : Shape) (x : List ℕ) (s : ℕ) → IsSkipBefore shape x s → s ≤ length x
+skip_within (Int base) x s h = h.holds.0
+skip_within Text x s h = h.holds.0
+skip_within (Set members) x s h = omega (arith, h)
+skip_within Chars x s h = omega (arith, h)
+skip_within Count x s h = omega (arith, h)
+
+item_within : (c : Conversion) (x : List ℕ) (k : ℕ) (end : StepEnd) → ItemStep c x k end → k ≤ length x
+item_within c x k end (s, j, skip, item, bytes, ends) =
+    omega (arith, bytes, skip_within c.shape x s skip, item.holds.0, length-drop s x)
+
+conversion_within : (c : Conversion) (shape : Shape) (x : List ℕ) (n k : ℕ) (end : StepEnd) → ConversionStep c shape x n k end → k ≤ length x
+conversion_within c (Int base) x n k end h = item_within c x k end h
+conversion_within c Text x n k end h = item_within c x k end h
+conversion_within c (Set members) x n k end h = item_within c x k end h
+conversion_within c Chars x n k end h = item_within c x k end h
+conversion_within c Count x n k end h = omega (arith, h.0)
+
+step_within : (d : Directive) (x : List ℕ) (n k : ℕ) (end : StepEnd) → Step d x n k end → k ≤ length x
+step_within Space x n k end h = h.0.holds.0
+step_within (Byte b) x n k end h = byte_within b x k end h
+step_within Percent x n k end (s, j, skip, byte, bytes) =
+    omega (arith, bytes, skip.holds.0, byte_within 37 (drop s x) j end byte, length-drop s x)
+step_within (Conv c) x n k end h = conversion_within c c.shape x n k end h
+
+rest_within : (d : Directive) (ds : List Directive) (x : List ℕ) (n : ℕ) (r : Ran) (ran : List Ran) (end : StepEnd)
+    → ((y : List ℕ) (k : ℕ) (rs : List Ran) → Steps ds y k rs → used rs ≤ length y)
+    → GoesOn end (Steps ds (drop r.bytes x) (n + r.bytes) ran) ran → r.bytes ≤ length x → used (r ∷ ran) ≤ length x
+rest_within d ds x n r ran Passes within h low =
+    omega (arith, sum_by-cons (λ (q : Ran). q.bytes) r ran, within (drop r.bytes x) (n + r.bytes) ran h, length-drop r.bytes x)
+rest_within d ds x n r ran (Stores slot v) within h low =
+    omega (arith, sum_by-cons (λ (q : Ran). q.bytes) r ran, within (drop r.bytes x) (n + r.bytes) ran h, length-drop r.bytes x)
+rest_within d ds x n r ran (Fails status) within h low =
+    rw h (omega (arith, sum_by-cons (λ (q : Ran). q.bytes) r []))
+
+pub steps_within : (ds : List Directive) (x : List ℕ) (n : ℕ) (ran : List Ran) → Steps ds x n ran → used ran ≤ length x
+steps_within [] x n [] h = omega arith
+steps_within [] x n (r ∷ ran) h = absurd h
+steps_within (d ∷ ds) x n [] h = absurd h
+steps_within (d ∷ ds) x n (r ∷ ran) (is, step, goes_on) =
+    rest_within d ds x n r ran r.end (steps_within ds) goes_on (step_within d x n r.bytes r.end step)
+
+-- a report's bytes are among those of its input
+pub report_within : (ds : List Directive) (m : ℕ) (x : List ℕ) (ending : Ending) (report : RunReport) → RunWithin ds m x ending report → report.used ≤ length x
+report_within ds m x ending report (inl (few, (ran, steps, met, is_met, is))) =
+    rw is (steps_within ds x 0 ran steps)
+report_within ds m x ending report (inr (before, cut, is)) =
+    let whole = steps_within ds x 0 (before ++ (cut.cut ∷ cut.rest)) cut.steps in
+    rw is (omega (arith, whole, cut.high, sum_by-append (λ (q : Ran). q.bytes) before (cut.cut ∷ cut.rest), sum_by-cons (λ (q : Ran). q.bytes) cut.cut cut.rest))

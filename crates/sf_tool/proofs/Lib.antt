@@ -1,0 +1,6 @@
+pub mod Answering
+pub mod Consuming
+pub mod Joining
+pub mod OneEnd
+pub mod Pairs
+pub mod Records

@@ -1,0 +1,54 @@
+-- What the command says and answers where it doesn't end cleanly.
+use Rattle.std.specs.Prelude.{ℕ, List, ◌++◌, codes}
+use Rattle.std.specs.Fmt.{decimal}
+use Rattle.sf_format.specs.declared.fault.FormatWhy.{FormatWhy}
+use Rattle.sf_format.specs.declared.fault.FormatWhy.TheVariants as format
+use Rattle.sf_run.specs.declared.outcome.Status.{Status}
+use Rattle.sf_run.specs.declared.outcome.Status.TheVariants as run
+use Rattle.sf_tool.specs.declared.scan.ToolFault.{ToolFault}
+use Rattle.sf_tool.specs.declared.scan.ToolFault.TheVariants.{Failed, Stalled}
+use Rattle.sf_tool.specs.declared.fault.CommandFault.{CommandFault}
+use Rattle.sf_tool.specs.declared.fault.CommandFault.TheVariants.{Usage, Format, TooLong, Read, Record, Write, Memory}
+
+abbrev pub why_text : FormatWhy → List ℕ
+why_text format.Truncated = codes "F1 Truncated"
+why_text format.UnknownLetter = codes "F4 UnknownLetter"
+why_text format.Nul = codes "F14 Nul"
+why_text format.FormatTooLong = codes "F15 FormatTooLong"
+why_text format.TooManyDestinations = codes "F16 TooManyDestinations"
+why_text format.NoMemory = codes "F19 NoMemory"
+
+-- the words for a status (no record ends Done or NoMemory)
+abbrev pub status_text : Status → List ℕ
+status_text run.Done = codes "done"
+status_text run.InputFailure = codes "input failure"
+status_text run.MatchingFailure = codes "matching failure"
+status_text run.OutOfRange = codes "out of range"
+status_text run.TooLong = codes "too long"
+status_text run.NoMemory = codes "out of memory"
+
+abbrev pub tool_fault_text : ToolFault → List ℕ
+tool_fault_text (Failed number outcome) =
+    codes "record " ++ (decimal number ++ (codes ": " ++ (status_text outcome.status ++ (codes " at " ++ (decimal outcome.at
+    ++ (codes ", used " ++ (decimal outcome.used ++ (codes ", assigned " ++ decimal outcome.assigned))))))))
+tool_fault_text (Stalled number) = codes "record " ++ (decimal number ++ codes ": stalled")
+
+-- the line on standard error, without its line end
+abbrev pub command_fault_text : CommandFault → List ℕ
+command_fault_text Usage = codes "sf: usage"
+command_fault_text (Format fault) = codes "sf: scan format: " ++ (why_text fault.why ++ (codes " at " ++ decimal fault.at))
+command_fault_text TooLong = codes "sf: input too long"
+command_fault_text Read = codes "sf: record 1: read fault"
+command_fault_text (Record fault) = codes "sf: " ++ tool_fault_text fault
+command_fault_text Write = codes "sf: write fault"
+command_fault_text Memory = codes "sf: out of memory"
+
+-- the exit status
+abbrev pub status_of : CommandFault → ℕ
+status_of Usage = 2
+status_of (Format fault) = 2
+status_of TooLong = 3
+status_of Read = 3
+status_of (Record fault) = 1
+status_of Write = 3
+status_of Memory = 4

@@ -1,0 +1,146 @@
+//! Why the command ends, and what it says then.
+ghost use Rattle.std.specs.Prelude.{◌≡◌, Some};
+ghost use Rattle.sf_tool.specs.Texts.{command_fault_text, status_text, status_of, tool_fault_text, why_text};
+ghost use Rattle.sf_tool.specs.Commands.{format_fault, input_fault};
+ghost use Rattle.sf_tool.specs.declared.fault.CommandFault.TheVariants.{Memory};
+
+use crate::input::InputFault;
+use crate::scan::ToolFault;
+use sf_format::{FormatFault, FormatWhy};
+use sf_run::Status;
+use std::alloc::AllocError;
+use std::error::Error;
+use std::fmt;
+
+fn why_text(why: FormatWhy) -> &'static str
+    ensures { result.now ≡ why_text why }
+{
+    match why {
+        FormatWhy::Truncated => "F1 Truncated",
+        FormatWhy::UnknownLetter => "F4 UnknownLetter",
+        FormatWhy::Nul => "F14 Nul",
+        FormatWhy::FormatTooLong => "F15 FormatTooLong",
+        FormatWhy::TooManyDestinations => "F16 TooManyDestinations",
+        FormatWhy::NoMemory => "F19 NoMemory",
+    }
+}
+
+fn status_text(status: Status) -> &'static str
+    ensures { result.now ≡ status_text status }
+{
+    match status {
+        Status::Done => "done",
+        Status::InputFailure => "input failure",
+        Status::MatchingFailure => "matching failure",
+        Status::OutOfRange => "out of range",
+        Status::TooLong => "too long",
+        Status::NoMemory => "out of memory",
+    }
+}
+
+impl fmt::Display for ToolFault {
+    ghost output = { λ fault. Some (tool_fault_text fault) };
+
+    fn fmt<W: fmt::Write>(&self, f: &mut fmt::Formatter<W>) -> fmt::Result {
+        match *self {
+            ToolFault::Failed { number, outcome } => {
+                let status = status_text(outcome.status);
+                let at = outcome.at;
+                let used = outcome.used;
+                let assigned = outcome.assigned;
+                write!(
+                    f,
+                    "record {number}: {status} at {at}, used {used}, assigned {assigned}"
+                )
+            }
+            ToolFault::Stalled { number } => write!(f, "record {number}: stalled"),
+        }
+    }
+}
+
+/// Why the command did not end cleanly.
+#[derive(Clone, Copy, Debug, PartialEq, Eq)]
+pub enum CommandFault {
+    /// The words are no command.
+    Usage,
+    /// The format is refused.
+    Format(FormatFault),
+    /// The input is too long.
+    TooLong,
+    /// The input could not be read.
+    Read,
+    /// The records stopped before the end of the input.
+    Record(ToolFault),
+    /// The output could not be written.
+    Write,
+    /// Memory was refused.
+    Memory,
+}
+
+impl From<InputFault> for CommandFault {
+    ghost from_gives = { λ fault given. given ≡ input_fault fault };
+
+    fn from(fault: InputFault) -> CommandFault {
+        match fault {
+            InputFault::TooLong => CommandFault::TooLong,
+            InputFault::Read => CommandFault::Read,
+            InputFault::Memory => CommandFault::Memory,
+        }
+    }
+}
+
+impl From<FormatFault> for CommandFault {
+    ghost from_gives = { λ fault given. given ≡ format_fault fault };
+
+    fn from(fault: FormatFault) -> CommandFault {
+        match fault.why {
+            FormatWhy::NoMemory => CommandFault::Memory,
+            _ => CommandFault::Format(fault),
+        }
+    }
+}
+
+impl From<AllocError> for CommandFault {
+    ghost from_gives = { λ _ given. given ≡ Memory };
+
+    fn from(_error: AllocError) -> CommandFault {
+        CommandFault::Memory
+    }
+}
+
+impl CommandFault {
+    /// The exit status of the command.
+    pub fn status(self) -> u8
+        ensures { result ≡ status_of self }
+    {
+        match self {
+            CommandFault::Record(_) => 1,
+            CommandFault::Usage | CommandFault::Format(_) => 2,
+            CommandFault::TooLong | CommandFault::Read | CommandFault::Write => 3,
+            CommandFault::Memory => 4,
+        }
+    }
+}
+
+/// The line on standard error, without its line end.
+impl fmt::Display for CommandFault {
+    ghost output = { λ fault. Some (command_fault_text fault) };
+
+    fn fmt<W: fmt::Write>(&self, f: &mut fmt::Formatter<W>) -> fmt::Result {
+        match *self {
+            CommandFault::Usage => write!(f, "sf: usage"),
+            CommandFault::Format(fault) => {
+                let why = why_text(fault.why);
+                let at = fault.at;
+                write!(f, "sf: scan format: {why} at {at}")
+            }
+            CommandFault::TooLong => write!(f, "sf: input too long"),
+            CommandFault::Read => write!(f, "sf: record 1: read fault"),
+            CommandFault::Record(fault) => write!(f, "sf: {fault}"),
+            CommandFault::Write => write!(f, "sf: write fault"),
+            CommandFault::Memory => write!(f, "sf: out of memory"),
+        }
+    }
+}
+
+impl Error for CommandFault {}

@@ -1,0 +1,175 @@
+//! The lines that show a scan format.
+ghost use Rattle.std.specs.Prelude.{◌≡◌, ◌++◌, ◌<◌, ◌≤◌, OnOk, IfOk, length};
+ghost use Rattle.std.specs.Fmt.{decimal};
+ghost use Rattle.sf_tool.specs.Show.{hex_digit, escaped, quoted, kind_text, letter_text, optional_text, members_text, head_text, field_text, conversion_text, directive_text, line_text, directive_lines, summary_text, show_text};
+
+use sf_base::Kind;
+use sf_format::{Base, Conversion, Directive, ScanFormat, Shape};
+use std::alloc::{AllocError, Global};
+use std::io::Write;
+
+fn hex_digit(n: u8) -> u8
+    requires { n < 16 }
+    ensures { result ≡ hex_digit n }
+{
+    if n < 10 { b'0' + n } else { b'a' + (n - 10) }
+}
+
+fn push_escaped(output: &mut Vec<u8>, b: u8) -> Result<(), AllocError>
+    ensures { OnOk result (output.new.items ≡ output.old.items ++ escaped b) }
+{
+    match b {
+        b'\\' => output.extend_from_slice(b"\\\\"),
+        b'"' => output.extend_from_slice(b"\\\""),
+        32..=126 => output.extend_from_slice(&[b]),
+        _ => output.extend_from_slice(&[b'\\', b'x', hex_digit(b / 16), hex_digit(b % 16)]),
+    }
+}
+
+fn kind_text(kind: Kind) -> &'static str
+    ensures { result.now ≡ kind_text kind }
+{
+    match kind {
+        Kind::I8 => "i8",
+        Kind::I16 => "i16",
+        Kind::I32 => "i32",
+        Kind::I64 => "i64",
+        Kind::U8 => "u8",
+        Kind::U16 => "u16",
+        Kind::U32 => "u32",
+        Kind::U64 => "u64",
+        Kind::Text => "text",
+    }
+}
+
+fn letter_text(shape: &Shape, kind: Kind) -> &'static str
+    ensures { result.now ≡ letter_text shape.now kind }
+{
+    match shape {
+        Shape::Int(Base::Dec) => match kind {
+            Kind::I8 | Kind::I16 | Kind::I32 | Kind::I64 => "d",
+            Kind::U8 | Kind::U16 | Kind::U32 | Kind::U64 | Kind::Text => "u",
+        },
+        Shape::Int(Base::Oct) => "o",
+        Shape::Int(Base::Hex) => "x",
+        Shape::Int(Base::Auto) => "i",
+        Shape::Text => "s",
+        Shape::Set(_) => "[",
+        Shape::Chars => "c",
+        Shape::Count => "n",
+    }
+}
+
+fn push_text(output: &mut Vec<u8>, text: &str) -> Result<(), AllocError>
+    ensures { OnOk result (output.new.items ≡ output.old.items ++ text.now) }
+{
+    output.extend_from_slice(text.as_bytes())
+}
+
+fn push_number(output: &mut Vec<u8>, number: u32) -> Result<(), AllocError>
+    ensures { OnOk result (output.new.items ≡ output.old.items ++ decimal number) }
+{
+    write!(output, "{number}").map_err(|_| AllocError)
+}
+
+fn push_optional(output: &mut Vec<u8>, number: Option<u32>) -> Result<(), AllocError>
+    ensures { OnOk result (output.new.items ≡ output.old.items ++ optional_text number) }
+{
+    match number {
+        None => push_text(output, "-"),
+        Some(number) => push_number(output, number),
+    }
+}
+
+fn push_members(output: &mut Vec<u8>, shape: &Shape) -> Result<(), AllocError>
+    ensures { OnOk result (output.new.items ≡ output.old.items ++ members_text shape.now) }
+{
+    if let Shape::Set(members) = shape {
+        push_text(output, " members ")?;
+        push_number(output, u32::from(members.count()))?;
+    }
+    Ok(())
+}
+
+fn push_head(output: &mut Vec<u8>, conversion: &Conversion) -> Result<(), AllocError>
+    ensures { OnOk result (output.new.items ≡ output.old.items ++ head_text conversion.now) }
+{
+    push_text(output, letter_text(&conversion.shape, conversion.kind))?;
+    push_text(output, " ")?;
+    push_text(output, kind_text(conversion.kind))
+}
+
+fn push_field(output: &mut Vec<u8>, label: &str, number: Option<u32>) -> Result<(), AllocError>
+    ensures { OnOk result (output.new.items ≡ output.old.items ++ field_text label.now number) }
+{
+    push_text(output, label)?;
+    push_optional(output, number)
+}
+
+fn push_conversion(output: &mut Vec<u8>, conversion: &Conversion) -> Result<(), AllocError>
+    ensures { OnOk result (output.new.items ≡ output.old.items ++ conversion_text conversion.now) }
+{
+    push_head(output, conversion)?;
+    push_field(output, " width ", conversion.width.map(u32::from))?;
+    push_field(output, " slot ", conversion.slot.map(u32::from))?;
+    push_members(output, &conversion.shape)
+}
+
+fn push_directive(output: &mut Vec<u8>, directive: &Directive) -> Result<(), AllocError>
+    ensures { OnOk result (output.new.items ≡ output.old.items ++ directive_text directive.now) }
+{
+    match directive {
+        Directive::Space => push_text(output, "space"),
+        Directive::Byte(b) => {
+            push_text(output, "byte \"")?;
+            push_escaped(output, *b)?;
+            push_text(output, "\"")
+        }
+        Directive::Percent => push_text(output, "percent"),
+        Directive::Conv(conversion) => push_conversion(output, conversion),
+    }
+}
+
+fn push_line(output: &mut Vec<u8>, number: u32, directive: &Directive) -> Result<(), AllocError>
+    ensures { OnOk result (output.new.items ≡ output.old.items ++ line_text number directive.now) }
+{
+    push_number(output, number)?;
+    push_text(output, " ")?;
+    push_directive(output, directive)?;
+    push_text(output, "\n")
+}
+
+fn push_summary(output: &mut Vec<u8>, destinations: u8, sum: Option<u32>) -> Result<(), AllocError>
+    ensures { OnOk result (output.new.items ≡ output.old.items ++ summary_text destinations sum) }
+{
+    push_field(output, "destinations ", Some(u32::from(destinations)))?;
+    push_field(output, ", width sum ", sum)?;
+    push_text(output, "\n")?;
+    Ok(())
+}
+
+fn push_directives(output: &mut Vec<u8>, directives: &[Directive]) -> Result<(), AllocError>
+    requires { length directives.now ≤ 4096 }
+    ensures { OnOk result (output.new.items ≡ output.old.items ++ directive_lines 1 directives.now) }
+{
+    let mut number = 1;
+    for directive in directives {
+        push_line(output, number, directive)?;
+        number += 1;
+    }
+    Ok(())
+}
+
+/// The lines that show a scan format: each directive with its number, then its destinations and its width sum.
+pub(crate) fn show(
+    alloc: Global,
+    format: &ScanFormat,
+    sum: Option<u32>,
+) -> Result<Vec<u8>, AllocError>
+    ensures { IfOk result (λ lines. lines.items ≡ show_text format.now sum) }
+{
+    let mut output = Vec::new(alloc);
+    push_directives(&mut output, format.directives())?;
+    push_summary(&mut output, format.destinations(), sum)?;
+    Ok(output)
+}

@@ -1,0 +1,311 @@
+//! Rows of the command, and readers and writers that fail.
+use super::*;
+use sf_format::{FormatFault, FormatWhy, Profile, ScanFormat};
+use sf_run::{Ending, Outcome, Status};
+use std::alloc::Global;
+use std::io;
+use std::io::Read;
+use std::process::Abort;
+use std::test::Fail;
+
+/// A row: a format, a text, the output and the line on standard error.
+#[derive(Drop)]
+struct Row {
+    format: &'static str,
+    text: &'static str,
+    output: &'static str,
+    line: &'static str,
+    status: u8,
+}
+
+fn words(alloc: Global, verb: &str, format: &str) -> Result<Vec<String>, Fail> {
+    let mut words = Vec::new(alloc);
+    words.push(String::from_str(alloc, verb)?)?;
+    words.push(String::from_str(alloc, format)?)?;
+    Ok(words)
+}
+
+fn run(rt: &(impl Abort + AllocGlobal), row: &Row) -> Result<(), Fail> {
+    let alloc = rt.alloc();
+    let words = words(alloc, "scan", row.format)?;
+    let mut input = row.text.as_bytes();
+    let mut out = Vec::<u8>::new(alloc);
+    let mut err = Vec::<u8>::new(alloc);
+    let status = tool(alloc, &words, &mut input, &mut out, &mut err);
+    let name = row.format;
+    assert!(rt; out.as_slice() == row.output.as_bytes(), "output of {name}");
+    assert!(rt;
+        err.as_slice() == row.line.as_bytes(),
+        "error line of {name}"
+    );
+    assert_eq!(rt; status, row.status, "status of {name}");
+    Ok(())
+}
+
+#[test]
+fn rows(rt: HostRuntime) -> Result<(), Fail> {
+    let rows = [
+        Row {
+            format: "%d,%d",
+            text: "12,-7\n3,4\n",
+            output: "12 -7\n3 4\n",
+            line: "",
+            status: 0,
+        },
+        Row {
+            format: "%d,%d",
+            text: "1,2\n3;4\n",
+            output: "1 2\n",
+            line: "sf: record 2: matching failure at 2, used 2, assigned 1\n",
+            status: 1,
+        },
+        Row {
+            format: "",
+            text: "abc",
+            output: "",
+            line: "sf: record 1: stalled\n",
+            status: 1,
+        },
+        Row {
+            format: " ",
+            text: "\t",
+            output: "\n",
+            line: "sf: record 2: stalled\n",
+            status: 1,
+        },
+        Row {
+            format: "%d",
+            text: "",
+            output: "",
+            line: "",
+            status: 0,
+        },
+        Row {
+            format: "%d",
+            text: "  ",
+            output: "",
+            line: "",
+            status: 0,
+        },
+        Row {
+            format: "%d %d",
+            text: "",
+            output: "",
+            line: "",
+            status: 0,
+        },
+        Row {
+            format: "%d %d",
+            text: "1  ",
+            output: "",
+            line: "sf: record 1: input failure at 3, used 3, assigned 1\n",
+            status: 1,
+        },
+        Row {
+            format: "%d",
+            text: "2147483648",
+            output: "",
+            line: "sf: record 1: out of range at 1, used 10, assigned 0\n",
+            status: 1,
+        },
+        Row {
+            format: "%q",
+            text: "1",
+            output: "",
+            line: "sf: scan format: F4 UnknownLetter at 1\n",
+            status: 2,
+        },
+        Row {
+            format: "%",
+            text: "1",
+            output: "",
+            line: "sf: scan format: F1 Truncated at 1\n",
+            status: 2,
+        },
+    ];
+    for row in &rows {
+        run(&rt, row)?;
+    }
+    Ok(())
+}
+
+#[test]
+fn failed_record(rt: HostRuntime) -> Result<(), Fail> {
+    let alloc = rt.alloc();
+    let Ok(format) = ScanFormat::parse(alloc, Profile::One, b"%d,%d") else {
+        return Err(Fail::from(io::ErrorKind::OutOfMemory));
+    };
+    let end = scan_text(alloc, b"1,2\n3;4\n", &format)?;
+    assert!(rt; end.output.as_slice() == b"1 2\n".as_slice());
+    assert_eq!(rt; end.status, 1);
+    let outcome = Outcome {
+        status: Status::MatchingFailure,
+        at: 2,
+        assigned: 1,
+        converted: 1,
+        used: 2,
+        met: None,
+    };
+    assert!(rt; end.fault == Some(ToolFault::Failed { number: 2, outcome }));
+    Ok(())
+}
+
+#[test]
+fn lines_of_faults(rt: HostRuntime) -> Result<(), Fail> {
+    let outcome = Outcome {
+        status: Status::TooLong,
+        at: 3,
+        assigned: 2,
+        converted: 2,
+        used: 1048576,
+        met: Some(Ending::End),
+    };
+    let at = 7;
+    let rows = [
+        (CommandFault::Usage, "sf: usage", 2),
+        (
+            CommandFault::Format(FormatFault {
+                at,
+                why: FormatWhy::Nul,
+            }),
+            "sf: scan format: F14 Nul at 7",
+            2,
+        ),
+        (
+            CommandFault::Format(FormatFault {
+                at: 4096,
+                why: FormatWhy::FormatTooLong,
+            }),
+            "sf: scan format: F15 FormatTooLong at 4096",
+            2,
+        ),
+        (
+            CommandFault::Format(FormatFault {
+                at: 64,
+                why: FormatWhy::TooManyDestinations,
+            }),
+            "sf: scan format: F16 TooManyDestinations at 64",
+            2,
+        ),
+        (CommandFault::TooLong, "sf: input too long", 3),
+        (CommandFault::Read, "sf: record 1: read fault", 3),
+        (
+            CommandFault::Record(ToolFault::Failed { number: 5, outcome }),
+            "sf: record 5: too long at 3, used 1048576, assigned 2",
+            1,
+        ),
+        (
+            CommandFault::Record(ToolFault::Stalled { number: 12 }),
+            "sf: record 12: stalled",
+            1,
+        ),
+        (CommandFault::Write, "sf: write fault", 3),
+        (CommandFault::Memory, "sf: out of memory", 4),
+    ];
+    for (fault, line, status) in rows {
+        assert!(rt; fault.to_string(rt.alloc())?.as_str() == line, "{line}");
+        assert_eq!(rt; fault.status(), status, "{line}");
+    }
+    Ok(())
+}
+
+/// A reader of so many digits, which then ends, or fails.
+#[derive(Drop)]
+struct Digits {
+    left: usize,
+    fails: bool,
+}
+
+impl Read for Digits {
+    fn read(&mut self, buf: &mut [u8]) -> io::Result<usize> {
+        if self.left == 0 && self.fails {
+            return Err(io::Error::from(io::ErrorKind::Other));
+        }
+        let count = self.left.min(buf.len());
+        for byte in &mut buf[..count] {
+            *byte = b'1';
+        }
+        self.left -= count;
+        Ok(count)
+    }
+}
+
+#[test]
+fn inputs(rt: HostRuntime) -> Result<(), Fail> {
+    let rows = [(0, false), (1048576, false), (1048577, false), (10, true)];
+    for (left, fails) in rows {
+        let mut input = Digits { left, fails };
+        match read_input(rt.alloc(), &mut input) {
+            Ok(bytes) => {
+                assert!(rt; !fails && left <= 1048576, "{left}");
+                assert_eq!(rt; bytes.len(), left);
+                assert!(rt; bytes.iter().all(|byte| *byte == b'1'));
+            }
+            Err(InputFault::TooLong) => assert_eq!(rt; left, 1048577),
+            Err(InputFault::Read) => assert!(rt; fails, "{left}"),
+            Err(InputFault::Memory) => assert!(rt; false, "{left}"),
+        }
+    }
+    Ok(())
+}
+
+/// A writer whose writes or flushes fail.
+#[derive(Drop)]
+struct Full {
+    takes: bool,
+}
+
+impl io::Write for Full {
+    fn write(&mut self, buf: &[u8]) -> io::Result<usize> {
+        if self.takes {
+            Ok(buf.len())
+        } else {
+            Err(io::Error::from(io::ErrorKind::Other))
+        }
+    }
+
+    fn flush(&mut self) -> io::Result<()> {
+        Err(io::Error::from(io::ErrorKind::Other))
+    }
+}
+
+#[test]
+fn read_and_write_faults(rt: HostRuntime) -> Result<(), Fail> {
+    let alloc = rt.alloc();
+    let words = words(alloc, "scan", "%d")?;
+    for takes in [false, true] {
+        let mut err = Vec::<u8>::new(alloc);
+        let mut input: &[u8] = b"1 2";
+        let status = tool(alloc, &words, &mut input, &mut Full { takes }, &mut err);
+        assert_eq!(rt; status, 3);
+        assert!(rt; err.as_slice() == b"sf: write fault\n".as_slice());
+    }
+    for (left, line) in [
+        (10, "sf: record 1: read fault\n"),
+        (1048577, "sf: input too long\n"),
+    ] {
+        let mut out = Vec::<u8>::new(alloc);
+        let mut err = Vec::<u8>::new(alloc);
+        let mut input = Digits { left, fails: true };
+        assert_eq!(rt; tool(alloc, &words, &mut input, &mut out, &mut err), 3);
+        assert!(rt; out.is_empty());
+        assert!(rt; err.as_slice() == line.as_bytes(), "{line}");
+    }
+    Ok(())
+}
+
+#[test]
+fn usage(rt: HostRuntime) -> Result<(), Fail> {
+    let alloc = rt.alloc();
+    let mut more = words(alloc, "scan", "%d")?;
+    more.push(String::from_str(alloc, "%d")?)?;
+    for words in [Vec::new(alloc), words(alloc, "show", "%d")?, more] {
+        let mut input: &[u8] = b"1";
+        let mut out = Vec::<u8>::new(alloc);
+        let mut err = Vec::<u8>::new(alloc);
+        assert_eq!(rt; tool(alloc, &words, &mut input, &mut out, &mut err), 2);
+        assert!(rt; err.as_slice() == b"sf: usage\n".as_slice());
+        assert!(rt; out.is_empty() && input.len() == 1);
+    }
+    Ok(())
+}
