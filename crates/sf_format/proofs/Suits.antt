@@ -1,5 +1,5 @@
 -- An opening and a letter that no rule refuses suit each other.
-use Rattle.std.proofs.Common.{◌≡◌, ℕ, ◌<◌, ◌≤◌, Bool, true, false, cond, ◌&&◌, ◌||◌, nat_eq, nat_lt, List, [], ◌∷◌, Some, refl, sym, ap, ◌∙◌, subst, arith}
+use Rattle.std.proofs.Common.{◌≡◌, ℕ, ◌<◌, ◌≤◌, Bool, true, false, cond, ◌&&◌, ◌||◌, nat_eq, nat_lt, List, [], ◌∷◌, Some, None, is_some, is_none, refl, sym, ap, ◌∙◌, subst, arith}
 use Rattle.std.specs.Prelude.{IsSome}
 use Rattle.std.proofs.lemmas.Bool.Decides.{nat_tests}
 use Rattle.std.specs.List.{AllByRecursion}
@@ -15,11 +15,11 @@ use Rattle.sf_format.specs.declared.letter.Length.TheVariants.{NoLength, HH, H, 
 use Rattle.sf_format.specs.Letters.{letters_of_one, find_letter, letter_of, kind_of, text_kind}
 use Rattle.sf_format.specs.Pieces.{Opening}
 use Rattle.sf_format.specs.Grammar.{IsOptionalNumber, SuitsCount, Suits}
-use Rattle.sf_format.specs.Faults.{has_length, is_l, opening_rules, letter_rules}
+use Rattle.sf_format.specs.Faults.{first_of, has_length, is_l, opening_rules, letter_rules}
 use Rattle.sf_format.proofs.Outcomes.{by_test, or_left, or_right}
 use Rattle.sf_format.proofs.Prefixes.{AllPass}
 use Rattle.sf_format.proofs.Cutting.{IsLast, HasDigits}
-use Rattle.sf_format.proofs.Rules.{Quiet}
+use Rattle.sf_format.proofs.Rules.{Quiet, quiet_is}
 
 -- ---- letters
 
@@ -216,3 +216,17 @@ letter_quiet profile letter o b q e suits =
 
 pub suits_digits : (letter : Letter) (o : Opening) → Suits letter o → HasDigits o
 suits_digits letter o suits = (number_digits 32 o.number suits.number, number_digits 65535 o.width suits.width)
+
+-- ---- what a letter that no rule refuses converts
+
+pub some_letter : {A : Type 0} (profile : Profile) (o : Opening) (b q : ℕ) → first_of (letter_rules profile o b q) ≡ None → letter_of profile b ≡ None → A
+some_letter profile o b q none e =
+    let known = (quiet_is (letter_rules profile o b q) none).1.1.0 in
+    let unknown : is_none (letter_of profile b) ≡ true = ap is_none e in absurd (cc)
+
+pub some_kind : {A : Type 0} (profile : Profile) (o : Opening) (b q : ℕ) (letter : Letter) → first_of (letter_rules profile o b q) ≡ None
+    → letter_of profile b ≡ Some letter → kind_of letter o.size ≡ None → A
+some_kind profile o b q letter none found e =
+    let quiet = subst Quiet (rules_of_one profile o b q) (quiet_is (letter_rules profile o b q) none) in
+    let some = ((letter_is profile b letter found).allowed o q quiet).0 in
+    let nothing : is_some (kind_of letter o.size) ≡ false = ap is_some e in absurd (cc)

@@ -39,6 +39,11 @@ abbrev pub fault_in : Option FormatFault → Option (FormatWhy × ℕ)
 fault_in None = None
 fault_in (Some fault) = Some (fault_of fault)
 
+-- a reason, told at the place
+abbrev pub why_at : ℕ → Option FormatWhy → Option (FormatWhy × ℕ)
+why_at at None = None
+why_at at (Some why) = Some (why, at)
+
 -- ---- one specification
 
 -- the first fault by the rules, or else what the letter converts and its kind

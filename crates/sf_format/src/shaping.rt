@@ -1,5 +1,5 @@
 //! The letters of conversion specifications, and what stands behind them.
-ghost use Rattle.std.specs.Prelude.{◌≡◌, ◌≤◌, ◌+◌, true, length};
+ghost use Rattle.std.specs.Prelude.{◌≡◌, ◌≤◌, ◌+◌, ℕ, true, length};
 ghost use Rattle.std.specs.List.{AllByRecursion};
 ghost use Rattle.sf_base.specs.Bytes.{magnitude};
 ghost use Rattle.sf_format.specs.Digits.{is_decimal};
@@ -7,7 +7,7 @@ ghost use Rattle.sf_format.specs.declared.letter.Letter.TheVariants as letter;
 ghost use Rattle.sf_format.specs.Scanlist.{caret_text};
 ghost use Rattle.sf_format.specs.Grammar.{width_of};
 ghost use Rattle.sf_format.specs.Faults.{first_of, letter_rules};
-ghost use Rattle.sf_format.specs.Passing.{opening_of, fault_in, Converts, Shapes, is_set};
+ghost use Rattle.sf_format.specs.Passing.{opening_of, why_at, Converts, Shapes, is_set};
 
 use crate::directive::{Profile, Shape};
 use crate::fault::{FormatFault, FormatWhy};
@@ -24,46 +24,28 @@ pub struct Shaped<'a> {
     pub rest: &'a [u8],
 }
 
-/// The first fault of the letter at the place.
-fn letter_fault(profile: Profile, written: &Written, letter: u8, at: u16) -> Option<FormatFault>
-    ensures { fault_in result ≡ first_of (letter_rules profile (opening_of written.now) letter at) }
+/// Why the letter is refused, by the first rule that applies.
+fn letter_why(profile: Profile, written: &Written, letter: u8) -> Option<FormatWhy>
+    ensures { (at : ℕ) → why_at at result ≡ first_of (letter_rules profile (opening_of written.now) letter at) }
 {
     let is_text = of_text(letter);
     if letter == 0 {
-        return Some(FormatFault {
-            why: FormatWhy::Nul,
-            at,
-        });
+        return Some(FormatWhy::Nul);
     }
     if left_out(letter) {
-        return Some(FormatFault {
-            why: FormatWhy::LeftOut,
-            at,
-        });
+        return Some(FormatWhy::LeftOut);
     }
     if letter_of(profile, letter).is_none() {
-        return Some(FormatFault {
-            why: FormatWhy::UnknownLetter,
-            at,
-        });
+        return Some(FormatWhy::UnknownLetter);
     }
     if is_text && matches!(written.size, Length::L) {
-        return Some(FormatFault {
-            why: FormatWhy::LeftOut,
-            at,
-        });
+        return Some(FormatWhy::LeftOut);
     }
     if is_text && written.size.is_written() {
-        return Some(FormatFault {
-            why: FormatWhy::BadLength,
-            at,
-        });
+        return Some(FormatWhy::BadLength);
     }
     if letter == b'n' && (written.star || !written.width.is_empty()) {
-        return Some(FormatFault {
-            why: FormatWhy::BadCount,
-            at,
-        });
+        return Some(FormatWhy::BadCount);
     }
     None
 }
@@ -77,8 +59,8 @@ pub fn converted(
 ) -> Result<(Letter, Kind), FormatFault>
     ensures { Converts profile (opening_of written.now) letter (letter_rules profile (opening_of written.now) letter at) result }
 {
-    if let Some(fault) = letter_fault(profile, written, letter, at) {
-        return Err(fault);
+    if let Some(why) = letter_why(profile, written, letter) {
+        return Err(FormatFault { at, why });
     }
     let Some(found) = letter_of(profile, letter) else {
         unreachable!()
