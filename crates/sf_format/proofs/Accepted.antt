@@ -13,7 +13,7 @@ use Rattle.sf_format.specs.declared.letter.Letter.{Letter}
 use Rattle.sf_format.specs.declared.letter.Letter.TheVariants.{Signed, Unsigned, Chars, Text, Set, Count}
 use Rattle.sf_format.specs.Pieces.{Opening, Piece, WhiteSpace, Ordinary, Percents, Plain, Bracket, piece_text, text_of}
 use Rattle.sf_format.specs.Grammar.{IsOptionalNumber, optional_number, IsPiece, IsFormat, ArePlaced, AreNumbered, destinations, shape_of, width_of, slot_of, Means, MeanAll}
-use Rattle.sf_format.specs.Proper.{IsProperShape, IsProperWidth, IsProper, AreProper, destinations_of, slots_of, slots_from, AreInOrder, AreDistinct, IsAccepted}
+use Rattle.sf_format.specs.Proper.{HasItsWidth, IsSized, AreSized, IsProperShape, IsProperWidth, IsProper, AreProper, destinations_of, slots_of, slots_from, AreInOrder, AreDistinct, IsAccepted}
 use Rattle.sf_format.proofs.Rules.{all_append, all_front, all_back}
 use Rattle.sf_format.proofs.Numbers.{number_of, all_map, both_all, all_to_map}
 use Rattle.sf_format.proofs.Destinations.{destinations_cons, at_most_one}
@@ -67,6 +67,30 @@ all_proper profile place (piece ∷ pieces) (d ∷ ds) each h = (
   proper_one profile place piece d each.0 h.0,
   all_proper profile (place + length (destinations (piece ∷ []))) pieces ds each.1 h.1,
 )
+
+plain_sized : (letter : Letter) (s : Shape) (ds : List ℕ) → shape_of letter s → HasItsWidth s (width_of letter ds)
+plain_sized (Signed base) s ds h = subst (λ t. HasItsWidth t (width_of (Signed base) ds)) (sym h) tt
+plain_sized (Unsigned base) s ds h = subst (λ t. HasItsWidth t (width_of (Unsigned base) ds)) (sym h) tt
+plain_sized Chars s [] h = subst (λ t. HasItsWidth t (width_of Chars [])) (sym h) refl
+plain_sized Chars s (d ∷ ds) h = subst (λ t. HasItsWidth t (width_of Chars (d ∷ ds))) (sym h) refl
+plain_sized Text s ds h = subst (λ t. HasItsWidth t (width_of Text ds)) (sym h) tt
+plain_sized Count s ds h = subst (λ t. HasItsWidth t (width_of Count ds)) (sym h) tt
+plain_sized Set s ds h = absurd h
+
+sized_one : (profile : Profile) (place : ℕ) (piece : Piece) (d : Directive) → Means profile place piece d → IsSized d
+sized_one profile place (WhiteSpace bs) d h = subst IsSized (sym h) tt
+sized_one profile place (Ordinary b) d h = subst IsSized (sym h) tt
+sized_one profile place Percents d h = subst IsSized (sym h) tt
+sized_one profile place (Plain o b) d h =
+    subst IsSized (sym h.5) (subst (HasItsWidth h.1.shape) (sym h.3.width) (plain_sized h.0 h.1.shape o.width h.4))
+sized_one profile place (Bracket o list) d h = subst IsSized (sym h.5) (subst (λ s. HasItsWidth s h.0.width) (sym h.4) tt)
+
+all_sized : (profile : Profile) (place : ℕ) (pieces : List Piece) (ds : List Directive) → MeanAll profile place pieces ds → AreSized ds
+all_sized profile place [] [] h = tt
+all_sized profile place [] (d ∷ ds) h = absurd h
+all_sized profile place (piece ∷ pieces) [] h = absurd h
+all_sized profile place (piece ∷ pieces) (d ∷ ds) h =
+    (sized_one profile place piece d h.0, all_sized profile (place + length (destinations (piece ∷ []))) pieces ds h.1)
 
 -- a directive for each part, of which none is empty
 all_short : (profile : Profile) (place : ℕ) (pieces : List Piece) (ds : List Directive) → AllByRecursion (IsPiece profile) pieces
@@ -335,6 +359,7 @@ format_accepted profile pieces ds is h =
     (subst (AreGood (length (destinations pieces))) (sym (slots_all profile 1 pieces ds h)) (named_good profile pieces is)) in
     record {
       proper = all_proper profile 1 pieces ds is.each h;
+      sized = all_sized profile 1 pieces ds h;
       short = omega (arith, all_short profile 1 pieces ds is.each h, is.short);
       few = omega (arith, count, format_few profile pieces is);
       slots = record { each = good.within; distinct = good.distinct };

@@ -1,12 +1,12 @@
 -- What holds of the directives of each accepted scan format.
-use Rattle.std.specs.Prelude.{◌≡◌, ◌≢◌, ℕ, zero, suc, ◌+◌, ◌<◌, ◌≤◌, Bool, true, false, ◌&&◌, nat_eq, List, [], ◌∷◌, length, map, find, Option, Some, None, IfSome}
+use Rattle.std.specs.Prelude.{◌≡◌, ◌≢◌, ℕ, zero, suc, ◌+◌, ◌<◌, ◌≤◌, Bool, true, false, ◌&&◌, nat_eq, List, [], ◌∷◌, length, map, find, Option, Some, None, IsSome, IfSome}
 use Rattle.std.specs.List.{AllByRecursion, list_all, filter_map}
 use Rattle.std.specs.Option.{option_map}
 use Rattle.sf_base.specs.declared.values.Kind.{Kind}
 use Rattle.sf_base.specs.declared.values.Kind.TheVariants.{I32}
 use Rattle.sf_base.specs.Sets.{has_byte}
 use Rattle.sf_format.specs.declared.directive.Shape.{Shape}
-use Rattle.sf_format.specs.declared.directive.Shape.TheVariants.{Int, Set}
+use Rattle.sf_format.specs.declared.directive.Shape.TheVariants.{Int, Set, Chars}
 use Rattle.sf_format.specs.declared.directive.Directive.{Directive}
 use Rattle.sf_format.specs.declared.directive.Directive.TheVariants.{Space, Byte, Percent, Conv}
 
@@ -18,6 +18,18 @@ IsProperShape _ = Unit {0}
 -- a width, where there is one, is at least 1
 abbrev pub IsProperWidth : Option ℕ → Type 0
 IsProperWidth width = IfSome width (λ w. 1 ≤ w)
+
+-- c has a width
+abbrev pub HasItsWidth : Shape → Option ℕ → Type 0
+HasItsWidth Chars width = IsSome width
+HasItsWidth _ width = Unit {0}
+
+abbrev pub IsSized : Directive → Type 0
+IsSized (Conv c) = HasItsWidth c.shape c.width
+IsSized _ = Unit {0}
+
+abbrev pub AreSized : List Directive → Type 0
+AreSized ds = AllByRecursion IsSized ds
 
 abbrev pub IsProper : Directive → Type 0
 IsProper Space = Unit {0}
@@ -88,6 +100,7 @@ are_plain ds = list_all is_plain ds
 
 pub record IsAccepted (ds : List Directive) : Type 0 where
   pub proper : AreProper ds
+  pub sized : AreSized ds
   pub short : length ds ≤ 4096
   pub few : length (destinations_of ds) ≤ 32
   pub slots : AreSlots ds

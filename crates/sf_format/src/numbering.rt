@@ -7,8 +7,8 @@ ghost use Rattle.sf_format.specs.Passing.{fault_in, slot_in, placed_slot, first_
 
 use crate::directive::{Directive, Profile};
 use crate::fault::{FormatFault, FormatWhy};
-use crate::passing::{no_slots, pass};
-use crate::slots::Slots;
+use crate::passing::pass;
+use crate::slots::{Slots, no_slots};
 use sf_base::ByteSet;
 
 /// What was noted of the numbers so far.

@@ -86,30 +86,30 @@ fn number_len(number: &[u8]) -> u16
 }
 
 /// The first fault of an opening whose `%` stands at the place.
-pub fn opening_fault(at: u16, o: &Written) -> Option<FormatFault>
+pub fn opening_fault(at: u16, written: &Written) -> Option<FormatFault>
     requires place { at ≤ 4096 }
-    requires number { length o.now.number.now ≤ 4096 }
-    requires digits { AllByRecursion (λ b. is_decimal b ≡ true) o.now.number.now }
-    requires width_digits { AllByRecursion (λ b. is_decimal b ≡ true) o.now.width.now }
-    ensures { fault_in result ≡ first_of (opening_rules at (opening_of o.now)) }
+    requires number { length written.now.number.now ≤ 4096 }
+    requires digits { AllByRecursion (λ b. is_decimal b ≡ true) written.now.number.now }
+    requires width_digits { AllByRecursion (λ b. is_decimal b ≡ true) written.now.width.now }
+    ensures { fault_in result ≡ first_of (opening_rules at (opening_of written.now)) }
 {
-    let star_at = at + 1 + number_len(o.number);
-    let width_at = star_at + if o.star { 1 } else { 0 };
-    let slot = capped(o.number);
-    let width = capped(o.width);
-    if !o.number.is_empty() && (slot == 0 || slot > 32) {
+    let star_at = at + 1 + number_len(written.number);
+    let width_at = star_at + if written.star { 1 } else { 0 };
+    let slot = capped(written.number);
+    let width = capped(written.width);
+    if !written.number.is_empty() && (slot == 0 || slot > 32) {
         return Some(FormatFault {
             why: FormatWhy::BadNumber,
             at: at + 1,
         });
     }
-    if !o.number.is_empty() && o.star {
+    if !written.number.is_empty() && written.star {
         return Some(FormatFault {
             why: FormatWhy::BadNumber,
             at: star_at,
         });
     }
-    if !o.width.is_empty() && width == 0 {
+    if !written.width.is_empty() && width == 0 {
         return Some(FormatFault {
             why: FormatWhy::ZeroWidth,
             at: width_at,

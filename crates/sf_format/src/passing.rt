@@ -13,7 +13,7 @@ use crate::fault::{FormatFault, FormatWhy};
 use crate::fronts::{Class, split_front};
 use crate::opening::{Written, opening, opening_fault};
 use crate::shaping::{converted, shape_behind, width_of};
-use crate::slots::{Slots, pushed, slot_fault, slot_of};
+use crate::slots::{Slots, no_slots, pushed, slot_fault, slot_of};
 use sf_base::is_space;
 use std::alloc::Global;
 
@@ -28,7 +28,7 @@ pub struct Passed<'a> {
 /// Passes a specification from its letter on, which stands at the second place. Its `%` stands at the first.
 fn pass_letter<'a>(
     profile: Profile,
-    o: &Written,
+    written: &Written,
     letter: u8,
     text: &'a [u8],
     percent: u16,
@@ -37,35 +37,35 @@ fn pass_letter<'a>(
 ) -> Result<Passed<'a>, FormatFault>
     requires place { at + 1 + length text.now ≤ 4096 }
     requires count { slots.count ≤ 4096 }
-    requires number { AllByRecursion (λ b. is_decimal b ≡ true) o.now.number.now }
-    requires width { AllByRecursion (λ b. is_decimal b ≡ true) o.now.width.now }
-    requires opening { first_of (opening_rules percent (opening_of o.now)) ≡ None }
+    requires number { AllByRecursion (λ b. is_decimal b ≡ true) written.now.number.now }
+    requires width { AllByRecursion (λ b. is_decimal b ≡ true) written.now.width.now }
+    requires opening { first_of (opening_rules percent (opening_of written.now)) ≡ None }
     ensures { (earlier : List Opening) → Holds slots earlier
-        → PassesBy profile (rest_rules profile earlier percent (opening_of o.now) at (letter ∷ text.now)) earlier
-        (letter_at (opening_of o.now) (letter ∷ text.now)) result }
+        → PassesBy profile (rest_rules profile earlier percent (opening_of written.now) at (letter ∷ text.now)) earlier
+        (letter_at (opening_of written.now) (letter ∷ text.now)) result }
 {
-    let (found, kind) = converted(profile, o, letter, at)?;
+    let (found, kind) = converted(profile, written, letter, at)?;
     let shaped = shape_behind(found, at, text)?;
-    if let Some(fault) = slot_fault(slots, o, percent) {
+    if let Some(fault) = slot_fault(slots, written, percent) {
         return Err(fault);
     }
     let conversion = Conversion {
         shape: shaped.shape,
         kind,
-        width: width_of(found, o.width),
-        slot: slot_of(slots, o),
+        width: width_of(found, written.width),
+        slot: slot_of(slots, written),
     };
     Ok(Passed {
         directive: Directive::Conv(conversion),
         rest: shaped.rest,
-        slots: pushed(slots, o),
+        slots: pushed(slots, written),
     })
 }
 
 /// Passes a specification from where its letter is due, at the second place. Its `%` stands at the first.
 fn pass_rest<'a>(
     profile: Profile,
-    o: &Written,
+    written: &Written,
     text: &'a [u8],
     percent: u16,
     at: u16,
@@ -73,18 +73,18 @@ fn pass_rest<'a>(
 ) -> Result<Passed<'a>, FormatFault>
     requires place { at + length text.now ≤ 4096 }
     requires count { slots.count ≤ 4096 }
-    requires number { AllByRecursion (λ b. is_decimal b ≡ true) o.now.number.now }
-    requires width { AllByRecursion (λ b. is_decimal b ≡ true) o.now.width.now }
-    requires opening { first_of (opening_rules percent (opening_of o.now)) ≡ None }
+    requires number { AllByRecursion (λ b. is_decimal b ≡ true) written.now.number.now }
+    requires width { AllByRecursion (λ b. is_decimal b ≡ true) written.now.width.now }
+    requires opening { first_of (opening_rules percent (opening_of written.now)) ≡ None }
     ensures { (earlier : List Opening) → Holds slots earlier
-        → PassesBy profile (rest_rules profile earlier percent (opening_of o.now) at text.now) earlier (letter_at (opening_of o.now) text.now) result }
+        → PassesBy profile (rest_rules profile earlier percent (opening_of written.now) at text.now) earlier (letter_at (opening_of written.now) text.now) result }
 {
     match text {
         [] => Err(FormatFault {
             at,
             why: FormatWhy::Truncated,
         }),
-        [letter, rest @ ..] => pass_letter(profile, o, *letter, rest, percent, at, slots),
+        [letter, rest @ ..] => pass_letter(profile, written, *letter, rest, percent, at, slots),
     }
 }
 
@@ -117,12 +117,12 @@ fn pass_specification<'a>(
             slots,
         });
     }
-    let (o, rest) = opening(text);
-    if let Some(fault) = opening_fault(at, &o) {
+    let (written, rest) = opening(text);
+    if let Some(fault) = opening_fault(at, &written) {
         return Err(fault);
     }
     let letter_at = at + 1 + (text.len() - rest.len()) as u16;
-    pass_rest(profile, &o, rest, at, letter_at, slots)
+    pass_rest(profile, &written, rest, at, letter_at, slots)
 }
 
 /// Passes the part that begins with the byte at the place, after these destinations.
@@ -162,16 +162,6 @@ pub fn pass<'a>(
         rest,
         slots,
     })
-}
-
-/// No destination, before the first part.
-pub fn no_slots() -> Slots
-    ensures { Holds result [] }
-{
-    Slots {
-        count: 0,
-        numbered: false,
-    }
 }
 
 /// The destinations of a text without a fault in its parts, or the first such fault. It takes no memory.

@@ -2,7 +2,7 @@
 ghost use Rattle.std.specs.Prelude.{◌≡◌, ◌≤◌, ◌↔◌, IsSome, ℕ, List, [], ◌∷◌, true, length, Err, IfOk, IfErr, MatchResult, IfSome};
 ghost use Rattle.sf_format.specs.declared.fault.FormatWhy.{FormatWhy};
 ghost use Rattle.sf_format.specs.declared.directive.Directive.{Directive};
-ghost use Rattle.sf_format.specs.Proper.{AreProper, destinations_of, AreSlots, kind_at};
+ghost use Rattle.sf_format.specs.Proper.{AreProper, AreSized, destinations_of, AreSlots, kind_at};
 ghost use Rattle.sf_format.specs.Widths.{width_sum, stored_width};
 ghost use Rattle.sf_format.specs.Grammar.{Spells};
 ghost use Rattle.sf_format.specs.Faults.{Fault, IsRefused, no_memory};
@@ -113,6 +113,7 @@ impl ScanFormat {
     pub fn directives(&self) -> &[Directive]
         ensures value { result.now ≡ self.now }
         ensures proper { AreProper result.now }
+        ensures sized { AreSized result.now }
         ensures short { length result.now ≤ 4096 }
         ensures few { length (destinations_of result.now) ≤ 32 }
         ensures slots { AreSlots result.now }

@@ -25,8 +25,8 @@ pub struct Shaped<'a> {
 }
 
 /// The first fault of the letter at the place.
-fn letter_fault(profile: Profile, o: &Written, letter: u8, at: u16) -> Option<FormatFault>
-    ensures { fault_in result ≡ first_of (letter_rules profile (opening_of o.now) letter at) }
+fn letter_fault(profile: Profile, written: &Written, letter: u8, at: u16) -> Option<FormatFault>
+    ensures { fault_in result ≡ first_of (letter_rules profile (opening_of written.now) letter at) }
 {
     let is_text = of_text(letter);
     if letter == 0 {
@@ -47,19 +47,19 @@ fn letter_fault(profile: Profile, o: &Written, letter: u8, at: u16) -> Option<Fo
             at,
         });
     }
-    if is_text && matches!(o.size, Length::L) {
+    if is_text && matches!(written.size, Length::L) {
         return Some(FormatFault {
             why: FormatWhy::LeftOut,
             at,
         });
     }
-    if is_text && o.size.is_written() {
+    if is_text && written.size.is_written() {
         return Some(FormatFault {
             why: FormatWhy::BadLength,
             at,
         });
     }
-    if letter == b'n' && (o.star || !o.width.is_empty()) {
+    if letter == b'n' && (written.star || !written.width.is_empty()) {
         return Some(FormatFault {
             why: FormatWhy::BadCount,
             at,
@@ -71,19 +71,19 @@ fn letter_fault(profile: Profile, o: &Written, letter: u8, at: u16) -> Option<Fo
 /// What the letter at the place converts, and its kind.
 pub fn converted(
     profile: Profile,
-    o: &Written,
+    written: &Written,
     letter: u8,
     at: u16,
 ) -> Result<(Letter, Kind), FormatFault>
-    ensures { Converts profile (opening_of o.now) letter (letter_rules profile (opening_of o.now) letter at) result }
+    ensures { Converts profile (opening_of written.now) letter (letter_rules profile (opening_of written.now) letter at) result }
 {
-    if let Some(fault) = letter_fault(profile, o, letter, at) {
+    if let Some(fault) = letter_fault(profile, written, letter, at) {
         return Err(fault);
     }
     let Some(found) = letter_of(profile, letter) else {
         unreachable!()
     };
-    let Some(kind) = found.kind(o.size) else {
+    let Some(kind) = found.kind(written.size) else {
         unreachable!()
     };
     Ok((found, kind))

@@ -19,33 +19,43 @@ pub struct Slots {
     pub numbered: bool,
 }
 
-/// Whether one destination of the two has a number and the other has none.
-fn mixes(slots: Slots, o: &Written) -> bool
-    ensures { (earlier : List Opening) → Holds slots earlier
-        → result ≡ (not o.now.star && list_any (λ e. not (alike e (opening_of o.now))) earlier) }
+/// No destination, before the first part.
+pub fn no_slots() -> Slots
+    ensures { Holds result [] }
 {
-    !o.star && slots.count > 0 && slots.numbered == o.number.is_empty()
+    Slots {
+        count: 0,
+        numbered: false,
+    }
+}
+
+/// Whether one destination of the two has a number and the other has none.
+fn mixes(slots: Slots, written: &Written) -> bool
+    ensures { (earlier : List Opening) → Holds slots earlier
+        → result ≡ (not written.now.star && list_any (λ e. not (alike e (opening_of written.now))) earlier) }
+{
+    !written.star && slots.count > 0 && slots.numbered == written.number.is_empty()
 }
 
 /// Whether the destination is one too many without a number.
-fn is_beyond(slots: Slots, o: &Written) -> bool
-    ensures { result ≡ (not o.now.star && not (is_written o.now.number.now) && nat_lt 31 slots.count) }
+fn is_beyond(slots: Slots, written: &Written) -> bool
+    ensures { result ≡ (not written.now.star && not (is_written written.now.number.now) && nat_lt 31 slots.count) }
 {
-    !o.star && o.number.is_empty() && slots.count > 31
+    !written.star && written.number.is_empty() && slots.count > 31
 }
 
 /// The first fault of one more destination, whose `%` stands at the place.
-pub fn slot_fault(slots: Slots, o: &Written, at: u16) -> Option<FormatFault>
-    ensures first { (earlier : List Opening) → Holds slots earlier → fault_in result ≡ first_of (slot_rules earlier at (opening_of o.now)) }
-    ensures room { result ≡ None → (not o.now.star && not (is_written o.now.number.now) && nat_lt 31 slots.count) ≡ false }
+pub fn slot_fault(slots: Slots, written: &Written, at: u16) -> Option<FormatFault>
+    ensures first { (earlier : List Opening) → Holds slots earlier → fault_in result ≡ first_of (slot_rules earlier at (opening_of written.now)) }
+    ensures room { result ≡ None → (not written.now.star && not (is_written written.now.number.now) && nat_lt 31 slots.count) ≡ false }
 {
-    if mixes(slots, o) {
+    if mixes(slots, written) {
         return Some(FormatFault {
             why: FormatWhy::MixedNumbering,
             at,
         });
     }
-    if is_beyond(slots, o) {
+    if is_beyond(slots, written) {
         return Some(FormatFault {
             why: FormatWhy::TooManyDestinations,
             at,
@@ -55,33 +65,33 @@ pub fn slot_fault(slots: Slots, o: &Written, at: u16) -> Option<FormatFault>
 }
 
 /// The slot of one more destination, which has no fault. None if it is suppressed.
-pub fn slot_of(slots: Slots, o: &Written) -> Option<u8>
-    requires digits { AllByRecursion (λ b. is_decimal b ≡ true) o.now.number.now }
-    requires bound { magnitude 10 o.now.number.now ≤ 32 }
-    requires room { (not o.now.star && not (is_written o.now.number.now) && nat_lt 31 slots.count) ≡ false }
-    ensures { result ≡ slot_of (1 + slots.count) (opening_of o.now) }
+pub fn slot_of(slots: Slots, written: &Written) -> Option<u8>
+    requires digits { AllByRecursion (λ b. is_decimal b ≡ true) written.now.number.now }
+    requires bound { magnitude 10 written.now.number.now ≤ 32 }
+    requires room { (not written.now.star && not (is_written written.now.number.now) && nat_lt 31 slots.count) ≡ false }
+    ensures { result ≡ slot_of (1 + slots.count) (opening_of written.now) }
 {
-    if o.star {
+    if written.star {
         None
-    } else if o.number.is_empty() {
+    } else if written.number.is_empty() {
         Some(slots.count as u8 + 1)
     } else {
-        Some(capped(o.number) as u8)
+        Some(capped(written.number) as u8)
     }
 }
 
 /// The destinations with one more, which has no fault.
-pub fn pushed(slots: Slots, o: &Written) -> Slots
+pub fn pushed(slots: Slots, written: &Written) -> Slots
     requires { slots.count ≤ 4096 }
-    ensures { (earlier : List Opening) (at : ℕ) → Holds slots earlier → first_of (slot_rules earlier at (opening_of o.now)) ≡ None
-        → Holds result (earlier ++ assigned_opening (opening_of o.now) []) }
+    ensures { (earlier : List Opening) (at : ℕ) → Holds slots earlier → first_of (slot_rules earlier at (opening_of written.now)) ≡ None
+        → Holds result (earlier ++ assigned_opening (opening_of written.now) []) }
 {
-    if o.star {
+    if written.star {
         slots
     } else {
         Slots {
             count: slots.count + 1,
-            numbered: !o.number.is_empty(),
+            numbered: !written.number.is_empty(),
         }
     }
 }
