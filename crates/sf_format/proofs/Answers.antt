@@ -92,12 +92,6 @@ hindered profile text count fault bytes judges h =
       | inr none ↦ inr (none, laws.some_spelled profile text judges.0 (tells profile text (Ok judges.0) bytes judges.1))
     ]
 
--- a good text is hindered by memory alone
-pub only_memory : {A : Type 0} (profile : Profile) (text : List ℕ) (count : ℕ) (fault : FormatFault) → Judged profile text (Ok count)
-    → read (length text) profile [] 0 text ≡ Err (fault_of fault) → A
-only_memory profile text count fault judges e =
-    let f = sym judges.1 ∙ part_refused profile text (fault_of fault) (judged_short profile text judges.0 judges.1) e in absurd (cc)
-
 -- the one fault of the text is the one that was found
 pub same_fault : (profile : Profile) (text : List ℕ) (fault : FormatFault) (at : ℕ) (why : FormatWhy) → judged profile text ≡ Err (fault_of fault)
     → Fault profile text at why → fault ≡ record { at = at; why = why }

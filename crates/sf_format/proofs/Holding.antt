@@ -1,7 +1,7 @@
 -- Destinations by their count, and whether they have numbers.
 use mathlib.Core.Bool.{beq}
 use Rattle.std.specs.Prelude.{◌==◌}
-use Rattle.std.proofs.Common.{◌≡◌, ℕ, suc, ◌+◌, ◌<◌, Bool, true, false, cond, not, ◌&&◌, ◌||◌, nat_lt, List, [], ◌∷◌, ◌++◌, length, None, refl, sym, ap, ◌∙◌, subst, arith, append-nil, length-append}
+use Rattle.std.proofs.Common.{◌≡◌, ℕ, suc, ◌+◌, ◌<◌, Bool, true, false, cond, not, ◌&&◌, ◌||◌, nat_lt, List, [], ◌∷◌, ◌++◌, length, None, refl, sym, ap, ◌∙◌, subst, arith, length-append}
 use Rattle.std.proofs.lemmas.Bool.Decides.{nat_tests}
 use Rattle.std.specs.List.{AllByRecursion, list_any}
 use Rattle.sf_format.specs.declared.slots.Slots.{Slots}
@@ -71,11 +71,6 @@ held_more slots o earlier p plain holds e =
       count = omega (arith, length-append earlier (o ∷ []), holds.count);
       same = all_append (λ a. is_written a.number ≡ is_written o.number) earlier (o ∷ []) (are_now (is_written o.number) earlier same) (refl, tt);
     })
-
-pub held_same : (slots : Slots) (o : Opening) (earlier : List Opening) → o.star ≡ true → Holds slots earlier
-    → Holds slots (earlier ++ assigned_opening o [])
-held_same slots o earlier star holds =
-    subst (λ os. Holds slots (earlier ++ os)) (ap (λ v. cond v [] (o ∷ [])) (sym star)) (subst (Holds slots) (sym (append-nil earlier)) holds)
 
 -- ---- what the code computes
 

@@ -1,5 +1,5 @@
 -- What follows a part that no rule refuses.
-use Rattle.std.proofs.Common.{◌≡◌, ℕ, ◌+◌, ◌≤◌, Bool, true, false, cond, not, ◌&&◌, ◌||◌, nat_eq, nat_lt, List, [], ◌∷◌, ◌++◌, length, drop, Some, None, Result, Ok, Err, refl, sym, ap, ◌∙◌, subst, arith, append-nil}
+use Rattle.std.proofs.Common.{◌≡◌, ℕ, ◌+◌, ◌≤◌, Bool, true, false, cond, not, ◌&&◌, ◌||◌, nat_eq, nat_lt, List, [], ◌∷◌, ◌++◌, length, drop, Some, None, Result, Ok, Err, refl, sym, ap, ◌∙◌, subst, arith}
 use Rattle.std.proofs.lemmas.Bool.Decides.{nat_tests}
 use Rattle.std.specs.List.{AllByRecursion}
 use Rattle.sf_base.specs.Bytes.{magnitude}
@@ -67,9 +67,6 @@ slot_fault_first profile earlier p o q letter x rules list =
 pub held_there : (slots : Slots) (earlier : List Opening) (o : Opening) (letter : ℕ) (x : List ℕ) → Holds slots (earlier ++ assigned_opening o [])
     → Holds slots (earlier ++ destinations ((letter_at o (letter ∷ x)).piece ∷ []))
 held_there slots earlier o letter x h = subst (λ os. Holds slots (earlier ++ os)) (sym (letter_destination o letter x)) h
-
-pub held_none : (slots : Slots) (earlier : List Opening) → Holds slots earlier → Holds slots (earlier ++ [])
-held_none slots earlier h = subst (Holds slots) (sym (append-nil earlier)) h
 
 -- ---- the conversion by a letter
 
