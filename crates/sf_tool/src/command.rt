@@ -35,7 +35,7 @@ fn write_out<W: Write>(out: &mut W, bytes: &[u8]) -> Result<(), CommandFault>
 }
 
 /// Whether the scanner runs each directive of the format.
-fn is_run(alloc: Global, format: &ScanFormat) -> Result<bool, AllocError>
+pub(crate) fn is_run(alloc: Global, format: &ScanFormat) -> Result<bool, AllocError>
     ensures answer { IfOk result (λ run. run ≡ are_plain format.now) }
     ensures memory { IfErr result (λ _. are_plain format.now ≡ true) }
 {

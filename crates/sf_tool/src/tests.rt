@@ -1,5 +1,6 @@
 //! Rows of the command, and readers and writers that fail.
 use super::*;
+use crate::command::is_run;
 use sf_format::{FormatFault, FormatWhy, Profile, ScanFormat};
 use sf_run::{Ending, Outcome, Status};
 use std::alloc::Global;
@@ -229,6 +230,7 @@ fn failed_record(rt: HostRuntime) -> Result<(), Fail> {
     let Ok(format) = ScanFormat::parse(alloc, Profile::One, b"%d,%d") else {
         return Err(Fail::from(io::ErrorKind::OutOfMemory));
     };
+    assert!(rt; is_run(alloc, &format)?);
     let end = scan_text(alloc, b"1,2\n3;4\n", &format)?;
     assert!(rt; end.output.as_slice() == b"1 2\n".as_slice());
     assert_eq!(rt; end.status, 1);
