@@ -15,10 +15,10 @@ use Rattle.sf_run.specs.declared.outcome.Status.TheVariants.{Done, TooLong}
 use Rattle.sf_run.specs.declared.scanner.Stop.{Stop}
 use Rattle.sf_run.specs.Steps.{StepEnd, Passes, Stores, Fails}
 use Rattle.sf_run.specs.Runs.{RunReport}
-use Rattle.sf_run.specs.Machine.{Stage, Skipping, stepped, is_full, finished}
+use Rattle.sf_run.specs.Machine.{Stage, Skipping, stepped, finished}
 use Rattle.sf_run.specs.Phases.{Shows, ShowsNext, end_of}
 use Rattle.sf_run.specs.Places.{is_destination, places_left}
-use Rattle.sf_run.specs.Residual.{Tally, Part, choose, one_from, with_used, counted, out_of, by_end, run_of, run_from}
+use Rattle.sf_run.specs.Residual.{Tally, one_from, with_used, counted, out_of, by_end, run_of, run_from}
 use Rattle.sf_run.specs.declared.directive.Finished.{Finished}
 use Rattle.sf_run.specs.declared.directive.Finished.TheVariants as code
 use Rattle.sf_run.specs.declared.scanner.Scanner.{Scanner}

@@ -1,32 +1,30 @@
 -- What the phases of the code show of a directive's stage.
-use Rattle.std.proofs.Common.{◌≡◌, ◌⊎◌, inl, inr, ℕ, ◌+◌, ◌<◌, ◌≤◌, ◌^◌, Bool, true, false, cond, ◌&&◌, nat_eq, nat_lt, nat_le, List, [], ◌∷◌, ◌++◌, Option, Some, None, refl, sym, ap, subst, ◌∙◌, arith, lit<, lit≤, true≢false, ℤ}
+use Rattle.std.proofs.Common.{◌≡◌, ◌⊎◌, inl, inr, ℕ, ◌<◌, ◌≤◌, ◌^◌, Bool, true, false, cond, ◌&&◌, nat_eq, nat_lt, nat_le, List, [], ◌∷◌, ◌++◌, Option, Some, None, refl, sym, ap, subst, ◌∙◌, arith, lit<, true≢false, ℤ}
 use Rattle.std.specs.Prelude.{IsTrue, ◌↔◌}
 use Rattle.std.proofs.lemmas.Bool.Decides.{nat_tests}
 use Rattle.std.specs.Option.{option_map}
-use Rattle.sf_base.specs.Bytes.{is_white}
 use Rattle.sf_base.specs.Data.{value_of}
 use Rattle.sf_base.specs.declared.values.Kind.{Kind}
 use Rattle.sf_base.specs.declared.values.Kind.TheVariants.{I8, I16, I32, I64, U8, U16, U32, U64, Text as TextKind}
-use Rattle.sf_format.specs.declared.directive.Base.{Base}
 use Rattle.sf_format.specs.declared.directive.Shape.{Shape}
 use Rattle.sf_format.specs.declared.directive.Shape.TheVariants.{Int, Text, Set, Chars, Count}
 use Rattle.sf_format.specs.declared.directive.Conversion.{Conversion}
 use Rattle.sf_format.specs.declared.directive.Directive.{Directive}
 use Rattle.sf_format.specs.declared.directive.Directive.TheVariants.{Space, Byte, Percent, Conv}
 use Rattle.sf_format.specs.Proper.{IsProper, IsProperShape, is_plain, is_integer, is_i32}
-use Rattle.sf_item.specs.Matching.{IsInteger, Matches, ShapeMatches}
+use Rattle.sf_item.specs.Matching.{Matches, ShapeMatches}
 use Rattle.sf_item.specs.Scan.{HoldsNumber}
 use Rattle.sf_item.specs.Taking.{IsInt, CanTake, HasTaken, conversion_of, Ends}
-use Rattle.sf_item.specs.Tests.{integer_at, matches, shape_matches, can_take}
+use Rattle.sf_item.specs.Tests.{matches, shape_matches, can_take}
 use Rattle.sf_item.specs.declared.item.ItemScan.{ItemScan}
 use Rattle.sf_item.specs.declared.item.ItemEnd.{ItemEnd}
 use Rattle.sf_item.specs.declared.item.ItemEnd.TheVariants as ends
-use Rattle.sf_item.proofs.Deciding.{Tests, fails, tests_same, tests_can_take, tests_matches, integer_at_is}
+use Rattle.sf_item.proofs.Deciding.{Tests, tests_same, tests_can_take, tests_matches, integer_at_is}
 use Rattle.sf_run.specs.declared.directive.Phase.TheVariants as phase
 use Rattle.sf_run.specs.declared.outcome.Status.TheVariants.{MatchingFailure}
-use Rattle.sf_run.specs.Steps.{StepEnd, Passes, Fails}
-use Rattle.sf_run.specs.Machine.{Stage, Skipping, Taken, Item, item_stepped, stepped, is_full, number_end, integer_end, stored_end, passed_end, item_end}
-use Rattle.sf_run.specs.Phases.{Shows, ShowsNext, passed_number}
+use Rattle.sf_run.specs.Steps.{Fails}
+use Rattle.sf_run.specs.Machine.{Skipping, Taken, Item, item_stepped, is_full, number_end, integer_end, stored_end, passed_end, item_end}
+use Rattle.sf_run.specs.Phases.{ShowsNext, passed_number}
 use Rattle.sf_run.proofs.Machines.{not_full, full_of_none}
 
 pub int_proper : (shape : Shape) → IsInt shape → IsProperShape shape

@@ -1,6 +1,6 @@
 -- When a scanner waits, what it has used, and what it tells.
-use Rattle.std.proofs.Common.{◌≡◌, ℕ, ◌+◌, ◌<◌, ◌≤◌, ◌⊎◌, inl, inr, Bool, true, false, List, [], ◌∷◌, ◌++◌, length, drop, Option, Some, None, is_some, refl, sym, ap, subst, ◌∙◌, arith, append_assoc, length-append}
-use Rattle.std.specs.Prelude.{slice_get, IfNone, IsSome, SomeIff}
+use Rattle.std.proofs.Common.{◌≡◌, ℕ, ◌+◌, ◌<◌, ◌≤◌, inl, inr, false, List, [], ◌∷◌, ◌++◌, length, drop, Option, Some, None, is_some, refl, sym, ap, subst, ◌∙◌, arith, append_assoc, length-append}
+use Rattle.std.specs.Prelude.{IfNone, IsSome}
 use Rattle.std.proofs.lemmas.Bool.{le-ltb, cases_lt}
 use Rattle.std.proofs.lemmas.List.{append-nil}
 use Rattle.sf_format.specs.declared.directive.Directive.{Directive}
@@ -13,12 +13,12 @@ use Rattle.sf_run.specs.declared.outcome.Ending.{Ending}
 use Rattle.sf_run.specs.declared.outcome.Status.TheVariants.{TooLong}
 use Rattle.sf_run.specs.declared.scanner.Scanner.{Scanner}
 use Rattle.sf_run.specs.declared.scanner.Stop.{Stop}
-use Rattle.sf_run.specs.Runs.{RunReport, Uses, IsOpen}
+use Rattle.sf_run.specs.Runs.{RunReport, IsOpen}
 use Rattle.sf_run.specs.Limits.{RunWithin, TellsWithin}
 use Rattle.sf_run.specs.Machine.{Stage, Skipping, Taken, Item, stepped, is_full}
-use Rattle.sf_run.specs.Phases.{Shows, ShowsNext}
+use Rattle.sf_run.specs.Phases.{Shows}
 use Rattle.sf_run.specs.Residual.{Tally, nothing_yet, with_used, out_of, run_of, run_from}
-use Rattle.sf_run.specs.Scanner.{ShowsFirst, DoesBy, Does, Follows, Waits, IsSettled, Keeps, After, report_by, report_of, Gives}
+use Rattle.sf_run.specs.Scanner.{ShowsFirst, DoesBy, Does, Follows, Waits, IsSettled, Keeps, After, report_by, Gives}
 use Rattle.sf_run.specs.Tallies.{tally_of}
 use Rattle.sf_run.proofs.Machines.{can_take_one, item_byte, item_byte-below, item_takes}
 use Rattle.sf_run.proofs.Moves.{drop_at, proper_at, ended_does, waiting, byte_took, byte_past, fresh, shows_fresh}

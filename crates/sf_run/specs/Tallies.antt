@@ -1,7 +1,5 @@
 -- What a tally of the code stands for.
-use Rattle.std.specs.Prelude.{ℕ, ◌≡◌, ◌+◌, ◌≤◌, true, List, length, drop, map}
-use Rattle.sf_format.specs.declared.directive.Directive.{Directive}
-use Rattle.sf_format.specs.Proper.{destinations_of}
+use Rattle.std.specs.Prelude.{map}
 use Rattle.sf_run.specs.declared.tally.Tally as code
 use Rattle.sf_run.specs.Residual.{Tally}
 use Rattle.sf_run.specs.Views.{assigned_of}

@@ -1,5 +1,5 @@
 -- What the types of the code stand for.
-use Rattle.std.specs.Prelude.{ℕ, List, map}
+use Rattle.std.specs.Prelude.{List, map}
 use Rattle.sf_base.specs.Data.{Assigned, datum_of}
 use Rattle.sf_run.specs.declared.outcome.Outcome.{Outcome}
 use Rattle.sf_run.specs.declared.report.Assigned as code

@@ -2,7 +2,7 @@
 ghost use Rattle.std.specs.Prelude.{◌≡◌, true, false, ℕ, List, is_some};
 ghost use Rattle.sf_format.specs.declared.directive.Directive.{Directive};
 ghost use Rattle.sf_format.specs.declared.directive.Directive.TheVariants as directive;
-ghost use Rattle.sf_format.specs.Proper.{is_plain, is_i32, IsProper, IsProperShape};
+ghost use Rattle.sf_format.specs.Proper.{is_plain, are_plain, is_i32, IsProper, IsProperShape};
 ghost use Rattle.sf_item.specs.Taking.{IsInt, HasTaken, conversion_of};
 ghost use Rattle.sf_run.specs.Machine.{Stage, byte_stepped, item_stepped, conversion_stepped, percent_stepped, space_stepped, stepped, is_full, nothing_end, byte_finished, item_end, finished};
 ghost use Rattle.sf_run.specs.Places.{is_destination};
@@ -35,7 +35,7 @@ pub(crate) enum Finished {
 }
 
 /// Whether a scanner runs the directive yet: white space, bytes, `%%`, and integers of 32 bits.
-pub(crate) fn is_plain(directive: &Directive) -> bool
+fn is_plain(directive: &Directive) -> bool
     ensures { result ≡ is_plain directive.now }
 {
     match directive {
@@ -44,6 +44,13 @@ pub(crate) fn is_plain(directive: &Directive) -> bool
             matches!(conversion.shape, Shape::Int(_)) && conversion.kind == Kind::I32
         }
     }
+}
+
+/// Whether the scanner runs these directives.
+pub(crate) fn are_plain(directives: &[Directive]) -> bool
+    ensures { result ≡ are_plain directives.now }
+{
+    directives.iter().all(is_plain)
 }
 
 fn step_byte<'f>(due: u8, phase: Phase<'f>, b: u8) -> Option<Phase<'f>>

@@ -6,7 +6,7 @@ ghost use Rattle.sf_format.specs.Proper.{IsProper, AreProper, are_plain};
 ghost use Rattle.sf_run.specs.declared.outcome.Ending.{Ending};
 ghost use Rattle.sf_run.specs.Places.{places_left};
 
-use crate::directive::{Finished, Phase, finish, is_plain, step};
+use crate::directive::{Finished, Phase, are_plain, finish, step};
 use crate::outcome::{Ending, Fed, FeedState, Outcome, StartFault, Status};
 use crate::report::{Report, Scanned};
 use crate::tally::Tally;
@@ -217,7 +217,7 @@ impl<'f> Scanner<'f> {
             return Err(StartFault::BadLimit);
         }
         let directives = format.directives();
-        if !directives.iter().all(is_plain) {
+        if !are_plain(directives) {
             return Err(StartFault::NotYet);
         }
         let Ok(tally) = Tally::new(alloc, MOST_VALUES) else {

@@ -1,26 +1,40 @@
 -- What the command answers, by what its calls answer.
-use Rattle.std.proofs.Common.{◌≡◌, ℕ, List, Bool, true, false, Option, Some, Result, Ok, Err, inl, inr, refl, sym, ap, subst, ◌∙◌}
-use Rattle.std.specs.Prelude.{IfErr, IsErrAnd}
+use Rattle.std.proofs.Common.{◌≡◌, ℕ, List, Bool, true, false, Option, Some, Result, Ok, Err, [], get_or, arith, inl, inr, refl, sym, ap, subst, ◌∙◌}
+use Rattle.std.specs.Prelude.{IfErr, IsErrAnd, ◌↔◌}
 use Rattle.sf_format.specs.declared.directive.Profile.TheVariants.{One}
 use Rattle.sf_format.specs.declared.directive.Directive.{Directive}
 use Rattle.sf_format.specs.declared.fault.FormatFault.{FormatFault}
 use Rattle.sf_format.specs.declared.fault.FormatWhy.{FormatWhy}
-use Rattle.sf_format.specs.declared.fault.FormatWhy.TheVariants.{Truncated, UnknownLetter, Nul, FormatTooLong, TooManyDestinations, NoMemory}
-use Rattle.sf_format.specs.Faults.{Fault, IsRefused}
+use Rattle.sf_format.specs.declared.fault.FormatWhy.TheVariants.{NoMemory}
+use Rattle.sf_format.specs.Faults.{Fault, IsRefused, no_memory}
 use Rattle.sf_format.specs.Grammar.{Spells}
+use Rattle.sf_format.specs.Proper.{are_plain}
+use Rattle.sf_tool.specs.declared.command.Verb.{Verb}
+use Rattle.sf_tool.specs.declared.command.Verb.TheVariants.{Scan, Show}
 use Rattle.sf_tool.specs.declared.fault.CommandFault.{CommandFault}
-use Rattle.sf_tool.specs.declared.fault.CommandFault.TheVariants.{Usage, Format, TooLong, Read, Record, Write, Memory}
-use Rattle.sf_tool.specs.Commands.{Answered, IsOfInput, ScansBy, Scans, Unread, format_fault, format_fault_by, scan_of}
+use Rattle.sf_tool.specs.declared.fault.CommandFault.TheVariants.{Usage, Format, NotYet, TooLong, Read, Record, Write, Memory}
+use Rattle.sf_tool.specs.Commands.{Answered, IsOfInput, ScansBy, Scans, ShowsBy, Shows, Unread, format_fault, format_fault_by, words_of}
 
 abbrev pub Answer : Type 0
 Answer = Result (Unit {0}) CommandFault
 
-same_format : (words : List (List ℕ)) (format other : List ℕ) → words ≡ scan_of format → words ≡ scan_of other → format ≡ other
-same_format words format other is also = cc
-
 err_is : (answer : Answer) (fault : CommandFault) → IsErrAnd answer (λ given. given ≡ fault) → answer ≡ Err fault
 err_is (Ok nothing) fault is = absurd is
 err_is (Err given) fault is = ap (λ (f : CommandFault). Err f) is
+
+-- ---- words
+
+same_format : (words : List (List ℕ)) (verb : Verb) (format : List ℕ) (also : Verb) (other : List ℕ) → words ≡ words_of verb format → words ≡ words_of also other → format ≡ other
+same_format words verb format also other is too = cc
+
+-- the second letter of the first word
+abbrev second_letter : List (List ℕ) → ℕ
+second_letter words = get_or (get_or words 0 []) 1 0
+
+no_scan_shows : {A : Type 0} (words : List (List ℕ)) (format other : List ℕ) → words ≡ words_of Scan format → words ≡ words_of Show other → A
+no_scan_shows words format other is too =
+    let no : second_letter (words_of Scan format) ≡ second_letter (words_of Show other) = ap second_letter (sym is ∙ too) in
+    absurd (omega arith)
 
 -- ---- a format that is refused
 
@@ -33,74 +47,119 @@ fault_of format fault other (inl is) = is
 fault_of format fault other (inr (none, spelled)) = let no : false ≡ true = sym other ∙ ap (λ (f : FormatFault). is_memory f.why) none in absurd (cc)
 
 not_usage : (why : FormatWhy) (fault : FormatFault) → format_fault_by why fault ≡ Usage → ⊥
-not_usage Truncated fault e = cc
-not_usage UnknownLetter fault e = cc
-not_usage Nul fault e = cc
-not_usage FormatTooLong fault e = cc
-not_usage TooManyDestinations fault e = cc
 not_usage NoMemory fault e = cc
+not_usage _ fault e = cc
+
+not_later : (why : FormatWhy) (fault : FormatFault) → format_fault_by why fault ≡ NotYet → ⊥
+not_later NoMemory fault e = cc
+not_later _ fault e = cc
 
 nothing_read : {R W : Type 0} (why : FormatWhy) (fault : FormatFault) (input : R) (out : W) → Unread (format_fault_by why fault) input input out out
-nothing_read Truncated fault input out = (refl, refl)
-nothing_read UnknownLetter fault input out = (refl, refl)
-nothing_read Nul fault input out = (refl, refl)
-nothing_read FormatTooLong fault input out = (refl, refl)
-nothing_read TooManyDestinations fault input out = (refl, refl)
 nothing_read NoMemory fault input out = tt
+nothing_read _ fault input out = (refl, refl)
 
 refused_scans : (format text : List ℕ) (held : Option (List ℕ)) (fault : FormatFault) (why : FormatWhy) → fault.why ≡ why → IsRefused One format fault
     → ScansBy format text held held (Err (format_fault_by why fault))
-refused_scans format text held fault Truncated is refused = fault_of format fault (ap is_memory is) refused
-refused_scans format text held fault UnknownLetter is refused = fault_of format fault (ap is_memory is) refused
-refused_scans format text held fault Nul is refused = fault_of format fault (ap is_memory is) refused
-refused_scans format text held fault FormatTooLong is refused = fault_of format fault (ap is_memory is) refused
-refused_scans format text held fault TooManyDestinations is refused = fault_of format fault (ap is_memory is) refused
 refused_scans format text held fault NoMemory is refused = refl
+refused_scans format text held fault _ is refused = fault_of format fault (ap is_memory is) refused
 
-module _ {R W : Type 0} {remaining : R → Option (List ℕ)} {contents : W → Option (List ℕ)} {words : List (List ℕ)} {format : List ℕ} (is : words ≡ scan_of format) where
+refused_shows : (format : List ℕ) (held : Option (List ℕ)) (fault : FormatFault) (why : FormatWhy) → fault.why ≡ why → IsRefused One format fault
+    → ShowsBy format held held (Err (format_fault_by why fault))
+refused_shows format held fault NoMemory is refused = refl
+refused_shows format held fault _ is refused = fault_of format fault (ap is_memory is) refused
+
+module _ {R W : Type 0} {remaining : R → Option (List ℕ)} {contents : W → Option (List ℕ)} {words : List (List ℕ)} {format : List ℕ} where
   -- the format is refused
-  pub refused_is : (input : R) (out : W) (fault : FormatFault) (answer : Answer) → IsErrAnd answer (λ given. given ≡ format_fault fault) → IsRefused One format fault
+  pub refused_is : (verb : Verb) → words ≡ words_of verb format → (input : R) (out : W) (fault : FormatFault) (answer : Answer)
+      → IsErrAnd answer (λ given. given ≡ format_fault fault) → IsRefused One format fault
       → ((at : ℕ) (why : FormatWhy) → Fault One format at why → fault ≡ record { at = at; why = why })
+      → ((ds : List Directive) → Spells One format ds → fault ≡ no_memory)
       → Answered remaining contents words input input out out answer
-  refused_is input out fault answer by refused only = rw (err_is answer (format_fault fault) by) (record {
-    usage = (λ e. absurd (not_usage fault.why fault (let f : format_fault_by fault.why fault ≡ Usage = cc in f)), λ no_scan. absurd (no_scan (format, is)));
+  refused_is verb is input out fault answer by refused only spared = rw (err_is answer (format_fault fault) by) (record {
+    usage = (λ e. absurd (not_usage fault.why fault (let f : format_fault_by fault.why fault ≡ Usage = cc in f)), λ none. absurd (none (verb, format, is)));
     unread = nothing_read fault.why fault input out;
-    refused = λ other at why also faulty.
-        ap (λ (f : FormatFault). Err (format_fault f)) (only at why (subst (λ (f : List ℕ). Fault One f at why) (same_format words other format also is) faulty));
-    scans = λ other text also known.
-        subst (λ (f : List ℕ). ScansBy f text (contents out) (contents out) (Err (format_fault fault))) (same_format words format other is also)
+    refused = λ also other at why too faulty.
+        ap (λ (f : FormatFault). Err (format_fault f))
+        (only at why (subst (λ (f : List ℕ). Fault One f at why) (sym (same_format words verb format also other is too)) faulty));
+    only_not_yet = λ e. absurd (not_later fault.why fault (let f : format_fault_by fault.why fault ≡ NotYet = cc in f));
+    not_yet = λ n.
+        let memory : fault ≡ no_memory = spared n.1 (subst (λ (f : List ℕ). Spells One f n.1) (sym (same_format words verb format Scan n.0 is n.2)) n.3) in
+        (inr (ap (λ (f : FormatFault). Err (format_fault f)) memory), refl, refl);
+    scans = λ other text too known.
+        subst (λ (f : List ℕ). ScansBy f text (contents out) (contents out) (Err (format_fault fault))) (same_format words verb format Scan other is too)
         (refused_scans format text (contents out) fault fault.why refl refused);
+    shows = λ other too. (
+      refl,
+      subst (λ (f : List ℕ). ShowsBy f (contents out) (contents out) (Err (format_fault fault))) (same_format words verb format Show other is too)
+          (refused_shows format (contents out) fault fault.why refl refused),
+    );
   })
 
-  -- the format has these directives
-  pub scanned_is : (ds : List Directive) (input input' : R) (out out' : W) (answer : Answer) → Spells One format ds
-      → ((at : ℕ) (why : FormatWhy) → Fault One format at why → ⊥) → IfErr answer IsOfInput
+  -- the records are scanned by the format's directives, or those aren't run yet
+  pub scanned_is : words ≡ words_of Scan format → (ds : List Directive) (input input' : R) (out out' : W) (answer : Answer) → Spells One format ds
+      → ((at : ℕ) (why : FormatWhy) → Fault One format at why → ⊥) → ((es : List Directive) → Spells One format es → ds ≡ es)
+      → IfErr answer IsOfInput → ((answer ≡ Err NotYet) ↔ (are_plain ds ≡ false))
+      → IfErr answer (λ fault. Unread fault input input' out out')
       → ((text : List ℕ) → remaining input ≡ Some text → Scans ds text (contents out) (contents out') answer)
       → Answered remaining contents words input input' out out' answer
-  scanned_is ds input input' out out' answer spelled faultless kind scans = record {
-    usage = (λ e. absurd (let no : IfErr {T = Unit {0}} (Err Usage) IsOfInput = subst (λ (a : Answer). IfErr a IsOfInput) e kind in no), λ no_scan. absurd (no_scan (format, is)));
-    unread = unread answer kind;
-    refused = λ other at why also faulty. absurd (faultless at why (subst (λ (f : List ℕ). Fault One f at why) (same_format words other format also is) faulty));
-    scans = λ other text also known.
-        subst (λ (f : List ℕ). ScansBy f text (contents out) (contents out') answer) (same_format words format other is also) (scans_by answer kind text (scans text known));
+  scanned_is is ds input input' out out' answer spelled faultless only kind later unread scans = record {
+    usage = (λ e. absurd (let no : IfErr {T = Unit {0}} (Err Usage) IsOfInput = subst (λ (a : Answer). IfErr a IsOfInput) e kind in no), λ none. absurd (none (Scan, format, is)));
+    unread = unread;
+    refused = λ also other at why too faulty. absurd (faultless at why (subst (λ (f : List ℕ). Fault One f at why) (sym (same_format words Scan format also other is too)) faulty));
+    only_not_yet = λ e. (format, ds, is, spelled, later.0 e);
+    not_yet = λ n.
+        let same : ds ≡ n.1 = only n.1 (subst (λ (f : List ℕ). Spells One f n.1) (sym (same_format words Scan format Scan n.0 is n.2)) n.3) in
+        let e : answer ≡ Err NotYet = later.1 (ap are_plain same ∙ n.4) in
+        let u : Unread NotYet input input' out out' = subst (λ (a : Answer). IfErr a (λ fault. Unread fault input input' out out')) e unread in
+        (inl e, u.0, u.1);
+    scans = λ other text too known.
+        subst (λ (f : List ℕ). ScansBy f text (contents out) (contents out') answer) (same_format words Scan format Scan other is too) (scans_by answer kind text (scans text known));
+    shows = λ other too. no_scan_shows words format other is too;
   }
     where
-      unread : (a : Answer) → IfErr a IsOfInput → IfErr a (λ fault. Unread fault input input' out out')
-      unread (Ok nothing) of_input = tt
-      unread (Err Usage) of_input = absurd of_input
-      unread (Err (Format fault)) of_input = absurd of_input
-      unread (Err TooLong) of_input = tt
-      unread (Err Read) of_input = tt
-      unread (Err (Record fault)) of_input = tt
-      unread (Err Write) of_input = tt
-      unread (Err Memory) of_input = tt
-
       scans_by : (a : Answer) → IfErr a IsOfInput → (text : List ℕ) → Scans ds text (contents out) (contents out') a → ScansBy format text (contents out) (contents out') a
       scans_by (Ok nothing) of_input text scanned = (ds, spelled, scanned)
       scans_by (Err Usage) of_input text scanned = absurd of_input
       scans_by (Err (Format fault)) of_input text scanned = absurd of_input
+      scans_by (Err NotYet) of_input text scanned = (ds, spelled, scanned)
       scans_by (Err TooLong) of_input text scanned = (ds, spelled, scanned)
       scans_by (Err Read) of_input text scanned = (ds, spelled, scanned)
       scans_by (Err (Record fault)) of_input text scanned = (ds, spelled, scanned)
       scans_by (Err Write) of_input text scanned = (ds, spelled, scanned)
       scans_by (Err Memory) of_input text scanned = scanned
+
+  -- the format's directives are shown
+  pub shown_is : words ≡ words_of Show format → (ds : List Directive) (input : R) (out out' : W) (answer : Answer) → Spells One format ds
+      → ((at : ℕ) (why : FormatWhy) → Fault One format at why → ⊥) → Shows ds (contents out) (contents out') answer
+      → Answered remaining contents words input input out out' answer
+  shown_is is ds input out out' answer spelled faultless shows = record {
+    usage = (λ e. absurd (let no : Shows ds (contents out) (contents out') (Err Usage) = subst (λ (a : Answer). Shows ds (contents out) (contents out') a) e shows in no), λ none. absurd (none (Show, format, is)));
+    unread = unread answer shows;
+    refused = λ also other at why too faulty. absurd (faultless at why (subst (λ (f : List ℕ). Fault One f at why) (sym (same_format words Show format also other is too)) faulty));
+    only_not_yet = λ e. absurd (let no : Shows ds (contents out) (contents out') (Err NotYet) = subst (λ (a : Answer). Shows ds (contents out) (contents out') a) e shows in no);
+    not_yet = λ n. no_scan_shows words n.0 format n.2 is;
+    scans = λ other text too known. no_scan_shows words other format too is;
+    shows = λ other too. (refl, subst (λ (f : List ℕ). ShowsBy f (contents out) (contents out') answer) (same_format words Show format Show other is too) (shows_by answer shows));
+  }
+    where
+      unread : (a : Answer) → Shows ds (contents out) (contents out') a → IfErr a (λ fault. Unread fault input input out out')
+      unread (Ok nothing) shown = tt
+      unread (Err Write) shown = tt
+      unread (Err Memory) shown = tt
+      unread (Err Usage) shown = absurd shown
+      unread (Err (Format fault)) shown = absurd shown
+      unread (Err NotYet) shown = absurd shown
+      unread (Err TooLong) shown = absurd shown
+      unread (Err Read) shown = absurd shown
+      unread (Err (Record fault)) shown = absurd shown
+
+      shows_by : (a : Answer) → Shows ds (contents out) (contents out') a → ShowsBy format (contents out) (contents out') a
+      shows_by (Ok nothing) shown = (ds, spelled, shown)
+      shows_by (Err Write) shown = (ds, spelled, shown)
+      shows_by (Err Memory) shown = shown
+      shows_by (Err Usage) shown = absurd shown
+      shows_by (Err (Format fault)) shown = absurd shown
+      shows_by (Err NotYet) shown = absurd shown
+      shows_by (Err TooLong) shown = absurd shown
+      shows_by (Err Read) shown = absurd shown
+      shows_by (Err (Record fault)) shown = absurd shown

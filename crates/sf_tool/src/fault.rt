@@ -17,7 +17,18 @@ fn why_text(why: FormatWhy) -> &'static str
 {
     match why {
         FormatWhy::Truncated => "F1 Truncated",
+        FormatWhy::ZeroWidth => "F2 ZeroWidth",
+        FormatWhy::TooWide => "F3 TooWide",
         FormatWhy::UnknownLetter => "F4 UnknownLetter",
+        FormatWhy::LeftOut => "F5 LeftOut",
+        FormatWhy::BadLength => "F6 BadLength",
+        FormatWhy::OpenSet => "F7 OpenSet",
+        FormatWhy::BackwardRange => "F8 BackwardRange",
+        FormatWhy::BadCount => "F9 BadCount",
+        FormatWhy::MixedNumbering => "F10 MixedNumbering",
+        FormatWhy::BadNumber => "F11 BadNumber",
+        FormatWhy::NumberTwice => "F12 NumberTwice",
+        FormatWhy::NumberGap => "F13 NumberGap",
         FormatWhy::Nul => "F14 Nul",
         FormatWhy::FormatTooLong => "F15 FormatTooLong",
         FormatWhy::TooManyDestinations => "F16 TooManyDestinations",
@@ -65,6 +76,8 @@ pub enum CommandFault {
     Usage,
     /// The format is refused.
     Format(FormatFault),
+    /// The format has directives that the scanner doesn't run yet.
+    NotYet,
     /// The input is too long.
     TooLong,
     /// The input could not be read.
@@ -115,7 +128,7 @@ impl CommandFault {
     {
         match self {
             CommandFault::Record(_) => 1,
-            CommandFault::Usage | CommandFault::Format(_) => 2,
+            CommandFault::Usage | CommandFault::Format(_) | CommandFault::NotYet => 2,
             CommandFault::TooLong | CommandFault::Read | CommandFault::Write => 3,
             CommandFault::Memory => 4,
         }
@@ -134,6 +147,7 @@ impl fmt::Display for CommandFault {
                 let at = fault.at;
                 write!(f, "sf: scan format: {why} at {at}")
             }
+            CommandFault::NotYet => write!(f, "sf: scan format: not yet supported"),
             CommandFault::TooLong => write!(f, "sf: input too long"),
             CommandFault::Read => write!(f, "sf: record 1: read fault"),
             CommandFault::Record(fault) => write!(f, "sf: {fault}"),

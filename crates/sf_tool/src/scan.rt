@@ -1,5 +1,6 @@
 //! Records of a whole text.
-ghost use Rattle.std.specs.Prelude.{◌≡◌, ◌≤◌, ◌↔◌, length, IfOk, IsNone};
+ghost use Rattle.std.specs.Prelude.{◌≡◌, ◌≤◌, ◌↔◌, length, true, IfOk, IsNone};
+ghost use Rattle.sf_format.specs.Proper.{are_plain};
 ghost use Rattle.sf_tool.specs.Records.{EndsWith};
 
 use crate::line::push_line;
@@ -29,9 +30,11 @@ pub struct TextEnd {
     pub fault: Option<ToolFault>,
 }
 
-/// Scans record after record of a text, up to its end or the first that fails or has no byte.
+/// Scans record after record of a text, up to its end or the first that fails or has no byte. The scanner runs the
+/// format.
 pub fn scan_text(alloc: Global, text: &[u8], format: &ScanFormat) -> Result<TextEnd, AllocError>
-    requires { length text.now ≤ 1048576 }
+    requires few { length text.now ≤ 1048576 }
+    requires plain { are_plain format.now ≡ true }
     ensures records { IfOk result (λ end.
         EndsWith format.now text.now end.output.items end.status end.fault) }
     ensures clean { IfOk result (λ end. IsNone end.fault ↔ (end.status ≡ 0)) }

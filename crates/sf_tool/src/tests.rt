@@ -1,5 +1,6 @@
 //! Rows of the command, and readers and writers that fail.
 use super::*;
+use crate::command::is_run;
 use sf_format::{FormatFault, FormatWhy, Profile, ScanFormat};
 use sf_run::{Ending, Outcome, Status};
 use std::alloc::Global;
@@ -25,9 +26,10 @@ fn words(alloc: Global, verb: &str, format: &str) -> Result<Vec<String>, Fail> {
     Ok(words)
 }
 
-fn run(rt: &(impl Abort + AllocGlobal), row: &Row) -> Result<(), Fail> {
+/// Runs the verb, and answers how many bytes it left of the input.
+fn run(rt: &(impl Abort + AllocGlobal), verb: &str, row: &Row) -> Result<usize, Fail> {
     let alloc = rt.alloc();
-    let words = words(alloc, "scan", row.format)?;
+    let words = words(alloc, verb, row.format)?;
     let mut input = row.text.as_bytes();
     let mut out = Vec::<u8>::new(alloc);
     let mut err = Vec::<u8>::new(alloc);
@@ -39,6 +41,14 @@ fn run(rt: &(impl Abort + AllocGlobal), row: &Row) -> Result<(), Fail> {
         "error line of {name}"
     );
     assert_eq!(rt; status, row.status, "status of {name}");
+    Ok(input.len())
+}
+
+/// Shows the formats of the rows, and leaves the input.
+fn show_rows(rt: &(impl Abort + AllocGlobal), rows: &[Row]) -> Result<(), Fail> {
+    for row in rows {
+        assert_eq!(rt; run(rt, "show", row)?, row.text.len());
+    }
     Ok(())
 }
 
@@ -124,7 +134,92 @@ fn rows(rt: HostRuntime) -> Result<(), Fail> {
         },
     ];
     for row in &rows {
-        run(&rt, row)?;
+        run(&rt, "scan", row)?;
+    }
+    Ok(())
+}
+
+#[test]
+fn shown_formats(rt: HostRuntime) -> Result<(), Fail> {
+    let rows = [
+        Row {
+            format: "a %d",
+            text: "a 1",
+            output: "1 byte \"a\"\n2 space\n3 d i32 width - slot 1\ndestinations 1, width sum 0\n",
+            line: "",
+            status: 0,
+        },
+        Row {
+            format: "\x01\"\\\x7f",
+            text: "a",
+            output: "1 byte \"\\x01\"\n2 byte \"\\\"\"\n3 byte \"\\\\\"\n4 byte \"\\x7f\"\ndestinations 0, width sum 0\n",
+            line: "",
+            status: 0,
+        },
+        Row {
+            format: "",
+            text: "a",
+            output: "destinations 0, width sum 0\n",
+            line: "",
+            status: 0,
+        },
+        Row {
+            format: "%d%q",
+            text: "1",
+            output: "",
+            line: "sf: scan format: F4 UnknownLetter at 3\n",
+            status: 2,
+        },
+    ];
+    show_rows(&rt, &rows)
+}
+
+#[test]
+fn shown_conversions(rt: HostRuntime) -> Result<(), Fail> {
+    let rows = [
+        Row {
+            format: "%3d,%*s",
+            text: "1,a",
+            output: "1 d i32 width 3 slot 1\n2 byte \",\"\n3 s text width - slot -\ndestinations 1, width sum 0\n",
+            line: "",
+            status: 0,
+        },
+        Row {
+            format: "%5[0-9]%hhu%%%ln",
+            text: "1",
+            output: "1 [ text width 5 slot 1 members 10\n2 u u8 width - slot 2\n3 percent\n4 n i64 width - slot 3\ndestinations 3, width sum 5\n",
+            line: "",
+            status: 0,
+        },
+        Row {
+            format: "%s",
+            text: "a",
+            output: "1 s text width - slot 1\ndestinations 1, width sum -\n",
+            line: "",
+            status: 0,
+        },
+        Row {
+            format: "%[z-a]",
+            text: "a",
+            output: "",
+            line: "sf: scan format: F8 BackwardRange at 2\n",
+            status: 2,
+        },
+    ];
+    show_rows(&rt, &rows)
+}
+
+#[test]
+fn not_yet(rt: HostRuntime) -> Result<(), Fail> {
+    for format in ["%s", "%d %hhd", "%n", "%*[a]"] {
+        let row = Row {
+            format,
+            text: "1 2",
+            output: "",
+            line: "sf: scan format: not yet supported\n",
+            status: 2,
+        };
+        assert_eq!(rt; run(&rt, "scan", &row)?, 3);
     }
     Ok(())
 }
@@ -135,6 +230,7 @@ fn failed_record(rt: HostRuntime) -> Result<(), Fail> {
     let Ok(format) = ScanFormat::parse(alloc, Profile::One, b"%d,%d") else {
         return Err(Fail::from(io::ErrorKind::OutOfMemory));
     };
+    assert!(rt; is_run(alloc, &format)?);
     let end = scan_text(alloc, b"1,2\n3;4\n", &format)?;
     assert!(rt; end.output.as_slice() == b"1 2\n".as_slice());
     assert_eq!(rt; end.status, 1);
@@ -151,18 +247,9 @@ fn failed_record(rt: HostRuntime) -> Result<(), Fail> {
 }
 
 #[test]
-fn lines_of_faults(rt: HostRuntime) -> Result<(), Fail> {
-    let outcome = Outcome {
-        status: Status::TooLong,
-        at: 3,
-        assigned: 2,
-        converted: 2,
-        used: 1048576,
-        met: Some(Ending::End),
-    };
+fn lines_of_formats(rt: HostRuntime) -> Result<(), Fail> {
     let at = 7;
     let rows = [
-        (CommandFault::Usage, "sf: usage", 2),
         (
             CommandFault::Format(FormatFault {
                 at,
@@ -187,6 +274,39 @@ fn lines_of_faults(rt: HostRuntime) -> Result<(), Fail> {
             "sf: scan format: F16 TooManyDestinations at 64",
             2,
         ),
+        (
+            CommandFault::Format(FormatFault {
+                at: 2,
+                why: FormatWhy::BackwardRange,
+            }),
+            "sf: scan format: F8 BackwardRange at 2",
+            2,
+        ),
+        (
+            CommandFault::NotYet,
+            "sf: scan format: not yet supported",
+            2,
+        ),
+    ];
+    for (fault, line, status) in rows {
+        assert!(rt; fault.to_string(rt.alloc())?.as_str() == line, "{line}");
+        assert_eq!(rt; fault.status(), status, "{line}");
+    }
+    Ok(())
+}
+
+#[test]
+fn lines_of_faults(rt: HostRuntime) -> Result<(), Fail> {
+    let outcome = Outcome {
+        status: Status::TooLong,
+        at: 3,
+        assigned: 2,
+        converted: 2,
+        used: 1048576,
+        met: Some(Ending::End),
+    };
+    let rows = [
+        (CommandFault::Usage, "sf: usage", 2),
         (CommandFault::TooLong, "sf: input too long", 3),
         (CommandFault::Read, "sf: record 1: read fault", 3),
         (
@@ -272,14 +392,17 @@ impl io::Write for Full {
 #[test]
 fn read_and_write_faults(rt: HostRuntime) -> Result<(), Fail> {
     let alloc = rt.alloc();
-    let words = words(alloc, "scan", "%d")?;
-    for takes in [false, true] {
-        let mut err = Vec::<u8>::new(alloc);
-        let mut input: &[u8] = b"1 2";
-        let status = tool(alloc, &words, &mut input, &mut Full { takes }, &mut err);
-        assert_eq!(rt; status, 3);
-        assert!(rt; err.as_slice() == b"sf: write fault\n".as_slice());
+    for verb in ["scan", "show"] {
+        let words = words(alloc, verb, "%d")?;
+        for takes in [false, true] {
+            let mut err = Vec::<u8>::new(alloc);
+            let mut input: &[u8] = b"1 2";
+            let status = tool(alloc, &words, &mut input, &mut Full { takes }, &mut err);
+            assert_eq!(rt; status, 3);
+            assert!(rt; err.as_slice() == b"sf: write fault\n".as_slice());
+        }
     }
+    let words = words(alloc, "scan", "%d")?;
     for (left, line) in [
         (10, "sf: record 1: read fault\n"),
         (1048577, "sf: input too long\n"),
@@ -299,7 +422,15 @@ fn usage(rt: HostRuntime) -> Result<(), Fail> {
     let alloc = rt.alloc();
     let mut more = words(alloc, "scan", "%d")?;
     more.push(String::from_str(alloc, "%d")?)?;
-    for words in [Vec::new(alloc), words(alloc, "show", "%d")?, more] {
+    let mut few = words(alloc, "show", "%d")?;
+    few.truncate(1);
+    for words in [
+        Vec::new(alloc),
+        few,
+        more,
+        words(alloc, "shows", "%d")?,
+        words(alloc, "", "%d")?,
+    ] {
         let mut input: &[u8] = b"1";
         let mut out = Vec::<u8>::new(alloc);
         let mut err = Vec::<u8>::new(alloc);

@@ -1,4 +1,3 @@
-use Rattle.std.proofs.Common.{◌≡◌}
 use Rattle.sf_run.proofs.Stages.{item_taken, item_refused}
 use Rattle.sf_run.proofs.directive.step_item.Goals as goal
 

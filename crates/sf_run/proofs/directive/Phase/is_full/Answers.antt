@@ -5,7 +5,7 @@ use Rattle.sf_format.specs.Proper.{IsProper}
 use Rattle.sf_item.specs.Taking.{conversion_of}
 use Rattle.sf_run.specs.declared.directive.Phase.{Phase}
 use Rattle.sf_run.specs.declared.directive.Phase.TheVariants as phase
-use Rattle.sf_run.specs.Machine.{Stage, Skipping, Taken, Item, is_full}
+use Rattle.sf_run.specs.Machine.{Skipping, Taken, Item, is_full}
 use Rattle.sf_run.specs.Phases.{Shows}
 use Rattle.sf_run.proofs.Stages.{skipping_not_full, taken_full, item_full}
 use Rattle.sf_run.proofs.directive.Phase.is_full.Goals as goal

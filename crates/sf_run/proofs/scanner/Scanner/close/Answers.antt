@@ -1,4 +1,4 @@
-use Rattle.std.proofs.Common.{rules, ◌≡◌, ◌+◌, ◌<◌, ◌≤◌, length, arith, vec_len}
+use Rattle.std.proofs.Common.{rules, ◌+◌, ◌<◌, length, arith, vec_len}
 use Rattle.std.proofs.lemmas.Option.{slice_get_within}
 use Rattle.sf_run.specs.Phases.{end_of}
 use Rattle.sf_run.specs.declared.directive.Phase.TheVariants as phase

@@ -1,4 +1,3 @@
-use Rattle.std.proofs.Common.{refl}
 use Rattle.sf_run.proofs.Waits.{none_of, run_out_gives, ended_gives_own, ended_closed}
 use Rattle.sf_run.proofs.scanner.Scanner.end.Goals as goal
 

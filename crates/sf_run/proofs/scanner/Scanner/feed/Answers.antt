@@ -1,5 +1,4 @@
-use Rattle.std.proofs.Common.{◌≡◌, ◌++◌, length, Option, subst, arith}
-use Rattle.std.specs.Prelude.{IfNone}
+use Rattle.std.proofs.Common.{◌++◌, arith}
 use Rattle.sf_run.specs.Scanner.{After}
 use Rattle.sf_run.proofs.Waits.{after_push, within_used, ended_gives}
 use Rattle.sf_run.proofs.scanner.Scanner.feed.Goals as goal

@@ -1,6 +1,5 @@
 use Rattle.std.proofs.Common.{◌≡◌, ℕ, List, ◌∷◌}
 use Rattle.std.specs.Prelude.{IsSome}
-use Rattle.sf_format.specs.Proper.{AreProper}
 use Rattle.sf_run.specs.Scanner.{Follows, Keeps, turns_left}
 use Rattle.sf_run.proofs.scanner.Scanner.offer.Given as goal
 

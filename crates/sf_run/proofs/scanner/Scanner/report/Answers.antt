@@ -1,4 +1,4 @@
-use Rattle.std.proofs.Common.{◌≡◌, List, ap, sym, subst}
+use Rattle.std.proofs.Common.{List, ap, sym, subst}
 use Rattle.std.specs.Prelude.{is_some, IsSome}
 use Rattle.sf_run.specs.declared.report.Assigned.{Assigned}
 use Rattle.sf_run.specs.Runs.{RunReport}

@@ -1,4 +1,4 @@
-use Rattle.std.proofs.Common.{rules, ◌≡◌, ◌≤◌, List, refl, sym, subst, ◌∙◌, Some, length, arith}
+use Rattle.std.proofs.Common.{rules, ◌≡◌, List, refl, sym, subst, ◌∙◌, Some, length, arith}
 use Rattle.std.specs.Prelude.{slice_get}
 use Rattle.std.proofs.lemmas.Option.{slice_get_read}
 use Rattle.sf_format.specs.declared.directive.Directive.{Directive}
