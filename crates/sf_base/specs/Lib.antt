@@ -2,3 +2,5 @@ pub mod Bytes
 pub mod Greatest
 pub mod Sets
 pub mod Data
+pub mod Kept
+pub mod Entries

@@ -1,14 +1,23 @@
-//! Bytes in the C locale, sets of bytes, and the values that a destination can hold.
+//! Bytes in the C locale, sets of bytes, the values that a destination can hold, and what they are kept in.
 #![tactic(auto)]
 
 mod byte_set;
 mod bytes;
+mod entries;
+mod fixed_store;
+mod heap_store;
 mod integers;
+mod store;
+#[cfg(test)]
+mod store_tests;
 #[cfg(test)]
 mod tests;
 mod values;
 
 pub use byte_set::ByteSet;
 pub use bytes::{digit_value, is_space};
+pub use fixed_store::FixedStore;
+pub use heap_store::HeapStore;
 pub use integers::ScanInt;
+pub use store::{Store, StoreFull, push_each};
 pub use values::{Kind, Value};

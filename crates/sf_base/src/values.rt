@@ -14,9 +14,28 @@ pub enum Kind {
     Text,
 }
 
-/// What a destination was given.
+/// What a destination was given. A text is lent.
 #[derive(Clone, Copy, Debug, PartialEq, Eq)]
-pub enum Value {
-    /// A number of 32 bits with a sign.
+pub enum Value<'a> {
+    I8(i8),
+    I16(i16),
     I32(i32),
+    I64(i64),
+    U8(u8),
+    U16(u16),
+    U32(u32),
+    U64(u64),
+    Text(&'a [u8]),
+}
+
+impl Default for Value<'_> {
+    ghost use Rattle.std.specs.Prelude.{◌≡◌, pos};
+    ghost use Rattle.sf_base.specs.declared.values.Value.TheVariants.{I32};
+
+    ghost is_default = { λ v. v ≡ I32 (pos 0) };
+
+    /// The number 0 of 32 bits.
+    fn default() -> Self {
+        Value::I32(0)
+    }
 }

@@ -1,0 +1,154 @@
+-- Facts about the entries of a store.
+use Rattle.std.proofs.Common.{◌≡◌, ◌<◌, ◌≤◌, ◌+◌, ◌||◌, ℕ, Bool, true, false, cond, List, [], ◌∷◌, ◌++◌, length, map, take, drop, slice_range, Option, Some, None, nat_eq, refl, ap, sym, ◌∙◌, inl, inr, arith, length-append}
+use Rattle.std.specs.List.{All, IsDistinct, list_any, find}
+use Rattle.std.specs.Option.{option_map}
+use Rattle.std.specs.Cmp.{nat_eq_equiv}
+use Rattle.std.proofs.lemmas.Bool.{or_cases, eqb-true, eqb-false, ne_eqb}
+use Rattle.std.proofs.lemmas.List.{map-append, length-map, take-take, take-append-drop}
+use Rattle.std.proofs.lemmas.List.Folds.{list_any-append}
+use Rattle.std.proofs.lemmas.Slice.{between_is, between_to_end}
+use Rattle.std.proofs.Math.Seq.{take-length}
+use Rattle.std.proofs.lemmas.List.Elements.{All-nil, All-head, All-tail, All-push, All-weaker}
+use Rattle.std.proofs.lemmas.Map.Keys.{IsDistinct-push}
+use Rattle.std.proofs.lemmas.Map.Steps.{length-le_from_distinct_below}
+use Rattle.sf_base.specs.Data.{Bytes, Assigned, datum_at}
+use Rattle.sf_base.specs.Kept.{assigned, is_opened, with_closed}
+use Rattle.sf_base.specs.Entries.{datum_in, assigned_in, IsWithin, slots_of, opened_at, kept_of, IsSlot, IsAbsent, IsUnderWay, IsSound}
+use Rattle.sf_base.specs.declared.entries.Cell.{Cell}
+use Rattle.sf_base.specs.declared.entries.Cell.TheVariants.{I8, I16, I32, I64, U8, U16, U32, U64, Text}
+use Rattle.sf_base.specs.declared.entries.Entry.{Entry}
+
+-- what was not found is not among the rest
+absent_step : (b : Bool) (a : Assigned) (rest : Option Assigned) (any : Bool) → (option_map (λ x. x.datum) rest ≡ None → any ≡ false) → option_map (λ x. x.datum) (cond b (Some a) rest) ≡ None → (b || any) ≡ false
+absent_step true a rest any f h = cc
+absent_step false a rest any f h = f h
+
+-- a slot with no value has no entry
+pub IsAbsent-from_datum : (closed : List ℕ) (slot : ℕ) (es : List Entry) → datum_at slot (map (assigned_in closed) es) ≡ None → IsAbsent slot (slots_of es)
+IsAbsent-from_datum closed slot [] h = refl
+IsAbsent-from_datum closed slot (e ∷ es) h = absent_step (nat_eq slot e.slot) (assigned_in closed e) (find (λ a. nat_eq slot a.slot) (map (assigned_in closed) es)) (list_any (nat_eq slot) (slots_of es)) (IsAbsent-from_datum closed slot es) h
+
+-- numbers that are all below n
+below : (n : ℕ) (xs : List ℕ) → All (λ x. x < n) xs → (q : ℕ) → list_any (nat_eq q) xs ≡ true → q < n
+below n [] all q h = cc
+below n (x ∷ xs) all q h =
+    elim (or_cases (nat_eq q x) (list_any (nat_eq q) xs) h) [
+      | inl e ↦ rw (eqb-true q x e) (All-head (λ x. x < n) x xs all)
+      | inr e ↦ below n xs (All-tail (λ x. x < n) x xs all) q e
+    ]
+
+no_zero : (n : ℕ) (xs : List ℕ) → All (IsSlot n) xs → list_any (nat_eq 0) xs ≡ false
+no_zero n [] all = refl
+no_zero n (x ∷ xs) all =
+    let first : IsSlot n x = All-head (IsSlot n) x xs all in
+    let differs : nat_eq 0 x ≡ false = ne_eqb 0 x (λ e. omega (arith, first.0)) in
+    rw differs (no_zero n xs (All-tail (IsSlot n) x xs all))
+
+-- as long as a slot has no entry there are fewer entries than slots
+pub length-lt-slots : (n : ℕ) (xs : List ℕ) (slot : ℕ) → IsDistinct nat_eq xs → All (IsSlot n) xs → IsSlot n slot → IsAbsent slot xs → length xs < n
+length-lt-slots n xs slot apart in_range is_slot absent =
+    let more = xs ++ slot ∷ [] in
+    let more_in : All (IsSlot n) more = All-push (IsSlot n) xs slot in_range is_slot in
+    let more_apart : IsDistinct nat_eq more = IsDistinct-push nat_eq_equiv xs slot apart absent in
+    let all = more ++ 0 ∷ [] in
+    let all_apart : IsDistinct nat_eq all = IsDistinct-push nat_eq_equiv more 0 more_apart (no_zero n more more_in) in
+    let all_below : All (λ x. x < n + 1) all =
+    All-push (λ x. x < n + 1) more 0 (All-weaker (IsSlot n) (λ x. x < n + 1) (λ x s. omega (arith, s.1)) more more_in) (omega arith) in
+    let few : length all ≤ n + 1 = length-le_from_distinct_below all (n + 1) all_apart (below (n + 1) all all_below) in
+    omega (arith, few, length-append more (0 ∷ []), length-append xs (slot ∷ []))
+
+IsWithin-le : (m n : ℕ) → m ≤ n → (cell : Cell) → IsWithin m cell → IsWithin n cell
+IsWithin-le m n le (Text from to) h = (h.0, omega (arith, h.1))
+IsWithin-le m n le (I8 x) h = tt
+IsWithin-le m n le (I16 x) h = tt
+IsWithin-le m n le (I32 x) h = tt
+IsWithin-le m n le (I64 x) h = tt
+IsWithin-le m n le (U8 x) h = tt
+IsWithin-le m n le (U16 x) h = tt
+IsWithin-le m n le (U32 x) h = tt
+IsWithin-le m n le (U64 x) h = tt
+
+-- one entry more, which may be a text that ends where the closed ones now do
+pub IsSound-push : (slots : ℕ) (es : List Entry) (closed closed' len : ℕ) (opened opened' : Option ℕ) (e : Entry) → IsSound slots es closed len opened → closed ≤ closed' → closed' ≤ len → IsSlot slots e.slot → IsAbsent e.slot (slots_of es) → IsWithin closed' e.cell → IsUnderWay slots (slots_of es ++ e.slot ∷ []) closed' len opened' → IsSound slots (es ++ e ∷ []) closed' len opened'
+IsSound-push slots es closed closed' len opened opened' e sound rises held is_slot absent within under_way =
+    let slots_more : slots_of (es ++ e ∷ []) ≡ slots_of es ++ e.slot ∷ [] = map-append (λ (x : Entry). x.slot) es (e ∷ []) in
+    let wider : All (λ (x : Entry). IsWithin closed' x.cell) es =
+    All-weaker (λ (x : Entry). IsWithin closed x.cell) (λ (x : Entry). IsWithin closed' x.cell) (λ x w. IsWithin-le closed closed' rises x.cell w) es sound.within in
+    record {
+      apart = rw slots_more (IsDistinct-push nat_eq_equiv (slots_of es) e.slot sound.apart absent);
+      in_range = rw slots_more (All-push (IsSlot slots) (slots_of es) e.slot sound.in_range is_slot);
+      within = All-push (λ (x : Entry). IsWithin closed' x.cell) es e wider within;
+      closed_held = held;
+      under_way = rw slots_more under_way;
+    }
+
+-- a text under way goes on beside an entry for another slot
+pub IsUnderWay-push : (slots : ℕ) (taken : List ℕ) (closed len : ℕ) (opened : Option ℕ) (text : List ℕ) (slot : ℕ) → IsUnderWay slots taken closed len opened → is_opened slot (opened_at text opened) ≡ false → IsUnderWay slots (taken ++ slot ∷ []) closed len opened
+IsUnderWay-push slots taken closed len None text slot h other = h
+IsUnderWay-push slots taken closed len (Some s) text slot h other =
+    let differs : nat_eq s slot ≡ false = ne_eqb s slot (λ e. eqb-false slot s other (sym e)) in
+    (h.0, rw (list_any-append (nat_eq s) taken (slot ∷ []), h.1, differs) refl)
+
+-- where there is no text under way, all bytes are closed
+pub closed-all : (slots : ℕ) (taken : List ℕ) (closed len : ℕ) (opened : Option ℕ) (text : List ℕ) → IsUnderWay slots taken closed len opened → opened_at text opened ≡ None → closed ≡ len
+closed-all slots taken closed len None text h none = h
+closed-all slots taken closed len (Some s) text h none = cc
+
+-- a text within the first n bytes is the same in all of them
+datum_in-take : (all : List ℕ) (n : ℕ) (cell : Cell) → IsWithin n cell → datum_in all cell ≡ datum_in (take n all) cell
+datum_in-take all n (Text from to) h =
+    ap Bytes (between_is all from to ∙ (ap (drop from) (sym (take-take to n all h.1)) ∙ sym (between_is (take n all) from to)))
+datum_in-take all n (I8 x) h = refl
+datum_in-take all n (I16 x) h = refl
+datum_in-take all n (I32 x) h = refl
+datum_in-take all n (I64 x) h = refl
+datum_in-take all n (U8 x) h = refl
+datum_in-take all n (U16 x) h = refl
+datum_in-take all n (U32 x) h = refl
+datum_in-take all n (U64 x) h = refl
+
+pub assigned_in-take : (all : List ℕ) (n : ℕ) (es : List Entry) → All (λ (e : Entry). IsWithin n e.cell) es → map (assigned_in all) es ≡ map (assigned_in (take n all)) es
+assigned_in-take all n [] within = refl
+assigned_in-take all n (e ∷ es) within =
+    let first = datum_in-take all n e.cell (All-head (λ (x : Entry). IsWithin n x.cell) e es within) in
+    let rest = assigned_in-take all n es (All-tail (λ (x : Entry). IsWithin n x.cell) e es within) in
+    cc
+
+-- what is kept after the text from n on is closed
+pub kept_of-close : (es : List Entry) (all : List ℕ) (n len slot room : ℕ) → len ≡ length all → All (λ (e : Entry). IsWithin n e.cell) es → kept_of (es ++ record { slot = slot; cell = Text n len } ∷ []) all len None room ≡ with_closed (kept_of es all n (Some slot) room)
+kept_of-close es all n len slot room is_len within =
+    let e : Entry = record { slot = slot; cell = Text n len } in
+    let whole : take len all ≡ all = rw is_len (take-length all) in
+    let text : slice_range all n len ≡ drop n all = between_to_end all n len (omega (arith, is_len)) in
+    let entries : map (assigned_in all) (es ++ e ∷ []) ≡ map (assigned_in all) es ++ assigned slot (Bytes (slice_range all n len)) ∷ [] = map-append (assigned_in all) es (e ∷ []) in
+    let before = assigned_in-take all n es within in
+    let values : map (assigned_in (take len all)) (es ++ e ∷ []) ≡ map (assigned_in (take n all)) es ++ assigned slot (Bytes (drop n all)) ∷ [] =
+    rw (whole, entries, before, text) refl in
+    let closed : take len all ≡ take n all ++ drop n all = whole ∙ sym (take-append-drop n all) in
+    cc
+
+-- the same of the entries
+pub length-lt-entries : (slots : ℕ) (es : List Entry) (closed len : ℕ) (opened : Option ℕ) (slot : ℕ) → IsSound slots es closed len opened → IsSlot slots slot → IsAbsent slot (slots_of es) → length es < slots
+length-lt-entries slots es closed len opened slot sound is_slot absent =
+    omega (arith, length-lt-slots slots (slots_of es) slot sound.apart sound.in_range is_slot absent, length-map es (λ (x : Entry). x.slot))
+
+-- no entries
+pub IsSound-none : (slots : ℕ) → IsSound slots [] 0 0 None
+unfolding IsDistinct
+IsSound-none slots = record {
+  apart = tt;
+  in_range = All-nil (IsSlot slots);
+  within = All-nil (λ (x : Entry). IsWithin 0 x.cell);
+  closed_held = omega arith;
+  under_way = refl;
+}
+
+-- a text begins
+pub IsSound-open : (slots : ℕ) (es : List Entry) (closed len : ℕ) (opened : Option ℕ) (slot : ℕ) → IsSound slots es closed len opened → IsSlot slots slot → IsAbsent slot (slots_of es) → IsSound slots es closed len (Some slot)
+IsSound-open slots es closed len opened slot sound is_slot absent = record {
+  apart = sound.apart;
+  in_range = sound.in_range;
+  within = sound.within;
+  closed_held = sound.closed_held;
+  under_way = (is_slot, absent);
+}

@@ -1,0 +1,71 @@
+-- What the entries of a store stand for, and when they are sound.
+use Rattle.std.specs.Prelude.{◌≡◌, ◌≤◌, nat_eq, ℕ, List, Option, Some, None, false, pos, slice_range, map, take, drop}
+use Rattle.std.specs.List.{All, IsDistinct, list_any}
+use Rattle.sf_base.specs.Data.{Datum, Number, Bytes, Assigned}
+use Rattle.sf_base.specs.Kept.{assigned, Opened, Kept}
+use Rattle.sf_base.specs.declared.entries.Cell.{Cell}
+use Rattle.sf_base.specs.declared.entries.Cell.TheVariants.{I8, I16, I32, I64, U8, U16, U32, U64, Text}
+use Rattle.sf_base.specs.declared.entries.Entry.{Entry}
+use Rattle.sf_base.specs.declared.values.Kind.TheVariants as k
+
+-- what a cell holds, where these are the closed texts
+abbrev pub datum_in : List ℕ → Cell → Datum
+datum_in closed (I8 n) = Number k.I8 n
+datum_in closed (I16 n) = Number k.I16 n
+datum_in closed (I32 n) = Number k.I32 n
+datum_in closed (I64 n) = Number k.I64 n
+datum_in closed (U8 n) = Number k.U8 (pos n)
+datum_in closed (U16 n) = Number k.U16 (pos n)
+datum_in closed (U32 n) = Number k.U32 (pos n)
+datum_in closed (U64 n) = Number k.U64 (pos n)
+datum_in closed (Text from to) = Bytes (slice_range closed from to)
+
+abbrev pub assigned_in : List ℕ → Entry → Assigned
+assigned_in closed e = assigned e.slot (datum_in closed e.cell)
+
+abbrev pub opened_at : List ℕ → Option ℕ → Option Opened
+opened_at text None = None
+opened_at text (Some slot) = Some (record { slot = slot; text = text })
+
+-- what is kept, where the first n of these bytes are closed texts
+abbrev pub kept_of : List Entry → List ℕ → ℕ → Option ℕ → ℕ → Kept
+kept_of entries all n slot room = record {
+  values = map (assigned_in (take n all)) entries;
+  closed = take n all;
+  opened = opened_at (drop n all) slot;
+  room = room;
+}
+
+-- a text lies within so many bytes
+abbrev pub IsWithin : ℕ → Cell → Type 0
+IsWithin n (Text from to) = (from ≤ to) × (to ≤ n)
+IsWithin n _ = Unit {0}
+
+abbrev pub slots_of : List Entry → List ℕ
+slots_of = map (λ e. e.slot)
+
+abbrev pub IsSlot : ℕ → ℕ → Type 0
+IsSlot slots slot = (1 ≤ slot) × (slot ≤ slots)
+
+-- no entry is for this slot
+abbrev pub IsAbsent : ℕ → List ℕ → Type 0
+IsAbsent slot taken = list_any (nat_eq slot) taken ≡ false
+
+-- the bytes of no text follow the closed ones, or they are those of the text for this slot
+abbrev pub IsUnderWay : ℕ → List ℕ → ℕ → ℕ → Option ℕ → Type 0
+IsUnderWay slots taken closed len None = closed ≡ len
+IsUnderWay slots taken closed len (Some slot) = IsSlot slots slot × IsAbsent slot taken
+
+-- the entries of a store with so many slots, closed and held bytes, and this slot's text under way
+pub record IsSound (slots : ℕ) (entries : List Entry) (closed len : ℕ) (slot : Option ℕ) : Type 0 where
+  pub apart : IsDistinct nat_eq (slots_of entries)
+  pub in_range : All (IsSlot slots) (slots_of entries)
+  pub within : All (λ e. IsWithin closed e.cell) entries
+  pub closed_held : closed ≤ len
+  pub under_way : IsUnderWay slots (slots_of entries) closed len slot
+
+-- the room of a heap: the bytes that are held, those that fit for sure, and the places for entries
+pub record HasRoom (slots len fits capacity entries : ℕ) : Type 0 where
+  pub held : len ≤ fits
+  pub sure : fits ≤ capacity
+  pub places : slots ≤ entries

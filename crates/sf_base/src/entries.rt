@@ -1,0 +1,85 @@
+//! What a store writes down of each slot.
+ghost use Rattle.std.specs.Prelude.{◌≡◌, ℕ, List, true, length, map};
+ghost use Rattle.std.specs.Option.{option_map};
+ghost use Rattle.std.specs.List.{All};
+ghost use Rattle.sf_base.specs.Data.{datum_of, datum_at, is_number};
+ghost use Rattle.sf_base.specs.Entries.{datum_in, assigned_in, IsWithin};
+
+use crate::Value;
+
+/// A value; a text is a part of the buffer.
+#[derive(Clone, Copy)]
+pub(crate) enum Cell {
+    I8(i8),
+    I16(i16),
+    I32(i32),
+    I64(i64),
+    U8(u8),
+    U16(u16),
+    U32(u32),
+    U64(u64),
+    Text { from: usize, to: usize },
+}
+
+#[derive(Clone, Copy)]
+pub(crate) struct Entry {
+    pub(crate) slot: u8,
+    pub(crate) cell: Cell,
+}
+
+impl Default for Entry {
+    fn default() -> Self {
+        Entry {
+            slot: 0,
+            cell: Cell::U8(0),
+        }
+    }
+}
+
+pub(crate) fn number_cell(value: Value<'_>) -> Cell
+    requires { is_number value ≡ true }
+    ensures value { (closed : List ℕ) → datum_in closed result ≡ datum_of value.entry }
+    ensures within { (n : ℕ) → IsWithin n result }
+{
+    match value {
+        Value::I8(n) => Cell::I8(n),
+        Value::I16(n) => Cell::I16(n),
+        Value::I32(n) => Cell::I32(n),
+        Value::I64(n) => Cell::I64(n),
+        Value::U8(n) => Cell::U8(n),
+        Value::U16(n) => Cell::U16(n),
+        Value::U32(n) => Cell::U32(n),
+        Value::U64(n) => Cell::U64(n),
+        Value::Text(_) => unreachable!(),
+    }
+}
+
+fn value_in<'a>(cell: Cell, closed: &'a [u8]) -> Value<'a>
+    requires { IsWithin (length closed.now) cell }
+    ensures { datum_of result ≡ datum_in closed.now cell }
+{
+    match cell {
+        Cell::I8(n) => Value::I8(n),
+        Cell::I16(n) => Value::I16(n),
+        Cell::I32(n) => Value::I32(n),
+        Cell::I64(n) => Value::I64(n),
+        Cell::U8(n) => Value::U8(n),
+        Cell::U16(n) => Value::U16(n),
+        Cell::U32(n) => Value::U32(n),
+        Cell::U64(n) => Value::U64(n),
+        Cell::Text { from, to } => Value::Text(&closed[from..to]),
+    }
+}
+
+/// The value of the slot by these entries.
+pub(crate) fn find_value<'a>(entries: &[Entry], slot: u8, closed: &'a [u8]) -> Option<Value<'a>>
+    requires { All (λ e. IsWithin (length closed.now) e.cell) entries.now }
+    ensures { option_map datum_of result ≡ datum_at slot (map (assigned_in closed.now) entries.now) }
+{
+    for entry in entries {
+        if slot == entry.slot {
+            return Some(value_in(entry.cell, closed));
+        }
+    }
+    None
+}

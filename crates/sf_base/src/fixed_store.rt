@@ -1,0 +1,115 @@
+//! A store of fixed capacity.
+ghost use Rattle.std.specs.Prelude.{◌≡◌};
+ghost use Rattle.sf_base.specs.Kept.{nothing_kept};
+
+use crate::Value;
+use crate::entries::{Cell, Entry, find_value, number_cell};
+use crate::store::{Store, StoreFull};
+use arrayvec::ArrayVec;
+use std::marker::Model;
+
+/// A store of fixed capacity, which takes no memory.
+#[derive(Drop)]
+pub struct FixedStore<const CAP: usize, const SLOTS: usize> {
+    entries: ArrayVec<Entry, SLOTS>,
+    bytes: ArrayVec<u8, CAP>,
+    /// How many of the bytes are closed texts.
+    closed: usize,
+    /// The slot of the opened text.
+    opened: Option<u8>,
+}
+
+impl<const CAP: usize, const SLOTS: usize> Model for FixedStore<CAP, SLOTS> {
+    ghost use Rattle.std.specs.Prelude.{◌-◌, ◌≤◌, length};
+    ghost use Rattle.sf_base.specs.Kept.{Kept};
+
+    ghost Value = { Kept };
+
+    ghost use Rattle.sf_base.specs.Entries.{kept_of, IsSound};
+
+    ghost view = { λ s. kept_of s.entries.items s.bytes.items s.closed s.opened (CAP - length s.bytes.items) };
+
+    ghost invariant = { λ s. IsSound SLOTS s.entries.items s.closed (length s.bytes.items) s.opened × (length s.bytes.items ≤ CAP) };
+}
+
+impl<const CAP: usize, const SLOTS: usize> FixedStore<CAP, SLOTS> {
+    /// An empty store.
+    pub fn new() -> Self
+        ensures { result ≡ nothing_kept CAP }
+    {
+        FixedStore {
+            entries: ArrayVec::new(),
+            bytes: ArrayVec::new(),
+            closed: 0,
+            opened: None,
+        }
+    }
+}
+
+impl<const CAP: usize, const SLOTS: usize> Store for FixedStore<CAP, SLOTS> {
+    ghost slots = { SLOTS };
+
+    ghost kept = { λ s. s };
+
+    fn set(&mut self, slot: u8, value: Value<'_>) {
+        self.entries.push(Entry {
+            slot,
+            cell: number_cell(value),
+        });
+    }
+
+    fn open_text(&mut self, slot: u8) {
+        self.opened = Some(slot);
+    }
+
+    fn push(&mut self, b: u8) -> Result<(), StoreFull> {
+        if self.bytes.try_push(b).is_err() {
+            return Err(StoreFull);
+        }
+        Ok(())
+    }
+
+    fn push_all(&mut self, bytes: &[u8]) -> Result<(), StoreFull> {
+        if self.bytes.try_extend_from_slice(bytes).is_err() {
+            return Err(StoreFull);
+        }
+        Ok(())
+    }
+
+    fn close_text(&mut self) {
+        let Some(slot) = self.opened else {
+            return;
+        };
+        let end = self.bytes.len();
+        self.entries.push(Entry {
+            slot,
+            cell: Cell::Text {
+                from: self.closed,
+                to: end,
+            },
+        });
+        self.closed = end;
+        self.opened = None;
+    }
+
+    fn drop_text(&mut self) {
+        self.bytes.truncate(self.closed);
+        self.opened = None;
+    }
+
+    fn clear(&mut self) {
+        self.entries.clear();
+        self.bytes.clear();
+        self.closed = 0;
+        self.opened = None;
+    }
+
+    fn room(&self) -> usize {
+        self.bytes.remaining_capacity()
+    }
+
+    fn value(&self, slot: u8) -> Option<Value<'_>> {
+        let bytes = self.bytes.as_slice();
+        find_value(self.entries.as_slice(), slot, &bytes[..self.closed])
+    }
+}

@@ -1,0 +1,96 @@
+//! Stores, run: one script of calls over both, and where they are full.
+ghost use Rattle.std.specs.Prelude.{◌≡◌, ◌≤◌};
+ghost use Rattle.sf_base.specs.Kept.{nothing_kept};
+
+use crate::{FixedStore, HeapStore, Store, Value, push_each};
+use std::process::Abort;
+use std::test::Fail;
+
+/// Calls on an empty store, and what it then has in its slots.
+fn script<S: Store>(rt: &(impl Abort + AllocGlobal), store: &mut S) -> Result<(), Fail>
+    requires slots { 5 ≤ S.slots }
+    requires empty { S.kept store.old ≡ nothing_kept (S.kept store.old).room }
+{
+    store.set(2, Value::I64(-9));
+    store.open_text(1);
+    store.push(b'a')?;
+    store.push_all(b"bc")?;
+    store.close_text();
+    store.open_text(3);
+    store.push_all(b"gone")?;
+    store.drop_text();
+    store.open_text(4);
+    store.set(5, Value::U8(255));
+    assert_eq!(rt; push_each(store, b"de"), 2);
+    store.close_text();
+    for (slot, want) in [
+        (0u8, None),
+        (1, Some(Value::Text(b"abc"))),
+        (2, Some(Value::I64(-9))),
+        (3, None),
+        (4, Some(Value::Text(b"de"))),
+        (5, Some(Value::U8(255))),
+        (6, None),
+    ] {
+        assert_eq!(rt; store.value(slot), want, "in slot {slot}");
+    }
+    Ok(())
+}
+
+#[test]
+fn stores_answer_alike(rt: HostRuntime) -> Result<(), Fail> {
+    let mut heap = HeapStore::new(rt.alloc(), 9)?;
+    let mut fixed = FixedStore::<9, 5>::new();
+    for _ in 0..2 {
+        heap.clear();
+        assert!(rt; heap.room() >= 9);
+        script(&rt, &mut heap)?;
+        fixed.clear();
+        assert_eq!(rt; fixed.room(), 9);
+        script(&rt, &mut fixed)?;
+        assert_eq!(rt; fixed.room(), 4);
+    }
+    Ok(())
+}
+
+#[test]
+fn a_fixed_store_is_full_at_its_capacity(rt: HostRuntime) {
+    let mut store = FixedStore::<3, 1>::new();
+    store.open_text(1);
+    assert!(rt; store.push_all(b"abcd").is_err() && store.room() == 3);
+    assert_eq!(rt; push_each(&mut store, b"abcd"), 3);
+    assert!(rt; store.push(b'd').is_err() && store.room() == 0);
+    store.close_text();
+    assert_eq!(rt; store.value(1), Some(Value::Text(b"abc")));
+}
+
+#[test]
+fn a_store_without_bytes_keeps_numbers(rt: HostRuntime) {
+    let mut store = FixedStore::<0, 1>::new();
+    store.set(1, Value::U64(18446744073709551615));
+    assert!(rt; store.room() == 0 && store.value(1) == Some(Value::U64(18446744073709551615)));
+}
+
+#[test]
+fn a_text_grows(rt: HostRuntime) -> Result<(), Fail> {
+    let mut store = HeapStore::new(rt.alloc(), 0)?;
+    store.open_text(32);
+    for pushed in 0..100000usize {
+        let b = if pushed % 2 == 0 { b'a' } else { b'b' };
+        if store.push(b).is_err() {
+            // Memory was refused: what was pushed before stands.
+            store.close_text();
+            let Some(Value::Text(text)) = store.value(32) else {
+                return Err(Fail::new("the text is lost"));
+            };
+            assert_eq!(rt; text.len(), pushed);
+            return Ok(());
+        }
+    }
+    store.close_text();
+    let Some(Value::Text(text)) = store.value(32) else {
+        return Err(Fail::new("the text is lost"));
+    };
+    assert!(rt; text.len() == 100000 && text.starts_with(b"abab") && text.ends_with(b"ab"));
+    Ok(())
+}
