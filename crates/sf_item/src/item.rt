@@ -4,7 +4,7 @@ ghost use Rattle.sf_format.specs.Proper.{IsProperShape};
 ghost use Rattle.sf_item.specs.Tests.{has_item};
 ghost use Rattle.sf_item.specs.Progress.{Progress, integer_of};
 ghost use Rattle.sf_item.specs.Scan.{Shows, most_bytes, IsOneLess};
-ghost use Rattle.sf_item.specs.Taking.{HasTaken, CanTake, conversion_of, Ends, EndsAt};
+ghost use Rattle.sf_item.specs.Taking.{HasTaken, CanTake, conversion_of, left_of, Ends, EndsAt};
 
 use crate::reached::Reached;
 use crate::reading::{Reading, read_on, reading_of};
@@ -110,6 +110,7 @@ impl<'c> ItemScan<'c> {
         requires { has_item conversion.now.shape ≡ true }
         ensures conversion { conversion_of result ≡ conversion.now }
         ensures nothing { HasTaken result [] }
+        ensures left { left_of result ≡ most_bytes conversion.now.shape conversion.now.width }
     {
         ItemScan {
             conversion,
@@ -127,6 +128,7 @@ impl<'c> ItemScan<'c> {
             → ((result ≡ Step.Taken) ↔ CanTake (conversion_of self.old) (f ++ b ∷ [])) }
         ensures after { (f : List ℕ) → HasTaken self.old f → result ≡ Step.Taken → HasTaken self.new (f ++ b ∷ []) }
         ensures refused { result ≡ Step.Refused → self.new ≡ self.old }
+        ensures left { result ≡ Step.Taken → IsOneLess (left_of self.old) (left_of self.new) }
     {
         if is_used_up(self.left) {
             return Step::Refused;

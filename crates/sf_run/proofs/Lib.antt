@@ -8,5 +8,7 @@ pub mod Rows
 pub mod Machines
 pub mod Stages
 pub mod Moves
+pub mod Slots
 pub mod Openness
 pub mod Waits
+pub mod Refusals

@@ -231,7 +231,7 @@ first_begins Chars width proper wide item = (0, lit< tt, one_char width wide)
 first_begins Count width proper wide item = absurd item
 
 -- a conversion with an item isn't full before it
-item_not_full : (c : Conversion) → IsProper (Conv c) → HasItem c.shape → is_full (Conv c) Skipping ≡ true → ⊥
+pub item_not_full : (c : Conversion) → IsProper (Conv c) → HasItem c.shape → is_full (Conv c) Skipping ≡ true → ⊥
 item_not_full c proper item full =
     let (e, byte, begins) = first_begins c.shape c.width proper.0 proper.1 item in
     let can : can_take c (e ∷ []) ≡ true = both (is_within c.width 1) (shape_begins c.shape c.width (e ∷ [])) (within_one c.width proper.1) begins in
@@ -347,7 +347,7 @@ finish_fits (Byte a) q n more e = byte_fits q more e
 finish_fits Percent q n more e = byte_fits q more e
 finish_fits (Conv c) q n more e = conversion_fits c c.shape q n more e
 
-by_option : (P : Part → Type 0) (o : Option Stage) (y : Part) (f : Stage → Part) → P y → ((r : Stage) → P (f r)) → P (choose o y f)
+pub by_option : (P : Part → Type 0) (o : Option Stage) (y : Part) (f : Stage → Part) → P y → ((r : Stage) → P (f r)) → P (choose o y f)
 by_option P None y f a b = a
 by_option P (Some r) y f a b = b r
 

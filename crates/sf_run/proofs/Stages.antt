@@ -1,9 +1,10 @@
 -- What the phases of the code show of a directive's stage.
 use Rattle.std.proofs.Common.{◌≡◌, ◌⊎◌, inl, inr, ℕ, ◌<◌, ◌≤◌, ◌^◌, Bool, true, false, cond, ◌&&◌, nat_eq, nat_lt, nat_le, List, [], ◌∷◌, ◌++◌, Option, Some, None, refl, sym, ap, subst, ◌∙◌, arith, lit<, true≢false, ℤ}
-use Rattle.std.specs.Prelude.{IsTrue, ◌↔◌}
+use Rattle.std.specs.Prelude.{IsTrue, ◌≢◌, ◌↔◌}
 use Rattle.std.proofs.lemmas.Bool.Decides.{nat_tests}
 use Rattle.std.specs.Option.{option_map}
-use Rattle.sf_base.specs.Data.{value_of}
+use Rattle.sf_base.specs.Bytes.{is_white}
+use Rattle.sf_base.specs.Data.{Bytes, value_of}
 use Rattle.sf_base.specs.declared.values.Kind.{Kind}
 use Rattle.sf_base.specs.declared.values.Kind.TheVariants.{I8, I16, I32, I64, U8, U16, U32, U64, Text as TextKind}
 use Rattle.sf_format.specs.declared.directive.Shape.{Shape}
@@ -11,38 +12,25 @@ use Rattle.sf_format.specs.declared.directive.Shape.TheVariants.{Int, Text, Set,
 use Rattle.sf_format.specs.declared.directive.Conversion.{Conversion}
 use Rattle.sf_format.specs.declared.directive.Directive.{Directive}
 use Rattle.sf_format.specs.declared.directive.Directive.TheVariants.{Space, Byte, Percent, Conv}
-use Rattle.sf_format.specs.Proper.{IsProper, IsProperShape, is_plain, is_integer, is_i32}
+use Rattle.sf_format.specs.Proper.{IsProper, IsProperShape}
 use Rattle.sf_item.specs.Matching.{Matches, ShapeMatches}
 use Rattle.sf_item.specs.Scan.{HoldsNumber}
 use Rattle.sf_item.specs.Taking.{IsInt, CanTake, HasTaken, conversion_of, Ends}
-use Rattle.sf_item.specs.Tests.{matches, shape_matches, can_take}
+use Rattle.sf_item.specs.Tests.{matches, is_within, shape_begins, can_take}
+use Rattle.sf_item.proofs.Fronts.{HasItem}
 use Rattle.sf_item.specs.declared.item.ItemScan.{ItemScan}
 use Rattle.sf_item.specs.declared.item.ItemEnd.{ItemEnd}
 use Rattle.sf_item.specs.declared.item.ItemEnd.TheVariants as ends
 use Rattle.sf_item.proofs.Deciding.{Tests, tests_same, tests_can_take, tests_matches, integer_at_is}
+use Rattle.sf_run.specs.declared.directive.Phase.{Phase}
 use Rattle.sf_run.specs.declared.directive.Phase.TheVariants as phase
 use Rattle.sf_run.specs.declared.outcome.Status.TheVariants.{MatchingFailure}
-use Rattle.sf_run.specs.Steps.{Fails}
-use Rattle.sf_run.specs.Machine.{Skipping, Taken, Item, item_stepped, is_full, number_end, integer_end, stored_end, passed_end, item_end}
-use Rattle.sf_run.specs.Phases.{ShowsNext, passed_number}
-use Rattle.sf_run.proofs.Machines.{not_full, full_of_none}
-
-pub int_proper : (shape : Shape) → IsInt shape → IsProperShape shape
-int_proper shape int = subst IsProperShape (sym int.1) tt
-
-integer_is : (shape : Shape) → is_integer shape ≡ true → IsInt shape
-integer_is (Int base) e = (base, refl)
-integer_is Text e = absurd (true≢false (sym e))
-integer_is (Set members) e = absurd (true≢false (sym e))
-integer_is Chars e = absurd (true≢false (sym e))
-integer_is Count e = absurd (true≢false (sym e))
-
-left_of : (a b : Bool) → (a && b) ≡ true → a ≡ true
-left_of true b e = refl
-left_of false b e = e
-
-pub plain_int : (c : Conversion) → is_plain (Conv c) ≡ true → IsInt c.shape
-plain_int c e = integer_is c.shape (left_of (is_integer c.shape) (is_i32 c.kind) e)
+use Rattle.sf_run.specs.Steps.{Passes, Stores, Fails}
+use Rattle.sf_run.specs.Texts.{slot_of_text, text_slot, opened_for, is_count, counts_bytes}
+use Rattle.sf_base.specs.Kept.{Opened, text_of}
+use Rattle.sf_run.specs.Machine.{Stage, Skipping, Taken, Item, shape_skips, stepped, item_stepped, is_full, number_end, count_end, integer_end, stored_end, passed_end, item_end, item_finished, conversion_finished}
+use Rattle.sf_run.specs.Phases.{ShowsItem, Shows, ShowsNext, passed_number}
+use Rattle.sf_run.proofs.Machines.{not_full, full_of_none, item_not_full}
 
 -- ---- a byte more
 
@@ -50,11 +38,23 @@ module _ (scan : ItemScan) (f : List ℕ) (b : ℕ) (proper : IsProperShape (con
   decides : Tests (can_take (conversion_of scan) (f ++ b ∷ [])) (CanTake (conversion_of scan) (f ++ b ∷ []))
   decides = tests_can_take (conversion_of scan) proper (f ++ b ∷ [])
 
-  pub item_taken : (new : ItemScan) → conversion_of new ≡ conversion_of scan → CanTake (conversion_of scan) (f ++ b ∷ []) → HasTaken new (f ++ b ∷ [])
-      → ShowsNext (Conv (conversion_of scan)) (Some (phase.Item new)) (item_stepped (conversion_of scan) f b)
-  item_taken new same can taken =
-      subst (λ v. ShowsNext (Conv (conversion_of scan)) (Some (phase.Item new)) (cond v (Some (Item (f ++ b ∷ []))) None)) (sym (decides.to can))
-      (f ++ b ∷ [], refl, ap Conv (sym same), taken)
+  pub item_taken : (new : ItemScan) (slot : Option ℕ) (p : Phase) → ((q : Stage) → ShowsItem (Conv (conversion_of scan)) slot new q → Shows (Conv (conversion_of scan)) p q)
+      → text_slot (Conv (conversion_of scan)) ≡ slot → conversion_of new ≡ conversion_of scan → CanTake (conversion_of scan) (f ++ b ∷ []) → HasTaken new (f ++ b ∷ [])
+      → ShowsNext (Conv (conversion_of scan)) (Some p) (item_stepped (conversion_of scan) f b)
+  item_taken new slot p shows text same can taken =
+      subst (λ v. ShowsNext (Conv (conversion_of scan)) (Some p) (cond v (Some (Item (f ++ b ∷ []))) None)) (sym (decides.to can))
+      (shows (Item (f ++ b ∷ [])) (record {
+        item = f ++ b ∷ [];
+        stage = refl;
+        own = ap Conv (sym same);
+        taken = taken;
+        begun = not_nothing f;
+        text = text;
+      }))
+    where
+      not_nothing : (f : List ℕ) → f ++ b ∷ [] ≢ []
+      not_nothing [] e = cc
+      not_nothing (x ∷ f) e = cc
 
   pub item_refused : (CanTake (conversion_of scan) (f ++ b ∷ []) → ⊥) → ShowsNext (Conv (conversion_of scan)) None (item_stepped (conversion_of scan) f b)
   item_refused cannot = by_case (can_take (conversion_of scan) (f ++ b ∷ [])) refl
@@ -63,23 +63,38 @@ module _ (scan : ItemScan) (f : List ℕ) (b : ℕ) (proper : IsProperShape (con
       by_case true e = absurd (cannot (decides.from e))
       by_case false e = tt
 
+-- n takes nothing
+pub count_takes_nothing : (c : Conversion) (b : ℕ) → c.shape ≡ Count → stepped (Conv c) Skipping b ≡ None
+count_takes_nothing c b e = ap (λ shape. cond (shape_skips shape && is_white b) (Some Skipping) (cond (is_within c.width 1 && shape_begins shape c.width (b ∷ [])) (Some (Item (b ∷ []))) None)) e ∙ never (is_within c.width 1)
+  where
+    never : (v : Bool) → cond (v && false) (Some (Item (b ∷ []))) None ≡ None
+    never true = refl
+    never false = refl
+
 -- ---- full
 
 same_test : (a : ℕ) → nat_eq a a ≡ true
 same_test a = (tests_same a a).to refl
 
-pub skipping_not_full : (d : Directive) → is_plain d ≡ true → IsProper d → false ≡ is_full d Skipping
-skipping_not_full Space plain proper = sym (not_full Space Skipping 32 Skipping (lit< tt) refl)
-skipping_not_full (Byte a) plain proper = sym (not_full (Byte a) Skipping a Taken proper (ap (λ v. cond v (Some Taken) None) (same_test a)))
-skipping_not_full Percent plain proper = sym (not_full Percent Skipping 37 Taken (lit< tt) refl)
-skipping_not_full (Conv c) plain proper = sym (by_shape c.shape refl (left_of (is_integer c.shape) (is_i32 c.kind) plain))
+pub skipping_full : (d : Directive) → IsProper d → counts_bytes d ≡ is_full d Skipping
+skipping_full Space proper = sym (not_full Space Skipping 32 Skipping (lit< tt) refl)
+skipping_full (Byte a) proper = sym (not_full (Byte a) Skipping a Taken proper (ap (λ v. cond v (Some Taken) None) (same_test a)))
+skipping_full Percent proper = sym (not_full Percent Skipping 37 Taken (lit< tt) refl)
+skipping_full (Conv c) proper = by_shape c.shape refl
   where
-    by_shape : (shape : Shape) → c.shape ≡ shape → is_integer shape ≡ true → is_full (Conv c) Skipping ≡ false
-    by_shape (Int base) e int = not_full (Conv c) Skipping 32 Skipping (lit< tt) (rw e refl)
-    by_shape Text e int = absurd (true≢false (sym int))
-    by_shape (Set members) e int = absurd (true≢false (sym int))
-    by_shape Chars e int = absurd (true≢false (sym int))
-    by_shape Count e int = absurd (true≢false (sym int))
+    never : HasItem c.shape → false ≡ is_full (Conv c) Skipping
+    never item = by_full (is_full (Conv c) Skipping) (λ full. item_not_full c proper item full)
+      where
+        by_full : (v : Bool) → (v ≡ true → ⊥) → false ≡ v
+        by_full true none = absurd (none refl)
+        by_full false none = refl
+
+    by_shape : (shape : Shape) → c.shape ≡ shape → is_count shape ≡ is_full (Conv c) Skipping
+    by_shape (Int base) e = never (subst HasItem (sym e) tt)
+    by_shape Text e = never (subst HasItem (sym e) tt)
+    by_shape (Set members) e = never (subst HasItem (sym e) tt)
+    by_shape Chars e = never (subst HasItem (sym e) tt)
+    by_shape Count e = sym (full_of_none (Conv c) Skipping (λ b below. count_takes_nothing c b e))
 
 pub taken_full : (d : Directive) → true ≡ is_full d Taken
 taken_full Space = sym (full_of_none Space Taken (λ b below. refl))
@@ -116,61 +131,148 @@ unmatched_end c f none = by_case (matches c f) refl
     by_case true e = absurd (none ((tests_matches c f).from e))
     by_case false e = refl
 
--- nothing is no integer
-pub empty_unmatched : (c : Conversion) → IsInt c.shape → Matches c [] → ⊥
-empty_unmatched c int m = true≢false (sym ((tests_matches c []).to m) ∙ ap (λ shape. shape_matches shape c.width []) int.1)
+too_great : (kind : Kind) (negative : Bool) (m : ℕ) → 2 ^ 64 ≤ m → value_of kind negative m ≡ None
+too_great I8 true m great = let h : nat_le m (2 ^ 7) ≡ false = grind (arith, nat_tests) in rw h refl
+too_great I8 false m great = let h : nat_lt m (2 ^ 7) ≡ false = grind (arith, nat_tests) in rw h refl
+too_great I16 true m great = let h : nat_le m (2 ^ 15) ≡ false = grind (arith, nat_tests) in rw h refl
+too_great I16 false m great = let h : nat_lt m (2 ^ 15) ≡ false = grind (arith, nat_tests) in rw h refl
+too_great I32 true m great = let h : nat_le m (2 ^ 31) ≡ false = grind (arith, nat_tests) in rw h refl
+too_great I32 false m great = let h : nat_lt m (2 ^ 31) ≡ false = grind (arith, nat_tests) in rw h refl
+too_great I64 true m great = let h : nat_le m (2 ^ 63) ≡ false = grind (arith, nat_tests) in rw h refl
+too_great I64 false m great = let h : nat_lt m (2 ^ 63) ≡ false = grind (arith, nat_tests) in rw h refl
+too_great U8 true m great = let h : nat_lt m (2 ^ 8) ≡ false = grind (arith, nat_tests) in rw h refl
+too_great U8 false m great = let h : nat_lt m (2 ^ 8) ≡ false = grind (arith, nat_tests) in rw h refl
+too_great U16 true m great = let h : nat_lt m (2 ^ 16) ≡ false = grind (arith, nat_tests) in rw h refl
+too_great U16 false m great = let h : nat_lt m (2 ^ 16) ≡ false = grind (arith, nat_tests) in rw h refl
+too_great U32 true m great = let h : nat_lt m (2 ^ 32) ≡ false = grind (arith, nat_tests) in rw h refl
+too_great U32 false m great = let h : nat_lt m (2 ^ 32) ≡ false = grind (arith, nat_tests) in rw h refl
+too_great U64 true m great = let h : nat_lt m (2 ^ 64) ≡ false = grind (arith, nat_tests) in rw h refl
+too_great U64 false m great = let h : nat_lt m (2 ^ 64) ≡ false = grind (arith, nat_tests) in rw h refl
+too_great TextKind negative m great = refl
 
-i32_is : (kind : Kind) → is_i32 kind ≡ true → kind ≡ I32
-i32_is I8 e = absurd (true≢false (sym e))
-i32_is I16 e = absurd (true≢false (sym e))
-i32_is I32 e = refl
-i32_is I64 e = absurd (true≢false (sym e))
-i32_is U8 e = absurd (true≢false (sym e))
-i32_is U16 e = absurd (true≢false (sym e))
-i32_is U32 e = absurd (true≢false (sym e))
-i32_is U64 e = absurd (true≢false (sym e))
-i32_is TextKind e = absurd (true≢false (sym e))
+-- no kind holds a number that 64 bits don't hold
+pub held_value : (kind : Kind) (negative : Bool) (magnitude m : ℕ) (overflowed : Bool) → HoldsNumber magnitude overflowed m
+    → cond overflowed None (value_of kind negative magnitude) ≡ value_of kind negative m
+held_value kind negative magnitude m true h = sym (too_great kind negative m h.1)
+held_value kind negative magnitude m false h = ap (value_of kind negative) (sym h)
 
--- no kind of 32 bits holds a number that 64 bits don't hold
-too_great : (negative : Bool) (m : ℕ) → 2 ^ 64 ≤ m → value_of I32 negative m ≡ None
-too_great true m great = let h : nat_le m (2 ^ 31) ≡ false = grind (arith, nat_tests) in rw h refl
-too_great false m great = let h : nat_lt m (2 ^ 31) ≡ false = grind (arith, nat_tests) in rw h refl
+matched_end : (c : Conversion) (f : List ℕ) → Matches c f → passed_end c c.slot f ≡ item_end c f
+matched_end c f m = ap (λ v. cond v (passed_end c c.slot f) (Fails MatchingFailure)) (sym ((tests_matches c f).to m))
 
-held_value : (negative : Bool) (magnitude m : ℕ) (overflowed : Bool) → HoldsNumber magnitude overflowed m
-    → cond overflowed None (value_of I32 negative magnitude) ≡ value_of I32 negative m
-held_value negative magnitude m true h = sym (too_great negative m h.1)
-held_value negative magnitude m false h = ap (value_of I32 negative) (sym h)
+-- an integer's item ends with its number
+pub integer_ends : (c : Conversion) (f : List ℕ) (negative : Bool) (magnitude : ℕ) (overflowed : Bool) (is : Ends c f (ends.Integer negative magnitude overflowed))
+    → passed_number c c.slot (value_of c.kind negative is.1) ≡ item_end c f
+integer_ends c f negative magnitude overflowed is = passes_is c.slot ∙ matched_end c f matching
+  where
+    matching : Matches c f
+    matching = subst (λ shape. ShapeMatches shape c.width f) (sym is.2) (negative, is.1, is.3)
 
-same_option : (o : Option ℤ) → option_map (λ x. x) o ≡ o
-same_option None = refl
-same_option (Some x) = refl
+    passes_is : (slot : Option ℕ) → passed_number c slot (value_of c.kind negative is.1) ≡ passed_end c slot f
+    passes_is None = refl
+    passes_is (Some slot) =
+        ap (integer_end c slot) (sym (integer_at_is is.0 f negative is.1 is.3)) ∙ ap (λ shape. stored_end c slot shape f) (sym is.2)
 
-module _ (c : Conversion) (kind : is_i32 c.kind ≡ true) (f : List ℕ) (negative : Bool) (magnitude : ℕ) (overflowed : Bool)
-    (ends : Ends c f (ends.Integer negative magnitude overflowed)) (value : Option ℤ)
-    (is : option_map (λ x. x) value ≡ cond overflowed None (value_of I32 negative magnitude)) where
-  value_is : value ≡ value_of c.kind negative ends.1
-  value_is = sym (same_option value) ∙ is ∙ held_value negative magnitude ends.1 overflowed ends.4 ∙ ap (λ k. value_of k negative ends.1) (sym (i32_is c.kind kind))
+-- a suppressed one passes
+pub suppressed_end : (c : Conversion) (f : List ℕ) → c.slot ≡ None → Matches c f → Passes ≡ item_end c f
+suppressed_end c f none m = ap (λ slot. passed_end c slot f) (sym none) ∙ matched_end c f m
 
-  matching : Matches c f
-  matching = subst (λ shape. ShapeMatches shape c.width f) (sym ends.2) (negative, ends.1, ends.3)
+-- a text is stored as it stands
+pub text_end : (c : Conversion) (f : List ℕ) (slot : ℕ) → text_slot (Conv c) ≡ Some slot → Matches c f → Stores slot (Bytes f) ≡ item_end c f
+text_end c f slot text m = by_shape c.shape refl text ∙ matched_end c f m
+  where
+    stored_as : (shape : Shape) → c.shape ≡ shape → c.slot ≡ Some slot → stored_end c slot shape f ≡ Stores slot (Bytes f) → Stores slot (Bytes f) ≡ passed_end c c.slot f
+    stored_as shape e own is = sym is ∙ ap (λ s. stored_end c slot s f) (sym e) ∙ ap (λ o. passed_end c o f) (sym own)
 
-  stored_is : (slot : ℕ) → number_end c slot value ≡ stored_end c slot c.shape f
-  stored_is slot =
-      ap (number_end c slot) value_is
-      ∙ ap (integer_end c slot) (sym (integer_at_is ends.0 f negative ends.1 ends.3))
-      ∙ ap (λ shape. stored_end c slot shape f) (sym ends.2)
+    by_shape : (shape : Shape) → c.shape ≡ shape → slot_of_text shape c.slot ≡ Some slot → Stores slot (Bytes f) ≡ passed_end c c.slot f
+    by_shape Text e own = stored_as Text e own refl
+    by_shape (Set members) e own = stored_as (Set members) e own refl
+    by_shape Chars e own = stored_as Chars e own refl
+    by_shape (Int base) e own = cc
+    by_shape Count e own = cc
 
-  passes_is : (slot : Option ℕ) → passed_number c slot value ≡ passed_end c slot f
-  passes_is None = refl
-  passes_is (Some slot) = stored_is slot
+-- the text of a conversion that is no integer's and has a slot is stored
+pub not_suppressed : (c : Conversion) (f : List ℕ) (slot : ℕ) → text_slot (Conv c) ≡ None → c.slot ≡ Some slot → Matches c f → (IsInt c.shape → ⊥) → ⊥
+not_suppressed c f slot text own m never = by_shape c.shape refl
+  where
+    by_shape : (shape : Shape) → c.shape ≡ shape → ⊥
+    by_shape (Int base) e = never (base, e)
+    by_shape Text e = let k : slot_of_text Text c.slot ≡ None = ap (λ s. slot_of_text s c.slot) (sym e) ∙ text in cc
+    by_shape (Set members) e = let k : slot_of_text (Set members) c.slot ≡ None = ap (λ s. slot_of_text s c.slot) (sym e) ∙ text in cc
+    by_shape Chars e = let k : slot_of_text Chars c.slot ≡ None = ap (λ s. slot_of_text s c.slot) (sym e) ∙ text in cc
+    by_shape Count e = let k : ShapeMatches Count c.width f = subst (λ s. ShapeMatches s c.width f) e m in k
 
-  pub integer_ends : passed_number c c.slot value ≡ item_end c f
-  integer_ends = passes_is c.slot ∙ ap (λ v. cond v (passed_end c c.slot f) (Fails MatchingFailure)) (sym ((tests_matches c f).to matching))
+-- one that has a slot for its text has an item
+pub text_has_item : (c : Conversion) (slot : ℕ) → text_slot (Conv c) ≡ Some slot → is_count c.shape ≡ false
+text_has_item c slot e = by_shape c.shape e
+  where
+    by_shape : (shape : Shape) → slot_of_text shape c.slot ≡ Some slot → is_count shape ≡ false
+    by_shape (Int base) e = cc
+    by_shape Text e = refl
+    by_shape (Set members) e = refl
+    by_shape Chars e = refl
+    by_shape Count e = cc
 
--- an integer's item that ends otherwise than as one doesn't match
-pub other_end : (c : Conversion) (f : List ℕ) (e : ItemEnd) → IsInt c.shape → Ends c f e → (e ≡ ends.Empty) ⊎ ((e ≡ ends.Unmatched) ⊎ (e ≡ ends.Matched))
-    → Matches c f → ⊥
-other_end c f e int h (inl is) m =
-    let nothing : f ≡ [] = subst (λ o. Ends c f o) is h in empty_unmatched c int (subst (Matches c) nothing m)
-other_end c f e int h (inr (inl is)) m = let k : Ends c f ends.Unmatched = subst (λ o. Ends c f o) is h in k.1 m
-other_end c f e int h (inr (inr is)) m = let k : Ends c f ends.Matched = subst (λ o. Ends c f o) is h in k.2 int
+-- a text that is no match
+pub text_fails : (c : Conversion) (f : List ℕ) (slot : ℕ) (e : ItemEnd) → text_slot (Conv c) ≡ Some slot → f ≢ [] → Ends c f e → (e ≡ ends.Matched → ⊥)
+    → Fails MatchingFailure ≡ item_end c f
+text_fails c f slot ends.Empty text some h never = absurd (some h)
+text_fails c f slot ends.Unmatched text some h never = unmatched_end c f h.1
+text_fails c f slot ends.Matched text some h never = absurd (never refl)
+text_fails c f slot (ends.Integer negative magnitude overflowed) text some h never =
+    let k : slot_of_text (Int h.0) c.slot ≡ Some slot = ap (λ s. slot_of_text s c.slot) (sym h.2) ∙ text in absurd cc
+
+-- an item that is not stored as it stands, and is no match
+pub item_fails : (c : Conversion) (f : List ℕ) (e : ItemEnd) → f ≢ [] → Ends c f e → (e ≡ ends.Matched → ⊥)
+    → ((negative : Bool) (magnitude : ℕ) (overflowed : Bool) → e ≡ ends.Integer negative magnitude overflowed → ⊥) → Fails MatchingFailure ≡ item_end c f
+item_fails c f ends.Empty some h never none = absurd (some h)
+item_fails c f ends.Unmatched some h never none = unmatched_end c f h.1
+item_fails c f ends.Matched some h never none = absurd (never refl)
+item_fails c f (ends.Integer negative magnitude overflowed) some h never none = absurd (none negative magnitude overflowed refl)
+
+-- one that is a match and no integer is suppressed
+pub item_suppressed : (c : Conversion) (f : List ℕ) → text_slot (Conv c) ≡ None → Ends c f ends.Matched → c.slot ≡ None
+item_suppressed c f text h = by_slot c.slot refl
+  where
+    by_slot : (slot : Option ℕ) → c.slot ≡ slot → slot ≡ None
+    by_slot None e = refl
+    by_slot (Some slot) e = absurd (not_suppressed c f slot text e h.1 h.2)
+
+-- ---- the end of a directive
+
+pub count_is : (c : Conversion) (slot : Option ℕ) (n : ℕ) → passed_number c slot (value_of c.kind false n) ≡ count_end c slot n
+count_is c None n = refl
+count_is c (Some slot) n = refl
+
+pub count_finished : (c : Conversion) (shape : Shape) (q : Stage) (n : ℕ) (more : Bool) → is_count shape ≡ true → conversion_finished c shape q n more ≡ count_end c c.slot n
+count_finished c (Int base) q n more e = cc
+count_finished c Text q n more e = cc
+count_finished c (Set members) q n more e = cc
+count_finished c Chars q n more e = cc
+count_finished c Count q n more e = refl
+
+pub other_finished : (c : Conversion) (shape : Shape) (q : Stage) (n : ℕ) (more : Bool) → is_count shape ≡ false → conversion_finished c shape q n more ≡ item_finished c q more
+other_finished c (Int base) q n more e = refl
+other_finished c Text q n more e = refl
+other_finished c (Set members) q n more e = refl
+other_finished c Chars q n more e = refl
+other_finished c Count q n more e = cc
+
+pub conv_is : (a b : Conversion) → Conv a ≡ Conv b → a ≡ b
+conv_is a b e = cc
+
+-- the text under way is the item
+pub shown_text : (d : Directive) (slot : ℕ) (scan : ItemScan) (q : Stage) (opened : Option Opened) (s : ShowsItem d (Some slot) scan q) → opened ≡ opened_for (text_slot d) q
+    → text_of opened ≡ s.item
+shown_text d slot scan q opened s e = ap text_of (e ∙ ap (λ t. opened_for t q) s.text ∙ ap (opened_for (Some slot)) s.stage)
+
+pub item_finish : (c : Conversion) (q : Stage) (more : Bool) (f : List ℕ) → q ≡ Item f → item_end c f ≡ item_finished c q more
+item_finish c q more f e = ap (λ r. item_finished c r more) (sym e)
+
+-- an item under way is full as its scan is
+pub shown_full : (d : Directive) (slot : Option ℕ) (scan : ItemScan) (q : Stage) (full : Bool) → IsProper d → ShowsItem d slot scan q
+    → ((f : List ℕ) → HasTaken scan f → IsProperShape (conversion_of scan).shape → (IsTrue full ↔ ((b : ℕ) → b < 256 → CanTake (conversion_of scan) (f ++ b ∷ []) → ⊥)))
+    → full ≡ is_full d q
+shown_full d slot scan q full proper s says =
+    let own : IsProper (Conv (conversion_of scan)) = subst IsProper s.own proper in
+    item_full scan s.item full own.0 (says s.item s.taken own.0)
+    ∙ ap (λ e. is_full e (Item s.item)) (sym s.own) ∙ ap (is_full d) (sym s.stage)

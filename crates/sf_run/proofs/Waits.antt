@@ -6,20 +6,25 @@ use Rattle.std.proofs.lemmas.List.{append-nil}
 use Rattle.sf_format.specs.declared.directive.Directive.{Directive}
 use Rattle.sf_format.specs.declared.directive.Directive.TheVariants.{Conv}
 use Rattle.sf_format.specs.Proper.{IsProper, AreProper}
+use Rattle.sf_item.specs.declared.item.ItemScan.{ItemScan}
 use Rattle.sf_item.specs.Taking.{conversion_of}
 use Rattle.sf_run.specs.declared.directive.Phase.{Phase}
 use Rattle.sf_run.specs.declared.directive.Phase.TheVariants as phase
 use Rattle.sf_run.specs.declared.outcome.Ending.{Ending}
 use Rattle.sf_run.specs.declared.outcome.Status.TheVariants.{TooLong}
-use Rattle.sf_run.specs.declared.scanner.Scanner.{Scanner}
 use Rattle.sf_run.specs.declared.scanner.Stop.{Stop}
 use Rattle.sf_run.specs.Runs.{RunReport, IsOpen}
 use Rattle.sf_run.specs.Limits.{RunWithin, TellsWithin}
 use Rattle.sf_run.specs.Machine.{Stage, Skipping, Taken, Item, stepped, is_full}
-use Rattle.sf_run.specs.Phases.{Shows}
+use Rattle.sf_run.specs.Phases.{ShowsItem, Shows}
 use Rattle.sf_run.specs.Residual.{Tally, nothing_yet, with_used, out_of, run_of, run_from}
-use Rattle.sf_run.specs.Scanner.{ShowsFirst, DoesBy, Does, Follows, Waits, IsSettled, Keeps, After, report_by, Gives}
+use Rattle.sf_run.specs.Standing.{Standing, ShowsFirst, DoesBy, Does, Follows, Waits, IsSettled, Keeps, After, report_by, Gives, Refuses, RefusesIn, ran_out, StoresByte}
+use Rattle.sf_base.specs.Data.{Assigned}
+use Rattle.sf_run.specs.declared.tally.Tally as code
 use Rattle.sf_run.specs.Tallies.{tally_of}
+use Rattle.sf_run.specs.Texts.{text_slot, opened_for}
+use Rattle.sf_run.specs.Limits.{RunTold}
+use Rattle.sf_base.specs.Kept.{Opened}
 use Rattle.sf_run.proofs.Machines.{can_take_one, item_byte, item_byte-below, item_takes}
 use Rattle.sf_run.proofs.Moves.{drop_at, proper_at, ended_does, waiting, byte_took, byte_past, fresh, shows_fresh}
 use Rattle.sf_run.proofs.Openness.{OpenAt, open_or_closed, uses_within, within_limit, run_not_too_long, over_is_too_long, rest_uses_nothing}
@@ -55,10 +60,25 @@ closed_same ds proper m x z r closed h =
 
 -- ---- one byte that is taken, at each stage that the phase shows
 
-pub record OneByte (d : Directive) (current : Phase) : Type 0 where
+pub record OneByteOf (d : Directive) (IsShown : Stage → Type 0) : Type 0 where
   pub byte : ℕ
   pub is_byte : byte < 256
-  pub taken : (q : Stage) → Shows d current q → (r : Stage) × (stepped d q byte ≡ Some r)
+  pub taken : (q : Stage) → IsShown q → (r : Stage) × (stepped d q byte ≡ Some r)
+
+abbrev OneByte : Directive → Phase → Type 0
+OneByte d current = OneByteOf d (Shows d current)
+
+item_one : (d : Directive) → IsProper d → (slot : Option ℕ) (scan : ItemScan) (q : Stage) → ShowsItem d slot scan q → ((p : Stage) → ShowsItem d slot scan p → is_full d p ≡ false)
+    → OneByteOf d (ShowsItem d slot scan)
+item_one d proper slot scan q shows more =
+    let own : IsProper (Conv (conversion_of scan)) = subst IsProper shows.own proper in
+    record {
+      byte = item_byte (conversion_of scan).shape own.0;
+      is_byte = item_byte-below (conversion_of scan).shape own.0;
+      taken = λ p e.
+          let (r, is) = item_takes (conversion_of scan) own.0 e.item (subst (λ s. is_full s (Item e.item) ≡ false) shows.own (subst (λ s. is_full d s ≡ false) e.stage (more p e))) in
+          (r, ap (λ s. stepped d s (item_byte (conversion_of scan).shape own.0)) e.stage ∙ ap (λ s. stepped s (Item e.item) (item_byte (conversion_of scan).shape own.0)) shows.own ∙ is);
+    }
 
 one_byte : (d : Directive) → IsProper d → (current : Phase) (q : Stage) → Shows d current q → ((p : Stage) → Shows d current p → is_full d p ≡ false) → OneByte d current
 one_byte d proper phase.Skipping q shows more =
@@ -67,32 +87,25 @@ one_byte d proper phase.Skipping q shows more =
 one_byte d proper phase.Taken q shows more =
     let (b, below, r, is) = can_take_one d Taken (more Taken refl) in
     record { byte = b; is_byte = below; taken = λ p e. (r, ap (λ s. stepped d s b) e ∙ is) }
-one_byte d proper (phase.Item scan) q shows more =
-    let own : IsProper (Conv (conversion_of scan)) = subst IsProper shows.2 proper in
-    record {
-      byte = item_byte (conversion_of scan).shape own.0;
-      is_byte = item_byte-below (conversion_of scan).shape own.0;
-      taken = λ p e.
-          let (r, is) = item_takes (conversion_of scan) own.0 e.0 (subst (λ s. is_full s (Item e.0) ≡ false) shows.2 (subst (λ s. is_full d s ≡ false) e.1 (more p e))) in
-          (r, ap (λ s. stepped d s (item_byte (conversion_of scan).shape own.0)) e.1 ∙ ap (λ s. stepped s (Item e.0) (item_byte (conversion_of scan).shape own.0)) shows.2 ∙ is);
-    }
+one_byte d proper (phase.Item scan) q shows more = item_one d proper None scan q shows more
+one_byte d proper (phase.Text slot scan) q shows more = item_one d proper (Some slot) scan q shows more
 
 -- ---- what a scanner has used
 
 -- with no more input the scanner uses what it has used
-does_used : (s : Scanner) (k : ℕ) (report : RunReport) → s.tally.used ≤ k → Does s k [] report → report.used ≡ s.tally.used
+does_used : (s : Standing) (k : ℕ) (report : RunReport) → s.tally.used ≤ k → Does s k [] report → report.used ≡ s.tally.used
 does_used s k report within does = by_case s.ended does
   where
-    by_case : (o : Option Stop) → DoesBy o s.directives.now s.passed s.phase (tally_of s.tally) k [] report → report.used ≡ s.tally.used
+    by_case : (o : Option Stop) → DoesBy o s.directives s.passed s.phase s.opened s.tally k [] report → report.used ≡ s.tally.used
     by_case None does =
         ap (λ (r : RunReport). r.used) does.2
-        ∙ rest_uses_nothing (Some k) (drop s.passed s.directives.now) does.0 (s.passed + 1) (tally_of s.tally) (le-ltb k s.tally.used within)
+        ∙ rest_uses_nothing (Some k) (drop s.passed s.directives) does.0 (s.passed + 1) s.tally (le-ltb k s.tally.used within)
     by_case (Some stop) does = ap (λ (r : RunReport). r.used) does
 
-module _ (ds : List Directive) (m : ℕ) (s : Scanner) (x : List ℕ) (h : After ds m s x) where
+module _ (ds : List Directive) (m : ℕ) (s : Standing) (x : List ℕ) (h : After ds m s x) where
   -- what is told of x alone, and of x and more
   pub low : s.tally.used ≤ m
-  low = let e = h.limit in omega (arith, s.bounded, e)
+  low = h.low
 
   pub told : (z : List ℕ) → (report : RunReport) × Does s m z report × TellsWithin ds m (x ++ z) report
   told z = h.same m z low (omega arith)
@@ -112,24 +125,26 @@ module _ (ds : List Directive) (m : ℕ) (s : Scanner) (x : List ℕ) (h : After
 
   -- a scanner that hasn't ended is open within the limit
   module _ (e : s.ended ≡ None) where
-    waits : Waits s.directives.now s.passed s.phase
-    waits = subst (λ (o : Option Stop). IfNone o (Waits s.directives.now s.passed s.phase)) e h.settled
+    waits : Waits s.directives s.passed s.phase
+    waits = subst (λ (o : Option Stop). IfNone o (Waits s.directives s.passed s.phase)) e h.settled
 
     used : s.tally.used ≡ length x
     used = subst (λ (o : Option Stop). IfNone o (s.tally.used ≡ length x)) e h.all
 
     proper_own : IsProper waits.under_way
-    proper_own = proper_at s.directives.now s.passed waits.under_way (subst AreProper (sym h.format) h.proper) waits.current
+    proper_own = proper_at s.directives s.passed waits.under_way (subst AreProper (sym h.format) h.proper) waits.current
 
-    shown : (z : List ℕ) (report : RunReport) (does : DoesBy None s.directives.now s.passed s.phase (tally_of s.tally) m z report) → Shows waits.under_way s.phase does.0
-    shown z report does = subst (λ rest. ShowsFirst rest s.phase does.0) (drop_at s.directives.now s.passed waits.under_way waits.current) does.1
+    shown : (z : List ℕ) (report : RunReport) (does : DoesBy None s.directives s.passed s.phase s.opened s.tally m z report) → Shows waits.under_way s.phase does.0
+    shown z report does =
+        let both : Shows waits.under_way s.phase does.0 × (s.opened ≡ opened_for (text_slot waits.under_way) does.0) =
+        subst (λ rest. ShowsFirst rest s.phase s.opened does.0) (drop_at s.directives s.passed waits.under_way waits.current) does.1 in both.0
 
     one : OneByte waits.under_way s.phase
     one =
         let start = waiting s m [] (cut m ds (x ++ [])) e (does_cut []) in
         one_byte waits.under_way proper_own s.phase start.0 (shown [] (cut m ds (x ++ [])) start) (λ p shows. waits.can_take p proper_own shows)
 
-    next : DoesBy None s.directives.now s.passed s.phase (tally_of s.tally) m (one.byte ∷ []) (cut m ds (x ++ one.byte ∷ []))
+    next : DoesBy None s.directives s.passed s.phase s.opened s.tally m (one.byte ∷ []) (cut m ds (x ++ one.byte ∷ []))
     next = waiting s m (one.byte ∷ []) (cut m ds (x ++ one.byte ∷ [])) e (does_cut (one.byte ∷ []))
 
     taken_by : (r : Stage) × (stepped waits.under_way next.0 one.byte ≡ Some r)
@@ -141,15 +156,15 @@ module _ (ds : List Directive) (m : ℕ) (s : Scanner) (x : List ℕ) (h : After
     -- below the limit the byte is taken
     below : s.tally.used < m → (cut m ds (x ++ one.byte ∷ [])).used ≡ length x + 1
     below lt =
-        let t : Tally = tally_of s.tally in
-        ap (λ (r : RunReport). r.used) (next.2 ∙ byte_took m s.directives.now s.passed waits.under_way next.0 taken_by.0 t one.byte waits.current taken_by.1)
-        ∙ rest_uses_nothing (Some m) (drop s.passed s.directives.now) taken_by.0 (s.passed + 1) (with_used (t.used + 1) t) (le-ltb m (t.used + 1) (omega arith))
+        let t : Tally = s.tally in
+        ap (λ (r : RunReport). r.used) (next.2 ∙ byte_took m s.directives s.passed waits.under_way next.0 taken_by.0 t one.byte waits.current taken_by.1)
+        ∙ rest_uses_nothing (Some m) (drop s.passed s.directives) taken_by.0 (s.passed + 1) (with_used (t.used + 1) t) (le-ltb m (t.used + 1) (omega arith))
         ∙ ap (λ n. n + 1) used
 
     -- at the limit it is too much
     at_limit : s.tally.used ≡ m → (cut m ds (x ++ one.byte ∷ [])).status ≡ TooLong
     at_limit same =
-        ap (λ (r : RunReport). r.status) (next.2 ∙ byte_past m s.directives.now s.passed waits.under_way next.0 taken_by.0 (tally_of s.tally) one.byte waits.current taken_by.1 same)
+        ap (λ (r : RunReport). r.status) (next.2 ∙ byte_past m s.directives s.passed waits.under_way next.0 taken_by.0 s.tally one.byte waits.current taken_by.1 same)
 
     long : (full ds (x ++ one.byte ∷ [])).used ≡ length x + 1
     long = elim (cases_lt m (full ds (x ++ one.byte ∷ [])).used) [
@@ -168,14 +183,14 @@ module _ (ds : List Directive) (m : ℕ) (s : Scanner) (x : List ℕ) (h : After
 
   -- an ended one tells the same however the input goes on
   module _ (stop : Stop) (e : s.ended ≡ Some stop) where
-    pub ended_is : (z : List ℕ) → cut m ds (x ++ z) ≡ out_of stop.status stop.at (tally_of s.tally)
+    pub ended_is : (z : List ℕ) → cut m ds (x ++ z) ≡ out_of stop.status stop.at s.tally
     ended_is z =
-        let does : DoesBy (Some stop) s.directives.now s.passed s.phase (tally_of s.tally) m z (cut m ds (x ++ z)) =
-        subst (λ o. DoesBy o s.directives.now s.passed s.phase (tally_of s.tally) m z (cut m ds (x ++ z))) e (does_cut z) in
+        let does : DoesBy (Some stop) s.directives s.passed s.phase s.opened s.tally m z (cut m ds (x ++ z)) =
+        subst (λ o. DoesBy o s.directives s.passed s.phase s.opened s.tally m z (cut m ds (x ++ z))) e (does_cut z) in
         does
 
-    cut_here : cut m ds x ≡ out_of stop.status stop.at (tally_of s.tally)
-    cut_here = subst (λ y. cut m ds y ≡ out_of stop.status stop.at (tally_of s.tally)) (append-nil x) (ended_is [])
+    pub cut_here : cut m ds x ≡ out_of stop.status stop.at s.tally
+    cut_here = subst (λ y. cut m ds y ≡ out_of stop.status stop.at s.tally) (append-nil x) (ended_is [])
 
     -- it isn't open within the limit
     stop_closed : IsOpen ds x → length x ≤ m → ⊥
@@ -192,10 +207,10 @@ module _ (ds : List Directive) (m : ℕ) (s : Scanner) (x : List ℕ) (h : After
     -- what it tells is the report, with every ending
     stop_gives : (z : List ℕ) (ending : Ending) → (IsOpen ds (x ++ z) → length (x ++ z) ≤ m → ⊥) → Gives ds m s (x ++ z) ending
     stop_gives z ending closed = record {
-      report = out_of stop.status stop.at (tally_of s.tally);
-      is = ap (λ o. report_by o (tally_of s.tally) s.met) e ∙ ap (λ o. report_by (Some stop) (tally_of s.tally) o) h.fed;
-      right = within_met open_all ds h.proper m (x ++ z) ending None (out_of stop.status stop.at (tally_of s.tally))
-          (subst (λ r. TellsWithin ds m (x ++ z) r) (ended_is z) (told_exists ds h.proper m (x ++ z))) (λ o. closed o.0 o.1);
+      report = out_of stop.status stop.at s.tally;
+      is = ap (λ o. report_by o s.tally s.met) e ∙ ap (λ o. report_by (Some stop) s.tally o) h.fed;
+      right = inl (within_met open_all ds h.proper m (x ++ z) ending None (out_of stop.status stop.at s.tally)
+          (subst (λ r. TellsWithin ds m (x ++ z) r) (ended_is z) (told_exists ds h.proper m (x ++ z))) (λ o. closed o.0 o.1));
     }
 
   pub ended_closed : IsSome s.ended → IsOpen ds x → length x ≤ m → ⊥
@@ -206,11 +221,12 @@ module _ (ds : List Directive) (m : ℕ) (s : Scanner) (x : List ℕ) (h : After
       by_case (Some stop) e i = stop_closed stop e o fits
 
 -- an ended one was given whatever follows
-pub after_more : (ds : List Directive) (m : ℕ) (s : Scanner) (x z : List ℕ) → After ds m s x → IsSome s.ended → After ds m s (x ++ z)
+pub after_more : (ds : List Directive) (m : ℕ) (s : Standing) (x z : List ℕ) → After ds m s x → IsSome s.ended → After ds m s (x ++ z)
 after_more ds m s x z h ended = record {
   format = h.format;
   limit = h.limit;
   proper = h.proper;
+  low = h.low;
   same = λ k y below within.
       let w = h.same k (z ++ y) below within in
       (w.0, ended_does s k (z ++ y) y w.0 ended w.1, subst (λ v. TellsWithin ds k v w.0) (sym (append_assoc x z y)) w.2);
@@ -225,7 +241,7 @@ after_more ds m s x z h ended = record {
     ended_all (Some stop) i = tt
 
 -- an ended one has the report of every longer input, with every ending
-pub ended_gives : (ds : List Directive) (m : ℕ) (s : Scanner) (x z : List ℕ) (ending : Ending) → After ds m s x → IsSome s.ended → Gives ds m s (x ++ z) ending
+pub ended_gives : (ds : List Directive) (m : ℕ) (s : Standing) (x z : List ℕ) (ending : Ending) → After ds m s x → IsSome s.ended → Gives ds m s (x ++ z) ending
 ended_gives ds m s x z ending h ended = by_case s.ended refl ended
   where
     by_case : (o : Option Stop) → s.ended ≡ o → IsSome o → Gives ds m s (x ++ z) ending
@@ -239,13 +255,14 @@ none_before None p h e = refl
 none_before (Some a) p h e = absurd (let i = h refl in cc)
 
 -- after a piece was pushed
-pub after_push : (ds : List Directive) (m : ℕ) (old new : Scanner) (x piece : List ℕ) (n : ℕ) → After ds m old x
-    → (AreProper old.directives.now → (z : List ℕ) → Follows new old z (piece ++ z)) → new.tally.used ≡ old.tally.used + n → n ≤ length piece → IfNone new.ended (n ≡ length piece)
+pub after_push : (ds : List Directive) (m : ℕ) (old new : Standing) (x piece : List ℕ) (n : ℕ) → After ds m old x → new.tally.used ≤ new.limit
+    → (AreProper old.directives → (z : List ℕ) → Follows new old z (piece ++ z)) → new.tally.used ≡ old.tally.used + n → n ≤ length piece → IfNone new.ended (n ≡ length piece)
     → (IsSome old.ended → IsSome new.ended) → Keeps new old → (IsSettled old → IsSettled new) → After ds m new (x ++ piece)
-after_push ds m old new x piece n h follows used within all stays keeps settled = record {
+after_push ds m old new x piece n h low follows used within all stays keeps settled = record {
   format = keeps.directives ∙ h.format;
   limit = keeps.limit ∙ h.limit;
   proper = h.proper;
+  low = let e = keeps.limit in let l = h.limit in omega (arith, low, e, l);
   same = λ k z below fits.
       let w = h.same k (piece ++ z) (omega (arith, below, used)) fits in
       let limit = h.limit in
@@ -265,7 +282,7 @@ after_push ds m old new x piece n h follows used within all stays keeps settled 
     go (Some stop) e = tt
 
 -- a waiting one that was run out has the report of its input with its ending
-pub run_out_gives : (ds : List Directive) (m : ℕ) (old new : Scanner) (x : List ℕ) (ending : Ending) → After ds m old x → old.ended ≡ None
+pub run_out_gives : (ds : List Directive) (m : ℕ) (old new : Standing) (x : List ℕ) (ending : Ending) → After ds m old x → old.ended ≡ None
     → Follows new old [] [] → new.tally.used ≡ old.tally.used → IsSome new.ended → new.met ≡ Some ending → Gives ds m new x ending
 run_out_gives ds m old new x ending h waiting follows used ended met = by_case new.ended refl ended
   where
@@ -277,22 +294,23 @@ run_out_gives ds m old new x ending h waiting follows used ended met = by_case n
     by_case (Some stop) e i =
         let fits = low ds m old x h in
         let limit = h.limit in
-        let is : run.0 ≡ out_of stop.status stop.at (tally_of new.tally) =
-        subst (λ o. DoesBy o new.directives.now new.passed new.phase (tally_of new.tally) m [] run.0) e (follows m run.0 (omega (arith, fits, used)) (omega (arith, limit)) run.1) in
+        let is : run.0 ≡ out_of stop.status stop.at new.tally =
+        subst (λ o. DoesBy o new.directives new.passed new.phase new.opened new.tally m [] run.0) e (follows m run.0 (omega (arith, fits, used)) (omega (arith, limit)) run.1) in
         record {
-          report = record (out_of stop.status stop.at (tally_of new.tally)) { met = Some ending };
-          is = ap (λ o. report_by o (tally_of new.tally) new.met) e ∙ ap (λ o. report_by (Some stop) (tally_of new.tally) o) met;
-          right = within_met open_all ds h.proper m x ending (Some ending) (out_of stop.status stop.at (tally_of new.tally))
-              (subst (λ r. TellsWithin ds m x r) is run.2) (waits_open ds m old x h waiting, refl);
+          report = record (out_of stop.status stop.at new.tally) { met = Some ending };
+          is = ap (λ o. report_by o new.tally new.met) e ∙ ap (λ o. report_by (Some stop) new.tally o) met;
+          right = inl (within_met open_all ds h.proper m x ending (Some ending) (out_of stop.status stop.at new.tally)
+              (subst (λ r. TellsWithin ds m x r) is run.2) (waits_open ds m old x h waiting, refl));
         }
 
 -- one that was given nothing yet
-pub after_nothing : (ds : List Directive) (m : ℕ) (s : Scanner) → s.directives.now ≡ ds → s.limit ≡ m → AreProper ds
+pub after_nothing : (ds : List Directive) (m : ℕ) (s : Standing) → s.directives ≡ ds → s.limit ≡ m → AreProper ds
     → ((k : ℕ) (z : List ℕ) → k ≤ m → Does s k z (run_of (Some k) ds 1 nothing_yet z)) → IsSettled s → s.tally.used ≡ 0 → s.met ≡ None → After ds m s []
 after_nothing ds m s format limit proper does settled used met = record {
   format = format;
   limit = limit;
   proper = proper;
+  low = omega (arith, used);
   same = λ k z below within. (run_of (Some k) ds 1 nothing_yet z, does k z within, told_exists ds proper k z);
   settled = settled;
   all = none_all s.ended;
@@ -306,33 +324,44 @@ after_nothing ds m s format limit proper does settled used met = record {
 
 -- ---- what is told of an ended one
 
-pub ended_gives_own : (ds : List Directive) (m : ℕ) (s : Scanner) (x : List ℕ) (ending : Ending) → After ds m s x → IsSome s.ended → Gives ds m s x ending
+pub ended_gives_own : (ds : List Directive) (m : ℕ) (s : Standing) (x : List ℕ) (ending : Ending) → After ds m s x → IsSome s.ended → Gives ds m s x ending
 ended_gives_own ds m s x ending h ended = subst (λ y. Gives ds m s y ending) (append-nil x) (ended_gives ds m s x [] ending h ended)
 
 some_is : {A : Type 0} (a b : A) → Some a ≡ Some b → a ≡ b
 some_is a b e = cc
 
-pub gives_report : (ds : List Directive) (m : ℕ) (s : Scanner) (x : List ℕ) (ending : Ending) (stop : Stop) → Gives ds m s x ending → s.ended ≡ Some stop
-    → RunWithin ds m x ending (record (out_of stop.status stop.at (tally_of s.tally)) { met = s.met })
+pub gives_report : (ds : List Directive) (m : ℕ) (s : Standing) (x : List ℕ) (ending : Ending) (stop : Stop) → Gives ds m s x ending → s.ended ≡ Some stop
+    → RunTold ds m x ending (record (out_of stop.status stop.at s.tally) { met = s.met })
 gives_report ds m s x ending stop h e =
-    subst (RunWithin ds m x ending) (sym (some_is _ _ (ap (λ o. report_by o (tally_of s.tally) s.met) (sym e) ∙ h.is))) h.right
+    subst (RunTold ds m x ending) (sym (some_is _ _ (ap (λ o. report_by o s.tally s.met) (sym e) ∙ h.is))) h.right
 
-none_is : {A : Type 0} (o : Option A) → is_some o ≡ false → o ≡ None
+-- where no storing was refused it is that of the run under the limit
+pub after_report : (ds : List Directive) (m : ℕ) (s : Standing) (x : List ℕ) (ending : Ending) (stop : Stop) → After ds m s x → s.ended ≡ Some stop
+    → RunWithin ds m x ending (record (out_of stop.status stop.at s.tally) { met = s.met })
+after_report ds m s x ending stop h e =
+    subst (λ o. RunWithin ds m x ending (record (out_of stop.status stop.at s.tally) { met = o })) (sym h.fed)
+    (within_met open_all ds h.proper m x ending None (out_of stop.status stop.at s.tally)
+      (subst (λ r. TellsWithin ds m x r) (cut_here ds m s x h stop e) (told_exists ds h.proper m x)) (λ o. ended_closed ds m s x h (ap is_some e) o.0 o.1))
+
+pub none_is : {A : Type 0} (o : Option A) → is_some o ≡ false → o ≡ None
 none_is None h = refl
 none_is (Some a) h = absurd cc
 
-pub none_of : (s : Scanner) → is_some s.ended ≡ false → s.ended ≡ None
+pub none_of : (s : Standing) → is_some s.ended ≡ false → s.ended ≡ None
 none_of s = none_is s.ended
 
 -- the report of what it was given says how many bytes it has used
-pub within_used : (ds : List Directive) (m : ℕ) (s : Scanner) (x : List ℕ) (ending : Ending) (r : RunReport) → After ds m s x → RunWithin ds m x ending r → r.used ≡ s.tally.used
+pub within_used : (ds : List Directive) (m : ℕ) (s : Standing) (x : List ℕ) (ending : Ending) (r : RunReport) → After ds m s x → RunWithin ds m x ending r → r.used ≡ s.tally.used
 within_used ds m s x ending r h run = used_is ds m s x h (record r { met = None }) (met_within open_all ds h.proper m x ending r run).0
 
 -- before the first byte
-pub start_does : (own ds : List Directive) (t : Tally) (k : ℕ) (z : List ℕ) → own ≡ ds → t ≡ nothing_yet
-    → DoesBy None own 0 phase.Skipping t k z (run_of (Some k) ds 1 nothing_yet z)
-start_does own ds t k z same nothing = (
+pub start_does : (own ds : List Directive) (opened : Option Opened) (t : Tally) (k : ℕ) (z : List ℕ) → own ≡ ds → opened ≡ None → t ≡ nothing_yet
+    → DoesBy None own 0 phase.Skipping opened t k z (run_of (Some k) ds 1 nothing_yet z)
+start_does own ds opened t k z same none nothing = (
   Skipping,
-  shows_fresh own,
+  subst (λ o. ShowsFirst own phase.Skipping o Skipping) (sym none) (shows_fresh own),
   sym (fresh (Some k) ds 1 nothing_yet z) ∙ ap (λ u. run_from (Some k) ds Skipping 1 u z) (sym nothing) ∙ ap (λ d. run_from (Some k) d Skipping 1 t z) (sym same),
 )
+
+pub tally_nothing : (t : code.Tally) (values : List Assigned) → t.used ≡ 0 → t.assigned ≡ 0 → t.converted ≡ 0 → values ≡ [] → tally_of t values ≡ nothing_yet
+tally_nothing t values a b c d = rw (a, b, c, d) refl

@@ -5,7 +5,11 @@ pub mod Laws
 pub mod Machine
 pub mod Residual
 pub mod Views
+pub mod Texts
+pub mod Stopping
 pub mod Phases
 pub mod Tallies
 pub mod Places
+pub mod Holding
+pub mod Standing
 pub mod Scanner

@@ -57,3 +57,7 @@ abbrev pub RunRefused : List Directive → ℕ → List ℕ → RunReport → Ty
 RunRefused ds m x report =
     (k : ℕ) × (k < m) × ((before : List Ran) × (cut : IsCut ds x k before)
     × Stores cut.cut.directive (drop (used before) x) (k - used before) × (report ≡ cut_report NoMemory before k))
+
+-- the report under a limit of m bytes; or, where the storing of a byte was refused, that of the run up to there
+abbrev pub RunTold : List Directive → ℕ → List ℕ → Ending → RunReport → Type 0
+RunTold ds m x ending report = RunWithin ds m x ending report ⊎ RunRefused ds m x report

@@ -1,22 +1,35 @@
 -- What the code holds of a directive that is under way.
-use Rattle.std.specs.Prelude.{◌≡◌, ℕ, List, Option, Some, None, ℤ}
+use Rattle.std.specs.Prelude.{◌≡◌, ◌≢◌, ℕ, Bool, true, false, List, [], Option, Some, None, ℤ}
+use Rattle.sf_base.specs.Data.{Bytes, datum_of, is_number}
 use Rattle.sf_format.specs.declared.directive.Conversion.{Conversion}
 use Rattle.sf_format.specs.declared.directive.Directive.{Directive}
 use Rattle.sf_format.specs.declared.directive.Directive.TheVariants.{Conv}
+use Rattle.sf_item.specs.declared.item.ItemScan.{ItemScan}
 use Rattle.sf_item.specs.Taking.{HasTaken, conversion_of}
-use Rattle.sf_base.specs.Data.{datum_of}
 use Rattle.sf_run.specs.Steps.{StepEnd, Passes, Stores, Fails}
 use Rattle.sf_run.specs.Machine.{Stage, Skipping, Taken, Item, number_end}
+use Rattle.sf_run.specs.Texts.{text_slot}
+use Rattle.sf_run.specs.Stopping.{is_memory_status}
 use Rattle.sf_run.specs.declared.directive.Phase.{Phase}
 use Rattle.sf_run.specs.declared.directive.Phase.TheVariants as phase
 use Rattle.sf_run.specs.declared.directive.Finished.{Finished}
 use Rattle.sf_run.specs.declared.directive.Finished.TheVariants as finish
 
+-- the directive has taken bytes of its item, which is the text of this slot, or of none
+pub record ShowsItem (d : Directive) (slot : Option ℕ) (scan : ItemScan) (q : Stage) : Type 0 where
+  pub item : List ℕ
+  pub stage : q ≡ Item item
+  pub own : d ≡ Conv (conversion_of scan)
+  pub taken : HasTaken scan item
+  pub begun : item ≢ []
+  pub text : text_slot d ≡ slot
+
 -- the directive has come to this stage
 abbrev pub Shows : Directive → Phase → Stage → Type 0
 Shows d phase.Skipping q = q ≡ Skipping
 Shows d phase.Taken q = q ≡ Taken
-Shows d (phase.Item scan) q = (f : List ℕ) × (q ≡ Item f) × (d ≡ Conv (conversion_of scan)) × HasTaken scan f
+Shows d (phase.Item scan) q = ShowsItem d None scan q
+Shows d (phase.Text slot scan) q = ShowsItem d (Some slot) scan q
 
 abbrev pub ShowsNext : Directive → Option Phase → Option Stage → Type 0
 ShowsNext d None None = Unit {0}
@@ -24,11 +37,43 @@ ShowsNext d (Some p) (Some q) = Shows d p q
 ShowsNext d None (Some q) = ⊥
 ShowsNext d (Some p) None = ⊥
 
--- how a directive ended
-abbrev pub end_of : Finished → StepEnd
-end_of finish.Passes = Passes
-end_of (finish.Stores a) = Stores a.slot (datum_of a.value)
-end_of (finish.Fails status) = Fails status
+-- the slot of the text under way
+abbrev pub slot_in : Phase → Option ℕ
+slot_in phase.Skipping = None
+slot_in phase.Taken = None
+slot_in (phase.Item scan) = None
+slot_in (phase.Text slot scan) = Some slot
+
+-- how a directive ended, where this is the text under way
+abbrev pub end_of : List ℕ → Finished → StepEnd
+end_of text finish.Passes = Passes
+end_of text (finish.Stores slot value) = Stores slot (datum_of value)
+end_of text (finish.Closes slot) = Stores slot (Bytes text)
+end_of text (finish.Fails status) = Fails status
+
+abbrev pub is_failing : Finished → Bool
+is_failing (finish.Fails status) = true
+is_failing _ = false
+
+-- the slot whose text is closed
+abbrev pub slot_closed : Finished → Option ℕ
+slot_closed (finish.Closes slot) = Some slot
+slot_closed _ = None
+
+-- the slot that is given something
+abbrev pub slot_given : Finished → Option ℕ
+slot_given (finish.Stores slot value) = Some slot
+slot_given (finish.Closes slot) = Some slot
+slot_given _ = None
+
+abbrev pub is_memory_failure : Finished → Bool
+is_memory_failure (finish.Fails status) = is_memory_status status
+is_memory_failure _ = false
+
+-- what is stored as a number is one
+abbrev pub IsNumberGiven : Finished → Type 0
+IsNumberGiven (finish.Stores slot value) = is_number value ≡ true
+IsNumberGiven _ = Unit {0}
 
 -- the end of a conversion that matched a number, which its kind may not hold
 abbrev pub passed_number : Conversion → Option ℕ → Option ℤ → StepEnd

@@ -1,8 +1,21 @@
 -- What a tally of the code stands for.
-use Rattle.std.specs.Prelude.{map}
+use Rattle.std.specs.Prelude.{◌≡◌, Bool, true, List, [], ◌∷◌, ◌++◌}
+use Rattle.sf_base.specs.Data.{Assigned}
 use Rattle.sf_run.specs.declared.tally.Tally as code
 use Rattle.sf_run.specs.Residual.{Tally}
-use Rattle.sf_run.specs.Views.{assigned_of}
+use Rattle.sf_run.specs.Runs.{passed, stored}
+use Rattle.sf_run.specs.Steps.{StepEnd, Passes, Stores, Fails}
 
-abbrev pub tally_of : code.Tally → Tally
-tally_of t = record { used = t.used; assigned = t.assigned; converted = t.converted; values = map assigned_of t.values.items }
+-- the counts with what the destinations were given
+abbrev pub tally_of : code.Tally → List Assigned → Tally
+tally_of t values = record { used = t.used; assigned = t.assigned; converted = t.converted; values = values }
+
+-- with what a directive that ends so gives
+abbrev pub values_with : StepEnd → List Assigned → List Assigned
+values_with (Stores slot v) values = values ++ record { slot = slot; datum = v } ∷ []
+values_with _ values = values
+
+-- a directive that ends so passes, and stores something or not
+pub record PassesSo (end : StepEnd) (stores : Bool) : Type 0 where
+  pub passes : passed end ≡ true
+  pub stored : stored end ≡ stores

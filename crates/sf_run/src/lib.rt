@@ -3,6 +3,7 @@
 
 mod directive;
 pub mod laws;
+mod number;
 mod outcome;
 mod report;
 mod scanner;

@@ -48,8 +48,10 @@ pub enum StartFault {
     NoMemory,
     /// The limit is above 2147483647.
     BadLimit,
-    /// The format has a directive that a scanner doesn't run yet.
-    NotYet,
+    /// The format has no width sum.
+    Unbounded,
+    /// The store is too small for the width sum or the destinations.
+    TooSmall,
 }
 
 /// Whether a scanner may take another byte.

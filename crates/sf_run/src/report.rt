@@ -1,80 +1,60 @@
 //! What a run came to, with its values.
-ghost use Rattle.std.specs.Prelude.{◌≡◌, map};
+ghost use Rattle.std.specs.Prelude.{◌≡◌};
 ghost use Rattle.std.specs.Option.{option_map};
 ghost use Rattle.sf_base.specs.Data.{datum_of, datum_at};
 ghost use Rattle.sf_run.specs.Runs.{c_return};
-ghost use Rattle.sf_run.specs.Views.{assigned_of};
 
 use crate::outcome::{Outcome, Status};
-use sf_base::Value;
+use sf_base::{Store, Value};
 use std::marker::Model;
 
-/// A value, and the slot that it was stored in.
-#[derive(Clone, Copy)]
-pub(crate) struct Assigned {
-    pub(crate) slot: u8,
-    pub(crate) value: Value,
-}
-
-fn value_at(values: &[Assigned], slot: u8) -> Option<Value>
-    ensures { option_map datum_of result ≡ datum_at slot (map assigned_of values.now) }
-{
-    for assigned in values {
-        if assigned.slot == slot {
-            return Some(assigned.value);
-        }
-    }
-    None
-}
-
-/// What a run that has ended came to.
+/// What a run that has ended came to, with the store of its values.
 #[derive(Drop)]
-pub struct Scanned {
+pub struct Scanned<S: Store> {
     pub(crate) outcome: Outcome,
-    pub(crate) values: Vec<Assigned>,
+    pub(crate) store: S,
 }
 
-impl Model for Scanned {
-    ghost use Rattle.std.specs.Prelude.{map};
+impl<S: Store> Model for Scanned<S> {
     ghost use Rattle.sf_run.specs.Runs.{RunReport};
 
     ghost Value = { RunReport };
 
     ghost use Rattle.sf_run.specs.Views.{report_by};
 
-    ghost view = { λ s. report_by s.outcome s.values.items };
+    ghost view = { λ s. report_by s.outcome (S.kept s.store).values };
 }
 
-impl Scanned {
+impl<S: Store> Scanned<S> {
     /// The report of the run.
-    pub fn report(&self) -> Report<'_>
+    pub fn report(&self) -> Report<'_, S>
         ensures { result ≡ self.now }
     {
         Report {
             outcome: self.outcome,
-            values: &self.values,
+            store: &self.store,
         }
     }
 }
 
-/// The report of a run: its outcome, and the values by their slots.
+/// The report of a run: its outcome, and the values by their slots, lent from the store.
 #[derive(Drop)]
-pub struct Report<'r> {
+pub struct Report<'r, S: Store> {
     pub(crate) outcome: Outcome,
-    pub(crate) values: &'r [Assigned],
+    pub(crate) store: &'r S,
 }
 
-impl<'r> Model for Report<'r> {
+impl<'r, S: Store> Model for Report<'r, S> {
     ghost use Rattle.sf_run.specs.Runs.{RunReport};
 
     ghost Value = { RunReport };
 
     ghost use Rattle.sf_run.specs.Views.{report_by};
 
-    ghost view = { λ r. report_by r.outcome r.values.now };
+    ghost view = { λ r. report_by r.outcome (S.kept r.store.now).values };
 }
 
-impl<'r> Report<'r> {
+impl<'r, S: Store> Report<'r, S> {
     /// What the run came to, but for its values.
     pub fn outcome(&self) -> Outcome
         ensures status { result.status ≡ self.now.status }
@@ -89,10 +69,10 @@ impl<'r> Report<'r> {
     }
 
     /// What the slot was given, where it was.
-    pub fn value(&self, slot: u8) -> Option<Value>
+    pub fn value(&self, slot: u8) -> Option<Value<'r>>
         ensures { option_map datum_of result ≡ datum_at slot self.now.values }
     {
-        value_at(self.values, slot)
+        self.store.value(slot)
     }
 
     /// What fscanf returns (C11 7.21.6.2p16): -1 for an input failure before the first conversion has

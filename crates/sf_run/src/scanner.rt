@@ -1,20 +1,31 @@
 //! A scanner that is handed its input piece by piece.
-ghost use Rattle.std.specs.Prelude.{◌≡◌, ℕ, ◌+◌, ◌<◌, ◌≤◌, ◌∷◌, ◌++◌, [], List, length, true, false, slice_get, IsSome, IsNone, IfNone, IfSome, IfOk, IfErr, IsErr, IsErrOf, IsOkAnd, IsSomeAnd, ◌↔◌, ◌^◌, if◌then◌else◌, Some, None, vec_len, vec_capacity};
+ghost use Rattle.std.specs.Prelude.{◌≡◌, ℕ, ◌+◌, ◌<◌, ◌≤◌, ◌∷◌, ◌++◌, [], List, length, take, true, false, slice_get, is_some, IsSome, IsNone, IfNone, IfSome, IfOk, IfErr, IsErr, IsErrOf, IsOkAnd, IsSomeAnd, ◌↔◌, ◌⊎◌, ◌^◌, drop, if◌then◌else◌, Some, None, unwrap_or};
 ghost use Rattle.std.specs.Bool.{OnTrue, OnFalse};
+ghost use Rattle.sf_base.specs.Data.{Assigned, Bytes, datum_of, is_number};
+ghost use Rattle.sf_base.specs.Kept.{longer, nothing_kept, text_of, texts_in};
 ghost use Rattle.sf_format.specs.declared.directive.Directive.{Directive};
-ghost use Rattle.sf_format.specs.Proper.{IsProper, AreProper, are_plain};
+ghost use Rattle.sf_format.specs.Proper.{AreProper, destinations_of, slots_of};
+ghost use Rattle.sf_format.specs.Widths.{width_sum};
 ghost use Rattle.sf_run.specs.declared.outcome.Ending.{Ending};
+ghost use Rattle.sf_run.specs.declared.outcome.Status.TheVariants as status;
+ghost use Rattle.sf_run.specs.Holding.{are_placed, are_apart, first_slot, is_text, still_stored, is_limited, LeftAfter, left_before};
+ghost use Rattle.sf_run.specs.Phases.{slot_in};
 ghost use Rattle.sf_run.specs.Places.{places_left};
+ghost use Rattle.sf_run.specs.Stopping.{is_no_memory, is_memory_status};
+ghost use Rattle.sf_run.specs.Texts.{text_slot, slot_of, opened_slot, slots_in, IsNextSlot, opened_after};
+ghost use Rattle.sf_run.specs.Steps.{StepEnd};
 
-use crate::directive::{Finished, Phase, are_plain, finish, step};
+use crate::directive::{Finished, Phase, finish, is_full, step};
 use crate::outcome::{Ending, Fed, FeedState, Outcome, StartFault, Status};
 use crate::report::{Report, Scanned};
 use crate::tally::Tally;
+use sf_base::{FixedStore, HeapStore, Store, Value};
 use sf_format::{Directive, ScanFormat};
+use sf_item::ItemScan;
 use std::alloc::Global;
 
-/// The most destinations of a format.
-const MOST_VALUES: usize = 32;
+/// The most bytes that a run may consume.
+const MOST_BYTES: u32 = 2147483647;
 
 /// Where and how a run stopped.
 #[derive(Clone, Copy, Debug, PartialEq, Eq)]
@@ -24,9 +35,10 @@ pub(crate) struct Stop {
     pub(crate) at: u16,
 }
 
-/// Scans values by a format from bytes that are handed to it. It keeps no byte of its input.
+/// Scans values by a format from bytes that are handed to it, into a store. It keeps no byte of its input but the texts
+/// that it stores.
 #[derive(Drop)]
-pub struct Scanner<'f> {
+pub struct Scanner<'f, S: Store> {
     directives: &'f [Directive],
     limit: u32,
     /// How many directives have passed.
@@ -36,73 +48,156 @@ pub struct Scanner<'f> {
     tally: Tally,
     ended: Option<Stop>,
     met: Option<Ending>,
+    store: S,
     ghost few: { length directives.now ≤ 4096 },
-    ghost plain: { are_plain directives.now ≡ true },
     ghost in_list: { passed ≤ length directives.now },
     ghost assigned: { tally.assigned + places_left directives.now passed ≤ 32 },
     ghost converted: { tally.converted ≤ passed },
-    ghost room: { vec_len tally.values + places_left directives.now passed ≤ vec_capacity tally.values },
     ghost bounded: { tally.used ≤ limit },
+
+    // The slots are the store's, and those that were given something are those of the directives that have passed.
+    ghost placed: { are_placed S.slots directives.now ≡ true },
+    ghost apart: { are_apart (slots_of directives.now) ≡ true },
+    ghost given: { slots_in (S.kept store).values ≡ slots_of (take passed directives.now) },
+
+    // The opened text is that of the directive under way.
+    ghost under_way: { opened_slot (S.kept store).opened ≡ slot_in phase },
+    ghost own_slot: { is_text phase ≡ true → first_slot (drop passed directives.now) ≡ slot_in phase },
+
+    // Nothing else is stored, and there is room for what will be.
+    ghost joined: { (S.kept store).closed ≡ texts_in (S.kept store).values },
+    ghost limited: { is_some (width_sum directives.now) ≡ true → is_limited phase ≡ true },
+    ghost roomy: { is_some (width_sum directives.now) ≡ true → still_stored ended directives.now passed phase ≤ (S.kept store).room },
+    ghost healthy: { is_some (width_sum directives.now) ≡ true → is_no_memory ended ≡ false },
 }
 
-impl<'f> Scanner<'f> {
+impl<'f, S: Store> Scanner<'f, S> {
     ghost use Rattle.sf_run.specs.Residual.{out_of};
-    ghost use Rattle.sf_run.specs.Tallies.{tally_of};
     ghost use Rattle.sf_run.specs.Views.{report_by};
     ghost use Rattle.sf_run.specs.Runs.{RunReport, IsOpen};
-    ghost use Rattle.sf_run.specs.Limits.{RunWithin};
-    ghost use Rattle.sf_run.specs.Scanner.{Follows, IsRefused, Keeps, turns_left, IsSettled, After, Gives, has_ended, used_by};
+    ghost use Rattle.sf_run.specs.Limits.{RunWithin, RunTold};
+    ghost use Rattle.sf_run.specs.Standing.{Follows, IsRefused, Keeps, Passes, Stops, Opens, Takes, Refuses, RefusesIn, turns_left, IsSettled, After, Gives, has_ended, used_by, ran_out};
+    ghost use Rattle.sf_run.specs.Scanner.{kept_by, standing};
+    ghost use Rattle.sf_run.specs.Tallies.{tally_of};
+
+    /// Ends the run here. A text under way is taken away.
+    fn stop(&mut self, stop: Stop)
+        requires healthy { is_some (width_sum self.old.directives.now) ≡ true → is_no_memory (Some stop) ≡ false }
+        ensures { Stops (standing self.new) (standing self.old) stop }
+    {
+        if let Phase::Text { .. } = self.phase {
+            self.store.drop_text();
+            self.phase = Phase::Skipping;
+            self.ended = Some(stop);
+            return;
+        }
+        self.phase = Phase::Skipping;
+        self.ended = Some(stop);
+    }
+
+    /// The directive under way has failed.
+    fn fail(&mut self, status: Status)
+        requires current { self.old.passed < length self.old.directives.now }
+        requires healthy { is_some (width_sum self.old.directives.now) ≡ true → is_no_memory (Some (record { status = status; at = self.old.passed + 1 })) ≡ false }
+        ensures { Stops (standing self.new) (standing self.old) (record { status = status; at = self.old.passed + 1 }) }
+    {
+        let at = self.passed as u16 + 1;
+        let stop = Stop { status, at };
+        self.stop(stop);
+    }
+
+    /// The directive under way has passed, and stores nothing.
+    fn pass(&mut self, directive: &Directive)
+        requires current { slice_get self.old.directives.now self.old.passed ≡ Some directive.now }
+        requires no_text { slot_in self.old.phase ≡ None }
+        requires no_slot { slot_of directive.now ≡ None }
+        ensures { Passes (standing self.new) (standing self.old) directive.now StepEnd.Passes }
+    {
+        let tally = self.tally.counted(directive, false);
+        self.tally = tally;
+        self.passed += 1;
+        self.phase = Phase::Skipping;
+    }
+
+    /// The directive under way has passed, and gives its slot a number.
+    fn set(&mut self, directive: &Directive, slot: u8, value: Value<'_>)
+        requires current { slice_get self.old.directives.now self.old.passed ≡ Some directive.now }
+        requires no_text { slot_in self.old.phase ≡ None }
+        requires own { slot_of directive.now ≡ Some slot }
+        requires number { is_number value ≡ true }
+        ensures { Passes (standing self.new) (standing self.old) directive.now (StepEnd.Stores slot (datum_of value.entry)) }
+    {
+        let tally = self.tally.counted(directive, true);
+        self.store.set(slot, value);
+        self.tally = tally;
+        self.passed += 1;
+        self.phase = Phase::Skipping;
+    }
+
+    /// The directive under way has passed, and gives its slot the opened text.
+    fn close_text(&mut self, directive: &Directive, slot: u8)
+        requires current { slice_get self.old.directives.now self.old.passed ≡ Some directive.now }
+        requires text { slot_in self.old.phase ≡ Some slot }
+        requires own { slot_of directive.now ≡ Some slot }
+        ensures { Passes (standing self.new) (standing self.old) directive.now (StepEnd.Stores slot (Bytes (text_of (kept_by self.old).opened))) }
+    {
+        let tally = self.tally.counted(directive, true);
+        self.store.close_text();
+        self.tally = tally;
+        self.passed += 1;
+        self.phase = Phase::Skipping;
+    }
 
     /// Ends the directive under way, which takes nothing more. `more`: a byte follows.
     fn close(&mut self, directive: &Directive, more: bool)
         requires current { slice_get self.old.directives.now self.old.passed ≡ Some directive.now }
         requires waits { self.old.ended ≡ None }
-        ensures same { (z : List ℕ) → IsRefused directive.now self.old.phase self.old.tally.used more z → Follows self.new self.old z z }
+        ensures same { (z : List ℕ) → IsRefused directive.now self.old.phase self.old.tally.used more z → Follows (standing self.new) (standing self.old) z z }
         ensures used { self.new.tally.used ≡ self.old.tally.used }
-        ensures keeps { Keeps self.new self.old }
-        ensures fewer { turns_left self.new < turns_left self.old }
+        ensures keeps { Keeps (standing self.new) (standing self.old) }
+        ensures fewer { turns_left (standing self.new) < turns_left (standing self.old) }
+        ensures memory { ran_out (standing self.new) ≡ false }
     {
         let finished = finish(directive, self.phase, self.tally.used, more);
-        if let Finished::Fails(status) = finished {
-            self.ended = Some(Stop {
-                status,
-                at: self.passed as u16 + 1,
-            });
-            return;
+        match finished {
+            Finished::Fails(status) => self.fail(status),
+            Finished::Passes => self.pass(directive),
+            Finished::Stores { slot, value } => self.set(directive, slot, value),
+            Finished::Closes { slot } => self.close_text(directive, slot),
         }
-        self.tally.count(directive, finished);
-        self.passed += 1;
-        self.phase = Phase::Skipping;
     }
 
     /// Ends the run: every directive has passed.
     fn conclude(&mut self)
         requires current { slice_get self.old.directives.now self.old.passed ≡ None }
         requires waits { self.old.ended ≡ None }
-        ensures same { (z : List ℕ) → Follows self.new self.old z z }
+        ensures same { (z : List ℕ) → Follows (standing self.new) (standing self.old) z z }
         ensures used { self.new.tally.used ≡ self.old.tally.used }
-        ensures keeps { Keeps self.new self.old }
-        ensures fewer { turns_left self.new < turns_left self.old }
+        ensures keeps { Keeps (standing self.new) (standing self.old) }
+        ensures fewer { turns_left (standing self.new) < turns_left (standing self.old) }
+        ensures memory { ran_out (standing self.new) ≡ false }
     {
-        self.ended = Some(Stop {
+        let stop = Stop {
             status: Status::Done,
             at: 0,
-        });
+        };
+        self.stop(stop);
     }
 
     /// Passes on over directives that no byte can change.
     fn settle(&mut self)
-        ensures same { AreProper self.old.directives.now → (z : List ℕ) → Follows self.new self.old z z }
+        ensures same { AreProper self.old.directives.now → (z : List ℕ) → Follows (standing self.new) (standing self.old) z z }
         ensures used { self.new.tally.used ≡ self.old.tally.used }
-        ensures keeps { Keeps self.new self.old }
+        ensures keeps { Keeps (standing self.new) (standing self.old) }
         ensures stays { IsSome self.old.ended → IsSome self.new.ended }
-        ensures settled { IsSettled self.new }
+        ensures settled { IsSettled (standing self.new) }
+        ensures memory { ran_out (standing self.new) ≡ ran_out (standing self.old) }
     {
         while self.ended.is_none() {
             match self.directives.get(self.passed) {
                 None => self.conclude(),
                 Some(directive) => {
-                    if !self.phase.is_full() {
+                    if !is_full(directive, self.phase) {
                         return;
                     }
                     self.close(directive, true);
@@ -111,14 +206,81 @@ impl<'f> Scanner<'f> {
         }
     }
 
-    /// Hands the byte to the directive under way. Where that doesn't take it, the directive has ended.
+    /// Begins the text of the directive under way.
+    fn open(&mut self, directive: &'f Directive, slot: u8)
+        requires current { slice_get self.old.directives.now self.old.passed ≡ Some directive.now }
+        requires waits { self.old.ended ≡ None }
+        requires no_text { slot_in self.old.phase ≡ None }
+        requires own { text_slot directive.now ≡ Some slot }
+        ensures opens { Opens (standing self.new) (standing self.old) slot }
+        ensures left { left_before directive.now self.new.phase ≡ left_before directive.now self.old.phase }
+    {
+        let Directive::Conv(conversion) = directive else {
+            return;
+        };
+        self.store.open_text(slot);
+        self.phase = Phase::Text {
+            slot,
+            scan: ItemScan::start(conversion),
+        };
+    }
+
+    /// Stores a byte of the text under way, after which the directive has come so far. Where that is refused, the run
+    /// ends.
+    fn store_byte(&mut self, directive: &Directive, phase: Phase<'f>, b: u8) -> bool
+        requires current { slice_get self.old.directives.now self.old.passed ≡ Some directive.now }
+        requires waits { self.old.ended ≡ None }
+        requires text { IsSome (slot_in self.old.phase) }
+        requires same_slot { slot_in phase ≡ slot_in self.old.phase }
+        requires below { self.old.tally.used < self.old.limit }
+        requires left { LeftAfter directive.now self.old.phase phase }
+        ensures taken { OnTrue result (Takes (standing self.new) (standing self.old) phase.entry (longer (b ∷ []) (kept_by self.old).opened)) }
+        ensures refused { OnFalse result (Stops (standing self.new) (standing self.old) (record { status = status.NoMemory; at = self.old.passed + 1 })) }
+    {
+        if self.store.push(b).is_err() {
+            self.fail(Status::NoMemory);
+            return false;
+        }
+        self.phase = phase;
+        self.tally.used += 1;
+        true
+    }
+
+    /// Takes the byte, after which the directive under way has come so far. Where its storing is refused, the run ends.
+    fn take(&mut self, directive: &'f Directive, phase: Phase<'f>, b: u8) -> bool
+        requires current { slice_get self.old.directives.now self.old.passed ≡ Some directive.now }
+        requires waits { self.old.ended ≡ None }
+        requires below { self.old.tally.used < self.old.limit }
+        requires slot { IsNextSlot (text_slot directive.now) (slot_in self.old.phase) (slot_in phase) }
+        requires left { LeftAfter directive.now self.old.phase phase }
+        ensures taken { OnTrue result (Takes (standing self.new) (standing self.old) phase.entry (opened_after (slot_in phase.entry) b (kept_by self.old).opened)) }
+        ensures refused { OnFalse result (Stops (standing self.new) (standing self.old) (record { status = status.NoMemory; at = self.old.passed + 1 })) }
+        ensures text { OnFalse result (IsSome (slot_in phase.entry)) }
+    {
+        match (self.phase, phase) {
+            (Phase::Text { .. }, Phase::Text { .. }) => self.store_byte(directive, phase, b),
+            (_, Phase::Text { slot, .. }) => {
+                self.open(directive, slot);
+                self.store_byte(directive, phase, b)
+            }
+            _ => {
+                self.phase = phase;
+                self.tally.used += 1;
+                true
+            }
+        }
+    }
+
+    /// Hands the byte to the directive under way. Where that doesn't take it, the directive has ended, or the run.
     fn turn(&mut self, b: u8) -> bool
         requires waits { self.old.ended ≡ None }
-        ensures taken { OnTrue result ((z : List ℕ) → Follows self.new self.old z (b ∷ z)) }
-        ensures refused { OnFalse result ((z : List ℕ) → Follows self.new self.old (b ∷ z) (b ∷ z)) }
+        ensures taken { OnTrue result (AreProper self.old.directives.now → (z : List ℕ) → Follows (standing self.new) (standing self.old) z (b ∷ z)) }
+        ensures refused { OnFalse result (AreProper self.old.directives.now → ran_out (standing self.new) ≡ false → (z : List ℕ) → Follows (standing self.new) (standing self.old) (b ∷ z) (b ∷ z)) }
+        ensures memory { AreProper self.old.directives.now → ran_out (standing self.new) ≡ true → (z : List ℕ) → Refuses (standing self.new) (standing self.old) b (b ∷ z) }
+        ensures stopped { OnTrue result (ran_out (standing self.new) ≡ false) }
         ensures used { self.new.tally.used ≡ self.old.tally.used + (if result then 1 else 0) }
-        ensures keeps { Keeps self.new self.old }
-        ensures fewer { OnFalse result (turns_left self.new < turns_left self.old) }
+        ensures keeps { Keeps (standing self.new) (standing self.old) }
+        ensures fewer { OnFalse result (turns_left (standing self.new) < turns_left (standing self.old)) }
     {
         match self.directives.get(self.passed) {
             None => {
@@ -132,15 +294,10 @@ impl<'f> Scanner<'f> {
                 }
                 Some(phase) => {
                     if self.tally.used == self.limit {
-                        self.ended = Some(Stop {
-                            status: Status::TooLong,
-                            at: self.passed as u16 + 1,
-                        });
+                        self.fail(Status::TooLong);
                         return false;
                     }
-                    self.phase = phase;
-                    self.tally.used += 1;
-                    true
+                    self.take(directive, phase, b)
                 }
             },
         }
@@ -148,14 +305,16 @@ impl<'f> Scanner<'f> {
 
     /// Hands a byte to the run, and says whether it was taken.
     fn offer(&mut self, b: u8) -> bool
-        ensures same { AreProper self.old.directives.now → (z : List ℕ) → Follows self.new self.old z (b ∷ z) }
+        ensures same { AreProper self.old.directives.now → ran_out (standing self.new) ≡ false → (z : List ℕ) → Follows (standing self.new) (standing self.old) z (b ∷ z) }
+        ensures memory { AreProper self.old.directives.now → self.old.ended ≡ None → ran_out (standing self.new) ≡ true → (z : List ℕ) → Refuses (standing self.new) (standing self.old) b (b ∷ z) }
         ensures used { self.new.tally.used ≡ self.old.tally.used + (if result then 1 else 0) }
         ensures refused { OnFalse result (IsSome self.new.ended) }
+        ensures stopped { OnTrue result (ran_out (standing self.new) ≡ false) }
         ensures stays { IsSome self.old.ended → IsSome self.new.ended }
         ensures nothing { IsSome self.old.ended → result ≡ false }
         ensures unchanged { IsSome self.old.ended → self.new ≡ self.old }
-        ensures keeps { Keeps self.new self.old }
-        ensures settled { IsSettled self.new }
+        ensures keeps { Keeps (standing self.new) (standing self.old) }
+        ensures settled { IsSettled (standing self.new) }
     {
         while self.ended.is_none() {
             if self.turn(b) {
@@ -168,15 +327,16 @@ impl<'f> Scanner<'f> {
 
     /// Hands bytes to the run until it ends, and says how many were taken.
     fn push(&mut self, piece: &[u8]) -> usize
-        ensures same { AreProper self.old.directives.now → (z : List ℕ) → Follows self.new self.old z (piece.now ++ z) }
+        ensures same { AreProper self.old.directives.now → ran_out (standing self.new) ≡ false → (z : List ℕ) → Follows (standing self.new) (standing self.old) z (piece.now ++ z) }
+        ensures memory { AreProper self.old.directives.now → self.old.ended ≡ None → ran_out (standing self.new) ≡ true → RefusesIn (standing self.new) (standing self.old) piece.now }
         ensures used { self.new.tally.used ≡ self.old.tally.used + result }
         ensures within { result ≤ length piece.now }
         ensures all { IfNone self.new.ended (result ≡ length piece.now) }
         ensures nothing { IsSome self.old.ended → result ≡ 0 }
         ensures unchanged { IsSome self.old.ended → self.new ≡ self.old }
         ensures stays { IsSome self.old.ended → IsSome self.new.ended }
-        ensures keeps { Keeps self.new self.old }
-        ensures settled { IsSettled self.old → IsSettled self.new }
+        ensures keeps { Keeps (standing self.new) (standing self.old) }
+        ensures settled { IsSettled (standing self.old) → IsSettled (standing self.new) }
     {
         let mut taken = 0;
         for b in piece {
@@ -190,10 +350,12 @@ impl<'f> Scanner<'f> {
 
     /// Ends each directive in turn: nothing follows.
     fn run_out(&mut self)
-        ensures same { Follows self.new self.old [] [] }
+        requires waits { self.old.ended ≡ None }
+        ensures same { Follows (standing self.new) (standing self.old) [] [] }
         ensures used { self.new.tally.used ≡ self.old.tally.used }
         ensures ended { IsSome self.new.ended }
-        ensures keeps { Keeps self.new self.old }
+        ensures keeps { Keeps (standing self.new) (standing self.old) }
+        ensures memory { ran_out (standing self.new) ≡ false }
     {
         while self.ended.is_none() {
             match self.directives.get(self.passed) {
@@ -203,44 +365,37 @@ impl<'f> Scanner<'f> {
         }
     }
 
-    /// A scanner that was given nothing yet. The run consumes at most `limit` bytes.
-    ///
-    /// Refuses a limit above 2147483647 with BadLimit, then a format with a directive that it doesn't run yet with
-    /// NotYet; then it answers NoMemory where room for the values was refused.
-    pub fn new(alloc: Global, format: &'f ScanFormat, limit: u32) -> Result<Self, StartFault>
-        ensures after { IfOk result (λ s. After format.now limit s []) }
-        ensures fresh { IfOk result (λ s. used_by s ≡ 0) }
-        ensures limit { IsErrOf result StartFault.BadLimit ↔ (2147483647 < limit) }
-        ensures not_yet { IsErrOf result StartFault.NotYet ↔ ((limit ≤ 2147483647) × (are_plain format.now ≡ false)) }
+    /// A scanner of the directives over an empty store that was given nothing yet.
+    fn start(directives: &'f [Directive], limit: u32, store: S) -> Self
+        requires few { length directives.now ≤ 4096 }
+        requires places { length (destinations_of directives.now) ≤ 32 }
+        requires proper { AreProper directives.now }
+        requires placed { are_placed S.slots directives.now ≡ true }
+        requires apart { are_apart (slots_of directives.now) ≡ true }
+        requires empty { S.kept store ≡ nothing_kept (S.kept store).room }
+        requires roomy { IfSome (width_sum directives.now) (λ n. n ≤ (S.kept store).room) }
+        ensures after { After directives.now limit (standing result) [] }
+        ensures fresh { used_by (standing result) ≡ 0 }
     {
-        if limit > 2147483647 {
-            return Err(StartFault::BadLimit);
-        }
-        let directives = format.directives();
-        if !are_plain(directives) {
-            return Err(StartFault::NotYet);
-        }
-        let Ok(tally) = Tally::new(alloc, MOST_VALUES) else {
-            return Err(StartFault::NoMemory);
-        };
         let mut scanner = Scanner {
             directives,
             limit,
             passed: 0,
             phase: Phase::Skipping,
-            tally,
+            tally: Tally::new(),
             ended: None,
             met: None,
+            store,
         };
         scanner.settle();
-        Ok(scanner)
+        scanner
     }
 
     /// Whether some byte would be taken next.
     pub fn state(&self) -> FeedState
-        ensures waits { (ds : List Directive) (m : ℕ) (x : List ℕ) → After ds m self.now x → (result ≡ FeedState.Wait) ↔ (IsOpen ds x × (length x ≤ m)) }
-        ensures ended { (ds : List Directive) (m : ℕ) (x : List ℕ) (ending : Ending) → Gives ds m self.now x ending → result ≡ FeedState.Ended }
-        ensures exactly { (result ≡ FeedState.Ended) ↔ (has_ended self.now ≡ true) }
+        ensures waits { (ds : List Directive) (m : ℕ) (x : List ℕ) → After ds m (standing self.now) x → (result ≡ FeedState.Wait) ↔ (IsOpen ds x × (length x ≤ m)) }
+        ensures ended { (ds : List Directive) (m : ℕ) (x : List ℕ) (ending : Ending) → Gives ds m (standing self.now) x ending → result ≡ FeedState.Ended }
+        ensures exactly { (result ≡ FeedState.Ended) ↔ (has_ended (standing self.now) ≡ true) }
     {
         match self.ended {
             None => FeedState::Wait,
@@ -248,21 +403,26 @@ impl<'f> Scanner<'f> {
         }
     }
 
-    /// Takes bytes until the run ends or the piece is used up. Takes nothing once the run has ended.
+    /// Takes bytes until the run ends or the piece is used up. Takes nothing once the run has ended. A byte of a text
+    /// whose storing is refused is not taken, and ends the run as NoMemory.
     pub fn feed(&mut self, piece: &[u8]) -> Fed
-        ensures after { (ds : List Directive) (m : ℕ) (x : List ℕ) → After ds m self.old x → After ds m self.new (x ++ piece.now) }
-        ensures state { (ds : List Directive) (m : ℕ) (x : List ℕ) → After ds m self.old x
+        ensures after { (ds : List Directive) (m : ℕ) (x : List ℕ) → ran_out (standing self.new) ≡ false → After ds m (standing self.old) x → After ds m (standing self.new) (x ++ piece.now) }
+        ensures state { (ds : List Directive) (m : ℕ) (x : List ℕ) → ran_out (standing self.new) ≡ false → After ds m (standing self.old) x
             → (result.state ≡ FeedState.Wait) ↔ (IsOpen ds (x ++ piece.now) × (length (x ++ piece.now) ≤ m)) }
-        ensures taken { (ds : List Directive) (m : ℕ) (x : List ℕ) (first second : Ending) (before after : RunReport) → After ds m self.old x
-            → RunWithin ds m x first before → RunWithin ds m (x ++ piece.now) second after → after.used ≡ before.used + result.taken }
+        ensures taken { (ds : List Directive) (m : ℕ) (x : List ℕ) (first second : Ending) (before after : RunReport) → ran_out (standing self.new) ≡ false
+            → After ds m (standing self.old) x → RunWithin ds m x first before → RunWithin ds m (x ++ piece.now) second after
+            → after.used ≡ before.used + result.taken }
         ensures within { result.taken ≤ length piece.now }
         ensures all { result.state ≡ FeedState.Wait → result.taken ≡ length piece.now }
-        ensures used { used_by self.new ≡ used_by self.old + result.taken }
-        ensures waits { (ds : List Directive) (m : ℕ) (x : List ℕ) → After ds m self.old x → result.state ≡ FeedState.Wait → used_by self.new ≡ length (x ++ piece.now) }
-        ensures gives { (ds : List Directive) (m : ℕ) (x z : List ℕ) (ending : Ending) → After ds m self.old x → result.state ≡ FeedState.Ended
-            → Gives ds m self.new ((x ++ piece.now) ++ z) ending }
-        ensures nothing { (ds : List Directive) (m : ℕ) (x : List ℕ) (ending : Ending) → Gives ds m self.old x ending → result.taken ≡ 0 }
-        ensures unchanged { (ds : List Directive) (m : ℕ) (x : List ℕ) (ending : Ending) → Gives ds m self.old x ending → self.new ≡ self.old }
+        ensures used { used_by (standing self.new) ≡ used_by (standing self.old) + result.taken }
+        ensures waits { (ds : List Directive) (m : ℕ) (x : List ℕ) → After ds m (standing self.old) x → result.state ≡ FeedState.Wait
+            → used_by (standing self.new) ≡ length (x ++ piece.now) }
+        ensures gives { (ds : List Directive) (m : ℕ) (x z : List ℕ) (ending : Ending) → After ds m (standing self.old) x → result.state ≡ FeedState.Ended
+            → Gives ds m (standing self.new) ((x ++ piece.now) ++ z) ending }
+        ensures stopped { result.state ≡ FeedState.Wait → ran_out (standing self.new) ≡ false }
+        ensures bounded { (ds : List Directive) (m : ℕ) (x : List ℕ) → IsSome (width_sum ds) → After ds m (standing self.old) x → ran_out (standing self.new) ≡ false }
+        ensures nothing { (ds : List Directive) (m : ℕ) (x : List ℕ) (ending : Ending) → Gives ds m (standing self.old) x ending → result.taken ≡ 0 }
+        ensures unchanged { (ds : List Directive) (m : ℕ) (x : List ℕ) (ending : Ending) → Gives ds m (standing self.old) x ending → self.new ≡ self.old }
     {
         let taken = self.push(piece);
         Fed {
@@ -273,10 +433,11 @@ impl<'f> Scanner<'f> {
 
     /// Says that no more bytes come, and why. Changes nothing once the run has ended.
     pub fn end(&mut self, ending: Ending)
-        ensures gives { (ds : List Directive) (m : ℕ) (x : List ℕ) → After ds m self.old x → Gives ds m self.new x ending }
-        ensures no_text { (ds : List Directive) (m : ℕ) (x y : List ℕ) → After ds m self.old x → IsOpen ds x → length x ≤ m → After ds m self.new y → ⊥ }
-        ensures unchanged { (ds : List Directive) (m : ℕ) (x : List ℕ) (before : Ending) → Gives ds m self.old x before → self.new ≡ self.old }
-        ensures used { used_by self.new ≡ used_by self.old }
+        ensures gives { (ds : List Directive) (m : ℕ) (x : List ℕ) → After ds m (standing self.old) x → Gives ds m (standing self.new) x ending }
+        ensures no_text { (ds : List Directive) (m : ℕ) (x y : List ℕ) → After ds m (standing self.old) x → IsOpen ds x → length x ≤ m → After ds m (standing self.new) y → ⊥ }
+        ensures unchanged { (ds : List Directive) (m : ℕ) (x : List ℕ) (before : Ending) → Gives ds m (standing self.old) x before → self.new ≡ self.old }
+        ensures used { used_by (standing self.new) ≡ used_by (standing self.old) }
+        ensures memory { ran_out (standing self.new) ≡ ran_out (standing self.old) }
     {
         if self.ended.is_none() {
             self.met = Some(ending);
@@ -285,37 +446,39 @@ impl<'f> Scanner<'f> {
     }
 
     /// The report, once the run has ended.
-    pub fn report(&self) -> Option<Report<'_>>
-        ensures gives { (ds : List Directive) (m : ℕ) (x : List ℕ) (ending : Ending) → Gives ds m self.now x ending → IsSomeAnd result (RunWithin ds m x ending) }
-        ensures after { (ds : List Directive) (m : ℕ) (x : List ℕ) (ending : Ending) → After ds m self.now x → IfSome result (RunWithin ds m x ending) }
-        ensures none { (ds : List Directive) (m : ℕ) (x : List ℕ) → After ds m self.now x → IsNone result → IsOpen ds x × (length x ≤ m) }
+    pub fn report(&self) -> Option<Report<'_, S>>
+        ensures gives { (ds : List Directive) (m : ℕ) (x : List ℕ) (ending : Ending) → Gives ds m (standing self.now) x ending → IsSomeAnd result (RunTold ds m x ending) }
+        ensures after { (ds : List Directive) (m : ℕ) (x : List ℕ) (ending : Ending) → After ds m (standing self.now) x → IfSome result (RunWithin ds m x ending) }
+        ensures none { (ds : List Directive) (m : ℕ) (x : List ℕ) → After ds m (standing self.now) x → IsNone result → IsOpen ds x × (length x ≤ m) }
+        ensures memory { IfSome result (λ r. is_memory_status r.status ≡ ran_out (standing self.now)) }
     {
         let stop = self.ended?;
         Some(Report {
             outcome: self.outcome(stop),
-            values: self.tally.values.as_slice(),
+            store: &self.store,
         })
     }
 
     /// What a run that has ended gave. A scanner whose run hasn't is given back.
-    pub fn into_scanned(self) -> Result<Scanned, Self>
-        ensures gives { (ds : List Directive) (m : ℕ) (x : List ℕ) (ending : Ending) → Gives ds m self.entry x ending → IsOkAnd result (RunWithin ds m x ending) }
-        ensures after { (ds : List Directive) (m : ℕ) (x : List ℕ) (ending : Ending) → After ds m self.entry x → IfOk result (RunWithin ds m x ending) }
-        ensures waits { (ds : List Directive) (m : ℕ) (x : List ℕ) → After ds m self.entry x → IsErr result → IsOpen ds x × (length x ≤ m) }
-        ensures used { IfOk result (λ s. s.used ≡ used_by self.entry) }
+    pub fn into_scanned(self) -> Result<Scanned<S>, Self>
+        ensures gives { (ds : List Directive) (m : ℕ) (x : List ℕ) (ending : Ending) → Gives ds m (standing self.entry) x ending → IsOkAnd result (RunTold ds m x ending) }
+        ensures after { (ds : List Directive) (m : ℕ) (x : List ℕ) (ending : Ending) → After ds m (standing self.entry) x → IfOk result (RunWithin ds m x ending) }
+        ensures waits { (ds : List Directive) (m : ℕ) (x : List ℕ) → After ds m (standing self.entry) x → IsErr result → IsOpen ds x × (length x ≤ m) }
+        ensures used { IfOk result (λ s. s.used ≡ used_by (standing self.entry)) }
+        ensures memory { IfOk result (λ s. is_memory_status s.status ≡ ran_out (standing self.entry)) }
         ensures back { IfErr result (λ s. s ≡ self.entry) }
     {
         match self.ended {
             None => Err(self),
             Some(stop) => Ok(Scanned {
                 outcome: self.outcome(stop),
-                values: self.tally.values,
+                store: self.store,
             }),
         }
     }
 
     fn outcome(&self, stop: Stop) -> Outcome
-        ensures { report_by result self.now.tally.values.items ≡ record (out_of stop.status stop.at (tally_of self.now.tally)) { met = self.now.met } }
+        ensures { (values : List Assigned) → report_by result values ≡ record (out_of stop.status stop.at (tally_of self.now.tally values)) { met = self.now.met } }
     {
         Outcome {
             status: stop.status,
@@ -325,5 +488,61 @@ impl<'f> Scanner<'f> {
             used: self.tally.used,
             met: self.met,
         }
+    }
+}
+
+impl<'f> Scanner<'f, HeapStore> {
+    ghost use Rattle.sf_run.specs.Standing.{After, used_by};
+    ghost use Rattle.sf_run.specs.Scanner.{standing};
+
+    /// A scanner that was given nothing yet, with a store that grows. The run consumes at most `limit` bytes. Where the
+    /// format has a width sum, so much room is made here, and no run ends NoMemory.
+    ///
+    /// Refuses a limit above 2147483647 with BadLimit; then it answers NoMemory where memory was refused.
+    pub fn new(alloc: Global, format: &'f ScanFormat, limit: u32) -> Result<Self, StartFault>
+        ensures after { IfOk result (λ s. After format.now limit (standing s) []) }
+        ensures fresh { IfOk result (λ s. used_by (standing s) ≡ 0) }
+        ensures limit { IsErrOf result StartFault.BadLimit ↔ (2147483647 < limit) }
+        ensures memory { IfErr result (λ fault. (fault ≡ StartFault.BadLimit) ⊎ (fault ≡ StartFault.NoMemory)) }
+    {
+        if limit > MOST_BYTES {
+            return Err(StartFault::BadLimit);
+        }
+        let reserve = format.width_sum().unwrap_or(0);
+        let Ok(store) = HeapStore::new(alloc, reserve) else {
+            return Err(StartFault::NoMemory);
+        };
+        Ok(Scanner::start(format.directives(), limit, store))
+    }
+}
+
+impl<'f, const CAP: usize, const SLOTS: usize> Scanner<'f, FixedStore<CAP, SLOTS>> {
+    ghost use Rattle.sf_run.specs.Standing.{After, used_by};
+    ghost use Rattle.sf_run.specs.Scanner.{standing};
+
+    /// A scanner that was given nothing yet, with a store of fixed capacity. The run consumes at most `limit` bytes. It
+    /// takes no memory, and no run ends NoMemory.
+    ///
+    /// Refuses a limit above 2147483647 with BadLimit, then a format without a width sum with Unbounded, then one whose
+    /// width sum is above CAP or that has more than SLOTS destinations with TooSmall.
+    pub fn fixed(format: &'f ScanFormat, limit: u32) -> Result<Self, StartFault>
+        ensures after { IfOk result (λ s. After format.now limit (standing s) []) }
+        ensures fresh { IfOk result (λ s. used_by (standing s) ≡ 0) }
+        ensures limit { IsErrOf result StartFault.BadLimit ↔ (2147483647 < limit) }
+        ensures unbounded { IsErrOf result StartFault.Unbounded ↔ ((limit ≤ 2147483647) × (width_sum format.now ≡ None)) }
+        ensures small { IsErrOf result StartFault.TooSmall ↔ ((limit ≤ 2147483647)
+            × IsSomeAnd (width_sum format.now) (λ n. (CAP < n) ⊎ (SLOTS < length (destinations_of format.now)))) }
+        ensures memory { IsErrOf result StartFault.NoMemory → ⊥ }
+    {
+        if limit > MOST_BYTES {
+            return Err(StartFault::BadLimit);
+        }
+        let Some(sum) = format.width_sum() else {
+            return Err(StartFault::Unbounded);
+        };
+        if CAP < sum as usize || SLOTS < format.destinations() as usize {
+            return Err(StartFault::TooSmall);
+        }
+        Ok(Scanner::start(format.directives(), limit, FixedStore::new()))
     }
 }

@@ -1,22 +1,19 @@
-//! What a run has given so far.
-ghost use Rattle.std.specs.Prelude.{◌≡◌, ◌+◌, ◌-◌, ◌<◌, ◌≤◌, ◌^◌, if◌then◌else◌, true, IfOk, vec_len, vec_capacity};
-ghost use Rattle.sf_run.specs.Phases.{end_of};
-ghost use Rattle.sf_run.specs.Residual.{counted, nothing_yet};
+//! What a run has counted so far.
+ghost use Rattle.std.specs.Prelude.{◌≡◌, ◌+◌, ◌-◌, ◌<◌, ◌≤◌, ◌^◌, List, if◌then◌else◌, true};
+ghost use Rattle.sf_base.specs.Data.{Assigned};
+ghost use Rattle.sf_run.specs.Residual.{counted};
 ghost use Rattle.sf_run.specs.Runs.{is_conversion, stored};
-ghost use Rattle.sf_run.specs.Tallies.{tally_of};
+ghost use Rattle.sf_run.specs.Steps.{StepEnd};
+ghost use Rattle.sf_run.specs.Tallies.{tally_of, values_with, PassesSo};
 
-use crate::directive::Finished;
-use crate::report::Assigned;
 use sf_format::{Directive, Shape};
-use std::alloc::{AllocError, Global};
 
-/// What the directives that have passed gave, and the bytes used.
-#[derive(Drop)]
+/// The bytes that were used, and what the directives that have passed count.
+#[derive(Clone, Copy)]
 pub(crate) struct Tally {
     pub(crate) used: u32,
     pub(crate) assigned: u8,
     pub(crate) converted: u16,
-    pub(crate) values: Vec<Assigned>,
 }
 
 // Whether the directive counts as a conversion: `%%` and `%n` don't.
@@ -30,47 +27,40 @@ fn is_conversion(directive: &Directive) -> bool
 }
 
 impl Tally {
-    /// Nothing was given yet; there is room for so many values.
-    pub(crate) fn new(alloc: Global, room: usize) -> Result<Self, AllocError>
-        ensures tally { IfOk result (λ t. tally_of t ≡ nothing_yet) }
-        ensures empty { IfOk result (λ t. vec_len t.values ≡ 0) }
-        ensures room { IfOk result (λ t. room ≤ vec_capacity t.values) }
+    /// Nothing was used or counted yet.
+    pub(crate) fn new() -> Self
+        ensures used { result.used ≡ 0 }
+        ensures assigned { result.assigned ≡ 0 }
+        ensures converted { result.converted ≡ 0 }
     {
-        Ok(Tally {
+        Tally {
             used: 0,
             assigned: 0,
             converted: 0,
-            values: Vec::with_capacity(alloc, room)?,
-        })
+        }
     }
 
-    /// Counts a directive that has ended so.
-    pub(crate) fn count(&mut self, directive: &Directive, finished: Finished)
-        requires room { stored (end_of finished) ≡ true → vec_len self.old.values < vec_capacity self.old.values }
-        requires assigned { stored (end_of finished) ≡ true → self.old.assigned < 2 ^ 8 - 1 }
-        requires converted { self.old.converted < 2 ^ 16 - 1 }
-        ensures tally { tally_of self.new ≡ counted directive.now (end_of finished) (tally_of self.old) }
-        ensures used { self.new.used ≡ self.old.used }
-        ensures assigned { self.new.assigned ≤ self.old.assigned + (if stored (end_of finished) then 1 else 0) }
-        ensures converted { self.new.converted ≤ self.old.converted + 1 }
-        ensures capacity { vec_capacity self.new.values ≡ vec_capacity self.old.values }
-        ensures values { vec_len self.new.values ≡ (if stored (end_of finished) then vec_len self.old.values + 1 else vec_len self.old.values) }
+    /// With a directive that has passed, and stored something or not.
+    pub(crate) fn counted(self, directive: &Directive, stores: bool) -> Tally
+        requires assigned { stores ≡ true → self.assigned < 2 ^ 8 - 1 }
+        requires converted { self.converted < 2 ^ 16 - 1 }
+        ensures tally { (end : StepEnd) (values : List Assigned) → PassesSo end stores
+            → tally_of result (values_with end values) ≡ counted directive.now end (tally_of self values) }
+        ensures used { result.used ≡ self.used }
+        ensures assigned { result.assigned ≤ self.assigned + (if stores then 1 else 0) }
+        ensures converted { result.converted ≤ self.converted + 1 }
     {
-        let counts = is_conversion(directive);
-        match finished {
-            Finished::Fails(_) => {}
-            Finished::Passes => {
-                if counts {
-                    self.converted += 1;
-                }
-            }
-            Finished::Stores(value) => {
-                self.values.push_reserved(value);
-                if counts {
-                    self.assigned += 1;
-                    self.converted += 1;
-                }
-            }
+        if !is_conversion(directive) {
+            return self;
+        }
+        Tally {
+            used: self.used,
+            assigned: if stores {
+                self.assigned + 1
+            } else {
+                self.assigned
+            },
+            converted: self.converted + 1,
         }
     }
 }

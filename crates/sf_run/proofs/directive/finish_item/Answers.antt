@@ -1,19 +1,31 @@
-use Rattle.std.proofs.Common.{sym, subst, ◌∙◌}
+use Rattle.std.proofs.Common.{sym, subst, ap, ◌∙◌}
+use Rattle.std.specs.Option.{option_map}
+use Rattle.sf_base.specs.Data.{Number, value_of}
 use Rattle.sf_format.specs.declared.directive.Conversion.{Conversion}
-use Rattle.sf_item.specs.declared.item.ItemEnd.TheVariants.{Integer}
+use Rattle.sf_item.specs.declared.item.ItemEnd.TheVariants.{Integer, Matched}
 use Rattle.sf_item.specs.Taking.{Ends}
-use Rattle.sf_run.proofs.Stages.{unmatched_end, other_end, integer_ends}
+use Rattle.sf_run.proofs.Stages.{held_value, integer_ends, item_suppressed, suppressed_end, item_fails}
 use Rattle.sf_run.proofs.directive.finish_item.Goals as goal
 
-pub returns-in-Empty-clause-end : goal.returns-in-Empty-clause-end
-returns-in-Empty-clause-end c f same h =
-    let ends : Ends c.args.conversion.now f c.finish.result = subst (λ (d : Conversion). Ends d f c.finish.result) (sym same) (c.finish.ensures f h) in
-    unmatched_end c.args.conversion.now f (other_end c.args.conversion.now f c.finish.result c.requires.int ends c.in-Empty.is)
-
 pub returns-in-Integer-clause-end : goal.returns-in-Integer-clause-end
-returns-in-Integer-clause-end c f same h =
+returns-in-Integer-clause-end c text f some same h none =
     let i = c.in-Integer in
-    let ends : Ends c.args.conversion.now f (Integer i.negative i.magnitude i.overflowed) =
-    subst (λ (d : Conversion). Ends d f (Integer i.negative i.magnitude i.overflowed)) (sym same) (i.ensures f h) in
-    c.finish_number.ensures.end
-    ∙ integer_ends c.args.conversion.now c.requires.kind f i.negative i.magnitude i.overflowed ends c.from_parts.result c.from_parts.ensures
+    let d = c.args.conversion.now in
+    let ends : Ends d f (Integer i.negative i.magnitude i.overflowed) =
+    subst (λ (e : Conversion). Ends e f (Integer i.negative i.magnitude i.overflowed)) (sym same) (i.ensures f h) in
+    c.finish_number.ensures.end text (value_of d.kind i.negative ends.1)
+    (c.number_of.ensures.value ∙ ap (option_map (Number d.kind)) (held_value d.kind i.negative i.magnitude ends.1 i.overflowed ends.4))
+    ∙ integer_ends d f i.negative i.magnitude i.overflowed ends
+
+pub returns-in-Matched-clause-end : goal.returns-in-Matched-clause-end
+returns-in-Matched-clause-end c text f some same h none =
+    let d = c.args.conversion.now in
+    let ends : Ends d f Matched = subst (λ (e : Conversion). Ends e f Matched) (sym same) (c.in-Matched.ensures f h) in
+    let slot = item_suppressed d f none ends in
+    c.finish_matched.ensures.end text slot ∙ suppressed_end d f slot ends.1
+
+pub returns-in_default-clause-end : goal.returns-in_default-clause-end
+returns-in_default-clause-end c text f some same h none =
+    let d = c.args.conversion.now in
+    let ends : Ends d f c.finish.result = subst (λ (e : Conversion). Ends e f c.finish.result) (sym same) (c.finish.ensures f h) in
+    item_fails d f c.finish.result some ends c.in_default.not-Matched c.in_default.not-Integer

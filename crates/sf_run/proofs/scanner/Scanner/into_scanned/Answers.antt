@@ -1,15 +1,28 @@
-use Rattle.std.proofs.Common.{ap, sym, subst}
-use Rattle.std.specs.Prelude.{is_some, IsSome}
+use Rattle.std.proofs.Common.{ap, sym, subst, ◌∙◌}
+use Rattle.std.specs.Prelude.{is_some}
+use Rattle.sf_run.specs.Stopping.{is_memory_status, is_no_memory}
 use Rattle.sf_run.specs.Runs.{RunReport}
-use Rattle.sf_run.specs.Limits.{RunWithin}
-use Rattle.sf_run.proofs.Waits.{waits_open, ended_gives_own, gives_report}
+use Rattle.sf_run.specs.Limits.{RunWithin, RunTold}
+use Rattle.sf_run.specs.Scanner.{kept_by, standing}
+use Rattle.sf_run.proofs.Waits.{waits_open, gives_report, after_report}
 use Rattle.sf_run.proofs.scanner.Scanner.into_scanned.Goals as goal
 
 pub returns-in-None-clause-waits : goal.returns-in-None-clause-waits
-returns-in-None-clause-waits c ds m x h _ = waits_open ds m c.args.self x h c.in-None.is
+returns-in-None-clause-waits g c ds m x h _ = waits_open ds m (standing c.args.self) x h c.in-None.is
 
 pub returns-in-Some-clause-after : goal.returns-in-Some-clause-after
-returns-in-Some-clause-after c ds m x ending h =
-    let ended : IsSome c.args.self.ended = ap is_some c.in-Some.is in
-    let right = gives_report ds m c.args.self x ending c.in-Some.stop (ended_gives_own ds m c.args.self x ending h ended) c.in-Some.is in
-    subst (λ (r : RunReport). RunWithin ds m x ending r) (sym c.outcome.ensures) right
+returns-in-Some-clause-after g c ds m x ending h =
+    let s = c.args.self in
+    subst (λ (r : RunReport). RunWithin ds m x ending r) (sym (c.outcome.ensures (kept_by s).values)) (after_report ds m (standing s) x ending c.in-Some.stop h c.in-Some.is)
+
+pub returns-in-Some-clause-gives : goal.returns-in-Some-clause-gives
+returns-in-Some-clause-gives g c ds m x ending h =
+    let s = c.args.self in
+    subst (λ (r : RunReport). RunTold ds m x ending r) (sym (c.outcome.ensures (kept_by s).values)) (gives_report ds m (standing s) x ending c.in-Some.stop h c.in-Some.is)
+
+pub returns-in-Some-clause-used : goal.returns-in-Some-clause-used
+returns-in-Some-clause-used g c = ap (λ (r : RunReport). r.used) (c.outcome.ensures (kept_by c.args.self).values)
+
+pub returns-in-Some-clause-memory : goal.returns-in-Some-clause-memory
+returns-in-Some-clause-memory g c =
+    ap (λ (r : RunReport). is_memory_status r.status) (c.outcome.ensures (kept_by c.args.self).values) ∙ sym (ap is_no_memory c.in-Some.is)

@@ -1,34 +1,57 @@
-use Rattle.std.proofs.Common.{◌≡◌, ◌+◌, ◌∷◌, refl, Some, length, arith}
-use Rattle.std.specs.Prelude.{slice_get}
+use Rattle.std.proofs.Common.{◌≡◌, ◌+◌, ◌∷◌, ℕ, List, Bool, true, false, refl, sym, ap, Some, length, subst, ◌∙◌, true≢false, arith}
+use Rattle.std.specs.Prelude.{slice_get, IsSome}
 use Rattle.std.proofs.lemmas.Option.{slice_get_read}
+use Rattle.std.proofs.lemmas.Bool.{OnTrue_at, OnFalse_at, OnTrue_from}
+use Rattle.sf_format.specs.Proper.{AreProper}
 use Rattle.sf_run.specs.Machine.{stepped}
-use Rattle.sf_run.specs.Residual.{with_used}
-use Rattle.sf_run.specs.Tallies.{tally_of}
+use Rattle.sf_run.specs.Stopping.{is_no_memory}
+use Rattle.sf_run.specs.Standing.{Follows, Refuses, ran_out}
+use Rattle.sf_run.specs.Scanner.{standing}
 use Rattle.sf_run.proofs.Machines.{byte_refused}
-use Rattle.sf_run.proofs.Moves.{waiting, still_waiting, byte_taken, past_limit, shows_none}
+use Rattle.sf_run.proofs.Moves.{proper_at, limit_follows, takes_follows, refuses, shows_none}
 use Rattle.sf_run.proofs.scanner.Scanner.turn.Goals as goal
 
 pub returns-then-self-clause-refused : goal.returns-then-self-clause-refused
-returns-then-self-clause-refused c z k report low high does =
+returns-then-self-clause-refused g c proper ok z =
     let s = c.args.self.now in
     let d = c.in-Some.directive.now in
     let at : slice_get s.directives.now s.passed ≡ Some d = (let w = c.in-Some.ensures.lookup in slice_get_read s.directives.now (length s.directives.now) s.passed d refl w.3.0 w.1) in
-    past_limit s.directives.now s.passed d at s.phase c.in-Some-step.phase (tally_of s.tally) c.args.b k z report (waiting s k (c.args.b ∷ z) report c.requires.waits does)
-    c.in-Some-step.ensures (omega arith)
+    limit_follows (standing c.fail.new.self) (standing s) d c.args.b c.in-Some-step.phase at c.requires.waits c.fail.ensures c.if-self.true
+    (λ q shows. c.in-Some-step.ensures.shows q (proper_at s.directives.now s.passed d proper at) shows) z
+
+pub take-requires-clause-current : goal.take-requires-clause-current
+take-requires-clause-current g c =
+    let s = c.args.self.now in
+    let w = c.in-Some.ensures.lookup in
+    slice_get_read s.directives.now (length s.directives.now) s.passed c.in-Some.directive.now refl w.3.0 w.1
 
 pub returns-in-None-step-clause-refused : goal.returns-in-None-step-clause-refused
-returns-in-None-step-clause-refused c z k report low high does =
-    let s = c.args.self.now in
-    let d = c.in-Some.directive.now in
-    c.close.ensures.same (c.args.b ∷ z) (λ q shows. byte_refused d q s.tally.used c.args.b z (shows_none d (stepped d q c.args.b) (c.in-None-step.ensures q shows)))
-    k report low high does
-
-pub returns-else-self-clause-taken : goal.returns-else-self-clause-taken
-returns-else-self-clause-taken c z k report low high does =
+returns-in-None-step-clause-refused g c proper ok z =
     let s = c.args.self.now in
     let d = c.in-Some.directive.now in
     let at : slice_get s.directives.now s.passed ≡ Some d = (let w = c.in-Some.ensures.lookup in slice_get_read s.directives.now (length s.directives.now) s.passed d refl w.3.0 w.1) in
-    let u = with_used (s.tally.used + 1) (tally_of s.tally) in
-    still_waiting s.ended s.directives.now s.passed c.in-Some-step.phase u k z report c.requires.waits
-    (byte_taken s.directives.now s.passed d at s.phase c.in-Some-step.phase (tally_of s.tally) c.args.b k z report (waiting s k (c.args.b ∷ z) report c.requires.waits does)
-    c.in-Some-step.ensures u refl)
+    c.close.ensures.same (c.args.b ∷ z)
+    (λ q shows. byte_refused d q s.tally.used c.args.b z (shows_none d (stepped d q c.args.b) (c.in-None-step.ensures.shows q (proper_at s.directives.now s.passed d proper at) shows)))
+
+pub returns-else-self-clause-taken : goal.returns-else-self-clause-taken
+returns-else-self-clause-taken g c =
+    let s = c.args.self.now in
+    let d = c.in-Some.directive.now in
+    let at : slice_get s.directives.now s.passed ≡ Some d = (let w = c.in-Some.ensures.lookup in slice_get_read s.directives.now (length s.directives.now) s.passed d refl w.3.0 w.1) in
+    let go : c.take.result ≡ true → AreProper s.directives.now → (z : List ℕ) → Follows (standing c.take.new.self) (standing s) z (c.args.b ∷ z) =
+    λ e proper z. takes_follows (standing c.take.new.self) (standing s) d c.args.b c.in-Some-step.phase at c.requires.waits (OnTrue_at e c.take.ensures.taken)
+        (λ q shows. c.in-Some-step.ensures.shows q (proper_at s.directives.now s.passed d proper at) shows) z in
+    OnTrue_from c.take.result _ go
+
+pub returns-else-self-clause-memory : goal.returns-else-self-clause-memory
+returns-else-self-clause-memory g c proper out z =
+    let s = c.args.self.now in
+    let d = c.in-Some.directive.now in
+    let at : slice_get s.directives.now s.passed ≡ Some d = (let w = c.in-Some.ensures.lookup in slice_get_read s.directives.now (length s.directives.now) s.passed d refl w.3.0 w.1) in
+    let by : (v : Bool) → c.take.result ≡ v → Refuses (standing c.take.new.self) (standing s) c.args.b (c.args.b ∷ z) =
+    λ v. elim v as (λ (v : Bool). c.take.result ≡ v → Refuses (standing c.take.new.self) (standing s) c.args.b (c.args.b ∷ z)) [
+      | true ↦ λ e. absurd (true≢false (sym out ∙ ap is_no_memory ((OnTrue_at e c.take.ensures.taken).ended ∙ c.requires.waits)))
+      | false ↦ λ e. refuses (standing c.take.new.self) (standing s) d c.args.b c.in-Some-step.phase at c.requires.waits (OnFalse_at e c.take.ensures.refused)
+          (omega (arith, s.bounded, c.if-self.false)) (OnFalse_at e c.take.ensures.text) (λ q shows. c.in-Some-step.ensures.shows q (proper_at s.directives.now s.passed d proper at) shows) z
+    ] in
+    by c.take.result refl

@@ -1,0 +1,247 @@
+-- Runs for which memory was refused.
+use Rattle.std.proofs.Common.{◌≡◌, ℕ, zero, suc, ◌+◌, ◌-◌, ◌<◌, ◌≤◌, ◌⊎◌, inl, inr, Bool, true, false, cond, List, [], ◌∷◌, ◌++◌, length, drop, Option, Some, None, is_some, ℤ, refl, sym, ap, subst, ◌∙◌, arith, true≢false, append_assoc, length-append}
+use Rattle.std.specs.Prelude.{slice_get, IfNone, IsSome}
+use Rattle.sf_base.specs.Bytes.{is_white, IsSkip}
+use Rattle.sf_base.specs.Data.{value_of}
+use Rattle.sf_format.specs.declared.directive.Shape.{Shape}
+use Rattle.sf_format.specs.declared.directive.Shape.TheVariants.{Int, Text, Set, Chars, Count}
+use Rattle.sf_format.specs.declared.directive.Conversion.{Conversion}
+use Rattle.sf_format.specs.declared.directive.Directive.{Directive}
+use Rattle.sf_format.specs.declared.directive.Directive.TheVariants.{Space, Byte, Percent, Conv}
+use Rattle.sf_format.specs.Proper.{AreProper}
+use Rattle.sf_item.specs.Tests.{integer_at, matches}
+use Rattle.sf_run.specs.declared.outcome.Ending.{Ending}
+use Rattle.sf_run.specs.declared.outcome.Status.{Status}
+use Rattle.sf_run.specs.declared.outcome.Status.TheVariants.{MatchingFailure, TooLong, NoMemory}
+use Rattle.sf_run.specs.declared.scanner.Stop.{Stop}
+use Rattle.sf_run.specs.Steps.{StepEnd, Passes, Stores, Fails, Step, IsSkipBefore}
+use Rattle.sf_run.specs.Runs.{Ran, GoesOn, Steps, RunReport, report_of, used}
+use Rattle.sf_run.specs.Limits.{cut_report, IsCut, RunWithin, TellsWithin, RunRefused, RunTold}
+use Rattle.sf_run.specs.Limits.{Stores as StoresAt, StoresShape}
+use Rattle.sf_run.specs.Machine.{Stage, Skipping, Taken, Item, stepped, finished, number_end, count_end, integer_end, stored_end, passed_end, item_end, nothing_end, byte_finished, item_finished, conversion_finished}
+use Rattle.sf_run.specs.Residual.{Tally, Part, nothing_yet, with_used, counted, out_of, by_end, one_from, is_over, or_zero, run_of}
+use Rattle.sf_run.specs.Standing.{Standing, Keeps, After, Does, Gives, Refuses, RefusesIn, StoresByte, IsInText, ran_out, report_by}
+use Rattle.sf_run.specs.Stopping.{is_memory_status, is_no_memory}
+use Rattle.sf_run.specs.Texts.{text_slot, slot_of_text}
+use Rattle.sf_run.proofs.Skips.{skip, skip_is, one_more-le}
+use Rattle.sf_run.proofs.Machines.{by_option}
+use Rattle.sf_run.proofs.Openness.{within_limit, run_not_too_long}
+use Rattle.sf_run.proofs.Told.{run_told, told_is}
+use Rattle.sf_run.proofs.Waits.{told_end, cut_here}
+
+-- ---- no run by the definitions stops for want of memory
+
+own_end : StepEnd → Bool
+own_end Passes = true
+own_end (Stores slot v) = true
+own_end (Fails status) = cond (is_memory_status status) false true
+
+number_own : (c : Conversion) (slot : ℕ) (v : Option ℤ) → own_end (number_end c slot v) ≡ true
+unfolding own_end
+number_own c slot None = refl
+number_own c slot (Some v) = refl
+
+count_own : (c : Conversion) (slot : Option ℕ) (n : ℕ) → own_end (count_end c slot n) ≡ true
+unfolding own_end
+count_own c None n = refl
+count_own c (Some slot) n = number_own c slot (value_of c.kind false n)
+
+integer_own : (c : Conversion) (slot : ℕ) (i : Option (Bool × ℕ)) → own_end (integer_end c slot i) ≡ true
+unfolding own_end
+integer_own c slot None = refl
+integer_own c slot (Some i) = number_own c slot (value_of c.kind i.0 i.1)
+
+stored_own : (c : Conversion) (slot : ℕ) (shape : Shape) (item : List ℕ) → own_end (stored_end c slot shape item) ≡ true
+unfolding own_end
+stored_own c slot (Int base) item = integer_own c slot (integer_at base item)
+stored_own c slot Text item = refl
+stored_own c slot (Set members) item = refl
+stored_own c slot Chars item = refl
+stored_own c slot Count item = refl
+
+passed_own : (c : Conversion) (slot : Option ℕ) (item : List ℕ) → own_end (passed_end c slot item) ≡ true
+unfolding own_end
+passed_own c None item = refl
+passed_own c (Some slot) item = stored_own c slot c.shape item
+
+item_own : (c : Conversion) (item : List ℕ) → own_end (item_end c item) ≡ true
+unfolding own_end
+item_own c item = by_case (matches c item)
+  where
+    by_case : (v : Bool) → own_end (cond v (passed_end c c.slot item) (Fails MatchingFailure)) ≡ true
+    by_case true = passed_own c c.slot item
+    by_case false = refl
+
+nothing_own : (more : Bool) → own_end (nothing_end more) ≡ true
+unfolding own_end
+nothing_own true = refl
+nothing_own false = refl
+
+item_finish_own : (c : Conversion) (q : Stage) (more : Bool) → own_end (item_finished c q more) ≡ true
+unfolding own_end
+item_finish_own c Skipping more = nothing_own more
+item_finish_own c Taken more = refl
+item_finish_own c (Item f) more = item_own c f
+
+conversion_own : (c : Conversion) (shape : Shape) (q : Stage) (n : ℕ) (more : Bool) → own_end (conversion_finished c shape q n more) ≡ true
+conversion_own c Count q n more = count_own c c.slot n
+conversion_own c (Int base) q n more = item_finish_own c q more
+conversion_own c Text q n more = item_finish_own c q more
+conversion_own c (Set members) q n more = item_finish_own c q more
+conversion_own c Chars q n more = item_finish_own c q more
+
+byte_own : (q : Stage) (more : Bool) → own_end (byte_finished q more) ≡ true
+unfolding own_end
+byte_own Skipping more = nothing_own more
+byte_own Taken more = refl
+byte_own (Item f) more = refl
+
+finish_own : (d : Directive) (q : Stage) (n : ℕ) (more : Bool) → own_end (finished d q n more) ≡ true
+unfolding own_end
+finish_own Space q n more = refl
+finish_own (Byte a) q n more = byte_own q more
+finish_own Percent q n more = byte_own q more
+finish_own (Conv c) q n more = conversion_own c c.shape q n more
+
+one_own : (d : Directive) (q : Stage) (n : ℕ) (x : List ℕ) → own_end (one_from d q n x).end ≡ true
+one_own d q n [] = finish_own d q n false
+one_own d q n (b ∷ x) = by_option (λ p. own_end p.end ≡ true) (stepped d q b) _ _ (finish_own d q n true) (λ r. one_own d r (n + 1) x)
+
+own_status : (status : Status) → own_end (Fails status) ≡ true → is_memory_status status ≡ false
+unfolding own_end
+own_status status e = by_case (is_memory_status status) e
+  where
+    by_case : (v : Bool) → cond v false true ≡ true → v ≡ false
+    by_case true e = absurd (true≢false (sym e))
+    by_case false e = refl
+
+end_fine : (end : StepEnd) (y : RunReport) (f : Status → RunReport) → own_end end ≡ true → is_memory_status y.status ≡ false → ((status : Status) → (f status).status ≡ status)
+    → is_memory_status (by_end end y f).status ≡ false
+end_fine Passes y f own h same = h
+end_fine (Stores slot v) y f own h same = h
+end_fine (Fails status) y f own h same = ap is_memory_status (same status) ∙ own_status status own
+
+over_fine : (v : Bool) (a b : RunReport) → a.status ≡ TooLong → is_memory_status b.status ≡ false → is_memory_status (cond v a b).status ≡ false
+over_fine true a b e h = ap is_memory_status e
+over_fine false a b e h = h
+
+pub run_fine : (m : Option ℕ) (ds : List Directive) (at : ℕ) (t : Tally) (x : List ℕ) → is_memory_status (run_of m ds at t x).status ≡ false
+run_fine m [] at t x = refl
+run_fine m (d ∷ ds) at t x =
+    let p : Part = one_from d Skipping t.used x in
+    over_fine (is_over m p.used) _ _ refl
+    (end_fine p.end _ (λ status. out_of status at (with_used p.used t)) (one_own d Skipping t.used x) (run_fine m ds (at + 1) (counted d p.end (with_used p.used t)) p.left) (λ status. refl))
+
+-- a scanner that is after some bytes has not run out
+pub after_fine : (ds : List Directive) (m : ℕ) (s : Standing) (x : List ℕ) → After ds m s x → ran_out s ≡ false
+after_fine ds m s x h = by_case s.ended refl
+  where
+    by_case : (o : Option Stop) → s.ended ≡ o → is_no_memory o ≡ false
+    by_case None e = refl
+    by_case (Some stop) e = ap (λ (r : RunReport). is_memory_status r.status) (sym (cut_here ds m s x h stop e)) ∙ run_fine (Some m) ds 1 nothing_yet x
+
+-- ---- the directive at a place
+
+some_is : {A : Type 0} (a b : A) → Some a ≡ Some b → a ≡ b
+some_is a b e = cc
+
+goes : (end : StepEnd) (rest : Type 0) (before : List Ran) (cut : Ran) (more : List Ran) → GoesOn end rest (before ++ cut ∷ more) → rest
+goes Passes rest before cut more h = h
+goes (Stores slot v) rest before cut more h = h
+goes (Fails status) rest [] cut more h = cc
+goes (Fails status) rest (r ∷ before) cut more h = cc
+
+ran_at : (ds : List Directive) (x : List ℕ) (n : ℕ) (before : List Ran) (cut : Ran) (more : List Ran) → Steps ds x n (before ++ cut ∷ more) → slice_get ds (length before) ≡ Some cut.directive
+ran_at [] x n [] cut more h = absurd h
+ran_at [] x n (r ∷ before) cut more h = absurd h
+ran_at (d ∷ ds) x n [] cut more h = ap (λ (e : Directive). Some e) (sym h.0)
+ran_at (d ∷ ds) x n (r ∷ before) cut more h = ran_at ds (drop r.bytes x) (n + r.bytes) before cut more (goes r.end (Steps ds (drop r.bytes x) (n + r.bytes) (before ++ cut ∷ more)) before cut more h.2)
+
+-- ---- white space before a text
+
+skip_before : (u : List ℕ) (b : ℕ) (v : List ℕ) → is_white b ≡ false → skip (u ++ b ∷ v) ≤ length u
+skip_before [] b v e = rw e (omega arith)
+skip_before (x ∷ u) b v e = one_more-le (is_white x) (skip (u ++ b ∷ v)) (length u) (skip_before u b v e)
+
+drop_front : (n : ℕ) (u v : List ℕ) → n ≤ length u → (drop n (u ++ v) ≡ drop n u ++ v) × (length (drop n u) + n ≡ length u)
+drop_front zero u v h = (refl, omega arith)
+drop_front (suc n) [] v h = absurd (omega (arith, h))
+drop_front (suc n) (x ∷ u) v h = let w = drop_front n u v (omega (arith, h)) in let l = w.1 in (w.0, omega (arith, l))
+
+is_some_of : (o : Option ℕ) (n : ℕ) → o ≡ Some n → IsSome o
+is_some_of o n e = ap is_some e
+
+stores_shape : (shape : Shape) (slot : Option ℕ) (n : ℕ) (b : ℕ) (u v : List ℕ) (j : ℕ) → slot_of_text shape slot ≡ Some n → IsInText shape b → length u ≡ j
+    → StoresShape shape slot (u ++ b ∷ v) j
+stores_shape (Int base) slot n b u v j e text all = cc
+stores_shape Count slot n b u v j e text all = cc
+stores_shape (Set members) slot n b u v j e text all = (is_some_of slot n e, (0, refl, omega arith))
+stores_shape Chars slot n b u v j e text all = (is_some_of slot n e, (0, refl, omega arith))
+stores_shape Text slot n b u v j e text all =
+    let low = skip_before u b v text in
+    (is_some_of slot n e, (skip (u ++ b ∷ v), skip_is (u ++ b ∷ v), omega (arith, low, all)))
+
+stores_at : (d : Directive) (b : ℕ) (u v : List ℕ) (j : ℕ) → StoresByte d b → length u ≡ j → StoresAt d (u ++ b ∷ v) j
+stores_at Space b u v j h all = absurd h
+stores_at (Byte a) b u v j h all = absurd h
+stores_at Percent b u v j h all = absurd h
+stores_at (Conv c) b u v j h all = stores_shape c.shape c.slot h.0 b u v j h.1 h.2 all
+
+-- ---- the report
+
+-- what would be too long by the byte b of a text is refused there
+pub run_refused : (ds : List Directive) → AreProper ds → (m k : ℕ) (x u v : List ℕ) (b at : ℕ) (d : Directive) (t : Tally) → x ≡ u ++ b ∷ v → length u ≡ k → k < m
+    → slice_get ds at ≡ Some d → StoresByte d b → TellsWithin ds k x (out_of TooLong (at + 1) t) → RunRefused ds m x (out_of NoMemory (at + 1) t)
+run_refused ds proper m k x u v b at d t is all below place stores (inl w) =
+    let fits : used w.0 ≤ k = w.2 in
+    let full : run_of None ds 1 nothing_yet x ≡ report_of w.0 None = run_told ds proper x w.0 w.1 in
+    absurd (run_not_too_long ds 1 nothing_yet x (ap (λ (r : RunReport). r.status) (full ∙ sym w.3)))
+run_refused ds proper m k x u v b at d t is all below place stores (inr w) =
+    let before = w.0 in
+    let cut : IsCut ds x k before = w.1 in
+    let low : used before ≤ k = cut.low in
+    let same : at + 1 ≡ length before + 1 = ap (λ (r : RunReport). r.at) w.2 in
+    let here : at ≡ length before = omega (arith, same) in
+    let own : cut.cut.directive ≡ d =
+        some_is _ _ (sym (ran_at ds x 0 before cut.cut cut.rest cut.steps) ∙ ap (slice_get ds) (sym here) ∙ place) in
+    let front = drop_front (used before) u (b ∷ v) (omega (arith, low, all)) in
+    let rest : drop (used before) x ≡ drop (used before) u ++ b ∷ v = ap (drop (used before)) is ∙ front.0 in
+    let left = front.1 in
+    (k, below, (before, cut,
+      subst (λ (e : Directive). StoresAt e (drop (used before) x) (k - used before)) (sym own)
+      (subst (λ y. StoresAt d y (k - used before)) (sym rest) (stores_at d b (drop (used before) u) v (k - used before) stores (omega (arith, left, all, low)))),
+      ap (λ (r : RunReport). record r { status = NoMemory }) w.2))
+
+-- a scanner for which a storing was refused has that report, however the input goes on
+pub refused_gives : (ds : List Directive) (m : ℕ) (old new : Standing) (x piece z : List ℕ) (ending : Ending) → After ds m old x → old.ended ≡ None → Keeps new old
+    → RefusesIn new old piece → Gives ds m new ((x ++ piece) ++ z) ending
+refused_gives ds m old new x piece z ending h waits keeps w = record {
+  report = out_of NoMemory (r.at + 1) new.tally;
+  is = ap (λ o. report_by o new.tally new.met) r.ended ∙ ap (λ o. report_by (Some (record { status = NoMemory; at = r.at + 1 })) new.tally o) (keeps.met ∙ h.fed);
+  right = inr (subst (λ y. RunRefused ds m y (out_of NoMemory (r.at + 1) new.tally)) (sym (append_assoc x piece z))
+      (run_refused ds h.proper m new.tally.used (x ++ (piece ++ z)) (x ++ w.front) (w.rest ++ z) w.byte r.at r.directive new.tally whole all below place (cut.0) (subst (TellsWithin ds new.tally.used (x ++ (piece ++ z))) cut.1 told.2)));
+}
+  where
+    r : Refuses new old w.byte (piece ++ z)
+    r = w.refuses z
+
+    old_used : old.tally.used ≡ length x
+    old_used = subst (λ (o : Option Stop). IfNone o (old.tally.used ≡ length x)) waits h.all
+
+    all : length (x ++ w.front) ≡ new.tally.used
+    all = let a = old_used in let u = w.used in omega (arith, a, u, length-append x w.front)
+
+    below : new.tally.used < m
+    below = let b = r.below in let a = keeps.limit in let l = h.limit in omega (arith, a, b, l)
+
+    place : slice_get ds r.at ≡ Some r.directive
+    place = ap (λ l. slice_get l r.at) (sym (keeps.directives ∙ h.format)) ∙ r.under_way
+
+    whole : x ++ (piece ++ z) ≡ (x ++ w.front) ++ w.byte ∷ (w.rest ++ z)
+    whole = ap (λ p. x ++ (p ++ z)) w.whole ∙ ap (λ p. x ++ p) (append_assoc w.front (w.byte ∷ w.rest) z) ∙ sym (append_assoc x w.front (w.byte ∷ (w.rest ++ z)))
+
+    told : (report : RunReport) × Does old new.tally.used (piece ++ z) report × TellsWithin ds new.tally.used (x ++ (piece ++ z)) report
+    told = h.same new.tally.used (piece ++ z) (let u = w.used in omega (arith, u)) (let b = below in omega (arith, b))
+
+    cut : StoresByte r.directive w.byte × (told.0 ≡ out_of TooLong (r.at + 1) new.tally)
+    cut = r.cut told.0 told.1

@@ -1,0 +1,419 @@
+-- The slots of a format and those of a store.
+use Rattle.std.proofs.Common.{◌≡◌, ℕ, zero, suc, ◌+◌, ◌<◌, ◌≤◌, Bool, true, false, not, cond, ◌&&◌, ◌||◌, nat_eq, nat_le, List, [], ◌∷◌, ◌++◌, length, map, take, drop, Option, Some, None, is_some, refl, sym, ap, subst, ◌∙◌, arith, true≢false, unwrap_or, append-nil, append_assoc}
+use Rattle.std.specs.Prelude.{◌≢◌, slice_get, IfSome}
+use Rattle.std.specs.List.{AllByRecursion, list_all, list_any, find, sum_by, flat_map}
+use Rattle.std.specs.Option.{option_map}
+use Rattle.std.proofs.lemmas.Bool.{eqb-true, eqb-false, ne_eqb}
+use Rattle.std.proofs.lemmas.Bool.Decides.{nat_tests}
+use Rattle.std.proofs.lemmas.List.{map-append}
+use Rattle.std.proofs.lemmas.List.Sums.{sum_by-cons}
+use Rattle.sf_base.specs.Data.{Datum, Number, Bytes, Assigned, datum_at, datum_of, is_number}
+use Rattle.sf_base.specs.Kept.{assigned, Opened, text_of, text_in, texts_in, values_closed}
+use Rattle.sf_base.specs.declared.values.Kind.{Kind}
+use Rattle.sf_base.specs.declared.values.Value.{Value}
+use Rattle.sf_base.specs.declared.values.Value.TheVariants as value
+use Rattle.sf_format.specs.declared.directive.Conversion.{Conversion}
+use Rattle.sf_format.specs.declared.directive.Directive.{Directive}
+use Rattle.sf_format.specs.declared.directive.Directive.TheVariants.{Space, Byte, Percent, Conv}
+use Rattle.sf_format.specs.declared.directive.Shape.{Shape}
+use Rattle.sf_format.specs.declared.directive.Shape.TheVariants.{Int, Text, Set, Chars, Count}
+use Rattle.sf_format.specs.Proper.{AreDistinct, destination_of, destinations_of, slots_of}
+use Rattle.sf_format.specs.Widths.{add_widths, text_width, stored_width, width_sum}
+use Rattle.sf_item.specs.Scan.{most_bytes, IsOneLess}
+use Rattle.sf_item.specs.declared.item.ItemScan.{ItemScan}
+use Rattle.sf_item.specs.Taking.{left_of}
+use Rattle.sf_run.specs.declared.directive.Phase.{Phase}
+use Rattle.sf_run.specs.declared.directive.Phase.TheVariants as phase
+use Rattle.sf_run.specs.declared.scanner.Stop.{Stop}
+use Rattle.sf_run.specs.Holding.{are_placed, are_apart, first_slot, is_text, stored_widths, width_left, widths_from, still_stored, is_limited, left_before, LeftAfter}
+use Rattle.sf_run.specs.Places.{is_destination, places_left}
+use Rattle.sf_run.specs.Texts.{slot_of, slot_of_text, text_slot, opened_slot, slots_in}
+use Rattle.sf_run.specs.Phases.{slot_in}
+use Rattle.sf_run.proofs.Stages.{conv_is}
+use Rattle.sf_run.proofs.Moves.{drop_at}
+
+-- ---- the slots of a list of directives
+
+with_slot : Option ℕ → List ℕ → List ℕ
+with_slot None ns = ns
+with_slot (Some n) ns = n ∷ ns
+
+slots-cons : (d : Directive) (ds : List Directive) → slots_of (d ∷ ds) ≡ with_slot (slot_of d) (slots_of ds)
+unfolding with_slot
+slots-cons Space ds = refl
+slots-cons (Byte a) ds = refl
+slots-cons Percent ds = refl
+slots-cons (Conv c) ds = by_slot c.slot refl
+  where
+    by_slot : (slot : Option ℕ) → c.slot ≡ slot → slots_of (Conv c ∷ ds) ≡ with_slot slot (slots_of ds)
+    by_slot None e = rw e refl
+    by_slot (Some n) e = rw e refl
+
+with-append : (slot : Option ℕ) (ms ns : List ℕ) → with_slot slot (ms ++ ns) ≡ with_slot slot ms ++ ns
+unfolding with_slot
+with-append None ms ns = refl
+with-append (Some n) ms ns = refl
+
+slots_split : (ds : List Directive) (p : ℕ) → slots_of ds ≡ slots_of (take p ds) ++ slots_of (drop p ds)
+slots_split ds zero = refl
+slots_split [] (suc p) = refl
+slots_split (d ∷ ds) (suc p) =
+    slots-cons d ds ∙ ap (with_slot (slot_of d)) (slots_split ds p) ∙ with-append (slot_of d) (slots_of (take p ds)) (slots_of (drop p ds))
+    ∙ ap (λ l. l ++ slots_of (drop p ds)) (sym (slots-cons d (take p ds)))
+
+some_is : {A : Type 0} (a b : A) → Some a ≡ Some b → a ≡ b
+some_is a b e = cc
+
+slots_taken : (ds : List Directive) (p : ℕ) (d : Directive) → slice_get ds p ≡ Some d → slots_of (take (suc p) ds) ≡ slots_of (take p ds) ++ with_slot (slot_of d) []
+slots_taken [] p d at = cc
+slots_taken (x ∷ ds) zero d at = slots-cons x [] ∙ ap (λ (e : Directive). with_slot (slot_of e) []) (some_is x d at)
+slots_taken (x ∷ ds) (suc p) d at =
+    slots-cons x (take (suc p) ds) ∙ ap (with_slot (slot_of x)) (slots_taken ds p d at) ∙ with-append (slot_of x) (slots_of (take p ds)) (with_slot (slot_of d) [])
+    ∙ ap (λ l. l ++ with_slot (slot_of d) []) (sym (slots-cons x (take p ds)))
+
+one_more : (p : ℕ) → suc p ≡ p + 1
+one_more p = omega arith
+
+pub slots_none : (ds : List Directive) (p : ℕ) (d : Directive) (values : List Assigned) → slice_get ds p ≡ Some d → slot_of d ≡ None → slots_in values ≡ slots_of (take p ds)
+    → slots_in values ≡ slots_of (take (p + 1) ds)
+unfolding with_slot
+slots_none ds p d values at none is = is ∙ sym (append-nil _) ∙ ap (λ s. slots_of (take p ds) ++ with_slot s []) (sym none) ∙ sym (slots_taken ds p d at) ∙ ap (λ n. slots_of (take n ds)) (one_more p)
+
+pub slots_more : (ds : List Directive) (p : ℕ) (d : Directive) (values : List Assigned) (slot : ℕ) (v : Datum) → slice_get ds p ≡ Some d → slot_of d ≡ Some slot → slots_in values ≡ slots_of (take p ds)
+    → slots_in (values ++ assigned slot v ∷ []) ≡ slots_of (take (p + 1) ds)
+unfolding with_slot
+slots_more ds p d values slot v at own is =
+    map-append (λ (a : Assigned). a.slot) values (assigned slot v ∷ []) ∙ ap (λ l. l ++ slot ∷ []) is ∙ ap (λ s. slots_of (take p ds) ++ with_slot s []) (sym own) ∙ sym (slots_taken ds p d at) ∙ ap (λ n. slots_of (take n ds)) (one_more p)
+
+-- those of the directive at a place are between those before and after it
+slots_at : (ds : List Directive) (p : ℕ) (d : Directive) (slot : ℕ) → slice_get ds p ≡ Some d → slot_of d ≡ Some slot
+    → slots_of ds ≡ slots_of (take p ds) ++ slot ∷ slots_of (drop (p + 1) ds)
+unfolding with_slot
+slots_at ds p d slot at own =
+    slots_split ds p ∙ ap (λ rest. slots_of (take p ds) ++ slots_of rest) (drop_at ds p d at)
+    ∙ ap (λ l. slots_of (take p ds) ++ l) (slots-cons d (drop (p + 1) ds) ∙ ap (λ s. with_slot s (slots_of (drop (p + 1) ds))) own)
+
+-- ---- each slot is one of the store's
+
+right_of : (a b : Bool) → (a && b) ≡ true → b ≡ true
+right_of true b e = e
+right_of false b e = absurd (true≢false (sym e))
+
+left_of' : (a b : Bool) → (a && b) ≡ true → a ≡ true
+left_of' true b e = refl
+left_of' false b e = e
+
+among : (test : ℕ → Bool) (xs : List ℕ) (n : ℕ) (ys : List ℕ) → list_all test (xs ++ n ∷ ys) ≡ true → test n ≡ true
+among test [] n ys h = left_of' (test n) (list_all test ys) h
+among test (x ∷ xs) n ys h = among test xs n ys (right_of (test x) (list_all test (xs ++ n ∷ ys)) h)
+
+pub slot_placed : (slots : ℕ) (ds : List Directive) (p : ℕ) (d : Directive) (slot : ℕ) → are_placed slots ds ≡ true → slice_get ds p ≡ Some d → slot_of d ≡ Some slot
+    → (1 ≤ slot) × (slot ≤ slots)
+slot_placed slots ds p d slot placed at own =
+    let e : (nat_le 1 slot && nat_le slot slots) ≡ true = among (λ n. nat_le 1 n && nat_le n slots) (slots_of (take p ds)) slot (slots_of (drop (p + 1) ds))
+        (subst (λ l. list_all (λ n. nat_le 1 n && nat_le n slots) l ≡ true) (slots_at ds p d slot at own) placed) in
+    let low = left_of' (nat_le 1 slot) (nat_le slot slots) e in
+    let high = right_of (nat_le 1 slot) (nat_le slot slots) e in
+    (grind (arith, nat_tests), grind (arith, nat_tests))
+
+-- ---- the slot has no value yet
+
+not_true : (v : Bool) → not v ≡ true → v ≡ false
+not_true true e = absurd (true≢false (sym e))
+not_true false e = refl
+
+or_left : (a b : Bool) → (a || b) ≡ false → a ≡ false
+or_left true b e = absurd (true≢false e)
+or_left false b e = refl
+
+or_right : (a b : Bool) → (a || b) ≡ false → b ≡ false
+or_right true b e = absurd (true≢false e)
+or_right false b e = e
+
+or_both : (a b : Bool) → a ≡ false → b ≡ false → (a || b) ≡ false
+or_both true b e f = absurd (true≢false e)
+or_both false b e f = f
+
+not_any : (x : ℕ) (xs : List ℕ) (n : ℕ) (ys : List ℕ) → list_any (nat_eq x) (xs ++ n ∷ ys) ≡ false → nat_eq x n ≡ false
+not_any x [] n ys h = or_left (nat_eq x n) (list_any (nat_eq x) ys) h
+not_any x (y ∷ xs) n ys h = not_any x xs n ys (or_right (nat_eq x y) (list_any (nat_eq x) (xs ++ n ∷ ys)) h)
+
+apart_before : (xs : List ℕ) (n : ℕ) (ys : List ℕ) → are_apart (xs ++ n ∷ ys) ≡ true → list_any (nat_eq n) xs ≡ false
+apart_before [] n ys h = refl
+apart_before (x ∷ xs) n ys h =
+    let none : list_any (nat_eq x) (xs ++ n ∷ ys) ≡ false = not_true _ (left_of' (not (list_any (nat_eq x) (xs ++ n ∷ ys))) (are_apart (xs ++ n ∷ ys)) h) in
+    or_both (nat_eq n x) (list_any (nat_eq n) xs)
+    (ne_eqb n x (λ e. eqb-false x n (not_any x xs n ys none) (sym e)))
+    (apart_before xs n ys (right_of (not (list_any (nat_eq x) (xs ++ n ∷ ys))) (are_apart (xs ++ n ∷ ys)) h))
+
+no_datum : (slot : ℕ) (values : List Assigned) → list_any (nat_eq slot) (slots_in values) ≡ false → datum_at slot values ≡ None
+no_datum slot [] h = refl
+no_datum slot (a ∷ values) h =
+    by_case (nat_eq slot a.slot) (or_left (nat_eq slot a.slot) (list_any (nat_eq slot) (slots_in values)) h) (no_datum slot values (or_right (nat_eq slot a.slot) (list_any (nat_eq slot) (slots_in values)) h))
+  where
+    by_case : (v : Bool) → v ≡ false → datum_at slot values ≡ None → option_map (λ (a : Assigned). a.datum) (cond v (Some a) (find (λ (b : Assigned). nat_eq slot b.slot) values)) ≡ None
+    by_case true e rest = absurd (true≢false e)
+    by_case false e rest = rest
+
+pub slot_free : (ds : List Directive) (p : ℕ) (d : Directive) (slot : ℕ) (values : List Assigned) → are_apart (slots_of ds) ≡ true → slots_in values ≡ slots_of (take p ds)
+    → slice_get ds p ≡ Some d → slot_of d ≡ Some slot → datum_at slot values ≡ None
+slot_free ds p d slot values apart is at own =
+    no_datum slot values (ap (list_any (nat_eq slot)) is
+    ∙ apart_before (slots_of (take p ds)) slot (slots_of (drop (p + 1) ds)) (subst (λ l. are_apart l ≡ true) (slots_at ds p d slot at own) apart))
+
+-- ---- destinations
+
+pub is_destination_of : (d : Directive) (slot : ℕ) → slot_of d ≡ Some slot → is_destination d ≡ true
+is_destination_of Space slot e = cc
+is_destination_of (Byte a) slot e = cc
+is_destination_of Percent slot e = cc
+is_destination_of (Conv c) slot e = rw e refl
+
+pub slot_of_own : (d : Directive) (slot : ℕ) → text_slot d ≡ Some slot → slot_of d ≡ Some slot
+slot_of_own Space slot e = cc
+slot_of_own (Byte a) slot e = cc
+slot_of_own Percent slot e = cc
+slot_of_own (Conv c) slot e = by_shape c.shape e
+  where
+    by_shape : (shape : Shape) → slot_of_text shape c.slot ≡ Some slot → c.slot ≡ Some slot
+    by_shape (Int base) e = cc
+    by_shape Text e = e
+    by_shape (Set members) e = e
+    by_shape Chars e = e
+    by_shape Count e = cc
+
+-- ---- texts
+
+texts-push : (values : List Assigned) (a : Assigned) → texts_in (values ++ a ∷ []) ≡ texts_in values ++ text_in a.datum
+texts-push [] a = append-nil (text_in a.datum)
+texts-push (x ∷ values) a = ap (λ l. text_in x.datum ++ l) (texts-push values a) ∙ sym (append_assoc (text_in x.datum) (texts_in values) (text_in a.datum))
+
+number_text : (v : Value) → is_number v ≡ true → text_in (datum_of v) ≡ []
+number_text (value.I8 n) e = refl
+number_text (value.I16 n) e = refl
+number_text (value.I32 n) e = refl
+number_text (value.I64 n) e = refl
+number_text (value.U8 n) e = refl
+number_text (value.U16 n) e = refl
+number_text (value.U32 n) e = refl
+number_text (value.U64 n) e = refl
+number_text (value.Text t) e = absurd (true≢false (sym e))
+
+pub joined_number : (closed : List ℕ) (values : List Assigned) (slot : ℕ) (v : Value) → is_number v ≡ true → closed ≡ texts_in values
+    → closed ≡ texts_in (values ++ assigned slot (datum_of v) ∷ [])
+joined_number closed values slot v number is =
+    is ∙ sym (append-nil (texts_in values)) ∙ ap (λ l. texts_in values ++ l) (sym (number_text v number)) ∙ sym (texts-push values (assigned slot (datum_of v)))
+
+pub joined_text : (closed : List ℕ) (values : List Assigned) (slot : ℕ) (text : List ℕ) → closed ≡ texts_in values
+    → closed ++ text ≡ texts_in (values ++ assigned slot (Bytes text) ∷ [])
+joined_text closed values slot text is = ap (λ l. l ++ text) is ∙ sym (texts-push values (assigned slot (Bytes text)))
+
+pub closed_values : (values : List Assigned) (opened : Option Opened) (slot : ℕ) → opened_slot opened ≡ Some slot → values_closed values opened ≡ values ++ assigned slot (Bytes (text_of opened)) ∷ []
+closed_values values None slot e = cc
+closed_values values (Some o) slot e = ap (λ n. values ++ assigned n (Bytes o.text) ∷ []) (some_is o.slot slot e)
+
+pub opened_is : (opened : Option Opened) (slot : ℕ) → opened_slot opened ≡ Some slot → is_some opened ≡ true
+opened_is None slot e = cc
+opened_is (Some o) slot e = refl
+
+pub opened_none : (opened : Option Opened) → opened_slot opened ≡ None → opened ≡ None
+opened_none None e = refl
+opened_none (Some o) e = cc
+
+-- ---- room
+
+plain_widths : (ds : List Directive) → widths_from ds phase.Skipping ≡ stored_widths ds
+plain_widths [] = refl
+plain_widths (d ∷ ds) = sym (sum_by-cons (λ (e : Directive). unwrap_or (stored_width e) 0) d ds)
+
+widths_at : (ds : List Directive) (p : ℕ) (d : Directive) (current : Phase) → slice_get ds p ≡ Some d → widths_from (drop p ds) current ≡ width_left d current + stored_widths (drop (p + 1) ds)
+widths_at ds p d current at = ap (λ rest. widths_from rest current) (drop_at ds p d at)
+
+pub room_passed : (ended : Option Stop) (ds : List Directive) (p : ℕ) (d : Directive) (current : Phase) (room : ℕ) → slice_get ds p ≡ Some d → still_stored ended ds p current ≤ room
+    → still_stored ended ds (p + 1) phase.Skipping ≤ room
+room_passed None ds p d current room at fits = let a = plain_widths (drop (p + 1) ds) in let b = widths_at ds p d current at in omega (arith, a, b, fits)
+room_passed (Some stop) ds p d current room at fits = omega arith
+
+-- a directive of a format with a width sum has a width
+sum_some : (a b : Option ℕ) → is_some (add_widths a b) ≡ true → (is_some a ≡ true) × (is_some b ≡ true)
+sum_some None None e = absurd (true≢false (sym e))
+sum_some None (Some n) e = absurd (true≢false (sym e))
+sum_some (Some m) None e = absurd (true≢false (sym e))
+sum_some (Some m) (Some n) e = (refl, refl)
+
+width_at : (ds : List Directive) (p : ℕ) (d : Directive) → is_some (width_sum ds) ≡ true → slice_get ds p ≡ Some d → is_some (stored_width d) ≡ true
+width_at [] p d h at = cc
+width_at (x ∷ ds) zero d h at = ap (λ (e : Directive). is_some (stored_width e)) (sym (some_is x d at)) ∙ (sum_some (stored_width x) (width_sum ds) h).0
+width_at (x ∷ ds) (suc p) d h at = width_at ds p d (sum_some (stored_width x) (width_sum ds) h).1 at
+
+-- the bytes of a text that begins
+first_left : (shape : Shape) (width slot : Option ℕ) (n : ℕ) → slot_of_text shape slot ≡ Some n → is_some (text_width shape width) ≡ true → most_bytes shape width ≡ text_width shape width
+first_left (Int base) width slot n e h = cc
+first_left Text width slot n e h = refl
+first_left (Set members) width slot n e h = refl
+first_left Chars None slot n e h = absurd (true≢false (sym h))
+first_left Chars (Some w) slot n e h = refl
+first_left Count width slot n e h = cc
+
+start_left : (c : Conversion) (slot : ℕ) → text_slot (Conv c) ≡ Some slot → is_some (stored_width (Conv c)) ≡ true → most_bytes c.shape c.width ≡ stored_width (Conv c)
+start_left c slot e h =
+    let own : stored_width (Conv c) ≡ text_width c.shape c.width = rw (slot_of_own (Conv c) slot e) refl in
+    first_left c.shape c.width c.slot slot e (ap is_some (sym own) ∙ h) ∙ sym own
+
+pub begins_with : (d : Directive) (current : Phase) (slot : ℕ) → slot_in current ≡ None → text_slot d ≡ Some slot → is_some (stored_width d) ≡ true → left_before d current ≡ stored_width d
+begins_with Space current slot none e h = cc
+begins_with (Byte a) current slot none e h = cc
+begins_with Percent current slot none e h = cc
+begins_with (Conv c) (phase.Text s scan) slot none e h = cc
+begins_with (Conv c) phase.Skipping slot none e h = start_left c slot e h
+begins_with (Conv c) phase.Taken slot none e h = start_left c slot e h
+begins_with (Conv c) (phase.Item scan) slot none e h = start_left c slot e h
+
+width_before : (d : Directive) (current : Phase) → slot_in current ≡ None → width_left d current ≡ unwrap_or (stored_width d) 0
+width_before d phase.Skipping none = refl
+width_before d phase.Taken none = refl
+width_before d (phase.Item scan) none = refl
+width_before d (phase.Text slot scan) none = cc
+
+module _ (ds : List Directive) (p : ℕ) (d : Directive) (current : Phase) (slot : ℕ) (scan : ItemScan) (at : slice_get ds p ≡ Some d) (none : slot_in current ≡ None)
+    (text : text_slot d ≡ Some slot) (left : left_of scan ≡ left_before d current) (bounded : is_some (width_sum ds) ≡ true) where
+  width : left_of scan ≡ stored_width d
+  width = left ∙ begins_with d current slot none text (width_at ds p d bounded at)
+
+  pub open_limited : is_some (left_of scan) ≡ true
+  open_limited = ap is_some width ∙ width_at ds p d bounded at
+
+  pub room_opened : (ended : Option Stop) (room : ℕ) → still_stored ended ds p current ≤ room → still_stored ended ds p (phase.Text slot scan) ≤ room
+  room_opened None room fits =
+      let a = widths_at ds p d current at in
+      let b = widths_at ds p d (phase.Text slot scan) at in
+      let e : unwrap_or (left_of scan) 0 ≡ width_left d current = ap (λ w. unwrap_or w 0) width ∙ sym (width_before d current none) in
+      omega (arith, a, b, e, fits)
+  room_opened (Some stop) room fits = omega arith
+
+one_less : (a b : Option ℕ) → is_some a ≡ true → IsOneLess a b → (is_some b ≡ true) × (unwrap_or b 0 + 1 ≡ unwrap_or a 0)
+one_less None b h e = absurd (true≢false (sym h))
+one_less (Some n) None h e = absurd e
+one_less (Some n) (Some k) h e = (refl, e)
+
+-- a byte of a text
+byte_left : (d : Directive) (before after : Phase) (slot : ℕ) → slot_in before ≡ Some slot → slot_in after ≡ slot_in before → LeftAfter d before after → is_limited before ≡ true
+    → (is_limited after ≡ true) × (width_left d after + 1 ≡ width_left d before)
+byte_left d phase.Skipping after slot text same left limited = cc
+byte_left d phase.Taken after slot text same left limited = cc
+byte_left d (phase.Item scan) after slot text same left limited = cc
+byte_left d (phase.Text s scan) phase.Skipping slot text same left limited = cc
+byte_left d (phase.Text s scan) phase.Taken slot text same left limited = cc
+byte_left d (phase.Text s scan) (phase.Item next) slot text same left limited = cc
+byte_left d (phase.Text s scan) (phase.Text n next) slot text same left limited = by_directive d left
+  where
+    by_directive : (d : Directive) → LeftAfter d (phase.Text s scan) (phase.Text n next) → (is_limited (phase.Text n next) ≡ true) × (width_left d (phase.Text n next) + 1 ≡ width_left d (phase.Text s scan))
+    by_directive d left = one_less (left_of scan) (left_of next) limited left
+
+some_slot : (o : Option ℕ) → is_some o ≡ true → (n : ℕ) × (o ≡ Some n)
+some_slot None e = absurd (true≢false (sym e))
+some_slot (Some n) e = (n, refl)
+
+module _ (ds : List Directive) (p : ℕ) (d : Directive) (before after : Phase) (at : slice_get ds p ≡ Some d) (text : is_some (slot_in before) ≡ true) (same : slot_in after ≡ slot_in before)
+    (left : LeftAfter d before after) (limited : is_limited before ≡ true) where
+  byte : (is_limited after ≡ true) × (width_left d after + 1 ≡ width_left d before)
+  byte = let w = some_slot (slot_in before) text in byte_left d before after w.0 w.1 same left limited
+
+  pub byte_limited : is_limited after ≡ true
+  byte_limited = byte.0
+
+  pub room_taken : (ended : Option Stop) (old new : ℕ) → still_stored ended ds p before ≤ old → old ≤ new + 1 → still_stored ended ds p after ≤ new
+  room_taken None old new fits falls =
+      let a = widths_at ds p d before at in
+      let b = widths_at ds p d after at in
+      let e = byte.1 in
+      omega (arith, a, b, e, fits, falls)
+  room_taken (Some stop) old new fits falls = omega arith
+
+  -- there is room for the byte
+  pub room_left : (room : ℕ) → still_stored None ds p before ≤ room → 1 ≤ room
+  room_left room fits =
+      let a = widths_at ds p d before at in
+      let e = byte.1 in
+      omega (arith, a, e, fits)
+
+-- ---- the text under way is that of the directive
+
+pub own_text : (ds : List Directive) (p : ℕ) (d : Directive) (current : Phase) → slice_get ds p ≡ Some d → (is_text current ≡ true → first_slot (drop p ds) ≡ slot_in current)
+    → (slot : ℕ) → slot_in current ≡ Some slot → text_slot d ≡ Some slot
+own_text ds p d phase.Skipping at own slot e = cc
+own_text ds p d phase.Taken at own slot e = cc
+own_text ds p d (phase.Item scan) at own slot e = cc
+own_text ds p d (phase.Text s scan) at own slot e = ap first_slot (sym (drop_at ds p d at)) ∙ own refl ∙ e
+
+pub text_own : (ds : List Directive) (p : ℕ) (d : Directive) (slot : ℕ) → slice_get ds p ≡ Some d → text_slot d ≡ Some slot → first_slot (drop p ds) ≡ Some slot
+text_own ds p d slot at e = ap first_slot (drop_at ds p d at) ∙ e
+
+pub if_some : {A : Type 0} (o : Option A) (P : A → Type 0) → ((a : A) → o ≡ Some a → P a) → IfSome o P
+if_some None P f = tt
+if_some (Some a) P f = f a refl
+
+-- nothing of the item was taken yet
+pub left_first : (d : Directive) (c : Conversion) (current : Phase) → d ≡ Conv c → slot_in current ≡ None → most_bytes c.shape c.width ≡ left_before d current
+left_first Space c current e none = cc
+left_first (Byte a) c current e none = cc
+left_first Percent c current e none = cc
+left_first (Conv k) c phase.Skipping e none = ap (λ (x : Conversion). most_bytes x.shape x.width) (sym (conv_is k c e))
+left_first (Conv k) c phase.Taken e none = ap (λ (x : Conversion). most_bytes x.shape x.width) (sym (conv_is k c e))
+left_first (Conv k) c (phase.Item scan) e none = ap (λ (x : Conversion). most_bytes x.shape x.width) (sym (conv_is k c e))
+left_first (Conv k) c (phase.Text slot scan) e none = cc
+
+-- ---- what a format says of its slots
+
+both : (a b : Bool) → a ≡ true → b ≡ true → (a && b) ≡ true
+both true b e f = f
+both false b e f = absurd (true≢false (sym e))
+
+pub placed_from : (count slots : ℕ) (ns : List ℕ) → count ≤ slots → AllByRecursion (λ n. (1 ≤ n) × (n ≤ count)) ns → list_all (λ n. nat_le 1 n && nat_le n slots) ns ≡ true
+placed_from count slots [] fits h = refl
+placed_from count slots (n ∷ ns) fits h =
+    let low = h.0.0 in
+    let high = h.0.1 in
+    both (nat_le 1 n && nat_le n slots) _ (both (nat_le 1 n) (nat_le n slots) (grind (arith, nat_tests)) (grind (arith, nat_tests))) (placed_from count slots ns fits h.1)
+
+none_of_them : (n : ℕ) (ns : List ℕ) → AllByRecursion (λ m. m ≢ n) ns → list_any (nat_eq n) ns ≡ false
+none_of_them n [] h = refl
+none_of_them n (m ∷ ns) h = or_both (nat_eq n m) (list_any (nat_eq n) ns) (ne_eqb n m (λ e. h.0 (sym e))) (none_of_them n ns h.1)
+
+pub apart_from : (ns : List ℕ) → AreDistinct ns → are_apart ns ≡ true
+apart_from [] h = refl
+apart_from (n ∷ ns) h = both (not (list_any (nat_eq n) ns)) (are_apart ns) (ap not (none_of_them n ns h.0)) (apart_from ns h.1)
+
+-- ---- before the first byte
+
+some_back : (o : Option ℕ) → is_some o ≡ true → o ≡ Some (unwrap_or o 0)
+some_back None h = absurd (true≢false (sym h))
+some_back (Some n) h = refl
+
+added : (a b : Option ℕ) (n : ℕ) → add_widths a b ≡ Some n → unwrap_or a 0 + unwrap_or b 0 ≡ n
+added None None n e = cc
+added None (Some j) n e = cc
+added (Some i) None n e = cc
+added (Some i) (Some j) n e = some_is (i + j) n e
+
+unwrapped : (ds : List Directive) → is_some (width_sum ds) ≡ true → stored_widths ds ≡ unwrap_or (width_sum ds) 0
+unwrapped [] h = refl
+unwrapped (d ∷ ds) h =
+    let w = sum_some (stored_width d) (width_sum ds) h in
+    let rest = unwrapped ds w.1 in
+    let all = sum_by-cons (λ (x : Directive). unwrap_or (stored_width x) 0) d ds in
+    let e = added (stored_width d) (width_sum ds) (unwrap_or (width_sum (d ∷ ds)) 0) (some_back (width_sum (d ∷ ds)) h) in
+    omega (arith, rest, all, e)
+
+pub widths_are : (ds : List Directive) (n : ℕ) → width_sum ds ≡ Some n → widths_from ds phase.Skipping ≡ n
+widths_are ds n e = plain_widths ds ∙ unwrapped ds (ap is_some e) ∙ ap (λ o. unwrap_or o 0) e
+
+pub room_first : (ds : List Directive) (room : ℕ) → IfSome (width_sum ds) (λ n. n ≤ room) → is_some (width_sum ds) ≡ true → widths_from ds phase.Skipping ≤ room
+room_first ds room fits bounded =
+    let e = widths_are ds (unwrap_or (width_sum ds) 0) (some_back (width_sum ds) bounded) in
+    let f = fits_by (width_sum ds) bounded fits in
+    omega (arith, e, f)
+  where
+    fits_by : (o : Option ℕ) → is_some o ≡ true → IfSome o (λ n. n ≤ room) → unwrap_or o 0 ≤ room
+    fits_by None h f = absurd (true≢false (sym h))
+    fits_by (Some n) h f = f

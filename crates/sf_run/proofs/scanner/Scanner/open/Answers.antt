@@ -1,0 +1,55 @@
+use Rattle.std.proofs.Common.{◌≡◌, ◌+◌, ◌<◌, ◌≤◌, ℕ, Some, None, length, arith, true, false, refl, sym, ap, ◌∙◌, subst, rules}
+use Rattle.std.specs.Prelude.{is_some, slice_get}
+use Rattle.std.proofs.lemmas.Option.{slice_get_within}
+use Rattle.sf_format.specs.declared.directive.Directive.{Directive}
+use Rattle.sf_format.specs.declared.directive.Directive.TheVariants.{Conv}
+use Rattle.sf_run.specs.Texts.{text_slot}
+use Rattle.sf_item.specs.Taking.{left_of}
+use Rattle.sf_run.specs.Holding.{left_before}
+use Rattle.sf_run.specs.Scanner.{kept_by, standing}
+use Rattle.sf_run.proofs.Slots.{slot_of_own, slot_placed, slot_free, opened_none, left_first, open_limited, room_opened, text_own}
+use Rattle.sf_run.proofs.scanner.Scanner.open.Goals as goal
+
+pub open_text-requires-clause-at_least_one : goal.open_text-requires-clause-at_least_one
+open_text-requires-clause-at_least_one g c =
+    let s = c.args.self.now in
+    let d = c.args.directive.now in
+    let h = slot_placed g.S.Store.slots s.directives.now s.passed d c.args.slot s.placed c.requires.current (slot_of_own d c.args.slot c.requires.own) in h.0
+
+pub open_text-requires-clause-in_range : goal.open_text-requires-clause-in_range
+open_text-requires-clause-in_range g c =
+    let s = c.args.self.now in
+    let d = c.args.directive.now in
+    let h = slot_placed g.S.Store.slots s.directives.now s.passed d c.args.slot s.placed c.requires.current (slot_of_own d c.args.slot c.requires.own) in h.1
+
+pub open_text-requires-clause-absent : goal.open_text-requires-clause-absent
+open_text-requires-clause-absent g c =
+    let s = c.args.self.now in
+    let d = c.args.directive.now in
+    slot_free s.directives.now s.passed d c.args.slot (kept_by s).values s.apart s.given c.requires.current (slot_of_own d c.args.slot c.requires.own)
+
+-- the bytes left as the text begins
+left : (g : _) (c : goal.After-start g) → left_of c.start.result ≡ left_before c.args.directive.now c.args.self.now.phase
+left g c = c.start.ensures.left ∙ left_first c.args.directive.now c.in-Conv.conversion c.args.self.now.phase c.in-Conv.is c.requires.no_text
+
+pub invariant_of-self-clause-given : goal.invariant_of-self-clause-given
+invariant_of-self-clause-given g c = rw c.open_text.ensures c.args.self.now.given
+
+pub invariant_of-self-clause-joined : goal.invariant_of-self-clause-joined
+invariant_of-self-clause-joined g c = rw c.open_text.ensures c.args.self.now.joined
+
+pub invariant_of-self-clause-own_slot : goal.invariant_of-self-clause-own_slot
+invariant_of-self-clause-own_slot g c e =
+    let s = c.args.self.now in text_own s.directives.now s.passed c.args.directive.now c.args.slot c.requires.current c.requires.own
+
+pub invariant_of-self-clause-limited : goal.invariant_of-self-clause-limited
+invariant_of-self-clause-limited g c bounded =
+    let s = c.args.self.now in
+    let d = c.args.directive.now in
+    open_limited s.directives.now s.passed d s.phase c.args.slot c.start.result c.requires.current c.requires.no_text c.requires.own (left g c) bounded
+
+pub invariant_of-self-clause-roomy : goal.invariant_of-self-clause-roomy
+invariant_of-self-clause-roomy g c bounded =
+    let s = c.args.self.now in
+    let d = c.args.directive.now in
+    rw c.open_text.ensures (room_opened s.directives.now s.passed d s.phase c.args.slot c.start.result c.requires.current c.requires.no_text c.requires.own (left g c) bounded s.ended (kept_by s).room (s.roomy bounded))

@@ -1,0 +1,76 @@
+use Rattle.sf_base.specs.Data.{Bytes, datum_of}
+use Rattle.sf_base.specs.Kept.{text_of}
+use Rattle.sf_run.specs.Steps.{Passes, Stores}
+use Rattle.std.proofs.Common.{◌≡◌, ◌+◌, ◌<◌, ◌≤◌, length, arith, true, false, refl, sym, ap, ◌∙◌, subst, rules}
+use Rattle.std.proofs.lemmas.Option.{slice_get_within}
+use Rattle.sf_run.specs.Scanner.{kept_by}
+use Rattle.sf_run.proofs.Moves.{place_taken, has_place}
+use Rattle.sf_run.proofs.Slots.{opened_none, is_destination_of, slots_more, slot_placed, slot_free, joined_number, room_passed}
+use Rattle.sf_run.proofs.scanner.Scanner.set.Goals as goal
+
+pub counted-tally-requires : goal.counted-tally-requires
+counted-tally-requires g c =
+    let s = c.args.self.now in
+    let inside : s.passed < length s.directives.now = slice_get_within _ _ _ c.requires.current in
+    let place = has_place s.directives.now s.passed c.args.directive.now true c.requires.current (λ e. is_destination_of c.args.directive.now c.args.slot c.requires.own) refl in
+    record {
+      assigned = λ e. omega (arith, place, s.assigned);
+      converted = omega (arith, s.few, s.converted, inside);
+    }
+
+pub set-requires-clause-at_least_one : goal.set-requires-clause-at_least_one
+set-requires-clause-at_least_one g c =
+    let s = c.args.self.now in let h = slot_placed g.S.Store.slots s.directives.now s.passed c.args.directive.now c.args.slot s.placed c.requires.current c.requires.own in h.0
+
+pub set-requires-clause-in_range : goal.set-requires-clause-in_range
+set-requires-clause-in_range g c =
+    let s = c.args.self.now in let h = slot_placed g.S.Store.slots s.directives.now s.passed c.args.directive.now c.args.slot s.placed c.requires.current c.requires.own in h.1
+
+pub set-requires-clause-absent : goal.set-requires-clause-absent
+set-requires-clause-absent g c =
+    let s = c.args.self.now in slot_free s.directives.now s.passed c.args.directive.now c.args.slot (kept_by s).values s.apart s.given c.requires.current c.requires.own
+
+pub invariant_of-self-clause-in_list : goal.invariant_of-self-clause-in_list
+invariant_of-self-clause-in_list g c =
+    let s = c.args.self.now in
+    let inside : s.passed < length s.directives.now = slice_get_within _ _ _ c.requires.current in
+    omega (arith, inside)
+
+pub invariant_of-self-clause-assigned : goal.invariant_of-self-clause-assigned
+invariant_of-self-clause-assigned g c =
+    let s = c.args.self.now in
+    let place = place_taken s.directives.now s.passed c.args.directive.now true c.requires.current (λ e. is_destination_of c.args.directive.now c.args.slot c.requires.own) in
+    omega (arith, s.assigned, place, c.counted-tally.ensures.assigned)
+
+pub invariant_of-self-clause-converted : goal.invariant_of-self-clause-converted
+invariant_of-self-clause-converted g c = let s = c.args.self.now in omega (arith, s.converted, c.counted-tally.ensures.converted)
+
+pub invariant_of-self-clause-bounded : goal.invariant_of-self-clause-bounded
+invariant_of-self-clause-bounded g c = let s = c.args.self.now in let e = c.counted-tally.ensures.used in omega (arith, s.bounded, e)
+
+pub invariant_of-self-clause-given : goal.invariant_of-self-clause-given
+invariant_of-self-clause-given g c =
+    let s = c.args.self.now in
+    rw c.set.ensures (slots_more s.directives.now s.passed c.args.directive.now (kept_by s).values c.args.slot _ c.requires.current c.requires.own s.given)
+
+pub invariant_of-self-clause-joined : goal.invariant_of-self-clause-joined
+invariant_of-self-clause-joined g c =
+    let s = c.args.self.now in
+    rw c.set.ensures (joined_number (kept_by s).closed (kept_by s).values c.args.slot c.args.value c.requires.number s.joined)
+
+pub invariant_of-self-clause-roomy : goal.invariant_of-self-clause-roomy
+invariant_of-self-clause-roomy g c bounded =
+    let s = c.args.self.now in
+    rw c.set.ensures (room_passed s.ended s.directives.now s.passed c.args.directive.now s.phase (kept_by s).room c.requires.current (s.roomy bounded))
+
+pub returns : goal.returns
+returns g c =
+    let s = c.args.self.now in
+    rw c.set.ensures (record {
+      keeps = record { directives = refl; limit = refl; met = refl };
+      ended = refl;
+      passed = refl;
+      phase = refl;
+      opened = opened_none (kept_by s).opened (s.under_way ∙ c.requires.no_text);
+      tally = c.counted-tally.ensures.tally (Stores c.args.slot (datum_of c.args.value)) (kept_by s).values (record { passes = refl; stored = refl });
+    })

@@ -1,0 +1,42 @@
+use Rattle.std.proofs.Common.{◌≡◌, ◌∙◌, ℕ, List, [], Some, None, refl, ap, subst, arith}
+use Rattle.sf_base.specs.Kept.{Kept}
+use Rattle.sf_run.specs.Residual.{Tally, nothing_yet, run_of}
+use Rattle.sf_run.specs.Texts.{slots_in, opened_slot}
+use Rattle.sf_run.specs.Tallies.{tally_of}
+use Rattle.sf_run.specs.Scanner.{standing}
+use Rattle.sf_run.proofs.Slots.{room_first}
+use Rattle.sf_run.proofs.Waits.{after_nothing, start_does, tally_nothing}
+use Rattle.sf_run.proofs.scanner.Scanner.start.Goals as goal
+
+pub invariant_of-scanner-clause-assigned : goal.invariant_of-scanner-clause-assigned
+invariant_of-scanner-clause-assigned g c = let e = c.new.ensures.assigned in let p = c.requires.places in omega (arith, e, p)
+
+pub invariant_of-scanner-clause-converted : goal.invariant_of-scanner-clause-converted
+invariant_of-scanner-clause-converted g c = let e = c.new.ensures.converted in omega (arith, e)
+
+pub invariant_of-scanner-clause-bounded : goal.invariant_of-scanner-clause-bounded
+invariant_of-scanner-clause-bounded g c = let e = c.new.ensures.used in omega (arith, e)
+
+pub invariant_of-scanner-clause-given : goal.invariant_of-scanner-clause-given
+invariant_of-scanner-clause-given g c = ap (λ (k : Kept). slots_in k.values) c.requires.empty
+
+pub invariant_of-scanner-clause-under_way : goal.invariant_of-scanner-clause-under_way
+invariant_of-scanner-clause-under_way g c = ap (λ (k : Kept). opened_slot k.opened) c.requires.empty
+
+pub invariant_of-scanner-clause-joined : goal.invariant_of-scanner-clause-joined
+invariant_of-scanner-clause-joined g c = rw c.requires.empty refl
+
+pub invariant_of-scanner-clause-roomy : goal.invariant_of-scanner-clause-roomy
+invariant_of-scanner-clause-roomy g c bounded = room_first c.args.directives.now _ c.requires.roomy bounded
+
+pub returns-clause-after : goal.returns-clause-after
+returns-clause-after g c =
+    let ds = c.args.directives.now in
+    let kept : Kept = g.S.Store.kept c.args.store in
+    let nothing : tally_of c.new.result kept.values ≡ nothing_yet =
+    tally_nothing c.new.result kept.values c.new.ensures.used c.new.ensures.assigned c.new.ensures.converted (ap (λ (k : Kept). k.values) c.requires.empty) in
+    let used : c.settle.new.self.tally.used ≡ 0 = c.settle.ensures.used ∙ c.new.ensures.used in
+    after_nothing ds c.args.limit (standing c.settle.new.self) c.settle.ensures.keeps.directives c.settle.ensures.keeps.limit c.requires.proper
+    (λ k z within. c.settle.ensures.same c.requires.proper z k (run_of (Some k) ds 1 nothing_yet z) (omega (arith, used)) within
+      (start_does ds ds kept.opened (tally_of c.new.result kept.values) k z refl (ap (λ (k : Kept). k.opened) c.requires.empty) nothing))
+    c.settle.ensures.settled used c.settle.ensures.keeps.met

@@ -1,0 +1,71 @@
+-- How a run and its store go together.
+use Rattle.std.specs.Prelude.{ℕ, ◌+◌, Bool, true, false, ◌&&◌, not, nat_eq, nat_le, is_some, unwrap_or, List, [], ◌∷◌, drop, Option, Some, None}
+use Rattle.std.specs.List.{list_all, list_any, sum_by}
+use Rattle.sf_base.specs.Kept.{Opened}
+use Rattle.sf_format.specs.declared.directive.Directive.{Directive}
+use Rattle.sf_format.specs.Proper.{slots_of}
+use Rattle.sf_format.specs.Widths.{stored_width}
+use Rattle.sf_format.specs.declared.directive.Directive.TheVariants.{Conv}
+use Rattle.sf_item.specs.Scan.{most_bytes, IsOneLess}
+use Rattle.sf_item.specs.Taking.{left_of}
+use Rattle.sf_run.specs.declared.directive.Phase.{Phase}
+use Rattle.sf_run.specs.declared.directive.Phase.TheVariants.{Skipping, Taken, Item, Text}
+use Rattle.sf_run.specs.declared.scanner.Stop.{Stop}
+use Rattle.sf_run.specs.Residual.{choose}
+use Rattle.sf_run.specs.Texts.{text_slot}
+
+-- each slot of the directives is one of the store's
+abbrev pub are_placed : ℕ → List Directive → Bool
+are_placed slots ds = list_all (λ n. nat_le 1 n && nat_le n slots) (slots_of ds)
+
+-- no two of the numbers are the same
+abbrev pub are_apart : List ℕ → Bool
+are_apart [] = true
+are_apart (n ∷ ns) = not (list_any (nat_eq n) ns) && are_apart ns
+
+-- the slot that is given the text of the directive at this place
+abbrev pub first_slot : List Directive → Option ℕ
+first_slot [] = None
+first_slot (d ∷ ds) = text_slot d
+
+abbrev pub is_text : Phase → Bool
+is_text (Text slot scan) = true
+is_text _ = false
+
+-- the bytes that the directives store at most
+abbrev pub stored_widths : List Directive → ℕ
+stored_widths ds = sum_by (λ d. unwrap_or (stored_width d) 0) ds
+
+-- the bytes that a directive that has come so far still stores at most
+abbrev pub width_left : Directive → Phase → ℕ
+width_left d (Text slot scan) = unwrap_or (left_of scan) 0
+width_left d _ = unwrap_or (stored_width d) 0
+
+abbrev pub widths_from : List Directive → Phase → ℕ
+widths_from [] phase = 0
+widths_from (d ∷ ds) phase = width_left d phase + stored_widths ds
+
+-- the bytes that a run still stores at most
+abbrev pub still_stored : Option Stop → List Directive → ℕ → Phase → ℕ
+still_stored ended ds passed phase = choose ended (widths_from (drop passed ds) phase) (λ stop. 0)
+
+-- the text under way has a bounded width
+abbrev pub is_limited : Phase → Bool
+is_limited (Text slot scan) = is_some (left_of scan)
+is_limited _ = true
+
+-- how many more bytes the item of a directive that has come so far may have
+abbrev pub left_before : Directive → Phase → Option ℕ
+left_before d (Text slot scan) = left_of scan
+left_before (Conv c) _ = most_bytes c.shape c.width
+left_before _ _ = None
+
+-- where a byte of a text was taken, one less is left
+abbrev pub LeftAfter : Directive → Phase → Phase → Type 0
+LeftAfter d before (Text slot scan) = IsOneLess (left_before d before) (left_of scan)
+LeftAfter d before _ = Unit {0}
+
+-- from so many bytes that are left
+abbrev pub FallsTo : Option ℕ → Phase → Type 0
+FallsTo left (Text slot scan) = IsOneLess left (left_of scan)
+FallsTo left _ = Unit {0}

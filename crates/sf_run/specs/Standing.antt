@@ -1,0 +1,179 @@
+-- Where a run stands, and of what input.
+use Rattle.std.specs.Prelude.{ℕ, suc, ◌+◌, ◌-◌, ◌≡◌, ◌<◌, ◌≤◌, ◌⊎◌, Bool, true, false, List, [], ◌∷◌, ◌++◌, length, drop, slice_get, Option, Some, None, IfNone, is_some}
+use Rattle.sf_base.specs.Bytes.{is_white}
+use Rattle.sf_base.specs.Kept.{Opened}
+use Rattle.sf_format.specs.declared.directive.Shape.{Shape}
+use Rattle.sf_format.specs.declared.directive.Shape.TheVariants.{Text}
+use Rattle.sf_format.specs.declared.directive.Directive.{Directive}
+use Rattle.sf_format.specs.declared.directive.Directive.TheVariants.{Conv}
+use Rattle.sf_format.specs.Proper.{IsProper, AreProper}
+use Rattle.sf_run.specs.declared.directive.Phase.{Phase}
+use Rattle.sf_run.specs.declared.directive.Phase.TheVariants.{Skipping}
+use Rattle.sf_run.specs.declared.outcome.Ending.{Ending}
+use Rattle.sf_run.specs.declared.outcome.Status.TheVariants.{TooLong, NoMemory}
+use Rattle.sf_run.specs.declared.scanner.Stop.{Stop}
+use Rattle.sf_run.specs.Steps.{StepEnd}
+use Rattle.sf_run.specs.Runs.{RunReport}
+use Rattle.sf_run.specs.Limits.{RunTold, TellsWithin}
+use Rattle.sf_run.specs.Machine.{Stage, is_full, finished}
+use Rattle.sf_run.specs.Phases.{Shows, slot_in}
+use Rattle.sf_run.specs.Stopping.{is_no_memory}
+use Rattle.sf_run.specs.Texts.{text_slot, opened_for}
+use Rattle.sf_run.specs.Residual.{Tally, with_used, counted, out_of, one_from, run_from, choose}
+
+-- the fields of a scanner, with what its store has been given
+pub record Standing : Type 0 where
+  pub directives : List Directive
+  pub limit : ℕ
+  pub passed : ℕ
+  pub phase : Phase
+  pub tally : Tally
+  pub opened : Option Opened
+  pub ended : Option Stop
+  pub met : Option Ending
+
+-- the first of the directives, if there is one, has come to this stage, and its text is under way
+abbrev pub ShowsFirst : List Directive → Phase → Option Opened → Stage → Type 0
+ShowsFirst [] phase opened q = Unit {0}
+ShowsFirst (d ∷ ds) phase opened q = Shows d phase q × (opened ≡ opened_for (text_slot d) q)
+
+-- Under the limit k, what a run that has come so far makes of the rest of the input: the report where it has stopped,
+-- else what the directives that are left make of it.
+abbrev pub DoesBy : Option Stop → List Directive → ℕ → Phase → Option Opened → Tally → ℕ → List ℕ → RunReport → Type 0
+DoesBy None ds passed phase opened t k z report =
+    (q : Stage) × ShowsFirst (drop passed ds) phase opened q × (report ≡ run_from (Some k) (drop passed ds) q (passed + 1) t z)
+DoesBy (Some stop) ds passed phase opened t k z report = report ≡ out_of stop.status stop.at t
+
+abbrev pub Does : Standing → ℕ → List ℕ → RunReport → Type 0
+Does s k z report = DoesBy s.ended s.directives s.passed s.phase s.opened s.tally k z report
+
+-- what the new one does with y the old one does with z, under each limit that is not yet passed
+abbrev pub Follows : Standing → Standing → List ℕ → List ℕ → Type 0
+Follows new old y z = (k : ℕ) (report : RunReport) → new.tally.used ≤ k → k ≤ old.limit → Does old k z report → Does new k y report
+
+-- the directive takes nothing of z; more: a byte follows
+abbrev pub IsRefused : Directive → Phase → ℕ → Bool → List ℕ → Type 0
+IsRefused d phase n more z = (q : Stage) → Shows d phase q → one_from d q n z ≡ record { used = n; left = z; end = finished d q n more }
+
+-- it goes on with the same format under the same limit
+pub record Keeps (new old : Standing) : Type 0 where
+  pub directives : new.directives ≡ old.directives
+  pub limit : new.limit ≡ old.limit
+  pub met : new.met ≡ old.met
+
+-- ---- moves
+
+-- the directive under way has passed with this end
+pub record Passes (new old : Standing) (d : Directive) (end : StepEnd) : Type 0 where
+  pub keeps : Keeps new old
+  pub ended : new.ended ≡ old.ended
+  pub passed : new.passed ≡ old.passed + 1
+  pub phase : new.phase ≡ Skipping
+  pub opened : new.opened ≡ None
+  pub tally : new.tally ≡ counted d end old.tally
+
+-- the run has stopped
+pub record Stops (new old : Standing) (stop : Stop) : Type 0 where
+  pub keeps : Keeps new old
+  pub ended : new.ended ≡ Some stop
+  pub tally : new.tally ≡ old.tally
+
+-- the text of the directive under way has begun
+pub record Opens (new old : Standing) (slot : ℕ) : Type 0 where
+  pub keeps : Keeps new old
+  pub ended : new.ended ≡ old.ended
+  pub passed : new.passed ≡ old.passed
+  pub phase : slot_in new.phase ≡ Some slot
+  pub opened : new.opened ≡ Some (record { slot = slot; text = [] })
+  pub tally : new.tally ≡ old.tally
+
+-- the directive under way has taken a byte, and come so far
+pub record Takes (new old : Standing) (next : Phase) (text : Option Opened) : Type 0 where
+  pub keeps : Keeps new old
+  pub ended : new.ended ≡ old.ended
+  pub passed : new.passed ≡ old.passed
+  pub phase : new.phase ≡ next
+  pub opened : new.opened ≡ text
+  pub tally : new.tally ≡ with_used (old.tally.used + 1) old.tally
+
+-- the byte belongs to a text that the directive stores
+abbrev pub IsInText : Shape → ℕ → Type 0
+IsInText Text b = is_white b ≡ false
+IsInText _ b = Unit {0}
+
+abbrev pub StoresByte : Directive → ℕ → Type 0
+StoresByte (Conv c) b = (slot : ℕ) × (text_slot (Conv c) ≡ Some slot) × IsInText c.shape b
+StoresByte _ b = ⊥
+
+-- the new one stopped as the storing of the byte b was refused, which is next in y for the old one
+pub record Refuses (new old : Standing) (b : ℕ) (y : List ℕ) : Type 0 where
+  pub at : ℕ
+  pub directive : Directive
+  pub under_way : slice_get new.directives at ≡ Some directive
+  pub ended : new.ended ≡ Some (record { status = NoMemory; at = at + 1 })
+  pub below : new.tally.used < new.limit
+  pub cut : (report : RunReport) → Does old new.tally.used y report → StoresByte directive b × (report ≡ out_of TooLong (at + 1) new.tally)
+
+-- the same within a piece: the bytes of its front were taken before
+pub record RefusesIn (new old : Standing) (piece : List ℕ) : Type 0 where
+  pub front : List ℕ
+  pub byte : ℕ
+  pub rest : List ℕ
+  pub whole : piece ≡ front ++ byte ∷ rest
+  pub used : new.tally.used ≡ old.tally.used + length front
+  pub refuses : (z : List ℕ) → Refuses new old byte (piece ++ z)
+
+-- memory for a text was refused
+abbrev pub ran_out : Standing → Bool
+ran_out s = is_no_memory s.ended
+
+-- how many directives may still end
+abbrev pub turns_left : Standing → ℕ
+turns_left s = choose s.ended (suc (length s.directives - s.passed)) (λ stop. 0)
+
+-- a directive waits for a byte that it would take
+pub record Waits (ds : List Directive) (passed : ℕ) (phase : Phase) : Type 0 where
+  pub under_way : Directive
+  pub current : slice_get ds passed ≡ Some under_way
+  pub can_take : (q : Stage) → IsProper under_way → Shows under_way phase q → is_full under_way q ≡ false
+
+-- the run has ended, or a directive waits for a byte
+abbrev pub IsSettled : Standing → Type 0
+IsSettled s = IfNone s.ended (Waits s.directives s.passed s.phase)
+
+-- ---- what a scanner was given
+
+-- The scanner of this format under this limit was given exactly the bytes x: however the input goes on, what is told
+-- of the whole input is what the scanner makes of the rest, under each limit that is not yet passed.
+pub record After (ds : List Directive) (m : ℕ) (s : Standing) (x : List ℕ) : Type 0 where
+  pub format : s.directives ≡ ds
+  pub limit : s.limit ≡ m
+  pub proper : AreProper ds
+  pub low : s.tally.used ≤ m
+  pub same : (k : ℕ) (z : List ℕ) → s.tally.used ≤ k → k ≤ m → (report : RunReport) × Does s k z report × TellsWithin ds k (x ++ z) report
+  pub settled : IsSettled s
+  pub all : IfNone s.ended (s.tally.used ≡ length x)
+  pub within : s.tally.used ≤ length x
+  pub fed : s.met ≡ None
+
+-- the report of an ended scanner
+abbrev pub report_by : Option Stop → Tally → Option Ending → Option RunReport
+report_by None t met = None
+report_by (Some stop) t met = Some (record (out_of stop.status stop.at t) { met = met })
+
+abbrev pub report_of : Standing → Option RunReport
+report_of s = report_by s.ended s.tally s.met
+
+-- the run has ended
+abbrev pub has_ended : Standing → Bool
+has_ended s = is_some s.ended
+
+-- how many bytes the run has used
+abbrev pub used_by : Standing → ℕ
+used_by s = s.tally.used
+
+-- the scanner has ended, with the report of the input x with its ending
+pub record Gives (ds : List Directive) (m : ℕ) (s : Standing) (x : List ℕ) (ending : Ending) : Type 0 where
+  pub report : RunReport
+  pub is : report_of s ≡ Some report
+  pub right : RunTold ds m x ending report
