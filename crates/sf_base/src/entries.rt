@@ -28,6 +28,11 @@ pub(crate) struct Entry {
 }
 
 impl Default for Entry {
+    ghost use Rattle.std.specs.Prelude.{◌≡◌};
+    ghost use Rattle.sf_base.specs.declared.entries.Cell.TheVariants.{U8};
+
+    ghost is_default = { λ e. (e.slot ≡ 0) × (e.cell ≡ U8 0) };
+
     fn default() -> Self {
         Entry {
             slot: 0,

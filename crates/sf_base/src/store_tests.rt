@@ -71,20 +71,17 @@ fn a_store_without_bytes_keeps_numbers(rt: HostRuntime) {
     assert!(rt; store.room() == 0 && store.value(1) == Some(Value::U64(18446744073709551615)));
 }
 
+/// `rt try --test --fail-alloc N` refuses each growth in turn, for N from 2 on: the push that it hits changes nothing, and
+/// the next one goes.
 #[test]
-fn a_text_grows(rt: HostRuntime) -> Result<(), Fail> {
+fn a_text_grows_by_bytes(rt: HostRuntime) -> Result<(), Fail> {
     let mut store = HeapStore::new(rt.alloc(), 0)?;
     store.open_text(32);
     for pushed in 0..100000usize {
         let b = if pushed % 2 == 0 { b'a' } else { b'b' };
         if store.push(b).is_err() {
-            // Memory was refused: what was pushed before stands.
-            store.close_text();
-            let Some(Value::Text(text)) = store.value(32) else {
-                return Err(Fail::new("the text is lost"));
-            };
-            assert_eq!(rt; text.len(), pushed);
-            return Ok(());
+            assert_eq!(rt; store.room(), 0);
+            store.push(b)?;
         }
     }
     store.close_text();
@@ -92,5 +89,27 @@ fn a_text_grows(rt: HostRuntime) -> Result<(), Fail> {
         return Err(Fail::new("the text is lost"));
     };
     assert!(rt; text.len() == 100000 && text.starts_with(b"abab") && text.ends_with(b"ab"));
+    Ok(())
+}
+
+/// The same by whole pieces.
+#[test]
+fn a_text_grows_by_pieces(rt: HostRuntime) -> Result<(), Fail> {
+    let mut store = HeapStore::new(rt.alloc(), 0)?;
+    store.set(1, Value::I8(-1));
+    store.open_text(2);
+    for _ in 0..10000 {
+        let room = store.room();
+        if store.push_all(b"0123456789").is_err() {
+            assert_eq!(rt; store.room(), room);
+            store.push_all(b"0123456789")?;
+        }
+    }
+    store.close_text();
+    assert_eq!(rt; store.value(1), Some(Value::I8(-1)));
+    let Some(Value::Text(text)) = store.value(2) else {
+        return Err(Fail::new("the text is lost"));
+    };
+    assert!(rt; text.len() == 100000 && text.starts_with(b"01234567890") && text.ends_with(b"9"));
     Ok(())
 }
