@@ -4,18 +4,19 @@ use Rattle.std.specs.Prelude.{IsSome}
 use Rattle.std.proofs.lemmas.Bool.Decides.{nat_tests}
 use Rattle.std.specs.List.{AllByRecursion}
 use Rattle.sf_base.specs.Bytes.{magnitude}
-use Rattle.sf_format.specs.Digits.{is_decimal}
+use Rattle.sf_format.specs.Digits.{is_decimal, IsOptionalNumber}
+use Rattle.sf_format.specs.Lists.{is_written}
+use Rattle.sf_format.specs.Letters.{letters_of_one, find_letter, letter_of, kind_of, text_kind}
+use Rattle.sf_format.specs.Pieces.{Opening}
+use Rattle.sf_format.specs.Grammar.{SuitsCount, Suits}
+use Rattle.sf_format.specs.Rules.{first_of, has_length, is_l}
+use Rattle.sf_format.specs.Faults.{opening_rules, letter_rules}
 use Rattle.sf_format.specs.declared.directive.Profile.{Profile}
 use Rattle.sf_format.specs.declared.directive.Profile.TheVariants.{One, Two}
-use Rattle.sf_format.specs.Lists.{is_written}
 use Rattle.sf_format.specs.declared.letter.Letter.{Letter}
 use Rattle.sf_format.specs.declared.letter.Letter.TheVariants.{Count}
 use Rattle.sf_format.specs.declared.letter.Length.{Length}
 use Rattle.sf_format.specs.declared.letter.Length.TheVariants.{NoLength, HH, H, LL, L, J, Z, T}
-use Rattle.sf_format.specs.Letters.{letters_of_one, find_letter, letter_of, kind_of, text_kind}
-use Rattle.sf_format.specs.Pieces.{Opening}
-use Rattle.sf_format.specs.Grammar.{IsOptionalNumber, SuitsCount, Suits}
-use Rattle.sf_format.specs.Faults.{first_of, has_length, is_l, opening_rules, letter_rules}
 use Rattle.sf_format.proofs.Outcomes.{by_test, or_left, or_right}
 use Rattle.sf_format.proofs.Prefixes.{AllPass}
 use Rattle.sf_format.proofs.Cutting.{IsLast, HasDigits}

@@ -1,4 +1,4 @@
-use Rattle.sf_format.proofs.FormatLaws as laws
+use Rattle.sf_format.proofs.ScanLaws as laws
 use Rattle.sf_format.proofs.laws.in_order.Goals as goal
 
 pub returns : goal.returns
