@@ -5,6 +5,7 @@ pub mod Cutting
 pub mod PrintCutting
 pub mod Scanlists
 pub mod Suits
+pub mod PrintSuits
 pub mod Destinations
 pub mod Numbers
 pub mod Members
@@ -16,6 +17,7 @@ pub mod WholeTexts
 pub mod Judgements
 pub mod WholeMeanings
 pub mod Meanings
+pub mod PrintMeanings
 pub mod Magnitudes
 pub mod Ranges
 pub mod Holding
@@ -23,11 +25,14 @@ pub mod Pigeonholes
 pub mod SlotLookups
 pub mod PrintedKinds
 pub mod Passages
+pub mod PrintPassages
 pub mod Walks
 pub mod Notings
 pub mod PartSlots
 pub mod Accepted
+pub mod PrintAccepted
 pub mod FormatLaws
 pub mod ScanLaws
+pub mod PrintLaws
 pub mod Answers
 pub mod Rows

@@ -129,16 +129,16 @@ pub passes_slot : (profile : Profile) (earlier : List Opening) (p q b : ℕ) (x 
 passes_slot profile earlier p q b x o letter f rules found list slot =
     slot_fault_first profile earlier p o q b x rules (ap (λ a. first_of (bracket_rules a q x)) (sym (set_is profile b letter found)) ∙ list) ∙ slot
 
+above : (n : ℕ) → (nat_eq n 0 || nat_lt 32 n) ≡ false → n ≤ 32
+above n e = grind (arith, nat_tests)
+
+pub number_low : (ds : List ℕ) → (is_written ds && (nat_eq (magnitude 10 ds) 0 || nat_lt 32 (magnitude 10 ds))) ≡ false → magnitude 10 ds ≤ 32
+number_low [] e = omega arith
+number_low (d ∷ ds) e = above (magnitude 10 (d ∷ ds)) e
+
 -- an opening without a fault has numbers within their limits
 pub number_bound : (p : ℕ) (o : Opening) → first_of (opening_rules p o) ≡ None → magnitude 10 o.number ≤ 32
-number_bound p o none = by_number o.number (quiet_is (opening_rules p o) none).0
-  where
-    above : (n : ℕ) → (nat_eq n 0 || nat_lt 32 n) ≡ false → n ≤ 32
-    above n e = grind (arith, nat_tests)
-
-    by_number : (ds : List ℕ) → (is_written ds && (nat_eq (magnitude 10 ds) 0 || nat_lt 32 (magnitude 10 ds))) ≡ false → magnitude 10 ds ≤ 32
-    by_number [] e = omega arith
-    by_number (d ∷ ds) e = above (magnitude 10 (d ∷ ds)) e
+number_bound p o none = number_low o.number (quiet_is (opening_rules p o) none).0
 
 -- ---- one contract from another
 

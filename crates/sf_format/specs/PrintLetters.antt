@@ -1,5 +1,5 @@
 -- The flags and letters of conversion specifications of print formats (C11 7.21.6.1p6 to p8).
-use Rattle.std.specs.Prelude.{ℕ, Bool, List, [], ◌∷◌, Option, Some, None, nat_eq, if◌then◌else◌}
+use Rattle.std.specs.Prelude.{ℕ, Bool, List, [], ◌∷◌, Option, Some, nat_eq}
 use Rattle.std.specs.List.{list_any}
 use Rattle.sf_base.specs.declared.values.Kind.{Kind}
 use Rattle.sf_format.specs.declared.directive.Profile.{Profile}
@@ -7,7 +7,7 @@ use Rattle.sf_format.specs.declared.directive.Profile.TheVariants.{One, Two}
 use Rattle.sf_format.specs.declared.letter.Length.{Length}
 use Rattle.sf_format.specs.declared.unit.PrintLetter.{PrintLetter}
 use Rattle.sf_format.specs.declared.unit.PrintLetter.TheVariants as letter
-use Rattle.sf_format.specs.Letters.{signed_kind, unsigned_kind, text_kind}
+use Rattle.sf_format.specs.Letters.{find_letter, signed_kind, unsigned_kind, text_kind}
 
 -- - + space # 0
 abbrev pub is_flag : ℕ → Bool
@@ -23,13 +23,9 @@ abbrev pub print_letters : Profile → List (ℕ × PrintLetter)
 print_letters One = print_letters_of_one
 print_letters Two = print_letters_of_one
 
-abbrev pub find_print_letter : List (ℕ × PrintLetter) → ℕ → Option PrintLetter
-find_print_letter [] b = None
-find_print_letter (entry ∷ entries) b = if nat_eq entry.0 b then Some entry.1 else find_print_letter entries b
-
 -- what the byte prints as a letter
 abbrev pub print_letter_of : Profile → ℕ → Option PrintLetter
-print_letter_of profile b = find_print_letter (print_letters profile) b
+print_letter_of profile b = find_letter (print_letters profile) b
 
 -- the kind of a letter with a length, where the letter has it
 abbrev pub print_kind_of : PrintLetter → Length → Option Kind
