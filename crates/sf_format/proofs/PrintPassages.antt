@@ -11,12 +11,13 @@ use Rattle.sf_format.specs.declared.unit.PrintLetter.{PrintLetter}
 use Rattle.sf_format.specs.declared.unit.PrintConv.{PrintConv}
 use Rattle.sf_format.specs.declared.unit.Unit.TheVariants as unit
 use Rattle.sf_format.specs.declared.print_passing.PassedUnit.{PassedUnit}
+use Rattle.sf_format.specs.Digits.{optional_number}
 use Rattle.sf_format.specs.Lists.{begins}
 use Rattle.sf_format.specs.PrintLetters.{print_letter_of}
 use Rattle.sf_format.specs.Pieces.{Opening, PrintOpening, Percents, print_opening_text}
 use Rattle.sf_format.specs.Cut.{Part, print_cut, print_letter_at, specification_at}
-use Rattle.sf_format.specs.PrintGrammar.{IsPrintConv, Prints}
-use Rattle.sf_format.specs.Grammar.{value_opening}
+use Rattle.sf_format.specs.PrintGrammar.{or_place, IsPrintConv, Prints}
+use Rattle.sf_format.specs.Grammar.{value_opening, slot_of}
 use Rattle.sf_format.specs.Rules.{Rule, first_of, slot_rules}
 use Rattle.sf_format.specs.PrintRules.{precision_number, print_opening_rules, print_letter_rules, flag_rules, print_rest_rules}
 use Rattle.sf_format.specs.Faults.{percent_rules}
@@ -44,6 +45,14 @@ bounded p o none =
       width = within 65535 (magnitude 10 o.width) quiet.1.0;
       precision = within 255 (precision_number o.precision) quiet.1.1.0;
     }
+
+-- the slot of a value
+pub value_slot : (place slot : ℕ) (o : PrintOpening) → Some slot ≡ slot_of place (value_opening o) → slot ≡ or_place place (optional_number o.number)
+value_slot place slot o = by_number (optional_number o.number)
+  where
+    by_number : (n : Option ℕ) → Some slot ≡ elim n [ None ↦ Some place | Some m ↦ Some m ] → slot ≡ or_place place n
+    by_number None e = cc
+    by_number (Some m) e = cc
 
 -- the rules of what stands from the letter on, one group after the other
 behind_letter : (profile : Profile) (earlier : List Opening) (p : ℕ) (o : PrintOpening) (q b : ℕ) (x : List ℕ) (letter : PrintLetter)
