@@ -29,4 +29,6 @@ pub use scan::ScanFormat;
 pub use unit::{PrintConv, PrintLetter, Unit};
 
 #[cfg(test)]
+mod print_tests;
+#[cfg(test)]
 mod tests;

@@ -145,7 +145,8 @@ pub fn flag_fault(
     requires parts { length written.now.number.now + length written.now.flags.now + length written.now.width.now ≤ 4096 }
     ensures { fault_in result ≡ first_of (flag_rules percent (print_opening_of written.now) (Some letter)) }
 {
-    if let Some(at) = foreign_flag(letter, written.flags_at(percent), written.flags) {
+    let places = written.places(percent);
+    if let Some(at) = foreign_flag(letter, places.flags, written.flags) {
         return Some(FormatFault {
             at,
             why: FormatWhy::BadFlag,
@@ -153,7 +154,7 @@ pub fn flag_fault(
     }
     if written.point && matches!(letter, PrintLetter::One) {
         return Some(FormatFault {
-            at: written.point_at(percent),
+            at: places.point,
             why: FormatWhy::BadFlag,
         });
     }

@@ -1,5 +1,5 @@
 //! Conversion specifications of print formats up to their letter.
-ghost use Rattle.std.specs.Prelude.{◌≡◌, ◌≤◌, ◌+◌, true, length};
+ghost use Rattle.std.specs.Prelude.{◌≡◌, ◌≤◌, ◌<◌, ◌+◌, true, length};
 ghost use Rattle.std.specs.List.{AllByRecursion};
 ghost use Rattle.sf_format.specs.Digits.{is_decimal};
 ghost use Rattle.sf_format.specs.Cut.{print_cut, precision_behind};
@@ -24,6 +24,14 @@ pub struct PrintWritten<'a> {
     pub point: bool,
     pub precision: &'a [u8],
     pub size: Length,
+}
+
+/// Where the parts of a specification begin: its flags, its width, and the point of its precision.
+#[derive(Clone, Copy)]
+pub struct Places {
+    pub flags: u16,
+    pub width: u16,
+    pub point: u16,
 }
 
 /// The digits behind a point, if it stands there, and what follows them.
@@ -85,34 +93,23 @@ impl PrintWritten<'_> {
         }
     }
 
-    /// Where the flags begin, behind the `%` at the place.
-    pub fn flags_at(&self, percent: u16) -> u16
+    /// Where its parts begin, behind the `%` at the place.
+    pub fn places(&self, percent: u16) -> Places
         requires place { percent ≤ 4096 }
         requires parts { length self.now.number.now + length self.now.flags.now + length self.now.width.now ≤ 4096 }
-        ensures place { result ≡ flags_place percent (print_opening_of self.now) }
-        ensures bound { result ≤ 8194 }
+        ensures flags { result.flags ≡ flags_place percent (print_opening_of self.now) }
+        ensures width { result.width ≡ width_place percent (print_opening_of self.now) }
+        ensures point { result.point ≡ point_place percent (print_opening_of self.now) }
+        ensures low { result.flags + length self.now.flags.now ≤ 65535 }
+        ensures bound { result.point < 65535 }
     {
-        percent + 1 + number_len(self.number)
-    }
-
-    /// Where the width begins.
-    pub fn width_at(&self, percent: u16) -> u16
-        requires place { percent ≤ 4096 }
-        requires parts { length self.now.number.now + length self.now.flags.now + length self.now.width.now ≤ 4096 }
-        ensures place { result ≡ width_place percent (print_opening_of self.now) }
-        ensures bound { result ≤ 12290 }
-    {
-        self.flags_at(percent) + self.flags.len() as u16
-    }
-
-    /// Where the point of the precision stands.
-    pub fn point_at(&self, percent: u16) -> u16
-        requires place { percent ≤ 4096 }
-        requires parts { length self.now.number.now + length self.now.flags.now + length self.now.width.now ≤ 4096 }
-        ensures place { result ≡ point_place percent (print_opening_of self.now) }
-        ensures bound { result ≤ 16386 }
-    {
-        self.width_at(percent) + self.width.len() as u16
+        let flags = percent + 1 + number_len(self.number);
+        let width = flags + self.flags.len() as u16;
+        Places {
+            flags,
+            width,
+            point: width + self.width.len() as u16,
+        }
     }
 }
 
@@ -136,13 +133,13 @@ pub fn print_opening_fault(at: u16, written: &PrintWritten) -> Option<FormatFaul
     if width > 65535 {
         return Some(FormatFault {
             why: FormatWhy::TooWide,
-            at: written.width_at(at),
+            at: written.places(at).width,
         });
     }
     if written.point && capped(written.precision) > 255 {
         return Some(FormatFault {
             why: FormatWhy::PrecisionTooLarge,
-            at: written.point_at(at) + 1,
+            at: written.places(at).point + 1,
         });
     }
     None
