@@ -128,7 +128,6 @@ destinations_cons (Bracket o list) pieces = assigned_cons o.star o (destinations
     assigned_cons : (star : Bool) (o : Opening) (rest : List Opening) → cond star rest (o ∷ rest) ≡ cond star [] (o ∷ []) ++ rest
     assigned_cons true o rest = refl
     assigned_cons false o rest = refl
-
 destinations_cons (Printed o letter) pieces = refl
 
 pub regroup : (earlier : List Opening) (piece : Piece) (pieces : List Piece)

@@ -191,7 +191,7 @@ walked_all h none = (h.done, passing_all h none, h.holds)
 -- ---- with what the parts so far stand for
 
 pub record Gathering (D : Type 0) (language : Language) (means : ℕ → Piece → D → Type 0) (text : List ℕ) (at : ℕ) (rest : List ℕ) (slots : Slots)
-  (ds : List D) : Type 0 where
+    (ds : List D) : Type 0 where
   pub passing : Passing language text at rest slots
   pub meaning : MeanAll means 1 passing.done ds
 

@@ -43,7 +43,20 @@ fn print_left_out(b: u8) -> bool
 {
     matches!(
         b,
-        b'*' | b'\'' | b'n' | b'L' | b'a' | b'A' | b'e' | b'E' | b'f' | b'F' | b'g' | b'G' | b'p' | b'C' | b'S'
+        b'*' | b'\''
+            | b'n'
+            | b'L'
+            | b'a'
+            | b'A'
+            | b'e'
+            | b'E'
+            | b'f'
+            | b'F'
+            | b'g'
+            | b'G'
+            | b'p'
+            | b'C'
+            | b'S'
     )
 }
 
@@ -136,11 +149,7 @@ fn foreign_flag(letter: PrintLetter, from: u16, flags: &[u8]) -> Option<u16>
 }
 
 /// The first fault of what stands before the letter, behind the `%` at the place, as far as the letter does not have it.
-pub fn flag_fault(
-    percent: u16,
-    written: &PrintWritten,
-    letter: PrintLetter,
-) -> Option<FormatFault>
+pub fn flag_fault(percent: u16, written: &PrintWritten, letter: PrintLetter) -> Option<FormatFault>
     requires place { percent ≤ 4096 }
     requires parts { length written.now.number.now + length written.now.flags.now + length written.now.width.now ≤ 4096 }
     ensures { fault_in result ≡ first_of (flag_rules percent (print_opening_of written.now) (Some letter)) }
@@ -180,12 +189,7 @@ fn precision_of(written: &PrintWritten) -> Option<u8>
 }
 
 /// The conversion of a specification without a fault.
-pub fn conversion(
-    written: &PrintWritten,
-    letter: PrintLetter,
-    kind: Kind,
-    slot: u8,
-) -> PrintConv
+pub fn conversion(written: &PrintWritten, letter: PrintLetter, kind: Kind, slot: u8) -> PrintConv
     requires width { AllByRecursion (λ b. is_decimal b ≡ true) written.now.width.now }
     requires precision { written.now.point ≡ true → AllByRecursion (λ b. is_decimal b ≡ true) written.now.precision.now }
     requires wide { magnitude 10 written.now.width.now ≤ 65535 }

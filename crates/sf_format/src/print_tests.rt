@@ -67,7 +67,11 @@ fn tells_letters_and_kinds(rt: HostRuntime) -> Result<(), Fail> {
         (b"%c", PrintLetter::One, Kind::Text),
     ];
     for (text, letter, kind) in rows {
-        assert_eq!(rt; only(rt.alloc(), text)?, Some(plain(letter, kind)), "{letter:?}");
+        assert_eq!(rt;
+            only(rt.alloc(), text)?,
+            Some(plain(letter, kind)),
+            "{letter:?}"
+        );
     }
     Ok(())
 }
@@ -79,18 +83,103 @@ fn tells_flags_widths_and_precisions(rt: HostRuntime) -> Result<(), Fail> {
     let octal = plain(PrintLetter::Octal, Kind::U32);
     let text = plain(PrintLetter::Text, Kind::Text);
     let rows: [(&[u8], PrintConv); 12] = [
-        (b"%+ d", PrintConv { plus: true, blank: true, ..signed }),
-        (b"% d", PrintConv { blank: true, ..signed }),
-        (b"%-05d", PrintConv { minus: true, zero: true, width: 5, ..signed }),
-        (b"%0-0-5d", PrintConv { minus: true, zero: true, width: 5, ..signed }),
-        (b"%+5d", PrintConv { plus: true, width: 5, ..signed }),
-        (b"%08.3d", PrintConv { zero: true, width: 8, precision: Some(3), ..signed }),
-        (b"%.0d", PrintConv { precision: Some(0), ..signed }),
-        (b"%.d", PrintConv { precision: Some(0), ..signed }),
-        (b"%#06x", PrintConv { alt: true, zero: true, width: 6, ..hex }),
-        (b"%#.3o", PrintConv { alt: true, precision: Some(3), ..octal }),
-        (b"%.2s", PrintConv { precision: Some(2), ..text }),
-        (b"%-65535.00255s", PrintConv { minus: true, width: 65535, precision: Some(255), ..text }),
+        (
+            b"%+ d",
+            PrintConv {
+                plus: true,
+                blank: true,
+                ..signed
+            },
+        ),
+        (
+            b"% d",
+            PrintConv {
+                blank: true,
+                ..signed
+            },
+        ),
+        (
+            b"%-05d",
+            PrintConv {
+                minus: true,
+                zero: true,
+                width: 5,
+                ..signed
+            },
+        ),
+        (
+            b"%0-0-5d",
+            PrintConv {
+                minus: true,
+                zero: true,
+                width: 5,
+                ..signed
+            },
+        ),
+        (
+            b"%+5d",
+            PrintConv {
+                plus: true,
+                width: 5,
+                ..signed
+            },
+        ),
+        (
+            b"%08.3d",
+            PrintConv {
+                zero: true,
+                width: 8,
+                precision: Some(3),
+                ..signed
+            },
+        ),
+        (
+            b"%.0d",
+            PrintConv {
+                precision: Some(0),
+                ..signed
+            },
+        ),
+        (
+            b"%.d",
+            PrintConv {
+                precision: Some(0),
+                ..signed
+            },
+        ),
+        (
+            b"%#06x",
+            PrintConv {
+                alt: true,
+                zero: true,
+                width: 6,
+                ..hex
+            },
+        ),
+        (
+            b"%#.3o",
+            PrintConv {
+                alt: true,
+                precision: Some(3),
+                ..octal
+            },
+        ),
+        (
+            b"%.2s",
+            PrintConv {
+                precision: Some(2),
+                ..text
+            },
+        ),
+        (
+            b"%-65535.00255s",
+            PrintConv {
+                minus: true,
+                width: 65535,
+                precision: Some(255),
+                ..text
+            },
+        ),
     ];
     for (text, want) in rows {
         assert_eq!(rt; only(rt.alloc(), text)?, Some(want), "{want:?}");
