@@ -36,3 +36,4 @@ pub mod ScanLaws
 pub mod PrintLaws
 pub mod Answers
 pub mod Rows
+pub mod PrintRows
