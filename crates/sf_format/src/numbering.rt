@@ -1,4 +1,4 @@
-//! The numbers of the destinations of a whole format.
+//! The numbers of the destinations or values of a whole format.
 ghost use Rattle.std.specs.Prelude.{◌≡◌, ◌≤◌, ◌+◌, ℕ, List, [], ◌∷◌, ◌++◌, Ok, length};
 ghost use Rattle.sf_format.specs.Pieces.{Piece};
 ghost use Rattle.sf_format.specs.Reading.{read};

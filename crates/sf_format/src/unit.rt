@@ -19,6 +19,7 @@ pub enum PrintLetter {
 pub struct PrintConv {
     pub letter: PrintLetter,
     pub kind: Kind,
+    /// The number of the value, from 1.
     pub slot: u8,
     /// The flag `-`.
     pub minus: bool,
@@ -32,6 +33,7 @@ pub struct PrintConv {
     pub zero: bool,
     /// The least number of bytes; 0 if there is none.
     pub width: u16,
+    /// The least number of digits of an integer, or the greatest number of bytes of a text.
     pub precision: Option<u8>,
 }
 
