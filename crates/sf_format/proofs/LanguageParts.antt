@@ -4,7 +4,7 @@ use Rattle.sf_base.specs.Bytes.{AreBytes}
 use Rattle.sf_format.specs.declared.language.Language.{Language}
 use Rattle.sf_format.specs.declared.language.Language.TheVariants.{Scan, Print}
 use Rattle.sf_format.specs.Pieces.{Opening, Piece, piece_text}
-use Rattle.sf_format.specs.Cut.{Part, part_at}
+use Rattle.sf_format.specs.Cut.{part_at}
 use Rattle.sf_format.specs.Grammar.{IsPiece, AreAlike, destinations}
 use Rattle.sf_format.specs.Faults.{part_rules}
 use Rattle.sf_format.proofs.Rules.{Quiet}

@@ -10,7 +10,7 @@ use Rattle.sf_format.specs.Digits.{IsOptionalNumber, optional_number}
 use Rattle.sf_format.specs.Slots.{slots_from, AreDistinct}
 use Rattle.sf_format.specs.Pieces.{Opening, Piece, WhiteSpace, Ordinary, Percents, Plain, Bracket, Printed, piece_text, text_of}
 use Rattle.sf_format.specs.PrintGrammar.{IsPrintPiece}
-use Rattle.sf_format.specs.Grammar.{IsScanPiece, IsPiece, IsFormat, ArePlaced, AreNumbered, destinations, value_opening, slot_of, MeanAll}
+use Rattle.sf_format.specs.Grammar.{IsScanPiece, IsPiece, IsFormat, ArePlaced, AreNumbered, destinations, value_opening, MeanAll}
 use Rattle.sf_format.specs.Passing.{slot_at}
 use Rattle.sf_format.proofs.Rules.{all_append, all_front, all_back}
 use Rattle.sf_format.proofs.Numbers.{number_of, all_map, both_all, all_to_map}

@@ -1,5 +1,5 @@
 -- The cut of a conversion specification of a print format gives its parts, and joins to its text.
-use Rattle.std.proofs.Common.{◌≡◌, ◌≢◌, ℕ, ◌+◌, ◌<◌, ◌≤◌, Bool, true, false, cond, ◌&&◌, nat_eq, List, [], ◌∷◌, ◌++◌, length, drop, Option, Some, None, refl, sym, ap, ◌∙◌, subst, append_assoc, length-append, lit<, arith}
+use Rattle.std.proofs.Common.{◌≡◌, ◌≢◌, ℕ, ◌+◌, ◌≤◌, Bool, true, false, cond, ◌&&◌, nat_eq, List, [], ◌∷◌, ◌++◌, length, drop, Option, Some, None, refl, sym, ap, ◌∙◌, subst, append_assoc, length-append, arith}
 use Rattle.std.specs.Prelude.{IfSome}
 use Rattle.std.proofs.lemmas.Bool.Decides.{nat_tests}
 use Rattle.std.specs.List.{AllByRecursion}
@@ -11,7 +11,7 @@ use Rattle.sf_format.specs.Letters.{length_text}
 use Rattle.sf_format.specs.PrintLetters.{is_flag}
 use Rattle.sf_format.specs.Pieces.{PrintOpening, number_text, precision_text, print_opening_text}
 use Rattle.sf_format.specs.PrintGrammar.{StartsAboveZero}
-use Rattle.sf_format.specs.Cut.{PrintCut, number_at, length_at, precision_behind, precision_at, print_cut_length, print_cut}
+use Rattle.sf_format.specs.Cut.{PrintCut, number_at, precision_behind, precision_at, print_cut_length, print_cut}
 use Rattle.sf_format.proofs.Outcomes.{by_test}
 use Rattle.sf_format.proofs.Prefixes.{Stops, AllPass, front_behind, front_passes, front_of, behind_of, behind_stops}
 use Rattle.sf_format.proofs.Cutting.{IsLast, mark_none, mark_text, mark_joined, number_whole, number_passing, number_absent, number_written, length_whole, length_of, length_dropped}

@@ -1,10 +1,9 @@
 -- The part that a scan format without a fault there begins with, and the text of a part.
-use Rattle.std.proofs.Common.{◌≡◌, ℕ, ◌+◌, ◌<◌, ◌⊎◌, inl, inr, Bool, true, false, cond, not, nat_eq, List, [], ◌∷◌, ◌++◌, length, drop, Option, Some, None, is_none, refl, sym, ap, ◌∙◌, subst, arith, append_assoc, append-nil}
+use Rattle.std.proofs.Common.{◌≡◌, ℕ, ◌+◌, ◌<◌, Bool, true, false, cond, not, nat_eq, List, [], ◌∷◌, ◌++◌, length, drop, Option, Some, None, is_none, refl, sym, ap, ◌∙◌, subst, arith, append_assoc}
 use Rattle.std.proofs.lemmas.Bool.Decides.{nat_tests}
 use Rattle.sf_base.specs.Bytes.{AreBytes, is_white}
 use Rattle.sf_format.specs.declared.directive.Profile.{Profile}
 use Rattle.sf_format.specs.declared.directive.Profile.TheVariants.{One, Two}
-use Rattle.sf_format.specs.declared.fault.FormatWhy.TheVariants.{Nul}
 use Rattle.sf_format.specs.Lists.{front, behind, begins, mark_at}
 use Rattle.sf_format.specs.Letters.{letter_of, length_text}
 use Rattle.sf_format.specs.Scanlist.{Scanlist, scanlist_text}
@@ -18,7 +17,7 @@ use Rattle.sf_format.specs.declared.letter.Letter.TheVariants.{Set}
 use Rattle.sf_format.specs.declared.language.Language.TheVariants.{Scan}
 use Rattle.sf_format.proofs.Outcomes.{by_test}
 use Rattle.sf_format.proofs.Beginnings.{StopsAfter, BeginsWith, nothing_more, byte_rules, byte_quiet, white_quiet}
-use Rattle.sf_format.proofs.Prefixes.{Stops, front_behind, front_passes, behind_stops, front_of, behind_of}
+use Rattle.sf_format.proofs.Prefixes.{front_behind, front_passes, behind_stops, front_of, behind_of}
 use Rattle.sf_format.proofs.Cutting.{IsLast, HasDigits, inside, cut_of, cut_joined, cut_digits, no_percent, begins_joined, opening_regroup}
 use Rattle.sf_format.proofs.Rules.{Quiet, all_append, all_front, all_back}
 use Rattle.sf_format.proofs.Scanlists.{listed, marked, bracket_of, quiet_list, other_byte, byte_differs}
