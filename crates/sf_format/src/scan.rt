@@ -2,7 +2,8 @@
 ghost use Rattle.std.specs.Prelude.{◌≡◌, ◌≤◌, ◌↔◌, IsSome, ℕ, List, [], ◌∷◌, true, length, Err, IfOk, IfErr, MatchResult, IfSome};
 ghost use Rattle.sf_format.specs.declared.fault.FormatWhy.{FormatWhy};
 ghost use Rattle.sf_format.specs.declared.directive.Directive.{Directive};
-ghost use Rattle.sf_format.specs.Proper.{AreProper, AreSized, destinations_of, AreSlots, kind_at};
+ghost use Rattle.sf_format.specs.Slots.{AreSlots};
+ghost use Rattle.sf_format.specs.Proper.{AreProper, AreSized, destinations_of, kind_at};
 ghost use Rattle.sf_format.specs.Widths.{width_sum, stored_width};
 ghost use Rattle.sf_format.specs.Grammar.{Spells};
 ghost use Rattle.sf_format.specs.Faults.{Fault, IsRefused, no_memory};
@@ -10,6 +11,7 @@ ghost use Rattle.sf_format.specs.Faults.{Fault, IsRefused, no_memory};
 use crate::directive::{Directive, Profile, Shape};
 use crate::fault::FormatFault;
 use crate::judging::judge;
+use crate::language::Language;
 use crate::passing::gather;
 use sf_base::Kind;
 use std::alloc::Global;
@@ -101,7 +103,7 @@ impl ScanFormat {
         ensures accepted { (ds : List Directive) → Spells profile text.now ds
             → MatchResult result (λ format. format ≡ ds) (λ fault. fault ≡ no_memory) }
     {
-        let destinations = judge(profile, text)?;
+        let destinations = judge(Language::Scan(profile), text)?;
         let directives = gather(alloc, profile, text)?;
         Ok(ScanFormat {
             directives,
@@ -116,7 +118,7 @@ impl ScanFormat {
         ensures sized { AreSized result.now }
         ensures short { length result.now ≤ 4096 }
         ensures few { length (destinations_of result.now) ≤ 32 }
-        ensures slots { AreSlots result.now }
+        ensures slots { AreSlots (destinations_of result.now) }
     {
         &self.directives
     }

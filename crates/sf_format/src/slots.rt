@@ -1,4 +1,4 @@
-//! The destinations of a format, as far as it was read.
+//! The destinations of a scan format, or the values of a print format, as far as it was read.
 ghost use Rattle.std.specs.Prelude.{◌≡◌, ◌+◌, ◌<◌, ◌≤◌, ℕ, List, [], ◌++◌, true, false, not, ◌&&◌, nat_lt, None, length};
 ghost use Rattle.std.specs.List.{AllByRecursion, list_any};
 ghost use Rattle.sf_base.specs.Bytes.{magnitude};
@@ -6,13 +6,13 @@ ghost use Rattle.sf_format.specs.Digits.{is_decimal};
 ghost use Rattle.sf_format.specs.Pieces.{Opening};
 ghost use Rattle.sf_format.specs.Lists.{is_written};
 ghost use Rattle.sf_format.specs.Grammar.{assigned_opening, slot_of};
-ghost use Rattle.sf_format.specs.Faults.{first_of, alike, slot_rules};
+ghost use Rattle.sf_format.specs.Rules.{first_of, alike, slot_rules};
 ghost use Rattle.sf_format.specs.Passing.{opening_of, fault_in, Holds};
 
 use crate::fault::{FormatFault, FormatWhy};
 use crate::opening::{Written, capped};
 
-/// How many destinations there are, and whether they have numbers.
+/// How many destinations or values there are, and whether they have numbers.
 #[derive(Clone, Copy)]
 pub struct Slots {
     pub count: u16,
