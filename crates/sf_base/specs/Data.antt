@@ -36,7 +36,15 @@ value_of Text = λ negative m. None
 
 -- a value without the Rust type that holds it
 abbrev pub datum_of : Value → Datum
+datum_of (value.I8 n) = Number I8 n
+datum_of (value.I16 n) = Number I16 n
 datum_of (value.I32 n) = Number I32 n
+datum_of (value.I64 n) = Number I64 n
+datum_of (value.U8 n) = Number U8 (pos n)
+datum_of (value.U16 n) = Number U16 (pos n)
+datum_of (value.U32 n) = Number U32 (pos n)
+datum_of (value.U64 n) = Number U64 (pos n)
+datum_of (value.Text bytes) = Bytes bytes.now
 
 -- a destination's slot, and what it was given
 pub record Assigned : Type 0 where

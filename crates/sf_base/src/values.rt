@@ -14,9 +14,16 @@ pub enum Kind {
     Text,
 }
 
-/// What a destination was given.
+/// What a destination was given, or what is printed for a slot.
 #[derive(Clone, Copy, Debug, PartialEq, Eq)]
-pub enum Value {
-    /// A number of 32 bits with a sign.
+pub enum Value<'a> {
+    I8(i8),
+    I16(i16),
     I32(i32),
+    I64(i64),
+    U8(u8),
+    U16(u16),
+    U32(u32),
+    U64(u64),
+    Text(&'a [u8]),
 }

@@ -1,0 +1,5 @@
+pub mod Appending
+pub mod Digits
+pub mod FourDigits
+pub mod Staging
+pub mod OnlyNumeral

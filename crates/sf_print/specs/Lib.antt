@@ -1,0 +1,6 @@
+pub mod Text
+pub mod Printed
+pub mod Numeral
+pub mod Sinks
+pub mod Handed
+pub mod Staged
