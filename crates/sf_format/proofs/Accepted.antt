@@ -13,7 +13,8 @@ use Rattle.sf_format.specs.declared.letter.Letter.{Letter}
 use Rattle.sf_format.specs.declared.letter.Letter.TheVariants.{Signed, Unsigned, Chars, Text, Set, Count}
 use Rattle.sf_format.specs.Pieces.{Opening, Piece, WhiteSpace, Ordinary, Percents, Plain, Bracket, piece_text, text_of}
 use Rattle.sf_format.specs.Grammar.{IsOptionalNumber, optional_number, IsPiece, IsFormat, ArePlaced, AreNumbered, destinations, shape_of, width_of, slot_of, Means, MeanAll}
-use Rattle.sf_format.specs.Proper.{HasItsWidth, IsSized, AreSized, IsProperShape, IsProperWidth, IsProper, AreProper, destinations_of, slots_of, slots_from, AreInOrder, AreDistinct, IsAccepted}
+use Rattle.sf_format.specs.Proper.{HasItsWidth, IsSized, AreSized, IsProperShape, IsProperWidth, IsProper, AreProper, destinations_of, slots_of, AreInOrder, IsAccepted}
+use Rattle.sf_format.specs.Slots.{slots_from, AreDistinct}
 use Rattle.sf_format.proofs.Rules.{all_append, all_front, all_back}
 use Rattle.sf_format.proofs.Numbers.{number_of, all_map, both_all, all_to_map}
 use Rattle.sf_format.proofs.Destinations.{destinations_cons, at_most_one}

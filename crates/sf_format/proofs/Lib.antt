@@ -16,6 +16,7 @@ pub mod Ranges
 pub mod Holding
 pub mod Pigeonholes
 pub mod SlotLookups
+pub mod PrintedKinds
 pub mod Passages
 pub mod Walks
 pub mod Notings

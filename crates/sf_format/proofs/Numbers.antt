@@ -6,7 +6,7 @@ use Rattle.std.specs.List.{AllByRecursion, list_all}
 use Rattle.sf_base.specs.Bytes.{magnitude}
 use Rattle.sf_format.specs.Lists.{is_written}
 use Rattle.sf_format.specs.Pieces.{Opening, Piece, piece_text}
-use Rattle.sf_format.specs.Proper.{AreDistinct}
+use Rattle.sf_format.specs.Slots.{AreDistinct}
 use Rattle.sf_format.specs.Grammar.{destinations, ArePlaced, AreAlike, AreNumbered}
 use Rattle.sf_format.specs.Faults.{Rule, is_any_of, numbered, repeated, beyond, number_rules, first_of}
 use Rattle.sf_format.proofs.Outcomes.{by_test, and_left, or_left, or_right}

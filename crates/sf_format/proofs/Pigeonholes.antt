@@ -2,7 +2,7 @@
 use Rattle.std.proofs.Common.{◌≡◌, ◌≢◌, ℕ, zero, suc, ◌+◌, ◌≤◌, true, false, cond, nat_eq, List, [], ◌∷◌, length, refl, ap, ◌∙◌, subst, arith}
 use Rattle.std.proofs.lemmas.Bool.Decides.{nat_tests}
 use Rattle.std.specs.List.{AllByRecursion}
-use Rattle.sf_format.specs.Proper.{AreDistinct}
+use Rattle.sf_format.specs.Slots.{AreDistinct}
 use Rattle.sf_format.proofs.Outcomes.{by_test}
 
 abbrev pub AreWithin : ℕ → List ℕ → Type 0

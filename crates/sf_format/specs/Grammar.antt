@@ -13,7 +13,7 @@ use Rattle.sf_format.specs.declared.letter.Letter.{Letter}
 use Rattle.sf_format.specs.declared.letter.Letter.TheVariants.{Signed, Unsigned, Chars, Text, Set, Count}
 use Rattle.sf_format.specs.Letters.{letter_of, kind_of}
 use Rattle.sf_format.specs.Scanlist.{IsScanlist, IsSetOf}
-use Rattle.sf_format.specs.Proper.{AreDistinct}
+use Rattle.sf_format.specs.Slots.{AreDistinct}
 use Rattle.sf_format.specs.Pieces.{Opening, Piece, WhiteSpace, Ordinary, Percents, Plain, Bracket, text_of}
 
 -- digits that aren't written, or that stand for a number from 1 to the limit; leading zeros are allowed

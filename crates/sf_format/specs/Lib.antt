@@ -3,7 +3,9 @@ pub mod Lists
 pub mod Letters
 pub mod Scanlist
 pub mod Pieces
+pub mod Slots
 pub mod Proper
+pub mod Units
 pub mod Cut
 pub mod Grammar
 pub mod Faults

@@ -1,10 +1,10 @@
 -- What holds of the directives of each accepted scan format.
-use Rattle.std.specs.Prelude.{◌≡◌, ◌≢◌, ℕ, zero, suc, ◌+◌, ◌<◌, ◌≤◌, Bool, true, false, ◌&&◌, nat_eq, List, [], ◌∷◌, length, map, find, Option, Some, None, IsSome, IfSome}
+use Rattle.std.specs.Prelude.{◌≡◌, ℕ, ◌<◌, ◌≤◌, Bool, true, false, ◌&&◌, List, length, map, Option, Some, None, IsSome, IfSome}
 use Rattle.std.specs.List.{AllByRecursion, list_all, filter_map}
-use Rattle.std.specs.Option.{option_map}
 use Rattle.sf_base.specs.declared.values.Kind.{Kind}
 use Rattle.sf_base.specs.declared.values.Kind.TheVariants.{I32}
 use Rattle.sf_base.specs.Sets.{has_byte}
+use Rattle.sf_format.specs.Slots.{Slotted, kind_with, slots_from, AreSlots}
 use Rattle.sf_format.specs.declared.directive.Shape.{Shape}
 use Rattle.sf_format.specs.declared.directive.Shape.TheVariants.{Int, Set, Chars}
 use Rattle.sf_format.specs.declared.directive.Directive.{Directive}
@@ -43,22 +43,17 @@ AreProper ds = AllByRecursion IsProper ds
 -- ---- destinations
 
 -- the slot that a directive assigns, and its kind
-abbrev pub destination_of : Directive → Option (ℕ × Kind)
+abbrev pub destination_of : Directive → Option Slotted
 destination_of (Conv c) = elim c.slot [ None ↦ None | Some slot ↦ Some (slot, c.kind) ]
 destination_of _ = None
 
 -- the destinations, in the order of the directives
-abbrev pub destinations_of : List Directive → List (ℕ × Kind)
+abbrev pub destinations_of : List Directive → List Slotted
 destinations_of ds = filter_map destination_of ds
 
 -- the kind of the conversion with this slot
 abbrev pub kind_at : ℕ → List Directive → Option Kind
-kind_at slot ds = option_map (λ d. d.1) (find (λ d. nat_eq d.0 slot) (destinations_of ds))
-
--- so many slots, one after the other from the place on
-abbrev pub slots_from : ℕ → ℕ → List ℕ
-slots_from place zero = []
-slots_from place (suc n) = place ∷ slots_from (place + 1) n
+kind_at slot ds = kind_with slot (destinations_of ds)
 
 -- the slots that are assigned, in the order of the directives
 abbrev pub slots_of : List Directive → List ℕ
@@ -67,16 +62,6 @@ slots_of ds = map (λ d. d.0) (destinations_of ds)
 -- the destinations have the slots from 1 to their count in order
 abbrev pub AreInOrder : List Directive → Type 0
 AreInOrder ds = slots_of ds ≡ slots_from 1 (length (destinations_of ds))
-
--- no two of the numbers are the same
-abbrev pub AreDistinct : List ℕ → Type 0
-AreDistinct [] = Unit {0}
-AreDistinct (n ∷ ns) = AllByRecursion (λ m. m ≢ n) ns × AreDistinct ns
-
--- the slots of the destinations are the numbers from 1 to their count, each once
-pub record AreSlots (ds : List Directive) : Type 0 where
-  pub each : AllByRecursion (λ n. (1 ≤ n) × (n ≤ length (destinations_of ds))) (slots_of ds)
-  pub distinct : AreDistinct (slots_of ds)
 
 -- ---- integers of 32 bits
 
@@ -103,4 +88,4 @@ pub record IsAccepted (ds : List Directive) : Type 0 where
   pub sized : AreSized ds
   pub short : length ds ≤ 4096
   pub few : length (destinations_of ds) ≤ 32
-  pub slots : AreSlots ds
+  pub slots : AreSlots (destinations_of ds)

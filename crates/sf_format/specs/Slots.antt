@@ -1,0 +1,28 @@
+-- Slots with their kinds: the destinations of a scan format, the values of a print format.
+use Rattle.std.specs.Prelude.{◌≢◌, ℕ, zero, suc, ◌+◌, ◌≤◌, nat_eq, List, [], ◌∷◌, length, map, find, Option}
+use Rattle.std.specs.List.{AllByRecursion}
+use Rattle.std.specs.Option.{option_map}
+use Rattle.sf_base.specs.declared.values.Kind.{Kind}
+
+-- a slot, and what kind it has
+abbrev pub Slotted : Type 0
+Slotted = ℕ × Kind
+
+-- the kind of the slot
+abbrev pub kind_with : ℕ → List Slotted → Option Kind
+kind_with slot entries = option_map (λ e. e.1) (find (λ e. nat_eq e.0 slot) entries)
+
+-- so many slots, one after the other from the place on
+abbrev pub slots_from : ℕ → ℕ → List ℕ
+slots_from place zero = []
+slots_from place (suc n) = place ∷ slots_from (place + 1) n
+
+-- no two of the numbers are the same
+abbrev pub AreDistinct : List ℕ → Type 0
+AreDistinct [] = Unit {0}
+AreDistinct (n ∷ ns) = AllByRecursion (λ m. m ≢ n) ns × AreDistinct ns
+
+-- the slots are the numbers from 1 to their count, each once
+pub record AreSlots (entries : List Slotted) : Type 0 where
+  pub each : AllByRecursion (λ n. (1 ≤ n) × (n ≤ length entries)) (map (λ e. e.0) entries)
+  pub distinct : AreDistinct (map (λ e. e.0) entries)

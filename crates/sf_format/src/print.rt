@@ -1,0 +1,83 @@
+//! Print formats.
+ghost use Rattle.std.specs.Prelude.{◌≡◌, ◌≤◌, ◌↔◌, IsSome, [], ◌∷◌, length};
+ghost use Rattle.sf_format.specs.Slots.{AreSlots, kind_with};
+ghost use Rattle.sf_format.specs.Units.{AreProperUnits, values_of};
+
+use crate::unit::Unit;
+use sf_base::Kind;
+use std::marker::Model;
+
+/// A print format: its units, and the count of its values.
+#[derive(Drop)]
+pub struct PrintFormat {
+    units: Vec<Unit>,
+    values: u8,
+}
+
+impl Model for PrintFormat {
+    ghost use Rattle.std.specs.Prelude.{◌≡◌, List, length};
+    ghost use Rattle.sf_format.specs.declared.unit.Unit.{Unit as PrintUnit};
+    ghost use Rattle.sf_format.specs.Units.{AreAccepted, values_of};
+
+    ghost Value = { List PrintUnit };
+
+    ghost view = { λ f. f.units.items };
+
+    ghost invariant = { λ f. record {
+      accepted : AreAccepted f.units.items;
+      counted : f.values ≡ length (values_of f.units.items);
+    } };
+}
+
+/// The kind of the value that the unit prints, if it prints the one with the slot.
+fn printed_kind(unit: &Unit, slot: u8) -> Option<Kind>
+    ensures { result ≡ kind_with slot (values_of (unit.now ∷ [])) }
+{
+    match unit {
+        Unit::Conv(conversion) if conversion.slot == slot => Some(conversion.kind),
+        _ => None,
+    }
+}
+
+/// The kind of the value with the slot.
+fn find_printed_kind(units: &[Unit], slot: u8) -> Option<Kind>
+    ensures { result ≡ kind_with slot (values_of units.now) }
+{
+    for unit in units {
+        let kind = printed_kind(unit, slot);
+        if kind.is_some() {
+            return kind;
+        }
+    }
+    None
+}
+
+impl PrintFormat {
+    /// The units, in order.
+    pub fn directives(&self) -> &[Unit]
+        ensures value { result.now ≡ self.now }
+        ensures proper { AreProperUnits result.now }
+        ensures short { length result.now ≤ 4096 }
+        ensures few { length (values_of result.now) ≤ 32 }
+        ensures slots { AreSlots (values_of result.now) }
+    {
+        &self.units
+    }
+
+    /// How many values the format prints.
+    pub fn values(&self) -> u8
+        ensures count { result ≡ length (values_of self.now) }
+        ensures few { result ≤ 32 }
+    {
+        self.values
+    }
+
+    /// The kind of the value with the slot; None if there is none. Slots are counted from 1.
+    pub fn kind(&self, slot: u8) -> Option<Kind>
+        ensures kind { result ≡ kind_with slot (values_of self.now) }
+        ensures some { let count = length (values_of self.now) in
+            IsSome result ↔ ((1 ≤ slot) × (slot ≤ count)) }
+    {
+        find_printed_kind(self.directives(), slot)
+    }
+}

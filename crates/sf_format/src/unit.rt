@@ -1,0 +1,44 @@
+//! The units of a print format.
+use sf_base::Kind;
+
+/// What a conversion of a print format prints: the letters `d i`, `u`, `o`, `x`, `X`, `s` and `c`.
+#[derive(Clone, Copy, Debug, PartialEq, Eq)]
+pub enum PrintLetter {
+    Signed,
+    Unsigned,
+    Octal,
+    HexLower,
+    HexUpper,
+    Text,
+    /// A text of one byte.
+    One,
+}
+
+/// A conversion of a print format.
+#[derive(Clone, Copy, Debug, PartialEq, Eq)]
+pub struct PrintConv {
+    pub letter: PrintLetter,
+    pub kind: Kind,
+    pub slot: u8,
+    /// The flag `-`.
+    pub minus: bool,
+    /// The flag `+`.
+    pub plus: bool,
+    /// The flag space.
+    pub blank: bool,
+    /// The flag `#`.
+    pub alt: bool,
+    /// The flag `0`.
+    pub zero: bool,
+    /// The least number of bytes; 0 if there is none.
+    pub width: u16,
+    pub precision: Option<u8>,
+}
+
+/// A unit of a print format (C11 7.21.6.1p3).
+#[derive(Clone, Copy, Debug, PartialEq, Eq)]
+pub enum Unit {
+    /// One byte, printed as it is; `%%` is the byte `%`.
+    Byte(u8),
+    Conv(PrintConv),
+}
