@@ -1,4 +1,5 @@
 pub mod Appending
+pub mod Around
 pub mod Digits
 pub mod FourDigits
 pub mod Staging

@@ -4,3 +4,4 @@ pub mod Numeral
 pub mod Sinks
 pub mod Handed
 pub mod Staged
+pub mod Runs

@@ -10,6 +10,7 @@ use Rattle.sf_format.specs.declared.unit.PrintLetter.TheVariants as letter
 use Rattle.sf_format.specs.declared.unit.PrintConv.{PrintConv}
 use Rattle.sf_format.specs.declared.unit.Unit.{Unit as PrintUnit}
 use Rattle.sf_format.specs.declared.unit.Unit.TheVariants as unit
+use Rattle.sf_format.specs.Units.{values_of}
 use Rattle.sf_print.specs.declared.fault.PrintFault.{PrintFault}
 use Rattle.sf_print.specs.declared.fault.PrintFault.TheVariants as fault
 use Rattle.sf_print.specs.Text.{value_text}
@@ -35,11 +36,6 @@ abbrev pub printed : List PrintUnit → List Datum → List ℕ
 printed units values = flat_map (unit_text values) units
 
 -- ---- what is refused
-
-abbrev pub conversions : List PrintUnit → ℕ
-conversions [] = 0
-conversions (unit.Byte b ∷ us) = conversions us
-conversions (unit.Conv c ∷ us) = conversions us + 1
 
 abbrev pub kind_of : Datum → Kind
 kind_of (Number k z) = k
@@ -100,4 +96,4 @@ length_or_fault None len = if nat_le len most_bytes then Ok len else Err fault.T
 
 -- the length of the printed text, or what is refused: the number of values, then the lowest slot at fault, then the length
 abbrev pub measured : List PrintUnit → List Datum → Result ℕ PrintFault
-measured units values = if not (length values == conversions units) then Err fault.WrongCount else length_or_fault (lowest_fault units values) (length (printed units values))
+measured units values = if not (length values == length (values_of units)) then Err fault.WrongCount else length_or_fault (lowest_fault units values) (length (printed units values))

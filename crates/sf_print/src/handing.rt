@@ -1,5 +1,5 @@
 //! Pieces of text on their way to a sink.
-ghost use Rattle.std.specs.Prelude.{◌≡◌, ◌≤◌, ◌<◌, ◌+◌, ◌^◌, [], replicate, length, IsOk, is_err, if◌then◌else◌};
+ghost use Rattle.std.specs.Prelude.{◌≡◌, ◌≤◌, ◌<◌, ◌+◌, ◌^◌, [], replicate, length, OnOk, is_err, if◌then◌else◌};
 ghost use Rattle.sf_print.specs.Sinks.{counted_on};
 ghost use Rattle.sf_print.specs.Handed.{Hands};
 ghost use Rattle.sf_print.specs.Staged.{Puts};
@@ -28,8 +28,8 @@ fn hand<K: Sink>(to: &mut K, written: u32, piece: &[u8]) -> Result<u32, u32>
 pub(crate) fn flush<K: Sink>(to: &mut K, stage: &mut Stage) -> Result<(), SinkFault>
     requires { stage.old.written + stage.old.len < 2 ^ 32 }
     ensures text { Puts (K.contents to.old) stage.old (K.contents to.new) stage.new [] result }
-    ensures len { IsOk result → stage.new.len ≡ 0 }
-    ensures count { IsOk result → stage.new.written ≡ stage.old.written + stage.old.len }
+    ensures len { OnOk result (stage.new.len ≡ 0) }
+    ensures count { OnOk result (stage.new.written ≡ stage.old.written + stage.old.len) }
     ensures failures { K.failures to.new
         ≡ (if is_err result then counted_on (K.failures to.old) else K.failures to.old) }
 {
@@ -51,8 +51,8 @@ fn hand_over<K: Sink>(to: &mut K, stage: &mut Stage, piece: &[u8]) -> Result<(),
     requires empty { stage.old.len ≡ 0 }
     requires room { stage.old.written + length piece.now < 2 ^ 32 }
     ensures text { Puts (K.contents to.old) stage.old (K.contents to.new) stage.new piece.now result }
-    ensures count { IsOk result → stage.new.written + stage.new.len
-        ≡ stage.old.written + stage.old.len + length piece.now }
+    ensures count { OnOk result (stage.new.written + stage.new.len
+        ≡ stage.old.written + stage.old.len + length piece.now) }
     ensures failures { K.failures to.new
         ≡ (if is_err result then counted_on (K.failures to.old) else K.failures to.old) }
 {
@@ -72,16 +72,18 @@ fn hand_over<K: Sink>(to: &mut K, stage: &mut Stage, piece: &[u8]) -> Result<(),
 pub(crate) fn put<K: Sink>(to: &mut K, stage: &mut Stage, piece: &[u8]) -> Result<(), SinkFault>
     requires { stage.old.written + stage.old.len + length piece.now < 2 ^ 32 }
     ensures text { Puts (K.contents to.old) stage.old (K.contents to.new) stage.new piece.now result }
-    ensures count { IsOk result → stage.new.written + stage.new.len
-        ≡ stage.old.written + stage.old.len + length piece.now }
+    ensures count { OnOk result (stage.new.written + stage.new.len
+        ≡ stage.old.written + stage.old.len + length piece.now) }
     ensures failures { K.failures to.new
         ≡ (if is_err result then counted_on (K.failures to.old) else K.failures to.old) }
 {
-    if piece.len() > STAGE_BYTES - stage.len {
-        flush(to, stage)?;
-        if piece.len() > STAGE_BYTES {
-            return hand_over(to, stage, piece);
-        }
+    if piece.len() <= STAGE_BYTES - stage.len {
+        stage.hold(piece);
+        return Ok(());
+    }
+    flush(to, stage)?;
+    if piece.len() > STAGE_BYTES {
+        return hand_over(to, stage, piece);
     }
     stage.hold(piece);
     Ok(())
@@ -96,8 +98,8 @@ pub(crate) fn put_run<K: Sink>(
 ) -> Result<(), SinkFault>
     requires { stage.old.written + stage.old.len + count < 2 ^ 32 }
     ensures text { Puts (K.contents to.old) stage.old (K.contents to.new) stage.new (replicate count byte) result }
-    ensures count { IsOk result → stage.new.written + stage.new.len
-        ≡ stage.old.written + stage.old.len + count }
+    ensures count { OnOk result (stage.new.written + stage.new.len
+        ≡ stage.old.written + stage.old.len + count) }
     ensures failures { K.failures to.new
         ≡ (if is_err result then counted_on (K.failures to.old) else K.failures to.old) }
 {

@@ -4,9 +4,18 @@
 mod decimal;
 mod fault;
 mod handing;
+mod integer;
+mod list_sink;
 mod numeral;
+mod piece;
+mod script_sink;
 mod sink;
 mod stage;
+mod std_sink;
+mod text;
 
 pub use fault::PrintFault;
+pub use list_sink::ListSink;
+pub use script_sink::{ScriptSink, WriteStep};
 pub use sink::{Sink, SinkFault};
+pub use std_sink::StdSink;
