@@ -1,8 +1,11 @@
 -- The parts of an integer's text, joined as the pieces are put.
-use Rattle.std.proofs.Common.{◌≡◌, ℕ, zero, suc, ◌+◌, Bool, true, false, List, [], ◌++◌, length, replicate, ℤ, unsigned_abs, refl, sym, ap, ◌∙◌, arith, append_assoc, append-nil, length-append}
+use Rattle.std.proofs.Common.{◌≡◌, ℕ, zero, suc, ◌+◌, Bool, true, false, List, [], ◌++◌, length, replicate, drop, ◌≤◌, ℤ, unsigned_abs, refl, sym, ap, ◌∙◌, arith, append_assoc, append-nil, length-append}
 use Rattle.std.proofs.lemmas.List.{replicate-append-replicate, length-replicate}
+use Rattle.std.proofs.lemmas.List.{drop_all}
 use Rattle.sf_format.specs.declared.unit.PrintConv.{PrintConv}
-use Rattle.sf_print.specs.Text.{integer_text, with_sign, sign, mark, prefix, numeral, all_digits, filled, with_octal_zero, blanks, zeros, left_blanks, inner_zeros, right_blanks}
+use Rattle.sf_format.specs.declared.unit.PrintLetter.{PrintLetter}
+use Rattle.sf_format.specs.declared.unit.PrintLetter.TheVariants as letter
+use Rattle.sf_print.specs.Text.{base_of, is_upper, integer_text, with_sign, sign, mark, prefix, numeral, all_digits, filled, with_octal_zero, blanks, zeros, left_blanks, inner_zeros, right_blanks}
 
 pub abs_of : (negative : Bool) (m : ℕ) → unsigned_abs (with_sign negative m) ≡ m
 abs_of true zero = refl
@@ -28,3 +31,13 @@ laid c z m ds sgn mrk left inner lead right len abs is_numeral is_sign is_mark l
     ∙ regroup (replicate left 32) sgn mrk (replicate inner 48) (replicate lead 48) ds (replicate right 32)
     ∙ (λ t. blanks ((is_left ∙ ap (left_blanks c) l) t) ++ (sgn ++ mrk) ++ zeros ((is_inner ∙ ap (inner_zeros c) l) t) ++ (replicate lead 48 ++ ds) ++ blanks ((is_right ∙ ap (right_blanks c) l) t))
     ∙ (λ t. text_around c (p t) (d t))
+
+-- other letters have decimal digits
+pub ten : (l : PrintLetter) → (l ≡ letter.Octal → ⊥) → (l ≡ letter.HexLower → ⊥) → (l ≡ letter.HexUpper → ⊥) → (10 ≡ base_of l) × (false ≡ is_upper l)
+ten letter.Octal o x u = absurd (o refl)
+ten letter.HexLower o x u = absurd (x refl)
+ten letter.HexUpper o x u = absurd (u refl)
+ten _ o x u = (refl, refl)
+
+pub at_end : (ds buf : List ℕ) → length buf ≡ 64 → ds ++ drop 64 buf ≡ ds
+at_end ds buf e = ap (λ (t : List ℕ). ds ++ t) (drop_all 64 buf (omega arith)) ∙ append-nil ds

@@ -3,4 +3,5 @@ pub mod Around
 pub mod Digits
 pub mod FourDigits
 pub mod Staging
+pub mod Judged
 pub mod OnlyNumeral

@@ -7,7 +7,7 @@ use Rattle.std.specs.Result.{IsErrAnd}
 use Rattle.std.specs.Io.KnownBytes.{Appends, Keeps}
 use Rattle.sf_print.specs.declared.stage.Stage.{Stage}
 use Rattle.sf_print.specs.Staged.{held, Holds, Broke, HoldsOrBroke, Puts}
-use Rattle.sf_print.proofs.Appending.{Appends-then, Appends-none}
+use Rattle.sf_print.proofs.Appending.{Appends-then, Appends-none, Appends-same}
 
 -- all of the piece was put: from this many taken and these held to that many taken and those held
 abbrev pub PutsAll : Option (List ℕ) → ℕ → List ℕ → Option (List ℕ) → ℕ → List ℕ → List ℕ → Type 0
@@ -101,3 +101,20 @@ flat_map_more {X} f xs i d h =
 
 pub length_more : {X : Type 0} (f : X → List ℕ) (xs : List X) (i : ℕ) (d : X) → i < length xs → length (flat_map f (take i xs)) + length (f (get_or xs i d)) ≡ length (flat_map f (take (i + 1) xs))
 length_more {X} f xs i d h = sym (length-append (flat_map f (take i xs)) (f (get_or xs i d))) ∙ ap length (flat_map_more f xs i d h)
+
+-- nothing was put yet
+pub begins : (now : Option (List ℕ)) (s : Stage) → s.len ≡ 0 → s.written ≡ 0 → Holds now now s.written (held s) []
+begins now s e w = ([], Appends-none now, w, sym (empty_held s e))
+
+-- nothing is held any more
+pub all_written : (a b : Option (List ℕ)) (s t : Stage) (p : List ℕ) → s.len ≡ 0 → s.written ≡ 0 → t.len ≡ 0 → PutsAll a s.written (held s) b t.written (held t) (p ++ []) → Appends a b p
+all_written a b s t p e w none all =
+    let (front, known, count, is) = all a [] (begins a s e w) in
+    Appends-same a b front p (sym (sym (append-nil p) ∙ is ∙ ap (λ (x : List ℕ). front ++ x) (empty_held t none) ∙ append-nil front)) known
+
+-- the sink failed after a front
+pub front_written : (a b : Option (List ℕ)) (s : Stage) (v : ℕ) (p : List ℕ) → s.len ≡ 0 → s.written ≡ 0 → Stops a s.written (held s) b v p → Appends a b (take v p) × (v ≤ length p)
+front_written a b s v p e w stop =
+    let (front, rest, known, count, is) = stop a [] (begins a s e w) in
+    let same : take v p ≡ front = (λ i. take (count i) (is i)) ∙ take-append-length front rest in
+    (Appends-same a b front (take v p) (sym same) known, omega (arith, count, ap length is, length-append front rest))

@@ -1,6 +1,7 @@
 -- The printed text of a format and values, and what is refused. (C11 7.21.6.1, paragraphs 2 to 4 and 9)
-use Rattle.std.specs.Prelude.{◌≡◌, ℕ, ◌-◌, ℤ, Bool, true, false, ◌==◌, nat_le, not, if◌then◌else◌, List, [], ◌∷◌, length, slice_get, fold, Option, Some, None, Result, Ok, Err}
+use Rattle.std.specs.Prelude.{◌≡◌, ◌≤◌, take, ℕ, ◌-◌, Bool, true, false, ◌==◌, nat_le, not, if◌then◌else◌, List, [], ◌∷◌, length, slice_get, fold, Option, Some, None, Result, Ok, Err}
 use Rattle.std.specs.List.{flat_map}
+use Rattle.std.specs.Io.KnownBytes.{Appends}
 use Rattle.sf_base.specs.declared.values.Kind.{Kind}
 use Rattle.sf_base.specs.declared.values.Kind.TheVariants as kind
 use Rattle.sf_base.specs.Data.{Datum}
@@ -19,8 +20,7 @@ use Rattle.sf_print.specs.Text.{value_text}
 
 -- the value of a slot; slots count from 1
 abbrev pub value_at : List Datum → ℕ → Option Datum
-value_at values 0 = None
-value_at values slot = slice_get values (slot - 1)
+value_at values slot = if slot == 0 then None else slice_get values (slot - 1)
 
 -- a literal is printed as it stands, a conversion as the text of its slot's value
 abbrev pub text_or_none : PrintConv → Option Datum → List ℕ
@@ -97,3 +97,15 @@ length_or_fault None len = if nat_le len most_bytes then Ok len else Err fault.T
 -- the length of the printed text, or what is refused: the number of values, then the lowest slot at fault, then the length
 abbrev pub measured : List PrintUnit → List Datum → Result ℕ PrintFault
 measured units values = if not (length values == length (values_of units)) then Err fault.WrongCount else length_or_fault (lowest_fault units values) (length (printed units values))
+
+-- ---- what is written
+
+abbrev pub is_sink_fault : Result ℕ PrintFault → Bool
+is_sink_fault (Err (fault.Sink written)) = true
+is_sink_fault _ = false
+
+-- the sink took the text whole, whose length is answered; or it failed after its first bytes, whose number is answered
+abbrev pub WritesText : Option (List ℕ) → Option (List ℕ) → List ℕ → Result ℕ PrintFault → Type 0
+WritesText old new text (Ok n) = Appends old new text × (n ≡ length text)
+WritesText old new text (Err (fault.Sink written)) = Appends old new (take written text) × (written ≤ length text)
+WritesText old new text (Err f) = ⊥

@@ -1,5 +1,5 @@
 -- A text on its way to a sink: its front was taken, the bytes after it are held.
-use Rattle.std.specs.Prelude.{◌≡◌, ℕ, List, ◌++◌, length, take, Option, Result, Ok, Err}
+use Rattle.std.specs.Prelude.{◌≡◌, ◌≤◌, ℕ, List, ◌++◌, length, take, Option, Result, Ok, Err}
 use Rattle.std.specs.Io.KnownBytes.{Appends}
 use Rattle.sf_print.specs.declared.stage.Stage.{Stage}
 
@@ -22,3 +22,8 @@ HoldsOrBroke old now s text (Err e) = Broke old now s.written text
 -- the piece was put after every text that was under way
 abbrev pub Puts : {A E : Type 0} → Option (List ℕ) → Stage → Option (List ℕ) → Stage → List ℕ → Result A E → Type 0
 Puts was s now t piece result = (old : Option (List ℕ)) (text : List ℕ) → Holds old was s.written (held s) text → HoldsOrBroke old now t (text ++ piece) result
+
+-- the sink took all of the text, or where it failed its first bytes, this many
+abbrev pub Writes : {A : Type 0} → Option (List ℕ) → Option (List ℕ) → List ℕ → Result A ℕ → Type 0
+Writes old new text (Ok a) = Appends old new text
+Writes old new text (Err written) = Appends old new (take written text) × (written ≤ length text)

@@ -5,6 +5,7 @@ ghost use Rattle.std.specs.Prelude.{◌≡◌, ◌≤◌, ◌+◌, ◌++◌, rep
 pub(crate) const STAGE_BYTES: usize = 128;
 
 /// Bytes that the sink hasn't been handed yet, and how many it took.
+#[derive(Drop)]
 pub(crate) struct Stage {
     pub(crate) buf: [u8; STAGE_BYTES],
     pub(crate) len: usize,
