@@ -2,6 +2,7 @@
 use Rattle.std.proofs.Common.{◌≡◌, ℕ, ◌+◌, ◌-◌, ◌≤◌, ◌<◌, List, [], ◌∷◌, ◌++◌, length, take, drop, subst, refl, sym, ap, ◌∙◌, arith, append_assoc, append-nil, length-append, Option, Some, None, Result, Ok, Err, replicate, get_or}
 use Rattle.std.proofs.lemmas.List.{replicate-append-replicate, take-append-drop, drop_more, take_more}
 use Rattle.std.proofs.lemmas.List.Concat.{flat_map-append}
+use Rattle.std.proofs.Math.Seq.{take-append_seam}
 use Rattle.std.specs.List.{flat_map}
 use Rattle.std.specs.Result.{IsErrAnd}
 use Rattle.std.specs.Io.KnownBytes.{Appends, Keeps}
@@ -116,5 +117,5 @@ all_written a b s t p e w none all =
 pub front_written : (a b : Option (List ℕ)) (s : Stage) (v : ℕ) (p : List ℕ) → s.len ≡ 0 → s.written ≡ 0 → Stops a s.written (held s) b v p → Appends a b (take v p) × (v ≤ length p)
 front_written a b s v p e w stop =
     let (front, rest, known, count, is) = stop a [] (begins a s e w) in
-    let same : take v p ≡ front = (λ i. take (count i) (is i)) ∙ take-append-length front rest in
+    let same : take v p ≡ front = (λ i. take (count i) (is i)) ∙ take-append_seam front rest in
     (Appends-same a b front (take v p) (sym same) known, omega (arith, count, ap length is, length-append front rest))

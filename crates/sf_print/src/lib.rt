@@ -6,6 +6,7 @@ mod fault;
 mod handing;
 mod integer;
 mod judging;
+pub mod laws;
 mod list_sink;
 mod numeral;
 mod piece;
