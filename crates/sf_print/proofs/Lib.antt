@@ -4,4 +4,5 @@ pub mod Digits
 pub mod FourDigits
 pub mod Staging
 pub mod Judged
+pub mod Numerals
 pub mod OnlyNumeral

@@ -1,11 +1,9 @@
 //! Printing values by a format.
-ghost use Rattle.std.specs.Prelude.{◌≡◌, ◌<◌, ◌≤◌, ◌+◌, ◌^◌, [], ◌∷◌, Option, Some, None, length, map, min, take, OnOk, IfOk, IfErr, is_err, if◌then◌else◌};
-ghost use Rattle.std.specs.List.{flat_map};
-ghost use Rattle.std.specs.Io.KnownBytes.{Appends};
+ghost use Rattle.std.specs.Prelude.{◌≡◌, ◌<◌, ◌+◌, ◌^◌, length, map, min, OnOk, IfErr, is_err, if◌then◌else◌};
 ghost use Rattle.sf_base.specs.Data.{datum_of};
 ghost use Rattle.sf_print.specs.Sinks.{counted_on};
 ghost use Rattle.sf_print.specs.Staged.{Puts, Writes};
-ghost use Rattle.sf_print.specs.Printed.{unit_text, printed, measured, most_bytes, WritesText, is_sink_fault};
+ghost use Rattle.sf_print.specs.Printed.{unit_text, printed, measured, WritesText, is_sink_fault};
 
 use crate::fault::PrintFault;
 use crate::handing::{flush, put};
@@ -149,8 +147,8 @@ pub fn fprint<K: Sink>(
     values: &[Value<'_>],
 ) -> Result<u32, PrintFault>
     ensures refused { IfErr (measured format.now (map datum_of values.now)) (λ f. (result ≡ Err f) × (to.new ≡ to.old)) }
-    ensures written { IfOk (measured format.now (map datum_of values.now)) (λ n.
-        WritesText (K.contents to.old) (K.contents to.new) (printed format.now (map datum_of values.now)) result) }
+    ensures written { OnOk (measured format.now (map datum_of values.now))
+        (WritesText (K.contents to.old) (K.contents to.new) (printed format.now (map datum_of values.now)) result) }
     ensures failures { K.failures to.new
         ≡ (if is_sink_fault result then counted_on (K.failures to.old) else K.failures to.old) }
 {
