@@ -1,6 +1,7 @@
 -- Pieces that a sink took one after the other.
 use Rattle.std.proofs.Common.{◌≡◌, ℕ, zero, suc, ◌+◌, ◌-◌, ◌≤◌, List, [], ◌∷◌, ◌++◌, length, take, drop, subst, refl, sym, ap, ◌∙◌, arith, append_assoc, append-nil, length-append, Option, Some, None}
 use Rattle.std.proofs.lemmas.List.{take_rest, length-drop}
+use Rattle.std.proofs.Math.Seq.{take-append_seam}
 use Rattle.std.specs.Io.KnownBytes.{Appends, Keeps}
 
 pub Appends-none : (a : Option (List ℕ)) → Appends a a []
@@ -33,3 +34,10 @@ took_more xs done n h most =
     let rest = take_rest xs done in
     let len : length (take (length xs - done) (drop done xs)) ≡ length xs - done = ap length rest ∙ length-drop done xs in
     (omega arith, take_on done n xs h ∙ ap (λ (t : List ℕ). take done xs ++ take n t) (sym rest))
+
+-- a piece written over a buffer from a place on
+pub put_at : (at start end : ℕ) (piece old new : List ℕ) → start ≡ at → end ≡ at + length piece → at ≤ length new → drop start new ≡ piece ++ drop end old → take start new ≡ take start old → take end new ≡ take at old ++ piece
+put_at at start end piece old new s e within written before =
+    ap (λ (n : ℕ). take n new) e ∙ take_on at (length piece) new within
+    ∙ (λ i. (ap (λ (n : ℕ). take n new) (sym s) ∙ before ∙ ap (λ (n : ℕ). take n old) s) i ++ take (length piece) ((ap (λ (n : ℕ). drop n new) (sym s) ∙ written) i))
+    ∙ ap (λ (t : List ℕ). take at old ++ t) (take-append_seam piece (drop end old))

@@ -1,6 +1,6 @@
 -- The decimal digits of a number, two and four at a time.
 use Rattle.std.proofs.Common.{◌≡◌, ℕ, zero, suc, ◌+◌, ◌-◌, ◌*◌, ◌/◌, ◌%◌, ◌^◌, ◌<◌, ◌≤◌, Bool, true, ◌&&◌, T, eqb, List, [], ◌∷◌, ◌++◌, length, get_or, refl, ap, ◌∙◌, inl, inr, arith, eq-zero-or-pos, eqb→eq, append_assoc, length-append}
-use Rattle.std.proofs.lemmas.Fmt.{decimal_digit, decimal_step}
+use Rattle.std.proofs.lemmas.Fmt.{decimal_digit, decimal_step, length-decimal-le}
 use Rattle.std.specs.Fmt.{decimal}
 use lib.Ieee.Fits.{and_l, and_r}
 use Rattle.sf_print.specs.declared.decimal.TheConstants.{PAIRS}
@@ -52,3 +52,12 @@ decimal_four n lo hi =
 pub length_four : (n : ℕ) → 10000 ≤ n → n < 2 ^ 64 → length (decimal n) ≡ length (decimal (n / 10000)) + 4
 length_four n lo hi = ap length (decimal_four n lo hi) ∙ length-append _ _
 
+
+pub length_three : (n : ℕ) → 100 ≤ n → n < 1000 → length (decimal n) ≡ 3
+length_three n lo hi = omega (arith, length_pair n lo (omega arith), length_one (n / 100) (omega arith))
+
+pub length_four_only : (n : ℕ) → 1000 ≤ n → n < 10000 → length (decimal n) ≡ 4
+length_four_only n lo hi = omega (arith, length_pair n (omega arith) (omega arith), length_two (n / 100) (omega arith) (omega arith))
+
+pub length_at_most : (n : ℕ) → n < 2 ^ 64 → length (decimal n) ≤ 20
+length_at_most n h = length-decimal-le 20 n (omega arith) (omega arith) (omega arith)

@@ -3,5 +3,7 @@ pub mod Printed
 pub mod Numeral
 pub mod Sinks
 pub mod Handed
+pub mod Plain
+pub mod Printables
 pub mod Staged
 pub mod Runs

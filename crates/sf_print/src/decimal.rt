@@ -69,3 +69,25 @@ pub(crate) fn write_decimal(number: u64, buf: &mut [u8], end: usize) -> usize
     }
     write_short(left, buf, at)
 }
+
+/// How many decimal digits a number has.
+#[inline]
+pub(crate) fn decimal_len(number: u64) -> usize
+    ensures { result ≡ length (decimal number) }
+{
+    let mut left = number;
+    let mut count = 0;
+    while left >= 10_000 {
+        left /= 10_000;
+        count += 4;
+    }
+    if left >= 1000 {
+        count + 4
+    } else if left >= 100 {
+        count + 3
+    } else if left >= 10 {
+        count + 2
+    } else {
+        count + 1
+    }
+}

@@ -1,8 +1,10 @@
 //! Pieces of text on their way to a sink.
-ghost use Rattle.std.specs.Prelude.{◌≡◌, ◌≤◌, ◌<◌, ◌+◌, ◌^◌, [], replicate, length, OnOk, is_err, if◌then◌else◌};
+ghost use Rattle.std.specs.Prelude.{◌≡◌, ◌≤◌, ◌<◌, ◌+◌, ◌^◌, ◌++◌, ◌∷◌, [], replicate, length, OnOk, is_err, if◌then◌else◌};
+ghost use Rattle.std.specs.Fmt.{decimal};
 ghost use Rattle.sf_print.specs.Sinks.{counted_on};
 ghost use Rattle.sf_print.specs.Handed.{Hands};
 ghost use Rattle.sf_print.specs.Staged.{Puts};
+ghost use Rattle.sf_print.specs.Plain.{minus};
 
 use crate::sink::{Sink, SinkFault};
 use crate::stage::{STAGE_BYTES, Stage};
@@ -111,5 +113,66 @@ pub(crate) fn put_run<K: Sink>(
         flush(to, stage)?;
     }
     stage.hold_run(byte, left);
+    Ok(())
+}
+
+/// Puts a byte behind what is held.
+#[inline]
+pub(crate) fn put_byte<K: Sink>(to: &mut K, stage: &mut Stage, byte: u8) -> Result<(), SinkFault>
+    requires { stage.old.written + stage.old.len + 1 < 2 ^ 32 }
+    ensures text { Puts (K.contents to.old) stage.old (K.contents to.new) stage.new (byte ∷ []) result }
+    ensures count { OnOk result (stage.new.written + stage.new.len
+        ≡ stage.old.written + stage.old.len + 1) }
+    ensures failures { K.failures to.new
+        ≡ (if is_err result then counted_on (K.failures to.old) else K.failures to.old) }
+{
+    if stage.len < STAGE_BYTES {
+        stage.hold_byte(byte);
+        return Ok(());
+    }
+    flush(to, stage)?;
+    stage.hold_byte(byte);
+    Ok(())
+}
+
+/// Makes room for a sign and the digits of a number.
+#[inline]
+fn make_room<K: Sink>(to: &mut K, stage: &mut Stage) -> Result<(), SinkFault>
+    requires { stage.old.written + stage.old.len < 2 ^ 32 }
+    ensures text { Puts (K.contents to.old) stage.old (K.contents to.new) stage.new [] result }
+    ensures room { OnOk result (stage.new.len + 21 ≤ 128) }
+    ensures count { OnOk result (stage.new.written + stage.new.len
+        ≡ stage.old.written + stage.old.len) }
+    ensures failures { K.failures to.new
+        ≡ (if is_err result then counted_on (K.failures to.old) else K.failures to.old) }
+{
+    if stage.len <= STAGE_BYTES - 21 {
+        return Ok(());
+    }
+    flush(to, stage)
+}
+
+/// Puts a minus, if there is one, and the decimal digits of a number.
+#[inline]
+pub(crate) fn put_number<K: Sink>(
+    to: &mut K,
+    stage: &mut Stage,
+    negative: bool,
+    magnitude: u64,
+) -> Result<(), SinkFault>
+    requires { stage.old.written + stage.old.len < 2 ^ 32 }
+    ensures text { Puts (K.contents to.old) stage.old (K.contents to.new) stage.new (minus negative ++ decimal magnitude) result }
+    ensures count { OnOk result (stage.new.written + stage.new.len
+        ≡ stage.old.written + stage.old.len + length (minus negative ++ decimal magnitude)) }
+    ensures failures { K.failures to.new
+        ≡ (if is_err result then counted_on (K.failures to.old) else K.failures to.old) }
+{
+    make_room(to, stage)?;
+    if negative {
+        stage.hold_byte(b'-');
+        stage.hold_decimal(magnitude);
+        return Ok(());
+    }
+    stage.hold_decimal(magnitude);
     Ok(())
 }

@@ -1,5 +1,8 @@
 //! Bytes held back, so that a sink is handed many at once.
-ghost use Rattle.std.specs.Prelude.{◌≡◌, ◌≤◌, ◌+◌, ◌++◌, replicate, length, take};
+ghost use Rattle.std.specs.Prelude.{◌≡◌, ◌≤◌, ◌<◌, ◌+◌, ◌++◌, ◌∷◌, [], replicate, length, take};
+ghost use Rattle.std.specs.Fmt.{decimal};
+
+use crate::decimal::{decimal_len, write_decimal};
 
 /// How many bytes are held at most.
 pub(crate) const STAGE_BYTES: usize = 128;
@@ -49,6 +52,31 @@ impl Stage {
     {
         let end = self.len + count;
         self.buf[self.len..end].fill(byte);
+        self.len = end;
+    }
+
+    /// Holds a byte.
+    #[inline]
+    pub(crate) fn hold_byte(&mut self, byte: u8)
+        requires { self.old.len < 128 }
+        ensures held { take self.new.len self.new.buf ≡ take self.old.len self.old.buf ++ byte ∷ [] }
+        ensures len { self.new.len ≡ self.old.len + 1 }
+        ensures written { self.new.written ≡ self.old.written }
+    {
+        self.buf[self.len] = byte;
+        self.len += 1;
+    }
+
+    /// Holds the decimal digits of a number.
+    #[inline]
+    pub(crate) fn hold_decimal(&mut self, number: u64)
+        requires { self.old.len + 20 ≤ 128 }
+        ensures held { take self.new.len self.new.buf ≡ take self.old.len self.old.buf ++ decimal number }
+        ensures len { self.new.len ≡ self.old.len + length (decimal number) }
+        ensures written { self.new.written ≡ self.old.written }
+    {
+        let end = self.len + decimal_len(number);
+        write_decimal(number, &mut self.buf, end);
         self.len = end;
     }
 }

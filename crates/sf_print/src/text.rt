@@ -1,9 +1,10 @@
 //! The text of a value, in pieces.
-ghost use Rattle.std.specs.Prelude.{◌≡◌, ◌+◌, ◌<◌, ◌≤◌, ◌^◌, ◌++◌, IsTrue, ℤ, length, take, min};
+ghost use Rattle.std.specs.Prelude.{◌≡◌};
 ghost use Rattle.std.specs.List.{flat_map};
 ghost use Rattle.sf_base.specs.Data.{datum_of};
 ghost use Rattle.sf_print.specs.Runs.{piece_bytes};
-ghost use Rattle.sf_print.specs.Text.{bytes_text, shown_bytes, value_text, with_sign};
+ghost use Rattle.sf_print.specs.Printables.{IsOf};
+ghost use Rattle.sf_print.specs.Text.{bytes_text, shown_bytes, value_text};
 
 use crate::integer::{DIGIT_BYTES, integer_pieces};
 use crate::piece::{Piece, Pieces};
@@ -37,6 +38,29 @@ fn text_pieces<'a>(conv: &PrintConv, bytes: &'a [u8]) -> Pieces<'a>
     ]
 }
 
+/// What is printed of a value: a sign (true: a minus) and a magnitude, or bytes.
+pub(crate) enum Printable<'a> {
+    Number(bool, u64),
+    Bytes(&'a [u8]),
+}
+
+#[inline]
+pub(crate) fn printable_of<'a>(value: Value<'a>) -> Printable<'a>
+    ensures { IsOf result (datum_of value.entry) }
+{
+    match value {
+        Value::I8(n) => Printable::Number(n < 0, n.unsigned_abs() as u64),
+        Value::I16(n) => Printable::Number(n < 0, n.unsigned_abs() as u64),
+        Value::I32(n) => Printable::Number(n < 0, n.unsigned_abs() as u64),
+        Value::I64(n) => Printable::Number(n < 0, n.unsigned_abs()),
+        Value::U8(n) => Printable::Number(false, n as u64),
+        Value::U16(n) => Printable::Number(false, n as u64),
+        Value::U32(n) => Printable::Number(false, n as u64),
+        Value::U64(n) => Printable::Number(false, n),
+        Value::Text(bytes) => Printable::Bytes(bytes),
+    }
+}
+
 /// The pieces of a value's text; the digits of an integer are written to the buffer.
 pub(crate) fn value_pieces<'a>(
     conv: &PrintConv,
@@ -45,15 +69,8 @@ pub(crate) fn value_pieces<'a>(
 ) -> Pieces<'a>
     ensures { flat_map piece_bytes result ≡ value_text conv.now (datum_of value.entry) }
 {
-    match value {
-        Value::I8(n) => integer_pieces(conv, n < 0, n.unsigned_abs() as u64, buf),
-        Value::I16(n) => integer_pieces(conv, n < 0, n.unsigned_abs() as u64, buf),
-        Value::I32(n) => integer_pieces(conv, n < 0, n.unsigned_abs() as u64, buf),
-        Value::I64(n) => integer_pieces(conv, n < 0, n.unsigned_abs(), buf),
-        Value::U8(n) => integer_pieces(conv, false, n as u64, buf),
-        Value::U16(n) => integer_pieces(conv, false, n as u64, buf),
-        Value::U32(n) => integer_pieces(conv, false, n as u64, buf),
-        Value::U64(n) => integer_pieces(conv, false, n, buf),
-        Value::Text(bytes) => text_pieces(conv, bytes),
+    match printable_of(value) {
+        Printable::Number(negative, magnitude) => integer_pieces(conv, negative, magnitude, buf),
+        Printable::Bytes(bytes) => text_pieces(conv, bytes),
     }
 }
