@@ -2,6 +2,7 @@ pub mod Appending
 pub mod Around
 pub mod Digits
 pub mod FourDigits
+pub mod Plainness
 pub mod Staging
 pub mod Judged
 pub mod Numerals

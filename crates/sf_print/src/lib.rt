@@ -10,6 +10,7 @@ pub mod laws;
 mod list_sink;
 mod numeral;
 mod piece;
+mod plain;
 mod print;
 mod script_sink;
 mod sink;

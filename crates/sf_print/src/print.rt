@@ -3,21 +3,60 @@ ghost use Rattle.std.specs.Prelude.{◌≡◌, ◌<◌, ◌+◌, ◌^◌, length
 ghost use Rattle.sf_base.specs.Data.{datum_of};
 ghost use Rattle.sf_print.specs.Sinks.{counted_on};
 ghost use Rattle.sf_print.specs.Staged.{Puts, Writes};
+ghost use Rattle.sf_print.specs.Text.{value_text};
 ghost use Rattle.sf_print.specs.Printed.{unit_text, printed, measured, WritesText, is_sink_fault};
 
+use crate::decimal::decimal_len;
 use crate::fault::PrintFault;
-use crate::handing::{flush, put};
+use crate::handing::{flush, put_byte, put_number};
 use crate::integer::DIGIT_BYTES;
 use crate::judging::{find_lowest_fault, value_of_slot};
 use crate::piece::{pieces_len, put_pieces};
+use crate::plain::plain_number;
 use crate::sink::{Sink, SinkFault};
 use crate::stage::Stage;
 use crate::text::value_pieces;
 use sf_base::Value;
-use sf_format::{PrintFormat, Unit};
+use sf_format::{PrintConv, PrintFormat, Unit};
 
 /// The greatest length of a printed text.
 const MOST_BYTES: u32 = 2147483647;
+
+/// Puts the text of a value.
+#[inline]
+fn put_value<K: Sink>(
+    to: &mut K,
+    stage: &mut Stage,
+    conv: &PrintConv,
+    value: &Value<'_>,
+) -> Result<(), SinkFault>
+    requires { stage.old.written + stage.old.len + length (value_text conv.now (datum_of value.now)) < 2 ^ 32 }
+    ensures text { Puts (K.contents to.old) stage.old (K.contents to.new) stage.new (value_text conv.now (datum_of value.now)) result }
+    ensures count { OnOk result (stage.new.written + stage.new.len
+        ≡ stage.old.written + stage.old.len + length (value_text conv.now (datum_of value.now))) }
+    ensures failures { K.failures to.new
+        ≡ (if is_err result then counted_on (K.failures to.old) else K.failures to.old) }
+{
+    if let Some((negative, magnitude)) = plain_number(conv, value) {
+        return put_number(to, stage, negative, magnitude);
+    }
+    let mut buf = [0; DIGIT_BYTES];
+    let pieces = value_pieces(conv, *value, &mut buf);
+    put_pieces(to, stage, &pieces)
+}
+
+/// The length of a value's text, or the most where it is longer.
+#[inline]
+fn value_len(conv: &PrintConv, value: &Value<'_>, most: u64) -> u64
+    requires { most < 2 ^ 32 }
+    ensures { result ≡ min most (length (value_text conv.now (datum_of value.now))) }
+{
+    if let Some((negative, magnitude)) = plain_number(conv, value) {
+        return most.min(negative as u64 + decimal_len(magnitude) as u64);
+    }
+    let mut buf = [0; DIGIT_BYTES];
+    pieces_len(&value_pieces(conv, *value, &mut buf), most)
+}
 
 /// Puts the text of a unit.
 fn put_unit<K: Sink>(
@@ -34,14 +73,10 @@ fn put_unit<K: Sink>(
         ≡ (if is_err result then counted_on (K.failures to.old) else K.failures to.old) }
 {
     match unit {
-        Unit::Byte(byte) => put(to, stage, &[*byte]),
+        Unit::Byte(byte) => put_byte(to, stage, *byte),
         Unit::Conv(conv) => match value_of_slot(values, conv.slot) {
             None => Ok(()),
-            Some(value) => {
-                let mut buf = [0; DIGIT_BYTES];
-                let pieces = value_pieces(conv, *value, &mut buf);
-                put_pieces(to, stage, &pieces)
-            }
+            Some(value) => put_value(to, stage, conv, value),
         },
     }
 }
@@ -93,10 +128,7 @@ fn unit_len(unit: &Unit, values: &[Value<'_>], most: u64) -> u64
         Unit::Byte(_) => most.min(1),
         Unit::Conv(conv) => match value_of_slot(values, conv.slot) {
             None => 0,
-            Some(value) => {
-                let mut buf = [0; DIGIT_BYTES];
-                pieces_len(&value_pieces(conv, *value, &mut buf), most)
-            }
+            Some(value) => value_len(conv, value, most),
         },
     }
 }

@@ -6,10 +6,10 @@ use Rattle.sf_print.proofs.print.put_unit.Goals as goal
 
 pub returns-in-Byte-clause-text : goal.returns-in-Byte-clause-text
 returns-in-Byte-clause-text g c =
-    Puts-same _ _ c.args.stage.now c.put.new.stage _ (unit_text (map datum_of c.args.values.now) c.args.unit.now) c.put.result (ap (unit_text (map datum_of c.args.values.now)) (sym c.in-Byte.is)) c.put.ensures.text
+    Puts-same _ _ c.args.stage.now c.put_byte.new.stage _ (unit_text (map datum_of c.args.values.now) c.args.unit.now) c.put_byte.result (ap (unit_text (map datum_of c.args.values.now)) (sym c.in-Byte.is)) c.put_byte.ensures.text
 
 pub returns-in-Some-clause-text : goal.returns-in-Some-clause-text
 returns-in-Some-clause-text g c =
     let values = map datum_of c.args.values.now in
-    Puts-same _ _ c.args.stage.now c.put_pieces.new.stage _ (unit_text values c.args.unit.now) c.put_pieces.result
-        (c.value_pieces-pieces.ensures ∙ ap (text_or_none c.in-Conv.conv) (sym c.in-Some.ensures) ∙ ap (unit_text values) (sym c.in-Conv.is)) c.put_pieces.ensures.text
+    Puts-same _ _ c.args.stage.now c.put_value.new.stage _ (unit_text values c.args.unit.now) c.put_value.result
+        (ap (text_or_none c.in-Conv.conv) (sym c.in-Some.ensures) ∙ ap (unit_text values) (sym c.in-Conv.is)) c.put_value.ensures.text
