@@ -92,12 +92,23 @@ number_free true width b x passes plain = refl
 number_free false width b x passes plain =
     number_of_front width (b ∷ x) (width ++ b ∷ x) passes plain.decimal refl ∙ number_none width (b ∷ x) (width ++ b ∷ x) plain.dollar
 
+-- the number in front of a text, whatever follows
+pub number_whole : (x : List ℕ) → number_text (number_at x).0 ++ (number_at x).1 ≡ x
+number_whole x = number_joined (front is_decimal x) (behind is_decimal x) x (front_behind is_decimal x)
+
+pub number_passing : (x : List ℕ) → AllPass is_decimal (number_at x).0
+number_passing x = number_passes (front is_decimal x) (behind is_decimal x) x (front_passes is_decimal x)
+
+pub number_absent : (x : List ℕ) → Stops (λ b. nat_eq b 36) (behind is_decimal x) → number_at x ≡ ([], x)
+number_absent x h = number_none (front is_decimal x) (behind is_decimal x) x h
+
+pub number_written : (d : ℕ) (ds y : List ℕ) → AllPass is_decimal (d ∷ ds) → number_at (number_text (d ∷ ds) ++ y) ≡ (d ∷ ds, y)
+number_written d ds y digits = number_of_front (d ∷ ds) (36 ∷ y) (number_text (d ∷ ds) ++ y) digits refl (append_assoc (d ∷ ds) (36 ∷ []) y)
+
 number_of : (number : List ℕ) (star : Bool) (width : List ℕ) (b : ℕ) (x : List ℕ) → AllPass is_decimal number → AllPass is_decimal width
     → IsPlain b → number_at (number_text number ++ (star_text star ++ (width ++ b ∷ x))) ≡ (number, star_text star ++ (width ++ b ∷ x))
 number_of [] star width b x digits passes plain = number_free star width b x passes plain
-number_of (d ∷ ds) star width b x digits passes plain =
-    let y = star_text star ++ (width ++ b ∷ x) in
-    number_of_front (d ∷ ds) (36 ∷ y) (number_text (d ∷ ds) ++ y) digits refl (append_assoc (d ∷ ds) (36 ∷ []) y)
+number_of (d ∷ ds) star width b x digits passes plain = number_written d ds (star_text star ++ (width ++ b ∷ x)) digits
 
 -- ---- the star
 
@@ -110,7 +121,7 @@ star_of false (d ∷ ds) b x passes plain =
 
 -- ---- the length
 
-length_of : (size : Length) (letter : ℕ) (x : List ℕ) → IsLast letter → length_at (length_text size ++ letter ∷ x) ≡ size
+pub length_of : (size : Length) (letter : ℕ) (x : List ℕ) → IsLast letter → length_at (length_text size ++ letter ∷ x) ≡ size
 length_of NoLength letter x last = simp (last.h, last.l, last.j, last.z, last.t)
 length_of HH letter x last = refl
 length_of H letter x last = simp last.h
@@ -135,7 +146,10 @@ length_joined (size ∷ sizes) x =
     (λ v. length_text (cond v size (first_length sizes x)) ++ drop (length (length_text (cond v size (first_length sizes x)))) x ≡ x)
     (λ e. begins_joined (length_text size) x e) (λ e. length_joined sizes x)
 
-length_dropped : (size : Length) (y : List ℕ) → drop (length (length_text size)) (length_text size ++ y) ≡ y
+pub length_whole : (x : List ℕ) → length_text (length_at x) ++ drop (length (length_text (length_at x))) x ≡ x
+length_whole x = length_joined (HH ∷ H ∷ LL ∷ L ∷ J ∷ Z ∷ T ∷ []) x
+
+pub length_dropped : (size : Length) (y : List ℕ) → drop (length (length_text size)) (length_text size ++ y) ≡ y
 length_dropped NoLength y = refl
 length_dropped HH y = refl
 length_dropped H y = refl
@@ -206,15 +220,15 @@ cut_joined x =
     let star = mark_at 42 number.1 in
     let y = behind is_decimal star.1 in
     ap (λ t. number_text number.0 ++ (star_text star.0 ++ (front is_decimal star.1 ++ t)))
-    (length_joined (HH ∷ H ∷ LL ∷ L ∷ J ∷ Z ∷ T ∷ []) y)
+    (length_whole y)
     ∙ ap (λ t. number_text number.0 ++ (star_text star.0 ++ t)) (front_behind is_decimal star.1)
     ∙ ap (λ t. number_text number.0 ++ (t ++ star.1)) (sym (star_is star.0))
     ∙ ap (λ t. number_text number.0 ++ t) (mark_joined 42 number.1)
-    ∙ number_joined (front is_decimal x) (behind is_decimal x) x (front_behind is_decimal x)
+    ∙ number_whole x
 
 pub cut_digits : (x : List ℕ) → HasDigits (cut x).opening
 cut_digits x = (
-  number_passes (front is_decimal x) (behind is_decimal x) x (front_passes is_decimal x),
+  number_passing x,
   front_passes is_decimal (mark_at 42 (number_at x).1).1,
 )
 

@@ -3,9 +3,9 @@ use Rattle.std.proofs.Common.{◌≡◌, ◌≢◌, ℕ, ◌≤◌, inl, inr, Bo
 use Rattle.std.proofs.lemmas.Bool.Decides.{nat_tests}
 use Rattle.std.specs.List.{AllByRecursion, list_any}
 use Rattle.sf_format.specs.Lists.{is_written}
-use Rattle.sf_format.specs.Pieces.{Opening, Piece, WhiteSpace, Ordinary, Percents, Plain, Bracket}
+use Rattle.sf_format.specs.Pieces.{Opening, Piece, WhiteSpace, Ordinary, Percents, Plain, Bracket, Printed}
 use Rattle.sf_format.specs.Grammar.{AreAlike, assigned_opening, destinations}
-use Rattle.sf_format.specs.Faults.{slot_rules}
+use Rattle.sf_format.specs.Rules.{slot_rules}
 use Rattle.sf_format.proofs.Outcomes.{or_left, or_right}
 use Rattle.sf_format.proofs.Rules.{Quiet, all_append, all_front, all_back}
 
@@ -129,6 +129,8 @@ destinations_cons (Bracket o list) pieces = assigned_cons o.star o (destinations
     assigned_cons true o rest = refl
     assigned_cons false o rest = refl
 
+destinations_cons (Printed o letter) pieces = refl
+
 pub regroup : (earlier : List Opening) (piece : Piece) (pieces : List Piece)
     → earlier ++ destinations (piece ∷ pieces) ≡ (earlier ++ destinations (piece ∷ [])) ++ destinations pieces
 regroup earlier piece pieces =
@@ -156,3 +158,4 @@ at_most_one (Ordinary b) = omega arith
 at_most_one Percents = omega arith
 at_most_one (Plain o letter) = one_at_most o
 at_most_one (Bracket o list) = one_at_most o
+at_most_one (Printed o letter) = omega arith

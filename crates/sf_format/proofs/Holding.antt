@@ -8,7 +8,7 @@ use Rattle.sf_format.specs.declared.slots.Slots.{Slots}
 use Rattle.sf_format.specs.Lists.{is_written}
 use Rattle.sf_format.specs.Pieces.{Opening}
 use Rattle.sf_format.specs.Grammar.{assigned_opening}
-use Rattle.sf_format.specs.Faults.{first_of, alike, slot_rules}
+use Rattle.sf_format.specs.Rules.{first_of, alike, slot_rules}
 use Rattle.sf_format.specs.Passing.{Holds}
 use Rattle.sf_format.proofs.Outcomes.{or_left, or_right}
 use Rattle.sf_format.proofs.Rules.{quiet_is, all_append}

@@ -1,5 +1,5 @@
--- A part means one directive.
-use Rattle.std.proofs.Common.{◌≡◌, ◌≢◌, ℕ, zero, suc, ◌+◌, ◌<◌, Bool, false, List, [], ◌∷◌, ◌++◌, length, get_or, Option, Some, None, refl, sym, ap, ◌∙◌, subst, arith, length-append}
+-- A part of a scan format means one directive.
+use Rattle.std.proofs.Common.{◌≡◌, ◌≢◌, ℕ, zero, suc, ◌+◌, ◌<◌, Bool, true, false, cond, List, [], ◌∷◌, ◌++◌, length, get_or, Option, Some, None, refl, sym, ap, ◌∙◌, subst, arith, length-append}
 use Rattle.std.proofs.lemmas.List.{ext_get_or}
 use Rattle.std.specs.Prelude.{IsSome}
 use Rattle.std.specs.List.{AllByRecursion}
@@ -15,9 +15,12 @@ use Rattle.sf_format.specs.declared.letter.Letter.{Letter}
 use Rattle.sf_format.specs.declared.letter.Letter.TheVariants.{Signed, Unsigned, Chars, Text, Set, Count}
 use Rattle.sf_format.specs.Letters.{letters_of_one, letter_of, kind_of}
 use Rattle.sf_format.specs.Scanlist.{Scanlist, is_member, IsSetOf}
-use Rattle.sf_format.specs.Pieces.{Opening, Piece, WhiteSpace, Ordinary, Percents, Plain, Bracket}
-use Rattle.sf_format.specs.Grammar.{IsPiece, IsConversion, Means, MeanAll, shape_of, width_of, slot_of, destinations}
-use Rattle.sf_format.proofs.Destinations.{destinations_cons}
+use Rattle.sf_format.specs.Pieces.{Opening, Piece, WhiteSpace, Ordinary, Percents, Plain, Bracket, Printed}
+use Rattle.sf_format.specs.Grammar.{IsScanPiece, IsConversion, Means, MeanAll, shape_of, width_of, slot_of, destinations}
+use Rattle.sf_format.specs.declared.language.Language.TheVariants.{Scan}
+use Rattle.sf_format.specs.Digits.{optional_number}
+use Rattle.sf_format.specs.Passing.{slot_in, slot_at}
+use Rattle.sf_format.proofs.WholeMeanings.{IsMeaning}
 use Rattle.sf_format.proofs.Suits.{found}
 
 -- ---- sets
@@ -85,23 +88,13 @@ pub means_one : (profile : Profile) (place : ℕ) (piece : Piece) (d e : Directi
 means_one profile place (WhiteSpace bs) d e h k = h ∙ sym k
 means_one profile place (Ordinary b) d e h k = h ∙ sym k
 means_one profile place Percents d e h k = h ∙ sym k
+means_one profile place (Printed o b) d e h k = absurd h
 means_one profile place (Plain o b) d e h k =
     let same : h.0 ≡ k.0 = let f = sym h.2 ∙ k.2 in cc in
     h.5 ∙ ap directive.Conv (plain_same place o h.0 k.0 h.1 k.1 same h.3 k.3 h.4 k.4) ∙ sym k.5
 means_one profile place (Bracket o list) d e h k =
     let shapes = h.4 ∙ ap shape.Set (set_same list h.1 k.1 h.3 k.3) ∙ sym k.4 in
     h.5 ∙ ap directive.Conv (conversion_same place o Set h.0 k.0 h.2 k.2 shapes) ∙ sym k.5
-
-pub mean_all_one : (profile : Profile) (place : ℕ) (pieces : List Piece) (ds es : List Directive) → MeanAll profile place pieces ds
-    → MeanAll profile place pieces es → ds ≡ es
-mean_all_one profile place [] [] [] h k = refl
-mean_all_one profile place [] [] (e ∷ es) h k = absurd k
-mean_all_one profile place [] (d ∷ ds) es h k = absurd h
-mean_all_one profile place (piece ∷ pieces) [] es h k = absurd h
-mean_all_one profile place (piece ∷ pieces) (d ∷ ds) [] h k = absurd k
-mean_all_one profile place (piece ∷ pieces) (d ∷ ds) (e ∷ es) h k =
-    ap (λ a. a ∷ ds) (means_one profile place piece d e h.0 k.0)
-    ∙ ap (λ a. e ∷ a) (mean_all_one profile (place + length (destinations (piece ∷ []))) pieces ds es h.1 k.1)
 
 -- ---- each part means a directive
 
@@ -149,7 +142,7 @@ some_shape profile b Text other e = (shape.Text, refl)
 some_shape profile b Count other e = (shape.Count, refl)
 some_shape profile b Set other e = absurd (other (set_letter profile b e))
 
-pub some_meaning : (profile : Profile) (place : ℕ) (piece : Piece) → IsPiece profile piece → (d : Directive) × Means profile place piece d
+pub some_meaning : (profile : Profile) (place : ℕ) (piece : Piece) → IsScanPiece profile piece → (d : Directive) × Means profile place piece d
 some_meaning profile place (WhiteSpace bs) is = (directive.Space, refl)
 some_meaning profile place (Ordinary b) is = (directive.Byte b, refl)
 some_meaning profile place Percents is = (directive.Percent, refl)
@@ -163,27 +156,30 @@ some_meaning profile place (Bracket o list) is =
     let k = some_kind (kind_of Set o.size) is.0.size in
     let c = made (shape.Set (set_of list)) k.0 (width_of Set o.width) (slot_of place o) in
     (directive.Conv c, (c, set_of list, record { kind = k.1; width = refl; slot = refl }, set_is list, refl, refl))
+some_meaning profile place (Printed o b) is = absurd is
 
-pub some_meanings : (profile : Profile) (place : ℕ) (pieces : List Piece) → AllByRecursion (IsPiece profile) pieces
-    → (ds : List Directive) × MeanAll profile place pieces ds
-some_meanings profile place [] each = ([], tt)
-some_meanings profile place (piece ∷ pieces) each =
-    let here = some_meaning profile place piece each.0 in
-    let later = some_meanings profile (place + length (destinations (piece ∷ []))) pieces each.1 in
-    (here.0 ∷ later.0, (here.1, later.1))
+-- ---- slots
 
--- ---- one more part
+conversion_slot : (place : ℕ) (o : Opening) (c : Conversion) → c.slot ≡ slot_of place o → c.slot ≡ slot_at place (cond o.star [] (o ∷ []))
+conversion_slot place o c e = e ∙ by_star o.star refl
+  where
+    by_star : (star : Bool) → o.star ≡ star → slot_of place o ≡ slot_at place (cond star [] (o ∷ []))
+    by_star true h = ap (λ v. cond v None (elim (optional_number o.number) [ None ↦ Some place | Some n ↦ Some n ])) h
+    by_star false h = refl
 
-pub mean_push : (profile : Profile) (place : ℕ) (done : List Piece) (ds : List Directive) (piece : Piece) (d : Directive)
-    → MeanAll profile place done ds → Means profile (place + length (destinations done)) piece d
-    → MeanAll profile place (done ++ piece ∷ []) (ds ++ d ∷ [])
-mean_push profile place [] [] piece d all one =
-    let same : place + 0 ≡ place = omega arith in
-    (subst (λ n. Means profile n piece d) same one, tt)
-mean_push profile place [] (e ∷ ds) piece d all one = absurd all
-mean_push profile place (first ∷ done) [] piece d all one = absurd all
-mean_push profile place (first ∷ done) (e ∷ ds) piece d all one =
-    let here = length (destinations (first ∷ [])) in
-    let same : place + length (destinations (first ∷ done)) ≡ (place + here) + length (destinations done)
-    = omega (arith, ap length (destinations_cons first done), length-append (destinations (first ∷ [])) (destinations done)) in
-    (all.0, mean_push profile (place + here) done ds piece d all.1 (subst (λ n. Means profile n piece d) same one))
+-- the slot of a directive is that of its part
+pub means_slot : (profile : Profile) (place : ℕ) (piece : Piece) (d : Directive) → Means profile place piece d
+    → slot_in d ≡ slot_at place (destinations (piece ∷ []))
+means_slot profile place (WhiteSpace bs) d h = ap slot_in h
+means_slot profile place (Ordinary b) d h = ap slot_in h
+means_slot profile place Percents d h = ap slot_in h
+means_slot profile place (Plain o b) d h = ap slot_in h.5 ∙ conversion_slot place o h.1 h.3.slot
+means_slot profile place (Bracket o list) d h = ap slot_in h.5 ∙ conversion_slot place o h.0 h.2.slot
+means_slot profile place (Printed o b) d h = absurd h
+
+pub scan_meaning : (profile : Profile) → IsMeaning Directive (Scan profile) (Means profile) slot_in
+scan_meaning profile = record {
+  one = means_one profile;
+  some = some_meaning profile;
+  slot = means_slot profile;
+}

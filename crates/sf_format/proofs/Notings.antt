@@ -6,22 +6,21 @@ use Rattle.std.specs.Prelude.{◌==◌}
 use Rattle.std.specs.List.{AllByRecursion}
 use Rattle.sf_base.specs.Bytes.{AreBytes, magnitude}
 use Rattle.sf_base.specs.Sets.{has_byte}
-use Rattle.sf_format.specs.declared.directive.Profile.{Profile}
-use Rattle.sf_format.specs.declared.directive.Conversion.{Conversion}
-use Rattle.sf_format.specs.declared.directive.Directive.{Directive}
-use Rattle.sf_format.specs.declared.directive.Directive.TheVariants as directive
+use Rattle.sf_format.specs.declared.language.Language.{Language}
 use Rattle.sf_format.specs.declared.fault.FormatWhy.{FormatWhy}
 use Rattle.sf_format.specs.declared.fault.FormatWhy.TheVariants.{NumberTwice, NumberGap}
 use Rattle.sf_format.specs.declared.numbering.Noted.{Noted}
-use Rattle.sf_format.specs.declared.passing.Passed.{Passed}
+use Rattle.sf_format.specs.declared.walking.Step.{Step}
 use Rattle.sf_format.specs.declared.slots.Slots.{Slots}
 use Rattle.sf_format.specs.Lists.{is_written}
-use Rattle.sf_format.specs.Pieces.{Opening, Piece, WhiteSpace, Ordinary, Percents, Plain, Bracket, piece_text, text_of}
+use Rattle.sf_format.specs.Pieces.{Opening, Piece, WhiteSpace, Ordinary, Percents, Plain, Bracket, Printed, piece_text, text_of}
 use Rattle.sf_format.specs.Cut.{part_at}
-use Rattle.sf_format.specs.Grammar.{optional_number, destinations, slot_of, Means}
-use Rattle.sf_format.specs.Faults.{Rule, first_of, is_any_of, numbered, repeated, beyond, number_rules}
+use Rattle.sf_format.specs.Digits.{optional_number}
+use Rattle.sf_format.specs.Grammar.{destinations, value_opening}
+use Rattle.sf_format.specs.Rules.{Rule, first_of, is_any_of}
+use Rattle.sf_format.specs.Faults.{numbered, repeated, beyond, number_rules}
 use Rattle.sf_format.specs.Reading.{read}
-use Rattle.sf_format.specs.Passing.{with_place, placed_slot, first_place, told, Notes, Holds, Walked}
+use Rattle.sf_format.specs.Passing.{with_place, slot_at, first_place, told, Notes, Holds, Walked}
 use Rattle.sf_format.proofs.Outcomes.{by_test, or_regroup, or_swap}
 use Rattle.sf_format.proofs.Rules.{all_front, all_back}
 use Rattle.sf_format.proofs.Destinations.{destinations_push}
@@ -121,32 +120,30 @@ abbrev AreWritten : List Opening → Type 0
 AreWritten os = AllByRecursion (λ o. o.number ≢ []) os
 
 slot_placed : (place at : ℕ) (o : Opening) → AreWritten (cond o.star [] (o ∷ []))
-    → with_place (slot_of place o) at ≡ at_place at (cond o.star [] (o ∷ []))
-slot_placed place at o = by_star o.star
+    → with_place (slot_at place (cond o.star [] (o ∷ []))) at ≡ at_place at (cond o.star [] (o ∷ []))
+slot_placed place at o = by_star o.star refl
   where
     by_number : (ds : List ℕ) → ds ≢ [] → with_place (elim (optional_number ds) [ None ↦ Some place | Some n ↦ Some n ]) at ≡ (magnitude 10 ds, at) ∷ []
     by_number [] h = absurd (h refl)
     by_number (d ∷ ds) h = refl
 
-    by_star : (star : Bool) → AreWritten (cond star [] (o ∷ []))
-        → with_place (cond star None (elim (optional_number o.number) [ None ↦ Some place | Some n ↦ Some n ])) at
-        ≡ at_place at (cond star [] (o ∷ []))
-    by_star true h = refl
-    by_star false h = by_number o.number h.0
+    unsuppressed : Bool → Option ℕ
+    unsuppressed v = cond v None (elim (optional_number o.number) [ None ↦ Some place | Some n ↦ Some n ])
 
-conversion_placed : (place at : ℕ) (o : Opening) (c : Conversion) (d : Directive) → d ≡ directive.Conv c → c.slot ≡ slot_of place o
-    → AreWritten (cond o.star [] (o ∷ [])) → placed_slot d at ≡ at_place at (cond o.star [] (o ∷ []))
-conversion_placed place at o c d e slot written =
-    ap (λ a. placed_slot a at) e ∙ ap (λ s. with_place s at) slot ∙ slot_placed place at o written
+    by_star : (star : Bool) → o.star ≡ star → AreWritten (cond star [] (o ∷ []))
+        → with_place (slot_at place (cond star [] (o ∷ []))) at ≡ at_place at (cond star [] (o ∷ []))
+    by_star true e h = refl
+    by_star false e h = ap (λ v. with_place (unsuppressed v) at) e ∙ by_number o.number h.0
 
--- the slot of a part's directive is its number, where it has one
-part_placed : (profile : Profile) (place at : ℕ) (piece : Piece) (d : Directive) → Means profile place piece d
-    → AreWritten (destinations (piece ∷ [])) → placed_slot d at ≡ at_place at (destinations (piece ∷ []))
-part_placed profile place at (WhiteSpace bs) d h written = ap (λ a. placed_slot a at) h
-part_placed profile place at (Ordinary b) d h written = ap (λ a. placed_slot a at) h
-part_placed profile place at Percents d h written = ap (λ a. placed_slot a at) h
-part_placed profile place at (Plain o b) d h written = conversion_placed place at o h.1 d h.5 h.3.slot written
-part_placed profile place at (Bracket o list) d h written = conversion_placed place at o h.0 d h.5 h.2.slot written
+-- the slot of a part is its number, where it has one
+part_placed : (place at : ℕ) (piece : Piece) → AreWritten (destinations (piece ∷ []))
+    → with_place (slot_at place (destinations (piece ∷ []))) at ≡ at_place at (destinations (piece ∷ []))
+part_placed place at (WhiteSpace bs) written = refl
+part_placed place at (Ordinary b) written = refl
+part_placed place at Percents written = refl
+part_placed place at (Plain o b) written = slot_placed place at o written
+part_placed place at (Bracket o list) written = slot_placed place at o written
+part_placed place at (Printed o b) written = slot_placed place at (value_opening o) written
 
 numbered_push : (p : ℕ) (done : List Piece) (piece : Piece)
     → numbered p (done ++ piece ∷ []) ≡ numbered p done ++ at_place (p + length (text_of done)) (destinations (piece ∷ []))
@@ -164,40 +161,43 @@ numbered_push p (first ∷ done) piece =
 
 -- ---- the walk
 
-pub record Noting (profile : Profile) (text : List ℕ) (at : ℕ) (rest : List ℕ) (slots : Slots) (count : ℕ) (noted : Noted) : Type 0 where
-  pub passing : Passing profile text at rest slots
+pub record Noting (language : Language) (text : List ℕ) (at : ℕ) (rest : List ℕ) (slots : Slots) (count : ℕ) (noted : Noted) : Type 0 where
+  pub passing : Passing language text at rest slots
   pub ns : List (ℕ × ℕ)
   pub notes : Notes count ns noted
   pub same : AreWritten (destinations passing.done) → ns ≡ numbered 0 passing.done
 
-pub noting_none : (profile : Profile) (text : List ℕ) (slots : Slots) (count : ℕ) (noted : Noted) → AreBytes text → Holds slots []
-    → Notes count [] noted → Noting profile text 0 text slots count noted
-noting_none profile text slots count noted bytes holds notes =
+pub noting_none : (language : Language) (text : List ℕ) (slots : Slots) (count : ℕ) (noted : Noted) → AreBytes text → Holds slots []
+    → Notes count [] noted → Noting language text 0 text slots count noted
+noting_none language text slots count noted bytes holds notes =
     record {
-      passing = passing_none profile text slots bytes holds;
+      passing = passing_none language text slots bytes holds;
       ns = [];
       notes = notes;
-      same = λ written. ap (numbered 0) (sym (done_none profile text slots bytes holds));
+      same = λ written. ap (numbered 0) (sym (done_none language text slots bytes holds));
     }
 
-pub noting_more : {profile : Profile} {text : List ℕ} {at : ℕ} {rest : List ℕ} {slots : Slots} {count : ℕ} {old : Noted} (new : Noted)
-    (passed : Passed) (h : Noting profile text at rest slots count old) → 0 < length rest → PassesFirst profile h.passing.done at rest passed
-    → Notes count (h.ns ++ placed_slot passed.directive at) new
-    → Noting profile text (length text - length passed.rest.now) passed.rest.now passed.slots count new
-noting_more {profile} {at = at} {rest = rest} new passed h some passes notes =
+pub noting_more : {language : Language} {text : List ℕ} {at : ℕ} {rest : List ℕ} {slots : Slots} {count : ℕ} {old : Noted} (new : Noted)
+    (step : Step) (h : Noting language text at rest slots count old) → 0 < length rest
+    → PassesFirst language h.passing.done at rest step.rest.now step.slots
+    → step.slot ≡ slot_at (1 + length (destinations h.passing.done)) (destinations ((part_at language rest).piece ∷ []))
+    → Notes count (h.ns ++ with_place step.slot at) new
+    → Noting language text (length text - length step.rest.now) step.rest.now step.slots count new
+noting_more {language} {at = at} {rest = rest} new step h some passes slot notes =
     let done = h.passing.done in
-    let piece = (part_at rest).piece in
+    let piece = (part_at language rest).piece in
     let here = destinations (piece ∷ []) in
     record {
-      passing = passing_more passed h.passing some passes;
-      ns = h.ns ++ placed_slot passed.directive at;
+      passing = passing_more step.rest.now step.slots h.passing some passes;
+      ns = h.ns ++ with_place step.slot at;
       notes = notes;
       same = λ written.
-          let pushed = done_more passed h.passing some passes in
+          let pushed = done_more step.rest.now step.slots h.passing some passes in
           let all = subst AreWritten (destinations_push done piece) (subst (λ ps. AreWritten (destinations ps)) pushed written) in
-          ap (λ ns. ns ++ placed_slot passed.directive at) (h.same (all_front (λ (o : Opening). o.number ≢ []) (destinations done) here all))
+          ap (λ ns. ns ++ with_place step.slot at) (h.same (all_front (λ (o : Opening). o.number ≢ []) (destinations done) here all))
           ∙ ap (λ ns. numbered 0 done ++ ns)
-          (part_placed profile (1 + length (destinations done)) at piece passed.directive passes.2
+          (ap (λ n. with_place n at) slot
+          ∙ part_placed (1 + length (destinations done)) at piece
           (all_back (λ (o : Opening). o.number ≢ []) (destinations done) here all))
           ∙ ap (λ q. numbered 0 done ++ at_place q here) (place h.passing.place)
           ∙ sym (numbered_push 0 done piece)
@@ -208,11 +208,11 @@ noting_more {profile} {at = at} {rest = rest} new passed h some passes notes =
     place e = omega (arith, e)
 
 -- the rules of the numbers of a whole text
-pub noting_all : {profile : Profile} {text : List ℕ} {at : ℕ} {rest : List ℕ} {earlier : Slots} (slots : Slots) {noted : Noted} (pieces : List Piece)
-    (h : Noting profile text at rest earlier slots.count noted) → length rest ≤ 0 → slots.numbered ≡ true
-    → Walked profile text (Ok slots) → read (length text) profile [] 0 text ≡ Ok pieces
+pub noting_all : {language : Language} {text : List ℕ} {at : ℕ} {rest : List ℕ} {earlier : Slots} (slots : Slots) {noted : Noted} (pieces : List Piece)
+    (h : Noting language text at rest earlier slots.count noted) → length rest ≤ 0 → slots.numbered ≡ true
+    → Walked language text (Ok slots) → read (length text) language [] 0 text ≡ Ok pieces
     → first_of (repeated [] h.ns ++ beyond slots.count h.ns) ≡ first_of (number_rules pieces)
-noting_all {profile} {text} slots {noted} pieces h none numbers walked e =
+noting_all {language} {text} slots {noted} pieces h none numbers walked e =
     let first : walked.0 ≡ pieces = let both = sym walked.1 ∙ e in cc in
     let last : h.passing.done ≡ pieces = let both = sym (passing_all h.passing none) ∙ e in cc in
     let holds = subst (λ ps. Holds slots (destinations ps)) first walked.2 in
@@ -225,9 +225,9 @@ noting_all {profile} {text} slots {noted} pieces h none numbers walked e =
     (sym (all_written (destinations pieces) written))
 
 -- without numbers there is no fault of numbers
-pub unnumbered_none : (profile : Profile) (text : List ℕ) (slots : Slots) (pieces : List Piece) → slots.numbered ≡ false
-    → Walked profile text (Ok slots) → read (length text) profile [] 0 text ≡ Ok pieces → None ≡ first_of (number_rules pieces)
-unnumbered_none profile text slots pieces none walked e =
+pub unnumbered_none : (language : Language) (text : List ℕ) (slots : Slots) (pieces : List Piece) → slots.numbered ≡ false
+    → Walked language text (Ok slots) → read (length text) language [] 0 text ≡ Ok pieces → None ≡ first_of (number_rules pieces)
+unnumbered_none language text slots pieces none walked e =
     let first : walked.0 ≡ pieces = let both = sym walked.1 ∙ e in cc in
     let holds = subst (λ ps. Holds slots (destinations ps)) first walked.2 in
     sym (unnumbered_rules pieces (subst (λ v. AllByRecursion (λ (o : Opening). is_written o.number ≡ v) (destinations pieces)) none holds.same))

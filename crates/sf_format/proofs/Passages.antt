@@ -18,8 +18,10 @@ use Rattle.sf_format.specs.Lists.{is_written, mark_at, begins}
 use Rattle.sf_format.specs.Pieces.{Opening, Percents, Plain, opening_text}
 use Rattle.sf_format.specs.Cut.{Part, cut, letter_at, bracket_at, specification_at}
 use Rattle.sf_format.specs.Grammar.{destinations, assigned_opening, IsConversion, Means}
-use Rattle.sf_format.specs.Faults.{Rule, first_of, letter_rules, bracket_rules, scanlist_rules, slot_rules, rest_rules, opening_rules, percent_rules}
+use Rattle.sf_format.specs.Rules.{Rule, first_of, slot_rules}
+use Rattle.sf_format.specs.Faults.{letter_rules, bracket_rules, scanlist_rules, rest_rules, opening_rules, percent_rules}
 use Rattle.sf_format.specs.Passing.{Holds, rest_behind, is_set, IsShape, PassesAs, PassesBy}
+use Rattle.sf_format.specs.declared.language.Language.TheVariants.{Scan}
 use Rattle.sf_format.proofs.Outcomes.{by_test}
 use Rattle.sf_format.proofs.Rules.{quiet_is}
 use Rattle.sf_format.proofs.Suits.{found}
@@ -103,7 +105,7 @@ pub passes_letter : (profile : Profile) (earlier : List Opening) (p q b : ℕ) (
     → IsConversion (1 + length earlier) o letter c → first_of (bracket_rules (is_set letter) q x) ≡ None → IsShape (is_set letter) letter x c.shape
     → rest ≡ rest_behind (is_set letter) x → first_of (slot_rules earlier p o) ≡ None
     → Holds slots (earlier ++ assigned_opening o [])
-    → PassesAs profile (rest_rules profile earlier p o q (b ∷ x)) earlier (letter_at o (b ∷ x)) (directive.Conv c) rest slots
+    → PassesAs (Means profile) (rest_rules profile earlier p o q (b ∷ x)) earlier (letter_at o (b ∷ x)) (directive.Conv c) rest slots
 passes_letter profile earlier p q b x o letter c rest slots rules found is list shape after slot holds =
     let v = set_is profile b letter found in (
       slot_fault_first profile earlier p o q b x rules (ap (λ a. first_of (bracket_rules a q x)) (sym v) ∙ list) ∙ slot,
@@ -127,16 +129,16 @@ pub passes_slot : (profile : Profile) (earlier : List Opening) (p q b : ℕ) (x 
 passes_slot profile earlier p q b x o letter f rules found list slot =
     slot_fault_first profile earlier p o q b x rules (ap (λ a. first_of (bracket_rules a q x)) (sym (set_is profile b letter found)) ∙ list) ∙ slot
 
+above : (n : ℕ) → (nat_eq n 0 || nat_lt 32 n) ≡ false → n ≤ 32
+above n e = grind (arith, nat_tests)
+
+pub number_low : (ds : List ℕ) → (is_written ds && (nat_eq (magnitude 10 ds) 0 || nat_lt 32 (magnitude 10 ds))) ≡ false → magnitude 10 ds ≤ 32
+number_low [] e = omega arith
+number_low (d ∷ ds) e = above (magnitude 10 (d ∷ ds)) e
+
 -- an opening without a fault has numbers within their limits
 pub number_bound : (p : ℕ) (o : Opening) → first_of (opening_rules p o) ≡ None → magnitude 10 o.number ≤ 32
-number_bound p o none = by_number o.number (quiet_is (opening_rules p o) none).0
-  where
-    above : (n : ℕ) → (nat_eq n 0 || nat_lt 32 n) ≡ false → n ≤ 32
-    above n e = grind (arith, nat_tests)
-
-    by_number : (ds : List ℕ) → (is_written ds && (nat_eq (magnitude 10 ds) 0 || nat_lt 32 (magnitude 10 ds))) ≡ false → magnitude 10 ds ≤ 32
-    by_number [] e = omega arith
-    by_number (d ∷ ds) e = above (magnitude 10 (d ∷ ds)) e
+number_bound p o none = number_low o.number (quiet_is (opening_rules p o) none).0
 
 -- ---- one contract from another
 
@@ -156,7 +158,7 @@ part_choice x v = cond v (record { piece = Percents; rest = drop 1 x }) (letter_
 
 pub specification_fault : (profile : Profile) (earlier : List Opening) (p : ℕ) (x : List ℕ) (o : Opening) (f : FormatWhy × ℕ)
     → begins (37 ∷ []) x ≡ false → o ≡ (cut x).opening → first_of (opening_rules p o) ≡ Some f
-    → first_of (percent_rules profile earlier p x) ≡ Some f
+    → first_of (percent_rules (Scan profile) earlier p x) ≡ Some f
 specification_fault profile earlier p x o f other same first =
     let o' = (cut x).opening in
     let rest = rest_rules profile earlier p o' (p + length (opening_text o')) (cut x).rest in
@@ -167,7 +169,7 @@ pub passes_specification : (profile : Profile) (earlier : List Opening) (p q : �
     → begins (37 ∷ []) x ≡ false → o ≡ (cut x).opening → rest ≡ (cut x).rest → q ≡ p + length (opening_text o)
     → first_of (opening_rules p o) ≡ None
     → PassesBy profile (rest_rules profile earlier p o q rest) earlier (letter_at o rest) r
-    → PassesBy profile (percent_rules profile earlier p x) earlier (specification_at x) r
+    → PassesBy profile (percent_rules (Scan profile) earlier p x) earlier (specification_at (Scan profile) x) r
 passes_specification profile earlier p q x rest o r other same behind place quiet passes =
     let o' = (cut x).opening in
     let q' = p + length (opening_text o') in
@@ -176,7 +178,7 @@ passes_specification profile earlier p q x rest o r other same behind place quie
     subst (λ n. PassesBy profile (rules o' (cut x).rest n) earlier (letter_at o' (cut x).rest) r) (place ∙ ap (λ a. p + length (opening_text a)) same)
     (subst (λ y. PassesBy profile (rules o' y q) earlier (letter_at o' y) r) behind
     (subst (λ a. PassesBy profile (rules a rest q) earlier (letter_at a rest) r) same passes)) in
-    passes_by profile (percent_rules profile earlier p x) (rules o' (cut x).rest q') (specification_at x) (letter_at o' (cut x).rest) earlier r
+    passes_by profile (percent_rules (Scan profile) earlier p x) (rules o' (cut x).rest q') (specification_at (Scan profile) x) (letter_at o' (cut x).rest) earlier r
     (ap (λ v. first_of (percent_choice (opening_rules p o' ++ rules o' (cut x).rest q') v)) other
     ∙ first_right (opening_rules p o') (rules o' (cut x).rest q') (ap (λ a. first_of (opening_rules p a)) (sym same) ∙ quiet))
     (ap (part_choice x) other) moved

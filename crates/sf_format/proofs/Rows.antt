@@ -3,6 +3,7 @@ use Rattle.std.proofs.Common.{◌≡◌, ◌≢◌, ℕ, zero, suc, ◌+◌, Boo
 use Rattle.std.specs.Prelude.{codes, replicate, if◌then◌else◌}
 use Rattle.sf_base.specs.declared.values.Kind.TheVariants.{I32}
 use Rattle.sf_format.specs.declared.directive.Profile.TheVariants.{One, Two}
+use Rattle.sf_format.specs.declared.language.Language.TheVariants.{Scan}
 use Rattle.sf_format.specs.declared.directive.Base.TheVariants.{Dec}
 use Rattle.sf_format.specs.declared.directive.Shape.TheVariants.{Int}
 use Rattle.sf_format.specs.declared.directive.Conversion.{Conversion}
@@ -26,124 +27,124 @@ at why place = Err (why, place)
 
 -- ---- faults
 
-backward_range : judged One (codes "%[z-a]") ≡ at BackwardRange 2
+backward_range : judged (Scan One) (codes "%[z-a]") ≡ at BackwardRange 2
 backward_range = refl
 
-zero_width : judged One (codes "%0d") ≡ at ZeroWidth 1
+zero_width : judged (Scan One) (codes "%0d") ≡ at ZeroWidth 1
 zero_width = refl
 
-suppressed_count : judged One (codes "%*n") ≡ at BadCount 2
+suppressed_count : judged (Scan One) (codes "%*n") ≡ at BadCount 2
 suppressed_count = refl
 
-wide_count : judged One (codes "%3n") ≡ at BadCount 2
+wide_count : judged (Scan One) (codes "%3n") ≡ at BadCount 2
 wide_count = refl
 
-number_before_none : judged One (codes "%1$d%d") ≡ at MixedNumbering 4
+number_before_none : judged (Scan One) (codes "%1$d%d") ≡ at MixedNumbering 4
 number_before_none = refl
 
-none_before_number : judged One (codes "%d%1$d") ≡ at MixedNumbering 2
+none_before_number : judged (Scan One) (codes "%d%1$d") ≡ at MixedNumbering 2
 none_before_number = refl
 
-gap_behind : judged One (codes "%1$s%3$d") ≡ at NumberGap 4
+gap_behind : judged (Scan One) (codes "%1$s%3$d") ≡ at NumberGap 4
 gap_behind = refl
 
-number_twice : judged One (codes "%1$s%1$d") ≡ at NumberTwice 4
+number_twice : judged (Scan One) (codes "%1$s%1$d") ≡ at NumberTwice 4
 number_twice = refl
 
-number_too_large : judged One (codes "%33$d") ≡ at BadNumber 1
+number_too_large : judged (Scan One) (codes "%33$d") ≡ at BadNumber 1
 number_too_large = refl
 
-only_a_width : judged One (codes "%5") ≡ at Truncated 2
+only_a_width : judged (Scan One) (codes "%5") ≡ at Truncated 2
 only_a_width = refl
 
-long_character : judged One (codes "%lc") ≡ at LeftOut 2
+long_character : judged (Scan One) (codes "%lc") ≡ at LeftOut 2
 long_character = refl
 
-open_set : judged One (codes "%[abc") ≡ at OpenSet 1
+open_set : judged (Scan One) (codes "%[abc") ≡ at OpenSet 1
 open_set = refl
 
-short_short_text : judged One (codes "%hhs") ≡ at BadLength 3
+short_short_text : judged (Scan One) (codes "%hhs") ≡ at BadLength 3
 short_short_text = refl
 
-wide : judged One (codes "%70000d") ≡ at TooWide 1
+wide : judged (Scan One) (codes "%70000d") ≡ at TooWide 1
 wide = refl
 
-zeros : judged One (codes "%000d") ≡ at ZeroWidth 1
+zeros : judged (Scan One) (codes "%000d") ≡ at ZeroWidth 1
 zeros = refl
 
-two_lengths : judged One (codes "%hhls") ≡ at UnknownLetter 3
+two_lengths : judged (Scan One) (codes "%hhls") ≡ at UnknownLetter 3
 two_lengths = refl
 
-percent_with_width : judged One (codes "%5%") ≡ at UnknownLetter 2
+percent_with_width : judged (Scan One) (codes "%5%") ≡ at UnknownLetter 2
 percent_with_width = refl
 
-number_behind_star : judged One (codes "%*3$d") ≡ at UnknownLetter 3
+number_behind_star : judged (Scan One) (codes "%*3$d") ≡ at UnknownLetter 3
 number_behind_star = refl
 
-star_behind_number : judged One (codes "%1$*d") ≡ at BadNumber 3
+star_behind_number : judged (Scan One) (codes "%1$*d") ≡ at BadNumber 3
 star_behind_number = refl
 
-number_zero : judged One (codes "%0$d") ≡ at BadNumber 1
+number_zero : judged (Scan One) (codes "%0$d") ≡ at BadNumber 1
 number_zero = refl
 
-long_double : judged One (codes "%Lf") ≡ at LeftOut 1
+long_double : judged (Scan One) (codes "%Lf") ≡ at LeftOut 1
 long_double = refl
 
-allocated : judged One (codes "%m[a]") ≡ at LeftOut 1
+allocated : judged (Scan One) (codes "%m[a]") ≡ at LeftOut 1
 allocated = refl
 
-only_a_caret : judged One (codes "%[^]") ≡ at OpenSet 1
+only_a_caret : judged (Scan One) (codes "%[^]") ≡ at OpenSet 1
 only_a_caret = refl
 
-only_a_bracket : judged One (codes "%[]") ≡ at OpenSet 1
+only_a_bracket : judged (Scan One) (codes "%[]") ≡ at OpenSet 1
 only_a_bracket = refl
 
-percents_and_one : judged One (codes "%%%") ≡ at Truncated 3
+percents_and_one : judged (Scan One) (codes "%%%") ≡ at Truncated 3
 percents_and_one = refl
 
-gap_at_once : judged One (codes "%2$d") ≡ at NumberGap 0
+gap_at_once : judged (Scan One) (codes "%2$d") ≡ at NumberGap 0
 gap_at_once = refl
 
-twice_before_gap : judged One (codes "%3$d%3$d") ≡ at NumberTwice 4
+twice_before_gap : judged (Scan One) (codes "%3$d%3$d") ≡ at NumberTwice 4
 twice_before_gap = refl
 
-wide_before_end : judged One (codes "%70000") ≡ at TooWide 1
+wide_before_end : judged (Scan One) (codes "%70000") ≡ at TooWide 1
 wide_before_end = refl
 
-binary : judged One (codes "%b") ≡ at UnknownLetter 1
+binary : judged (Scan One) (codes "%b") ≡ at UnknownLetter 1
 binary = refl
 
-ends_at_once : judged One (codes "%") ≡ at Truncated 1
+ends_at_once : judged (Scan One) (codes "%") ≡ at Truncated 1
 ends_at_once = refl
 
-ends_later : judged One (codes "a%") ≡ at Truncated 2
+ends_later : judged (Scan One) (codes "a%") ≡ at Truncated 2
 ends_later = refl
 
-long_set : judged One (codes "%l[a]") ≡ at LeftOut 2
+long_set : judged (Scan One) (codes "%l[a]") ≡ at LeftOut 2
 long_set = refl
 
-huge_number : judged One (codes "%99999999999999999999$d") ≡ at BadNumber 1
+huge_number : judged (Scan One) (codes "%99999999999999999999$d") ≡ at BadNumber 1
 huge_number = refl
 
-one_above : judged One (codes "%65536d") ≡ at TooWide 1
+one_above : judged (Scan One) (codes "%65536d") ≡ at TooWide 1
 one_above = refl
 
-part_before_number : judged One (codes "%2$d%k") ≡ at UnknownLetter 5
+part_before_number : judged (Scan One) (codes "%2$d%k") ≡ at UnknownLetter 5
 part_before_number = refl
 
-star_at_number : judged One (codes " a\t %2$*0012hd") ≡ at BadNumber 7
+star_at_number : judged (Scan One) (codes " a\t %2$*0012hd") ≡ at BadNumber 7
 star_at_number = refl
 
-nul_first : judged One (0 ∷ codes "%d") ≡ at Nul 0
+nul_first : judged (Scan One) (0 ∷ codes "%d") ≡ at Nul 0
 nul_first = refl
 
-nul_behind : judged One (37 ∷ 0 ∷ []) ≡ at Nul 1
+nul_behind : judged (Scan One) (37 ∷ 0 ∷ []) ≡ at Nul 1
 nul_behind = refl
 
-nul_in_set : judged One (codes "%[a" ++ 0 ∷ codes "b]") ≡ at Nul 3
+nul_in_set : judged (Scan One) (codes "%[a" ++ 0 ∷ codes "b]") ≡ at Nul 3
 nul_in_set = refl
 
-nul_in_open_set : judged One (codes "%[a" ++ 0 ∷ []) ≡ at Nul 3
+nul_in_open_set : judged (Scan One) (codes "%[a" ++ 0 ∷ []) ≡ at Nul 3
 nul_in_open_set = refl
 
 -- ---- formats
@@ -164,37 +165,37 @@ suppressed = record { number = []; star = true; width = []; size = NoLength }
 abbrev listed : Bool → ℕ → List ℕ → Scanlist
 listed complemented first others = record { complemented = complemented; first = first; others = others }
 
-nothing : judged One [] ≡ parts []
+nothing : judged (Scan One) [] ≡ parts []
 nothing = refl
 
-two_integers : judged One (codes "%d,%d") ≡ parts (Plain plain 100 ∷ Ordinary 44 ∷ Plain plain 100 ∷ [])
+two_integers : judged (Scan One) (codes "%d,%d") ≡ parts (Plain plain 100 ∷ Ordinary 44 ∷ Plain plain 100 ∷ [])
 two_integers = refl
 
-spaces_and_bytes : judged One (codes "a \t%d\n") ≡ parts (Ordinary 97 ∷ WhiteSpace (32 ∷ 9 ∷ []) ∷ Plain plain 100 ∷ WhiteSpace (10 ∷ []) ∷ [])
+spaces_and_bytes : judged (Scan One) (codes "a \t%d\n") ≡ parts (Ordinary 97 ∷ WhiteSpace (32 ∷ 9 ∷ []) ∷ Plain plain 100 ∷ WhiteSpace (10 ∷ []) ∷ [])
 spaces_and_bytes = refl
 
-leading_zero : judged One (codes "%010d") ≡ parts (Plain (sized (codes "010") NoLength) 100 ∷ [])
+leading_zero : judged (Scan One) (codes "%010d") ≡ parts (Plain (sized (codes "010") NoLength) 100 ∷ [])
 leading_zero = refl
 
-widths : judged One (codes "%3d,%*s") ≡ parts (Plain (sized (codes "3") NoLength) 100 ∷ Ordinary 44 ∷ Plain suppressed 115 ∷ [])
+widths : judged (Scan One) (codes "%3d,%*s") ≡ parts (Plain (sized (codes "3") NoLength) 100 ∷ Ordinary 44 ∷ Plain suppressed 115 ∷ [])
 widths = refl
 
-in_another_order : judged One (codes "%2$d %1$s") ≡ parts (Plain (numbered (codes "2")) 100 ∷ WhiteSpace (32 ∷ []) ∷ Plain (numbered (codes "1")) 115 ∷ [])
+in_another_order : judged (Scan One) (codes "%2$d %1$s") ≡ parts (Plain (numbered (codes "2")) 100 ∷ WhiteSpace (32 ∷ []) ∷ Plain (numbered (codes "1")) 115 ∷ [])
 in_another_order = refl
 
-lengths : judged One (codes "%hhd%lu%llx%hn") ≡ parts (Plain (sized [] HH) 100 ∷ Plain (sized [] L) 117 ∷ Plain (sized [] LL) 120 ∷ Plain (sized [] H) 110 ∷ [])
+lengths : judged (Scan One) (codes "%hhd%lu%llx%hn") ≡ parts (Plain (sized [] HH) 100 ∷ Plain (sized [] L) 117 ∷ Plain (sized [] LL) 120 ∷ Plain (sized [] H) 110 ∷ [])
 lengths = refl
 
-percents : judged One (codes "%%%d") ≡ parts (Percents ∷ Plain plain 100 ∷ [])
+percents : judged (Scan One) (codes "%%%d") ≡ parts (Percents ∷ Plain plain 100 ∷ [])
 percents = refl
 
-bracket_first : judged One (codes "%[]a-c]") ≡ parts (Bracket plain (listed false 93 (codes "a-c")) ∷ [])
+bracket_first : judged (Scan One) (codes "%[]a-c]") ≡ parts (Bracket plain (listed false 93 (codes "a-c")) ∷ [])
 bracket_first = refl
 
-all_but_bracket : judged One (codes "%[^]]x") ≡ parts (Bracket plain (listed true 93 []) ∷ Ordinary 120 ∷ [])
+all_but_bracket : judged (Scan One) (codes "%[^]]x") ≡ parts (Bracket plain (listed true 93 []) ∷ Ordinary 120 ∷ [])
 all_but_bracket = refl
 
-second_profile : judged Two (codes "%2$d %1$s%b") ≡ judged One (codes "%2$d %1$s%b")
+second_profile : judged (Scan Two) (codes "%2$d %1$s%b") ≡ judged (Scan One) (codes "%2$d %1$s%b")
 second_profile = refl
 
 -- ---- sets
@@ -223,10 +224,10 @@ last_dash = refl
 abbrev integers : ℕ → List ℕ
 integers n = text_of (replicate n (Plain plain 100))
 
-full : judged One (integers 32) ≡ parts (replicate 32 (Plain plain 100))
+full : judged (Scan One) (integers 32) ≡ parts (replicate 32 (Plain plain 100))
 full = refl
 
-one_too_many : judged One (integers 33) ≡ at TooManyDestinations 64
+one_too_many : judged (Scan One) (integers 33) ≡ at TooManyDestinations 64
 one_too_many = refl
 
 -- ---- by the definitions themselves

@@ -1,7 +1,7 @@
 -- Lists of rules of which none applies.
 use Rattle.std.proofs.Common.{◌≡◌, false, cond, List, [], ◌∷◌, ◌++◌, Option, Some, None, is_some, refl, ap, ◌∙◌}
 use Rattle.std.specs.List.{AllByRecursion}
-use Rattle.sf_format.specs.Faults.{Rule, first_of}
+use Rattle.sf_format.specs.Rules.{Rule, first_of}
 use Rattle.sf_format.proofs.Outcomes.{by_test}
 
 -- no rule applies

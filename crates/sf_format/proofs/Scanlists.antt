@@ -7,7 +7,8 @@ use Rattle.sf_format.specs.Lists.{front, behind, mark_at, is_written}
 use Rattle.sf_format.specs.Scanlist.{Scanlist, IsScanlist, IsSetBy, IsSetOf, is_inner, caret_text, scanlist_text, backward_range}
 use Rattle.sf_format.specs.Pieces.{Opening, Bracket}
 use Rattle.sf_format.specs.Cut.{Part, members_at, close_at, list_of, bracket_at}
-use Rattle.sf_format.specs.Faults.{first_of, place_of, list_rules}
+use Rattle.sf_format.specs.Rules.{first_of, place_of}
+use Rattle.sf_format.specs.Faults.{list_rules}
 use Rattle.sf_format.proofs.Outcomes.{by_test, not_false}
 use Rattle.sf_format.proofs.Prefixes.{Stops, front_behind, front_passes, behind_stops, front_of, behind_of}
 use Rattle.sf_format.proofs.Cutting.{mark_text, mark_joined, mark_none}

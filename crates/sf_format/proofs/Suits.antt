@@ -4,18 +4,19 @@ use Rattle.std.specs.Prelude.{IsSome}
 use Rattle.std.proofs.lemmas.Bool.Decides.{nat_tests}
 use Rattle.std.specs.List.{AllByRecursion}
 use Rattle.sf_base.specs.Bytes.{magnitude}
-use Rattle.sf_format.specs.Digits.{is_decimal}
+use Rattle.sf_format.specs.Digits.{is_decimal, IsOptionalNumber}
+use Rattle.sf_format.specs.Lists.{is_written}
+use Rattle.sf_format.specs.Letters.{letters_of_one, find_letter, letter_of, kind_of, text_kind}
+use Rattle.sf_format.specs.Pieces.{Opening}
+use Rattle.sf_format.specs.Grammar.{SuitsCount, Suits}
+use Rattle.sf_format.specs.Rules.{first_of, has_length, is_l}
+use Rattle.sf_format.specs.Faults.{opening_rules, letter_rules}
 use Rattle.sf_format.specs.declared.directive.Profile.{Profile}
 use Rattle.sf_format.specs.declared.directive.Profile.TheVariants.{One, Two}
-use Rattle.sf_format.specs.Lists.{is_written}
 use Rattle.sf_format.specs.declared.letter.Letter.{Letter}
 use Rattle.sf_format.specs.declared.letter.Letter.TheVariants.{Count}
 use Rattle.sf_format.specs.declared.letter.Length.{Length}
 use Rattle.sf_format.specs.declared.letter.Length.TheVariants.{NoLength, HH, H, LL, L, J, Z, T}
-use Rattle.sf_format.specs.Letters.{letters_of_one, find_letter, letter_of, kind_of, text_kind}
-use Rattle.sf_format.specs.Pieces.{Opening}
-use Rattle.sf_format.specs.Grammar.{IsOptionalNumber, SuitsCount, Suits}
-use Rattle.sf_format.specs.Faults.{first_of, has_length, is_l, opening_rules, letter_rules}
 use Rattle.sf_format.proofs.Outcomes.{by_test, or_left, or_right}
 use Rattle.sf_format.proofs.Prefixes.{AllPass}
 use Rattle.sf_format.proofs.Cutting.{IsLast, HasDigits}
@@ -29,7 +30,7 @@ pub record IsLetterOf (b : ℕ) (letter : Letter) : Type 0 where
   pub allowed : (o : Opening) (q : ℕ) → Quiet (letter_rules One o b q) → IsSome (kind_of letter o.size) × SuitsCount letter o
   pub quiet : (o : Opening) (q : ℕ) → IsSome (kind_of letter o.size) → SuitsCount letter o → Quiet (letter_rules One o b q)
 
-text_allowed : (size : Length) → has_length size ≡ false → IsSome (text_kind size)
+pub text_allowed : (size : Length) → has_length size ≡ false → IsSome (text_kind size)
 text_allowed NoLength e = refl
 text_allowed HH e = absurd (cc)
 text_allowed H e = absurd (cc)
@@ -39,7 +40,7 @@ text_allowed J e = absurd (cc)
 text_allowed Z e = absurd (cc)
 text_allowed T e = absurd (cc)
 
-text_quiet : (size : Length) → IsSome (text_kind size) → (is_l size ≡ false) × (has_length size ≡ false)
+pub text_quiet : (size : Length) → IsSome (text_kind size) → (is_l size ≡ false) × (has_length size ≡ false)
 text_quiet NoLength e = (refl, refl)
 text_quiet HH e = absurd (cc)
 text_quiet H e = absurd (cc)
@@ -53,7 +54,7 @@ nothing_written : (x : List ℕ) → is_written x ≡ false → x ≡ []
 nothing_written [] e = refl
 nothing_written (b ∷ x) e = absurd (cc)
 
-last_byte : (b : ℕ) → nat_eq b 104 ≡ false → nat_eq b 106 ≡ false → nat_eq b 108 ≡ false → nat_eq b 116 ≡ false → nat_eq b 122 ≡ false
+pub last_byte : (b : ℕ) → nat_eq b 104 ≡ false → nat_eq b 106 ≡ false → nat_eq b 108 ≡ false → nat_eq b 116 ≡ false → nat_eq b 122 ≡ false
     → is_decimal b ≡ false → nat_eq b 36 ≡ false → nat_eq b 37 ≡ false → nat_eq b 42 ≡ false → IsLast b
 last_byte b h j l t z decimal dollar percent star = record {
   plain = record { decimal = decimal; dollar = dollar; percent = percent; star = star };
@@ -113,11 +114,11 @@ each_letter = (
     quiet_count o q s c =
         (refl, (refl, (refl, (refl, (refl, (ap (λ v. v || is_written o.width) c.0 ∙ ap is_written c.1, tt))))))
 
-same_byte : (a b : ℕ) → nat_eq a b ≡ true → a ≡ b
+pub same_byte : (a b : ℕ) → nat_eq a b ≡ true → a ≡ b
 same_byte a b e = grind (arith, nat_tests)
 
-pub found : (P : ℕ → Letter → Type 0) (entries : List (ℕ × Letter)) → AllByRecursion (λ entry. P entry.0 entry.1) entries
-    → (b : ℕ) (letter : Letter) → find_letter entries b ≡ Some letter → P b letter
+pub found : {L : Type 0} (P : ℕ → L → Type 0) (entries : List (ℕ × L)) → AllByRecursion (λ entry. P entry.0 entry.1) entries
+    → (b : ℕ) (letter : L) → find_letter entries b ≡ Some letter → P b letter
 found P [] all b letter e = absurd (cc)
 found P (entry ∷ entries) all b letter e =
     by_test (nat_eq entry.0 b) (λ v. cond v (Some entry.1) (find_letter entries b) ≡ Some letter → P b letter)
@@ -140,13 +141,13 @@ above_zero n e = grind (arith, nat_tests)
 not_zero : (n : ℕ) → 0 < n → nat_eq n 0 ≡ false
 not_zero n h = grind (arith, nat_tests)
 
-within : (limit n : ℕ) → nat_lt limit n ≡ false → n ≤ limit
+pub within : (limit n : ℕ) → nat_lt limit n ≡ false → n ≤ limit
 within limit n e = grind (arith, nat_tests)
 
-not_above : (limit n : ℕ) → n ≤ limit → nat_lt limit n ≡ false
+pub not_above : (limit n : ℕ) → n ≤ limit → nat_lt limit n ≡ false
 not_above limit n h = grind (arith, nat_tests)
 
-number_from : (limit : ℕ) (ds : List ℕ) → AllPass is_decimal ds → (is_written ds && nat_eq (magnitude 10 ds) 0) ≡ false
+pub number_from : (limit : ℕ) (ds : List ℕ) → AllPass is_decimal ds → (is_written ds && nat_eq (magnitude 10 ds) 0) ≡ false
     → nat_lt limit (magnitude 10 ds) ≡ false → IsOptionalNumber limit ds
 number_from limit [] digits zero high = tt
 number_from limit (d ∷ ds) digits zero high = (digits, above_zero _ zero, within limit _ high)
@@ -155,7 +156,7 @@ number_low : (limit : ℕ) (ds : List ℕ) → IsOptionalNumber limit ds → (is
 number_low limit [] h = refl
 number_low limit (d ∷ ds) h = not_zero _ h.1
 
-number_high : (limit : ℕ) (ds : List ℕ) → IsOptionalNumber limit ds → nat_lt limit (magnitude 10 ds) ≡ false
+pub number_high : (limit : ℕ) (ds : List ℕ) → IsOptionalNumber limit ds → nat_lt limit (magnitude 10 ds) ≡ false
 number_high limit [] h = not_above limit 0 (omega arith)
 number_high limit (d ∷ ds) h = not_above limit _ h.2
 
@@ -164,13 +165,13 @@ number_digits limit [] h = tt
 number_digits limit (d ∷ ds) h = h.0
 
 -- the test of a slot's number
-slot_from : (ds : List ℕ) → AllPass is_decimal ds → (is_written ds && (nat_eq (magnitude 10 ds) 0 || nat_lt 32 (magnitude 10 ds))) ≡ false
+pub slot_from : (ds : List ℕ) → AllPass is_decimal ds → (is_written ds && (nat_eq (magnitude 10 ds) 0 || nat_lt 32 (magnitude 10 ds))) ≡ false
     → IsOptionalNumber 32 ds
 slot_from [] digits e = tt
 slot_from (d ∷ ds) digits e =
     (digits, above_zero _ (or_left _ _ e), within 32 _ (or_right (nat_eq (magnitude 10 (d ∷ ds)) 0) _ e))
 
-slot_test : (ds : List ℕ) → IsOptionalNumber 32 ds → (is_written ds && (nat_eq (magnitude 10 ds) 0 || nat_lt 32 (magnitude 10 ds))) ≡ false
+pub slot_test : (ds : List ℕ) → IsOptionalNumber 32 ds → (is_written ds && (nat_eq (magnitude 10 ds) 0 || nat_lt 32 (magnitude 10 ds))) ≡ false
 slot_test [] h = refl
 slot_test (d ∷ ds) h = ap (λ v. v || nat_lt 32 (magnitude 10 (d ∷ ds))) (not_zero _ h.1) ∙ not_above 32 _ h.2
 

@@ -1,5 +1,5 @@
 -- How a text is cut where a part of a format begins.
-use Rattle.std.specs.Prelude.{ℕ, Bool, List, [], ◌∷◌, length, drop, nat_eq, if◌then◌else◌}
+use Rattle.std.specs.Prelude.{ℕ, Bool, false, List, [], ◌∷◌, length, drop, nat_eq, if◌then◌else◌, Option, Some, None}
 use Rattle.sf_base.specs.Bytes.{is_white}
 use Rattle.sf_format.specs.Digits.{is_decimal}
 use Rattle.sf_format.specs.Lists.{front, behind, begins, mark_at}
@@ -7,7 +7,10 @@ use Rattle.sf_format.specs.declared.letter.Length.{Length}
 use Rattle.sf_format.specs.declared.letter.Length.TheVariants.{NoLength, HH, H, LL, L, J, Z, T}
 use Rattle.sf_format.specs.Letters.{length_text}
 use Rattle.sf_format.specs.Scanlist.{Scanlist, is_inner}
-use Rattle.sf_format.specs.Pieces.{Opening, Piece, WhiteSpace, Ordinary, Percents, Plain, Bracket}
+use Rattle.sf_format.specs.declared.language.Language.{Language}
+use Rattle.sf_format.specs.declared.language.Language.TheVariants.{Scan, Print}
+use Rattle.sf_format.specs.PrintLetters.{is_flag}
+use Rattle.sf_format.specs.Pieces.{Opening, PrintOpening, Piece, WhiteSpace, Ordinary, Percents, Plain, Bracket, Printed}
 
 -- ---- a conversion specification up to its letter
 
@@ -48,6 +51,33 @@ cut x =
     let star = mark_at 42 number.1 in
     cut_length number.0 star.0 (front is_decimal star.1) (behind is_decimal star.1)
 
+-- ---- a conversion specification of a print format up to its letter
+
+pub record PrintCut : Type 0 where
+  pub opening : PrintOpening
+  pub rest : List ℕ
+
+-- the precision that the text begins with, if the point stands there, and what follows it
+abbrev pub precision_behind : Bool × List ℕ → Option (List ℕ) × List ℕ
+precision_behind point = if point.0 then (Some (front is_decimal point.1), behind is_decimal point.1) else (None, point.1)
+
+abbrev pub precision_at : List ℕ → Option (List ℕ) × List ℕ
+precision_at x = precision_behind (mark_at 46 x)
+
+-- what follows the precision, with the parts before it
+abbrev pub print_cut_length : List ℕ → List ℕ → List ℕ → Option (List ℕ) × List ℕ → PrintCut
+print_cut_length number flags width precision = record {
+  opening = record { number = number; flags = flags; width = width; precision = precision.0; size = length_at precision.1 };
+  rest = drop (length (length_text (length_at precision.1))) precision.1;
+}
+
+-- what follows a %; a 0 that begins no number is a flag
+abbrev pub print_cut : List ℕ → PrintCut
+print_cut x =
+    let number = number_at x in
+    let wide = behind is_flag number.1 in
+    print_cut_length number.0 (front is_flag number.1) (front is_decimal wide) (precision_at (behind is_decimal wide))
+
 -- ---- a scanlist
 
 -- its members, which begin behind the ^
@@ -79,15 +109,30 @@ letter_at o [] = record { piece = Percents; rest = [] }
 letter_at o (letter ∷ x) =
     if nat_eq letter 91 then bracket_at o (mark_at 94 x) else record { piece = Plain o letter; rest = x }
 
+-- the part of a print format from the letter on
+abbrev pub print_letter_at : PrintOpening → List ℕ → Part
+print_letter_at o [] = record { piece = Percents; rest = [] }
+print_letter_at o (letter ∷ x) = record { piece = Printed o letter; rest = x }
+
+-- behind a % that no other follows
+abbrev pub conversion_at : Language → List ℕ → Part
+conversion_at (Scan profile) x = letter_at (cut x).opening (cut x).rest
+conversion_at (Print profile) x = print_letter_at (print_cut x).opening (print_cut x).rest
+
 -- behind a %
-abbrev pub specification_at : List ℕ → Part
-specification_at x =
-    if begins (37 ∷ []) x then record { piece = Percents; rest = drop 1 x } else letter_at (cut x).opening (cut x).rest
+abbrev pub specification_at : Language → List ℕ → Part
+specification_at language x =
+    if begins (37 ∷ []) x then record { piece = Percents; rest = drop 1 x } else conversion_at language x
+
+-- white space runs together in scan formats alone
+abbrev pub joins_run : Language → ℕ → Bool
+joins_run (Scan profile) b = is_white b
+joins_run (Print profile) b = false
 
 -- the part that a text without a fault there begins with; what it is elsewhere has no meaning
-abbrev pub part_at : List ℕ → Part
-part_at [] = record { piece = Percents; rest = [] }
-part_at (b ∷ x) =
-    if is_white b then record { piece = WhiteSpace (front is_white (b ∷ x)); rest = behind is_white (b ∷ x) }
-    else if nat_eq b 37 then specification_at x
+abbrev pub part_at : Language → List ℕ → Part
+part_at language [] = record { piece = Percents; rest = [] }
+part_at language (b ∷ x) =
+    if joins_run language b then record { piece = WhiteSpace (front is_white (b ∷ x)); rest = behind is_white (b ∷ x) }
+    else if nat_eq b 37 then specification_at language x
     else record { piece = Ordinary b; rest = x }

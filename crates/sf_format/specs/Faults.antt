@@ -1,50 +1,26 @@
--- The first fault of a text that is no scan format. C11 7.21.6.2p13 leaves such a text undefined; here it is refused.
+-- The first fault of a text that is no format. C11 7.21.6.1p9 and 7.21.6.2p13 leave such a text undefined; here it is refused.
 use Rattle.std.specs.Prelude.{◌≡◌, ℕ, ◌+◌, ◌<◌, ◌≤◌, ◌⊎◌, Bool, true, false, not, ◌&&◌, ◌||◌, List, [], ◌∷◌, ◌++◌, length, map, Option, Some, None, is_some, is_none, nat_eq, nat_lt, if◌then◌else◌}
-use Rattle.std.specs.List.{AllByRecursion, position_from, list_any, list_all}
+use Rattle.std.specs.List.{AllByRecursion, list_all}
 use Rattle.sf_base.specs.Bytes.{magnitude}
 use Rattle.sf_format.specs.declared.directive.Profile.{Profile}
-use Rattle.sf_format.specs.declared.directive.Directive.{Directive}
+use Rattle.sf_format.specs.declared.language.Language.{Language}
+use Rattle.sf_format.specs.declared.language.Language.TheVariants.{Scan, Print}
 use Rattle.sf_format.specs.declared.fault.FormatFault.{FormatFault}
 use Rattle.sf_format.specs.declared.fault.FormatWhy.{FormatWhy}
-use Rattle.sf_format.specs.declared.fault.FormatWhy.TheVariants.{Truncated, ZeroWidth, TooWide, UnknownLetter, LeftOut, BadLength, OpenSet, BackwardRange, BadCount, MixedNumbering, BadNumber, NumberTwice, NumberGap, Nul, FormatTooLong, TooManyDestinations, NoMemory}
-use Rattle.sf_format.specs.declared.letter.Length.{Length}
-use Rattle.sf_format.specs.declared.letter.Length.TheVariants.{NoLength, L}
+use Rattle.sf_format.specs.declared.fault.FormatWhy.TheVariants.{Truncated, ZeroWidth, TooWide, UnknownLetter, LeftOut, BadLength, OpenSet, BackwardRange, BadCount, BadNumber, NumberTwice, NumberGap, Nul, FormatTooLong, NoMemory}
 use Rattle.sf_format.specs.Letters.{letter_of}
 use Rattle.sf_format.specs.Scanlist.{backward_range, caret_text}
 use Rattle.sf_format.specs.Lists.{begins, mark_at, is_written}
-use Rattle.sf_format.specs.Cut.{cut, members_at, close_at}
-use Rattle.sf_format.specs.Pieces.{Opening, Piece, number_text, star_text, opening_text, piece_text, text_of}
-use Rattle.sf_format.specs.Grammar.{IsPiece, RunsApart, AreAlike, destinations, Spells}
-
--- a reason, the test whether it applies, and the place where it is told
-pub record Rule : Type 0 where
-  pub why : FormatWhy
-  pub applies : Bool
-  pub at : ℕ
-
--- the first rule that applies
-abbrev pub first_of : List Rule → Option (FormatWhy × ℕ)
-first_of [] = None
-first_of (rule ∷ rules) = if rule.applies then Some (rule.why, rule.at) else first_of rules
-
-abbrev pub is_any_of : List ℕ → ℕ → Bool
-is_any_of bytes b = list_any (λ a. nat_eq a b) bytes
-
--- c, s and [
-abbrev pub takes_text : ℕ → Bool
-takes_text b = is_any_of (99 ∷ 115 ∷ 91 ∷ []) b
+use Rattle.sf_format.specs.Cut.{cut, print_cut, members_at, close_at}
+use Rattle.sf_format.specs.Pieces.{Opening, Piece, number_text, star_text, opening_text, print_opening_text, piece_text, text_of}
+use Rattle.sf_format.specs.PrintGrammar.{Prints}
+use Rattle.sf_format.specs.Grammar.{IsPiece, RunsApart, AreAlike, destinations, Means, SpellsAs}
+use Rattle.sf_format.specs.Rules.{Rule, first_of, is_any_of, takes_text, has_length, is_l, place_of, or_zero, slot_rules}
+use Rattle.sf_format.specs.PrintRules.{print_opening_rules, print_rest_rules}
 
 -- m L a A e E f F g G p C S
 abbrev pub is_left_out : ℕ → Bool
 is_left_out b = is_any_of (109 ∷ 76 ∷ 97 ∷ 65 ∷ 101 ∷ 69 ∷ 102 ∷ 70 ∷ 103 ∷ 71 ∷ 112 ∷ 67 ∷ 83 ∷ []) b
-
-abbrev pub has_length : Length → Bool
-has_length NoLength = false
-has_length _ = true
-
-abbrev pub is_l : Length → Bool
-is_l L = true
-is_l _ = false
 
 -- ---- the faults inside one specification
 
@@ -72,14 +48,6 @@ letter_rules profile o letter q =
     ∷ record { why = BadCount; applies = nat_eq letter 110 && (o.star || is_written o.width); at = q }
     ∷ []
 
--- where the byte stands first, counted from n
-abbrev pub place_of : ℕ → ℕ → List ℕ → Option ℕ
-place_of b n xs = position_from (λ x. nat_eq x b) n xs
-
-abbrev pub or_zero : Option ℕ → ℕ
-or_zero None = 0
-or_zero (Some n) = n
-
 -- the members of a scanlist; q is the place of the [, m that of the first member
 abbrev pub member_rules : ℕ → ℕ → List ℕ → Bool → List Rule
 member_rules q m members closed =
@@ -102,39 +70,33 @@ bracket_rules bracket q x = if bracket then after_caret q (mark_at 94 x) else []
 abbrev pub scanlist_rules : ℕ → ℕ → List ℕ → List Rule
 scanlist_rules letter q x = bracket_rules (nat_eq letter 91) q x
 
--- both have a number, or neither has
-abbrev pub alike : Opening → Opening → Bool
-alike e o = if is_written e.number then is_written o.number else not (is_written o.number)
-
--- the destinations so far: a number beside none, or one too many without
-abbrev pub slot_rules : List Opening → ℕ → Opening → List Rule
-slot_rules earlier p o =
-    record { why = MixedNumbering; applies = not o.star && list_any (λ e. not (alike e o)) earlier; at = p }
-    ∷ record { why = TooManyDestinations; applies = not o.star && not (is_written o.number) && nat_lt 31 (length earlier); at = p }
-    ∷ []
-
 -- from where the letter of the specification is due, at q
 abbrev pub rest_rules : Profile → List Opening → ℕ → Opening → ℕ → List ℕ → List Rule
 rest_rules profile earlier p o q [] = record { why = Truncated; applies = true; at = q } ∷ []
 rest_rules profile earlier p o q (letter ∷ x) =
     letter_rules profile o letter q ++ (scanlist_rules letter q x ++ slot_rules earlier p o)
 
--- what stands behind a %
-abbrev pub percent_rules : Profile → List Opening → ℕ → List ℕ → List Rule
-percent_rules profile earlier p x =
-    if not (begins (37 ∷ []) x) then
+-- what stands behind a % that no other follows
+abbrev pub conversion_rules : Language → List Opening → ℕ → List ℕ → List Rule
+conversion_rules (Scan profile) earlier p x =
     opening_rules p (cut x).opening
     ++ rest_rules profile earlier p (cut x).opening (p + length (opening_text (cut x).opening)) (cut x).rest
-    else []
+conversion_rules (Print profile) earlier p x =
+    print_opening_rules p (print_cut x).opening
+    ++ print_rest_rules profile earlier p (print_cut x).opening (p + length (print_opening_text (print_cut x).opening)) (print_cut x).rest
+
+-- what stands behind a %
+abbrev pub percent_rules : Language → List Opening → ℕ → List ℕ → List Rule
+percent_rules language earlier p x = if not (begins (37 ∷ []) x) then conversion_rules language earlier p x else []
 
 -- ---- the faults of a text
 
 -- where the next part begins, at p, with these bytes
-abbrev pub part_rules : Profile → List Opening → ℕ → List ℕ → List Rule
-part_rules profile earlier p [] = []
-part_rules profile earlier p (b ∷ x) =
+abbrev pub part_rules : Language → List Opening → ℕ → List ℕ → List Rule
+part_rules language earlier p [] = []
+part_rules language earlier p (b ∷ x) =
     record { why = Nul; applies = nat_eq b 0; at = p }
-    ∷ (if nat_eq b 37 then percent_rules profile earlier p x else [])
+    ∷ (if nat_eq b 37 then percent_rules language earlier p x else [])
 
 -- the numbers of the destinations, each with the place of its %
 abbrev pub numbered : ℕ → List Piece → List (ℕ × ℕ)
@@ -160,27 +122,35 @@ number_rules pieces =
     else []
 
 -- whole parts, none of which has a fault so far
-pub record AreFaultless (profile : Profile) (done : List Piece) : Type 0 where
-  pub each : AllByRecursion (IsPiece profile) done
+pub record AreFaultless (language : Language) (done : List Piece) : Type 0 where
+  pub each : AllByRecursion (IsPiece language) done
   pub apart : RunsApart done
   pub alike : AreAlike (destinations done)
 
 -- after whole parts without a fault, the first fault of what follows
-abbrev pub PartFault : Profile → List ℕ → FormatWhy × ℕ → Type 0
-PartFault profile text fault =
-    (done : List Piece) × (rest : List ℕ) × AreFaultless profile done × (text ≡ text_of done ++ rest)
-    × (first_of (part_rules profile (destinations done) (length (text_of done)) rest) ≡ Some fault)
+abbrev pub PartFault : Language → List ℕ → FormatWhy × ℕ → Type 0
+PartFault language text fault =
+    (done : List Piece) × (rest : List ℕ) × AreFaultless language done × (text ≡ text_of done ++ rest)
+    × (first_of (part_rules language (destinations done) (length (text_of done)) rest) ≡ Some fault)
 
 -- the whole text has no such fault, and its numbers have one
-abbrev pub NumberFault : Profile → List ℕ → FormatWhy × ℕ → Type 0
-NumberFault profile text fault =
-    (done : List Piece) × AreFaultless profile done × (text ≡ text_of done) × (first_of (number_rules done) ≡ Some fault)
+abbrev pub NumberFault : Language → List ℕ → FormatWhy × ℕ → Type 0
+NumberFault language text fault =
+    (done : List Piece) × AreFaultless language done × (text ≡ text_of done) × (first_of (number_rules done) ≡ Some fault)
 
 -- the first fault of the text, and its place
-abbrev pub Fault : Profile → List ℕ → ℕ → FormatWhy → Type 0
-Fault profile text at why =
+abbrev pub FaultIn : Language → List ℕ → ℕ → FormatWhy → Type 0
+FaultIn language text at why =
     (4096 < length text) × (at ≡ 4096) × (why ≡ FormatTooLong)
-    ⊎ (length text ≤ 4096) × (PartFault profile text (why, at) ⊎ NumberFault profile text (why, at))
+    ⊎ (length text ≤ 4096) × (PartFault language text (why, at) ⊎ NumberFault language text (why, at))
+
+-- of a scan format
+abbrev pub Fault : Profile → List ℕ → ℕ → FormatWhy → Type 0
+Fault profile text at why = FaultIn (Scan profile) text at why
+
+-- of a print format
+abbrev pub PrintFault : Profile → List ℕ → ℕ → FormatWhy → Type 0
+PrintFault profile text at why = FaultIn (Print profile) text at why
 
 -- ---- why a format is not had
 
@@ -188,6 +158,12 @@ abbrev pub no_memory : FormatFault
 no_memory = record { at = 0; why = NoMemory }
 
 -- the first fault of the text, or memory where the text has none
+abbrev pub IsRefusedAs : {D : Type 0} → Language → (ℕ → Piece → D → Type 0) → List ℕ → FormatFault → Type 0
+IsRefusedAs {D} language means text fault =
+    FaultIn language text fault.at fault.why ⊎ (fault ≡ no_memory) × ((ds : List D) × SpellsAs language means text ds)
+
 abbrev pub IsRefused : Profile → List ℕ → FormatFault → Type 0
-IsRefused profile text fault =
-    Fault profile text fault.at fault.why ⊎ (fault ≡ no_memory) × ((ds : List Directive) × Spells profile text ds)
+IsRefused profile text fault = IsRefusedAs (Scan profile) (Means profile) text fault
+
+abbrev pub IsPrintRefused : Profile → List ℕ → FormatFault → Type 0
+IsPrintRefused profile text fault = IsRefusedAs (Print profile) (Prints profile) text fault

@@ -1,8 +1,8 @@
--- The grammar of scan formats (C11 7.21.6.2p3 to p12, POSIX fscanf for the numbers).
+-- The grammar of formats (C11 7.21.6.2p3 to p12, POSIX fscanf for the numbers).
 use Rattle.std.specs.Prelude.{◌≡◌, ◌≢◌, ℕ, ◌+◌, ◌<◌, ◌≤◌, ◌⊎◌, Bool, true, false, List, [], ◌∷◌, length, map, Option, Some, None, IsSome, if◌then◌else◌}
 use Rattle.std.specs.List.{AllByRecursion}
 use Rattle.sf_base.specs.Bytes.{is_white, AreWhite, magnitude}
-use Rattle.sf_format.specs.Digits.{is_decimal}
+use Rattle.sf_format.specs.Digits.{IsOptionalNumber, optional_number}
 use Rattle.sf_format.specs.declared.directive.Profile.{Profile}
 use Rattle.sf_format.specs.declared.directive.Shape.{Shape}
 use Rattle.sf_format.specs.declared.directive.Shape.TheVariants as shape
@@ -14,17 +14,11 @@ use Rattle.sf_format.specs.declared.letter.Letter.TheVariants.{Signed, Unsigned,
 use Rattle.sf_format.specs.Letters.{letter_of, kind_of}
 use Rattle.sf_format.specs.Scanlist.{IsScanlist, IsSetOf}
 use Rattle.sf_format.specs.Slots.{AreDistinct}
-use Rattle.sf_format.specs.Pieces.{Opening, Piece, WhiteSpace, Ordinary, Percents, Plain, Bracket, text_of}
-
--- digits that aren't written, or that stand for a number from 1 to the limit; leading zeros are allowed
-abbrev pub IsOptionalNumber : ℕ → List ℕ → Type 0
-IsOptionalNumber limit [] = Unit {0}
-IsOptionalNumber limit (d ∷ ds) =
-    AllByRecursion (λ b. is_decimal b ≡ true) (d ∷ ds) × (0 < magnitude 10 (d ∷ ds)) × (magnitude 10 (d ∷ ds) ≤ limit)
-
-abbrev pub optional_number : List ℕ → Option ℕ
-optional_number [] = None
-optional_number (d ∷ ds) = Some (magnitude 10 (d ∷ ds))
+use Rattle.sf_format.specs.declared.language.Language.{Language}
+use Rattle.sf_format.specs.declared.language.Language.TheVariants.{Scan, Print}
+use Rattle.sf_format.specs.declared.unit.Unit.{Unit as PrintUnit}
+use Rattle.sf_format.specs.PrintGrammar.{IsPrintPiece, Prints}
+use Rattle.sf_format.specs.Pieces.{Opening, PrintOpening, Piece, WhiteSpace, Ordinary, Percents, Plain, Bracket, Printed, text_of}
 
 -- n is never suppressed and takes no width
 abbrev pub SuitsCount : Letter → Opening → Type 0
@@ -39,13 +33,19 @@ pub record Suits (letter : Letter) (o : Opening) : Type 0 where
   pub size : IsSome (kind_of letter o.size)
   pub count : SuitsCount letter o
 
+-- a part of a scan format, seen alone
+abbrev pub IsScanPiece : Profile → Piece → Type 0
+IsScanPiece profile (WhiteSpace bs) = (0 < length bs) × AreWhite bs
+IsScanPiece profile (Ordinary b) = (b < 256) × (b ≢ 0) × (b ≢ 37) × (is_white b ≡ false)
+IsScanPiece profile Percents = Unit {0}
+IsScanPiece profile (Plain o b) = (b ≢ 91) × ((letter : Letter) × (letter_of profile b ≡ Some letter) × Suits letter o)
+IsScanPiece profile (Bracket o list) = Suits Set o × IsScanlist list
+IsScanPiece profile (Printed o b) = ⊥
+
 -- a part of a format, seen alone
-abbrev pub IsPiece : Profile → Piece → Type 0
-IsPiece profile (WhiteSpace bs) = (0 < length bs) × AreWhite bs
-IsPiece profile (Ordinary b) = (b < 256) × (b ≢ 0) × (b ≢ 37) × (is_white b ≡ false)
-IsPiece profile Percents = Unit {0}
-IsPiece profile (Plain o b) = (b ≢ 91) × ((letter : Letter) × (letter_of profile b ≡ Some letter) × Suits letter o)
-IsPiece profile (Bracket o list) = Suits Set o × IsScanlist list
+abbrev pub IsPiece : Language → Piece → Type 0
+IsPiece (Scan profile) piece = IsScanPiece profile piece
+IsPiece (Print profile) piece = IsPrintPiece profile piece
 
 -- no run of white space meets another
 abbrev pub RunsApart : List Piece → Type 0
@@ -53,7 +53,11 @@ RunsApart [] = Unit {0}
 RunsApart (WhiteSpace a ∷ WhiteSpace b ∷ pieces) = ⊥
 RunsApart (piece ∷ pieces) = RunsApart pieces
 
--- the openings of the assigned conversions
+-- a value of a print format, as the rules on numbers see it: never suppressed
+abbrev pub value_opening : PrintOpening → Opening
+value_opening o = record { number = o.number; star = false; width = o.width; size = o.size }
+
+-- the openings of the assigned conversions, or of the values
 abbrev pub assigned_opening : Opening → List Opening → List Opening
 assigned_opening o rest = if o.star then rest else o ∷ rest
 
@@ -61,6 +65,7 @@ abbrev pub destinations : List Piece → List Opening
 destinations [] = []
 destinations (Plain o letter ∷ pieces) = assigned_opening o (destinations pieces)
 destinations (Bracket o list ∷ pieces) = assigned_opening o (destinations pieces)
+destinations (Printed o letter ∷ pieces) = value_opening o ∷ destinations pieces
 destinations (_ ∷ pieces) = destinations pieces
 
 -- destinations without numbers, at most 32
@@ -77,9 +82,9 @@ AreNumbered os =
     AllByRecursion (λ o. (o.number ≢ []) × (magnitude 10 o.number ≤ length os)) os
     × AreDistinct (map (λ o. magnitude 10 o.number) os)
 
-pub record IsFormat (profile : Profile) (pieces : List Piece) : Type 0 where
+pub record IsFormat (language : Language) (pieces : List Piece) : Type 0 where
   pub short : length (text_of pieces) ≤ 4096
-  pub each : AllByRecursion (IsPiece profile) pieces
+  pub each : AllByRecursion (IsPiece language) pieces
   pub apart : RunsApart pieces
   pub slots : ArePlaced (destinations pieces) ⊎ AreNumbered (destinations pieces)
 
@@ -118,16 +123,25 @@ Means profile place (Plain o b) d =
 Means profile place (Bracket o list) d =
     (c : Conversion) × (members : List Bool) × IsConversion place o Set c × IsSetOf list members × (c.shape ≡ shape.Set members)
     × (d ≡ directive.Conv c)
+Means profile place (Printed o b) d = ⊥
 
--- the directives that the parts stand for, where place is that of the next destination
-abbrev pub MeanAll : Profile → ℕ → List Piece → List Directive → Type 0
-MeanAll profile place [] [] = Unit {0}
-MeanAll profile place (piece ∷ pieces) (d ∷ ds) =
-    Means profile place piece d × MeanAll profile (place + length (destinations (piece ∷ []))) pieces ds
-MeanAll profile place [] (d ∷ ds) = ⊥
-MeanAll profile place (piece ∷ pieces) [] = ⊥
+-- what the parts stand for, one by one, where place is that of the next destination
+abbrev pub MeanAll : {D : Type 0} → (ℕ → Piece → D → Type 0) → ℕ → List Piece → List D → Type 0
+MeanAll means place [] [] = Unit {0}
+MeanAll means place (piece ∷ pieces) (d ∷ ds) =
+    means place piece d × MeanAll means (place + length (destinations (piece ∷ []))) pieces ds
+MeanAll means place [] (d ∷ ds) = ⊥
+MeanAll means place (piece ∷ pieces) [] = ⊥
+
+-- the text is that of the parts of a format, and they stand for these
+abbrev pub SpellsAs : {D : Type 0} → Language → (ℕ → Piece → D → Type 0) → List ℕ → List D → Type 0
+SpellsAs language means text ds =
+    (pieces : List Piece) × IsFormat language pieces × (text ≡ text_of pieces) × MeanAll means 1 pieces ds
 
 -- the text is a scan format with these directives
 abbrev pub Spells : Profile → List ℕ → List Directive → Type 0
-Spells profile text ds =
-    (pieces : List Piece) × IsFormat profile pieces × (text ≡ text_of pieces) × MeanAll profile 1 pieces ds
+Spells profile text ds = SpellsAs (Scan profile) (Means profile) text ds
+
+-- the text is a print format with these units
+abbrev pub SpellsPrint : Profile → List ℕ → List PrintUnit → Type 0
+SpellsPrint profile text us = SpellsAs (Print profile) (Prints profile) text us

@@ -1,34 +1,53 @@
--- Laws of scan formats.
+-- Laws of formats.
 use Rattle.std.specs.Prelude.{◌≡◌, ℕ, ◌⊎◌, List}
 use Rattle.sf_base.specs.Bytes.{AreBytes}
 use Rattle.sf_format.specs.declared.directive.Profile.{Profile}
 use Rattle.sf_format.specs.declared.directive.Directive.{Directive}
+use Rattle.sf_format.specs.declared.language.Language.{Language}
+use Rattle.sf_format.specs.declared.language.Language.TheVariants.{Scan, Print}
+use Rattle.sf_format.specs.declared.unit.Unit.{Unit as PrintUnit}
 use Rattle.sf_format.specs.declared.fault.FormatWhy.{FormatWhy}
 use Rattle.sf_format.specs.Pieces.{Piece}
-use Rattle.sf_format.specs.Grammar.{Spells, IsFormat, ArePlaced, destinations, MeanAll}
-use Rattle.sf_format.specs.Faults.{Fault}
+use Rattle.sf_format.specs.PrintGrammar.{Prints}
+use Rattle.sf_format.specs.Grammar.{Spells, SpellsPrint, IsFormat, ArePlaced, destinations, Means, MeanAll}
+use Rattle.sf_format.specs.Faults.{Fault, PrintFault}
 use Rattle.sf_format.specs.Proper.{IsAccepted, AreInOrder}
+use Rattle.sf_format.specs.Units.{AreAccepted, ArePrintedInOrder}
 
--- a text spells at most one list of directives
-abbrev pub EachSpellsOne : Type 0
-EachSpellsOne = (profile : Profile) (text : List ℕ) (ds es : List Directive) → Spells profile text ds → Spells profile text es → ds ≡ es
+-- a text spells at most one list
+abbrev pub SpellOne : {D : Type 0} → (Profile → List ℕ → List D → Type 0) → Type 0
+SpellOne {D} spells = (profile : Profile) (text : List ℕ) (ds es : List D) → spells profile text ds → spells profile text es → ds ≡ es
 
 -- a text has at most one fault
-abbrev pub EachHasOneFault : Type 0
-EachHasOneFault =
-    (profile : Profile) (text : List ℕ) (at place : ℕ) (why reason : FormatWhy) → Fault profile text at why → Fault profile text place reason
+abbrev pub HaveOneFault : (Profile → List ℕ → ℕ → FormatWhy → Type 0) → Type 0
+HaveOneFault faults =
+    (profile : Profile) (text : List ℕ) (at place : ℕ) (why reason : FormatWhy) → faults profile text at why → faults profile text place reason
     → (at ≡ place) × (why ≡ reason)
 
 -- no spelled text has a fault
-abbrev pub NoneIsBoth : Type 0
-NoneIsBoth =
-    (profile : Profile) (text : List ℕ) (ds : List Directive) (at : ℕ) (why : FormatWhy) → Spells profile text ds → Fault profile text at why → ⊥
+abbrev pub AreNeverBoth : {D : Type 0} → (Profile → List ℕ → List D → Type 0) → (Profile → List ℕ → ℕ → FormatWhy → Type 0) → Type 0
+AreNeverBoth {D} spells faults =
+    (profile : Profile) (text : List ℕ) (ds : List D) (at : ℕ) (why : FormatWhy) → spells profile text ds → faults profile text at why → ⊥
 
 -- a text of bytes is spelled, or has a fault
-abbrev pub EachIsEither : Type 0
-EachIsEither =
+abbrev pub AreEither : {D : Type 0} → (Profile → List ℕ → List D → Type 0) → (Profile → List ℕ → ℕ → FormatWhy → Type 0) → Type 0
+AreEither {D} spells faults =
     (profile : Profile) (text : List ℕ) → AreBytes text
-    → ((ds : List Directive) × Spells profile text ds) ⊎ ((at : ℕ) × (why : FormatWhy) × Fault profile text at why)
+    → ((ds : List D) × spells profile text ds) ⊎ ((at : ℕ) × (why : FormatWhy) × faults profile text at why)
+
+-- ---- scan formats
+
+abbrev pub EachSpellsOne : Type 0
+EachSpellsOne = SpellOne Spells
+
+abbrev pub EachHasOneFault : Type 0
+EachHasOneFault = HaveOneFault Fault
+
+abbrev pub NoneIsBoth : Type 0
+NoneIsBoth = AreNeverBoth Spells Fault
+
+abbrev pub EachIsEither : Type 0
+EachIsEither = AreEither Spells Fault
 
 -- what is spelled is proper
 abbrev pub EachIsProper : Type 0
@@ -37,5 +56,27 @@ EachIsProper = (profile : Profile) (text : List ℕ) (ds : List Directive) → S
 -- without numbers the slots are assigned in order
 abbrev pub EachUnnumberedIsInOrder : Type 0
 EachUnnumberedIsInOrder =
-    (profile : Profile) (pieces : List Piece) (ds : List Directive) → IsFormat profile pieces → ArePlaced (destinations pieces)
-    → MeanAll profile 1 pieces ds → AreInOrder ds
+    (profile : Profile) (pieces : List Piece) (ds : List Directive) → IsFormat (Scan profile) pieces → ArePlaced (destinations pieces)
+    → MeanAll (Means profile) 1 pieces ds → AreInOrder ds
+
+-- ---- print formats
+
+abbrev pub EachPrintSpellsOne : Type 0
+EachPrintSpellsOne = SpellOne SpellsPrint
+
+abbrev pub EachPrintHasOneFault : Type 0
+EachPrintHasOneFault = HaveOneFault PrintFault
+
+abbrev pub NoPrintIsBoth : Type 0
+NoPrintIsBoth = AreNeverBoth SpellsPrint PrintFault
+
+abbrev pub EachPrintIsEither : Type 0
+EachPrintIsEither = AreEither SpellsPrint PrintFault
+
+abbrev pub EachPrintIsProper : Type 0
+EachPrintIsProper = (profile : Profile) (text : List ℕ) (us : List PrintUnit) → SpellsPrint profile text us → AreAccepted us
+
+abbrev pub EachUnnumberedPrintIsInOrder : Type 0
+EachUnnumberedPrintIsInOrder =
+    (profile : Profile) (pieces : List Piece) (us : List PrintUnit) → IsFormat (Print profile) pieces → ArePlaced (destinations pieces)
+    → MeanAll (Prints profile) 1 pieces us → ArePrintedInOrder us

@@ -20,7 +20,7 @@ abbrev pub letters : Profile → List (ℕ × Letter)
 letters One = letters_of_one
 letters Two = letters_of_one
 
-abbrev pub find_letter : List (ℕ × Letter) → ℕ → Option Letter
+abbrev pub find_letter : {L : Type 0} → List (ℕ × L) → ℕ → Option L
 find_letter [] b = None
 find_letter (entry ∷ entries) b = if nat_eq entry.0 b then Some entry.1 else find_letter entries b
 

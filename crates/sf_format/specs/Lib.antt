@@ -1,13 +1,17 @@
 pub mod Digits
 pub mod Lists
 pub mod Letters
+pub mod PrintLetters
 pub mod Scanlist
 pub mod Pieces
 pub mod Slots
 pub mod Proper
 pub mod Units
 pub mod Cut
+pub mod PrintGrammar
 pub mod Grammar
+pub mod Rules
+pub mod PrintRules
 pub mod Faults
 pub mod Reading
 pub mod Widths

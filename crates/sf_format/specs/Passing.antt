@@ -17,15 +17,25 @@ use Rattle.sf_format.specs.declared.opening.Written.{Written}
 use Rattle.sf_format.specs.declared.slots.Slots.{Slots}
 use Rattle.sf_format.specs.declared.scanlist.Listed.{Listed}
 use Rattle.sf_format.specs.declared.shaping.Shaped.{Shaped}
+use Rattle.sf_format.specs.declared.language.Language.{Language}
+use Rattle.sf_format.specs.declared.unit.PrintLetter.{PrintLetter}
+use Rattle.sf_format.specs.declared.unit.Unit.{Unit as PrintUnit}
+use Rattle.sf_format.specs.declared.unit.Unit.TheVariants as unit
+use Rattle.sf_format.specs.declared.print_opening.PrintWritten.{PrintWritten}
 use Rattle.sf_format.specs.declared.passing.Passed.{Passed}
+use Rattle.sf_format.specs.declared.print_passing.PassedUnit.{PassedUnit}
+use Rattle.sf_format.specs.declared.walking.Step.{Step}
 use Rattle.sf_format.specs.declared.numbering.Noted.{Noted}
 use Rattle.sf_format.specs.Lists.{is_written, mark_at}
 use Rattle.sf_format.specs.Letters.{letter_of, kind_of}
 use Rattle.sf_format.specs.Scanlist.{IsSetOf}
-use Rattle.sf_format.specs.Pieces.{Opening, Piece}
+use Rattle.sf_format.specs.Pieces.{Opening, PrintOpening, Piece}
 use Rattle.sf_format.specs.Cut.{Part, list_of, close_at}
-use Rattle.sf_format.specs.Grammar.{destinations, shape_of, Means, MeanAll}
-use Rattle.sf_format.specs.Faults.{Rule, first_of, bracket_rules, is_any_of, repeated, beyond, no_memory}
+use Rattle.sf_format.specs.PrintLetters.{print_letter_of, print_kind_of}
+use Rattle.sf_format.specs.PrintGrammar.{Prints}
+use Rattle.sf_format.specs.Grammar.{destinations, slot_of, shape_of, Means, MeanAll}
+use Rattle.sf_format.specs.Rules.{Rule, first_of, is_any_of}
+use Rattle.sf_format.specs.Faults.{bracket_rules, repeated, beyond, no_memory}
 use Rattle.sf_format.specs.Reading.{read, judged}
 
 -- an opening without where its digits lie in memory
@@ -45,6 +55,26 @@ why_at at None = None
 why_at at (Some why) = Some (why, at)
 
 -- ---- one specification
+
+-- one of a print format
+abbrev pub precision_of : Bool → List ℕ → Option (List ℕ)
+precision_of true ds = Some ds
+precision_of false ds = None
+
+abbrev pub print_opening_of : PrintWritten → PrintOpening
+print_opening_of o = record {
+  number = o.number.now;
+  flags = o.flags.now;
+  width = o.width.now;
+  precision = precision_of o.point o.precision.now;
+  size = o.size;
+}
+
+-- the first fault by the rules, or else what the letter prints and its kind
+abbrev pub ConvertsPrint : Profile → PrintOpening → ℕ → List Rule → Result (PrintLetter × Kind) FormatFault → Type 0
+ConvertsPrint profile o b rules (Ok found) =
+    (first_of rules ≡ None) × (print_letter_of profile b ≡ Some found.0) × (print_kind_of found.0 o.size ≡ Some found.1)
+ConvertsPrint profile o b rules (Err fault) = first_of rules ≡ Some (fault_of fault)
 
 -- the first fault by the rules, or else what the letter converts and its kind
 abbrev pub Converts : Profile → Opening → ℕ → List Rule → Result (Letter × Kind) FormatFault → Type 0
@@ -86,37 +116,56 @@ pub record Holds (slots : Slots) (earlier : List Opening) : Type 0 where
   pub count : slots.count ≡ length earlier
   pub same : AllByRecursion (λ e. is_written e.number ≡ slots.numbered) earlier
 
--- no fault by the rules, and the directive of the part, what follows it, and the destinations with it
-abbrev pub PassesAs : Profile → List Rule → List Opening → Part → Directive → List ℕ → Slots → Type 0
-PassesAs profile rules earlier part d rest slots =
-    (first_of rules ≡ None) × (rest ≡ part.rest) × Means profile (1 + length earlier) part.piece d
+-- no fault by the rules, and what the part stands for, what follows it, and the destinations with it
+abbrev pub PassesAs : {D : Type 0} → (ℕ → Piece → D → Type 0) → List Rule → List Opening → Part → D → List ℕ → Slots → Type 0
+PassesAs means rules earlier part d rest slots =
+    (first_of rules ≡ None) × (rest ≡ part.rest) × means (1 + length earlier) part.piece d
     × Holds slots (earlier ++ destinations (part.piece ∷ []))
 
 -- that, or the first fault by the rules
 abbrev pub PassesBy : Profile → List Rule → List Opening → Part → Result Passed FormatFault → Type 0
-PassesBy profile rules earlier part (Ok passed) = PassesAs profile rules earlier part passed.directive passed.rest.now passed.slots
+PassesBy profile rules earlier part (Ok passed) = PassesAs (Means profile) rules earlier part passed.directive passed.rest.now passed.slots
 PassesBy profile rules earlier part (Err fault) = first_of rules ≡ Some (fault_of fault)
+
+abbrev pub PrintsBy : Profile → List Rule → List Opening → Part → Result PassedUnit FormatFault → Type 0
+PrintsBy profile rules earlier part (Ok passed) = PassesAs (Prints profile) rules earlier part passed.unit passed.rest.now passed.slots
+PrintsBy profile rules earlier part (Err fault) = first_of rules ≡ Some (fault_of fault)
+
+-- the slot of the first of the destinations, where place is that of one without a number
+abbrev pub slot_at : ℕ → List Opening → Option ℕ
+slot_at place [] = None
+slot_at place (o ∷ os) = slot_of place o
+
+-- the slot that a part assigns, if it assigns one
+abbrev pub HasSlot : ℕ → Piece → Option ℕ → Type 0
+HasSlot place piece slot = slot ≡ slot_at place (destinations (piece ∷ []))
+
+abbrev pub StepsBy : List Rule → List Opening → Part → Result Step FormatFault → Type 0
+StepsBy rules earlier part (Ok step) = PassesAs HasSlot rules earlier part step.slot step.rest.now step.slots
+StepsBy rules earlier part (Err fault) = first_of rules ≡ Some (fault_of fault)
 
 -- ---- whole texts
 
 -- the destinations of the text's parts, or the first fault of a part
-abbrev pub Walked : Profile → List ℕ → Result Slots FormatFault → Type 0
-Walked profile text (Ok slots) =
-    (pieces : List Piece) × (read (length text) profile [] 0 text ≡ Ok pieces) × Holds slots (destinations pieces)
-Walked profile text (Err fault) = read (length text) profile [] 0 text ≡ Err (fault_of fault)
+abbrev pub Walked : Language → List ℕ → Result Slots FormatFault → Type 0
+Walked language text (Ok slots) =
+    (pieces : List Piece) × (read (length text) language [] 0 text ≡ Ok pieces) × Holds slots (destinations pieces)
+Walked language text (Err fault) = read (length text) language [] 0 text ≡ Err (fault_of fault)
 
 -- the slot that a directive assigns
 abbrev pub slot_in : Directive → Option ℕ
 slot_in (directive.Conv c) = c.slot
 slot_in _ = None
 
--- that slot with a place
+-- the slot of the value that a unit prints
+abbrev pub printed_slot : PrintUnit → Option ℕ
+printed_slot (unit.Byte b) = None
+printed_slot (unit.Conv c) = Some c.slot
+
+-- a slot with a place
 abbrev pub with_place : Option ℕ → ℕ → List (ℕ × ℕ)
 with_place None at = []
 with_place (Some n) at = (n, at) ∷ []
-
-abbrev pub placed_slot : Directive → ℕ → List (ℕ × ℕ)
-placed_slot d at = with_place (slot_in d) at
 
 -- the place that was found before, or else this one if it applies
 abbrev pub first_place : Option ℕ → Bool → ℕ → Option ℕ
@@ -136,14 +185,14 @@ pub record Notes (count : ℕ) (ns : List (ℕ × ℕ)) (noted : Noted) : Type 0
   pub gap : told NumberGap noted.gap ≡ first_of (beyond count ns)
 
 -- the count of the destinations of the text's parts, or its fault
-abbrev pub Judged : Profile → List ℕ → Result ℕ FormatFault → Type 0
-Judged profile text (Ok assigned) = (pieces : List Piece) × (judged profile text ≡ Ok pieces) × (assigned ≡ length (destinations pieces))
-Judged profile text (Err fault) = judged profile text ≡ Err (fault_of fault)
+abbrev pub Judged : Language → List ℕ → Result ℕ FormatFault → Type 0
+Judged language text (Ok assigned) = (pieces : List Piece) × (judged language text ≡ Ok pieces) × (assigned ≡ length (destinations pieces))
+Judged language text (Err fault) = judged language text ≡ Err (fault_of fault)
 
--- the directives of the text's parts
-abbrev pub Gathers : Profile → List ℕ → List Directive → Type 0
-Gathers profile text ds = (pieces : List Piece) × (read (length text) profile [] 0 text ≡ Ok pieces) × MeanAll profile 1 pieces ds
+-- what the text's parts stand for
+abbrev pub Gathers : {D : Type 0} → Language → (ℕ → Piece → D → Type 0) → List ℕ → List D → Type 0
+Gathers language means text ds = (pieces : List Piece) × (read (length text) language [] 0 text ≡ Ok pieces) × MeanAll means 1 pieces ds
 
 -- the fault of a part of the text, or no memory
-abbrev pub IsHindered : Profile → List ℕ → FormatFault → Type 0
-IsHindered profile text fault = (read (length text) profile [] 0 text ≡ Err (fault_of fault)) ⊎ (fault ≡ no_memory)
+abbrev pub IsHindered : Language → List ℕ → FormatFault → Type 0
+IsHindered language text fault = (read (length text) language [] 0 text ≡ Err (fault_of fault)) ⊎ (fault ≡ no_memory)

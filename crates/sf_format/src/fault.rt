@@ -12,7 +12,7 @@ pub enum FormatWhy {
     TooWide,
     /// F4: a byte that is no letter of a conversion stands where one is due.
     UnknownLetter,
-    /// F5: a letter or a length that C or POSIX has and scan formats here do not.
+    /// F5: a letter, a length or a mark that C or POSIX has and formats here do not.
     LeftOut,
     /// F6: a length other than `l` with `c`, `s` or `[`.
     BadLength,
@@ -22,20 +22,24 @@ pub enum FormatWhy {
     BackwardRange,
     /// F9: `n` with `*` or a width.
     BadCount,
-    /// F10: a destination with a number and one without.
+    /// F10: a destination or value with a number and one without.
     MixedNumbering,
-    /// F11: the number of a destination is 0 or above 32, or stands with a `*`.
+    /// F11: the number of a destination or value is 0 or above 32, or stands with a `*`.
     BadNumber,
     /// F12: a number stands twice.
     NumberTwice,
-    /// F13: a number is above the count of the destinations.
+    /// F13: a number is above the count of the destinations or values.
     NumberGap,
     /// F14: a NUL.
     Nul,
     /// F15: more than 4096 bytes.
     FormatTooLong,
-    /// F16: the 33rd destination without numbers.
+    /// F16: the 33rd destination or value without numbers.
     TooManyDestinations,
+    /// F17: a flag or a precision that the letter does not have.
+    BadFlag,
+    /// F18: the precision is above 255.
+    PrecisionTooLarge,
     /// F19: memory was refused.
     NoMemory,
 }

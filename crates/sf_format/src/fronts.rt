@@ -15,6 +15,7 @@ pub enum Class {
     Digit,
     /// What does not close a scanlist.
     Inner,
+    Flag,
 }
 
 fn belongs(b: u8, class: Class) -> bool
@@ -24,6 +25,7 @@ fn belongs(b: u8, class: Class) -> bool
         Class::White => is_space(b),
         Class::Digit => 48 <= b && b <= 57,
         Class::Inner => b != 93,
+        Class::Flag => matches!(b, b'-' | b'+' | b' ' | b'#' | b'0'),
     }
 }
 

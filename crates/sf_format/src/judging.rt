@@ -1,14 +1,14 @@
 //! Whether a text is a format.
 ghost use Rattle.sf_format.specs.Passing.{Judged};
 
-use crate::directive::Profile;
 use crate::fault::{FormatFault, FormatWhy};
+use crate::language::Language;
 use crate::numbering::number_fault;
-use crate::passing::pass_all;
+use crate::walking::walk;
 
-/// The count of the destinations of a text without a fault, or its first fault. It takes no memory.
-pub fn judge(profile: Profile, text: &[u8]) -> Result<u8, FormatFault>
-    ensures { Judged profile text.now result }
+/// The count of the destinations or values of a text without a fault, or its first fault. It takes no memory.
+pub fn judge(language: Language, text: &[u8]) -> Result<u8, FormatFault>
+    ensures { Judged language text.now result }
 {
     if text.len() > 4096 {
         return Err(FormatFault {
@@ -16,8 +16,8 @@ pub fn judge(profile: Profile, text: &[u8]) -> Result<u8, FormatFault>
             why: FormatWhy::FormatTooLong,
         });
     }
-    let slots = pass_all(profile, text)?;
-    match number_fault(profile, text, slots) {
+    let slots = walk(language, text)?;
+    match number_fault(language, text, slots) {
         Some(fault) => Err(fault),
         None => Ok(slots.count as u8),
     }

@@ -1,34 +1,42 @@
-//! Laws of the definitions that the contracts cite.
+//! Laws of the definitions that the contracts cite, of scan formats and of print formats.
 //! None of these functions does anything: its contract is the law.
 ghost use Rattle.sf_format.specs.Laws.{EachSpellsOne, EachHasOneFault, NoneIsBoth};
 ghost use Rattle.sf_format.specs.Laws.{EachIsEither, EachIsProper, EachUnnumberedIsInOrder};
+ghost use Rattle.sf_format.specs.Laws.{EachPrintSpellsOne, EachPrintHasOneFault, NoPrintIsBoth};
+ghost use Rattle.sf_format.specs.Laws.{EachPrintIsEither, EachPrintIsProper, EachUnnumberedPrintIsInOrder};
 
-/// A text spells at most one list of directives.
+/// A text spells at most one list of directives, and at most one of units.
 pub fn one_list()
-    ensures { EachSpellsOne }
+    ensures scan { EachSpellsOne }
+    ensures print { EachPrintSpellsOne }
 {}
 
 /// A text has at most one fault.
 pub fn one_fault()
-    ensures { EachHasOneFault }
+    ensures scan { EachHasOneFault }
+    ensures print { EachPrintHasOneFault }
 {}
 
 /// No spelled text has a fault.
 pub fn not_both()
-    ensures { NoneIsBoth }
+    ensures scan { NoneIsBoth }
+    ensures print { NoPrintIsBoth }
 {}
 
 /// A text of bytes is spelled, or has a fault.
 pub fn either()
-    ensures { EachIsEither }
+    ensures scan { EachIsEither }
+    ensures print { EachPrintIsEither }
 {}
 
 /// What is spelled is proper, with the slots from 1 to their count, each once.
 pub fn proper()
-    ensures { EachIsProper }
+    ensures scan { EachIsProper }
+    ensures print { EachPrintIsProper }
 {}
 
 /// Without numbers the slots are assigned in order.
 pub fn in_order()
-    ensures { EachUnnumberedIsInOrder }
+    ensures scan { EachUnnumberedIsInOrder }
+    ensures print { EachUnnumberedPrintIsInOrder }
 {}

@@ -1,7 +1,8 @@
 //! Letters and lengths of conversion specifications.
 ghost use Rattle.std.specs.Prelude.{◌≡◌};
 ghost use Rattle.sf_format.specs.Letters.{letter_of, kind_of, signed_kind, unsigned_kind};
-ghost use Rattle.sf_format.specs.Faults.{is_left_out, takes_text, has_length};
+ghost use Rattle.sf_format.specs.Faults.{is_left_out};
+ghost use Rattle.sf_format.specs.Rules.{takes_text, has_length};
 
 use crate::directive::{Base, Profile};
 use sf_base::Kind;
@@ -79,7 +80,7 @@ impl Length {
     }
 }
 
-fn signed_kind(size: Length) -> Kind
+pub fn signed_kind(size: Length) -> Kind
     ensures { result ≡ signed_kind size }
 {
     match size {
@@ -90,7 +91,7 @@ fn signed_kind(size: Length) -> Kind
     }
 }
 
-fn unsigned_kind(size: Length) -> Kind
+pub fn unsigned_kind(size: Length) -> Kind
     ensures { result ≡ unsigned_kind size }
 {
     match size {

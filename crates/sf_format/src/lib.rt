@@ -5,17 +5,22 @@ mod directive;
 mod fault;
 mod fronts;
 mod judging;
+mod language;
 pub mod laws;
 mod letter;
 mod numbering;
 mod opening;
 mod passing;
 mod print;
+mod print_letter;
+mod print_opening;
+mod print_passing;
 mod scan;
 mod scanlist;
 mod shaping;
 mod slots;
 mod unit;
+mod walking;
 
 pub use directive::{Base, Conversion, Directive, Profile, Shape};
 pub use fault::{FormatFault, FormatWhy};
@@ -23,5 +28,7 @@ pub use print::PrintFormat;
 pub use scan::ScanFormat;
 pub use unit::{PrintConv, PrintLetter, Unit};
 
+#[cfg(test)]
+mod print_tests;
 #[cfg(test)]
 mod tests;

@@ -2,13 +2,14 @@
 ghost use Rattle.std.specs.Prelude.{◌≡◌, ◌≤◌, ◌+◌, ℕ, List, [], ◌∷◌, ◌++◌, Ok, length};
 ghost use Rattle.sf_format.specs.Pieces.{Piece};
 ghost use Rattle.sf_format.specs.Reading.{read};
-ghost use Rattle.sf_format.specs.Faults.{first_of, repeated, beyond, number_rules};
-ghost use Rattle.sf_format.specs.Passing.{fault_in, slot_in, placed_slot, first_place, Notes, Walked};
+ghost use Rattle.sf_format.specs.Rules.{first_of};
+ghost use Rattle.sf_format.specs.Faults.{repeated, beyond, number_rules};
+ghost use Rattle.sf_format.specs.Passing.{fault_in, with_place, first_place, Notes, Walked};
 
-use crate::directive::{Directive, Profile};
 use crate::fault::{FormatFault, FormatWhy};
-use crate::passing::pass;
+use crate::language::Language;
 use crate::slots::{Slots, no_slots};
+use crate::walking::advance;
 use sf_base::ByteSet;
 
 /// What was noted of the numbers so far.
@@ -20,16 +21,6 @@ pub struct Noted {
     pub twice: Option<u16>,
     /// Where the first one stands that is above the count.
     pub gap: Option<u16>,
-}
-
-/// The slot that the directive assigns, if it assigns one.
-fn slot_in(directive: &Directive) -> Option<u8>
-    ensures { result ≡ slot_in directive.now }
-{
-    match directive {
-        Directive::Conv(conversion) => conversion.slot,
-        _ => None,
-    }
 }
 
 /// Nothing, before the first destination.
@@ -53,11 +44,11 @@ fn first_place(before: Option<u16>, applies: bool, at: u16) -> Option<u16>
     }
 }
 
-/// Notes the slot of the directive, if it assigns one, with the place.
-fn note(noted: &mut Noted, directive: &Directive, at: u16, count: u16)
-    ensures { (ns : List (ℕ × ℕ)) → Notes count ns noted.old → Notes count (ns ++ placed_slot directive.now at) noted.new }
+/// Notes the slot, if there is one, with the place.
+fn note(noted: &mut Noted, slot: Option<u8>, at: u16, count: u16)
+    ensures { (ns : List (ℕ × ℕ)) → Notes count ns noted.old → Notes count (ns ++ with_place slot at) noted.new }
 {
-    let Some(number) = slot_in(directive) else {
+    let Some(number) = slot else {
         return;
     };
     noted.twice = first_place(noted.twice, noted.used.contains(number), at);
@@ -83,10 +74,10 @@ fn noted_fault(noted: &Noted) -> Option<FormatFault>
 }
 
 /// The first fault of the numbers of a text without a fault in its parts, which has these destinations.
-pub fn number_fault(profile: Profile, text: &[u8], slots: Slots) -> Option<FormatFault>
+pub fn number_fault(language: Language, text: &[u8], slots: Slots) -> Option<FormatFault>
     requires short { length text.now ≤ 4096 }
-    requires walked { Walked profile text.now (Ok slots) }
-    ensures { (pieces : List Piece) → read (length text.now) profile [] 0 text.now ≡ Ok pieces
+    requires walked { Walked language text.now (Ok slots) }
+    ensures { (pieces : List Piece) → read (length text.now) language [] 0 text.now ≡ Ok pieces
         → fault_in result ≡ first_of (number_rules pieces) }
 {
     if !slots.numbered {
@@ -97,13 +88,13 @@ pub fn number_fault(profile: Profile, text: &[u8], slots: Slots) -> Option<Forma
     let mut at: u16 = 0;
     let mut earlier = no_slots();
     while !rest.is_empty() {
-        let Ok(passed) = pass(profile, rest, at, earlier) else {
+        let Ok(step) = advance(language, rest, at, earlier) else {
             unreachable!()
         };
-        note(&mut noted, &passed.directive, at, slots.count);
-        rest = passed.rest;
+        note(&mut noted, step.slot, at, slots.count);
+        rest = step.rest;
         at = (text.len() - rest.len()) as u16;
-        earlier = passed.slots;
+        earlier = step.slots;
     }
     noted_fault(&noted)
 }

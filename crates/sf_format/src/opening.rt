@@ -6,7 +6,8 @@ ghost use Rattle.sf_base.specs.Bytes.{magnitude};
 ghost use Rattle.sf_format.specs.Digits.{is_decimal};
 ghost use Rattle.sf_format.specs.Cut.{cut};
 ghost use Rattle.sf_format.specs.Pieces.{number_text, opening_text};
-ghost use Rattle.sf_format.specs.Faults.{first_of, opening_rules};
+ghost use Rattle.sf_format.specs.Rules.{first_of};
+ghost use Rattle.sf_format.specs.Faults.{opening_rules};
 ghost use Rattle.sf_format.specs.Passing.{opening_of, fault_in};
 
 use crate::fault::{FormatFault, FormatWhy};
@@ -74,7 +75,7 @@ pub fn capped(digits: &[u8]) -> u32
 }
 
 /// The length of a number with its `$`.
-fn number_len(number: &[u8]) -> u16
+pub fn number_len(number: &[u8]) -> u16
     requires { length number.now ≤ 4096 }
     ensures { result ≡ length (number_text number.now) }
 {

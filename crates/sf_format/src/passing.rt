@@ -1,12 +1,15 @@
-//! The parts of a format, one after the other.
+//! The parts of a scan format.
 ghost use Rattle.std.specs.Prelude.{◌≡◌, ◌≤◌, ◌<◌, ◌+◌, List, [], ◌∷◌, None, true, length, IfOk, IfErr};
 ghost use Rattle.std.specs.List.{AllByRecursion};
 ghost use Rattle.sf_format.specs.Digits.{is_decimal};
 ghost use Rattle.sf_format.specs.Pieces.{Opening};
 ghost use Rattle.sf_format.specs.Lists.{begins};
 ghost use Rattle.sf_format.specs.Cut.{letter_at, specification_at, part_at};
-ghost use Rattle.sf_format.specs.Faults.{first_of, opening_rules, rest_rules, percent_rules, part_rules};
-ghost use Rattle.sf_format.specs.Passing.{opening_of, Holds, PassesBy, Walked, Gathers, IsHindered};
+ghost use Rattle.sf_format.specs.declared.language.Language.TheVariants.{Scan};
+ghost use Rattle.sf_format.specs.Grammar.{Means};
+ghost use Rattle.sf_format.specs.Rules.{first_of};
+ghost use Rattle.sf_format.specs.Faults.{opening_rules, rest_rules, percent_rules, part_rules};
+ghost use Rattle.sf_format.specs.Passing.{opening_of, Holds, PassesBy, Gathers, IsHindered};
 
 use crate::directive::{Conversion, Directive, Profile};
 use crate::fault::{FormatFault, FormatWhy};
@@ -88,7 +91,7 @@ fn pass_rest<'a>(
     }
 }
 
-fn percent_follows(text: &[u8]) -> bool
+pub fn percent_follows(text: &[u8]) -> bool
     ensures begins { result ≡ begins (37 ∷ []) text.now }
     ensures some { result ≡ true → 1 ≤ length text.now }
 {
@@ -108,7 +111,7 @@ fn pass_specification<'a>(
     requires place { at + 1 + length text.now ≤ 4096 }
     requires count { slots.count ≤ 4096 }
     ensures { (earlier : List Opening) → Holds slots earlier
-        → PassesBy profile (percent_rules profile earlier at text.now) earlier (specification_at text.now) result }
+        → PassesBy profile (percent_rules (Scan profile) earlier at text.now) earlier (specification_at (Scan profile) text.now) result }
 {
     if percent_follows(text) {
         return Ok(Passed {
@@ -136,7 +139,7 @@ pub fn pass<'a>(
     requires place { at + length text.now ≤ 4096 }
     requires count { slots.count ≤ 4096 }
     ensures { (earlier : List Opening) → Holds slots earlier
-        → PassesBy profile (part_rules profile earlier at text.now) earlier (part_at text.now) result }
+        → PassesBy profile (part_rules (Scan profile) earlier at text.now) earlier (part_at (Scan profile) text.now) result }
 {
     let first = text[0];
     if first == 0 {
@@ -164,28 +167,11 @@ pub fn pass<'a>(
     })
 }
 
-/// The destinations of a text without a fault in its parts, or the first such fault. It takes no memory.
-pub fn pass_all(profile: Profile, text: &[u8]) -> Result<Slots, FormatFault>
-    requires { length text.now ≤ 4096 }
-    ensures { Walked profile text.now result }
-{
-    let mut rest = text;
-    let mut at: u16 = 0;
-    let mut slots = no_slots();
-    while !rest.is_empty() {
-        let passed = pass(profile, rest, at, slots)?;
-        rest = passed.rest;
-        at = (text.len() - rest.len()) as u16;
-        slots = passed.slots;
-    }
-    Ok(slots)
-}
-
 /// The directives of a text without a fault in its parts.
 pub fn gather(alloc: Global, profile: Profile, text: &[u8]) -> Result<Vec<Directive>, FormatFault>
     requires { length text.now ≤ 4096 }
-    ensures gathered { IfOk result (λ directives. Gathers profile text.now directives.items) }
-    ensures hindered { IfErr result (IsHindered profile text.now) }
+    ensures gathered { IfOk result (λ directives. Gathers (Scan profile) (Means profile) text.now directives.items) }
+    ensures hindered { IfErr result (IsHindered (Scan profile) text.now) }
 {
     let mut directives = Vec::new(alloc);
     let mut rest = text;

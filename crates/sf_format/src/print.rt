@@ -1,10 +1,20 @@
 //! Print formats.
-ghost use Rattle.std.specs.Prelude.{◌≡◌, ◌≤◌, ◌↔◌, IsSome, [], ◌∷◌, length};
+ghost use Rattle.std.specs.Prelude.{◌≡◌, ◌≤◌, ◌↔◌, IsSome, ℕ, List, [], ◌∷◌, length, Err, IfOk, IfErr, MatchResult};
+ghost use Rattle.sf_format.specs.declared.fault.FormatWhy.{FormatWhy};
+ghost use Rattle.sf_format.specs.declared.unit.Unit.{Unit as PrintUnit};
 ghost use Rattle.sf_format.specs.Slots.{AreSlots, kind_with};
 ghost use Rattle.sf_format.specs.Units.{AreProperUnits, values_of};
+ghost use Rattle.sf_format.specs.Grammar.{SpellsPrint};
+ghost use Rattle.sf_format.specs.Faults.{PrintFault, IsPrintRefused, no_memory};
 
+use crate::directive::Profile;
+use crate::fault::FormatFault;
+use crate::judging::judge;
+use crate::language::Language;
+use crate::print_passing::gather_units;
 use crate::unit::Unit;
 use sf_base::Kind;
+use std::alloc::Global;
 use std::marker::Model;
 
 /// A print format: its units, and the count of its values.
@@ -53,6 +63,22 @@ fn find_printed_kind(units: &[Unit], slot: u8) -> Option<Kind>
 }
 
 impl PrintFormat {
+    /// The format that the text spells. Memory is taken only for a text that spells one.
+    pub fn parse(alloc: Global, profile: Profile, text: &[u8]) -> Result<PrintFormat, FormatFault>
+        ensures spelled { IfOk result (λ format. SpellsPrint profile text.now format) }
+        ensures refused { IfErr result (λ fault. IsPrintRefused profile text.now fault) }
+
+        // A text with a fault is refused for it; one without is refused only for memory.
+        ensures fault { (at : ℕ) (why : FormatWhy) → PrintFault profile text.now at why
+            → result ≡ Err (record { at = at; why = why }) }
+        ensures accepted { (us : List PrintUnit) → SpellsPrint profile text.now us
+            → MatchResult result (λ format. format ≡ us) (λ fault. fault ≡ no_memory) }
+    {
+        let values = judge(Language::Print(profile), text)?;
+        let units = gather_units(alloc, profile, text)?;
+        Ok(PrintFormat { units, values })
+    }
+
     /// The units, in order.
     pub fn directives(&self) -> &[Unit]
         ensures value { result.now ≡ self.now }

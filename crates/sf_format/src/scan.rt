@@ -11,6 +11,7 @@ ghost use Rattle.sf_format.specs.Faults.{Fault, IsRefused, no_memory};
 use crate::directive::{Directive, Profile, Shape};
 use crate::fault::FormatFault;
 use crate::judging::judge;
+use crate::language::Language;
 use crate::passing::gather;
 use sf_base::Kind;
 use std::alloc::Global;
@@ -102,7 +103,7 @@ impl ScanFormat {
         ensures accepted { (ds : List Directive) → Spells profile text.now ds
             → MatchResult result (λ format. format ≡ ds) (λ fault. fault ≡ no_memory) }
     {
-        let destinations = judge(profile, text)?;
+        let destinations = judge(Language::Scan(profile), text)?;
         let directives = gather(alloc, profile, text)?;
         Ok(ScanFormat {
             directives,

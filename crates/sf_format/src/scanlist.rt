@@ -1,7 +1,8 @@
 //! Scanlists.
 ghost use Rattle.std.specs.Prelude.{◌≡◌, ◌≤◌, ◌+◌, false, None, length};
 ghost use Rattle.sf_format.specs.Scanlist.{backward_range, IsSetBy};
-ghost use Rattle.sf_format.specs.Faults.{first_of, place_of, list_rules, member_rules};
+ghost use Rattle.sf_format.specs.Rules.{first_of, place_of};
+ghost use Rattle.sf_format.specs.Faults.{list_rules, member_rules};
 ghost use Rattle.sf_format.specs.Cut.{close_at, members_at};
 ghost use Rattle.sf_format.specs.Passing.{fault_in, ReadsList};
 

@@ -3,11 +3,12 @@ ghost use Rattle.std.specs.Prelude.{◌≡◌, ◌≤◌, ◌+◌, ℕ, true, le
 ghost use Rattle.std.specs.List.{AllByRecursion};
 ghost use Rattle.sf_base.specs.Bytes.{magnitude};
 ghost use Rattle.sf_format.specs.Digits.{is_decimal};
-ghost use Rattle.sf_format.specs.declared.letter.Letter.TheVariants as letter;
 ghost use Rattle.sf_format.specs.Scanlist.{caret_text};
 ghost use Rattle.sf_format.specs.Grammar.{width_of};
-ghost use Rattle.sf_format.specs.Faults.{first_of, letter_rules};
+ghost use Rattle.sf_format.specs.Rules.{first_of};
+ghost use Rattle.sf_format.specs.Faults.{letter_rules};
 ghost use Rattle.sf_format.specs.Passing.{opening_of, why_at, Converts, Shapes, is_set};
+ghost use Rattle.sf_format.specs.declared.letter.Letter.TheVariants as letter;
 
 use crate::directive::{Profile, Shape};
 use crate::fault::{FormatFault, FormatWhy};

@@ -6,7 +6,7 @@ ghost use Rattle.sf_format.specs.Digits.{is_decimal};
 ghost use Rattle.sf_format.specs.Pieces.{Opening};
 ghost use Rattle.sf_format.specs.Lists.{is_written};
 ghost use Rattle.sf_format.specs.Grammar.{assigned_opening, slot_of};
-ghost use Rattle.sf_format.specs.Faults.{first_of, alike, slot_rules};
+ghost use Rattle.sf_format.specs.Rules.{first_of, alike, slot_rules};
 ghost use Rattle.sf_format.specs.Passing.{opening_of, fault_in, Holds};
 
 use crate::fault::{FormatFault, FormatWhy};

@@ -60,7 +60,8 @@ fn padded(alloc: Global, start: &[u8], b: u8, count: usize, end: &[u8]) -> Resul
     Ok(text)
 }
 
-fn repeated(alloc: Global, part: &[u8], count: usize) -> Result<Vec<u8>, Fail> {
+/// The part, so many times.
+pub fn repeated(alloc: Global, part: &[u8], count: usize) -> Result<Vec<u8>, Fail> {
     let mut text = Vec::new(alloc);
     for _ in 0..count {
         text.extend_from_slice(part)?;

@@ -27,6 +27,8 @@ why_text format.NumberGap = codes "F13 NumberGap"
 why_text format.Nul = codes "F14 Nul"
 why_text format.FormatTooLong = codes "F15 FormatTooLong"
 why_text format.TooManyDestinations = codes "F16 TooManyDestinations"
+why_text format.BadFlag = codes "F17 BadFlag"
+why_text format.PrecisionTooLarge = codes "F18 PrecisionTooLarge"
 why_text format.NoMemory = codes "F19 NoMemory"
 
 -- the words for a status (no record ends Done or NoMemory)

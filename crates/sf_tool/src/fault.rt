@@ -32,6 +32,8 @@ fn why_text(why: FormatWhy) -> &'static str
         FormatWhy::Nul => "F14 Nul",
         FormatWhy::FormatTooLong => "F15 FormatTooLong",
         FormatWhy::TooManyDestinations => "F16 TooManyDestinations",
+        FormatWhy::BadFlag => "F17 BadFlag",
+        FormatWhy::PrecisionTooLarge => "F18 PrecisionTooLarge",
         FormatWhy::NoMemory => "F19 NoMemory",
     }
 }

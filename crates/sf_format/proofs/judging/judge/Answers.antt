@@ -9,12 +9,12 @@ pub returns-in_err-slots : goal.returns-in_err-slots
 returns-in_err-slots c =
     let p = err_from_is_err_and c.from_residual.result c.from_residual.ensures.1 in
     rw (p.1, p.2)
-    (part_refused c.args.profile c.args.text.now (fault_of c.in_err-slots.field-0.0) c.if-text-gt4096.false c.in_err-slots.ensures)
+    (part_refused c.args.language c.args.text.now (fault_of c.in_err-slots.field-0.0) c.if-text-gt4096.false c.in_err-slots.ensures)
 
 pub returns-in-Some : goal.returns-in-Some
 returns-in-Some c =
     let walked = c.in_ok-slots.ensures in
-    number_refused c.args.profile c.args.text.now c.in_ok-slots.slots (fault_of c.in-Some.fault) c.if-text-gt4096.false walked
+    number_refused c.args.language c.args.text.now c.in_ok-slots.slots (fault_of c.in-Some.fault) c.if-text-gt4096.false walked
     (c.in-Some.ensures walked.0 walked.1)
 
 pub overflow_cast-result : goal.overflow_cast-result
@@ -22,11 +22,11 @@ overflow_cast-result c =
     let walked = c.in_ok-slots.ensures in
     omega (
       arith,
-      judged_few c.args.profile c.args.text.now c.in_ok-slots.slots.count (bytes_of c.args.text.now (λ i. omega (arith, c.type_inv.text i)))
-          (all_judged c.args.profile c.args.text.now c.in_ok-slots.slots c.if-text-gt4096.false walked (c.in-None.ensures walked.0 walked.1)),
+      judged_few c.args.language c.args.text.now c.in_ok-slots.slots.count (bytes_of c.args.text.now (λ i. omega (arith, c.type_inv.text i)))
+          (all_judged c.args.language c.args.text.now c.in_ok-slots.slots c.if-text-gt4096.false walked (c.in-None.ensures walked.0 walked.1)),
     )
 
 pub returns-in-None : goal.returns-in-None
 returns-in-None c =
     let walked = c.in_ok-slots.ensures in
-    all_judged c.args.profile c.args.text.now c.in_ok-slots.slots c.if-text-gt4096.false walked (c.in-None.ensures walked.0 walked.1)
+    all_judged c.args.language c.args.text.now c.in_ok-slots.slots c.if-text-gt4096.false walked (c.in-None.ensures walked.0 walked.1)

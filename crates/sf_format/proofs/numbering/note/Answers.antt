@@ -5,6 +5,6 @@ use Rattle.sf_format.proofs.numbering.note.Goals as goal
 pub returns : goal.returns
 returns c =
     λ ns notes.
-    rw (← c.slot_in.ensures, c.in-Some.is)
+    rw c.in-Some.is
     (notes_more c.args.count ns c.args.noted.now _ c.in-Some.number c.args.at _ _ notes (omega arith) c.contains.ensures refl
     c.first_place-noted.ensures c.first_place-noted-2.ensures c.insert.ensures.members)

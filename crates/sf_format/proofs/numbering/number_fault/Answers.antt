@@ -1,16 +1,16 @@
 use Rattle.std.proofs.Common.{sym, ◌∙◌, arith}
 use Rattle.sf_format.specs.Grammar.{destinations}
 use Rattle.sf_format.proofs.Outcomes.{not_false, not_true}
-use Rattle.sf_format.proofs.Walks.{bytes_of, some_left, none_left, passing_fault, rest_shorter}
+use Rattle.sf_format.proofs.Walks.{bytes_of, some_left, none_left, passes_on, passing_fault, rest_shorter}
 use Rattle.sf_format.proofs.Notings.{unnumbered_none, noting_none, noting_more, noting_all}
 use Rattle.sf_format.proofs.numbering.number_fault.Goals as goal
 
 pub returns-then-not-slots : goal.returns-then-not-slots
-returns-then-not-slots c = λ pieces e. unnumbered_none c.args.profile c.args.text.now c.args.slots pieces (not_true _ c.if-not-slots.true) c.requires.walked e
+returns-then-not-slots c = λ pieces e. unnumbered_none c.args.language c.args.text.now c.args.slots pieces (not_true _ c.if-not-slots.true) c.requires.walked e
 
 pub loop-rest-init : goal.loop-rest-init
 loop-rest-init c =
-    noting_none c.args.profile c.args.text.now c.no_slots-earlier.result c.args.slots.count c.nothing_noted-noted.result
+    noting_none c.args.language c.args.text.now c.no_slots-earlier.result c.args.slots.count c.nothing_noted-noted.result
     (bytes_of c.args.text.now (λ i. omega (arith, c.type_inv.text i))) c.no_slots-earlier.ensures
     (c.nothing_noted-noted.ensures c.args.slots.count)
 
@@ -24,20 +24,20 @@ pub overflow_sub-at : goal.overflow_sub-at
 overflow_sub-at c =
     let h = c.loop-rest.invariant.passing in
     let some = some_left c.loop-rest.rest.now c.is_empty.result c.is_empty.ensures c.loop-rest-test.true in
-    (rest_shorter c.in-Ok.passed h some (c.in-Ok.ensures (destinations h.done) h.holds)).1
+    (rest_shorter c.in-Ok.step.rest.now c.in-Ok.step.slots h some (passes_on (c.in-Ok.ensures (destinations h.done) h.holds))).1
 
 pub loop-rest-smaller : goal.loop-rest-smaller
 loop-rest-smaller c =
     let h = c.loop-rest.invariant.passing in
     let some = some_left c.loop-rest.rest.now c.is_empty.result c.is_empty.ensures c.loop-rest-test.true in
-    (rest_shorter c.in-Ok.passed h some (c.in-Ok.ensures (destinations h.done) h.holds)).0
+    (rest_shorter c.in-Ok.step.rest.now c.in-Ok.step.slots h some (passes_on (c.in-Ok.ensures (destinations h.done) h.holds))).0
 
 pub loop-rest-preserved : goal.loop-rest-preserved
 loop-rest-preserved c =
     let h = c.loop-rest.invariant in
     let some = some_left c.loop-rest.rest.now c.is_empty.result c.is_empty.ensures c.loop-rest-test.true in
-    noting_more c.note.new.noted c.in-Ok.passed h some (c.in-Ok.ensures (destinations h.passing.done) h.passing.holds)
-    (c.note.ensures h.ns h.notes)
+    let passes = c.in-Ok.ensures (destinations h.passing.done) h.passing.holds in
+    noting_more c.note.new.noted c.in-Ok.step h some (passes_on passes) passes.2 (c.note.ensures h.ns h.notes)
 
 pub returns : goal.returns
 returns c =

@@ -1,7 +1,8 @@
 use Rattle.std.proofs.Common.{◌+◌, ◌++◌, sym, ap, ◌∙◌}
 use Rattle.std.proofs.lemmas.Result.{err_from_is_err_and}
 use Rattle.sf_format.specs.Grammar.{slot_of}
-use Rattle.sf_format.specs.Faults.{letter_rules, scanlist_rules, slot_rules}
+use Rattle.sf_format.specs.Faults.{letter_rules, scanlist_rules}
+use Rattle.sf_format.specs.Rules.{slot_rules}
 use Rattle.sf_format.specs.Passing.{opening_of, fault_of}
 use Rattle.sf_format.proofs.Passages.{first_left, number_bound, passes_letter, passes_list, passes_slot}
 use Rattle.sf_format.proofs.passing.pass_letter.Goals as goal

@@ -1,4 +1,4 @@
--- The part that a text without a fault there begins with, and the text of a part.
+-- The part that a scan format without a fault there begins with, and the text of a part.
 use Rattle.std.proofs.Common.{◌≡◌, ℕ, ◌+◌, ◌<◌, ◌⊎◌, inl, inr, Bool, true, false, cond, not, nat_eq, List, [], ◌∷◌, ◌++◌, length, drop, Option, Some, None, is_none, refl, sym, ap, ◌∙◌, subst, arith, append_assoc, append-nil}
 use Rattle.std.proofs.lemmas.Bool.Decides.{nat_tests}
 use Rattle.sf_base.specs.Bytes.{AreBytes, is_white}
@@ -6,36 +6,24 @@ use Rattle.sf_format.specs.declared.directive.Profile.{Profile}
 use Rattle.sf_format.specs.declared.directive.Profile.TheVariants.{One, Two}
 use Rattle.sf_format.specs.declared.fault.FormatWhy.TheVariants.{Nul}
 use Rattle.sf_format.specs.Lists.{front, behind, begins, mark_at}
-use Rattle.sf_format.specs.declared.letter.Letter.{Letter}
-use Rattle.sf_format.specs.declared.letter.Letter.TheVariants.{Set}
 use Rattle.sf_format.specs.Letters.{letter_of, length_text}
 use Rattle.sf_format.specs.Scanlist.{Scanlist, scanlist_text}
-use Rattle.sf_format.specs.Pieces.{Opening, Piece, WhiteSpace, Ordinary, Percents, Plain, Bracket, number_text, star_text, opening_text, piece_text}
+use Rattle.sf_format.specs.Pieces.{Opening, Piece, WhiteSpace, Ordinary, Percents, Plain, Bracket, Printed, number_text, star_text, opening_text, piece_text}
 use Rattle.sf_format.specs.Cut.{Cut, Part, cut, letter_at, specification_at, bracket_at, part_at}
-use Rattle.sf_format.specs.Grammar.{IsPiece, AreAlike, destinations}
-use Rattle.sf_format.specs.Faults.{Rule, opening_rules, letter_rules, scanlist_rules, after_caret, slot_rules, rest_rules, percent_rules, part_rules}
+use Rattle.sf_format.specs.Grammar.{IsScanPiece, AreAlike, destinations}
+use Rattle.sf_format.specs.Rules.{Rule, slot_rules}
+use Rattle.sf_format.specs.Faults.{opening_rules, letter_rules, scanlist_rules, after_caret, rest_rules, percent_rules, part_rules}
+use Rattle.sf_format.specs.declared.letter.Letter.{Letter}
+use Rattle.sf_format.specs.declared.letter.Letter.TheVariants.{Set}
+use Rattle.sf_format.specs.declared.language.Language.TheVariants.{Scan}
 use Rattle.sf_format.proofs.Outcomes.{by_test}
+use Rattle.sf_format.proofs.Beginnings.{StopsAfter, BeginsWith, nothing_more, byte_rules, byte_quiet, white_quiet}
 use Rattle.sf_format.proofs.Prefixes.{Stops, front_behind, front_passes, behind_stops, front_of, behind_of}
 use Rattle.sf_format.proofs.Cutting.{IsLast, HasDigits, inside, cut_of, cut_joined, cut_digits, no_percent, begins_joined, opening_regroup}
 use Rattle.sf_format.proofs.Rules.{Quiet, all_append, all_front, all_back}
 use Rattle.sf_format.proofs.Scanlists.{listed, marked, bracket_of, quiet_list, other_byte, byte_differs}
 use Rattle.sf_format.proofs.Suits.{letter_is, suits_from, suits_digits, opening_quiet, letter_quiet}
 use Rattle.sf_format.proofs.Destinations.{assigned_alike, slot_quiet}
-
--- what follows a run of white space begins with none
-abbrev pub StopsAfter : Piece → List ℕ → Type 0
-StopsAfter (WhiteSpace bs) rest = Stops is_white rest
-StopsAfter _ rest = Unit {0}
-
--- the text begins with the part, which has no fault after these destinations
-pub record BeginsWith (profile : Profile) (earlier : List Opening) (x : List ℕ) (part : Part) : Type 0 where
-  pub text : x ≡ piece_text part.piece ++ part.rest
-  pub is : IsPiece profile part.piece
-  pub alike : AreAlike earlier → AreAlike (earlier ++ destinations (part.piece ∷ []))
-  pub apart : StopsAfter part.piece part.rest
-
-nothing_more : (earlier : List Opening) → AreAlike earlier → AreAlike (earlier ++ [])
-nothing_more earlier h = subst AreAlike (sym (append-nil earlier)) h
 
 plain_text : (o : Opening) (letter : ℕ) (y : List ℕ) → piece_text (Plain o letter) ++ y ≡ 37 ∷ inside o (letter ∷ y)
 plain_text o letter y = append_assoc (opening_text o) (letter ∷ []) y ∙ opening_regroup o (letter ∷ y)
@@ -69,7 +57,7 @@ QuietSpecification profile earlier p o q rest = Quiet (opening_rules p o) × Qui
 
 plain_begins : (profile : Profile) (earlier : List Opening) (p : ℕ) (o : Opening) (q letter : ℕ) (y x : List ℕ) → inside o (letter ∷ y) ≡ x
     → HasDigits o → nat_eq letter 91 ≡ false → Quiet (opening_rules p o) → Quiet (letter_rules profile o letter q) → Quiet (slot_rules earlier p o)
-    → BeginsWith profile earlier (37 ∷ x) (record { piece = Plain o letter; rest = y })
+    → BeginsWith (Scan profile) earlier (37 ∷ x) (record { piece = Plain o letter; rest = y })
 plain_begins profile earlier p o q letter y x e digits other opening rules slot =
     let l = letter_some (letter_of profile letter) rules.1.1.0 in
     record {
@@ -81,7 +69,7 @@ plain_begins profile earlier p o q letter y x e digits other opening rules slot 
 
 bracket_begins : (profile : Profile) (earlier : List Opening) (p : ℕ) (o : Opening) (q : ℕ) (y x : List ℕ) → inside o (91 ∷ y) ≡ x → AreBytes x
     → HasDigits o → Quiet (opening_rules p o) → Quiet (letter_rules profile o 91 q) → Quiet (after_caret q (mark_at 94 y))
-    → Quiet (slot_rules earlier p o) → BeginsWith profile earlier (37 ∷ x) (bracket_at o (mark_at 94 y))
+    → Quiet (slot_rules earlier p o) → BeginsWith (Scan profile) earlier (37 ∷ x) (bracket_at o (mark_at 94 y))
 bracket_begins profile earlier p o q y x e bytes digits opening rules list slot =
     let h = listed q _ y (inside_bytes o (91 ∷ y) (subst AreBytes (sym e) bytes)).1 list in
     record {
@@ -96,10 +84,10 @@ same_byte a b e = grind (arith, nat_tests)
 
 letter_begins : (profile : Profile) (earlier : List Opening) (p : ℕ) (o : Opening) (q letter : ℕ) (y x : List ℕ) → inside o (letter ∷ y) ≡ x
     → AreBytes x → HasDigits o → Quiet (opening_rules p o) → Quiet (letter_rules profile o letter q) → Quiet (scanlist_rules letter q y)
-    → Quiet (slot_rules earlier p o) → BeginsWith profile earlier (37 ∷ x) (letter_at o (letter ∷ y))
+    → Quiet (slot_rules earlier p o) → BeginsWith (Scan profile) earlier (37 ∷ x) (letter_at o (letter ∷ y))
 letter_begins profile earlier p o q letter y x e bytes digits opening rules list slot =
     by_test (nat_eq letter 91)
-    (λ v. Quiet (cond v (after_caret q (mark_at 94 y)) []) → BeginsWith profile earlier (37 ∷ x) (chosen v))
+    (λ v. Quiet (cond v (after_caret q (mark_at 94 y)) []) → BeginsWith (Scan profile) earlier (37 ∷ x) (chosen v))
     (λ same h.
     let a : letter ≡ 91 = same_byte letter 91 same in
     bracket_begins profile earlier p o q y x (ap (λ c. inside o (c ∷ y)) (sym a) ∙ e) bytes digits opening
@@ -111,7 +99,7 @@ letter_begins profile earlier p o q letter y x e bytes digits opening rules list
     chosen v = cond v (bracket_at o (mark_at 94 y)) (record { piece = Plain o letter; rest = y })
 
 rest_begins : (profile : Profile) (earlier : List Opening) (p : ℕ) (o : Opening) (q : ℕ) (rest x : List ℕ) → inside o rest ≡ x → AreBytes x
-    → HasDigits o → QuietSpecification profile earlier p o q rest → BeginsWith profile earlier (37 ∷ x) (letter_at o rest)
+    → HasDigits o → QuietSpecification profile earlier p o q rest → BeginsWith (Scan profile) earlier (37 ∷ x) (letter_at o rest)
 rest_begins profile earlier p o q [] x e bytes digits quiet = absurd (let h = quiet.1.0 in cc)
 rest_begins profile earlier p o q (letter ∷ y) x e bytes digits quiet =
     let none = λ (r : Rule). r.applies ≡ false in
@@ -131,10 +119,10 @@ percents_text x e = ap (λ t. 37 ∷ t) (sym (begins_joined (37 ∷ []) x e))
 
 specification_begins : (profile : Profile) (earlier : List Opening) (p : ℕ) (x : List ℕ) → AreBytes x
     → Quiet (cond (not (begins (37 ∷ []) x)) (specification_rules profile earlier p (cut x)) [])
-    → BeginsWith profile earlier (37 ∷ x) (specification_at x)
+    → BeginsWith (Scan profile) earlier (37 ∷ x) (specification_at (Scan profile) x)
 specification_begins profile earlier p x bytes quiet =
     by_test (begins (37 ∷ []) x)
-    (λ v. Quiet (cond (not v) (specification_rules profile earlier p (cut x)) []) → BeginsWith profile earlier (37 ∷ x) (chosen v))
+    (λ v. Quiet (cond (not v) (specification_rules profile earlier p (cut x)) []) → BeginsWith (Scan profile) earlier (37 ∷ x) (chosen v))
     (λ e h. record { text = percents_text x e; is = tt; alike = nothing_more earlier; apart = tt })
     (λ e h.
     let none = λ (r : Rule). r.applies ≡ false in
@@ -148,10 +136,10 @@ specification_begins profile earlier p x bytes quiet =
     chosen v = cond v (record { piece = Percents; rest = drop 1 x }) (letter_at (cut x).opening (cut x).rest)
 
 -- a text of bytes that no rule refuses begins with its part
-pub begins_with : (profile : Profile) (earlier : List Opening) (p b : ℕ) (x : List ℕ) → AreBytes (b ∷ x) → Quiet (part_rules profile earlier p (b ∷ x))
-    → BeginsWith profile earlier (b ∷ x) (part_at (b ∷ x))
-begins_with profile earlier p b x bytes quiet =
-    by_test (is_white b) (λ v. BeginsWith profile earlier (b ∷ x) (spaced v))
+pub scan_begins_with : (profile : Profile) (earlier : List Opening) (p b : ℕ) (x : List ℕ) → AreBytes (b ∷ x) → Quiet (part_rules (Scan profile) earlier p (b ∷ x))
+    → BeginsWith (Scan profile) earlier (b ∷ x) (part_at (Scan profile) (b ∷ x))
+scan_begins_with profile earlier p b x bytes quiet =
+    by_test (is_white b) (λ v. BeginsWith (Scan profile) earlier (b ∷ x) (spaced v))
     (λ white. record {
       text = sym (front_behind is_white (b ∷ x));
       is = (subst (λ t. 0 < length t) (ap (λ v. cond v (b ∷ front is_white x) []) (sym white)) (omega arith), front_passes is_white (b ∷ x));
@@ -159,9 +147,9 @@ begins_with profile earlier p b x bytes quiet =
       apart = behind_stops is_white (b ∷ x);
     })
     (λ black. by_test (nat_eq b 37)
-    (λ v. Quiet (cond v (percent_rules profile earlier p x) [])
-    → BeginsWith profile earlier (b ∷ x) (other v))
-    (λ same h. subst (λ c. BeginsWith profile earlier (c ∷ x) (specification_at x)) (sym (same_byte b 37 same))
+    (λ v. Quiet (cond v (percent_rules (Scan profile) earlier p x) [])
+    → BeginsWith (Scan profile) earlier (b ∷ x) (other v))
+    (λ same h. subst (λ c. BeginsWith (Scan profile) earlier (c ∷ x) (specification_at (Scan profile) x)) (sym (same_byte b 37 same))
     (specification_begins profile earlier p x bytes.1 h))
     (λ differs h. record {
       text = refl;
@@ -172,7 +160,7 @@ begins_with profile earlier p b x bytes quiet =
     quiet.1)
   where
     other : Bool → Part
-    other v = cond v (specification_at x) (record { piece = Ordinary b; rest = x })
+    other v = cond v (specification_at (Scan profile) x) (record { piece = Ordinary b; rest = x })
 
     spaced : Bool → Part
     spaced v =
@@ -180,30 +168,13 @@ begins_with profile earlier p b x bytes quiet =
 
 -- ---- from the part to the text
 
-white_not : (b mark : ℕ) → is_white b ≡ true → (mark ≡ 0) ⊎ (32 < mark) → nat_eq b mark ≡ false
-white_not b mark white h = grind (arith, nat_tests)
-
--- nothing is wrong with a byte that begins no specification
-abbrev byte_rules : ℕ → ℕ → Bool → List Rule → List Rule
-byte_rules b p v rules = record { why = Nul; applies = nat_eq b 0; at = p } ∷ cond v rules []
-
-byte_quiet : (profile : Profile) (earlier : List Opening) (p b : ℕ) (x : List ℕ) → nat_eq b 0 ≡ false → nat_eq b 37 ≡ false
-    → Quiet (part_rules profile earlier p (b ∷ x))
-byte_quiet profile earlier p b x zero percent =
-    subst (λ v. Quiet (byte_rules b p v (percent_rules profile earlier p x))) (sym percent) (zero, tt)
-
-pub white_quiet : (profile : Profile) (earlier : List Opening) (p b : ℕ) (x : List ℕ) → is_white b ≡ true
-    → Quiet (part_rules profile earlier p (b ∷ x))
-white_quiet profile earlier p b x white =
-    byte_quiet profile earlier p b x (white_not b 0 white (inl refl)) (white_not b 37 white (inr (omega arith)))
-
 -- a specification by its cut
 abbrev cut_rules : Profile → List Opening → ℕ → Bool → Cut → List Rule
 cut_rules profile earlier p v c = byte_rules 37 p (not v) (specification_rules profile earlier p c)
 
 specification_quiet : (profile : Profile) (earlier : List Opening) (p : ℕ) (o : Opening) (letter : ℕ) (y : List ℕ) → HasDigits o → IsLast letter
     → Quiet (opening_rules p o) → ((q : ℕ) → Quiet (rest_rules profile earlier p o q (letter ∷ y)))
-    → Quiet (part_rules profile earlier p (37 ∷ inside o (letter ∷ y)))
+    → Quiet (part_rules (Scan profile) earlier p (37 ∷ inside o (letter ∷ y)))
 specification_quiet profile earlier p o letter y digits last opening rest =
     let x = inside o (letter ∷ y) in
     subst (λ v. Quiet (cut_rules profile earlier p v (cut x))) (sym (no_percent o letter y digits last))
@@ -219,27 +190,28 @@ quiet_behind profile earlier p o q letter y rules list slot =
     (all_append none (scanlist_rules letter q y) (slot_rules earlier p o) list slot)
 
 -- no rule refuses a part
-pub piece_quiet : (profile : Profile) (earlier : List Opening) (p : ℕ) (piece : Piece) (rest : List ℕ) → IsPiece profile piece
-    → AreAlike (earlier ++ destinations (piece ∷ [])) → Quiet (part_rules profile earlier p (piece_text piece ++ rest))
-piece_quiet profile earlier p (WhiteSpace []) rest is alike = absurd (omega (arith, is.0))
-piece_quiet profile earlier p (WhiteSpace (b ∷ bs)) rest is alike = white_quiet profile earlier p b (bs ++ rest) is.1.0
-piece_quiet profile earlier p (Ordinary b) rest is alike =
-    byte_quiet profile earlier p b rest (byte_differs b 0 is.1) (byte_differs b 37 is.2)
-piece_quiet profile earlier p Percents rest is alike = (refl, tt)
-piece_quiet profile earlier p (Plain o b) rest is alike =
+pub scan_quiet : (profile : Profile) (earlier : List Opening) (p : ℕ) (piece : Piece) (rest : List ℕ) → IsScanPiece profile piece
+    → AreAlike (earlier ++ destinations (piece ∷ [])) → Quiet (part_rules (Scan profile) earlier p (piece_text piece ++ rest))
+scan_quiet profile earlier p (WhiteSpace []) rest is alike = absurd (omega (arith, is.0))
+scan_quiet profile earlier p (WhiteSpace (b ∷ bs)) rest is alike = white_quiet (Scan profile) earlier p b (bs ++ rest) is.1.0
+scan_quiet profile earlier p (Ordinary b) rest is alike =
+    byte_quiet (Scan profile) earlier p b rest (byte_differs b 0 is.1) (byte_differs b 37 is.2)
+scan_quiet profile earlier p Percents rest is alike = (refl, tt)
+scan_quiet profile earlier p (Printed o b) rest is alike = absurd is
+scan_quiet profile earlier p (Plain o b) rest is alike =
     let letter = is.1.0 in
     let found = is.1.1 in
     let suits = is.1.2 in
-    subst (λ t. Quiet (part_rules profile earlier p t)) (sym (plain_text o b rest))
+    subst (λ t. Quiet (part_rules (Scan profile) earlier p t)) (sym (plain_text o b rest))
     (specification_quiet profile earlier p o b rest (suits_digits letter o suits) (letter_is profile b letter found).last
     (opening_quiet letter o p suits)
     (λ q. quiet_behind profile earlier p o q b rest (letter_quiet profile letter o b q found suits)
     (subst (λ v. Quiet (cond v (after_caret q (mark_at 94 rest)) [])) (sym (byte_differs b 91 is.0)) tt)
     (slot_quiet earlier p o alike)))
-piece_quiet profile earlier p (Bracket o list) rest is alike =
+scan_quiet profile earlier p (Bracket o list) rest is alike =
     let found = bracket_letter profile in
     let y = scanlist_text list ++ rest in
-    subst (λ t. Quiet (part_rules profile earlier p t)) (sym (bracket_text o list rest))
+    subst (λ t. Quiet (part_rules (Scan profile) earlier p t)) (sym (bracket_text o list rest))
     (specification_quiet profile earlier p o 91 y (suits_digits Set o is.0) (letter_is profile 91 Set found).last
     (opening_quiet Set o p is.0)
     (λ q. quiet_behind profile earlier p o q 91 y (letter_quiet profile Set o 91 q found is.0)
@@ -250,38 +222,47 @@ piece_quiet profile earlier p (Bracket o list) rest is alike =
 abbrev chosen_part : Bool → Part → Part → Part
 chosen_part v a b = cond v a b
 
-specification_of : (o : Opening) (letter : ℕ) (y : List ℕ) → HasDigits o → IsLast letter
-    → part_at (37 ∷ inside o (letter ∷ y)) ≡ letter_at o (letter ∷ y)
-specification_of o letter y digits last =
+specification_of : (profile : Profile) (o : Opening) (letter : ℕ) (y : List ℕ) → HasDigits o → IsLast letter
+    → part_at (Scan profile) (37 ∷ inside o (letter ∷ y)) ≡ letter_at o (letter ∷ y)
+specification_of profile o letter y digits last =
     let x = inside o (letter ∷ y) in
     let by_cut : Cut → Part = λ c. letter_at c.opening c.rest in
     ap (λ v. chosen_part v (record { piece = Percents; rest = drop 1 x }) (by_cut (cut x))) (no_percent o letter y digits last)
     ∙ ap by_cut (cut_of o letter y digits last)
 
-pub part_of : (profile : Profile) (piece : Piece) (rest : List ℕ) → IsPiece profile piece → StopsAfter piece rest
-    → part_at (piece_text piece ++ rest) ≡ record { piece = piece; rest = rest }
-part_of profile (WhiteSpace []) rest is stops = absurd (omega (arith, is.0))
-part_of profile (WhiteSpace (b ∷ bs)) rest is stops =
+pub scan_part_of : (profile : Profile) (piece : Piece) (rest : List ℕ) → IsScanPiece profile piece → StopsAfter piece rest
+    → part_at (Scan profile) (piece_text piece ++ rest) ≡ record { piece = piece; rest = rest }
+scan_part_of profile (WhiteSpace []) rest is stops = absurd (omega (arith, is.0))
+scan_part_of profile (WhiteSpace (b ∷ bs)) rest is stops =
     let x = b ∷ (bs ++ rest) in
     let run : List ℕ → List ℕ → Part = λ bytes after. record { piece = WhiteSpace bytes; rest = after } in
     ap (λ v. chosen_part v (run (front is_white x) (behind is_white x))
-    (chosen_part (nat_eq b 37) (specification_at (bs ++ rest)) (record { piece = Ordinary b; rest = bs ++ rest }))) is.1.0
+    (chosen_part (nat_eq b 37) (specification_at (Scan profile) (bs ++ rest)) (record { piece = Ordinary b; rest = bs ++ rest }))) is.1.0
     ∙ ap (λ f. run f (behind is_white x)) (front_of is_white (b ∷ bs) rest is.1 stops)
     ∙ ap (run (b ∷ bs)) (behind_of is_white (b ∷ bs) rest is.1 stops)
-part_of profile (Ordinary b) rest is stops =
+scan_part_of profile (Ordinary b) rest is stops =
     let run : Part = record { piece = WhiteSpace (front is_white (b ∷ rest)); rest = behind is_white (b ∷ rest) } in
     let byte : Part = record { piece = Ordinary b; rest = rest } in
-    ap (λ v. chosen_part v run (chosen_part (nat_eq b 37) (specification_at rest) byte)) is.3
-    ∙ ap (λ v. chosen_part v (specification_at rest) byte) (byte_differs b 37 is.2)
-part_of profile Percents rest is stops = refl
-part_of profile (Plain o b) rest is stops =
+    ap (λ v. chosen_part v run (chosen_part (nat_eq b 37) (specification_at (Scan profile) rest) byte)) is.3
+    ∙ ap (λ v. chosen_part v (specification_at (Scan profile) rest) byte) (byte_differs b 37 is.2)
+scan_part_of profile Percents rest is stops = refl
+scan_part_of profile (Printed o b) rest is stops = absurd is
+scan_part_of profile (Plain o b) rest is stops =
     let letter = is.1.0 in
     let plain : Part = record { piece = Plain o b; rest = rest } in
-    ap part_at (plain_text o b rest)
-    ∙ specification_of o b rest (suits_digits letter o is.1.2) (letter_is profile b letter is.1.1).last
+    ap (part_at (Scan profile)) (plain_text o b rest)
+    ∙ specification_of profile o b rest (suits_digits letter o is.1.2) (letter_is profile b letter is.1.1).last
     ∙ ap (λ v. chosen_part v (bracket_at o (mark_at 94 rest)) plain) (byte_differs b 91 is.0)
-part_of profile (Bracket o list) rest is stops =
+scan_part_of profile (Bracket o list) rest is stops =
     let y = scanlist_text list ++ rest in
-    ap part_at (bracket_text o list rest)
-    ∙ specification_of o 91 y (suits_digits Set o is.0) (letter_is profile 91 Set (bracket_letter profile)).last
+    ap (part_at (Scan profile)) (bracket_text o list rest)
+    ∙ specification_of profile o 91 y (suits_digits Set o is.0) (letter_is profile 91 Set (bracket_letter profile)).last
     ∙ bracket_of o list rest is.1
+
+pub scan_some : (profile : Profile) (piece : Piece) → IsScanPiece profile piece → 0 < length (piece_text piece)
+scan_some profile (WhiteSpace bs) is = is.0
+scan_some profile (Ordinary b) is = omega arith
+scan_some profile Percents is = omega arith
+scan_some profile (Plain o letter) is = omega arith
+scan_some profile (Bracket o list) is = omega arith
+scan_some profile (Printed o letter) is = absurd is

@@ -1,0 +1,36 @@
+-- The part that a format without a fault there begins with, in both languages.
+use Rattle.std.proofs.Common.{◌≡◌, ℕ, ◌<◌, List, [], ◌∷◌, ◌++◌, length}
+use Rattle.sf_base.specs.Bytes.{AreBytes}
+use Rattle.sf_format.specs.declared.language.Language.{Language}
+use Rattle.sf_format.specs.declared.language.Language.TheVariants.{Scan, Print}
+use Rattle.sf_format.specs.Pieces.{Opening, Piece, piece_text}
+use Rattle.sf_format.specs.Cut.{Part, part_at}
+use Rattle.sf_format.specs.Grammar.{IsPiece, AreAlike, destinations}
+use Rattle.sf_format.specs.Faults.{part_rules}
+use Rattle.sf_format.proofs.Rules.{Quiet}
+use Rattle.sf_format.proofs.Beginnings.{StopsAfter, BeginsWith}
+use Rattle.sf_format.proofs.ScanParts as scan
+use Rattle.sf_format.proofs.PrintParts as print
+
+-- a text of bytes that no rule refuses begins with its part
+pub begins_with : (language : Language) (earlier : List Opening) (p b : ℕ) (x : List ℕ) → AreBytes (b ∷ x)
+    → Quiet (part_rules language earlier p (b ∷ x)) → BeginsWith language earlier (b ∷ x) (part_at language (b ∷ x))
+begins_with (Scan profile) earlier p b x bytes quiet = scan.scan_begins_with profile earlier p b x bytes quiet
+begins_with (Print profile) earlier p b x bytes quiet = print.print_begins_with profile earlier p b x bytes quiet
+
+-- no rule refuses a part
+pub piece_quiet : (language : Language) (earlier : List Opening) (p : ℕ) (piece : Piece) (rest : List ℕ) → IsPiece language piece
+    → AreAlike (earlier ++ destinations (piece ∷ [])) → Quiet (part_rules language earlier p (piece_text piece ++ rest))
+piece_quiet (Scan profile) earlier p piece rest is alike = scan.scan_quiet profile earlier p piece rest is alike
+piece_quiet (Print profile) earlier p piece rest is alike = print.print_quiet profile earlier p piece rest is alike
+
+-- the part that its text begins with
+pub part_of : (language : Language) (piece : Piece) (rest : List ℕ) → IsPiece language piece → StopsAfter piece rest
+    → part_at language (piece_text piece ++ rest) ≡ record { piece = piece; rest = rest }
+part_of (Scan profile) piece rest is stops = scan.scan_part_of profile piece rest is stops
+part_of (Print profile) piece rest is stops = print.print_part_of profile piece rest is
+
+-- no part is empty
+pub empty_text : (language : Language) (piece : Piece) → IsPiece language piece → 0 < length (piece_text piece)
+empty_text (Scan profile) piece is = scan.scan_some profile piece is
+empty_text (Print profile) piece is = print.print_some profile piece is

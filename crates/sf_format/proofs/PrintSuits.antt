@@ -1,0 +1,207 @@
+-- An opening and a letter of a print format that no rule refuses suit each other.
+use Rattle.std.proofs.Common.{◌≡◌, ◌≢◌, ℕ, zero, suc, ◌+◌, ◌*◌, ◌^◌, ◌-◌, ◌<◌, ◌≤◌, Bool, true, false, cond, not, ◌&&◌, nat_eq, nat_lt, List, [], ◌∷◌, length, Option, Some, None, is_some, is_none, refl, sym, ap, ◌∙◌, subst, arith}
+use Rattle.std.specs.Prelude.{IsSome, IfSome}
+use Rattle.std.specs.Char.{digit_value}
+use Rattle.std.specs.List.{AllByRecursion, position_from}
+use Rattle.std.specs.Option.{option_map}
+use Rattle.std.proofs.lemmas.Bool.Decides.{nat_tests}
+use Rattle.std.proofs.Math.Nat.{mul-pos}
+use native.Mathlib.Nat.{pow-suc}
+use Rattle.sf_base.specs.Bytes.{magnitude}
+use Rattle.sf_format.specs.declared.directive.Profile.{Profile}
+use Rattle.sf_format.specs.declared.directive.Profile.TheVariants as profile
+use Rattle.sf_format.specs.declared.unit.PrintLetter.{PrintLetter}
+use Rattle.sf_format.specs.declared.unit.PrintLetter.TheVariants.{Signed, Unsigned, Octal, HexLower, HexUpper, Text, One}
+use Rattle.sf_format.specs.Digits.{is_decimal, IsOptionalNumber}
+use Rattle.sf_format.specs.Lists.{is_written}
+use Rattle.sf_format.specs.Letters.{text_kind}
+use Rattle.sf_format.specs.PrintLetters.{print_letters_of_one, print_letter_of, print_kind_of}
+use Rattle.sf_format.specs.Units.{has_flag, HasPrecision}
+use Rattle.sf_format.specs.Pieces.{PrintOpening}
+use Rattle.sf_format.specs.PrintGrammar.{IsPrecision, StartsAboveZero, SuitsPrint}
+use Rattle.sf_format.specs.Rules.{first_of}
+use Rattle.sf_format.specs.PrintRules.{flags_place, precision_number, foreign_flag, takes_one, print_opening_rules, print_letter_rules, flag_rules}
+use Rattle.sf_format.proofs.Outcomes.{by_test, not_false}
+use Rattle.sf_format.proofs.Prefixes.{AllPass}
+use Rattle.sf_format.proofs.Rules.{Quiet, quiet_is}
+use Rattle.sf_format.proofs.Suits.{found, last_byte, text_allowed, text_quiet, slot_from, slot_test, number_from, number_high, number_digits, within, not_above}
+use Rattle.sf_format.proofs.PrintCutting.{IsPrintLast, HasPrintDigits}
+
+-- ---- letters
+
+-- what is known of a letter's byte in the first profile
+pub record IsPrintLetterOf (b : ℕ) (letter : PrintLetter) : Type 0 where
+  pub last : IsPrintLast b
+  pub allowed : (o : PrintOpening) (q : ℕ) → Quiet (print_letter_rules profile.One o b q) → IsSome (print_kind_of letter o.size)
+  pub quiet : (o : PrintOpening) (q : ℕ) → IsSome (print_kind_of letter o.size) → Quiet (print_letter_rules profile.One o b q)
+
+abbrev five_quiet : (false ≡ false) × ((false ≡ false) × ((false ≡ false) × ((false ≡ false) × ((false ≡ false) × Unit {0}))))
+five_quiet = (refl, (refl, (refl, (refl, (refl, tt)))))
+
+each_letter : AllByRecursion (λ entry. IsPrintLetterOf entry.0 entry.1) print_letters_of_one
+each_letter = (
+  record { last = record { last = last_byte 100 refl refl refl refl refl refl refl refl refl; flag = refl; point = refl }; allowed = λ o q h. refl; quiet = λ o q s. five_quiet },
+  (
+    record { last = record { last = last_byte 105 refl refl refl refl refl refl refl refl refl; flag = refl; point = refl }; allowed = λ o q h. refl; quiet = λ o q s. five_quiet },
+    (
+      record { last = record { last = last_byte 117 refl refl refl refl refl refl refl refl refl; flag = refl; point = refl }; allowed = λ o q h. refl; quiet = λ o q s. five_quiet },
+      (
+        record { last = record { last = last_byte 111 refl refl refl refl refl refl refl refl refl; flag = refl; point = refl }; allowed = λ o q h. refl; quiet = λ o q s. five_quiet },
+        (
+          record { last = record { last = last_byte 120 refl refl refl refl refl refl refl refl refl; flag = refl; point = refl }; allowed = λ o q h. refl; quiet = λ o q s. five_quiet },
+          (
+            record { last = record { last = last_byte 88 refl refl refl refl refl refl refl refl refl; flag = refl; point = refl }; allowed = λ o q h. refl; quiet = λ o q s. five_quiet },
+            (
+              record { last = record { last = last_byte 115 refl refl refl refl refl refl refl refl refl; flag = refl; point = refl }; allowed = of_text; quiet = quiet_text },
+              (
+                record { last = record { last = last_byte 99 refl refl refl refl refl refl refl refl refl; flag = refl; point = refl }; allowed = of_text; quiet = quiet_text },
+                tt,
+              ),
+            ),
+          ),
+        ),
+      ),
+    ),
+  ),
+)
+  where
+    of_text : (o : PrintOpening) (q : ℕ) → Quiet (print_letter_rules profile.One o 99 q) → IsSome (text_kind o.size)
+    of_text o q h = text_allowed o.size h.1.1.1.1.0
+
+    quiet_text : (o : PrintOpening) (q : ℕ) → IsSome (text_kind o.size) → Quiet (print_letter_rules profile.One o 99 q)
+    quiet_text o q s = let t = text_quiet o.size s in (refl, (refl, (refl, (t.0, (t.1, tt)))))
+
+pub print_letter_is : (p : Profile) (b : ℕ) (letter : PrintLetter) → print_letter_of p b ≡ Some letter → IsPrintLetterOf b letter
+print_letter_is profile.One b letter e = found IsPrintLetterOf print_letters_of_one each_letter b letter e
+print_letter_is profile.Two b letter e = found IsPrintLetterOf print_letters_of_one each_letter b letter e
+
+pub print_rules_of_one : (p : Profile) (o : PrintOpening) (b q : ℕ) → print_letter_rules p o b q ≡ print_letter_rules profile.One o b q
+print_rules_of_one profile.One o b q = refl
+print_rules_of_one profile.Two o b q = refl
+
+-- ---- widths
+
+ten_pos : (n : ℕ) → 0 < 10 ^ n
+ten_pos zero = omega arith
+ten_pos (suc n) = omega (arith, pow-suc 10 n, ten_pos n)
+
+value_pos : (d : ℕ) → is_decimal d ≡ true → d ≢ 48 → 0 < digit_value d
+value_pos d e other = grind (arith, nat_tests)
+
+magnitude_pos : (d : ℕ) (ds : List ℕ) → is_decimal d ≡ true → d ≢ 48 → nat_eq (magnitude 10 (d ∷ ds)) 0 ≡ false
+magnitude_pos d ds e other = not_zero (magnitude 10 (d ∷ ds)) (omega (arith, mul-pos (value_pos d e other) (ten_pos (length ds))))
+  where
+    not_zero : (n : ℕ) → 0 < n → nat_eq n 0 ≡ false
+    not_zero n h = grind (arith, nat_tests)
+
+width_low : (ds : List ℕ) → AllPass is_decimal ds → StartsAboveZero ds → (is_written ds && nat_eq (magnitude 10 ds) 0) ≡ false
+width_low [] digits first = refl
+width_low (d ∷ ds) digits first = magnitude_pos d ds digits.0 first
+
+-- ---- the precision
+
+precision_from : (precision : Option (List ℕ)) → IfSome precision (AllPass is_decimal) → nat_lt 255 (precision_number precision) ≡ false
+    → IfSome precision IsPrecision
+precision_from None digits e = tt
+precision_from (Some ds) digits e = (digits, within 255 (magnitude 10 ds) e)
+
+precision_test : (precision : Option (List ℕ)) → IfSome precision IsPrecision → nat_lt 255 (precision_number precision) ≡ false
+precision_test None h = not_above 255 0 (omega arith)
+precision_test (Some ds) h = not_above 255 (magnitude 10 ds) h.1
+
+precision_digits : (precision : Option (List ℕ)) → IfSome precision IsPrecision → IfSome precision (AllPass is_decimal)
+precision_digits None h = tt
+precision_digits (Some ds) h = h.0
+
+one_from : (letter : PrintLetter) (precision : Option (List ℕ)) → (takes_one letter && is_some precision) ≡ false
+    → HasPrecision letter (option_map (λ ds. magnitude 10 ds) precision)
+one_from Signed precision e = tt
+one_from Unsigned precision e = tt
+one_from Octal precision e = tt
+one_from HexLower precision e = tt
+one_from HexUpper precision e = tt
+one_from Text precision e = tt
+one_from One None e = refl
+one_from One (Some ds) e = absurd (cc)
+
+one_test : (letter : PrintLetter) (precision : Option (List ℕ)) → HasPrecision letter (option_map (λ ds. magnitude 10 ds) precision)
+    → (takes_one letter && is_some precision) ≡ false
+one_test Signed precision h = refl
+one_test Unsigned precision h = refl
+one_test Octal precision h = refl
+one_test HexLower precision h = refl
+one_test HexUpper precision h = refl
+one_test Text precision h = refl
+one_test One None h = refl
+one_test One (Some ds) h = absurd (cc)
+
+-- ---- flags
+
+abbrev found_at : Bool → ℕ → Option ℕ → Option ℕ
+found_at v n rest = cond v (Some n) rest
+
+none_foreign : (letter : PrintLetter) (n : ℕ) (flags : List ℕ) → is_some (foreign_flag letter n flags) ≡ false
+    → AllByRecursion (λ b. has_flag letter b ≡ true) flags
+none_foreign letter n [] e = tt
+none_foreign letter n (b ∷ flags) e =
+    by_test (not (has_flag letter b))
+    (λ v. is_some (found_at v n (foreign_flag letter (n + 1) flags)) ≡ false → AllByRecursion (λ a. has_flag letter a ≡ true) (b ∷ flags))
+    (λ t h. absurd (cc)) (λ f h. (not_false (has_flag letter b) f, none_foreign letter (n + 1) flags h)) e
+
+had_quiet : (letter : PrintLetter) (n : ℕ) (flags : List ℕ) → AllByRecursion (λ b. has_flag letter b ≡ true) flags
+    → is_some (foreign_flag letter n flags) ≡ false
+had_quiet letter n [] h = refl
+had_quiet letter n (b ∷ flags) h =
+    ap (λ v. is_some (found_at (not v) n (foreign_flag letter (n + 1) flags))) h.0 ∙ had_quiet letter (n + 1) flags h.1
+
+-- ---- both
+
+pub suits_print_from : (p : Profile) (letter : PrintLetter) (o : PrintOpening) (b place q : ℕ) → print_letter_of p b ≡ Some letter → HasPrintDigits o
+    → Quiet (print_opening_rules place o) → Quiet (print_letter_rules p o b q) → Quiet (flag_rules place o (Some letter)) → SuitsPrint letter o
+suits_print_from p letter o b place q e digits opening rules flags = record {
+  number = slot_from o.number digits.0 opening.0;
+  flags = digits.1;
+  had = none_foreign letter (flags_place place o) o.flags flags.0;
+  width = number_from 65535 o.width digits.2 (width_low o.width digits.2 digits.3) opening.1.0;
+  first = digits.3;
+  precision = precision_from o.precision digits.4 opening.1.1.0;
+  one = one_from letter o.precision flags.1.0;
+  size = (print_letter_is p b letter e).allowed o q (subst Quiet (print_rules_of_one p o b q) rules);
+}
+
+pub print_opening_quiet : (letter : PrintLetter) (o : PrintOpening) (place : ℕ) → SuitsPrint letter o → Quiet (print_opening_rules place o)
+print_opening_quiet letter o place suits =
+    (slot_test o.number suits.number, (number_high 65535 o.width suits.width, (precision_test o.precision suits.precision, tt)))
+
+pub print_letter_quiet : (p : Profile) (letter : PrintLetter) (o : PrintOpening) (b q : ℕ) → print_letter_of p b ≡ Some letter
+    → SuitsPrint letter o → Quiet (print_letter_rules p o b q)
+print_letter_quiet p letter o b q e suits =
+    subst Quiet (sym (print_rules_of_one p o b q)) ((print_letter_is p b letter e).quiet o q suits.size)
+
+pub flags_quiet : (letter : PrintLetter) (o : PrintOpening) (place : ℕ) → SuitsPrint letter o → Quiet (flag_rules place o (Some letter))
+flags_quiet letter o place suits =
+    (had_quiet letter (flags_place place o) o.flags suits.had, (one_test letter o.precision suits.one, tt))
+
+pub suits_print_digits : (letter : PrintLetter) (o : PrintOpening) → SuitsPrint letter o → HasPrintDigits o
+suits_print_digits letter o suits = (
+  number_digits 32 o.number suits.number,
+  suits.flags,
+  number_digits 65535 o.width suits.width,
+  suits.first,
+  precision_digits o.precision suits.precision,
+)
+
+-- ---- what a letter that no rule refuses prints
+
+pub some_print_letter : {A : Type 0} (p : Profile) (o : PrintOpening) (b q : ℕ) → first_of (print_letter_rules p o b q) ≡ None
+    → print_letter_of p b ≡ None → A
+some_print_letter p o b q none e =
+    let known = (quiet_is (print_letter_rules p o b q) none).1.1.0 in
+    let unknown : is_none (print_letter_of p b) ≡ true = ap is_none e in absurd (cc)
+
+pub some_print_kind : {A : Type 0} (p : Profile) (o : PrintOpening) (b q : ℕ) (letter : PrintLetter) → first_of (print_letter_rules p o b q) ≡ None
+    → print_letter_of p b ≡ Some letter → print_kind_of letter o.size ≡ None → A
+some_print_kind p o b q letter none found e =
+    let quiet = subst Quiet (print_rules_of_one p o b q) (quiet_is (print_letter_rules p o b q) none) in
+    let some = (print_letter_is p b letter found).allowed o q quiet in
+    let nothing : is_some (print_kind_of letter o.size) ≡ false = ap is_some e in absurd (cc)

@@ -1,0 +1,66 @@
+use Rattle.std.proofs.Common.{Err, sym, ◌∙◌, ap, arith}
+use Rattle.std.proofs.lemmas.Result.{err_from_is_err_and}
+use Rattle.sf_format.proofs.Answers.{gathers_spells, gathers_count, judged_fault, hindered, same_fault, no_fault, not_refused, gathers_one}
+use Rattle.sf_format.specs.declared.language.Language.TheVariants.{Print}
+use Rattle.sf_format.specs.PrintGrammar.{Prints}
+use Rattle.sf_format.proofs.Walks.{bytes_of}
+use Rattle.sf_format.proofs.PrintMeanings.{print_meaning}
+use Rattle.sf_format.proofs.PrintAccepted.{values_count}
+use Rattle.sf_format.proofs.PrintLaws as laws
+use Rattle.sf_format.proofs.print.PrintFormat.parse.Goals as goal
+
+pub returns-in_err-values-clause-refused : goal.returns-in_err-values-clause-refused
+returns-in_err-values-clause-refused c =
+    let p = err_from_is_err_and c.from_residual.result c.from_residual.ensures.1 in
+    rw (p.1, p.2)
+    (judged_fault (Print c.args.profile) (Prints c.args.profile) c.args.text.now c.in_err-values.field-0.0 (bytes_of c.args.text.now (λ i. omega (arith, c.type_inv.text i)))
+    c.in_err-values.ensures)
+
+pub returns-in_err-values-clause-fault : goal.returns-in_err-values-clause-fault
+returns-in_err-values-clause-fault c = λ at why fault.
+    let p = err_from_is_err_and c.from_residual.result c.from_residual.ensures.1 in
+    rw (p.1, p.2)
+    (ap Err (same_fault (Print c.args.profile) c.args.text.now c.in_err-values.field-0.0 at why c.in_err-values.ensures fault))
+
+pub returns-in_err-values-clause-accepted : goal.returns-in_err-values-clause-accepted
+returns-in_err-values-clause-accepted c = λ ds spelled.
+    not_refused (Print c.args.profile) (Prints c.args.profile) c.args.text.now c.in_err-values.field-0.0 ds c.in_err-values.ensures spelled
+
+pub returns-in_err-units-clause-refused : goal.returns-in_err-units-clause-refused
+returns-in_err-units-clause-refused c =
+    let p = err_from_is_err_and c.from_residual-in_err-units.result c.from_residual-in_err-units.ensures.1 in
+    rw (p.1, p.2)
+    (hindered (Print c.args.profile) (Prints c.args.profile) (print_meaning c.args.profile) c.args.text.now c.in_ok-values.values c.in_err-units.field-0.0
+    (bytes_of c.args.text.now (λ i. omega (arith, c.type_inv.text i))) c.in_ok-values.ensures c.in_err-units.ensures.hindered)
+
+pub returns-in_err-units-clause-fault : goal.returns-in_err-units-clause-fault
+returns-in_err-units-clause-fault c = λ at why fault.
+    no_fault (Print c.args.profile) c.args.text.now c.in_ok-values.values at why c.in_ok-values.ensures fault
+
+pub invariant_of-result : goal.invariant_of-result
+invariant_of-result c =
+    let gathered = c.in_ok-units.ensures.gathered in record {
+      accepted =
+          laws.proper c.args.profile c.args.text.now c.in_ok-units.units.items
+          (gathers_spells (Print c.args.profile) (Prints c.args.profile) c.args.text.now c.in_ok-values.values
+          c.in_ok-units.units.items (bytes_of c.args.text.now (λ i. omega (arith, c.type_inv.text i))) c.in_ok-values.ensures
+          gathered);
+      counted =
+          gathers_count (Print c.args.profile) (Prints c.args.profile) c.args.text.now c.in_ok-values.values
+          c.in_ok-units.units.items c.in_ok-values.ensures gathered
+          ∙ sym (values_count c.args.profile gathered.0 c.in_ok-units.units.items gathered.2);
+    }
+
+pub returns-clause-spelled : goal.returns-clause-spelled
+returns-clause-spelled c =
+    gathers_spells (Print c.args.profile) (Prints c.args.profile) c.args.text.now c.in_ok-values.values c.in_ok-units.units.items
+    (bytes_of c.args.text.now (λ i. omega (arith, c.type_inv.text i))) c.in_ok-values.ensures c.in_ok-units.ensures.gathered
+
+pub returns-clause-fault : goal.returns-clause-fault
+returns-clause-fault c = λ at why fault.
+    no_fault (Print c.args.profile) c.args.text.now c.in_ok-values.values at why c.in_ok-values.ensures fault
+
+pub returns-clause-accepted : goal.returns-clause-accepted
+returns-clause-accepted c = λ ds spelled.
+    gathers_one (Print c.args.profile) (Prints c.args.profile) (print_meaning c.args.profile) c.args.text.now c.in_ok-values.values c.in_ok-units.units.items ds
+    (bytes_of c.args.text.now (λ i. omega (arith, c.type_inv.text i))) c.in_ok-values.ensures c.in_ok-units.ensures.gathered spelled

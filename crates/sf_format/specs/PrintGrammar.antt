@@ -1,0 +1,77 @@
+-- The grammar of print formats (C11 7.21.6.1p3 to p8, POSIX fprintf for the numbers).
+use Rattle.std.specs.Prelude.{◌≡◌, ◌≢◌, ℕ, ◌<◌, ◌≤◌, Bool, true, false, List, [], ◌∷◌, Option, Some, None, IsSome, IfSome, nat_eq}
+use Rattle.std.specs.List.{AllByRecursion, list_any}
+use Rattle.std.specs.Option.{option_map}
+use Rattle.sf_base.specs.Bytes.{magnitude}
+use Rattle.sf_format.specs.declared.directive.Profile.{Profile}
+use Rattle.sf_format.specs.declared.unit.PrintLetter.{PrintLetter}
+use Rattle.sf_format.specs.declared.unit.PrintLetter.TheVariants.{One}
+use Rattle.sf_format.specs.declared.unit.PrintConv.{PrintConv}
+use Rattle.sf_format.specs.declared.unit.Unit.{Unit as PrintUnit}
+use Rattle.sf_format.specs.declared.unit.Unit.TheVariants as unit
+use Rattle.sf_format.specs.Digits.{is_decimal, IsOptionalNumber, optional_number}
+use Rattle.sf_format.specs.PrintLetters.{print_letter_of, print_kind_of, is_flag}
+use Rattle.sf_format.specs.Units.{has_flag, HasPrecision}
+use Rattle.sf_format.specs.Pieces.{PrintOpening, Piece, WhiteSpace, Ordinary, Percents, Plain, Bracket, Printed}
+
+-- the digits behind a point; none stand for 0
+abbrev pub IsPrecision : List ℕ → Type 0
+IsPrecision ds = AllByRecursion (λ b. is_decimal b ≡ true) ds × (magnitude 10 ds ≤ 255)
+
+-- digits, the first of which is no 0
+abbrev pub StartsAboveZero : List ℕ → Type 0
+StartsAboveZero [] = Unit {0}
+StartsAboveZero (d ∷ ds) = d ≢ 48
+
+-- the letter may end a conversion specification that opens so
+pub record SuitsPrint (letter : PrintLetter) (o : PrintOpening) : Type 0 where
+  pub number : IsOptionalNumber 32 o.number
+  -- of - + space # 0, and only those that the letter has
+  pub flags : AllByRecursion (λ b. is_flag b ≡ true) o.flags
+  pub had : AllByRecursion (λ b. has_flag letter b ≡ true) o.flags
+  pub width : IsOptionalNumber 65535 o.width
+  pub first : StartsAboveZero o.width
+  pub precision : IfSome o.precision IsPrecision
+  pub one : HasPrecision letter (option_map (λ ds. magnitude 10 ds) o.precision)
+  pub size : IsSome (print_kind_of letter o.size)
+
+-- a part of a print format, seen alone
+abbrev pub IsPrintPiece : Profile → Piece → Type 0
+IsPrintPiece profile (WhiteSpace bs) = ⊥
+IsPrintPiece profile (Ordinary b) = (b < 256) × (b ≢ 0) × (b ≢ 37)
+IsPrintPiece profile Percents = Unit {0}
+IsPrintPiece profile (Plain o b) = ⊥
+IsPrintPiece profile (Bracket o list) = ⊥
+IsPrintPiece profile (Printed o b) =
+    (letter : PrintLetter) × (print_letter_of profile b ≡ Some letter) × SuitsPrint letter o
+
+-- the number, or else the place
+abbrev pub or_place : ℕ → Option ℕ → ℕ
+or_place place None = place
+or_place place (Some n) = n
+
+abbrev pub is_set_flag : ℕ → List ℕ → Bool
+is_set_flag flag flags = list_any (λ a. nat_eq a flag) flags
+
+-- what a conversion specification stands for, where place is that of a value without a number
+pub record IsPrintConv (place : ℕ) (o : PrintOpening) (letter : PrintLetter) (c : PrintConv) : Type 0 where
+  pub prints : c.letter ≡ letter
+  pub kind : print_kind_of letter o.size ≡ Some c.kind
+  pub slot : c.slot ≡ or_place place (optional_number o.number)
+  pub minus : c.minus ≡ is_set_flag 45 o.flags
+  pub plus : c.plus ≡ is_set_flag 43 o.flags
+  pub blank : c.blank ≡ is_set_flag 32 o.flags
+  pub alt : c.alt ≡ is_set_flag 35 o.flags
+  pub zero : c.zero ≡ is_set_flag 48 o.flags
+  pub width : c.width ≡ magnitude 10 o.width
+  pub precision : c.precision ≡ option_map (λ ds. magnitude 10 ds) o.precision
+
+-- the unit that a part stands for; %% stands for the byte %
+abbrev pub Prints : Profile → ℕ → Piece → PrintUnit → Type 0
+Prints profile place (WhiteSpace bs) u = ⊥
+Prints profile place (Ordinary b) u = u ≡ unit.Byte b
+Prints profile place Percents u = u ≡ unit.Byte 37
+Prints profile place (Plain o b) u = ⊥
+Prints profile place (Bracket o list) u = ⊥
+Prints profile place (Printed o b) u =
+    (letter : PrintLetter) × (c : PrintConv) × (print_letter_of profile b ≡ Some letter) × IsPrintConv place o letter c × (u ≡ unit.Conv c)
