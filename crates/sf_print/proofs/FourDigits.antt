@@ -52,7 +52,6 @@ decimal_four n lo hi =
 pub length_four : (n : ℕ) → 10000 ≤ n → n < 2 ^ 64 → length (decimal n) ≡ length (decimal (n / 10000)) + 4
 length_four n lo hi = ap length (decimal_four n lo hi) ∙ length-append _ _
 
-
 pub length_three : (n : ℕ) → 100 ≤ n → n < 1000 → length (decimal n) ≡ 3
 length_three n lo hi = omega (arith, length_pair n lo (omega arith), length_one (n / 100) (omega arith))
 

@@ -16,6 +16,8 @@ mod script_sink;
 mod sink;
 mod stage;
 mod std_sink;
+#[cfg(test)]
+mod tests;
 mod text;
 
 pub use fault::PrintFault;

@@ -23,13 +23,13 @@ returns-in_err-flush-clause-text g c =
     let room = 128 - l.stage.len in
     let b = c.args.byte in
     handed_on _ _ c.args.stage.now c.flush.new.stage (replicate c.args.count b) c.from_residual.result _ c.from_residual.ensures.1
-        (Stops-middle _ _ _ _ _ _ _ _ (replicate (c.args.count - l.left) b ++ replicate room b) [] (replicate (l.left - room) b) (replicate c.args.count b)
-        (PutsAll-then _ _ _ _ _ _ _ _ _ _ _ l.invariant.text (stays _ _ _ _ _ _ c.hold_run.ensures.held c.hold_run.ensures.written)) c.in_err-flush.ensures.text
-        (sym (ap (λ t. t ++ replicate (l.left - room) b) (runs (c.args.count - l.left) room (c.args.count - l.left + room) b refl) ∙ runs (c.args.count - l.left + room) (l.left - room) c.args.count b (omega (arith, l.invariant.within, c.loop-stage-test.true)))))
+    (Stops-middle _ _ _ _ _ _ _ _ (replicate (c.args.count - l.left) b ++ replicate room b) [] (replicate (l.left - room) b) (replicate c.args.count b)
+    (PutsAll-then _ _ _ _ _ _ _ _ _ _ _ l.invariant.text (stays _ _ _ _ _ _ c.hold_run.ensures.held c.hold_run.ensures.written)) c.in_err-flush.ensures.text
+    (sym (ap (λ t. t ++ replicate (l.left - room) b) (runs (c.args.count - l.left) room (c.args.count - l.left + room) b refl) ∙ runs (c.args.count - l.left + room) (l.left - room) c.args.count b (omega (arith, l.invariant.within, c.loop-stage-test.true)))))
 
 pub returns-clause-text : goal.returns-clause-text
 returns-clause-text g c =
     let l = c.loop-stage in
     PutsAll-same _ _ _ _ _ _ (replicate (c.args.count - l.left) c.args.byte ++ replicate l.left c.args.byte) _
-        (runs (c.args.count - l.left) l.left c.args.count c.args.byte (omega (arith, l.invariant.within)))
-        (PutsAll-then _ _ _ _ _ _ _ _ _ _ _ l.invariant.text (stays _ _ _ _ _ _ c.hold_run-2.ensures.held c.hold_run-2.ensures.written))
+    (runs (c.args.count - l.left) l.left c.args.count c.args.byte (omega (arith, l.invariant.within)))
+    (PutsAll-then _ _ _ _ _ _ _ _ _ _ _ l.invariant.text (stays _ _ _ _ _ _ c.hold_run-2.ensures.held c.hold_run-2.ensures.written))

@@ -23,9 +23,9 @@ pub returns-in_err-put_piece-clause-text : goal.returns-in_err-put_piece-clause-
 returns-in_err-put_piece-clause-text g c =
     let l = c.loop-piece in
     handed_on _ _ c.args.stage.now c.put_piece.new.stage (flat_map piece_bytes c.args.pieces.now) c.from_residual.result _ c.from_residual.ensures.1
-        (Stops-middle _ _ _ _ _ _ _ _ (flat_map piece_bytes (take l.piece-index c.args.pieces.now)) (piece_bytes (get_or c.args.pieces.now l.piece-index (pieces.Run 0 0)))
-        (flat_map piece_bytes (drop (l.piece-index + 1) c.args.pieces.now)) (flat_map piece_bytes c.args.pieces.now) l.invariant.text c.in_err-put_piece.ensures.text
-        (flat_map_cut piece_bytes c.args.pieces.now l.piece-index (pieces.Run 0 0) c.loop-piece-test.true))
+    (Stops-middle _ _ _ _ _ _ _ _ (flat_map piece_bytes (take l.piece-index c.args.pieces.now)) (piece_bytes (get_or c.args.pieces.now l.piece-index (pieces.Run 0 0)))
+    (flat_map piece_bytes (drop (l.piece-index + 1) c.args.pieces.now)) (flat_map piece_bytes c.args.pieces.now) l.invariant.text c.in_err-put_piece.ensures.text
+    (flat_map_cut piece_bytes c.args.pieces.now l.piece-index (pieces.Run 0 0) c.loop-piece-test.true))
 
 pub loop-piece-preserved : goal.loop-piece-preserved
 loop-piece-preserved g c =

@@ -12,4 +12,4 @@ pub returns-in-Some-clause-text : goal.returns-in-Some-clause-text
 returns-in-Some-clause-text g c =
     let values = map datum_of c.args.values.now in
     Puts-same _ _ c.args.stage.now c.put_value.new.stage _ (unit_text values c.args.unit.now) c.put_value.result
-        (ap (text_or_none c.in-Conv.conv) (sym c.in-Some.ensures) ∙ ap (unit_text values) (sym c.in-Conv.is)) c.put_value.ensures.text
+    (ap (text_or_none c.in-Conv.conv) (sym c.in-Some.ensures) ∙ ap (unit_text values) (sym c.in-Conv.is)) c.put_value.ensures.text

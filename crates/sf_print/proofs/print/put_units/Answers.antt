@@ -19,9 +19,9 @@ returns-in_err-put_unit-clause-text g c =
     let f = unit_text (map datum_of c.args.values.now) in
     let units = c.args.units.now in
     handed_on _ _ c.args.stage.now c.put_unit.new.stage (flat_map f units) c.from_residual.result _ c.from_residual.ensures.1
-        (Stops-middle _ _ _ _ _ _ _ _ (flat_map f (take l.unit-index units)) (f (get_or units l.unit-index (unit.Byte 0)))
-        (flat_map f (drop (l.unit-index + 1) units)) (flat_map f units) l.invariant.text c.in_err-put_unit.ensures.text
-        (flat_map_cut f units l.unit-index (unit.Byte 0) c.loop-unit-test.true))
+    (Stops-middle _ _ _ _ _ _ _ _ (flat_map f (take l.unit-index units)) (f (get_or units l.unit-index (unit.Byte 0)))
+    (flat_map f (drop (l.unit-index + 1) units)) (flat_map f units) l.invariant.text c.in_err-put_unit.ensures.text
+    (flat_map_cut f units l.unit-index (unit.Byte 0) c.loop-unit-test.true))
 
 pub loop-unit-preserved : goal.loop-unit-preserved
 loop-unit-preserved g c =

@@ -11,10 +11,10 @@ returns-in-Err-clause-text g c =
 pub returns-in-Ok-flush-clause-text : goal.returns-in-Ok-flush-clause-text
 returns-in-Ok-flush-clause-text g c =
     all_written _ _ c.new-stage.result c.flush.new.stage (printed c.args.units.now (map datum_of c.args.values.now)) c.new-stage.ensures.len c.new-stage.ensures.written c.in-Ok-flush.ensures.len
-        (PutsAll-then _ _ _ _ _ _ _ _ _ (printed c.args.units.now (map datum_of c.args.values.now)) [] c.in-Ok.ensures.text c.in-Ok-flush.ensures.text)
+    (PutsAll-then _ _ _ _ _ _ _ _ _ (printed c.args.units.now (map datum_of c.args.values.now)) [] c.in-Ok.ensures.text c.in-Ok-flush.ensures.text)
 
 pub returns-in-Err-flush-clause-text : goal.returns-in-Err-flush-clause-text
 returns-in-Err-flush-clause-text g c =
     let text = printed c.args.units.now (map datum_of c.args.values.now) in
     front_written _ _ c.new-stage.result _ text c.new-stage.ensures.len c.new-stage.ensures.written
-        (Stops-middle _ _ _ _ _ _ _ _ text [] [] text c.in-Ok.ensures.text c.in-Err-flush.ensures.text (sym (append-nil text)))
+    (Stops-middle _ _ _ _ _ _ _ _ text [] [] text c.in-Ok.ensures.text c.in-Err-flush.ensures.text (sym (append-nil text)))

@@ -13,4 +13,4 @@ write_decimal-requires c = (omega (arith, c.decimal_len.ensures), omega (arith, 
 pub returns-clause-held : goal.returns-clause-held
 returns-clause-held c =
     put_at c.args.self.now.len c.write_decimal.result (c.args.self.now.len + c.decimal_len.result) (decimal c.args.number) c.args.self.now.buf _
-        (omega (arith, c.write_decimal.ensures.start, c.decimal_len.ensures)) (omega (arith, c.decimal_len.ensures)) (omega arith) c.write_decimal.ensures.written c.write_decimal.ensures.before
+    (omega (arith, c.write_decimal.ensures.start, c.decimal_len.ensures)) (omega (arith, c.decimal_len.ensures)) (omega arith) c.write_decimal.ensures.written c.write_decimal.ensures.before
