@@ -1,5 +1,5 @@
 -- The parts of an integer's text, joined as the pieces are put.
-use Rattle.std.proofs.Common.{◌≡◌, ℕ, zero, suc, ◌+◌, Bool, true, false, List, [], ◌++◌, length, replicate, drop, ◌≤◌, ℤ, unsigned_abs, refl, sym, ap, ◌∙◌, arith, append_assoc, append-nil, length-append}
+use Rattle.std.proofs.Common.{◌≡◌, ℕ, zero, suc, ◌+◌, Bool, true, false, List, [], ◌++◌, length, replicate, drop, ℤ, unsigned_abs, refl, sym, ap, ◌∙◌, arith, append_assoc, append-nil, length-append}
 use Rattle.std.proofs.lemmas.List.{replicate-append-replicate, length-replicate}
 use Rattle.std.proofs.lemmas.List.{drop_all}
 use Rattle.sf_format.specs.declared.unit.PrintConv.{PrintConv}

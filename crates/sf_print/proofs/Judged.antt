@@ -1,7 +1,5 @@
 -- What is refused before anything is written is no fault of the sink; values of slots.
-use Rattle.std.proofs.Common.{◌≡◌, ℕ, ◌+◌, ◌-◌, ◌≤◌, ◌<◌, Bool, true, false, cond, not, ◌==◌, nat_le, if◌then◌else◌, List, [], ◌∷◌, length, map, fold, get_or, slice_get, refl, sym, ap, ◌∙◌, arith, Option, Some, None, Result, Ok, Err}
-use Rattle.std.proofs.lemmas.Option.{slice_get-map, slice_get-get_or}
-use Rattle.std.specs.Option.{option_map}
+use Rattle.std.proofs.Common.{◌≡◌, ℕ, Bool, true, false, cond, not, ◌==◌, nat_le, List, [], ◌∷◌, length, fold, refl, Option, Some, None, Ok, Err}
 use Rattle.sf_base.specs.Data.{Datum}
 use Rattle.sf_format.specs.declared.unit.PrintConv.{PrintConv}
 use Rattle.sf_format.specs.declared.unit.Unit.{Unit as PrintUnit}

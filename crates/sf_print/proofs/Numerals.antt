@@ -1,11 +1,11 @@
 -- The digits of a number are a numeral of it without needless zeros.
-use Rattle.std.proofs.Common.{◌≡◌, ℕ, zero, suc, ◌+◌, ◌-◌, ◌*◌, ◌/◌, ◌%◌, ◌^◌, ◌<◌, ◌≤◌, Bool, true, false, ◌&&◌, T, eqb, eqb→eq, List, [], ◌∷◌, ◌++◌, length, slice_index, subst, refl, sym, ap, ◌∙◌, inl, inr, arith, eq-zero-or-pos}
+use Rattle.std.proofs.Common.{◌≡◌, ℕ, zero, suc, ◌-◌, ◌*◌, ◌/◌, ◌%◌, ◌^◌, ◌<◌, ◌≤◌, Bool, true, false, ◌&&◌, T, eqb, eqb→eq, List, [], ◌∷◌, ◌++◌, length, slice_index, subst, refl, sym, ap, ◌∙◌, inl, inr, arith, eq-zero-or-pos}
 use Rattle.std.proofs.Math.Nat.{div-lt_iff_lt-mul, div-le_self, mod-lt, pow-suc, pow-zero, pow-le-pow_left}
 use Rattle.std.specs.Char.{digit_value}
 use Rattle.std.specs.Fmt.{digits, digit_glyph}
 use Rattle.std.specs.List.{AllByRecursion}
 use lib.Ieee.Fits.{and_l, and_r}
-use Rattle.sf_print.specs.Numeral.{IsInCase, IsNumeralOf, AreNumerals}
+use Rattle.sf_print.specs.Numeral.{IsInCase, AreNumerals}
 use Rattle.sf_print.proofs.Digits.{digits_one, digits_step, numeral_of, length_some}
 
 -- a glyph stands for its digit

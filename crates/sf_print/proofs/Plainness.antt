@@ -1,5 +1,5 @@
 -- The text of a plain conversion is a minus and digits alone.
-use Rattle.std.proofs.Common.{◌≡◌, ℕ, zero, suc, ◌+◌, ◌-◌, ◌≤◌, ◌<◌, ◌^◌, Bool, true, false, cond, not, ◌&&◌, ◌==◌, is_none, List, [], ◌∷◌, ◌++◌, length, replicate, ℤ, pos, negsuc, unsigned_abs, unwrap_or, Option, Some, None, refl, sym, ap, ◌∙◌, arith, append-nil}
+use Rattle.std.proofs.Common.{◌≡◌, ℕ, zero, suc, ◌+◌, ◌-◌, ◌≤◌, ◌<◌, ◌^◌, Bool, true, false, cond, not, ◌&&◌, ◌==◌, is_none, List, [], ◌∷◌, ◌++◌, length, unsigned_abs, unwrap_or, Option, Some, None, refl, ap, ◌∙◌, arith, append-nil}
 use Rattle.std.proofs.lemmas.Bool.{eqb-true}
 use Rattle.std.specs.Fmt.{decimal, digits}
 use Rattle.sf_base.specs.Data.{Datum}
@@ -7,7 +7,7 @@ use Rattle.sf_base.specs.Data.Datum.{Number, Bytes}
 use Rattle.sf_format.specs.declared.unit.PrintLetter.{PrintLetter}
 use Rattle.sf_format.specs.declared.unit.PrintLetter.TheVariants as letter
 use Rattle.sf_format.specs.declared.unit.PrintConv.{PrintConv}
-use Rattle.sf_print.specs.Text.{base_of, is_upper, is_octal, base_mark, integer_text, value_text, with_sign, sign, mark, prefix, numeral, all_digits, filled, with_octal_zero, least_digits, opens_with_zero, blanks, zeros, left_blanks, inner_zeros, right_blanks, pads_with_zeros, short_by}
+use Rattle.sf_print.specs.Text.{base_of, is_upper, is_octal, base_mark, integer_text, value_text, with_sign, prefix, numeral, all_digits, filled, with_octal_zero, least_digits, opens_with_zero, blanks, zeros, left_blanks, inner_zeros, right_blanks, pads_with_zeros, short_by}
 use Rattle.sf_print.specs.Plain.{minus, is_decimal, is_plain}
 use Rattle.sf_print.specs.Printables.{IsOf}
 use Rattle.sf_print.specs.declared.text.Printable.TheVariants as printable

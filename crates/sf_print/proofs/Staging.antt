@@ -1,13 +1,13 @@
 -- Texts on their way to a sink, piece after piece.
-use Rattle.std.proofs.Common.{◌≡◌, ℕ, ◌+◌, ◌-◌, ◌≤◌, ◌<◌, List, [], ◌∷◌, ◌++◌, length, take, drop, subst, refl, sym, ap, ◌∙◌, arith, append_assoc, append-nil, length-append, Option, Some, None, Result, Ok, Err, replicate, get_or}
+use Rattle.std.proofs.Common.{◌≡◌, ℕ, ◌+◌, ◌≤◌, ◌<◌, List, [], ◌∷◌, ◌++◌, length, take, drop, subst, refl, sym, ap, ◌∙◌, arith, append_assoc, append-nil, length-append, Option, Result, Ok, Err, replicate, get_or}
 use Rattle.std.proofs.lemmas.List.{replicate-append-replicate, take-append-drop, drop_more, take_more}
 use Rattle.std.proofs.lemmas.List.Concat.{flat_map-append}
 use Rattle.std.proofs.Math.Seq.{take-append_seam}
 use Rattle.std.specs.List.{flat_map}
 use Rattle.std.specs.Result.{IsErrAnd}
-use Rattle.std.specs.Io.KnownBytes.{Appends, Keeps}
+use Rattle.std.specs.Io.KnownBytes.{Appends}
 use Rattle.sf_print.specs.declared.stage.Stage.{Stage}
-use Rattle.sf_print.specs.Staged.{held, Holds, Broke, HoldsOrBroke, Puts}
+use Rattle.sf_print.specs.Staged.{held, Holds, Broke, Puts}
 use Rattle.sf_print.proofs.Appending.{Appends-then, Appends-none, Appends-same}
 
 -- all of the piece was put: from this many taken and these held to that many taken and those held

@@ -1,5 +1,5 @@
 -- A value as the writer takes it.
-use Rattle.std.specs.Prelude.{◌≡◌, ℕ, ◌<◌, ◌^◌, Bool, true}
+use Rattle.std.specs.Prelude.{◌≡◌, ◌<◌, ◌^◌, true}
 use Rattle.sf_base.specs.Data.{Datum}
 use Rattle.sf_base.specs.Data.Datum.{Number, Bytes}
 use Rattle.sf_print.specs.declared.text.Printable.{Printable}

@@ -1,4 +1,4 @@
-use Rattle.std.proofs.Common.{◌-◌, ◌++◌, ℕ, List, length, take, drop, sym, ap, ◌∙◌, arith}
+use Rattle.std.proofs.Common.{take, drop, sym, ◌∙◌, arith}
 use Rattle.std.proofs.lemmas.List.{take-append-drop, length-take-le}
 use Rattle.sf_print.proofs.Appending.{took_more, Appends-then, Appends-same, Appends-keeps}
 use Rattle.sf_print.proofs.handing.hand.Goals as goal

@@ -1,5 +1,4 @@
-use Rattle.std.proofs.Common.{[], ◌++◌}
-use Rattle.sf_print.specs.Staged.{held}
+use Rattle.std.proofs.Common.{[]}
 use Rattle.sf_print.proofs.Staging.{stays, handed_on, Stops-front, PutsAll-then, Puts-then}
 use Rattle.sf_print.proofs.handing.put.Goals as goal
 

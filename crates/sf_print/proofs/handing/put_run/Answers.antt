@@ -1,5 +1,4 @@
-use Rattle.std.proofs.Common.{[], refl, ◌++◌, ◌-◌, ◌+◌, ◌≡◌, ℕ, List, replicate, ap, sym, ◌∙◌, arith, append-nil}
-use Rattle.sf_print.specs.Staged.{held}
+use Rattle.std.proofs.Common.{[], refl, ◌++◌, ◌-◌, ◌+◌, replicate, ap, sym, ◌∙◌, arith, append-nil}
 use Rattle.sf_print.proofs.Staging.{stays, handed_on, Stops-middle, PutsAll-then, PutsAll-same, runs}
 use Rattle.sf_print.proofs.handing.put_run.Goals as goal
 

@@ -1,4 +1,4 @@
-use Rattle.std.proofs.Common.{replicate, ap, sym}
+use Rattle.std.proofs.Common.{ap, sym}
 use Rattle.sf_print.specs.Runs.{piece_bytes}
 use Rattle.sf_print.proofs.Staging.{Puts-same}
 use Rattle.sf_print.proofs.piece.put_piece.Goals as goal

@@ -1,8 +1,8 @@
-use Rattle.std.proofs.Common.{◌++◌, ◌+◌, List, ℕ, length, take, drop, map, get_or, ap, ◌∙◌, arith, length-append}
+use Rattle.std.proofs.Common.{◌++◌, ◌+◌, take, drop, map, get_or, ap, ◌∙◌, arith}
 use Rattle.std.specs.List.{flat_map}
 use Rattle.std.proofs.lemmas.List.{take_all}
 use Rattle.std.proofs.lemmas.List.Folds.{length-flat_map-take}
-use Rattle.sf_base.specs.Data.{datum_of, Datum}
+use Rattle.sf_base.specs.Data.{datum_of}
 use Rattle.sf_format.specs.declared.unit.Unit.TheVariants as unit
 use Rattle.sf_print.specs.Printed.{unit_text, printed}
 use Rattle.sf_print.proofs.Staging.{Stops-middle, handed_on, flat_map_cut, flat_map_more, length_more, PutsAll-same, PutsAll-then}

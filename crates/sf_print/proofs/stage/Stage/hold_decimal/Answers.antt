@@ -1,4 +1,4 @@
-use Rattle.std.proofs.Common.{◌≡◌, ◌+◌, ◌≤◌, ◌++◌, ℕ, List, length, take, drop, ap, sym, ◌∙◌, arith, append_assoc}
+use Rattle.std.proofs.Common.{◌+◌, arith}
 use Rattle.std.specs.Fmt.{decimal}
 use Rattle.sf_print.proofs.FourDigits.{length_at_most}
 use Rattle.sf_print.proofs.Appending.{put_at}
