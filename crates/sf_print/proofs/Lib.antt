@@ -5,5 +5,6 @@ pub mod FourDigits
 pub mod Plainness
 pub mod Staging
 pub mod Judged
+pub mod Lowest
 pub mod Numerals
 pub mod OnlyNumeral

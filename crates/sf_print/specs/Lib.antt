@@ -3,6 +3,7 @@ pub mod Printed
 pub mod Numeral
 pub mod Sinks
 pub mod Handed
+pub mod Laws
 pub mod Plain
 pub mod Printables
 pub mod Staged
