@@ -3,6 +3,7 @@ pub mod Around
 pub mod Digits
 pub mod FourDigits
 pub mod Plainness
+pub mod Rows
 pub mod Staging
 pub mod Judged
 pub mod Lowest
