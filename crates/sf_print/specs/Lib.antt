@@ -1,6 +1,7 @@
 pub mod Text
 pub mod Printed
 pub mod Numeral
+pub mod Scripts
 pub mod Sinks
 pub mod Handed
 pub mod Laws

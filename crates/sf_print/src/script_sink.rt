@@ -1,5 +1,7 @@
 //! A sink that follows a script, for tests.
-ghost use Rattle.std.specs.Prelude.{◌≡◌, ◌<◌, ◌≤◌, [], Some, IfSome};
+ghost use Rattle.std.specs.Prelude.{◌≡◌, ◌<◌, ◌≤◌, ◌-◌, [], ◌∷◌, Some, IfSome};
+ghost use Rattle.sf_print.specs.declared.script_sink.WriteStep.TheVariants.{Accept};
+ghost use Rattle.sf_print.specs.Scripts.{allowed};
 
 use crate::sink::{Sink, SinkFault};
 use std::alloc::Global;
@@ -24,6 +26,7 @@ struct Script<'a> {
 impl Script<'_> {
     /// How many bytes of so many the next write takes; None where it fails.
     fn allow(&mut self, len: usize) -> Option<usize>
+        ensures value { result ≡ allowed len (Accept self.old.left ∷ self.old.steps.now) }
         ensures most { IfSome result (λ n. n ≤ len) }
         ensures some { 0 < len → IfSome result (λ n. 0 < n) }
     {
@@ -44,7 +47,10 @@ impl Script<'_> {
     }
 
     /// So many bytes were taken.
-    fn pass(&mut self, taken: usize) {
+    fn pass(&mut self, taken: usize)
+        ensures left { self.new.left ≡ self.old.left - taken }
+        ensures steps { self.new.steps.now ≡ self.old.steps.now }
+    {
         self.left = self.left.saturating_sub(taken);
     }
 }
@@ -58,17 +64,19 @@ pub struct ScriptSink<'a> {
 }
 
 impl<'a> Model for ScriptSink<'a> {
-    ghost use Rattle.sf_print.specs.Sinks.{Listed};
+    ghost use Rattle.std.specs.Prelude.{◌∷◌};
+    ghost use Rattle.sf_print.specs.declared.script_sink.WriteStep.TheVariants.{Accept};
+    ghost use Rattle.sf_print.specs.Scripts.{Scripted};
 
-    ghost Value = { Listed };
+    ghost Value = { Scripted };
 
-    ghost view = { λ s. record { bytes = s.list.items; failures = s.failures } };
+    ghost view = { λ s. record { bytes = s.list.items; failures = s.failures; script = Accept s.script.left ∷ s.script.steps.now } };
 }
 
 impl<'a> ScriptSink<'a> {
     /// An empty list, at the first step.
     pub fn new(alloc: Global, steps: &'a [WriteStep]) -> ScriptSink<'a>
-        ensures { result ≡ record { bytes = []; failures = 0 } }
+        ensures { result ≡ record { bytes = []; failures = 0; script = Accept 0 ∷ steps.entry.now } }
     {
         ScriptSink {
             list: Vec::new(alloc),
