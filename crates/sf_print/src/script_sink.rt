@@ -1,7 +1,10 @@
 //! A sink that follows a script, for tests.
-ghost use Rattle.std.specs.Prelude.{◌≡◌, ◌<◌, ◌≤◌, ◌-◌, [], ◌∷◌, Some, IfSome};
+ghost use Rattle.std.specs.Prelude.{◌≡◌, ◌<◌, ◌≤◌, ◌-◌, [], ◌∷◌, Some, IfSome, IfOk, length, is_err, if◌then◌else◌};
 ghost use Rattle.sf_print.specs.declared.script_sink.WriteStep.TheVariants.{Accept};
+ghost use Rattle.std.specs.Io.{WritesAtMost};
+ghost use Rattle.std.specs.Io.KnownBytes.{WriteAppends};
 ghost use Rattle.sf_print.specs.Scripts.{allowed};
+ghost use Rattle.sf_print.specs.Sinks.{counted_on};
 
 use crate::sink::{Sink, SinkFault};
 use std::alloc::Global;
@@ -98,7 +101,14 @@ impl Sink for ScriptSink<'_> {
 
     ghost failures = { λ s. s.failures };
 
-    fn write(&mut self, bytes: &[u8]) -> Result<usize, SinkFault> {
+    fn write(&mut self, bytes: &[u8]) -> Result<usize, SinkFault>
+        ensures most { WritesAtMost result bytes.now }
+        ensures some { 0 < length bytes.now → IfOk result (λ n. 0 < n) }
+        ensures took { WriteAppends (Some self.old.bytes) (Some self.new.bytes) result bytes.now }
+        ensures failures { self.new.failures
+            ≡ (if is_err result then counted_on self.old.failures else self.old.failures) }
+        ensures allowed { IfOk result (λ n. allowed (length bytes.now) self.old.script ≡ Some n) }
+    {
         if let Some(taken) = self.script.allow(bytes.len()) {
             if self.list.extend_from_slice(&bytes[..taken]).is_ok() {
                 self.script.pass(taken);
