@@ -1,0 +1,11 @@
+pub mod Appending
+pub mod Around
+pub mod Digits
+pub mod FourDigits
+pub mod Plainness
+pub mod Rows
+pub mod Staging
+pub mod Judged
+pub mod Lowest
+pub mod Numerals
+pub mod OnlyNumeral

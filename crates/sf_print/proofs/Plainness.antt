@@ -1,0 +1,111 @@
+-- The text of a plain conversion is a minus and digits alone.
+use Rattle.std.proofs.Common.{◌≡◌, ℕ, zero, suc, ◌+◌, ◌-◌, ◌≤◌, ◌<◌, ◌^◌, Bool, true, false, cond, not, ◌&&◌, ◌==◌, is_none, List, [], ◌∷◌, ◌++◌, length, unsigned_abs, unwrap_or, Option, Some, None, refl, ap, ◌∙◌, arith, append-nil}
+use Rattle.std.proofs.lemmas.Bool.{eqb-true}
+use Rattle.std.specs.Fmt.{decimal, digits}
+use Rattle.sf_base.specs.Data.{Datum}
+use Rattle.sf_base.specs.Data.Datum.{Number, Bytes}
+use Rattle.sf_format.specs.declared.unit.PrintLetter.{PrintLetter}
+use Rattle.sf_format.specs.declared.unit.PrintLetter.TheVariants as letter
+use Rattle.sf_format.specs.declared.unit.PrintConv.{PrintConv}
+use Rattle.sf_print.specs.Text.{base_of, is_upper, is_octal, base_mark, integer_text, value_text, with_sign, prefix, numeral, all_digits, filled, with_octal_zero, least_digits, opens_with_zero, blanks, zeros, left_blanks, inner_zeros, right_blanks, pads_with_zeros, short_by}
+use Rattle.sf_print.specs.Plain.{minus, is_decimal, is_plain}
+use Rattle.sf_print.specs.Printables.{IsOf}
+use Rattle.sf_print.specs.declared.text.Printable.TheVariants as printable
+use Rattle.sf_print.proofs.FourDigits.{length_at_most}
+use Rattle.sf_print.proofs.Around.{text_around, abs_of}
+use Rattle.sf_print.proofs.Digits.{length_some}
+
+none_of : (b : Bool) (n : ℕ) → n ≡ 0 → cond b n 0 ≡ 0
+none_of true n e = e
+none_of false n e = refl
+
+none_left : (a b : Bool) (n : ℕ) → n ≡ 0 → cond a 0 (cond b 0 n) ≡ 0
+none_left true b n e = refl
+none_left false true n e = refl
+none_left false false n e = e
+
+unpadded : (c : PrintConv) (p ds : List ℕ) → c.width ≡ 0 → text_around c p ds ≡ p ++ ds
+unpadded c p ds w =
+    let len = length p + length ds in
+    let short : short_by c len ≡ 0 = omega arith in
+    let l : left_blanks c len ≡ 0 = none_left c.minus (pads_with_zeros c) (short_by c len) short in
+    let n : inner_zeros c len ≡ 0 = none_of (pads_with_zeros c) (short_by c len) short in
+    let r : right_blanks c len ≡ 0 = none_of c.minus (short_by c len) short in
+    (λ i. blanks (l i) ++ p ++ zeros (n i) ++ ds ++ blanks (r i)) ∙ append-nil ((p ++ []) ++ ds) ∙ ap (λ (t : List ℕ). t ++ ds) (append-nil p)
+
+-- what a decimal letter has
+decimal_letter : (l : PrintLetter) → is_decimal l ≡ true → (base_of l ≡ 10) × (is_upper l ≡ false) × (is_octal l ≡ false) × (base_mark l ≡ [])
+decimal_letter letter.Signed e = (refl, refl, refl, refl)
+decimal_letter letter.Unsigned e = (refl, refl, refl, refl)
+decimal_letter letter.Octal e = absurd cc
+decimal_letter letter.HexLower e = absurd cc
+decimal_letter letter.HexUpper e = absurd cc
+decimal_letter letter.Text e = absurd cc
+decimal_letter letter.One e = absurd cc
+
+no_mark : (b : Bool) (m : List ℕ) → m ≡ [] → cond b m [] ≡ []
+no_mark true m e = e
+no_mark false m e = refl
+
+least_one : (p : Option ℕ) → is_none p ≡ true → unwrap_or p 1 ≡ 1
+least_one None e = refl
+least_one (Some n) e = absurd cc
+
+plain_prefix : (c : PrintConv) (negative : Bool) (m : ℕ) → (negative ≡ true → 0 < m) → c.plus ≡ false → c.blank ≡ false → base_mark c.letter ≡ [] → prefix c (with_sign negative m) ≡ minus negative
+plain_prefix c true zero h p b k = let lt : 0 < 0 = h refl in absurd (omega arith)
+plain_prefix c true (suc n) h p b k = ap (λ (t : List ℕ). 45 ∷ [] ++ t) (no_mark (c.alt && not (suc n == 0)) (base_mark c.letter) k)
+plain_prefix c false m h p b k =
+    (λ i. cond (p i) (43 ∷ []) (cond (b i) (32 ∷ []) []) ++ no_mark (c.alt && not (m == 0)) (base_mark c.letter) k i)
+
+some_least : (b : Bool) (k : ℕ) (ds : List ℕ) → k ≡ 1 → cond (b && k == 0) [] ds ≡ ds
+some_least b k ds e = ap (λ (n : ℕ). cond (b && n == 0) [] ds) e ∙ by b
+  where
+    by : (t : Bool) → cond (t && false) [] ds ≡ ds
+    by true = refl
+    by false = refl
+
+octal_kept : (c : PrintConv) (ds : List ℕ) → is_octal c.letter ≡ false → with_octal_zero c ds ≡ ds
+octal_kept c ds e = by (is_octal c.letter) c.alt (not (opens_with_zero ds)) e
+  where
+    by : (a b t : Bool) → a ≡ false → cond (a && b && t) (48 ∷ ds) ds ≡ ds
+    by true b t h = absurd cc
+    by false b t h = refl
+
+negated : (b : Bool) → not b ≡ true → b ≡ false
+negated true e = absurd cc
+negated false e = refl
+
+parts : (a b d e f : Bool) → a && b && d && e && f ≡ true → (a ≡ true) × (b ≡ true) × (d ≡ true) × (e ≡ true) × (f ≡ true)
+parts true true true true true h = (refl, refl, refl, refl, refl)
+parts true true true true false h = absurd cc
+parts true true true false f h = absurd cc
+parts true true false e f h = absurd cc
+parts true false d e f h = absurd cc
+parts false b d e f h = absurd cc
+
+plain_digits : (c : PrintConv) (m : ℕ) → m < 2 ^ 64 → base_of c.letter ≡ 10 → is_upper c.letter ≡ false → is_octal c.letter ≡ false → least_digits c ≡ 1 → all_digits c m ≡ decimal m
+plain_digits c m small ten low octal least =
+    let ds : List ℕ = digits (base_of c.letter) (is_upper c.letter) m in
+    let e : ds ≡ decimal m = (λ i. digits (ten i) (low i) m) in
+    let num : numeral c m ≡ decimal m = some_least (m == 0) (least_digits c) ds least ∙ e in
+    let some : 0 < length (decimal m) = length_some 10 false m (omega arith) (omega arith) small in
+    let none : least_digits c - length (decimal m) ≡ 0 = omega arith in
+    let full : filled c (numeral c m) ≡ decimal m = ap (filled c) num ∙ ap (λ n. zeros n ++ decimal m) none in
+    ap (with_octal_zero c) full ∙ octal_kept c (decimal m) octal
+
+pub plain_text : (c : PrintConv) (negative : Bool) (m : ℕ) → is_plain c ≡ true → (negative ≡ true → 0 < m) → m < 2 ^ 64 → integer_text c (with_sign negative m) ≡ minus negative ++ decimal m
+plain_text c negative m plain proper small =
+    let w = parts (is_decimal c.letter) (c.width == 0) (not c.plus) (not c.blank) (is_none c.precision) plain in
+    let l = decimal_letter c.letter w.0 in
+    let abs : unsigned_abs (with_sign negative m) ≡ m = abs_of negative m in
+    let p : prefix c (with_sign negative m) ≡ minus negative = plain_prefix c negative m proper (negated c.plus w.2) (negated c.blank w.3) l.3 in
+    let d : all_digits c (unsigned_abs (with_sign negative m)) ≡ decimal m = ap (all_digits c) abs ∙ plain_digits c m small l.0 l.1 l.2 (least_one c.precision w.4) in
+    (λ i. text_around c (p i) (d i)) ∙ unpadded c (minus negative) (decimal m) (eqb-true _ _ w.1)
+
+pub plain_value : (c : PrintConv) (negative : Bool) (m : ℕ) (value : Datum) → is_plain c ≡ true → IsOf (printable.Number negative m) value → value_text c value ≡ minus negative ++ decimal m
+plain_value c negative m (Number k z) plain (is, proper, small) = ap (integer_text c) is ∙ plain_text c negative m plain proper small
+plain_value c negative m (Bytes bytes) plain is = absurd is
+
+pub plain_length : (negative : Bool) (m : ℕ) (value : Datum) → IsOf (printable.Number negative m) value → length (decimal m) ≤ 20
+plain_length negative m (Number k z) (is, proper, small) = length_at_most m small
+plain_length negative m (Bytes bytes) is = absurd is

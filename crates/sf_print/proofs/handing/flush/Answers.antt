@@ -1,0 +1,7 @@
+use Rattle.std.proofs.Common.{[], append-nil, ◌∙◌}
+use Rattle.sf_print.proofs.Staging.{failed}
+use Rattle.sf_print.proofs.handing.flush.Goals as goal
+
+pub returns-in-Err-clause-text : goal.returns-in-Err-clause-text
+returns-in-Err-clause-text g c =
+    let (front, rest, is, known, count) = c.in-Err.ensures.took in failed _ _ _ _ _ [] front rest (append-nil _ ∙ is) known count

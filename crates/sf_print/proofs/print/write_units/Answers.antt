@@ -1,0 +1,20 @@
+use Rattle.std.proofs.Common.{[], map, sym, append-nil}
+use Rattle.sf_base.specs.Data.{datum_of}
+use Rattle.sf_print.specs.Printed.{printed}
+use Rattle.sf_print.proofs.Staging.{all_written, front_written, PutsAll-then, Stops-middle}
+use Rattle.sf_print.proofs.print.write_units.Goals as goal
+
+pub returns-in-Err-clause-text : goal.returns-in-Err-clause-text
+returns-in-Err-clause-text g c =
+    front_written _ _ c.new-stage.result _ (printed c.args.units.now (map datum_of c.args.values.now)) c.new-stage.ensures.len c.new-stage.ensures.written c.in-Err.ensures.text
+
+pub returns-in-Ok-flush-clause-text : goal.returns-in-Ok-flush-clause-text
+returns-in-Ok-flush-clause-text g c =
+    all_written _ _ c.new-stage.result c.flush.new.stage (printed c.args.units.now (map datum_of c.args.values.now)) c.new-stage.ensures.len c.new-stage.ensures.written c.in-Ok-flush.ensures.len
+    (PutsAll-then _ _ _ _ _ _ _ _ _ (printed c.args.units.now (map datum_of c.args.values.now)) [] c.in-Ok.ensures.text c.in-Ok-flush.ensures.text)
+
+pub returns-in-Err-flush-clause-text : goal.returns-in-Err-flush-clause-text
+returns-in-Err-flush-clause-text g c =
+    let text = printed c.args.units.now (map datum_of c.args.values.now) in
+    front_written _ _ c.new-stage.result _ text c.new-stage.ensures.len c.new-stage.ensures.written
+    (Stops-middle _ _ _ _ _ _ _ _ text [] [] text c.in-Ok.ensures.text c.in-Err-flush.ensures.text (sym (append-nil text)))

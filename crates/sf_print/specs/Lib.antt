@@ -1,0 +1,11 @@
+pub mod Text
+pub mod Printed
+pub mod Numeral
+pub mod Scripts
+pub mod Sinks
+pub mod Handed
+pub mod Laws
+pub mod Plain
+pub mod Printables
+pub mod Staged
+pub mod Runs

@@ -1,0 +1,114 @@
+//! What is refused before anything is printed.
+ghost use Rattle.std.specs.Prelude.{◌≡◌, map, MatchOption, Some, None};
+ghost use Rattle.sf_base.specs.Data.{datum_of};
+ghost use Rattle.sf_print.specs.Printed.{kind_of, same_kind, suits, value_fault, value_at, fault_or_none, unit_fault, slot_of, lower, lowest_fault};
+
+use crate::fault::PrintFault;
+use sf_base::{Kind, Value};
+use sf_format::{PrintConv, PrintLetter, Unit};
+
+fn kind_of_value(value: &Value<'_>) -> Kind
+    ensures { result ≡ kind_of (datum_of value.now) }
+{
+    match value {
+        Value::I8(_) => Kind::I8,
+        Value::I16(_) => Kind::I16,
+        Value::I32(_) => Kind::I32,
+        Value::I64(_) => Kind::I64,
+        Value::U8(_) => Kind::U8,
+        Value::U16(_) => Kind::U16,
+        Value::U32(_) => Kind::U32,
+        Value::U64(_) => Kind::U64,
+        Value::Text(_) => Kind::Text,
+    }
+}
+
+fn are_same(a: Kind, b: Kind) -> bool
+    ensures { result ≡ same_kind a b }
+{
+    a == b
+}
+
+/// Whether `c` prints one byte; other letters print every value.
+fn suits_letter(letter: PrintLetter, value: &Value<'_>) -> bool
+    ensures { result ≡ suits letter (datum_of value.now) }
+{
+    match (letter, value) {
+        (PrintLetter::One, Value::Text(bytes)) => bytes.len() == 1,
+        _ => true,
+    }
+}
+
+/// What is wrong with a value.
+fn fault_of(conv: &PrintConv, value: &Value<'_>) -> Option<PrintFault>
+    ensures { result ≡ value_fault conv.now (datum_of value.now) }
+{
+    if !are_same(kind_of_value(value), conv.kind) {
+        return Some(PrintFault::WrongKind { at: conv.slot });
+    }
+    if !suits_letter(conv.letter, value) {
+        return Some(PrintFault::NotOneByte { at: conv.slot });
+    }
+    None
+}
+
+/// The value of a slot.
+pub(crate) fn value_of_slot<'a, 'b>(values: &'b [Value<'a>], slot: u8) -> Option<&'b Value<'a>>
+    ensures { MatchOption result (value_at (map datum_of values.entry.now) slot ≡ None) (λ v. value_at (map datum_of values.entry.now) slot ≡ Some (datum_of v.now)) }
+{
+    let place = slot as usize;
+    if place == 0 || values.len() < place {
+        return None;
+    }
+    Some(&values[place - 1])
+}
+
+/// What is wrong with the value of a unit.
+fn fault_of_unit(unit: &Unit, values: &[Value<'_>]) -> Option<PrintFault>
+    ensures { result ≡ unit_fault (map datum_of values.now) unit.now }
+{
+    match unit {
+        Unit::Byte(_) => None,
+        Unit::Conv(conv) => match value_of_slot(values, conv.slot) {
+            None => None,
+            Some(value) => fault_of(conv, value),
+        },
+    }
+}
+
+fn slot_at_fault(fault: &PrintFault) -> u8
+    ensures { result ≡ slot_of fault.now }
+{
+    match fault {
+        PrintFault::WrongKind { at } | PrintFault::NotOneByte { at } => *at,
+        _ => 0,
+    }
+}
+
+/// Of two faults the one of the lower slot.
+fn lower_of(first: Option<PrintFault>, second: Option<PrintFault>) -> Option<PrintFault>
+    ensures { result ≡ lower first second }
+{
+    match (first, second) {
+        (None, _) => second,
+        (Some(_), None) => first,
+        (Some(f), Some(g)) => {
+            if slot_at_fault(&f) <= slot_at_fault(&g) {
+                first
+            } else {
+                second
+            }
+        }
+    }
+}
+
+/// The fault of the lowest slot at fault.
+pub(crate) fn find_lowest_fault(units: &[Unit], values: &[Value<'_>]) -> Option<PrintFault>
+    ensures { result ≡ lowest_fault units.now (map datum_of values.now) }
+{
+    let mut found = None;
+    for unit in units {
+        found = lower_of(found, fault_of_unit(unit, values));
+    }
+    found
+}

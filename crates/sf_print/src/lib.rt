@@ -1,0 +1,28 @@
+//! Printed texts over any sink.
+#![tactic(auto)]
+
+mod decimal;
+mod fault;
+mod handing;
+mod integer;
+mod judging;
+pub mod laws;
+mod list_sink;
+mod numeral;
+mod piece;
+mod plain;
+mod print;
+mod script_sink;
+mod sink;
+mod stage;
+mod std_sink;
+#[cfg(test)]
+mod tests;
+mod text;
+
+pub use fault::PrintFault;
+pub use list_sink::ListSink;
+pub use print::{fprint, printed_len};
+pub use script_sink::{ScriptSink, WriteStep};
+pub use sink::{Sink, SinkFault};
+pub use std_sink::StdSink;

@@ -1,0 +1,46 @@
+//! Numbers that are printed as a minus and decimal digits alone.
+ghost use Rattle.std.specs.Prelude.{◌≡◌, ◌≤◌, ◌++◌, length, IfSome};
+ghost use Rattle.std.specs.Fmt.{decimal};
+ghost use Rattle.sf_base.specs.Data.{datum_of};
+ghost use Rattle.sf_print.specs.Plain.{is_decimal, is_plain, minus};
+ghost use Rattle.sf_print.specs.Text.{value_text};
+
+use crate::text::{Printable, printable_of};
+use sf_base::Value;
+use sf_format::{PrintConv, PrintLetter};
+
+#[inline]
+fn is_decimal_letter(letter: PrintLetter) -> bool
+    ensures { result ≡ is_decimal letter }
+{
+    match letter {
+        PrintLetter::Signed | PrintLetter::Unsigned => true,
+        _ => false,
+    }
+}
+
+#[inline]
+fn is_plain_conv(conv: &PrintConv) -> bool
+    ensures { result ≡ is_plain conv.now }
+{
+    is_decimal_letter(conv.letter)
+        && conv.width == 0
+        && !conv.plus
+        && !conv.blank
+        && conv.precision.is_none()
+}
+
+/// The sign (true: a minus) and the magnitude of a value that is printed by its digits alone.
+#[inline]
+pub(crate) fn plain_number(conv: &PrintConv, value: &Value<'_>) -> Option<(bool, u64)>
+    ensures text { IfSome result (λ p. value_text conv.now (datum_of value.now) ≡ minus p.0 ++ decimal p.1) }
+    ensures short { IfSome result (λ p. length (decimal p.1) ≤ 20) }
+{
+    if !is_plain_conv(conv) {
+        return None;
+    }
+    match printable_of(*value) {
+        Printable::Number(negative, magnitude) => Some((negative, magnitude)),
+        Printable::Bytes(_) => None,
+    }
+}

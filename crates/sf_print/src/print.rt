@@ -1,0 +1,192 @@
+//! Printing values by a format.
+ghost use Rattle.std.specs.Prelude.{◌≡◌, ◌<◌, ◌+◌, ◌^◌, length, map, min, OnOk, IfErr, is_err, if◌then◌else◌};
+ghost use Rattle.sf_base.specs.Data.{datum_of};
+ghost use Rattle.sf_print.specs.Sinks.{counted_on};
+ghost use Rattle.sf_print.specs.Staged.{Puts, Writes};
+ghost use Rattle.sf_print.specs.Text.{value_text};
+ghost use Rattle.sf_print.specs.Printed.{unit_text, printed, measured, WritesText, is_sink_fault};
+
+use crate::decimal::decimal_len;
+use crate::fault::PrintFault;
+use crate::handing::{flush, put_byte, put_number};
+use crate::integer::DIGIT_BYTES;
+use crate::judging::{find_lowest_fault, value_of_slot};
+use crate::piece::{pieces_len, put_pieces};
+use crate::plain::plain_number;
+use crate::sink::{Sink, SinkFault};
+use crate::stage::Stage;
+use crate::text::value_pieces;
+use sf_base::Value;
+use sf_format::{PrintConv, PrintFormat, Unit};
+
+/// The greatest length of a printed text.
+const MOST_BYTES: u32 = 2147483647;
+
+/// Puts the text of a value.
+#[inline]
+fn put_value<K: Sink>(
+    to: &mut K,
+    stage: &mut Stage,
+    conv: &PrintConv,
+    value: &Value<'_>,
+) -> Result<(), SinkFault>
+    requires { stage.old.written + stage.old.len + length (value_text conv.now (datum_of value.now)) < 2 ^ 32 }
+    ensures text { Puts (K.contents to.old) stage.old (K.contents to.new) stage.new (value_text conv.now (datum_of value.now)) result }
+    ensures count { OnOk result (stage.new.written + stage.new.len
+        ≡ stage.old.written + stage.old.len + length (value_text conv.now (datum_of value.now))) }
+    ensures failures { K.failures to.new
+        ≡ (if is_err result then counted_on (K.failures to.old) else K.failures to.old) }
+{
+    if let Some((negative, magnitude)) = plain_number(conv, value) {
+        return put_number(to, stage, negative, magnitude);
+    }
+    let mut buf = [0; DIGIT_BYTES];
+    let pieces = value_pieces(conv, *value, &mut buf);
+    put_pieces(to, stage, &pieces)
+}
+
+/// The length of a value's text, or the most where it is longer.
+#[inline]
+fn value_len(conv: &PrintConv, value: &Value<'_>, most: u64) -> u64
+    requires { most < 2 ^ 32 }
+    ensures { result ≡ min most (length (value_text conv.now (datum_of value.now))) }
+{
+    if let Some((negative, magnitude)) = plain_number(conv, value) {
+        return most.min(negative as u64 + decimal_len(magnitude) as u64);
+    }
+    let mut buf = [0; DIGIT_BYTES];
+    pieces_len(&value_pieces(conv, *value, &mut buf), most)
+}
+
+/// Puts the text of a unit.
+fn put_unit<K: Sink>(
+    to: &mut K,
+    stage: &mut Stage,
+    unit: &Unit,
+    values: &[Value<'_>],
+) -> Result<(), SinkFault>
+    requires { stage.old.written + stage.old.len + length (unit_text (map datum_of values.now) unit.now) < 2 ^ 32 }
+    ensures text { Puts (K.contents to.old) stage.old (K.contents to.new) stage.new (unit_text (map datum_of values.now) unit.now) result }
+    ensures count { OnOk result (stage.new.written + stage.new.len
+        ≡ stage.old.written + stage.old.len + length (unit_text (map datum_of values.now) unit.now)) }
+    ensures failures { K.failures to.new
+        ≡ (if is_err result then counted_on (K.failures to.old) else K.failures to.old) }
+{
+    match unit {
+        Unit::Byte(byte) => put_byte(to, stage, *byte),
+        Unit::Conv(conv) => match value_of_slot(values, conv.slot) {
+            None => Ok(()),
+            Some(value) => put_value(to, stage, conv, value),
+        },
+    }
+}
+
+/// Puts the texts of the units, one after the other.
+fn put_units<K: Sink>(
+    to: &mut K,
+    stage: &mut Stage,
+    units: &[Unit],
+    values: &[Value<'_>],
+) -> Result<(), SinkFault>
+    requires { stage.old.written + stage.old.len + length (printed units.now (map datum_of values.now)) < 2 ^ 32 }
+    ensures text { Puts (K.contents to.old) stage.old (K.contents to.new) stage.new (printed units.now (map datum_of values.now)) result }
+    ensures count { OnOk result (stage.new.written + stage.new.len
+        ≡ stage.old.written + stage.old.len + length (printed units.now (map datum_of values.now))) }
+    ensures failures { K.failures to.new
+        ≡ (if is_err result then counted_on (K.failures to.old) else K.failures to.old) }
+{
+    for unit in units {
+        put_unit(to, stage, unit, values)?;
+    }
+    Ok(())
+}
+
+/// Hands the sink the texts of the units, and answers how many bytes it took where it failed.
+fn write_units<K: Sink>(to: &mut K, units: &[Unit], values: &[Value<'_>]) -> Result<(), u32>
+    requires { length (printed units.now (map datum_of values.now)) < 2 ^ 32 }
+    ensures text { Writes (K.contents to.old) (K.contents to.new) (printed units.now (map datum_of values.now)) result }
+    ensures failures { K.failures to.new
+        ≡ (if is_err result then counted_on (K.failures to.old) else K.failures to.old) }
+{
+    let mut stage = Stage::new();
+    match put_units(to, &mut stage, units, values) {
+        Ok(()) => {}
+        Err(_) => return Err(stage.written),
+    }
+    match flush(to, &mut stage) {
+        Ok(()) => Ok(()),
+        Err(_) => Err(stage.written),
+    }
+}
+
+/// The length of a unit's text, or the most where it is longer.
+fn unit_len(unit: &Unit, values: &[Value<'_>], most: u64) -> u64
+    requires { most < 2 ^ 32 }
+    ensures { result ≡ min most (length (unit_text (map datum_of values.now) unit.now)) }
+{
+    match unit {
+        Unit::Byte(_) => most.min(1),
+        Unit::Conv(conv) => match value_of_slot(values, conv.slot) {
+            None => 0,
+            Some(value) => value_len(conv, value, most),
+        },
+    }
+}
+
+/// The length of the printed text, or the most where it is longer.
+fn units_len(units: &[Unit], values: &[Value<'_>], most: u64) -> u64
+    requires { most < 2 ^ 32 }
+    ensures { result ≡ min most (length (printed units.now (map datum_of values.now))) }
+{
+    let mut sum = 0;
+    for unit in units {
+        if sum == most {
+            return most;
+        }
+        sum += unit_len(unit, values, most - sum);
+    }
+    sum
+}
+
+/// The length of the printed text in bytes (C11 7.21.6.1).
+///
+/// It refuses the number of values, then the lowest slot whose value is wrong, then a text of more than
+/// 2147483647 bytes. It takes no memory.
+pub fn printed_len(format: &PrintFormat, values: &[Value<'_>]) -> Result<u32, PrintFault>
+    ensures { result ≡ measured format.now (map datum_of values.now) }
+{
+    if values.len() != format.values() as usize {
+        return Err(PrintFault::WrongCount);
+    }
+    let units = format.directives();
+    if let Some(fault) = find_lowest_fault(units, values) {
+        return Err(fault);
+    }
+    let len = units_len(units, values, MOST_BYTES as u64 + 1) as u32;
+    if len > MOST_BYTES {
+        return Err(PrintFault::TooLong);
+    }
+    Ok(len)
+}
+
+/// Prints the values by the format to the sink, and answers how many bytes were printed (C11 7.21.6.1).
+///
+/// It refuses as `printed_len` does, before anything is written. Where the sink fails, `PrintFault::Sink` tells
+/// how many bytes of the text it had taken. It takes no memory but what the sink takes.
+pub fn fprint<K: Sink>(
+    to: &mut K,
+    format: &PrintFormat,
+    values: &[Value<'_>],
+) -> Result<u32, PrintFault>
+    ensures refused { IfErr (measured format.now (map datum_of values.now)) (λ f. (result ≡ Err f) × (to.new ≡ to.old)) }
+    ensures written { OnOk (measured format.now (map datum_of values.now))
+        (WritesText (K.contents to.old) (K.contents to.new) (printed format.now (map datum_of values.now)) result) }
+    ensures failures { K.failures to.new
+        ≡ (if is_sink_fault result then counted_on (K.failures to.old) else K.failures to.old) }
+{
+    let len = printed_len(format, values)?;
+    match write_units(to, format.directives(), values) {
+        Ok(()) => Ok(len),
+        Err(written) => Err(PrintFault::Sink { written }),
+    }
+}

@@ -1,0 +1,76 @@
+//! The text of a value, in pieces.
+ghost use Rattle.std.specs.Prelude.{◌≡◌};
+ghost use Rattle.std.specs.List.{flat_map};
+ghost use Rattle.sf_base.specs.Data.{datum_of};
+ghost use Rattle.sf_print.specs.Runs.{piece_bytes};
+ghost use Rattle.sf_print.specs.Printables.{IsOf};
+ghost use Rattle.sf_print.specs.Text.{bytes_text, shown_bytes, value_text};
+
+use crate::integer::{DIGIT_BYTES, integer_pieces};
+use crate::piece::{Piece, Pieces};
+use sf_base::Value;
+use sf_format::{PrintConv, PrintLetter};
+
+/// The bytes that are printed of a text: those up to the precision of `s`, or all.
+fn shown<'a>(conv: &PrintConv, bytes: &'a [u8]) -> &'a [u8]
+    ensures { result.now ≡ shown_bytes conv.now.letter conv.now.precision bytes.entry.now }
+{
+    match (conv.letter, conv.precision) {
+        (PrintLetter::Text, Some(most)) => &bytes[..bytes.len().min(most as usize)],
+        _ => bytes,
+    }
+}
+
+/// The pieces of a text.
+fn text_pieces<'a>(conv: &PrintConv, bytes: &'a [u8]) -> Pieces<'a>
+    ensures { flat_map piece_bytes result ≡ bytes_text conv.now bytes.entry.now }
+{
+    let shown = shown(conv, bytes);
+    let short = (conv.width as usize).saturating_sub(shown.len()) as u32;
+    let (left, right) = if conv.minus { (0, short) } else { (short, 0) };
+    [
+        Piece::Run(b' ', left),
+        Piece::Bytes(shown),
+        Piece::Run(b' ', right),
+        Piece::Bytes(&[]),
+        Piece::Bytes(&[]),
+        Piece::Bytes(&[]),
+    ]
+}
+
+/// What is printed of a value: a sign (true: a minus) and a magnitude, or bytes.
+pub(crate) enum Printable<'a> {
+    Number(bool, u64),
+    Bytes(&'a [u8]),
+}
+
+#[inline]
+pub(crate) fn printable_of<'a>(value: Value<'a>) -> Printable<'a>
+    ensures { IsOf result (datum_of value.entry) }
+{
+    match value {
+        Value::I8(n) => Printable::Number(n < 0, n.unsigned_abs() as u64),
+        Value::I16(n) => Printable::Number(n < 0, n.unsigned_abs() as u64),
+        Value::I32(n) => Printable::Number(n < 0, n.unsigned_abs() as u64),
+        Value::I64(n) => Printable::Number(n < 0, n.unsigned_abs()),
+        Value::U8(n) => Printable::Number(false, n as u64),
+        Value::U16(n) => Printable::Number(false, n as u64),
+        Value::U32(n) => Printable::Number(false, n as u64),
+        Value::U64(n) => Printable::Number(false, n),
+        Value::Text(bytes) => Printable::Bytes(bytes),
+    }
+}
+
+/// The pieces of a value's text; the digits of an integer are written to the buffer.
+pub(crate) fn value_pieces<'a>(
+    conv: &PrintConv,
+    value: Value<'a>,
+    buf: &'a mut [u8; DIGIT_BYTES],
+) -> Pieces<'a>
+    ensures { flat_map piece_bytes result ≡ value_text conv.now (datum_of value.entry) }
+{
+    match printable_of(value) {
+        Printable::Number(negative, magnitude) => integer_pieces(conv, negative, magnitude, buf),
+        Printable::Bytes(bytes) => text_pieces(conv, bytes),
+    }
+}
