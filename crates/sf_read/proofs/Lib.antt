@@ -1,0 +1,3 @@
+pub mod Consuming
+pub mod Endings
+pub mod Reading
