@@ -5,7 +5,7 @@ use crate::tests::{Row, is_told, rows};
 use crate::{Lookahead, ReadStep, ScriptSource, SliceSource, Source, StdSource, fscan};
 use sf_base::Value;
 use sf_format::{Profile, ScanFormat};
-use sf_run::{Ending, StartFault, Status};
+use sf_run::{Ending, Scanned, StartFault, Status};
 use std::alloc::Global;
 use std::io;
 use std::io::Read;
@@ -27,36 +27,61 @@ fn all<S: Source>(alloc: Global, held: &[u8], source: &mut S) -> Result<Vec<u8>,
     Ok(bytes)
 }
 
-/// The row by blocks of `N` bytes, from a source that gives at most so many bytes at once.
-fn by_blocks<const N: usize>(
-    rt: &(impl Abort + AllocGlobal),
-    row: &Row,
-    most: usize,
-) -> Result<(), Fail>
-    requires block { 1 ≤ N }
-    requires piece { 1 ≤ most }
+/// What is left is what the row doesn't use.
+fn is_left(rt: &impl Abort, row: &Row, left: &[u8]) {
+    let (_, _, _, used, _) = row.told;
+    let mut unused = row.text.iter().skip(used as usize);
+    assert_eq!(rt; left.len() + used as usize, row.text.len());
+    for byte in left {
+        assert!(rt; unused.next() == Some(byte), "rest of {:?}", row.text);
+    }
+}
+
+/// Gives the text, at most so many bytes at once.
+fn pieces<'a>(alloc: Global, text: &'a [u8], most: usize) -> Result<Vec<ReadStep<'a>>, Fail>
+    requires { 1 ≤ most }
 {
-    let alloc = rt.alloc();
-    let format = ScanFormat::parse(alloc, Profile::One, row.format)?;
     let mut steps = Vec::new(alloc);
-    for piece in row.text.chunks(most) {
+    for piece in text.chunks(most) {
         steps.push(ReadStep::Give(piece))?;
     }
-    let mut script = ScriptSource::new(&steps);
-    let mut held = Vec::<u8>::new(alloc);
-    {
-        let mut from = Lookahead::<&mut ScriptSource<'_>, N>::new(&mut script);
-        let scanned = fscan(alloc, &mut from, &format, LIMIT)?;
-        is_told(rt, row, &scanned.report());
-        held.extend_from_slice(from.held())?;
-    }
-    let left = all(alloc, &held, &mut script)?;
-    let (_, _, _, used, _) = row.told;
-    assert!(rt;
-        row.text.get(used as usize..) == Some(left.as_slice()),
-        "rest of {:?}",
-        row.text
-    );
+    Ok(steps)
+}
+
+fn scanned<S: Source, const N: usize>(
+    alloc: Global,
+    from: &mut Lookahead<S, N>,
+    format: &[u8],
+) -> Result<Scanned, Fail> {
+    let format = ScanFormat::parse(alloc, Profile::One, format)?;
+    Ok(fscan(alloc, from, &format, LIMIT)?)
+}
+
+/// The row by blocks of so many bytes.
+macro_rules! by_blocks {
+    ($size:literal, $rt:expr, $row:expr, $steps:expr) => {{
+        let mut script = ScriptSource::new($steps);
+        let mut held = Vec::<u8>::new($rt.alloc());
+        {
+            let mut from = Lookahead::<&mut ScriptSource<'_>, $size>::new(&mut script);
+            let scanned = scanned($rt.alloc(), &mut from, $row.format)?;
+            is_told($rt, $row, &scanned.report());
+            held.extend_from_slice(from.held())?;
+        }
+        is_left($rt, $row, &all($rt.alloc(), &held, &mut script)?);
+    }};
+}
+
+fn by_pieces(
+    rt: &(impl Abort + AllocGlobal),
+    row: &Row,
+    steps: &[ReadStep<'_>],
+) -> Result<(), Fail> {
+    by_blocks!(1, rt, row, steps);
+    by_blocks!(2, rt, row, steps);
+    by_blocks!(3, rt, row, steps);
+    by_blocks!(7, rt, row, steps);
+    by_blocks!(4096, rt, row, steps);
     Ok(())
 }
 
@@ -64,11 +89,8 @@ fn by_blocks<const N: usize>(
 fn blocks(rt: HostRuntime) -> Result<(), Fail> {
     for row in &rows() {
         for most in [1usize, 2, 3, 4096] {
-            by_blocks::<1>(&rt, row, most)?;
-            by_blocks::<2>(&rt, row, most)?;
-            by_blocks::<3>(&rt, row, most)?;
-            by_blocks::<7>(&rt, row, most)?;
-            by_blocks::<4096>(&rt, row, most)?;
+            let steps = pieces(rt.alloc(), row.text, most)?;
+            by_pieces(&rt, row, &steps)?;
         }
     }
     Ok(())
