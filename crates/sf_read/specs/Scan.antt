@@ -28,9 +28,9 @@ WaitedFor ds m old bytes now =
 
 -- A scan of the input t: its report, and what is then held and to come. old and new are the lookahead before and after it.
 pub record Scan {S : Type 0} (to_come : S → Option (List ℕ)) (ds : List Directive) (m : ℕ) (t : List ℕ) (old new : Ahead S) (report : RunReport) : Type 0 where
-  -- the source did not fail
+  -- the source did not fail: the report of the input with its end
   pub whole : is_fault report.met ≡ false → RunWithin ds m t End report
-  -- it failed: nothing of the input follows what was used
+  -- it failed: the report of what was used, with the fault
   pub cut : is_fault report.met ≡ true → RunWithin ds m (take report.used t) Fault report
   pub within : report.used ≤ length t
   -- what was not used is held or to come
@@ -38,7 +38,10 @@ pub record Scan {S : Type 0} (to_come : S → Option (List ℕ)) (ds : List Dire
   -- the report rests on no byte but those that were used or are held
   pub seen : is_fault report.met ≡ false → (z : List ℕ) (ending : Ending) → MayFollow new z ending
       → RunWithin ds m (take report.used t ++ new.held ++ z) ending report
+  -- what was used and what is held is what was held, and then what was read
   pub read : IsHeldAndRead old (take report.used t) new
   pub waited : WaitedFor ds m old (take report.used t) new
+  -- the source failed only where nothing was held, and it may give more
   pub nothing_held : is_fault report.met ≡ true → (new.held ≡ []) × (new.at_end ≡ false)
+  -- where it has told its end, nothing is to come
   pub told : new.at_end ≡ true → (z : List ℕ) → to_come new.source ≡ Some z → z ≡ []
