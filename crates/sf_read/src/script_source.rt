@@ -1,8 +1,10 @@
 //! A source that follows a script, for tests.
-ghost use Rattle.std.specs.Prelude.{◌≡◌, ◌<◌, ◌++◌, [], IsOk, is_err, if◌then◌else◌, length, take};
+ghost use Rattle.std.specs.Prelude.{◌≡◌, ◌<◌, ◌++◌, ◌∷◌, [], None, Some, IfOk, IfErr, is_err, if◌then◌else◌, length, take};
 ghost use Rattle.std.specs.Counts.{IsPrefixLen};
+ghost use Rattle.std.specs.Io.{ReadsAtMost};
+ghost use Rattle.std.specs.Io.KnownBytes.{ReadConsumes};
 ghost use Rattle.sf_read.specs.Counts.{counted_on};
-ghost use Rattle.sf_read.specs.Scripts.{gives};
+ghost use Rattle.sf_read.specs.Scripts.{given, events, bytes_of, left_of};
 
 use crate::{Source, SourceFault};
 use std::marker::Model;
@@ -26,16 +28,16 @@ pub struct ScriptSource<'a> {
 }
 
 impl<'a> Model for ScriptSource<'a> {
-    ghost use Rattle.sf_read.specs.Scripts.{ScriptState, gives};
+    ghost use Rattle.sf_read.specs.Scripts.{ScriptState, events};
 
     ghost Value = { ScriptState };
 
-    ghost view = { λ s. record { present = s.present.now; later = gives s.steps.now; reads = s.reads; failures = s.failures } };
+    ghost view = { λ s. record { present = s.present.now; later = events s.steps.now; reads = s.reads; failures = s.failures } };
 }
 
 impl<'a> ScriptSource<'a> {
     pub fn new(steps: &'a [ReadStep<'a>]) -> ScriptSource<'a>
-        ensures { result ≡ record { present = []; later = gives steps.entry.now; reads = 0; failures = 0 } }
+        ensures { result ≡ record { present = []; later = events steps.entry.now; reads = 0; failures = 0 } }
     {
         ScriptSource {
             present: &[],
@@ -61,8 +63,9 @@ impl<'a> ScriptSource<'a> {
 
     /// Makes the next text the present one, where the present one is used up.
     fn advance(&mut self) -> Result<(), SourceFault>
-        ensures to_come { self.new.present ++ self.new.later ≡ self.old.present ++ self.old.later }
-        ensures ready { IsOk result → self.new.present ≡ [] → self.new.later ≡ [] }
+        ensures left { IfOk result (λ _. left_of self.new ≡ left_of self.old) }
+        ensures failed { IfErr result (λ _. left_of self.old ≡ None ∷ left_of self.new) }
+        ensures ready { IfOk result (λ _. self.new.present ≡ [] → self.new.later ≡ []) }
         ensures reads { self.new.reads ≡ self.old.reads }
         ensures failures { self.new.failures ≡ (if is_err result then counted_on self.old.failures else self.old.failures) }
     {
@@ -101,15 +104,25 @@ impl<'a> ScriptSource<'a> {
 }
 
 impl Source for ScriptSource<'_> {
-    ghost use Rattle.std.specs.Prelude.{Some, ◌++◌};
+    ghost use Rattle.std.specs.Prelude.{Some};
+    ghost use Rattle.sf_read.specs.Scripts.{bytes_of, left_of};
 
-    ghost to_come = { λ s. Some (s.present ++ s.later) };
+    ghost to_come = { λ s. Some (bytes_of (left_of s)) };
 
     ghost reads = { λ s. s.reads };
 
     ghost failures = { λ s. s.failures };
 
-    fn read(&mut self, buf: &mut [u8]) -> Result<usize, SourceFault> {
+    /// Fails exactly where the script says so next.
+    fn read(&mut self, buf: &mut [u8]) -> Result<usize, SourceFault>
+        ensures bound { ReadsAtMost result buf.new }
+        ensures bytes { ReadConsumes (Some (bytes_of (left_of self.old))) (Some (bytes_of (left_of self.new))) result buf.new }
+        ensures reads { self.new.reads ≡ counted_on self.old.reads }
+        ensures failures { self.new.failures ≡ (if is_err result then counted_on self.old.failures else self.old.failures) }
+        ensures gave { IfOk result (λ count. left_of self.old ≡ given (take count buf.new) ++ left_of self.new) }
+        ensures end { IfOk result (λ count. count ≡ 0 → 0 < length buf.new → left_of self.old ≡ []) }
+        ensures failed { IfErr result (λ _. left_of self.old ≡ None ∷ left_of self.new) }
+    {
         self.reads = self.reads.saturating_add(1);
         self.advance()?;
         Ok(self.give(buf))
