@@ -1,8 +1,22 @@
-//! Whole scans.
+//! Sources, bytes read ahead of them, and whole scans.
 #![tactic(auto)]
 
+mod lookahead;
+mod script_source;
+mod slice_source;
+mod source;
+mod std_source;
+mod stream;
+#[cfg(test)]
+mod stream_tests;
 #[cfg(test)]
 mod tests;
 mod whole;
 
+pub use lookahead::Lookahead;
+pub use script_source::{ReadStep, ScriptSource};
+pub use slice_source::SliceSource;
+pub use source::{Source, SourceFault};
+pub use std_source::StdSource;
+pub use stream::fscan;
 pub use whole::sscan;

@@ -2,105 +2,167 @@
 use crate::sscan;
 use sf_base::Value;
 use sf_format::{Profile, ScanFormat};
-use sf_run::{Ending, StartFault, Status};
+use sf_run::{Ending, Report, StartFault, Status};
+use std::process::Abort;
 use std::test::Fail;
 
-/// A format, a text, and what is told: status, place, assigned, used, whether the end was met, and the values.
+/// A format, a text, and what is told: status, place, assigned, used, whether the end was met, the values, and whether
+/// the run waits for more after the bytes used.
 #[derive(Drop)]
-struct Row {
-    format: &'static [u8],
-    text: &'static [u8],
-    told: (Status, u16, u8, u32, bool),
-    values: &'static [i32],
+pub(crate) struct Row {
+    pub(crate) format: &'static [u8],
+    pub(crate) text: &'static [u8],
+    pub(crate) told: (Status, u16, u8, u32, bool),
+    pub(crate) values: &'static [i32],
+    pub(crate) waits: bool,
 }
 
-#[test]
-fn rows(rt: HostRuntime) -> Result<(), Fail> {
-    let rows = [
+pub(crate) fn rows() -> [Row; 16] {
+    [
         Row {
             format: b"%d,%d",
             text: b"12,-7",
             told: (Status::Done, 0, 2, 5, true),
             values: &[12, -7],
+            waits: true,
         },
         Row {
             format: b"%d",
             text: b"",
             told: (Status::InputFailure, 1, 0, 0, true),
             values: &[],
+            waits: true,
         },
         Row {
             format: b"%d",
             text: b"-",
             told: (Status::MatchingFailure, 1, 0, 1, true),
             values: &[],
+            waits: true,
         },
         Row {
             format: b"%d",
             text: b"+-5",
             told: (Status::MatchingFailure, 1, 0, 1, false),
             values: &[],
+            waits: true,
         },
         Row {
             format: b"%d",
             text: b"  ",
             told: (Status::InputFailure, 1, 0, 2, true),
             values: &[],
+            waits: true,
         },
         Row {
             format: b"%d",
             text: b"2147483648",
             told: (Status::OutOfRange, 1, 0, 10, true),
             values: &[],
+            waits: true,
         },
         Row {
             format: b"%d",
             text: b"-00000000000000000000000012;",
             told: (Status::Done, 0, 1, 27, false),
             values: &[-12],
+            waits: true,
         },
         Row {
             format: b"%d %d",
             text: b"1  ",
             told: (Status::InputFailure, 3, 1, 3, true),
             values: &[1],
+            waits: true,
         },
         Row {
             format: b"%d",
             text: b"-2147483648",
             told: (Status::Done, 0, 1, 11, true),
             values: &[-2147483648],
+            waits: true,
         },
         Row {
             format: b" \t%d",
             text: b"\x0b\x0c 7 ",
             told: (Status::Done, 0, 1, 4, false),
             values: &[7],
+            waits: true,
         },
-    ];
-    for row in &rows {
+        Row {
+            format: b"%1d",
+            text: b"-5",
+            told: (Status::MatchingFailure, 1, 0, 1, false),
+            values: &[],
+            waits: false,
+        },
+        Row {
+            format: b"%d%%",
+            text: b"5 %",
+            told: (Status::Done, 0, 1, 3, false),
+            values: &[5],
+            waits: false,
+        },
+        Row {
+            format: b"%2d",
+            text: b"123",
+            told: (Status::Done, 0, 1, 2, false),
+            values: &[12],
+            waits: false,
+        },
+        Row {
+            format: b"%i",
+            text: b"089",
+            told: (Status::Done, 0, 1, 1, false),
+            values: &[0],
+            waits: true,
+        },
+        Row {
+            format: b"%i",
+            text: b"-0X1F,",
+            told: (Status::Done, 0, 1, 5, false),
+            values: &[-31],
+            waits: true,
+        },
+        Row {
+            format: b"%*d%d",
+            text: b"1 2",
+            told: (Status::Done, 0, 1, 3, true),
+            values: &[2],
+            waits: true,
+        },
+    ]
+}
+
+/// The report is that of the row.
+pub(crate) fn is_told(rt: &impl Abort, row: &Row, report: &Report<'_>) {
+    let outcome = report.outcome();
+    let met = outcome.met == Some(Ending::End);
+    assert!(rt; met || outcome.met.is_none());
+    assert!(rt;
+        (
+            outcome.status,
+            outcome.at,
+            outcome.assigned,
+            outcome.used,
+            met
+        ) == row.told,
+        "on {:?}",
+        row.text
+    );
+    let mut slot = 1u8;
+    for value in row.values {
+        assert_eq!(rt; report.value(slot), Some(Value::I32(*value)));
+        slot = slot.saturating_add(1);
+    }
+}
+
+#[test]
+fn whole_texts(rt: HostRuntime) -> Result<(), Fail> {
+    for row in &rows() {
         let format = ScanFormat::parse(rt.alloc(), Profile::One, row.format)?;
         let scanned = sscan(rt.alloc(), row.text, &format, 1048576)?;
-        let report = scanned.report();
-        let outcome = report.outcome();
-        let met = outcome.met == Some(Ending::End);
-        assert!(rt; met || outcome.met.is_none());
-        assert!(rt;
-            (
-                outcome.status,
-                outcome.at,
-                outcome.assigned,
-                outcome.used,
-                met
-            ) == row.told,
-            "on {:?}",
-            row.text
-        );
-        let mut slot = 1u8;
-        for value in row.values {
-            assert_eq!(rt; report.value(slot), Some(Value::I32(*value)));
-            slot = slot.saturating_add(1);
-        }
+        is_told(&rt, row, &scanned.report());
     }
     Ok(())
 }

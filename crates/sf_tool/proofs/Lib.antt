@@ -1,5 +1,4 @@
 pub mod Answering
-pub mod Consuming
 pub mod Joining
 pub mod OneEnd
 pub mod Pairs

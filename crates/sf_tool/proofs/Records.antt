@@ -17,7 +17,7 @@ use Rattle.sf_tool.specs.declared.scan.ToolFault.{ToolFault}
 use Rattle.sf_tool.specs.Turns.{turn_by, turn_of}
 use Rattle.sf_tool.specs.Lines.{line_of}
 use Rattle.sf_tool.specs.Records.{Passed, EndsWith, outcome_of, StopsBy}
-use Rattle.sf_tool.proofs.Consuming.{report_within}
+use Rattle.sf_read.proofs.Consuming.{report_within}
 
 -- after the records of x so far, rest is left; the next run has this number
 pub record Going (ds : List Directive) (x rest output : List ℕ) (destinations number : ℕ) : Type 0 where

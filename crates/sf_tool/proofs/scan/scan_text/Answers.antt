@@ -5,7 +5,7 @@ use Rattle.sf_tool.specs.Lines.{line_of}
 use Rattle.sf_tool.specs.Records.{outcome_of}
 use Rattle.sf_tool.specs.Turns.{turn_of}
 use Rattle.sf_tool.specs.declared.turn.Turn.TheVariants.{Goes}
-use Rattle.sf_tool.proofs.Consuming.{report_within}
+use Rattle.sf_read.proofs.Consuming.{report_within}
 use Rattle.sf_tool.proofs.Records.{begins, next, shortens, outcome_is, turn_is}
 use Rattle.sf_tool.proofs.scan.scan_text.Goals as goal
 

@@ -1,5 +1,5 @@
 -- A run consumes no more bytes than there are.
-use Rattle.std.proofs.Common.{ℕ, ◌+◌, ◌≤◌, List, [], ◌∷◌, ◌++◌, length, drop, inl, inr, arith, length-drop}
+use Rattle.std.proofs.Common.{ℕ, ◌+◌, ◌<◌, ◌≤◌, List, [], ◌∷◌, ◌++◌, length, drop, inl, inr, arith, length-drop}
 use Rattle.std.proofs.lemmas.List.Sums.{sum_by-cons, sum_by-append}
 use Rattle.sf_format.specs.declared.directive.Shape.{Shape}
 use Rattle.sf_format.specs.declared.directive.Shape.TheVariants.{Int, Text, Set, Chars, Count}
@@ -9,7 +9,7 @@ use Rattle.sf_format.specs.declared.directive.Directive.TheVariants.{Space, Byte
 use Rattle.sf_run.specs.declared.outcome.Ending.{Ending}
 use Rattle.sf_run.specs.Steps.{StepEnd, Passes, Stores, Fails, Step, ByteStep, ItemStep, ConversionStep, IsSkipBefore}
 use Rattle.sf_run.specs.Runs.{Ran, RunReport, GoesOn, Steps, used}
-use Rattle.sf_run.specs.Limits.{RunWithin}
+use Rattle.sf_run.specs.Limits.{IsCut, RunWithin}
 
 byte_within : (b : ℕ) (x : List ℕ) (k : ℕ) (end : StepEnd) → ByteStep b x k end → k ≤ length x
 byte_within b [] k end (zero_bytes, e) = omega arith
@@ -58,10 +58,14 @@ steps_within (d ∷ ds) x n [] h = absurd h
 steps_within (d ∷ ds) x n (r ∷ ran) (is, step, goes_on) =
     rest_within d ds x n r ran r.end (steps_within ds) goes_on (step_within d x n r.bytes r.end step)
 
+-- a run that was cut off had more bytes than its limit
+pub cut_below : (ds : List Directive) (x : List ℕ) (m : ℕ) (before : List Ran) → IsCut ds x m before → m < length x
+cut_below ds x m before cut =
+    omega (arith, steps_within ds x 0 (before ++ (cut.cut ∷ cut.rest)) cut.steps, cut.high, sum_by-append (λ (q : Ran). q.bytes) before (cut.cut ∷ cut.rest), sum_by-cons (λ (q : Ran). q.bytes) cut.cut cut.rest)
+
 -- a report's bytes are among those of its input
 pub report_within : (ds : List Directive) (m : ℕ) (x : List ℕ) (ending : Ending) (report : RunReport) → RunWithin ds m x ending report → report.used ≤ length x
 report_within ds m x ending report (inl (few, (ran, steps, met, is_met, is))) =
     rw is (steps_within ds x 0 ran steps)
 report_within ds m x ending report (inr (before, cut, is)) =
-    let whole = steps_within ds x 0 (before ++ (cut.cut ∷ cut.rest)) cut.steps in
-    rw is (omega (arith, whole, cut.high, sum_by-append (λ (q : Ran). q.bytes) before (cut.cut ∷ cut.rest), sum_by-cons (λ (q : Ran). q.bytes) cut.cut cut.rest))
+    rw is (omega (arith, cut_below ds x m before cut))

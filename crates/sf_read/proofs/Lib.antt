@@ -1,0 +1,4 @@
+pub mod Consuming
+pub mod Endings
+pub mod Reading
+pub mod Scripts

@@ -1,0 +1,50 @@
+//! Bytes of a slice.
+ghost use Rattle.std.specs.Prelude.{◌≡◌};
+
+use crate::{Source, SourceFault};
+use std::marker::Model;
+
+/// Gives the bytes of a slice. It never fails.
+#[derive(Drop)]
+pub struct SliceSource<'a> {
+    rest: &'a [u8],
+    reads: u64,
+}
+
+impl<'a> Model for SliceSource<'a> {
+    ghost use Rattle.sf_read.specs.Counts.{SliceState};
+
+    ghost Value = { SliceState };
+
+    ghost view = { λ s. record { to_come = s.rest.now; reads = s.reads } };
+}
+
+impl<'a> SliceSource<'a> {
+    pub fn new(text: &'a [u8]) -> SliceSource<'a>
+        ensures { result ≡ record { to_come = text.entry.now; reads = 0 } }
+    {
+        SliceSource {
+            rest: text,
+            reads: 0,
+        }
+    }
+}
+
+impl Source for SliceSource<'_> {
+    ghost use Rattle.std.specs.Prelude.{Some};
+
+    ghost to_come = { λ s. Some s.to_come };
+
+    ghost reads = { λ s. s.reads };
+
+    ghost failures = { λ s. 0 };
+
+    fn read(&mut self, buf: &mut [u8]) -> Result<usize, SourceFault> {
+        let count = buf.len().min(self.rest.len());
+        let (front, rest) = self.rest.split_at(count);
+        buf[..count].copy_from_slice(front);
+        self.rest = rest;
+        self.reads = self.reads.saturating_add(1);
+        Ok(count)
+    }
+}
