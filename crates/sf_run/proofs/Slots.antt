@@ -17,7 +17,8 @@ use Rattle.sf_format.specs.declared.directive.Directive.{Directive}
 use Rattle.sf_format.specs.declared.directive.Directive.TheVariants.{Space, Byte, Percent, Conv}
 use Rattle.sf_format.specs.declared.directive.Shape.{Shape}
 use Rattle.sf_format.specs.declared.directive.Shape.TheVariants.{Int, Text, Set, Chars, Count}
-use Rattle.sf_format.specs.Proper.{AreDistinct, destination_of, destinations_of, slots_of}
+use Rattle.sf_format.specs.Slots.{AreDistinct}
+use Rattle.sf_format.specs.Proper.{destination_of, destinations_of, slots_of}
 use Rattle.sf_format.specs.Widths.{add_widths, text_width, stored_width, width_sum}
 use Rattle.sf_item.specs.Scan.{most_bytes, IsOneLess}
 use Rattle.sf_item.specs.declared.item.ItemScan.{ItemScan}
