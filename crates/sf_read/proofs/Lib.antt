@@ -1,4 +1,3 @@
-pub mod Consuming
-pub mod Endings
-pub mod Reading
 pub mod Scripts
+pub mod Consuming
+pub mod Ended

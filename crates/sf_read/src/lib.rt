@@ -6,9 +6,6 @@ mod script_source;
 mod slice_source;
 mod source;
 mod std_source;
-mod stream;
-#[cfg(test)]
-mod stream_tests;
 #[cfg(test)]
 mod tests;
 mod whole;
@@ -18,5 +15,4 @@ pub use script_source::{ReadStep, ScriptSource};
 pub use slice_source::SliceSource;
 pub use source::{Source, SourceFault};
 pub use std_source::StdSource;
-pub use stream::fscan;
 pub use whole::sscan;

@@ -1,6 +1,6 @@
 //! Examples of whole scans, their outcomes known from C.
 use crate::sscan;
-use sf_base::Value;
+use sf_base::{Store, Value};
 use sf_format::{Profile, ScanFormat};
 use sf_run::{Ending, Report, StartFault, Status};
 use std::process::Abort;
@@ -13,17 +13,17 @@ pub(crate) struct Row {
     pub(crate) format: &'static [u8],
     pub(crate) text: &'static [u8],
     pub(crate) told: (Status, u16, u8, u32, bool),
-    pub(crate) values: &'static [i32],
+    pub(crate) values: &'static [Value<'static>],
     pub(crate) waits: bool,
 }
 
-pub(crate) fn rows() -> [Row; 16] {
+pub(crate) fn rows() -> [Row; 29] {
     [
         Row {
             format: b"%d,%d",
             text: b"12,-7",
             told: (Status::Done, 0, 2, 5, true),
-            values: &[12, -7],
+            values: &[Value::I32(12), Value::I32(-7)],
             waits: true,
         },
         Row {
@@ -65,28 +65,28 @@ pub(crate) fn rows() -> [Row; 16] {
             format: b"%d",
             text: b"-00000000000000000000000012;",
             told: (Status::Done, 0, 1, 27, false),
-            values: &[-12],
+            values: &[Value::I32(-12)],
             waits: true,
         },
         Row {
             format: b"%d %d",
             text: b"1  ",
             told: (Status::InputFailure, 3, 1, 3, true),
-            values: &[1],
+            values: &[Value::I32(1)],
             waits: true,
         },
         Row {
             format: b"%d",
             text: b"-2147483648",
             told: (Status::Done, 0, 1, 11, true),
-            values: &[-2147483648],
+            values: &[Value::I32(-2147483648)],
             waits: true,
         },
         Row {
             format: b" \t%d",
             text: b"\x0b\x0c 7 ",
             told: (Status::Done, 0, 1, 4, false),
-            values: &[7],
+            values: &[Value::I32(7)],
             waits: true,
         },
         Row {
@@ -100,42 +100,133 @@ pub(crate) fn rows() -> [Row; 16] {
             format: b"%d%%",
             text: b"5 %",
             told: (Status::Done, 0, 1, 3, false),
-            values: &[5],
+            values: &[Value::I32(5)],
             waits: false,
         },
         Row {
             format: b"%2d",
             text: b"123",
             told: (Status::Done, 0, 1, 2, false),
-            values: &[12],
+            values: &[Value::I32(12)],
             waits: false,
         },
         Row {
             format: b"%i",
             text: b"089",
             told: (Status::Done, 0, 1, 1, false),
-            values: &[0],
+            values: &[Value::I32(0)],
             waits: true,
         },
         Row {
             format: b"%i",
             text: b"-0X1F,",
             told: (Status::Done, 0, 1, 5, false),
-            values: &[-31],
+            values: &[Value::I32(-31)],
             waits: true,
         },
         Row {
             format: b"%*d%d",
             text: b"1 2",
             told: (Status::Done, 0, 1, 3, true),
-            values: &[2],
+            values: &[Value::I32(2)],
             waits: true,
+        },
+        Row {
+            format: b"%x",
+            text: b"0xg",
+            told: (Status::MatchingFailure, 1, 0, 2, false),
+            values: &[],
+            waits: true,
+        },
+        Row {
+            format: b"%2x",
+            text: b"0x1",
+            told: (Status::MatchingFailure, 1, 0, 2, false),
+            values: &[],
+            waits: false,
+        },
+        Row {
+            format: b"%3c",
+            text: b"ab",
+            told: (Status::MatchingFailure, 1, 0, 2, true),
+            values: &[],
+            waits: true,
+        },
+        Row {
+            format: b"%hhd",
+            text: b"128",
+            told: (Status::OutOfRange, 1, 0, 3, true),
+            values: &[],
+            waits: true,
+        },
+        Row {
+            format: b"%hhu",
+            text: b"-1",
+            told: (Status::Done, 0, 1, 2, true),
+            values: &[Value::U8(255)],
+            waits: true,
+        },
+        Row {
+            format: b"%[]a-c]",
+            text: b"a]cd",
+            told: (Status::Done, 0, 1, 3, false),
+            values: &[Value::Text(b"a]c")],
+            waits: true,
+        },
+        Row {
+            format: b"%2$d %1$s",
+            text: b"7 up",
+            told: (Status::Done, 0, 2, 4, true),
+            values: &[Value::Text(b"up"), Value::I32(7)],
+            waits: true,
+        },
+        Row {
+            format: b"%*d%n",
+            text: b"  12x",
+            told: (Status::Done, 0, 0, 4, false),
+            values: &[Value::I32(4)],
+            waits: true,
+        },
+        Row {
+            format: b"%3[a-c]%n",
+            text: b"abcab",
+            told: (Status::Done, 0, 1, 3, false),
+            values: &[Value::Text(b"abc"), Value::I32(3)],
+            waits: false,
+        },
+        Row {
+            format: b"%[0-9]",
+            text: b" 1",
+            told: (Status::MatchingFailure, 1, 0, 0, false),
+            values: &[],
+            waits: true,
+        },
+        Row {
+            format: b"%*3c%c",
+            text: b"abcd",
+            told: (Status::Done, 0, 1, 4, false),
+            values: &[Value::Text(b"d")],
+            waits: false,
+        },
+        Row {
+            format: b"%llu",
+            text: b"18446744073709551615",
+            told: (Status::Done, 0, 1, 20, true),
+            values: &[Value::U64(18446744073709551615)],
+            waits: true,
+        },
+        Row {
+            format: b"%5s%4c",
+            text: b" abcdefghi",
+            told: (Status::Done, 0, 2, 10, false),
+            values: &[Value::Text(b"abcde"), Value::Text(b"fghi")],
+            waits: false,
         },
     ]
 }
 
 /// The report is that of the row.
-pub(crate) fn is_told(rt: &impl Abort, row: &Row, report: &Report<'_>) {
+pub(crate) fn is_told<S: Store>(rt: &impl Abort, row: &Row, report: &Report<'_, S>) {
     let outcome = report.outcome();
     let met = outcome.met == Some(Ending::End);
     assert!(rt; met || outcome.met.is_none());
@@ -152,7 +243,7 @@ pub(crate) fn is_told(rt: &impl Abort, row: &Row, report: &Report<'_>) {
     );
     let mut slot = 1u8;
     for value in row.values {
-        assert_eq!(rt; report.value(slot), Some(Value::I32(*value)));
+        assert_eq!(rt; report.value(slot), Some(*value));
         slot = slot.saturating_add(1);
     }
 }
