@@ -103,7 +103,7 @@ module _ (ds : List Directive) (p : ℕ) (d : Directive) (at : slice_get ds p �
   went =
       does.2 ∙ ap (λ rest. run_from (Some k) rest does.0 (p + 1) t z) (drop_at ds p d at)
       ∙ refused k d (drop (p + 1) ds) does.0 (p + 1) t z f within
-          (subst (λ e. one_from d does.0 t.used z ≡ record { used = t.used; left = z; end = e }) (sym (is does.0 shows.0 shows.1)) (nothing does.0 shows.0))
+      (subst (λ e. one_from d does.0 t.used z ≡ record { used = t.used; left = z; end = e }) (sym (is does.0 shows.0 shows.1)) (nothing does.0 shows.0))
 
   pub close_passes : (u : Tally) → ((status : Status) → f ≡ Fails status → ⊥) → u ≡ counted d f t → DoesBy None ds (p + 1) phase.Skipping None u k z report
   close_passes u ok counts = (
@@ -291,9 +291,10 @@ refuses new old d b p at waits stops below text next z = record {
   cut = λ report does.
       let u : new.tally.used ≡ old.tally.used = ap (λ (t : Tally). t.used) stops.tally in
       let own : DoesBy None old.directives old.passed old.phase old.opened old.tally new.tally.used (b ∷ z) report = waiting old new.tally.used (b ∷ z) report waits does in
-      let took = taken old.directives old.passed d at old.phase p old.opened old.tally b new.tally.used z report own next in
-      (by_phase p text took.2 own.0 took.1,
-      past_limit old.directives old.passed d at old.phase p old.opened old.tally b new.tally.used z report own next (sym u) ∙ ap (out_of TooLong (old.passed + 1)) (sym stops.tally));
+      let took = taken old.directives old.passed d at old.phase p old.opened old.tally b new.tally.used z report own next in (
+        by_phase p text took.2 own.0 took.1,
+        past_limit old.directives old.passed d at old.phase p old.opened old.tally b new.tally.used z report own next (sym u) ∙ ap (out_of TooLong (old.passed + 1)) (sym stops.tally),
+      );
 }
   where
     by_phase : (p : Phase) → IsSome (slot_in p) → {r : Stage} → Shows d p r → (q : Stage) → stepped d q b ≡ Some r → StoresByte d b
@@ -369,7 +370,6 @@ has_place ds p d v at some e =
 pub one_more : (v : Bool) (n : ℕ) → cond v (n + 1) n ≡ n + cond v 1 0
 one_more true n = refl
 one_more false n = omega arith
-
 
 -- ---- one move after another
 

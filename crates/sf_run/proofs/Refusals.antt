@@ -203,14 +203,20 @@ run_refused ds proper m k x u v b at d t is all below place stores (inr w) =
     let same : at + 1 ≡ length before + 1 = ap (λ (r : RunReport). r.at) w.2 in
     let here : at ≡ length before = omega (arith, same) in
     let own : cut.cut.directive ≡ d =
-        some_is _ _ (sym (ran_at ds x 0 before cut.cut cut.rest cut.steps) ∙ ap (slice_get ds) (sym here) ∙ place) in
+    some_is _ _ (sym (ran_at ds x 0 before cut.cut cut.rest cut.steps) ∙ ap (slice_get ds) (sym here) ∙ place) in
     let front = drop_front (used before) u (b ∷ v) (omega (arith, low, all)) in
     let rest : drop (used before) x ≡ drop (used before) u ++ b ∷ v = ap (drop (used before)) is ∙ front.0 in
-    let left = front.1 in
-    (k, below, (before, cut,
-      subst (λ (e : Directive). StoresAt e (drop (used before) x) (k - used before)) (sym own)
-      (subst (λ y. StoresAt d y (k - used before)) (sym rest) (stores_at d b (drop (used before) u) v (k - used before) stores (omega (arith, left, all, low)))),
-      ap (λ (r : RunReport). record r { status = NoMemory }) w.2))
+    let left = front.1 in (
+      k,
+      below,
+      (
+        before,
+        cut,
+        subst (λ (e : Directive). StoresAt e (drop (used before) x) (k - used before)) (sym own)
+            (subst (λ y. StoresAt d y (k - used before)) (sym rest) (stores_at d b (drop (used before) u) v (k - used before) stores (omega (arith, left, all, low)))),
+        ap (λ (r : RunReport). record r { status = NoMemory }) w.2,
+      ),
+    )
 
 -- a scanner for which a storing was refused has that report, however the input goes on
 pub refused_gives : (ds : List Directive) (m : ℕ) (old new : Standing) (x piece z : List ℕ) (ending : Ending) → After ds m old x → old.ended ≡ None → Keeps new old

@@ -112,7 +112,7 @@ pub slot_placed : (slots : ℕ) (ds : List Directive) (p : ℕ) (d : Directive) 
     → (1 ≤ slot) × (slot ≤ slots)
 slot_placed slots ds p d slot placed at own =
     let e : (nat_le 1 slot && nat_le slot slots) ≡ true = among (λ n. nat_le 1 n && nat_le n slots) (slots_of (take p ds)) slot (slots_of (drop (p + 1) ds))
-        (subst (λ l. list_all (λ n. nat_le 1 n && nat_le n slots) l ≡ true) (slots_at ds p d slot at own) placed) in
+    (subst (λ l. list_all (λ n. nat_le 1 n && nat_le n slots) l ≡ true) (slots_at ds p d slot at own) placed) in
     let low = left_of' (nat_le 1 slot) (nat_le slot slots) e in
     let high = right_of (nat_le 1 slot) (nat_le slot slots) e in
     (grind (arith, nat_tests), grind (arith, nat_tests))

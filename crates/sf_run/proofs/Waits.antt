@@ -341,7 +341,7 @@ pub after_report : (ds : List Directive) (m : ℕ) (s : Standing) (x : List ℕ)
 after_report ds m s x ending stop h e =
     subst (λ o. RunWithin ds m x ending (record (out_of stop.status stop.at s.tally) { met = o })) (sym h.fed)
     (within_met open_all ds h.proper m x ending None (out_of stop.status stop.at s.tally)
-      (subst (λ r. TellsWithin ds m x r) (cut_here ds m s x h stop e) (told_exists ds h.proper m x)) (λ o. ended_closed ds m s x h (ap is_some e) o.0 o.1))
+    (subst (λ r. TellsWithin ds m x r) (cut_here ds m s x h stop e) (told_exists ds h.proper m x)) (λ o. ended_closed ds m s x h (ap is_some e) o.0 o.1))
 
 pub none_is : {A : Type 0} (o : Option A) → is_some o ≡ false → o ≡ None
 none_is None h = refl

@@ -39,14 +39,9 @@ pub(crate) enum Phase<'f> {
 pub(crate) enum Finished {
     Passes,
     /// The slot is given a number.
-    Stores {
-        slot: u8,
-        value: Value<'static>,
-    },
+    Stores { slot: u8, value: Value<'static> },
     /// The slot is given the opened text.
-    Closes {
-        slot: u8,
-    },
+    Closes { slot: u8 },
     Fails(Status),
 }
 

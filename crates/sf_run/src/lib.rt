@@ -1,6 +1,8 @@
 //! Runs of scan formats over bytes that are handed in.
 #![tactic(auto)]
 
+#[cfg(test)]
+mod conversion_tests;
 mod directive;
 pub mod laws;
 mod number;

@@ -1,6 +1,6 @@
 //! Examples of scanners that are handed their input in pieces.
 use crate::{Ending, FeedState, Outcome, Scanner, StartFault, Status};
-use sf_base::Value;
+use sf_base::{Store, Value};
 use sf_format::{Profile, ScanFormat};
 use std::process::Abort;
 use std::test::Fail;
@@ -13,7 +13,7 @@ struct Row {
     pieces: &'static [(&'static [u8], usize, FeedState)],
     ending: Ending,
     outcome: Outcome,
-    values: &'static [i32],
+    values: &'static [Value<'static>],
 }
 
 const WAIT: FeedState = FeedState::Wait;
@@ -59,6 +59,11 @@ fn run(rt: &(impl Abort + AllocGlobal), row: &Row) -> Result<(), Fail> {
     }
     scanner.end(row.ending);
     assert!(rt; scanner.state() == ENDED && scanner.feed(b"1").taken == 0);
+    is_told(rt, scanner, row)
+}
+
+/// The scanner has ended, with what the row tells.
+fn is_told<S: Store>(rt: &impl Abort, scanner: Scanner<'_, S>, row: &Row) -> Result<(), Fail> {
     let Ok(scanned) = scanner.into_scanned() else {
         return Err(Fail::new("the run has not ended"));
     };
@@ -66,7 +71,7 @@ fn run(rt: &(impl Abort + AllocGlobal), row: &Row) -> Result<(), Fail> {
     assert_eq!(rt; report.outcome(), row.outcome);
     let mut slot = 1u8;
     for value in row.values {
-        assert_eq!(rt; report.value(slot), Some(Value::I32(*value)));
+        assert_eq!(rt; report.value(slot), Some(*value));
         slot = slot.saturating_add(1);
     }
     assert_eq!(rt; report.value(slot), None);
@@ -91,7 +96,7 @@ fn pieces(rt: HostRuntime) -> Result<(), Fail> {
             pieces: &[(b"12", 2, WAIT)],
             ending: Ending::End,
             outcome: done(1, 2, end),
-            values: &[12],
+            values: &[Value::I32(12)],
         },
         Row {
             format: b"%d",
@@ -99,7 +104,7 @@ fn pieces(rt: HostRuntime) -> Result<(), Fail> {
             pieces: &[(b"12", 2, WAIT)],
             ending: Ending::Fault,
             outcome: done(1, 2, Some(Ending::Fault)),
-            values: &[12],
+            values: &[Value::I32(12)],
         },
         Row {
             format: b"%d ",
@@ -107,7 +112,7 @@ fn pieces(rt: HostRuntime) -> Result<(), Fail> {
             pieces: &[(b"5", 1, WAIT), (b"\n", 1, WAIT), (b"x", 0, ENDED)],
             ending: Ending::End,
             outcome: done(1, 2, None),
-            values: &[5],
+            values: &[Value::I32(5)],
         },
         Row {
             format: b"%da",
@@ -115,7 +120,7 @@ fn pieces(rt: HostRuntime) -> Result<(), Fail> {
             pieces: &[(b"12", 2, WAIT), (b"", 0, WAIT), (b"ab", 1, ENDED)],
             ending: Ending::End,
             outcome: done(1, 3, None),
-            values: &[12],
+            values: &[Value::I32(12)],
         },
         Row {
             format: b"%d,%d",
@@ -123,7 +128,7 @@ fn pieces(rt: HostRuntime) -> Result<(), Fail> {
             pieces: &[(b"12,", 3, WAIT), (b"-", 1, WAIT), (b"7\n", 1, ENDED)],
             ending: Ending::End,
             outcome: done(2, 5, None),
-            values: &[12, -7],
+            values: &[Value::I32(12), Value::I32(-7)],
         },
         Row {
             format: b"%d %d",
@@ -131,7 +136,7 @@ fn pieces(rt: HostRuntime) -> Result<(), Fail> {
             pieces: &[(b"1  ", 3, WAIT)],
             ending: Ending::End,
             outcome: failed(Status::InputFailure, 3, 1, 3, end),
-            values: &[1],
+            values: &[Value::I32(1)],
         },
         Row {
             format: b"%d",
@@ -181,7 +186,7 @@ fn limits(rt: HostRuntime) -> Result<(), Fail> {
             pieces: &[(b"123", 3, WAIT), (b" ", 0, ENDED)],
             ending: Ending::End,
             outcome: done(1, 3, None),
-            values: &[123],
+            values: &[Value::I32(123)],
         },
         Row {
             format: b"%d",
@@ -189,7 +194,7 @@ fn limits(rt: HostRuntime) -> Result<(), Fail> {
             pieces: &[(b"123", 3, WAIT)],
             ending: Ending::End,
             outcome: done(1, 3, Some(Ending::End)),
-            values: &[123],
+            values: &[Value::I32(123)],
         },
         Row {
             format: b"%d",

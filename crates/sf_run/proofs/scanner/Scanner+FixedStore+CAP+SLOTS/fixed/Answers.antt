@@ -5,7 +5,7 @@ use Rattle.sf_run.proofs.Slots.{placed_from, apart_from}
 use Rattle.sf_run.proofs.scanner.Scanner+FixedStore+CAP+SLOTS.fixed.Goals as goal
 
 pub start-requires-clause-placed : goal.start-requires-clause-placed
-start-requires-clause-placed g c = 
+start-requires-clause-placed g c =
     let few = c.if-destinations.false in
     let count = c.destinations.ensures.count in
     let same = ap (λ (ds : List Directive). length (destinations_of ds)) c.directives.ensures.value in

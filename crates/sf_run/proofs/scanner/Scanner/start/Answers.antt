@@ -38,5 +38,5 @@ returns-clause-after g c =
     let used : c.settle.new.self.tally.used ≡ 0 = c.settle.ensures.used ∙ c.new.ensures.used in
     after_nothing ds c.args.limit (standing c.settle.new.self) c.settle.ensures.keeps.directives c.settle.ensures.keeps.limit c.requires.proper
     (λ k z within. c.settle.ensures.same c.requires.proper z k (run_of (Some k) ds 1 nothing_yet z) (omega (arith, used)) within
-      (start_does ds ds kept.opened (tally_of c.new.result kept.values) k z refl (ap (λ (k : Kept). k.opened) c.requires.empty) nothing))
+    (start_does ds ds kept.opened (tally_of c.new.result kept.values) k z refl (ap (λ (k : Kept). k.opened) c.requires.empty) nothing))
     c.settle.ensures.settled used c.settle.ensures.keeps.met

@@ -40,7 +40,7 @@ returns-else-self-clause-taken g c =
     let at : slice_get s.directives.now s.passed ≡ Some d = (let w = c.in-Some.ensures.lookup in slice_get_read s.directives.now (length s.directives.now) s.passed d refl w.3.0 w.1) in
     let go : c.take.result ≡ true → AreProper s.directives.now → (z : List ℕ) → Follows (standing c.take.new.self) (standing s) z (c.args.b ∷ z) =
     λ e proper z. takes_follows (standing c.take.new.self) (standing s) d c.args.b c.in-Some-step.phase at c.requires.waits (OnTrue_at e c.take.ensures.taken)
-        (λ q shows. c.in-Some-step.ensures.shows q (proper_at s.directives.now s.passed d proper at) shows) z in
+    (λ q shows. c.in-Some-step.ensures.shows q (proper_at s.directives.now s.passed d proper at) shows) z in
     OnTrue_from c.take.result _ go
 
 pub returns-else-self-clause-memory : goal.returns-else-self-clause-memory
