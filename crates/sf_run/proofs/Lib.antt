@@ -12,3 +12,4 @@ pub mod Slots
 pub mod Openness
 pub mod Waits
 pub mod Refusals
+pub mod Inputs

@@ -1,9 +1,9 @@
 -- Laws of runs.
-use Rattle.std.specs.Prelude.{◌≡◌, ℕ, List}
+use Rattle.std.specs.Prelude.{◌≡◌, ℕ, List, ◌++◌, length}
 use Rattle.sf_format.specs.declared.directive.Directive.{Directive}
 use Rattle.sf_format.specs.Proper.{AreProper}
 use Rattle.sf_run.specs.declared.outcome.Ending.{Ending}
-use Rattle.sf_run.specs.Runs.{RunReport}
+use Rattle.sf_run.specs.Runs.{RunReport, IsOpen, Run}
 use Rattle.sf_run.specs.Limits.{RunWithin}
 
 -- the directives, the input, its ending and the limit have this report and no other
@@ -14,3 +14,15 @@ pub record HasOneReport (ds : List Directive) (m : ℕ) (x : List ℕ) (ending :
 
 abbrev pub EachHasOneReport : Type 0
 EachHasOneReport = (ds : List Directive) → AreProper ds → (m : ℕ) (x : List ℕ) (ending : Ending) → HasOneReport ds m x ending
+
+-- where no byte would be consumed next, the report is that of every longer input, with every ending
+abbrev pub EachClosedInputStays : Type 0
+EachClosedInputStays =
+    (ds : List Directive) → AreProper ds → (m : ℕ) (x z : List ℕ) (first second : Ending) (report : RunReport)
+    → (IsOpen ds x → ⊥) → RunWithin ds m x first report → RunWithin ds m (x ++ z) second report
+
+-- where some byte would be consumed next, the run uses all of the input
+abbrev pub EachOpenInputIsUsed : Type 0
+EachOpenInputIsUsed =
+    (ds : List Directive) → AreProper ds → (x : List ℕ) (ending : Ending) (report : RunReport) → IsOpen ds x → Run ds x ending report
+    → report.used ≡ length x

@@ -1,7 +1,17 @@
 //! Laws of the definitions.
-ghost use Rattle.sf_run.specs.Laws.{EachHasOneReport};
+ghost use Rattle.sf_run.specs.Laws.{EachClosedInputStays, EachHasOneReport, EachOpenInputIsUsed};
 
 /// Directives, an input, its ending and a limit have one report, and no other.
 pub fn one_report()
     ensures { EachHasOneReport }
+{}
+
+/// A run that no byte could go on with has the same report on every longer input.
+pub fn closed_inputs_stay()
+    ensures { EachClosedInputStays }
+{}
+
+/// A run that some byte would go on with has used all of its input.
+pub fn open_inputs_are_used()
+    ensures { EachOpenInputIsUsed }
 {}
