@@ -1,5 +1,5 @@
 -- The slots of a format and those of a store.
-use Rattle.std.proofs.Common.{◌≡◌, ℕ, zero, suc, ◌+◌, ◌<◌, ◌≤◌, Bool, true, false, not, cond, ◌&&◌, ◌||◌, nat_eq, nat_le, List, [], ◌∷◌, ◌++◌, length, map, take, drop, Option, Some, None, is_some, refl, sym, ap, subst, ◌∙◌, arith, true≢false, unwrap_or, append-nil, append_assoc}
+use Rattle.std.proofs.Common.{◌≡◌, ℕ, zero, suc, ◌+◌, ◌<◌, ◌≤◌, Bool, true, false, not, cond, ◌&&◌, ◌||◌, nat_eq, nat_le, List, [], ◌∷◌, ◌++◌, length, map, take, drop, Option, Some, None, is_some, refl, sym, ap, subst, ◌∙◌, arith, true≢false, unwrap_or, append-nil, append_assoc, length-append}
 use Rattle.std.specs.Prelude.{◌≢◌, slice_get, IfSome}
 use Rattle.std.specs.List.{AllByRecursion, list_all, list_any, find, sum_by, flat_map}
 use Rattle.std.specs.Option.{option_map}
@@ -8,7 +8,8 @@ use Rattle.std.proofs.lemmas.Bool.Decides.{nat_tests}
 use Rattle.std.proofs.lemmas.List.{map-append}
 use Rattle.std.proofs.lemmas.List.Sums.{sum_by-cons}
 use Rattle.sf_base.specs.Data.{Datum, Number, Bytes, Assigned, datum_at, datum_of, is_number}
-use Rattle.sf_base.specs.Kept.{assigned, Opened, text_of, text_in, texts_in, values_closed}
+use Rattle.sf_base.specs.Kept.{Kept, assigned, buffer_of, longer, Opened, text_of, text_in, texts_in, values_closed}
+use Rattle.sf_run.specs.Memory.{HoldsTexts}
 use Rattle.sf_base.specs.declared.values.Kind.{Kind}
 use Rattle.sf_base.specs.declared.values.Value.{Value}
 use Rattle.sf_base.specs.declared.values.Value.TheVariants as value
@@ -418,3 +419,41 @@ room_first ds room fits bounded =
     fits_by : (o : Option ℕ) → is_some o ≡ true → IfSome o (λ n. n ≤ room) → unwrap_or o 0 ≤ room
     fits_by None h f = absurd (true≢false (sym h))
     fits_by (Some n) h f = f
+
+-- ---- how much a store holds of a format with a width sum
+
+-- the sum is at least what is held and what may still be stored
+pub size_passed : (ended : Option Stop) (ds : List Directive) (p : ℕ) (d : Directive) (current : Phase) (held sum : ℕ) → slice_get ds p ≡ Some d
+    → held + still_stored ended ds p current ≤ sum → held + still_stored ended ds (p + 1) phase.Skipping ≤ sum
+size_passed ended ds p d current held sum at fits =
+    let rest = room_passed ended ds p d current (still_stored ended ds p current) at (omega arith) in
+    omega (arith, rest, fits)
+
+pub size_closed : (closed text : List ℕ) → length ((closed ++ text) ++ []) ≡ length (closed ++ text)
+size_closed closed text = ap length (append-nil (closed ++ text))
+
+pub size_longer : (closed : List ℕ) (opened : Option Opened) (b : ℕ) → is_some opened ≡ true → length (closed ++ text_of (longer (b ∷ []) opened)) ≡ length (closed ++ text_of opened) + 1
+size_longer closed None b h = absurd (true≢false (sym h))
+size_longer closed (Some o) b h = omega (arith, length-append closed (o.text ++ b ∷ []), length-append o.text (b ∷ []), length-append closed o.text)
+
+pub size_begun : (closed : List ℕ) (opened : Option Opened) → opened ≡ None → length (closed ++ []) ≡ length (closed ++ text_of opened)
+size_begun closed opened e = ap (λ o. length (closed ++ text_of o)) (sym e)
+
+pub size_dropped : (closed : List ℕ) (opened : Option Opened) (still sum : ℕ) → length (closed ++ text_of opened) + still ≤ sum → length (closed ++ []) + 0 ≤ sum
+size_dropped closed opened still sum fits = omega (arith, fits, length-append closed (text_of opened), length-append closed [])
+
+pub size_first : (ds : List Directive) → is_some (width_sum ds) ≡ true → widths_from ds phase.Skipping ≡ unwrap_or (width_sum ds) 0
+size_first ds bounded = widths_are ds (unwrap_or (width_sum ds) 0) (some_back (width_sum ds) bounded)
+
+-- ---- what the scanner tells of it
+
+pub holds : (ds : List Directive) (kept : Kept) (still : ℕ) → kept.closed ≡ texts_in kept.values
+    → (is_some (width_sum ds) ≡ true → length (buffer_of kept) + still ≤ unwrap_or (width_sum ds) 0) → HoldsTexts ds kept
+holds ds kept still joined sized = record {
+  joined = ap (λ l. l ++ text_of kept.opened) joined;
+  few = few_by (width_sum ds) sized;
+}
+  where
+    few_by : (o : Option ℕ) → (is_some o ≡ true → length (buffer_of kept) + still ≤ unwrap_or o 0) → IfSome o (λ n. length (buffer_of kept) ≤ n)
+    few_by None f = tt
+    few_by (Some n) f = let h = f refl in omega (arith, h)

@@ -11,5 +11,6 @@ pub mod Phases
 pub mod Tallies
 pub mod Places
 pub mod Holding
+pub mod Memory
 pub mod Standing
 pub mod Scanner

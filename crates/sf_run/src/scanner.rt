@@ -2,7 +2,7 @@
 ghost use Rattle.std.specs.Prelude.{◌≡◌, ℕ, ◌+◌, ◌<◌, ◌≤◌, ◌∷◌, ◌++◌, [], List, length, take, true, false, slice_get, is_some, IsSome, IsNone, IfNone, IfSome, IfOk, IfErr, IsErr, IsErrOf, IsOkAnd, IsSomeAnd, ◌↔◌, ◌⊎◌, ◌^◌, drop, if◌then◌else◌, Some, None, unwrap_or};
 ghost use Rattle.std.specs.Bool.{OnTrue, OnFalse};
 ghost use Rattle.sf_base.specs.Data.{Assigned, Bytes, datum_of, is_number};
-ghost use Rattle.sf_base.specs.Kept.{longer, nothing_kept, text_of, texts_in};
+ghost use Rattle.sf_base.specs.Kept.{buffer_of, longer, nothing_kept, text_of, texts_in};
 ghost use Rattle.sf_format.specs.declared.directive.Directive.{Directive};
 ghost use Rattle.sf_format.specs.Proper.{AreProper, destinations_of, slots_of};
 ghost use Rattle.sf_format.specs.Widths.{width_sum};
@@ -68,6 +68,7 @@ pub struct Scanner<'f, S: Store> {
     ghost joined: { (S.kept store).closed ≡ texts_in (S.kept store).values },
     ghost limited: { is_some (width_sum directives.now) ≡ true → is_limited phase ≡ true },
     ghost roomy: { is_some (width_sum directives.now) ≡ true → still_stored ended directives.now passed phase ≤ (S.kept store).room },
+    ghost sized: { is_some (width_sum directives.now) ≡ true → length (buffer_of (S.kept store)) + still_stored ended directives.now passed phase ≤ unwrap_or (width_sum directives.now) 0 },
     ghost healthy: { is_some (width_sum directives.now) ≡ true → is_no_memory ended ≡ false },
 }
 
@@ -77,6 +78,7 @@ impl<'f, S: Store> Scanner<'f, S> {
     ghost use Rattle.sf_run.specs.Runs.{RunReport, IsOpen};
     ghost use Rattle.sf_run.specs.Limits.{RunWithin, RunTold};
     ghost use Rattle.sf_run.specs.Standing.{Follows, IsRefused, Keeps, Passes, Stops, Opens, Takes, Refuses, RefusesIn, turns_left, IsSettled, After, Gives, has_ended, used_by, ran_out};
+    ghost use Rattle.sf_run.specs.Memory.{HoldsTexts};
     ghost use Rattle.sf_run.specs.Scanner.{kept_by, standing};
     ghost use Rattle.sf_run.specs.Tallies.{tally_of};
 
@@ -376,6 +378,7 @@ impl<'f, S: Store> Scanner<'f, S> {
         requires roomy { IfSome (width_sum directives.now) (λ n. n ≤ (S.kept store).room) }
         ensures after { After directives.now limit (standing result) [] }
         ensures fresh { used_by (standing result) ≡ 0 }
+        ensures holds { HoldsTexts directives.now (kept_by result) }
     {
         let mut scanner = Scanner {
             directives,
@@ -420,6 +423,7 @@ impl<'f, S: Store> Scanner<'f, S> {
         ensures gives { (ds : List Directive) (m : ℕ) (x z : List ℕ) (ending : Ending) → After ds m (standing self.old) x → result.state ≡ FeedState.Ended
             → Gives ds m (standing self.new) ((x ++ piece.now) ++ z) ending }
         ensures stopped { result.state ≡ FeedState.Wait → ran_out (standing self.new) ≡ false }
+        ensures holds { (ds : List Directive) (m : ℕ) (x : List ℕ) → After ds m (standing self.old) x → HoldsTexts ds (kept_by self.new) }
         ensures bounded { (ds : List Directive) (m : ℕ) (x : List ℕ) → IsSome (width_sum ds) → After ds m (standing self.old) x → ran_out (standing self.new) ≡ false }
         ensures nothing { (ds : List Directive) (m : ℕ) (x : List ℕ) (ending : Ending) → Gives ds m (standing self.old) x ending → result.taken ≡ 0 }
         ensures unchanged { (ds : List Directive) (m : ℕ) (x : List ℕ) (ending : Ending) → Gives ds m (standing self.old) x ending → self.new ≡ self.old }
@@ -437,6 +441,7 @@ impl<'f, S: Store> Scanner<'f, S> {
         ensures no_text { (ds : List Directive) (m : ℕ) (x y : List ℕ) → After ds m (standing self.old) x → IsOpen ds x → length x ≤ m → After ds m (standing self.new) y → ⊥ }
         ensures unchanged { (ds : List Directive) (m : ℕ) (x : List ℕ) (before : Ending) → Gives ds m (standing self.old) x before → self.new ≡ self.old }
         ensures used { used_by (standing self.new) ≡ used_by (standing self.old) }
+        ensures holds { (ds : List Directive) (m : ℕ) (x : List ℕ) → After ds m (standing self.old) x → HoldsTexts ds (kept_by self.new) }
         ensures memory { ran_out (standing self.new) ≡ ran_out (standing self.old) }
     {
         if self.ended.is_none() {
@@ -450,6 +455,7 @@ impl<'f, S: Store> Scanner<'f, S> {
         ensures gives { (ds : List Directive) (m : ℕ) (x : List ℕ) (ending : Ending) → Gives ds m (standing self.now) x ending → IsSomeAnd result (RunTold ds m x ending) }
         ensures after { (ds : List Directive) (m : ℕ) (x : List ℕ) (ending : Ending) → After ds m (standing self.now) x → IfSome result (RunWithin ds m x ending) }
         ensures none { (ds : List Directive) (m : ℕ) (x : List ℕ) → After ds m (standing self.now) x → IsNone result → IsOpen ds x × (length x ≤ m) }
+        ensures values { IfSome result (λ r. r.values ≡ (kept_by self.now).values) }
         ensures memory { IfSome result (λ r. is_memory_status r.status ≡ ran_out (standing self.now)) }
     {
         let stop = self.ended?;
@@ -493,7 +499,8 @@ impl<'f, S: Store> Scanner<'f, S> {
 
 impl<'f> Scanner<'f, HeapStore> {
     ghost use Rattle.sf_run.specs.Standing.{After, used_by};
-    ghost use Rattle.sf_run.specs.Scanner.{standing};
+    ghost use Rattle.sf_run.specs.Memory.{HoldsTexts};
+    ghost use Rattle.sf_run.specs.Scanner.{kept_by, standing};
 
     /// A scanner that was given nothing yet, with a store that grows. The run consumes at most `limit` bytes. Where the
     /// format has a width sum, so much room is made here, and no run ends NoMemory.
@@ -502,6 +509,7 @@ impl<'f> Scanner<'f, HeapStore> {
     pub fn new(alloc: Global, format: &'f ScanFormat, limit: u32) -> Result<Self, StartFault>
         ensures after { IfOk result (λ s. After format.now limit (standing s) []) }
         ensures fresh { IfOk result (λ s. used_by (standing s) ≡ 0) }
+        ensures holds { IfOk result (λ s. HoldsTexts format.now (kept_by s)) }
         ensures limit { IsErrOf result StartFault.BadLimit ↔ (2147483647 < limit) }
         ensures memory { IfErr result (λ fault. (fault ≡ StartFault.BadLimit) ⊎ (fault ≡ StartFault.NoMemory)) }
     {
@@ -518,7 +526,8 @@ impl<'f> Scanner<'f, HeapStore> {
 
 impl<'f, const CAP: usize, const SLOTS: usize> Scanner<'f, FixedStore<CAP, SLOTS>> {
     ghost use Rattle.sf_run.specs.Standing.{After, used_by};
-    ghost use Rattle.sf_run.specs.Scanner.{standing};
+    ghost use Rattle.sf_run.specs.Memory.{HoldsTexts};
+    ghost use Rattle.sf_run.specs.Scanner.{kept_by, standing};
 
     /// A scanner that was given nothing yet, with a store of fixed capacity. The run consumes at most `limit` bytes. It
     /// takes no memory, and no run ends NoMemory.
@@ -528,6 +537,7 @@ impl<'f, const CAP: usize, const SLOTS: usize> Scanner<'f, FixedStore<CAP, SLOTS
     pub fn fixed(format: &'f ScanFormat, limit: u32) -> Result<Self, StartFault>
         ensures after { IfOk result (λ s. After format.now limit (standing s) []) }
         ensures fresh { IfOk result (λ s. used_by (standing s) ≡ 0) }
+        ensures holds { IfOk result (λ s. HoldsTexts format.now (kept_by s)) }
         ensures limit { IsErrOf result StartFault.BadLimit ↔ (2147483647 < limit) }
         ensures unbounded { IsErrOf result StartFault.Unbounded ↔ ((limit ≤ 2147483647) × (width_sum format.now ≡ None)) }
         ensures small { IsErrOf result StartFault.TooSmall ↔ ((limit ≤ 2147483647)

@@ -8,6 +8,8 @@ use Rattle.sf_item.specs.Taking.{left_of}
 use Rattle.sf_run.specs.Holding.{left_before}
 use Rattle.sf_run.specs.Scanner.{kept_by, standing}
 use Rattle.sf_run.proofs.Slots.{slot_of_own, slot_placed, slot_free, opened_none, left_first, open_limited, room_opened, text_own}
+use Rattle.sf_run.specs.Holding.{still_stored}
+use Rattle.sf_run.proofs.Slots.{size_begun}
 use Rattle.sf_run.proofs.scanner.Scanner.open.Goals as goal
 
 pub open_text-requires-clause-at_least_one : goal.open_text-requires-clause-at_least_one
@@ -53,3 +55,13 @@ invariant_of-self-clause-roomy g c bounded =
     let s = c.args.self.now in
     let d = c.args.directive.now in
     rw c.open_text.ensures (room_opened s.directives.now s.passed d s.phase c.args.slot c.start.result c.requires.current c.requires.no_text c.requires.own (left g c) bounded s.ended (kept_by s).room (s.roomy bounded))
+
+pub invariant_of-self-clause-sized : goal.invariant_of-self-clause-sized
+invariant_of-self-clause-sized g c bounded =
+    let s = c.args.self.now in
+    let d = c.args.directive.now in
+    let still = still_stored s.ended s.directives.now s.passed s.phase in
+    let rest = room_opened s.directives.now s.passed d s.phase c.args.slot c.start.result c.requires.current c.requires.no_text c.requires.own (left g c) bounded s.ended still (omega arith) in
+    let same = size_begun (kept_by s).closed (kept_by s).opened (opened_none (kept_by s).opened (s.under_way ∙ c.requires.no_text)) in
+    let was = s.sized bounded in
+    rw c.open_text.ensures (omega (arith, rest, same, was))

@@ -6,6 +6,8 @@ use Rattle.std.proofs.lemmas.Option.{slice_get_within}
 use Rattle.sf_run.specs.Scanner.{kept_by}
 use Rattle.sf_run.proofs.Moves.{place_taken, has_place}
 use Rattle.sf_run.proofs.Slots.{opened_none, slots_none, room_passed}
+use Rattle.sf_base.specs.Kept.{buffer_of}
+use Rattle.sf_run.proofs.Slots.{size_passed}
 use Rattle.sf_run.proofs.scanner.Scanner.pass.Goals as goal
 
 pub invariant_of-self-clause-in_list : goal.invariant_of-self-clause-in_list
@@ -45,3 +47,7 @@ returns g c =
       opened = opened_none (kept_by s).opened (s.under_way ∙ c.requires.no_text);
       tally = c.counted-tally.ensures.tally Passes (kept_by s).values (record { passes = refl; stored = refl });
     }
+
+pub invariant_of-self-clause-sized : goal.invariant_of-self-clause-sized
+invariant_of-self-clause-sized g c bounded =
+    let s = c.args.self.now in size_passed s.ended s.directives.now s.passed c.args.directive.now s.phase (length (buffer_of (kept_by s))) _ c.requires.current (s.sized bounded)

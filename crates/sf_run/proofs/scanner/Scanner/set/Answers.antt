@@ -6,6 +6,8 @@ use Rattle.std.proofs.lemmas.Option.{slice_get_within}
 use Rattle.sf_run.specs.Scanner.{kept_by}
 use Rattle.sf_run.proofs.Moves.{place_taken, has_place}
 use Rattle.sf_run.proofs.Slots.{opened_none, is_destination_of, slots_more, slot_placed, slot_free, joined_number, room_passed}
+use Rattle.sf_base.specs.Kept.{buffer_of}
+use Rattle.sf_run.proofs.Slots.{size_passed}
 use Rattle.sf_run.proofs.scanner.Scanner.set.Goals as goal
 
 pub counted-tally-requires : goal.counted-tally-requires
@@ -74,3 +76,8 @@ returns g c =
       opened = opened_none (kept_by s).opened (s.under_way ∙ c.requires.no_text);
       tally = c.counted-tally.ensures.tally (Stores c.args.slot (datum_of c.args.value)) (kept_by s).values (record { passes = refl; stored = refl });
     })
+
+pub invariant_of-self-clause-sized : goal.invariant_of-self-clause-sized
+invariant_of-self-clause-sized g c bounded =
+    let s = c.args.self.now in
+    rw c.set.ensures (size_passed s.ended s.directives.now s.passed c.args.directive.now s.phase (length (buffer_of (kept_by s))) _ c.requires.current (s.sized bounded))

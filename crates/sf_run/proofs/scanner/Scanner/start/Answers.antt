@@ -1,10 +1,10 @@
-use Rattle.std.proofs.Common.{◌≡◌, ◌∙◌, ℕ, List, [], Some, None, refl, ap, subst, arith}
-use Rattle.sf_base.specs.Kept.{Kept}
+use Rattle.std.proofs.Common.{◌≡◌, ◌∙◌, ℕ, List, [], Some, None, refl, ap, subst, length, arith}
+use Rattle.sf_base.specs.Kept.{Kept, buffer_of}
 use Rattle.sf_run.specs.Residual.{Tally, nothing_yet, run_of}
 use Rattle.sf_run.specs.Texts.{slots_in, opened_slot}
 use Rattle.sf_run.specs.Tallies.{tally_of}
 use Rattle.sf_run.specs.Scanner.{standing}
-use Rattle.sf_run.proofs.Slots.{room_first}
+use Rattle.sf_run.proofs.Slots.{room_first, size_first}
 use Rattle.sf_run.proofs.Waits.{after_nothing, start_does, tally_nothing}
 use Rattle.sf_run.proofs.scanner.Scanner.start.Goals as goal
 
@@ -28,6 +28,12 @@ invariant_of-scanner-clause-joined g c = rw c.requires.empty refl
 
 pub invariant_of-scanner-clause-roomy : goal.invariant_of-scanner-clause-roomy
 invariant_of-scanner-clause-roomy g c bounded = room_first c.args.directives.now _ c.requires.roomy bounded
+
+pub invariant_of-scanner-clause-sized : goal.invariant_of-scanner-clause-sized
+invariant_of-scanner-clause-sized g c bounded =
+    let nothing : length (buffer_of (g.S.Store.kept c.args.store)) ≡ 0 = ap (λ (k : Kept). length (buffer_of k)) c.requires.empty in
+    let all = size_first c.args.directives.now bounded in
+    omega (arith, nothing, all)
 
 pub returns-clause-after : goal.returns-clause-after
 returns-clause-after g c =
