@@ -13,3 +13,4 @@ pub mod Openness
 pub mod Waits
 pub mod Refusals
 pub mod Inputs
+pub mod TwoStores

@@ -1,10 +1,11 @@
 -- Laws of runs.
-use Rattle.std.specs.Prelude.{◌≡◌, ℕ, List, ◌++◌, length}
+use Rattle.std.specs.Prelude.{◌≡◌, ℕ, false, List, ◌++◌, length}
 use Rattle.sf_format.specs.declared.directive.Directive.{Directive}
 use Rattle.sf_format.specs.Proper.{AreProper}
 use Rattle.sf_run.specs.declared.outcome.Ending.{Ending}
 use Rattle.sf_run.specs.Runs.{RunReport, IsOpen, Run}
 use Rattle.sf_run.specs.Limits.{RunWithin}
+use Rattle.sf_run.specs.Standing.{Standing, Gives, report_of, ran_out}
 
 -- the directives, the input, its ending and the limit have this report and no other
 pub record HasOneReport (ds : List Directive) (m : ℕ) (x : List ℕ) (ending : Ending) : Type 0 where
@@ -26,3 +27,9 @@ abbrev pub EachOpenInputIsUsed : Type 0
 EachOpenInputIsUsed =
     (ds : List Directive) → AreProper ds → (x : List ℕ) (ending : Ending) (report : RunReport) → IsOpen ds x → Run ds x ending report
     → report.used ≡ length x
+
+-- two scanners, over whichever stores, that have ended on the same input and refused no storing, report the same
+abbrev pub EachStoreReportsAlike : Type 0
+EachStoreReportsAlike =
+    (ds : List Directive) → AreProper ds → (m : ℕ) (x : List ℕ) (ending : Ending) (one other : Standing)
+    → Gives ds m one x ending → Gives ds m other x ending → ran_out one ≡ false → ran_out other ≡ false → report_of one ≡ report_of other

@@ -1,7 +1,6 @@
 pub mod Steps
 pub mod Runs
 pub mod Limits
-pub mod Laws
 pub mod Machine
 pub mod Residual
 pub mod Views
@@ -14,3 +13,4 @@ pub mod Holding
 pub mod Memory
 pub mod Standing
 pub mod Scanner
+pub mod Laws

@@ -1,5 +1,5 @@
 //! Laws of the definitions.
-ghost use Rattle.sf_run.specs.Laws.{EachClosedInputStays, EachHasOneReport, EachOpenInputIsUsed};
+ghost use Rattle.sf_run.specs.Laws.{EachClosedInputStays, EachHasOneReport, EachOpenInputIsUsed, EachStoreReportsAlike};
 
 /// Directives, an input, its ending and a limit have one report, and no other.
 pub fn one_report()
@@ -14,4 +14,9 @@ pub fn closed_inputs_stay()
 /// A run that some byte would go on with has used all of its input.
 pub fn open_inputs_are_used()
     ensures { EachOpenInputIsUsed }
+{}
+
+/// Scanners over two stores that refused no storing report the same of the same input.
+pub fn stores_report_alike()
+    ensures { EachStoreReportsAlike }
 {}
