@@ -1,3 +1,5 @@
-pub mod Scripts
 pub mod Consuming
 pub mod Ended
+pub mod Endings
+pub mod Reading
+pub mod Scripts

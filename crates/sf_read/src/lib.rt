@@ -6,6 +6,9 @@ mod script_source;
 mod slice_source;
 mod source;
 mod std_source;
+mod stream;
+#[cfg(test)]
+mod stream_tests;
 #[cfg(test)]
 mod tests;
 mod whole;
@@ -15,4 +18,5 @@ pub use script_source::{ReadStep, ScriptSource};
 pub use slice_source::SliceSource;
 pub use source::{Source, SourceFault};
 pub use std_source::StdSource;
+pub use stream::fscan;
 pub use whole::sscan;
