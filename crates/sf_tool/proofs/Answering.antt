@@ -8,11 +8,10 @@ use Rattle.sf_format.specs.declared.fault.FormatWhy.{FormatWhy}
 use Rattle.sf_format.specs.declared.fault.FormatWhy.TheVariants.{NoMemory}
 use Rattle.sf_format.specs.Faults.{Fault, IsRefused, no_memory}
 use Rattle.sf_format.specs.Grammar.{Spells}
-use Rattle.sf_format.specs.Proper.{are_plain}
 use Rattle.sf_tool.specs.declared.command.Verb.{Verb}
 use Rattle.sf_tool.specs.declared.command.Verb.TheVariants.{Scan, Show}
 use Rattle.sf_tool.specs.declared.fault.CommandFault.{CommandFault}
-use Rattle.sf_tool.specs.declared.fault.CommandFault.TheVariants.{Usage, Format, NotYet, TooLong, Read, Record, Write, Memory}
+use Rattle.sf_tool.specs.declared.fault.CommandFault.TheVariants.{Usage, Format, TooLong, Read, Record, Write, Memory}
 use Rattle.sf_tool.specs.Commands.{Answered, IsOfInput, ScansBy, Scans, ShowsBy, Shows, Unread, format_fault, format_fault_by, words_of}
 
 abbrev pub Answer : Type 0
@@ -50,10 +49,6 @@ not_usage : (why : FormatWhy) (fault : FormatFault) → format_fault_by why faul
 not_usage NoMemory fault e = cc
 not_usage _ fault e = cc
 
-not_later : (why : FormatWhy) (fault : FormatFault) → format_fault_by why fault ≡ NotYet → ⊥
-not_later NoMemory fault e = cc
-not_later _ fault e = cc
-
 nothing_read : {R W : Type 0} (why : FormatWhy) (fault : FormatFault) (input : R) (out : W) → Unread (format_fault_by why fault) input input out out
 nothing_read NoMemory fault input out = tt
 nothing_read _ fault input out = (refl, refl)
@@ -73,18 +68,13 @@ module _ {R W : Type 0} {remaining : R → Option (List ℕ)} {contents : W → 
   pub refused_is : (verb : Verb) → words ≡ words_of verb format → (input : R) (out : W) (fault : FormatFault) (answer : Answer)
       → IsErrAnd answer (λ given. given ≡ format_fault fault) → IsRefused One format fault
       → ((at : ℕ) (why : FormatWhy) → Fault One format at why → fault ≡ record { at = at; why = why })
-      → ((ds : List Directive) → Spells One format ds → fault ≡ no_memory)
       → Answered remaining contents words input input out out answer
-  refused_is verb is input out fault answer by refused only spared = rw (err_is answer (format_fault fault) by) (record {
+  refused_is verb is input out fault answer by refused only = rw (err_is answer (format_fault fault) by) (record {
     usage = (λ e. absurd (not_usage fault.why fault (let f : format_fault_by fault.why fault ≡ Usage = cc in f)), λ none. absurd (none (verb, format, is)));
     unread = nothing_read fault.why fault input out;
     refused = λ also other at why too faulty.
         ap (λ (f : FormatFault). Err (format_fault f))
         (only at why (subst (λ (f : List ℕ). Fault One f at why) (sym (same_format words verb format also other is too)) faulty));
-    only_not_yet = λ e. absurd (not_later fault.why fault (let f : format_fault_by fault.why fault ≡ NotYet = cc in f));
-    not_yet = λ n.
-        let memory : fault ≡ no_memory = spared n.1 (subst (λ (f : List ℕ). Spells One f n.1) (sym (same_format words verb format Scan n.0 is n.2)) n.3) in
-        (inr (ap (λ (f : FormatFault). Err (format_fault f)) memory), refl, refl);
     scans = λ other text too known.
         subst (λ (f : List ℕ). ScansBy f text (contents out) (contents out) (Err (format_fault fault))) (same_format words verb format Scan other is too)
         (refused_scans format text (contents out) fault fault.why refl refused);
@@ -95,33 +85,34 @@ module _ {R W : Type 0} {remaining : R → Option (List ℕ)} {contents : W → 
     );
   })
 
-  -- the records are scanned by the format's directives, or those aren't run yet
+  -- the records are scanned by the format's directives
   pub scanned_is : words ≡ words_of Scan format → (ds : List Directive) (input input' : R) (out out' : W) (answer : Answer) → Spells One format ds
-      → ((at : ℕ) (why : FormatWhy) → Fault One format at why → ⊥) → ((es : List Directive) → Spells One format es → ds ≡ es)
-      → IfErr answer IsOfInput → ((answer ≡ Err NotYet) ↔ (are_plain ds ≡ false))
-      → IfErr answer (λ fault. Unread fault input input' out out')
+      → ((at : ℕ) (why : FormatWhy) → Fault One format at why → ⊥) → IfErr answer IsOfInput
       → ((text : List ℕ) → remaining input ≡ Some text → Scans ds text (contents out) (contents out') answer)
       → Answered remaining contents words input input' out out' answer
-  scanned_is is ds input input' out out' answer spelled faultless only kind later unread scans = record {
+  scanned_is is ds input input' out out' answer spelled faultless kind scans = record {
     usage = (λ e. absurd (let no : IfErr {T = Unit {0}} (Err Usage) IsOfInput = subst (λ (a : Answer). IfErr a IsOfInput) e kind in no), λ none. absurd (none (Scan, format, is)));
-    unread = unread;
+    unread = unread_by answer kind;
     refused = λ also other at why too faulty. absurd (faultless at why (subst (λ (f : List ℕ). Fault One f at why) (sym (same_format words Scan format also other is too)) faulty));
-    only_not_yet = λ e. (format, ds, is, spelled, later.0 e);
-    not_yet = λ n.
-        let same : ds ≡ n.1 = only n.1 (subst (λ (f : List ℕ). Spells One f n.1) (sym (same_format words Scan format Scan n.0 is n.2)) n.3) in
-        let e : answer ≡ Err NotYet = later.1 (ap are_plain same ∙ n.4) in
-        let u : Unread NotYet input input' out out' = subst (λ (a : Answer). IfErr a (λ fault. Unread fault input input' out out')) e unread in
-        (inl e, u.0, u.1);
     scans = λ other text too known.
         subst (λ (f : List ℕ). ScansBy f text (contents out) (contents out') answer) (same_format words Scan format Scan other is too) (scans_by answer kind text (scans text known));
     shows = λ other too. no_scan_shows words format other is too;
   }
     where
+      unread_by : (a : Answer) → IfErr a IsOfInput → IfErr a (λ fault. Unread fault input input' out out')
+      unread_by (Ok nothing) of_input = tt
+      unread_by (Err Usage) of_input = absurd of_input
+      unread_by (Err (Format fault)) of_input = absurd of_input
+      unread_by (Err TooLong) of_input = tt
+      unread_by (Err Read) of_input = tt
+      unread_by (Err (Record fault)) of_input = tt
+      unread_by (Err Write) of_input = tt
+      unread_by (Err Memory) of_input = tt
+
       scans_by : (a : Answer) → IfErr a IsOfInput → (text : List ℕ) → Scans ds text (contents out) (contents out') a → ScansBy format text (contents out) (contents out') a
       scans_by (Ok nothing) of_input text scanned = (ds, spelled, scanned)
       scans_by (Err Usage) of_input text scanned = absurd of_input
       scans_by (Err (Format fault)) of_input text scanned = absurd of_input
-      scans_by (Err NotYet) of_input text scanned = (ds, spelled, scanned)
       scans_by (Err TooLong) of_input text scanned = (ds, spelled, scanned)
       scans_by (Err Read) of_input text scanned = (ds, spelled, scanned)
       scans_by (Err (Record fault)) of_input text scanned = (ds, spelled, scanned)
@@ -136,8 +127,6 @@ module _ {R W : Type 0} {remaining : R → Option (List ℕ)} {contents : W → 
     usage = (λ e. absurd (let no : Shows ds (contents out) (contents out') (Err Usage) = subst (λ (a : Answer). Shows ds (contents out) (contents out') a) e shows in no), λ none. absurd (none (Show, format, is)));
     unread = unread answer shows;
     refused = λ also other at why too faulty. absurd (faultless at why (subst (λ (f : List ℕ). Fault One f at why) (sym (same_format words Show format also other is too)) faulty));
-    only_not_yet = λ e. absurd (let no : Shows ds (contents out) (contents out') (Err NotYet) = subst (λ (a : Answer). Shows ds (contents out) (contents out') a) e shows in no);
-    not_yet = λ n. no_scan_shows words n.0 format n.2 is;
     scans = λ other text too known. no_scan_shows words other format too is;
     shows = λ other too. (refl, subst (λ (f : List ℕ). ShowsBy f (contents out) (contents out') answer) (same_format words Show format Show other is too) (shows_by answer shows));
   }
@@ -148,7 +137,6 @@ module _ {R W : Type 0} {remaining : R → Option (List ℕ)} {contents : W → 
       unread (Err Memory) shown = tt
       unread (Err Usage) shown = absurd shown
       unread (Err (Format fault)) shown = absurd shown
-      unread (Err NotYet) shown = absurd shown
       unread (Err TooLong) shown = absurd shown
       unread (Err Read) shown = absurd shown
       unread (Err (Record fault)) shown = absurd shown
@@ -159,7 +147,6 @@ module _ {R W : Type 0} {remaining : R → Option (List ℕ)} {contents : W → 
       shows_by (Err Memory) shown = shown
       shows_by (Err Usage) shown = absurd shown
       shows_by (Err (Format fault)) shown = absurd shown
-      shows_by (Err NotYet) shown = absurd shown
       shows_by (Err TooLong) shown = absurd shown
       shows_by (Err Read) shown = absurd shown
       shows_by (Err (Record fault)) shown = absurd shown

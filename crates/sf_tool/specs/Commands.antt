@@ -1,11 +1,10 @@
 -- What the command answers, and what it writes.
-use Rattle.std.specs.Prelude.{◌≡◌, ◌<◌, ◌≤◌, ◌↔◌, ℕ, ◌⊎◌, false, List, [], ◌∷◌, length, Option, Some, None, Result, Ok, Err, IfErr, codes}
+use Rattle.std.specs.Prelude.{◌≡◌, ◌<◌, ◌≤◌, ◌↔◌, ℕ, List, [], ◌∷◌, length, Option, Some, None, Result, Ok, Err, IfErr, codes}
 use Rattle.std.specs.Io.KnownBytes.{Appends}
 use Rattle.sf_format.specs.declared.directive.Directive.{Directive}
 use Rattle.sf_format.specs.declared.directive.Profile.TheVariants.{One}
 use Rattle.sf_format.specs.Faults.{Fault}
 use Rattle.sf_format.specs.Grammar.{Spells}
-use Rattle.sf_format.specs.Proper.{are_plain}
 use Rattle.sf_format.specs.Widths.{width_sum}
 use Rattle.sf_format.specs.declared.fault.FormatFault.{FormatFault}
 use Rattle.sf_format.specs.declared.fault.FormatWhy.{FormatWhy}
@@ -13,7 +12,7 @@ use Rattle.sf_format.specs.declared.fault.FormatWhy.TheVariants.{NoMemory}
 use Rattle.sf_tool.specs.declared.command.Verb.{Verb}
 use Rattle.sf_tool.specs.declared.command.Verb.TheVariants.{Scan, Show}
 use Rattle.sf_tool.specs.declared.fault.CommandFault.{CommandFault}
-use Rattle.sf_tool.specs.declared.fault.CommandFault.TheVariants.{Usage, Format, NotYet, TooLong, Read, Record, Write, Memory}
+use Rattle.sf_tool.specs.declared.fault.CommandFault.TheVariants.{Usage, Format, TooLong, Read, Record, Write, Memory}
 use Rattle.sf_tool.specs.declared.input.InputFault.{InputFault}
 use Rattle.sf_tool.specs.declared.input.InputFault.TheVariants as input
 use Rattle.sf_tool.specs.declared.scan.ToolFault.{ToolFault}
@@ -32,11 +31,6 @@ words_of verb format = verb_text verb ∷ format ∷ []
 
 abbrev pub IsCommand : List (List ℕ) → Type 0
 IsCommand words = (verb : Verb) × (format : List ℕ) × (words ≡ words_of verb format)
-
--- the words of a scan by a format with a directive that isn't run yet
-abbrev pub IsNotYet : List (List ℕ) → Type 0
-IsNotYet words =
-    (format : List ℕ) × (ds : List Directive) × (words ≡ words_of Scan format) × Spells One format ds × (are_plain ds ≡ false)
 
 -- ---- faults
 
@@ -60,11 +54,10 @@ IsOfInput Usage = ⊥
 IsOfInput (Format fault) = ⊥
 IsOfInput _ = Unit {0}
 
--- where the words or the format are at fault, or the format isn't run yet, nothing was read or written
+-- where the words or the format are at fault, nothing was read or written
 abbrev pub Unread : {R W : Type 0} → CommandFault → R → R → W → W → Type 0
 Unread Usage input input' out out' = (input' ≡ input) × (out' ≡ out)
 Unread (Format fault) input input' out out' = (input' ≡ input) × (out' ≡ out)
-Unread NotYet input input' out out' = (input' ≡ input) × (out' ≡ out)
 Unread _ input input' out out' = Unit {0}
 
 -- ---- scans of a text
@@ -79,7 +72,6 @@ Writes ds text before after status fault =
 abbrev pub StopsAt : List Directive → List ℕ → Option (List ℕ) → Option (List ℕ) → CommandFault → Type 0
 StopsAt ds text before after Usage = ⊥
 StopsAt ds text before after (Format fault) = ⊥
-StopsAt ds text before after NotYet = are_plain ds ≡ false
 StopsAt ds text before after TooLong = (1048576 < length text) × (after ≡ before)
 StopsAt ds text before after Read = after ≡ before
 StopsAt ds text before after (Record fault) = Writes ds text before after 1 (Some fault)
@@ -115,15 +107,13 @@ ShowsBy format before after answer = (ds : List Directive) × Spells One format 
 -- ---- commands
 
 -- What the command of the words answers. `remaining` and `contents` tell the bytes that are left to read, and
--- those that were written. A scan by a format that isn't run yet is answered so, or memory was refused before.
+-- those that were written.
 pub record Answered {R W : Type 0} (remaining : R → Option (List ℕ)) (contents : W → Option (List ℕ)) (words : List (List ℕ))
     (input input' : R) (out out' : W) (answer : Result (Unit {0}) CommandFault) : Type 0 where
   pub usage : (answer ≡ Err Usage) ↔ (IsCommand words → ⊥)
   pub unread : IfErr answer (λ fault. Unread fault input input' out out')
   pub refused : (verb : Verb) (format : List ℕ) (at : ℕ) (why : FormatWhy) → words ≡ words_of verb format → Fault One format at why
       → answer ≡ Err (format_fault (record { at = at; why = why }))
-  pub only_not_yet : answer ≡ Err NotYet → IsNotYet words
-  pub not_yet : IsNotYet words → ((answer ≡ Err NotYet) ⊎ (answer ≡ Err Memory)) × (input' ≡ input) × (out' ≡ out)
   pub scans : (format text : List ℕ) → words ≡ words_of Scan format → remaining input ≡ Some text
       → ScansBy format text (contents out) (contents out') answer
   pub shows : (format : List ℕ) → words ≡ words_of Show format

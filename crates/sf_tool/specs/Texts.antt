@@ -8,7 +8,7 @@ use Rattle.sf_run.specs.declared.outcome.Status.TheVariants as run
 use Rattle.sf_tool.specs.declared.scan.ToolFault.{ToolFault}
 use Rattle.sf_tool.specs.declared.scan.ToolFault.TheVariants.{Failed, Stalled}
 use Rattle.sf_tool.specs.declared.fault.CommandFault.{CommandFault}
-use Rattle.sf_tool.specs.declared.fault.CommandFault.TheVariants.{Usage, Format, NotYet, TooLong, Read, Record, Write, Memory}
+use Rattle.sf_tool.specs.declared.fault.CommandFault.TheVariants.{Usage, Format, TooLong, Read, Record, Write, Memory}
 
 abbrev pub why_text : FormatWhy → List ℕ
 why_text format.Truncated = codes "F1 Truncated"
@@ -50,7 +50,6 @@ tool_fault_text (Stalled number) = codes "record " ++ (decimal number ++ codes "
 abbrev pub command_fault_text : CommandFault → List ℕ
 command_fault_text Usage = codes "sf: usage"
 command_fault_text (Format fault) = codes "sf: scan format: " ++ (why_text fault.why ++ (codes " at " ++ decimal fault.at))
-command_fault_text NotYet = codes "sf: scan format: not yet supported"
 command_fault_text TooLong = codes "sf: input too long"
 command_fault_text Read = codes "sf: record 1: read fault"
 command_fault_text (Record fault) = codes "sf: " ++ tool_fault_text fault
@@ -61,7 +60,6 @@ command_fault_text Memory = codes "sf: out of memory"
 abbrev pub status_of : CommandFault → ℕ
 status_of Usage = 2
 status_of (Format fault) = 2
-status_of NotYet = 2
 status_of TooLong = 3
 status_of Read = 3
 status_of (Record fault) = 1

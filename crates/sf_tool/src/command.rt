@@ -1,18 +1,15 @@
 //! The command: its words, its input and what it writes.
-ghost use Rattle.std.specs.Prelude.{◌≡◌, ◌↔◌, ℕ, List, map, string_bytes, true, false, IfOk, IfErr, IfSome, IfNone, OnOk, IsErrOf};
+ghost use Rattle.std.specs.Prelude.{◌≡◌, ℕ, List, map, string_bytes, IfErr, IfSome, IfNone, OnOk};
 ghost use Rattle.std.specs.Io.KnownBytes.{Appends};
-ghost use Rattle.sf_format.specs.Proper.{are_plain};
 ghost use Rattle.sf_tool.specs.declared.command.Verb.{Verb};
-ghost use Rattle.sf_tool.specs.Commands.{Answered, Exits, IsCommand, IsOfInput, Scans, Shows, Unread, verb_text, words_of};
+ghost use Rattle.sf_tool.specs.Commands.{Answered, Exits, IsCommand, IsOfInput, Scans, Shows, verb_text, words_of};
 
 use crate::fault::CommandFault;
 use crate::input::read_input;
-use crate::scan::{MOST_RECORD_BYTES, scan_text};
+use crate::scan::scan_text;
 use crate::show::show;
 use sf_format::{Profile, ScanFormat};
-use sf_read::sscan;
-use sf_run::StartFault;
-use std::alloc::{AllocError, Global};
+use std::alloc::Global;
 use std::io::{Read, Write};
 
 /// What is done with a format.
@@ -34,20 +31,8 @@ fn write_out<W: Write>(out: &mut W, bytes: &[u8]) -> Result<(), CommandFault>
     Ok(())
 }
 
-/// Whether the scanner runs each directive of the format.
-pub(crate) fn is_run(alloc: Global, format: &ScanFormat) -> Result<bool, AllocError>
-    ensures answer { IfOk result (λ run. run ≡ are_plain format.now) }
-    ensures memory { IfErr result (λ _. are_plain format.now ≡ true) }
-{
-    match sscan(alloc, b"", format, MOST_RECORD_BYTES) {
-        Ok(_) => Ok(true),
-        Err(StartFault::NotYet) => Ok(false),
-        Err(_) => Err(AllocError),
-    }
-}
-
-/// Scans the records of an input by a format, and writes their lines, flushed. It reads nothing if the format has a
-/// directive that the scanner doesn't run yet.
+/// Scans the records of an input by a format, and writes their lines, flushed. Where memory is refused, also for a text of
+/// a record, nothing is written.
 pub fn scan_input<R: Read, W: Write>(
     alloc: Global,
     format: &ScanFormat,
@@ -55,14 +40,9 @@ pub fn scan_input<R: Read, W: Write>(
     out: &mut W,
 ) -> Result<(), CommandFault>
     ensures kind { IfErr result IsOfInput }
-    ensures not_yet { IsErrOf result CommandFault.NotYet ↔ (are_plain format.now ≡ false) }
-    ensures unread { IfErr result (λ fault. Unread fault input.old input.new out.old out.new) }
     ensures answer { (text : List ℕ) → R.remaining input.old ≡ Some text
         → Scans format.now text (W.contents out.old) (W.contents out.new) result }
 {
-    if !is_run(alloc, format)? {
-        return Err(CommandFault::NotYet);
-    }
     let bytes = read_input(alloc, input)?;
     let end = scan_text(alloc, &bytes, format)?;
     write_out(out, &end.output)?;

@@ -78,8 +78,6 @@ pub enum CommandFault {
     Usage,
     /// The format is refused.
     Format(FormatFault),
-    /// The format has directives that the scanner doesn't run yet.
-    NotYet,
     /// The input is too long.
     TooLong,
     /// The input could not be read.
@@ -130,7 +128,7 @@ impl CommandFault {
     {
         match self {
             CommandFault::Record(_) => 1,
-            CommandFault::Usage | CommandFault::Format(_) | CommandFault::NotYet => 2,
+            CommandFault::Usage | CommandFault::Format(_) => 2,
             CommandFault::TooLong | CommandFault::Read | CommandFault::Write => 3,
             CommandFault::Memory => 4,
         }
@@ -149,7 +147,6 @@ impl fmt::Display for CommandFault {
                 let at = fault.at;
                 write!(f, "sf: scan format: {why} at {at}")
             }
-            CommandFault::NotYet => write!(f, "sf: scan format: not yet supported"),
             CommandFault::TooLong => write!(f, "sf: input too long"),
             CommandFault::Read => write!(f, "sf: record 1: read fault"),
             CommandFault::Record(fault) => write!(f, "sf: {fault}"),

@@ -6,6 +6,7 @@ mod fault;
 mod input;
 pub mod laws;
 mod line;
+mod quote;
 mod scan;
 mod show;
 #[cfg(test)]

@@ -3,20 +3,34 @@ ghost use Rattle.std.specs.Prelude.{◌≡◌, ◌++◌, OnOk};
 ghost use Rattle.sf_base.specs.Data.{datum_of};
 ghost use Rattle.sf_tool.specs.Lines.{line_of, text_at, text_of};
 
-use sf_base::Value;
+use crate::quote::push_quoted;
+use sf_base::{Store, Value};
 use sf_run::Report;
 use std::alloc::AllocError;
 use std::io::Write;
 
-fn push_value(output: &mut Vec<u8>, value: Value) -> Result<(), AllocError>
-    ensures { OnOk result (output.new.items ≡ output.old.items ++ text_of (datum_of value)) }
+fn push_value(output: &mut Vec<u8>, value: Value<'_>) -> Result<(), AllocError>
+    ensures { OnOk result (output.new.items ≡ output.old.items ++ text_of (datum_of value.entry)) }
 {
-    match value {
-        Value::I32(number) => write!(output, "{number}").map_err(|_| AllocError),
-    }
+    let written = match value {
+        Value::I8(number) => write!(output, "{number}"),
+        Value::I16(number) => write!(output, "{number}"),
+        Value::I32(number) => write!(output, "{number}"),
+        Value::I64(number) => write!(output, "{number}"),
+        Value::U8(number) => write!(output, "{number}"),
+        Value::U16(number) => write!(output, "{number}"),
+        Value::U32(number) => write!(output, "{number}"),
+        Value::U64(number) => write!(output, "{number}"),
+        Value::Text(text) => return push_quoted(output, text),
+    };
+    written.map_err(|_| AllocError)
 }
 
-fn push_slot(output: &mut Vec<u8>, report: &Report<'_>, slot: u8) -> Result<(), AllocError>
+fn push_slot<S: Store>(
+    output: &mut Vec<u8>,
+    report: &Report<'_, S>,
+    slot: u8,
+) -> Result<(), AllocError>
     ensures { OnOk result (output.new.items ≡ output.old.items ++ text_at report.now slot) }
 {
     match report.value(slot) {
@@ -26,9 +40,9 @@ fn push_slot(output: &mut Vec<u8>, report: &Report<'_>, slot: u8) -> Result<(), 
 }
 
 /// Appends the line of a record of a format that has so many destinations.
-pub(crate) fn push_line(
+pub(crate) fn push_line<S: Store>(
     output: &mut Vec<u8>,
-    report: &Report<'_>,
+    report: &Report<'_, S>,
     destinations: u8,
 ) -> Result<(), AllocError>
     ensures { OnOk result (output.new.items ≡ output.old.items ++ line_of destinations report.now) }

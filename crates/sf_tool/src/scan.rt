@@ -1,17 +1,19 @@
 //! Records of a whole text.
-ghost use Rattle.std.specs.Prelude.{◌≡◌, ◌≤◌, ◌↔◌, length, true, IfOk, IsNone};
-ghost use Rattle.sf_format.specs.Proper.{are_plain};
+ghost use Rattle.std.specs.Prelude.{◌≡◌, ◌≤◌, ◌↔◌, length, IfOk, IsNone};
+ghost use Rattle.sf_run.specs.declared.outcome.Ending.{Ending};
+ghost use Rattle.sf_run.specs.Limits.{RunWithin};
 ghost use Rattle.sf_tool.specs.Records.{EndsWith};
 
 use crate::line::push_line;
 use crate::turn::{Turn, turn_after};
+use sf_base::HeapStore;
 use sf_format::ScanFormat;
 use sf_read::sscan;
-use sf_run::Outcome;
+use sf_run::{Outcome, Scanned, Status};
 use std::alloc::{AllocError, Global};
 
 /// The most bytes that one record may have.
-pub(crate) const MOST_RECORD_BYTES: u32 = 1048576;
+const MOST_RECORD_BYTES: u32 = 1048576;
 
 /// Why the records of an input stopped before its end.
 #[derive(Clone, Copy, Debug, PartialEq, Eq)]
@@ -30,11 +32,27 @@ pub struct TextEnd {
     pub fault: Option<ToolFault>,
 }
 
-/// Scans record after record of a text, up to its end or the first that fails or has no byte. The scanner runs the
-/// format.
+/// The first record of a text. Err where memory was refused, also for a text of the record.
+fn scan_record(
+    alloc: Global,
+    text: &[u8],
+    format: &ScanFormat,
+) -> Result<Scanned<HeapStore>, AllocError>
+    ensures { IfOk result (RunWithin format.now 1048576 text.now Ending.End) }
+{
+    let Ok(scanned) = sscan(alloc, text, format, MOST_RECORD_BYTES) else {
+        return Err(AllocError);
+    };
+    if scanned.report().outcome().status == Status::NoMemory {
+        return Err(AllocError);
+    }
+    Ok(scanned)
+}
+
+/// Scans record after record of a text, up to its end or the first that fails or has no byte. Err where memory was
+/// refused: then no record counts.
 pub fn scan_text(alloc: Global, text: &[u8], format: &ScanFormat) -> Result<TextEnd, AllocError>
     requires few { length text.now ≤ 1048576 }
-    requires plain { are_plain format.now ≡ true }
     ensures records { IfOk result (λ end.
         EndsWith format.now text.now end.output.items end.status end.fault) }
     ensures clean { IfOk result (λ end. IsNone end.fault ↔ (end.status ≡ 0)) }
@@ -44,9 +62,7 @@ pub fn scan_text(alloc: Global, text: &[u8], format: &ScanFormat) -> Result<Text
     let mut rest = text;
     let mut number: u32 = 1;
     'records: loop {
-        let Ok(scanned) = sscan(alloc, rest, format, MOST_RECORD_BYTES) else {
-            return Err(AllocError);
-        };
+        let scanned = scan_record(alloc, rest, format)?;
         let report = scanned.report();
         let outcome = report.outcome();
         let fault = match turn_after(outcome) {

@@ -1,30 +1,13 @@
 //! The lines that show a scan format.
-ghost use Rattle.std.specs.Prelude.{◌≡◌, ◌++◌, ◌<◌, ◌≤◌, OnOk, IfOk, length};
+ghost use Rattle.std.specs.Prelude.{◌≡◌, ◌++◌, ◌≤◌, OnOk, IfOk, length};
 ghost use Rattle.std.specs.Fmt.{decimal};
-ghost use Rattle.sf_tool.specs.Show.{hex_digit, escaped, quoted, kind_text, letter_text, optional_text, members_text, head_text, field_text, conversion_text, directive_text, line_text, directive_lines, summary_text, show_text};
+ghost use Rattle.sf_tool.specs.Show.{kind_text, letter_text, optional_text, members_text, head_text, field_text, conversion_text, directive_text, line_text, directive_lines, summary_text, show_text};
 
+use crate::quote::push_quoted;
 use sf_base::Kind;
 use sf_format::{Base, Conversion, Directive, ScanFormat, Shape};
 use std::alloc::{AllocError, Global};
 use std::io::Write;
-
-fn hex_digit(n: u8) -> u8
-    requires { n < 16 }
-    ensures { result ≡ hex_digit n }
-{
-    if n < 10 { b'0' + n } else { b'a' + (n - 10) }
-}
-
-fn push_escaped(output: &mut Vec<u8>, b: u8) -> Result<(), AllocError>
-    ensures { OnOk result (output.new.items ≡ output.old.items ++ escaped b) }
-{
-    match b {
-        b'\\' => output.extend_from_slice(b"\\\\"),
-        b'"' => output.extend_from_slice(b"\\\""),
-        32..=126 => output.extend_from_slice(&[b]),
-        _ => output.extend_from_slice(&[b'\\', b'x', hex_digit(b / 16), hex_digit(b % 16)]),
-    }
-}
 
 fn kind_text(kind: Kind) -> &'static str
     ensures { result.now ≡ kind_text kind }
@@ -121,9 +104,8 @@ fn push_directive(output: &mut Vec<u8>, directive: &Directive) -> Result<(), All
     match directive {
         Directive::Space => push_text(output, "space"),
         Directive::Byte(b) => {
-            push_text(output, "byte \"")?;
-            push_escaped(output, *b)?;
-            push_text(output, "\"")
+            push_text(output, "byte ")?;
+            push_quoted(output, &[*b])
         }
         Directive::Percent => push_text(output, "percent"),
         Directive::Conv(conversion) => push_conversion(output, conversion),

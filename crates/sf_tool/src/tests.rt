@@ -1,6 +1,5 @@
 //! Rows of the command, and readers and writers that fail.
 use super::*;
-use crate::command::is_run;
 use sf_format::{FormatFault, FormatWhy, Profile, ScanFormat};
 use sf_run::{Ending, Outcome, Status};
 use std::alloc::Global;
@@ -13,7 +12,7 @@ use std::test::Fail;
 #[derive(Drop)]
 struct Row {
     format: &'static str,
-    text: &'static str,
+    text: &'static [u8],
     output: &'static str,
     line: &'static str,
     status: u8,
@@ -30,7 +29,7 @@ fn words(alloc: Global, verb: &str, format: &str) -> Result<Vec<String>, Fail> {
 fn run(rt: &(impl Abort + AllocGlobal), verb: &str, row: &Row) -> Result<usize, Fail> {
     let alloc = rt.alloc();
     let words = words(alloc, verb, row.format)?;
-    let mut input = row.text.as_bytes();
+    let mut input = row.text;
     let mut out = Vec::<u8>::new(alloc);
     let mut err = Vec::<u8>::new(alloc);
     let status = tool(alloc, &words, &mut input, &mut out, &mut err);
@@ -42,6 +41,13 @@ fn run(rt: &(impl Abort + AllocGlobal), verb: &str, row: &Row) -> Result<usize, 
     );
     assert_eq!(rt; status, row.status, "status of {name}");
     Ok(input.len())
+}
+
+fn scan_rows(rt: &(impl Abort + AllocGlobal), rows: &[Row]) -> Result<(), Fail> {
+    for row in rows {
+        run(rt, "scan", row)?;
+    }
+    Ok(())
 }
 
 /// Shows the formats of the rows, and leaves the input.
@@ -57,86 +63,83 @@ fn rows(rt: HostRuntime) -> Result<(), Fail> {
     let rows = [
         Row {
             format: "%d,%d",
-            text: "12,-7\n3,4\n",
+            text: b"12,-7\n3,4\n",
             output: "12 -7\n3 4\n",
             line: "",
             status: 0,
         },
         Row {
             format: "%d,%d",
-            text: "1,2\n3;4\n",
+            text: b"1,2\n3;4\n",
             output: "1 2\n",
             line: "sf: record 2: matching failure at 2, used 2, assigned 1\n",
             status: 1,
         },
         Row {
             format: "",
-            text: "abc",
+            text: b"abc",
             output: "",
             line: "sf: record 1: stalled\n",
             status: 1,
         },
         Row {
             format: " ",
-            text: "\t",
+            text: b"\t",
             output: "\n",
             line: "sf: record 2: stalled\n",
             status: 1,
         },
         Row {
             format: "%d",
-            text: "",
+            text: b"",
             output: "",
             line: "",
             status: 0,
         },
         Row {
             format: "%d",
-            text: "  ",
+            text: b"  ",
             output: "",
             line: "",
             status: 0,
         },
         Row {
             format: "%d %d",
-            text: "",
+            text: b"",
             output: "",
             line: "",
             status: 0,
         },
         Row {
             format: "%d %d",
-            text: "1  ",
+            text: b"1  ",
             output: "",
             line: "sf: record 1: input failure at 3, used 3, assigned 1\n",
             status: 1,
         },
         Row {
             format: "%d",
-            text: "2147483648",
+            text: b"2147483648",
             output: "",
             line: "sf: record 1: out of range at 1, used 10, assigned 0\n",
             status: 1,
         },
         Row {
             format: "%q",
-            text: "1",
+            text: b"1",
             output: "",
             line: "sf: scan format: F4 UnknownLetter at 1\n",
             status: 2,
         },
         Row {
             format: "%",
-            text: "1",
+            text: b"1",
             output: "",
             line: "sf: scan format: F1 Truncated at 1\n",
             status: 2,
         },
     ];
-    for row in &rows {
-        run(&rt, "scan", row)?;
-    }
-    Ok(())
+    scan_rows(&rt, &rows)
 }
 
 #[test]
@@ -144,28 +147,28 @@ fn shown_formats(rt: HostRuntime) -> Result<(), Fail> {
     let rows = [
         Row {
             format: "a %d",
-            text: "a 1",
+            text: b"a 1",
             output: "1 byte \"a\"\n2 space\n3 d i32 width - slot 1\ndestinations 1, width sum 0\n",
             line: "",
             status: 0,
         },
         Row {
             format: "\x01\"\\\x7f",
-            text: "a",
+            text: b"a",
             output: "1 byte \"\\x01\"\n2 byte \"\\\"\"\n3 byte \"\\\\\"\n4 byte \"\\x7f\"\ndestinations 0, width sum 0\n",
             line: "",
             status: 0,
         },
         Row {
             format: "",
-            text: "a",
+            text: b"a",
             output: "destinations 0, width sum 0\n",
             line: "",
             status: 0,
         },
         Row {
             format: "%d%q",
-            text: "1",
+            text: b"1",
             output: "",
             line: "sf: scan format: F4 UnknownLetter at 3\n",
             status: 2,
@@ -179,28 +182,28 @@ fn shown_conversions(rt: HostRuntime) -> Result<(), Fail> {
     let rows = [
         Row {
             format: "%3d,%*s",
-            text: "1,a",
+            text: b"1,a",
             output: "1 d i32 width 3 slot 1\n2 byte \",\"\n3 s text width - slot -\ndestinations 1, width sum 0\n",
             line: "",
             status: 0,
         },
         Row {
             format: "%5[0-9]%hhu%%%ln",
-            text: "1",
+            text: b"1",
             output: "1 [ text width 5 slot 1 members 10\n2 u u8 width - slot 2\n3 percent\n4 n i64 width - slot 3\ndestinations 3, width sum 5\n",
             line: "",
             status: 0,
         },
         Row {
             format: "%s",
-            text: "a",
+            text: b"a",
             output: "1 s text width - slot 1\ndestinations 1, width sum -\n",
             line: "",
             status: 0,
         },
         Row {
             format: "%[z-a]",
-            text: "a",
+            text: b"a",
             output: "",
             line: "sf: scan format: F8 BackwardRange at 2\n",
             status: 2,
@@ -210,18 +213,87 @@ fn shown_conversions(rt: HostRuntime) -> Result<(), Fail> {
 }
 
 #[test]
-fn not_yet(rt: HostRuntime) -> Result<(), Fail> {
-    for format in ["%s", "%d %hhd", "%n", "%*[a]"] {
-        let row = Row {
-            format,
-            text: "1 2",
+fn texts(rt: HostRuntime) -> Result<(), Fail> {
+    let rows = [
+        Row {
+            format: "%3c",
+            text: b"abcdef\n",
+            output: "\"abc\"\n\"def\"\n",
+            line: "sf: record 3: matching failure at 1, used 1, assigned 0\n",
+            status: 1,
+        },
+        Row {
+            format: "%s",
+            text: b"a\"\\\xc3",
+            output: "\"a\\\"\\\\\\xc3\"\n",
+            line: "",
+            status: 0,
+        },
+        Row {
+            format: "%[^;];",
+            text: b"\x1f ~\x7f\xff\n;",
+            output: "\"\\x1f ~\\x7f\\xff\\x0a\"\n",
+            line: "",
+            status: 0,
+        },
+        Row {
+            format: "%[0-9]",
+            text: b" 1",
             output: "",
-            line: "sf: scan format: not yet supported\n",
-            status: 2,
-        };
-        assert_eq!(rt; run(&rt, "scan", &row)?, 3);
-    }
-    Ok(())
+            line: "sf: record 1: matching failure at 1, used 0, assigned 0\n",
+            status: 1,
+        },
+    ];
+    scan_rows(&rt, &rows)
+}
+
+#[test]
+fn destinations(rt: HostRuntime) -> Result<(), Fail> {
+    let rows = [
+        Row {
+            format: "%n",
+            text: b"abc",
+            output: "",
+            line: "sf: record 1: stalled\n",
+            status: 1,
+        },
+        Row {
+            format: "%2$d %1$s",
+            text: b"7 ab\n-8 c\n",
+            output: "\"ab\" 7\n\"c\" -8\n",
+            line: "",
+            status: 0,
+        },
+        Row {
+            format: "%*d;",
+            text: b"1;2;",
+            output: "\n\n",
+            line: "",
+            status: 0,
+        },
+        Row {
+            format: "%hhd %hd %d %ld %hhu %ho %x %lu %s %2c%[a-z]%n",
+            text: b"-128 -32768 -2147483648 -9223372036854775808 255 177777 0xffffffff 18446744073709551615 w\" abcde\n",
+            output: "-128 -32768 -2147483648 -9223372036854775808 255 65535 4294967295 18446744073709551615 \"w\\\"\" \"ab\" \"cde\" 96\n",
+            line: "",
+            status: 0,
+        },
+        Row {
+            format: "%*hhd",
+            text: b"300",
+            output: "\n",
+            line: "",
+            status: 0,
+        },
+        Row {
+            format: "%hhd",
+            text: b"300",
+            output: "",
+            line: "sf: record 1: out of range at 1, used 3, assigned 0\n",
+            status: 1,
+        },
+    ];
+    scan_rows(&rt, &rows)
 }
 
 #[test]
@@ -230,7 +302,6 @@ fn failed_record(rt: HostRuntime) -> Result<(), Fail> {
     let Ok(format) = ScanFormat::parse(alloc, Profile::One, b"%d,%d") else {
         return Err(Fail::from(io::ErrorKind::OutOfMemory));
     };
-    assert!(rt; is_run(alloc, &format)?);
     let end = scan_text(alloc, b"1,2\n3;4\n", &format)?;
     assert!(rt; end.output.as_slice() == b"1 2\n".as_slice());
     assert_eq!(rt; end.status, 1);
@@ -280,11 +351,6 @@ fn lines_of_formats(rt: HostRuntime) -> Result<(), Fail> {
                 why: FormatWhy::BackwardRange,
             }),
             "sf: scan format: F8 BackwardRange at 2",
-            2,
-        ),
-        (
-            CommandFault::NotYet,
-            "sf: scan format: not yet supported",
             2,
         ),
     ];

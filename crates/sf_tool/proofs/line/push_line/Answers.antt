@@ -5,7 +5,7 @@ use Rattle.sf_tool.proofs.line.push_line.Goals.{then-before-gt0+in_ok-push, else
 use Rattle.sf_tool.proofs.line.push_line.Goals as goal
 
 pub loop-before-preserved : goal.loop-before-preserved
-loop-before-preserved c =
+loop-before-preserved g c =
     elim c.if-before-gt0.branch [
       | then-before-gt0+in_ok-push w ↦
           next_written (text_at c.args.report.now) c.loop-before.before c.args.output.now.items c.loop-before.output.items
