@@ -1,11 +1,11 @@
 -- A scanner that was fed and ended.
-use Rattle.std.proofs.Common.{◌≡◌, ◌⊎◌, inl, inr, Bool, true, false, ℕ, List, [], ◌++◌, refl, sym, ap, subst, true≢false, append-nil, ◌∙◌}
+use Rattle.std.proofs.Common.{◌≡◌, inl, inr, Bool, true, false, ℕ, List, [], ◌++◌, refl, sym, ap, subst, true≢false, append-nil, ◌∙◌}
 use Rattle.sf_format.specs.declared.directive.Directive.{Directive}
 use Rattle.sf_run.specs.declared.outcome.Ending.{Ending}
 use Rattle.sf_run.specs.declared.outcome.FeedState.{FeedState}
 use Rattle.sf_run.specs.declared.outcome.FeedState.TheVariants as feed
 use Rattle.sf_run.specs.Runs.{RunReport}
-use Rattle.sf_run.specs.Limits.{RunTold, RunWithin, RunRefused}
+use Rattle.sf_run.specs.Limits.{RunTold, RunWithin}
 use Rattle.sf_run.specs.Standing.{Standing, After, Gives, ran_out}
 use Rattle.sf_run.specs.Stopping.{is_memory_status}
 

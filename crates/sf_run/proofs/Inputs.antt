@@ -1,11 +1,11 @@
 -- Open inputs are used, and closed ones stay.
-use Rattle.std.proofs.Common.{◌≡◌, ℕ, ◌+◌, ◌≤◌, ◌⊎◌, inl, inr, List, [], ◌∷◌, ◌++◌, length, Option, Some, None, refl, sym, ap, subst, ◌∙◌, arith, append_assoc, length-append}
+use Rattle.std.proofs.Common.{◌≡◌, ℕ, ◌+◌, inl, inr, List, [], ◌∷◌, ◌++◌, length, Option, Some, None, refl, sym, ap, subst, ◌∙◌, arith, append_assoc, length-append}
 use Rattle.std.specs.Prelude.{SomeIff}
 use Rattle.sf_format.specs.declared.directive.Directive.{Directive}
 use Rattle.sf_format.specs.Proper.{AreProper}
 use Rattle.sf_run.specs.declared.outcome.Ending.{Ending}
-use Rattle.sf_run.specs.Runs.{RunReport, IsOpen, Run, used}
-use Rattle.sf_run.specs.Limits.{RunWithin, TellsWithin}
+use Rattle.sf_run.specs.Runs.{RunReport, IsOpen}
+use Rattle.sf_run.specs.Limits.{RunWithin}
 use Rattle.sf_run.specs.Laws.{EachClosedInputStays, EachOpenInputIsUsed}
 use Rattle.sf_run.specs.Residual.{nothing_yet, run_of}
 use Rattle.sf_run.proofs.Openness.{open_or_closed, uses_within}
@@ -32,7 +32,7 @@ closed_inputs_stay ds proper m x z first second report closed run =
     let none : report.met ≡ None = none_met report.met _ first told.1 (λ o. closed o.0) in
     subst (RunWithin ds m (x ++ z) second) (ap (λ met. record report { met = met }) (sym none))
     (within_met open_all ds proper m (x ++ z) second None (record report { met = None }) (closed_same ds proper m x z (record report { met = None }) closed told.0)
-      (λ o. closed_more ds proper x z closed o.0))
+    (λ o. closed_more ds proper x z closed o.0))
 
 pub open_inputs_are_used : EachOpenInputIsUsed
 open_inputs_are_used ds proper x ending report open' run =

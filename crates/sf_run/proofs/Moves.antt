@@ -28,9 +28,9 @@ use Rattle.sf_run.specs.Phases.{ShowsItem, Shows, ShowsNext, slot_in}
 use Rattle.sf_run.specs.Places.{is_destination, places_left}
 use Rattle.sf_run.specs.Residual.{Tally, one_from, with_used, counted, out_of, by_end, run_of, run_from}
 use Rattle.sf_run.specs.Stopping.{is_no_memory}
-use Rattle.sf_run.specs.Standing.{Standing, ShowsFirst, DoesBy, Does, Follows, IsRefused, Keeps, Stops, Takes, Refuses, StoresByte, IsInText}
+use Rattle.sf_run.specs.Standing.{Standing, ShowsFirst, DoesBy, Does, Follows, IsRefused, Stops, Takes, Refuses, StoresByte, IsInText}
 use Rattle.sf_run.specs.Standing.{Passes as Passed}
-use Rattle.sf_run.specs.Texts.{text_slot, slot_of_text, opened_for, opened_after}
+use Rattle.sf_run.specs.Texts.{text_slot, opened_for, opened_after}
 use Rattle.sf_base.specs.Kept.{Opened}
 use Rattle.sf_run.proofs.Machines.{grows}
 

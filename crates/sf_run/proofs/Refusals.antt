@@ -1,7 +1,7 @@
 -- Runs for which memory was refused.
-use Rattle.std.proofs.Common.{◌≡◌, ℕ, zero, suc, ◌+◌, ◌-◌, ◌<◌, ◌≤◌, ◌⊎◌, inl, inr, Bool, true, false, cond, List, [], ◌∷◌, ◌++◌, length, drop, Option, Some, None, is_some, ℤ, refl, sym, ap, subst, ◌∙◌, arith, true≢false, append_assoc, length-append}
+use Rattle.std.proofs.Common.{◌≡◌, ℕ, zero, suc, ◌+◌, ◌-◌, ◌<◌, ◌≤◌, inl, inr, Bool, true, false, cond, List, [], ◌∷◌, ◌++◌, length, drop, Option, Some, None, is_some, ℤ, refl, sym, ap, subst, ◌∙◌, arith, true≢false, append_assoc, length-append}
 use Rattle.std.specs.Prelude.{slice_get, IfNone, IsSome}
-use Rattle.sf_base.specs.Bytes.{is_white, IsSkip}
+use Rattle.sf_base.specs.Bytes.{is_white}
 use Rattle.sf_base.specs.Data.{value_of}
 use Rattle.sf_format.specs.declared.directive.Shape.{Shape}
 use Rattle.sf_format.specs.declared.directive.Shape.TheVariants.{Int, Text, Set, Chars, Count}
@@ -14,20 +14,20 @@ use Rattle.sf_run.specs.declared.outcome.Ending.{Ending}
 use Rattle.sf_run.specs.declared.outcome.Status.{Status}
 use Rattle.sf_run.specs.declared.outcome.Status.TheVariants.{MatchingFailure, TooLong, NoMemory}
 use Rattle.sf_run.specs.declared.scanner.Stop.{Stop}
-use Rattle.sf_run.specs.Steps.{StepEnd, Passes, Stores, Fails, Step, IsSkipBefore}
+use Rattle.sf_run.specs.Steps.{StepEnd, Passes, Stores, Fails}
 use Rattle.sf_run.specs.Runs.{Ran, GoesOn, Steps, RunReport, report_of, used}
-use Rattle.sf_run.specs.Limits.{cut_report, IsCut, RunWithin, TellsWithin, RunRefused, RunTold}
+use Rattle.sf_run.specs.Limits.{IsCut, TellsWithin, RunRefused}
 use Rattle.sf_run.specs.Limits.{Stores as StoresAt, StoresShape}
 use Rattle.sf_run.specs.Machine.{Stage, Skipping, Taken, Item, stepped, finished, number_end, count_end, integer_end, stored_end, passed_end, item_end, nothing_end, byte_finished, item_finished, conversion_finished}
-use Rattle.sf_run.specs.Residual.{Tally, Part, nothing_yet, with_used, counted, out_of, by_end, one_from, is_over, or_zero, run_of}
+use Rattle.sf_run.specs.Residual.{Tally, Part, nothing_yet, with_used, counted, out_of, by_end, one_from, is_over, run_of}
 use Rattle.sf_run.specs.Standing.{Standing, Keeps, After, Does, Gives, Refuses, RefusesIn, StoresByte, IsInText, ran_out, report_by}
 use Rattle.sf_run.specs.Stopping.{is_memory_status, is_no_memory}
-use Rattle.sf_run.specs.Texts.{text_slot, slot_of_text}
+use Rattle.sf_run.specs.Texts.{slot_of_text}
 use Rattle.sf_run.proofs.Skips.{skip, skip_is, one_more-le}
 use Rattle.sf_run.proofs.Machines.{by_option}
-use Rattle.sf_run.proofs.Openness.{within_limit, run_not_too_long}
-use Rattle.sf_run.proofs.Told.{run_told, told_is}
-use Rattle.sf_run.proofs.Waits.{told_end, cut_here}
+use Rattle.sf_run.proofs.Openness.{run_not_too_long}
+use Rattle.sf_run.proofs.Told.{run_told}
+use Rattle.sf_run.proofs.Waits.{cut_here}
 
 -- ---- no run by the definitions stops for want of memory
 

@@ -1,16 +1,15 @@
 -- The slots of a format and those of a store.
-use Rattle.std.proofs.Common.{◌≡◌, ℕ, zero, suc, ◌+◌, ◌<◌, ◌≤◌, Bool, true, false, not, cond, ◌&&◌, ◌||◌, nat_eq, nat_le, List, [], ◌∷◌, ◌++◌, length, map, take, drop, Option, Some, None, is_some, refl, sym, ap, subst, ◌∙◌, arith, true≢false, unwrap_or, append-nil, append_assoc, length-append}
+use Rattle.std.proofs.Common.{◌≡◌, ℕ, zero, suc, ◌+◌, ◌≤◌, Bool, true, false, not, cond, ◌&&◌, ◌||◌, nat_eq, nat_le, List, [], ◌∷◌, ◌++◌, length, take, drop, Option, Some, None, is_some, refl, sym, ap, subst, ◌∙◌, arith, true≢false, unwrap_or, append-nil, append_assoc, length-append}
 use Rattle.std.specs.Prelude.{◌≢◌, slice_get, IfSome}
-use Rattle.std.specs.List.{AllByRecursion, list_all, list_any, find, sum_by, flat_map}
+use Rattle.std.specs.List.{AllByRecursion, list_all, list_any, find}
 use Rattle.std.specs.Option.{option_map}
-use Rattle.std.proofs.lemmas.Bool.{eqb-true, eqb-false, ne_eqb}
+use Rattle.std.proofs.lemmas.Bool.{eqb-false, ne_eqb}
 use Rattle.std.proofs.lemmas.Bool.Decides.{nat_tests}
 use Rattle.std.proofs.lemmas.List.{map-append}
 use Rattle.std.proofs.lemmas.List.Sums.{sum_by-cons}
-use Rattle.sf_base.specs.Data.{Datum, Number, Bytes, Assigned, datum_at, datum_of, is_number}
+use Rattle.sf_base.specs.Data.{Datum, Bytes, Assigned, datum_at, datum_of, is_number}
 use Rattle.sf_base.specs.Kept.{Kept, assigned, buffer_of, longer, Opened, text_of, text_in, texts_in, values_closed}
 use Rattle.sf_run.specs.Memory.{HoldsTexts}
-use Rattle.sf_base.specs.declared.values.Kind.{Kind}
 use Rattle.sf_base.specs.declared.values.Value.{Value}
 use Rattle.sf_base.specs.declared.values.Value.TheVariants as value
 use Rattle.sf_format.specs.declared.directive.Conversion.{Conversion}
@@ -19,7 +18,7 @@ use Rattle.sf_format.specs.declared.directive.Directive.TheVariants.{Space, Byte
 use Rattle.sf_format.specs.declared.directive.Shape.{Shape}
 use Rattle.sf_format.specs.declared.directive.Shape.TheVariants.{Int, Text, Set, Chars, Count}
 use Rattle.sf_format.specs.Slots.{AreDistinct}
-use Rattle.sf_format.specs.Proper.{destination_of, destinations_of, slots_of}
+use Rattle.sf_format.specs.Proper.{slots_of}
 use Rattle.sf_format.specs.Widths.{add_widths, text_width, stored_width, width_sum}
 use Rattle.sf_item.specs.Scan.{most_bytes, IsOneLess}
 use Rattle.sf_item.specs.declared.item.ItemScan.{ItemScan}
@@ -28,7 +27,7 @@ use Rattle.sf_run.specs.declared.directive.Phase.{Phase}
 use Rattle.sf_run.specs.declared.directive.Phase.TheVariants as phase
 use Rattle.sf_run.specs.declared.scanner.Stop.{Stop}
 use Rattle.sf_run.specs.Holding.{are_placed, are_apart, first_slot, is_text, stored_widths, width_left, widths_from, still_stored, is_limited, left_before, LeftAfter}
-use Rattle.sf_run.specs.Places.{is_destination, places_left}
+use Rattle.sf_run.specs.Places.{is_destination}
 use Rattle.sf_run.specs.Texts.{slot_of, slot_of_text, text_slot, opened_slot, slots_in}
 use Rattle.sf_run.specs.Phases.{slot_in}
 use Rattle.sf_run.proofs.Stages.{conv_is}

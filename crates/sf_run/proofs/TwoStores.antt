@@ -1,5 +1,5 @@
 -- Scanners over two stores report alike.
-use Rattle.std.proofs.Common.{◌≡◌, ℕ, ◌⊎◌, inl, inr, Bool, true, false, List, Option, Some, None, refl, sym, ap, subst, ◌∙◌, true≢false}
+use Rattle.std.proofs.Common.{◌≡◌, ℕ, inl, inr, false, List, Option, Some, None, sym, ap, ◌∙◌, true≢false}
 use Rattle.sf_format.specs.declared.directive.Directive.{Directive}
 use Rattle.sf_run.specs.declared.outcome.Ending.{Ending}
 use Rattle.sf_run.specs.declared.scanner.Stop.{Stop}
@@ -7,7 +7,7 @@ use Rattle.sf_run.specs.Laws.{EachStoreReportsAlike}
 use Rattle.sf_run.specs.Limits.{RunTold, RunWithin}
 use Rattle.sf_run.specs.Residual.{Tally}
 use Rattle.sf_run.specs.Runs.{RunReport}
-use Rattle.sf_run.specs.Standing.{Standing, Gives, report_by, ran_out}
+use Rattle.sf_run.specs.Standing.{report_by}
 use Rattle.sf_run.specs.Stopping.{is_memory_status, is_no_memory}
 use Rattle.sf_run.proofs.Told.{one_report}
 

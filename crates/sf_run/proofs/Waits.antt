@@ -18,7 +18,7 @@ use Rattle.sf_run.specs.Limits.{RunWithin, TellsWithin}
 use Rattle.sf_run.specs.Machine.{Stage, Skipping, Taken, Item, stepped, is_full}
 use Rattle.sf_run.specs.Phases.{ShowsItem, Shows}
 use Rattle.sf_run.specs.Residual.{Tally, nothing_yet, with_used, out_of, run_of, run_from}
-use Rattle.sf_run.specs.Standing.{Standing, ShowsFirst, DoesBy, Does, Follows, Waits, IsSettled, Keeps, After, report_by, Gives, Refuses, RefusesIn, ran_out, StoresByte}
+use Rattle.sf_run.specs.Standing.{Standing, ShowsFirst, DoesBy, Does, Follows, Waits, IsSettled, Keeps, After, report_by, Gives}
 use Rattle.sf_base.specs.Data.{Assigned}
 use Rattle.sf_run.specs.declared.tally.Tally as code
 use Rattle.sf_run.specs.Tallies.{tally_of}

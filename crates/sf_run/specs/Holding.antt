@@ -1,7 +1,6 @@
 -- How a run and its store go together.
-use Rattle.std.specs.Prelude.{ℕ, ◌+◌, Bool, true, false, ◌&&◌, not, nat_eq, nat_le, is_some, unwrap_or, List, [], ◌∷◌, drop, Option, Some, None}
+use Rattle.std.specs.Prelude.{ℕ, ◌+◌, Bool, true, false, ◌&&◌, not, nat_eq, nat_le, is_some, unwrap_or, List, [], ◌∷◌, drop, Option, None}
 use Rattle.std.specs.List.{list_all, list_any, sum_by}
-use Rattle.sf_base.specs.Kept.{Opened}
 use Rattle.sf_format.specs.declared.directive.Directive.{Directive}
 use Rattle.sf_format.specs.Proper.{slots_of}
 use Rattle.sf_format.specs.Widths.{stored_width}
@@ -9,7 +8,7 @@ use Rattle.sf_format.specs.declared.directive.Directive.TheVariants.{Conv}
 use Rattle.sf_item.specs.Scan.{most_bytes, IsOneLess}
 use Rattle.sf_item.specs.Taking.{left_of}
 use Rattle.sf_run.specs.declared.directive.Phase.{Phase}
-use Rattle.sf_run.specs.declared.directive.Phase.TheVariants.{Skipping, Taken, Item, Text}
+use Rattle.sf_run.specs.declared.directive.Phase.TheVariants.{Text}
 use Rattle.sf_run.specs.declared.scanner.Stop.{Stop}
 use Rattle.sf_run.specs.Residual.{choose}
 use Rattle.sf_run.specs.Texts.{text_slot}

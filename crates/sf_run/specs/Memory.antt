@@ -1,5 +1,5 @@
 -- What a scanner's store holds.
-use Rattle.std.specs.Prelude.{◌≡◌, ℕ, ◌≤◌, List, ◌++◌, length, IfSome}
+use Rattle.std.specs.Prelude.{◌≡◌, ◌≤◌, List, ◌++◌, length, IfSome}
 use Rattle.sf_base.specs.Kept.{Kept, buffer_of, text_of, texts_in}
 use Rattle.sf_format.specs.declared.directive.Directive.{Directive}
 use Rattle.sf_format.specs.Widths.{width_sum}

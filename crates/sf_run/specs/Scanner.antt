@@ -1,5 +1,4 @@
 -- What a scanner holds.
-use Rattle.std.specs.Prelude.{ℕ}
 use Rattle.sf_base.specs.declared.store.Store as store
 use Rattle.sf_base.specs.Kept.{Kept}
 use Rattle.sf_run.specs.declared.scanner.Scanner.{Scanner}

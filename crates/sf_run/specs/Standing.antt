@@ -1,5 +1,5 @@
 -- Where a run stands, and of what input.
-use Rattle.std.specs.Prelude.{ℕ, suc, ◌+◌, ◌-◌, ◌≡◌, ◌<◌, ◌≤◌, ◌⊎◌, Bool, true, false, List, [], ◌∷◌, ◌++◌, length, drop, slice_get, Option, Some, None, IfNone, is_some}
+use Rattle.std.specs.Prelude.{ℕ, suc, ◌+◌, ◌-◌, ◌≡◌, ◌<◌, ◌≤◌, Bool, false, List, [], ◌∷◌, ◌++◌, length, drop, slice_get, Option, Some, None, IfNone, is_some}
 use Rattle.sf_base.specs.Bytes.{is_white}
 use Rattle.sf_base.specs.Kept.{Opened}
 use Rattle.sf_format.specs.declared.directive.Shape.{Shape}

@@ -4,7 +4,7 @@ use Rattle.sf_base.specs.Data.{Assigned}
 use Rattle.sf_run.specs.declared.tally.Tally as code
 use Rattle.sf_run.specs.Residual.{Tally}
 use Rattle.sf_run.specs.Runs.{passed, stored}
-use Rattle.sf_run.specs.Steps.{StepEnd, Passes, Stores, Fails}
+use Rattle.sf_run.specs.Steps.{StepEnd, Stores}
 
 -- the counts with what the destinations were given
 abbrev pub tally_of : code.Tally → List Assigned → Tally

@@ -1,6 +1,5 @@
-use Rattle.std.proofs.Common.{◌≡◌, ◌∙◌, [], false, ap, sym}
+use Rattle.std.proofs.Common.{◌≡◌, ◌∙◌, [], false, ap}
 use Rattle.sf_run.specs.declared.outcome.Ending.TheVariants.{End}
-use Rattle.sf_run.specs.Runs.{RunReport}
 use Rattle.sf_run.specs.Standing.{Gives, ran_out}
 use Rattle.sf_run.specs.Scanner.{standing}
 use Rattle.sf_read.proofs.Ended.{fed_and_ended, told_within}

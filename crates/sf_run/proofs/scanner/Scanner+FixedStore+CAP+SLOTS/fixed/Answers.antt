@@ -1,4 +1,4 @@
-use Rattle.std.proofs.Common.{◌≡◌, List, ap, length, arith}
+use Rattle.std.proofs.Common.{List, ap, length, arith}
 use Rattle.sf_format.specs.declared.directive.Directive.{Directive}
 use Rattle.sf_format.specs.Proper.{destinations_of}
 use Rattle.sf_run.proofs.Slots.{placed_from, apart_from}

@@ -1,4 +1,3 @@
-use Rattle.std.proofs.Common.{◌≡◌, List}
 use Rattle.sf_run.proofs.Slots.{placed_from, apart_from}
 use Rattle.sf_run.proofs.scanner.Scanner+HeapStore.new.Goals as goal
 

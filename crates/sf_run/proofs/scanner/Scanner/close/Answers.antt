@@ -1,4 +1,4 @@
-use Rattle.std.proofs.Common.{◌≡◌, ℕ, Some}
+use Rattle.std.proofs.Common.{◌≡◌, Some}
 use Rattle.std.proofs.lemmas.Option.{slice_get_within}
 use Rattle.sf_run.specs.Texts.{text_slot}
 use Rattle.sf_run.specs.Phases.{slot_in}

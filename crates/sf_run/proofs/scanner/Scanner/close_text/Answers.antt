@@ -1,11 +1,11 @@
-use Rattle.sf_base.specs.Data.{Bytes, datum_of}
+use Rattle.sf_base.specs.Data.{Bytes}
 use Rattle.sf_base.specs.Kept.{text_of}
-use Rattle.sf_run.specs.Steps.{Passes, Stores}
-use Rattle.std.proofs.Common.{◌≡◌, ◌+◌, ◌<◌, ◌≤◌, length, arith, true, false, refl, sym, ap, ◌∙◌, subst, rules}
+use Rattle.sf_run.specs.Steps.{Stores}
+use Rattle.std.proofs.Common.{◌<◌, length, arith, true, refl, ◌∙◌}
 use Rattle.std.proofs.lemmas.Option.{slice_get_within}
 use Rattle.sf_run.specs.Scanner.{kept_by}
 use Rattle.sf_run.proofs.Moves.{place_taken, has_place}
-use Rattle.sf_run.proofs.Slots.{opened_none, is_destination_of, slots_more, joined_text, closed_values, room_passed}
+use Rattle.sf_run.proofs.Slots.{is_destination_of, slots_more, joined_text, closed_values, room_passed}
 use Rattle.sf_base.specs.Kept.{buffer_of}
 use Rattle.sf_run.proofs.Slots.{size_passed, size_closed}
 use Rattle.sf_run.proofs.scanner.Scanner.close_text.Goals as goal

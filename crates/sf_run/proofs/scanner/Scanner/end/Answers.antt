@@ -1,8 +1,4 @@
-use Rattle.std.specs.Prelude.{is_some}
-use Rattle.std.proofs.Common.{◌≡◌, inl, inr, ap, sym, ◌∙◌, false}
-use Rattle.sf_run.specs.Standing.{ran_out}
 use Rattle.sf_run.specs.Scanner.{standing}
-use Rattle.sf_run.proofs.Moves.{not_out}
 use Rattle.sf_run.proofs.Waits.{none_is, run_out_gives, ended_gives_own, ended_closed}
 use Rattle.sf_run.proofs.scanner.Scanner.end.Goals as goal
 

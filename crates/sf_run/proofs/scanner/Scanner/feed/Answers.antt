@@ -1,11 +1,9 @@
-use Rattle.std.proofs.Common.{◌≡◌, ◌++◌, ◌∙◌, Bool, true, false, Some, None, is_some, ap, sym, subst, arith, true≢false, refl}
-use Rattle.std.specs.Prelude.{IsSome}
+use Rattle.std.proofs.Common.{◌≡◌, ◌++◌, ◌∙◌, Bool, true, false, None, is_some, ap, sym, subst, arith, true≢false, refl}
 use Rattle.sf_format.specs.Proper.{AreProper}
 use Rattle.sf_format.specs.Widths.{width_sum}
-use Rattle.sf_run.specs.Stopping.{is_no_memory}
 use Rattle.sf_run.specs.Standing.{After, Gives, ran_out}
 use Rattle.sf_run.specs.Scanner.{standing}
-use Rattle.sf_run.proofs.Moves.{not_out, waits_for}
+use Rattle.sf_run.proofs.Moves.{waits_for}
 use Rattle.sf_run.proofs.Waits.{after_push, within_used, ended_gives}
 use Rattle.sf_run.proofs.Refusals.{after_fine, refused_gives}
 use Rattle.sf_run.proofs.scanner.Scanner.feed.Goals as goal

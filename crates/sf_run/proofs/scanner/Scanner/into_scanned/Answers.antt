@@ -1,5 +1,4 @@
 use Rattle.std.proofs.Common.{ap, sym, subst, ◌∙◌}
-use Rattle.std.specs.Prelude.{is_some}
 use Rattle.sf_run.specs.Stopping.{is_memory_status, is_no_memory}
 use Rattle.sf_run.specs.Runs.{RunReport}
 use Rattle.sf_run.specs.Limits.{RunWithin, RunTold}

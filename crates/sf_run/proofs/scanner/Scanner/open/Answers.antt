@@ -1,12 +1,7 @@
-use Rattle.std.proofs.Common.{◌≡◌, ◌+◌, ◌<◌, ◌≤◌, ℕ, Some, None, length, arith, true, false, refl, sym, ap, ◌∙◌, subst, rules}
-use Rattle.std.specs.Prelude.{is_some, slice_get}
-use Rattle.std.proofs.lemmas.Option.{slice_get_within}
-use Rattle.sf_format.specs.declared.directive.Directive.{Directive}
-use Rattle.sf_format.specs.declared.directive.Directive.TheVariants.{Conv}
-use Rattle.sf_run.specs.Texts.{text_slot}
+use Rattle.std.proofs.Common.{◌≡◌, arith, ◌∙◌}
 use Rattle.sf_item.specs.Taking.{left_of}
 use Rattle.sf_run.specs.Holding.{left_before}
-use Rattle.sf_run.specs.Scanner.{kept_by, standing}
+use Rattle.sf_run.specs.Scanner.{kept_by}
 use Rattle.sf_run.proofs.Slots.{slot_of_own, slot_placed, slot_free, opened_none, left_first, open_limited, room_opened, text_own}
 use Rattle.sf_run.specs.Holding.{still_stored}
 use Rattle.sf_run.proofs.Slots.{size_begun}

@@ -1,10 +1,8 @@
-use Rattle.sf_base.specs.Data.{Bytes, datum_of}
-use Rattle.sf_base.specs.Kept.{text_of}
-use Rattle.sf_run.specs.Steps.{Passes, Stores}
-use Rattle.std.proofs.Common.{◌≡◌, ◌+◌, ◌<◌, ◌≤◌, length, arith, true, false, refl, sym, ap, ◌∙◌, subst, rules}
+use Rattle.sf_run.specs.Steps.{Passes}
+use Rattle.std.proofs.Common.{◌<◌, length, arith, false, refl, ◌∙◌}
 use Rattle.std.proofs.lemmas.Option.{slice_get_within}
 use Rattle.sf_run.specs.Scanner.{kept_by}
-use Rattle.sf_run.proofs.Moves.{place_taken, has_place}
+use Rattle.sf_run.proofs.Moves.{place_taken}
 use Rattle.sf_run.proofs.Slots.{opened_none, slots_none, room_passed}
 use Rattle.sf_base.specs.Kept.{buffer_of}
 use Rattle.sf_run.proofs.Slots.{size_passed}

@@ -1,10 +1,7 @@
-use Rattle.std.proofs.Common.{◌≡◌, ◌+◌, ◌++◌, ◌∷◌, ℕ, List, [], Option, Some, None, true, false, is_some, drop, take, get_or, refl, sym, ap, subst, ◌∙◌, arith, true≢false, append_assoc, append-nil}
-use Rattle.std.specs.Prelude.{IsSome}
+use Rattle.std.proofs.Common.{◌≡◌, ◌+◌, ◌++◌, ◌∷◌, ℕ, List, [], None, drop, take, get_or, sym, ap, subst, ◌∙◌, arith, true≢false, append-nil}
 use Rattle.std.proofs.lemmas.List.{length-take-le}
 use Rattle.sf_format.specs.declared.directive.Directive.{Directive}
 use Rattle.sf_format.specs.Proper.{AreProper}
-use Rattle.sf_run.specs.declared.scanner.Stop.{Stop}
-use Rattle.sf_run.specs.Stopping.{is_no_memory}
 use Rattle.sf_run.specs.Standing.{Does, Follows, Refuses, ran_out}
 use Rattle.sf_run.specs.Scanner.{standing}
 use Rattle.sf_run.proofs.Moves.{follows_on, refuses_on, ended_does, around, waits_for}

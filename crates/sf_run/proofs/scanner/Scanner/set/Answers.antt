@@ -1,7 +1,6 @@
-use Rattle.sf_base.specs.Data.{Bytes, datum_of}
-use Rattle.sf_base.specs.Kept.{text_of}
-use Rattle.sf_run.specs.Steps.{Passes, Stores}
-use Rattle.std.proofs.Common.{◌≡◌, ◌+◌, ◌<◌, ◌≤◌, length, arith, true, false, refl, sym, ap, ◌∙◌, subst, rules}
+use Rattle.sf_base.specs.Data.{datum_of}
+use Rattle.sf_run.specs.Steps.{Stores}
+use Rattle.std.proofs.Common.{◌<◌, length, arith, true, refl, ◌∙◌}
 use Rattle.std.proofs.lemmas.Option.{slice_get_within}
 use Rattle.sf_run.specs.Scanner.{kept_by}
 use Rattle.sf_run.proofs.Moves.{place_taken, has_place}

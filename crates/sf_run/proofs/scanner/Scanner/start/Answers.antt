@@ -1,6 +1,6 @@
-use Rattle.std.proofs.Common.{◌≡◌, ◌∙◌, ℕ, List, [], Some, None, refl, ap, subst, length, arith}
+use Rattle.std.proofs.Common.{◌≡◌, ◌∙◌, Some, refl, ap, length, arith}
 use Rattle.sf_base.specs.Kept.{Kept, buffer_of}
-use Rattle.sf_run.specs.Residual.{Tally, nothing_yet, run_of}
+use Rattle.sf_run.specs.Residual.{nothing_yet, run_of}
 use Rattle.sf_run.specs.Texts.{slots_in, opened_slot}
 use Rattle.sf_run.specs.Tallies.{tally_of}
 use Rattle.sf_run.specs.Scanner.{standing}

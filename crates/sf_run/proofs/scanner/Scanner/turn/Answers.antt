@@ -1,11 +1,11 @@
-use Rattle.std.proofs.Common.{◌≡◌, ◌+◌, ◌∷◌, ℕ, List, Bool, true, false, refl, sym, ap, Some, length, subst, ◌∙◌, true≢false, arith}
-use Rattle.std.specs.Prelude.{slice_get, IsSome}
+use Rattle.std.proofs.Common.{◌≡◌, ◌∷◌, ℕ, List, Bool, true, false, refl, sym, ap, Some, length, ◌∙◌, true≢false, arith}
+use Rattle.std.specs.Prelude.{slice_get}
 use Rattle.std.proofs.lemmas.Option.{slice_get_read}
 use Rattle.std.proofs.lemmas.Bool.{OnTrue_at, OnFalse_at, OnTrue_from}
 use Rattle.sf_format.specs.Proper.{AreProper}
 use Rattle.sf_run.specs.Machine.{stepped}
 use Rattle.sf_run.specs.Stopping.{is_no_memory}
-use Rattle.sf_run.specs.Standing.{Follows, Refuses, ran_out}
+use Rattle.sf_run.specs.Standing.{Follows, Refuses}
 use Rattle.sf_run.specs.Scanner.{standing}
 use Rattle.sf_run.proofs.Machines.{byte_refused}
 use Rattle.sf_run.proofs.Moves.{proper_at, limit_follows, takes_follows, refuses, shows_none}
