@@ -16,7 +16,10 @@ use sf_run::{Ending, FeedState, Scanned, Scanner, StartFault};
 use std::alloc::Global;
 
 /// Feeds the run until it ends: first what is held, then block by block.
-fn drive<S: Source, T: Store, const N: usize>(scanner: &mut Scanner<'_, T>, from: &mut Lookahead<S, N>)
+fn drive<S: Source, T: Store, const N: usize>(
+    scanner: &mut Scanner<'_, T>,
+    from: &mut Lookahead<S, N>,
+)
     requires { After scanner.old.directives.now scanner.old.limit (standing scanner.old) [] }
     ensures { Driven S.to_come S.reads S.failures scanner.old.directives.now scanner.old.limit from.old from.new (standing scanner.new) }
 {

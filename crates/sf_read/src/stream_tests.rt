@@ -198,25 +198,11 @@ fn faults(rt: HostRuntime) -> Result<(), Fail> {
     let mut from = Lookahead::<ScriptSource<'_>, 4096>::new(ScriptSource::new(&steps));
     assert!(rt;
         call(alloc, &mut from, b"%d", LIMIT)?
-            == (
-                Status::Done,
-                0,
-                1,
-                2,
-                Some(Ending::Fault),
-                Some(12)
-            )
+            == (Status::Done, 0, 1, 2, Some(Ending::Fault), Some(12))
     );
     assert!(rt;
         call(alloc, &mut from, b"%d", LIMIT)?
-            == (
-                Status::Done,
-                0,
-                1,
-                2,
-                Some(Ending::End),
-                Some(34)
-            )
+            == (Status::Done, 0, 1, 2, Some(Ending::End), Some(34))
     );
     // the end was told: it is not read again
     assert_eq!(rt; from.source().reads(), 4);
@@ -232,14 +218,7 @@ fn faults(rt: HostRuntime) -> Result<(), Fail> {
         let mut from = Lookahead::<&mut ScriptSource<'_>, 2>::new(&mut script);
         assert!(rt;
             call(alloc, &mut from, b"%d", LIMIT)?
-                == (
-                    Status::Done,
-                    0,
-                    1,
-                    1,
-                    Some(Ending::Fault),
-                    Some(1)
-                )
+                == (Status::Done, 0, 1, 1, Some(Ending::Fault), Some(1))
         );
         assert!(rt; from.held().is_empty());
     }
@@ -249,23 +228,13 @@ fn faults(rt: HostRuntime) -> Result<(), Fail> {
     let mut from = Lookahead::<ScriptSource<'_>, 3>::new(ScriptSource::new(&steps));
     assert!(rt;
         call(alloc, &mut from, b"%d %d", LIMIT)?
-            == (
-                Status::InputFailure,
-                3,
-                1,
-                2,
-                Some(Ending::Fault),
-                Some(1)
-            )
+            == (Status::InputFailure, 3, 1, 2, Some(Ending::Fault), Some(1))
     );
     assert_eq!(rt; from.source().failures(), 1);
 
     let steps = [ReadStep::Give(b""), ReadStep::Give(b"12"), ReadStep::Fail];
     let mut from = Lookahead::<ScriptSource<'_>, 4096>::new(ScriptSource::new(&steps));
-    assert!(rt;
-        call(alloc, &mut from, b"%2d", LIMIT)?
-            == (Status::Done, 0, 1, 2, None, Some(12))
-    );
+    assert!(rt; call(alloc, &mut from, b"%2d", LIMIT)? == (Status::Done, 0, 1, 2, None, Some(12)));
     assert_eq!(rt; from.source().failures(), 0);
     Ok(())
 }
@@ -274,13 +243,9 @@ fn faults(rt: HostRuntime) -> Result<(), Fail> {
 fn the_rest_is_held(rt: HostRuntime) -> Result<(), Fail> {
     let alloc = rt.alloc();
     let mut from = Lookahead::<SliceSource<'_>, 4096>::new(SliceSource::new(b"5 6 7"));
-    assert!(rt;
-        call(alloc, &mut from, b"%d", LIMIT)? == (Status::Done, 0, 1, 1, None, Some(5))
-    );
+    assert!(rt; call(alloc, &mut from, b"%d", LIMIT)? == (Status::Done, 0, 1, 1, None, Some(5)));
     assert!(rt; from.held() == b" 6 7".as_slice());
-    assert!(rt;
-        call(alloc, &mut from, b"%d", LIMIT)? == (Status::Done, 0, 1, 2, None, Some(6))
-    );
+    assert!(rt; call(alloc, &mut from, b"%d", LIMIT)? == (Status::Done, 0, 1, 2, None, Some(6)));
     assert!(rt; from.held() == b" 7".as_slice());
     Ok(())
 }
