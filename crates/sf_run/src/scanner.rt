@@ -422,6 +422,7 @@ impl<'f, S: Store> Scanner<'f, S> {
             → used_by (standing self.new) ≡ length (x ++ piece.now) }
         ensures gives { (ds : List Directive) (m : ℕ) (x z : List ℕ) (ending : Ending) → After ds m (standing self.old) x → result.state ≡ FeedState.Ended
             → Gives ds m (standing self.new) ((x ++ piece.now) ++ z) ending }
+        ensures no_text { (ds : List Directive) (m : ℕ) (y : List ℕ) → ran_out (standing self.new) ≡ true → After ds m (standing self.new) y → ⊥ }
         ensures stopped { result.state ≡ FeedState.Wait → ran_out (standing self.new) ≡ false }
         ensures holds { (ds : List Directive) (m : ℕ) (x : List ℕ) → After ds m (standing self.old) x → HoldsTexts ds (kept_by self.new) }
         ensures bounded { (ds : List Directive) (m : ℕ) (x : List ℕ) → IsSome (width_sum ds) → After ds m (standing self.old) x → ran_out (standing self.new) ≡ false }

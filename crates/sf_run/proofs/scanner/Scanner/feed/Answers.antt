@@ -50,3 +50,6 @@ pub returns-clause-bounded : goal.returns-clause-bounded
 returns-clause-bounded g c ds m x bounded h =
     let e = c.push-taken.ensures in
     c.push-taken.new.self.healthy (ap (λ l. is_some (width_sum l)) (e.keeps.directives ∙ h.format) ∙ bounded)
+
+pub returns-clause-no_text : goal.returns-clause-no_text
+returns-clause-no_text g c ds m y out after = true≢false (sym out ∙ after_fine ds m (standing c.push-taken.new.self) y after)
