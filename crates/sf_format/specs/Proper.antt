@@ -1,12 +1,11 @@
 -- What holds of the directives of each accepted scan format.
-use Rattle.std.specs.Prelude.{◌≡◌, ℕ, ◌<◌, ◌≤◌, Bool, true, false, ◌&&◌, List, length, map, Option, Some, None, IsSome, IfSome}
-use Rattle.std.specs.List.{AllByRecursion, list_all, filter_map}
+use Rattle.std.specs.Prelude.{◌≡◌, ℕ, ◌<◌, ◌≤◌, true, List, length, map, Option, Some, None, IsSome, IfSome}
+use Rattle.std.specs.List.{AllByRecursion, filter_map}
 use Rattle.sf_base.specs.declared.values.Kind.{Kind}
-use Rattle.sf_base.specs.declared.values.Kind.TheVariants.{I32}
 use Rattle.sf_base.specs.Sets.{has_byte}
 use Rattle.sf_format.specs.Slots.{Slotted, kind_with, slots_from, AreSlots}
 use Rattle.sf_format.specs.declared.directive.Shape.{Shape}
-use Rattle.sf_format.specs.declared.directive.Shape.TheVariants.{Int, Set, Chars}
+use Rattle.sf_format.specs.declared.directive.Shape.TheVariants.{Set, Chars}
 use Rattle.sf_format.specs.declared.directive.Directive.{Directive}
 use Rattle.sf_format.specs.declared.directive.Directive.TheVariants.{Space, Byte, Percent, Conv}
 
@@ -62,24 +61,6 @@ slots_of ds = map (λ d. d.0) (destinations_of ds)
 -- the destinations have the slots from 1 to their count in order
 abbrev pub AreInOrder : List Directive → Type 0
 AreInOrder ds = slots_of ds ≡ slots_from 1 (length (destinations_of ds))
-
--- ---- integers of 32 bits
-
-abbrev pub is_integer : Shape → Bool
-is_integer (Int base) = true
-is_integer _ = false
-
-abbrev pub is_i32 : Kind → Bool
-is_i32 I32 = true
-is_i32 _ = false
-
--- a conversion, if it is one, is of an integer of 32 bits
-abbrev pub is_plain : Directive → Bool
-is_plain (Conv c) = is_integer c.shape && is_i32 c.kind
-is_plain _ = true
-
-abbrev pub are_plain : List Directive → Bool
-are_plain ds = list_all is_plain ds
 
 -- ---- what each accepted format has
 
