@@ -1,12 +1,12 @@
 -- What the command answers, by what its calls answer.
 use Rattle.std.proofs.Common.{◌≡◌, ℕ, List, Bool, true, false, Option, Some, Result, Ok, Err, [], get_or, arith, inl, inr, refl, sym, ap, subst, ◌∙◌}
-use Rattle.std.specs.Prelude.{IfErr, IsErrAnd, ◌↔◌}
+use Rattle.std.specs.Prelude.{IfErr, IsErrAnd}
 use Rattle.sf_format.specs.declared.directive.Profile.TheVariants.{One}
 use Rattle.sf_format.specs.declared.directive.Directive.{Directive}
 use Rattle.sf_format.specs.declared.fault.FormatFault.{FormatFault}
 use Rattle.sf_format.specs.declared.fault.FormatWhy.{FormatWhy}
 use Rattle.sf_format.specs.declared.fault.FormatWhy.TheVariants.{NoMemory}
-use Rattle.sf_format.specs.Faults.{Fault, IsRefused, no_memory}
+use Rattle.sf_format.specs.Faults.{Fault, IsRefused}
 use Rattle.sf_format.specs.Grammar.{Spells}
 use Rattle.sf_tool.specs.declared.command.Verb.{Verb}
 use Rattle.sf_tool.specs.declared.command.Verb.TheVariants.{Scan, Show}
