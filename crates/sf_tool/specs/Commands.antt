@@ -66,16 +66,16 @@ Unread _ input input' out out' = Unit {0}
 -- `before`, and now holds `after`; None where the writer doesn't tell.
 abbrev pub Writes : List Directive → List ℕ → Option (List ℕ) → Option (List ℕ) → ℕ → Option ToolFault → Type 0
 Writes ds text before after status fault =
-    (length text ≤ 1048576) × ((output : List ℕ) × EndsWith ds text output status fault × Appends before after output)
+    (length text ≤ 2097152) × ((output : List ℕ) × EndsWith ds text output status fault × Appends before after output)
 
 -- what holds of the output at each fault
 abbrev pub StopsAt : List Directive → List ℕ → Option (List ℕ) → Option (List ℕ) → CommandFault → Type 0
 StopsAt ds text before after Usage = ⊥
 StopsAt ds text before after (Format fault) = ⊥
-StopsAt ds text before after TooLong = (1048576 < length text) × (after ≡ before)
+StopsAt ds text before after TooLong = (2097152 < length text) × (after ≡ before)
 StopsAt ds text before after Read = after ≡ before
 StopsAt ds text before after (Record fault) = Writes ds text before after 1 (Some fault)
-StopsAt ds text before after Write = length text ≤ 1048576
+StopsAt ds text before after Write = length text ≤ 2097152
 StopsAt ds text before after Memory = after ≡ before
 
 -- what a scan of the text by the directives answers

@@ -5,14 +5,14 @@ use std::alloc::Global;
 use std::io::Read;
 
 /// The most bytes of an input.
-const MOST_BYTES: usize = 1048576;
+const MOST_BYTES: usize = 2097152;
 
 const BLOCK_BYTES: usize = 8192;
 
 /// Why an input was not read to its end.
 #[derive(Clone, Copy, Debug, PartialEq, Eq)]
 pub enum InputFault {
-    /// It has more than 1048576 bytes.
+    /// It has more than 2097152 bytes.
     TooLong,
     /// A read failed. An interrupted one is not tried again.
     Read,
@@ -22,10 +22,10 @@ pub enum InputFault {
 
 /// Reads an input to its end.
 pub fn read_input<R: Read>(alloc: Global, input: &mut R) -> Result<Vec<u8>, InputFault>
-    ensures few { IfOk result (λ bytes. vec_len bytes ≤ 1048576) }
+    ensures few { IfOk result (λ bytes. vec_len bytes ≤ 2097152) }
     ensures whole { IfOk result (λ bytes. IfSome (R.remaining input.old) (λ text. bytes.items ≡ text)) }
     ensures too_long { IsErrOf result InputFault.TooLong
-        → IfSome (R.remaining input.old) (λ text. 1048576 < length text) }
+        → IfSome (R.remaining input.old) (λ text. 2097152 < length text) }
 {
     let mut bytes = Vec::new(alloc);
     let mut block = [0; BLOCK_BYTES];

@@ -52,7 +52,7 @@ fn scan_record(
 /// Scans record after record of a text, up to its end or the first that fails or has no byte. Err where memory was
 /// refused: then no record counts.
 pub fn scan_text(alloc: Global, text: &[u8], format: &ScanFormat) -> Result<TextEnd, AllocError>
-    requires few { length text.now ≤ 1048576 }
+    requires few { length text.now ≤ 2097152 }
     ensures records { IfOk result (λ end.
         EndsWith format.now text.now end.output.items end.status end.fault) }
     ensures clean { IfOk result (λ end. IsNone end.fault ↔ (end.status ≡ 0)) }

@@ -418,16 +418,16 @@ impl Read for Digits {
 
 #[test]
 fn inputs(rt: HostRuntime) -> Result<(), Fail> {
-    let rows = [(0, false), (1048576, false), (1048577, false), (10, true)];
+    let rows = [(0, false), (2097152, false), (2097153, false), (10, true)];
     for (left, fails) in rows {
         let mut input = Digits { left, fails };
         match read_input(rt.alloc(), &mut input) {
             Ok(bytes) => {
-                assert!(rt; !fails && left <= 1048576, "{left}");
+                assert!(rt; !fails && left <= 2097152, "{left}");
                 assert_eq!(rt; bytes.len(), left);
                 assert!(rt; bytes.iter().all(|byte| *byte == b'1'));
             }
-            Err(InputFault::TooLong) => assert_eq!(rt; left, 1048577),
+            Err(InputFault::TooLong) => assert_eq!(rt; left, 2097153),
             Err(InputFault::Read) => assert!(rt; fails, "{left}"),
             Err(InputFault::Memory) => assert!(rt; false, "{left}"),
         }
@@ -471,7 +471,7 @@ fn read_and_write_faults(rt: HostRuntime) -> Result<(), Fail> {
     let words = words(alloc, "scan", "%d")?;
     for (left, line) in [
         (10, "sf: record 1: read fault\n"),
-        (1048577, "sf: input too long\n"),
+        (2097153, "sf: input too long\n"),
     ] {
         let mut out = Vec::<u8>::new(alloc);
         let mut err = Vec::<u8>::new(alloc);
