@@ -1,5 +1,6 @@
 pub mod Answering
 pub mod Joining
+pub mod Looping
 pub mod OneEnd
 pub mod Pairs
-pub mod Records
+pub mod Passing

@@ -1,5 +1,5 @@
 -- What the command answers, and what it writes.
-use Rattle.std.specs.Prelude.{◌≡◌, ◌<◌, ◌≤◌, ◌↔◌, ℕ, List, [], ◌∷◌, length, Option, Some, None, Result, Ok, Err, IfErr, codes}
+use Rattle.std.specs.Prelude.{◌≡◌, ◌↔◌, ℕ, List, [], ◌∷◌, Option, Some, None, Result, Ok, Err, IfErr, codes}
 use Rattle.std.specs.Io.KnownBytes.{Appends}
 use Rattle.sf_format.specs.declared.directive.Directive.{Directive}
 use Rattle.sf_format.specs.declared.directive.Profile.TheVariants.{One}
@@ -12,12 +12,12 @@ use Rattle.sf_format.specs.declared.fault.FormatWhy.TheVariants.{NoMemory}
 use Rattle.sf_tool.specs.declared.command.Verb.{Verb}
 use Rattle.sf_tool.specs.declared.command.Verb.TheVariants.{Scan, Show}
 use Rattle.sf_tool.specs.declared.fault.CommandFault.{CommandFault}
-use Rattle.sf_tool.specs.declared.fault.CommandFault.TheVariants.{Usage, Format, TooLong, Read, Record, Write, Memory}
-use Rattle.sf_tool.specs.declared.input.InputFault.{InputFault}
-use Rattle.sf_tool.specs.declared.input.InputFault.TheVariants as input
-use Rattle.sf_tool.specs.declared.scan.ToolFault.{ToolFault}
+use Rattle.sf_tool.specs.declared.fault.CommandFault.TheVariants.{Usage, Format, Record, Write, Memory}
+use Rattle.sf_tool.specs.declared.records.ToolEnd.{ToolEnd}
+use Rattle.sf_tool.specs.declared.records.ToolFault.{ToolFault}
 use Rattle.sf_tool.specs.Texts.{status_of}
-use Rattle.sf_tool.specs.Records.{EndsWith}
+use Rattle.sf_tool.specs.Records.{Loops}
+use Rattle.sf_read.specs.Ahead.{Ahead, input_of}
 use Rattle.sf_tool.specs.Show.{show_text}
 
 -- the word for what is done with a format
@@ -34,12 +34,6 @@ IsCommand words = (verb : Verb) × (format : List ℕ) × (words ≡ words_of ve
 
 -- ---- faults
 
--- the command's fault for an input's fault
-abbrev pub input_fault : InputFault → CommandFault
-input_fault input.TooLong = TooLong
-input_fault input.Read = Read
-input_fault input.Memory = Memory
-
 -- the command's fault for a format's fault
 abbrev pub format_fault_by : FormatWhy → FormatFault → CommandFault
 format_fault_by NoMemory fault = Memory
@@ -48,46 +42,36 @@ format_fault_by _ fault = Format fault
 abbrev pub format_fault : FormatFault → CommandFault
 format_fault fault = format_fault_by fault.why fault
 
--- the fault is none of the words, and no fault of the format's text
-abbrev pub IsOfInput : CommandFault → Type 0
-IsOfInput Usage = ⊥
-IsOfInput (Format fault) = ⊥
-IsOfInput _ = Unit {0}
+-- the fault is that of a loop over records
+abbrev pub IsOfRecords : CommandFault → Type 0
+IsOfRecords (Record fault) = Unit {0}
+IsOfRecords _ = ⊥
 
 -- where the words or the format are at fault, nothing was read or written
-abbrev pub Unread : {R W : Type 0} → CommandFault → R → R → W → W → Type 0
-Unread Usage input input' out out' = (input' ≡ input) × (out' ≡ out)
-Unread (Format fault) input input' out out' = (input' ≡ input) × (out' ≡ out)
-Unread _ input input' out out' = Unit {0}
+abbrev pub Unread : {S K : Type 0} → CommandFault → Ahead S → Ahead S → K → K → Type 0
+Unread Usage from from' out out' = (from' ≡ from) × (out' ≡ out)
+Unread (Format fault) from from' out out' = (from' ≡ from) × (out' ≡ out)
+Unread _ from from' out out' = Unit {0}
 
--- ---- scans of a text
+-- ---- scans of an input
 
--- The lines of the records of the text were written, and the records ended so. The output held the bytes
--- `before`, and now holds `after`; None where the writer doesn't tell.
-abbrev pub Writes : List Directive → List ℕ → Option (List ℕ) → Option (List ℕ) → ℕ → Option ToolFault → Type 0
-Writes ds text before after status fault =
-    (length text ≤ 2097152) × ((output : List ℕ) × EndsWith ds text output status fault × Appends before after output)
+-- what the command answers where the loop over the records has ended
+abbrev pub answer_by : Option ToolFault → Result (Unit {0}) CommandFault
+answer_by None = Ok tt
+answer_by (Some fault) = Err (Record fault)
 
--- what holds of the output at each fault
-abbrev pub StopsAt : List Directive → List ℕ → Option (List ℕ) → Option (List ℕ) → CommandFault → Type 0
-StopsAt ds text before after Usage = ⊥
-StopsAt ds text before after (Format fault) = ⊥
-StopsAt ds text before after TooLong = (2097152 < length text) × (after ≡ before)
-StopsAt ds text before after Read = after ≡ before
-StopsAt ds text before after (Record fault) = Writes ds text before after 1 (Some fault)
-StopsAt ds text before after Write = length text ≤ 2097152
-StopsAt ds text before after Memory = after ≡ before
-
--- what a scan of the text by the directives answers
-abbrev pub Scans : List Directive → List ℕ → Option (List ℕ) → Option (List ℕ) → Result (Unit {0}) CommandFault → Type 0
-Scans ds text before after (Ok _) = Writes ds text before after 0 None
-Scans ds text before after (Err fault) = StopsAt ds text before after fault
+-- What a scan of the text by the directives writes and answers: what the loop over its records does, by runs of at most
+-- 1048576 bytes.
+abbrev pub Scans : {S : Type 0} → (S → Option (List ℕ)) → List Directive → List ℕ → Ahead S → ℕ → ℕ → Option (List ℕ) → Option (List ℕ) → Result (Unit {0}) CommandFault → Type 0
+Scans to_come ds text now failures failures' before after answer =
+    (end : ToolEnd) × Loops to_come ds 1048576 text now failures failures' before after end × (answer ≡ answer_by end.fault)
 
 -- what a scan of the text by the format answers: the format is refused for its first fault, or its directives scan
-abbrev pub ScansBy : List ℕ → List ℕ → Option (List ℕ) → Option (List ℕ) → Result (Unit {0}) CommandFault → Type 0
-ScansBy format text before after (Err (Format fault)) = Fault One format fault.at fault.why
-ScansBy format text before after (Err Memory) = after ≡ before
-ScansBy format text before after answer = (ds : List Directive) × Spells One format ds × Scans ds text before after answer
+abbrev pub ScansBy : {S : Type 0} → (S → Option (List ℕ)) → List ℕ → List ℕ → Ahead S → ℕ → ℕ → Option (List ℕ) → Option (List ℕ) → Result (Unit {0}) CommandFault → Type 0
+ScansBy to_come format text now failures failures' before after (Err (Format fault)) = Fault One format fault.at fault.why
+ScansBy to_come format text now failures failures' before after (Err Memory) = after ≡ before
+ScansBy to_come format text now failures failures' before after answer =
+    (ds : List Directive) × Spells One format ds × Scans to_come ds text now failures failures' before after answer
 
 -- ---- shows of a format
 
@@ -106,26 +90,26 @@ ShowsBy format before after answer = (ds : List Directive) × Spells One format 
 
 -- ---- commands
 
--- What the command of the words answers. `remaining` and `contents` tell the bytes that are left to read, and
--- those that were written.
-pub record Answered {R W : Type 0} (remaining : R → Option (List ℕ)) (contents : W → Option (List ℕ)) (words : List (List ℕ))
-    (input input' : R) (out out' : W) (answer : Result (Unit {0}) CommandFault) : Type 0 where
+-- What the command of the words answers. `to_come` and `contents` tell the bytes that a source will give and those that a
+-- sink took, `failures` how often the source failed.
+pub record Answered {S K : Type 0} (to_come : S → Option (List ℕ)) (failures : S → ℕ) (contents : K → Option (List ℕ)) (words : List (List ℕ))
+    (from from' : Ahead S) (out out' : K) (answer : Result (Unit {0}) CommandFault) : Type 0 where
   pub usage : (answer ≡ Err Usage) ↔ (IsCommand words → ⊥)
-  pub unread : IfErr answer (λ fault. Unread fault input input' out out')
+  pub unread : IfErr answer (λ fault. Unread fault from from' out out')
   pub refused : (verb : Verb) (format : List ℕ) (at : ℕ) (why : FormatWhy) → words ≡ words_of verb format → Fault One format at why
       → answer ≡ Err (format_fault (record { at = at; why = why }))
-  pub scans : (format text : List ℕ) → words ≡ words_of Scan format → remaining input ≡ Some text
-      → ScansBy format text (contents out) (contents out') answer
+  pub scans : (format text : List ℕ) → words ≡ words_of Scan format → input_of to_come from ≡ Some text
+      → ScansBy to_come format text from' (failures from.source) (failures from'.source) (contents out) (contents out') answer
   pub shows : (format : List ℕ) → words ≡ words_of Show format
-      → (input' ≡ input) × ShowsBy format (contents out) (contents out') answer
+      → (from' ≡ from) × ShowsBy format (contents out) (contents out') answer
 
 abbrev pub exit_status : Result (Unit {0}) CommandFault → ℕ
 exit_status (Ok _) = 0
 exit_status (Err fault) = status_of fault
 
 -- the exit status of the command of the words
-pub record Exits {R W : Type 0} (remaining : R → Option (List ℕ)) (contents : W → Option (List ℕ)) (words : List (List ℕ))
-    (input input' : R) (out out' : W) (status : ℕ) : Type 0 where
+pub record Exits {S K : Type 0} (to_come : S → Option (List ℕ)) (failures : S → ℕ) (contents : K → Option (List ℕ)) (words : List (List ℕ))
+    (from from' : Ahead S) (out out' : K) (status : ℕ) : Type 0 where
   pub answer : Result (Unit {0}) CommandFault
-  pub answered : Answered remaining contents words input input' out out' answer
+  pub answered : Answered to_come failures contents words from from' out out' answer
   pub is_status : status ≡ exit_status answer

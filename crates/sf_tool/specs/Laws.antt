@@ -1,17 +1,18 @@
 -- Laws of records.
-use Rattle.std.specs.Prelude.{◌≡◌, ℕ, List, Option}
+use Rattle.std.specs.Prelude.{◌≡◌, ℕ, List}
 use Rattle.sf_format.specs.declared.directive.Directive.{Directive}
 use Rattle.sf_format.specs.Proper.{AreProper}
-use Rattle.sf_tool.specs.declared.scan.ToolFault.{ToolFault}
+use Rattle.sf_run.specs.declared.outcome.Ending.{Ending}
+use Rattle.sf_tool.specs.declared.records.ToolEnd.{ToolEnd}
 use Rattle.sf_tool.specs.Records.{EndsWith}
 
--- the records of the text have this output, status and fault, and no others
-pub record HasOneEnd (ds : List Directive) (x : List ℕ) : Type 0 where
+-- the records of the input have this output, use so many bytes and end so, and in no other way
+pub record HasOneEnd (ds : List Directive) (m : ℕ) (x : List ℕ) (ending : Ending) : Type 0 where
   pub output : List ℕ
-  pub status : ℕ
-  pub fault : Option ToolFault
-  pub is : EndsWith ds x output status fault
-  pub only : (o : List ℕ) (s : ℕ) (f : Option ToolFault) → EndsWith ds x o s f → (o ≡ output) × (s ≡ status) × (f ≡ fault)
+  pub used : ℕ
+  pub end : ToolEnd
+  pub is : EndsWith ds m x ending output used end
+  pub only : (o : List ℕ) (u : ℕ) (e : ToolEnd) → EndsWith ds m x ending o u e → (o ≡ output) × (u ≡ used) × (e ≡ end)
 
 abbrev pub EachHasOneEnd : Type 0
-EachHasOneEnd = (ds : List Directive) → AreProper ds → (x : List ℕ) → HasOneEnd ds x
+EachHasOneEnd = (ds : List Directive) → AreProper ds → (m : ℕ) (x : List ℕ) (ending : Ending) → HasOneEnd ds m x ending

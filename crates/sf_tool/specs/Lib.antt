@@ -1,4 +1,5 @@
 pub mod Commands
+pub mod Judging
 pub mod Laws
 pub mod Lines
 pub mod Quotes

@@ -1,23 +1,50 @@
--- The records of a whole text, their lines, and how they end.
-use Rattle.std.specs.Prelude.{◌≡◌, ◌+◌, ℕ, List, [], ◌∷◌, length, drop, Option, Some, None}
+-- The records of a whole input, their lines, and how the loop over them ends.
+use Rattle.std.specs.Prelude.{◌≡◌, ◌+◌, ◌<◌, ◌++◌, ◌⊎◌, ℕ, Bool, true, false, if◌then◌else◌, List, [], ◌∷◌, length, take, drop, Option, Some, None}
 use Rattle.std.specs.List.{flat_map}
+use Rattle.std.specs.Io.KnownBytes.{Appends}
 use Rattle.sf_format.specs.declared.directive.Directive.{Directive}
 use Rattle.sf_format.specs.Proper.{destinations_of}
-use Rattle.sf_run.specs.declared.outcome.Ending.TheVariants.{End}
+use Rattle.sf_run.specs.declared.outcome.Ending.{Ending}
+use Rattle.sf_run.specs.declared.outcome.Ending.TheVariants.{End, Fault}
 use Rattle.sf_run.specs.declared.outcome.Outcome.{Outcome}
 use Rattle.sf_run.specs.Runs.{RunReport}
 use Rattle.sf_run.specs.Limits.{RunWithin}
+use Rattle.sf_read.specs.Ahead.{Ahead, input_of}
+use Rattle.sf_read.specs.Counts.{counted_on}
 use Rattle.sf_tool.specs.declared.turn.Turn.{Turn}
-use Rattle.sf_tool.specs.declared.turn.Turn.TheVariants.{Goes, Ends, Failed, Stalled}
-use Rattle.sf_tool.specs.declared.scan.ToolFault.{ToolFault}
-use Rattle.sf_tool.specs.declared.scan.ToolFault.TheVariants as faults
-use Rattle.sf_tool.specs.Turns.{turn_of}
+use Rattle.sf_tool.specs.declared.turn.Turn.TheVariants.{Goes, Ends, Cut, Failed, Stalled, RanOut}
+use Rattle.sf_tool.specs.declared.records.ToolEnd.{ToolEnd}
+use Rattle.sf_tool.specs.declared.records.ToolFault.{ToolFault}
+use Rattle.sf_tool.specs.declared.records.ToolFault.TheVariants as faults
+use Rattle.sf_tool.specs.Turns.{turn_of, writes}
 use Rattle.sf_tool.specs.Lines.{line_of}
 
+-- the most records that one loop writes
+abbrev pub most_records : ℕ
+most_records = 2147483647
+
 -- each report is that of what the ones before it left of x, the loop goes on after each, and y is left
-abbrev pub Passed : List Directive → ℕ → List ℕ → List RunReport → List ℕ → Type 0
-Passed ds m x [] y = x ≡ y
-Passed ds m x (r ∷ rs) y = RunWithin ds m x End r × (turn_of r ≡ Goes) × Passed ds m (drop r.used x) rs y
+abbrev pub Passed : List Directive → ℕ → List ℕ → Ending → List RunReport → List ℕ → Type 0
+Passed ds m x ending [] y = x ≡ y
+Passed ds m x ending (r ∷ rs) y = RunWithin ds m x ending r × (turn_of r ≡ Goes) × Passed ds m (drop r.used x) ending rs y
+
+-- the bytes that the runs used
+abbrev pub uses : List RunReport → ℕ
+uses [] = 0
+uses (r ∷ rs) = r.used + uses rs
+
+-- ---- lines
+
+abbrev pub line : List Directive → RunReport → List ℕ
+line ds r = line_of (length (destinations_of ds)) r
+
+abbrev pub lines : List Directive → List RunReport → List ℕ
+lines ds rs = flat_map (line ds) rs
+
+abbrev pub last_line : List Directive → RunReport → List ℕ
+last_line ds r = if writes (turn_of r) then line ds r else []
+
+-- ---- how the loop ends
 
 -- what a run came to, but for its values
 abbrev pub outcome_of : RunReport → Outcome
@@ -30,24 +57,107 @@ outcome_of r = record {
   met = r.met;
 }
 
--- the status and the fault at the report at which the loop stops, after n others
-abbrev pub StopsBy : Turn → ℕ → RunReport → ℕ → Option ToolFault → Type 0
-StopsBy Goes n last status fault = ⊥
-StopsBy Ends n last status fault = (status ≡ 0) × (fault ≡ None)
-StopsBy Failed n last status fault = (status ≡ 1) × (fault ≡ Some (faults.Failed (n + 1) (outcome_of last)))
-StopsBy Stalled n last status fault = (status ≡ 1) × (fault ≡ Some (faults.Stalled (n + 1)))
+abbrev pub status_by : Option ToolFault → ℕ
+status_by None = 0
+status_by (Some (faults.Failed number outcome)) = 1
+status_by (Some (faults.Stalled number)) = 1
+status_by (Some faults.TooMany) = 1
+status_by (Some (faults.Read number)) = 3
+status_by (Some faults.Write) = 3
+status_by (Some faults.Memory) = 4
 
--- The records of the text x, by runs of at most m bytes: those of which lines are written, and the run at
--- which the loop stops.
-pub record Records (ds : List Directive) (m : ℕ) (x : List ℕ) (written : List RunReport) (last : RunReport) : Type 0 where
-  pub left : List ℕ
-  pub passed : Passed ds m x written left
-  pub ran : RunWithin ds m left End last
+-- an end after this many records, with its fault and so its status
+abbrev pub ended : ℕ → Option ToolFault → ToolEnd
+ended n fault = record { status = status_by fault; records = n; fault = fault }
 
--- the output, the status and the fault are those of the records of the text
-pub record EndsWith (ds : List Directive) (x : List ℕ) (output : List ℕ) (status : ℕ) (fault : Option ToolFault) : Type 0 where
-  pub written : List RunReport
+-- the end at the report at which the loop stops, n records having been written before
+abbrev pub end_by : Turn → ℕ → RunReport → ToolEnd
+end_by Goes n last = ended (n + 1) (Some faults.TooMany)
+end_by Ends n last = ended n None
+end_by (Cut written) n last = ended (if written then n + 1 else n) (Some (faults.Read (n + 1)))
+end_by Failed n last = ended n (Some (faults.Failed (n + 1) (outcome_of last)))
+end_by Stalled n last = ended n (Some (faults.Stalled (n + 1)))
+end_by RanOut n last = ended n (Some faults.Memory)
+
+-- no record may follow
+pub record IsFull (n : ℕ) (tail : List ℕ) (spent : ℕ) (end : ToolEnd) : Type 0 where
+  pub full : n ≡ most_records
+  pub nothing : tail ≡ []
+  pub unused : spent ≡ 0
+  pub end_is : end ≡ ended n (Some faults.TooMany)
+
+-- The loop stops at the run over y. tail: the line that is written then. spent: the bytes that this run uses.
+pub record StopsAt (ds : List Directive) (m : ℕ) (y : List ℕ) (ending : Ending) (n : ℕ) (tail : List ℕ) (spent : ℕ) (end : ToolEnd) : Type 0 where
+  pub few : n < most_records
   pub last : RunReport
-  pub records : Records ds 1048576 x written last
-  pub lines : output ≡ flat_map (line_of (length (destinations_of ds))) written
-  pub stops : StopsBy (turn_of last) (length written) last status fault
+  pub ran : RunWithin ds m y ending last
+  pub stops : turn_of last ≡ Goes → ⊥
+  pub tail_is : tail ≡ last_line ds last
+  pub spent_is : spent ≡ last.used
+  pub end_is : end ≡ end_by (turn_of last) n last
+
+-- The records of the input x with its ending, by runs of at most m bytes, n records having been written before: their
+-- lines, the bytes that the runs use, and how the loop ends.
+pub record EndsFrom (n : ℕ) (ds : List Directive) (m : ℕ) (x : List ℕ) (ending : Ending) (output : List ℕ) (used : ℕ) (end : ToolEnd) : Type 0 where
+  pub written : List RunReport
+  pub left : List ℕ
+  pub tail : List ℕ
+  pub spent : ℕ
+  pub passed : Passed ds m x ending written left
+  pub stops : IsFull (n + length written) tail spent end ⊎ StopsAt ds m left ending (n + length written) tail spent end
+  pub output_is : output ≡ lines ds written ++ tail
+  pub used_is : used ≡ uses written + spent
+
+-- the same from the first record on
+abbrev pub EndsWith : List Directive → ℕ → List ℕ → Ending → List ℕ → ℕ → ToolEnd → Type 0
+EndsWith = EndsFrom 0
+
+-- ---- where memory was refused or the sink failed
+
+-- the sink failed within the line of the run over y, when it had taken this part of it
+pub record IsUnwritten (ds : List Directive) (m : ℕ) (y : List ℕ) (ending : Ending) (part : List ℕ) : Type 0 where
+  pub next : RunReport
+  pub ran : RunWithin ds m y ending next
+  pub due : writes (turn_of next) ≡ true
+  pub missing : ℕ
+  pub rest : List ℕ
+  pub begun : line ds next ≡ part ++ missing ∷ rest
+
+-- The loop was ended before: by the sink, or by want of memory. Only full lines count as records.
+pub record IsCutShort (ds : List Directive) (m : ℕ) (x : List ℕ) (ending : Ending) (written : List ℕ) (end : ToolEnd) : Type 0 where
+  pub before : List RunReport
+  pub left : List ℕ
+  pub part : List ℕ
+  pub passed : Passed ds m x ending before left
+  pub written_is : written ≡ lines ds before ++ part
+  pub why : (end ≡ ended (length before) (Some faults.Write)) × IsUnwritten ds m left ending part
+      ⊎ (end ≡ ended (length before) (Some faults.Memory)) × (part ≡ [])
+
+-- ---- the loop over a source
+
+-- what the runs had for their input: all of t, or, where the source failed, the bytes that they used
+abbrev pub input_by : Bool → ℕ → List ℕ → List ℕ
+input_by failed used t = if failed then take used t else t
+
+abbrev pub ending_by : Bool → Ending
+ending_by failed = if failed then Fault else End
+
+-- What the loop over the input t wrote and answered. now: what is held and to come afterwards. The sink held the bytes
+-- `before`, and then `after`, where it tells them; `failures` and `failures'` are the counts of the source's failures.
+pub record Loops {S : Type 0} (to_come : S → Option (List ℕ)) (ds : List Directive) (m : ℕ) (t : List ℕ) (now : Ahead S)
+    (failures failures' : ℕ) (before after : Option (List ℕ)) (answer : ToolEnd) : Type 0 where
+  -- whether the source failed
+  pub failed : Bool
+  pub failures_are : failures' ≡ (if failed then counted_on failures else failures)
+  -- what the runs did not use is then held or to come
+  pub consumed : ℕ
+  pub rest : input_of to_come now ≡ Some (drop consumed t)
+  -- what is written by the definition, and what was
+  pub output : List ℕ
+  pub used : ℕ
+  pub end : ToolEnd
+  pub is : EndsWith ds m (input_by failed consumed t) (ending_by failed) output used end
+  pub written : List ℕ
+  pub appends : Appends before after written
+  pub told : (written ≡ output) × (consumed ≡ used) × (answer ≡ end)
+      ⊎ ((missing : List ℕ) × (output ≡ written ++ missing)) × IsCutShort ds m (input_by failed consumed t) (ending_by failed) written answer

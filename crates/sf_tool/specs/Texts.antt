@@ -1,14 +1,15 @@
 -- What the command says and answers where it doesn't end cleanly.
-use Rattle.std.specs.Prelude.{ℕ, List, ◌++◌, codes}
+use Rattle.std.specs.Prelude.{ℕ, List, ◌++◌, codes, Some}
 use Rattle.std.specs.Fmt.{decimal}
 use Rattle.sf_format.specs.declared.fault.FormatWhy.{FormatWhy}
 use Rattle.sf_format.specs.declared.fault.FormatWhy.TheVariants as format
 use Rattle.sf_run.specs.declared.outcome.Status.{Status}
 use Rattle.sf_run.specs.declared.outcome.Status.TheVariants as run
-use Rattle.sf_tool.specs.declared.scan.ToolFault.{ToolFault}
-use Rattle.sf_tool.specs.declared.scan.ToolFault.TheVariants.{Failed, Stalled}
+use Rattle.sf_tool.specs.declared.records.ToolFault.{ToolFault}
+use Rattle.sf_tool.specs.declared.records.ToolFault.TheVariants as fault
+use Rattle.sf_tool.specs.Records.{status_by}
 use Rattle.sf_tool.specs.declared.fault.CommandFault.{CommandFault}
-use Rattle.sf_tool.specs.declared.fault.CommandFault.TheVariants.{Usage, Format, TooLong, Read, Record, Write, Memory}
+use Rattle.sf_tool.specs.declared.fault.CommandFault.TheVariants.{Usage, Format, Record, Write, Memory}
 
 abbrev pub why_text : FormatWhy → List ℕ
 why_text format.Truncated = codes "F1 Truncated"
@@ -41,17 +42,19 @@ status_text run.TooLong = codes "too long"
 status_text run.NoMemory = codes "out of memory"
 
 abbrev pub tool_fault_text : ToolFault → List ℕ
-tool_fault_text (Failed number outcome) =
+tool_fault_text (fault.Failed number outcome) =
     codes "record " ++ (decimal number ++ (codes ": " ++ (status_text outcome.status ++ (codes " at " ++ (decimal outcome.at
     ++ (codes ", used " ++ (decimal outcome.used ++ (codes ", assigned " ++ decimal outcome.assigned))))))))
-tool_fault_text (Stalled number) = codes "record " ++ (decimal number ++ codes ": stalled")
+tool_fault_text (fault.Stalled number) = codes "record " ++ (decimal number ++ codes ": stalled")
+tool_fault_text fault.TooMany = codes "too many records"
+tool_fault_text (fault.Read number) = codes "record " ++ (decimal number ++ codes ": read fault")
+tool_fault_text fault.Write = codes "write fault"
+tool_fault_text fault.Memory = codes "out of memory"
 
 -- the line on standard error, without its line end
 abbrev pub command_fault_text : CommandFault → List ℕ
 command_fault_text Usage = codes "sf: usage"
 command_fault_text (Format fault) = codes "sf: scan format: " ++ (why_text fault.why ++ (codes " at " ++ decimal fault.at))
-command_fault_text TooLong = codes "sf: input too long"
-command_fault_text Read = codes "sf: record 1: read fault"
 command_fault_text (Record fault) = codes "sf: " ++ tool_fault_text fault
 command_fault_text Write = codes "sf: write fault"
 command_fault_text Memory = codes "sf: out of memory"
@@ -60,8 +63,6 @@ command_fault_text Memory = codes "sf: out of memory"
 abbrev pub status_of : CommandFault → ℕ
 status_of Usage = 2
 status_of (Format fault) = 2
-status_of TooLong = 3
-status_of Read = 3
-status_of (Record fault) = 1
+status_of (Record fault) = status_by (Some fault)
 status_of Write = 3
 status_of Memory = 4

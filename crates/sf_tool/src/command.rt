@@ -1,16 +1,21 @@
 //! The command: its words, its input and what it writes.
-ghost use Rattle.std.specs.Prelude.{◌≡◌, ℕ, List, map, string_bytes, IfErr, IfSome, IfNone, OnOk};
-ghost use Rattle.std.specs.Io.KnownBytes.{Appends};
+ghost use Rattle.std.specs.Prelude.{◌≡◌, ℕ, List, map, string_bytes, IfErr, IfSome, IfNone, Some};
+ghost use Rattle.sf_read.specs.Ahead.{input_of};
 ghost use Rattle.sf_tool.specs.declared.command.Verb.{Verb};
-ghost use Rattle.sf_tool.specs.Commands.{Answered, Exits, IsCommand, IsOfInput, Scans, Shows, verb_text, words_of};
+ghost use Rattle.sf_tool.specs.Commands.{Answered, Exits, IsCommand, IsOfRecords, Scans, Shows, verb_text, words_of};
 
 use crate::fault::CommandFault;
-use crate::input::read_input;
-use crate::scan::scan_text;
+use crate::output::write_whole;
+use crate::records::run_scan;
 use crate::show::show;
 use sf_format::{Profile, ScanFormat};
+use sf_print::Sink;
+use sf_read::{Lookahead, Source};
 use std::alloc::Global;
-use std::io::{Read, Write};
+use std::io::Write;
+
+/// The most bytes that one record may have.
+const MOST_RECORD_BYTES: u32 = 1048576;
 
 /// What is done with a format.
 #[derive(Clone, Copy, Debug, PartialEq, Eq)]
@@ -21,47 +26,36 @@ pub(crate) enum Verb {
     Show,
 }
 
-fn write_out<W: Write>(out: &mut W, bytes: &[u8]) -> Result<(), CommandFault>
-    ensures written { OnOk result (Appends (W.contents out.old) (W.contents out.new) bytes.now) }
-    ensures fault { IfErr result (λ fault. fault ≡ CommandFault.Write) }
-{
-    if out.write_all(bytes).is_err() || out.flush().is_err() {
-        return Err(CommandFault::Write);
-    }
-    Ok(())
-}
-
-/// Scans the records of an input by a format, and writes their lines, flushed. Where memory is refused, also for a text of
-/// a record, nothing is written.
-pub fn scan_input<R: Read, W: Write>(
+/// Scans the records of an input by a format, and writes their lines.
+fn scan_records<S: Source, K: Sink, const N: usize>(
     alloc: Global,
     format: &ScanFormat,
-    input: &mut R,
-    out: &mut W,
+    from: &mut Lookahead<S, N>,
+    out: &mut K,
 ) -> Result<(), CommandFault>
-    ensures kind { IfErr result IsOfInput }
-    ensures answer { (text : List ℕ) → R.remaining input.old ≡ Some text
-        → Scans format.now text (W.contents out.old) (W.contents out.new) result }
+    ensures kind { IfErr result IsOfRecords }
+    ensures answer { (text : List ℕ) → input_of S.to_come from.old ≡ Some text
+        → Scans S.to_come format.now text from.new (S.failures from.old.source) (S.failures from.new.source) (K.contents out.old) (K.contents out.new) result }
 {
-    let bytes = read_input(alloc, input)?;
-    let end = scan_text(alloc, &bytes, format)?;
-    write_out(out, &end.output)?;
-    match end.fault {
+    match run_scan(alloc, from, out, format, MOST_RECORD_BYTES).fault {
         None => Ok(()),
         Some(fault) => Err(CommandFault::Record(fault)),
     }
 }
 
-/// Writes the lines that show a format, flushed.
-fn show_format<W: Write>(
+/// Writes the lines that show a format.
+fn show_format<K: Sink>(
     alloc: Global,
     format: &ScanFormat,
-    out: &mut W,
+    out: &mut K,
 ) -> Result<(), CommandFault>
-    ensures { Shows format.now (W.contents out.old) (W.contents out.new) result }
+    ensures { Shows format.now (K.contents out.old) (K.contents out.new) result }
 {
     let lines = show(alloc, format, format.width_sum())?;
-    write_out(out, &lines)
+    match write_whole(out, &lines) {
+        Ok(()) => Ok(()),
+        Err(_) => Err(CommandFault::Write),
+    }
 }
 
 fn verb_of(word: &str) -> Option<Verb>
@@ -91,38 +85,38 @@ fn asked(words: &[String]) -> Option<(Verb, &str)>
     }
 }
 
-fn command<R: Read, W: Write>(
+fn command<S: Source, K: Sink, const N: usize>(
     alloc: Global,
     words: &[String],
-    input: &mut R,
-    out: &mut W,
+    from: &mut Lookahead<S, N>,
+    out: &mut K,
 ) -> Result<(), CommandFault>
-    ensures { Answered R.remaining W.contents (map string_bytes words.now)
-        input.old input.new out.old out.new result }
+    ensures { Answered S.to_come S.failures K.contents (map string_bytes words.now)
+        from.old from.new out.old out.new result }
 {
     let Some((verb, text)) = asked(words) else {
         return Err(CommandFault::Usage);
     };
     let format = ScanFormat::parse(alloc, Profile::One, text.as_bytes())?;
     match verb {
-        Verb::Scan => scan_input(alloc, &format, input, out),
+        Verb::Scan => scan_records(alloc, &format, from, out),
         Verb::Show => show_format(alloc, &format, out),
     }
 }
 
-/// Runs the command of the words, which are those after the program's name, and answers its exit status. Where it
-/// does not end cleanly, it says why in one line on `err`; a fault in writing that is ignored.
-pub fn tool<R: Read, W: Write, E: Write>(
+/// Runs the command of the words, which are those after the program's name, on what the lookahead holds and its source
+/// gives, and answers its exit status. Where it does not end cleanly, it says why in one line on `err`; a fault in writing
+/// that is ignored. What is written to `out` isn't flushed.
+pub fn tool<S: Source, K: Sink, E: Write, const N: usize>(
     alloc: Global,
     words: &[String],
-    input: &mut R,
-    out: &mut W,
+    from: &mut Lookahead<S, N>,
+    out: &mut K,
     err: &mut E,
 ) -> u8
-    ensures { Exits R.remaining W.contents (map string_bytes words.now)
-        input.old input.new out.old out.new result }
+    ensures { Exits S.to_come S.failures K.contents (map string_bytes words.now) from.old from.new out.old out.new result }
 {
-    match command(alloc, words, input, out) {
+    match command(alloc, words, from, out) {
         Ok(()) => 0,
         Err(fault) => {
             let _ = writeln!(err, "{fault}");

@@ -1,11 +1,10 @@
 //! Why the command ends, and what it says then.
 ghost use Rattle.std.specs.Prelude.{◌≡◌, Some};
 ghost use Rattle.sf_tool.specs.Texts.{command_fault_text, status_text, status_of, tool_fault_text, why_text};
-ghost use Rattle.sf_tool.specs.Commands.{format_fault, input_fault};
+ghost use Rattle.sf_tool.specs.Commands.{format_fault};
 ghost use Rattle.sf_tool.specs.declared.fault.CommandFault.TheVariants.{Memory};
 
-use crate::input::InputFault;
-use crate::scan::ToolFault;
+use crate::records::ToolFault;
 use sf_format::{FormatFault, FormatWhy};
 use sf_run::Status;
 use std::alloc::AllocError;
@@ -67,6 +66,10 @@ impl fmt::Display for ToolFault {
                 )
             }
             ToolFault::Stalled { number } => write!(f, "record {number}: stalled"),
+            ToolFault::TooMany => write!(f, "too many records"),
+            ToolFault::Read { number } => write!(f, "record {number}: read fault"),
+            ToolFault::Write => write!(f, "write fault"),
+            ToolFault::Memory => write!(f, "out of memory"),
         }
     }
 }
@@ -78,28 +81,12 @@ pub enum CommandFault {
     Usage,
     /// The format is refused.
     Format(FormatFault),
-    /// The input is too long.
-    TooLong,
-    /// The input could not be read.
-    Read,
     /// The records stopped before the end of the input.
     Record(ToolFault),
     /// The output could not be written.
     Write,
     /// Memory was refused.
     Memory,
-}
-
-impl From<InputFault> for CommandFault {
-    ghost from_gives = { λ fault given. given ≡ input_fault fault };
-
-    fn from(fault: InputFault) -> CommandFault {
-        match fault {
-            InputFault::TooLong => CommandFault::TooLong,
-            InputFault::Read => CommandFault::Read,
-            InputFault::Memory => CommandFault::Memory,
-        }
-    }
 }
 
 impl From<FormatFault> for CommandFault {
@@ -127,9 +114,9 @@ impl CommandFault {
         ensures { result ≡ status_of self }
     {
         match self {
-            CommandFault::Record(_) => 1,
+            CommandFault::Record(fault) => fault.status(),
             CommandFault::Usage | CommandFault::Format(_) => 2,
-            CommandFault::TooLong | CommandFault::Read | CommandFault::Write => 3,
+            CommandFault::Write => 3,
             CommandFault::Memory => 4,
         }
     }
@@ -147,8 +134,6 @@ impl fmt::Display for CommandFault {
                 let at = fault.at;
                 write!(f, "sf: scan format: {why} at {at}")
             }
-            CommandFault::TooLong => write!(f, "sf: input too long"),
-            CommandFault::Read => write!(f, "sf: record 1: read fault"),
             CommandFault::Record(fault) => write!(f, "sf: {fault}"),
             CommandFault::Write => write!(f, "sf: write fault"),
             CommandFault::Memory => write!(f, "sf: out of memory"),

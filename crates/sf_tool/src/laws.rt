@@ -3,7 +3,7 @@ ghost use Rattle.sf_tool.specs.Laws.{EachHasOneEnd};
 
 use sf_run::laws::one_report;
 
-/// The records of a text by a format have one output, one status and one fault or none, and no others.
+/// The records of an input by a format have one output, use so many bytes and end in one way.
 pub fn one_end()
     ensures { EachHasOneEnd }
 {

@@ -3,17 +3,14 @@
 
 mod command;
 mod fault;
-mod input;
 pub mod laws;
 mod line;
+mod output;
 mod quote;
-mod scan;
+mod records;
 mod show;
-#[cfg(test)]
-mod tests;
 mod turn;
 
-pub use command::{scan_input, tool};
+pub use command::tool;
 pub use fault::CommandFault;
-pub use input::{InputFault, read_input};
-pub use scan::{TextEnd, ToolFault, scan_text};
+pub use records::{ToolEnd, ToolFault, run_scan};
