@@ -1,10 +1,15 @@
 //! The program `sf`.
 #![tactic(auto)]
 
+use sf_print::StdSink;
+use sf_read::{Lookahead, StdSource};
 use sf_tool::{CommandFault, tool};
 use std::env;
-use std::io::{self, BufWriter, ErrorKind};
+use std::io::{self, BufWriter, ErrorKind, Write};
 use std::process::ExitCode;
+
+/// How many bytes of standard input are read at once.
+const BLOCK_BYTES: usize = 4096;
 
 fn stopped(rt: &impl Eprint, fault: CommandFault) -> ExitCode {
     let _ = rt.eprintln(fault);
@@ -29,9 +34,14 @@ fn main(rt: HostRuntime) -> ExitCode {
         Ok(words) => words,
         Err(_) => return stopped(&rt, CommandFault::Memory),
     };
-    let Ok(mut out) = BufWriter::new(alloc, rt.stdout()) else {
+    let Ok(writer) = BufWriter::new(alloc, rt.stdout()) else {
         return stopped(&rt, CommandFault::Memory);
     };
-    let status = tool(alloc, &words, &mut rt.stdin(), &mut out, &mut rt.stderr());
+    let mut out = StdSink::new(writer);
+    let mut from = Lookahead::<_, BLOCK_BYTES>::new(StdSource::new(rt.stdin()));
+    let status = tool(alloc, &words, &mut from, &mut out, &mut rt.stderr());
+    if out.into_writer().flush().is_err() {
+        return stopped(&rt, CommandFault::Write);
+    }
     ExitCode::from(status)
 }
