@@ -5,10 +5,14 @@ mod command;
 mod fault;
 pub mod laws;
 mod line;
+#[cfg(test)]
+mod loop_tests;
 mod output;
 mod quote;
 mod records;
 mod show;
+#[cfg(test)]
+mod tests;
 mod turn;
 
 pub use command::tool;
