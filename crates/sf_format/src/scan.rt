@@ -124,10 +124,12 @@ impl ScanFormat {
         &self.directives
     }
 
-    /// How many destinations the format has.
+    /// How many destinations the format has. Their slots are the numbers from 1 to that, each once.
     pub fn destinations(&self) -> u8
         ensures count { result ≡ length (destinations_of self.now) }
         ensures few { result ≤ 32 }
+        ensures slots { AreSlots (destinations_of self.now) }
+        ensures kinded { AreKinded self.now }
     {
         self.destinations
     }
