@@ -1,8 +1,10 @@
 -- What holds of the directives of each spelled text.
 use Rattle.std.proofs.Common.{◌≡◌, ℕ, ◌+◌, List, [], ◌∷◌, ◌++◌, length, Option, Some, None, refl, sym, ap, ◌∙◌, subst, arith}
 use Rattle.std.proofs.lemmas.List.{length-map}
+use Rattle.std.proofs.lemmas.Option.{same_Some}
 use Rattle.std.specs.List.{AllByRecursion}
 use Rattle.sf_base.specs.declared.values.Kind.{Kind}
+use Rattle.sf_base.specs.declared.values.Kind.TheVariants as kinds
 use Rattle.sf_format.specs.declared.directive.Profile.{Profile}
 use Rattle.sf_format.specs.declared.directive.Shape.{Shape}
 use Rattle.sf_format.specs.declared.directive.Directive.{Directive}
@@ -10,11 +12,14 @@ use Rattle.sf_format.specs.declared.directive.Directive.TheVariants as directive
 use Rattle.sf_format.specs.declared.language.Language.TheVariants.{Scan}
 use Rattle.sf_format.specs.declared.letter.Letter.{Letter}
 use Rattle.sf_format.specs.declared.letter.Letter.TheVariants.{Signed, Unsigned, Chars, Text, Set, Count}
+use Rattle.sf_format.specs.declared.letter.Length.{Length}
+use Rattle.sf_format.specs.declared.letter.Length.TheVariants.{NoLength, HH, H, LL, L, J, Z, T}
+use Rattle.sf_format.specs.Letters.{kind_of, text_kind}
 use Rattle.sf_format.specs.Digits.{IsOptionalNumber, optional_number}
 use Rattle.sf_format.specs.Slots.{Slotted, slots_from}
 use Rattle.sf_format.specs.Pieces.{Piece, WhiteSpace, Ordinary, Percents, Plain, Bracket, Printed}
 use Rattle.sf_format.specs.Grammar.{IsScanPiece, IsFormat, ArePlaced, destinations, shape_of, width_of, Means, MeanAll}
-use Rattle.sf_format.specs.Proper.{HasItsWidth, IsSized, AreSized, IsProperShape, IsProperWidth, IsProper, AreProper, destinations_of, slots_of, AreInOrder, IsAccepted}
+use Rattle.sf_format.specs.Proper.{HasItsKind, IsKinded, AreKinded, HasItsWidth, IsSized, AreSized, IsProperShape, IsProperWidth, IsProper, AreProper, destinations_of, slots_of, AreInOrder, IsAccepted}
 use Rattle.sf_format.specs.Passing.{slot_in}
 use Rattle.sf_format.proofs.Members.{some_member}
 use Rattle.sf_format.proofs.Meanings.{made, scan_meaning}
@@ -92,6 +97,42 @@ all_sized profile place (piece ∷ pieces) [] h = absurd h
 all_sized profile place (piece ∷ pieces) (d ∷ ds) h =
     (sized_one profile place piece d h.0, all_sized profile (place + length (destinations (piece ∷ []))) pieces ds h.1)
 
+-- ---- kinds
+
+text_kinded : (size : Length) (k : Kind) → text_kind size ≡ Some k → k ≡ kinds.Text
+text_kinded NoLength k h = same_Some _ _ (sym h)
+text_kinded HH k h = absurd cc
+text_kinded H k h = absurd cc
+text_kinded LL k h = absurd cc
+text_kinded L k h = absurd cc
+text_kinded J k h = absurd cc
+text_kinded Z k h = absurd cc
+text_kinded T k h = absurd cc
+
+plain_kinded : (letter : Letter) (s : Shape) (size : Length) (k : Kind) → shape_of letter s → kind_of letter size ≡ Some k → HasItsKind s k
+plain_kinded (Signed base) s size k h is = subst (λ t. HasItsKind t k) (sym h) tt
+plain_kinded (Unsigned base) s size k h is = subst (λ t. HasItsKind t k) (sym h) tt
+plain_kinded Chars s size k h is = subst (λ t. HasItsKind t k) (sym h) (text_kinded size k is)
+plain_kinded Text s size k h is = subst (λ t. HasItsKind t k) (sym h) (text_kinded size k is)
+plain_kinded Count s size k h is = subst (λ t. HasItsKind t k) (sym h) tt
+plain_kinded Set s size k h is = absurd h
+
+kinded_one : (profile : Profile) (place : ℕ) (piece : Piece) (d : Directive) → Means profile place piece d → IsKinded d
+kinded_one profile place (WhiteSpace bs) d h = subst IsKinded (sym h) tt
+kinded_one profile place (Ordinary b) d h = subst IsKinded (sym h) tt
+kinded_one profile place Percents d h = subst IsKinded (sym h) tt
+kinded_one profile place (Plain o b) d h = subst IsKinded (sym h.5) (plain_kinded h.0 h.1.shape o.size h.1.kind h.4 h.3.kind)
+kinded_one profile place (Printed o b) d h = absurd h
+kinded_one profile place (Bracket o list) d h =
+    subst IsKinded (sym h.5) (subst (λ s. HasItsKind s h.0.kind) (sym h.4) (text_kinded o.size h.0.kind h.2.kind))
+
+all_kinded : (profile : Profile) (place : ℕ) (pieces : List Piece) (ds : List Directive) → MeanAll (Means profile) place pieces ds → AreKinded ds
+all_kinded profile place [] [] h = tt
+all_kinded profile place [] (d ∷ ds) h = absurd h
+all_kinded profile place (piece ∷ pieces) [] h = absurd h
+all_kinded profile place (piece ∷ pieces) (d ∷ ds) h =
+    (kinded_one profile place piece d h.0, all_kinded profile (place + length (destinations (piece ∷ []))) pieces ds h.1)
+
 -- ---- slots
 
 made_slots : (s : Shape) (k : Kind) (w n : Option ℕ) (ds : List Directive)
@@ -132,6 +173,7 @@ format_accepted profile pieces ds is h =
     record {
       proper = all_proper profile 1 pieces ds is.each h;
       sized = all_sized profile 1 pieces ds h;
+      kinded = all_kinded profile 1 pieces ds h;
       short = omega (arith, all_short (Scan profile) (Means profile) 1 pieces ds is.each h, is.short);
       few = omega (arith, count, format_few (Scan profile) pieces is);
       slots = record { each = good.within; distinct = good.distinct };

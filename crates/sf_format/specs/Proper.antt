@@ -2,10 +2,11 @@
 use Rattle.std.specs.Prelude.{◌≡◌, ℕ, ◌<◌, ◌≤◌, true, List, length, map, Option, Some, None, IsSome, IfSome}
 use Rattle.std.specs.List.{AllByRecursion, filter_map}
 use Rattle.sf_base.specs.declared.values.Kind.{Kind}
+use Rattle.sf_base.specs.declared.values.Kind.TheVariants as kinds
 use Rattle.sf_base.specs.Sets.{has_byte}
 use Rattle.sf_format.specs.Slots.{Slotted, kind_with, slots_from, AreSlots}
 use Rattle.sf_format.specs.declared.directive.Shape.{Shape}
-use Rattle.sf_format.specs.declared.directive.Shape.TheVariants.{Set, Chars}
+use Rattle.sf_format.specs.declared.directive.Shape.TheVariants.{Int, Text, Set, Chars, Count}
 use Rattle.sf_format.specs.declared.directive.Directive.{Directive}
 use Rattle.sf_format.specs.declared.directive.Directive.TheVariants.{Space, Byte, Percent, Conv}
 
@@ -29,6 +30,21 @@ IsSized _ = Unit {0}
 
 abbrev pub AreSized : List Directive → Type 0
 AreSized ds = AllByRecursion IsSized ds
+
+-- a conversion of a text has the kind of texts
+abbrev pub HasItsKind : Shape → Kind → Type 0
+HasItsKind (Int base) kind = Unit {0}
+HasItsKind Count kind = Unit {0}
+HasItsKind Text kind = kind ≡ kinds.Text
+HasItsKind (Set members) kind = kind ≡ kinds.Text
+HasItsKind Chars kind = kind ≡ kinds.Text
+
+abbrev pub IsKinded : Directive → Type 0
+IsKinded (Conv c) = HasItsKind c.shape c.kind
+IsKinded _ = Unit {0}
+
+abbrev pub AreKinded : List Directive → Type 0
+AreKinded ds = AllByRecursion IsKinded ds
 
 abbrev pub IsProper : Directive → Type 0
 IsProper Space = Unit {0}
@@ -67,6 +83,7 @@ AreInOrder ds = slots_of ds ≡ slots_from 1 (length (destinations_of ds))
 pub record IsAccepted (ds : List Directive) : Type 0 where
   pub proper : AreProper ds
   pub sized : AreSized ds
+  pub kinded : AreKinded ds
   pub short : length ds ≤ 4096
   pub few : length (destinations_of ds) ≤ 32
   pub slots : AreSlots (destinations_of ds)

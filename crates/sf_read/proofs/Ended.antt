@@ -1,5 +1,7 @@
 -- A scanner that was fed and ended.
-use Rattle.std.proofs.Common.{◌≡◌, inl, inr, Bool, true, false, ℕ, List, [], ◌++◌, refl, sym, ap, subst, true≢false, append-nil, ◌∙◌}
+use Rattle.std.proofs.Common.{◌≡◌, ◌<◌, ◌≤◌, inl, inr, Bool, true, false, ℕ, List, [], ◌++◌, Option, Some, None, refl, sym, ap, subst, true≢false, append-nil, ◌∙◌}
+use Rattle.std.specs.Prelude.{IsSome}
+use Rattle.std.proofs.Math.Nat.{lt_of_not-le}
 use Rattle.sf_format.specs.declared.directive.Directive.{Directive}
 use Rattle.sf_run.specs.declared.outcome.Ending.{Ending}
 use Rattle.sf_run.specs.declared.outcome.FeedState.{FeedState}
@@ -29,3 +31,8 @@ fed_and_ended ds m fed new x ending state after waits gives ends stays = by (ran
 pub told_within : (ds : List Directive) (m : ℕ) (x : List ℕ) (ending : Ending) (r : RunReport) → RunTold ds m x ending r → is_memory_status r.status ≡ false → RunWithin ds m x ending r
 told_within ds m x ending r (inl w) fine = w
 told_within ds m x ending r (inr w) fine = absurd (true≢false (sym (ap (λ (o : RunReport). is_memory_status o.status) w.2.3) ∙ fine))
+
+-- a scanner with a fixed store was made only for a format with a width sum
+pub has_sum : (limit : ℕ) (sum : Option ℕ) → (2147483647 < limit → ⊥) → ((limit ≤ 2147483647) × (sum ≡ None) → ⊥) → IsSome sum
+has_sum limit (Some n) low none = refl
+has_sum limit None low none = absurd (low (lt_of_not-le (λ few. none (few, refl))))

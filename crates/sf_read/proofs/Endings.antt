@@ -1,5 +1,5 @@
 -- What a run that has ended says of the input.
-use Rattle.std.proofs.Common.{◌≡◌, ℕ, ◌≤◌, inl, inr, true, false, Bool, cond, List, [], ◌++◌, length, take, drop, Option, Some, None, refl, sym, ap, ◌∙◌, arith, append_assoc, length-append}
+use Rattle.std.proofs.Common.{◌≡◌, ℕ, ◌≤◌, inl, inr, true, false, Bool, cond, List, [], ◌++◌, length, take, drop, Option, Some, None, refl, sym, ap, subst, ◌∙◌, arith, append_assoc, length-append}
 use Rattle.std.specs.Prelude.{SomeIff}
 use Rattle.std.proofs.Math.Seq.{take-append_seam, drop-append_seam}
 use Rattle.sf_format.specs.declared.directive.Directive.{Directive}
@@ -7,7 +7,7 @@ use Rattle.sf_run.specs.declared.outcome.Ending.{Ending}
 use Rattle.sf_run.specs.declared.outcome.Ending.TheVariants.{End, Fault}
 use Rattle.sf_run.specs.Runs.{RunReport, IsOpen}
 use Rattle.sf_run.specs.Limits.{RunWithin, RunTold}
-use Rattle.sf_run.specs.Standing.{Standing, Gives, used_by, ran_out}
+use Rattle.sf_run.specs.Standing.{Standing, After, Gives, used_by, ran_out}
 use Rattle.sf_run.specs.Stopping.{is_memory_status}
 use Rattle.sf_read.specs.Counts.{counted_on}
 use Rattle.sf_read.specs.Ahead.{Ahead, input_of}
@@ -60,6 +60,12 @@ back : (t bytes held z : List ℕ) (n : ℕ) → t ≡ bytes ++ held ++ z → n 
 back t bytes held z n is e = rw (is, e, append_assoc) (drop-append_seam bytes (held ++ z))
 
 -- ---- the clauses of a scan
+
+-- a scanner is driven by its own format, under its own limit
+pub driven_by : {S : Type 0} {to_come : S → Option (List ℕ)} {reads failures : S → ℕ} {ds : List Directive} {m : ℕ} {old new : Ahead S} {from s : Standing}
+    → After ds m from [] → Driven to_come reads failures from.directives from.limit old new s → Driven to_come reads failures ds m old new s
+driven_by {to_come = to_come} {reads = reads} {failures = failures} {m = m} {old = old} {new = new} {from = from} {s = s} after driven =
+    subst (λ e. Driven to_come reads failures e m old new s) after.format (subst (λ n. Driven to_come reads failures from.directives n old new s) after.limit driven)
 
 -- a run that was driven has ended
 pub has_report : {S : Type 0} {to_come : S → Option (List ℕ)} {reads failures : S → ℕ} {ds : List Directive} {m : ℕ} {old new : Ahead S} {s : Standing}

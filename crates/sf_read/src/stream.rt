@@ -1,6 +1,10 @@
 //! Scans of what a source gives.
-ghost use Rattle.std.specs.Prelude.{◌≡◌, ◌≤◌, ◌<◌, ◌+◌, ◌⊎◌, ◌↔◌, ℕ, List, [], length, true, false, Some, IsSome, IfOk, IfErr, IsErrOf, if◌then◌else◌};
+ghost use Rattle.std.specs.Prelude.{◌≡◌, unwrap_or, IsOk, ◌≤◌, ◌<◌, ◌+◌, ◌⊎◌, ◌↔◌, ℕ, List, [], length, true, false, Some, IsSome, None, IfOk, IfErr, IsErrOf, IsSomeAnd, if◌then◌else◌};
+ghost use Rattle.sf_base.specs.Kept.{buffer_of};
+ghost use Rattle.sf_format.specs.declared.directive.Directive.{Directive};
+ghost use Rattle.sf_format.specs.Proper.{destinations_of};
 ghost use Rattle.sf_format.specs.Widths.{width_sum};
+ghost use Rattle.sf_run.specs.Limits.{RunTold};
 ghost use Rattle.sf_run.specs.Scanner.{standing};
 ghost use Rattle.sf_run.specs.Standing.{After};
 ghost use Rattle.sf_run.specs.Stopping.{is_memory_status};
@@ -10,7 +14,7 @@ ghost use Rattle.sf_read.specs.Reading.{Driven};
 ghost use Rattle.sf_read.specs.Scan.{Scan, is_fault};
 
 use crate::{Lookahead, Source};
-use sf_base::{HeapStore, Store};
+use sf_base::{FixedStore, HeapStore, Store};
 use sf_format::ScanFormat;
 use sf_run::{Ending, FeedState, Scanned, Scanner, StartFault};
 use std::alloc::Global;
@@ -44,6 +48,29 @@ fn drive<S: Source, T: Store, const N: usize>(
     }
 }
 
+/// What the run of the scanner comes to, over what is held and then what the source gives.
+fn run<S: Source, T: Store, const N: usize>(
+    mut scanner: Scanner<'_, T>,
+    from: &mut Lookahead<S, N>,
+) -> Scanned<T>
+    requires { After scanner.directives.now scanner.limit (standing scanner) [] }
+    ensures scan { (ds : List Directive) (m : ℕ) (t : List ℕ) → After ds m (standing scanner.entry) [] → input_of S.to_come from.old ≡ Some t
+        → Scan S.to_come ds m t from.old from.new result }
+    ensures told { (ds : List Directive) (m : ℕ) → After ds m (standing scanner.entry) [] → (x : List ℕ) × (ending : Ending) × RunTold ds m x ending result }
+    ensures bounded { (ds : List Directive) (m : ℕ) → After ds m (standing scanner.entry) [] → IsSome (width_sum ds) → is_memory_status result.status ≡ false }
+    ensures failures { S.failures from.new.source ≡ (if is_fault result.met then counted_on (S.failures from.old.source) else S.failures from.old.source) }
+    ensures reads { (ds : List Directive) (m : ℕ) → After ds m (standing scanner.entry) [] → S.reads from.new.source ≤ S.reads from.old.source + m + 1 }
+    ensures end { result.met ≡ Some Ending.End → from.new.at_end ≡ true }
+    ensures no_read { from.old.at_end ≡ true → from.new.source ≡ from.old.source }
+    ensures stays { from.old.at_end ≡ true → from.new.at_end ≡ true }
+{
+    drive(&mut scanner, from);
+    match scanner.into_scanned() {
+        Ok(scanned) => scanned,
+        Err(_) => unreachable!(),
+    }
+}
+
 /// Scans what the lookahead holds, and then what its source gives, by a format, as fscanf does (C11 7.21.6.2). The run
 /// consumes at most `limit` bytes; what it doesn't use stays held or unread. The source is read only where nothing is
 /// held and the run waits, and never again once it has told its end. A failing read ends the input of this scan.
@@ -58,6 +85,7 @@ pub fn fscan<S: Source, const N: usize>(
     limit: u32,
 ) -> Result<Scanned<HeapStore>, StartFault>
     ensures scan { (t : List ℕ) → input_of S.to_come from.old ≡ Some t → IfOk result (Scan S.to_come format.now limit t from.old from.new) }
+    ensures told { IfOk result (λ s. (x : List ℕ) × (ending : Ending) × RunTold format.now limit x ending s) }
     ensures bounded { IsSome (width_sum format.now) → IfOk result (λ s. is_memory_status s.status ≡ false) }
     ensures failures { IfOk result (λ s. S.failures from.new.source ≡ (if is_fault s.met then counted_on (S.failures from.old.source) else S.failures from.old.source)) }
     ensures reads { S.reads from.new.source ≤ S.reads from.old.source + limit + 1 }
@@ -68,10 +96,58 @@ pub fn fscan<S: Source, const N: usize>(
     ensures memory { IfErr result (λ fault. (fault ≡ StartFault.BadLimit) ⊎ (fault ≡ StartFault.NoMemory)) }
     ensures unread { IfErr result (λ _. from.new ≡ from.old) }
 {
-    let mut scanner = Scanner::new(alloc, format, limit)?;
-    drive(&mut scanner, from);
-    match scanner.into_scanned() {
-        Ok(scanned) => Ok(scanned),
-        Err(_) => unreachable!(),
-    }
+    Ok(run(Scanner::new(alloc, format, limit)?, from))
+}
+
+/// As `fscan`, over a store that was used before, as `Scanner::over` uses it: what it keeps is taken away, and its memory
+/// is used again. The store of a report is given back by `Scanned::into_store`.
+pub fn fscan_over<S: Source, const N: usize>(
+    alloc: Global,
+    store: HeapStore,
+    from: &mut Lookahead<S, N>,
+    format: &ScanFormat,
+    limit: u32,
+) -> Result<Scanned<HeapStore>, StartFault>
+    ensures scan { (t : List ℕ) → input_of S.to_come from.old ≡ Some t → IfOk result (Scan S.to_come format.now limit t from.old from.new) }
+    ensures told { IfOk result (λ s. (x : List ℕ) × (ending : Ending) × RunTold format.now limit x ending s) }
+    ensures bounded { IsSome (width_sum format.now) → IfOk result (λ s. is_memory_status s.status ≡ false) }
+    ensures failures { IfOk result (λ s. S.failures from.new.source ≡ (if is_fault s.met then counted_on (S.failures from.old.source) else S.failures from.old.source)) }
+    ensures reads { S.reads from.new.source ≤ S.reads from.old.source + limit + 1 }
+    ensures end { IfOk result (λ s. s.met ≡ Some Ending.End → from.new.at_end ≡ true) }
+    ensures no_read { from.old.at_end ≡ true → from.new.source ≡ from.old.source }
+    ensures stays { from.old.at_end ≡ true → from.new.at_end ≡ true }
+    ensures limit { IsErrOf result StartFault.BadLimit ↔ (2147483647 < limit) }
+    ensures memory { IfErr result (λ fault. (fault ≡ StartFault.BadLimit) ⊎ (fault ≡ StartFault.NoMemory)) }
+    ensures enough { limit ≤ 2147483647 → unwrap_or (width_sum format.now) 0 ≤ store.room + length (buffer_of store) → IsOk result }
+    ensures unread { IfErr result (λ _. from.new ≡ from.old) }
+{
+    Ok(run(Scanner::over(alloc, store, format, limit)?, from))
+}
+
+/// As `fscan`, over a store of fixed capacity. It takes no memory.
+///
+/// Refuses a limit above 2147483647 with BadLimit, then a format without a width sum with Unbounded, then one whose
+/// width sum is above CAP or that has more than SLOTS destinations with TooSmall. Where it refuses, nothing was read.
+pub fn fscan_fixed<const CAP: usize, const SLOTS: usize, S: Source, const N: usize>(
+    from: &mut Lookahead<S, N>,
+    format: &ScanFormat,
+    limit: u32,
+) -> Result<Scanned<FixedStore<CAP, SLOTS>>, StartFault>
+    ensures scan { (t : List ℕ) → input_of S.to_come from.old ≡ Some t → IfOk result (Scan S.to_come format.now limit t from.old from.new) }
+    ensures told { IfOk result (λ s. (x : List ℕ) × (ending : Ending) × RunTold format.now limit x ending s) }
+    ensures bounded { IfOk result (λ s. is_memory_status s.status ≡ false) }
+    ensures failures { IfOk result (λ s. S.failures from.new.source ≡ (if is_fault s.met then counted_on (S.failures from.old.source) else S.failures from.old.source)) }
+    ensures reads { S.reads from.new.source ≤ S.reads from.old.source + limit + 1 }
+    ensures end { IfOk result (λ s. s.met ≡ Some Ending.End → from.new.at_end ≡ true) }
+    ensures no_read { from.old.at_end ≡ true → from.new.source ≡ from.old.source }
+    ensures stays { from.old.at_end ≡ true → from.new.at_end ≡ true }
+    ensures limit { IsErrOf result StartFault.BadLimit ↔ (2147483647 < limit) }
+    ensures unbounded { IsErrOf result StartFault.Unbounded ↔ ((limit ≤ 2147483647) × (width_sum format.now ≡ None)) }
+    ensures small { IsErrOf result StartFault.TooSmall ↔ ((limit ≤ 2147483647)
+        × IsSomeAnd (width_sum format.now) (λ n. (CAP < n) ⊎ (SLOTS < length (destinations_of format.now)))) }
+    ensures memory { IsErrOf result StartFault.NoMemory → ⊥ }
+    ensures unread { IfErr result (λ _. from.new ≡ from.old) }
+{
+    let scanner = Scanner::<FixedStore<CAP, SLOTS>>::fixed(format, limit)?;
+    Ok(run(scanner, from))
 }

@@ -11,6 +11,7 @@ pub mod Tallies
 pub mod Places
 pub mod Holding
 pub mod Memory
+pub mod Rows
 pub mod Standing
 pub mod Scanner
 pub mod Laws

@@ -8,6 +8,9 @@ pub mod laws;
 mod number;
 mod outcome;
 mod report;
+mod row;
+#[cfg(test)]
+mod row_tests;
 mod scanner;
 mod tally;
 #[cfg(test)]
@@ -15,4 +18,5 @@ mod tests;
 
 pub use outcome::{Ending, Fed, FeedState, Outcome, StartFault, Status};
 pub use report::{Report, Scanned};
+pub use row::{Row, RowFault};
 pub use scanner::Scanner;

@@ -35,6 +35,14 @@ impl<S: Store> Scanned<S> {
             store: &self.store,
         }
     }
+
+    /// The store, with the values of the run, to be used again.
+    pub fn into_store(self) -> S
+        ensures { (S.kept result).values ≡ self.values }
+    {
+        let Scanned { store, .. } = self;
+        store
+    }
 }
 
 /// The report of a run: its outcome, and the values by their slots, lent from the store.

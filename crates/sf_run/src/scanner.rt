@@ -1,5 +1,5 @@
 //! A scanner that is handed its input piece by piece.
-ghost use Rattle.std.specs.Prelude.{◌≡◌, ℕ, ◌+◌, ◌<◌, ◌≤◌, ◌∷◌, ◌++◌, [], List, length, take, true, false, slice_get, is_some, IsSome, IsNone, IfNone, IfSome, IfOk, IfErr, IsErr, IsErrOf, IsOkAnd, IsSomeAnd, ◌↔◌, ◌⊎◌, ◌^◌, drop, if◌then◌else◌, Some, None, unwrap_or};
+ghost use Rattle.std.specs.Prelude.{◌≡◌, ℕ, ◌+◌, ◌<◌, ◌≤◌, ◌∷◌, ◌++◌, [], List, length, take, true, false, slice_get, is_some, IsSome, IsNone, IfNone, IfSome, IsOk, IfOk, IfErr, IsErr, IsErrOf, IsOkAnd, IsSomeAnd, ◌↔◌, ◌⊎◌, ◌^◌, drop, if◌then◌else◌, Some, None, unwrap_or};
 ghost use Rattle.std.specs.Bool.{OnTrue, OnFalse};
 ghost use Rattle.sf_base.specs.Data.{Assigned, Bytes, datum_of, is_number};
 ghost use Rattle.sf_base.specs.Kept.{buffer_of, longer, nothing_kept, text_of, texts_in};
@@ -521,7 +521,43 @@ impl<'f> Scanner<'f, HeapStore> {
         let Ok(store) = HeapStore::new(alloc, reserve) else {
             return Err(StartFault::NoMemory);
         };
-        Ok(Scanner::start(format.directives(), limit, store))
+        Ok(Scanner::on_heap(format, limit, store))
+    }
+
+    /// As `new`, but over a store that was used before: what it keeps is taken away, and its memory is used again. Only
+    /// where that has less room than the format's width sum is other memory asked for.
+    ///
+    /// Refuses a limit above 2147483647 with BadLimit; then it answers NoMemory where memory was refused.
+    pub fn over(
+        alloc: Global,
+        mut store: HeapStore,
+        format: &'f ScanFormat,
+        limit: u32,
+    ) -> Result<Self, StartFault>
+        ensures after { IfOk result (λ s. After format.now limit (standing s) []) }
+        ensures fresh { IfOk result (λ s. used_by (standing s) ≡ 0) }
+        ensures holds { IfOk result (λ s. HoldsTexts format.now (kept_by s)) }
+        ensures limit { IsErrOf result StartFault.BadLimit ↔ (2147483647 < limit) }
+        ensures memory { IfErr result (λ fault. (fault ≡ StartFault.BadLimit) ⊎ (fault ≡ StartFault.NoMemory)) }
+        ensures enough { limit ≤ 2147483647 → unwrap_or (width_sum format.now) 0 ≤ store.room + length (buffer_of store) → IsOk result }
+    {
+        store.clear();
+        let reserve = format.width_sum().unwrap_or(0) as usize;
+        if limit > MOST_BYTES || store.room() < reserve {
+            return Scanner::new(alloc, format, limit);
+        }
+        Ok(Scanner::on_heap(format, limit, store))
+    }
+
+    /// A scanner of the format over an empty store with room for its width sum.
+    fn on_heap(format: &'f ScanFormat, limit: u32, store: HeapStore) -> Self
+        requires empty { store ≡ nothing_kept store.room }
+        requires roomy { IfSome (width_sum format.now) (λ n. n ≤ store.room) }
+        ensures after { After format.now limit (standing result) [] }
+        ensures fresh { used_by (standing result) ≡ 0 }
+        ensures holds { HoldsTexts format.now (kept_by result) }
+    {
+        Scanner::start(format.directives(), limit, store)
     }
 }
 

@@ -1,6 +1,6 @@
 //! Examples of scanners that are handed their input in pieces.
 use crate::{Ending, FeedState, Outcome, Scanner, StartFault, Status};
-use sf_base::{Store, Value};
+use sf_base::{HeapStore, Store, Value};
 use sf_format::{Profile, ScanFormat};
 use std::process::Abort;
 use std::test::Fail;
@@ -272,5 +272,65 @@ fn a_waiting_scanner_is_given_back(rt: HostRuntime) -> Result<(), Fail> {
     };
     assert_eq!(rt; back.feed(b"2;").taken, 1);
     assert!(rt; back.into_scanned().is_ok());
+    Ok(())
+}
+
+/// The report of a text by a format over a store that was used before, and that store again.
+fn again(
+    rt: &(impl Abort + AllocGlobal),
+    store: HeapStore,
+    format: &'static [u8],
+    text: &[u8],
+    values: &[Option<Value<'static>>],
+) -> Result<HeapStore, Fail> {
+    let format = ScanFormat::parse(rt.alloc(), Profile::One, format)?;
+    let mut scanner = Scanner::over(rt.alloc(), store, &format, 1048576)?;
+    scanner.feed(text);
+    scanner.end(Ending::End);
+    let Ok(scanned) = scanner.into_scanned() else {
+        return Err(Fail::new("the run has not ended"));
+    };
+    assert!(rt;
+        scanned.report().outcome().status == Status::Done,
+        "{text:?}"
+    );
+    let mut slot = 1u8;
+    for value in values {
+        assert_eq!(rt;
+            scanned.report().value(slot),
+            *value,
+            "slot {slot} of {text:?}"
+        );
+        slot = slot.saturating_add(1);
+    }
+    Ok(scanned.into_store())
+}
+
+#[test]
+fn a_store_is_used_again(rt: HostRuntime) -> Result<(), Fail> {
+    let store = HeapStore::new(rt.alloc(), 0)?;
+    let pair = [Some(Value::Text(b"up")), Some(Value::I32(7)), None];
+    let store = again(&rt, store, b"%s %d", b"up 7", &pair)?;
+    assert_eq!(rt; store.value(1), Some(Value::Text(b"up")));
+    let store = again(&rt, store, b"%d", b"-12", &[Some(Value::I32(-12)), None])?;
+    let store = again(
+        &rt,
+        store,
+        b"%2s%1c",
+        b"abc",
+        &[Some(Value::Text(b"ab")), Some(Value::Text(b"c"))],
+    )?;
+
+    // More room than there is.
+    let wide = [Some(Value::Text(b"wider")), None];
+    let store = again(&rt, store, b"%5000s", b"wider", &wide)?;
+    assert!(rt; store.room() >= 4995);
+    let format = ScanFormat::parse(rt.alloc(), Profile::One, b"%d")?;
+    assert!(rt;
+        matches!(
+            Scanner::over(rt.alloc(), store, &format, 2147483648),
+            Err(StartFault::BadLimit)
+        )
+    );
     Ok(())
 }

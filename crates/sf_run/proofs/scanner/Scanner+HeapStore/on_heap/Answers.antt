@@ -1,5 +1,5 @@
 use Rattle.sf_run.proofs.Slots.{placed_from, apart_from}
-use Rattle.sf_run.proofs.scanner.Scanner+HeapStore.new.Goals as goal
+use Rattle.sf_run.proofs.scanner.Scanner+HeapStore.on_heap.Goals as goal
 
 pub start-requires-clause-placed : goal.start-requires-clause-placed
 start-requires-clause-placed c = placed_from _ 32 _ c.directives.ensures.few c.directives.ensures.slots.each

@@ -1,0 +1,14 @@
+use Rattle.sf_format.specs.Widths.{width_sum}
+use Rattle.sf_read.proofs.Ended.{has_sum}
+use Rattle.sf_read.proofs.stream.fscan_fixed.Goals as goal
+
+pub returns-clause-scan : goal.returns-clause-scan
+returns-clause-scan g c t e = c.run.ensures.scan c.args.format.now c.args.limit t c.in_ok-scanner.ensures.after e
+
+pub returns-clause-bounded : goal.returns-clause-bounded
+returns-clause-bounded g c =
+    c.run.ensures.bounded c.args.format.now c.args.limit c.in_ok-scanner.ensures.after
+    (has_sum c.args.limit (width_sum c.args.format.now) (λ h. let is = c.in_ok-scanner.ensures.limit.1 h in absurd cc) (λ h. let is = c.in_ok-scanner.ensures.unbounded.1 h in absurd cc))
+
+pub returns-clause-reads : goal.returns-clause-reads
+returns-clause-reads g c = c.run.ensures.reads c.args.format.now c.args.limit c.in_ok-scanner.ensures.after
