@@ -131,7 +131,7 @@ module _ {S : Type 0} {to_come : S → Option (List ℕ)} {ds : List Directive} 
       }
 
   -- there were as many records as there may be
-  pub too_many : n ≡ most_records → (answer : ToolEnd) → answer ≡ ended n (Some faults.TooMany) → Loops to_come ds m t now failures mid was is answer
+  pub too_many : n ≡ most_records → (answer : ToolEnd) → answer ≡ ended most_records (Some faults.TooMany) → Loops to_come ds m t now failures mid was is answer
   too_many full answer is_end = record {
     failed = false;
     failures_are = g.no_failure;
@@ -146,7 +146,7 @@ module _ {S : Type 0} {to_come : S → Option (List ℕ)} {ds : List Directive} 
       tail = [];
       spent = 0;
       passed = g.whole;
-      stops = inl (record { full = omega (arith, full, g.count); nothing = refl; unused = refl; end_is = is_end ∙ ap (λ (k : ℕ). ended k (Some faults.TooMany)) {x = n} {y = 0 + length g.front} (omega (arith, g.count)) });
+      stops = inl (record { full = omega (arith, full, g.count); nothing = refl; unused = refl; end_is = is_end ∙ ap (λ (k : ℕ). ended k (Some faults.TooMany)) {x = most_records} {y = 0 + length g.front} (omega (arith, full, g.count)) });
       output_is = sym (append-nil (lines ds g.front));
       used_is = refl;
     };

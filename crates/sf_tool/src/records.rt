@@ -13,7 +13,7 @@ use crate::turn::{Turn, turn_after};
 use sf_base::{HeapStore, Store};
 use sf_format::ScanFormat;
 use sf_print::Sink;
-use sf_read::{Lookahead, Source, fscan};
+use sf_read::{Lookahead, Source, fscan_over};
 use sf_run::{Outcome, Report};
 use std::alloc::Global;
 
@@ -155,13 +155,17 @@ pub fn run_scan<S: Source, K: Sink, const N: usize>(
     let _directives = format.directives();
     let destinations = format.destinations();
     let mut line = Vec::new(alloc);
+    let Ok(mut store) = HeapStore::new(alloc, format.width_sum().unwrap_or(0)) else {
+        return ended_by(0, ToolFault::Memory);
+    };
     for records in 0..MOST_RECORDS {
-        let Ok(scanned) = fscan(alloc, from, format, limit) else {
+        let Ok(scanned) = fscan_over(alloc, store, from, format, limit) else {
             return ended_by(records, ToolFault::Memory);
         };
         if let Some(end) = judge(to, &mut line, &scanned.report(), destinations, records) {
             return end;
         }
+        store = scanned.into_store();
     }
     ended_by(MOST_RECORDS, ToolFault::TooMany)
 }

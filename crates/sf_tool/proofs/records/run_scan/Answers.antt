@@ -1,12 +1,11 @@
-use Rattle.std.proofs.Common.{◌≡◌, ap, sym, ◌∙◌, refl, subst, ℕ, Some, arith}
+use Rattle.std.proofs.Common.{◌≡◌, ap, sym, ◌∙◌, refl, subst, ℕ, arith}
 use Rattle.std.specs.Io.KnownBytes.{Appends}
 use Rattle.sf_format.specs.Proper.{AreProper}
 use Rattle.sf_run.specs.Runs.{RunReport}
 use Rattle.sf_run.proofs.Told as told
 use Rattle.sf_tool.specs.Judging.{Judges, Concludes, Interrupts}
 use Rattle.sf_tool.specs.Lines.{line_of}
-use Rattle.sf_tool.specs.Records.{line, ended}
-use Rattle.sf_tool.specs.declared.records.ToolFault.TheVariants as faults
+use Rattle.sf_tool.specs.Records.{line}
 use Rattle.sf_tool.specs.Turns.{turn_of}
 use Rattle.sf_tool.specs.declared.turn.Turn.TheVariants.{Goes}
 use Rattle.sf_tool.proofs.Looping.{begins, no_memory, too_many, next, ends_at}
@@ -21,15 +20,21 @@ loop-records-init g c = record {
 pub returns-in_default-clause-loops : goal.returns-in_default-clause-loops
 returns-in_default-clause-loops g c t e =
     let proper : AreProper c.args.format.now = subst AreProper c.directives-directives.ensures.value c.directives-directives.ensures.proper in
-    let here = no_memory told.one_report proper (c.loop-records.invariant.going t e) (omega (arith, c.loop-records-test.true)) c.ended_by.result c.ended_by.ensures in
-    rw (c.in_default.ensures.unread) here
+    let start = begins g.S.Source.to_come c.args.format.now c.args.limit t c.args.from.now (g.K.Sink.contents c.args.to.now) (g.S.Source.failures c.args.from.now.source) e in
+    no_memory told.one_report proper start (omega arith) c.ended_by.result c.ended_by.ensures
+
+pub returns-in_default-fscan_over-clause-loops : goal.returns-in_default-fscan_over-clause-loops
+returns-in_default-fscan_over-clause-loops g c t e =
+    let proper : AreProper c.args.format.now = subst AreProper c.directives-directives.ensures.value c.directives-directives.ensures.proper in
+    let here = no_memory told.one_report proper (c.loop-records.invariant.going t e) (omega (arith, c.loop-records-test.true)) c.ended_by-in_default-fscan_over.result c.ended_by-in_default-fscan_over.ensures in
+    rw (c.in_default-fscan_over.ensures.unread) here
 
 pub returns-in-Some-clause-loops : goal.returns-in-Some-clause-loops
 returns-in-Some-clause-loops g c t e =
     let proper : AreProper c.args.format.now = subst AreProper c.directives-directives.ensures.value c.directives-directives.ensures.proper in
     let going = c.loop-records.invariant.going t e in
     let judged = c.in-Some.ensures.judged in
-    ends_at told.one_report proper going c.in-Ok.scanned (c.in-Ok.ensures.scan going.left going.input) c.in-Ok.ensures.stays c.in-Ok.ensures.failures c.loop-records-test.true c.in-Some.end _
+    ends_at told.one_report proper going c.in-Ok-fscan_over.scanned (c.in-Ok-fscan_over.ensures.scan going.left going.input) c.in-Ok-fscan_over.ensures.stays c.in-Ok-fscan_over.ensures.failures c.loop-records-test.true c.in-Some.end _
     (rw (← c.report.ensures, ← c.destinations-destinations.ensures.count) judged)
 
 pub returns-in-Some-clause-status : goal.returns-in-Some-clause-status
@@ -41,7 +46,7 @@ loop-records-preserved g c = record {
       let proper : AreProper c.args.format.now = subst AreProper c.directives-directives.ensures.value c.directives-directives.ensures.proper in
       let going = c.loop-records.invariant.going t e in
       let judged = c.in_default-judge.ensures.judged in
-      next told.one_report proper going c.in-Ok.scanned (c.in-Ok.ensures.scan going.left going.input) c.in-Ok.ensures.stays c.in-Ok.ensures.failures _
+      next told.one_report proper going c.in-Ok-fscan_over.scanned (c.in-Ok-fscan_over.ensures.scan going.left going.input) c.in-Ok-fscan_over.ensures.stays c.in-Ok-fscan_over.ensures.failures _
           (ap turn_of (sym c.report.ensures) ∙ judged.0) (rw (← c.report.ensures, ← c.destinations-destinations.ensures.count) judged.1);
   sound = c.in_default-judge.ensures.failures ∙ c.loop-records.invariant.sound;
 }
@@ -51,4 +56,4 @@ returns-clause-loops g c t e =
     let proper : AreProper c.args.format.now = subst AreProper c.directives-directives.ensures.value c.directives-directives.ensures.proper in
     let going = c.loop-records.invariant.going t e in
     let full : c.loop-records.records ≡ 2147483647 = omega (arith, c.loop-records-test.false, c.loop-records.auto.records-end) in
-    too_many told.one_report proper going full c.ended_by-2.result (c.ended_by-2.ensures ∙ ap (λ (k : ℕ). ended k (Some faults.TooMany)) (sym full))
+    too_many told.one_report proper going full c.ended_by-2.result c.ended_by-2.ensures
