@@ -1,6 +1,12 @@
 pub mod Answering
+pub mod Finding
 pub mod Joining
 pub mod Looping
+pub mod Numbers
+pub mod OneAnswer
 pub mod OneEnd
 pub mod Pairs
 pub mod Passing
+pub mod Places
+pub mod PrintAnswering
+pub mod Suiting

@@ -1,9 +1,12 @@
+pub mod Arguments
 pub mod Commands
 pub mod Judging
 pub mod Laws
 pub mod Lines
+pub mod Prints
 pub mod Quotes
 pub mod Records
+pub mod Show
 pub mod Texts
 pub mod Turns
-pub mod Show
+pub mod Words

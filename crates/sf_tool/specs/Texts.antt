@@ -7,9 +7,10 @@ use Rattle.sf_run.specs.declared.outcome.Status.{Status}
 use Rattle.sf_run.specs.declared.outcome.Status.TheVariants as run
 use Rattle.sf_tool.specs.declared.records.ToolFault.{ToolFault}
 use Rattle.sf_tool.specs.declared.records.ToolFault.TheVariants as fault
+use Rattle.sf_tool.specs.Prints.{argument_fault_text, argument_status}
 use Rattle.sf_tool.specs.Records.{status_by}
 use Rattle.sf_tool.specs.declared.fault.CommandFault.{CommandFault}
-use Rattle.sf_tool.specs.declared.fault.CommandFault.TheVariants.{Usage, Format, Record, Write, Memory}
+use Rattle.sf_tool.specs.declared.fault.CommandFault.TheVariants.{Usage, Format, PrintFormat, Values, Record, Write, Memory}
 
 abbrev pub why_text : FormatWhy → List ℕ
 why_text format.Truncated = codes "F1 Truncated"
@@ -55,6 +56,8 @@ tool_fault_text fault.Memory = codes "out of memory"
 abbrev pub command_fault_text : CommandFault → List ℕ
 command_fault_text Usage = codes "sf: usage"
 command_fault_text (Format fault) = codes "sf: scan format: " ++ (why_text fault.why ++ (codes " at " ++ decimal fault.at))
+command_fault_text (PrintFormat fault) = codes "sf: print format: " ++ (why_text fault.why ++ (codes " at " ++ decimal fault.at))
+command_fault_text (Values fault) = argument_fault_text fault
 command_fault_text (Record fault) = codes "sf: " ++ tool_fault_text fault
 command_fault_text Write = codes "sf: write fault"
 command_fault_text Memory = codes "sf: out of memory"
@@ -63,6 +66,8 @@ command_fault_text Memory = codes "sf: out of memory"
 abbrev pub status_of : CommandFault → ℕ
 status_of Usage = 2
 status_of (Format fault) = 2
+status_of (PrintFormat fault) = 2
+status_of (Values fault) = argument_status fault
 status_of (Record fault) = status_by (Some fault)
 status_of Write = 3
 status_of Memory = 4

@@ -1,14 +1,17 @@
 //! The command: its words, its input and what it writes.
 ghost use Rattle.std.specs.Prelude.{◌≡◌, ℕ, List, map, string_bytes, IfErr, IfSome, IfNone, Some};
+ghost use Rattle.sf_format.specs.declared.directive.Profile.TheVariants.{One};
+ghost use Rattle.sf_format.specs.Faults.{Fault, PrintFault};
 ghost use Rattle.sf_read.specs.Ahead.{input_of};
 ghost use Rattle.sf_tool.specs.declared.command.Verb.{Verb};
-ghost use Rattle.sf_tool.specs.Commands.{Answered, Exits, IsCommand, IsOfRecords, Scans, Shows, verb_text, words_of};
+ghost use Rattle.sf_tool.specs.Commands.{Answered, Exits, IsCommand, IsNoUsage, IsUnwrittenBy, MayHave, PrintsBy, ScansBy, ShowsBy, TellsFault, Unread, format_fault, print_format_fault, verb_text, words_of};
 
-use crate::fault::CommandFault;
+use crate::fault::{CommandFault, format_fault, print_format_fault};
 use crate::output::write_whole;
+use crate::print::print_values;
 use crate::records::run_scan;
 use crate::show::show;
-use sf_format::{Profile, ScanFormat};
+use sf_format::{PrintFormat, Profile, ScanFormat};
 use sf_print::Sink;
 use sf_read::{Lookahead, Source};
 use std::alloc::Global;
@@ -24,37 +27,70 @@ pub(crate) enum Verb {
     Scan,
     /// Its directives are shown.
     Show,
+    /// Values are printed by it.
+    Print,
 }
 
-/// Scans the records of an input by a format, and writes their lines.
-fn scan_records<S: Source, K: Sink, const N: usize>(
+/// Scans the records of an input by the format that a text spells, and writes their lines.
+fn scan_by<S: Source, K: Sink, const N: usize>(
     alloc: Global,
-    format: &ScanFormat,
+    text: &str,
     from: &mut Lookahead<S, N>,
     out: &mut K,
 ) -> Result<(), CommandFault>
-    ensures kind { IfErr result IsOfRecords }
-    ensures answer { (text : List ℕ) → input_of S.to_come from.old ≡ Some text
-        → Scans S.to_come format.now text from.new (S.failures from.old.source) (S.failures from.new.source) (K.contents out.old) (K.contents out.new) result }
+    ensures scans { (t : List ℕ) → input_of S.to_come from.old ≡ Some t
+        → ScansBy S.to_come text.now t from.new (S.failures from.old.source) (S.failures from.new.source) (K.contents out.old) (K.contents out.new) result }
+    ensures refused { TellsFault (Fault One text.now) format_fault result }
+    ensures unread { IfErr result (λ fault. Unread fault from.old from.new out.old out.new) }
+    ensures known { IfErr result IsNoUsage }
 {
-    match run_scan(alloc, from, out, format, MOST_RECORD_BYTES).fault {
+    let format = match ScanFormat::parse(alloc, Profile::One, text.as_bytes()) {
+        Ok(format) => format,
+        Err(fault) => return Err(format_fault(fault)),
+    };
+    match run_scan(alloc, from, out, &format, MOST_RECORD_BYTES).fault {
         None => Ok(()),
         Some(fault) => Err(CommandFault::Record(fault)),
     }
 }
 
-/// Writes the lines that show a format.
-fn show_format<K: Sink>(
-    alloc: Global,
-    format: &ScanFormat,
-    out: &mut K,
-) -> Result<(), CommandFault>
-    ensures { Shows format.now (K.contents out.old) (K.contents out.new) result }
+/// Writes the lines that show the format that a text spells.
+fn show_by<K: Sink>(alloc: Global, text: &str, out: &mut K) -> Result<(), CommandFault>
+    ensures shows { ShowsBy text.now (K.contents out.old) (K.contents out.new) result }
+    ensures refused { TellsFault (Fault One text.now) format_fault result }
+    ensures unwritten { IfErr result (λ fault. IsUnwrittenBy fault out.old out.new) }
+    ensures known { IfErr result IsNoUsage }
 {
-    let lines = show(alloc, format, format.width_sum())?;
+    let format = match ScanFormat::parse(alloc, Profile::One, text.as_bytes()) {
+        Ok(format) => format,
+        Err(fault) => return Err(format_fault(fault)),
+    };
+    let lines = show(alloc, &format, format.width_sum())?;
     match write_whole(out, &lines) {
         Ok(()) => Ok(()),
         Err(_) => Err(CommandFault::Write),
+    }
+}
+
+/// Prints values by a format.
+fn print_by<K: Sink>(
+    alloc: Global,
+    text: &str,
+    values: &[String],
+    out: &mut K,
+) -> Result<(), CommandFault>
+    ensures prints { PrintsBy text.now (map string_bytes values.now) (K.contents out.old) (K.contents out.new) result }
+    ensures refused { TellsFault (PrintFault One text.now) print_format_fault result }
+    ensures unwritten { IfErr result (λ fault. IsUnwrittenBy fault out.old out.new) }
+    ensures known { IfErr result IsNoUsage }
+{
+    let format = match PrintFormat::parse(alloc, Profile::One, text.as_bytes()) {
+        Ok(format) => format,
+        Err(fault) => return Err(print_format_fault(fault)),
+    };
+    match print_values(alloc, &format, values, out) {
+        Ok(()) => Ok(()),
+        Err(fault) => Err(CommandFault::Values(fault)),
     }
 }
 
@@ -66,23 +102,26 @@ fn verb_of(word: &str) -> Option<Verb>
         Some(Verb::Scan)
     } else if word == "show" {
         Some(Verb::Show)
+    } else if word == "print" {
+        Some(Verb::Print)
     } else {
         None
     }
 }
 
-/// What the words ask for, and their format.
-fn asked(words: &[String]) -> Option<(Verb, &str)>
-    ensures found { IfSome result (λ asked. map string_bytes words.now ≡ words_of asked.0 asked.1.now) }
+/// What the words ask for, their format, and the values after it.
+fn asked(words: &[String]) -> Option<(Verb, &str, &[String])>
+    ensures found { IfSome result (λ asked. (map string_bytes words.now ≡ words_of asked.0 asked.1.now (map string_bytes asked.2.now)) × MayHave asked.0 (map string_bytes asked.2.now)) }
     ensures none { IfNone result (¬ IsCommand (map string_bytes words.now)) }
 {
-    match words {
-        [word, text] => {
-            let verb = verb_of(word.as_str())?;
-            Some((verb, text.as_str()))
-        }
-        _ => None,
+    let [word, text, values @ ..] = words else {
+        return None;
+    };
+    let verb = verb_of(word.as_str())?;
+    if verb != Verb::Print && !values.is_empty() {
+        return None;
     }
+    Some((verb, text.as_str(), values))
 }
 
 fn command<S: Source, K: Sink, const N: usize>(
@@ -94,13 +133,13 @@ fn command<S: Source, K: Sink, const N: usize>(
     ensures { Answered S.to_come S.failures K.contents (map string_bytes words.now)
         from.old from.new out.old out.new result }
 {
-    let Some((verb, text)) = asked(words) else {
+    let Some((verb, text, values)) = asked(words) else {
         return Err(CommandFault::Usage);
     };
-    let format = ScanFormat::parse(alloc, Profile::One, text.as_bytes())?;
     match verb {
-        Verb::Scan => scan_records(alloc, &format, from, out),
-        Verb::Show => show_format(alloc, &format, out),
+        Verb::Scan => scan_by(alloc, text, from, out),
+        Verb::Show => show_by(alloc, text, out),
+        Verb::Print => print_by(alloc, text, values, out),
     }
 }
 

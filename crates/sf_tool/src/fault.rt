@@ -1,9 +1,10 @@
 //! Why the command ends, and what it says then.
 ghost use Rattle.std.specs.Prelude.{◌≡◌, Some};
 ghost use Rattle.sf_tool.specs.Texts.{command_fault_text, status_text, status_of, tool_fault_text, why_text};
-ghost use Rattle.sf_tool.specs.Commands.{format_fault};
+ghost use Rattle.sf_tool.specs.Commands.{format_fault, print_format_fault};
 ghost use Rattle.sf_tool.specs.declared.fault.CommandFault.TheVariants.{Memory};
 
+use crate::argument_fault::ArgumentFault;
 use crate::records::ToolFault;
 use sf_format::{FormatFault, FormatWhy};
 use sf_run::Status;
@@ -79,8 +80,12 @@ impl fmt::Display for ToolFault {
 pub enum CommandFault {
     /// The words are no command.
     Usage,
-    /// The format is refused.
+    /// The scan format is refused.
     Format(FormatFault),
+    /// The print format is refused.
+    PrintFormat(FormatFault),
+    /// The words after the print format were not printed, or not whole.
+    Values(ArgumentFault),
     /// The records stopped before the end of the input.
     Record(ToolFault),
     /// The output could not be written.
@@ -89,14 +94,23 @@ pub enum CommandFault {
     Memory,
 }
 
-impl From<FormatFault> for CommandFault {
-    ghost from_gives = { λ fault given. given ≡ format_fault fault };
+/// The command's fault for that of a scan format.
+pub(crate) fn format_fault(fault: FormatFault) -> CommandFault
+    ensures { result ≡ format_fault fault }
+{
+    match fault.why {
+        FormatWhy::NoMemory => CommandFault::Memory,
+        _ => CommandFault::Format(fault),
+    }
+}
 
-    fn from(fault: FormatFault) -> CommandFault {
-        match fault.why {
-            FormatWhy::NoMemory => CommandFault::Memory,
-            _ => CommandFault::Format(fault),
-        }
+/// The command's fault for that of a print format.
+pub(crate) fn print_format_fault(fault: FormatFault) -> CommandFault
+    ensures { result ≡ print_format_fault fault }
+{
+    match fault.why {
+        FormatWhy::NoMemory => CommandFault::Memory,
+        _ => CommandFault::PrintFormat(fault),
     }
 }
 
@@ -115,7 +129,8 @@ impl CommandFault {
     {
         match self {
             CommandFault::Record(fault) => fault.status(),
-            CommandFault::Usage | CommandFault::Format(_) => 2,
+            CommandFault::Values(fault) => fault.status(),
+            CommandFault::Usage | CommandFault::Format(_) | CommandFault::PrintFormat(_) => 2,
             CommandFault::Write => 3,
             CommandFault::Memory => 4,
         }
@@ -134,6 +149,12 @@ impl fmt::Display for CommandFault {
                 let at = fault.at;
                 write!(f, "sf: scan format: {why} at {at}")
             }
+            CommandFault::PrintFormat(fault) => {
+                let why = why_text(fault.why);
+                let at = fault.at;
+                write!(f, "sf: print format: {why} at {at}")
+            }
+            CommandFault::Values(fault) => write!(f, "{fault}"),
             CommandFault::Record(fault) => write!(f, "sf: {fault}"),
             CommandFault::Write => write!(f, "sf: write fault"),
             CommandFault::Memory => write!(f, "sf: out of memory"),
