@@ -2,7 +2,9 @@
 ghost use Rattle.std.specs.Prelude.{◌≤◌};
 
 use crate::tests::{Row, is_told, rows};
-use crate::{Lookahead, ReadStep, ScriptSource, SliceSource, Source, StdSource, fscan};
+use crate::{
+    Lookahead, ReadStep, ScriptSource, SliceSource, Source, StdSource, fscan, fscan_fixed,
+};
 use sf_base::{HeapStore, Value};
 use sf_format::{Profile, ScanFormat};
 use sf_run::{Ending, Scanned, StartFault, Status};
@@ -57,6 +59,42 @@ fn scanned<S: Source, const N: usize>(
     Ok(fscan(alloc, from, &format, LIMIT)?)
 }
 
+/// The row over a store of fixed capacity, where its format has a width sum; false where it has none.
+fn is_told_fixed<S: Source, const N: usize>(
+    rt: &(impl Abort + AllocGlobal),
+    row: &Row,
+    from: &mut Lookahead<S, N>,
+) -> Result<bool, Fail> {
+    let format = ScanFormat::parse(rt.alloc(), Profile::One, row.format)?;
+    match fscan_fixed::<16, 3, S, N>(from, &format, LIMIT) {
+        Ok(scanned) => {
+            is_told(rt, row, &scanned.report());
+            Ok(true)
+        }
+        Err(fault) => {
+            assert!(rt; fault == StartFault::Unbounded && format.width_sum().is_none());
+            Ok(false)
+        }
+    }
+}
+
+/// The same over a store of fixed capacity.
+macro_rules! by_fixed_blocks {
+    ($size:literal, $rt:expr, $row:expr, $steps:expr) => {{
+        let mut script = ScriptSource::new($steps);
+        let mut held = Vec::<u8>::new($rt.alloc());
+        let mut bounded = false;
+        {
+            let mut from = Lookahead::<&mut ScriptSource<'_>, $size>::new(&mut script);
+            bounded = is_told_fixed($rt, $row, &mut from)?;
+            held.extend_from_slice(from.held())?;
+        }
+        if bounded {
+            is_left($rt, $row, &all($rt.alloc(), &held, &mut script)?);
+        }
+    }};
+}
+
 /// The row by blocks of so many bytes.
 macro_rules! by_blocks {
     ($size:literal, $rt:expr, $row:expr, $steps:expr) => {{
@@ -69,6 +107,7 @@ macro_rules! by_blocks {
             held.extend_from_slice(from.held())?;
         }
         is_left($rt, $row, &all($rt.alloc(), &held, &mut script)?);
+        by_fixed_blocks!($size, $rt, $row, $steps);
     }};
 }
 
@@ -86,7 +125,7 @@ fn by_pieces(
 }
 
 /// Rows with several conversions, one of them a text.
-fn text_rows() -> [Row; 2] {
+pub(crate) fn text_rows() -> [Row; 2] {
     [
         Row {
             format: b"%5d%3u%8s",
