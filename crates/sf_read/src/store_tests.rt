@@ -17,7 +17,11 @@ fn over(rt: &(impl Abort + AllocGlobal), store: HeapStore, row: &Row) -> Result<
     let scanned = fscan_over(rt.alloc(), store, &mut from, &format, LIMIT)?;
     let report = scanned.report();
     is_told(rt, row, &report);
-    assert!(rt; report.value(row.values.len() as u8 + 1).is_none());
+    let mut next = 1u8;
+    for _ in row.values {
+        next = next.saturating_add(1);
+    }
+    assert!(rt; report.value(next).is_none());
     Ok(scanned.into_store())
 }
 

@@ -5,7 +5,7 @@ use crate::tests::{Row, is_told, rows};
 use crate::{
     Lookahead, ReadStep, ScriptSource, SliceSource, Source, StdSource, fscan, fscan_fixed,
 };
-use sf_base::{HeapStore, Value};
+use sf_base::{FixedStore, HeapStore, Value};
 use sf_format::{Profile, ScanFormat};
 use sf_run::{Ending, Scanned, StartFault, Status};
 use std::alloc::Global;
@@ -59,26 +59,21 @@ fn scanned<S: Source, const N: usize>(
     Ok(fscan(alloc, from, &format, LIMIT)?)
 }
 
-/// The row over a store of fixed capacity, where its format has a width sum; false where it has none.
-fn is_told_fixed<S: Source, const N: usize>(
-    rt: &(impl Abort + AllocGlobal),
-    row: &Row,
+/// A scan over a store of fixed capacity; None where the format has no width sum.
+fn scanned_fixed<S: Source, const N: usize>(
+    alloc: Global,
     from: &mut Lookahead<S, N>,
-) -> Result<bool, Fail> {
-    let format = ScanFormat::parse(rt.alloc(), Profile::One, row.format)?;
+    format: &[u8],
+) -> Result<Option<Scanned<FixedStore<16, 3>>>, Fail> {
+    let format = ScanFormat::parse(alloc, Profile::One, format)?;
     match fscan_fixed::<16, 3, S, N>(from, &format, LIMIT) {
-        Ok(scanned) => {
-            is_told(rt, row, &scanned.report());
-            Ok(true)
-        }
-        Err(fault) => {
-            assert!(rt; fault == StartFault::Unbounded && format.width_sum().is_none());
-            Ok(false)
-        }
+        Ok(scanned) => Ok(Some(scanned)),
+        Err(StartFault::Unbounded) if format.width_sum().is_none() => Ok(None),
+        Err(_) => Err(Fail::new("refused over a fixed store")),
     }
 }
 
-/// The same over a store of fixed capacity.
+/// The row by blocks of so many bytes, over a store of fixed capacity.
 macro_rules! by_fixed_blocks {
     ($size:literal, $rt:expr, $row:expr, $steps:expr) => {{
         let mut script = ScriptSource::new($steps);
@@ -86,7 +81,10 @@ macro_rules! by_fixed_blocks {
         let mut bounded = false;
         {
             let mut from = Lookahead::<&mut ScriptSource<'_>, $size>::new(&mut script);
-            bounded = is_told_fixed($rt, $row, &mut from)?;
+            if let Some(scanned) = scanned_fixed($rt.alloc(), &mut from, $row.format)? {
+                is_told($rt, $row, &scanned.report());
+                bounded = true;
+            }
             held.extend_from_slice(from.held())?;
         }
         if bounded {
@@ -107,7 +105,6 @@ macro_rules! by_blocks {
             held.extend_from_slice(from.held())?;
         }
         is_left($rt, $row, &all($rt.alloc(), &held, &mut script)?);
-        by_fixed_blocks!($size, $rt, $row, $steps);
     }};
 }
 
@@ -121,6 +118,19 @@ fn by_pieces(
     by_blocks!(3, rt, row, steps);
     by_blocks!(7, rt, row, steps);
     by_blocks!(4096, rt, row, steps);
+    Ok(())
+}
+
+fn by_fixed_pieces(
+    rt: &(impl Abort + AllocGlobal),
+    row: &Row,
+    steps: &[ReadStep<'_>],
+) -> Result<(), Fail> {
+    by_fixed_blocks!(1, rt, row, steps);
+    by_fixed_blocks!(2, rt, row, steps);
+    by_fixed_blocks!(3, rt, row, steps);
+    by_fixed_blocks!(7, rt, row, steps);
+    by_fixed_blocks!(4096, rt, row, steps);
     Ok(())
 }
 
@@ -149,6 +159,7 @@ fn all_blocks(rt: &(impl Abort + AllocGlobal), rows: &[Row]) -> Result<(), Fail>
         for most in [1usize, 2, 3, 4096] {
             let steps = pieces(rt.alloc(), row.text, most)?;
             by_pieces(rt, row, &steps)?;
+            by_fixed_pieces(rt, row, &steps)?;
         }
     }
     Ok(())
