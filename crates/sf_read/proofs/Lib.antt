@@ -3,3 +3,4 @@ pub mod Ended
 pub mod Endings
 pub mod Reading
 pub mod Scripts
+pub mod Shapes

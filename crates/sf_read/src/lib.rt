@@ -2,10 +2,15 @@
 #![tactic(auto)]
 
 mod lookahead;
+mod row;
+#[cfg(test)]
+mod row_tests;
 mod script_source;
 mod slice_source;
 mod source;
 mod std_source;
+#[cfg(test)]
+mod store_tests;
 mod stream;
 #[cfg(test)]
 mod stream_tests;
@@ -14,6 +19,7 @@ mod tests;
 mod whole;
 
 pub use lookahead::Lookahead;
+pub use row::{ScanRowFault, scan_row};
 pub use script_source::{ReadStep, ScriptSource};
 pub use slice_source::SliceSource;
 pub use source::{Source, SourceFault};

@@ -2,8 +2,10 @@
 ghost use Rattle.std.specs.Prelude.{◌≤◌};
 
 use crate::tests::{Row, is_told, rows};
-use crate::{Lookahead, ReadStep, ScriptSource, SliceSource, Source, StdSource, fscan};
-use sf_base::{HeapStore, Value};
+use crate::{
+    Lookahead, ReadStep, ScriptSource, SliceSource, Source, StdSource, fscan, fscan_fixed,
+};
+use sf_base::{FixedStore, HeapStore, Value};
 use sf_format::{Profile, ScanFormat};
 use sf_run::{Ending, Scanned, StartFault, Status};
 use std::alloc::Global;
@@ -57,6 +59,40 @@ fn scanned<S: Source, const N: usize>(
     Ok(fscan(alloc, from, &format, LIMIT)?)
 }
 
+/// A scan over a store of fixed capacity; None where the format has no width sum.
+fn scanned_fixed<S: Source, const N: usize>(
+    alloc: Global,
+    from: &mut Lookahead<S, N>,
+    format: &[u8],
+) -> Result<Option<Scanned<FixedStore<16, 3>>>, Fail> {
+    let format = ScanFormat::parse(alloc, Profile::One, format)?;
+    match fscan_fixed::<16, 3, S, N>(from, &format, LIMIT) {
+        Ok(scanned) => Ok(Some(scanned)),
+        Err(StartFault::Unbounded) if format.width_sum().is_none() => Ok(None),
+        Err(_) => Err(Fail::new("refused over a fixed store")),
+    }
+}
+
+/// The row by blocks of so many bytes, over a store of fixed capacity.
+macro_rules! by_fixed_blocks {
+    ($size:literal, $rt:expr, $row:expr, $steps:expr) => {{
+        let mut script = ScriptSource::new($steps);
+        let mut held = Vec::<u8>::new($rt.alloc());
+        let mut bounded = false;
+        {
+            let mut from = Lookahead::<&mut ScriptSource<'_>, $size>::new(&mut script);
+            if let Some(scanned) = scanned_fixed($rt.alloc(), &mut from, $row.format)? {
+                is_told($rt, $row, &scanned.report());
+                bounded = true;
+            }
+            held.extend_from_slice(from.held())?;
+        }
+        if bounded {
+            is_left($rt, $row, &all($rt.alloc(), &held, &mut script)?);
+        }
+    }};
+}
+
 /// The row by blocks of so many bytes.
 macro_rules! by_blocks {
     ($size:literal, $rt:expr, $row:expr, $steps:expr) => {{
@@ -85,8 +121,21 @@ fn by_pieces(
     Ok(())
 }
 
+fn by_fixed_pieces(
+    rt: &(impl Abort + AllocGlobal),
+    row: &Row,
+    steps: &[ReadStep<'_>],
+) -> Result<(), Fail> {
+    by_fixed_blocks!(1, rt, row, steps);
+    by_fixed_blocks!(2, rt, row, steps);
+    by_fixed_blocks!(3, rt, row, steps);
+    by_fixed_blocks!(7, rt, row, steps);
+    by_fixed_blocks!(4096, rt, row, steps);
+    Ok(())
+}
+
 /// Rows with several conversions, one of them a text.
-fn text_rows() -> [Row; 2] {
+pub(crate) fn text_rows() -> [Row; 2] {
     [
         Row {
             format: b"%5d%3u%8s",
@@ -110,6 +159,7 @@ fn all_blocks(rt: &(impl Abort + AllocGlobal), rows: &[Row]) -> Result<(), Fail>
         for most in [1usize, 2, 3, 4096] {
             let steps = pieces(rt.alloc(), row.text, most)?;
             by_pieces(rt, row, &steps)?;
+            by_fixed_pieces(rt, row, &steps)?;
         }
     }
     Ok(())

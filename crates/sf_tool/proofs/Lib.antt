@@ -10,3 +10,4 @@ pub mod Passing
 pub mod Places
 pub mod PrintAnswering
 pub mod Suiting
+pub mod WordRows

@@ -446,3 +446,32 @@ fn usage(rt: HostRuntime) -> Result<(), Fail> {
     }
     Ok(())
 }
+
+#[test]
+fn printed_values(rt: HostRuntime) -> Result<(), Fail> {
+    let rows = [
+        (["print", "%+5d|%-5d|", "42", "42"], "  +42|42   |", "", 0),
+        (["print", "%08.3d %#06x", "-5", "255"], "    -005 0x00ff", "", 0),
+        (["print", "%d,%s", "x", "y"], "", "sf: value 1: expected i32\n", 2),
+        (["print", "%c%s", "ab", "y"], "", "sf: value 1: expected one byte\n", 2),
+        (["print", "%d", "1", "2"], "", "sf: expected 1 values, got 2\n", 2),
+        (["print", "%[a]", "1", "2"], "", "sf: print format: F4 UnknownLetter at 1\n", 2),
+    ];
+    for (row, output, line, wanted) in rows {
+        let alloc = rt.alloc();
+        let mut words = Vec::new(alloc);
+        for word in row {
+            words.push(String::from_str(alloc, word)?)?;
+        }
+        let steps = [ReadStep::Fail];
+        let mut from = Lookahead::<_, 4096>::new(ScriptSource::new(&steps));
+        let mut out = ListSink::new(alloc);
+        let mut err = Vec::<u8>::new(alloc);
+        let status = tool(alloc, &words, &mut from, &mut out, &mut err);
+        assert!(rt; out.bytes() == output.as_bytes(), "output of {line}");
+        assert!(rt; err.as_slice() == line.as_bytes(), "line {line}");
+        assert_eq!(rt; status, wanted, "status of {line}");
+        assert_eq!(rt; from.source().reads(), 0);
+    }
+    Ok(())
+}

@@ -1,0 +1,57 @@
+-- What a scan of a row answers.
+use Rattle.std.specs.Prelude.{◌≡◌, ◌≢◌, ℕ, List, length, Bool, true, false, Option, Some, IsSome, Result, Ok, Err, if◌then◌else◌}
+use Rattle.std.specs.Option.{option_map}
+use Rattle.sf_base.specs.declared.values.Kind.{Kind}
+use Rattle.sf_base.specs.Data.{Datum, Assigned, datum_at}
+use Rattle.sf_format.specs.declared.directive.Directive.{Directive}
+use Rattle.sf_format.specs.Proper.{destinations_of, kind_at}
+use Rattle.sf_format.specs.Widths.{width_sum}
+use Rattle.sf_run.specs.declared.outcome.Ending.{Ending}
+use Rattle.sf_run.specs.declared.outcome.Ending.TheVariants.{End}
+use Rattle.sf_run.specs.declared.outcome.Status.TheVariants.{Done}
+use Rattle.sf_run.specs.Limits.{RunTold}
+use Rattle.sf_run.specs.Rows.{at_slot, kind_of, AreRowOf}
+use Rattle.sf_run.specs.Runs.{RunReport}
+use Rattle.sf_run.specs.Stopping.{is_memory_status}
+use Rattle.sf_run.specs.Views.{report_by}
+use Rattle.sf_read.specs.declared.row.ScanRowFault.{ScanRowFault}
+use Rattle.sf_read.specs.declared.row.ScanRowFault.TheVariants.{ShapeDiffers, Start, Failed, NoMemory}
+use Rattle.sf_read.specs.Ahead.{Ahead, input_of}
+use Rattle.sf_read.specs.Counts.{counted_on}
+use Rattle.sf_read.specs.Scan.{Scan, is_fault}
+
+-- the slots with these kinds are the destinations of the format, with theirs
+abbrev pub HasShape : List Kind → List Directive → Type 0
+HasShape kinds ds = (length kinds ≡ length (destinations_of ds)) × ((slot : ℕ) → at_slot slot kinds ≡ kind_at slot ds)
+
+-- each destination of the format was given something of its kind, and no other slot was given anything
+abbrev pub FillsSlots : List Directive → List Assigned → Type 0
+FillsSlots ds values = (slot : ℕ) → option_map kind_of (datum_at slot values) ≡ kind_at slot ds
+
+-- there was a run
+abbrev pub is_run : {T : Type 0} → Result T ScanRowFault → Bool
+is_run (Ok row) = true
+is_run (Err ShapeDiffers) = false
+is_run (Err (Start fault)) = false
+is_run (Err (Failed outcome)) = true
+is_run (Err NoMemory) = true
+
+-- what is answered where the run has this report
+abbrev pub Answers : {T : Type 0} → List Kind → (T → List Datum) → RunReport → Result T ScanRowFault → Type 0
+Answers kinds listed report (Ok row) = (report.status ≡ Done) × AreRowOf (length kinds) (listed row) report.values
+Answers kinds listed report (Err ShapeDiffers) = ⊥
+Answers kinds listed report (Err (Start fault)) = ⊥
+Answers kinds listed report (Err (Failed outcome)) = (report.status ≢ Done) × (report_by outcome report.values ≡ report)
+Answers kinds listed report (Err NoMemory) = report.status ≡ Done
+
+-- there was a run, and its one report is answered
+pub record RowScan {S T : Type 0} (to_come : S → Option (List ℕ)) (failures : S → ℕ) (kinds : List Kind) (listed : T → List Datum)
+    (ds : List Directive) (m : ℕ) (old new : Ahead S) (result : Result T ScanRowFault) : Type 0 where
+  pub report : RunReport
+  pub answers : Answers kinds listed report result
+  pub scan : (t : List ℕ) → input_of to_come old ≡ Some t → Scan to_come ds m t old new report
+  -- the report is that of some input, also where the source doesn't tell its own
+  pub told : (x : List ℕ) × (ending : Ending) × RunTold ds m x ending report
+  pub bounded : IsSome (width_sum ds) → is_memory_status report.status ≡ false
+  pub failed : failures new.source ≡ (if is_fault report.met then counted_on (failures old.source) else failures old.source)
+  pub end : report.met ≡ Some End → new.at_end ≡ true
