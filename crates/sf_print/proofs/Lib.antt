@@ -4,6 +4,7 @@ pub mod Digits
 pub mod FourDigits
 pub mod Plainness
 pub mod Rows
+pub mod Short
 pub mod Staging
 pub mod Judged
 pub mod Lowest

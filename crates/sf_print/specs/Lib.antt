@@ -9,3 +9,4 @@ pub mod Plain
 pub mod Printables
 pub mod Staged
 pub mod Runs
+pub mod Short

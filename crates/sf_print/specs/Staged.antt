@@ -24,6 +24,6 @@ abbrev pub Puts : {A E : Type 0} → Option (List ℕ) → Stage → Option (Lis
 Puts was s now t piece result = (old : Option (List ℕ)) (text : List ℕ) → Holds old was s.written (held s) text → HoldsOrBroke old now t (text ++ piece) result
 
 -- the sink took all of the text, or where it failed its first bytes, this many
-abbrev pub Writes : {A : Type 0} → Option (List ℕ) → Option (List ℕ) → List ℕ → Result A ℕ → Type 0
-Writes old new text (Ok a) = Appends old new text
+abbrev pub Writes : Option (List ℕ) → Option (List ℕ) → List ℕ → Result ℕ ℕ → Type 0
+Writes old new text (Ok written) = Appends old new text × (written ≡ length text)
 Writes old new text (Err written) = Appends old new (take written text) × (written ≤ length text)

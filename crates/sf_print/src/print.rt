@@ -1,10 +1,12 @@
 //! Printing values by a format.
-ghost use Rattle.std.specs.Prelude.{◌≡◌, ◌<◌, ◌+◌, ◌^◌, length, map, min, OnOk, IfErr, is_err, if◌then◌else◌};
+ghost use Rattle.std.specs.Prelude.{◌≡◌, ◌<◌, ◌≤◌, ◌+◌, ◌^◌, true, length, map, min, None, Ok, Err, OnOk, IfErr, MatchResult, is_err, if◌then◌else◌};
 ghost use Rattle.sf_base.specs.Data.{datum_of};
+ghost use Rattle.sf_format.specs.Units.{values_of};
 ghost use Rattle.sf_print.specs.Sinks.{counted_on};
 ghost use Rattle.sf_print.specs.Staged.{Puts, Writes};
 ghost use Rattle.sf_print.specs.Text.{value_text};
-ghost use Rattle.sf_print.specs.Printed.{unit_text, printed, measured, WritesText, is_sink_fault};
+ghost use Rattle.sf_print.specs.Short.{IsShort, AreShort};
+ghost use Rattle.sf_print.specs.Printed.{unit_text, printed, length_or_fault, measured, WritesText, is_sink_fault};
 
 use crate::decimal::decimal_len;
 use crate::fault::PrintFault;
@@ -21,6 +23,26 @@ use sf_format::{PrintConv, PrintFormat, Unit};
 
 /// The greatest length of a printed text.
 const MOST_BYTES: u32 = 2147483647;
+
+/// Puts the text of any value, by its pieces.
+#[inline(never)]
+fn put_padded<K: Sink>(
+    to: &mut K,
+    stage: &mut Stage,
+    conv: &PrintConv,
+    value: &Value<'_>,
+) -> Result<(), SinkFault>
+    requires { stage.old.written + stage.old.len + length (value_text conv.now (datum_of value.now)) < 2 ^ 32 }
+    ensures text { Puts (K.contents to.old) stage.old (K.contents to.new) stage.new (value_text conv.now (datum_of value.now)) result }
+    ensures count { OnOk result (stage.new.written + stage.new.len
+        ≡ stage.old.written + stage.old.len + length (value_text conv.now (datum_of value.now))) }
+    ensures failures { K.failures to.new
+        ≡ (if is_err result then counted_on (K.failures to.old) else K.failures to.old) }
+{
+    let mut buf = [0; DIGIT_BYTES];
+    let pieces = value_pieces(conv, *value, &mut buf);
+    put_pieces(to, stage, &pieces)
+}
 
 /// Puts the text of a value.
 #[inline]
@@ -40,9 +62,7 @@ fn put_value<K: Sink>(
     if let Some((negative, magnitude)) = plain_number(conv, value) {
         return put_number(to, stage, negative, magnitude);
     }
-    let mut buf = [0; DIGIT_BYTES];
-    let pieces = value_pieces(conv, *value, &mut buf);
-    put_pieces(to, stage, &pieces)
+    put_padded(to, stage, conv, value)
 }
 
 /// The length of a value's text, or the most where it is longer.
@@ -101,8 +121,8 @@ fn put_units<K: Sink>(
     Ok(())
 }
 
-/// Hands the sink the texts of the units, and answers how many bytes it took where it failed.
-fn write_units<K: Sink>(to: &mut K, units: &[Unit], values: &[Value<'_>]) -> Result<(), u32>
+/// Hands the sink the texts of the units, and answers how many bytes it took, or where it failed had taken.
+fn write_units<K: Sink>(to: &mut K, units: &[Unit], values: &[Value<'_>]) -> Result<u32, u32>
     requires { length (printed units.now (map datum_of values.now)) < 2 ^ 32 }
     ensures text { Writes (K.contents to.old) (K.contents to.new) (printed units.now (map datum_of values.now)) result }
     ensures failures { K.failures to.new
@@ -114,7 +134,7 @@ fn write_units<K: Sink>(to: &mut K, units: &[Unit], values: &[Value<'_>]) -> Res
         Err(_) => return Err(stage.written),
     }
     match flush(to, &mut stage) {
-        Ok(()) => Ok(()),
+        Ok(()) => Ok(stage.written),
         Err(_) => Err(stage.written),
     }
 }
@@ -148,6 +168,22 @@ fn units_len(units: &[Unit], values: &[Value<'_>], most: u64) -> u64
     sum
 }
 
+/// Refuses the number of values, then the lowest slot whose value is wrong.
+fn refuse_values(units: &[Unit], count: u8, values: &[Value<'_>]) -> Result<(), PrintFault>
+    requires { count ≡ length (values_of units.now) }
+    ensures { MatchResult result
+        (λ _. measured units.now (map datum_of values.now) ≡ length_or_fault None (length (printed units.now (map datum_of values.now))))
+        (λ f. measured units.now (map datum_of values.now) ≡ Err f) }
+{
+    if values.len() != count as usize {
+        return Err(PrintFault::WrongCount);
+    }
+    match find_lowest_fault(units, values) {
+        Some(fault) => Err(fault),
+        None => Ok(()),
+    }
+}
+
 /// The length of the printed text in bytes (C11 7.21.6.1).
 ///
 /// It refuses the number of values, then the lowest slot whose value is wrong, then a text of more than
@@ -155,18 +191,52 @@ fn units_len(units: &[Unit], values: &[Value<'_>], most: u64) -> u64
 pub fn printed_len(format: &PrintFormat, values: &[Value<'_>]) -> Result<u32, PrintFault>
     ensures { result ≡ measured format.now (map datum_of values.now) }
 {
-    if values.len() != format.values() as usize {
-        return Err(PrintFault::WrongCount);
-    }
     let units = format.directives();
-    if let Some(fault) = find_lowest_fault(units, values) {
-        return Err(fault);
-    }
+    refuse_values(units, format.values(), values)?;
     let len = units_len(units, values, MOST_BYTES as u64 + 1) as u32;
     if len > MOST_BYTES {
         return Err(PrintFault::TooLong);
     }
     Ok(len)
+}
+
+/// Whether the value is a number, or a text of at most 65536 bytes.
+fn is_short(value: &Value<'_>) -> bool
+    ensures { result ≡ true → IsShort (datum_of value.now) }
+{
+    match value {
+        Value::Text(bytes) => bytes.len() <= 65536,
+        _ => true,
+    }
+}
+
+/// Whether no format makes a text of the values that is too long, for all that is seen at a glance.
+fn are_short(values: &[Value<'_>]) -> bool
+    ensures { result ≡ true → AreShort (map datum_of values.now) }
+{
+    for value in values {
+        if !is_short(value) {
+            return false;
+        }
+    }
+    true
+}
+
+/// Refuses what `printed_len` refuses, and measures only where the text may be too long.
+fn refuse(format: &PrintFormat, values: &[Value<'_>]) -> Result<(), PrintFault>
+    ensures told { MatchResult result
+        (λ _. measured format.now (map datum_of values.now) ≡ Ok (length (printed format.now (map datum_of values.now))))
+        (λ f. measured format.now (map datum_of values.now) ≡ Err f) }
+    ensures most { OnOk result (length (printed format.now (map datum_of values.now)) ≤ 2147483647) }
+{
+    let units = format.directives();
+    if are_short(values) {
+        return refuse_values(units, format.values(), values);
+    }
+    match printed_len(format, values) {
+        Ok(_) => Ok(()),
+        Err(fault) => Err(fault),
+    }
 }
 
 /// Prints the values by the format to the sink, and answers how many bytes were printed (C11 7.21.6.1).
@@ -184,9 +254,9 @@ pub fn fprint<K: Sink>(
     ensures failures { K.failures to.new
         ≡ (if is_sink_fault result then counted_on (K.failures to.old) else K.failures to.old) }
 {
-    let len = printed_len(format, values)?;
+    refuse(format, values)?;
     match write_units(to, format.directives(), values) {
-        Ok(()) => Ok(len),
+        Ok(len) => Ok(len),
         Err(written) => Err(PrintFault::Sink { written }),
     }
 }

@@ -1,9 +1,10 @@
 //! A sink that follows a script, for tests.
-ghost use Rattle.std.specs.Prelude.{◌≡◌, ◌<◌, ◌≤◌, ◌-◌, [], ◌∷◌, Some, IfSome, IfOk, length, is_err, if◌then◌else◌};
+ghost use Rattle.std.specs.Prelude.{◌≡◌, ◌<◌, ◌≤◌, ◌-◌, [], ◌∷◌, Some, None, is_none, IfSome, OnSome, IfOk, length, is_err, if◌then◌else◌};
 ghost use Rattle.sf_print.specs.declared.script_sink.WriteStep.TheVariants.{Accept};
+ghost use Rattle.std.specs.Result.{result_ok};
 ghost use Rattle.std.specs.Io.{WritesAtMost};
 ghost use Rattle.std.specs.Io.KnownBytes.{WriteAppends};
-ghost use Rattle.sf_print.specs.Scripts.{allowed};
+ghost use Rattle.sf_print.specs.Scripts.{allowed, ready, left_by};
 ghost use Rattle.sf_print.specs.Sinks.{counted_on};
 
 use crate::sink::{Sink, SinkFault};
@@ -32,6 +33,9 @@ impl Script<'_> {
         ensures value { result ≡ allowed len (Accept self.old.left ∷ self.old.steps.now) }
         ensures most { IfSome result (λ n. n ≤ len) }
         ensures some { 0 < len → IfSome result (λ n. 0 < n) }
+        ensures at { OnSome result (self.new.left ≡ 0 → self.new.steps.now ≡ []) }
+        ensures script { let old = ready (Accept self.old.left ∷ self.old.steps.now) in
+            ready (Accept self.new.left ∷ self.new.steps.now) ≡ (if is_none result then left_by None old else old) }
     {
         'steps: while self.left == 0 {
             match self.steps {
@@ -108,6 +112,7 @@ impl Sink for ScriptSink<'_> {
         ensures failures { self.new.failures
             ≡ (if is_err result then counted_on self.old.failures else self.old.failures) }
         ensures allowed { IfOk result (λ n. allowed (length bytes.now) self.old.script ≡ Some n) }
+        ensures script { ready self.new.script ≡ left_by (result_ok result) (ready self.old.script) }
     {
         if let Some(taken) = self.script.allow(bytes.len()) {
             if self.list.extend_from_slice(&bytes[..taken]).is_ok() {

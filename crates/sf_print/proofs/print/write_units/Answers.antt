@@ -1,4 +1,4 @@
-use Rattle.std.proofs.Common.{[], map, sym, append-nil}
+use Rattle.std.proofs.Common.{[], map, sym, append-nil, arith}
 use Rattle.sf_base.specs.Data.{datum_of}
 use Rattle.sf_print.specs.Printed.{printed}
 use Rattle.sf_print.proofs.Staging.{all_written, front_written, PutsAll-then, Stops-middle}
@@ -10,8 +10,11 @@ returns-in-Err-clause-text g c =
 
 pub returns-in-Ok-flush-clause-text : goal.returns-in-Ok-flush-clause-text
 returns-in-Ok-flush-clause-text g c =
-    all_written _ _ c.new-stage.result c.flush.new.stage (printed c.args.units.now (map datum_of c.args.values.now)) c.new-stage.ensures.len c.new-stage.ensures.written c.in-Ok-flush.ensures.len
-    (PutsAll-then _ _ _ _ _ _ _ _ _ (printed c.args.units.now (map datum_of c.args.values.now)) [] c.in-Ok.ensures.text c.in-Ok-flush.ensures.text)
+    let text = printed c.args.units.now (map datum_of c.args.values.now) in (
+      all_written _ _ c.new-stage.result c.flush.new.stage text c.new-stage.ensures.len c.new-stage.ensures.written c.in-Ok-flush.ensures.len
+          (PutsAll-then _ _ _ _ _ _ _ _ _ text [] c.in-Ok.ensures.text c.in-Ok-flush.ensures.text),
+      omega (arith, c.in-Ok-flush.ensures.count, c.in-Ok.ensures.count, c.new-stage.ensures.len, c.new-stage.ensures.written),
+    )
 
 pub returns-in-Err-flush-clause-text : goal.returns-in-Err-flush-clause-text
 returns-in-Err-flush-clause-text g c =
