@@ -1,5 +1,5 @@
 //! How an item is read, by the shape of its conversion.
-ghost use Rattle.std.specs.Prelude.{◌≡◌, true, ℕ, List, [], ◌∷◌, ◌++◌};
+ghost use Rattle.std.specs.Prelude.{◌≡◌, ◌<◌, ◌≤◌, ◌+◌, true, ℕ, List, [], ◌∷◌, ◌++◌, length, take, Some, None};
 ghost use Rattle.sf_item.specs.Tests.{has_item};
 ghost use Rattle.sf_item.specs.Scan.{shape_of, HasRead, ReadsNext};
 
@@ -53,4 +53,21 @@ pub fn read_on(reading: Reading<'_>, b: u8) -> Option<Reading<'_>>
         },
         Reading::Chars => Some(reading),
     }
+}
+
+// Reads the bytes of the piece, one after the other, as long as the item goes on with them, and answers how many.
+pub fn read_all(reading: &mut Reading<'_>, piece: &[u8]) -> usize
+    ensures within { result ≤ length piece.now }
+    ensures read { (f : List ℕ) → HasRead reading.old f → ReadsNext reading.old (Some reading.new) (f ++ take result piece.now) }
+    ensures stops { (f : List ℕ) → HasRead reading.old f → result < length piece.now
+        → ReadsNext reading.old None (f ++ take (result + 1) piece.now) }
+    ensures nothing { result ≡ 0 → reading.new ≡ reading.old }
+{
+    for i in 0..piece.len() {
+        match read_on(*reading, piece[i]) {
+            None => return i,
+            Some(next) => *reading = next,
+        }
+    }
+    piece.len()
 }
