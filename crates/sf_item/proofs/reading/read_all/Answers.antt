@@ -1,13 +1,16 @@
-use Rattle.std.proofs.Common.{◌++◌, ◌∙◌, subst, take, arith}
+use Rattle.std.proofs.Common.{◌+◌, subst, take}
 use Rattle.sf_item.specs.Scan.{HasRead}
-use Rattle.sf_item.proofs.Fronts.{one_more}
+use Rattle.sf_item.proofs.Readings.{integer_read, integer_ends}
 use Rattle.sf_item.proofs.reading.read_all.Goals as goal
 
-pub loop-i-preserved : goal.loop-i-preserved
-loop-i-preserved c = record {
-  read = λ f h.
-    let (same, before) = c.loop-i.invariant.read f h in
-    let (still, after) = c.in-Some.ensures (f ++ take c.loop-i.i c.args.piece.now) before in
-    (still ∙ same, subst (HasRead c.in-Some.next) (one_more f c.args.piece.now c.loop-i.i 0 c.loop-i-test.true) after);
-  nothing = λ e. absurd (omega (arith, e));
-}
+pub returns-in-Integer-clause-read : goal.returns-in-Integer-clause-read
+returns-in-Integer-clause-read c = λ f h.
+    rw c.in-Integer.is
+    (integer_read c.in-Integer.base c.in-Integer.reached f (take c.integer_front.result c.args.piece.now) (subst (λ r. HasRead r f) c.in-Integer.is h)
+    c.integer_front.new.reached c.integer_front.ensures.read)
+
+pub returns-in-Integer-clause-stops : goal.returns-in-Integer-clause-stops
+returns-in-Integer-clause-stops c = λ f h below.
+    rw c.in-Integer.is
+    (integer_ends c.in-Integer.base c.in-Integer.reached f (take (c.integer_front.result + 1) c.args.piece.now) (subst (λ r. HasRead r f) c.in-Integer.is h)
+    (c.integer_front.ensures.stops below))
