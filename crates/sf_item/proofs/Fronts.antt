@@ -1,6 +1,7 @@
 -- A front of what can be taken can be taken, and an integer can go on.
-use Rattle.std.proofs.Common.{◌≡◌, ℕ, ◌+◌, ◌*◌, ◌<◌, Bool, true, false, ◌&&◌, nat_le, cond, List, [], ◌∷◌, ◌++◌, length, Option, Some, None, is_some, unwrap_or, refl, sym, ap, ◌∙◌, subst, arith, true≢false}
+use Rattle.std.proofs.Common.{◌≡◌, ℕ, ◌+◌, ◌*◌, ◌<◌, Bool, true, false, ◌&&◌, nat_le, cond, List, [], ◌∷◌, ◌++◌, length, Option, Some, None, is_some, unwrap_or, take, slice_index_or, refl, sym, ap, ◌∙◌, subst, arith, true≢false}
 use Rattle.std.proofs.lemmas.Bool.Decides.{nat_tests}
+use Rattle.std.proofs.lemmas.List.{append_assoc, append-nil}
 use Rattle.std.proofs.lemmas.Grind.{common_steps}
 use Rattle.std.specs.Char.{digit_value}
 use Rattle.std.specs.List.{list_all}
@@ -190,3 +191,15 @@ integer_goes_on c f int can room =
     both (is_within c.width (length (f ++ 48 ∷ []))) (shape_begins c.shape c.width (f ++ 48 ∷ []))
     (subst (λ n. is_within c.width n ≡ true) (sym (length_more f 48)) room)
     (integer_shape_goes_on c.shape c.width f int (right_of (is_within c.width (length f)) (shape_begins c.shape c.width f) can))
+
+-- ---- the bytes of a piece
+
+-- what was read of a piece, with its next byte
+pub one_more : (f piece : List ℕ) (i d : ℕ) → i < length piece → (f ++ take i piece) ++ slice_index_or piece i d ∷ [] ≡ f ++ take (i + 1) piece
+one_more f piece i d below = grind (arith, common_steps, below)
+
+-- the fronts of what can be taken can be taken
+pub can_take_fronts : (c : Conversion) (f t : List ℕ) → can_take c (f ++ t) ≡ true → can_take c f ≡ true
+can_take_fronts c f [] e = subst (λ g. can_take c g ≡ true) (append-nil f) e
+can_take_fronts c f (b ∷ t) e =
+    can_take_front c f b (can_take_fronts c (f ++ b ∷ []) t (subst (λ g. can_take c g ≡ true) (sym (append_assoc f (b ∷ []) t)) e))

@@ -1,7 +1,8 @@
 //! Integers, read byte by byte: sign, prefix, digits (C11 7.21.6.2p12, 7.22.1.4p3).
-ghost use Rattle.std.specs.Prelude.{◌≡◌, false, ◌+◌, ◌*◌, ◌<◌, ◌≤◌, ◌↔◌, ℕ, List, [], ◌∷◌, ◌++◌};
+ghost use Rattle.std.specs.Prelude.{◌≡◌, false, ◌+◌, ◌*◌, ◌<◌, ◌≤◌, ◌↔◌, ◌⊎◌, ℕ, List, [], ◌∷◌, ◌++◌, length, take, Some, None};
 ghost use Rattle.sf_item.specs.Progress.{Progress, advance, first_radix, zero_radix, is_prefix_letter, with_digit, with_first_digit};
-ghost use Rattle.sf_item.specs.Scan.{HoldsNumber, Shows, ShowsNext};
+ghost use Rattle.sf_item.specs.Tests.{read};
+ghost use Rattle.sf_item.specs.Scan.{HoldsNumber, Shows, ShowsNext, HasDigits};
 
 use crate::reached::{Digits, Reached};
 use sf_base::digit_value;
@@ -125,5 +126,63 @@ pub fn advance(base: Base, reached: Reached, b: u8) -> Option<Reached>
         }
         Reached::Prefix(negative) => from_nothing(negative, 16, b),
         Reached::Digits(digits) => with_byte(digits, b),
+    }
+}
+
+// Reads the digits of the piece, one after the other, and answers how many.
+fn digit_front(digits: &mut Digits, piece: &[u8]) -> usize
+    ensures within { result ≤ length piece.now }
+    ensures read { (base : Base) (p : Progress) → Shows (Reached.Digits digits.old) p
+        → ShowsNext (Some (Reached.Digits digits.new)) (read base (Some p) (take result piece.now)) }
+    ensures stops { result < length piece.now → (base : Base) (p : Progress) → Shows (Reached.Digits digits.old) p
+        → ShowsNext None (read base (Some p) (take (result + 1) piece.now)) }
+    ensures nothing { result ≡ 0 → digits.new ≡ digits.old }
+{
+    let mut number = *digits;
+    for i in 0..piece.len() {
+        match digit_value(piece[i], number.radix) {
+            None => {
+                *digits = number;
+                return i;
+            }
+            Some(digit) => number = with_digit(number, digit),
+        }
+    }
+    *digits = number;
+    piece.len()
+}
+
+// Reads the bytes of the piece up to the first digit that settles the radix, and answers how many.
+fn opening(base: Base, reached: &mut Reached, piece: &[u8]) -> usize
+    ensures within { result ≤ length piece.now }
+    ensures read { (p : Progress) → Shows reached.old p → ShowsNext (Some reached.new) (read base (Some p) (take result piece.now)) }
+    ensures stops { result < length piece.now → HasDigits reached.new ⊎ ((p : Progress) → Shows reached.old p
+        → ShowsNext None (read base (Some p) (take (result + 1) piece.now))) }
+    ensures nothing { result ≡ 0 → reached.new ≡ reached.old }
+{
+    for i in 0..piece.len() {
+        if let Reached::Digits(_) = reached {
+            return i;
+        }
+        match advance(base, *reached, piece[i]) {
+            None => return i,
+            Some(next) => *reached = next,
+        }
+    }
+    piece.len()
+}
+
+// Reads the bytes of the piece, one after the other, as long as an integer of the base goes on with them, and answers how many.
+pub fn integer_front(base: Base, reached: &mut Reached, piece: &[u8]) -> usize
+    ensures within { result ≤ length piece.now }
+    ensures read { (p : Progress) → Shows reached.old p → ShowsNext (Some reached.new) (read base (Some p) (take result piece.now)) }
+    ensures stops { result < length piece.now → (p : Progress) → Shows reached.old p
+        → ShowsNext None (read base (Some p) (take (result + 1) piece.now)) }
+    ensures nothing { result ≡ 0 → reached.new ≡ reached.old }
+{
+    let opened = opening(base, reached, piece);
+    match reached {
+        Reached::Digits(digits) => opened + digit_front(digits, &piece[opened..]),
+        _ => opened,
     }
 }

@@ -1,13 +1,13 @@
 //! The input item of one conversion, byte by byte (C11 7.21.6.2p9).
-ghost use Rattle.std.specs.Prelude.{◌≡◌, ◌≢◌, ◌<◌, ◌↔◌, true, ℕ, List, [], ◌∷◌, ◌++◌, IsTrue};
+ghost use Rattle.std.specs.Prelude.{◌≡◌, ◌≢◌, ◌<◌, ◌≤◌, ◌+◌, ◌↔◌, true, ℕ, List, [], ◌∷◌, ◌++◌, length, take, IsTrue};
 ghost use Rattle.sf_format.specs.Proper.{IsProperShape};
 ghost use Rattle.sf_item.specs.Tests.{has_item};
 ghost use Rattle.sf_item.specs.Progress.{Progress, integer_of};
-ghost use Rattle.sf_item.specs.Scan.{Shows, most_bytes, IsOneLess};
+ghost use Rattle.sf_item.specs.Scan.{Shows, most_bytes, HasLeft, FitsLeft, IsOneLess};
 ghost use Rattle.sf_item.specs.Taking.{HasTaken, CanTake, conversion_of, left_of, Ends, EndsAt};
 
 use crate::reached::Reached;
-use crate::reading::{Reading, read_on, reading_of};
+use crate::reading::{Reading, read_all, read_on, reading_of};
 use sf_format::{Conversion, Shape};
 
 /// Whether the item goes on with a byte.
@@ -85,6 +85,29 @@ fn one_less(left: Option<u16>) -> Option<u16>
     }
 }
 
+// As many of the bytes as the item may still have.
+fn cut(piece: &[u8], left: Option<u16>) -> &[u8]
+    ensures front { result.now ≡ take (length result.now) piece.now }
+    ensures room { (k : ℕ) → k ≤ length result.now → FitsLeft left k }
+    ensures whole { length result.now < length piece.now → left ≡ Some (length result.now) }
+{
+    match left {
+        Some(n) if (n as usize) < piece.len() => &piece[..n as usize],
+        _ => piece,
+    }
+}
+
+// What is left with so many bytes less.
+fn less(left: Option<u16>, count: usize) -> Option<u16>
+    requires { FitsLeft left count }
+    ensures { HasLeft left result count }
+{
+    match left {
+        None => None,
+        Some(n) => Some(n - count as u16),
+    }
+}
+
 // What an integer is that was read so far.
 fn end_of(reached: Reached) -> ItemEnd
     ensures { (p : Progress) → Shows reached p → EndsAt (integer_of p) result }
@@ -142,6 +165,25 @@ impl<'c> ItemScan<'c> {
                 Step::Taken
             }
         }
+    }
+
+    /// Takes the bytes of the piece, one after the other, as long as the item goes on with them, and answers how many: as
+    /// many `step`s take the same. A byte that is refused stays with the input.
+    pub fn take_all(&mut self, piece: &[u8]) -> usize
+        ensures conversion { conversion_of self.new ≡ conversion_of self.old }
+        ensures within { result ≤ length piece.now }
+        ensures taken { (f : List ℕ) → HasTaken self.old f → HasTaken self.new (f ++ take result piece.now) }
+        ensures each { (f : List ℕ) → HasTaken self.old f → (k : ℕ) → k < result
+            → CanTake (conversion_of self.old) (f ++ take (k + 1) piece.now) }
+        ensures stops { (f : List ℕ) → HasTaken self.old f → result < length piece.now
+            → CanTake (conversion_of self.old) (f ++ take (result + 1) piece.now) → ⊥ }
+        ensures nothing { result ≡ 0 → self.new ≡ self.old }
+        ensures left { HasLeft (left_of self.old) (left_of self.new) result }
+    {
+        let count = read_all(&mut self.reading, cut(piece, self.left));
+        self.left = less(self.left, count);
+        self.begun |= count > 0;
+        count
     }
 
     /// Whether `step` would take no byte, whichever it is. Of a set without a member, which no format has, it tells only

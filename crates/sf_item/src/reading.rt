@@ -1,9 +1,10 @@
 //! How an item is read, by the shape of its conversion.
-ghost use Rattle.std.specs.Prelude.{◌≡◌, true, ℕ, List, [], ◌∷◌, ◌++◌};
-ghost use Rattle.sf_item.specs.Tests.{has_item};
-ghost use Rattle.sf_item.specs.Scan.{shape_of, HasRead, ReadsNext};
+ghost use Rattle.std.specs.Prelude.{◌≡◌, ◌<◌, ◌≤◌, ◌+◌, true, ℕ, List, [], ◌∷◌, ◌++◌, length, take, Some, None};
+ghost use Rattle.sf_base.specs.Sets.{has_byte};
+ghost use Rattle.sf_item.specs.Tests.{has_item, is_ink};
+ghost use Rattle.sf_item.specs.Scan.{shape_of, HasRead, ReadsNext, IsFront};
 
-use crate::integer::advance;
+use crate::integer::{advance, integer_front};
 use crate::reached::Reached;
 use sf_base::{ByteSet, is_space};
 use sf_format::{Base, Shape};
@@ -52,5 +53,45 @@ pub fn read_on(reading: Reading<'_>, b: u8) -> Option<Reading<'_>>
             None
         },
         Reading::Chars => Some(reading),
+    }
+}
+
+// The number of bytes of the piece before the first white space.
+fn ink_front(piece: &[u8]) -> usize
+    ensures { IsFront is_ink piece.now result }
+{
+    for i in 0..piece.len() {
+        if is_space(piece[i]) {
+            return i;
+        }
+    }
+    piece.len()
+}
+
+// The number of bytes of the piece before the first that is no member.
+fn member_front(members: &ByteSet, piece: &[u8]) -> usize
+    ensures { IsFront (has_byte members.now) piece.now result }
+{
+    for i in 0..piece.len() {
+        if !members.contains(piece[i]) {
+            return i;
+        }
+    }
+    piece.len()
+}
+
+// Reads the bytes of the piece, one after the other, as long as the item goes on with them, and answers how many.
+pub fn read_all(reading: &mut Reading<'_>, piece: &[u8]) -> usize
+    ensures within { result ≤ length piece.now }
+    ensures read { (f : List ℕ) → HasRead reading.old f → ReadsNext reading.old (Some reading.new) (f ++ take result piece.now) }
+    ensures stops { (f : List ℕ) → HasRead reading.old f → result < length piece.now
+        → ReadsNext reading.old None (f ++ take (result + 1) piece.now) }
+    ensures nothing { result ≡ 0 → reading.new ≡ reading.old }
+{
+    match reading {
+        Reading::Integer(base, reached) => integer_front(*base, reached, piece),
+        Reading::Text => ink_front(piece),
+        Reading::Set(members) => member_front(members, piece),
+        Reading::Chars => piece.len(),
     }
 }

@@ -1,5 +1,6 @@
 //! Items of each shape, with the values that C's rules give.
-ghost use Rattle.std.specs.Prelude.{◌≡◌};
+ghost use Rattle.std.specs.Prelude.{◌≡◌, true};
+ghost use Rattle.sf_item.specs.Tests.{has_item};
 
 use crate::{ItemEnd, ItemScan, Step};
 use sf_base::{ByteSet, Kind};
@@ -184,4 +185,31 @@ fn a_copy_goes_its_own_way(rt: HostRuntime) {
     assert_eq!(rt; scan.step(b'x'), Step::Refused);
     assert_eq!(rt; scan.finish(), integer(false, 7));
     assert_eq!(rt; before.finish(), ItemEnd::Empty);
+}
+
+// How many bytes of the first piece are taken, how many of the second, and what the item then is.
+fn taken_in_two(
+    conversion: &Conversion,
+    first: &[u8],
+    second: &[u8],
+) -> (usize, usize, ItemEnd)
+    requires { has_item conversion.now.shape ≡ true }
+{
+    let mut scan = ItemScan::start(conversion);
+    let one = scan.take_all(first);
+    let two = scan.take_all(second);
+    (one, two, scan.finish())
+}
+
+#[test]
+fn pieces_are_taken_whole(rt: HostRuntime) {
+    let decimal = conversion_of(Shape::Int(Base::Dec), Some(4));
+    assert_eq!(rt;
+        taken_in_two(&decimal, b"-1", b"234"),
+        (2usize, 2usize, integer(true, 123))
+    );
+    assert_eq!(rt;
+        taken_in_two(&decimal, b"12;", b";3"),
+        (2usize, 0usize, integer(false, 12))
+    );
 }
