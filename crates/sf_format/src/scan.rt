@@ -130,6 +130,7 @@ impl ScanFormat {
         ensures few { result ≤ 32 }
         ensures slots { AreSlots (destinations_of self.now) }
         ensures kinded { AreKinded self.now }
+        ensures proper { AreProper self.now }
     {
         self.destinations
     }

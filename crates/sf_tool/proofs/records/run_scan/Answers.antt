@@ -1,6 +1,5 @@
-use Rattle.std.proofs.Common.{◌≡◌, ap, sym, ◌∙◌, refl, subst, ℕ, arith}
+use Rattle.std.proofs.Common.{◌≡◌, ap, sym, ◌∙◌, refl, ℕ, arith}
 use Rattle.std.specs.Io.KnownBytes.{Appends}
-use Rattle.sf_format.specs.Proper.{AreProper}
 use Rattle.sf_run.specs.Runs.{RunReport}
 use Rattle.sf_run.proofs.Told as told
 use Rattle.sf_tool.specs.Judging.{Judges, Concludes, Interrupts}
@@ -19,22 +18,19 @@ loop-records-init g c = record {
 
 pub returns-in_default-clause-loops : goal.returns-in_default-clause-loops
 returns-in_default-clause-loops g c t e =
-    let proper : AreProper c.args.format.now = subst AreProper c.directives-directives.ensures.value c.directives-directives.ensures.proper in
     let start = begins g.S.Source.to_come c.args.format.now c.args.limit t c.args.from.now (g.K.Sink.contents c.args.to.now) (g.S.Source.failures c.args.from.now.source) e in
-    no_memory told.one_report proper start (omega arith) c.ended_by.result c.ended_by.ensures
+    no_memory told.one_report c.destinations-destinations.ensures.proper start (omega arith) c.ended_by.result c.ended_by.ensures
 
 pub returns-in_default-fscan_over-clause-loops : goal.returns-in_default-fscan_over-clause-loops
 returns-in_default-fscan_over-clause-loops g c t e =
-    let proper : AreProper c.args.format.now = subst AreProper c.directives-directives.ensures.value c.directives-directives.ensures.proper in
-    let here = no_memory told.one_report proper (c.loop-records.invariant.going t e) (omega (arith, c.loop-records-test.true)) c.ended_by-in_default-fscan_over.result c.ended_by-in_default-fscan_over.ensures in
+    let here = no_memory told.one_report c.destinations-destinations.ensures.proper (c.loop-records.invariant.going t e) (omega (arith, c.loop-records-test.true)) c.ended_by-in_default-fscan_over.result c.ended_by-in_default-fscan_over.ensures in
     rw (c.in_default-fscan_over.ensures.unread) here
 
 pub returns-in-Some-clause-loops : goal.returns-in-Some-clause-loops
 returns-in-Some-clause-loops g c t e =
-    let proper : AreProper c.args.format.now = subst AreProper c.directives-directives.ensures.value c.directives-directives.ensures.proper in
     let going = c.loop-records.invariant.going t e in
     let judged = c.in-Some.ensures.judged in
-    ends_at told.one_report proper going c.in-Ok-fscan_over.scanned (c.in-Ok-fscan_over.ensures.scan going.left going.input) c.in-Ok-fscan_over.ensures.stays c.in-Ok-fscan_over.ensures.failures c.loop-records-test.true c.in-Some.end _
+    ends_at told.one_report c.destinations-destinations.ensures.proper going c.in-Ok-fscan_over.scanned (c.in-Ok-fscan_over.ensures.scan going.left going.input) c.in-Ok-fscan_over.ensures.stays c.in-Ok-fscan_over.ensures.failures c.loop-records-test.true c.in-Some.end _
     (rw (← c.report.ensures, ← c.destinations-destinations.ensures.count) judged)
 
 pub returns-in-Some-clause-status : goal.returns-in-Some-clause-status
@@ -43,17 +39,15 @@ returns-in-Some-clause-status g c = c.in-Some.ensures.status
 pub loop-records-preserved : goal.loop-records-preserved
 loop-records-preserved g c = record {
   going = λ t e.
-      let proper : AreProper c.args.format.now = subst AreProper c.directives-directives.ensures.value c.directives-directives.ensures.proper in
-      let going = c.loop-records.invariant.going t e in
+        let going = c.loop-records.invariant.going t e in
       let judged = c.in_default-judge.ensures.judged in
-      next told.one_report proper going c.in-Ok-fscan_over.scanned (c.in-Ok-fscan_over.ensures.scan going.left going.input) c.in-Ok-fscan_over.ensures.stays c.in-Ok-fscan_over.ensures.failures _
+      next told.one_report c.destinations-destinations.ensures.proper going c.in-Ok-fscan_over.scanned (c.in-Ok-fscan_over.ensures.scan going.left going.input) c.in-Ok-fscan_over.ensures.stays c.in-Ok-fscan_over.ensures.failures _
           (ap turn_of (sym c.report.ensures) ∙ judged.0) (rw (← c.report.ensures, ← c.destinations-destinations.ensures.count) judged.1);
   sound = c.in_default-judge.ensures.failures ∙ c.loop-records.invariant.sound;
 }
 
 pub returns-clause-loops : goal.returns-clause-loops
 returns-clause-loops g c t e =
-    let proper : AreProper c.args.format.now = subst AreProper c.directives-directives.ensures.value c.directives-directives.ensures.proper in
     let going = c.loop-records.invariant.going t e in
     let full : c.loop-records.records ≡ 2147483647 = omega (arith, c.loop-records-test.false, c.loop-records.auto.records-end) in
-    too_many told.one_report proper going full c.ended_by-2.result c.ended_by-2.ensures
+    too_many told.one_report c.destinations-destinations.ensures.proper going full c.ended_by-2.result c.ended_by-2.ensures
