@@ -1,15 +1,13 @@
 -- How far an integer is read with the bytes of a piece.
-use Rattle.std.proofs.Common.{◌≡◌, ℕ, ◌+◌, ◌-◌, ◌*◌, ◌<◌, cond, List, [], ◌∷◌, ◌++◌, length, take, drop, slice_index_or, Option, Some, None, is_some, refl, sym, ap, ◌∙◌, subst, arith}
+use Rattle.std.proofs.Common.{◌≡◌, ℕ, ◌+◌, ◌-◌, ◌*◌, ◌<◌, Bool, cond, List, [], ◌∷◌, ◌++◌, length, take, drop, slice_index_or, Option, Some, None, is_some, refl, sym, ap, ◌∙◌, subst, arith}
 use Rattle.std.proofs.Math.Seq.{take-add, take-length}
 use Rattle.std.proofs.lemmas.List.{length-drop}
 use Rattle.std.specs.Char.{digit_value}
 use Rattle.sf_format.specs.declared.directive.Base.{Base}
-use Rattle.sf_item.specs.declared.reached.Digits as declared
 use Rattle.sf_item.specs.declared.reached.Reached.{Reached}
-use Rattle.sf_item.specs.declared.reached.Reached.TheVariants as reached
 use Rattle.sf_item.specs.declared.reading.Reading.TheVariants as reading
-use Rattle.sf_item.specs.Progress.{Progress, Start, Digits, advance}
-use Rattle.sf_item.specs.Scan.{HoldsNumber, Shows, ShowsNext, HasRead, ReadsNext}
+use Rattle.sf_item.specs.Progress.{Progress, Start, Digits, with_digit, advance}
+use Rattle.sf_item.specs.Scan.{Shows, ShowsNext, HasRead, ReadsNext}
 use Rattle.sf_item.specs.Tests.{read}
 use Rattle.sf_item.proofs.Fronts.{one_more, read_more}
 use Rattle.sf_item.proofs.Integers.{by_lt}
@@ -49,26 +47,20 @@ module _ (base : Base) (piece : List ℕ) (i : ℕ) (p : Progress) (now : Reache
       subst (λ t. ShowsNext after (read base (Some p) t)) (ap (λ t. take i piece ++ take k t) (rest_is piece i) ∙ sym (take-add i k piece))
       (behind base p (take i piece) (take k (rest piece i)) now after before then)
 
-module _ (base : Base) (d : declared.Digits) (b : ℕ) where
-  -- a digit more
-  pub digit_read : (e : declared.Digits) → digit_value b < d.radix → e.negative ≡ d.negative → e.radix ≡ d.radix
-      → ((value : ℕ) → HoldsNumber d.magnitude d.overflowed value → HoldsNumber e.magnitude e.overflowed (value * d.radix + digit_value b))
-      → (q : Progress) → Shows (reached.Digits d) q → ShowsNext (Some (reached.Digits e)) (advance base q b)
-  digit_read e below negative radix number q (value, is, holds) =
-      subst (λ q. ShowsNext (Some (reached.Digits e)) (advance base q b)) (sym is)
-      (by_lt (digit_value b) d.radix
-      (λ v. ShowsNext (Some (reached.Digits e)) (cond v (Some (Digits d.negative d.radix (value * d.radix + digit_value b))) None))
-      (λ _. (value * d.radix + digit_value b, rw (negative, radix) refl, number value holds))
-      (λ above. absurd (omega (arith, below, above))))
-
-  -- no digit
-  pub digit_stops : (digit_value b < d.radix → ⊥) → (q : Progress) → Shows (reached.Digits d) q → ShowsNext None (advance base q b)
-  digit_stops above q (value, is, holds) =
-      subst (λ q. ShowsNext None (advance base q b)) (sym is)
-      (by_lt (digit_value b) d.radix
-      (λ v. ShowsNext None (cond v (Some (Digits d.negative d.radix (value * d.radix + digit_value b))) None))
-      (λ below. absurd (above below))
-      (λ _. tt))
+-- with one decimal digit more
+pub decimal_read : (base : Base) (sign : Bool) (piece : List ℕ) (i before value digit : ℕ) → i < length piece
+    → digit_value (slice_index_or piece i 0) < 10 → digit ≡ digit_value (slice_index_or piece i 0)
+    → read base (Some (Digits sign 10 before)) (take i piece) ≡ Some (Digits sign 10 value)
+    → read base (Some (Digits sign 10 before)) (take (i + 1) piece) ≡ Some (Digits sign 10 (value * 10 + digit))
+decimal_read base sign piece i before value digit below is_digit same is =
+    let b = slice_index_or piece i 0 in
+    subst (λ t. read base (Some (Digits sign 10 before)) t ≡ Some (Digits sign 10 (value * 10 + digit))) (one_more [] piece i 0 below)
+    (read_more base (Some (Digits sign 10 before)) (take i piece) (b ∷ [])
+    ∙ ap (λ o. read base o (b ∷ [])) is
+    ∙ read_nothing base (with_digit sign 10 value b)
+    ∙ by_lt (digit_value b) 10 (λ v. cond v (Some (Digits sign 10 (value * 10 + digit_value b))) None ≡ Some (Digits sign 10 (value * 10 + digit_value b)))
+      (λ _. refl) (λ above. absurd (omega (arith, is_digit, above)))
+    ∙ ap (λ d. Some (Digits sign 10 (value * 10 + d))) (sym same))
 
 module _ (base : Base) (before : Reached) (f t : List ℕ) (h : HasRead (reading.Integer base before) f) where
   -- the bytes f and t of an integer

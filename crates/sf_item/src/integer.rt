@@ -1,63 +1,71 @@
 //! Integers, read byte by byte: sign, prefix, digits (C11 7.21.6.2p12, 7.22.1.4p3).
-ghost use Rattle.std.specs.Prelude.{◌≡◌, false, ◌+◌, ◌*◌, ◌<◌, ◌≤◌, ◌↔◌, ◌⊎◌, ℕ, List, [], ◌∷◌, ◌++◌, length, take, Some, None};
-ghost use Rattle.sf_item.specs.Progress.{Progress, advance, first_radix, zero_radix, is_prefix_letter, with_digit, with_first_digit};
+ghost use Rattle.std.specs.Prelude.{◌≡◌, false, ◌+◌, ◌*◌, ◌<◌, ◌≤◌, ◌↔◌, ◌⊎◌, if◌then◌else◌, ℕ, List, [], ◌∷◌, ◌++◌, length, take, Some, None};
+ghost use Rattle.sf_item.specs.Progress.{Progress, Start, Zero, advance, first_radix, zero_radix, is_prefix_letter, with_digit, with_first_digit};
 ghost use Rattle.sf_item.specs.Tests.{read};
-ghost use Rattle.sf_item.specs.Scan.{HoldsNumber, Shows, ShowsNext, HasDigits};
+ghost use Rattle.sf_item.specs.Scan.{HoldsNumber, Shows, ShowsNext, HasDigits, ReadsDecimal};
 
 use crate::reached::{Digits, Reached};
 use sf_base::digit_value;
 use sf_format::Base;
 
-// The number with one digit more. Once it has overflowed it takes digits on, as part of the item.
-fn with_digit(digits: Digits, digit: u8) -> Digits
-    requires below { digit < digits.radix }
-    ensures negative { result.negative ≡ digits.negative }
-    ensures radix { result.radix ≡ digits.radix }
-    ensures number { (value : ℕ) → HoldsNumber digits.magnitude digits.overflowed value
-        → HoldsNumber result.magnitude result.overflowed (value * digits.radix + digit) }
+// Below it a number has room for one decimal digit more.
+const QUICK: u64 = u64::MAX / 10;
+
+// Takes one digit more. Once the number has overflowed, digits are still part of the item.
+fn add_digit(digits: &mut Digits, digit: u8)
+    requires below { digit < digits.old.radix }
+    ensures negative { digits.new.negative ≡ digits.old.negative }
+    ensures radix { digits.new.radix ≡ digits.old.radix }
+    ensures number { (value : ℕ) → HoldsNumber digits.old.magnitude digits.old.overflowed value
+        → HoldsNumber digits.new.magnitude digits.new.overflowed (value * digits.old.radix + digit) }
 {
     if digits.overflowed {
-        return digits;
+        return;
     }
-    let product = digits.magnitude as u128 * digits.radix as u128 + digit as u128;
-    match u64::try_from(product) {
-        Ok(magnitude) => Digits {
-            negative: digits.negative,
-            radix: digits.radix,
-            magnitude,
-            overflowed: false,
-        },
-        Err(_) => Digits {
-            negative: digits.negative,
-            radix: digits.radix,
-            magnitude: 0,
-            overflowed: true,
-        },
+    let number = digits.magnitude as u128 * digits.radix as u128 + digit as u128;
+    match u64::try_from(number) {
+        Ok(magnitude) => digits.magnitude = magnitude,
+        Err(_) => {
+            digits.magnitude = 0;
+            digits.overflowed = true;
+        }
     }
 }
 
-// The digits with one byte more, if it is a digit.
-fn with_byte(digits: Digits, b: u8) -> Option<Reached>
-    ensures { (value : ℕ) → HoldsNumber digits.magnitude digits.overflowed value
-        → ShowsNext result (with_digit digits.negative digits.radix value b) }
+// Takes one byte more, and tells so, if it is a digit.
+fn add_byte(digits: &mut Digits, b: u8) -> bool
+    ensures next { (base : Base) (p : Progress) → Shows (Reached.Digits digits.old) p
+        → ShowsNext (if result then Some (Reached.Digits digits.new) else None) (advance base p b) }
+    ensures refused { result ≡ false → digits.new ≡ digits.old }
 {
-    let digit = digit_value(b, digits.radix)?;
-    Some(Reached::Digits(with_digit(digits, digit)))
+    match digit_value(b, digits.radix) {
+        None => false,
+        Some(digit) => {
+            add_digit(digits, digit);
+            true
+        }
+    }
 }
 
-// The first digit of a radix, after nothing or a prefix.
-fn from_nothing(negative: bool, radix: u8, b: u8) -> Option<Reached>
+// Takes the first digit of a radix, after nothing or a prefix.
+fn begin(negative: bool, radix: u8, b: u8, reached: &mut Reached) -> bool
     requires positive { 0 < radix }
     requires small { radix ≤ 16 }
-    ensures { ShowsNext result (with_digit negative radix 0 b) }
+    ensures next { ShowsNext (if result then Some reached.new else None) (with_digit negative radix 0 b) }
+    ensures refused { result ≡ false → reached.new ≡ reached.old }
 {
-    let nothing = Digits {
-        negative,
-        radix,
-        magnitude: 0,
-        overflowed: false,
-    };
-    with_byte(nothing, b)
+    match digit_value(b, radix) {
+        None => false,
+        Some(digit) => {
+            *reached = Reached::Digits(Digits {
+                negative,
+                radix,
+                overflowed: false,
+                magnitude: digit as u64,
+            });
+            true
+        }
+    }
 }
 
 // The radix of an integer that begins with another digit than 0.
@@ -96,40 +104,90 @@ fn is_prefix_letter(base: Base, b: u8) -> bool
     }
 }
 
-// The first digit, or the 0 of a prefix.
-fn first_digit(base: Base, negative: bool, b: u8) -> Option<Reached>
-    ensures { ShowsNext result (with_first_digit base negative b) }
+// Takes the first digit, or the 0 of a prefix.
+fn first_digit(base: Base, negative: bool, b: u8, reached: &mut Reached) -> bool
+    ensures next { ShowsNext (if result then Some reached.new else None) (with_first_digit base negative b) }
+    ensures refused { result ≡ false → reached.new ≡ reached.old }
 {
     if b == b'0' {
-        return Some(Reached::Zero(negative));
+        *reached = Reached::Zero(negative);
+        return true;
     }
-    from_nothing(negative, first_radix(base), b)
+    begin(negative, first_radix(base), b, reached)
 }
 
-// How far an integer of the base is read with one byte more; None where none begins so.
-pub fn advance(base: Base, reached: Reached, b: u8) -> Option<Reached>
-    ensures { (p : Progress) → Shows reached p → ShowsNext result (advance base p b) }
+// Takes the first byte: a sign or a digit.
+fn first_byte(base: Base, b: u8, reached: &mut Reached) -> bool
+    ensures next { ShowsNext (if result then Some reached.new else None) (advance base Start b) }
+    ensures refused { result ≡ false → reached.new ≡ reached.old }
+{
+    if b == b'+' || b == b'-' {
+        *reached = Reached::Signed(b == b'-');
+        return true;
+    }
+    first_digit(base, false, b, reached)
+}
+
+// Takes the byte after a first 0: the letter of a prefix or a digit.
+fn second_byte(base: Base, negative: bool, b: u8, reached: &mut Reached) -> bool
+    ensures next { ShowsNext (if result then Some reached.new else None) (advance base (Zero negative) b) }
+    ensures refused { result ≡ false → reached.new ≡ reached.old }
+{
+    if is_prefix_letter(base, b) {
+        *reached = Reached::Prefix(negative);
+        return true;
+    }
+    begin(negative, zero_radix(base), b, reached)
+}
+
+// Takes one byte more of an integer of the base, and tells so, if one begins so.
+pub fn advance(base: Base, reached: &mut Reached, b: u8) -> bool
+    ensures next { (p : Progress) → Shows reached.old p → ShowsNext (if result then Some reached.new else None) (advance base p b) }
+    ensures refused { result ≡ false → reached.new ≡ reached.old }
 {
     match reached {
-        Reached::Start => match b {
-            b'+' => Some(Reached::Signed(false)),
-            b'-' => Some(Reached::Signed(true)),
-            _ => first_digit(base, false, b),
-        },
-        Reached::Signed(negative) => first_digit(base, negative, b),
-        Reached::Zero(negative) => {
-            if is_prefix_letter(base, b) {
-                Some(Reached::Prefix(negative))
-            } else {
-                from_nothing(negative, zero_radix(base), b)
-            }
-        }
-        Reached::Prefix(negative) => from_nothing(negative, 16, b),
-        Reached::Digits(digits) => with_byte(digits, b),
+        Reached::Start => first_byte(base, b, reached),
+        Reached::Signed(negative) => first_digit(base, *negative, b, reached),
+        Reached::Zero(negative) => second_byte(base, *negative, b, reached),
+        Reached::Prefix(negative) => begin(*negative, 16, b, reached),
+        Reached::Digits(digits) => add_byte(digits, b),
     }
 }
 
-// Reads the digits of the piece, one after the other, and answers how many.
+// Takes decimal digits of the piece, one after the other, as long as their number stays within 64 bits, and answers how many.
+fn decimal_front(number: &mut u64, piece: &[u8]) -> usize
+    ensures within { result ≤ length piece.now }
+    ensures read { ReadsDecimal number.old (take result piece.now) number.new }
+    ensures nothing { result ≡ 0 → number.new ≡ number.old }
+{
+    let mut value = *number;
+    for i in 0..piece.len() {
+        match digit_value(piece[i], 10) {
+            Some(digit) if value < QUICK => value = value * 10 + digit as u64,
+            _ => {
+                *number = value;
+                return i;
+            }
+        }
+    }
+    *number = value;
+    piece.len()
+}
+
+// Takes the digits of the piece that can be taken quickly, and answers how many.
+fn quick_front(digits: &mut Digits, piece: &[u8]) -> usize
+    ensures within { result ≤ length piece.now }
+    ensures read { (base : Base) (p : Progress) → Shows (Reached.Digits digits.old) p
+        → ShowsNext (Some (Reached.Digits digits.new)) (read base (Some p) (take result piece.now)) }
+    ensures nothing { result ≡ 0 → digits.new ≡ digits.old }
+{
+    if digits.radix != 10 || digits.overflowed {
+        return 0;
+    }
+    decimal_front(&mut digits.magnitude, piece)
+}
+
+// Takes the digits of the piece, one after the other, and answers how many.
 fn digit_front(digits: &mut Digits, piece: &[u8]) -> usize
     ensures within { result ≤ length piece.now }
     ensures read { (base : Base) (p : Progress) → Shows (Reached.Digits digits.old) p
@@ -138,17 +196,11 @@ fn digit_front(digits: &mut Digits, piece: &[u8]) -> usize
         → ShowsNext None (read base (Some p) (take (result + 1) piece.now)) }
     ensures nothing { result ≡ 0 → digits.new ≡ digits.old }
 {
-    let mut number = *digits;
     for i in 0..piece.len() {
-        match digit_value(piece[i], number.radix) {
-            None => {
-                *digits = number;
-                return i;
-            }
-            Some(digit) => number = with_digit(number, digit),
+        if !add_byte(digits, piece[i]) {
+            return i;
         }
     }
-    *digits = number;
     piece.len()
 }
 
@@ -164,9 +216,8 @@ fn opening(base: Base, reached: &mut Reached, piece: &[u8]) -> usize
         if let Reached::Digits(_) = reached {
             return i;
         }
-        match advance(base, *reached, piece[i]) {
-            None => return i,
-            Some(next) => *reached = next,
+        if !advance(base, reached, piece[i]) {
+            return i;
         }
     }
     piece.len()
@@ -182,7 +233,10 @@ pub fn integer_front(base: Base, reached: &mut Reached, piece: &[u8]) -> usize
 {
     let opened = opening(base, reached, piece);
     match reached {
-        Reached::Digits(digits) => opened + digit_front(digits, &piece[opened..]),
+        Reached::Digits(digits) => {
+            let quick = opened + quick_front(digits, &piece[opened..]);
+            quick + digit_front(digits, &piece[quick..])
+        }
         _ => opened,
     }
 }

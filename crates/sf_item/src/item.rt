@@ -156,15 +156,12 @@ impl<'c> ItemScan<'c> {
         if is_used_up(self.left) {
             return Step::Refused;
         }
-        match read_on(self.reading, b) {
-            None => Step::Refused,
-            Some(reading) => {
-                self.reading = reading;
-                self.left = one_less(self.left);
-                self.begun = true;
-                Step::Taken
-            }
+        if !read_on(&mut self.reading, b) {
+            return Step::Refused;
         }
+        self.left = one_less(self.left);
+        self.begun = true;
+        Step::Taken
     }
 
     /// Takes the bytes of the piece, one after the other, as long as the item goes on with them, and answers how many: as

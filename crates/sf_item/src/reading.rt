@@ -1,5 +1,5 @@
 //! How an item is read, by the shape of its conversion.
-ghost use Rattle.std.specs.Prelude.{◌≡◌, ◌<◌, ◌≤◌, ◌+◌, true, ℕ, List, [], ◌∷◌, ◌++◌, length, take, Some, None};
+ghost use Rattle.std.specs.Prelude.{◌≡◌, ◌<◌, ◌≤◌, ◌+◌, true, false, if◌then◌else◌, ℕ, List, [], ◌∷◌, ◌++◌, length, take, Some, None};
 ghost use Rattle.sf_base.specs.Sets.{has_byte};
 ghost use Rattle.sf_item.specs.Tests.{has_item, is_ink};
 ghost use Rattle.sf_item.specs.Scan.{shape_of, HasRead, ReadsNext, IsFront};
@@ -37,22 +37,16 @@ pub fn reading_of(shape: &Shape) -> Reading<'_>
     }
 }
 
-// How the item is read with one byte more; None where none begins so.
-pub fn read_on(reading: Reading<'_>, b: u8) -> Option<Reading<'_>>
-    ensures { (f : List ℕ) → HasRead reading.entry f → ReadsNext reading.entry result (f ++ b ∷ []) }
+// Reads one byte more, and tells so, if the item goes on with it.
+pub fn read_on(reading: &mut Reading<'_>, b: u8) -> bool
+    ensures next { (f : List ℕ) → HasRead reading.old f → ReadsNext reading.old (if result then Some reading.new else None) (f ++ b ∷ []) }
+    ensures refused { result ≡ false → reading.new ≡ reading.old }
 {
     match reading {
-        Reading::Integer(base, reached) => {
-            let reached = advance(base, reached, b)?;
-            Some(Reading::Integer(base, reached))
-        }
-        Reading::Text => if is_space(b) { None } else { Some(reading) },
-        Reading::Set(members) => if members.contains(b) {
-            Some(reading)
-        } else {
-            None
-        },
-        Reading::Chars => Some(reading),
+        Reading::Integer(base, reached) => advance(*base, reached, b),
+        Reading::Text => !is_space(b),
+        Reading::Set(members) => members.contains(b),
+        Reading::Chars => true,
     }
 }
 
