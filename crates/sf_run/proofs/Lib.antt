@@ -7,6 +7,7 @@ pub mod Told
 pub mod Rows
 pub mod Machines
 pub mod Stages
+pub mod Brought
 pub mod Moves
 pub mod Slots
 pub mod Openness

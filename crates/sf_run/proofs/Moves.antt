@@ -1,9 +1,9 @@
 -- How the rest of a run changes with each move of the scanner.
-use Rattle.std.proofs.Common.{◌≡◌, ℕ, zero, suc, ◌+◌, ◌≤◌, ◌<◌, Bool, true, false, cond, not, ◌&&◌, ◌⊎◌, ltb, List, [], ◌∷◌, ◌++◌, length, take, drop, get_or, append_assoc, Option, Some, None, is_some, inl, inr, refl, sym, ap, subst, ◌∙◌, arith, true≢false}
+use Rattle.std.proofs.Common.{◌≡◌, ℕ, zero, suc, ◌+◌, ◌≤◌, ◌<◌, Bool, true, false, cond, not, ◌&&◌, ◌⊎◌, ltb, List, [], ◌∷◌, ◌++◌, length, take, drop, get_or, append_assoc, length-append, Option, Some, None, is_some, inl, inr, refl, sym, ap, subst, ◌∙◌, arith, true≢false}
 use Rattle.std.specs.Prelude.{slice_get, IfNone, IsSome}
 use Rattle.std.specs.List.{AllByRecursion, list_all}
 use Rattle.std.proofs.lemmas.Option.{slice_get_within, slice_get_cases, get_or_from_slice_get}
-use Rattle.std.proofs.lemmas.List.{drop_more, drop_all, take-append-drop}
+use Rattle.std.proofs.lemmas.List.{drop_more, drop_all, take-append-drop, length-take-le}
 use Rattle.std.proofs.lemmas.Bool.{le-ltb, lt-ltb}
 use Rattle.sf_base.specs.Bytes.{is_white}
 use Rattle.sf_base.specs.declared.values.Kind.{Kind}
@@ -24,15 +24,16 @@ use Rattle.sf_run.specs.declared.scanner.Stop.{Stop}
 use Rattle.sf_run.specs.Steps.{StepEnd, Passes, Stores, Fails}
 use Rattle.sf_run.specs.Runs.{RunReport}
 use Rattle.sf_run.specs.Machine.{Stage, Skipping, Taken, Item, shape_skips, item_stepped, stepped, finished}
-use Rattle.sf_run.specs.Phases.{ShowsItem, Shows, ShowsNext, slot_in}
+use Rattle.sf_run.specs.Phases.{ShowsItem, Shows, ShowsNext, GrowsBy, Brings, slot_in}
 use Rattle.sf_run.specs.Places.{is_destination, places_left}
-use Rattle.sf_run.specs.Residual.{Tally, one_from, with_used, counted, out_of, by_end, run_of, run_from}
+use Rattle.sf_run.specs.Residual.{Tally, stepped_all, one_from, with_used, counted, out_of, by_end, run_of, run_from}
 use Rattle.sf_run.specs.Stopping.{is_no_memory}
-use Rattle.sf_run.specs.Standing.{Standing, ShowsFirst, DoesBy, Does, Follows, IsRefused, Stops, Takes, Refuses, StoresByte, IsInText}
+use Rattle.sf_run.specs.Standing.{Standing, ShowsFirst, DoesBy, Does, Follows, IsRefused, Stops, Takes, TakesAll, Refuses, RefusesIn, StoresByte, IsInText}
 use Rattle.sf_run.specs.Standing.{Passes as Passed}
-use Rattle.sf_run.specs.Texts.{text_slot, opened_for, opened_after}
+use Rattle.sf_run.specs.Texts.{text_slot, opened_for, opened_after, opened_with}
 use Rattle.sf_base.specs.Kept.{Opened}
 use Rattle.sf_run.proofs.Machines.{grows}
+use Rattle.sf_run.proofs.Brought.{one_from-all}
 
 -- ---- the directive at a place
 
@@ -311,6 +312,57 @@ takes_follows new old d b p at waits takes next z k report low high does =
     (takes.ended ∙ waits) takes.keeps.directives takes.passed takes.phase takes.opened takes.tally
     (byte_taken old.directives old.passed d at old.phase p old.opened old.tally b k z report (waiting old k (b ∷ z) report waits does) next (with_used (old.tally.used + 1) old.tally) refl)
 
+-- what was opened is that of the stage that the bytes of the item lead to
+opened_grown : (d : Directive) (p : Phase) (q r : Stage) (g : List ℕ) (opened : Option Opened) → Shows d p r → GrowsBy q g r → opened ≡ opened_for (text_slot d) q
+    → opened_with (slot_in p) g opened ≡ opened_for (text_slot d) r
+opened_grown d p q r g opened showing grown is = ap (opened_with (slot_in p) g) is ∙ by_phase p showing
+  where
+    by_text : (text : Option ℕ) (slot : ℕ) (q : Stage) (h : List ℕ) → text ≡ Some slot → GrowsBy q g (Item h) → opened_with (Some slot) g (opened_for text q) ≡ opened_for text (Item h)
+    by_text None slot q h e grown = cc
+    by_text (Some own) slot (Item f) h e grown = cc
+    by_text (Some own) slot Skipping h e grown = cc
+    by_text (Some own) slot Taken h e grown = cc
+
+    by_item : (text : Option ℕ) (q r : Stage) → text ≡ None → opened_for text q ≡ opened_for text r
+    by_item None q r e = refl
+    by_item (Some own) q r e = cc
+
+    by_plain : (text : Option ℕ) (q r : Stage) → ((h : List ℕ) → r ≡ Item h → ⊥) → GrowsBy q g r → opened_for text q ≡ opened_for text r
+    by_plain None q r none grown = refl
+    by_plain (Some own) q (Item h) none grown = absurd (none h refl)
+    by_plain (Some own) (Item f) Skipping none grown = cc
+    by_plain (Some own) (Item f) Taken none grown = cc
+    by_plain (Some own) Skipping Skipping none grown = refl
+    by_plain (Some own) Skipping Taken none grown = refl
+    by_plain (Some own) Taken Skipping none grown = refl
+    by_plain (Some own) Taken Taken none grown = refl
+
+    by_phase : (p : Phase) → Shows d p r → opened_with (slot_in p) g (opened_for (text_slot d) q) ≡ opened_for (text_slot d) r
+    by_phase phase.Skipping e = by_plain (text_slot d) q r (λ h at. cc) grown
+    by_phase phase.Taken e = by_plain (text_slot d) q r (λ h at. cc) grown
+    by_phase (phase.Item scan) e = by_item (text_slot d) q r e.text
+    by_phase (phase.Text slot scan) e =
+        by_text (text_slot d) slot q e.item e.text (subst (GrowsBy q g) e.stage grown) ∙ ap (opened_for (text_slot d)) (sym e.stage)
+
+took_all : (k : ℕ) (ds : List Directive) (p : ℕ) (d : Directive) (q r : Stage) (t : Tally) (y z : List ℕ) → slice_get ds p ≡ Some d → stepped_all d q y ≡ Some r
+    → run_from (Some k) (drop p ds) q (p + 1) t (y ++ z) ≡ run_from (Some k) (drop p ds) r (p + 1) (with_used (t.used + length y) t) z
+took_all k ds p d q r t y z at e = rw (drop_at ds p d at, one_from-all d q r t.used y z e) refl
+
+-- bytes were taken at once
+pub takes_all_follows : (new old : Standing) (d : Directive) (n : ℕ) (y g : List ℕ) (p : Phase) → slice_get old.directives old.passed ≡ Some d → old.ended ≡ None → n ≡ length y
+    → TakesAll new old p n (opened_with (slot_in p) g old.opened) → ((q : Stage) → Shows d old.phase q → Brings d q y g p) → (z : List ℕ) → Follows new old z (y ++ z)
+takes_all_follows new old d n y g p at waits long takes brings z k report low high does =
+    let own : DoesBy None old.directives old.passed old.phase old.opened old.tally k (y ++ z) report = waiting old k (y ++ z) report waits does in
+    let here : Shows d old.phase own.0 × (old.opened ≡ opened_for (text_slot d) own.0) = subst (λ rest. ShowsFirst rest old.phase old.opened own.0) (drop_at old.directives old.passed d at) own.1 in
+    let b = brings own.0 here.0 in
+    same_does new None old.directives old.passed p (opened_with (slot_in p) g old.opened) (with_used (old.tally.used + length y) old.tally) k z report
+    (takes.ended ∙ waits) takes.keeps.directives takes.passed takes.phase takes.opened (takes.tally ∙ ap (λ m. with_used (old.tally.used + m) old.tally) long) (
+      b.stage,
+      subst (λ rest. ShowsFirst rest p (opened_with (slot_in p) g old.opened) b.stage) (sym (drop_at old.directives old.passed d at))
+          (b.shown, opened_grown d p own.0 b.stage g old.opened b.shown b.grown here.1),
+      own.2 ∙ took_all k old.directives old.passed d own.0 b.stage old.tally y z at b.stepped,
+    )
+
 -- a directive has passed
 pub passes_follows : (new old : Standing) (d : Directive) (f : StepEnd) (more : Bool) → slice_get old.directives old.passed ≡ Some d → old.ended ≡ None → Passed new old d f
     → ((q : Stage) → Shows d old.phase q → old.opened ≡ opened_for (text_slot d) q → f ≡ finished d q old.tally.used more) → ((status : Status) → f ≡ Fails status → ⊥)
@@ -389,6 +441,22 @@ refuses_on old mid new b y z more same first r = record {
   cut = λ report does. let low = r.below in r.cut report (first new.tally.used report more (omega (arith, low, same)) does);
 }
 
+-- nothing has happened
+pub follows_same : (new old : Standing) (z : List ℕ) → new ≡ old → Follows new old z z
+follows_same new old z e k report low high does = subst (λ (s : Standing). Does s k z report) (sym e) does
+
+-- a byte that is refused behind the first of a piece
+pub refused_behind : (old mid new : Standing) (xs : List ℕ) (i : ℕ) → i ≤ length xs → new.limit ≡ old.limit → mid.tally.used ≡ old.tally.used + i → ((z : List ℕ) → Follows mid old (drop i xs ++ z) (xs ++ z))
+    → RefusesIn new mid (drop i xs) → RefusesIn new old xs
+refused_behind old mid new xs i within limit used first w = record {
+  front = take i xs ++ w.front;
+  byte = w.byte;
+  rest = w.rest;
+  whole = sym (take-append-drop i xs) ∙ ap (λ l. take i xs ++ l) w.whole ∙ sym (append_assoc (take i xs) w.front (w.byte ∷ w.rest));
+  used = let u = w.used in omega (arith, u, used, length-append (take i xs) w.front, length-take-le i xs within);
+  refuses = λ z. let u = w.used in refuses_on old mid new w.byte (drop i xs ++ z) (xs ++ z) (omega (arith, u)) limit (first z) (w.refuses z);
+}
+
 -- an ended one does the same whatever follows
 pub ended_does : (s : Standing) (k : ℕ) (y z : List ℕ) (report : RunReport) → IsSome s.ended → Does s k y report → Does s k z report
 ended_does s k y z report ended does = by_case s.ended ended does
@@ -403,6 +471,23 @@ pub around : (xs : List ℕ) (i : ℕ) (z : List ℕ) → i < length xs → take
 around xs i z h =
     let e : drop i xs ≡ get_or xs i 0 ∷ drop (i + 1) xs = drop_more xs i 0 h in
     ap (λ (y : List ℕ). take i xs ++ (y ++ z)) (sym e) ∙ sym (append_assoc (take i xs) (drop i xs) z) ∙ ap (λ (y : List ℕ). y ++ z) (take-append-drop i xs)
+
+-- the first byte of a piece is refused
+pub refused_first : (mid new : Standing) (xs : List ℕ) → 0 < length xs → new.tally.used ≡ mid.tally.used
+    → ((z : List ℕ) → Refuses new mid (get_or xs 0 0) (get_or xs 0 0 ∷ (drop 1 xs ++ z))) → RefusesIn new mid xs
+refused_first mid new xs some used refuses = record {
+  front = [];
+  byte = get_or xs 0 0;
+  rest = drop 1 xs;
+  whole = drop_more xs 0 0 some;
+  used = omega (arith, used);
+  refuses = λ z. subst (λ y. Refuses new mid (get_or xs 0 0) y) (around xs 0 z some) (refuses z);
+}
+
+-- behind a front of a piece
+pub behind : (old mid : Standing) (xs : List ℕ) (n : ℕ) (z : List ℕ) → Follows mid old (drop n xs ++ z) (take n xs ++ (drop n xs ++ z)) → Follows mid old (drop n xs ++ z) (xs ++ z)
+behind old mid xs n z follows =
+    subst (λ y. Follows mid old (drop n xs ++ z) y) (sym (append_assoc (take n xs) (drop n xs) z) ∙ ap (λ y. y ++ z) (take-append-drop n xs)) follows
 
 pub if_none : {A : Type 0} (o : Option A) (P : Type 0) → P → IfNone o P
 if_none None P p = p

@@ -8,7 +8,7 @@ use Rattle.std.proofs.lemmas.Bool.Decides.{nat_tests}
 use Rattle.std.proofs.lemmas.List.{map-append}
 use Rattle.std.proofs.lemmas.List.Sums.{sum_by-cons}
 use Rattle.sf_base.specs.Data.{Datum, Bytes, Assigned, datum_at, datum_of, is_number}
-use Rattle.sf_base.specs.Kept.{Kept, assigned, buffer_of, longer, Opened, text_of, text_in, texts_in, values_closed}
+use Rattle.sf_base.specs.Kept.{Kept, assigned, with_opened, with_dropped, buffer_of, longer, Opened, text_of, text_in, texts_in, values_closed}
 use Rattle.sf_run.specs.Memory.{HoldsTexts}
 use Rattle.sf_base.specs.declared.values.Value.{Value}
 use Rattle.sf_base.specs.declared.values.Value.TheVariants as value
@@ -456,3 +456,10 @@ holds ds kept still joined sized = record {
     few_by : (o : Option ℕ) → (is_some o ≡ true → length (buffer_of kept) + still ≤ unwrap_or o 0) → IfSome o (λ n. length (buffer_of kept) ≤ n)
     few_by None f = tt
     few_by (Some n) f = let h = f refl in omega (arith, h)
+
+-- ---- a text that was begun and taken away
+
+pub begun_dropped : (kept : Kept) (slot : ℕ) → kept.opened ≡ None → with_dropped (with_opened slot kept) ≡ kept
+begun_dropped kept slot none =
+    let same : kept.room + 0 ≡ kept.room = omega arith in
+    ap (λ n. record kept { opened = None; room = n }) same ∙ ap (λ o. record kept { opened = o }) (sym none)

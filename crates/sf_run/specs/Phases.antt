@@ -1,13 +1,15 @@
 -- What the code holds of a directive that is under way.
-use Rattle.std.specs.Prelude.{◌≡◌, ◌≢◌, ℕ, Bool, true, false, List, [], Option, Some, None, ℤ}
+use Rattle.std.specs.Prelude.{◌≡◌, ◌≢◌, ◌+◌, ◌<◌, ℕ, Bool, true, false, List, [], ◌++◌, length, take, Option, Some, None, ℤ}
 use Rattle.sf_base.specs.Data.{Bytes, datum_of, is_number}
 use Rattle.sf_format.specs.declared.directive.Conversion.{Conversion}
 use Rattle.sf_format.specs.declared.directive.Directive.{Directive}
 use Rattle.sf_format.specs.declared.directive.Directive.TheVariants.{Conv}
 use Rattle.sf_item.specs.declared.item.ItemScan.{ItemScan}
 use Rattle.sf_item.specs.Taking.{HasTaken, conversion_of}
+use Rattle.sf_item.specs.Tests.{can_take}
 use Rattle.sf_run.specs.Steps.{StepEnd, Passes, Stores, Fails}
 use Rattle.sf_run.specs.Machine.{Stage, Skipping, Taken, Item, number_end}
+use Rattle.sf_run.specs.Residual.{stepped_all}
 use Rattle.sf_run.specs.Texts.{text_slot}
 use Rattle.sf_run.specs.Stopping.{is_memory_status}
 use Rattle.sf_run.specs.declared.directive.Phase.{Phase}
@@ -36,6 +38,24 @@ ShowsNext d None None = Unit {0}
 ShowsNext d (Some p) (Some q) = Shows d p q
 ShowsNext d None (Some q) = ⊥
 ShowsNext d (Some p) None = ⊥
+
+-- each front of f and the bytes y that has one of y at least can be taken
+abbrev pub CanAll : Conversion → List ℕ → List ℕ → Type 0
+CanAll c f y = (k : ℕ) → k < length y → can_take c (f ++ take (k + 1) y) ≡ true
+
+-- the stage with more bytes of the item
+abbrev pub GrowsBy : Stage → List ℕ → Stage → Type 0
+GrowsBy (Item f) g r = r ≡ Item (f ++ g)
+GrowsBy Skipping g (Item h) = h ≡ g
+GrowsBy Taken g (Item h) = h ≡ g
+GrowsBy _ g _ = Unit {0}
+
+-- These bytes bring a directive from a stage as far as the phase shows. Those of its item are g.
+pub record Brings (d : Directive) (q : Stage) (y g : List ℕ) (new : Phase) : Type 0 where
+  pub stage : Stage
+  pub stepped : stepped_all d q y ≡ Some stage
+  pub shown : Shows d new stage
+  pub grown : GrowsBy q g stage
 
 -- the slot of the text under way
 abbrev pub slot_in : Phase → Option ℕ

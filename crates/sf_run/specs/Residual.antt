@@ -54,6 +54,11 @@ abbrev pub choose : {A B : Type 0} → Option A → B → (A → B) → B
 choose None y f = y
 choose (Some a) y f = f a
 
+-- the stage after these bytes, where each of them is taken
+abbrev pub stepped_all : Directive → Stage → List ℕ → Option Stage
+stepped_all d q [] = Some q
+stepped_all d q (b ∷ y) = choose (stepped d q b) None (λ r. stepped_all d r y)
+
 -- a directive from a stage on, after n bytes of the run
 abbrev pub one_from : Directive → Stage → ℕ → List ℕ → Part
 one_from d q n [] = record { used = n; left = []; end = finished d q n false }

@@ -96,6 +96,15 @@ pub record Takes (new old : Standing) (next : Phase) (text : Option Opened) : Ty
   pub opened : new.opened ≡ text
   pub tally : new.tally ≡ with_used (old.tally.used + 1) old.tally
 
+-- the directive under way has taken n bytes at once, and come so far
+pub record TakesAll (new old : Standing) (next : Phase) (n : ℕ) (text : Option Opened) : Type 0 where
+  pub keeps : Keeps new old
+  pub ended : new.ended ≡ old.ended
+  pub passed : new.passed ≡ old.passed
+  pub phase : new.phase ≡ next
+  pub opened : new.opened ≡ text
+  pub tally : new.tally ≡ with_used (old.tally.used + n) old.tally
+
 -- the byte belongs to a text that the directive stores
 abbrev pub IsInText : Shape → ℕ → Type 0
 IsInText Text b = is_white b ≡ false

@@ -56,6 +56,12 @@ opened_after None b opened = opened
 opened_after (Some slot) b None = Some (record { slot = slot; text = b ∷ [] })
 opened_after (Some slot) b (Some o) = longer (b ∷ []) (Some o)
 
+-- after the bytes g of its item
+abbrev pub opened_with : Option ℕ → List ℕ → Option Opened → Option Opened
+opened_with None g opened = opened
+opened_with (Some slot) g None = Some (record { slot = slot; text = g })
+opened_with (Some slot) g (Some o) = longer g (Some o)
+
 -- the slot of the text under way, before and after a byte, in a directive with this one
 abbrev pub IsNextSlot : Option ℕ → Option ℕ → Option ℕ → Type 0
 IsNextSlot text None None = Unit {0}

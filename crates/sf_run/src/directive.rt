@@ -1,5 +1,6 @@
 //! One directive, handed byte after byte.
-ghost use Rattle.std.specs.Prelude.{◌≡◌, ◌≢◌, true, false, ℕ, ℤ, List, [], Option, Some, None, IfSome};
+ghost use Rattle.std.specs.Prelude.{◌≡◌, ◌≢◌, ◌+◌, ◌<◌, ◌≤◌, ◌&&◌, true, false, ℕ, ℤ, List, [], ◌++◌, length, take, drop, get_or, Option, Some, None, IfSome};
+ghost use Rattle.sf_base.specs.Bytes.{is_white};
 ghost use Rattle.std.specs.Option.{option_map};
 ghost use Rattle.sf_base.specs.Data.{Number, datum_of, is_number};
 ghost use Rattle.sf_base.specs.Kept.{Opened, text_of};
@@ -8,12 +9,13 @@ ghost use Rattle.sf_format.specs.declared.directive.Directive.{Directive};
 ghost use Rattle.sf_format.specs.declared.directive.Directive.TheVariants as directive;
 ghost use Rattle.sf_format.specs.Proper.{IsProper, IsProperShape};
 ghost use Rattle.sf_run.specs.Steps.{StepEnd};
-ghost use Rattle.sf_item.specs.Scan.{IsOneLess};
+ghost use Rattle.sf_run.specs.declared.directive.Phase.TheVariants as phase;
+ghost use Rattle.sf_item.specs.Scan.{IsOneLess, HasLeft};
 ghost use Rattle.sf_item.specs.Taking.{HasTaken, conversion_of, left_of};
-ghost use Rattle.sf_run.specs.Machine.{Stage, shape_skips, byte_stepped, item_stepped, conversion_stepped, percent_stepped, space_stepped, stepped, is_full, nothing_end, byte_finished, item_end, count_end, item_finished, finished};
+ghost use Rattle.sf_run.specs.Machine.{Stage, Skipping, Item, shape_skips, byte_stepped, item_stepped, conversion_stepped, percent_stepped, space_stepped, stepped, is_full, nothing_end, byte_finished, item_end, count_end, item_finished, finished};
 ghost use Rattle.sf_run.specs.Texts.{text_slot, opened_for, slot_of, is_count, counts_bytes, IsNextSlot};
-ghost use Rattle.sf_run.specs.Holding.{is_text, FallsTo, LeftAfter};
-ghost use Rattle.sf_run.specs.Phases.{ShowsItem, Shows, ShowsNext, end_of, is_failing, slot_in, slot_closed, slot_given, passed_number, IsNumberGiven, is_memory_failure};
+ghost use Rattle.sf_run.specs.Holding.{is_text, FallsTo, FallsBy, LeftAfter, LeftAfterAll};
+ghost use Rattle.sf_run.specs.Phases.{ShowsItem, Shows, ShowsNext, CanAll, Brings, end_of, is_failing, slot_in, slot_closed, slot_given, passed_number, IsNumberGiven, is_memory_failure};
 
 use crate::number::number_of;
 use crate::outcome::Status;
@@ -32,6 +34,16 @@ pub(crate) enum Phase<'f> {
     Item(ItemScan<'f>),
     /// It took bytes of an item that is the text of this slot.
     Text { slot: u8, scan: ItemScan<'f> },
+}
+
+/// How far a directive has come with bytes that it took at once.
+#[derive(Clone, Copy)]
+pub(crate) struct Run<'f> {
+    pub(crate) phase: Phase<'f>,
+    /// The bytes before those of an item.
+    pub(crate) before: usize,
+    /// The bytes of an item.
+    pub(crate) item: usize,
 }
 
 /// How a directive ended.
@@ -85,6 +97,7 @@ fn item_phase<'f>(slot: Option<u8>, scan: ItemScan<'f>) -> Phase<'f>
     ensures shows { (d : Directive) (q : Stage) → ShowsItem d slot scan.entry q → Shows d result q }
     ensures slot { slot_in result ≡ slot }
     ensures left { (n : Option ℕ) → IsOneLess n (left_of scan.entry) → FallsTo n result }
+    ensures run { (n : Option ℕ) (k : ℕ) → HasLeft n (left_of scan.entry) k → FallsBy n result k }
 {
     match slot {
         None => Phase::Item(scan),
@@ -163,6 +176,151 @@ pub(crate) fn step<'f>(directive: &'f Directive, phase: Phase<'f>, b: u8) -> Opt
         Directive::Byte(due) => step_byte(*due, phase, b),
         Directive::Percent => step_percent(phase, b),
         Directive::Conv(conversion) => step_conversion(conversion, phase, b),
+    }
+}
+
+/// How many bytes of white space the piece begins with.
+fn space_before(piece: &[u8]) -> usize
+    ensures within { result ≤ length piece.now }
+    ensures white { (k : ℕ) → k < result → is_white (get_or piece.now k 0) ≡ true }
+    ensures next { result < length piece.now → is_white (get_or piece.now result 0) ≡ false }
+{
+    for i in 0..piece.len() {
+        if !is_space(piece[i]) {
+            return i;
+        }
+    }
+    piece.len()
+}
+
+/// How many bytes a conversion of the shape skips at the front of the piece.
+fn skipped(shape: &Shape, piece: &[u8]) -> usize
+    ensures within { result ≤ length piece.now }
+    ensures white { (k : ℕ) → k < result → (shape_skips shape.now && is_white (get_or piece.now k 0)) ≡ true }
+    ensures next { result < length piece.now → (shape_skips shape.now && is_white (get_or piece.now result 0)) ≡ false }
+{
+    if skips_space(shape) {
+        space_before(piece)
+    } else {
+        0
+    }
+}
+
+/// Takes bytes of the piece as long as the item goes on with them; `slot` is that of its text.
+fn go_on<'f>(slot: Option<u8>, mut scan: ItemScan<'f>, piece: &[u8]) -> Run<'f>
+    ensures before { result.before ≡ 0 }
+    ensures within { result.item ≤ length piece.now }
+    ensures can { (f : List ℕ) → IsProperShape (conversion_of scan.entry).shape → HasTaken scan.entry f → CanAll (conversion_of scan.entry) f (take result.item piece.now) }
+    ensures shows { (d : Directive) (f : List ℕ) → d ≡ directive.Conv (conversion_of scan.entry) → text_slot d ≡ slot → HasTaken scan.entry f
+        → f ++ take result.item piece.now ≢ [] → Shows d result.phase (Item (f ++ take result.item piece.now)) }
+    ensures slot { slot_in result.phase ≡ slot }
+    ensures left { FallsBy (left_of scan.entry) result.phase result.item }
+{
+    let item = scan.take_all(piece);
+    Run {
+        phase: item_phase(slot, scan),
+        before: 0,
+        item,
+    }
+}
+
+/// Skips white space where the conversion does, and then takes the bytes of its item.
+fn begin_item<'f>(conversion: &'f Conversion, piece: &[u8]) -> Run<'f>
+    ensures within { result.before + result.item ≤ length piece.now }
+    ensures brings { IsProperShape conversion.now.shape → Brings (directive.Conv conversion.now) Skipping (take (result.before + result.item) piece.now)
+        (take result.item (drop result.before piece.now)) result.phase }
+    ensures slot { IsNextSlot (text_slot (directive.Conv conversion.now)) None (slot_in result.phase) }
+    ensures left { LeftAfterAll (directive.Conv conversion.now) phase.Skipping result.phase result.item }
+{
+    if is_count(&conversion.shape) {
+        return nothing_taken(Phase::Skipping);
+    }
+    let before = skipped(&conversion.shape, piece);
+    let (_, rest) = piece.split_at(before);
+    let run = go_on(text_slot(conversion), ItemScan::start(conversion), rest);
+    if run.item == 0 {
+        return Run {
+            phase: Phase::Skipping,
+            before,
+            item: 0,
+        };
+    }
+    Run {
+        phase: run.phase,
+        before,
+        item: run.item,
+    }
+}
+
+fn nothing_taken(phase: Phase<'_>) -> Run<'_>
+    ensures { result ≡ record { phase = phase.entry; before = 0; item = 0 } }
+{
+    Run {
+        phase,
+        before: 0,
+        item: 0,
+    }
+}
+
+fn run_space<'f>(piece: &[u8]) -> Run<'f>
+    ensures within { result.before ≤ length piece.now }
+    ensures brings { Brings directive.Space Skipping (take result.before piece.now) [] phase.Skipping }
+    ensures white { result.phase ≡ phase.Skipping }
+    ensures item { result.item ≡ 0 }
+{
+    Run {
+        phase: Phase::Skipping,
+        before: space_before(piece),
+        item: 0,
+    }
+}
+
+fn run_byte<'f>(due: u8, piece: &[u8]) -> Run<'f>
+    ensures within { result.before ≤ length piece.now }
+    ensures brings { Brings (directive.Byte due) Skipping (take result.before piece.now) [] result.phase }
+    ensures slot { slot_in result.phase ≡ None }
+    ensures left { is_text result.phase ≡ false }
+    ensures item { result.item ≡ 0 }
+{
+    match piece.first() {
+        Some(b) if *b == due => Run {
+            phase: Phase::Taken,
+            before: 1,
+            item: 0,
+        },
+        _ => nothing_taken(Phase::Skipping),
+    }
+}
+
+/// Hands a directive that took nothing yet the bytes of the piece that it takes at once.
+fn begin<'f>(directive: &'f Directive, piece: &[u8]) -> Run<'f>
+    ensures within { result.before + result.item ≤ length piece.now }
+    ensures brings { IsProper directive.now → Brings directive.now Skipping (take (result.before + result.item) piece.now)
+        (take result.item (drop result.before piece.now)) result.phase }
+    ensures slot { IsNextSlot (text_slot directive.now) None (slot_in result.phase) }
+    ensures left { LeftAfterAll directive.now phase.Skipping result.phase result.item }
+{
+    match directive {
+        Directive::Space => run_space(piece),
+        Directive::Byte(due) => run_byte(*due, piece),
+        Directive::Percent => nothing_taken(Phase::Skipping),
+        Directive::Conv(conversion) => begin_item(conversion, piece),
+    }
+}
+
+/// Hands the directive the bytes of the piece that it takes at once. That may be fewer than it takes one by one.
+pub(crate) fn run_on<'f>(directive: &'f Directive, phase: Phase<'f>, piece: &[u8]) -> Run<'f>
+    ensures within { result.before + result.item ≤ length piece.now }
+    ensures brings { (q : Stage) → IsProper directive.now → Shows directive.now phase.entry q → Brings directive.now q (take (result.before + result.item) piece.now)
+        (take result.item (drop result.before piece.now)) result.phase }
+    ensures slot { IsNextSlot (text_slot directive.now) (slot_in phase.entry) (slot_in result.phase) }
+    ensures left { LeftAfterAll directive.now phase.entry result.phase result.item }
+{
+    match phase {
+        Phase::Skipping => begin(directive, piece),
+        Phase::Taken => nothing_taken(phase),
+        Phase::Item(scan) => go_on(None, scan, piece),
+        Phase::Text { slot, scan } => go_on(Some(slot), scan, piece),
     }
 }
 

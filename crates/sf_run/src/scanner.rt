@@ -2,20 +2,20 @@
 ghost use Rattle.std.specs.Prelude.{◌≡◌, ℕ, ◌+◌, ◌<◌, ◌≤◌, ◌∷◌, ◌++◌, [], List, length, take, true, false, slice_get, is_some, IsSome, IsNone, IfNone, IfSome, IsOk, IfOk, IfErr, IsErr, IsErrOf, IsOkAnd, IsSomeAnd, ◌↔◌, ◌⊎◌, ◌^◌, drop, if◌then◌else◌, Some, None, unwrap_or};
 ghost use Rattle.std.specs.Bool.{OnTrue, OnFalse};
 ghost use Rattle.sf_base.specs.Data.{Assigned, Bytes, datum_of, is_number};
-ghost use Rattle.sf_base.specs.Kept.{buffer_of, longer, nothing_kept, text_of, texts_in};
+ghost use Rattle.sf_base.specs.Kept.{buffer_of, longer, with_opened, nothing_kept, text_of, texts_in};
 ghost use Rattle.sf_format.specs.declared.directive.Directive.{Directive};
 ghost use Rattle.sf_format.specs.Proper.{AreProper, destinations_of, slots_of};
 ghost use Rattle.sf_format.specs.Widths.{width_sum};
 ghost use Rattle.sf_run.specs.declared.outcome.Ending.{Ending};
 ghost use Rattle.sf_run.specs.declared.outcome.Status.TheVariants as status;
-ghost use Rattle.sf_run.specs.Holding.{are_placed, are_apart, first_slot, is_text, still_stored, is_limited, LeftAfter, left_before};
+ghost use Rattle.sf_run.specs.Holding.{are_placed, are_apart, first_slot, is_text, still_stored, is_limited, LeftAfter, LeftAfterAll, left_before};
 ghost use Rattle.sf_run.specs.Phases.{slot_in};
 ghost use Rattle.sf_run.specs.Places.{places_left};
 ghost use Rattle.sf_run.specs.Stopping.{is_no_memory, is_memory_status};
-ghost use Rattle.sf_run.specs.Texts.{text_slot, slot_of, opened_slot, slots_in, IsNextSlot, opened_after};
+ghost use Rattle.sf_run.specs.Texts.{text_slot, slot_of, opened_slot, slots_in, IsNextSlot, opened_after, opened_with};
 ghost use Rattle.sf_run.specs.Steps.{StepEnd};
 
-use crate::directive::{Finished, Phase, finish, is_full, step};
+use crate::directive::{Finished, Phase, Run, finish, is_full, run_on, step};
 use crate::outcome::{Ending, Fed, FeedState, Outcome, StartFault, Status};
 use crate::report::{Report, Scanned};
 use crate::tally::Tally;
@@ -77,7 +77,7 @@ impl<'f, S: Store> Scanner<'f, S> {
     ghost use Rattle.sf_run.specs.Views.{report_by};
     ghost use Rattle.sf_run.specs.Runs.{RunReport, IsOpen};
     ghost use Rattle.sf_run.specs.Limits.{RunWithin, RunTold};
-    ghost use Rattle.sf_run.specs.Standing.{Follows, IsRefused, Keeps, Passes, Stops, Opens, Takes, Refuses, RefusesIn, turns_left, IsSettled, After, Gives, has_ended, used_by, ran_out};
+    ghost use Rattle.sf_run.specs.Standing.{Follows, IsRefused, Keeps, Passes, Stops, Opens, Takes, TakesAll, Refuses, RefusesIn, turns_left, IsSettled, After, Gives, has_ended, used_by, ran_out};
     ghost use Rattle.sf_run.specs.Memory.{HoldsTexts};
     ghost use Rattle.sf_run.specs.Scanner.{kept_by, standing};
     ghost use Rattle.sf_run.specs.Tallies.{tally_of};
@@ -216,6 +216,7 @@ impl<'f, S: Store> Scanner<'f, S> {
         requires own { text_slot directive.now ≡ Some slot }
         ensures opens { Opens (standing self.new) (standing self.old) slot }
         ensures left { left_before directive.now self.new.phase ≡ left_before directive.now self.old.phase }
+        ensures kept { kept_by self.new ≡ with_opened slot (kept_by self.old) }
     {
         let Directive::Conv(conversion) = directive else {
             return;
@@ -273,6 +274,98 @@ impl<'f, S: Store> Scanner<'f, S> {
         }
     }
 
+    /// Stores bytes of the text under way, after which the directive has come so far. Where that is refused, nothing has
+    /// changed.
+    fn store_all(&mut self, directive: &Directive, run: Run<'f>, item: &[u8]) -> bool
+        requires current { slice_get self.old.directives.now self.old.passed ≡ Some directive.now }
+        requires waits { self.old.ended ≡ None }
+        requires text { IsSome (slot_in self.old.phase) }
+        requires same_slot { slot_in run.phase ≡ slot_in self.old.phase }
+        requires below { self.old.tally.used + (run.before + run.item) ≤ self.old.limit }
+        requires left { LeftAfterAll directive.now self.old.phase run.phase (length item.now) }
+        ensures taken { OnTrue result (TakesAll (standing self.new) (standing self.old) run.entry.phase (run.entry.before + run.entry.item) (longer item.now (kept_by self.old).opened)) }
+        ensures refused { OnFalse result (standing self.new ≡ standing self.old) }
+        ensures kept { OnFalse result (kept_by self.new ≡ kept_by self.old) }
+    {
+        if self.store.push_all(item).is_err() {
+            return false;
+        }
+        self.phase = run.phase;
+        self.tally.used += (run.before + run.item) as u32;
+        true
+    }
+
+    /// Begins the text of the directive under way with these bytes. Where their storing is refused, nothing has changed.
+    fn open_all(&mut self, directive: &'f Directive, slot: u8, run: Run<'f>, item: &[u8]) -> bool
+        requires current { slice_get self.old.directives.now self.old.passed ≡ Some directive.now }
+        requires waits { self.old.ended ≡ None }
+        requires no_text { slot_in self.old.phase ≡ None }
+        requires own { text_slot directive.now ≡ Some slot }
+        requires same_slot { slot_in run.phase ≡ Some slot }
+        requires below { self.old.tally.used + (run.before + run.item) ≤ self.old.limit }
+        requires left { LeftAfterAll directive.now self.old.phase run.phase (length item.now) }
+        ensures taken { OnTrue result (TakesAll (standing self.new) (standing self.old) run.entry.phase (run.entry.before + run.entry.item) (opened_with (Some slot) item.now (kept_by self.old).opened)) }
+        ensures refused { OnFalse result (standing self.new ≡ standing self.old) }
+    {
+        let before = self.phase;
+        self.open(directive, slot);
+        if self.store_all(directive, run, item) {
+            return true;
+        }
+        self.store.drop_text();
+        self.phase = before;
+        false
+    }
+
+    /// Takes bytes at once, after which the directive under way has come so far; `item` are those of its item. Where
+    /// their storing is refused, nothing has changed.
+    fn take_all(&mut self, directive: &'f Directive, run: Run<'f>, item: &[u8]) -> bool
+        requires current { slice_get self.old.directives.now self.old.passed ≡ Some directive.now }
+        requires waits { self.old.ended ≡ None }
+        requires slot { IsNextSlot (text_slot directive.now) (slot_in self.old.phase) (slot_in run.phase) }
+        requires below { self.old.tally.used + (run.before + run.item) ≤ self.old.limit }
+        requires left { LeftAfterAll directive.now self.old.phase run.phase (length item.now) }
+        ensures taken { OnTrue result (TakesAll (standing self.new) (standing self.old) run.entry.phase (run.entry.before + run.entry.item)
+            (opened_with (slot_in run.entry.phase) item.now (kept_by self.old).opened)) }
+        ensures refused { OnFalse result (standing self.new ≡ standing self.old) }
+    {
+        match (self.phase, run.phase) {
+            (Phase::Text { .. }, Phase::Text { .. }) => self.store_all(directive, run, item),
+            (_, Phase::Text { slot, .. }) => self.open_all(directive, slot, run, item),
+            _ => {
+                self.phase = run.phase;
+                self.tally.used += (run.before + run.item) as u32;
+                true
+            }
+        }
+    }
+
+    /// Takes a front of the piece at once, and says how many bytes those are. Where that is none, a byte may still be taken
+    /// alone.
+    fn take_run(&mut self, piece: &[u8]) -> usize
+        requires waits { self.old.ended ≡ None }
+        ensures within { result ≤ length piece.now }
+        ensures same { AreProper self.old.directives.now → (z : List ℕ) → Follows (standing self.new) (standing self.old) z (take result piece.now ++ z) }
+        ensures used { self.new.tally.used ≡ self.old.tally.used + result }
+        ensures keeps { Keeps (standing self.new) (standing self.old) }
+        ensures waits { self.new.ended ≡ None }
+    {
+        let Some(directive) = self.directives.get(self.passed) else {
+            return 0;
+        };
+        let most = (self.limit - self.tally.used) as usize;
+        let (front, _) = piece.split_at(most.min(piece.len()));
+        let run = run_on(directive, self.phase, front);
+        let taken = run.before + run.item;
+        let (_, rest) = front.split_at(run.before);
+        let (item, _) = rest.split_at(run.item);
+        if taken > 0 && self.take_all(directive, run, item) {
+            taken
+        } else {
+            0
+        }
+    }
+
     /// Hands the byte to the directive under way. Where that doesn't take it, the directive has ended, or the run.
     fn turn(&mut self, b: u8) -> bool
         requires waits { self.old.ended ≡ None }
@@ -327,6 +420,32 @@ impl<'f, S: Store> Scanner<'f, S> {
         false
     }
 
+    /// Hands bytes to the run, and says how many of them were taken: none only where the run has ended.
+    fn hand(&mut self, piece: &[u8]) -> usize
+        requires some { 0 < length piece.now }
+        ensures same { AreProper self.old.directives.now → ran_out (standing self.new) ≡ false → (z : List ℕ) → Follows (standing self.new) (standing self.old) (drop result piece.now ++ z) (piece.now ++ z) }
+        ensures memory { AreProper self.old.directives.now → self.old.ended ≡ None → ran_out (standing self.new) ≡ true → RefusesIn (standing self.new) (standing self.old) piece.now }
+        ensures used { self.new.tally.used ≡ self.old.tally.used + result }
+        ensures within { result ≤ length piece.now }
+        ensures refused { result ≡ 0 → IsSome self.new.ended }
+        ensures stopped { 0 < result → ran_out (standing self.new) ≡ false }
+        ensures nothing { IsSome self.old.ended → result ≡ 0 }
+        ensures unchanged { IsSome self.old.ended → self.new ≡ self.old }
+        ensures stays { IsSome self.old.ended → IsSome self.new.ended }
+        ensures keeps { Keeps (standing self.new) (standing self.old) }
+        ensures settled { IsSettled (standing self.new) }
+    {
+        if self.ended.is_some() {
+            return 0;
+        }
+        let taken = self.take_run(piece);
+        if taken > 0 {
+            self.settle();
+            return taken;
+        }
+        if self.offer(piece[0]) { 1 } else { 0 }
+    }
+
     /// Hands bytes to the run until it ends, and says how many were taken.
     fn push(&mut self, piece: &[u8]) -> usize
         ensures same { AreProper self.old.directives.now → ran_out (standing self.new) ≡ false → (z : List ℕ) → Follows (standing self.new) (standing self.old) z (piece.now ++ z) }
@@ -341,11 +460,13 @@ impl<'f, S: Store> Scanner<'f, S> {
         ensures settled { IsSettled (standing self.old) → IsSettled (standing self.new) }
     {
         let mut taken = 0;
-        for b in piece {
-            if !self.offer(*b) {
+        while taken < piece.len() {
+            let (_, rest) = piece.split_at(taken);
+            let count = self.hand(rest);
+            if count == 0 {
                 return taken;
             }
-            taken += 1;
+            taken += count;
         }
         taken
     }
