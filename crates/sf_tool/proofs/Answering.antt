@@ -174,5 +174,5 @@ module _ {S K : Type 0} {to_come : S → Option (List ℕ)} {failures : S → �
         subst (λ (f : List ℕ). (from' ≡ from) × PrintsBy f others (contents out) (contents out') answer)
         (same_format words verb Print format other values others is too)
         (subst (λ (vs : List (List ℕ)). (from' ≡ from) × PrintsBy format vs (contents out) (contents out') answer)
-            (same_values words verb Print format other values others is too) (prints (same_verb words verb Print format other values others is too)));
+        (same_values words verb Print format other values others is too) (prints (same_verb words verb Print format other values others is too)));
   }

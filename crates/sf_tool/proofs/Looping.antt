@@ -80,15 +80,21 @@ short_of_memory : (one : EachHasOneReport) (ds : List Directive) → AreProper d
     → length front ≤ most_records → Passed ds m x ending front left → answer ≡ ended (length front) (Some faults.Memory)
     → (output : List ℕ) × (used : ℕ) × (end : ToolEnd) × EndsWith ds m x ending output used end × ((missing : List ℕ) × (output ≡ lines ds front ++ missing)) × IsCutShort ds m x ending (lines ds front) answer
 short_of_memory one ds proper m x left ending front answer few passed is =
-    let h = has_end one ds proper m ending (0 + length front) (omega (arith, few)) left in
-    (lines ds front ++ h.more, uses front + h.used, h.end, joined 0 ds m x left ending front h.more h.used h.end passed h.is, (h.more, refl), record {
-      before = front;
-      left = left;
-      part = [];
-      passed = passed;
-      written_is = sym (append-nil (lines ds front));
-      why = inr (is, refl);
-    })
+    let h = has_end one ds proper m ending (0 + length front) (omega (arith, few)) left in (
+      lines ds front ++ h.more,
+      uses front + h.used,
+      h.end,
+      joined 0 ds m x left ending front h.more h.used h.end passed h.is,
+      (h.more, refl),
+      record {
+        before = front;
+        left = left;
+        part = [];
+        passed = passed;
+        written_is = sym (append-nil (lines ds front));
+        why = inr (is, refl);
+      },
+    )
 
 -- the sink failed within the line of the next run
 cut_in_line : (one : EachHasOneReport) (ds : List Directive) → AreProper ds → (m : ℕ) (x left : List ℕ) (ending : Ending) (front : List RunReport) (answer : ToolEnd)
@@ -97,16 +103,21 @@ cut_in_line : (one : EachHasOneReport) (ds : List Directive) → AreProper ds �
     → (output : List ℕ) × (used : ℕ) × (end : ToolEnd) × EndsWith ds m x ending output used end × ((missing : List ℕ) × (output ≡ lines ds front ++ part ++ missing)) × IsCutShort ds m x ending (lines ds front ++ part) answer
 cut_in_line one ds proper m x left ending front answer few passed next ran due part rest missing begun is =
     let h = has_end_after one ds proper m ending (0 + length front) (omega (arith, few)) left next ran in
-    let text : last_line ds next ≡ part ++ missing ∷ rest = ap (λ b. cond b (line ds next) []) due ∙ begun in
-    (lines ds front ++ (last_line ds next ++ h.more), uses front + h.used, h.end, joined 0 ds m x left ending front (last_line ds next ++ h.more) h.used h.end passed h.is,
-    (missing ∷ rest ++ h.more, ap (λ (t : List ℕ). lines ds front ++ (t ++ h.more)) text ∙ ap (λ (t : List ℕ). lines ds front ++ t) (append_assoc part (missing ∷ rest) h.more) ∙ sym (append_assoc (lines ds front) part (missing ∷ rest ++ h.more))), record {
-      before = front;
-      left = left;
-      part = part;
-      passed = passed;
-      written_is = refl;
-      why = inl (is, record { next = next; ran = ran; due = due; missing = missing; rest = rest; begun = begun });
-    })
+    let text : last_line ds next ≡ part ++ missing ∷ rest = ap (λ b. cond b (line ds next) []) due ∙ begun in (
+      lines ds front ++ (last_line ds next ++ h.more),
+      uses front + h.used,
+      h.end,
+      joined 0 ds m x left ending front (last_line ds next ++ h.more) h.used h.end passed h.is,
+      (missing ∷ rest ++ h.more, ap (λ (t : List ℕ). lines ds front ++ (t ++ h.more)) text ∙ ap (λ (t : List ℕ). lines ds front ++ t) (append_assoc part (missing ∷ rest) h.more) ∙ sym (append_assoc (lines ds front) part (missing ∷ rest ++ h.more))),
+      record {
+        before = front;
+        left = left;
+        part = part;
+        passed = passed;
+        written_is = refl;
+        why = inl (is, record { next = next; ran = ran; due = due; missing = missing; rest = rest; begun = begun });
+      },
+    )
 
 -- ---- the loop
 

@@ -12,8 +12,9 @@ use std::test::Fail;
 const LIMIT: u32 = 1048576;
 
 fn parsed(alloc: Global, format: &str) -> Result<ScanFormat, Fail> {
-    ScanFormat::parse(alloc, Profile::One, format.as_bytes())
-        .map_err(|_| Fail::from(io::ErrorKind::OutOfMemory))
+    ScanFormat::parse(alloc, Profile::One, format.as_bytes()).map_err(|_| Fail::from(
+        io::ErrorKind::OutOfMemory,
+    ))
 }
 
 /// The loop over a source by a format, under the usual limit.
@@ -114,11 +115,31 @@ fn rows_in_blocks(rt: HostRuntime) -> Result<(), Fail> {
         },
     ];
     for row in &rows {
-        by_blocks(&rt, row, &mut Lookahead::<_, 1>::new(SliceSource::new(row.text)))?;
-        by_blocks(&rt, row, &mut Lookahead::<_, 2>::new(SliceSource::new(row.text)))?;
-        by_blocks(&rt, row, &mut Lookahead::<_, 3>::new(SliceSource::new(row.text)))?;
-        by_blocks(&rt, row, &mut Lookahead::<_, 7>::new(SliceSource::new(row.text)))?;
-        by_blocks(&rt, row, &mut Lookahead::<_, 4096>::new(SliceSource::new(row.text)))?;
+        by_blocks(
+            &rt,
+            row,
+            &mut Lookahead::<_, 1>::new(SliceSource::new(row.text)),
+        )?;
+        by_blocks(
+            &rt,
+            row,
+            &mut Lookahead::<_, 2>::new(SliceSource::new(row.text)),
+        )?;
+        by_blocks(
+            &rt,
+            row,
+            &mut Lookahead::<_, 3>::new(SliceSource::new(row.text)),
+        )?;
+        by_blocks(
+            &rt,
+            row,
+            &mut Lookahead::<_, 7>::new(SliceSource::new(row.text)),
+        )?;
+        by_blocks(
+            &rt,
+            row,
+            &mut Lookahead::<_, 4096>::new(SliceSource::new(row.text)),
+        )?;
     }
     Ok(())
 }
@@ -166,7 +187,10 @@ fn each_read_fails_in_turn(rt: HostRuntime) -> Result<(), Fail> {
         assert!(rt; out.bytes() == front(records), "output at {at}");
         assert_eq!(rt; end.records, records, "records at {at}");
         assert_eq!(rt; end.status, 3, "status at {at}");
-        assert!(rt; end.fault == Some(ToolFault::Read { number }), "fault at {at}");
+        assert!(rt;
+            end.fault == Some(ToolFault::Read { number }),
+            "fault at {at}"
+        );
         assert_eq!(rt; from.source().failures(), 1, "failures at {at}");
     }
     Ok(())
@@ -180,7 +204,10 @@ fn each_write_fails_in_turn(rt: HostRuntime) -> Result<(), Fail> {
         let mut out = ScriptSink::new(rt.alloc(), &steps);
         let end = scan(rt.alloc(), &mut from, &mut out, "%d,%d")?;
         let records = if at < 6 { 0 } else { 1 };
-        assert!(rt; out.bytes() == &LINES[..at.min(LINES.len())], "output at {at}");
+        assert!(rt;
+            out.bytes() == &LINES[..at.min(LINES.len())],
+            "output at {at}"
+        );
         assert_eq!(rt; end.records, records, "records at {at}");
         assert_eq!(rt; end.status, 3, "status at {at}");
         assert!(rt; end.fault == Some(ToolFault::Write), "fault at {at}");
@@ -196,7 +223,13 @@ fn short_writes(rt: HostRuntime) -> Result<(), Fail> {
         let mut out = ScriptSink::new(rt.alloc(), &steps);
         let end = scan(rt.alloc(), &mut from, &mut out, "%d,%d")?;
         assert!(rt; out.bytes() == LINES);
-        assert!(rt; end == ToolEnd { status: 0, records: 2, fault: None });
+        assert!(rt;
+            end == ToolEnd {
+                status: 0,
+                records: 2,
+                fault: None
+            }
+        );
     }
     Ok(())
 }

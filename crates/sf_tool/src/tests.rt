@@ -451,11 +451,36 @@ fn usage(rt: HostRuntime) -> Result<(), Fail> {
 fn printed_values(rt: HostRuntime) -> Result<(), Fail> {
     let rows = [
         (["print", "%+5d|%-5d|", "42", "42"], "  +42|42   |", "", 0),
-        (["print", "%08.3d %#06x", "-5", "255"], "    -005 0x00ff", "", 0),
-        (["print", "%d,%s", "x", "y"], "", "sf: value 1: expected i32\n", 2),
-        (["print", "%c%s", "ab", "y"], "", "sf: value 1: expected one byte\n", 2),
-        (["print", "%d", "1", "2"], "", "sf: expected 1 values, got 2\n", 2),
-        (["print", "%[a]", "1", "2"], "", "sf: print format: F4 UnknownLetter at 1\n", 2),
+        (
+            ["print", "%08.3d %#06x", "-5", "255"],
+            "    -005 0x00ff",
+            "",
+            0,
+        ),
+        (
+            ["print", "%d,%s", "x", "y"],
+            "",
+            "sf: value 1: expected i32\n",
+            2,
+        ),
+        (
+            ["print", "%c%s", "ab", "y"],
+            "",
+            "sf: value 1: expected one byte\n",
+            2,
+        ),
+        (
+            ["print", "%d", "1", "2"],
+            "",
+            "sf: expected 1 values, got 2\n",
+            2,
+        ),
+        (
+            ["print", "%[a]", "1", "2"],
+            "",
+            "sf: print format: F4 UnknownLetter at 1\n",
+            2,
+        ),
     ];
     for (row, output, line, wanted) in rows {
         let alloc = rt.alloc();

@@ -17,6 +17,10 @@ loop-done-preserved g c =
 pub returns-in-Err-clause-failed : goal.returns-in-Err-clause-failed
 returns-in-Err-clause-failed g c =
     let l = c.loop-done in
-    let bytes = c.args.bytes.now in
-    (take l.done bytes, get_or bytes l.done 0, drop (suc l.done) bytes, sym (take-append-drop l.done bytes) ∙ ap (λ rest. take l.done bytes ++ rest) (drop-cons bytes l.done 0 c.loop-done-test.true),
-    Appends-keeps _ _ _ _ l.invariant.took c.in-Err.ensures.took)
+    let bytes = c.args.bytes.now in (
+      take l.done bytes,
+      get_or bytes l.done 0,
+      drop (suc l.done) bytes,
+      sym (take-append-drop l.done bytes) ∙ ap (λ rest. take l.done bytes ++ rest) (drop-cons bytes l.done 0 c.loop-done-test.true),
+      Appends-keeps _ _ _ _ l.invariant.took c.in-Err.ensures.took,
+    )

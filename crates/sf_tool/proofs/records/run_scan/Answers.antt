@@ -39,10 +39,10 @@ returns-in-Some-clause-status g c = c.in-Some.ensures.status
 pub loop-records-preserved : goal.loop-records-preserved
 loop-records-preserved g c = record {
   going = λ t e.
-        let going = c.loop-records.invariant.going t e in
+      let going = c.loop-records.invariant.going t e in
       let judged = c.in_default-judge.ensures.judged in
       next told.one_report c.destinations-destinations.ensures.proper going c.in-Ok-fscan_over.scanned (c.in-Ok-fscan_over.ensures.scan going.left going.input) c.in-Ok-fscan_over.ensures.stays c.in-Ok-fscan_over.ensures.failures _
-          (ap turn_of (sym c.report.ensures) ∙ judged.0) (rw (← c.report.ensures, ← c.destinations-destinations.ensures.count) judged.1);
+      (ap turn_of (sym c.report.ensures) ∙ judged.0) (rw (← c.report.ensures, ← c.destinations-destinations.ensures.count) judged.1);
   sound = c.in_default-judge.ensures.failures ∙ c.loop-records.invariant.sound;
 }
 
