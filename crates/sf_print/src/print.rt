@@ -24,7 +24,11 @@ use sf_format::{PrintConv, PrintFormat, Unit};
 /// The greatest length of a printed text.
 const MOST_BYTES: u32 = 2147483647;
 
-/// Puts the text of any value, by its pieces.
+/// The greatest length of a text that needs no measuring: 4096 units of which each prints one, padded to the
+/// greatest width, are within `MOST_BYTES`.
+const SHORT_BYTES: usize = 65536;
+
+/// Puts the text of any value, by its pieces. It is a call of its own, so that plain numbers pay for no buffer.
 #[inline(never)]
 fn put_padded<K: Sink>(
     to: &mut K,
@@ -200,17 +204,17 @@ pub fn printed_len(format: &PrintFormat, values: &[Value<'_>]) -> Result<u32, Pr
     Ok(len)
 }
 
-/// Whether the value is a number, or a text of at most 65536 bytes.
+/// Whether the value is a number or a short text.
 fn is_short(value: &Value<'_>) -> bool
     ensures { result ≡ true → IsShort (datum_of value.now) }
 {
     match value {
-        Value::Text(bytes) => bytes.len() <= 65536,
+        Value::Text(bytes) => bytes.len() <= SHORT_BYTES,
         _ => true,
     }
 }
 
-/// Whether no format makes a text of the values that is too long, for all that is seen at a glance.
+/// Whether each value is a number or a short text. Of such values no format makes a text that is too long.
 fn are_short(values: &[Value<'_>]) -> bool
     ensures { result ≡ true → AreShort (map datum_of values.now) }
 {
@@ -222,7 +226,7 @@ fn are_short(values: &[Value<'_>]) -> bool
     true
 }
 
-/// Refuses what `printed_len` refuses, and measures only where the text may be too long.
+/// Refuses what `printed_len` refuses. It measures the text only where it may be too long.
 fn refuse(format: &PrintFormat, values: &[Value<'_>]) -> Result<(), PrintFault>
     ensures told { MatchResult result
         (λ _. measured format.now (map datum_of values.now) ≡ Ok (length (printed format.now (map datum_of values.now))))

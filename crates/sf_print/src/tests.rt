@@ -210,6 +210,13 @@ fn longest_text(rt: HostRuntime) -> Result<(), Fail> {
     let format = format_of(rt.alloc(), spec.as_slice())?;
     let mut values = [Value::Text(bytes); 32];
     assert_eq!(rt; printed_len(&format, &values), Err(PrintFault::TooLong));
+    let mut sink = ListSink::new(rt.alloc());
+    assert_eq!(rt;
+        fprint(&mut sink, &format, &values),
+        Err(PrintFault::TooLong)
+    );
+    assert!(rt; sink.bytes().is_empty());
+    assert!(rt; prints(rt.alloc(), b"%s", &[Value::Text(bytes)], bytes)?);
     values[31] = Value::Text(&bytes[1..]);
     assert_eq!(rt; printed_len(&format, &values), Ok(2147483647));
     Ok(())
