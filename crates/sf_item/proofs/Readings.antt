@@ -1,5 +1,6 @@
 -- How far an integer is read with the bytes of a piece.
-use Rattle.std.proofs.Common.{◌≡◌, ℕ, ◌+◌, ◌-◌, ◌*◌, ◌<◌, Bool, cond, List, [], ◌∷◌, ◌++◌, length, take, drop, slice_index_or, Option, Some, None, is_some, refl, sym, ap, ◌∙◌, subst, arith}
+use Rattle.std.proofs.Common.{◌≡◌, ℕ, ◌+◌, ◌-◌, ◌*◌, ◌<◌, ◌≤◌, Bool, cond, List, [], ◌∷◌, ◌++◌, length, take, drop, slice_index_or, Option, Some, None, is_some, refl, sym, ap, ◌∙◌, subst, arith}
+use Rattle.std.proofs.lemmas.Bool.Decides.{nat_tests}
 use Rattle.std.proofs.Math.Seq.{take-add, take-length}
 use Rattle.std.proofs.lemmas.List.{length-drop}
 use Rattle.std.specs.Char.{digit_value}
@@ -46,6 +47,10 @@ module _ (base : Base) (piece : List ℕ) (i : ℕ) (p : Progress) (now : Reache
   bytes_read k then =
       subst (λ t. ShowsNext after (read base (Some p) t)) (ap (λ t. take i piece ++ take k t) (rest_is piece i) ∙ sym (take-add i k piece))
       (behind base p (take i piece) (take k (rest piece i)) now after before then)
+
+-- the decimal digits
+pub decimal_value : (b : ℕ) → 48 ≤ b → b ≤ 57 → digit_value b ≡ b - 48
+decimal_value b low high = grind (arith, nat_tests, low, high)
 
 -- with one decimal digit more
 pub decimal_read : (base : Base) (sign : Bool) (piece : List ℕ) (i before value digit : ℕ) → i < length piece
