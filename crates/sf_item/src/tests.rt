@@ -208,7 +208,12 @@ fn each_way_is(scan: ItemScan<'_>, text: &[u8], want: (usize, bool, ItemEnd)) ->
     taken(scan, text) == want
 }
 
-fn integer_each_way_is(base: Base, width: Option<u16>, text: &str, want: (usize, bool, ItemEnd)) -> bool {
+fn integer_each_way_is(
+    base: Base,
+    width: Option<u16>,
+    text: &str,
+    want: (usize, bool, ItemEnd),
+) -> bool {
     let conversion = conversion_of(Shape::Int(base), width);
     each_way_is(ItemScan::start(&conversion), text.as_bytes(), want)
 }
@@ -249,7 +254,12 @@ fn pieces_of_integers_are_as_steps(rt: HostRuntime) {
         (Base::Dec, Some(3u16), "-1234", (3, true, integer(true, 12))),
         (Base::Hex, Some(2), "0x1", (2, true, ItemEnd::Unmatched)),
         (Base::Dec, Some(1), "+5", (1, true, ItemEnd::Unmatched)),
-        (Base::Dec, Some(65535), "12 ", (2, false, integer(false, 12))),
+        (
+            Base::Dec,
+            Some(65535),
+            "12 ",
+            (2, false, integer(false, 12)),
+        ),
     ] {
         assert!(rt; integer_each_way_is(base, width, text, want), "at {text}");
     }
@@ -258,14 +268,38 @@ fn pieces_of_integers_are_as_steps(rt: HostRuntime) {
 #[test]
 fn pieces_of_long_numbers_are_as_steps(rt: HostRuntime) {
     for (text, want) in [
-        ("0000000000000000000000000000007x", (31usize, false, integer(false, 7))),
-        ("1844674407370955160;", (19, false, integer(false, 1844674407370955160))),
-        ("1844674407370955161", (19, false, integer(false, 1844674407370955161))),
-        ("1844674407370955162", (19, false, integer(false, 1844674407370955162))),
-        ("9999999999999999999 ", (19, false, integer(false, 9999999999999999999))),
-        ("18446744073709551609", (20, false, integer(false, 18446744073709551609))),
-        ("18446744073709551615", (20, false, integer(false, 18446744073709551615))),
-        ("000018446744073709551615 ", (24, false, integer(false, 18446744073709551615))),
+        (
+            "0000000000000000000000000000007x",
+            (31usize, false, integer(false, 7)),
+        ),
+        (
+            "1844674407370955160;",
+            (19, false, integer(false, 1844674407370955160)),
+        ),
+        (
+            "1844674407370955161",
+            (19, false, integer(false, 1844674407370955161)),
+        ),
+        (
+            "1844674407370955162",
+            (19, false, integer(false, 1844674407370955162)),
+        ),
+        (
+            "9999999999999999999 ",
+            (19, false, integer(false, 9999999999999999999)),
+        ),
+        (
+            "18446744073709551609",
+            (20, false, integer(false, 18446744073709551609)),
+        ),
+        (
+            "18446744073709551615",
+            (20, false, integer(false, 18446744073709551615)),
+        ),
+        (
+            "000018446744073709551615 ",
+            (24, false, integer(false, 18446744073709551615)),
+        ),
         ("18446744073709551616", (20, false, overflowed(false))),
         ("-99999999999999999999", (21, false, overflowed(true))),
         ("184467440737095516150,", (21, false, overflowed(false))),
@@ -273,16 +307,37 @@ fn pieces_of_long_numbers_are_as_steps(rt: HostRuntime) {
         assert!(rt; digits_each_way_are(text, want), "at {text}");
     }
     for (base, text, want) in [
-        (Base::Hex, "ffffffffffffffffg", (16usize, false, integer(false, 18446744073709551615))),
-        (Base::Hex, "0x10000000000000000", (19, false, overflowed(false))),
-        (Base::Oct, "1777777777777777777777", (22, false, integer(false, 18446744073709551615))),
-        (Base::Oct, "2000000000000000000000", (22, false, overflowed(false))),
+        (
+            Base::Hex,
+            "ffffffffffffffffg",
+            (16usize, false, integer(false, 18446744073709551615)),
+        ),
+        (
+            Base::Hex,
+            "0x10000000000000000",
+            (19, false, overflowed(false)),
+        ),
+        (
+            Base::Oct,
+            "1777777777777777777777",
+            (22, false, integer(false, 18446744073709551615)),
+        ),
+        (
+            Base::Oct,
+            "2000000000000000000000",
+            (22, false, overflowed(false)),
+        ),
     ] {
         assert!(rt; integer_each_way_is(base, None, text, want), "at {text}");
     }
 }
 
-fn texts_each_way_are(shape: Shape, width: Option<u16>, text: &str, want: (usize, bool, ItemEnd)) -> bool
+fn texts_each_way_are(
+    shape: Shape,
+    width: Option<u16>,
+    text: &str,
+    want: (usize, bool, ItemEnd),
+) -> bool
     requires { has_item shape ≡ true }
 {
     let conversion = conversion_of(shape, width);
@@ -299,7 +354,10 @@ fn pieces_of_texts_are_as_steps(rt: HostRuntime) {
         (Some(3u16), "abcdef", (3, true, ItemEnd::Matched)),
         (Some(3), "ab cdef", (2, false, ItemEnd::Matched)),
     ] {
-        assert!(rt; texts_each_way_are(Shape::Text, width, text, want), "at {text}");
+        assert!(rt;
+            texts_each_way_are(Shape::Text, width, text, want),
+            "at {text}"
+        );
     }
     for (width, text, want) in [
         (None, "", (0usize, false, ItemEnd::Empty)),
@@ -309,7 +367,10 @@ fn pieces_of_texts_are_as_steps(rt: HostRuntime) {
     ] {
         let mut digits = ByteSet::empty();
         digits.insert_range(b'0', b'9');
-        assert!(rt; texts_each_way_are(Shape::Set(digits), width, text, want), "at {text}");
+        assert!(rt;
+            texts_each_way_are(Shape::Set(digits), width, text, want),
+            "at {text}"
+        );
     }
     for (width, text, want) in [
         (None, "", (0usize, false, ItemEnd::Empty)),
@@ -317,6 +378,9 @@ fn pieces_of_texts_are_as_steps(rt: HostRuntime) {
         (Some(3u16), "a ", (2, false, ItemEnd::Unmatched)),
         (Some(3), " \n\tabc", (3, true, ItemEnd::Matched)),
     ] {
-        assert!(rt; texts_each_way_are(Shape::Chars, width, text, want), "at {text}");
+        assert!(rt;
+            texts_each_way_are(Shape::Chars, width, text, want),
+            "at {text}"
+        );
     }
 }

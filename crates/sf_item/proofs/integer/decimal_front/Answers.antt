@@ -9,8 +9,8 @@ loop-i-preserved c =
     let value = decimal_value b c.if-b-lt48.false c.if-b-gt57.false in
     record {
       read = λ base sign.
-        decimal_read base sign c.args.piece.now c.loop-i.i c.args.number.now c.loop-i.value (b - 48) c.loop-i-test.true
-        (omega (arith, value, c.if-b-gt57.false)) (sym value) (c.loop-i.invariant.read base sign);
+          decimal_read base sign c.args.piece.now c.loop-i.i c.args.number.now c.loop-i.value (b - 48) c.loop-i-test.true
+          (omega (arith, value, c.if-b-gt57.false)) (sym value) (c.loop-i.invariant.read base sign);
       nothing = λ e. absurd (omega (arith, e));
     }
 
