@@ -44,7 +44,7 @@ front_of_front : (piece : List ℕ) (k n : ℕ) → k ≤ n → take k (take n p
 front_of_front piece k n below = take-take k n piece below
 
 module _ (old new : ItemScan) (piece : List ℕ) (n : ℕ) (within : n ≤ length piece) (same : conversion_of new ≡ conversion_of old)
-  (taken : (f : List ℕ) → HasTaken old f → HasTaken new (f ++ take n piece)) (f : List ℕ) (h : HasTaken old f) where
+    (taken : (f : List ℕ) → HasTaken old f → HasTaken new (f ++ take n piece)) (f : List ℕ) (h : HasTaken old f) where
   -- each byte can be taken
   pub each_taken : (k : ℕ) → k < n → CanTake (conversion_of old) (f ++ take (k + 1) piece)
   each_taken k below =
@@ -79,8 +79,8 @@ module _ (old new : ItemScan) (piece : List ℕ) (n : ℕ) (within : n ≤ lengt
 
 -- the scan reads the first n bytes of a part, which is a front of the piece
 module _ (scan : ItemScan) (piece part : List ℕ) (n : ℕ) (r : Reading) (after : Option ℕ)
-  (front : part ≡ take (length part) piece) (most : n ≤ length part) (less : HasLeft scan.left after n)
-  (read : (f : List ℕ) → HasRead scan.reading f → ReadsNext scan.reading (Some r) (f ++ take n part)) where
+    (front : part ≡ take (length part) piece) (most : n ≤ length part) (less : HasLeft scan.left after n)
+    (read : (f : List ℕ) → HasRead scan.reading f → ReadsNext scan.reading (Some r) (f ++ take n part)) where
   abbrev pub new : ItemScan
   new = record scan { begun = scan.begun || nat_lt 0 n; left = after; reading = r }
 

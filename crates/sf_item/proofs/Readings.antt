@@ -1,5 +1,6 @@
 -- How far an integer is read with the bytes of a piece.
-use Rattle.std.proofs.Common.{◌≡◌, ℕ, ◌+◌, ◌-◌, ◌*◌, ◌<◌, Bool, cond, List, [], ◌∷◌, ◌++◌, length, take, drop, slice_index_or, Option, Some, None, is_some, refl, sym, ap, ◌∙◌, subst, arith}
+use Rattle.std.proofs.Common.{◌≡◌, ℕ, ◌+◌, ◌-◌, ◌*◌, ◌<◌, ◌≤◌, Bool, cond, List, [], ◌∷◌, ◌++◌, length, take, drop, slice_index_or, Option, Some, None, is_some, refl, sym, ap, ◌∙◌, subst, arith}
+use Rattle.std.proofs.lemmas.Bool.Decides.{nat_tests}
 use Rattle.std.proofs.Math.Seq.{take-add, take-length}
 use Rattle.std.proofs.lemmas.List.{length-drop}
 use Rattle.std.specs.Char.{digit_value}
@@ -31,7 +32,7 @@ pub length_rest : (piece : List ℕ) (i : ℕ) → length (rest piece i) ≡ len
 length_rest piece i = ap length (rest_is piece i) ∙ length-drop i piece
 
 module _ (base : Base) (piece : List ℕ) (i : ℕ) (p : Progress) (now : Reached) (after : Option Reached)
-  (before : ShowsNext (Some now) (read base (Some p) (take i piece))) where
+    (before : ShowsNext (Some now) (read base (Some p) (take i piece))) where
   -- with one byte more
   pub byte_read : i < length piece → ((q : Progress) → Shows now q → ShowsNext after (advance base q (slice_index_or piece i 0)))
       → ShowsNext after (read base (Some p) (take (i + 1) piece))
@@ -47,6 +48,10 @@ module _ (base : Base) (piece : List ℕ) (i : ℕ) (p : Progress) (now : Reache
       subst (λ t. ShowsNext after (read base (Some p) t)) (ap (λ t. take i piece ++ take k t) (rest_is piece i) ∙ sym (take-add i k piece))
       (behind base p (take i piece) (take k (rest piece i)) now after before then)
 
+-- the decimal digits
+pub decimal_value : (b : ℕ) → 48 ≤ b → b ≤ 57 → digit_value b ≡ b - 48
+decimal_value b low high = grind (arith, nat_tests, low, high)
+
 -- with one decimal digit more
 pub decimal_read : (base : Base) (sign : Bool) (piece : List ℕ) (i before value digit : ℕ) → i < length piece
     → digit_value (slice_index_or piece i 0) < 10 → digit ≡ digit_value (slice_index_or piece i 0)
@@ -59,7 +64,7 @@ decimal_read base sign piece i before value digit below is_digit same is =
     ∙ ap (λ o. read base o (b ∷ [])) is
     ∙ read_nothing base (with_digit sign 10 value b)
     ∙ by_lt (digit_value b) 10 (λ v. cond v (Some (Digits sign 10 (value * 10 + digit_value b))) None ≡ Some (Digits sign 10 (value * 10 + digit_value b)))
-      (λ _. refl) (λ above. absurd (omega (arith, is_digit, above)))
+    (λ _. refl) (λ above. absurd (omega (arith, is_digit, above)))
     ∙ ap (λ d. Some (Digits sign 10 (value * 10 + d))) (sym same))
 
 module _ (base : Base) (before : Reached) (f t : List ℕ) (h : HasRead (reading.Integer base before) f) where
@@ -72,4 +77,4 @@ module _ (base : Base) (before : Reached) (f t : List ℕ) (h : HasRead (reading
 
   pub integer_ends : ((p : Progress) → Shows before p → ShowsNext None (read base (Some p) t)) → ReadsNext (reading.Integer base before) None (f ++ t)
   integer_ends then = λ width.
-    ap is_some (read_more base (Some Start) f t ∙ ap (λ o. read base o t) h.2 ∙ shows_none (read base (Some h.0) t) (then h.0 h.1))
+      ap is_some (read_more base (Some Start) f t ∙ ap (λ o. read base o t) h.2 ∙ shows_none (read base (Some h.0) t) (then h.0 h.1))

@@ -162,13 +162,12 @@ fn decimal_front(number: &mut u64, piece: &[u8]) -> usize
 {
     let mut value = *number;
     for i in 0..piece.len() {
-        match digit_value(piece[i], 10) {
-            Some(digit) if value < QUICK => value = value * 10 + digit as u64,
-            _ => {
-                *number = value;
-                return i;
-            }
+        let b = piece[i];
+        if b < b'0' || b > b'9' || value >= QUICK {
+            *number = value;
+            return i;
         }
+        value = value * 10 + (b - b'0') as u64;
     }
     *number = value;
     piece.len()
