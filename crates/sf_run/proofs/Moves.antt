@@ -28,7 +28,7 @@ use Rattle.sf_run.specs.Phases.{ShowsItem, Shows, ShowsNext, GrowsBy, Brings, sl
 use Rattle.sf_run.specs.Places.{is_destination, places_left}
 use Rattle.sf_run.specs.Residual.{Tally, stepped_all, one_from, with_used, counted, out_of, by_end, run_of, run_from}
 use Rattle.sf_run.specs.Stopping.{is_no_memory}
-use Rattle.sf_run.specs.Standing.{Standing, ShowsFirst, DoesBy, Does, Follows, IsRefused, Stops, Takes, TakesAll, Refuses, RefusesIn, StoresByte, IsInText}
+use Rattle.sf_run.specs.Standing.{Standing, ShowsFirst, DoesBy, Does, Follows, IsRefused, Stops, Takes, TakesAll, Refuses, RefusesIn, StoresByte, IsInText, turns_left}
 use Rattle.sf_run.specs.Standing.{Passes as Passed}
 use Rattle.sf_run.specs.Texts.{text_slot, opened_for, opened_after, opened_with}
 use Rattle.sf_base.specs.Kept.{Opened}
@@ -423,6 +423,19 @@ pub one_more : (v : Bool) (n : ℕ) → cond v (n + 1) n ≡ n + cond v 1 0
 one_more true n = refl
 one_more false n = omega arith
 
+-- ---- counting the directives that may still end
+
+turns_by : (new old : Standing) → new.ended ≡ old.ended → new.directives ≡ old.directives → new.passed ≡ old.passed → turns_left new ≡ turns_left old
+turns_by new old ended directives passed =
+    ap (λ o. turns_left (record new { ended = o })) ended ∙ ap (λ ds. turns_left (record new { ended = old.ended; directives = ds })) directives
+    ∙ ap (λ p. turns_left (record new { ended = old.ended; directives = old.directives; passed = p })) passed
+
+pub turns_one : (new old : Standing) (p : Phase) (text : Option Opened) → Takes new old p text → turns_left new ≡ turns_left old
+turns_one new old p text takes = turns_by new old takes.ended takes.keeps.directives takes.passed
+
+pub turns_all : (new old : Standing) (p : Phase) (n : ℕ) (text : Option Opened) → TakesAll new old p n text → turns_left new ≡ turns_left old
+turns_all new old p n text takes = turns_by new old takes.ended takes.keeps.directives takes.passed
+
 -- ---- one move after another
 
 pub follows_on : (old mid new : Standing) (x y z : List ℕ) → mid.tally.used ≤ new.tally.used → mid.limit ≡ old.limit → Follows mid old y z → Follows new mid x y
@@ -466,23 +479,31 @@ ended_does s k y z report ended does = by_case s.ended ended does
     by_case None h does = absurd cc
     by_case (Some stop) h does = does
 
--- the bytes up to one, that one and those after it
-pub around : (xs : List ℕ) (i : ℕ) (z : List ℕ) → i < length xs → take i xs ++ get_or xs i 0 ∷ (drop (i + 1) xs ++ z) ≡ xs ++ z
-around xs i z h =
-    let e : drop i xs ≡ get_or xs i 0 ∷ drop (i + 1) xs = drop_more xs i 0 h in
-    ap (λ (y : List ℕ). take i xs ++ (y ++ z)) (sym e) ∙ sym (append_assoc (take i xs) (drop i xs) z) ∙ ap (λ (y : List ℕ). y ++ z) (take-append-drop i xs)
+-- where a run waits, it has come to the end of the piece
+pub to_the_end : (new old : Standing) (xs : List ℕ) (n : ℕ) → n ≤ length xs → (new.ended ≡ None → length xs ≤ n) → ((z : List ℕ) → Follows new old (drop n xs ++ z) (xs ++ z)) → (z : List ℕ) → Follows new old z (xs ++ z)
+to_the_end new old xs n within all follows z k report low high does = by_case new.ended refl
+  where
+    done : Does new k (drop n xs ++ z) report
+    done = follows z k report low high does
+    by_case : (o : Option Stop) → new.ended ≡ o → Does new k z report
+    by_case None e = subst (λ y. Does new k (y ++ z) report) (drop_all n xs (all e)) done
+    by_case (Some stop) e = ended_does new k (drop n xs ++ z) z report (subst IsSome (sym e) refl) done
 
--- the first byte of a piece is refused
-pub refused_first : (mid new : Standing) (xs : List ℕ) → 0 < length xs → new.tally.used ≡ mid.tally.used
-    → ((z : List ℕ) → Refuses new mid (get_or xs 0 0) (get_or xs 0 0 ∷ (drop 1 xs ++ z))) → RefusesIn new mid xs
-refused_first mid new xs some used refuses = record {
+-- the byte behind a front of a piece, and those after it
+pub next_is : (xs : List ℕ) (i : ℕ) (z : List ℕ) → i < length xs → drop i xs ++ z ≡ get_or xs i 0 ∷ (drop (i + 1) xs ++ z)
+next_is xs i z h = ap (λ (y : List ℕ). y ++ z) (drop_more xs i 0 h)
+
+-- the byte behind a front of a piece is refused
+pub refused_next : (old mid new : Standing) (xs : List ℕ) (i : ℕ) → i < length xs → new.limit ≡ old.limit → mid.tally.used ≡ old.tally.used + i → new.tally.used ≡ mid.tally.used
+    → ((z : List ℕ) → Follows mid old (drop i xs ++ z) (xs ++ z)) → ((z : List ℕ) → Refuses new mid (get_or xs i 0) (get_or xs i 0 ∷ z)) → RefusesIn new old xs
+refused_next old mid new xs i within limit used same first refuses = refused_behind old mid new xs i (omega (arith, within)) limit used first (record {
   front = [];
-  byte = get_or xs 0 0;
-  rest = drop 1 xs;
-  whole = drop_more xs 0 0 some;
-  used = omega (arith, used);
-  refuses = λ z. subst (λ y. Refuses new mid (get_or xs 0 0) y) (around xs 0 z some) (refuses z);
-}
+  byte = get_or xs i 0;
+  rest = drop (i + 1) xs;
+  whole = drop_more xs i 0 within;
+  used = omega (arith, same);
+  refuses = λ z. subst (λ y. Refuses new mid (get_or xs i 0) y) (sym (next_is xs i z within)) (refuses (drop (i + 1) xs ++ z));
+})
 
 -- behind a front of a piece
 pub behind : (old mid : Standing) (xs : List ℕ) (n : ℕ) (z : List ℕ) → Follows mid old (drop n xs ++ z) (take n xs ++ (drop n xs ++ z)) → Follows mid old (drop n xs ++ z) (xs ++ z)
@@ -505,6 +526,10 @@ byte_past k ds p d q r t b at e full = passed_limit k ds p d q r t b [] at e ful
 pub not_out : (o : Option Stop) → is_some o ≡ false → is_no_memory o ≡ false
 not_out None e = refl
 not_out (Some stop) e = absurd (true≢false e)
+
+pub out_ended : (o : Option Stop) → is_no_memory o ≡ true → IsSome o
+out_ended None e = absurd (true≢false (sym e))
+out_ended (Some stop) e = refl
 
 pub waits_for : (o : Option Stop) → (IsSome o → ⊥) → o ≡ None
 waits_for None never = refl

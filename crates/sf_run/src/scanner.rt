@@ -192,6 +192,8 @@ impl<'f, S: Store> Scanner<'f, S> {
         ensures used { self.new.tally.used ≡ self.old.tally.used }
         ensures keeps { Keeps (standing self.new) (standing self.old) }
         ensures stays { IsSome self.old.ended → IsSome self.new.ended }
+        ensures unchanged { IsSome self.old.ended → self.new ≡ self.old }
+        ensures turns { turns_left (standing self.new) ≤ turns_left (standing self.old) }
         ensures settled { IsSettled (standing self.new) }
         ensures memory { ran_out (standing self.new) ≡ ran_out (standing self.old) }
     {
@@ -349,6 +351,7 @@ impl<'f, S: Store> Scanner<'f, S> {
         ensures used { self.new.tally.used ≡ self.old.tally.used + result }
         ensures keeps { Keeps (standing self.new) (standing self.old) }
         ensures waits { self.new.ended ≡ None }
+        ensures turns { turns_left (standing self.new) ≡ turns_left (standing self.old) }
     {
         let Some(directive) = self.directives.get(self.passed) else {
             return 0;
@@ -376,6 +379,7 @@ impl<'f, S: Store> Scanner<'f, S> {
         ensures used { self.new.tally.used ≡ self.old.tally.used + (if result then 1 else 0) }
         ensures keeps { Keeps (standing self.new) (standing self.old) }
         ensures fewer { OnFalse result (turns_left (standing self.new) < turns_left (standing self.old)) }
+        ensures as_many { OnTrue result (turns_left (standing self.new) ≡ turns_left (standing self.old)) }
     {
         match self.directives.get(self.passed) {
             None => {
@@ -398,52 +402,26 @@ impl<'f, S: Store> Scanner<'f, S> {
         }
     }
 
-    /// Hands a byte to the run, and says whether it was taken.
-    fn offer(&mut self, b: u8) -> bool
-        ensures same { AreProper self.old.directives.now → ran_out (standing self.new) ≡ false → (z : List ℕ) → Follows (standing self.new) (standing self.old) z (b ∷ z) }
-        ensures memory { AreProper self.old.directives.now → self.old.ended ≡ None → ran_out (standing self.new) ≡ true → (z : List ℕ) → Refuses (standing self.new) (standing self.old) b (b ∷ z) }
-        ensures used { self.new.tally.used ≡ self.old.tally.used + (if result then 1 else 0) }
-        ensures refused { OnFalse result (IsSome self.new.ended) }
-        ensures stopped { OnTrue result (ran_out (standing self.new) ≡ false) }
-        ensures stays { IsSome self.old.ended → IsSome self.new.ended }
-        ensures nothing { IsSome self.old.ended → result ≡ false }
-        ensures unchanged { IsSome self.old.ended → self.new ≡ self.old }
-        ensures keeps { Keeps (standing self.new) (standing self.old) }
-        ensures settled { IsSettled (standing self.new) }
-    {
-        while self.ended.is_none() {
-            if self.turn(b) {
-                self.settle();
-                return true;
-            }
-        }
-        false
-    }
-
-    /// Hands bytes to the run, and says how many of them were taken: none only where the run has ended.
+    /// Hands bytes to the run: what the directive under way takes at once, and the byte behind. Says how many were taken.
     fn hand(&mut self, piece: &[u8]) -> usize
         requires some { 0 < length piece.now }
+        requires waits { self.old.ended ≡ None }
         ensures same { AreProper self.old.directives.now → ran_out (standing self.new) ≡ false → (z : List ℕ) → Follows (standing self.new) (standing self.old) (drop result piece.now ++ z) (piece.now ++ z) }
-        ensures memory { AreProper self.old.directives.now → self.old.ended ≡ None → ran_out (standing self.new) ≡ true → RefusesIn (standing self.new) (standing self.old) piece.now }
+        ensures memory { AreProper self.old.directives.now → ran_out (standing self.new) ≡ true → RefusesIn (standing self.new) (standing self.old) piece.now }
         ensures used { self.new.tally.used ≡ self.old.tally.used + result }
         ensures within { result ≤ length piece.now }
-        ensures refused { result ≡ 0 → IsSome self.new.ended }
-        ensures stopped { 0 < result → ran_out (standing self.new) ≡ false }
-        ensures nothing { IsSome self.old.ended → result ≡ 0 }
-        ensures unchanged { IsSome self.old.ended → self.new ≡ self.old }
-        ensures stays { IsSome self.old.ended → IsSome self.new.ended }
         ensures keeps { Keeps (standing self.new) (standing self.old) }
-        ensures settled { IsSettled (standing self.new) }
+        ensures goes { turns_left (standing self.new) < turns_left (standing self.old) + result }
     {
-        if self.ended.is_some() {
-            return 0;
+        let front = self.take_run(piece);
+        if front == piece.len() {
+            return front;
         }
-        let taken = self.take_run(piece);
-        if taken > 0 {
-            self.settle();
-            return taken;
+        if self.turn(piece[front]) {
+            front + 1
+        } else {
+            front
         }
-        if self.offer(piece[0]) { 1 } else { 0 }
     }
 
     /// Hands bytes to the run until it ends, and says how many were taken.
@@ -460,13 +438,10 @@ impl<'f, S: Store> Scanner<'f, S> {
         ensures settled { IsSettled (standing self.old) → IsSettled (standing self.new) }
     {
         let mut taken = 0;
-        while taken < piece.len() {
+        while taken < piece.len() && self.ended.is_none() {
             let (_, rest) = piece.split_at(taken);
-            let count = self.hand(rest);
-            if count == 0 {
-                return taken;
-            }
-            taken += count;
+            taken += self.hand(rest);
+            self.settle();
         }
         taken
     }

@@ -38,6 +38,8 @@ loop-self-preserved g c =
           (c.close.ensures.same z (λ q shows. full_refuses d here q s.tally.used z (sym (c.is_full.ensures q here shows) ∙ c.if-not-is_full.false)));
       used = c.close.ensures.used ∙ c.loop-self.invariant.used;
       stays = λ h. absurd (let k = c.loop-self.invariant.stays h in cc (k, c.loop-self-test.ensures));
+      unchanged = λ h. absurd (let k = c.loop-self.invariant.stays h in cc (k, c.loop-self-test.ensures));
+      turns = let before = c.loop-self.invariant.turns in let less = c.close.ensures.fewer in omega (arith, before, less);
       keeps = search rules;
       memory = search rules;
     }

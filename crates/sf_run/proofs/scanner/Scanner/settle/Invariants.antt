@@ -1,4 +1,4 @@
-use Rattle.std.proofs.Common.{◌≡◌, ℕ, List}
+use Rattle.std.proofs.Common.{◌≡◌, ◌≤◌, ℕ, List}
 use Rattle.std.specs.Prelude.{IsSome}
 use Rattle.sf_format.specs.Proper.{AreProper}
 use Rattle.sf_run.specs.Standing.{Follows, Keeps, turns_left, ran_out}
@@ -11,6 +11,8 @@ invariant-loop-self g l = record {
   same : AreProper l.fn.self.directives.now → (z : List ℕ) → Follows (standing l.self) (standing l.fn.self) z z;
   used : l.self.tally.used ≡ l.fn.self.tally.used;
   stays : IsSome l.fn.self.ended → IsSome l.self.ended;
+  unchanged : IsSome l.fn.self.ended → l.self ≡ l.fn.self;
+  turns : turns_left (standing l.self) ≤ turns_left (standing l.fn.self);
   keeps : Keeps (standing l.self) (standing l.fn.self);
   memory : ran_out (standing l.self) ≡ ran_out (standing l.fn.self);
 }
