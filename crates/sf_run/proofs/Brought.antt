@@ -146,19 +146,30 @@ module _ (c : Conversion) (piece : List ℕ) (w : ℕ) (within : w ≤ length pi
       let e : w ≡ w + 0 = omega arith in
       record { stage = Skipping; stepped = ap (λ n. stepped_all (Conv c) Skipping (take n piece)) (sym e) ∙ skips; shown = refl; grown = tt }
 
+  pub first_goes : (n : ℕ) → w + n ≤ length piece → 0 < n → (shape_skips c.shape && is_white (get_or piece w 0)) ≡ false → CanAll c [] (take n (drop w piece))
+      → stepped_all (Conv c) Skipping (take (w + n) piece) ≡ Some (Item (take n (drop w piece)))
+  first_goes zero all some ink can = absurd (omega (arith, some))
+  first_goes (suc n) all some ink can =
+      let first : take (suc n) (drop w piece) ≡ get_or piece w 0 ∷ take n (drop (w + 1) piece) = first_of n piece w (omega (arith, all)) in
+      ap (stepped_all (Conv c) Skipping) (take-add w (suc n) piece) ∙ all-append (Conv c) Skipping Skipping (take w piece) (take (suc n) (drop w piece)) skips
+      ∙ ap (stepped_all (Conv c) Skipping) first ∙ first_all c (get_or piece w 0) (take n (drop (w + 1) piece)) ink (subst (λ y. CanAll c [] y) first can) ∙ ap (λ y. Some (Item y)) (sym first)
+
+  pub some_first : (n : ℕ) → w + n ≤ length piece → 0 < n → take n (drop w piece) ≢ []
+  some_first zero all some e = absurd (omega (arith, some))
+  some_first (suc n) all some e =
+      let first : take (suc n) (drop w piece) ≡ get_or piece w 0 ∷ take n (drop (w + 1) piece) = first_of n piece w (omega (arith, all)) in
+      let other : [] ≡ get_or piece w 0 ∷ take n (drop (w + 1) piece) = sym e ∙ first in
+      cc
+
   -- and an item
   pub brings_first : (n : ℕ) (p : Phase) → w + n ≤ length piece → 0 < n → (shape_skips c.shape && is_white (get_or piece w 0)) ≡ false → CanAll c [] (take n (drop w piece))
       → (take n (drop w piece) ≢ [] → Shows (Conv c) p (Item (take n (drop w piece)))) → Brings (Conv c) Skipping (take (w + n) piece) (take n (drop w piece)) p
-  brings_first zero p all some ink can shows = absurd (omega (arith, some))
-  brings_first (suc n) p all some ink can shows =
-      let first : take (suc n) (drop w piece) ≡ get_or piece w 0 ∷ take n (drop (w + 1) piece) = first_of n piece w (omega (arith, all)) in
-      record {
-        stage = Item (take (suc n) (drop w piece));
-        stepped = ap (stepped_all (Conv c) Skipping) (take-add w (suc n) piece) ∙ all-append (Conv c) Skipping Skipping (take w piece) (take (suc n) (drop w piece)) skips
-            ∙ ap (stepped_all (Conv c) Skipping) first ∙ first_all c (get_or piece w 0) (take n (drop (w + 1) piece)) ink (subst (λ y. CanAll c [] y) first can) ∙ ap (λ y. Some (Item y)) (sym first);
-        shown = shows (λ e. let other : [] ≡ get_or piece w 0 ∷ take n (drop (w + 1) piece) = sym e ∙ first in cc);
-        grown = refl;
-      }
+  brings_first n p all some ink can shows = record {
+    stage = Item (take n (drop w piece));
+    stepped = first_goes n all some ink can;
+    shown = shows (some_first n all some);
+    grown = refl;
+  }
 
 -- ---- the other directives
 

@@ -15,3 +15,4 @@ pub mod Waits
 pub mod Refusals
 pub mod Inputs
 pub mod TwoStores
+pub mod Wholes

@@ -71,12 +71,12 @@ places_next ds p d at = ap (λ rest. length (destinations_of rest)) (drop_at ds 
 -- ---- a directive that ends
 
 -- a directive that takes nothing of z
-refused : (m : ℕ) (d : Directive) (ds : List Directive) (q : Stage) (at : ℕ) (t : Tally) (z : List ℕ) (f : StepEnd) → t.used ≤ m
+pub refused : (m : ℕ) (d : Directive) (ds : List Directive) (q : Stage) (at : ℕ) (t : Tally) (z : List ℕ) (f : StepEnd) → t.used ≤ m
     → one_from d q t.used z ≡ record { used = t.used; left = z; end = f }
     → run_from (Some m) (d ∷ ds) q at t z ≡ by_end f (run_of (Some m) ds (at + 1) (counted d f t) z) (λ status. out_of status at t)
 refused m d ds q at t z f le e = rw (e, le-ltb _ _ le) refl
 
-passes : (f : StepEnd) (y : RunReport) (g : Status → RunReport) → ((status : Status) → f ≡ Fails status → ⊥) → by_end f y g ≡ y
+pub passes : (f : StepEnd) (y : RunReport) (g : Status → RunReport) → ((status : Status) → f ≡ Fails status → ⊥) → by_end f y g ≡ y
 passes (Fails status) y g h = absurd (h status refl)
 passes Passes y g h = refl
 passes (Stores slot v) y g h = refl
@@ -131,7 +131,7 @@ pub waiting : (s : Standing) (k : ℕ) (z : List ℕ) (report : RunReport) → s
 waiting s k z report e does = subst (λ o. DoesBy o s.directives s.passed s.phase s.opened s.tally k z report) e does
 
 -- what is done by the fields
-same_does : (s : Standing) (o : Option Stop) (ds : List Directive) (p : ℕ) (current : Phase) (opened : Option Opened) (t : Tally) (k : ℕ) (z : List ℕ) (report : RunReport)
+pub same_does : (s : Standing) (o : Option Stop) (ds : List Directive) (p : ℕ) (current : Phase) (opened : Option Opened) (t : Tally) (k : ℕ) (z : List ℕ) (report : RunReport)
     → s.ended ≡ o → s.directives ≡ ds → s.passed ≡ p → s.phase ≡ current → s.opened ≡ opened → s.tally ≡ t → DoesBy o ds p current opened t k z report → Does s k z report
 same_does s o ds p current opened t k z report e1 e2 e3 e4 e5 e6 does = rw (e1, e2, e3, e4, e5, e6) does
 
@@ -344,7 +344,7 @@ opened_grown d p q r g opened showing grown is = ap (opened_with (slot_in p) g) 
     by_phase (phase.Text slot scan) e =
         by_text (text_slot d) slot q e.item e.text (subst (GrowsBy q g) e.stage grown) ∙ ap (opened_for (text_slot d)) (sym e.stage)
 
-took_all : (k : ℕ) (ds : List Directive) (p : ℕ) (d : Directive) (q r : Stage) (t : Tally) (y z : List ℕ) → slice_get ds p ≡ Some d → stepped_all d q y ≡ Some r
+pub took_all : (k : ℕ) (ds : List Directive) (p : ℕ) (d : Directive) (q r : Stage) (t : Tally) (y z : List ℕ) → slice_get ds p ≡ Some d → stepped_all d q y ≡ Some r
     → run_from (Some k) (drop p ds) q (p + 1) t (y ++ z) ≡ run_from (Some k) (drop p ds) r (p + 1) (with_used (t.used + length y) t) z
 took_all k ds p d q r t y z at e = rw (drop_at ds p d at, one_from-all d q r t.used y z e) refl
 
@@ -504,6 +504,11 @@ refused_next old mid new xs i within limit used same first refuses = refused_beh
   used = omega (arith, same);
   refuses = λ z. subst (λ y. Refuses new mid (get_or xs i 0) y) (sym (next_is xs i z within)) (refuses (drop (i + 1) xs ++ z));
 })
+
+-- the bytes up to one, that one and those after it
+pub around : (xs : List ℕ) (i : ℕ) (z : List ℕ) → i < length xs → take i xs ++ get_or xs i 0 ∷ (drop (i + 1) xs ++ z) ≡ xs ++ z
+around xs i z h =
+    ap (λ (y : List ℕ). take i xs ++ y) (sym (next_is xs i z h)) ∙ sym (append_assoc (take i xs) (drop i xs) z) ∙ ap (λ (y : List ℕ). y ++ z) (take-append-drop i xs)
 
 -- behind a front of a piece
 pub behind : (old mid : Standing) (xs : List ℕ) (n : ℕ) (z : List ℕ) → Follows mid old (drop n xs ++ z) (take n xs ++ (drop n xs ++ z)) → Follows mid old (drop n xs ++ z) (xs ++ z)

@@ -15,3 +15,4 @@ pub mod Rows
 pub mod Standing
 pub mod Scanner
 pub mod Laws
+pub mod Wholes

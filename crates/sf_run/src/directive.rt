@@ -68,7 +68,7 @@ pub(crate) fn text_slot(conversion: &Conversion) -> Option<u8>
 }
 
 /// Whether it is the shape of `n`.
-fn is_count(shape: &Shape) -> bool
+pub(crate) fn is_count(shape: &Shape) -> bool
     ensures { result ≡ is_count shape.now }
 {
     matches!(shape, Shape::Count)
@@ -180,7 +180,7 @@ pub(crate) fn step<'f>(directive: &'f Directive, phase: Phase<'f>, b: u8) -> Opt
 }
 
 /// How many bytes of white space the piece begins with.
-fn space_before(piece: &[u8]) -> usize
+pub(crate) fn space_before(piece: &[u8]) -> usize
     ensures within { result ≤ length piece.now }
     ensures white { (k : ℕ) → k < result → is_white (get_or piece.now k 0) ≡ true }
     ensures next { result < length piece.now → is_white (get_or piece.now result 0) ≡ false }
@@ -194,7 +194,7 @@ fn space_before(piece: &[u8]) -> usize
 }
 
 /// How many bytes a conversion of the shape skips at the front of the piece.
-fn skipped(shape: &Shape, piece: &[u8]) -> usize
+pub(crate) fn skipped(shape: &Shape, piece: &[u8]) -> usize
     ensures within { result ≤ length piece.now }
     ensures white { (k : ℕ) → k < result → (shape_skips shape.now && is_white (get_or piece.now k 0)) ≡ true }
     ensures next { result < length piece.now → (shape_skips shape.now && is_white (get_or piece.now result 0)) ≡ false }
@@ -404,7 +404,7 @@ fn finish_matched(slot: Option<u8>) -> Finished
 }
 
 /// An item that is not stored as it stands.
-fn finish_item(conversion: &Conversion, scan: ItemScan<'_>) -> Finished
+pub(crate) fn finish_item(conversion: &Conversion, scan: ItemScan<'_>) -> Finished
     ensures end { (text f : List ℕ) → f ≢ [] → conversion.now ≡ conversion_of scan.entry → HasTaken scan.entry f → text_slot (directive.Conv conversion.now) ≡ None
         → end_of text result ≡ item_end conversion.now f }
     ensures closes { slot_closed result ≡ None }
@@ -427,7 +427,7 @@ fn finish_item(conversion: &Conversion, scan: ItemScan<'_>) -> Finished
 }
 
 /// An item that is the text of the slot.
-fn finish_text(slot: u8, scan: ItemScan<'_>) -> Finished
+pub(crate) fn finish_text(slot: u8, scan: ItemScan<'_>) -> Finished
     ensures end { (f : List ℕ) → f ≢ [] → HasTaken scan.entry f → text_slot (directive.Conv (conversion_of scan.entry)) ≡ Some slot
         → end_of f result ≡ item_end (conversion_of scan.entry) f }
     ensures text { is_failing result ≡ false → Some slot ≡ slot_closed result }

@@ -15,6 +15,7 @@ mod scanner;
 mod tally;
 #[cfg(test)]
 mod tests;
+mod whole;
 
 pub use outcome::{Ending, Fed, FeedState, Outcome, StartFault, Status};
 pub use report::{Report, Scanned};
