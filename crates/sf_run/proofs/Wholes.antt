@@ -2,7 +2,7 @@
 use Rattle.std.proofs.Common.{◌≡◌, ◌≢◌, ℕ, zero, suc, ◌+◌, ◌<◌, ◌≤◌, Bool, true, false, cond, ◌&&◌, List, [], ◌∷◌, ◌++◌, length, take, drop, get_or, length-drop, Option, Some, None, refl, sym, ap, subst, ◌∙◌, arith, true≢false}
 use Rattle.std.specs.Prelude.{slice_get}
 use Rattle.std.proofs.Math.Seq.{take-suc}
-use Rattle.std.proofs.lemmas.List.{get_or-drop, length-take-le}
+use Rattle.std.proofs.lemmas.List.{get_or-drop, get_or-take, length-take-le}
 use Rattle.sf_base.specs.Bytes.{is_white}
 use Rattle.sf_base.specs.Data.{Datum}
 use Rattle.sf_format.specs.declared.directive.Conversion.{Conversion}
@@ -19,14 +19,14 @@ use Rattle.sf_run.specs.declared.directive.Phase.TheVariants as phase
 use Rattle.sf_run.specs.declared.outcome.Status.{Status}
 use Rattle.sf_run.specs.declared.whole.Whole.{Whole}
 use Rattle.sf_run.specs.Machine.{Stage, Skipping, Taken, Item, shape_skips, item_end, stepped, finished}
-use Rattle.sf_run.specs.Phases.{Shows, end_of}
+use Rattle.sf_run.specs.Phases.{Shows, end_of, is_failing}
 use Rattle.sf_run.specs.Residual.{Tally, by_end, counted, out_of, run_from, run_of, stepped_all, with_used}
 use Rattle.sf_run.specs.Runs.{RunReport}
 use Rattle.sf_run.specs.Standing.{Standing, ShowsFirst, DoesBy, Does, Follows}
 use Rattle.sf_run.specs.Steps.{StepEnd, Passes, Stores, Fails}
 use Rattle.sf_run.specs.Texts.{is_count}
 use Rattle.sf_run.specs.Wholes.{EndsWithin, PassesWhole}
-use Rattle.sf_run.proofs.Brought.{can_all, first_goes, some_first, brings_space, brings_byte}
+use Rattle.sf_run.proofs.Brought.{take-take, can_all, first_goes, some_first, brings_space, brings_byte}
 use Rattle.sf_run.proofs.Machines.{byte_refused}
 use Rattle.sf_run.proofs.Moves.{counted-used, drop_at, fresh, next_is, passes, refused, same_does, shows_fresh, took_all, waiting}
 use Rattle.sf_run.proofs.Moves.{around}
@@ -87,6 +87,31 @@ ends_byte a b piece e at below =
       refused = refl;
       ends = λ n. refl;
     }
+
+pub item_in_front : (b i m : ℕ) (xs : List ℕ) → b + i < m → take i (drop b (take m xs)) ≡ take i (drop b xs)
+item_in_front zero i m xs h = take-take i m xs (omega (arith, h))
+item_in_front (suc b) i zero xs h = absurd (omega (arith, h))
+item_in_front (suc b) i (suc m) [] h = refl
+item_in_front (suc b) i (suc m) (x ∷ xs) h = item_in_front b i m xs (omega (arith, h))
+
+-- what ends within a front of a piece ends so within the piece
+pub ends_longer : (d : Directive) (m : ℕ) (piece : List ℕ) (w : Whole) → m ≤ length piece → EndsWithin d (take m piece) w → EndsWithin d piece w
+ends_longer d m piece w fits goes =
+    let long : length (take m piece) ≡ m = length-take-le m piece fits in
+    let behind : w.before + w.item < m = let h = goes.behind in omega (arith, h, long) in
+    record {
+      stage = goes.stage;
+      behind = omega (arith, behind, fits);
+      goes = ap (λ y. stepped_all d Skipping y) (sym (take-take (w.before + w.item) m piece (omega (arith, behind)))) ∙ goes.goes;
+      refused = ap (stepped d goes.stage) (sym (get_or-take m piece (w.before + w.item) 0 behind)) ∙ goes.refused;
+      ends = λ n. ap (λ y. end_of y w.finished) (sym (item_in_front w.before w.item m piece behind)) ∙ goes.ends n;
+    }
+
+pub not_failing : (text : List ℕ) (end : Finished) → is_failing end ≡ false → (status : Status) → end_of text end ≡ Fails status → ⊥
+not_failing text finish.Passes ok status e = cc
+not_failing text (finish.Stores slot value) ok status e = cc
+not_failing text (finish.Closes slot) ok status e = cc
+not_failing text (finish.Fails s) ok status e = true≢false ok
 
 -- ---- what the run then does
 

@@ -442,8 +442,8 @@ impl<'f, S: Store> Scanner<'f, S> {
         requires given { is_failing whole.finished ≡ false → slot_given whole.finished ≡ slot_of directive.now }
         requires number { IsNumberGiven whole.finished }
         requires fits { FitsLeft (left_before directive.now phase.Skipping) (length item.now) }
-        ensures passes { OnTrue result (PassesWhole (standing self.new) (standing self.old) directive.now (whole.entry.before + whole.entry.item) (end_of item.now whole.entry.finished)) }
-        ensures ok { OnTrue result (is_failing whole.entry.finished ≡ false) }
+        ensures passes { OnTrue result (PassesWhole (standing self.new) (standing self.old) directive.now (whole.before + whole.item) (end_of item.now whole.finished)) }
+        ensures ok { OnTrue result (is_failing whole.finished ≡ false) }
         ensures refused { OnFalse result (standing self.new ≡ standing self.old) }
     {
         let taken = whole.before + whole.item;
