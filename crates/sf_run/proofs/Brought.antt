@@ -1,10 +1,9 @@
 -- Many bytes at once.
-use Rattle.std.proofs.Common.{◌≡◌, ◌≢◌, ℕ, zero, suc, ◌+◌, ◌<◌, ◌≤◌, Bool, true, false, cond, ◌&&◌, nat_eq, List, [], ◌∷◌, ◌++◌, length, take, drop, get_or, append_assoc, length-drop, Option, Some, None, refl, sym, ap, subst, ◌∙◌, arith, true≢false}
+use Rattle.std.proofs.Common.{◌≡◌, ◌≢◌, ℕ, zero, suc, ◌+◌, ◌<◌, ◌≤◌, true, false, cond, ◌&&◌, nat_eq, List, [], ◌∷◌, ◌++◌, length, take, drop, get_or, append_assoc, length-drop, Option, Some, None, refl, sym, ap, subst, ◌∙◌, arith}
 use Rattle.std.specs.Prelude.{slice_get}
 use Rattle.std.proofs.Math.Seq.{take-add}
-use Rattle.std.proofs.lemmas.List.{append-nil, take-append-drop, length-take-le, drop_more}
+use Rattle.std.proofs.lemmas.List.{append-nil, length-take-le, drop_more}
 use Rattle.sf_base.specs.Bytes.{is_white}
-use Rattle.sf_base.specs.Kept.{Opened}
 use Rattle.sf_format.specs.declared.directive.Conversion.{Conversion}
 use Rattle.sf_format.specs.declared.directive.Directive.{Directive}
 use Rattle.sf_format.specs.declared.directive.Directive.TheVariants.{Space, Byte, Conv}
@@ -16,7 +15,7 @@ use Rattle.sf_item.proofs.Deciding.{tests_can_take, tests_same}
 use Rattle.sf_run.specs.declared.directive.Phase.{Phase}
 use Rattle.sf_run.specs.declared.directive.Phase.TheVariants as phase
 use Rattle.sf_run.specs.Machine.{Stage, Skipping, Taken, Item, shape_skips, item_stepped, stepped, finished}
-use Rattle.sf_run.specs.Residual.{Part, choose, one_from, stepped_all}
+use Rattle.sf_run.specs.Residual.{choose, one_from, stepped_all}
 use Rattle.sf_run.specs.Phases.{ShowsItem, Shows, CanAll, GrowsBy, Brings}
 use Rattle.sf_run.specs.Texts.{text_slot}
 

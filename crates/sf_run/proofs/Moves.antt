@@ -485,6 +485,7 @@ to_the_end new old xs n within all follows z k report low high does = by_case ne
   where
     done : Does new k (drop n xs ++ z) report
     done = follows z k report low high does
+
     by_case : (o : Option Stop) → new.ended ≡ o → Does new k z report
     by_case None e = subst (λ y. Does new k (y ++ z) report) (drop_all n xs (all e)) done
     by_case (Some stop) e = ended_does new k (drop n xs ++ z) z report (subst IsSome (sym e) refl) done

@@ -1,5 +1,5 @@
 -- Directives that begin and end within a piece.
-use Rattle.std.proofs.Common.{◌≡◌, ◌≢◌, ℕ, zero, suc, ◌+◌, ◌<◌, ◌≤◌, Bool, true, false, cond, ◌&&◌, List, [], ◌∷◌, ◌++◌, length, take, drop, get_or, length-drop, Option, Some, None, refl, sym, ap, subst, ◌∙◌, arith, true≢false}
+use Rattle.std.proofs.Common.{◌≡◌, ◌≢◌, ℕ, zero, suc, ◌+◌, ◌<◌, ◌≤◌, Bool, true, false, cond, ◌&&◌, List, [], ◌∷◌, ◌++◌, length, take, drop, get_or, length-drop, Some, None, refl, sym, ap, subst, ◌∙◌, arith, true≢false}
 use Rattle.std.specs.Prelude.{slice_get}
 use Rattle.std.proofs.Math.Seq.{take-suc}
 use Rattle.std.proofs.lemmas.List.{get_or-drop, get_or-take, length-take-le}
@@ -18,12 +18,11 @@ use Rattle.sf_run.specs.declared.directive.Phase.{Phase}
 use Rattle.sf_run.specs.declared.directive.Phase.TheVariants as phase
 use Rattle.sf_run.specs.declared.outcome.Status.{Status}
 use Rattle.sf_run.specs.declared.whole.Whole.{Whole}
-use Rattle.sf_run.specs.Machine.{Stage, Skipping, Taken, Item, shape_skips, item_end, stepped, finished}
+use Rattle.sf_run.specs.Machine.{Stage, Skipping, Taken, Item, shape_skips, item_end, stepped}
 use Rattle.sf_run.specs.Phases.{Shows, end_of, is_failing}
 use Rattle.sf_run.specs.Residual.{Tally, by_end, counted, out_of, run_from, run_of, stepped_all, with_used}
-use Rattle.sf_run.specs.Runs.{RunReport}
-use Rattle.sf_run.specs.Standing.{Standing, ShowsFirst, DoesBy, Does, Follows}
-use Rattle.sf_run.specs.Steps.{StepEnd, Passes, Stores, Fails}
+use Rattle.sf_run.specs.Standing.{Standing, ShowsFirst, DoesBy, Follows}
+use Rattle.sf_run.specs.Steps.{StepEnd, Stores, Fails}
 use Rattle.sf_run.specs.Texts.{is_count}
 use Rattle.sf_run.specs.Wholes.{EndsWithin, PassesWhole}
 use Rattle.sf_run.proofs.Brought.{take-take, can_all, first_goes, some_first, brings_space, brings_byte}

@@ -275,23 +275,6 @@ fn run_space<'f>(piece: &[u8]) -> Run<'f>
     }
 }
 
-fn run_byte<'f>(due: u8, piece: &[u8]) -> Run<'f>
-    ensures within { result.before ≤ length piece.now }
-    ensures brings { Brings (directive.Byte due) Skipping (take result.before piece.now) [] result.phase }
-    ensures slot { slot_in result.phase ≡ None }
-    ensures left { is_text result.phase ≡ false }
-    ensures item { result.item ≡ 0 }
-{
-    match piece.first() {
-        Some(b) if *b == due => Run {
-            phase: Phase::Taken,
-            before: 1,
-            item: 0,
-        },
-        _ => nothing_taken(Phase::Skipping),
-    }
-}
-
 /// Hands a directive that took nothing yet the bytes of the piece that it takes at once.
 fn begin<'f>(directive: &'f Directive, piece: &[u8]) -> Run<'f>
     ensures within { result.before + result.item ≤ length piece.now }
@@ -302,8 +285,7 @@ fn begin<'f>(directive: &'f Directive, piece: &[u8]) -> Run<'f>
 {
     match directive {
         Directive::Space => run_space(piece),
-        Directive::Byte(due) => run_byte(*due, piece),
-        Directive::Percent => nothing_taken(Phase::Skipping),
+        Directive::Byte(_) | Directive::Percent => nothing_taken(Phase::Skipping),
         Directive::Conv(conversion) => begin_item(conversion, piece),
     }
 }

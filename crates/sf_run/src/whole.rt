@@ -12,7 +12,9 @@ ghost use Rattle.sf_run.specs.Phases.{IsNumberGiven, end_of, is_failing, slot_cl
 ghost use Rattle.sf_run.specs.Texts.{slot_of, text_slot};
 ghost use Rattle.sf_run.specs.Wholes.{EndsWithin};
 
-use crate::directive::{Finished, finish_item, finish_text, is_count, skipped, space_before, text_slot};
+use crate::directive::{
+    Finished, finish_item, finish_text, is_count, skipped, space_before, text_slot,
+};
 use sf_format::{Conversion, Directive};
 use sf_item::ItemScan;
 

@@ -1,8 +1,8 @@
-use Rattle.std.proofs.Common.{◌≡◌, ◌≢◌, ◌<◌, ◌+◌, ◌≤◌, List, ℕ, [], length, take, drop, refl, sym, ap, subst, ◌∙◌, arith}
+use Rattle.std.proofs.Common.{◌≡◌, ◌≢◌, ◌<◌, ◌+◌, ◌≤◌, List, ℕ, [], length, take, sym, ap, subst, arith}
 use Rattle.sf_format.specs.declared.directive.Conversion.{Conversion}
 use Rattle.sf_format.specs.declared.directive.Directive.TheVariants.{Conv}
 use Rattle.sf_format.specs.Proper.{IsProperShape}
-use Rattle.sf_item.specs.Taking.{HasTaken, conversion_of}
+use Rattle.sf_item.specs.Taking.{conversion_of}
 use Rattle.sf_run.specs.Machine.{Item}
 use Rattle.sf_run.specs.Phases.{CanAll, Shows}
 use Rattle.sf_run.proofs.Brought.{brings_skipped, brings_first, below_of}

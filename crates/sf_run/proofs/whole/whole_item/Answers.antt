@@ -1,9 +1,6 @@
-use Rattle.std.proofs.Common.{◌≡◌, ◌<◌, ◌≤◌, ◌≢◌, ◌+◌, ◌∙◌, ℕ, List, [], length, take, drop, sym, ap, subst, arith, false}
+use Rattle.std.proofs.Common.{◌≡◌, ◌<◌, ◌+◌, ◌∙◌, ℕ, List, [], length, take, drop, sym, subst, arith, false}
 use Rattle.sf_format.specs.declared.directive.Conversion.{Conversion}
-use Rattle.sf_format.specs.Proper.{IsProperShape}
 use Rattle.sf_item.specs.Taking.{CanTake, HasTaken, conversion_of}
-use Rattle.sf_run.specs.Machine.{item_end}
-use Rattle.sf_run.specs.Phases.{end_of}
 use Rattle.sf_run.specs.Texts.{is_count}
 use Rattle.sf_run.proofs.Wholes.{ends_item}
 use Rattle.sf_run.proofs.whole.whole_item.Goals as goal
@@ -26,7 +23,7 @@ returns-clause-ends c proper =
     λ j h. subst (λ ys. CanTake k (take (j + 1) ys)) rest (subst (λ (x : Conversion). CanTake x (take (j + 1) c.split_at.result.1.now)) same (e.each [] first j h)) in
     let never : CanTake k (take (n + 1) xs) → ⊥ =
     λ h. e.stops [] first (subst (λ ys. n < length ys) (sym rest) below)
-        (subst (λ (x : Conversion). CanTake x (take (n + 1) c.split_at.result.1.now)) (sym same) (subst (λ ys. CanTake k (take (n + 1) ys)) (sym rest) h)) in
+    (subst (λ (x : Conversion). CanTake x (take (n + 1) c.split_at.result.1.now)) (sym same) (subst (λ ys. CanTake k (take (n + 1) ys)) (sym rest) h)) in
     let taken : HasTaken c.take_all-item.new.self (take n xs) = subst (λ ys. HasTaken c.take_all-item.new.self (take n ys)) rest (e.taken [] first) in
     ends_item k piece w n c.finish_begun.result proper other c.skipped-before.ensures.within c.skipped-before.ensures.white c.skipped-before.ensures.next some below can never
     (λ more. c.finish_begun.ensures.end (take n xs) more (sym (e.conversion ∙ same)) taken)

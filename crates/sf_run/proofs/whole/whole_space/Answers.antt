@@ -1,4 +1,4 @@
-use Rattle.std.proofs.Common.{◌≡◌, ◌<◌, ℕ, List, length, sym, subst, Some, None, Option}
+use Rattle.std.proofs.Common.{◌≡◌, ◌<◌, length, sym, subst, Some, None, Option}
 use Rattle.std.specs.Prelude.{IfSome}
 use Rattle.sf_format.specs.declared.directive.Directive.TheVariants as directive
 use Rattle.sf_run.specs.declared.directive.Finished.TheVariants as finish

@@ -1,6 +1,6 @@
-use Rattle.std.proofs.Common.{◌≡◌, ◌∙◌, ap, sym, subst, true, is_some}
+use Rattle.std.proofs.Common.{◌≡◌, ◌∙◌, ap, subst, true, is_some}
 use Rattle.sf_format.specs.Widths.{width_sum}
-use Rattle.sf_base.specs.Kept.{Kept, with_dropped}
+use Rattle.sf_base.specs.Kept.{with_dropped}
 use Rattle.sf_run.specs.Standing.{Standing}
 use Rattle.sf_run.specs.Scanner.{kept_by}
 use Rattle.sf_run.proofs.Slots.{opened_none, begun_dropped}

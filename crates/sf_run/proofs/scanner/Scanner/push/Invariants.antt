@@ -1,4 +1,4 @@
-use Rattle.std.proofs.Common.{◌≡◌, ◌+◌, ◌-◌, ◌≤◌, ◌<◌, ℕ, List, ◌++◌, length, drop, None, true, false}
+use Rattle.std.proofs.Common.{◌≡◌, ◌+◌, ◌-◌, ◌≤◌, ℕ, List, ◌++◌, length, drop, None, true, false}
 use Rattle.std.specs.Prelude.{IsSome}
 use Rattle.sf_format.specs.Proper.{AreProper}
 use Rattle.sf_run.specs.Standing.{Follows, Keeps, IsSettled, RefusesIn, ran_out, turns_left}

@@ -1,9 +1,9 @@
-use Rattle.std.proofs.Common.{◌≡◌, ◌<◌, ◌≤◌, ◌+◌, ◌++◌, is_some, unwrap_or, subst, ◌∷◌, [], length, Some, None, refl, ap, sym, true, false, arith, ◌∙◌, true≢false}
+use Rattle.std.proofs.Common.{◌≡◌, ◌<◌, ◌≤◌, ◌+◌, ◌++◌, is_some, unwrap_or, subst, ◌∷◌, [], length, None, refl, ap, sym, true, false, arith, ◌∙◌, true≢false}
 use Rattle.std.specs.Result.{OnOk, is_err}
 use Rattle.std.specs.Prelude.{Result, Ok, Err}
 use Rattle.std.proofs.lemmas.Option.{slice_get_within}
 use Rattle.sf_base.specs.Data.{Bytes}
-use Rattle.sf_base.specs.Kept.{Kept, assigned, buffer_of, with_bytes, with_closed, with_opened}
+use Rattle.sf_base.specs.Kept.{Kept, assigned}
 use Rattle.sf_format.specs.Widths.{width_sum}
 use Rattle.sf_run.specs.declared.directive.Phase.TheVariants as phase
 use Rattle.sf_run.specs.Holding.{still_stored}
@@ -12,7 +12,7 @@ use Rattle.sf_run.specs.Scanner.{kept_by}
 use Rattle.sf_run.specs.Steps.{Stores}
 use Rattle.sf_run.specs.Tallies.{tally_of}
 use Rattle.sf_run.proofs.Wholes.{counted_whole}
-use Rattle.sf_run.proofs.Moves.{place_taken, has_place}
+use Rattle.sf_run.proofs.Moves.{place_taken}
 use Rattle.sf_run.proofs.Slots.{is_destination_of, joined_text, opened_none, size_whole, slot_free, slot_of_own, slot_placed, slots_more, whole_left, kept_whole}
 use Rattle.sf_run.proofs.scanner.Scanner.store_whole.Goals as goal
 

@@ -1,11 +1,9 @@
 use Rattle.std.proofs.Common.{◌≡◌, ◌+◌, ◌≤◌, ◌++◌, ℕ, List, length, take, drop, Some, refl, sym, ap, subst, ◌∙◌, arith}
 use Rattle.std.specs.Prelude.{slice_get}
 use Rattle.std.proofs.lemmas.Option.{slice_get_read}
-use Rattle.std.proofs.lemmas.Bool.{OnTrue_at}
 use Rattle.std.proofs.lemmas.List.{length-take-le}
-use Rattle.sf_format.specs.Proper.{AreProper}
 use Rattle.sf_run.specs.Phases.{Brings}
-use Rattle.sf_run.specs.Standing.{Follows, TakesAll}
+use Rattle.sf_run.specs.Standing.{Follows}
 use Rattle.sf_run.specs.Scanner.{standing}
 use Rattle.sf_run.proofs.Brought.{take-take}
 use Rattle.sf_run.proofs.Moves.{proper_at, takes_all_follows}
