@@ -12,6 +12,8 @@ mod row;
 #[cfg(test)]
 mod row_tests;
 mod scanner;
+#[cfg(test)]
+mod shared_tests;
 mod tally;
 #[cfg(test)]
 mod tests;

@@ -1,18 +1,20 @@
 //! Examples of scanners that are handed their input in pieces.
-use crate::{Ending, FeedState, Outcome, Scanner, StartFault, Status};
+use crate::shared_tests::{END, FAULT, Told, ended, is, is_done, tells};
+use crate::{Ending, FeedState, Scanned, Scanner, StartFault, Status};
 use sf_base::{HeapStore, Store, Value};
 use sf_format::{Profile, ScanFormat};
+use std::alloc::Global;
 use std::process::Abort;
 use std::test::Fail;
 
-/// A format, a limit, the pieces with the bytes taken and the state after each, the input's ending, and the report.
+/// A format, a limit, the pieces with the bytes taken and the state after each, the input's ending, and what is told.
 #[derive(Drop)]
 struct Row {
     format: &'static [u8],
     limit: u32,
     pieces: &'static [(&'static [u8], usize, FeedState)],
     ending: Ending,
-    outcome: Outcome,
+    told: Told,
     values: &'static [Value<'static>],
 }
 
@@ -20,317 +22,297 @@ const WAIT: FeedState = FeedState::Wait;
 
 const ENDED: FeedState = FeedState::Ended;
 
-fn done(assigned: u8, used: u32, met: Option<Ending>) -> Outcome {
-    Outcome {
-        status: Status::Done,
-        at: 0,
-        assigned,
-        converted: assigned as u16,
-        used,
-        met,
-    }
-}
-
-fn failed(status: Status, at: u16, assigned: u8, used: u32, met: Option<Ending>) -> Outcome {
-    Outcome {
-        status,
-        at,
-        assigned,
-        converted: assigned as u16,
-        used,
-        met,
-    }
+/// What a piece comes to: the bytes taken, the state that is told, the scanner's own, and whether there is a report.
+fn fed<S: Store>(
+    scanner: &mut Scanner<'_, S>,
+    piece: &[u8],
+) -> (usize, FeedState, FeedState, bool) {
+    let fed = scanner.feed(piece);
+    let reports = scanner.report().is_some();
+    (fed.taken, fed.state, scanner.state(), reports)
 }
 
 fn run(rt: &(impl Abort + AllocGlobal), row: &Row) -> Result<(), Fail> {
     let format = ScanFormat::parse(rt.alloc(), Profile::One, row.format)?;
     let mut scanner = Scanner::new(rt.alloc(), &format, row.limit)?;
     for (piece, taken, state) in row.pieces {
-        let fed = scanner.feed(piece);
-        assert_eq!(rt; fed.taken, *taken, "bytes taken of {piece:?}");
-        assert!(rt;
-            fed.state == *state && scanner.state() == *state,
-            "state after {piece:?}"
-        );
-        assert!(rt;
-            scanner.report().is_some() == (*state == ENDED),
-            "report after {piece:?}"
-        );
+        let wanted = (*taken, *state, *state, *state == ENDED);
+        is(rt, &fed(&mut scanner, piece), &wanted, piece);
     }
     scanner.end(row.ending);
-    assert!(rt; scanner.state() == ENDED && scanner.feed(b"1").taken == 0);
-    is_told(rt, scanner, row)
-}
-
-/// The scanner has ended, with what the row tells.
-fn is_told<S: Store>(rt: &impl Abort, scanner: Scanner<'_, S>, row: &Row) -> Result<(), Fail> {
-    let Ok(scanned) = scanner.into_scanned() else {
-        return Err(Fail::new("the run has not ended"));
-    };
-    let report = scanned.report();
-    assert_eq!(rt; report.outcome(), row.outcome);
-    let mut slot = 1u8;
-    for value in row.values {
-        assert_eq!(rt; report.value(slot), Some(*value));
-        slot = slot.saturating_add(1);
-    }
-    assert_eq!(rt; report.value(slot), None);
+    is(
+        rt,
+        &fed(&mut scanner, b"1"),
+        &(0, ENDED, ENDED, true),
+        &row.format,
+    );
+    tells(rt, &ended(scanner)?, row.told, row.values, &row.format);
     Ok(())
 }
+
+fn all_run(rt: &(impl Abort + AllocGlobal), rows: &[Row]) -> Result<(), Fail> {
+    for row in rows {
+        run(rt, row)?;
+    }
+    Ok(())
+}
+
+/// Inputs in pieces, which end in each way.
+const PIECES: [Row; 10] = [
+    Row {
+        format: b"",
+        limit: 9,
+        pieces: &[(b"", 0, ENDED), (b"a", 0, ENDED)],
+        ending: Ending::End,
+        told: Told::Done(0, 0, None),
+        values: &[],
+    },
+    Row {
+        format: b"%d",
+        limit: 9,
+        pieces: &[(b"12", 2, WAIT)],
+        ending: Ending::End,
+        told: Told::Done(1, 2, END),
+        values: &[Value::I32(12)],
+    },
+    Row {
+        format: b"%d",
+        limit: 9,
+        pieces: &[(b"12", 2, WAIT)],
+        ending: Ending::Fault,
+        told: Told::Done(1, 2, FAULT),
+        values: &[Value::I32(12)],
+    },
+    Row {
+        format: b"%d ",
+        limit: 9,
+        pieces: &[(b"5", 1, WAIT), (b"\n", 1, WAIT), (b"x", 0, ENDED)],
+        ending: Ending::End,
+        told: Told::Done(1, 2, None),
+        values: &[Value::I32(5)],
+    },
+    Row {
+        format: b"%da",
+        limit: 9,
+        pieces: &[(b"12", 2, WAIT), (b"", 0, WAIT), (b"ab", 1, ENDED)],
+        ending: Ending::End,
+        told: Told::Done(1, 3, None),
+        values: &[Value::I32(12)],
+    },
+    Row {
+        format: b"%d,%d",
+        limit: 9,
+        pieces: &[(b"12,", 3, WAIT), (b"-", 1, WAIT), (b"7\n", 1, ENDED)],
+        ending: Ending::End,
+        told: Told::Done(2, 5, None),
+        values: &[Value::I32(12), Value::I32(-7)],
+    },
+    Row {
+        format: b"%d %d",
+        limit: 9,
+        pieces: &[(b"1  ", 3, WAIT)],
+        ending: Ending::End,
+        told: Told::Failed(Status::InputFailure, 3, 1, 3, END),
+        values: &[Value::I32(1)],
+    },
+    Row {
+        format: b"%d",
+        limit: 9,
+        pieces: &[(b"+", 1, WAIT), (b"-5", 0, ENDED)],
+        ending: Ending::End,
+        told: Told::Failed(Status::MatchingFailure, 1, 0, 1, None),
+        values: &[],
+    },
+    Row {
+        format: b"%d",
+        limit: 9,
+        pieces: &[(b"-", 1, WAIT)],
+        ending: Ending::End,
+        told: Told::Failed(Status::MatchingFailure, 1, 0, 1, END),
+        values: &[],
+    },
+    Row {
+        format: b"%d",
+        limit: 20,
+        pieces: &[(b"2147483648 ", 10, ENDED)],
+        ending: Ending::End,
+        told: Told::Failed(Status::OutOfRange, 1, 0, 10, None),
+        values: &[],
+    },
+];
 
 #[test]
 fn pieces(rt: HostRuntime) -> Result<(), Fail> {
-    let end = Some(Ending::End);
-    let rows = [
-        Row {
-            format: b"",
-            limit: 9,
-            pieces: &[(b"", 0, ENDED), (b"a", 0, ENDED)],
-            ending: Ending::End,
-            outcome: done(0, 0, None),
-            values: &[],
-        },
-        Row {
-            format: b"%d",
-            limit: 9,
-            pieces: &[(b"12", 2, WAIT)],
-            ending: Ending::End,
-            outcome: done(1, 2, end),
-            values: &[Value::I32(12)],
-        },
-        Row {
-            format: b"%d",
-            limit: 9,
-            pieces: &[(b"12", 2, WAIT)],
-            ending: Ending::Fault,
-            outcome: done(1, 2, Some(Ending::Fault)),
-            values: &[Value::I32(12)],
-        },
-        Row {
-            format: b"%d ",
-            limit: 9,
-            pieces: &[(b"5", 1, WAIT), (b"\n", 1, WAIT), (b"x", 0, ENDED)],
-            ending: Ending::End,
-            outcome: done(1, 2, None),
-            values: &[Value::I32(5)],
-        },
-        Row {
-            format: b"%da",
-            limit: 9,
-            pieces: &[(b"12", 2, WAIT), (b"", 0, WAIT), (b"ab", 1, ENDED)],
-            ending: Ending::End,
-            outcome: done(1, 3, None),
-            values: &[Value::I32(12)],
-        },
-        Row {
-            format: b"%d,%d",
-            limit: 9,
-            pieces: &[(b"12,", 3, WAIT), (b"-", 1, WAIT), (b"7\n", 1, ENDED)],
-            ending: Ending::End,
-            outcome: done(2, 5, None),
-            values: &[Value::I32(12), Value::I32(-7)],
-        },
-        Row {
-            format: b"%d %d",
-            limit: 9,
-            pieces: &[(b"1  ", 3, WAIT)],
-            ending: Ending::End,
-            outcome: failed(Status::InputFailure, 3, 1, 3, end),
-            values: &[Value::I32(1)],
-        },
-        Row {
-            format: b"%d",
-            limit: 9,
-            pieces: &[(b"+", 1, WAIT), (b"-5", 0, ENDED)],
-            ending: Ending::End,
-            outcome: failed(Status::MatchingFailure, 1, 0, 1, None),
-            values: &[],
-        },
-        Row {
-            format: b"%d",
-            limit: 9,
-            pieces: &[(b"-", 1, WAIT)],
-            ending: Ending::End,
-            outcome: failed(Status::MatchingFailure, 1, 0, 1, end),
-            values: &[],
-        },
-        Row {
-            format: b"%d",
-            limit: 20,
-            pieces: &[(b"2147483648 ", 10, ENDED)],
-            ending: Ending::End,
-            outcome: failed(Status::OutOfRange, 1, 0, 10, None),
-            values: &[],
-        },
-    ];
-    for row in &rows {
-        run(&rt, row)?;
-    }
-    Ok(())
+    all_run(&rt, &PIECES)
+}
+
+/// Runs that come to their limit, and some that just do not.
+const LIMITS: [Row; 7] = [
+    Row {
+        format: b"%d",
+        limit: 3,
+        pieces: &[(b"123", 3, WAIT), (b"4", 0, ENDED)],
+        ending: Ending::End,
+        told: Told::Failed(Status::TooLong, 1, 0, 3, None),
+        values: &[],
+    },
+    Row {
+        format: b"%d",
+        limit: 3,
+        pieces: &[(b"123", 3, WAIT), (b" ", 0, ENDED)],
+        ending: Ending::End,
+        told: Told::Done(1, 3, None),
+        values: &[Value::I32(123)],
+    },
+    Row {
+        format: b"%d",
+        limit: 3,
+        pieces: &[(b"123", 3, WAIT)],
+        ending: Ending::End,
+        told: Told::Done(1, 3, END),
+        values: &[Value::I32(123)],
+    },
+    Row {
+        format: b"%s",
+        limit: 3,
+        pieces: &[(b"abc", 3, WAIT), (b"d", 0, ENDED)],
+        ending: Ending::End,
+        told: Told::Failed(Status::TooLong, 1, 0, 3, None),
+        values: &[],
+    },
+    Row {
+        format: b"%s",
+        limit: 3,
+        pieces: &[(b"abc", 3, WAIT), (b" ", 0, ENDED)],
+        ending: Ending::End,
+        told: Told::Done(1, 3, None),
+        values: &[Value::Text(b"abc")],
+    },
+    Row {
+        format: b"%x",
+        limit: 9,
+        pieces: &[(b"0", 1, WAIT), (b"x1", 2, WAIT), (b"f ", 1, ENDED)],
+        ending: Ending::End,
+        told: Told::Done(1, 4, None),
+        values: &[Value::U32(31)],
+    },
+    Row {
+        format: b"%d",
+        limit: 0,
+        pieces: &[(b"1", 0, ENDED)],
+        ending: Ending::End,
+        told: Told::Failed(Status::TooLong, 1, 0, 0, None),
+        values: &[],
+    },
+];
+
+/// Why no scanner is made under the limit.
+fn refusal(alloc: Global, format: &ScanFormat, limit: u32) -> Option<StartFault> {
+    Scanner::new(alloc, format, limit).err()
 }
 
 #[test]
 fn limits(rt: HostRuntime) -> Result<(), Fail> {
-    let rows = [
-        Row {
-            format: b"%d",
-            limit: 3,
-            pieces: &[(b"123", 3, WAIT), (b"4", 0, ENDED)],
-            ending: Ending::End,
-            outcome: failed(Status::TooLong, 1, 0, 3, None),
-            values: &[],
-        },
-        Row {
-            format: b"%d",
-            limit: 3,
-            pieces: &[(b"123", 3, WAIT), (b" ", 0, ENDED)],
-            ending: Ending::End,
-            outcome: done(1, 3, None),
-            values: &[Value::I32(123)],
-        },
-        Row {
-            format: b"%d",
-            limit: 3,
-            pieces: &[(b"123", 3, WAIT)],
-            ending: Ending::End,
-            outcome: done(1, 3, Some(Ending::End)),
-            values: &[Value::I32(123)],
-        },
-        Row {
-            format: b"%s",
-            limit: 3,
-            pieces: &[(b"abc", 3, WAIT), (b"d", 0, ENDED)],
-            ending: Ending::End,
-            outcome: failed(Status::TooLong, 1, 0, 3, None),
-            values: &[],
-        },
-        Row {
-            format: b"%s",
-            limit: 3,
-            pieces: &[(b"abc", 3, WAIT), (b" ", 0, ENDED)],
-            ending: Ending::End,
-            outcome: done(1, 3, None),
-            values: &[Value::Text(b"abc")],
-        },
-        Row {
-            format: b"%x",
-            limit: 9,
-            pieces: &[(b"0", 1, WAIT), (b"x1", 2, WAIT), (b"f ", 1, ENDED)],
-            ending: Ending::End,
-            outcome: done(1, 4, None),
-            values: &[Value::U32(31)],
-        },
-        Row {
-            format: b"%d",
-            limit: 0,
-            pieces: &[(b"1", 0, ENDED)],
-            ending: Ending::End,
-            outcome: failed(Status::TooLong, 1, 0, 0, None),
-            values: &[],
-        },
-    ];
-    for row in &rows {
-        run(&rt, row)?;
-    }
+    all_run(&rt, &LIMITS)?;
     let format = ScanFormat::parse(rt.alloc(), Profile::One, b"%d")?;
-    assert!(rt; Scanner::new(rt.alloc(), &format, 2147483647).is_ok());
-    assert!(rt;
-        matches!(
-            Scanner::new(rt.alloc(), &format, 2147483648),
-            Err(StartFault::BadLimit)
-        )
-    );
+    assert_eq!(rt; refusal(rt.alloc(), &format, 2147483647), None);
+    let above = refusal(rt.alloc(), &format, 2147483648);
+    assert_eq!(rt; above, Some(StartFault::BadLimit));
     Ok(())
 }
+
+/// What C returns for a text.
+fn c_return_of(alloc: Global, format: &ScanFormat, text: &[u8]) -> Result<Option<i32>, Fail> {
+    let mut scanner = Scanner::new(alloc, format, 9)?;
+    scanner.feed(text);
+    scanner.end(Ending::End);
+    Ok(scanner.report().map(|report| report.c_return()))
+}
+
+const C_RETURNS: [(&[u8], i32); 5] = [(b"1 2", 2), (b"1 ", 1), (b"", -1), (b"x", 0), (b"-", 0)];
 
 #[test]
 fn what_c_returns(rt: HostRuntime) -> Result<(), Fail> {
     let format = ScanFormat::parse(rt.alloc(), Profile::One, b"%d %d")?;
-    for (text, want) in [
-        (b"1 2".as_slice(), 2),
-        (b"1 ".as_slice(), 1),
-        (b"".as_slice(), -1),
-        (b"x".as_slice(), 0),
-        (b"-".as_slice(), 0),
-    ] {
-        let mut scanner = Scanner::new(rt.alloc(), &format, 9)?;
-        scanner.feed(text);
-        scanner.end(Ending::End);
-        let told = scanner.report().map(|report| report.c_return());
-        assert_eq!(rt; told, Some(want), "on {text:?}");
+    for (text, wanted) in C_RETURNS {
+        let told = c_return_of(rt.alloc(), &format, text)?;
+        is(&rt, &told, &Some(wanted), &text);
     }
     Ok(())
+}
+
+/// A scanner that was handed `1` and is given back: the bytes of the text that it takes then, and whether it has ended.
+fn given_back(alloc: Global, format: &ScanFormat, text: &[u8]) -> Result<(usize, bool), Fail> {
+    let mut scanner = Scanner::new(alloc, format, 9)?;
+    scanner.feed(b"1");
+    let Err(mut back) = scanner.into_scanned() else {
+        return Err(Fail::new("the run waits"));
+    };
+    let taken = back.feed(text).taken;
+    Ok((taken, back.into_scanned().is_ok()))
 }
 
 #[test]
 fn a_waiting_scanner_is_given_back(rt: HostRuntime) -> Result<(), Fail> {
     let format = ScanFormat::parse(rt.alloc(), Profile::One, b"%d")?;
-    let mut scanner = Scanner::new(rt.alloc(), &format, 9)?;
-    scanner.feed(b"1");
-    let Err(mut back) = scanner.into_scanned() else {
-        return Err(Fail::new("the run waits"));
-    };
-    assert_eq!(rt; back.feed(b"2;").taken, 1);
-    assert!(rt; back.into_scanned().is_ok());
+    assert_eq!(rt; given_back(rt.alloc(), &format, b"2;")?, (1, true));
     Ok(())
 }
 
-/// The report of a text by a format over a store that was used before, and that store again.
+/// What is told of a text over a store that was used before.
+fn told_over(
+    alloc: Global,
+    store: HeapStore,
+    format: &ScanFormat,
+    text: &[u8],
+) -> Result<Scanned<HeapStore>, Fail> {
+    let mut scanner = Scanner::over(alloc, store, format, 1048576)?;
+    scanner.feed(text);
+    scanner.end(Ending::End);
+    ended(scanner)
+}
+
+/// A text by a format over a store that was used before gives these values; and that store again.
 fn again(
     rt: &(impl Abort + AllocGlobal),
     store: HeapStore,
-    format: &'static [u8],
+    format: &[u8],
     text: &[u8],
-    values: &[Option<Value<'static>>],
+    values: &[Value<'_>],
 ) -> Result<HeapStore, Fail> {
     let format = ScanFormat::parse(rt.alloc(), Profile::One, format)?;
-    let mut scanner = Scanner::over(rt.alloc(), store, &format, 1048576)?;
-    scanner.feed(text);
-    scanner.end(Ending::End);
-    let Ok(scanned) = scanner.into_scanned() else {
-        return Err(Fail::new("the run has not ended"));
-    };
-    assert!(rt;
-        scanned.report().outcome().status == Status::Done,
-        "{text:?}"
-    );
-    let mut slot = 1u8;
-    for value in values {
-        assert_eq!(rt;
-            scanned.report().value(slot),
-            *value,
-            "slot {slot} of {text:?}"
-        );
-        slot = slot.saturating_add(1);
-    }
+    let scanned = told_over(rt.alloc(), store, &format, text)?;
+    is_done(rt, &scanned, values, &text);
     Ok(scanned.into_store())
 }
+
+/// Why no scanner is made over the store under the limit.
+fn refusal_over(
+    alloc: Global,
+    store: HeapStore,
+    format: &ScanFormat,
+    limit: u32,
+) -> Option<StartFault> {
+    Scanner::over(alloc, store, format, limit).err()
+}
+
+const UP_7: &[Value<'static>] = &[Value::Text(b"up"), Value::I32(7)];
+
+const AB_C: &[Value<'static>] = &[Value::Text(b"ab"), Value::Text(b"c")];
 
 #[test]
 fn a_store_is_used_again(rt: HostRuntime) -> Result<(), Fail> {
     let store = HeapStore::new(rt.alloc(), 0)?;
-    let pair = [Some(Value::Text(b"up")), Some(Value::I32(7)), None];
-    let store = again(&rt, store, b"%s %d", b"up 7", &pair)?;
+    let store = again(&rt, store, b"%s %d", b"up 7", UP_7)?;
     assert_eq!(rt; store.value(1), Some(Value::Text(b"up")));
-    let store = again(&rt, store, b"%d", b"-12", &[Some(Value::I32(-12)), None])?;
-    let store = again(
-        &rt,
-        store,
-        b"%2s%1c",
-        b"abc",
-        &[Some(Value::Text(b"ab")), Some(Value::Text(b"c"))],
-    )?;
+    let store = again(&rt, store, b"%d", b"-12", &[Value::I32(-12)])?;
+    let store = again(&rt, store, b"%2s%1c", b"abc", AB_C)?;
 
     // More room than there is.
-    let wide = [Some(Value::Text(b"wider")), None];
-    let store = again(&rt, store, b"%5000s", b"wider", &wide)?;
+    let store = again(&rt, store, b"%5000s", b"wider", &[Value::Text(b"wider")])?;
     assert!(rt; store.room() >= 4995);
     let format = ScanFormat::parse(rt.alloc(), Profile::One, b"%d")?;
-    assert!(rt;
-        matches!(
-            Scanner::over(rt.alloc(), store, &format, 2147483648),
-            Err(StartFault::BadLimit)
-        )
-    );
+    let refused = refusal_over(rt.alloc(), store, &format, 2147483648);
+    assert_eq!(rt; refused, Some(StartFault::BadLimit));
     Ok(())
 }
