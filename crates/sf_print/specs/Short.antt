@@ -1,13 +1,13 @@
 -- Values that need no measuring: no format makes a text of them that is too long.
-use Rattle.std.specs.Prelude.{◌≤◌, List, length}
-use Rattle.std.specs.List.{AllByRecursion}
+use Rattle.std.specs.Prelude.{Bool, true, nat_le, List, length}
+use Rattle.std.specs.List.{list_all}
 use Rattle.sf_base.specs.Data.{Datum}
 use Rattle.sf_base.specs.Data.Datum.{Number, Bytes}
 
 -- a number, or a text of at most 65536 bytes
-abbrev pub IsShort : Datum → Type 0
-IsShort (Number k z) = Unit {0}
-IsShort (Bytes bytes) = length bytes ≤ 65536
+abbrev pub is_short : Datum → Bool
+is_short (Number k z) = true
+is_short (Bytes bytes) = nat_le (length bytes) 65536
 
-abbrev pub AreShort : List Datum → Type 0
-AreShort values = AllByRecursion IsShort values
+abbrev pub are_short : List Datum → Bool
+are_short values = list_all is_short values

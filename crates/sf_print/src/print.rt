@@ -1,11 +1,11 @@
 //! Printing values by a format.
-ghost use Rattle.std.specs.Prelude.{◌≡◌, ◌<◌, ◌≤◌, ◌+◌, ◌^◌, true, length, map, min, None, Ok, Err, OnOk, IfErr, MatchResult, is_err, if◌then◌else◌};
+ghost use Rattle.std.specs.Prelude.{◌≡◌, ◌<◌, ◌≤◌, ◌+◌, ◌^◌, length, map, min, None, Ok, Err, OnOk, IfErr, MatchResult, is_err, if◌then◌else◌};
 ghost use Rattle.sf_base.specs.Data.{datum_of};
 ghost use Rattle.sf_format.specs.Units.{values_of};
 ghost use Rattle.sf_print.specs.Sinks.{counted_on};
 ghost use Rattle.sf_print.specs.Staged.{Puts, Writes};
 ghost use Rattle.sf_print.specs.Text.{value_text};
-ghost use Rattle.sf_print.specs.Short.{IsShort, AreShort};
+ghost use Rattle.sf_print.specs.Short.{is_short, are_short};
 ghost use Rattle.sf_print.specs.Printed.{unit_text, printed, length_or_fault, measured, WritesText, is_sink_fault};
 
 use crate::decimal::decimal_len;
@@ -206,7 +206,7 @@ pub fn printed_len(format: &PrintFormat, values: &[Value<'_>]) -> Result<u32, Pr
 
 /// Whether the value is a number or a short text.
 fn is_short(value: &Value<'_>) -> bool
-    ensures { result ≡ true → IsShort (datum_of value.now) }
+    ensures { result ≡ is_short (datum_of value.now) }
 {
     match value {
         Value::Text(bytes) => bytes.len() <= SHORT_BYTES,
@@ -216,7 +216,7 @@ fn is_short(value: &Value<'_>) -> bool
 
 /// Whether each value is a number or a short text. Of such values no format makes a text that is too long.
 fn are_short(values: &[Value<'_>]) -> bool
-    ensures { result ≡ true → AreShort (map datum_of values.now) }
+    ensures { result ≡ are_short (map datum_of values.now) }
 {
     for value in values {
         if !is_short(value) {

@@ -1,4 +1,4 @@
-use Rattle.std.proofs.Common.{◌≤◌, length, map}
+use Rattle.std.proofs.Common.{◌≤◌, length, map, sym, ◌∙◌}
 use Rattle.sf_base.specs.Data.{datum_of}
 use Rattle.sf_print.specs.Printed.{printed, measured}
 use Rattle.sf_print.proofs.Short.{short_told, short_most, short_printed}
@@ -8,7 +8,7 @@ most : (c : goal.After-refuse_values) → length (printed c.args.format.now (map
 most c =
     let d = c.directives-units.ensures in
     let values = map datum_of c.args.values.now in
-    let h = short_printed c.directives-units.result.now values d.proper d.short (c.are_short.ensures c.if-are_short.true) in
+    let h = short_printed c.directives-units.result.now values d.proper d.short (sym c.are_short.ensures ∙ c.if-are_short.true) in
     rw (d.value) at h
 
 pub returns-then-are_short-clause-told : goal.returns-then-are_short-clause-told
