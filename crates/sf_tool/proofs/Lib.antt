@@ -5,7 +5,6 @@ pub mod Looping
 pub mod Numbers
 pub mod OneAnswer
 pub mod OneEnd
-pub mod Pairs
 pub mod Passing
 pub mod Places
 pub mod PrintAnswering
