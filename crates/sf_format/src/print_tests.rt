@@ -1,5 +1,5 @@
 //! Examples of print formats, and of texts that are none.
-use crate::tests::repeated;
+use crate::tests::{is, repeated};
 use crate::{FormatFault, FormatWhy, PrintConv, PrintFormat, PrintLetter, Profile, Unit};
 use sf_base::Kind;
 use std::alloc::Global;
@@ -50,139 +50,79 @@ fn parses_units(rt: HostRuntime) -> Result<(), Fail> {
     Ok(())
 }
 
+/// Formats of one conversion without flags, width and precision.
+const LETTERS: [(&[u8], PrintLetter, Kind); 12] = [
+    (b"%d", PrintLetter::Signed, Kind::I32),
+    (b"%i", PrintLetter::Signed, Kind::I32),
+    (b"%hhd", PrintLetter::Signed, Kind::I8),
+    (b"%hi", PrintLetter::Signed, Kind::I16),
+    (b"%lld", PrintLetter::Signed, Kind::I64),
+    (b"%u", PrintLetter::Unsigned, Kind::U32),
+    (b"%hho", PrintLetter::Octal, Kind::U8),
+    (b"%hx", PrintLetter::HexLower, Kind::U16),
+    (b"%zX", PrintLetter::HexUpper, Kind::U64),
+    (b"%jx", PrintLetter::HexLower, Kind::U64),
+    (b"%s", PrintLetter::Text, Kind::Text),
+    (b"%c", PrintLetter::One, Kind::Text),
+];
+
 #[test]
 fn tells_letters_and_kinds(rt: HostRuntime) -> Result<(), Fail> {
-    let rows: [(&[u8], PrintLetter, Kind); 12] = [
-        (b"%d", PrintLetter::Signed, Kind::I32),
-        (b"%i", PrintLetter::Signed, Kind::I32),
-        (b"%hhd", PrintLetter::Signed, Kind::I8),
-        (b"%hi", PrintLetter::Signed, Kind::I16),
-        (b"%lld", PrintLetter::Signed, Kind::I64),
-        (b"%u", PrintLetter::Unsigned, Kind::U32),
-        (b"%hho", PrintLetter::Octal, Kind::U8),
-        (b"%hx", PrintLetter::HexLower, Kind::U16),
-        (b"%zX", PrintLetter::HexUpper, Kind::U64),
-        (b"%jx", PrintLetter::HexLower, Kind::U64),
-        (b"%s", PrintLetter::Text, Kind::Text),
-        (b"%c", PrintLetter::One, Kind::Text),
-    ];
-    for (text, letter, kind) in rows {
-        assert_eq!(rt;
-            only(rt.alloc(), text)?,
-            Some(plain(letter, kind)),
-            "{letter:?}"
+    for (text, letter, kind) in LETTERS {
+        is(
+            &rt,
+            &only(rt.alloc(), text)?,
+            &Some(plain(letter, kind)),
+            text,
         );
     }
     Ok(())
 }
 
+/// Formats of one conversion, with its flags, its width and its precision.
+const FLAGGED: [(&[u8], PrintLetter, Kind, &[u8], u16, Option<u8>); 12] = [
+    (b"%+ d", PrintLetter::Signed, Kind::I32, b"+ ", 0, None),
+    (b"% d", PrintLetter::Signed, Kind::I32, b" ", 0, None),
+    (b"%-05d", PrintLetter::Signed, Kind::I32, b"-0", 5, None),
+    (b"%0-0-5d", PrintLetter::Signed, Kind::I32, b"-0", 5, None),
+    (b"%+5d", PrintLetter::Signed, Kind::I32, b"+", 5, None),
+    (b"%08.3d", PrintLetter::Signed, Kind::I32, b"0", 8, Some(3)),
+    (b"%.0d", PrintLetter::Signed, Kind::I32, b"", 0, Some(0)),
+    (b"%.d", PrintLetter::Signed, Kind::I32, b"", 0, Some(0)),
+    (b"%#06x", PrintLetter::HexLower, Kind::U32, b"#0", 6, None),
+    (b"%#.3o", PrintLetter::Octal, Kind::U32, b"#", 0, Some(3)),
+    (b"%.2s", PrintLetter::Text, Kind::Text, b"", 0, Some(2)),
+    (
+        b"%-65535.00255s",
+        PrintLetter::Text,
+        Kind::Text,
+        b"-",
+        65535,
+        Some(255),
+    ),
+];
+
+/// The conversion with these flags.
+fn flagged(conversion: PrintConv, flags: &[u8]) -> PrintConv {
+    PrintConv {
+        minus: flags.contains(&b'-'),
+        plus: flags.contains(&b'+'),
+        blank: flags.contains(&b' '),
+        alt: flags.contains(&b'#'),
+        zero: flags.contains(&b'0'),
+        ..conversion
+    }
+}
+
 #[test]
 fn tells_flags_widths_and_precisions(rt: HostRuntime) -> Result<(), Fail> {
-    let signed = plain(PrintLetter::Signed, Kind::I32);
-    let hex = plain(PrintLetter::HexLower, Kind::U32);
-    let octal = plain(PrintLetter::Octal, Kind::U32);
-    let text = plain(PrintLetter::Text, Kind::Text);
-    let rows: [(&[u8], PrintConv); 12] = [
-        (
-            b"%+ d",
-            PrintConv {
-                plus: true,
-                blank: true,
-                ..signed
-            },
-        ),
-        (
-            b"% d",
-            PrintConv {
-                blank: true,
-                ..signed
-            },
-        ),
-        (
-            b"%-05d",
-            PrintConv {
-                minus: true,
-                zero: true,
-                width: 5,
-                ..signed
-            },
-        ),
-        (
-            b"%0-0-5d",
-            PrintConv {
-                minus: true,
-                zero: true,
-                width: 5,
-                ..signed
-            },
-        ),
-        (
-            b"%+5d",
-            PrintConv {
-                plus: true,
-                width: 5,
-                ..signed
-            },
-        ),
-        (
-            b"%08.3d",
-            PrintConv {
-                zero: true,
-                width: 8,
-                precision: Some(3),
-                ..signed
-            },
-        ),
-        (
-            b"%.0d",
-            PrintConv {
-                precision: Some(0),
-                ..signed
-            },
-        ),
-        (
-            b"%.d",
-            PrintConv {
-                precision: Some(0),
-                ..signed
-            },
-        ),
-        (
-            b"%#06x",
-            PrintConv {
-                alt: true,
-                zero: true,
-                width: 6,
-                ..hex
-            },
-        ),
-        (
-            b"%#.3o",
-            PrintConv {
-                alt: true,
-                precision: Some(3),
-                ..octal
-            },
-        ),
-        (
-            b"%.2s",
-            PrintConv {
-                precision: Some(2),
-                ..text
-            },
-        ),
-        (
-            b"%-65535.00255s",
-            PrintConv {
-                minus: true,
-                width: 65535,
-                precision: Some(255),
-                ..text
-            },
-        ),
-    ];
-    for (text, want) in rows {
-        assert_eq!(rt; only(rt.alloc(), text)?, Some(want), "{want:?}");
+    for (text, letter, kind, flags, width, precision) in FLAGGED {
+        let wanted = PrintConv {
+            width,
+            precision,
+            ..flagged(plain(letter, kind), flags)
+        };
+        is(&rt, &only(rt.alloc(), text)?, &Some(wanted), text);
     }
     Ok(())
 }
@@ -191,14 +131,14 @@ fn tells_flags_widths_and_precisions(rt: HostRuntime) -> Result<(), Fail> {
 fn tells_values_by_number(rt: HostRuntime) -> Result<(), Fail> {
     let format = PrintFormat::parse(rt.alloc(), Profile::One, b"%2$s-%1$d")?;
     assert_eq!(rt; format.values(), 2);
-    for (slot, want) in [
-        (0, None),
-        (1, Some(Kind::I32)),
-        (2, Some(Kind::Text)),
-        (3, None),
-    ] {
-        assert_eq!(rt; format.kind(slot), want, "slot {slot}");
-    }
+    let kinds = [
+        format.kind(0),
+        format.kind(1),
+        format.kind(2),
+        format.kind(3),
+    ];
+    let wanted = [None, Some(Kind::I32), Some(Kind::Text), None];
+    is(&rt, &kinds, &wanted, b"%2$s-%1$d");
     match format.directives() {
         [Unit::Conv(first), Unit::Byte(b'-'), Unit::Conv(second)] => {
             assert_eq!(rt; first.slot, 2);
@@ -209,53 +149,56 @@ fn tells_values_by_number(rt: HostRuntime) -> Result<(), Fail> {
     Ok(())
 }
 
+/// Texts that are no print format, with the place of the first fault.
+const FAULTS: [(&[u8], u16, FormatWhy); 38] = [
+    (b"%+u", 1, FormatWhy::BadFlag),
+    (b"%05s", 1, FormatWhy::BadFlag),
+    (b"%.3c", 1, FormatWhy::BadFlag),
+    (b"%.300d", 2, FormatWhy::PrecisionTooLarge),
+    (b"%'d", 1, FormatWhy::LeftOut),
+    (b"%*d", 1, FormatWhy::LeftOut),
+    (b"%n", 1, FormatWhy::LeftOut),
+    (b"%0$d", 1, FormatWhy::BadNumber),
+    (b"%-#d", 2, FormatWhy::BadFlag),
+    (b"%- 5u", 2, FormatWhy::BadFlag),
+    (b"%#s", 1, FormatWhy::BadFlag),
+    (b"%0.3c", 1, FormatWhy::BadFlag),
+    (b"%-7.c", 3, FormatWhy::BadFlag),
+    (b"%1$ x", 3, FormatWhy::BadFlag),
+    (b"%.*d", 2, FormatWhy::LeftOut),
+    (b"%5*d", 2, FormatWhy::LeftOut),
+    (b"%Lf", 1, FormatWhy::LeftOut),
+    (b"%.3f", 3, FormatWhy::LeftOut),
+    (b"%p", 1, FormatWhy::LeftOut),
+    (b"%ls", 2, FormatWhy::LeftOut),
+    (b"%lc", 2, FormatWhy::LeftOut),
+    (b"%hhs", 3, FormatWhy::BadLength),
+    (b"%m", 1, FormatWhy::UnknownLetter),
+    (b"%[a]", 1, FormatWhy::UnknownLetter),
+    (b"%b", 1, FormatWhy::UnknownLetter),
+    (b"%5%", 2, FormatWhy::UnknownLetter),
+    (b"%-1$d", 3, FormatWhy::UnknownLetter),
+    (b"%70000", 1, FormatWhy::TooWide),
+    (b"%+065536d", 3, FormatWhy::TooWide),
+    (b"%65536.256u", 1, FormatWhy::TooWide),
+    (b"%.256", 2, FormatWhy::PrecisionTooLarge),
+    (b"%33$d", 1, FormatWhy::BadNumber),
+    (b"%-05.3ll", 8, FormatWhy::Truncated),
+    (b"%d\0", 2, FormatWhy::Nul),
+    (b"%.\0", 2, FormatWhy::Nul),
+    (b"%1$d%d", 4, FormatWhy::MixedNumbering),
+    (b"%1$d%1$d", 4, FormatWhy::NumberTwice),
+    (b"%1$d%3$s", 4, FormatWhy::NumberGap),
+];
+
 #[test]
 fn finds_print_faults(rt: HostRuntime) -> Result<(), Fail> {
-    let rows: [(&[u8], u16, FormatWhy); 38] = [
-        (b"%+u", 1, FormatWhy::BadFlag),
-        (b"%05s", 1, FormatWhy::BadFlag),
-        (b"%.3c", 1, FormatWhy::BadFlag),
-        (b"%.300d", 2, FormatWhy::PrecisionTooLarge),
-        (b"%'d", 1, FormatWhy::LeftOut),
-        (b"%*d", 1, FormatWhy::LeftOut),
-        (b"%n", 1, FormatWhy::LeftOut),
-        (b"%0$d", 1, FormatWhy::BadNumber),
-        (b"%-#d", 2, FormatWhy::BadFlag),
-        (b"%- 5u", 2, FormatWhy::BadFlag),
-        (b"%#s", 1, FormatWhy::BadFlag),
-        (b"%0.3c", 1, FormatWhy::BadFlag),
-        (b"%-7.c", 3, FormatWhy::BadFlag),
-        (b"%1$ x", 3, FormatWhy::BadFlag),
-        (b"%.*d", 2, FormatWhy::LeftOut),
-        (b"%5*d", 2, FormatWhy::LeftOut),
-        (b"%Lf", 1, FormatWhy::LeftOut),
-        (b"%.3f", 3, FormatWhy::LeftOut),
-        (b"%p", 1, FormatWhy::LeftOut),
-        (b"%ls", 2, FormatWhy::LeftOut),
-        (b"%lc", 2, FormatWhy::LeftOut),
-        (b"%hhs", 3, FormatWhy::BadLength),
-        (b"%m", 1, FormatWhy::UnknownLetter),
-        (b"%[a]", 1, FormatWhy::UnknownLetter),
-        (b"%b", 1, FormatWhy::UnknownLetter),
-        (b"%5%", 2, FormatWhy::UnknownLetter),
-        (b"%-1$d", 3, FormatWhy::UnknownLetter),
-        (b"%70000", 1, FormatWhy::TooWide),
-        (b"%+065536d", 3, FormatWhy::TooWide),
-        (b"%65536.256u", 1, FormatWhy::TooWide),
-        (b"%.256", 2, FormatWhy::PrecisionTooLarge),
-        (b"%33$d", 1, FormatWhy::BadNumber),
-        (b"%-05.3ll", 8, FormatWhy::Truncated),
-        (b"%d\0", 2, FormatWhy::Nul),
-        (b"%.\0", 2, FormatWhy::Nul),
-        (b"%1$d%d", 4, FormatWhy::MixedNumbering),
-        (b"%1$d%1$d", 4, FormatWhy::NumberTwice),
-        (b"%1$d%3$s", 4, FormatWhy::NumberGap),
-    ];
-    for (text, at, why) in rows {
-        assert_eq!(rt;
-            fault(rt.alloc(), text),
-            Some(FormatFault { at, why }),
-            "{why:?} at {at}"
+    for (text, at, why) in FAULTS {
+        is(
+            &rt,
+            &fault(rt.alloc(), text),
+            &Some(FormatFault { at, why }),
+            text,
         );
     }
     Ok(())

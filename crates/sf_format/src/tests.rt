@@ -2,7 +2,14 @@
 use crate::{Base, Conversion, Directive, FormatFault, FormatWhy, Profile, ScanFormat, Shape};
 use sf_base::{ByteSet, Kind};
 use std::alloc::Global;
+use std::fmt::Debug;
+use std::process::Abort;
 use std::test::Fail;
+
+/// What is found is what is wanted; else the text is named.
+pub(crate) fn is<T: Debug + PartialEq>(rt: &impl Abort, found: &T, wanted: &T, text: &[u8]) {
+    assert_eq!(rt; found, wanted, "of {text:?}");
+}
 
 /// What a conversion takes, without its set.
 #[derive(Clone, Copy, Debug, PartialEq, Eq)]
@@ -96,31 +103,33 @@ fn parses(rt: HostRuntime) -> Result<(), Fail> {
     Ok(())
 }
 
+/// Formats of one conversion, with what is told of it.
+const CONVERSIONS: [(&[u8], Told); 13] = [
+    (
+        b"%010d",
+        (Family::Int(Base::Dec), Kind::I32, Some(10), Some(1)),
+    ),
+    (b"%hhd", (Family::Int(Base::Dec), Kind::I8, None, Some(1))),
+    (b"%hi", (Family::Int(Base::Auto), Kind::I16, None, Some(1))),
+    (b"%lu", (Family::Int(Base::Dec), Kind::U64, None, Some(1))),
+    (b"%hho", (Family::Int(Base::Oct), Kind::U8, None, Some(1))),
+    (b"%llx", (Family::Int(Base::Hex), Kind::U64, None, Some(1))),
+    (b"%hX", (Family::Int(Base::Hex), Kind::U16, None, Some(1))),
+    (b"%*jd", (Family::Int(Base::Dec), Kind::I64, None, None)),
+    (b"%n", (Family::Count, Kind::I32, None, Some(1))),
+    (b"%c", (Family::Chars, Kind::Text, Some(1), Some(1))),
+    (b"%1$3c", (Family::Chars, Kind::Text, Some(3), Some(1))),
+    (b"%*s", (Family::Text, Kind::Text, None, None)),
+    (
+        b"%65535[a]",
+        (Family::Set, Kind::Text, Some(65535), Some(1)),
+    ),
+];
+
 #[test]
 fn tells_conversions(rt: HostRuntime) -> Result<(), Fail> {
-    let rows: [(&[u8], Told); 13] = [
-        (
-            b"%010d",
-            (Family::Int(Base::Dec), Kind::I32, Some(10), Some(1)),
-        ),
-        (b"%hhd", (Family::Int(Base::Dec), Kind::I8, None, Some(1))),
-        (b"%hi", (Family::Int(Base::Auto), Kind::I16, None, Some(1))),
-        (b"%lu", (Family::Int(Base::Dec), Kind::U64, None, Some(1))),
-        (b"%hho", (Family::Int(Base::Oct), Kind::U8, None, Some(1))),
-        (b"%llx", (Family::Int(Base::Hex), Kind::U64, None, Some(1))),
-        (b"%hX", (Family::Int(Base::Hex), Kind::U16, None, Some(1))),
-        (b"%*jd", (Family::Int(Base::Dec), Kind::I64, None, None)),
-        (b"%n", (Family::Count, Kind::I32, None, Some(1))),
-        (b"%c", (Family::Chars, Kind::Text, Some(1), Some(1))),
-        (b"%1$3c", (Family::Chars, Kind::Text, Some(3), Some(1))),
-        (b"%*s", (Family::Text, Kind::Text, None, None)),
-        (
-            b"%65535[a]",
-            (Family::Set, Kind::Text, Some(65535), Some(1)),
-        ),
-    ];
-    for (text, want) in rows {
-        assert_eq!(rt; only(rt.alloc(), text)?, Some(want), "{want:?}");
+    for (text, wanted) in CONVERSIONS {
+        is(&rt, &only(rt.alloc(), text)?, &Some(wanted), text);
     }
     Ok(())
 }
@@ -146,18 +155,20 @@ fn assigns_slots_by_number(rt: HostRuntime) -> Result<(), Fail> {
     Ok(())
 }
 
+/// Formats with the number of their destinations.
+const DESTINATIONS: [(&[u8], u8); 5] = [
+    (b"%d, %d", 2),
+    (b"", 0),
+    (b"%%%*d%%", 0),
+    (b"%3d,%*s", 1),
+    (b"%3$d%1$n%2$[a]", 3),
+];
+
 #[test]
 fn counts_destinations(rt: HostRuntime) -> Result<(), Fail> {
-    let rows: [(&[u8], u8); 5] = [
-        (b"%d, %d", 2),
-        (b"", 0),
-        (b"%%%*d%%", 0),
-        (b"%3d,%*s", 1),
-        (b"%3$d%1$n%2$[a]", 3),
-    ];
-    for (text, want) in rows {
+    for (text, wanted) in DESTINATIONS {
         let format = ScanFormat::parse(rt.alloc(), Profile::One, text)?;
-        assert_eq!(rt; format.destinations(), want);
+        is(&rt, &format.destinations(), &wanted, text);
     }
     Ok(())
 }
@@ -165,14 +176,14 @@ fn counts_destinations(rt: HostRuntime) -> Result<(), Fail> {
 #[test]
 fn tells_kinds(rt: HostRuntime) -> Result<(), Fail> {
     let format = ScanFormat::parse(rt.alloc(), Profile::One, b"%d, %hhu")?;
-    for (slot, want) in [
-        (0, None),
-        (1, Some(Kind::I32)),
-        (2, Some(Kind::U8)),
-        (3, None),
-    ] {
-        assert_eq!(rt; format.kind(slot), want, "slot {slot}");
-    }
+    let kinds = [
+        format.kind(0),
+        format.kind(1),
+        format.kind(2),
+        format.kind(3),
+    ];
+    let wanted = [None, Some(Kind::I32), Some(Kind::U8), None];
+    is(&rt, &kinds, &wanted, b"%d, %hhu");
     Ok(())
 }
 
@@ -185,26 +196,33 @@ fn has_exactly(set: &ByteSet, members: &[u8]) -> bool {
     true
 }
 
+/// Whether the format is one set, with exactly these members.
+fn has_members(alloc: Global, text: &[u8], members: &[u8]) -> Result<bool, Fail> {
+    let format = ScanFormat::parse(alloc, Profile::One, text)?;
+    Ok(match format.directives() {
+        [Directive::Conv(conversion)] => match &conversion.shape {
+            Shape::Set(set) => has_exactly(set, members),
+            _ => false,
+        },
+        _ => false,
+    })
+}
+
+/// Formats of one set, with its members.
+const SETS: [(&[u8], &[u8]); 7] = [
+    (b"%[]a-c]", b"]abc"),
+    (b"%[a-c-e]", b"abc-e"),
+    (b"%[]-a]", b"]^_`a"),
+    (b"%[a-]", b"a-"),
+    (b"%[-a]", b"-a"),
+    (b"%[a^]", b"a^"),
+    (b"%[b-b]", b"b"),
+];
+
 #[test]
 fn builds_sets(rt: HostRuntime) -> Result<(), Fail> {
-    let rows: [(&[u8], &[u8]); 7] = [
-        (b"%[]a-c]", b"]abc"),
-        (b"%[a-c-e]", b"abc-e"),
-        (b"%[]-a]", b"]^_`a"),
-        (b"%[a-]", b"a-"),
-        (b"%[-a]", b"-a"),
-        (b"%[a^]", b"a^"),
-        (b"%[b-b]", b"b"),
-    ];
-    for (text, want) in rows {
-        let format = ScanFormat::parse(rt.alloc(), Profile::One, text)?;
-        match format.directives() {
-            [Directive::Conv(conversion)] => match &conversion.shape {
-                Shape::Set(set) => assert!(rt; has_exactly(set, want)),
-                _ => panic!(rt; "another shape"),
-            },
-            _ => panic!(rt; "other directives"),
-        }
+    for (text, members) in SETS {
+        is(&rt, &has_members(rt.alloc(), text, members)?, &true, text);
     }
     Ok(())
 }
@@ -226,57 +244,60 @@ fn complements_sets(rt: HostRuntime) -> Result<(), Fail> {
     Ok(())
 }
 
+/// Texts that are no format, with the place of the first fault.
+const FAULTS: [(&[u8], u16, FormatWhy); 42] = [
+    (b"%[z-a]", 2, FormatWhy::BackwardRange),
+    (b"%0d", 1, FormatWhy::ZeroWidth),
+    (b"%*n", 2, FormatWhy::BadCount),
+    (b"%1$d%d", 4, FormatWhy::MixedNumbering),
+    (b"%d%1$d", 2, FormatWhy::MixedNumbering),
+    (b"%1$s%3$d", 4, FormatWhy::NumberGap),
+    (b"%1$s%1$d", 4, FormatWhy::NumberTwice),
+    (b"%33$d", 1, FormatWhy::BadNumber),
+    (b"%5", 2, FormatWhy::Truncated),
+    (b"%lc", 2, FormatWhy::LeftOut),
+    (b"%[abc", 1, FormatWhy::OpenSet),
+    (b"%hhs", 3, FormatWhy::BadLength),
+    (b"%70000d", 1, FormatWhy::TooWide),
+    (b"%000d", 1, FormatWhy::ZeroWidth),
+    (b"%hhls", 3, FormatWhy::UnknownLetter),
+    (b"%5%", 2, FormatWhy::UnknownLetter),
+    (b"%*3$d", 3, FormatWhy::UnknownLetter),
+    (b"%1$*d", 3, FormatWhy::BadNumber),
+    (b"%0$d", 1, FormatWhy::BadNumber),
+    (b"%Lf", 1, FormatWhy::LeftOut),
+    (b"%m[a]", 1, FormatWhy::LeftOut),
+    (b"%[^]", 1, FormatWhy::OpenSet),
+    (b"%[]", 1, FormatWhy::OpenSet),
+    (b"%%%", 3, FormatWhy::Truncated),
+    (b"%2$d", 0, FormatWhy::NumberGap),
+    (b"%3$d%3$d", 4, FormatWhy::NumberTwice),
+    (b"%99999999999999999999$d", 1, FormatWhy::BadNumber),
+    (b"%70000", 1, FormatWhy::TooWide),
+    (b"%65536c", 1, FormatWhy::TooWide),
+    (b"%b", 1, FormatWhy::UnknownLetter),
+    (b"%", 1, FormatWhy::Truncated),
+    (b"a%", 2, FormatWhy::Truncated),
+    (b"% d", 1, FormatWhy::UnknownLetter),
+    (b"%3n", 2, FormatWhy::BadCount),
+    (b"%l[a]", 2, FormatWhy::LeftOut),
+    (b"%ts", 2, FormatWhy::BadLength),
+    (b"\0%x", 0, FormatWhy::Nul),
+    (b"%\0", 1, FormatWhy::Nul),
+    (b"%d \0", 3, FormatWhy::Nul),
+    (b"%[a\0]", 3, FormatWhy::Nul),
+    (b"%[a\0", 3, FormatWhy::Nul),
+    (b"%2$d%k", 5, FormatWhy::UnknownLetter),
+];
+
 #[test]
 fn finds_faults(rt: HostRuntime) -> Result<(), Fail> {
-    let rows: [(&[u8], u16, FormatWhy); 42] = [
-        (b"%[z-a]", 2, FormatWhy::BackwardRange),
-        (b"%0d", 1, FormatWhy::ZeroWidth),
-        (b"%*n", 2, FormatWhy::BadCount),
-        (b"%1$d%d", 4, FormatWhy::MixedNumbering),
-        (b"%d%1$d", 2, FormatWhy::MixedNumbering),
-        (b"%1$s%3$d", 4, FormatWhy::NumberGap),
-        (b"%1$s%1$d", 4, FormatWhy::NumberTwice),
-        (b"%33$d", 1, FormatWhy::BadNumber),
-        (b"%5", 2, FormatWhy::Truncated),
-        (b"%lc", 2, FormatWhy::LeftOut),
-        (b"%[abc", 1, FormatWhy::OpenSet),
-        (b"%hhs", 3, FormatWhy::BadLength),
-        (b"%70000d", 1, FormatWhy::TooWide),
-        (b"%000d", 1, FormatWhy::ZeroWidth),
-        (b"%hhls", 3, FormatWhy::UnknownLetter),
-        (b"%5%", 2, FormatWhy::UnknownLetter),
-        (b"%*3$d", 3, FormatWhy::UnknownLetter),
-        (b"%1$*d", 3, FormatWhy::BadNumber),
-        (b"%0$d", 1, FormatWhy::BadNumber),
-        (b"%Lf", 1, FormatWhy::LeftOut),
-        (b"%m[a]", 1, FormatWhy::LeftOut),
-        (b"%[^]", 1, FormatWhy::OpenSet),
-        (b"%[]", 1, FormatWhy::OpenSet),
-        (b"%%%", 3, FormatWhy::Truncated),
-        (b"%2$d", 0, FormatWhy::NumberGap),
-        (b"%3$d%3$d", 4, FormatWhy::NumberTwice),
-        (b"%99999999999999999999$d", 1, FormatWhy::BadNumber),
-        (b"%70000", 1, FormatWhy::TooWide),
-        (b"%65536c", 1, FormatWhy::TooWide),
-        (b"%b", 1, FormatWhy::UnknownLetter),
-        (b"%", 1, FormatWhy::Truncated),
-        (b"a%", 2, FormatWhy::Truncated),
-        (b"% d", 1, FormatWhy::UnknownLetter),
-        (b"%3n", 2, FormatWhy::BadCount),
-        (b"%l[a]", 2, FormatWhy::LeftOut),
-        (b"%ts", 2, FormatWhy::BadLength),
-        (b"\0%x", 0, FormatWhy::Nul),
-        (b"%\0", 1, FormatWhy::Nul),
-        (b"%d \0", 3, FormatWhy::Nul),
-        (b"%[a\0]", 3, FormatWhy::Nul),
-        (b"%[a\0", 3, FormatWhy::Nul),
-        (b"%2$d%k", 5, FormatWhy::UnknownLetter),
-    ];
-    for (text, at, why) in rows {
-        assert_eq!(rt;
-            fault(rt.alloc(), text),
-            Some(FormatFault { at, why }),
-            "{why:?} at {at}"
+    for (text, at, why) in FAULTS {
+        is(
+            &rt,
+            &fault(rt.alloc(), text),
+            &Some(FormatFault { at, why }),
+            text,
         );
     }
     Ok(())
@@ -332,21 +353,23 @@ fn takes_32_destinations(rt: HostRuntime) -> Result<(), Fail> {
     Ok(())
 }
 
+/// Formats with the sum of the widths of their texts.
+const WIDTH_SUMS: [(&[u8], Option<u32>); 8] = [
+    (b"", Some(0)),
+    (b"%3d,%*s", Some(0)),
+    (b"%c%3s%5[a]", Some(9)),
+    (b"%c%s", None),
+    (b"%[a]", None),
+    (b"%*7s%2c", Some(2)),
+    (b"%9d%n", Some(0)),
+    (b"%2$4s%1$c", Some(5)),
+];
+
 #[test]
 fn sums_widths(rt: HostRuntime) -> Result<(), Fail> {
-    let rows: [(&[u8], Option<u32>); 8] = [
-        (b"", Some(0)),
-        (b"%3d,%*s", Some(0)),
-        (b"%c%3s%5[a]", Some(9)),
-        (b"%c%s", None),
-        (b"%[a]", None),
-        (b"%*7s%2c", Some(2)),
-        (b"%9d%n", Some(0)),
-        (b"%2$4s%1$c", Some(5)),
-    ];
-    for (text, want) in rows {
+    for (text, wanted) in WIDTH_SUMS {
         let format = ScanFormat::parse(rt.alloc(), Profile::One, text)?;
-        assert_eq!(rt; format.width_sum(), want);
+        is(&rt, &format.width_sum(), &wanted, text);
     }
     let text = repeated(rt.alloc(), b"%65535s", 32)?;
     let format = ScanFormat::parse(rt.alloc(), Profile::One, &text)?;
