@@ -2,12 +2,13 @@
 ghost use Rattle.std.specs.Prelude.{◌≡◌, ◌≤◌};
 ghost use Rattle.sf_base.specs.Kept.{nothing_kept};
 
+use crate::tests::is;
 use crate::{FixedStore, HeapStore, Store, Value, push_each};
 use std::process::Abort;
 use std::test::Fail;
 
-/// Calls on an empty store, and what it then has in its slots.
-fn script<S: Store>(rt: &(impl Abort + AllocGlobal), store: &mut S) -> Result<(), Fail>
+/// Calls on an empty store: how many bytes of the last piece were pushed.
+fn script<S: Store>(store: &mut S) -> Result<usize, Fail>
     requires slots { 5 ≤ S.slots }
     requires empty { S.kept store.old ≡ nothing_kept (S.kept store.old).room }
 {
@@ -21,20 +22,26 @@ fn script<S: Store>(rt: &(impl Abort + AllocGlobal), store: &mut S) -> Result<()
     store.drop_text();
     store.open_text(4);
     store.set(5, Value::U8(255));
-    assert_eq!(rt; push_each(store, b"de"), 2);
+    let pushed = push_each(store, b"de");
     store.close_text();
-    for (slot, want) in [
-        (0u8, None),
-        (1, Some(Value::Text(b"abc"))),
-        (2, Some(Value::I64(-9))),
-        (3, None),
-        (4, Some(Value::Text(b"de"))),
-        (5, Some(Value::U8(255))),
-        (6, None),
-    ] {
-        assert_eq!(rt; store.value(slot), want, "in slot {slot}");
+    Ok(pushed)
+}
+
+/// What the slots then have.
+const KEPT: [(u8, Option<Value<'static>>); 7] = [
+    (0, None),
+    (1, Some(Value::Text(b"abc"))),
+    (2, Some(Value::I64(-9))),
+    (3, None),
+    (4, Some(Value::Text(b"de"))),
+    (5, Some(Value::U8(255))),
+    (6, None),
+];
+
+fn is_kept<S: Store>(rt: &impl Abort, store: &S) {
+    for (slot, value) in KEPT {
+        is(rt, &store.value(slot), &value, &slot);
     }
-    Ok(())
 }
 
 #[test]
@@ -44,10 +51,12 @@ fn stores_answer_alike(rt: HostRuntime) -> Result<(), Fail> {
     for _ in 0..2 {
         heap.clear();
         assert!(rt; heap.room() >= 9);
-        script(&rt, &mut heap)?;
+        assert_eq!(rt; script(&mut heap)?, 2);
+        is_kept(&rt, &heap);
         fixed.clear();
         assert_eq!(rt; fixed.room(), 9);
-        script(&rt, &mut fixed)?;
+        assert_eq!(rt; script(&mut fixed)?, 2);
+        is_kept(&rt, &fixed);
         assert_eq!(rt; fixed.room(), 4);
     }
     Ok(())

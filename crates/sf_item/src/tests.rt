@@ -5,6 +5,8 @@ ghost use Rattle.sf_item.specs.Tests.{has_item};
 use crate::{ItemEnd, ItemScan, Step};
 use sf_base::{ByteSet, Kind};
 use sf_format::{Base, Conversion, Shape};
+use std::fmt::Debug;
+use std::process::Abort;
 
 fn integer(negative: bool, magnitude: u64) -> ItemEnd {
     ItemEnd::Integer {
@@ -14,12 +16,40 @@ fn integer(negative: bool, magnitude: u64) -> ItemEnd {
     }
 }
 
-fn overflowed(negative: bool) -> ItemEnd {
-    ItemEnd::Integer {
-        negative,
-        magnitude: 0,
-        overflowed: true,
-    }
+/// What an item is, in the few words of a row.
+#[derive(Clone, Copy)]
+enum Found {
+    Empty,
+    Unmatched,
+    Matched,
+    /// Whether a minus stands there, and the number.
+    Integer(bool, u64),
+    /// Whether a minus stands before a number that is too great.
+    Overflowed(bool),
+}
+
+/// How many bytes of a text are taken, whether the item is then full, and what it is.
+type Wanted = (usize, bool, Found);
+
+fn ends(wanted: Wanted) -> (usize, bool, ItemEnd) {
+    let (count, full, found) = wanted;
+    let end = match found {
+        Found::Empty => ItemEnd::Empty,
+        Found::Unmatched => ItemEnd::Unmatched,
+        Found::Matched => ItemEnd::Matched,
+        Found::Integer(negative, magnitude) => integer(negative, magnitude),
+        Found::Overflowed(negative) => ItemEnd::Integer {
+            negative,
+            magnitude: 0,
+            overflowed: true,
+        },
+    };
+    (count, full, end)
+}
+
+/// What is found is what is wanted; else the place is named.
+fn is<T: Debug + PartialEq>(rt: &impl Abort, found: &T, wanted: &T, place: &impl Debug) {
+    assert_eq!(rt; found, wanted, "at {place:?}");
 }
 
 fn conversion_of(shape: Shape, width: Option<u16>) -> Conversion
@@ -67,112 +97,172 @@ fn chars_of(width: Option<u16>, text: &[u8]) -> (usize, bool, ItemEnd) {
     taken(ItemScan::start(&conversion), text)
 }
 
+const FRONTS: [(Base, Option<u16>, &str, Wanted); 18] = [
+    (Base::Dec, None, "", (0, false, Found::Empty)),
+    (Base::Dec, None, " 5", (0, false, Found::Empty)),
+    (Base::Dec, None, "-", (1, false, Found::Unmatched)),
+    (Base::Dec, None, "+-5", (1, false, Found::Unmatched)),
+    (
+        Base::Dec,
+        None,
+        "-12;",
+        (3, false, Found::Integer(true, 12)),
+    ),
+    (Base::Dec, None, "0x1", (1, false, Found::Integer(false, 0))),
+    (Base::Dec, None, "09", (2, false, Found::Integer(false, 9))),
+    (
+        Base::Oct,
+        None,
+        "178",
+        (2, false, Found::Integer(false, 15)),
+    ),
+    (Base::Oct, None, "08", (1, false, Found::Integer(false, 0))),
+    (
+        Base::Hex,
+        None,
+        "+0xF",
+        (4, false, Found::Integer(false, 15)),
+    ),
+    (Base::Hex, None, "0xg", (2, false, Found::Unmatched)),
+    (Base::Hex, None, "0f", (2, false, Found::Integer(false, 15))),
+    (Base::Auto, None, "09", (1, false, Found::Integer(false, 0))),
+    (Base::Auto, None, "0b", (1, false, Found::Integer(false, 0))),
+    (
+        Base::Auto,
+        None,
+        "019",
+        (2, false, Found::Integer(false, 1)),
+    ),
+    (
+        Base::Auto,
+        None,
+        "19",
+        (2, false, Found::Integer(false, 19)),
+    ),
+    (
+        Base::Auto,
+        None,
+        "-0X1fG",
+        (5, false, Found::Integer(true, 31)),
+    ),
+    (Base::Auto, None, "0xx", (2, false, Found::Unmatched)),
+];
+
 #[test]
 fn items_are_the_longest_fronts(rt: HostRuntime) {
-    for (base, width, text, want) in [
-        (Base::Dec, None, "", (0, false, ItemEnd::Empty)),
-        (Base::Dec, None, " 5", (0, false, ItemEnd::Empty)),
-        (Base::Dec, None, "-", (1, false, ItemEnd::Unmatched)),
-        (Base::Dec, None, "+-5", (1, false, ItemEnd::Unmatched)),
-        (Base::Dec, None, "-12;", (3, false, integer(true, 12))),
-        (Base::Dec, None, "0x1", (1, false, integer(false, 0))),
-        (Base::Dec, None, "09", (2, false, integer(false, 9))),
-        (Base::Oct, None, "178", (2, false, integer(false, 15))),
-        (Base::Oct, None, "08", (1, false, integer(false, 0))),
-        (Base::Hex, None, "+0xF", (4, false, integer(false, 15))),
-        (Base::Hex, None, "0xg", (2, false, ItemEnd::Unmatched)),
-        (Base::Hex, None, "0f", (2, false, integer(false, 15))),
-        (Base::Auto, None, "09", (1, false, integer(false, 0))),
-        (Base::Auto, None, "0b", (1, false, integer(false, 0))),
-        (Base::Auto, None, "019", (2, false, integer(false, 1))),
-        (Base::Auto, None, "19", (2, false, integer(false, 19))),
-        (Base::Auto, None, "-0X1fG", (5, false, integer(true, 31))),
-        (Base::Auto, None, "0xx", (2, false, ItemEnd::Unmatched)),
-    ] {
-        assert_eq!(rt; item_of(base, width, text.as_bytes()), want, "at {text}");
+    for (base, width, text, want) in FRONTS {
+        is(
+            &rt,
+            &item_of(base, width, text.as_bytes()),
+            &ends(want),
+            &text,
+        );
     }
 }
+
+const WITHIN: [(Base, u16, &str, Wanted); 6] = [
+    (Base::Hex, 2, "0x1", (2, true, Found::Unmatched)),
+    (Base::Hex, 3, "0x1", (3, true, Found::Integer(false, 1))),
+    (Base::Dec, 1, "12", (1, true, Found::Integer(false, 1))),
+    (Base::Dec, 1, "-2", (1, true, Found::Unmatched)),
+    (Base::Dec, 3, "12", (2, false, Found::Integer(false, 12))),
+    (
+        Base::Dec,
+        65535,
+        "12",
+        (2, false, Found::Integer(false, 12)),
+    ),
+];
 
 #[test]
 fn the_width_bounds_what_is_taken(rt: HostRuntime) {
-    for (base, width, text, want) in [
-        (Base::Hex, 2u16, "0x1", (2, true, ItemEnd::Unmatched)),
-        (Base::Hex, 3, "0x1", (3, true, integer(false, 1))),
-        (Base::Dec, 1, "12", (1, true, integer(false, 1))),
-        (Base::Dec, 1, "-2", (1, true, ItemEnd::Unmatched)),
-        (Base::Dec, 3, "12", (2, false, integer(false, 12))),
-        (Base::Dec, 65535, "12", (2, false, integer(false, 12))),
-    ] {
-        assert_eq!(rt;
-            item_of(base, Some(width), text.as_bytes()),
-            want,
-            "{text} in {width}"
+    for (base, width, text, want) in WITHIN {
+        is(
+            &rt,
+            &item_of(base, Some(width), text.as_bytes()),
+            &ends(want),
+            &(text, width),
         );
     }
 }
+
+const LONG: [(&str, Wanted); 4] = [
+    (
+        "0000000000000000000000000000007",
+        (31, false, Found::Integer(false, 7)),
+    ),
+    (
+        "18446744073709551615",
+        (20, false, Found::Integer(false, 18446744073709551615)),
+    ),
+    (
+        "18446744073709551616",
+        (20, false, Found::Overflowed(false)),
+    ),
+    (
+        "-184467440737095516160;",
+        (22, false, Found::Overflowed(true)),
+    ),
+];
 
 #[test]
 fn numbers_may_be_long(rt: HostRuntime) {
-    for (text, want) in [
-        (
-            "0000000000000000000000000000007",
-            (31, false, integer(false, 7)),
-        ),
-        (
-            "18446744073709551615",
-            (20, false, integer(false, 18446744073709551615)),
-        ),
-        ("18446744073709551616", (20, false, overflowed(false))),
-        ("-184467440737095516160;", (22, false, overflowed(true))),
-    ] {
-        assert_eq!(rt;
-            item_of(Base::Dec, None, text.as_bytes()),
-            want,
-            "at {text}"
+    for (text, want) in LONG {
+        is(
+            &rt,
+            &item_of(Base::Dec, None, text.as_bytes()),
+            &ends(want),
+            &text,
         );
     }
 }
 
+const TEXTS: [(Option<u16>, &str, Wanted); 8] = [
+    (None, " a", (0, false, Found::Empty)),
+    (None, "", (0, false, Found::Empty)),
+    (None, "+-5\n", (3, false, Found::Matched)),
+    (None, "a\u{b}b", (1, false, Found::Matched)),
+    (None, "\u{0}\u{e}\u{7f} ", (3, false, Found::Matched)),
+    (Some(5), "abcdefg", (5, true, Found::Matched)),
+    (Some(5), "abc", (3, false, Found::Matched)),
+    (Some(1), " ", (0, false, Found::Empty)),
+];
+
 #[test]
 fn texts_end_at_white_space(rt: HostRuntime) {
-    for (width, text, want) in [
-        (None, " a", (0usize, false, ItemEnd::Empty)),
-        (None, "", (0, false, ItemEnd::Empty)),
-        (None, "+-5\n", (3, false, ItemEnd::Matched)),
-        (None, "a\u{b}b", (1, false, ItemEnd::Matched)),
-        (None, "\u{0}\u{e}\u{7f} ", (3, false, ItemEnd::Matched)),
-        (Some(5u16), "abcdefg", (5, true, ItemEnd::Matched)),
-        (Some(5), "abc", (3, false, ItemEnd::Matched)),
-        (Some(1), " ", (0, false, ItemEnd::Empty)),
-    ] {
-        assert_eq!(rt; text_of(width, text.as_bytes()), want, "at {text}");
+    for (width, text, want) in TEXTS {
+        is(&rt, &text_of(width, text.as_bytes()), &ends(want), &text);
     }
 }
+
+const MEMBERS: [(Option<u16>, &str, Wanted); 5] = [
+    (None, "1", (1, false, Found::Matched)),
+    (None, " ", (0, false, Found::Empty)),
+    (None, "-1", (0, false, Found::Empty)),
+    (None, "0090a", (4, false, Found::Matched)),
+    (Some(2), "123", (2, true, Found::Matched)),
+];
 
 #[test]
 fn sets_take_their_members(rt: HostRuntime) {
-    for (width, text, want) in [
-        (None, "1", (1usize, false, ItemEnd::Matched)),
-        (None, " ", (0, false, ItemEnd::Empty)),
-        (None, "-1", (0, false, ItemEnd::Empty)),
-        (None, "0090a", (4, false, ItemEnd::Matched)),
-        (Some(2u16), "123", (2, true, ItemEnd::Matched)),
-    ] {
-        assert_eq!(rt; digits_of(width, text.as_bytes()), want, "at {text}");
+    for (width, text, want) in MEMBERS {
+        is(&rt, &digits_of(width, text.as_bytes()), &ends(want), &text);
     }
 }
 
+const CHARACTERS: [(Option<u16>, &str, Wanted); 6] = [
+    (Some(3), "", (0, false, Found::Empty)),
+    (Some(3), "ab", (2, false, Found::Unmatched)),
+    (Some(3), "ab ", (3, true, Found::Matched)),
+    (Some(3), " \n\tabc", (3, true, Found::Matched)),
+    (None, " b", (1, true, Found::Matched)),
+    (None, "", (0, false, Found::Empty)),
+];
+
 #[test]
 fn characters_are_counted(rt: HostRuntime) {
-    for (width, text, want) in [
-        (Some(3u16), "", (0usize, false, ItemEnd::Empty)),
-        (Some(3), "ab", (2, false, ItemEnd::Unmatched)),
-        (Some(3), "ab ", (3, true, ItemEnd::Matched)),
-        (Some(3), " \n\tabc", (3, true, ItemEnd::Matched)),
-        (None, " b", (1, true, ItemEnd::Matched)),
-        (None, "", (0, false, ItemEnd::Empty)),
-    ] {
-        assert_eq!(rt; chars_of(width, text.as_bytes()), want, "at {text}");
+    for (width, text, want) in CHARACTERS {
+        is(&rt, &chars_of(width, text.as_bytes()), &ends(want), &text);
     }
 }
 
@@ -236,99 +326,169 @@ fn pieces_are_taken(rt: HostRuntime) {
     assert_eq!(rt; scan.take_all(b"4"), 0usize);
 }
 
+const INTEGERS: [(Base, Option<u16>, &str, Wanted); 16] = [
+    (Base::Dec, None, "", (0, false, Found::Empty)),
+    (Base::Dec, None, "x1", (0, false, Found::Empty)),
+    (
+        Base::Dec,
+        None,
+        "-12;",
+        (3, false, Found::Integer(true, 12)),
+    ),
+    (
+        Base::Dec,
+        None,
+        "+7 8",
+        (2, false, Found::Integer(false, 7)),
+    ),
+    (Base::Dec, None, "+-5", (1, false, Found::Unmatched)),
+    (
+        Base::Oct,
+        None,
+        "0178",
+        (3, false, Found::Integer(false, 15)),
+    ),
+    (Base::Hex, None, "0xg", (2, false, Found::Unmatched)),
+    (
+        Base::Hex,
+        None,
+        "+0XfFz",
+        (5, false, Found::Integer(false, 255)),
+    ),
+    (
+        Base::Hex,
+        None,
+        "00x1",
+        (2, false, Found::Integer(false, 0)),
+    ),
+    (
+        Base::Auto,
+        None,
+        "-0x1fG",
+        (5, false, Found::Integer(true, 31)),
+    ),
+    (
+        Base::Auto,
+        None,
+        "0789",
+        (2, false, Found::Integer(false, 7)),
+    ),
+    (
+        Base::Auto,
+        None,
+        "1099a",
+        (4, false, Found::Integer(false, 1099)),
+    ),
+    (
+        Base::Dec,
+        Some(3),
+        "-1234",
+        (3, true, Found::Integer(true, 12)),
+    ),
+    (Base::Hex, Some(2), "0x1", (2, true, Found::Unmatched)),
+    (Base::Dec, Some(1), "+5", (1, true, Found::Unmatched)),
+    (
+        Base::Dec,
+        Some(65535),
+        "12 ",
+        (2, false, Found::Integer(false, 12)),
+    ),
+];
+
 #[test]
 fn pieces_of_integers_are_as_steps(rt: HostRuntime) {
-    for (base, width, text, want) in [
-        (Base::Dec, None, "", (0usize, false, ItemEnd::Empty)),
-        (Base::Dec, None, "x1", (0, false, ItemEnd::Empty)),
-        (Base::Dec, None, "-12;", (3, false, integer(true, 12))),
-        (Base::Dec, None, "+7 8", (2, false, integer(false, 7))),
-        (Base::Dec, None, "+-5", (1, false, ItemEnd::Unmatched)),
-        (Base::Oct, None, "0178", (3, false, integer(false, 15))),
-        (Base::Hex, None, "0xg", (2, false, ItemEnd::Unmatched)),
-        (Base::Hex, None, "+0XfFz", (5, false, integer(false, 255))),
-        (Base::Hex, None, "00x1", (2, false, integer(false, 0))),
-        (Base::Auto, None, "-0x1fG", (5, false, integer(true, 31))),
-        (Base::Auto, None, "0789", (2, false, integer(false, 7))),
-        (Base::Auto, None, "1099a", (4, false, integer(false, 1099))),
-        (Base::Dec, Some(3u16), "-1234", (3, true, integer(true, 12))),
-        (Base::Hex, Some(2), "0x1", (2, true, ItemEnd::Unmatched)),
-        (Base::Dec, Some(1), "+5", (1, true, ItemEnd::Unmatched)),
-        (
-            Base::Dec,
-            Some(65535),
-            "12 ",
-            (2, false, integer(false, 12)),
-        ),
-    ] {
-        assert!(rt; integer_each_way_is(base, width, text, want), "at {text}");
+    for (base, width, text, want) in INTEGERS {
+        is(
+            &rt,
+            &integer_each_way_is(base, width, text, ends(want)),
+            &true,
+            &text,
+        );
     }
 }
 
+const LONG_IN_PIECES: [(&str, Wanted); 11] = [
+    (
+        "0000000000000000000000000000007x",
+        (31, false, Found::Integer(false, 7)),
+    ),
+    (
+        "1844674407370955160;",
+        (19, false, Found::Integer(false, 1844674407370955160)),
+    ),
+    (
+        "1844674407370955161",
+        (19, false, Found::Integer(false, 1844674407370955161)),
+    ),
+    (
+        "1844674407370955162",
+        (19, false, Found::Integer(false, 1844674407370955162)),
+    ),
+    (
+        "9999999999999999999 ",
+        (19, false, Found::Integer(false, 9999999999999999999)),
+    ),
+    (
+        "18446744073709551609",
+        (20, false, Found::Integer(false, 18446744073709551609)),
+    ),
+    (
+        "18446744073709551615",
+        (20, false, Found::Integer(false, 18446744073709551615)),
+    ),
+    (
+        "000018446744073709551615 ",
+        (24, false, Found::Integer(false, 18446744073709551615)),
+    ),
+    (
+        "18446744073709551616",
+        (20, false, Found::Overflowed(false)),
+    ),
+    (
+        "-99999999999999999999",
+        (21, false, Found::Overflowed(true)),
+    ),
+    (
+        "184467440737095516150,",
+        (21, false, Found::Overflowed(false)),
+    ),
+];
+
+const LONG_IN_BASES: [(Base, &str, Wanted); 4] = [
+    (
+        Base::Hex,
+        "ffffffffffffffffg",
+        (16, false, Found::Integer(false, 18446744073709551615)),
+    ),
+    (
+        Base::Hex,
+        "0x10000000000000000",
+        (19, false, Found::Overflowed(false)),
+    ),
+    (
+        Base::Oct,
+        "1777777777777777777777",
+        (22, false, Found::Integer(false, 18446744073709551615)),
+    ),
+    (
+        Base::Oct,
+        "2000000000000000000000",
+        (22, false, Found::Overflowed(false)),
+    ),
+];
+
 #[test]
 fn pieces_of_long_numbers_are_as_steps(rt: HostRuntime) {
-    for (text, want) in [
-        (
-            "0000000000000000000000000000007x",
-            (31usize, false, integer(false, 7)),
-        ),
-        (
-            "1844674407370955160;",
-            (19, false, integer(false, 1844674407370955160)),
-        ),
-        (
-            "1844674407370955161",
-            (19, false, integer(false, 1844674407370955161)),
-        ),
-        (
-            "1844674407370955162",
-            (19, false, integer(false, 1844674407370955162)),
-        ),
-        (
-            "9999999999999999999 ",
-            (19, false, integer(false, 9999999999999999999)),
-        ),
-        (
-            "18446744073709551609",
-            (20, false, integer(false, 18446744073709551609)),
-        ),
-        (
-            "18446744073709551615",
-            (20, false, integer(false, 18446744073709551615)),
-        ),
-        (
-            "000018446744073709551615 ",
-            (24, false, integer(false, 18446744073709551615)),
-        ),
-        ("18446744073709551616", (20, false, overflowed(false))),
-        ("-99999999999999999999", (21, false, overflowed(true))),
-        ("184467440737095516150,", (21, false, overflowed(false))),
-    ] {
-        assert!(rt; digits_each_way_are(text, want), "at {text}");
+    for (text, want) in LONG_IN_PIECES {
+        is(&rt, &digits_each_way_are(text, ends(want)), &true, &text);
     }
-    for (base, text, want) in [
-        (
-            Base::Hex,
-            "ffffffffffffffffg",
-            (16usize, false, integer(false, 18446744073709551615)),
-        ),
-        (
-            Base::Hex,
-            "0x10000000000000000",
-            (19, false, overflowed(false)),
-        ),
-        (
-            Base::Oct,
-            "1777777777777777777777",
-            (22, false, integer(false, 18446744073709551615)),
-        ),
-        (
-            Base::Oct,
-            "2000000000000000000000",
-            (22, false, overflowed(false)),
-        ),
-    ] {
-        assert!(rt; integer_each_way_is(base, None, text, want), "at {text}");
+    for (base, text, want) in LONG_IN_BASES {
+        is(
+            &rt,
+            &integer_each_way_is(base, None, text, ends(want)),
+            &true,
+            &text,
+        );
     }
 }
 
@@ -344,43 +504,55 @@ fn texts_each_way_are(
     each_way_is(ItemScan::start(&conversion), text.as_bytes(), want)
 }
 
+const TEXTS_IN_PIECES: [(Option<u16>, &str, Wanted); 6] = [
+    (None, "", (0, false, Found::Empty)),
+    (None, " a", (0, false, Found::Empty)),
+    (None, "ab\u{b}b", (2, false, Found::Matched)),
+    (None, "abcdef", (6, false, Found::Matched)),
+    (Some(3), "abcdef", (3, true, Found::Matched)),
+    (Some(3), "ab cdef", (2, false, Found::Matched)),
+];
+
+const MEMBERS_IN_PIECES: [(Option<u16>, &str, Wanted); 4] = [
+    (None, "", (0, false, Found::Empty)),
+    (None, "-1", (0, false, Found::Empty)),
+    (None, "0090a", (4, false, Found::Matched)),
+    (Some(2), "123", (2, true, Found::Matched)),
+];
+
+const CHARACTERS_IN_PIECES: [(Option<u16>, &str, Wanted); 4] = [
+    (None, "", (0, false, Found::Empty)),
+    (None, " b", (1, true, Found::Matched)),
+    (Some(3), "a ", (2, false, Found::Unmatched)),
+    (Some(3), " \n\tabc", (3, true, Found::Matched)),
+];
+
 #[test]
 fn pieces_of_texts_are_as_steps(rt: HostRuntime) {
-    for (width, text, want) in [
-        (None, "", (0usize, false, ItemEnd::Empty)),
-        (None, " a", (0, false, ItemEnd::Empty)),
-        (None, "ab\u{b}b", (2, false, ItemEnd::Matched)),
-        (None, "abcdef", (6, false, ItemEnd::Matched)),
-        (Some(3u16), "abcdef", (3, true, ItemEnd::Matched)),
-        (Some(3), "ab cdef", (2, false, ItemEnd::Matched)),
-    ] {
-        assert!(rt;
-            texts_each_way_are(Shape::Text, width, text, want),
-            "at {text}"
+    for (width, text, want) in TEXTS_IN_PIECES {
+        is(
+            &rt,
+            &texts_each_way_are(Shape::Text, width, text, ends(want)),
+            &true,
+            &text,
         );
     }
-    for (width, text, want) in [
-        (None, "", (0usize, false, ItemEnd::Empty)),
-        (None, "-1", (0, false, ItemEnd::Empty)),
-        (None, "0090a", (4, false, ItemEnd::Matched)),
-        (Some(2u16), "123", (2, true, ItemEnd::Matched)),
-    ] {
+    for (width, text, want) in MEMBERS_IN_PIECES {
         let mut digits = ByteSet::empty();
         digits.insert_range(b'0', b'9');
-        assert!(rt;
-            texts_each_way_are(Shape::Set(digits), width, text, want),
-            "at {text}"
+        is(
+            &rt,
+            &texts_each_way_are(Shape::Set(digits), width, text, ends(want)),
+            &true,
+            &text,
         );
     }
-    for (width, text, want) in [
-        (None, "", (0usize, false, ItemEnd::Empty)),
-        (None, " b", (1, true, ItemEnd::Matched)),
-        (Some(3u16), "a ", (2, false, ItemEnd::Unmatched)),
-        (Some(3), " \n\tabc", (3, true, ItemEnd::Matched)),
-    ] {
-        assert!(rt;
-            texts_each_way_are(Shape::Chars, width, text, want),
-            "at {text}"
+    for (width, text, want) in CHARACTERS_IN_PIECES {
+        is(
+            &rt,
+            &texts_each_way_are(Shape::Chars, width, text, ends(want)),
+            &true,
+            &text,
         );
     }
 }
