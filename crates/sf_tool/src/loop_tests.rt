@@ -1,5 +1,8 @@
 //! Rows of the record loop: inputs in blocks, and devices that fail.
+ghost use Rattle.std.specs.Prelude.{◌≤◌};
+
 use super::*;
+use crate::tests::is;
 use sf_format::{Profile, ScanFormat};
 use sf_print::{ListSink, ScriptSink, Sink, WriteStep};
 use sf_read::{Lookahead, ReadStep, ScriptSource, SliceSource, Source, StdSource};
@@ -38,108 +41,100 @@ struct Row {
     fault: Option<ToolFault>,
 }
 
-/// The row, in the blocks of the lookahead.
-fn by_blocks<S: Source, const N: usize>(
-    rt: &(impl Abort + AllocGlobal),
-    row: &Row,
+/// The loop over a source by a format, into a list.
+fn listed<S: Source, const N: usize>(
+    alloc: Global,
     from: &mut Lookahead<S, N>,
-) -> Result<(), Fail> {
-    let mut out = ListSink::new(rt.alloc());
-    let end = scan(rt.alloc(), from, &mut out, row.format)?;
-    let name = row.format;
-    assert!(rt; out.bytes() == row.output.as_bytes(), "output of {name}");
-    assert_eq!(rt; end.records, row.records, "records of {name}");
-    assert!(rt; end.fault == row.fault, "fault of {name}");
+    format: &str,
+) -> Result<(ToolEnd, ListSink), Fail> {
+    let mut out = ListSink::new(alloc);
+    let end = scan(alloc, from, &mut out, format)?;
+    Ok((end, out))
+}
+
+/// The row by blocks of N bytes.
+fn by_blocks<const N: usize>(rt: &(impl Abort + AllocGlobal), row: &Row) -> Result<(), Fail>
+    requires few { N ≤ 4096 }
+    requires some { 1 ≤ N }
+{
+    let mut from = Lookahead::<SliceSource<'_>, N>::new(SliceSource::new(row.text));
+    let (end, out) = listed(rt.alloc(), &mut from, row.format)?;
+    is(rt, &out.bytes(), &row.output.as_bytes(), &row.format);
+    is(rt, &end.records, &row.records, &row.format);
+    is(rt, &end.fault, &row.fault, &row.format);
     Ok(())
 }
 
+const FAILED: Outcome = Outcome {
+    status: Status::MatchingFailure,
+    at: 2,
+    assigned: 1,
+    converted: 1,
+    used: 2,
+    met: None,
+};
+
+const SHORT: Outcome = Outcome {
+    status: Status::MatchingFailure,
+    at: 1,
+    assigned: 0,
+    converted: 0,
+    used: 1,
+    met: Some(Ending::End),
+};
+
+const ROWS: [Row; 5] = [
+    Row {
+        format: "%d,%d",
+        text: b"12,-7\n3,4\n",
+        output: "12 -7\n3 4\n",
+        records: 2,
+        fault: None,
+    },
+    Row {
+        format: "%d,%d",
+        text: b"1,2\n3;4\n",
+        output: "1 2\n",
+        records: 1,
+        fault: Some(ToolFault::Failed {
+            number: 2,
+            outcome: FAILED,
+        }),
+    },
+    Row {
+        format: "%n",
+        text: b"abc",
+        output: "",
+        records: 0,
+        fault: Some(ToolFault::Stalled { number: 1 }),
+    },
+    Row {
+        format: "%3c",
+        text: b"abcdef\n",
+        output: "\"abc\"\n\"def\"\n",
+        records: 2,
+        fault: Some(ToolFault::Failed {
+            number: 3,
+            outcome: SHORT,
+        }),
+    },
+    Row {
+        format: "%2$d %1$s",
+        text: b"7 ab\n-8 c\n",
+        output: "\"ab\" 7\n\"c\" -8\n",
+        records: 2,
+        fault: None,
+    },
+];
+
 #[test]
 fn rows_in_blocks(rt: HostRuntime) -> Result<(), Fail> {
-    let failed = Outcome {
-        status: Status::MatchingFailure,
-        at: 2,
-        assigned: 1,
-        converted: 1,
-        used: 2,
-        met: None,
-    };
-    let short = Outcome {
-        status: Status::MatchingFailure,
-        at: 1,
-        assigned: 0,
-        converted: 0,
-        used: 1,
-        met: Some(Ending::End),
-    };
-    let rows = [
-        Row {
-            format: "%d,%d",
-            text: b"12,-7\n3,4\n",
-            output: "12 -7\n3 4\n",
-            records: 2,
-            fault: None,
-        },
-        Row {
-            format: "%d,%d",
-            text: b"1,2\n3;4\n",
-            output: "1 2\n",
-            records: 1,
-            fault: Some(ToolFault::Failed {
-                number: 2,
-                outcome: failed,
-            }),
-        },
-        Row {
-            format: "%n",
-            text: b"abc",
-            output: "",
-            records: 0,
-            fault: Some(ToolFault::Stalled { number: 1 }),
-        },
-        Row {
-            format: "%3c",
-            text: b"abcdef\n",
-            output: "\"abc\"\n\"def\"\n",
-            records: 2,
-            fault: Some(ToolFault::Failed {
-                number: 3,
-                outcome: short,
-            }),
-        },
-        Row {
-            format: "%2$d %1$s",
-            text: b"7 ab\n-8 c\n",
-            output: "\"ab\" 7\n\"c\" -8\n",
-            records: 2,
-            fault: None,
-        },
-    ];
-    for row in &rows {
-        by_blocks(
-            &rt,
-            row,
-            &mut Lookahead::<_, 1>::new(SliceSource::new(row.text)),
-        )?;
-        by_blocks(
-            &rt,
-            row,
-            &mut Lookahead::<_, 2>::new(SliceSource::new(row.text)),
-        )?;
-        by_blocks(
-            &rt,
-            row,
-            &mut Lookahead::<_, 3>::new(SliceSource::new(row.text)),
-        )?;
-        by_blocks(
-            &rt,
-            row,
-            &mut Lookahead::<_, 7>::new(SliceSource::new(row.text)),
-        )?;
-        by_blocks(
-            &rt,
-            row,
-            &mut Lookahead::<_, 4096>::new(SliceSource::new(row.text)),
-        )?;
+    for row in &ROWS {
+        by_blocks::<1>(&rt, row)?;
+        by_blocks::<2>(&rt, row)?;
+        by_blocks::<3>(&rt, row)?;
+        by_blocks::<7>(&rt, row)?;
+        by_blocks::<4096>(&rt, row)?;
     }
     Ok(())
 }
@@ -173,44 +168,58 @@ fn front(lines: u32) -> &'static [u8] {
     }
 }
 
+/// The loop over TEXT where a read fails behind so many bytes: how it ends, the output, and how many reads failed.
+fn read_fails_behind(alloc: Global, at: usize) -> Result<(ToolEnd, ListSink, u64), Fail> {
+    let steps = [
+        ReadStep::Give(&TEXT[..at.min(TEXT.len())]),
+        ReadStep::Fail,
+        ReadStep::Give(TEXT),
+    ];
+    let mut from = Lookahead::<ScriptSource<'_>, 3>::new(ScriptSource::new(&steps));
+    let (end, out) = listed(alloc, &mut from, "%d,%d")?;
+    Ok((end, out, from.source().failures()))
+}
+
 #[test]
 fn each_read_fails_in_turn(rt: HostRuntime) -> Result<(), Fail> {
     for (at, (records, number)) in CUTS.into_iter().enumerate() {
-        let steps = [
-            ReadStep::Give(&TEXT[..at.min(TEXT.len())]),
-            ReadStep::Fail,
-            ReadStep::Give(TEXT),
-        ];
-        let mut from = Lookahead::<_, 3>::new(ScriptSource::new(&steps));
-        let mut out = ListSink::new(rt.alloc());
-        let end = scan(rt.alloc(), &mut from, &mut out, "%d,%d")?;
-        assert!(rt; out.bytes() == front(records), "output at {at}");
-        assert_eq!(rt; end.records, records, "records at {at}");
-        assert_eq!(rt; end.status, 3, "status at {at}");
-        assert!(rt;
-            end.fault == Some(ToolFault::Read { number }),
-            "fault at {at}"
-        );
-        assert_eq!(rt; from.source().failures(), 1, "failures at {at}");
+        let (end, out, failures) = read_fails_behind(rt.alloc(), at)?;
+        let wanted = ToolEnd {
+            status: 3,
+            records,
+            fault: Some(ToolFault::Read { number }),
+        };
+        is(&rt, &out.bytes(), &front(records), &at);
+        is(&rt, &end, &wanted, &at);
+        is(&rt, &failures, &1, &at);
     }
     Ok(())
+}
+
+/// The loop over TEXT into a sink that follows a script: how it ends, and the output.
+fn written<const N: usize>(
+    alloc: Global,
+    from: &mut Lookahead<SliceSource<'_>, N>,
+    steps: &[WriteStep],
+) -> Result<(ToolEnd, Vec<u8>), Fail> {
+    let mut out = ScriptSink::new(alloc, steps);
+    let end = scan(alloc, from, &mut out, "%d,%d")?;
+    Ok((end, out.bytes().to_vec(alloc)?))
 }
 
 #[test]
 fn each_write_fails_in_turn(rt: HostRuntime) -> Result<(), Fail> {
     for at in 0..LINES.len() {
+        let mut from = Lookahead::<SliceSource<'_>, 4096>::new(SliceSource::new(TEXT));
         let steps = [WriteStep::Accept(at), WriteStep::Fail];
-        let mut from = Lookahead::<_, 4096>::new(SliceSource::new(TEXT));
-        let mut out = ScriptSink::new(rt.alloc(), &steps);
-        let end = scan(rt.alloc(), &mut from, &mut out, "%d,%d")?;
-        let records = if at < 6 { 0 } else { 1 };
-        assert!(rt;
-            out.bytes() == &LINES[..at.min(LINES.len())],
-            "output at {at}"
-        );
-        assert_eq!(rt; end.records, records, "records at {at}");
-        assert_eq!(rt; end.status, 3, "status at {at}");
-        assert!(rt; end.fault == Some(ToolFault::Write), "fault at {at}");
+        let (end, output) = written(rt.alloc(), &mut from, &steps)?;
+        let wanted = ToolEnd {
+            status: 3,
+            records: if at < 6 { 0 } else { 1 },
+            fault: Some(ToolFault::Write),
+        };
+        is(&rt, &Some(output.as_slice()), &LINES.get(..at), &at);
+        is(&rt, &end, &wanted, &at);
     }
     Ok(())
 }
@@ -218,18 +227,16 @@ fn each_write_fails_in_turn(rt: HostRuntime) -> Result<(), Fail> {
 #[test]
 fn short_writes(rt: HostRuntime) -> Result<(), Fail> {
     for size in [1, 2, 3] {
+        let mut from = Lookahead::<SliceSource<'_>, 2>::new(SliceSource::new(TEXT));
         let steps = [WriteStep::Accept(size); 12];
-        let mut from = Lookahead::<_, 2>::new(SliceSource::new(TEXT));
-        let mut out = ScriptSink::new(rt.alloc(), &steps);
-        let end = scan(rt.alloc(), &mut from, &mut out, "%d,%d")?;
-        assert!(rt; out.bytes() == LINES);
-        assert!(rt;
-            end == ToolEnd {
-                status: 0,
-                records: 2,
-                fault: None
-            }
-        );
+        let (end, output) = written(rt.alloc(), &mut from, &steps)?;
+        let wanted = ToolEnd {
+            status: 0,
+            records: 2,
+            fault: None,
+        };
+        is(&rt, &output.as_slice(), &LINES, &size);
+        is(&rt, &end, &wanted, &size);
     }
     Ok(())
 }
@@ -237,24 +244,31 @@ fn short_writes(rt: HostRuntime) -> Result<(), Fail> {
 #[test]
 fn a_failing_read_behind_a_record(rt: HostRuntime) -> Result<(), Fail> {
     let steps = [ReadStep::Give(b"12"), ReadStep::Fail];
-    let mut from = Lookahead::<_, 4096>::new(ScriptSource::new(&steps));
-    let mut out = ListSink::new(rt.alloc());
-    let end = scan(rt.alloc(), &mut from, &mut out, "%d")?;
+    let mut from = Lookahead::<ScriptSource<'_>, 4096>::new(ScriptSource::new(&steps));
+    let (end, out) = listed(rt.alloc(), &mut from, "%d")?;
+    let wanted = ToolEnd {
+        status: 3,
+        records: 1,
+        fault: Some(ToolFault::Read { number: 1 }),
+    };
     assert!(rt; out.bytes() == b"12\n".as_slice());
-    assert_eq!(rt; end.records, 1);
-    assert_eq!(rt; end.status, 3);
-    assert!(rt; end.fault == Some(ToolFault::Read { number: 1 }));
+    assert_eq!(rt; end, wanted);
     Ok(())
+}
+
+/// The loop by `%d` over a text: how it ends, and what is held then.
+fn looped(alloc: Global, text: &[u8]) -> Result<(ToolEnd, Vec<u8>), Fail> {
+    let mut from = Lookahead::<SliceSource<'_>, 4096>::new(SliceSource::new(text));
+    let (end, _) = listed(alloc, &mut from, "%d")?;
+    Ok((end, from.held().to_vec(alloc)?))
 }
 
 #[test]
 fn the_rest_stays_unread(rt: HostRuntime) -> Result<(), Fail> {
-    let mut from = Lookahead::<_, 4096>::new(SliceSource::new(b"1 2 x 3"));
-    let mut out = ListSink::new(rt.alloc());
-    let end = scan(rt.alloc(), &mut from, &mut out, "%d")?;
+    let (end, held) = looped(rt.alloc(), b"1 2 x 3")?;
     assert_eq!(rt; end.records, 2);
     assert_eq!(rt; end.status, 1);
-    assert!(rt; from.held() == b"x 3".as_slice());
+    assert!(rt; held.as_slice() == b"x 3".as_slice());
     Ok(())
 }
 
@@ -269,20 +283,28 @@ impl Read for Blanks {
     }
 }
 
+const BLANKS_TOO_LONG: Outcome = Outcome {
+    status: Status::TooLong,
+    at: 1,
+    assigned: 0,
+    converted: 0,
+    used: 100,
+    met: None,
+};
+
+/// The loop by `%d` over endless blanks, under a limit of 100 bytes.
+fn limited(alloc: Global) -> Result<(ToolEnd, ListSink), Fail> {
+    let format = parsed(alloc, "%d")?;
+    let mut from = Lookahead::<StdSource<Blanks>, 7>::new(StdSource::new(Blanks));
+    let mut out = ListSink::new(alloc);
+    let end = run_scan(alloc, &mut from, &mut out, &format, 100);
+    Ok((end, out))
+}
+
 #[test]
 fn a_limit_ends_endless_blanks(rt: HostRuntime) -> Result<(), Fail> {
-    let format = parsed(rt.alloc(), "%d")?;
-    let mut from = Lookahead::<_, 7>::new(StdSource::new(Blanks));
-    let mut out = ListSink::new(rt.alloc());
-    let end = run_scan(rt.alloc(), &mut from, &mut out, &format, 100);
-    let outcome = Outcome {
-        status: Status::TooLong,
-        at: 1,
-        assigned: 0,
-        converted: 0,
-        used: 100,
-        met: None,
-    };
+    let (end, out) = limited(rt.alloc())?;
+    let outcome = BLANKS_TOO_LONG;
     assert!(rt; end.fault == Some(ToolFault::Failed { number: 1, outcome }));
     assert_eq!(rt; end.status, 1);
     assert!(rt; out.bytes().is_empty());
@@ -307,9 +329,10 @@ impl Read for Interrupted {
 
 #[test]
 fn an_interrupted_read_has_failed(rt: HostRuntime) -> Result<(), Fail> {
-    let mut from = Lookahead::<_, 7>::new(StdSource::new(Interrupted { reads: 0 }));
-    let mut out = ListSink::new(rt.alloc());
-    let end = scan(rt.alloc(), &mut from, &mut out, "%d")?;
+    let mut from = Lookahead::<StdSource<Interrupted>, 7>::new(StdSource::new(Interrupted {
+        reads: 0,
+    }));
+    let (end, _) = listed(rt.alloc(), &mut from, "%d")?;
     assert!(rt; end.fault == Some(ToolFault::Read { number: 1 }));
     assert_eq!(rt; end.records, 0);
     Ok(())
