@@ -9,6 +9,8 @@ pub mod laws;
 mod line;
 #[cfg(test)]
 mod loop_tests;
+#[cfg(test)]
+mod memory_tests;
 mod output;
 mod print;
 #[cfg(test)]
