@@ -8,10 +8,6 @@ mod fixed_store;
 mod heap_store;
 mod integers;
 mod store;
-#[cfg(test)]
-mod store_tests;
-#[cfg(test)]
-mod tests;
 mod values;
 
 pub use byte_set::ByteSet;

@@ -28,7 +28,3 @@ pub use print::PrintFormat;
 pub use scan::ScanFormat;
 pub use unit::{PrintConv, PrintLetter, Unit};
 
-#[cfg(test)]
-mod print_tests;
-#[cfg(test)]
-mod tests;

@@ -6,7 +6,5 @@ mod item;
 pub mod laws;
 mod reached;
 mod reading;
-#[cfg(test)]
-mod tests;
 
 pub use item::{ItemEnd, ItemScan, Step};

@@ -16,8 +16,6 @@ mod script_sink;
 mod sink;
 mod stage;
 mod std_sink;
-#[cfg(test)]
-mod tests;
 mod text;
 
 pub use fault::PrintFault;

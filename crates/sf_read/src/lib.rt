@@ -3,19 +3,11 @@
 
 mod lookahead;
 mod row;
-#[cfg(test)]
-mod row_tests;
 mod script_source;
 mod slice_source;
 mod source;
 mod std_source;
-#[cfg(test)]
-mod store_tests;
 mod stream;
-#[cfg(test)]
-mod stream_tests;
-#[cfg(test)]
-mod tests;
 mod whole;
 
 pub use lookahead::Lookahead;

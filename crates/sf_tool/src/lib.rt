@@ -7,19 +7,11 @@ mod command;
 mod fault;
 pub mod laws;
 mod line;
-#[cfg(test)]
-mod loop_tests;
-#[cfg(test)]
-mod memory_tests;
 mod output;
 mod print;
-#[cfg(test)]
-mod print_tests;
 mod quote;
 mod records;
 mod show;
-#[cfg(test)]
-mod tests;
 mod turn;
 
 pub use argument_fault::ArgumentFault;

@@ -1,0 +1,7 @@
+//! Tests of `sf_base`.
+#![tactic(auto)]
+
+#[cfg(test)]
+mod stores;
+#[cfg(test)]
+mod values;

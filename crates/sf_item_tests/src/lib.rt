@@ -1,0 +1,5 @@
+//! Tests of `sf_item`.
+#![tactic(auto)]
+
+#[cfg(test)]
+mod items;

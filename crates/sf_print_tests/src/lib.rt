@@ -1,0 +1,5 @@
+//! Tests of `sf_print`.
+#![tactic(auto)]
+
+#[cfg(test)]
+mod prints;

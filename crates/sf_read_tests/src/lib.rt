@@ -1,0 +1,11 @@
+//! Tests of `sf_read`.
+#![tactic(auto)]
+
+#[cfg(test)]
+mod rows;
+#[cfg(test)]
+mod stores;
+#[cfg(test)]
+mod streams;
+#[cfg(test)]
+mod texts;

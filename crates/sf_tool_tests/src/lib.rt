@@ -1,0 +1,11 @@
+//! Tests of `sf_tool`.
+#![tactic(auto)]
+
+#[cfg(test)]
+mod commands;
+#[cfg(test)]
+mod loops;
+#[cfg(test)]
+mod memory;
+#[cfg(test)]
+mod prints;
