@@ -27,4 +27,3 @@ pub use fault::{FormatFault, FormatWhy};
 pub use print::PrintFormat;
 pub use scan::ScanFormat;
 pub use unit::{PrintConv, PrintLetter, Unit};
-

@@ -1,20 +1,17 @@
 -- What the command answers, by what its calls answer.
 use Rattle.std.proofs.Common.{◌≡◌, ℕ, List, Bool, true, false, Option, Some, Result, Ok, Err, [], get_or, arith, inl, inr, refl, sym, ap, subst, ◌∙◌}
-use Rattle.std.specs.Prelude.{IfErr, IsErrAnd}
+use Rattle.std.specs.Prelude.{IfErr}
 use Rattle.sf_format.specs.declared.directive.Profile.TheVariants.{One}
-use Rattle.sf_format.specs.declared.directive.Directive.{Directive}
 use Rattle.sf_format.specs.declared.fault.FormatFault.{FormatFault}
 use Rattle.sf_format.specs.declared.fault.FormatWhy.{FormatWhy}
 use Rattle.sf_format.specs.declared.fault.FormatWhy.TheVariants.{NoMemory}
 use Rattle.sf_format.specs.Faults.{Fault, PrintFault, IsRefused, IsPrintRefused}
-use Rattle.sf_format.specs.Grammar.{Spells}
 use Rattle.sf_read.specs.Ahead.{Ahead, input_of}
 use Rattle.sf_tool.specs.declared.command.Verb.{Verb}
 use Rattle.sf_tool.specs.declared.command.Verb.TheVariants.{Scan, Show, Print}
 use Rattle.sf_tool.specs.declared.fault.CommandFault.{CommandFault}
 use Rattle.sf_tool.specs.declared.fault.CommandFault.TheVariants.{Usage, Format, PrintFormat, Values, Record, Write, Memory}
-use Rattle.sf_tool.specs.declared.records.ToolFault.{ToolFault}
-use Rattle.sf_tool.specs.Commands.{Answered, MayHave, IsNoUsage, IsUnwrittenBy, PrintsBy, ScansBy, ShowsBy, TellsFault, Unread, fault_for, FaultFor, answer_by, format_fault, format_fault_by, print_format_fault, print_format_fault_by, words_of}
+use Rattle.sf_tool.specs.Commands.{Answered, MayHave, IsNoUsage, IsUnwrittenBy, PrintsBy, ScansBy, ShowsBy, TellsFault, Unread, fault_for, FaultFor, format_fault, format_fault_by, print_format_fault, print_format_fault_by, words_of}
 
 abbrev pub Answer : Type 0
 Answer = Result (Unit {0}) CommandFault

@@ -1,10 +1,9 @@
-use Rattle.std.proofs.Common.{◌≡◌, ℕ, List, Err, ap, ◌∙◌, sym, subst, map}
-use Rattle.std.specs.String.{string_bytes}
+use Rattle.std.proofs.Common.{◌≡◌, ℕ, List, Err, ap, ◌∙◌, sym, subst}
 use Rattle.sf_format.specs.declared.directive.Profile.TheVariants.{One}
-use Rattle.sf_format.specs.Faults.{Fault, PrintFault, IsRefused, IsPrintRefused}
-use Rattle.sf_format.specs.Grammar.{Spells, SpellsPrint}
+use Rattle.sf_format.specs.Faults.{Fault, IsRefused}
+use Rattle.sf_format.specs.Grammar.{Spells}
 use Rattle.sf_tool.specs.declared.fault.CommandFault.{CommandFault}
-use Rattle.sf_tool.specs.Commands.{answer_by, format_fault, print_format_fault}
+use Rattle.sf_tool.specs.Commands.{answer_by, format_fault}
 use Rattle.sf_tool.proofs.Answering.{refused_scans, known_is}
 use Rattle.sf_tool.proofs.command.scan_by.Goals as goal
 
