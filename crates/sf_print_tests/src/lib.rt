@@ -1,5 +1,15 @@
-//! Tests of `sf_print`.
+//! Tests of `sf_base`, `sf_format` and `sf_print`.
 #![tactic(auto)]
 
 #[cfg(test)]
+mod print_formats;
+#[cfg(test)]
 mod prints;
+#[cfg(test)]
+mod scan_formats;
+#[cfg(test)]
+mod shared;
+#[cfg(test)]
+mod stores;
+#[cfg(test)]
+mod values;

@@ -1,6 +1,6 @@
 //! Scans over a store that is used again, and over stores of fixed capacity.
-use crate::streams::TEXT_ROWS;
-use crate::texts::{ROWS, Row, is, is_told};
+use crate::streams::text_rows;
+use crate::texts::{Row, is, is_told, rows};
 use sf_base::HeapStore;
 use sf_format::{Profile, ScanFormat};
 use sf_read::{Lookahead, ReadStep, ScriptSource, SliceSource, fscan_fixed, fscan_over};
@@ -47,10 +47,10 @@ fn refusal_over(
 #[test]
 fn one_store_for_all(rt: HostRuntime) -> Result<(), Fail> {
     let mut store = HeapStore::new(rt.alloc(), 0)?;
-    for row in &ROWS {
+    for row in rows() {
         store = over(&rt, store, row)?;
     }
-    for row in &TEXT_ROWS {
+    for row in text_rows() {
         store = over(&rt, store, row)?;
     }
     let refused = refusal_over(rt.alloc(), store, 2147483648)?;

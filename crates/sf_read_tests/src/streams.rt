@@ -1,7 +1,7 @@
 //! Scans of scripted sources and of readers: blocks of all lengths, reads that fail, inputs with no end.
 ghost use Rattle.std.specs.Prelude.{◌≤◌};
 
-use crate::texts::{ROWS, Row, is, is_told};
+use crate::texts::{Row, is, is_told, rows};
 use sf_base::{FixedStore, HeapStore, Value};
 use sf_format::{Profile, ScanFormat};
 use sf_read::{
@@ -142,8 +142,7 @@ fn by_fixed_pieces(
     by_fixed_blocks::<4096>(rt, row, steps)
 }
 
-/// Rows with several conversions, one of them a text.
-pub(crate) const TEXT_ROWS: [Row; 2] = [
+static TEXT_ROWS: [Row; 2] = [
     Row {
         format: b"%5d%3u%8s",
         text: b"-1234567 abcdefghij",
@@ -160,6 +159,11 @@ pub(crate) const TEXT_ROWS: [Row; 2] = [
     },
 ];
 
+/// Rows with several conversions, one of them a text.
+pub(crate) fn text_rows() -> &'static [Row] {
+    &TEXT_ROWS
+}
+
 fn all_blocks(rt: &(impl Abort + AllocGlobal), rows: &[Row]) -> Result<(), Fail> {
     for row in rows {
         for most in [1usize, 2, 3, 4096] {
@@ -173,8 +177,8 @@ fn all_blocks(rt: &(impl Abort + AllocGlobal), rows: &[Row]) -> Result<(), Fail>
 
 #[test]
 fn blocks(rt: HostRuntime) -> Result<(), Fail> {
-    all_blocks(&rt, &ROWS)?;
-    all_blocks(&rt, &TEXT_ROWS)
+    all_blocks(&rt, rows())?;
+    all_blocks(&rt, text_rows())
 }
 
 /// A scan by blocks of 7 bytes of a script: what is told, how many reads failed, and whether anything is held then.
@@ -220,8 +224,8 @@ fn all_fail(rt: &(impl Abort + AllocGlobal), rows: &[Row]) -> Result<(), Fail> {
 
 #[test]
 fn each_read_fails(rt: HostRuntime) -> Result<(), Fail> {
-    all_fail(&rt, &ROWS)?;
-    all_fail(&rt, &TEXT_ROWS)
+    all_fail(&rt, rows())?;
+    all_fail(&rt, text_rows())
 }
 
 /// A call on a script: status, place, assigned, used, what was met, the first value, where it is an int.

@@ -19,7 +19,7 @@ pub(crate) struct Row {
     pub(crate) waits: bool,
 }
 
-pub(crate) const ROWS: [Row; 29] = [
+static ROWS: [Row; 29] = [
     Row {
         format: b"%d,%d",
         text: b"12,-7",
@@ -225,6 +225,10 @@ pub(crate) const ROWS: [Row; 29] = [
     },
 ];
 
+pub(crate) fn rows() -> &'static [Row] {
+    &ROWS
+}
+
 /// What is found is what is wanted; else the place is named.
 pub(crate) fn is<T: Debug + PartialEq>(rt: &impl Abort, found: &T, wanted: &T, place: &impl Debug) {
     assert_eq!(rt; found, wanted, "at {place:?}");
@@ -258,7 +262,7 @@ fn scanned(alloc: Global, format: &[u8], text: &[u8]) -> Result<Scanned<HeapStor
 
 #[test]
 fn whole_texts(rt: HostRuntime) -> Result<(), Fail> {
-    for row in &ROWS {
+    for row in rows() {
         let scanned = scanned(rt.alloc(), row.format, row.text)?;
         is_told(&rt, row, &scanned.report());
     }

@@ -1,8 +1,10 @@
-//! Tests of `sf_run`.
+//! Tests of `sf_item` and `sf_run`.
 #![tactic(auto)]
 
 #[cfg(test)]
 mod conversions;
+#[cfg(test)]
+mod items;
 #[cfg(test)]
 mod rows;
 #[cfg(test)]

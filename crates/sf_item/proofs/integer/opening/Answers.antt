@@ -1,4 +1,5 @@
 use Rattle.std.proofs.Common.{arith, Some, None, inr}
+use Rattle.std.proofs.lemmas.Grind.{common_steps}
 use Rattle.sf_item.proofs.Readings.{byte_read}
 use Rattle.sf_item.proofs.integer.opening.Goals as goal
 
@@ -14,3 +15,6 @@ loop-i-preserved c = record {
       c.loop-i-test.true c.if-not-advance.ensures.next;
   nothing = λ e. absurd (omega (arith, e));
 }
+
+pub returns-clause-read : goal.returns-clause-read
+returns-clause-read c = grind (arith, common_steps)

@@ -1,4 +1,5 @@
-use Rattle.std.proofs.Common.{subst}
+use Rattle.std.proofs.lemmas.Grind.{common_steps}
+use Rattle.std.proofs.Common.{subst, arith}
 use Rattle.sf_item.specs.Scan.{HasRead}
 use Rattle.sf_item.proofs.Scanning.{integer_next}
 use Rattle.sf_item.proofs.reading.read_on.Goals as goal
@@ -8,3 +9,9 @@ returns-in-Integer-clause-next c = λ f h.
     rw c.in-Integer.is
     (integer_next c.in-Integer.base c.in-Integer.reached f c.args.b (subst (λ r. HasRead r f) c.in-Integer.is h) c.advance.result c.advance.new.reached
     c.advance.ensures.next)
+
+pub returns-in-Set-clause-next : goal.returns-in-Set-clause-next
+returns-in-Set-clause-next c = grind (arith, common_steps)
+
+pub returns-in-Text-clause-next : goal.returns-in-Text-clause-next
+returns-in-Text-clause-next c = grind (arith, common_steps)

@@ -1,4 +1,5 @@
 use Rattle.std.proofs.Common.{take, drop, sym, ◌∙◌, arith}
+use Rattle.std.proofs.lemmas.Grind.{common_steps}
 use Rattle.std.proofs.lemmas.List.{take-append-drop, length-take-le}
 use Rattle.sf_print.proofs.Appending.{took_more, Appends-then, Appends-same, Appends-keeps}
 use Rattle.sf_print.proofs.handing.hand.Goals as goal
@@ -17,3 +18,6 @@ pub returns-in-Err-clause-took : goal.returns-in-Err-clause-took
 returns-in-Err-clause-took g c =
     let l = c.loop-done in
     (take l.done c.args.piece.now, drop l.done c.args.piece.now, sym (take-append-drop l.done c.args.piece.now), Appends-keeps _ _ _ _ l.invariant.took c.in-Err.ensures.took, omega (arith, length-take-le l.done c.args.piece.now l.invariant.within))
+
+pub returns-clause-took : goal.returns-clause-took
+returns-clause-took g c = grind (arith, common_steps)

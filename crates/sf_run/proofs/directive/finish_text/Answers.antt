@@ -1,4 +1,4 @@
-use Rattle.std.proofs.Common.{refl}
+use Rattle.std.proofs.Common.{rules, refl}
 use Rattle.sf_item.specs.Taking.{conversion_of}
 use Rattle.sf_run.proofs.Stages.{text_fails}
 use Rattle.sf_run.proofs.directive.finish_text.Goals as goal
@@ -11,3 +11,6 @@ returns-in_default c = record {
   number = tt;
   memory = refl;
 }
+
+pub returns-in-Matched-clause-end : goal.returns-in-Matched-clause-end
+returns-in-Matched-clause-end c = search rules

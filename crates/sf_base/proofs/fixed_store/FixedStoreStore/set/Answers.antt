@@ -1,4 +1,5 @@
 use Rattle.std.proofs.Common.{length, take, drop, rules, arith}
+use Rattle.std.proofs.lemmas.Grind.{common_steps}
 use Rattle.sf_base.specs.Entries.{slots_of, IsAbsent}
 use Rattle.sf_base.proofs.EntryLemmas.{IsAbsent-from_datum, length-lt-entries, IsSound-push, IsUnderWay-push}
 use Rattle.sf_base.proofs.fixed_store.FixedStoreStore.set.Goals as goal
@@ -20,3 +21,6 @@ invariant_of-self g c =
       rw c.push.ensures.items (IsSound-push _ s.entries.items s.closed s.closed (length s.bytes.items) s.opened s.opened _ sound (omega arith) sound.closed_held (c.requires.at_least_one, c.requires.in_range) absent (c.number_cell.ensures.within s.closed) under_way),
       c.self.invariant.1,
     )
+
+pub returns : goal.returns
+returns g c = grind (arith, common_steps)

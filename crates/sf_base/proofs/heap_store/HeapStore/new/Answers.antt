@@ -1,4 +1,4 @@
-use Rattle.std.proofs.Common.{arith}
+use Rattle.std.proofs.Common.{rules, arith}
 use Rattle.sf_base.proofs.EntryLemmas.{IsSound-none}
 use Rattle.sf_base.proofs.heap_store.HeapStore.new.Goals as goal
 
@@ -11,3 +11,6 @@ invariant_of-result c = (
     places = c.in_ok-entries.ensures.capacity;
   },
 )
+
+pub returns : goal.returns
+returns c = search rules

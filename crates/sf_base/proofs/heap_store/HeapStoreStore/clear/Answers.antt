@@ -1,3 +1,4 @@
+use Rattle.std.proofs.lemmas.Grind.{common_steps}
 use Rattle.std.proofs.Common.{arith}
 use Rattle.sf_base.proofs.EntryLemmas.{IsSound-none}
 use Rattle.sf_base.proofs.heap_store.HeapStoreStore.clear.Goals as goal
@@ -11,3 +12,6 @@ invariant_of-self c = (
     places = omega (arith, c.self.invariant.1.places, c.clear.ensures.capacity);
   },
 )
+
+pub returns : goal.returns
+returns c = grind (arith, common_steps)

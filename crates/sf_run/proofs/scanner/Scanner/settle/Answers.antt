@@ -1,6 +1,6 @@
 use Rattle.std.proofs.Common.{rules, ◌≡◌, List, refl, sym, subst, ◌∙◌, Some, length, arith}
 use Rattle.std.specs.Prelude.{slice_get}
-use Rattle.std.proofs.lemmas.Option.{slice_get_read}
+use Rattle.std.proofs.lemmas.Option.{slice_get_past, slice_get_read}
 use Rattle.sf_format.specs.declared.directive.Directive.{Directive}
 use Rattle.sf_format.specs.Proper.{IsProper, AreProper}
 use Rattle.sf_run.specs.Standing.{Waits}
@@ -43,3 +43,9 @@ loop-self-preserved g c =
       keeps = search rules;
       memory = search rules;
     }
+
+pub conclude-requires-clause-current : goal.conclude-requires-clause-current
+conclude-requires-clause-current g c =
+    let s = c.loop-self.self in
+    let w = c.in-None.ensures.lookup in
+    slice_get_past s.directives.now s.passed (omega (arith, w.0))

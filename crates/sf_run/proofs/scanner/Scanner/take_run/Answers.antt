@@ -28,3 +28,9 @@ returns-then-take_all-clause-same g c proper z =
     (takes_all_follows (standing c.take_all.new.self) (standing s) d (w + k) (take (w + k) front) item run.phase at c.requires.waits
     long c.if-take_all.ensures.taken
     (λ q shows. subst (λ g. Brings d q (take (w + k) front) g c.run_on-run.result.phase) (sym own) (c.run_on-run.ensures.brings q (proper_at s.directives.now s.passed d proper at) shows)) z)
+
+pub take_all-requires-clause-current : goal.take_all-requires-clause-current
+take_all-requires-clause-current g c =
+    let s = c.args.self.now in
+    let w = c.in-Some.ensures.lookup in
+    slice_get_read s.directives.now (length s.directives.now) s.passed c.in-Some.directive.now refl w.3.0 w.1

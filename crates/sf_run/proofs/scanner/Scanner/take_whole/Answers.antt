@@ -30,3 +30,9 @@ returns-then-pass_whole-clause-same g c proper z =
     c.split_at-3.ensures.front ∙ ap (take w.item) c.split_at-2.ensures.back ∙ ap (λ y. take w.item (drop w.before y)) cut ∙ item_in_front w.before w.item c.min.result piece within in
     whole_follows (standing c.pass_whole.new.self) (standing s) d (w.before + w.item) piece w (end_of c.split_at-3.result.0.now w.finished) at c.requires.waits fresh goes refl
     (ap (λ y. end_of y w.finished) item) (not_failing c.split_at-3.result.0.now w.finished c.if-pass_whole.ensures.ok) c.if-pass_whole.ensures.passes z
+
+pub pass_whole-requires-clause-current : goal.pass_whole-requires-clause-current
+pass_whole-requires-clause-current g c =
+    let s = c.args.self.now in
+    let h = c.in_ok-directive.ensures.lookup in
+    slice_get_read s.directives.now (length s.directives.now) s.passed c.in_ok-directive.directive.now refl h.3.0 h.1

@@ -1,3 +1,4 @@
+use Rattle.std.proofs.lemmas.Option.{slice_get_past}
 use Rattle.std.proofs.Common.{◌≡◌, ◌∷◌, ℕ, List, Bool, true, false, refl, sym, ap, Some, length, ◌∙◌, true≢false, arith}
 use Rattle.std.specs.Prelude.{slice_get}
 use Rattle.std.proofs.lemmas.Option.{slice_get_read}
@@ -55,3 +56,15 @@ returns-else-self-clause-memory g c proper out z =
           (omega (arith, s.bounded, c.if-self.false)) (OnFalse_at e c.take.ensures.text) (λ q shows. c.in-Some-step.ensures.shows q (proper_at s.directives.now s.passed d proper at) shows) z
     ] in
     by c.take.result refl
+
+pub close-requires-clause-current : goal.close-requires-clause-current
+close-requires-clause-current g c =
+    let s = c.args.self.now in
+    let w = c.in-Some.ensures.lookup in
+    slice_get_read s.directives.now (length s.directives.now) s.passed c.in-Some.directive.now refl w.3.0 w.1
+
+pub conclude-requires-clause-current : goal.conclude-requires-clause-current
+conclude-requires-clause-current g c =
+    let s = c.args.self.now in
+    let w = c.in-None.ensures.lookup in
+    slice_get_past s.directives.now s.passed (omega (arith, w.0))

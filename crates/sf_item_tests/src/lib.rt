@@ -1,5 +1,0 @@
-//! Tests of `sf_item`.
-#![tactic(auto)]
-
-#[cfg(test)]
-mod items;

@@ -1,0 +1,229 @@
+//! Examples of print formats, and of texts that are none.
+use crate::scan_formats::repeated;
+use crate::shared::is;
+use sf_base::Kind;
+use sf_format::{FormatFault, FormatWhy, PrintConv, PrintFormat, PrintLetter, Profile, Unit};
+use std::alloc::Global;
+use std::test::Fail;
+
+/// A conversion of the first value, without flags, width or precision.
+fn plain(letter: PrintLetter, kind: Kind) -> PrintConv {
+    PrintConv {
+        letter,
+        kind,
+        slot: 1,
+        minus: false,
+        plus: false,
+        blank: false,
+        alt: false,
+        zero: false,
+        width: 0,
+        precision: None,
+    }
+}
+
+/// The only unit of a format, if it is a conversion.
+fn only(alloc: Global, text: &[u8]) -> Result<Option<PrintConv>, Fail> {
+    let format = PrintFormat::parse(alloc, Profile::One, text)?;
+    Ok(match format.directives() {
+        [Unit::Conv(conversion)] => Some(*conversion),
+        _ => None,
+    })
+}
+
+fn fault(alloc: Global, text: &[u8]) -> Option<FormatFault> {
+    PrintFormat::parse(alloc, Profile::One, text).err()
+}
+
+#[test]
+fn parses_units(rt: HostRuntime) -> Result<(), Fail> {
+    for profile in [Profile::One, Profile::Two] {
+        let format = PrintFormat::parse(rt.alloc(), profile, b"a \t%%%d")?;
+        let want = [
+            Unit::Byte(b'a'),
+            Unit::Byte(b' '),
+            Unit::Byte(b'\t'),
+            Unit::Byte(b'%'),
+            Unit::Conv(plain(PrintLetter::Signed, Kind::I32)),
+        ];
+        assert!(rt; format.directives() == &want[..]);
+    }
+    Ok(())
+}
+
+/// Formats of one conversion without flags, width and precision.
+const LETTERS: [(&[u8], PrintLetter, Kind); 12] = [
+    (b"%d", PrintLetter::Signed, Kind::I32),
+    (b"%i", PrintLetter::Signed, Kind::I32),
+    (b"%hhd", PrintLetter::Signed, Kind::I8),
+    (b"%hi", PrintLetter::Signed, Kind::I16),
+    (b"%lld", PrintLetter::Signed, Kind::I64),
+    (b"%u", PrintLetter::Unsigned, Kind::U32),
+    (b"%hho", PrintLetter::Octal, Kind::U8),
+    (b"%hx", PrintLetter::HexLower, Kind::U16),
+    (b"%zX", PrintLetter::HexUpper, Kind::U64),
+    (b"%jx", PrintLetter::HexLower, Kind::U64),
+    (b"%s", PrintLetter::Text, Kind::Text),
+    (b"%c", PrintLetter::One, Kind::Text),
+];
+
+#[test]
+fn tells_letters_and_kinds(rt: HostRuntime) -> Result<(), Fail> {
+    for (text, letter, kind) in LETTERS {
+        is(
+            &rt,
+            &only(rt.alloc(), text)?,
+            &Some(plain(letter, kind)),
+            &text,
+        );
+    }
+    Ok(())
+}
+
+/// Formats of one conversion, with its flags, its width and its precision.
+const FLAGGED: [(&[u8], PrintLetter, Kind, &[u8], u16, Option<u8>); 12] = [
+    (b"%+ d", PrintLetter::Signed, Kind::I32, b"+ ", 0, None),
+    (b"% d", PrintLetter::Signed, Kind::I32, b" ", 0, None),
+    (b"%-05d", PrintLetter::Signed, Kind::I32, b"-0", 5, None),
+    (b"%0-0-5d", PrintLetter::Signed, Kind::I32, b"-0", 5, None),
+    (b"%+5d", PrintLetter::Signed, Kind::I32, b"+", 5, None),
+    (b"%08.3d", PrintLetter::Signed, Kind::I32, b"0", 8, Some(3)),
+    (b"%.0d", PrintLetter::Signed, Kind::I32, b"", 0, Some(0)),
+    (b"%.d", PrintLetter::Signed, Kind::I32, b"", 0, Some(0)),
+    (b"%#06x", PrintLetter::HexLower, Kind::U32, b"#0", 6, None),
+    (b"%#.3o", PrintLetter::Octal, Kind::U32, b"#", 0, Some(3)),
+    (b"%.2s", PrintLetter::Text, Kind::Text, b"", 0, Some(2)),
+    (
+        b"%-65535.00255s",
+        PrintLetter::Text,
+        Kind::Text,
+        b"-",
+        65535,
+        Some(255),
+    ),
+];
+
+/// The conversion with these flags.
+fn flagged(conversion: PrintConv, flags: &[u8]) -> PrintConv {
+    PrintConv {
+        minus: flags.contains(&b'-'),
+        plus: flags.contains(&b'+'),
+        blank: flags.contains(&b' '),
+        alt: flags.contains(&b'#'),
+        zero: flags.contains(&b'0'),
+        ..conversion
+    }
+}
+
+#[test]
+fn tells_flags_widths_and_precisions(rt: HostRuntime) -> Result<(), Fail> {
+    for (text, letter, kind, flags, width, precision) in FLAGGED {
+        let wanted = PrintConv {
+            width,
+            precision,
+            ..flagged(plain(letter, kind), flags)
+        };
+        is(&rt, &only(rt.alloc(), text)?, &Some(wanted), &text);
+    }
+    Ok(())
+}
+
+#[test]
+fn tells_values_by_number(rt: HostRuntime) -> Result<(), Fail> {
+    let format = PrintFormat::parse(rt.alloc(), Profile::One, b"%2$s-%1$d")?;
+    assert_eq!(rt; format.values(), 2);
+    let kinds = [
+        format.kind(0),
+        format.kind(1),
+        format.kind(2),
+        format.kind(3),
+    ];
+    let wanted = [None, Some(Kind::I32), Some(Kind::Text), None];
+    is(&rt, &kinds, &wanted, &"%2$s-%1$d");
+    match format.directives() {
+        [Unit::Conv(first), Unit::Byte(b'-'), Unit::Conv(second)] => {
+            assert_eq!(rt; first.slot, 2);
+            assert_eq!(rt; second.slot, 1);
+        }
+        _ => panic!(rt; "other units"),
+    }
+    Ok(())
+}
+
+/// Texts that are no print format, with the place of the first fault.
+const FAULTS: [(&[u8], u16, FormatWhy); 38] = [
+    (b"%+u", 1, FormatWhy::BadFlag),
+    (b"%05s", 1, FormatWhy::BadFlag),
+    (b"%.3c", 1, FormatWhy::BadFlag),
+    (b"%.300d", 2, FormatWhy::PrecisionTooLarge),
+    (b"%'d", 1, FormatWhy::LeftOut),
+    (b"%*d", 1, FormatWhy::LeftOut),
+    (b"%n", 1, FormatWhy::LeftOut),
+    (b"%0$d", 1, FormatWhy::BadNumber),
+    (b"%-#d", 2, FormatWhy::BadFlag),
+    (b"%- 5u", 2, FormatWhy::BadFlag),
+    (b"%#s", 1, FormatWhy::BadFlag),
+    (b"%0.3c", 1, FormatWhy::BadFlag),
+    (b"%-7.c", 3, FormatWhy::BadFlag),
+    (b"%1$ x", 3, FormatWhy::BadFlag),
+    (b"%.*d", 2, FormatWhy::LeftOut),
+    (b"%5*d", 2, FormatWhy::LeftOut),
+    (b"%Lf", 1, FormatWhy::LeftOut),
+    (b"%.3f", 3, FormatWhy::LeftOut),
+    (b"%p", 1, FormatWhy::LeftOut),
+    (b"%ls", 2, FormatWhy::LeftOut),
+    (b"%lc", 2, FormatWhy::LeftOut),
+    (b"%hhs", 3, FormatWhy::BadLength),
+    (b"%m", 1, FormatWhy::UnknownLetter),
+    (b"%[a]", 1, FormatWhy::UnknownLetter),
+    (b"%b", 1, FormatWhy::UnknownLetter),
+    (b"%5%", 2, FormatWhy::UnknownLetter),
+    (b"%-1$d", 3, FormatWhy::UnknownLetter),
+    (b"%70000", 1, FormatWhy::TooWide),
+    (b"%+065536d", 3, FormatWhy::TooWide),
+    (b"%65536.256u", 1, FormatWhy::TooWide),
+    (b"%.256", 2, FormatWhy::PrecisionTooLarge),
+    (b"%33$d", 1, FormatWhy::BadNumber),
+    (b"%-05.3ll", 8, FormatWhy::Truncated),
+    (b"%d\0", 2, FormatWhy::Nul),
+    (b"%.\0", 2, FormatWhy::Nul),
+    (b"%1$d%d", 4, FormatWhy::MixedNumbering),
+    (b"%1$d%1$d", 4, FormatWhy::NumberTwice),
+    (b"%1$d%3$s", 4, FormatWhy::NumberGap),
+];
+
+#[test]
+fn finds_print_faults(rt: HostRuntime) -> Result<(), Fail> {
+    for (text, at, why) in FAULTS {
+        is(
+            &rt,
+            &fault(rt.alloc(), text),
+            &Some(FormatFault { at, why }),
+            &text,
+        );
+    }
+    Ok(())
+}
+
+#[test]
+fn takes_4096_bytes_and_32_values(rt: HostRuntime) -> Result<(), Fail> {
+    let text = vec![in rt.alloc(); b' '; 4096]?;
+    let format = PrintFormat::parse(rt.alloc(), Profile::One, &text)?;
+    assert_eq!(rt; format.directives().len(), 4096);
+    let text = vec![in rt.alloc(); b' '; 4097]?;
+    let long = FormatFault {
+        at: 4096,
+        why: FormatWhy::FormatTooLong,
+    };
+    assert_eq!(rt; fault(rt.alloc(), &text), Some(long));
+    let text = repeated(rt.alloc(), b"%d", 32)?;
+    let format = PrintFormat::parse(rt.alloc(), Profile::One, &text)?;
+    assert_eq!(rt; format.values(), 32);
+    let text = repeated(rt.alloc(), b"%d", 33)?;
+    let beyond = FormatFault {
+        at: 64,
+        why: FormatWhy::TooManyDestinations,
+    };
+    assert_eq!(rt; fault(rt.alloc(), &text), Some(beyond));
+    Ok(())
+}

@@ -1,0 +1,372 @@
+//! Examples of formats, and of texts that are none.
+use crate::shared::is;
+use sf_base::{ByteSet, Kind};
+use sf_format::{Base, Conversion, Directive, FormatFault, FormatWhy, Profile, ScanFormat, Shape};
+use std::alloc::Global;
+use std::test::Fail;
+
+/// What a conversion takes, without its set.
+#[derive(Clone, Copy, Debug, PartialEq, Eq)]
+enum Family {
+    Int(Base),
+    Text,
+    Set,
+    Chars,
+    Count,
+}
+
+fn takes(shape: &Shape) -> Family {
+    match shape {
+        Shape::Int(base) => Family::Int(*base),
+        Shape::Text => Family::Text,
+        Shape::Set(_) => Family::Set,
+        Shape::Chars => Family::Chars,
+        Shape::Count => Family::Count,
+    }
+}
+
+/// What is told of a conversion: what it takes, its kind, its width and its slot.
+type Told = (Family, Kind, Option<u16>, Option<u8>);
+
+fn told(conversion: &Conversion) -> Told {
+    (
+        takes(&conversion.shape),
+        conversion.kind,
+        conversion.width,
+        conversion.slot,
+    )
+}
+
+/// The only conversion of a format, in the first profile.
+fn only(alloc: Global, text: &[u8]) -> Result<Option<Told>, Fail> {
+    let format = ScanFormat::parse(alloc, Profile::One, text)?;
+    Ok(match format.directives() {
+        [Directive::Conv(conversion)] => Some(told(conversion)),
+        _ => None,
+    })
+}
+
+fn fault(alloc: Global, text: &[u8]) -> Option<FormatFault> {
+    ScanFormat::parse(alloc, Profile::One, text).err()
+}
+
+/// A text that begins and ends so, with so many times the byte between.
+fn padded(alloc: Global, start: &[u8], b: u8, count: usize, end: &[u8]) -> Result<Vec<u8>, Fail> {
+    let mut text = Vec::new(alloc);
+    text.extend_from_slice(start)?;
+    for _ in 0..count {
+        text.push(b)?;
+    }
+    text.extend_from_slice(end)?;
+    Ok(text)
+}
+
+/// The part, so many times.
+pub fn repeated(alloc: Global, part: &[u8], count: usize) -> Result<Vec<u8>, Fail> {
+    let mut text = Vec::new(alloc);
+    for _ in 0..count {
+        text.extend_from_slice(part)?;
+    }
+    Ok(text)
+}
+
+#[test]
+fn parses(rt: HostRuntime) -> Result<(), Fail> {
+    for profile in [Profile::One, Profile::Two] {
+        let format = ScanFormat::parse(rt.alloc(), profile, b"%d, \t%%%d")?;
+        match format.directives() {
+            [
+                Directive::Conv(first),
+                Directive::Byte(b','),
+                Directive::Space,
+                Directive::Percent,
+                Directive::Conv(second),
+            ] => {
+                assert_eq!(rt;
+                    told(first),
+                    (Family::Int(Base::Dec), Kind::I32, None, Some(1))
+                );
+                assert_eq!(rt;
+                    told(second),
+                    (Family::Int(Base::Dec), Kind::I32, None, Some(2))
+                );
+            }
+            _ => panic!(rt; "other directives"),
+        }
+    }
+    Ok(())
+}
+
+/// Formats of one conversion, with what is told of it.
+const CONVERSIONS: [(&[u8], Told); 13] = [
+    (
+        b"%010d",
+        (Family::Int(Base::Dec), Kind::I32, Some(10), Some(1)),
+    ),
+    (b"%hhd", (Family::Int(Base::Dec), Kind::I8, None, Some(1))),
+    (b"%hi", (Family::Int(Base::Auto), Kind::I16, None, Some(1))),
+    (b"%lu", (Family::Int(Base::Dec), Kind::U64, None, Some(1))),
+    (b"%hho", (Family::Int(Base::Oct), Kind::U8, None, Some(1))),
+    (b"%llx", (Family::Int(Base::Hex), Kind::U64, None, Some(1))),
+    (b"%hX", (Family::Int(Base::Hex), Kind::U16, None, Some(1))),
+    (b"%*jd", (Family::Int(Base::Dec), Kind::I64, None, None)),
+    (b"%n", (Family::Count, Kind::I32, None, Some(1))),
+    (b"%c", (Family::Chars, Kind::Text, Some(1), Some(1))),
+    (b"%1$3c", (Family::Chars, Kind::Text, Some(3), Some(1))),
+    (b"%*s", (Family::Text, Kind::Text, None, None)),
+    (
+        b"%65535[a]",
+        (Family::Set, Kind::Text, Some(65535), Some(1)),
+    ),
+];
+
+#[test]
+fn tells_conversions(rt: HostRuntime) -> Result<(), Fail> {
+    for (text, wanted) in CONVERSIONS {
+        is(&rt, &only(rt.alloc(), text)?, &Some(wanted), &text);
+    }
+    Ok(())
+}
+
+#[test]
+fn assigns_slots_by_number(rt: HostRuntime) -> Result<(), Fail> {
+    let format = ScanFormat::parse(rt.alloc(), Profile::One, b"%2$d%*d %1$s")?;
+    match format.directives() {
+        [
+            Directive::Conv(first),
+            Directive::Conv(second),
+            Directive::Space,
+            Directive::Conv(third),
+        ] => {
+            assert_eq!(rt; first.slot, Some(2));
+            assert_eq!(rt; second.slot, None);
+            assert_eq!(rt; third.slot, Some(1));
+        }
+        _ => panic!(rt; "other directives"),
+    }
+    assert_eq!(rt; format.kind(1), Some(Kind::Text));
+    assert_eq!(rt; format.kind(2), Some(Kind::I32));
+    Ok(())
+}
+
+/// Formats with the number of their destinations.
+const DESTINATIONS: [(&[u8], u8); 5] = [
+    (b"%d, %d", 2),
+    (b"", 0),
+    (b"%%%*d%%", 0),
+    (b"%3d,%*s", 1),
+    (b"%3$d%1$n%2$[a]", 3),
+];
+
+#[test]
+fn counts_destinations(rt: HostRuntime) -> Result<(), Fail> {
+    for (text, wanted) in DESTINATIONS {
+        let format = ScanFormat::parse(rt.alloc(), Profile::One, text)?;
+        is(&rt, &format.destinations(), &wanted, &text);
+    }
+    Ok(())
+}
+
+#[test]
+fn tells_kinds(rt: HostRuntime) -> Result<(), Fail> {
+    let format = ScanFormat::parse(rt.alloc(), Profile::One, b"%d, %hhu")?;
+    let kinds = [
+        format.kind(0),
+        format.kind(1),
+        format.kind(2),
+        format.kind(3),
+    ];
+    let wanted = [None, Some(Kind::I32), Some(Kind::U8), None];
+    is(&rt, &kinds, &wanted, &"%d, %hhu");
+    Ok(())
+}
+
+fn has_exactly(set: &ByteSet, members: &[u8]) -> bool {
+    for b in 0..=255u8 {
+        if set.contains(b) != members.contains(&b) {
+            return false;
+        }
+    }
+    true
+}
+
+/// Whether the format is one set, with exactly these members.
+fn has_members(alloc: Global, text: &[u8], members: &[u8]) -> Result<bool, Fail> {
+    let format = ScanFormat::parse(alloc, Profile::One, text)?;
+    Ok(match format.directives() {
+        [Directive::Conv(conversion)] => match &conversion.shape {
+            Shape::Set(set) => has_exactly(set, members),
+            _ => false,
+        },
+        _ => false,
+    })
+}
+
+/// Formats of one set, with its members.
+const SETS: [(&[u8], &[u8]); 7] = [
+    (b"%[]a-c]", b"]abc"),
+    (b"%[a-c-e]", b"abc-e"),
+    (b"%[]-a]", b"]^_`a"),
+    (b"%[a-]", b"a-"),
+    (b"%[-a]", b"-a"),
+    (b"%[a^]", b"a^"),
+    (b"%[b-b]", b"b"),
+];
+
+#[test]
+fn builds_sets(rt: HostRuntime) -> Result<(), Fail> {
+    for (text, members) in SETS {
+        is(&rt, &has_members(rt.alloc(), text, members)?, &true, &text);
+    }
+    Ok(())
+}
+
+#[test]
+fn complements_sets(rt: HostRuntime) -> Result<(), Fail> {
+    let format = ScanFormat::parse(rt.alloc(), Profile::One, b"%[^]]")?;
+    match format.directives() {
+        [Directive::Conv(conversion)] => match &conversion.shape {
+            Shape::Set(set) => {
+                for b in 0..=255u8 {
+                    assert_eq!(rt; set.contains(b), b != b']', "at {b}");
+                }
+            }
+            _ => panic!(rt; "another shape"),
+        },
+        _ => panic!(rt; "other directives"),
+    }
+    Ok(())
+}
+
+/// Texts that are no format, with the place of the first fault.
+const FAULTS: [(&[u8], u16, FormatWhy); 42] = [
+    (b"%[z-a]", 2, FormatWhy::BackwardRange),
+    (b"%0d", 1, FormatWhy::ZeroWidth),
+    (b"%*n", 2, FormatWhy::BadCount),
+    (b"%1$d%d", 4, FormatWhy::MixedNumbering),
+    (b"%d%1$d", 2, FormatWhy::MixedNumbering),
+    (b"%1$s%3$d", 4, FormatWhy::NumberGap),
+    (b"%1$s%1$d", 4, FormatWhy::NumberTwice),
+    (b"%33$d", 1, FormatWhy::BadNumber),
+    (b"%5", 2, FormatWhy::Truncated),
+    (b"%lc", 2, FormatWhy::LeftOut),
+    (b"%[abc", 1, FormatWhy::OpenSet),
+    (b"%hhs", 3, FormatWhy::BadLength),
+    (b"%70000d", 1, FormatWhy::TooWide),
+    (b"%000d", 1, FormatWhy::ZeroWidth),
+    (b"%hhls", 3, FormatWhy::UnknownLetter),
+    (b"%5%", 2, FormatWhy::UnknownLetter),
+    (b"%*3$d", 3, FormatWhy::UnknownLetter),
+    (b"%1$*d", 3, FormatWhy::BadNumber),
+    (b"%0$d", 1, FormatWhy::BadNumber),
+    (b"%Lf", 1, FormatWhy::LeftOut),
+    (b"%m[a]", 1, FormatWhy::LeftOut),
+    (b"%[^]", 1, FormatWhy::OpenSet),
+    (b"%[]", 1, FormatWhy::OpenSet),
+    (b"%%%", 3, FormatWhy::Truncated),
+    (b"%2$d", 0, FormatWhy::NumberGap),
+    (b"%3$d%3$d", 4, FormatWhy::NumberTwice),
+    (b"%99999999999999999999$d", 1, FormatWhy::BadNumber),
+    (b"%70000", 1, FormatWhy::TooWide),
+    (b"%65536c", 1, FormatWhy::TooWide),
+    (b"%b", 1, FormatWhy::UnknownLetter),
+    (b"%", 1, FormatWhy::Truncated),
+    (b"a%", 2, FormatWhy::Truncated),
+    (b"% d", 1, FormatWhy::UnknownLetter),
+    (b"%3n", 2, FormatWhy::BadCount),
+    (b"%l[a]", 2, FormatWhy::LeftOut),
+    (b"%ts", 2, FormatWhy::BadLength),
+    (b"\0%x", 0, FormatWhy::Nul),
+    (b"%\0", 1, FormatWhy::Nul),
+    (b"%d \0", 3, FormatWhy::Nul),
+    (b"%[a\0]", 3, FormatWhy::Nul),
+    (b"%[a\0", 3, FormatWhy::Nul),
+    (b"%2$d%k", 5, FormatWhy::UnknownLetter),
+];
+
+#[test]
+fn finds_faults(rt: HostRuntime) -> Result<(), Fail> {
+    for (text, at, why) in FAULTS {
+        is(
+            &rt,
+            &fault(rt.alloc(), text),
+            &Some(FormatFault { at, why }),
+            &text,
+        );
+    }
+    Ok(())
+}
+
+#[test]
+fn takes_4000_digits(rt: HostRuntime) -> Result<(), Fail> {
+    let text = padded(rt.alloc(), b"%", b'0', 4000, b"7c")?;
+    assert_eq!(rt;
+        only(rt.alloc(), &text)?,
+        Some((Family::Chars, Kind::Text, Some(7), Some(1)))
+    );
+    let text = padded(rt.alloc(), b"%", b'9', 4000, b"c")?;
+    let wide = FormatFault {
+        at: 1,
+        why: FormatWhy::TooWide,
+    };
+    assert_eq!(rt; fault(rt.alloc(), &text), Some(wide));
+    Ok(())
+}
+
+#[test]
+fn takes_4096_bytes(rt: HostRuntime) -> Result<(), Fail> {
+    let text = vec![in rt.alloc(); b'a'; 4096]?;
+    let format = ScanFormat::parse(rt.alloc(), Profile::One, &text)?;
+    assert_eq!(rt; format.directives().len(), 4096);
+    let text = vec![in rt.alloc(); 0; 4097]?;
+    let long = FormatFault {
+        at: 4096,
+        why: FormatWhy::FormatTooLong,
+    };
+    assert_eq!(rt; fault(rt.alloc(), &text), Some(long));
+    let text = padded(rt.alloc(), b"%[", b'a', 4094, b"")?;
+    let open = FormatFault {
+        at: 1,
+        why: FormatWhy::OpenSet,
+    };
+    assert_eq!(rt; fault(rt.alloc(), &text), Some(open));
+    Ok(())
+}
+
+#[test]
+fn takes_32_destinations(rt: HostRuntime) -> Result<(), Fail> {
+    let text = repeated(rt.alloc(), b"%d", 32)?;
+    let format = ScanFormat::parse(rt.alloc(), Profile::One, &text)?;
+    assert_eq!(rt; format.destinations(), 32);
+    let text = repeated(rt.alloc(), b"%d", 33)?;
+    let beyond = FormatFault {
+        at: 64,
+        why: FormatWhy::TooManyDestinations,
+    };
+    assert_eq!(rt; fault(rt.alloc(), &text), Some(beyond));
+    Ok(())
+}
+
+/// Formats with the sum of the widths of their texts.
+const WIDTH_SUMS: [(&[u8], Option<u32>); 8] = [
+    (b"", Some(0)),
+    (b"%3d,%*s", Some(0)),
+    (b"%c%3s%5[a]", Some(9)),
+    (b"%c%s", None),
+    (b"%[a]", None),
+    (b"%*7s%2c", Some(2)),
+    (b"%9d%n", Some(0)),
+    (b"%2$4s%1$c", Some(5)),
+];
+
+#[test]
+fn sums_widths(rt: HostRuntime) -> Result<(), Fail> {
+    for (text, wanted) in WIDTH_SUMS {
+        let format = ScanFormat::parse(rt.alloc(), Profile::One, text)?;
+        is(&rt, &format.width_sum(), &wanted, &text);
+    }
+    let text = repeated(rt.alloc(), b"%65535s", 32)?;
+    let format = ScanFormat::parse(rt.alloc(), Profile::One, &text)?;
+    assert_eq!(rt; format.width_sum(), Some(2097120));
+    Ok(())
+}

@@ -1,0 +1,124 @@
+//! Stores, run: one script of calls over both, and where they are full.
+ghost use Rattle.std.specs.Prelude.{◌≡◌, ◌≤◌};
+ghost use Rattle.sf_base.specs.Kept.{nothing_kept};
+
+use crate::shared::is;
+use sf_base::{FixedStore, HeapStore, Store, Value, push_each};
+use std::process::Abort;
+use std::test::Fail;
+
+/// Calls on an empty store: how many bytes of the last piece were pushed.
+fn script<S: Store>(store: &mut S) -> Result<usize, Fail>
+    requires slots { 5 ≤ S.slots }
+    requires empty { S.kept store.old ≡ nothing_kept (S.kept store.old).room }
+{
+    store.set(2, Value::I64(-9));
+    store.open_text(1);
+    store.push(b'a')?;
+    store.push_all(b"bc")?;
+    store.close_text();
+    store.open_text(3);
+    store.push_all(b"gone")?;
+    store.drop_text();
+    store.open_text(4);
+    store.set(5, Value::U8(255));
+    let pushed = push_each(store, b"de");
+    store.close_text();
+    Ok(pushed)
+}
+
+/// What the slots then have.
+const KEPT: [(u8, Option<Value<'static>>); 7] = [
+    (0, None),
+    (1, Some(Value::Text(b"abc"))),
+    (2, Some(Value::I64(-9))),
+    (3, None),
+    (4, Some(Value::Text(b"de"))),
+    (5, Some(Value::U8(255))),
+    (6, None),
+];
+
+fn is_kept<S: Store>(rt: &impl Abort, store: &S) {
+    for (slot, value) in KEPT {
+        is(rt, &store.value(slot), &value, &slot);
+    }
+}
+
+#[test]
+fn stores_answer_alike(rt: HostRuntime) -> Result<(), Fail> {
+    let mut heap = HeapStore::new(rt.alloc(), 9)?;
+    let mut fixed = FixedStore::<9, 5>::new();
+    for _ in 0..2 {
+        heap.clear();
+        assert!(rt; heap.room() >= 9);
+        assert_eq!(rt; script(&mut heap)?, 2);
+        is_kept(&rt, &heap);
+        fixed.clear();
+        assert_eq!(rt; fixed.room(), 9);
+        assert_eq!(rt; script(&mut fixed)?, 2);
+        is_kept(&rt, &fixed);
+        assert_eq!(rt; fixed.room(), 4);
+    }
+    Ok(())
+}
+
+#[test]
+fn a_fixed_store_is_full_at_its_capacity(rt: HostRuntime) {
+    let mut store = FixedStore::<3, 1>::new();
+    store.open_text(1);
+    assert!(rt; store.push_all(b"abcd").is_err() && store.room() == 3);
+    assert_eq!(rt; push_each(&mut store, b"abcd"), 3);
+    assert!(rt; store.push(b'd').is_err() && store.room() == 0);
+    store.close_text();
+    assert_eq!(rt; store.value(1), Some(Value::Text(b"abc")));
+}
+
+#[test]
+fn a_store_without_bytes_keeps_numbers(rt: HostRuntime) {
+    let mut store = FixedStore::<0, 1>::new();
+    store.set(1, Value::U64(18446744073709551615));
+    assert!(rt; store.room() == 0 && store.value(1) == Some(Value::U64(18446744073709551615)));
+}
+
+/// `rt try --test --fail-alloc N` refuses each growth in turn, for N from 2 on: the push that it hits changes nothing, and
+/// the next one goes.
+#[test]
+fn a_text_grows_by_bytes(rt: HostRuntime) -> Result<(), Fail> {
+    let mut store = HeapStore::new(rt.alloc(), 0)?;
+    store.open_text(32);
+    for pushed in 0..100000usize {
+        let b = if pushed % 2 == 0 { b'a' } else { b'b' };
+        if store.push(b).is_err() {
+            assert_eq!(rt; store.room(), 0);
+            store.push(b)?;
+        }
+    }
+    store.close_text();
+    let Some(Value::Text(text)) = store.value(32) else {
+        return Err(Fail::new("the text is lost"));
+    };
+    assert!(rt; text.len() == 100000 && text.starts_with(b"abab") && text.ends_with(b"ab"));
+    Ok(())
+}
+
+/// The same by whole pieces.
+#[test]
+fn a_text_grows_by_pieces(rt: HostRuntime) -> Result<(), Fail> {
+    let mut store = HeapStore::new(rt.alloc(), 0)?;
+    store.set(1, Value::I8(-1));
+    store.open_text(2);
+    for _ in 0..10000 {
+        let room = store.room();
+        if store.push_all(b"0123456789").is_err() {
+            assert_eq!(rt; store.room(), room);
+            store.push_all(b"0123456789")?;
+        }
+    }
+    store.close_text();
+    assert_eq!(rt; store.value(1), Some(Value::I8(-1)));
+    let Some(Value::Text(text)) = store.value(2) else {
+        return Err(Fail::new("the text is lost"));
+    };
+    assert!(rt; text.len() == 100000 && text.starts_with(b"01234567890") && text.ends_with(b"9"));
+    Ok(())
+}

@@ -1,0 +1,351 @@
+//! Values from C's rules, beside what the clauses say.
+use crate::shared::is;
+use sf_base::{ByteSet, Kind, ScanInt, digit_value, is_space};
+use std::fmt::Debug;
+use std::process::Abort;
+
+const WHITE_SPACE: [(u8, bool); 9] = [
+    (8, false),
+    (9, true),
+    (10, true),
+    (13, true),
+    (14, false),
+    (31, false),
+    (32, true),
+    (33, false),
+    (160, false),
+];
+
+#[test]
+fn white_space_is_told(rt: HostRuntime) {
+    for (b, want) in WHITE_SPACE {
+        is(&rt, &is_space(b), &want, &b);
+    }
+}
+
+const DIGITS: [(u8, u8, Option<u8>); 14] = [
+    (b'/', 10, None),
+    (b'0', 2, Some(0)),
+    (b'1', 2, Some(1)),
+    (b'2', 2, None),
+    (b'7', 8, Some(7)),
+    (b'8', 8, None),
+    (b'9', 10, Some(9)),
+    (b':', 10, None),
+    (b'a', 10, None),
+    (b'a', 16, Some(10)),
+    (b'F', 16, Some(15)),
+    (b'f', 16, Some(15)),
+    (b'g', 16, None),
+    (b'x', 16, None),
+];
+
+#[test]
+fn digits_have_values(rt: HostRuntime) {
+    for (b, base, want) in DIGITS {
+        assert!(rt; base <= 16);
+        is(&rt, &digit_value(b, base), &want, &(b, base));
+    }
+}
+
+const MEMBERS: [(u8, bool); 5] = [
+    (0, true),
+    (1, false),
+    (b'-', true),
+    (254, false),
+    (255, true),
+];
+
+#[test]
+fn sets_have_members(rt: HostRuntime) {
+    let mut set = ByteSet::empty();
+    assert!(rt; !set.contains(0));
+    set.insert(0);
+    set.insert(b'-');
+    set.insert(255);
+    set.insert(255);
+    for (b, want) in MEMBERS {
+        is(&rt, &set.contains(b), &want, &b);
+    }
+}
+
+const RANGES: [(u8, u8, u16, u8, bool); 15] = [
+    (b'a', b'z', 26, b'a', true),
+    (b'a', b'z', 26, b'z', true),
+    (b'a', b'z', 26, b'`', false),
+    (b'a', b'z', 26, b'{', false),
+    (b'-', b'-', 1, b'-', true),
+    (b'-', b'-', 1, b',', false),
+    (b'-', b'-', 1, b'.', false),
+    (0, 0, 1, 0, true),
+    (0, 0, 1, 255, false),
+    (255, 255, 1, 255, true),
+    (255, 255, 1, 254, false),
+    (0, 254, 255, 255, false),
+    (1, 255, 255, 0, false),
+    (0, 255, 256, 0, true),
+    (0, 255, 256, 255, true),
+];
+
+#[test]
+fn ranges_have_members(rt: HostRuntime) {
+    for (lo, hi, count, b, want) in RANGES {
+        assert!(rt; lo <= hi);
+        let mut set = ByteSet::empty();
+        set.insert_range(lo, hi);
+        is(&rt, &set.count(), &count, &(lo, hi));
+        is(&rt, &set.contains(b), &want, &(lo, hi, b));
+    }
+}
+
+#[test]
+fn a_range_keeps_members(rt: HostRuntime) {
+    let mut set = ByteSet::empty();
+    set.insert(b'_');
+    set.insert(b'5');
+    set.insert_range(b'0', b'9');
+    set.insert_range(b'8', b':');
+    assert_eq!(rt; set.count(), 12);
+    assert!(rt; set.contains(b'_'));
+    assert!(rt; set.contains(b'0'));
+    assert!(rt; set.contains(b':'));
+    assert!(rt; !set.contains(b';'));
+}
+
+const OTHERS: [(u8, bool); 5] = [
+    (0, true),
+    (b'\t', true),
+    (b'\n', false),
+    (11, true),
+    (255, true),
+];
+
+#[test]
+fn complements_have_the_others(rt: HostRuntime) {
+    let mut set = ByteSet::empty();
+    set.complement();
+    assert_eq!(rt; set.count(), 256);
+    assert!(rt; set.contains(0) && set.contains(255));
+    set.complement();
+    assert_eq!(rt; set.count(), 0);
+    set.insert(b'\n');
+    set.complement();
+    assert_eq!(rt; set.count(), 255);
+    for (b, want) in OTHERS {
+        is(&rt, &set.contains(b), &want, &b);
+    }
+    set.insert(b'\n');
+    assert_eq!(rt; set.count(), 256);
+}
+
+const PAIRS: [(u8, u8, u8, u8, bool, bool); 11] = [
+    (b'0', b'9', b'2', b'4', true, false),
+    (b'2', b'4', b'0', b'9', true, true),
+    (b'0', b'9', b'0', b'9', true, true),
+    (b'0', b'9', b'9', b'z', true, false),
+    (b'0', b'9', b':', b'z', false, false),
+    (0, 0, 255, 255, false, false),
+    (255, 255, 0, 255, true, true),
+    (0, 255, 255, 255, true, false),
+    (0, 255, 1, 255, true, false),
+    (0, 255, 0, 254, true, false),
+    (0, 0, 0, 0, true, true),
+];
+
+#[test]
+fn sets_are_compared(rt: HostRuntime) {
+    for (a, b, c, d, meets, subset) in PAIRS {
+        assert!(rt; a <= b && c <= d);
+        let mut one = ByteSet::empty();
+        one.insert_range(a, b);
+        let mut other = ByteSet::empty();
+        other.insert_range(c, d);
+        is(&rt, &one.meets(&other), &meets, &(a, b, c, d));
+        is(&rt, &other.meets(&one), &meets, &(c, d, a, b));
+        is(&rt, &one.subset(&other), &subset, &(a, b, c, d));
+    }
+}
+
+#[test]
+fn the_empty_set_is_compared(rt: HostRuntime) {
+    let none = ByteSet::empty();
+    let mut all = ByteSet::empty();
+    all.complement();
+    assert!(rt; !none.meets(&none) && !none.meets(&all) && !all.meets(&none));
+    assert!(rt; none.subset(&none) && none.subset(&all) && !all.subset(&none));
+    assert!(rt; all.meets(&all) && all.subset(&all));
+}
+
+/// Whether a minus stands there, the magnitude, whether that is too great for a u64, and the integer.
+type Parts<T> = (bool, u64, bool, Option<T>);
+
+fn are_made<T: ScanInt + Debug + Drop + PartialEq>(rt: &impl Abort, rows: &[Parts<T>]) {
+    for (negative, magnitude, overflowed, want) in rows {
+        let made = T::from_parts(*negative, *magnitude, *overflowed);
+        is(rt, &made, want, &(*negative, *magnitude, *overflowed));
+    }
+}
+
+const I32_PARTS: [Parts<i32>; 11] = [
+    (false, 0, false, Some(0)),
+    (true, 0, false, Some(0)),
+    (true, 1, false, Some(-1)),
+    (false, 2147483647, false, Some(2147483647)),
+    (false, 2147483648, false, None),
+    (true, 2147483648, false, Some(-2147483648)),
+    (true, 2147483649, false, None),
+    (false, 4294967296, false, None),
+    (true, u64::MAX, false, None),
+    (false, 0, true, None),
+    (true, 0, true, None),
+];
+
+#[test]
+fn a_sign_and_a_magnitude_make_an_i32(rt: HostRuntime) {
+    are_made(&rt, &I32_PARTS);
+    assert_eq!(rt; i32::kind(), Kind::I32);
+}
+
+const I8_PARTS: [Parts<i8>; 13] = [
+    (false, 127, false, Some(127)),
+    (false, 128, false, None),
+    (true, 128, false, Some(-128)),
+    (true, 129, false, None),
+    (true, 1, false, Some(-1)),
+    (false, 0, false, Some(0)),
+    (true, 0, false, Some(0)),
+    (false, 256, false, None),
+    (true, 255, false, None),
+    (false, u64::MAX, false, None),
+    (true, u64::MAX, false, None),
+    (false, 0, true, None),
+    (true, 0, true, None),
+];
+
+#[test]
+fn a_sign_and_a_magnitude_make_an_i8(rt: HostRuntime) {
+    are_made(&rt, &I8_PARTS);
+    assert_eq!(rt; i8::kind(), Kind::I8);
+}
+
+const I16_PARTS: [Parts<i16>; 13] = [
+    (false, 32767, false, Some(32767)),
+    (false, 32768, false, None),
+    (true, 32768, false, Some(-32768)),
+    (true, 32769, false, None),
+    (true, 1, false, Some(-1)),
+    (false, 0, false, Some(0)),
+    (true, 0, false, Some(0)),
+    (false, 65536, false, None),
+    (true, 65535, false, None),
+    (false, u64::MAX, false, None),
+    (true, u64::MAX, false, None),
+    (false, 0, true, None),
+    (true, 0, true, None),
+];
+
+#[test]
+fn a_sign_and_a_magnitude_make_an_i16(rt: HostRuntime) {
+    are_made(&rt, &I16_PARTS);
+    assert_eq!(rt; i16::kind(), Kind::I16);
+}
+
+const I64_PARTS: [Parts<i64>; 11] = [
+    (false, 9223372036854775807, false, Some(9223372036854775807)),
+    (false, 9223372036854775808, false, None),
+    (true, 9223372036854775808, false, Some(i64::MIN)),
+    (true, 9223372036854775809, false, None),
+    (true, 1, false, Some(-1)),
+    (false, 0, false, Some(0)),
+    (true, 0, false, Some(0)),
+    (false, u64::MAX, false, None),
+    (true, u64::MAX, false, None),
+    (false, 0, true, None),
+    (true, 0, true, None),
+];
+
+#[test]
+fn a_sign_and_a_magnitude_make_an_i64(rt: HostRuntime) {
+    are_made(&rt, &I64_PARTS);
+    assert_eq!(rt; i64::kind(), Kind::I64);
+}
+
+const U8_PARTS: [Parts<u8>; 12] = [
+    (false, 0, false, Some(0)),
+    (true, 0, false, Some(0)),
+    (false, 255, false, Some(255)),
+    (true, 255, false, Some(1)),
+    (true, 1, false, Some(255)),
+    (true, 128, false, Some(128)),
+    (false, 256, false, None),
+    (true, 256, false, None),
+    (true, 257, false, None),
+    (true, u64::MAX, false, None),
+    (false, 0, true, None),
+    (true, 0, true, None),
+];
+
+#[test]
+fn a_sign_and_a_magnitude_make_a_u8(rt: HostRuntime) {
+    are_made(&rt, &U8_PARTS);
+    assert_eq!(rt; u8::kind(), Kind::U8);
+}
+
+const U16_PARTS: [Parts<u16>; 12] = [
+    (false, 0, false, Some(0)),
+    (true, 0, false, Some(0)),
+    (false, 65535, false, Some(65535)),
+    (true, 65535, false, Some(1)),
+    (true, 1, false, Some(65535)),
+    (true, 32768, false, Some(32768)),
+    (false, 65536, false, None),
+    (true, 65536, false, None),
+    (true, 65537, false, None),
+    (true, u64::MAX, false, None),
+    (false, 0, true, None),
+    (true, 0, true, None),
+];
+
+#[test]
+fn a_sign_and_a_magnitude_make_a_u16(rt: HostRuntime) {
+    are_made(&rt, &U16_PARTS);
+    assert_eq!(rt; u16::kind(), Kind::U16);
+}
+
+const U32_PARTS: [Parts<u32>; 12] = [
+    (false, 0, false, Some(0)),
+    (true, 0, false, Some(0)),
+    (false, 4294967295, false, Some(4294967295)),
+    (true, 4294967295, false, Some(1)),
+    (true, 1, false, Some(4294967295)),
+    (true, 2147483648, false, Some(2147483648)),
+    (false, 4294967296, false, None),
+    (true, 4294967296, false, None),
+    (true, 4294967297, false, None),
+    (true, u64::MAX, false, None),
+    (false, 0, true, None),
+    (true, 0, true, None),
+];
+
+#[test]
+fn a_sign_and_a_magnitude_make_a_u32(rt: HostRuntime) {
+    are_made(&rt, &U32_PARTS);
+    assert_eq!(rt; u32::kind(), Kind::U32);
+}
+
+const U64_PARTS: [Parts<u64>; 8] = [
+    (false, 0, false, Some(0)),
+    (true, 0, false, Some(0)),
+    (false, u64::MAX, false, Some(u64::MAX)),
+    (true, u64::MAX, false, Some(1)),
+    (true, 1, false, Some(u64::MAX)),
+    (true, 9223372036854775808, false, Some(9223372036854775808)),
+    (false, 0, true, None),
+    (true, 0, true, None),
+];
+
+#[test]
+fn a_sign_and_a_magnitude_make_a_u64(rt: HostRuntime) {
+    are_made(&rt, &U64_PARTS);
+    assert_eq!(rt; u64::kind(), Kind::U64);
+}
