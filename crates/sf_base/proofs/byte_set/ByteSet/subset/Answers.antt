@@ -1,4 +1,3 @@
-use Rattle.std.proofs.lemmas.Grind.{common_steps}
 use Rattle.std.proofs.Common.{rules}
 use Rattle.sf_base.proofs.byte_set.ByteSet.subset.Goals as goal
 

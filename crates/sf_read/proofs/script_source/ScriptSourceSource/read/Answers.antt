@@ -1,4 +1,3 @@
-use Rattle.std.proofs.lemmas.Grind.{common_steps}
 use Rattle.std.proofs.Common.{◌≡◌, [], take, refl, ◌∙◌}
 use Rattle.sf_read.proofs.Scripts.{bytes_left, no_bytes}
 use Rattle.sf_read.proofs.script_source.ScriptSourceSource.read.Goals as goal
