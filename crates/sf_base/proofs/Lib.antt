@@ -1,2 +1,5 @@
 pub mod Sets
 pub mod EntryLemmas
+pub mod Bits
+pub mod Lanes
+pub mod Fronts

@@ -1,5 +1,5 @@
 -- Bytes and their classes in the C locale.
-use Rattle.std.specs.Prelude.{◌≡◌, ℕ, ◌+◌, ◌*◌, ◌^◌, ◌≤◌, ◌<◌, Bool, true, ◌&&◌, ◌||◌, nat_eq, nat_le, List, [], ◌∷◌, length, take}
+use Rattle.std.specs.Prelude.{◌≡◌, ℕ, ◌+◌, ◌*◌, ◌^◌, ◌≤◌, ◌<◌, Bool, true, not, ◌&&◌, ◌||◌, nat_eq, nat_le, List, [], ◌∷◌, length, take}
 use Rattle.std.specs.List.{AllByRecursion}
 use Rattle.std.specs.Char.{digit_value}
 use Rattle.sf_base.specs.Greatest.{IsGreatest}
@@ -14,6 +14,14 @@ is_white b = nat_eq b 32 || (nat_le 9 b && nat_le b 13)
 
 abbrev pub AreWhite : List ℕ → Type 0
 AreWhite bs = AllByRecursion (λ b. is_white b ≡ true) bs
+
+-- no white space
+abbrev pub is_ink : ℕ → Bool
+is_ink b = not (is_white b)
+
+-- the longest front of x all of whose bytes pass the test has k bytes
+abbrev pub IsLongestFront : (ℕ → Bool) → List ℕ → ℕ → Type 0
+IsLongestFront test x k = IsGreatest (λ j. (j ≤ length x) × AllByRecursion (λ b. test b ≡ true) (take j x)) k
 
 -- the longest front of x that is all white space has k bytes (C11 7.21.6.2p5, p8)
 abbrev pub IsSkip : List ℕ → ℕ → Type 0

@@ -1,5 +1,5 @@
 -- Values of destinations.
-use Rattle.std.specs.Prelude.{ℕ, ◌-◌, ◌%◌, ◌^◌, Bool, true, false, nat_eq, nat_lt, nat_le, if◌then◌else◌, List, find, ℤ, pos, neg_ℤ}
+use Rattle.std.specs.Prelude.{ℕ, ◌-◌, ◌%◌, ◌^◌, Bool, true, false, nat_eq, nat_lt, nat_le, if◌then◌else◌, List, find, ℤ, pos, neg_ℤ, ◌≤ℤ◌, ◌<ℤ◌}
 use Rattle.std.specs.Prelude.{Option, Some, None}
 use Rattle.std.specs.Option.{option_map}
 use Rattle.sf_base.specs.declared.values.Kind.{Kind}
@@ -11,6 +11,38 @@ use Rattle.sf_base.specs.declared.values.Value.TheVariants as value
 pub data Datum : Type 0 where
   Number : Kind → ℤ → Datum
   Bytes : List ℕ → Datum
+
+-- the kind of a destination that was given it
+abbrev pub kind_of : Datum → Kind
+kind_of (Number kind n) = kind
+kind_of (Bytes text) = Text
+
+-- its number, if it is no text
+abbrev pub number_in : Datum → Option ℤ
+number_in (Number kind n) = Some n
+number_in (Bytes text) = None
+
+-- ---- the numbers of a kind
+
+-- n bits beside the sign, in two's complement (C11 6.2.6.2p2)
+abbrev pub IsSigned : ℕ → ℤ → Type 0
+IsSigned n z = (neg_ℤ (pos (2 ^ n)) ≤ℤ z) × (z <ℤ pos (2 ^ n))
+
+-- n bits
+abbrev pub IsUnsigned : ℕ → ℤ → Type 0
+IsUnsigned n z = (pos 0 ≤ℤ z) × (z <ℤ pos (2 ^ n))
+
+-- the kind holds the number
+abbrev pub IsIn : Kind → ℤ → Type 0
+IsIn I8 z = IsSigned 7 z
+IsIn I16 z = IsSigned 15 z
+IsIn I32 z = IsSigned 31 z
+IsIn I64 z = IsSigned 63 z
+IsIn U8 z = IsUnsigned 8 z
+IsIn U16 z = IsUnsigned 16 z
+IsIn U32 z = IsUnsigned 32 z
+IsIn U64 z = IsUnsigned 64 z
+IsIn Text z = ⊥
 
 -- a signed number of n bits beside the sign: from -2 ^ n to 2 ^ n - 1 (C11 6.2.6.2p2)
 abbrev pub signed_value : ℕ → Bool → ℕ → Option ℤ

@@ -4,3 +4,4 @@ pub mod Sets
 pub mod Data
 pub mod Kept
 pub mod Entries
+pub mod Rules

@@ -1,22 +1,24 @@
 //! Sets of bytes.
 ghost use Rattle.std.specs.Prelude.{◌≡◌, ◌↔◌, ◌||◌, ◌&&◌, ◌==◌, ◌<◌, ◌≤◌, nat_le, not, ℕ, List, Bool, true, false, IsTrue, length};
-ghost use Rattle.sf_base.specs.Sets.{has_byte, count_below};
+ghost use Rattle.std.specs.List.{prefix_len};
+ghost use Rattle.sf_base.specs.Bytes.{IsLongestFront};
+ghost use Rattle.sf_base.specs.Sets.{has_byte, marks_of, count_below};
 
 use std::marker::Model;
 
 /// A set of bytes, as the scanlist of a format has one (C11 7.21.6.2p12).
 #[derive(Drop)]
 pub struct ByteSet {
-    // for each byte, whether it is a member
-    marks: [bool; 256],
+    // byte b is bit b % 64 of word b / 64
+    words: [u64; 4],
 }
 
 impl Model for ByteSet {
     ghost Value = { List Bool };
 
-    ghost view = { λ s. s.marks };
+    ghost view = { λ s. marks_of s.words };
 
-    ghost invariant = { λ s. length s.marks ≡ 256 };
+    ghost invariant = { λ s. length s.words ≡ 4 };
 }
 
 impl ByteSet {
@@ -25,9 +27,7 @@ impl ByteSet {
         ensures members { (k : ℕ) → k < 256 → has_byte result k ≡ false }
         ensures sized { length result ≡ 256 }
     {
-        ByteSet {
-            marks: [false; 256],
-        }
+        ByteSet { words: [0; 4] }
     }
 
     /// Makes the byte a member, if it is none yet.
@@ -35,7 +35,8 @@ impl ByteSet {
         ensures members { (k : ℕ) → k < 256 → has_byte self.new k ≡ (k == b || has_byte self.old k) }
         ensures sized { length self.new ≡ 256 }
     {
-        self.marks[b as usize] = true;
+        let i = (b / 64) as usize;
+        self.words[i] = self.words[i] | (1u64 << (b % 64));
     }
 
     /// Makes each byte from `lo` to `hi` a member, both among them.
@@ -44,9 +45,10 @@ impl ByteSet {
         ensures members { (k : ℕ) → k < 256 → has_byte self.new k ≡ ((nat_le lo k && nat_le k hi) || has_byte self.old k) }
         ensures sized { length self.new ≡ 256 }
     {
-        for i in lo as usize..hi as usize + 1 {
-            self.marks[i] = true;
+        for b in lo..hi {
+            self.insert(b);
         }
+        self.insert(hi);
     }
 
     /// Makes each byte that is no member one, and takes the others away.
@@ -54,8 +56,9 @@ impl ByteSet {
         ensures members { (k : ℕ) → k < 256 → has_byte self.new k ≡ not (has_byte self.old k) }
         ensures sized { length self.new ≡ 256 }
     {
-        for i in 0..256usize {
-            self.marks[i] = !self.marks[i];
+        for i in 0..4usize {
+            let word = self.words[i];
+            self.words[i] = !word;
         }
     }
 
@@ -63,15 +66,30 @@ impl ByteSet {
     pub fn contains(&self, b: u8) -> bool
         ensures { result ≡ has_byte self.now b }
     {
-        self.marks[b as usize]
+        let word = self.words[(b / 64) as usize];
+        (word >> (b % 64)) & 1 == 1
+    }
+
+    /// How many members the bytes begin with: the length of their longest front of members.
+    pub fn run(&self, bytes: &[u8]) -> usize
+        ensures longest { IsLongestFront (has_byte self.now) bytes.now result }
+        ensures count { result ≡ prefix_len (has_byte self.now) bytes.now }
+    {
+        for i in 0..bytes.len() {
+            if !self.contains(bytes[i]) {
+                return i;
+            }
+        }
+        bytes.len()
     }
 
     /// Whether some byte is a member of both sets.
     pub fn meets(&self, other: &ByteSet) -> bool
         ensures { IsTrue result ↔ ((k : ℕ) × (k < 256) × (has_byte self.now k ≡ true) × (has_byte other.now k ≡ true)) }
     {
-        for i in 0..256usize {
-            if self.marks[i] && other.marks[i] {
+        for i in 0..4usize {
+            let (mine, others) = (self.words[i], other.words[i]);
+            if mine & others != 0 {
                 return true;
             }
         }
@@ -82,8 +100,9 @@ impl ByteSet {
     pub fn subset(&self, other: &ByteSet) -> bool
         ensures { IsTrue result ↔ ((k : ℕ) → k < 256 → has_byte self.now k ≡ true → has_byte other.now k ≡ true) }
     {
-        for i in 0..256usize {
-            if self.marks[i] && !other.marks[i] {
+        for i in 0..4usize {
+            let (mine, others) = (self.words[i], other.words[i]);
+            if mine & !others != 0 {
                 return false;
             }
         }
@@ -96,9 +115,10 @@ impl ByteSet {
         ensures at_most_all { result ≤ 256 }
         ensures sized { length self.now ≡ 256 }
     {
+        let _words = &self.words;
         let mut count = 0;
-        for i in 0..256usize {
-            if self.marks[i] {
+        for b in 0..256u16 {
+            if self.contains(b as u8) {
                 count += 1;
             }
         }

@@ -1,6 +1,6 @@
 //! A store of fixed capacity.
-ghost use Rattle.std.specs.Prelude.{◌≡◌};
-ghost use Rattle.sf_base.specs.Kept.{nothing_kept};
+ghost use Rattle.std.specs.Prelude.{◌≡◌, ◌+◌, length};
+ghost use Rattle.sf_base.specs.Kept.{buffer_of, nothing_kept};
 
 use crate::Value;
 use crate::entries::{Cell, Entry, find_value, number_cell};
@@ -43,6 +43,16 @@ impl<const CAP: usize, const SLOTS: usize> FixedStore<CAP, SLOTS> {
             closed: 0,
             opened: None,
         }
+    }
+
+    /// Takes everything away, and keeps the room.
+    pub fn clear(&mut self)
+        ensures { self.new ≡ nothing_kept (self.old.room + length (buffer_of self.old)) }
+    {
+        self.entries.clear();
+        self.bytes.clear();
+        self.closed = 0;
+        self.opened = None;
     }
 }
 
@@ -94,13 +104,6 @@ impl<const CAP: usize, const SLOTS: usize> Store for FixedStore<CAP, SLOTS> {
 
     fn drop_text(&mut self) {
         self.bytes.truncate(self.closed);
-        self.opened = None;
-    }
-
-    fn clear(&mut self) {
-        self.entries.clear();
-        self.bytes.clear();
-        self.closed = 0;
         self.opened = None;
     }
 

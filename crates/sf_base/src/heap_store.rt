@@ -1,6 +1,6 @@
 //! A store that grows.
-ghost use Rattle.std.specs.Prelude.{◌≡◌, IfOk};
-ghost use Rattle.sf_base.specs.Kept.{nothing_kept};
+ghost use Rattle.std.specs.Prelude.{◌≡◌, ◌+◌, length, IfOk};
+ghost use Rattle.sf_base.specs.Kept.{buffer_of, nothing_kept};
 
 use crate::Value;
 use crate::entries::{Cell, Entry, find_value, number_cell};
@@ -48,6 +48,16 @@ impl HeapStore {
             opened: None,
             sure: reserve as usize,
         })
+    }
+
+    /// Takes everything away, and keeps the room.
+    pub fn clear(&mut self)
+        ensures { self.new ≡ nothing_kept (self.old.room + length (buffer_of self.old)) }
+    {
+        self.entries.clear();
+        self.bytes.clear();
+        self.closed = 0;
+        self.opened = None;
     }
 }
 
@@ -105,13 +115,6 @@ impl Store for HeapStore {
 
     fn drop_text(&mut self) {
         self.bytes.truncate(self.closed);
-        self.opened = None;
-    }
-
-    fn clear(&mut self) {
-        self.entries.clear();
-        self.bytes.clear();
-        self.closed = 0;
         self.opened = None;
     }
 

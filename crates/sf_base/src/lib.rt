@@ -7,6 +7,8 @@ mod entries;
 mod fixed_store;
 mod heap_store;
 mod integers;
+mod rules;
+mod runs;
 mod store;
 mod values;
 
@@ -15,5 +17,7 @@ pub use bytes::{digit_value, is_space};
 pub use fixed_store::FixedStore;
 pub use heap_store::HeapStore;
 pub use integers::ScanInt;
+pub use rules::{Rule, first_fault};
+pub use runs::{space_run, text_run};
 pub use store::{Store, StoreFull, push_each};
 pub use values::{Kind, Value};

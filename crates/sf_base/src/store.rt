@@ -2,7 +2,7 @@
 ghost use Rattle.std.specs.Prelude.{◌≡◌, ◌+◌, ◌<◌, ◌≤◌, ℕ, [], ◌∷◌, length, take, true, false, None, IsSome, OnOk, OnErr};
 ghost use Rattle.std.specs.Option.{option_map};
 ghost use Rattle.sf_base.specs.Data.{datum_of, datum_at, is_number};
-ghost use Rattle.sf_base.specs.Kept.{Kept, is_opened, buffer_of, nothing_kept, with_value, with_opened, with_bytes, with_closed, with_dropped};
+ghost use Rattle.sf_base.specs.Kept.{Kept, is_opened, with_value, with_opened, with_bytes, with_closed, with_dropped};
 
 use crate::Value;
 
@@ -41,14 +41,6 @@ pub trait Store: Drop {
         ensures err { OnErr result (kept self.new ≡ kept self.old) }
         ensures full { OnErr result ((kept self.old).room ≡ 0) };
 
-    /// Appends all of the bytes to the opened text, or none.
-    fn push_all(&mut self, bytes: &[u8]) -> Result<(), StoreFull>
-        requires { IsSome (kept self.old).opened }
-        ensures ok { OnOk result (kept self.new ≡ with_bytes bytes.now (kept self.new).room (kept self.old)) }
-        ensures room { (kept self.old).room ≤ (kept self.new).room + length bytes.now }
-        ensures err { OnErr result (kept self.new ≡ kept self.old) }
-        ensures full { OnErr result ((kept self.old).room < length bytes.now) };
-
     /// Makes the opened text the value of its slot.
     fn close_text(&mut self)
         requires { IsSome (kept self.old).opened }
@@ -59,10 +51,6 @@ pub trait Store: Drop {
         requires { IsSome (kept self.old).opened }
         ensures { kept self.new ≡ with_dropped (kept self.old) };
 
-    /// Takes everything away, and keeps the room.
-    fn clear(&mut self)
-        ensures { kept self.new ≡ nothing_kept ((kept self.old).room + length (buffer_of (kept self.old))) };
-
     /// How many bytes can be pushed for sure.
     fn room(&self) -> usize
         ensures { result ≡ (kept self.now).room };
@@ -70,6 +58,23 @@ pub trait Store: Drop {
     /// The value of the slot, if it has one.
     fn value(&self, slot: u8) -> Option<Value<'_>>
         ensures { option_map datum_of result ≡ datum_at slot (kept self.now).values };
+
+    /// Appends all of the bytes to the opened text, or none. A store that need not push byte by byte has its own.
+    fn push_all(&mut self, bytes: &[u8]) -> Result<(), StoreFull>
+        requires { IsSome (kept self.old).opened }
+        ensures ok { OnOk result (kept self.new ≡ with_bytes bytes.now (kept self.new).room (kept self.old)) }
+        ensures room { (kept self.old).room ≤ (kept self.new).room + length bytes.now }
+        ensures err { OnErr result (kept self.new ≡ kept self.old) }
+        ensures full { OnErr result ((kept self.old).room < length bytes.now) }
+    {
+        if self.room() < bytes.len() {
+            return Err(StoreFull);
+        }
+        for b in bytes {
+            self.push(*b)?;
+        }
+        Ok(())
+    }
 }
 
 /// Pushes the bytes one by one as far as the store takes them, and says how many it took. Where it takes them all,

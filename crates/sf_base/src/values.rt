@@ -14,6 +14,31 @@ pub enum Kind {
     Text,
 }
 
+impl Kind {
+    ghost use Rattle.std.specs.Prelude.{◌≡◌, IfSome, IfNone};
+    ghost use Rattle.sf_base.specs.Data.{datum_of, IsIn};
+    ghost use Rattle.sf_base.specs.Data.Datum.{Number};
+
+    /// The value of the kind that is this number. None if the kind does not hold it; a text holds none.
+    pub fn value(self, number: i128) -> Option<Value<'static>>
+        ensures held { IfSome result (λ v. IsIn self number × (datum_of v ≡ Number self number)) }
+        ensures beyond { IfNone result (¬ (IsIn self number)) }
+    {
+        let value = match self {
+            Kind::I8 => Value::I8(i8::try_from(number).ok()?),
+            Kind::I16 => Value::I16(i16::try_from(number).ok()?),
+            Kind::I32 => Value::I32(i32::try_from(number).ok()?),
+            Kind::I64 => Value::I64(i64::try_from(number).ok()?),
+            Kind::U8 => Value::U8(u8::try_from(number).ok()?),
+            Kind::U16 => Value::U16(u16::try_from(number).ok()?),
+            Kind::U32 => Value::U32(u32::try_from(number).ok()?),
+            Kind::U64 => Value::U64(u64::try_from(number).ok()?),
+            Kind::Text => return None,
+        };
+        Some(value)
+    }
+}
+
 /// What a destination was given. A text is lent.
 #[derive(Clone, Copy, Debug, PartialEq, Eq)]
 pub enum Value<'a> {
@@ -26,6 +51,46 @@ pub enum Value<'a> {
     U32(u32),
     U64(u64),
     Text(&'a [u8]),
+}
+
+impl Value<'_> {
+    ghost use Rattle.std.specs.Prelude.{◌≡◌};
+    ghost use Rattle.sf_base.specs.Data.{datum_of, kind_of, number_in};
+
+    /// The kind of a destination that can be given it.
+    pub fn kind(&self) -> Kind
+        ensures { result ≡ kind_of (datum_of self.now) }
+    {
+        match self {
+            Value::I8(_) => Kind::I8,
+            Value::I16(_) => Kind::I16,
+            Value::I32(_) => Kind::I32,
+            Value::I64(_) => Kind::I64,
+            Value::U8(_) => Kind::U8,
+            Value::U16(_) => Kind::U16,
+            Value::U32(_) => Kind::U32,
+            Value::U64(_) => Kind::U64,
+            Value::Text(_) => Kind::Text,
+        }
+    }
+
+    /// Its number. None of a text.
+    pub fn number(&self) -> Option<i128>
+        ensures { result ≡ number_in (datum_of self.now) }
+    {
+        let number = match self {
+            Value::I8(n) => i128::from(*n),
+            Value::I16(n) => i128::from(*n),
+            Value::I32(n) => i128::from(*n),
+            Value::I64(n) => i128::from(*n),
+            Value::U8(n) => i128::from(*n),
+            Value::U16(n) => i128::from(*n),
+            Value::U32(n) => i128::from(*n),
+            Value::U64(n) => i128::from(*n),
+            Value::Text(_) => return None,
+        };
+        Some(number)
+    }
 }
 
 impl Default for Value<'_> {

@@ -18,3 +18,4 @@ pub mod Widths
 pub mod Laws
 pub mod Classes
 pub mod Passing
+pub mod Texts

@@ -1,5 +1,7 @@
 //! What is wrong with a format.
 use std::alloc::AllocFailed;
+use std::error::Error;
+use std::fmt;
 
 /// Why a format is refused.
 #[derive(Clone, Copy, Debug, PartialEq, Eq)]
@@ -64,3 +66,65 @@ impl<T: Drop> From<AllocFailed<T>> for FormatFault {
         }
     }
 }
+
+impl FormatWhy {
+    ghost use Rattle.std.specs.Prelude.{◌≡◌};
+    ghost use Rattle.sf_format.specs.Texts.{why_text};
+
+    /// Its code and its name, as `F8 BackwardRange`.
+    fn text(self) -> &'static str
+        ensures { result.now ≡ why_text self }
+    {
+        match self {
+            FormatWhy::Truncated => "F1 Truncated",
+            FormatWhy::ZeroWidth => "F2 ZeroWidth",
+            FormatWhy::TooWide => "F3 TooWide",
+            FormatWhy::UnknownLetter => "F4 UnknownLetter",
+            FormatWhy::LeftOut => "F5 LeftOut",
+            FormatWhy::BadLength => "F6 BadLength",
+            FormatWhy::OpenSet => "F7 OpenSet",
+            FormatWhy::BackwardRange => "F8 BackwardRange",
+            FormatWhy::BadCount => "F9 BadCount",
+            FormatWhy::MixedNumbering => "F10 MixedNumbering",
+            FormatWhy::BadNumber => "F11 BadNumber",
+            FormatWhy::NumberTwice => "F12 NumberTwice",
+            FormatWhy::NumberGap => "F13 NumberGap",
+            FormatWhy::Nul => "F14 Nul",
+            FormatWhy::FormatTooLong => "F15 FormatTooLong",
+            FormatWhy::TooManyDestinations => "F16 TooManyDestinations",
+            FormatWhy::BadFlag => "F17 BadFlag",
+            FormatWhy::PrecisionTooLarge => "F18 PrecisionTooLarge",
+            FormatWhy::NoMemory => "F19 NoMemory",
+        }
+    }
+}
+
+/// The code and the name, as `F8 BackwardRange`.
+impl fmt::Display for FormatWhy {
+    ghost use Rattle.std.specs.Prelude.{Some};
+    ghost use Rattle.sf_format.specs.Texts.{why_text};
+
+    ghost output = { λ why. Some (why_text why) };
+
+    fn fmt<W: fmt::Write>(&self, f: &mut fmt::Formatter<W>) -> fmt::Result {
+        let text = self.text();
+        write!(f, "{text}")
+    }
+}
+
+impl Error for FormatWhy {}
+
+/// The code, the name and the place, as `F8 BackwardRange at 2`.
+impl fmt::Display for FormatFault {
+    ghost use Rattle.std.specs.Prelude.{Some};
+    ghost use Rattle.sf_format.specs.Texts.{fault_text};
+
+    ghost output = { λ fault. Some (fault_text fault) };
+
+    fn fmt<W: fmt::Write>(&self, f: &mut fmt::Formatter<W>) -> fmt::Result {
+        let FormatFault { at, why } = *self;
+        write!(f, "{why} at {at}")
+    }
+}
+
+impl Error for FormatFault {}

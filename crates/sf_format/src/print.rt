@@ -3,7 +3,7 @@ ghost use Rattle.std.specs.Prelude.{◌≡◌, ◌≤◌, ◌↔◌, IsSome, ℕ
 ghost use Rattle.sf_format.specs.declared.fault.FormatWhy.{FormatWhy};
 ghost use Rattle.sf_format.specs.declared.unit.Unit.{Unit as PrintUnit};
 ghost use Rattle.sf_format.specs.Slots.{AreSlots, kind_with};
-ghost use Rattle.sf_format.specs.Units.{AreProperUnits, values_of};
+ghost use Rattle.sf_format.specs.Units.{AreAccepted, AreProperUnits, values_of};
 ghost use Rattle.sf_format.specs.Grammar.{SpellsPrint};
 ghost use Rattle.sf_format.specs.Faults.{PrintFault, IsPrintRefused, no_memory};
 
@@ -82,6 +82,7 @@ impl PrintFormat {
     /// The units, in order.
     pub fn directives(&self) -> &[Unit]
         ensures value { result.now ≡ self.now }
+        ensures accepted { AreAccepted self.now }
         ensures proper { AreProperUnits result.now }
         ensures short { length result.now ≤ 4096 }
         ensures few { length (values_of result.now) ≤ 32 }
@@ -93,6 +94,7 @@ impl PrintFormat {
     /// How many values the format prints.
     pub fn values(&self) -> u8
         ensures count { result ≡ length (values_of self.now) }
+        ensures accepted { AreAccepted self.now }
         ensures few { result ≤ 32 }
     {
         self.values

@@ -3,7 +3,7 @@ ghost use Rattle.std.specs.Prelude.{◌≡◌, ◌≤◌, ◌↔◌, IsSome, ℕ
 ghost use Rattle.sf_format.specs.declared.fault.FormatWhy.{FormatWhy};
 ghost use Rattle.sf_format.specs.declared.directive.Directive.{Directive};
 ghost use Rattle.sf_format.specs.Slots.{AreSlots};
-ghost use Rattle.sf_format.specs.Proper.{AreKinded, AreProper, AreSized, destinations_of, kind_at};
+ghost use Rattle.sf_format.specs.Proper.{AreKinded, AreProper, AreSized, IsAccepted, destinations_of, kind_at};
 ghost use Rattle.sf_format.specs.Widths.{width_sum, stored_width};
 ghost use Rattle.sf_format.specs.Grammar.{Spells};
 ghost use Rattle.sf_format.specs.Faults.{Fault, IsRefused, no_memory};
@@ -114,6 +114,7 @@ impl ScanFormat {
     /// The directives, in order.
     pub fn directives(&self) -> &[Directive]
         ensures value { result.now ≡ self.now }
+        ensures accepted { IsAccepted self.now }
         ensures proper { AreProper result.now }
         ensures sized { AreSized result.now }
         ensures kinded { AreKinded result.now }
@@ -127,6 +128,7 @@ impl ScanFormat {
     /// How many destinations the format has. Their slots are the numbers from 1 to that, each once.
     pub fn destinations(&self) -> u8
         ensures count { result ≡ length (destinations_of self.now) }
+        ensures accepted { IsAccepted self.now }
         ensures few { result ≤ 32 }
         ensures slots { AreSlots (destinations_of self.now) }
         ensures kinded { AreKinded self.now }

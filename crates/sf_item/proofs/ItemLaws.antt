@@ -41,6 +41,22 @@ not_above j k none = elim (nat_lt k j) as (λ v. nat_lt k j ≡ v → j ≤ k) [
   | false ↦ λ e. grind (arith, nat_tests)
 ] refl
 
+-- the item of an input in which the first k bytes can be taken, and those with the next one can't
+pub item_ends : (c : Conversion) → IsProperShape c.shape → (x : List ℕ) (k : ℕ) → k < length x → can_take c (take k x) ≡ true → can_take c (take (k + 1) x) ≡ false → IsItem c x k
+item_ends c proper x k inside can cannot =
+    let front = (tests_can_take c proper (take k x)).from can in
+    record {
+      holds = (omega (arith, inside), subst (IsWithin c) (length-take-le k x (omega (arith, inside))) front.0, front.1);
+      above = λ j m. not_above j k (too_long j m);
+    }
+  where
+    too_long : (j : ℕ) → IsFrontOf c x j → k < j → ⊥
+    too_long j m longer =
+        let fits : IsWithin c (k + 1) = shorter_within c.width (k + 1) j (omega (arith, longer)) m.1 in
+        let begins : Begins c (take (k + 1) x) = shorter_begins c proper x (k + 1) j (omega (arith, longer)) m.2 in
+        let taken = (tests_can_take c proper (take (k + 1) x)).to (subst (IsWithin c) (sym (length-take-le (k + 1) x (omega (arith, inside)))) fits, begins) in
+        true≢false (sym taken ∙ cannot)
+
 -- ---- a longer input
 
 pub item_stays : (c : Conversion) → IsProperShape c.shape → (x z : List ℕ) (k : ℕ) → IsItem c x k → k < length x → IsItem c (x ++ z) k

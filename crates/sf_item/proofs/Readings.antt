@@ -25,7 +25,7 @@ behind base p f t now after before then =
 abbrev pub rest : List ℕ → ℕ → List ℕ
 rest piece i = take (length piece - i) (drop i piece)
 
-rest_is : (piece : List ℕ) (i : ℕ) → rest piece i ≡ drop i piece
+pub rest_is : (piece : List ℕ) (i : ℕ) → rest piece i ≡ drop i piece
 rest_is piece i = ap (λ n. take n (drop i piece)) (sym (length-drop i piece)) ∙ take-length (drop i piece)
 
 pub length_rest : (piece : List ℕ) (i : ℕ) → length (rest piece i) ≡ length piece - i

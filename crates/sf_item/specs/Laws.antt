@@ -1,10 +1,12 @@
 -- Laws of items.
-use Rattle.std.specs.Prelude.{◌≡◌, ◌≢◌, ℕ, ◌<◌, min, true, List, ◌++◌, length, Some, None}
-use Rattle.sf_format.specs.declared.directive.Shape.TheVariants.{Chars}
+use Rattle.std.specs.Prelude.{◌≡◌, ◌≢◌, ℕ, ◌+◌, ◌<◌, min, true, List, [], ◌∷◌, ◌++◌, length, Option, Some, None}
+use Rattle.sf_format.specs.declared.directive.Base.{Base}
+use Rattle.sf_format.specs.declared.directive.Shape.TheVariants.{Int, Chars}
 use Rattle.sf_format.specs.declared.directive.Conversion.{Conversion}
 use Rattle.sf_format.specs.Proper.{IsProperShape}
 use Rattle.sf_item.specs.Matching.{IsItem}
-use Rattle.sf_item.specs.Tests.{has_item}
+use Rattle.sf_item.specs.Progress.{Progress}
+use Rattle.sf_item.specs.Tests.{read, is_within, can_take, has_item}
 
 -- the input has an item of this many bytes and no other
 pub record HasOneItem (c : Conversion) (x : List ℕ) : Type 0 where
@@ -24,3 +26,18 @@ EndedItemsStay = (c : Conversion) → IsProperShape c.shape → (x z : List ℕ)
 abbrev pub WidthsCutItems : Type 0
 WidthsCutItems = (c : Conversion) → IsProperShape c.shape → c.shape ≢ Chars → (w : ℕ) → c.width ≡ Some w → (x : List ℕ) (k : ℕ)
     → IsItem (record c { width = None }) x k → IsItem c x (min k w)
+
+-- ---- what can be taken
+
+-- the fronts of what can be taken can be taken
+abbrev pub FrontsCanBeTaken : Type 0
+FrontsCanBeTaken = (c : Conversion) (f t : List ℕ) → can_take c (f ++ t) ≡ true → can_take c f ≡ true
+
+-- within the width, an integer can always go on with a 0
+abbrev pub IntegersGoOn : Type 0
+IntegersGoOn = (c : Conversion) (base : Base) (f : List ℕ) → c.shape ≡ Int base → can_take c f ≡ true → is_within c.width (length f + 1) ≡ true
+    → can_take c (f ++ 48 ∷ []) ≡ true
+
+-- an integer is read one part after the other
+abbrev pub ReadingsGoOn : Type 0
+ReadingsGoOn = (base : Base) (o : Option Progress) (f g : List ℕ) → read base o (f ++ g) ≡ read base (read base o f) g

@@ -4,3 +4,4 @@ pub mod Progress
 pub mod Scan
 pub mod Taking
 pub mod Tests
+pub mod Wholes

@@ -1,7 +1,7 @@
 -- What matches and what begins a matching sequence, as tests that compute. proofs/Deciding shows that they say what Matching says.
-use Rattle.std.specs.Prelude.{ℕ, Bool, true, false, ◌&&◌, nat_eq, nat_lt, nat_le, List, [], ◌∷◌, length, Option, Some, None, is_some, unwrap_or, not}
+use Rattle.std.specs.Prelude.{ℕ, Bool, true, false, ◌&&◌, nat_eq, nat_lt, nat_le, List, [], ◌∷◌, length, Option, Some, None, is_some, unwrap_or}
 use Rattle.std.specs.List.{list_all}
-use Rattle.sf_base.specs.Bytes.{is_white}
+pub use Rattle.sf_base.specs.Bytes.{is_ink}
 use Rattle.sf_base.specs.Sets.{has_byte}
 use Rattle.sf_format.specs.declared.directive.Base.{Base}
 use Rattle.sf_format.specs.declared.directive.Shape.{Shape}
@@ -23,10 +23,6 @@ integer_in (Some p) = integer_of p
 -- the sign and magnitude of the whole f, where that is an integer of the base
 abbrev pub integer_at : Base → List ℕ → Option (Bool × ℕ)
 integer_at base f = integer_in (read base (Some Start) f)
-
--- no white space
-abbrev pub is_ink : ℕ → Bool
-is_ink b = not (is_white b)
 
 -- s is a matching sequence of the shape, of the width if the shape counts bytes
 abbrev pub shape_matches : Shape → Option ℕ → List ℕ → Bool

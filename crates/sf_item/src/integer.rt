@@ -155,7 +155,7 @@ pub fn advance(base: Base, reached: &mut Reached, b: u8) -> bool
 }
 
 // Takes decimal digits of the piece, one after the other, as long as their number stays within 64 bits, and answers how many.
-fn decimal_front(number: &mut u64, piece: &[u8]) -> usize
+pub fn decimal_front(number: &mut u64, piece: &[u8]) -> usize
     ensures within { result ≤ length piece.now }
     ensures read { ReadsDecimal number.old (take result piece.now) number.new }
     ensures nothing { result ≡ 0 → number.new ≡ number.old }

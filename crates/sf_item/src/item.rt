@@ -86,7 +86,7 @@ fn one_less(left: Option<u16>) -> Option<u16>
 }
 
 // As many of the bytes as the item may still have.
-fn cut(piece: &[u8], left: Option<u16>) -> &[u8]
+pub fn cut(piece: &[u8], left: Option<u16>) -> &[u8]
     ensures front { result.now ≡ take (length result.now) piece.now }
     ensures room { (k : ℕ) → k ≤ length result.now → FitsLeft left k }
     ensures whole { length result.now < length piece.now → left ≡ Some (length result.now) }
@@ -166,7 +166,7 @@ impl<'c> ItemScan<'c> {
 
     /// Takes the bytes of the piece, one after the other, as long as the item goes on with them, and answers how many: as
     /// many `step`s take the same. A byte that is refused stays with the input.
-    pub fn take_all(&mut self, piece: &[u8]) -> usize
+    pub fn take_run(&mut self, piece: &[u8]) -> usize
         ensures conversion { conversion_of self.new ≡ conversion_of self.old }
         ensures within { result ≤ length piece.now }
         ensures taken { (f : List ℕ) → HasTaken self.old f → HasTaken self.new (f ++ take result piece.now) }
@@ -181,6 +181,21 @@ impl<'c> ItemScan<'c> {
         self.left = less(self.left, count);
         self.begun |= count > 0;
         count
+    }
+
+    /// As `take_run`.
+    pub fn take_all(&mut self, piece: &[u8]) -> usize
+        ensures conversion { conversion_of self.new ≡ conversion_of self.old }
+        ensures within { result ≤ length piece.now }
+        ensures taken { (f : List ℕ) → HasTaken self.old f → HasTaken self.new (f ++ take result piece.now) }
+        ensures each { (f : List ℕ) → HasTaken self.old f → (k : ℕ) → k < result
+            → CanTake (conversion_of self.old) (f ++ take (k + 1) piece.now) }
+        ensures stops { (f : List ℕ) → HasTaken self.old f → result < length piece.now
+            → CanTake (conversion_of self.old) (f ++ take (result + 1) piece.now) → ⊥ }
+        ensures nothing { result ≡ 0 → self.new ≡ self.old }
+        ensures left { HasLeft (left_of self.old) (left_of self.new) result }
+    {
+        self.take_run(piece)
     }
 
     /// Whether `step` would take no byte, whichever it is. Of a set without a member, which no format has, it tells only

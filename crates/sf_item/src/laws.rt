@@ -1,5 +1,5 @@
 //! Laws of the definitions.
-ghost use Rattle.sf_item.specs.Laws.{EachHasOneItem, EndedItemsStay, WidthsCutItems};
+ghost use Rattle.sf_item.specs.Laws.{EachHasOneItem, EndedItemsStay, FrontsCanBeTaken, IntegersGoOn, ReadingsGoOn, WidthsCutItems};
 
 /// Each input has an item of each proper conversion, and no other.
 pub fn one_item()
@@ -14,4 +14,12 @@ pub fn ended_items_stay()
 /// The item under a width is the item without it, cut at the width.
 pub fn widths_cut_items()
     ensures { WidthsCutItems }
+{}
+
+/// Each front of what can be taken can be taken; within the width an integer can always go on with a 0; and it is read one part after the
+/// other.
+pub fn fronts_go_on()
+    ensures front { FrontsCanBeTaken }
+    ensures zero { IntegersGoOn }
+    ensures parts { ReadingsGoOn }
 {}

@@ -6,5 +6,7 @@ mod item;
 pub mod laws;
 mod reached;
 mod reading;
+mod whole;
 
 pub use item::{ItemEnd, ItemScan, Step};
+pub use whole::{WholeInteger, whole_decimal};

@@ -1,12 +1,11 @@
 //! How an item is read, by the shape of its conversion.
 ghost use Rattle.std.specs.Prelude.{◌≡◌, ◌<◌, ◌≤◌, ◌+◌, true, false, if◌then◌else◌, ℕ, List, [], ◌∷◌, ◌++◌, length, take, Some, None};
-ghost use Rattle.sf_base.specs.Sets.{has_byte};
-ghost use Rattle.sf_item.specs.Tests.{has_item, is_ink};
-ghost use Rattle.sf_item.specs.Scan.{shape_of, HasRead, ReadsNext, IsFront};
+ghost use Rattle.sf_item.specs.Tests.{has_item};
+ghost use Rattle.sf_item.specs.Scan.{shape_of, HasRead, ReadsNext};
 
 use crate::integer::{advance, integer_front};
 use crate::reached::Reached;
-use sf_base::{ByteSet, is_space};
+use sf_base::{ByteSet, is_space, text_run};
 use sf_format::{Base, Shape};
 
 /// What an item is read as, and of an integer how far.
@@ -50,30 +49,6 @@ pub fn read_on(reading: &mut Reading<'_>, b: u8) -> bool
     }
 }
 
-// The number of bytes of the piece before the first white space.
-fn ink_front(piece: &[u8]) -> usize
-    ensures { IsFront is_ink piece.now result }
-{
-    for i in 0..piece.len() {
-        if is_space(piece[i]) {
-            return i;
-        }
-    }
-    piece.len()
-}
-
-// The number of bytes of the piece before the first that is no member.
-fn member_front(members: &ByteSet, piece: &[u8]) -> usize
-    ensures { IsFront (has_byte members.now) piece.now result }
-{
-    for i in 0..piece.len() {
-        if !members.contains(piece[i]) {
-            return i;
-        }
-    }
-    piece.len()
-}
-
 // Reads the bytes of the piece, one after the other, as long as the item goes on with them, and answers how many.
 pub fn read_all(reading: &mut Reading<'_>, piece: &[u8]) -> usize
     ensures within { result ≤ length piece.now }
@@ -84,8 +59,8 @@ pub fn read_all(reading: &mut Reading<'_>, piece: &[u8]) -> usize
 {
     match reading {
         Reading::Integer(base, reached) => integer_front(*base, reached, piece),
-        Reading::Text => ink_front(piece),
-        Reading::Set(members) => member_front(members, piece),
+        Reading::Text => text_run(piece),
+        Reading::Set(members) => members.run(piece),
         Reading::Chars => piece.len(),
     }
 }

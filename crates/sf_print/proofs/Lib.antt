@@ -10,3 +10,4 @@ pub mod Judged
 pub mod Lowest
 pub mod Numerals
 pub mod OnlyNumeral
+pub mod Blanks

@@ -69,7 +69,7 @@ digits_short c m h =
     let short : length ds ≤ 319 = filled_short c (numeral c m) h (numeral_short c m) in
     one_of (is_octal c.letter && c.alt && not (opens_with_zero ds)) (48 ∷ ds) ds 320 (omega arith) (omega arith)
 
-integer_short : (c : PrintConv) (z : ℤ) → c.width ≤ 65535 → least_digits c ≤ 255 → length (integer_text c z) ≤ 200000
+pub integer_short : (c : PrintConv) (z : ℤ) → c.width ≤ 65535 → least_digits c ≤ 255 → length (integer_text c z) ≤ 200000
 integer_short c z wide precise =
     let ds : List ℕ = all_digits c (unsigned_abs z) in
     let len : ℕ = length (prefix c z) + length ds in

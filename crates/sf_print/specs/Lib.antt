@@ -10,3 +10,4 @@ pub mod Printables
 pub mod Staged
 pub mod Runs
 pub mod Short
+pub mod Visible

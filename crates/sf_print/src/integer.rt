@@ -44,7 +44,7 @@ fn mark_bytes(conv: &PrintConv, magnitude: u64) -> &'static [u8]
 }
 
 /// The least number of digits.
-fn least(conv: &PrintConv) -> u32
+pub(crate) fn least(conv: &PrintConv) -> u32
     ensures value { result ≡ least_digits conv.now }
     ensures most { result < 256 }
 {

@@ -17,10 +17,13 @@ mod sink;
 mod stage;
 mod std_sink;
 mod text;
+mod visible;
 
 pub use fault::PrintFault;
+pub use judging::value_of_slot;
 pub use list_sink::ListSink;
 pub use print::{fprint, printed_len};
 pub use script_sink::{ScriptSink, WriteStep};
 pub use sink::{Sink, SinkFault};
 pub use std_sink::StdSink;
+pub use visible::{core_len, least_len};

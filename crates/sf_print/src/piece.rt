@@ -20,7 +20,7 @@ pub(crate) enum Piece<'a> {
 pub(crate) type Pieces<'a> = [Piece<'a>; 6];
 
 impl Piece<'_> {
-    fn len(&self) -> u64
+    pub(crate) fn len(&self) -> u64
         ensures { result ≡ length (piece_bytes self.now) }
     {
         match *self {

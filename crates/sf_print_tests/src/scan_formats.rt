@@ -298,6 +298,19 @@ fn finds_faults(rt: HostRuntime) -> Result<(), Fail> {
 }
 
 #[test]
+fn faults_tell_themselves(rt: HostRuntime) -> Result<(), Fail> {
+    let alloc = rt.alloc();
+    let told = fault(rt.alloc(), b"%[b-a]").map(|it| format!(in alloc; "{it}"));
+    let Some(told) = told else {
+        return Err(Fail::new("the range is accepted"));
+    };
+    assert_eq!(rt; told?.as_str(), "F8 BackwardRange at 2");
+    let why = FormatWhy::ZeroWidth;
+    assert_eq!(rt; format!(in rt.alloc(); "{why}")?.as_str(), "F2 ZeroWidth");
+    Ok(())
+}
+
+#[test]
 fn takes_4000_digits(rt: HostRuntime) -> Result<(), Fail> {
     let text = padded(rt.alloc(), b"%", b'0', 4000, b"7c")?;
     assert_eq!(rt;

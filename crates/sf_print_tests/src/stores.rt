@@ -3,7 +3,7 @@ ghost use Rattle.std.specs.Prelude.{◌≡◌, ◌≤◌};
 ghost use Rattle.sf_base.specs.Kept.{nothing_kept};
 
 use crate::shared::is;
-use sf_base::{FixedStore, HeapStore, Store, Value, push_each};
+use sf_base::{FixedStore, HeapStore, Store, StoreFull, Value, push_each};
 use std::process::Abort;
 use std::test::Fail;
 
@@ -120,5 +120,59 @@ fn a_text_grows_by_pieces(rt: HostRuntime) -> Result<(), Fail> {
         return Err(Fail::new("the text is lost"));
     };
     assert!(rt; text.len() == 100000 && text.starts_with(b"01234567890") && text.ends_with(b"9"));
+    Ok(())
+}
+
+/// A store that has the seven calls of a store, and no more.
+#[derive(Drop)]
+struct SevenCalls(FixedStore<9, 5>);
+
+impl Store for SevenCalls {
+    ghost slots = { 5 };
+
+    ghost kept = { λ s. s.0 };
+
+    fn set(&mut self, slot: u8, value: Value<'_>) {
+        self.0.set(slot, value);
+    }
+
+    fn open_text(&mut self, slot: u8) {
+        self.0.open_text(slot);
+    }
+
+    fn push(&mut self, b: u8) -> Result<(), StoreFull> {
+        self.0.push(b)
+    }
+
+    fn close_text(&mut self) {
+        self.0.close_text();
+    }
+
+    fn drop_text(&mut self) {
+        self.0.drop_text();
+    }
+
+    fn room(&self) -> usize {
+        self.0.room()
+    }
+
+    fn value(&self, slot: u8) -> Option<Value<'_>> {
+        self.0.value(slot)
+    }
+}
+
+#[test]
+fn seven_calls_make_a_store(rt: HostRuntime) -> Result<(), Fail> {
+    let mut store = SevenCalls(FixedStore::new());
+    assert_eq!(rt; script(&mut store)?, 2);
+    is_kept(&rt, &store);
+    assert_eq!(rt; store.room(), 4);
+    let mut store = SevenCalls(FixedStore::new());
+    store.open_text(3);
+    assert!(rt; store.push_all(b"0123456789").is_err() && store.room() == 9);
+    store.push_all(b"012345678")?;
+    assert_eq!(rt; store.room(), 0);
+    store.close_text();
+    assert_eq!(rt; store.value(3), Some(Value::Text(b"012345678")));
     Ok(())
 }

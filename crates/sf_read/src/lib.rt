@@ -16,5 +16,5 @@ pub use script_source::{ReadStep, ScriptSource};
 pub use slice_source::SliceSource;
 pub use source::{Source, SourceFault};
 pub use std_source::StdSource;
-pub use stream::{fscan, fscan_fixed, fscan_over};
+pub use stream::{fscan, fscan_fixed, fscan_held, fscan_over};
 pub use whole::sscan;

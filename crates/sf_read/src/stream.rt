@@ -1,13 +1,16 @@
 //! Scans of what a source gives.
-ghost use Rattle.std.specs.Prelude.{◌≡◌, unwrap_or, IsOk, ◌≤◌, ◌<◌, ◌+◌, ◌⊎◌, ◌↔◌, ℕ, List, [], length, true, false, Some, IsSome, None, IfOk, IfErr, IsErrOf, IsSomeAnd, if◌then◌else◌};
+ghost use Rattle.std.specs.Prelude.{◌≡◌, unwrap_or, IsOk, ◌≤◌, ◌<◌, ◌+◌, ◌⊎◌, ◌↔◌, ℕ, List, [], length, true, false, Some, IsSome, IsNone, IfSome, None, IfOk, IfErr, IsErrOf, IsSomeAnd, if◌then◌else◌};
 ghost use Rattle.sf_base.specs.Kept.{buffer_of};
 ghost use Rattle.sf_format.specs.declared.directive.Directive.{Directive};
 ghost use Rattle.sf_format.specs.Proper.{destinations_of};
 ghost use Rattle.sf_format.specs.Widths.{width_sum};
+ghost use Rattle.sf_run.specs.declared.outcome.Status.TheVariants as status;
 ghost use Rattle.sf_run.specs.Limits.{RunTold};
+ghost use Rattle.sf_run.specs.Memory.{HoldsValues, capacity_of};
 ghost use Rattle.sf_run.specs.Scanner.{standing};
 ghost use Rattle.sf_run.specs.Standing.{After};
 ghost use Rattle.sf_run.specs.Stopping.{is_memory_status};
+ghost use Rattle.sf_run.specs.Views.{report_by};
 ghost use Rattle.sf_read.specs.Ahead.{input_of};
 ghost use Rattle.sf_read.specs.Counts.{counted_on};
 ghost use Rattle.sf_read.specs.Reading.{Driven};
@@ -16,7 +19,7 @@ ghost use Rattle.sf_read.specs.Scan.{Scan, is_fault};
 use crate::{Lookahead, Source};
 use sf_base::{FixedStore, HeapStore, Store};
 use sf_format::ScanFormat;
-use sf_run::{Ending, FeedState, Scanned, Scanner, StartFault};
+use sf_run::{Ending, FeedState, Outcome, Scanned, Scanner, StartFault, quick_run};
 use std::alloc::Global;
 
 /// Feeds the run until it ends: first what is held, then block by block.
@@ -122,6 +125,34 @@ pub fn fscan_over<S: Source, const N: usize>(
     ensures unread { IfErr result (λ _. from.new ≡ from.old) }
 {
     Ok(run(Scanner::over(alloc, store, format, limit)?, from))
+}
+
+/// Scans a record that is held whole, without a scanner: where it is Done before a byte of what the lookahead holds is
+/// lacking, it is consumed, and the store, which is emptied first, has its values; `Report::new` of both is the report of the
+/// scan. The run consumes at most `limit` bytes, and the source isn't read.
+///
+/// None where that isn't so, or isn't known here: then nothing was consumed, and the store may keep something. `fscan_over`
+/// with that store tells what the record comes to.
+pub fn fscan_held<S: Source, const N: usize>(
+    store: &mut HeapStore,
+    from: &mut Lookahead<S, N>,
+    format: &ScanFormat,
+    limit: u32,
+) -> Option<Outcome>
+    ensures scan { (t : List ℕ) → input_of S.to_come from.old ≡ Some t
+        → IfSome result (λ outcome. Scan S.to_come format.now limit t from.old from.new (report_by outcome store.new.values)) }
+    ensures told { IfSome result (λ outcome. (x : List ℕ) × (ending : Ending) × RunTold format.now limit x ending (report_by outcome store.new.values)) }
+    ensures done { IfSome result (λ outcome. outcome.status ≡ status.Done) }
+    ensures met { IfSome result (λ outcome. outcome.met ≡ None) }
+    ensures texts { IfSome result (λ _. HoldsValues store.new) }
+    ensures room { capacity_of store.old ≤ capacity_of store.new }
+    ensures no_read { from.new.source ≡ from.old.source }
+    ensures stays { from.new.at_end ≡ from.old.at_end }
+    ensures none { IsNone result → from.new ≡ from.old }
+{
+    let outcome = quick_run(store, format, limit, from.held())?;
+    from.consume(outcome.used as usize);
+    Some(outcome)
 }
 
 /// As `fscan`, over a store of fixed capacity. It takes no memory.

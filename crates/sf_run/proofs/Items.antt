@@ -8,6 +8,7 @@ use Rattle.sf_item.specs.Matching.{Begins, IsWithin, IsItem}
 use Rattle.sf_item.specs.Tests.{can_take}
 use Rattle.sf_item.proofs.Deciding.{tests_can_take}
 use Rattle.sf_item.proofs.Fronts.{HasItem, can_take_front, item_can_take_nothing}
+use Rattle.sf_run.specs.Computed.{len}
 use Rattle.sf_run.proofs.Skips.{greatest_only, one_more-le}
 
 pub can_take_prefix : (c : Conversion) (f t : List ℕ) → can_take c (f ++ t) ≡ true → can_take c f ≡ true
@@ -16,11 +17,6 @@ can_take_prefix c f (b ∷ t) h =
     can_take_front c f b (can_take_prefix c (f ++ b ∷ []) t (ap (can_take c) (append_assoc f (b ∷ []) t) ∙ h))
 
 -- ---- how many bytes are taken
-
--- how many bytes of y are taken after the front f
-abbrev pub len : Conversion → List ℕ → List ℕ → ℕ
-len c f [] = 0
-len c f (b ∷ y) = cond (can_take c (f ++ b ∷ [])) (suc (len c (f ++ b ∷ []) y)) 0
 
 pub len-le : (c : Conversion) (f y : List ℕ) → len c f y ≤ length y
 len-le c f [] = omega arith

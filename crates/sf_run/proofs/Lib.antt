@@ -4,6 +4,7 @@ pub mod StepLaws
 pub mod Ones
 pub mod RunLaws
 pub mod Told
+pub mod Computing
 pub mod Rows
 pub mod Machines
 pub mod Stages
@@ -16,3 +17,4 @@ pub mod Refusals
 pub mod Inputs
 pub mod TwoStores
 pub mod Wholes
+pub mod AtOnce

@@ -14,13 +14,7 @@ use Rattle.sf_item.proofs.Fronts.{HasItem}
 use Rattle.sf_run.specs.Steps.{StepEnd, Passes}
 use Rattle.sf_run.specs.Machine.{Stage, Skipping, Taken, Item, shape_skips, stepped, item_stepped, finished, conversion_finished, item_finished, count_end, item_end, nothing_end}
 use Rattle.sf_run.specs.Residual.{Part, choose, one_from}
-use Rattle.sf_run.proofs.Skips.{skip}
-use Rattle.sf_run.proofs.Items.{len}
-use Rattle.sf_run.proofs.StepLaws.{byte_choice, byte_step, skip_before, item_ended, item_part, item_step, conversion_step, percent_step, step_of}
-
--- a step of k bytes of x, after n bytes of the run
-abbrev pub part_of : ℕ → List ℕ → ℕ × StepEnd → Part
-part_of n x r = record { used = n + r.0; left = drop r.0 x; end = r.1 }
+use Rattle.sf_run.specs.Computed.{skip, len, byte_choice, byte_step, skip_before, item_ended, item_part, item_step, conversion_step, percent_step, step_of, part_of}
 
 abbrev pub part : ℕ → List ℕ → StepEnd → Part
 part n x end = record { used = n; left = x; end = end }

@@ -23,7 +23,8 @@ use Rattle.sf_run.specs.Residual.{Tally, Part, nothing_yet, with_used, counted, 
 use Rattle.sf_run.specs.Standing.{Standing, Keeps, After, Does, Gives, Refuses, RefusesIn, StoresByte, IsInText, ran_out, report_by}
 use Rattle.sf_run.specs.Stopping.{is_memory_status, is_no_memory}
 use Rattle.sf_run.specs.Texts.{slot_of_text}
-use Rattle.sf_run.proofs.Skips.{skip, skip_is, one_more-le}
+use Rattle.sf_run.specs.Computed.{skip}
+use Rattle.sf_run.proofs.Skips.{skip_is, one_more-le}
 use Rattle.sf_run.proofs.Machines.{by_option}
 use Rattle.sf_run.proofs.Openness.{run_not_too_long}
 use Rattle.sf_run.proofs.Told.{run_told}

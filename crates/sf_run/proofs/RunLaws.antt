@@ -4,18 +4,8 @@ use Rattle.sf_format.specs.declared.directive.Directive.{Directive}
 use Rattle.sf_format.specs.Proper.{AreProper}
 use Rattle.sf_run.specs.Steps.{StepEnd, Passes, Stores, Fails}
 use Rattle.sf_run.specs.Runs.{Ran, GoesOn, Steps}
-use Rattle.sf_run.proofs.StepLaws.{step_of, step_is, step_only}
-
-abbrev pub go_on : StepEnd → List Ran → List Ran
-go_on (Fails status) rest = []
-go_on _ rest = rest
-
--- the directives that run
-abbrev pub ran_of : List Directive → List ℕ → ℕ → List Ran
-ran_of [] x n = []
-ran_of (d ∷ ds) x n =
-    let r = step_of d x n in
-    record { directive = d; bytes = r.0; end = r.1 } ∷ go_on r.1 (ran_of ds (drop r.0 x) (n + r.0))
+use Rattle.sf_run.specs.Computed.{step_of, go_on, ran_of}
+use Rattle.sf_run.proofs.StepLaws.{step_is, step_only}
 
 goes_is : (end : StepEnd) (P : List Ran → Type 0) (rest : List Ran) → P rest → GoesOn end (P (go_on end rest)) (go_on end rest)
 goes_is Passes P rest h = h

@@ -2,11 +2,7 @@
 use Rattle.std.proofs.Common.{◌≡◌, ℕ, zero, suc, ◌≤◌, Bool, true, false, cond, List, [], ◌∷◌, length, take, refl, sym, ◌∙◌, arith, true≢false}
 use Rattle.sf_base.specs.Greatest.{IsGreatest}
 use Rattle.sf_base.specs.Bytes.{is_white, AreWhite, IsSkip}
-
--- the length of the longest front that is white space
-abbrev pub skip : List ℕ → ℕ
-skip [] = 0
-skip (b ∷ x) = cond (is_white b) (suc (skip x)) 0
+use Rattle.sf_run.specs.Computed.{skip}
 
 pub greatest_only : {P : ℕ → Type 0} {j k : ℕ} → IsGreatest P j → IsGreatest P k → j ≡ k
 greatest_only {P} {j} {k} g h =

@@ -9,7 +9,7 @@ use Rattle.std.proofs.lemmas.List.{map-append}
 use Rattle.std.proofs.lemmas.List.Sums.{sum_by-cons}
 use Rattle.sf_base.specs.Data.{Datum, Bytes, Assigned, datum_at, datum_of, is_number}
 use Rattle.sf_base.specs.Kept.{Kept, assigned, with_bytes, with_closed, with_opened, with_dropped, buffer_of, longer, Opened, text_of, text_in, texts_in, values_closed}
-use Rattle.sf_run.specs.Memory.{HoldsTexts}
+use Rattle.sf_run.specs.Memory.{HoldsTexts, capacity_of}
 use Rattle.sf_base.specs.declared.values.Value.{Value}
 use Rattle.sf_base.specs.declared.values.Value.TheVariants as value
 use Rattle.sf_format.specs.declared.directive.Conversion.{Conversion}
@@ -489,3 +489,22 @@ pub size_whole : (closed item : List ℕ) (opened : Option Opened) → opened �
 size_whole closed item opened e =
     let same = ap (λ o. length (closed ++ text_of o)) e in
     omega (arith, same, length-append (closed ++ item) [], length-append closed item, length-append closed [])
+
+-- ---- what a store can hold
+
+pub closed_capacity : (kept : Kept) → capacity_of kept ≤ capacity_of (with_closed kept)
+closed_capacity kept = omega (arith, length-append (kept.closed ++ text_of kept.opened) [])
+
+pub dropped_capacity : (kept : Kept) → capacity_of kept ≤ capacity_of (with_dropped kept)
+dropped_capacity kept = omega (arith, length-append kept.closed (text_of kept.opened), length-append kept.closed [])
+
+pub opened_capacity : (kept : Kept) (slot : ℕ) → kept.opened ≡ None → capacity_of kept ≤ capacity_of (with_opened slot kept)
+opened_capacity kept slot none = let same = ap (λ o. length (kept.closed ++ text_of o)) none in omega (arith, same)
+
+pub longer_capacity : (kept : Kept) (bytes : List ℕ) (room : ℕ) → is_some kept.opened ≡ true → kept.room ≤ room + length bytes → capacity_of kept ≤ capacity_of (with_bytes bytes room kept)
+longer_capacity kept bytes room some falls = by_opened kept.opened some
+  where
+    by_opened : (o : Option Opened) → is_some o ≡ true → kept.room + length (kept.closed ++ text_of o) ≤ room + length (kept.closed ++ text_of (longer bytes o))
+    by_opened None some = absurd (true≢false (sym some))
+    by_opened (Some o) some =
+        omega (arith, falls, length-append kept.closed o.text, length-append kept.closed (o.text ++ bytes), length-append o.text bytes)

@@ -12,55 +12,13 @@ use Rattle.sf_item.specs.Tests.{matches}
 use Rattle.sf_item.proofs.Deciding.{integer_at_is, fails, tests_same, tests_matches}
 use Rattle.sf_run.specs.declared.outcome.Status.TheVariants.{MatchingFailure}
 use Rattle.sf_item.proofs.Fronts.{HasItem}
-use Rattle.sf_run.specs.Steps.{StepEnd, Passes, Fails, ByteStep, NumberStored, CountStep, ItemStored, ItemPasses, EmptyItem, ItemEnds, IsSkipBefore, ItemStep, ConversionStep, Step}
-use Rattle.sf_run.specs.Machine.{number_end, count_end, integer_end, stored_end, passed_end, item_end, nothing_end}
-use Rattle.sf_run.proofs.Skips.{skip, skip_is, skip_only, skip-le}
-use Rattle.sf_run.proofs.Items.{len, len-le, item_is, item_only}
+use Rattle.sf_run.specs.Steps.{StepEnd, Fails, ByteStep, NumberStored, CountStep, ItemStored, ItemPasses, EmptyItem, ItemEnds, IsSkipBefore, ItemStep, ConversionStep, Step}
+use Rattle.sf_run.specs.Machine.{number_end, count_end, integer_end, stored_end, passed_end, nothing_end}
+use Rattle.sf_run.specs.Computed.{skip, len, has_more, byte_choice, byte_step, skip_before, item_ended, item_step, conversion_step, percent_step, step_of}
+use Rattle.sf_run.proofs.Skips.{skip_is, skip_only, skip-le}
+use Rattle.sf_run.proofs.Items.{len-le, item_is, item_only}
 
--- ---- the step as a function
-
--- whether a byte is left
-abbrev pub has_more : List ℕ → Bool
-has_more [] = false
-has_more (b ∷ x) = true
-
-abbrev pub byte_choice : Bool → ℕ × StepEnd
-byte_choice true = (1, Passes)
-byte_choice false = (0, nothing_end true)
-
-abbrev pub byte_step : ℕ → List ℕ → ℕ × StepEnd
-byte_step a [] = (0, nothing_end false)
-byte_step a (b ∷ x) = byte_choice (nat_eq a b)
-
-abbrev pub skip_before : Shape → List ℕ → ℕ
-skip_before (Int base) x = skip x
-skip_before Text x = skip x
-skip_before _ x = 0
-
--- the end of a conversion whose item is the first j bytes of y
-abbrev pub item_ended : Conversion → List ℕ → ℕ → StepEnd
-item_ended c y zero = nothing_end (has_more y)
-item_ended c y (suc j) = item_end c (take (suc j) y)
-
-abbrev pub item_part : Conversion → List ℕ → ℕ → ℕ × StepEnd
-item_part c x s = (s + len c [] (drop s x), item_ended c (drop s x) (len c [] (drop s x)))
-
-abbrev pub item_step : Conversion → List ℕ → ℕ × StepEnd
-item_step c x = item_part c x (skip_before c.shape x)
-
-abbrev pub conversion_step : Conversion → Shape → List ℕ → ℕ → ℕ × StepEnd
-conversion_step c Count x n = (0, count_end c c.slot n)
-conversion_step c _ x n = item_step c x
-
-abbrev pub percent_step : List ℕ → ℕ → ℕ × StepEnd
-percent_step x s = (s + (byte_step 37 (drop s x)).0, (byte_step 37 (drop s x)).1)
-
--- what a directive consumes of x after n bytes of the run, and how it ends
-abbrev pub step_of : Directive → List ℕ → ℕ → ℕ × StepEnd
-step_of Space x n = (skip x, Passes)
-step_of (Byte a) x n = byte_step a x
-step_of Percent x n = percent_step x (skip x)
-step_of (Conv c) x n = conversion_step c c.shape x n
+-- ---- what a step is
 
 abbrev pub Is : ℕ × StepEnd → ℕ → StepEnd → Type 0
 Is r k end = (k ≡ r.0) × (end ≡ r.1)

@@ -17,9 +17,9 @@ use Rattle.sf_item.proofs.Deciding.{Tests, fails, tests_both, tests_same, tests_
 use Rattle.sf_run.specs.Laws.{EachHasOneReport}
 use Rattle.sf_run.specs.Machine.{some_below}
 use Rattle.sf_run.specs.Residual.{Tally, nothing_yet, with_used, counted, out_of, by_end, then_on, run_of}
-use Rattle.sf_run.proofs.StepLaws.{step_of}
-use Rattle.sf_run.proofs.Ones.{part_of, one_made}
-use Rattle.sf_run.proofs.RunLaws.{go_on, ran_of, steps_is, steps_only}
+use Rattle.sf_run.specs.Computed.{step_of, part_of, go_on, ran_of}
+use Rattle.sf_run.proofs.Ones.{one_made}
+use Rattle.sf_run.proofs.RunLaws.{steps_is, steps_only}
 
 -- ---- totals of a list of steps
 
@@ -191,7 +191,7 @@ told_nothing ran =
 cut_nothing : (before : List Ran) (m : ℕ) → cut_from 0 nothing_yet before m ≡ cut_report TooLong before m
 cut_nothing before m = same_out TooLong _ _ _ _ (zero-add (length before + 1)) (ap (with_used m) (sums_nothing before))
 
-run_is_told : (ds : List Directive) (x : List ℕ) → run_of None ds 1 nothing_yet x ≡ report_of (ran_of ds x 0) None
+pub run_is_told : (ds : List Directive) (x : List ℕ) → run_of None ds 1 nothing_yet x ≡ report_of (ran_of ds x 0) None
 run_is_told ds x = run_told_from ds 0 1 nothing_yet x refl ∙ told_nothing (ran_of ds x 0)
 
 pub run_told : (ds : List Directive) → AreProper ds → (x : List ℕ) (ran : List Ran) → Steps ds x 0 ran → run_of None ds 1 nothing_yet x ≡ report_of ran None

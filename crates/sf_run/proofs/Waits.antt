@@ -14,11 +14,11 @@ use Rattle.sf_run.specs.declared.outcome.Ending.{Ending}
 use Rattle.sf_run.specs.declared.outcome.Status.TheVariants.{TooLong}
 use Rattle.sf_run.specs.declared.scanner.Stop.{Stop}
 use Rattle.sf_run.specs.Runs.{RunReport, IsOpen}
-use Rattle.sf_run.specs.Limits.{RunWithin, TellsWithin}
+use Rattle.sf_run.specs.Limits.{RunWithin, TellsWithin, cut_report}
 use Rattle.sf_run.specs.Machine.{Stage, Skipping, Taken, Item, stepped, is_full}
 use Rattle.sf_run.specs.Phases.{ShowsItem, Shows}
 use Rattle.sf_run.specs.Residual.{Tally, nothing_yet, with_used, out_of, run_of, run_from}
-use Rattle.sf_run.specs.Standing.{Standing, ShowsFirst, DoesBy, Does, Follows, Waits, IsSettled, Keeps, After, report_by, Gives}
+use Rattle.sf_run.specs.Standing.{Standing, ShowsFirst, DoesBy, Does, Follows, Waits, IsSettled, Keeps, After, HasCome, report_by, report_of, Gives}
 use Rattle.sf_base.specs.Data.{Assigned}
 use Rattle.sf_run.specs.declared.tally.Tally as code
 use Rattle.sf_run.specs.Tallies.{tally_of}
@@ -28,7 +28,7 @@ use Rattle.sf_base.specs.Kept.{Opened}
 use Rattle.sf_run.proofs.Machines.{can_take_one, item_byte, item_byte-below, item_takes}
 use Rattle.sf_run.proofs.Moves.{drop_at, proper_at, ended_does, waiting, byte_took, byte_past, fresh, shows_fresh}
 use Rattle.sf_run.proofs.Openness.{OpenAt, open_or_closed, uses_within, within_limit, run_not_too_long, over_is_too_long, rest_uses_nothing}
-use Rattle.sf_run.proofs.Told.{told_exists, told_is, uses_is, uses_from, within_met, met_within}
+use Rattle.sf_run.proofs.Told.{run_told, told_exists, told_is, uses_is, uses_from, within_met, met_within}
 
 -- ---- laws of open inputs
 
@@ -134,21 +134,21 @@ module _ (ds : List Directive) (m : ℕ) (s : Standing) (x : List ℕ) (h : Afte
     proper_own : IsProper waits.under_way
     proper_own = proper_at s.directives s.passed waits.under_way (subst AreProper (sym h.format) h.proper) waits.current
 
-    shown : (z : List ℕ) (report : RunReport) (does : DoesBy None s.directives s.passed s.phase s.opened s.tally m z report) → Shows waits.under_way s.phase does.0
-    shown z report does =
+    shown : (k : ℕ) (z : List ℕ) (report : RunReport) (does : DoesBy None s.directives s.passed s.phase s.opened s.tally k z report) → Shows waits.under_way s.phase does.0
+    shown k z report does =
         let both : Shows waits.under_way s.phase does.0 × (s.opened ≡ opened_for (text_slot waits.under_way) does.0) =
         subst (λ rest. ShowsFirst rest s.phase s.opened does.0) (drop_at s.directives s.passed waits.under_way waits.current) does.1 in both.0
 
     one : OneByte waits.under_way s.phase
     one =
         let start = waiting s m [] (cut m ds (x ++ [])) e (does_cut []) in
-        one_byte waits.under_way proper_own s.phase start.0 (shown [] (cut m ds (x ++ [])) start) (λ p shows. waits.can_take p proper_own shows)
+        one_byte waits.under_way proper_own s.phase start.0 (shown m [] (cut m ds (x ++ [])) start) (λ p shows. waits.can_take p proper_own shows)
 
     next : DoesBy None s.directives s.passed s.phase s.opened s.tally m (one.byte ∷ []) (cut m ds (x ++ one.byte ∷ []))
     next = waiting s m (one.byte ∷ []) (cut m ds (x ++ one.byte ∷ [])) e (does_cut (one.byte ∷ []))
 
     taken_by : (r : Stage) × (stepped waits.under_way next.0 one.byte ≡ Some r)
-    taken_by = one.taken next.0 (shown (one.byte ∷ []) (cut m ds (x ++ one.byte ∷ [])) next)
+    taken_by = one.taken next.0 (shown m (one.byte ∷ []) (cut m ds (x ++ one.byte ∷ [])) next)
 
     upper : (full ds (x ++ one.byte ∷ [])).used ≤ length x + 1
     upper = omega (arith, uses_within ds 1 nothing_yet (x ++ one.byte ∷ []), length-append x (one.byte ∷ []))
@@ -180,6 +180,42 @@ module _ (ds : List Directive) (m : ℕ) (s : Standing) (x : List ℕ) (h : Afte
     waits_open =
         let here = used in let fits = low in
         ((one.byte, one.is_byte, uses_from ds h.proper (x ++ one.byte ∷ []) (length x + 1) long), omega (arith, here, fits))
+
+    -- under a limit at what it has used, that byte is too much for the directive under way
+    at_used : (report : RunReport) × (report ≡ out_of TooLong (s.passed + 1) s.tally) × TellsWithin ds (length x) (x ++ one.byte ∷ []) report
+    at_used =
+        let (report, does, tells) = h.same s.tally.used (one.byte ∷ []) (omega arith) low in
+        let own : DoesBy None s.directives s.passed s.phase s.opened s.tally s.tally.used (one.byte ∷ []) report = waiting s s.tally.used (one.byte ∷ []) report e does in
+        let (r, takes) = one.taken own.0 (shown s.tally.used (one.byte ∷ []) report own) in (
+          report,
+          own.2 ∙ byte_past s.tally.used s.directives s.passed waits.under_way own.0 r s.tally one.byte waits.current takes refl,
+          subst (λ k. TellsWithin ds k (x ++ one.byte ∷ []) report) used tells,
+        )
+
+    -- so it is cut off in the directive after those that passed
+    pub has_come : HasCome ds x s
+    has_come = by_case at_used.2
+      where
+        is : at_used.0 ≡ out_of TooLong (s.passed + 1) s.tally
+        is = at_used.1
+
+        by_case : TellsWithin ds (length x) (x ++ one.byte ∷ []) at_used.0 → HasCome ds x s
+        by_case (inl w) =
+            let all : full ds (x ++ one.byte ∷ []) ≡ at_used.0 = run_told ds h.proper (x ++ one.byte ∷ []) w.0 w.1 ∙ sym w.3 in
+            absurd (run_not_too_long ds 1 nothing_yet (x ++ one.byte ∷ []) (ap (λ (r : RunReport). r.status) (all ∙ is)))
+        by_case (inr w) =
+            let same : out_of TooLong (s.passed + 1) s.tally ≡ cut_report TooLong w.0 (length x) = sym is ∙ w.2 in
+            let place : s.passed + 1 ≡ length w.0 + 1 = ap (λ (r : RunReport). r.at) same in
+            record {
+              before = w.0;
+              byte = one.byte;
+              is_byte = one.is_byte;
+              steps = w.1;
+              passed = omega (arith, place);
+              assigned_are = ap (λ (r : RunReport). r.assigned) same;
+              converted_are = ap (λ (r : RunReport). r.converted) same;
+              values_are = ap (λ (r : RunReport). r.values) same;
+            }
 
   -- an ended one tells the same however the input goes on
   module _ (stop : Stop) (e : s.ended ≡ Some stop) where
@@ -334,6 +370,10 @@ pub gives_report : (ds : List Directive) (m : ℕ) (s : Standing) (x : List ℕ)
     → RunTold ds m x ending (record (out_of stop.status stop.at s.tally) { met = s.met })
 gives_report ds m s x ending stop h e =
     subst (RunTold ds m x ending) (sym (some_is _ _ (ap (λ o. report_by o s.tally s.met) (sym e) ∙ h.is))) h.right
+
+-- the outcome of an ended one, with its values, is its report
+pub told_exactly : (s : Standing) (stop : Stop) (r : RunReport) → s.ended ≡ Some stop → r ≡ record (out_of stop.status stop.at s.tally) { met = s.met } → Some r ≡ report_of s
+told_exactly s stop r e is = ap Some is ∙ sym (ap (λ o. report_by o s.tally s.met) e)
 
 -- where no storing was refused it is that of the run under the limit
 pub after_report : (ds : List Directive) (m : ℕ) (s : Standing) (x : List ℕ) (ending : Ending) (stop : Stop) → After ds m s x → s.ended ≡ Some stop

@@ -1,9 +1,14 @@
 -- Laws of runs.
-use Rattle.std.specs.Prelude.{◌≡◌, ℕ, false, List, ◌++◌, length}
+use Rattle.std.specs.Prelude.{◌≡◌, ◌↔◌, ℕ, ◌≤◌, false, List, ◌++◌, length, None}
 use Rattle.sf_format.specs.declared.directive.Directive.{Directive}
-use Rattle.sf_format.specs.Proper.{AreProper}
+use Rattle.sf_format.specs.Proper.{IsProper, AreProper}
 use Rattle.sf_run.specs.declared.outcome.Ending.{Ending}
-use Rattle.sf_run.specs.Runs.{RunReport, IsOpen, Run}
+use Rattle.sf_run.specs.Steps.{StepEnd, Step}
+use Rattle.sf_run.specs.Runs.{RunReport, Ran, Steps, IsOpen, Run}
+use Rattle.sf_run.specs.Runs as runs
+use Rattle.sf_run.specs.Machine.{Skipping}
+use Rattle.sf_run.specs.Residual.{nothing_yet, one_from, run_of}
+use Rattle.sf_run.specs.Computed.{step_of, part_of, ran_of}
 use Rattle.sf_run.specs.Limits.{RunWithin}
 use Rattle.sf_run.specs.Standing.{Standing, Gives, report_of, ran_out}
 
@@ -33,3 +38,27 @@ abbrev pub EachStoreReportsAlike : Type 0
 EachStoreReportsAlike =
     (ds : List Directive) → AreProper ds → (m : ℕ) (x : List ℕ) (ending : Ending) (one other : Standing)
     → Gives ds m one x ending → Gives ds m other x ending → ran_out one ≡ false → ran_out other ≡ false → report_of one ≡ report_of other
+
+-- ---- steps and runs as functions
+
+-- a directive makes the step that is computed, and no other
+abbrev pub EachStepIsComputed : Type 0
+EachStepIsComputed =
+    (d : Directive) → IsProper d → (x : List ℕ) (n k : ℕ) (end : StepEnd) → Step d x n k end ↔ (step_of d x n ≡ (k, end))
+
+-- it consumes no more than there is
+abbrev pub EachStepIsWithin : Type 0
+EachStepIsWithin = (d : Directive) (x : List ℕ) (n : ℕ) → (step_of d x n).0 ≤ length x
+
+-- the directive's machine, handed the input byte by byte, makes that step
+abbrev pub EachMachineSteps : Type 0
+EachMachineSteps = (d : Directive) (x : List ℕ) (n : ℕ) → one_from d Skipping n x ≡ part_of n x (step_of d x n)
+
+-- the directives that run are those that are computed, and no others
+abbrev pub EachRunIsComputed : Type 0
+EachRunIsComputed =
+    (ds : List Directive) → AreProper ds → (x : List ℕ) (n : ℕ) (ran : List Ran) → Steps ds x n ran ↔ (ran ≡ ran_of ds x n)
+
+-- what the running totals tell is what is told of those
+abbrev pub EachRunIsTold : Type 0
+EachRunIsTold = (ds : List Directive) (x : List ℕ) → run_of None ds 1 nothing_yet x ≡ runs.report_of (ran_of ds x 0) None

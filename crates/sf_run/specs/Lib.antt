@@ -3,6 +3,7 @@ pub mod Runs
 pub mod Limits
 pub mod Machine
 pub mod Residual
+pub mod Computed
 pub mod Views
 pub mod Texts
 pub mod Stopping
@@ -16,3 +17,4 @@ pub mod Standing
 pub mod Scanner
 pub mod Laws
 pub mod Wholes
+pub mod Quick

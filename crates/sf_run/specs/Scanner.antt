@@ -2,6 +2,7 @@
 use Rattle.sf_base.specs.declared.store.Store as store
 use Rattle.sf_base.specs.Kept.{Kept}
 use Rattle.sf_run.specs.declared.scanner.Scanner.{Scanner}
+use Rattle.sf_run.specs.Memory.{capacity_of}
 use Rattle.sf_run.specs.Standing.{Standing}
 use Rattle.sf_run.specs.Tallies.{tally_of}
 
@@ -21,4 +22,5 @@ module _ {S : Type 0} {st : store.Ghosts S} where
     opened = (st.kept s.store).opened;
     ended = s.ended;
     met = s.met;
+    capacity = capacity_of (st.kept s.store);
   }

@@ -13,8 +13,8 @@ use Rattle.sf_run.specs.declared.outcome.Ending.{Ending}
 use Rattle.sf_run.specs.declared.outcome.Status.TheVariants.{TooLong, NoMemory}
 use Rattle.sf_run.specs.declared.scanner.Stop.{Stop}
 use Rattle.sf_run.specs.Steps.{StepEnd}
-use Rattle.sf_run.specs.Runs.{RunReport}
-use Rattle.sf_run.specs.Limits.{RunTold, TellsWithin}
+use Rattle.sf_run.specs.Runs.{RunReport, Ran, assigned, converted, values}
+use Rattle.sf_run.specs.Limits.{IsCut, RunTold, TellsWithin}
 use Rattle.sf_run.specs.Machine.{Stage, is_full, finished}
 use Rattle.sf_run.specs.Phases.{Shows, slot_in}
 use Rattle.sf_run.specs.Stopping.{is_no_memory}
@@ -31,6 +31,8 @@ pub record Standing : Type 0 where
   pub opened : Option Opened
   pub ended : Option Stop
   pub met : Option Ending
+  -- how many bytes its store can hold for sure, with those that it holds
+  pub capacity : ℕ
 
 -- the first of the directives, if there is one, has come to this stage, and its text is under way
 abbrev pub ShowsFirst : List Directive → Phase → Option Opened → Stage → Type 0
@@ -55,11 +57,12 @@ Follows new old y z = (k : ℕ) (report : RunReport) → new.tally.used ≤ k �
 abbrev pub IsRefused : Directive → Phase → ℕ → Bool → List ℕ → Type 0
 IsRefused d phase n more z = (q : Stage) → Shows d phase q → one_from d q n z ≡ record { used = n; left = z; end = finished d q n more }
 
--- it goes on with the same format under the same limit
+-- it goes on with the same format under the same limit, and its store can hold as much
 pub record Keeps (new old : Standing) : Type 0 where
   pub directives : new.directives ≡ old.directives
   pub limit : new.limit ≡ old.limit
   pub met : new.met ≡ old.met
+  pub capacity : old.capacity ≤ new.capacity
 
 -- ---- moves
 
@@ -186,3 +189,15 @@ pub record Gives (ds : List Directive) (m : ℕ) (s : Standing) (x : List ℕ) (
   pub report : RunReport
   pub is : report_of s ≡ Some report
   pub right : RunTold ds m x ending report
+
+-- A scanner that waits has come so far with the bytes x: these directives have passed, each with its step, and what they gave is what
+-- its store was given. What they left of x the next directive has consumed, and it would consume one byte more.
+pub record HasCome (ds : List Directive) (x : List ℕ) (s : Standing) : Type 0 where
+  pub before : List Ran
+  pub byte : ℕ
+  pub is_byte : byte < 256
+  pub steps : IsCut ds (x ++ byte ∷ []) (length x) before
+  pub passed : s.passed ≡ length before
+  pub assigned_are : s.tally.assigned ≡ assigned before
+  pub converted_are : s.tally.converted ≡ converted before
+  pub values_are : s.tally.values ≡ values before

@@ -1,5 +1,15 @@
 //! Laws of the definitions.
-ghost use Rattle.sf_run.specs.Laws.{EachClosedInputStays, EachHasOneReport, EachOpenInputIsUsed, EachStoreReportsAlike};
+ghost use Rattle.sf_run.specs.Laws.{
+  EachClosedInputStays,
+  EachHasOneReport,
+  EachMachineSteps,
+  EachOpenInputIsUsed,
+  EachRunIsComputed,
+  EachRunIsTold,
+  EachStepIsComputed,
+  EachStepIsWithin,
+  EachStoreReportsAlike,
+};
 
 /// Directives, an input, its ending and a limit have one report, and no other.
 pub fn one_report()
@@ -19,4 +29,17 @@ pub fn open_inputs_are_used()
 /// Scanners over two stores that refused no storing report the same of the same input.
 pub fn stores_report_alike()
     ensures { EachStoreReportsAlike }
+{}
+
+/// Each directive makes the step that `step_of` computes, and no other; so does its machine, which is handed the input byte by byte.
+pub fn steps_are_computed()
+    ensures step { EachStepIsComputed }
+    ensures within { EachStepIsWithin }
+    ensures machine { EachMachineSteps }
+{}
+
+/// The directives run as `ran_of` computes, and in no other way; `run_of` computes the report of that.
+pub fn runs_are_computed()
+    ensures steps { EachRunIsComputed }
+    ensures report { EachRunIsTold }
 {}

@@ -5,6 +5,7 @@ mod directive;
 pub mod laws;
 mod number;
 mod outcome;
+mod quick;
 mod report;
 mod row;
 mod scanner;
@@ -12,6 +13,7 @@ mod tally;
 mod whole;
 
 pub use outcome::{Ending, Fed, FeedState, Outcome, StartFault, Status};
+pub use quick::quick_run;
 pub use report::{Report, Scanned};
 pub use row::{Row, RowFault};
 pub use scanner::Scanner;

@@ -23,9 +23,15 @@ impl<S: Store> Model for Scanned<S> {
     ghost use Rattle.sf_run.specs.Views.{report_by};
 
     ghost view = { λ s. report_by s.outcome (S.kept s.store).values };
+
+    ghost use Rattle.sf_run.specs.Memory.{HoldsValues};
+
+    ghost invariant = { λ s. HoldsValues (S.kept s.store) };
 }
 
 impl<S: Store> Scanned<S> {
+    ghost use Rattle.sf_run.specs.Memory.{HoldsValues};
+
     /// The report of the run.
     pub fn report(&self) -> Report<'_, S>
         ensures { result ≡ self.now }
@@ -36,9 +42,10 @@ impl<S: Store> Scanned<S> {
         }
     }
 
-    /// The store, with the values of the run, to be used again.
+    /// The store, with the values of the run and the bytes of their texts, to be used again.
     pub fn into_store(self) -> S
-        ensures { (S.kept result).values ≡ self.values }
+        ensures values { (S.kept result).values ≡ self.values }
+        ensures texts { HoldsValues (S.kept result) }
     {
         let Scanned { store, .. } = self;
         store
@@ -63,6 +70,15 @@ impl<'r, S: Store> Model for Report<'r, S> {
 }
 
 impl<'r, S: Store> Report<'r, S> {
+    ghost use Rattle.sf_run.specs.Views.{report_by};
+
+    /// The outcome with the values of the store, as `quick_run` leaves them.
+    pub fn new(outcome: Outcome, store: &'r S) -> Self
+        ensures { result ≡ report_by outcome (S.kept store.now).values }
+    {
+        Report { outcome, store }
+    }
+
     /// What the run came to, but for its values.
     pub fn outcome(&self) -> Outcome
         ensures status { result.status ≡ self.now.status }

@@ -1,6 +1,7 @@
 //! A scanner that is handed its input piece by piece.
 ghost use Rattle.std.specs.Prelude.{◌≡◌, ℕ, ◌+◌, ◌<◌, ◌≤◌, ◌∷◌, ◌++◌, [], List, length, take, true, false, slice_get, is_some, IsSome, IsNone, IfNone, IfSome, IsOk, IfOk, IfErr, IsErr, IsErrOf, IsOkAnd, IsSomeAnd, ◌↔◌, ◌⊎◌, ◌^◌, drop, if◌then◌else◌, Some, None, unwrap_or};
 ghost use Rattle.std.specs.Bool.{OnTrue, OnFalse};
+ghost use Rattle.std.specs.Result.{result_ok};
 ghost use Rattle.sf_base.specs.Data.{Assigned, Bytes, datum_of, is_number};
 ghost use Rattle.sf_base.specs.Kept.{buffer_of, longer, with_opened, nothing_kept, text_of, texts_in};
 ghost use Rattle.sf_format.specs.declared.directive.Directive.{Directive};
@@ -73,6 +74,9 @@ pub struct Scanner<'f, S: Store> {
     ghost roomy: { is_some (width_sum directives.now) ≡ true → still_stored ended directives.now passed phase ≤ (S.kept store).room },
     ghost sized: { is_some (width_sum directives.now) ≡ true → length (buffer_of (S.kept store)) + still_stored ended directives.now passed phase ≤ unwrap_or (width_sum directives.now) 0 },
     ghost healthy: { is_some (width_sum directives.now) ≡ true → is_no_memory ended ≡ false },
+
+    // Once the run has ended, no text is opened.
+    ghost no_text: { is_some ended ≡ true → (S.kept store).opened ≡ None },
 }
 
 impl<'f, S: Store> Scanner<'f, S> {
@@ -80,8 +84,8 @@ impl<'f, S: Store> Scanner<'f, S> {
     ghost use Rattle.sf_run.specs.Views.{report_by};
     ghost use Rattle.sf_run.specs.Runs.{RunReport, IsOpen};
     ghost use Rattle.sf_run.specs.Limits.{RunWithin, RunTold};
-    ghost use Rattle.sf_run.specs.Standing.{Follows, IsRefused, Keeps, Passes, Stops, Opens, Takes, TakesAll, Refuses, RefusesIn, turns_left, IsSettled, After, Gives, has_ended, used_by, ran_out};
-    ghost use Rattle.sf_run.specs.Memory.{HoldsTexts};
+    ghost use Rattle.sf_run.specs.Standing.{Follows, IsRefused, Keeps, Passes, Stops, Opens, Takes, TakesAll, Refuses, RefusesIn, turns_left, IsSettled, After, Gives, HasCome, has_ended, report_of, used_by, ran_out};
+    ghost use Rattle.sf_run.specs.Memory.{HoldsTexts, HoldsValues, capacity_of};
     ghost use Rattle.sf_run.specs.Scanner.{kept_by, standing};
     ghost use Rattle.sf_run.specs.Tallies.{tally_of};
     ghost use Rattle.sf_run.specs.Wholes.{PassesWhole};
@@ -581,6 +585,8 @@ impl<'f, S: Store> Scanner<'f, S> {
         ensures after { After directives.now limit (standing result) [] }
         ensures fresh { used_by (standing result) ≡ 0 }
         ensures holds { HoldsTexts directives.now (kept_by result) }
+        ensures texts { has_ended (standing result) ≡ true → HoldsValues (kept_by result) }
+        ensures room { capacity_of (S.kept store) ≤ capacity_of (kept_by result) }
     {
         let mut scanner = Scanner {
             directives,
@@ -601,6 +607,7 @@ impl<'f, S: Store> Scanner<'f, S> {
         ensures waits { (ds : List Directive) (m : ℕ) (x : List ℕ) → After ds m (standing self.now) x → (result ≡ FeedState.Wait) ↔ (IsOpen ds x × (length x ≤ m)) }
         ensures ended { (ds : List Directive) (m : ℕ) (x : List ℕ) (ending : Ending) → Gives ds m (standing self.now) x ending → result ≡ FeedState.Ended }
         ensures exactly { (result ≡ FeedState.Ended) ↔ (has_ended (standing self.now) ≡ true) }
+        ensures comes { (ds : List Directive) (m : ℕ) (x : List ℕ) → After ds m (standing self.now) x → result ≡ FeedState.Wait → HasCome ds x (standing self.now) }
     {
         match self.ended {
             None => FeedState::Wait,
@@ -630,6 +637,11 @@ impl<'f, S: Store> Scanner<'f, S> {
         ensures bounded { (ds : List Directive) (m : ℕ) (x : List ℕ) → IsSome (width_sum ds) → After ds m (standing self.old) x → ran_out (standing self.new) ≡ false }
         ensures nothing { (ds : List Directive) (m : ℕ) (x : List ℕ) (ending : Ending) → Gives ds m (standing self.old) x ending → result.taken ≡ 0 }
         ensures unchanged { (ds : List Directive) (m : ℕ) (x : List ℕ) (ending : Ending) → Gives ds m (standing self.old) x ending → self.new ≡ self.old }
+        ensures exactly { (result.state ≡ FeedState.Ended) ↔ (has_ended (standing self.new) ≡ true) }
+        ensures ended_takes { has_ended (standing self.old) ≡ true → result.taken ≡ 0 }
+        ensures ended_stays { has_ended (standing self.old) ≡ true → self.new ≡ self.old }
+        ensures texts { has_ended (standing self.new) ≡ true → HoldsValues (kept_by self.new) }
+        ensures room { capacity_of (kept_by self.old) ≤ capacity_of (kept_by self.new) }
     {
         let taken = self.push(piece);
         Fed {
@@ -646,6 +658,10 @@ impl<'f, S: Store> Scanner<'f, S> {
         ensures used { used_by (standing self.new) ≡ used_by (standing self.old) }
         ensures holds { (ds : List Directive) (m : ℕ) (x : List ℕ) → After ds m (standing self.old) x → HoldsTexts ds (kept_by self.new) }
         ensures memory { ran_out (standing self.new) ≡ ran_out (standing self.old) }
+        ensures ended { has_ended (standing self.new) ≡ true }
+        ensures ended_stays { has_ended (standing self.old) ≡ true → self.new ≡ self.old }
+        ensures texts { HoldsValues (kept_by self.new) }
+        ensures room { capacity_of (kept_by self.old) ≤ capacity_of (kept_by self.new) }
     {
         if self.ended.is_none() {
             self.met = Some(ending);
@@ -660,6 +676,7 @@ impl<'f, S: Store> Scanner<'f, S> {
         ensures none { (ds : List Directive) (m : ℕ) (x : List ℕ) → After ds m (standing self.now) x → IsNone result → IsOpen ds x × (length x ≤ m) }
         ensures values { IfSome result (λ r. r.values ≡ (kept_by self.now).values) }
         ensures memory { IfSome result (λ r. is_memory_status r.status ≡ ran_out (standing self.now)) }
+        ensures exactly { result ≡ report_of (standing self.now) }
     {
         let stop = self.ended?;
         Some(Report {
@@ -676,6 +693,7 @@ impl<'f, S: Store> Scanner<'f, S> {
         ensures used { IfOk result (λ s. s.used ≡ used_by (standing self.entry)) }
         ensures memory { IfOk result (λ s. is_memory_status s.status ≡ ran_out (standing self.entry)) }
         ensures back { IfErr result (λ s. s ≡ self.entry) }
+        ensures exactly { result_ok result ≡ report_of (standing self.entry) }
     {
         match self.ended {
             None => Err(self),
@@ -684,6 +702,14 @@ impl<'f, S: Store> Scanner<'f, S> {
                 store: self.store,
             }),
         }
+    }
+
+    /// The store as it stands, to be used again, whatever the run came to.
+    pub fn into_store(self) -> S
+        ensures { S.kept result ≡ kept_by self.entry }
+    {
+        let Scanner { store, .. } = self;
+        store
     }
 
     fn outcome(&self, stop: Stop) -> Outcome
@@ -701,8 +727,8 @@ impl<'f, S: Store> Scanner<'f, S> {
 }
 
 impl<'f> Scanner<'f, HeapStore> {
-    ghost use Rattle.sf_run.specs.Standing.{After, used_by};
-    ghost use Rattle.sf_run.specs.Memory.{HoldsTexts};
+    ghost use Rattle.sf_run.specs.Standing.{After, has_ended, used_by};
+    ghost use Rattle.sf_run.specs.Memory.{HoldsTexts, HoldsValues, capacity_of};
     ghost use Rattle.sf_run.specs.Scanner.{kept_by, standing};
 
     /// A scanner that was given nothing yet, with a store that grows. The run consumes at most `limit` bytes. Where the
@@ -713,8 +739,10 @@ impl<'f> Scanner<'f, HeapStore> {
         ensures after { IfOk result (λ s. After format.now limit (standing s) []) }
         ensures fresh { IfOk result (λ s. used_by (standing s) ≡ 0) }
         ensures holds { IfOk result (λ s. HoldsTexts format.now (kept_by s)) }
+        ensures texts { IfOk result (λ s. has_ended (standing s) ≡ true → HoldsValues (kept_by s)) }
         ensures limit { IsErrOf result StartFault.BadLimit ↔ (2147483647 < limit) }
         ensures memory { IfErr result (λ fault. (fault ≡ StartFault.BadLimit) ⊎ (fault ≡ StartFault.NoMemory)) }
+        ensures room { IfOk result (λ s. unwrap_or (width_sum format.now) 0 ≤ capacity_of (kept_by s)) }
     {
         if limit > MOST_BYTES {
             return Err(StartFault::BadLimit);
@@ -739,9 +767,12 @@ impl<'f> Scanner<'f, HeapStore> {
         ensures after { IfOk result (λ s. After format.now limit (standing s) []) }
         ensures fresh { IfOk result (λ s. used_by (standing s) ≡ 0) }
         ensures holds { IfOk result (λ s. HoldsTexts format.now (kept_by s)) }
+        ensures texts { IfOk result (λ s. has_ended (standing s) ≡ true → HoldsValues (kept_by s)) }
         ensures limit { IsErrOf result StartFault.BadLimit ↔ (2147483647 < limit) }
         ensures memory { IfErr result (λ fault. (fault ≡ StartFault.BadLimit) ⊎ (fault ≡ StartFault.NoMemory)) }
+        ensures room { IfOk result (λ s. unwrap_or (width_sum format.now) 0 ≤ capacity_of (kept_by s)) }
         ensures enough { limit ≤ 2147483647 → unwrap_or (width_sum format.now) 0 ≤ store.room + length (buffer_of store) → IsOk result }
+        ensures as_much { IfOk result (λ s. capacity_of store ≤ capacity_of (kept_by s)) }
     {
         store.clear();
         let reserve = format.width_sum().unwrap_or(0) as usize;
@@ -758,14 +789,16 @@ impl<'f> Scanner<'f, HeapStore> {
         ensures after { After format.now limit (standing result) [] }
         ensures fresh { used_by (standing result) ≡ 0 }
         ensures holds { HoldsTexts format.now (kept_by result) }
+        ensures texts { has_ended (standing result) ≡ true → HoldsValues (kept_by result) }
+        ensures room { capacity_of store ≤ capacity_of (kept_by result) }
     {
         Scanner::start(format.directives(), limit, store)
     }
 }
 
 impl<'f, const CAP: usize, const SLOTS: usize> Scanner<'f, FixedStore<CAP, SLOTS>> {
-    ghost use Rattle.sf_run.specs.Standing.{After, used_by};
-    ghost use Rattle.sf_run.specs.Memory.{HoldsTexts};
+    ghost use Rattle.sf_run.specs.Standing.{After, has_ended, used_by};
+    ghost use Rattle.sf_run.specs.Memory.{HoldsTexts, HoldsValues, capacity_of};
     ghost use Rattle.sf_run.specs.Scanner.{kept_by, standing};
 
     /// A scanner that was given nothing yet, with a store of fixed capacity. The run consumes at most `limit` bytes. It
@@ -777,6 +810,7 @@ impl<'f, const CAP: usize, const SLOTS: usize> Scanner<'f, FixedStore<CAP, SLOTS
         ensures after { IfOk result (λ s. After format.now limit (standing s) []) }
         ensures fresh { IfOk result (λ s. used_by (standing s) ≡ 0) }
         ensures holds { IfOk result (λ s. HoldsTexts format.now (kept_by s)) }
+        ensures texts { IfOk result (λ s. has_ended (standing s) ≡ true → HoldsValues (kept_by s)) }
         ensures limit { IsErrOf result StartFault.BadLimit ↔ (2147483647 < limit) }
         ensures unbounded { IsErrOf result StartFault.Unbounded ↔ ((limit ≤ 2147483647) × (width_sum format.now ≡ None)) }
         ensures small { IsErrOf result StartFault.TooSmall ↔ ((limit ≤ 2147483647)

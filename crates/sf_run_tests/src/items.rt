@@ -5,7 +5,7 @@ ghost use Rattle.sf_item.specs.Tests.{has_item};
 use crate::shared::is;
 use sf_base::{ByteSet, Kind};
 use sf_format::{Base, Conversion, Shape};
-use sf_item::{ItemEnd, ItemScan, Step};
+use sf_item::{ItemEnd, ItemScan, Step, WholeInteger, whole_decimal};
 
 fn integer(negative: bool, magnitude: u64) -> ItemEnd {
     ItemEnd::Integer {
@@ -548,5 +548,64 @@ fn pieces_of_texts_are_as_steps(rt: HostRuntime) {
             &true,
             &text,
         );
+    }
+}
+
+/// Texts whose first bytes are a decimal integer of so many bytes, or perhaps none that ends within the text.
+const WHOLE: [(Option<u16>, &str, Option<(usize, bool, u64)>); 17] = [
+    (None, "12,", Some((2, false, 12))),
+    (None, "-7 ", Some((2, true, 7))),
+    (None, "+0;", Some((2, false, 0))),
+    (None, "007x", Some((3, false, 7))),
+    (None, "0x1f", Some((1, false, 0))),
+    (
+        None,
+        "1844674407370955160,",
+        Some((19, false, 1844674407370955160)),
+    ),
+    (None, "00000000000000000000042\n", Some((23, false, 42))),
+    (Some(2), "123", Some((2, false, 12))),
+    (Some(2), "-12", Some((2, true, 1))),
+    (Some(1), "-1,", None),
+    (None, "12", None),
+    (Some(2), "12", None),
+    (None, "-", None),
+    (None, "-,", None),
+    (None, "--1,", None),
+    (None, " 1,", None),
+    (None, "", None),
+];
+
+#[test]
+fn whole_decimals_end_within(rt: HostRuntime) {
+    for (width, text, wanted) in WHOLE {
+        let wanted = wanted.map(|(bytes, negative, magnitude)| WholeInteger {
+            bytes,
+            negative,
+            magnitude,
+        });
+        is(&rt, &whole_decimal(width, text.as_bytes()), &wanted, &text);
+    }
+}
+
+/// Where a whole integer is told, stepping takes the same bytes and tells the same.
+#[test]
+fn whole_decimals_are_as_steps(rt: HostRuntime) {
+    let digits = b"-98765432101234567890123456,";
+    for from in 0..digits.len() {
+        for width in [None, Some(1), Some(8), Some(19), Some(21)] {
+            let text = &digits[from..];
+            let Some(whole) = whole_decimal(width, text) else {
+                continue;
+            };
+            let (count, _, end) = item_of(Base::Dec, width, text);
+            is(&rt, &count, &whole.bytes, &(from, width));
+            is(
+                &rt,
+                &end,
+                &integer(whole.negative, whole.magnitude),
+                &(from, width),
+            );
+        }
     }
 }

@@ -50,7 +50,7 @@ pub(crate) fn is<T: Debug + PartialEq>(rt: &impl Abort, found: &T, wanted: &T, p
 }
 
 /// The slots have the values in turn, and the slot behind them has none.
-fn has_values<S: Store>(
+pub(crate) fn has_values<S: Store>(
     rt: &impl Abort,
     report: &Report<'_, S>,
     values: &[Value<'_>],

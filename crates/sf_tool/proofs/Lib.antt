@@ -1,12 +1,12 @@
 pub mod Answering
+pub mod Checking
+pub mod Escaping
 pub mod Finding
-pub mod Joining
-pub mod Looping
+pub mod Lines
 pub mod Numbers
 pub mod OneAnswer
-pub mod OneEnd
-pub mod Passing
 pub mod Places
 pub mod PrintAnswering
+pub mod Reading
 pub mod Suiting
 pub mod WordRows

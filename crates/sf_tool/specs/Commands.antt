@@ -1,5 +1,6 @@
--- What the command answers, and what it writes.
-use Rattle.std.specs.Prelude.{◌≡◌, ◌↔◌, ℕ, List, [], ◌∷◌, Option, Some, None, Result, Ok, Err, IfErr, codes}
+-- What the command answers, and what it writes. `to_come` tells the bytes that a source will give, `contents` those that a
+-- sink took, where they tell them; the failures of both are counted.
+use Rattle.std.specs.Prelude.{◌≡◌, ◌⊎◌, ℕ, Bool, true, false, if◌then◌else◌, List, [], ◌∷◌, Option, Some, None, Result, Ok, Err, IfErr}
 use Rattle.std.specs.Io.KnownBytes.{Appends}
 use Rattle.sf_format.specs.declared.directive.Directive.{Directive}
 use Rattle.sf_format.specs.declared.directive.Profile.TheVariants.{One}
@@ -10,36 +11,30 @@ use Rattle.sf_format.specs.declared.fault.FormatFault.{FormatFault}
 use Rattle.sf_format.specs.declared.fault.FormatWhy.{FormatWhy}
 use Rattle.sf_format.specs.declared.fault.FormatWhy.TheVariants.{NoMemory}
 use Rattle.sf_format.specs.declared.unit.Unit.{Unit as PrintUnit}
-use Rattle.sf_tool.specs.declared.argument_fault.ArgumentFault.{ArgumentFault}
-use Rattle.sf_tool.specs.Prints.{Answers, IsUnwritten}
-use Rattle.sf_tool.specs.declared.command.Verb.{Verb}
-use Rattle.sf_tool.specs.declared.command.Verb.TheVariants.{Scan, Show, Print}
-use Rattle.sf_tool.specs.declared.fault.CommandFault.{CommandFault}
-use Rattle.sf_tool.specs.declared.fault.CommandFault.TheVariants.{Usage, Format, PrintFormat, Values, Record, Write, Memory}
-use Rattle.sf_tool.specs.declared.records.ToolEnd.{ToolEnd}
-use Rattle.sf_tool.specs.declared.records.ToolFault.{ToolFault}
-use Rattle.sf_tool.specs.Texts.{status_of}
-use Rattle.sf_tool.specs.Records.{Loops}
+use Rattle.sf_pair.specs.Groups.{IsAligned}
+use Rattle.sf_pair.specs.Walk.{pair_fault}
+use Rattle.sf_print.specs.Sinks.{counted_on}
 use Rattle.sf_read.specs.Ahead.{Ahead, input_of}
+use Rattle.sf_records.specs.declared.end.ToolEnd.{ToolEnd}
+use Rattle.sf_records.specs.declared.end.ToolFault.{ToolFault}
+use Rattle.sf_records.specs.Copies.{copying}
+use Rattle.sf_records.specs.Lines.{scanning}
+use Rattle.sf_records.specs.declared.end.ToolFault.TheVariants as record_fault
+use Rattle.sf_records.specs.Judging.{TakesPart}
+use Rattle.sf_records.specs.Records.{Loops}
+use Rattle.sf_words.specs.declared.order.Verb.{Verb}
+use Rattle.sf_words.specs.declared.order.Verb.TheVariants as verb
+use Rattle.sf_tool.specs.declared.argument_fault.ArgumentFault.{ArgumentFault}
+use Rattle.sf_tool.specs.declared.argument_fault.ArgumentFault.TheVariants as argument_fault
+use Rattle.sf_tool.specs.declared.fault.FormatName.{FormatName}
+use Rattle.sf_tool.specs.declared.fault.FormatName.TheVariants as name
+use Rattle.sf_tool.specs.declared.fault.CommandFault.{CommandFault}
+use Rattle.sf_tool.specs.declared.fault.CommandFault.TheVariants.{BadEscape, Format, PrintFormat, Values, Record, Write, Memory, Pair}
+use Rattle.sf_tool.specs.Answers.{Answer}
+use Rattle.sf_tool.specs.Checks.{ChecksWords, IsFaultOf, IsNoPrintWord, IsNoScanWord, IsPrintWord, IsScanWord}
+use Rattle.sf_tool.specs.Escapes.{IsBadEscape, Unescapes}
+use Rattle.sf_tool.specs.Prints.{Answers, IsUnwritten}
 use Rattle.sf_tool.specs.Show.{show_text}
-
--- the word for what is done with a format
-abbrev pub verb_text : Verb → List ℕ
-verb_text Scan = codes "scan"
-verb_text Show = codes "show"
-verb_text Print = codes "print"
-
--- the words of a command; after the format of a print come its values
-abbrev pub words_of : Verb → List ℕ → List (List ℕ) → List (List ℕ)
-words_of verb format values = verb_text verb ∷ format ∷ values
-
--- values stand after the format of a print alone
-abbrev pub MayHave : Verb → List (List ℕ) → Type 0
-MayHave Print values = Unit {0}
-MayHave _ values = values ≡ []
-
-abbrev pub IsCommand : List (List ℕ) → Type 0
-IsCommand words = (verb : Verb) × (format : List ℕ) × (values : List (List ℕ)) × (words ≡ words_of verb format values) × MayHave verb values
 
 -- ---- faults
 
@@ -58,31 +53,27 @@ print_format_fault_by _ fault = PrintFormat fault
 abbrev pub print_format_fault : FormatFault → CommandFault
 print_format_fault fault = print_format_fault_by fault.why fault
 
--- the fault of a format, as its verb reads it
-abbrev pub FaultFor : Verb → List ℕ → ℕ → FormatWhy → Type 0
-FaultFor Print format at why = PrintFault One format at why
-FaultFor _ format at why = Fault One format at why
-
-abbrev pub fault_for : Verb → FormatFault → CommandFault
-fault_for Print fault = print_format_fault fault
-fault_for _ fault = format_fault fault
-
 -- a format that has a fault is refused for it
-abbrev pub TellsFault : (ℕ → FormatWhy → Type 0) → (FormatFault → CommandFault) → Result (Unit {0}) CommandFault → Type 0
+abbrev pub TellsFault : (ℕ → FormatWhy → Type 0) → (FormatFault → CommandFault) → Answer → Type 0
 TellsFault has told answer = (at : ℕ) (why : FormatWhy) → has at why → answer ≡ Err (told (record { at = at; why = why }))
 
--- the words are a command
-abbrev pub IsNoUsage : CommandFault → Type 0
-IsNoUsage Usage = ⊥
-IsNoUsage _ = Unit {0}
+-- the answer tells that the sink failed
+abbrev pub is_write_fault : Answer → Bool
+is_write_fault (Err Write) = true
+is_write_fault (Err (Values argument_fault.Write)) = true
+is_write_fault (Err (Record record_fault.Write)) = true
+is_write_fault _ = false
 
--- where the words, the format or the values are at fault, nothing was written
+-- the sink failed once if the answer tells it, and else never
+abbrev pub Counts : ℕ → ℕ → Answer → Type 0
+Counts failures failures' answer = failures' ≡ (if is_write_fault answer then counted_on failures else failures)
+
+-- where a text or the values are at fault, or memory was refused before the first record, nothing was written
 abbrev pub IsUnwrittenBy : {K : Type 0} → CommandFault → K → K → Type 0
-IsUnwrittenBy Usage out out' = out' ≡ out
-IsUnwrittenBy (Format fault) out out' = out' ≡ out
-IsUnwrittenBy (PrintFormat fault) out out' = out' ≡ out
 IsUnwrittenBy (Values fault) out out' = IsUnwritten fault out out'
-IsUnwrittenBy _ out out' = Unit {0}
+IsUnwrittenBy (Record fault) out out' = Unit {0}
+IsUnwrittenBy Write out out' = Unit {0}
+IsUnwrittenBy _ out out' = out' ≡ out
 
 -- and nothing was read
 abbrev pub Unread : {S K : Type 0} → CommandFault → Ahead S → Ahead S → K → K → Type 0
@@ -92,34 +83,33 @@ Unread fault from from' out out' = (from' ≡ from) × IsUnwrittenBy fault out o
 -- ---- scans of an input
 
 -- what the command answers where the loop over the records has ended
-abbrev pub answer_by : Option ToolFault → Result (Unit {0}) CommandFault
-answer_by None = Ok tt
+abbrev pub answer_by : Option ToolFault → Answer
+answer_by None = Ok 0
 answer_by (Some fault) = Err (Record fault)
 
 -- What a scan of the text by the directives writes and answers: what the loop over its records does, by runs of at most
--- 1048576 bytes.
-abbrev pub Scans : {S : Type 0} → (S → Option (List ℕ)) → List Directive → List ℕ → Ahead S → ℕ → ℕ → Option (List ℕ) → Option (List ℕ) → Result (Unit {0}) CommandFault → Type 0
-Scans to_come ds text now failures failures' before after answer =
-    (end : ToolEnd) × Loops to_come ds 1048576 text now failures failures' before after end × (answer ≡ answer_by end.fault)
+-- m bytes.
+abbrev pub Scans : {S : Type 0} → (S → Option (List ℕ)) → ℕ → List Directive → List ℕ → Ahead S → ℕ → ℕ → Option (List ℕ) → Option (List ℕ) → Answer → Type 0
+Scans to_come m ds text now failures failures' before after answer =
+    (end : ToolEnd) × Loops (scanning ds) to_come ds m text now failures failures' before after end × (answer ≡ answer_by end.fault)
 
 -- what a scan of the text by the format answers: the format is refused for its first fault, or its directives scan
-abbrev pub ScansBy : {S : Type 0} → (S → Option (List ℕ)) → List ℕ → List ℕ → Ahead S → ℕ → ℕ → Option (List ℕ) → Option (List ℕ) → Result (Unit {0}) CommandFault → Type 0
-ScansBy to_come format text now failures failures' before after (Err (Format fault)) = Fault One format fault.at fault.why
-ScansBy to_come format text now failures failures' before after (Err Memory) = after ≡ before
-ScansBy to_come format text now failures failures' before after answer =
-    (ds : List Directive) × Spells One format ds × Scans to_come ds text now failures failures' before after answer
+abbrev pub ScansBy : {S : Type 0} → (S → Option (List ℕ)) → ℕ → List ℕ → List ℕ → Ahead S → ℕ → ℕ → Option (List ℕ) → Option (List ℕ) → Answer → Type 0
+ScansBy to_come m format text now failures failures' before after (Err (Format fault)) = Fault One format fault.at fault.why
+ScansBy to_come m format text now failures failures' before after (Err Memory) = after ≡ before
+ScansBy to_come m format text now failures failures' before after answer =
+    (ds : List Directive) × Spells One format ds × Scans to_come m ds text now failures failures' before after answer
 
 -- ---- shows of a format
 
--- what a show of the directives answers
-abbrev pub Shows : List Directive → Option (List ℕ) → Option (List ℕ) → Result (Unit {0}) CommandFault → Type 0
-Shows ds before after (Ok _) = Appends before after (show_text ds (width_sum ds))
-Shows ds before after (Err Write) = Unit {0}
-Shows ds before after (Err Memory) = after ≡ before
+-- what a show of the directives answers; where the sink fails, it took a front of the lines
+abbrev pub Shows : List Directive → Option (List ℕ) → Option (List ℕ) → Answer → Type 0
+Shows ds before after (Ok status) = Appends before after (show_text ds (width_sum ds)) × (status ≡ 0)
+Shows ds before after (Err Write) = TakesPart before after (show_text ds (width_sum ds))
 Shows ds before after (Err _) = ⊥
 
 -- what a show of the format answers: the format is refused for its first fault, or its directives are shown
-abbrev pub ShowsBy : List ℕ → Option (List ℕ) → Option (List ℕ) → Result (Unit {0}) CommandFault → Type 0
+abbrev pub ShowsBy : List ℕ → Option (List ℕ) → Option (List ℕ) → Answer → Type 0
 ShowsBy format before after (Err (Format fault)) = Fault One format fault.at fault.why
 ShowsBy format before after (Err Memory) = after ≡ before
 ShowsBy format before after answer = (ds : List Directive) × Spells One format ds × Shows ds before after answer
@@ -127,41 +117,111 @@ ShowsBy format before after answer = (ds : List Directive) × Spells One format 
 -- ---- prints of values
 
 -- what the command answers for what a print of its values does
-abbrev pub print_answer : Result (Unit {0}) ArgumentFault → Result (Unit {0}) CommandFault
-print_answer (Ok _) = Ok tt
+abbrev pub print_answer : Result (Unit {0}) ArgumentFault → Answer
+print_answer (Ok _) = Ok 0
 print_answer (Err fault) = Err (Values fault)
 
 -- what a print by the format answers: the format is refused for its first fault, or its units print the values
-abbrev pub PrintsBy : List ℕ → List (List ℕ) → Option (List ℕ) → Option (List ℕ) → Result (Unit {0}) CommandFault → Type 0
+abbrev pub PrintsBy : List ℕ → List (List ℕ) → Option (List ℕ) → Option (List ℕ) → Answer → Type 0
 PrintsBy format values before after (Err (PrintFormat fault)) = PrintFault One format fault.at fault.why
 PrintsBy format values before after (Err Memory) = after ≡ before
 PrintsBy format values before after answer = (units : List PrintUnit) × SpellsPrint One format units
     × ((given : Result (Unit {0}) ArgumentFault) × Answers units values before after given × (answer ≡ print_answer given))
 
--- ---- commands
+-- ---- words
 
--- What the command of the words answers. `to_come` and `contents` tell the bytes that a source will give and those that a
--- sink took, `failures` how often the source failed.
-pub record Answered {S K : Type 0} (to_come : S → Option (List ℕ)) (failures : S → ℕ) (contents : K → Option (List ℕ)) (words : List (List ℕ))
-    (from from' : Ahead S) (out out' : K) (answer : Result (Unit {0}) CommandFault) : Type 0 where
-  pub usage : (answer ≡ Err Usage) ↔ (IsCommand words → ⊥)
+-- a format's text is refused for its first bad escape; want of memory is told of one without any
+abbrev pub IsBadText : FormatName → List ℕ → CommandFault → Type 0
+IsBadText name word (BadEscape of at) = (of ≡ name) × IsBadEscape word at
+IsBadText name word Memory = (bytes : List ℕ) × Unescapes word bytes
+IsBadText name word _ = ⊥
+
+-- where the word's escapes are not resolved, nothing was read or written
+pub record IsRefusedText {S K : Type 0} (name : FormatName) (word : List ℕ) (from from' : S) (out out' : K) (answer : Answer) : Type 0 where
+  pub unread : from' ≡ from
+  pub unwritten : out' ≡ out
+  pub fault : CommandFault
+  pub answers : answer ≡ Err fault
+  pub bad : IsBadText name word fault
+
+-- what is done by a format's text: its faults are told, and where it is refused nothing was read or written
+pub record ScansText {S K : Type 0} (to_come : S → Option (List ℕ)) (read_faults : S → ℕ) (contents : K → Option (List ℕ)) (write_faults : K → ℕ) (limit : ℕ) (text : List ℕ)
+    (from from' : Ahead S) (out out' : K) (answer : Answer) : Type 0 where
+  pub scans : (t : List ℕ) → input_of to_come from ≡ Some t → ScansBy to_come limit text t from' (read_faults from.source) (read_faults from'.source) (contents out) (contents out') answer
+  pub refused : TellsFault (Fault One text) format_fault answer
   pub unread : IfErr answer (λ fault. Unread fault from from' out out')
-  pub refused : (verb : Verb) (format : List ℕ) (values : List (List ℕ)) (at : ℕ) (why : FormatWhy) → words ≡ words_of verb format values → MayHave verb values
-      → FaultFor verb format at why → answer ≡ Err (fault_for verb (record { at = at; why = why }))
-  pub scans : (format text : List ℕ) → words ≡ words_of Scan format [] → input_of to_come from ≡ Some text
-      → ScansBy to_come format text from' (failures from.source) (failures from'.source) (contents out) (contents out') answer
-  pub shows : (format : List ℕ) → words ≡ words_of Show format []
-      → (from' ≡ from) × ShowsBy format (contents out) (contents out') answer
-  pub prints : (format : List ℕ) (values : List (List ℕ)) → words ≡ words_of Print format values
-      → (from' ≡ from) × PrintsBy format values (contents out) (contents out') answer
+  pub failures : Counts (write_faults out) (write_faults out') answer
 
-abbrev pub exit_status : Result (Unit {0}) CommandFault → ℕ
-exit_status (Ok _) = 0
-exit_status (Err fault) = status_of fault
+abbrev pub ScansWord : {S K : Type 0} → (S → Option (List ℕ)) → (S → ℕ) → (K → Option (List ℕ)) → (K → ℕ) → ℕ → List ℕ → Ahead S → Ahead S → K → K → Answer → Type 0
+ScansWord to_come read_faults contents write_faults limit word from from' out out' answer =
+    IsRefusedText name.Scan word from from' out out' answer
+    ⊎ ((text : List ℕ) × Unescapes word text × ScansText to_come read_faults contents write_faults limit text from from' out out' answer)
 
--- the exit status of the command of the words
-pub record Exits {S K : Type 0} (to_come : S → Option (List ℕ)) (failures : S → ℕ) (contents : K → Option (List ℕ)) (words : List (List ℕ))
-    (from from' : Ahead S) (out out' : K) (status : ℕ) : Type 0 where
-  pub answer : Result (Unit {0}) CommandFault
-  pub answered : Answered to_come failures contents words from from' out out' answer
-  pub is_status : status ≡ exit_status answer
+pub record ShowsText {K : Type 0} (contents : K → Option (List ℕ)) (write_faults : K → ℕ) (text : List ℕ) (out out' : K) (answer : Answer) : Type 0 where
+  pub shows : ShowsBy text (contents out) (contents out') answer
+  pub refused : TellsFault (Fault One text) format_fault answer
+  pub unwritten : IfErr answer (λ fault. IsUnwrittenBy fault out out')
+  pub failures : Counts (write_faults out) (write_faults out') answer
+
+abbrev pub ShowsWord : {K : Type 0} → (K → Option (List ℕ)) → (K → ℕ) → List ℕ → K → K → Answer → Type 0
+ShowsWord contents write_faults word out out' answer =
+    IsRefusedText {S = Unit {0}} name.Scan word tt tt out out' answer
+    ⊎ ((text : List ℕ) × Unescapes word text × ShowsText contents write_faults text out out' answer)
+
+pub record PrintsText {K : Type 0} (contents : K → Option (List ℕ)) (write_faults : K → ℕ) (text : List ℕ) (values : List (List ℕ)) (out out' : K) (answer : Answer) : Type 0 where
+  pub prints : PrintsBy text values (contents out) (contents out') answer
+  pub refused : TellsFault (PrintFault One text) print_format_fault answer
+  pub unwritten : IfErr answer (λ fault. IsUnwrittenBy fault out out')
+  pub failures : Counts (write_faults out) (write_faults out') answer
+
+abbrev pub PrintsWord : {K : Type 0} → (K → Option (List ℕ)) → (K → ℕ) → List ℕ → List (List ℕ) → K → K → Answer → Type 0
+PrintsWord contents write_faults word values out out' answer =
+    IsRefusedText {S = Unit {0}} name.Print word tt tt out out' answer
+    ⊎ ((text : List ℕ) × Unescapes word text × PrintsText contents write_faults text values out out' answer)
+
+-- ---- checks of two formats
+
+pub record ChecksBoth {K : Type 0} (contents : K → Option (List ℕ)) (write_faults : K → ℕ) (print scan : List ℕ) (out out' : K) (answer : Answer) : Type 0 where
+  pub checks : ChecksWords print scan (contents out) (contents out') answer
+  pub unwritten : IfErr answer (λ fault. IsUnwrittenBy fault out out')
+  pub failures : Counts (write_faults out) (write_faults out') answer
+
+-- ---- copies by two formats
+
+-- What a copy by the formats writes and answers: they are no pair, by the first fault of the walk over both; or the records of
+-- the input are copied, by runs of at most m bytes.
+abbrev pub Copies : {S : Type 0} → (S → Option (List ℕ)) → (S → ℕ) → ℕ → List PrintUnit → List Directive → Ahead S → Ahead S → Option (List ℕ) → Option (List ℕ) → Answer → Type 0
+Copies to_come read_faults m units ds from from' before after (Err (Pair fault)) = pair_fault units ds ≡ Some fault
+Copies to_come read_faults m units ds from from' before after answer =
+    IsAligned units ds × ((end : ToolEnd) × (answer ≡ answer_by end.fault)
+    × ((t : List ℕ) → input_of to_come from ≡ Some t → Loops (copying units ds) to_come ds m t from' (read_faults from.source) (read_faults from'.source) before after end))
+
+-- the first word is no print format; or it is one, and the second is no scan format; or both copy
+abbrev pub CopiesWords : {S : Type 0} → (S → Option (List ℕ)) → (S → ℕ) → ℕ → List ℕ → List ℕ → Ahead S → Ahead S → Option (List ℕ) → Option (List ℕ) → Answer → Type 0
+CopiesWords to_come read_faults m print scan from from' before after answer =
+    IsFaultOf (IsNoPrintWord print) answer
+    ⊎ ((units : List PrintUnit) × IsPrintWord print units
+    × (IsFaultOf (IsNoScanWord scan) answer ⊎ ((ds : List Directive) × IsScanWord scan ds × Copies to_come read_faults m units ds from from' before after answer)))
+
+-- where a word is no format, or the formats are no pair, nothing was read or written
+pub record CopiesBoth {S K : Type 0} (to_come : S → Option (List ℕ)) (read_faults : S → ℕ) (contents : K → Option (List ℕ)) (write_faults : K → ℕ) (limit : ℕ) (print scan : List ℕ)
+    (from from' : Ahead S) (out out' : K) (answer : Answer) : Type 0 where
+  pub copies : CopiesWords to_come read_faults limit print scan from from' (contents out) (contents out') answer
+  pub unread : IfErr answer (λ fault. Unread fault from from' out out')
+  pub failures : Counts (write_faults out) (write_faults out') answer
+
+-- ---- orders
+
+-- what an order does
+abbrev pub CarriesOut : {S K : Type 0} → (S → Option (List ℕ)) → (S → ℕ) → (K → Option (List ℕ)) → (K → ℕ) → Verb → ℕ → List (List ℕ) → Ahead S → Ahead S → K → K → Answer → Type 0
+CarriesOut to_come read_faults contents write_faults verb.Scan limit (word ∷ []) from from' out out' answer =
+    ScansWord to_come read_faults contents write_faults limit word from from' out out' answer
+CarriesOut to_come read_faults contents write_faults verb.Show limit (word ∷ []) from from' out out' answer =
+    (from' ≡ from) × ShowsWord contents write_faults word out out' answer
+CarriesOut to_come read_faults contents write_faults verb.Print limit (word ∷ values) from from' out out' answer =
+    (from' ≡ from) × PrintsWord contents write_faults word values out out' answer
+CarriesOut to_come read_faults contents write_faults verb.Check limit (print ∷ scan ∷ []) from from' out out' answer =
+    (from' ≡ from) × ChecksBoth contents write_faults print scan out out' answer
+CarriesOut to_come read_faults contents write_faults verb.Copy limit (print ∷ scan ∷ []) from from' out out' answer =
+    CopiesBoth to_come read_faults contents write_faults limit print scan from from' out out' answer
+CarriesOut to_come read_faults contents write_faults _ limit texts from from' out out' answer = ⊥

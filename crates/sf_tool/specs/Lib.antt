@@ -1,12 +1,12 @@
+pub mod Answers
 pub mod Arguments
+pub mod Checks
 pub mod Commands
-pub mod Judging
+pub mod Escapes
+pub mod Exits
+pub mod Joined
 pub mod Laws
-pub mod Lines
 pub mod Prints
-pub mod Quotes
-pub mod Records
 pub mod Show
 pub mod Texts
-pub mod Turns
 pub mod Words

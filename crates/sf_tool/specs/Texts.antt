@@ -1,16 +1,16 @@
 -- What the command says and answers where it doesn't end cleanly.
-use Rattle.std.specs.Prelude.{ℕ, List, ◌++◌, codes, Some}
+use Rattle.std.specs.Prelude.{ℕ, List, [], ◌∷◌, ◌++◌, codes, Some}
 use Rattle.std.specs.Fmt.{decimal}
 use Rattle.sf_format.specs.declared.fault.FormatWhy.{FormatWhy}
 use Rattle.sf_format.specs.declared.fault.FormatWhy.TheVariants as format
-use Rattle.sf_run.specs.declared.outcome.Status.{Status}
-use Rattle.sf_run.specs.declared.outcome.Status.TheVariants as run
-use Rattle.sf_tool.specs.declared.records.ToolFault.{ToolFault}
-use Rattle.sf_tool.specs.declared.records.ToolFault.TheVariants as fault
 use Rattle.sf_tool.specs.Prints.{argument_fault_text, argument_status}
-use Rattle.sf_tool.specs.Records.{status_by}
+use Rattle.sf_records.specs.Records.{status_by}
+use Rattle.sf_records.specs.Texts.{tool_fault_text}
+use Rattle.sf_tool.specs.Checks.{pair_fault_text}
+use Rattle.sf_tool.specs.declared.fault.FormatName.{FormatName}
+use Rattle.sf_tool.specs.declared.fault.FormatName.TheVariants as name
 use Rattle.sf_tool.specs.declared.fault.CommandFault.{CommandFault}
-use Rattle.sf_tool.specs.declared.fault.CommandFault.TheVariants.{Usage, Format, PrintFormat, Values, Record, Write, Memory}
+use Rattle.sf_tool.specs.declared.fault.CommandFault.TheVariants.{BadEscape, Format, PrintFormat, Values, Record, Write, Memory, Pair}
 
 abbrev pub why_text : FormatWhy → List ℕ
 why_text format.Truncated = codes "F1 Truncated"
@@ -33,41 +33,43 @@ why_text format.BadFlag = codes "F17 BadFlag"
 why_text format.PrecisionTooLarge = codes "F18 PrecisionTooLarge"
 why_text format.NoMemory = codes "F19 NoMemory"
 
--- the words for a status (no record ends Done or NoMemory)
-abbrev pub status_text : Status → List ℕ
-status_text run.Done = codes "done"
-status_text run.InputFailure = codes "input failure"
-status_text run.MatchingFailure = codes "matching failure"
-status_text run.OutOfRange = codes "out of range"
-status_text run.TooLong = codes "too long"
-status_text run.NoMemory = codes "out of memory"
+-- how a format is named
+abbrev pub name_text : FormatName → List ℕ
+name_text name.Scan = codes "scan format"
+name_text name.Print = codes "print format"
 
-abbrev pub tool_fault_text : ToolFault → List ℕ
-tool_fault_text (fault.Failed number outcome) =
-    codes "record " ++ (decimal number ++ (codes ": " ++ (status_text outcome.status ++ (codes " at " ++ (decimal outcome.at
-    ++ (codes ", used " ++ (decimal outcome.used ++ (codes ", assigned " ++ decimal outcome.assigned))))))))
-tool_fault_text (fault.Stalled number) = codes "record " ++ (decimal number ++ codes ": stalled")
-tool_fault_text fault.TooMany = codes "too many records"
-tool_fault_text (fault.Read number) = codes "record " ++ (decimal number ++ codes ": read fault")
-tool_fault_text fault.Write = codes "write fault"
-tool_fault_text fault.Memory = codes "out of memory"
+abbrev pub format_fault_text : FormatName → FormatWhy → ℕ → List ℕ
+format_fault_text name why at = codes "sf: " ++ (name_text name ++ (codes ": " ++ (why_text why ++ (codes " at " ++ decimal at))))
+
+-- a value that isn't what is expected of it
+abbrev pub expected_text : ℕ → List ℕ → List ℕ
+expected_text at what = codes "sf: value " ++ (decimal at ++ (codes ": expected " ++ what))
+
+abbrev pub record_text : ℕ → List ℕ → List ℕ
+record_text number why = codes "sf: record " ++ (decimal number ++ (codes ": " ++ why))
 
 -- the line on standard error, without its line end
 abbrev pub command_fault_text : CommandFault → List ℕ
-command_fault_text Usage = codes "sf: usage"
-command_fault_text (Format fault) = codes "sf: scan format: " ++ (why_text fault.why ++ (codes " at " ++ decimal fault.at))
-command_fault_text (PrintFormat fault) = codes "sf: print format: " ++ (why_text fault.why ++ (codes " at " ++ decimal fault.at))
+command_fault_text (BadEscape name at) = codes "sf: " ++ (name_text name ++ (codes ": bad escape at " ++ decimal at))
+command_fault_text (Format fault) = format_fault_text name.Scan fault.why fault.at
+command_fault_text (PrintFormat fault) = format_fault_text name.Print fault.why fault.at
 command_fault_text (Values fault) = argument_fault_text fault
 command_fault_text (Record fault) = codes "sf: " ++ tool_fault_text fault
 command_fault_text Write = codes "sf: write fault"
 command_fault_text Memory = codes "sf: out of memory"
+command_fault_text (Pair fault) = codes "sf: pair: " ++ pair_fault_text fault
+
+-- and with it
+abbrev pub error_line : CommandFault → List ℕ
+error_line fault = command_fault_text fault ++ 10 ∷ []
 
 -- the exit status
 abbrev pub status_of : CommandFault → ℕ
-status_of Usage = 2
+status_of (BadEscape name at) = 2
 status_of (Format fault) = 2
 status_of (PrintFormat fault) = 2
 status_of (Values fault) = argument_status fault
 status_of (Record fault) = status_by (Some fault)
 status_of Write = 3
 status_of Memory = 4
+status_of (Pair fault) = 2

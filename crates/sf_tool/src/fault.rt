@@ -1,18 +1,19 @@
 //! Why the command ends, and what it says then.
 ghost use Rattle.std.specs.Prelude.{◌≡◌, Some};
-ghost use Rattle.sf_tool.specs.Texts.{command_fault_text, status_text, status_of, tool_fault_text, why_text};
+ghost use Rattle.sf_tool.specs.Texts.{command_fault_text, name_text, status_of, why_text};
 ghost use Rattle.sf_tool.specs.Commands.{format_fault, print_format_fault};
 ghost use Rattle.sf_tool.specs.declared.fault.CommandFault.TheVariants.{Memory};
 
 use crate::argument_fault::ArgumentFault;
-use crate::records::ToolFault;
+use crate::check::pair_why_text;
 use sf_format::{FormatFault, FormatWhy};
-use sf_run::Status;
+use sf_pair::PairFault;
+use sf_records::ToolFault;
 use std::alloc::AllocError;
 use std::error::Error;
 use std::fmt;
 
-fn why_text(why: FormatWhy) -> &'static str
+pub(crate) fn why_text(why: FormatWhy) -> &'static str
     ensures { result.now ≡ why_text why }
 {
     match why {
@@ -38,48 +39,27 @@ fn why_text(why: FormatWhy) -> &'static str
     }
 }
 
-fn status_text(status: Status) -> &'static str
-    ensures { result.now ≡ status_text status }
-{
-    match status {
-        Status::Done => "done",
-        Status::InputFailure => "input failure",
-        Status::MatchingFailure => "matching failure",
-        Status::OutOfRange => "out of range",
-        Status::TooLong => "too long",
-        Status::NoMemory => "out of memory",
-    }
+/// Which of a command's formats.
+#[derive(Clone, Copy, Debug, PartialEq, Eq)]
+pub enum FormatName {
+    Scan,
+    Print,
 }
 
-impl fmt::Display for ToolFault {
-    ghost output = { λ fault. Some (tool_fault_text fault) };
-
-    fn fmt<W: fmt::Write>(&self, f: &mut fmt::Formatter<W>) -> fmt::Result {
-        match *self {
-            ToolFault::Failed { number, outcome } => {
-                let status = status_text(outcome.status);
-                let at = outcome.at;
-                let used = outcome.used;
-                let assigned = outcome.assigned;
-                write!(
-                    f,
-                    "record {number}: {status} at {at}, used {used}, assigned {assigned}"
-                )
-            }
-            ToolFault::Stalled { number } => write!(f, "record {number}: stalled"),
-            ToolFault::TooMany => write!(f, "too many records"),
-            ToolFault::Read { number } => write!(f, "record {number}: read fault"),
-            ToolFault::Write => write!(f, "write fault"),
-            ToolFault::Memory => write!(f, "out of memory"),
-        }
+pub(crate) fn name_text(name: FormatName) -> &'static str
+    ensures { result.now ≡ name_text name }
+{
+    match name {
+        FormatName::Scan => "scan format",
+        FormatName::Print => "print format",
     }
 }
 
 /// Why the command did not end cleanly.
 #[derive(Clone, Copy, Debug, PartialEq, Eq)]
 pub enum CommandFault {
-    /// The words are no command.
-    Usage,
+    /// A format's text has a bad escape, by the offset of its backslash in the word.
+    BadEscape { name: FormatName, at: usize },
     /// The scan format is refused.
     Format(FormatFault),
     /// The print format is refused.
@@ -92,6 +72,8 @@ pub enum CommandFault {
     Write,
     /// Memory was refused.
     Memory,
+    /// The formats are no pair, by its first fault.
+    Pair(PairFault),
 }
 
 /// The command's fault for that of a scan format.
@@ -130,7 +112,10 @@ impl CommandFault {
         match self {
             CommandFault::Record(fault) => fault.status(),
             CommandFault::Values(fault) => fault.status(),
-            CommandFault::Usage | CommandFault::Format(_) | CommandFault::PrintFormat(_) => 2,
+            CommandFault::BadEscape { .. }
+            | CommandFault::Format(_)
+            | CommandFault::PrintFormat(_)
+            | CommandFault::Pair(_) => 2,
             CommandFault::Write => 3,
             CommandFault::Memory => 4,
         }
@@ -143,21 +128,31 @@ impl fmt::Display for CommandFault {
 
     fn fmt<W: fmt::Write>(&self, f: &mut fmt::Formatter<W>) -> fmt::Result {
         match *self {
-            CommandFault::Usage => write!(f, "sf: usage"),
+            CommandFault::BadEscape { name, at } => {
+                let name = name_text(name);
+                write!(f, "sf: {name}: bad escape at {at}")
+            }
             CommandFault::Format(fault) => {
+                let name = name_text(FormatName::Scan);
                 let why = why_text(fault.why);
                 let at = fault.at;
-                write!(f, "sf: scan format: {why} at {at}")
+                write!(f, "sf: {name}: {why} at {at}")
             }
             CommandFault::PrintFormat(fault) => {
+                let name = name_text(FormatName::Print);
                 let why = why_text(fault.why);
                 let at = fault.at;
-                write!(f, "sf: print format: {why} at {at}")
+                write!(f, "sf: {name}: {why} at {at}")
             }
             CommandFault::Values(fault) => write!(f, "{fault}"),
             CommandFault::Record(fault) => write!(f, "sf: {fault}"),
             CommandFault::Write => write!(f, "sf: write fault"),
             CommandFault::Memory => write!(f, "sf: out of memory"),
+            CommandFault::Pair(fault) => {
+                let why = pair_why_text(fault.why);
+                let at = fault.at;
+                write!(f, "sf: pair: {why} at {at}")
+            }
         }
     }
 }

@@ -1,14 +1,7 @@
 //! Laws of the definitions.
-ghost use Rattle.sf_tool.specs.Laws.{CountIsTold, EachHasOneEnd, FirstIsTold, OneList, OneValue};
+ghost use Rattle.sf_tool.specs.Laws.{CountIsTold, FirstIsTold, OneList, OneValue};
 
-use sf_run::laws::one_report;
-
-/// The records of an input by a format have one output, use so many bytes and end in one way.
-pub fn one_end()
-    ensures { EachHasOneEnd }
-{
-    one_report();
-}
+pub use sf_records::laws::{copied_twice, joined_texts, one_end};
 
 /// A word stands for at most one value.
 pub fn one_value()

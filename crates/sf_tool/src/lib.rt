@@ -3,19 +3,22 @@
 
 mod argument;
 mod argument_fault;
+mod check;
 mod command;
+mod copy;
+mod error_line;
+mod escape;
 mod fault;
+mod formats;
+mod invocation;
 pub mod laws;
-mod line;
-mod output;
 mod print;
-mod quote;
-mod records;
 mod show;
-mod turn;
 
 pub use argument_fault::ArgumentFault;
-pub use command::tool;
-pub use fault::CommandFault;
+pub use command::carry_out;
+pub use fault::{CommandFault, FormatName};
+pub use invocation::{run_words, tool};
 pub use print::print_values;
-pub use records::{ToolEnd, ToolFault, run_scan};
+pub use sf_records::{ToolEnd, ToolFault, run_copy, run_scan};
+pub use sf_words::{Order, Verb, WordsFault, read_words};

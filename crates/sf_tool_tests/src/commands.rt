@@ -3,7 +3,7 @@ use sf_format::{FormatFault, FormatWhy};
 use sf_print::{ListSink, ScriptSink, WriteStep};
 use sf_read::{Lookahead, ReadStep, ScriptSource, SliceSource, Source};
 use sf_run::{Ending, Outcome, Status};
-use sf_tool::{CommandFault, ToolFault, tool};
+use sf_tool::{CommandFault, FormatName, ToolFault, run_words, tool};
 use std::alloc::Global;
 use std::fmt::Debug;
 use std::process::Abort;
@@ -24,7 +24,7 @@ struct Row {
 struct Answer {
     status: u8,
     out: ListSink,
-    err: Vec<u8>,
+    err: ListSink,
 }
 
 /// What is found is what is wanted; else the place is named.
@@ -48,8 +48,8 @@ fn answered<S: Source>(
 ) -> Result<Answer, Fail> {
     let words = owned(alloc, words)?;
     let mut out = ListSink::new(alloc);
-    let mut err = Vec::<u8>::new(alloc);
-    let status = tool(alloc, &words, from, &mut out, &mut err);
+    let mut err = ListSink::new(alloc);
+    let status = run_words(alloc, &words, from, &mut out, &mut err);
     Ok(Answer { status, out, err })
 }
 
@@ -70,7 +70,7 @@ fn is_answer(
     place: &impl Debug,
 ) {
     is(rt, &answer.out.bytes(), &output.as_bytes(), place);
-    is(rt, &answer.err.as_slice(), &line.as_bytes(), place);
+    is(rt, &answer.err.bytes(), &line.as_bytes(), place);
     is(rt, &answer.status, &status, place);
 }
 
@@ -188,7 +188,7 @@ const SHOWN_FORMATS: [Row; 4] = [
         status: 0,
     },
     Row {
-        format: "\x01\"\\\x7f",
+        format: "\x01\"\\\\\x7f",
         text: b"a",
         output: "1 byte \"\\x01\"\n2 byte \"\\\"\"\n3 byte \"\\\\\"\n4 byte \"\\x7f\"\ndestinations 0, width sum 0\n",
         line: "",
@@ -398,8 +398,20 @@ const TOO_LONG: Outcome = Outcome {
     met: Some(Ending::End),
 };
 
-const LINES_OF_FAULTS: [Line; 9] = [
-    (CommandFault::Usage, "sf: usage", 2),
+const LINES_OF_FAULTS: [Line; 10] = [
+    (
+        CommandFault::BadEscape {
+            name: FormatName::Print,
+            at: 18446744073709551615,
+        },
+        "sf: print format: bad escape at 18446744073709551615",
+        2,
+    ),
+    (
+        CommandFault::Record(ToolFault::Unfit { number: 4294967295 }),
+        "sf: record 4294967295: values do not fit",
+        1,
+    ),
     (
         CommandFault::Record(ToolFault::Failed {
             number: 5,
@@ -438,31 +450,63 @@ fn lines_of_faults(rt: HostRuntime) -> Result<(), Fail> {
     are_lines(&rt, &LINES_OF_FAULTS)
 }
 
-/// The command of the words on `1 2`, where the output fails: the exit status, the output, and the line.
-fn failing(alloc: Global, words: &[&str]) -> Result<(u8, Vec<u8>, Vec<u8>), Fail> {
+/// The command of the words on `1 2`, where the output and the error output follow scripts: the exit status, and what they took.
+fn failing(
+    alloc: Global,
+    words: &[&str],
+    out: &[WriteStep],
+    err: &[WriteStep],
+) -> Result<(u8, Vec<u8>, Vec<u8>), Fail> {
     let words = owned(alloc, words)?;
     let steps = [ReadStep::Give(b"1 2")];
-    let mut from = Lookahead::<ScriptSource<'_>, 4096>::new(ScriptSource::new(&steps));
-    let fails = [WriteStep::Fail];
-    let mut out = ScriptSink::new(alloc, &fails);
-    let mut err = Vec::<u8>::new(alloc);
-    let status = tool(alloc, &words, &mut from, &mut out, &mut err);
-    Ok((status, out.bytes().to_vec(alloc)?, err))
+    let mut out = ScriptSink::new(alloc, out);
+    let mut err = ScriptSink::new(alloc, err);
+    let status = tool(alloc, &words, ScriptSource::new(&steps), &mut out, &mut err);
+    Ok((
+        status,
+        out.bytes().to_vec(alloc)?,
+        err.bytes().to_vec(alloc)?,
+    ))
 }
+
+/// Words of each verb that writes, and what the output takes of it before it fails.
+const FAILING: [(&[&str], &str); 4] = [
+    (&["scan", "%d"], "1"),
+    (&["show", "%d"], "1"),
+    (&["print", "%d;", "12"], "1"),
+    (&["check", "%d;", "%3d;"], "a"),
+];
 
 #[test]
 fn write_faults(rt: HostRuntime) -> Result<(), Fail> {
-    for verb in ["scan", "show"] {
-        let (status, output, line) = failing(rt.alloc(), &[verb, "%d"])?;
-        is(&rt, &status, &3, &verb);
+    let fails = [WriteStep::Accept(1), WriteStep::Fail];
+    for (words, front) in FAILING {
+        let (status, output, line) = failing(rt.alloc(), words, &fails, &[])?;
+        is(&rt, &status, &3, &words);
         is(
             &rt,
             &line.as_slice(),
             &b"sf: write fault\n".as_slice(),
-            &verb,
+            &words,
         );
-        is(&rt, &output.is_empty(), &true, &verb);
+        is(&rt, &output.as_slice(), &front.as_bytes(), &words);
     }
+    Ok(())
+}
+
+/// A fault of the error output changes no status, and the line isn't begun again.
+#[test]
+fn error_output_fails(rt: HostRuntime) -> Result<(), Fail> {
+    let fails = [WriteStep::Accept(4), WriteStep::Fail];
+    let (status, output, line) = failing(rt.alloc(), &["scan", "%d;"], &[], &fails)?;
+    is(&rt, &status, &1, &"a failed record");
+    is(&rt, &output.is_empty(), &true, &"a failed record");
+    is(
+        &rt,
+        &line.as_slice(),
+        &b"sf: ".as_slice(),
+        &"a failed record",
+    );
     Ok(())
 }
 
@@ -488,7 +532,24 @@ const USAGES: [&[&str]; 5] = [
 fn usage(rt: HostRuntime) -> Result<(), Fail> {
     for words in USAGES {
         let (answer, reads) = scripted(rt.alloc(), words, &[ReadStep::Give(b"1")])?;
-        is_answer(&rt, &answer, "", "sf: usage\n", 2, &words);
+        is(&rt, &answer.status, &2, &words);
+        is(&rt, &answer.out.bytes().is_empty(), &true, &words);
+        is(&rt, &answer.err.bytes().is_empty(), &false, &words);
+        is(&rt, &reads, &0, &words);
+    }
+    Ok(())
+}
+
+/// Words that ask for help.
+const HELPS: [&[&str]; 3] = [&["--help"], &["help", "scan"], &["scan", "--help"]];
+
+#[test]
+fn help_is_asked_for(rt: HostRuntime) -> Result<(), Fail> {
+    for words in HELPS {
+        let (answer, reads) = scripted(rt.alloc(), words, &[ReadStep::Give(b"1")])?;
+        is(&rt, &answer.status, &0, &words);
+        is(&rt, &answer.out.bytes().is_empty(), &false, &words);
+        is(&rt, &answer.err.bytes().is_empty(), &true, &words);
         is(&rt, &reads, &0, &words);
     }
     Ok(())
@@ -497,13 +558,20 @@ fn usage(rt: HostRuntime) -> Result<(), Fail> {
 /// Words of the command, the output, the line on standard error, and the exit status.
 type Printed = (&'static [&'static str], &'static str, &'static str, u8);
 
-const PRINTED: [Printed; 6] = [
+const PRINTED: [Printed; 8] = [
     (&["print", "%+5d|%-5d|", "42", "42"], "  +42|42   |", "", 0),
     (
-        &["print", "%08.3d %#06x", "-5", "255"],
+        &["print", "%08.3d %#06x", "--", "-5", "255"],
         "    -005 0x00ff",
         "",
         0,
+    ),
+    (&["print", "%d\\n%c", "--", "-1", "\\x41"], "-1\nA", "", 0),
+    (
+        &["print", "%d\\q", "x"],
+        "",
+        "sf: print format: bad escape at 2\n",
+        2,
     ),
     (
         &["print", "%d,%s", "x", "y"],
@@ -537,6 +605,195 @@ fn printed_values(rt: HostRuntime) -> Result<(), Fail> {
         let (answer, reads) = scripted(rt.alloc(), words, &[ReadStep::Fail])?;
         is_answer(&rt, &answer, output, line, status, &words);
         is(&rt, &reads, &0, &words);
+    }
+    Ok(())
+}
+
+const ESCAPED: [Row; 5] = [
+    Row {
+        format: "%d\\n%s",
+        text: b"1\nab",
+        output: "1 \"ab\"\n",
+        line: "",
+        status: 0,
+    },
+    Row {
+        format: "\\x25d\\x2C\\\\",
+        text: b"5,\\",
+        output: "5\n",
+        line: "",
+        status: 0,
+    },
+    Row {
+        format: "a\\x00",
+        text: b"a",
+        output: "",
+        line: "sf: scan format: F14 Nul at 1\n",
+        status: 2,
+    },
+    Row {
+        format: "%q\\",
+        text: b"a",
+        output: "",
+        line: "sf: scan format: bad escape at 2\n",
+        status: 2,
+    },
+    Row {
+        format: "\\n\\x1",
+        text: b"a",
+        output: "",
+        line: "sf: scan format: bad escape at 2\n",
+        status: 2,
+    },
+];
+
+#[test]
+fn escapes_in_scan_formats(rt: HostRuntime) -> Result<(), Fail> {
+    scan_rows(&rt, &ESCAPED)
+}
+
+/// The limit of a record.
+#[test]
+fn limits(rt: HostRuntime) -> Result<(), Fail> {
+    let words = ["scan", "--limit", "3", "%s"];
+    let (answer, _) = scripted(rt.alloc(), &words, &[ReadStep::Give(b"abcd")])?;
+    let line = "sf: record 1: too long at 1, used 3, assigned 0\n";
+    is_answer(&rt, &answer, "", line, 1, &words);
+    let (answer, _) = scripted(rt.alloc(), &words, &[ReadStep::Give(b"abc")])?;
+    is_answer(&rt, &answer, "\"abc\"\n", "", 0, &words);
+    Ok(())
+}
+
+const CHECKED: [Printed; 10] = [
+    (
+        &["check", "%xx", "%4xx"],
+        "refused: Q6 RunsOn at 1\n",
+        "",
+        1,
+    ),
+    (&["check", "%d\\n", "%11d%*1[\\n]"], "accepted\n", "", 0),
+    (
+        &["check", "ab", "ab"],
+        "refused: Q11 NoValues at 0\n",
+        "",
+        1,
+    ),
+    (
+        &["check", "%05d", "%3d"],
+        "refused: Q5 TooNarrow at 1\n",
+        "",
+        1,
+    ),
+    (&["check", "%d%+d;", "%3d%4d;"], "accepted\n", "", 0),
+    (
+        &["check", "%q", "\\"],
+        "",
+        "sf: print format: F4 UnknownLetter at 1\n",
+        2,
+    ),
+    (
+        &["check", "%d\\", "%q"],
+        "",
+        "sf: print format: bad escape at 2\n",
+        2,
+    ),
+    (
+        &["check", "%d", "\\q%q"],
+        "",
+        "sf: scan format: bad escape at 0\n",
+        2,
+    ),
+    (
+        &["check", "%d", "%[z-a]"],
+        "",
+        "sf: scan format: F8 BackwardRange at 2\n",
+        2,
+    ),
+    (
+        &["check", "%s %s;", "%5s %5[^;];"],
+        "refused: Q6 RunsOn at 2\n",
+        "",
+        1,
+    ),
+];
+
+#[test]
+fn pairs_are_checked(rt: HostRuntime) -> Result<(), Fail> {
+    for (words, output, line, status) in CHECKED {
+        let (answer, reads) = scripted(rt.alloc(), words, &[ReadStep::Fail])?;
+        is_answer(&rt, &answer, output, line, status, &words);
+        is(&rt, &reads, &0, &words);
+    }
+    Ok(())
+}
+
+/// Words of a copy, its input, and what comes of it.
+type Copied = (
+    &'static [&'static str],
+    &'static [u8],
+    &'static str,
+    &'static str,
+    u8,
+);
+
+const COPIED: [Copied; 7] = [
+    (
+        &["copy", "%d,%s\\n", "%11d,%20s%*1[\\n]"],
+        b" +7,ab\n08,c\n",
+        "7,ab\n8,c\n",
+        "",
+        0,
+    ),
+    (
+        &["copy", "%d,%s\\n", "%11d,%20s%*1[\\n]"],
+        b"7,ab",
+        "",
+        "sf: record 1: input failure at 4, used 4, assigned 2\n",
+        1,
+    ),
+    (
+        &["copy", "%d,%s\\n", "%11d,%20s%*1[\\n]"],
+        b"",
+        "",
+        "",
+        0,
+    ),
+    (
+        &["copy", "%+d;", "%3d;"],
+        b"12;123;",
+        "+12;",
+        "sf: record 2: values do not fit\n",
+        1,
+    ),
+    (
+        &["copy", "--limit", "2", "%d;", "%3d;"],
+        b"1;23;",
+        "1;",
+        "sf: record 2: too long at 2, used 2, assigned 1\n",
+        1,
+    ),
+    (
+        &["copy", "%d", "%3d"],
+        b"1",
+        "",
+        "sf: pair: Q7 OpenEnd at 1\n",
+        2,
+    ),
+    (
+        &["copy", "%q", "\\"],
+        b"1",
+        "",
+        "sf: print format: F4 UnknownLetter at 1\n",
+        2,
+    ),
+];
+
+#[test]
+fn records_are_copied(rt: HostRuntime) -> Result<(), Fail> {
+    for (words, text, output, line, status) in COPIED {
+        let mut from = Lookahead::<SliceSource<'_>, 4096>::new(SliceSource::new(text));
+        let answer = answered(rt.alloc(), words, &mut from)?;
+        is_answer(&rt, &answer, output, line, status, &words);
     }
     Ok(())
 }

@@ -254,6 +254,87 @@ fn words_of_no_number(rt: HostRuntime) -> Result<(), Fail> {
     Ok(())
 }
 
+const ESCAPES: [Row; 4] = [
+    Row {
+        format: b"%s",
+        words: &["a\\x00b"],
+        text: b"a\0b",
+    },
+    Row {
+        format: b"%s",
+        words: &["\\\\\\n\\t\\v\\f\\r\\x7F\\xff"],
+        text: b"\\\n\t\x0b\x0c\r\x7f\xff",
+    },
+    Row {
+        format: b"[%c%2c]",
+        words: &["\\xE4", "\\\\"],
+        text: b"[\xe4 \\]",
+    },
+    Row {
+        format: b"%.2s",
+        words: &["\\x41\\x42\\x43"],
+        text: b"AB",
+    },
+];
+
+#[test]
+fn escapes_in_values(rt: HostRuntime) -> Result<(), Fail> {
+    print_rows(&rt, &ESCAPES)
+}
+
+const BAD_ESCAPES: [Refusal; 9] = [
+    Refusal {
+        format: b"%s",
+        words: &["ab\\q"],
+        line: "sf: value 1: bad escape at 2",
+    },
+    Refusal {
+        format: b"%s",
+        words: &["\\"],
+        line: "sf: value 1: bad escape at 0",
+    },
+    Refusal {
+        format: b"%s",
+        words: &["\\n\\x1"],
+        line: "sf: value 1: bad escape at 2",
+    },
+    Refusal {
+        format: b"%s",
+        words: &["\\x1g\\q"],
+        line: "sf: value 1: bad escape at 0",
+    },
+    Refusal {
+        format: b"%c",
+        words: &["\\X41"],
+        line: "sf: value 1: bad escape at 0",
+    },
+    Refusal {
+        format: b"%c",
+        words: &["\\n\\n"],
+        line: "sf: value 1: expected one byte",
+    },
+    Refusal {
+        format: b"%d",
+        words: &["\\x31"],
+        line: "sf: value 1: expected i32",
+    },
+    Refusal {
+        format: b"%d%s",
+        words: &["x", "\\"],
+        line: "sf: value 1: expected i32",
+    },
+    Refusal {
+        format: b"%2$d%1$s",
+        words: &["a\\", "x"],
+        line: "sf: value 1: bad escape at 1",
+    },
+];
+
+#[test]
+fn bad_escapes_in_values(rt: HostRuntime) -> Result<(), Fail> {
+    refuse_rows(&rt, &BAD_ESCAPES)
+}
+
 const REFUSALS: [Refusal; 10] = [
     Refusal {
         format: b"%c",

@@ -1,5 +1,15 @@
-use Rattle.std.proofs.Common.{rules}
+use Rattle.std.proofs.Common.{◌/◌, ◌<◌, not, arith, sym, ap, ◌∙◌}
+use Rattle.sf_base.proofs.Bits.{word_has-not}
+use Rattle.sf_base.proofs.Sets.{has_byte-marks_of, has_byte-held, length-marks_of}
 use Rattle.sf_base.proofs.byte_set.ByteSet.complement.Goals as goal
 
-pub loop-i-preserved : goal.loop-i-preserved
-loop-i-preserved c = search rules
+pub returns-clause-members : goal.returns-clause-members
+returns-clause-members c k below =
+    let words = c.self.inside.words in
+    let inside : k / 64 < c.loop-i.i = omega arith in
+    has_byte-marks_of _ k below
+    ∙ word_has-not words c.loop-i.self-inside.words k (c.loop-i.invariant.turned (k / 64) inside) (c.loop-i.invariant.fits (k / 64) inside)
+    ∙ ap not (sym (has_byte-held words _ k c.self.view_is below))
+
+pub returns-clause-sized : goal.returns-clause-sized
+returns-clause-sized c = length-marks_of _

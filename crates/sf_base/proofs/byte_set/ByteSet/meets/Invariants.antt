@@ -1,6 +1,5 @@
-use Rattle.std.proofs.Common.{◌≡◌, ◌<◌, ℕ, true}
-use Rattle.sf_base.specs.Sets.{has_byte}
+use Rattle.std.proofs.Common.{◌≡◌, ◌<◌, ℕ, get_or, bit_and}
 use Rattle.sf_base.proofs.byte_set.ByteSet.meets.Given as goal
 
 abbrev pub invariant-loop-i : goal.invariant-loop-i
-invariant-loop-i l = (k : ℕ) → k < l.i → has_byte l.self-inside.marks k ≡ true → has_byte l.other-inside.marks k ≡ true → ⊥
+invariant-loop-i l = (j : ℕ) → j < l.i → bit_and (get_or l.self-inside.words j 0) (get_or l.other-inside.words j 0) ≡ 0

@@ -1,5 +1,5 @@
 use Rattle.std.proofs.Common.{rules}
 use Rattle.sf_run.proofs.report.Scanned.into_store.Goals as goal
 
-pub returns : goal.returns
-returns g c = search rules
+pub returns-clause-values : goal.returns-clause-values
+returns-clause-values g c = search rules

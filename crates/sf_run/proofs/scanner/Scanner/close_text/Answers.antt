@@ -7,7 +7,7 @@ use Rattle.sf_run.specs.Scanner.{kept_by}
 use Rattle.sf_run.proofs.Moves.{place_taken, has_place}
 use Rattle.sf_run.proofs.Slots.{is_destination_of, slots_more, joined_text, closed_values, room_passed}
 use Rattle.sf_base.specs.Kept.{buffer_of}
-use Rattle.sf_run.proofs.Slots.{size_passed, size_closed}
+use Rattle.sf_run.proofs.Slots.{closed_capacity, size_passed, size_closed}
 use Rattle.sf_run.proofs.scanner.Scanner.close_text.Goals as goal
 
 pub counted-tally-requires : goal.counted-tally-requires
@@ -60,7 +60,7 @@ returns g c =
     let s = c.args.self.now in
     let closed = closed_values (kept_by s).values (kept_by s).opened c.args.slot (s.under_way ∙ c.requires.text) in
     rw (c.close_text.ensures, closed) (record {
-      keeps = record { directives = refl; limit = refl; met = refl };
+      keeps = record { directives = refl; limit = refl; met = refl; capacity = closed_capacity (kept_by s) };
       ended = refl;
       passed = refl;
       phase = refl;

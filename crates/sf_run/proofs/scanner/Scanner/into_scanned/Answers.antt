@@ -3,7 +3,7 @@ use Rattle.sf_run.specs.Stopping.{is_memory_status, is_no_memory}
 use Rattle.sf_run.specs.Runs.{RunReport}
 use Rattle.sf_run.specs.Limits.{RunWithin, RunTold}
 use Rattle.sf_run.specs.Scanner.{kept_by, standing}
-use Rattle.sf_run.proofs.Waits.{waits_open, gives_report, after_report}
+use Rattle.sf_run.proofs.Waits.{waits_open, gives_report, after_report, told_exactly}
 use Rattle.sf_run.proofs.scanner.Scanner.into_scanned.Goals as goal
 
 pub returns-in-None-clause-waits : goal.returns-in-None-clause-waits
@@ -25,3 +25,7 @@ returns-in-Some-clause-used g c = ap (λ (r : RunReport). r.used) (c.outcome.ens
 pub returns-in-Some-clause-memory : goal.returns-in-Some-clause-memory
 returns-in-Some-clause-memory g c =
     ap (λ (r : RunReport). is_memory_status r.status) (c.outcome.ensures (kept_by c.args.self).values) ∙ sym (ap is_no_memory c.in-Some.is)
+
+pub returns-in-Some-clause-exactly : goal.returns-in-Some-clause-exactly
+returns-in-Some-clause-exactly g c =
+    let s = c.args.self in told_exactly (standing s) c.in-Some.stop _ c.in-Some.is (c.outcome.ensures (kept_by s).values)

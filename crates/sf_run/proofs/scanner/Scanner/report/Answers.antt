@@ -3,7 +3,7 @@ use Rattle.sf_run.specs.Stopping.{is_memory_status, is_no_memory}
 use Rattle.sf_run.specs.Runs.{RunReport}
 use Rattle.sf_run.specs.Limits.{RunWithin, RunTold}
 use Rattle.sf_run.specs.Scanner.{kept_by, standing}
-use Rattle.sf_run.proofs.Waits.{waits_open, gives_report, after_report}
+use Rattle.sf_run.proofs.Waits.{waits_open, gives_report, after_report, told_exactly}
 use Rattle.sf_run.proofs.scanner.Scanner.report.Goals as goal
 
 pub returns-in_err-stop-clause-none : goal.returns-in_err-stop-clause-none
@@ -22,3 +22,7 @@ returns-clause-gives g c ds m x ending h =
 pub returns-clause-memory : goal.returns-clause-memory
 returns-clause-memory g c =
     ap (λ (r : RunReport). is_memory_status r.status) (c.outcome.ensures (kept_by c.args.self.now).values) ∙ sym (ap is_no_memory c.in_ok-stop.was)
+
+pub returns-clause-exactly : goal.returns-clause-exactly
+returns-clause-exactly g c =
+    let s = c.args.self.now in told_exactly (standing s) c.in_ok-stop.stop _ c.in_ok-stop.was (c.outcome.ensures (kept_by s).values)

@@ -68,7 +68,7 @@ pub returns : goal.returns
 returns g c =
     let s = c.args.self.now in
     rw c.set.ensures (record {
-      keeps = record { directives = refl; limit = refl; met = refl };
+      keeps = record { directives = refl; limit = refl; met = refl; capacity = omega arith };
       ended = refl;
       passed = refl;
       phase = refl;

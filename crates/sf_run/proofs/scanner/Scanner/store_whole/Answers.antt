@@ -105,7 +105,15 @@ returns-clause-passes g c =
     let s = c.args.self.now in
     rw (kept_whole (kept_by s) (g.S.Store.kept c.open_text.new.self) (g.S.Store.kept c.push_all.new.self) (g.S.Store.kept c.close_text.new.self) c.args.slot c.args.item.now
     c.open_text.ensures (ok_of c.push_all.result (sym c.is_err.ensures.value ∙ c.if-is_err.false) c.push_all.ensures.ok) c.close_text.ensures) (record {
-      keeps = record { directives = refl; limit = refl; met = refl };
+      keeps = record {
+        directives = refl;
+        limit = refl;
+        met = refl;
+        capacity = (let falls = c.push_all.ensures.room in
+            let same = ap (λ (k : Kept). k.room) c.open_text.ensures in
+            let size = size_whole (kept_by s).closed c.args.item.now (kept_by s).opened (opened_none (kept_by s).opened (s.under_way ∙ ap slot_in c.requires.fresh)) in
+            omega (arith, falls, same, size));
+      };
       ended = refl;
       passed = refl;
       phase = c.requires.fresh;

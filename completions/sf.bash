@@ -1,0 +1,27 @@
+# Completions of sf for bash.
+
+_sf() {
+    local word=${COMP_WORDS[COMP_CWORD]} before=${COMP_WORDS[COMP_CWORD-1]} at
+    COMPREPLY=()
+    # the file of a redirection
+    if [[ $before == *[\<\>]* ]]; then
+        compopt -o default
+        return
+    fi
+    if (( COMP_CWORD == 1 )); then
+        COMPREPLY=( $(compgen -W 'show scan print check copy help -h --help -V --version' -- "$word") )
+        return
+    fi
+    [[ $before == --limit ]] && return
+    # what stands behind -- is no option
+    for (( at = 2; at < COMP_CWORD; at++ )); do
+        [[ ${COMP_WORDS[at]} == -- ]] && return
+    done
+    case ${COMP_WORDS[1]} in
+        help) (( COMP_CWORD == 2 )) && COMPREPLY=( $(compgen -W 'show scan print check copy help' -- "$word") ) ;;
+        scan) [[ $word == -* ]] && COMPREPLY=( $(compgen -W '--limit --line-buffered -h --help' -- "$word") ) ;;
+        copy) [[ $word == -* ]] && COMPREPLY=( $(compgen -W '--limit --line-buffered -h --help' -- "$word") ) ;;
+        show|print|check) [[ $word == -* ]] && COMPREPLY=( $(compgen -W '-h --help' -- "$word") ) ;;
+    esac
+}
+complete -F _sf sf

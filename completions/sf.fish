@@ -1,0 +1,30 @@
+# Completions of sf for fish.
+
+# Whether the line has a command yet, and whether it is one of these.
+function __sf_has_no_command
+    test (count (commandline -opc)) -eq 1
+end
+
+function __sf_has_command
+    set -l words (commandline -opc)
+    contains -- "$words[2]" $argv
+end
+
+function __sf_is_behind_help
+    set -l words (commandline -opc)
+    test (count $words) -eq 2 -a "$words[2]" = help
+end
+
+complete -c sf -f
+complete -c sf -n __sf_has_no_command -s h -l help -d 'Show help'
+complete -c sf -n __sf_has_no_command -s V -l version -d 'Show the version'
+complete -c sf -n __sf_has_no_command -a show -d 'Show the directives of a scan format'
+complete -c sf -n __sf_has_no_command -a scan -d 'Scan standard input by a format'
+complete -c sf -n __sf_has_no_command -a print -d 'Print values by a format'
+complete -c sf -n __sf_has_no_command -a check -d 'Tell whether what is written is read back'
+complete -c sf -n __sf_has_no_command -a copy -d 'Scan by a format and print by another'
+complete -c sf -n __sf_has_no_command -a help -d 'Show help'
+complete -c sf -n __sf_is_behind_help -a 'show scan print check copy help'
+complete -c sf -n '__sf_has_command show scan print check copy' -s h -l help -d 'Show help'
+complete -c sf -n '__sf_has_command scan copy' -l limit -x -d 'The most bytes of one record'
+complete -c sf -n '__sf_has_command scan copy' -l line-buffered -d 'Write what each record gives at once'

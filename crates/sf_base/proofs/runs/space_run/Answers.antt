@@ -1,0 +1,38 @@
+use Rattle.std.proofs.Common.{◌≡◌, ◌+◌, ◌≤◌, length, arith}
+use Rattle.std.proofs.lemmas.Grind.{common_steps}
+use Rattle.std.specs.List.{prefix_len}
+use Rattle.sf_base.specs.Bytes.{is_white, is_ink}
+use Rattle.sf_base.proofs.Lanes.{ends_at, goes_on, not_not}
+use Rattle.sf_base.proofs.Fronts.{longest_at}
+use Rattle.sf_base.proofs.runs.space_run.Goals as goal
+
+stops : goal.returns-then-others-ne0-clause-count
+stops c =
+    let room : c.loop-at.at + 16 ≤ length c.args.piece.now = omega (arith, c.loop-at-test.true) in
+    let r = ends_at is_ink is_white (not_not is_white) c.args.piece.now c.loop-at.at c.ink_mask-others.result room c.ink_mask-others.ensures c.if-others-ne0.true in
+    omega (arith, c.loop-at.invariant.front, r)
+
+pub returns-then-others-ne0-clause-count : goal.returns-then-others-ne0-clause-count
+returns-then-others-ne0-clause-count c = stops c
+
+pub returns-then-others-ne0-clause-longest : goal.returns-then-others-ne0-clause-longest
+returns-then-others-ne0-clause-longest c = longest_at is_white c.args.piece.now _ (stops c)
+
+pub loop-at-preserved : goal.loop-at-preserved
+loop-at-preserved c =
+    let room : c.loop-at.at + 16 ≤ length c.args.piece.now = omega (arith, c.loop-at-test.true) in
+    let r = goes_on is_ink is_white (not_not is_white) c.args.piece.now c.loop-at.at c.ink_mask-others.result room c.ink_mask-others.ensures c.if-others-ne0.false in
+    record {
+      within = room;
+      front = omega (arith, c.loop-at.invariant.front, r);
+    }
+
+pub returns-then-not-is_space-clause-longest : goal.returns-then-not-is_space-clause-longest
+returns-then-not-is_space-clause-longest c =
+    let count : c.loop-at-2.at ≡ prefix_len is_white c.args.piece.now = grind (arith, common_steps) in
+    longest_at is_white c.args.piece.now c.loop-at-2.at count
+
+pub returns-clause-longest : goal.returns-clause-longest
+returns-clause-longest c =
+    let count : c.loop-at-2.at ≡ prefix_len is_white c.args.piece.now = grind (arith, common_steps) in
+    longest_at is_white c.args.piece.now c.loop-at-2.at count

@@ -1,0 +1,77 @@
+//! Runs of white space, and of bytes that are none, sixteen bytes at once.
+ghost use Rattle.std.specs.Prelude.{◌≡◌, ◌+◌, ◌≤◌, length, map};
+ghost use Rattle.std.specs.List.{prefix_len};
+ghost use Rattle.sf_base.specs.Bytes.{is_white, is_ink, IsSkip, IsLongestFront};
+ghost use lib.Lanes.{mask_l, chunk};
+
+use crate::bytes::is_space;
+use std::simd::prelude::*;
+
+const LANES: usize = 16;
+
+/// Which of the sixteen bytes from the place on are white space: a bit each, the first byte's the lowest.
+#[inline(always)]
+fn space_mask(piece: &[u8], at: usize) -> u64
+    requires { at + LANES ≤ length piece.now }
+    ensures { result ≡ mask_l (map is_white (chunk at 16 piece.now)) }
+{
+    let lanes = u8x16::from_slice(&piece[at..]);
+    let white = (lanes - u8x16::splat(9)).simd_lt(u8x16::splat(5))
+        | lanes.simd_eq(u8x16::splat(32));
+    white.to_bitmask()
+}
+
+/// Which of the sixteen bytes from the place on are no white space.
+#[inline(always)]
+fn ink_mask(piece: &[u8], at: usize) -> u64
+    requires { at + LANES ≤ length piece.now }
+    ensures { result ≡ mask_l (map is_ink (chunk at 16 piece.now)) }
+{
+    let lanes = u8x16::from_slice(&piece[at..]);
+    let ink = (lanes - u8x16::splat(9)).simd_ge(u8x16::splat(5)) & lanes.simd_ne(u8x16::splat(32));
+    ink.to_bitmask()
+}
+
+/// How much white space the bytes begin with: the length of their longest front that is all white space.
+pub fn space_run(piece: &[u8]) -> usize
+    ensures longest { IsSkip piece.now result }
+    ensures count { result ≡ prefix_len is_white piece.now }
+{
+    let mut at = 0;
+    while piece.len() - at >= LANES {
+        let others = ink_mask(piece, at);
+        if others != 0 {
+            return at + others.trailing_zeros() as usize;
+        }
+        at += LANES;
+    }
+    while at < piece.len() {
+        if !is_space(piece[at]) {
+            return at;
+        }
+        at += 1;
+    }
+    at
+}
+
+/// How many bytes stand before the first white space: the length of the longest front that holds none.
+pub fn text_run(piece: &[u8]) -> usize
+    ensures longest { IsLongestFront is_ink piece.now result }
+    ensures count { result ≡ prefix_len is_ink piece.now }
+{
+    let mut at = 0;
+    while piece.len() - at >= LANES {
+        let spaces = space_mask(piece, at);
+        if spaces != 0 {
+            return at + spaces.trailing_zeros() as usize;
+        }
+        at += LANES;
+    }
+    while at < piece.len() {
+        if is_space(piece[at]) {
+            return at;
+        }
+        at += 1;
+    }
+    at
+}

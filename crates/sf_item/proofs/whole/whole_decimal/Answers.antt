@@ -1,0 +1,23 @@
+use Rattle.std.proofs.Common.{◌+◌, ◌<◌, ◌≤◌, length, ap, arith}
+use Rattle.std.proofs.lemmas.List.{length-take}
+use Rattle.sf_format.specs.declared.directive.Base.TheVariants.{Dec}
+use Rattle.sf_item.proofs.Readings.{length_rest}
+use Rattle.sf_item.proofs.Wholes.{ends_within}
+use Rattle.sf_item.proofs.whole.whole_decimal.Goals as goal
+
+pub returns : goal.returns
+returns c =
+    let piece = c.args.piece.now in
+    let front = c.cut-front.result.now in
+    let long = ap length c.cut-front.ensures.front in
+    let short : length front ≤ length piece = omega (arith, long, length-take (length front) piece) in
+    let start = c.sign-start.result.0 in
+    let count = c.decimal_front-count.result in
+    let some : 0 < count = omega (arith, c.if-count-eq0.false) in
+    let most = c.decimal_front-count.ensures.within in
+    let within = c.sign-start.ensures.within in
+    let behind : start + count < length piece = omega (arith, most, short, length_rest front start, within, c.if-bytes-piece.false) in
+    ends_within piece front c.args.width c.cut-front.ensures.front short c.cut-front.ensures.room c.cut-front.ensures.whole
+    start c.sign-start.result.1 within c.sign-start.ensures.plain (c.sign-start.ensures.read Dec)
+    count c.decimal_front-count.new.number some most (c.decimal_front-count.ensures.read Dec c.sign-start.result.1) behind
+    (c.is_digit_at.ensures c.if-is_digit_at.false)

@@ -1,0 +1,56 @@
+-- Pairs under a limit, and what their scans store.
+use Rattle.std.proofs.Common.{◌≡◌, ℕ, inl, Bool, true, false, List, [], ◌∷◌, Option, Some, None, is_some, refl, sym, ap, ◌∙◌}
+use Rattle.std.specs.Prelude.{IsSome}
+use Rattle.sf_format.specs.declared.directive.Shape.{Shape}
+use Rattle.sf_format.specs.declared.directive.Shape.TheVariants as shape
+use Rattle.sf_format.specs.declared.directive.Conversion.{Conversion}
+use Rattle.sf_format.specs.declared.directive.Directive.{Directive}
+use Rattle.sf_format.specs.declared.directive.Directive.TheVariants as directive
+use Rattle.sf_format.specs.declared.unit.Unit.{Unit as PrintUnit}
+use Rattle.sf_format.specs.Proper.{HasItsWidth, IsSized, AreSized}
+use Rattle.sf_format.specs.Widths.{add_widths, text_width, stored_width, width_sum}
+use Rattle.sf_run.proofs.Told.{one_report}
+use Rattle.sf_pair.specs.Groups.{is_count, is_chars, IsConversionGroup, IsGroup, AreCut, next_of}
+use Rattle.sf_pair.specs.Laws.{read_back, ReadWithin, AlignedIsBounded}
+use Rattle.sf_pair.proofs.Paired.{pairs, width_is}
+use Rattle.sf_pair.proofs.Whole.{round_trip}
+
+pub read_within : ReadWithin
+read_within us ds accepted proper aligned values fit m fits z ending report run =
+    let o = one_report ds proper.proper m _ ending in
+    o.only report run ∙ sym (o.only (read_back us ds values) (inl (fits, round_trip us ds accepted proper aligned values fit z ending)))
+
+both_some : (a b : Option ℕ) → IsSome a → IsSome b → IsSome (add_widths a b)
+both_some (Some m) (Some n) h k = refl
+both_some None b h k = absurd cc
+both_some (Some m) None h k = absurd cc
+
+some_of : (o : Option ℕ) (w : ℕ) → o ≡ Some w → IsSome o
+some_of o w e = ap is_some e
+
+by_shape : (s : Conversion) (h : Shape) → s.shape ≡ h → (is_chars h ≡ false → IsSome s.width) → HasItsWidth h s.width → IsSome (text_width h s.width)
+by_shape s (shape.Int base) e wide sized = refl
+by_shape s shape.Count e wide sized = refl
+by_shape s shape.Text e wide sized = wide refl
+by_shape s (shape.Set members) e wide sized = wide refl
+by_shape s shape.Chars e wide sized = sized
+
+stored_some : (d : Directive) (group rest : List PrintUnit) (next : Option Directive) → IsSized d → IsGroup d group rest next → IsSome (stored_width d)
+stored_some directive.Space group rest next sized is = refl
+stored_some (directive.Byte b) group rest next sized is = refl
+stored_some directive.Percent group rest next sized is = refl
+stored_some (directive.Conv s) group rest next sized is = by (is_count s.shape) s.slot refl is
+  where
+    by : (count : Bool) (o : Option ℕ) → s.slot ≡ o → IsConversionGroup count (is_some o) s group rest next → IsSome {T = ℕ} (elim o [ None ↦ Some 0 | Some slot ↦ text_width s.shape s.width ])
+    by count None e h = refl
+    by true (Some k) e h = absurd h
+    by false (Some k) e (c, group_is, pairing, closing) =
+        let p = pairs c s pairing in
+        by_shape s s.shape refl (λ no_chars. some_of s.width _ (width_is s no_chars p.width)) sized
+
+bounded : (ds : List Directive) (us : List PrintUnit) → AreSized ds → AreCut ds us → IsSome (width_sum ds)
+bounded [] us sized cut = refl
+bounded (d ∷ ds) us sized (group, rest, parts, is, more) = both_some (stored_width d) (width_sum ds) (stored_some d group rest (next_of ds) sized.0 is) (bounded ds rest sized.1 more)
+
+pub aligned_is_bounded : AlignedIsBounded
+aligned_is_bounded us ds proper aligned = bounded ds us proper.sized aligned.cut

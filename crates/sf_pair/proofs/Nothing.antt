@@ -1,0 +1,213 @@
+-- A run on the empty input.
+use Rattle.std.proofs.Common.{◌≡◌, ℕ, zero, suc, ◌+◌, ◌<◌, ◌≤◌, inl, Bool, true, false, cond, ◌&&◌, List, [], ◌∷◌, length, drop, Option, Some, None, is_some, refl, sym, ap, subst, ◌∙◌, arith, eq-eqb, append-nil, zero-add}
+use Rattle.std.proofs.lemmas.Bool.Decides.{nat_tests}
+use Rattle.std.proofs.lemmas.List.{drop_all}
+use Rattle.std.proofs.lemmas.List.Sums.{sum_by-cons}
+use Rattle.std.specs.List.{sum_by, list_any}
+use Rattle.sf_base.specs.Sets.{has_byte}
+use Rattle.sf_format.specs.declared.directive.Base.{Base}
+use Rattle.sf_format.specs.declared.directive.Base.TheVariants.{Dec, Oct, Hex, Auto}
+use Rattle.sf_format.specs.declared.directive.Shape.{Shape}
+use Rattle.sf_format.specs.declared.directive.Shape.TheVariants as shape
+use Rattle.sf_format.specs.declared.directive.Conversion.{Conversion}
+use Rattle.sf_format.specs.declared.directive.Directive.{Directive}
+use Rattle.sf_format.specs.declared.directive.Directive.TheVariants as directive
+use Rattle.sf_format.specs.declared.unit.Unit.{Unit as PrintUnit}
+use Rattle.sf_format.specs.Proper.{IsProperShape, IsProperWidth, IsProper, AreProper}
+use Rattle.sf_item.specs.Progress.{Start}
+use Rattle.sf_item.specs.Tests.{read, is_within, shape_begins, can_take}
+use Rattle.sf_print.specs.Printed.{printed}
+use Rattle.sf_run.specs.declared.outcome.Status.TheVariants.{Done, InputFailure}
+use Rattle.sf_run.specs.declared.outcome.Ending.TheVariants.{End}
+use Rattle.sf_run.specs.Steps.{StepEnd, Passes, Stores, Fails}
+use Rattle.sf_run.specs.Runs.{Ran, RunReport, Run, IsOpen, used, status_of, converted, report_of, is_conversion, passed}
+use Rattle.sf_run.specs.Computed.{skip_before, len, item_part, conversion_step, byte_choice, step_of, go_on, ran_of}
+use Rattle.sf_run.proofs.StepLaws.{step_within}
+use Rattle.sf_run.proofs.RunLaws.{steps_is}
+use Rattle.sf_run.proofs.Told.{one_report}
+use Rattle.sf_pair.specs.Groups.{is_count, IsConversionGroup, AreCut, assigns, next_of}
+use Rattle.sf_pair.specs.Laws.{read_back, AlignedEndsOnNothing, PrintsSome}
+use Rattle.sf_pair.proofs.Whole.{round_trip}
+
+-- ---- what is used of nothing, and of one byte that is taken
+
+after : (d : Directive) (x : List ℕ) (k n : ℕ) (end : StepEnd) (ds : List Directive) → k ≡ length x → ((n : ℕ) → used (ran_of ds [] n) ≡ 0)
+    → used (record { directive = d; bytes = k; end = end } ∷ go_on end (ran_of ds (drop k x) (n + k))) ≡ k
+after d x k n end ds e none = sum_by-cons (λ (r : Ran). r.bytes) (record { directive = d; bytes = k; end = end }) (go_on end (ran_of ds (drop k x) (n + k))) ∙ by end
+  where
+    rest : used (ran_of ds (drop k x) (n + k)) ≡ 0
+    rest = ap (λ (y : List ℕ). used (ran_of ds y (n + k))) (drop_all k x (omega (arith, e))) ∙ none (n + k)
+
+    by : (end : StepEnd) → k + used (go_on end (ran_of ds (drop k x) (n + k))) ≡ k
+    by Passes = omega (arith, rest)
+    by (Stores slot v) = omega (arith, rest)
+    by (Fails status) = omega arith
+
+used_none : (ds : List Directive) (n : ℕ) → used (ran_of ds [] n) ≡ 0
+used_none [] n = refl
+used_none (d ∷ ds) n =
+    let none : (step_of d [] n).0 ≡ 0 = omega (arith, step_within d [] n) in
+    after d [] (step_of d [] n).0 n (step_of d [] n).1 ds none (used_none ds) ∙ none
+
+one_used : (d : Directive) (ds : List Directive) (b : ℕ) → (step_of d (b ∷ []) 0).0 ≡ 1 → used (ran_of (d ∷ ds) (b ∷ []) 0) ≡ 1
+one_used d ds b one = after d (b ∷ []) (step_of d (b ∷ []) 0).0 0 (step_of d (b ∷ []) 0).1 ds one (used_none ds) ∙ one
+
+-- ---- some byte is taken
+
+within_one : (o : Option ℕ) → IsProperWidth o → is_within o 1 ≡ true
+within_one None h = refl
+within_one (Some w) h = grind (arith, nat_tests)
+
+one_digit : (base : Base) → is_some (read base (Some Start) (49 ∷ [])) ≡ true
+one_digit Dec = refl
+one_digit Oct = refl
+one_digit Hex = refl
+one_digit Auto = refl
+
+and_so : (a b : Bool) → a ≡ true → b ≡ true → (a && b) ≡ true
+and_so true b e h = h
+and_so false b e h = absurd cc
+
+takes_first : (s : Conversion) (b : ℕ) → can_take s (b ∷ []) ≡ true → len s [] (b ∷ []) ≡ 1
+takes_first s b e = ap (λ (t : Bool). cond t (suc (len s (b ∷ []) [])) 0) e
+
+-- a byte that the conversion takes, with no white space before it
+pub record OneTaken (s : Conversion) : Type 0 where
+  pub byte : ℕ
+  pub small : byte < 256
+  pub unskipped : skip_before s.shape (byte ∷ []) ≡ 0
+  pub takes : shape_begins s.shape s.width (byte ∷ []) ≡ true
+
+chars_one : (o : Option ℕ) → IsProperWidth o → shape_begins shape.Chars o (0 ∷ []) ≡ true
+chars_one None h = refl
+chars_one (Some w) h = let low : 1 ≤ w = h in grind (arith, nat_tests)
+
+one_taken : (s : Conversion) (h : Shape) → s.shape ≡ h → is_count h ≡ false → IsProperShape h → IsProperWidth s.width → OneTaken s
+one_taken s (shape.Int base) e no_count shaped wide = record {
+  byte = 49;
+  small = omega arith;
+  unskipped = ap (λ (h : Shape). skip_before h (49 ∷ [])) e;
+  takes = ap (λ (h : Shape). shape_begins h s.width (49 ∷ [])) e ∙ one_digit base;
+}
+one_taken s shape.Text e no_count shaped wide = record {
+  byte = 97;
+  small = omega arith;
+  unskipped = ap (λ (h : Shape). skip_before h (97 ∷ [])) e;
+  takes = ap (λ (h : Shape). shape_begins h s.width (97 ∷ [])) e;
+}
+one_taken s (shape.Set members) e no_count (b, small, member) wide = record {
+  byte = b;
+  small = small;
+  unskipped = ap (λ (h : Shape). skip_before h (b ∷ [])) e;
+  takes = ap (λ (h : Shape). shape_begins h s.width (b ∷ [])) e ∙ and_so (has_byte members b) true member refl;
+}
+one_taken s shape.Chars e no_count shaped wide = record {
+  byte = 0;
+  small = omega arith;
+  unskipped = ap (λ (h : Shape). skip_before h (0 ∷ [])) e;
+  takes = ap (λ (h : Shape). shape_begins h s.width (0 ∷ [])) e ∙ chars_one s.width wide;
+}
+one_taken s shape.Count e no_count shaped wide = absurd cc
+
+-- a conversion other than n is the item behind what is skipped
+item_of : (s : Conversion) (x : List ℕ) (n : ℕ) → is_count s.shape ≡ false → step_of (directive.Conv s) x n ≡ item_part s x (skip_before s.shape x)
+item_of s x n e = by s.shape e
+  where
+    by : (h : Shape) → is_count h ≡ false → conversion_step s h x n ≡ item_part s x (skip_before s.shape x)
+    by shape.Count e = absurd cc
+    by _ e = refl
+
+conversion_takes : (s : Conversion) (n : ℕ) → is_count s.shape ≡ false → IsProperWidth s.width → (t : OneTaken s) → (step_of (directive.Conv s) (t.byte ∷ []) n).0 ≡ 1
+conversion_takes s n no_count wide t =
+    ap (λ (r : ℕ × StepEnd). r.0) (item_of s (t.byte ∷ []) n no_count ∙ ap (item_part s (t.byte ∷ [])) t.unskipped)
+    ∙ ap (λ (k : ℕ). 0 + k) (takes_first s t.byte (and_so (is_within s.width 1) (shape_begins s.shape s.width (t.byte ∷ [])) (within_one s.width wide) t.takes))
+
+no_count_in : (s : Conversion) (group rest : List PrintUnit) (next : Option Directive) → IsConversionGroup (is_count s.shape) (is_some s.slot) s group rest next → is_count s.shape ≡ false
+no_count_in s group rest next is = by (is_count s.shape) is
+  where
+    by : (t : Bool) → IsConversionGroup t (is_some s.slot) s group rest next → t ≡ false
+    by true h = absurd h
+    by false h = refl
+
+abbrev FirstTaken : Directive → Type 0
+FirstTaken d = (b : ℕ) × (b < 256) × ((step_of d (b ∷ []) 0).0 ≡ 1)
+
+first_taken : (d : Directive) (ds : List Directive) (us : List PrintUnit) → IsProper d → AreCut (d ∷ ds) us → FirstTaken d
+first_taken directive.Space ds us proper cut = (32, omega arith, refl)
+first_taken (directive.Byte a) ds us proper cut = (a, proper, ap (λ (t : Bool). (byte_choice t).0) (eq-eqb a a refl))
+first_taken directive.Percent ds us proper cut = (37, omega arith, refl)
+first_taken (directive.Conv s) ds us proper (group, rest, parts, is, more) =
+    let no_count = no_count_in s group rest (next_of ds) is in
+    let t = one_taken s s.shape refl no_count proper.0 proper.1 in
+    (t.byte, t.small, conversion_takes s 0 no_count proper.1 t)
+
+goes_on : (ds : List Directive) (us : List PrintUnit) → AreProper ds → AreCut ds us → list_any assigns ds ≡ true → IsOpen ds []
+goes_on [] us proper cut some = absurd cc
+goes_on (d ∷ ds) us proper cut some =
+    let f = first_taken d ds us proper.0 cut in
+    (f.0, f.1, (ran_of (d ∷ ds) (f.0 ∷ []) 0, steps_is (d ∷ ds) proper (f.0 ∷ []) 0, one_used d ds f.0 f.2))
+
+-- ---- the failure
+
+abbrev FailsFirst : List Ran → Type 0
+FailsFirst ran = (status_of ran ≡ InputFailure) × (converted ran ≡ 0)
+
+conversion_fails : (s : Conversion) (n : ℕ) → is_count s.shape ≡ false → step_of (directive.Conv s) [] n ≡ (0, Fails InputFailure)
+conversion_fails s n no_count = item_of s [] n no_count ∙ ap (item_part s []) (by s.shape)
+  where
+    by : (h : Shape) → skip_before h [] ≡ 0
+    by (shape.Int base) = refl
+    by shape.Text = refl
+    by _ = refl
+
+fails_first : (ds : List Directive) (us : List PrintUnit) (n : ℕ) → AreCut ds us → list_any assigns ds ≡ true → FailsFirst (ran_of ds [] n)
+fails_first [] us n cut some = absurd cc
+fails_first (directive.Space ∷ ds) us n (group, rest, parts, is, more) some =
+    let h = fails_first ds rest (n + 0) more some in
+    (h.0, sum_by-cons (λ (r : Ran). cond (is_conversion r.directive && passed r.end) 1 0) (record { directive = directive.Space; bytes = 0; end = Passes }) (ran_of ds [] (n + 0)) ∙ zero-add (converted (ran_of ds [] (n + 0))) ∙ h.1)
+fails_first (directive.Byte a ∷ ds) us n cut some = (refl, refl)
+fails_first (directive.Percent ∷ ds) us n cut some = (refl, refl)
+fails_first (directive.Conv s ∷ ds) us n (group, rest, parts, is, more) some =
+    subst (λ (r : ℕ × StepEnd). FailsFirst (record { directive = directive.Conv s; bytes = r.0; end = r.1 } ∷ go_on r.1 (ran_of ds (drop r.0 []) (n + r.0))))
+    (sym (conversion_fails s n (no_count_in s group rest (next_of ds) is))) (refl, none_converted s)
+  where
+    none_converted : (s : Conversion) → converted (record { directive = directive.Conv s; bytes = 0; end = Fails InputFailure } ∷ []) ≡ 0
+    none_converted s = by (is_conversion (directive.Conv s))
+      where
+        by : (t : Bool) → sum_by (λ (r : Ran). cond (t && passed r.end) 1 0) (record { directive = directive.Conv s; bytes = 0; end = Fails InputFailure } ∷ []) ≡ 0
+        by true = refl
+        by false = refl
+
+pub ends_on_nothing : AlignedEndsOnNothing
+ends_on_nothing us ds proper aligned =
+    let f = fails_first ds us 0 aligned.cut aligned.assigned in
+    record {
+      report = report_of (ran_of ds [] 0) (Some End);
+      run = (ran_of ds [] 0, steps_is ds proper.proper [] 0, Some End, (goes_on ds us proper.proper aligned.cut aligned.assigned, refl), refl);
+      status = f.0;
+      converted = f.1;
+      used = used_none ds 0;
+      met = refl;
+    }
+
+-- ---- what is printed is some text
+
+empty : (xs : List ℕ) → length xs ≡ 0 → xs ≡ []
+empty [] e = refl
+empty (x ∷ xs) e = absurd (omega (arith, e))
+
+no_failure : (a b : RunReport) → a ≡ b → a.status ≡ Done → b.status ≡ InputFailure → ⊥
+no_failure a b e f g = let same : Done ≡ InputFailure = sym f ∙ ap (λ (r : RunReport). r.status) e ∙ g in absurd cc
+
+pub prints_some : PrintsSome
+prints_some us ds accepted proper aligned values fit = by (length (printed us values)) refl
+  where
+    by : (n : ℕ) → length (printed us values) ≡ n → 0 < n
+    by (suc n) e = omega arith
+    by zero e =
+        let e : printed us values ≡ [] = empty (printed us values) e in
+        let back : Run ds [] End (read_back us ds values) = subst (λ (x : List ℕ). Run ds x End (read_back us ds values)) (append-nil (printed us values) ∙ e) (round_trip us ds accepted proper aligned values fit [] End) in
+        let n = ends_on_nothing us ds proper aligned in
+        let o = one_report ds proper.proper 0 [] End in
+        let short : length (printed us values) ≤ 0 = omega (arith, ap length e) in
+        absurd (no_failure (read_back us ds values) n.report (o.only (read_back us ds values) (inl (short, back)) ∙ sym (o.only n.report (inl (omega (arith, n.used), n.run)))) refl n.status)

@@ -1,0 +1,153 @@
+-- What is known of a print conversion and a scan conversion that pair.
+use Rattle.std.proofs.Common.{◌≡◌, ℕ, suc, ◌-◌, ◌%◌, ◌^◌, ◌<◌, ◌≤◌, Bool, true, false, cond, eqb, ◌&&◌, ◌||◌, nat_lt, nat_le, [], ◌∷◌, ℤ, pos, negsuc, Option, Some, None, is_some, unwrap_or, refl, sym, ap, ◌∙◌, arith, lit≤}
+use Rattle.std.specs.Prelude.{not, is_none}
+use Rattle.std.proofs.lemmas.Bool.{eqb-true}
+use Rattle.std.proofs.lemmas.Bool.Decides.{nat_tests}
+use Rattle.sf_base.specs.declared.values.Kind.{Kind}
+use Rattle.sf_base.specs.declared.values.Kind.TheVariants as kind
+use Rattle.sf_base.specs.Data.{signed_value, unsigned_value, value_of}
+use Rattle.sf_format.specs.declared.directive.Conversion.{Conversion}
+use Rattle.sf_format.specs.declared.unit.PrintConv.{PrintConv}
+use Rattle.sf_format.specs.Units.{is_unsigned}
+use Rattle.sf_print.specs.Printed.{same_kind}
+use Rattle.sf_print.specs.Text.{least_digits}
+use Rattle.sf_base.specs.Rules.{first_reason}
+use Rattle.sf_pair.specs.declared.fault.PairWhy.TheVariants as why
+use Rattle.sf_pair.specs.Groups.{is_integer, is_text, is_chars, is_one, letters_pair, width_of, kinds_differ, numbers_differ, bad_flag, has_no_width, too_narrow, leading_zero, rule, pairing_fault}
+use Rattle.sf_pair.specs.Fits.{IsOfKind}
+
+-- ---- tests
+
+pub or_none : (x y : Bool) → (x || y) ≡ false → (x ≡ false) × (y ≡ false)
+or_none true y e = absurd cc
+or_none false y e = (refl, e)
+
+pub not_none : (x : Bool) → not x ≡ false → x ≡ true
+not_none true e = refl
+not_none false e = absurd cc
+
+pub and_both : (x y : Bool) → (x && y) ≡ true → (x ≡ true) × (y ≡ true)
+and_both true y e = (refl, e)
+and_both false y e = absurd cc
+
+six : (a b c d e f : Bool) → first_reason (rule why.KindDiffers a ∷ rule why.NumberDiffers b ∷ rule why.BadFlagHere c ∷ rule why.NoWidth d ∷ rule why.TooNarrow e ∷ rule why.LeadingZero f ∷ []) ≡ None
+    → (a ≡ false) × (b ≡ false) × (c ≡ false) × (d ≡ false) × (e ≡ false) × (f ≡ false)
+six false false false false false false h = (refl, refl, refl, refl, refl, refl)
+six _ _ _ _ _ _ h = absurd cc
+
+five : (a b c d e : Bool) → (a || b || c || d || e) ≡ false → (a ≡ false) × (b ≡ false) × (c ≡ false) × (d ≡ false) × (e ≡ false)
+five false false false false false h = (refl, refl, refl, refl, refl)
+five _ _ _ _ _ h = absurd cc
+
+-- ---- the pair
+
+pub record Pairs (c : PrintConv) (s : Conversion) : Type 0 where
+  pub same : same_kind c.kind s.kind ≡ true
+  pub letters : letters_pair c.letter s.shape ≡ true
+  pub slot : unwrap_or s.slot 0 ≡ c.slot
+  pub right : c.minus ≡ false
+  pub some_digit : (is_integer s.shape && eqb (least_digits c) 0) ≡ false
+  pub whole : (not (is_integer s.shape) && is_some c.precision) ≡ false
+  pub unpadded : (not (is_integer s.shape) && not (is_text s.shape) && nat_lt 0 c.width) ≡ false
+  pub single : (is_one c.letter && not (eqb (width_of s) 1)) ≡ false
+  pub width : has_no_width s ≡ false
+  pub wide : too_narrow c s ≡ false
+  pub no_zeros : leading_zero c s ≡ false
+
+pub pairs : (c : PrintConv) (s : Conversion) → pairing_fault c s ≡ None → Pairs c s
+pairs c s e =
+    let a = six (kinds_differ c s) (numbers_differ c s) (bad_flag c s) (has_no_width s) (too_narrow c s) (leading_zero c s) e in
+    let k = five c.minus (is_integer s.shape && eqb (least_digits c) 0) (not (is_integer s.shape) && is_some c.precision) (not (is_integer s.shape) && not (is_text s.shape) && nat_lt 0 c.width) (is_one c.letter && not (eqb (width_of s) 1)) a.2 in
+    let kinds = and_both (same_kind c.kind s.kind) (letters_pair c.letter s.shape) (not_none _ a.0) in
+    record {
+      same = kinds.0;
+      letters = kinds.1;
+      slot = eqb-true (unwrap_or s.slot 0) c.slot (not_none _ a.1);
+      right = k.0;
+      some_digit = k.1;
+      whole = k.2;
+      unpadded = k.3;
+      single = k.4;
+      width = a.3;
+      wide = a.4;
+      no_zeros = a.5;
+    }
+
+-- the slot of a conversion that is assigned
+pub slot_is : (c : PrintConv) (s : Conversion) → Pairs c s → is_some s.slot ≡ true → s.slot ≡ Some c.slot
+slot_is c s p some = by s.slot p.slot some
+  where
+    by : (o : Option ℕ) → unwrap_or o 0 ≡ c.slot → is_some o ≡ true → o ≡ Some c.slot
+    by None e h = absurd cc
+    by (Some k) e h = ap Some e
+
+pub kinds_are : (a b : Kind) → same_kind a b ≡ true → a ≡ b
+kinds_are kind.I8 kind.I8 e = refl
+kinds_are kind.I16 kind.I16 e = refl
+kinds_are kind.I32 kind.I32 e = refl
+kinds_are kind.I64 kind.I64 e = refl
+kinds_are kind.U8 kind.U8 e = refl
+kinds_are kind.U16 kind.U16 e = refl
+kinds_are kind.U32 kind.U32 e = refl
+kinds_are kind.U64 kind.U64 e = refl
+kinds_are kind.Text kind.Text e = refl
+kinds_are _ _ e = absurd cc
+
+-- the width of a conversion that has one
+pub width_is : (s : Conversion) → is_chars s.shape ≡ false → has_no_width s ≡ false → s.width ≡ Some (width_of s)
+width_is s no_chars e = by s.width (sym (ap (λ (t : Bool). not t && is_none s.width) no_chars) ∙ e)
+  where
+    by : (o : Option ℕ) → is_none o ≡ false → o ≡ Some (unwrap_or o 1)
+    by None e = absurd cc
+    by (Some w) e = refl
+
+-- ---- numbers of a kind
+
+-- a test that passed
+passed : (t : Bool) (v z : ℤ) → cond t (Some v) None ≡ Some z → t ≡ true
+passed true v z e = refl
+passed false v z e = absurd cc
+
+less : (m n : ℕ) → nat_lt m n ≡ true → m < n
+less m n e = grind (arith, nat_tests)
+
+most : (m n : ℕ) → nat_le m n ≡ true → m ≤ n
+most m n e = grind (arith, nat_tests)
+
+signed_small : (n : ℕ) → 2 ^ n ≤ 2 ^ 63 → (negative : Bool) (m : ℕ) (z : ℤ) → signed_value n negative m ≡ Some z → m < 2 ^ 64
+signed_small n low true m z e = let h = most m (2 ^ n) (passed _ _ z e) in omega arith
+signed_small n low false m z e = let h = less m (2 ^ n) (passed _ _ z e) in omega arith
+
+unsigned_small : (n : ℕ) → 2 ^ n ≤ 2 ^ 64 → (negative : Bool) (m : ℕ) (z : ℤ) → unsigned_value n negative m ≡ Some z → m < 2 ^ 64
+unsigned_small n low true m z e = let h = less m (2 ^ n) (passed _ _ z e) in omega arith
+unsigned_small n low false m z e = let h = less m (2 ^ n) (passed _ _ z e) in omega arith
+
+pub small_of : (k : Kind) (negative : Bool) (m : ℕ) (z : ℤ) → value_of k negative m ≡ Some z → m < 2 ^ 64
+small_of kind.I8 negative m z e = signed_small 7 (lit≤ tt) negative m z e
+small_of kind.I16 negative m z e = signed_small 15 (lit≤ tt) negative m z e
+small_of kind.I32 negative m z e = signed_small 31 (lit≤ tt) negative m z e
+small_of kind.I64 negative m z e = signed_small 63 (lit≤ tt) negative m z e
+small_of kind.U8 negative m z e = unsigned_small 8 (lit≤ tt) negative m z e
+small_of kind.U16 negative m z e = unsigned_small 16 (lit≤ tt) negative m z e
+small_of kind.U32 negative m z e = unsigned_small 32 (lit≤ tt) negative m z e
+small_of kind.U64 negative m z e = unsigned_small 64 (lit≤ tt) negative m z e
+small_of kind.Text negative m z e = absurd cc
+
+unsigned_is : (w n : ℕ) → unsigned_value w true (suc n) ≡ Some (negsuc n) → ⊥
+unsigned_is w n e = by (nat_lt (suc n) (2 ^ w)) e
+  where
+    by : (t : Bool) → cond t (Some (pos ((2 ^ w - suc n) % 2 ^ w))) None ≡ Some (negsuc n) → ⊥
+    by true e = cc
+    by false e = cc
+
+-- no number of an unsigned kind is negative
+pub unsigned_number : (k : Kind) → is_unsigned k ≡ true → (z : ℤ) → IsOfKind k z → (m : ℕ) × (z ≡ pos m)
+unsigned_number k u (pos m) h = (m, refl)
+unsigned_number kind.U8 u (negsuc n) h = absurd (unsigned_is 8 n h)
+unsigned_number kind.U16 u (negsuc n) h = absurd (unsigned_is 16 n h)
+unsigned_number kind.U32 u (negsuc n) h = absurd (unsigned_is 32 n h)
+unsigned_number kind.U64 u (negsuc n) h = absurd (unsigned_is 64 n h)
+unsigned_number _ u (negsuc n) h = absurd cc
+
+pub no_number_of_text : (z : ℤ) → IsOfKind kind.Text z → ⊥
+no_number_of_text z h = cc

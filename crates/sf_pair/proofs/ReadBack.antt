@@ -1,0 +1,294 @@
+-- What a conversion prints of a value that fits, the scan's conversion reads back.
+use Rattle.std.proofs.Common.{◌≡◌, ℕ, zero, suc, ◌-◌, ◌<◌, ◌≤◌, ◌⊎◌, inl, inr, Bool, true, false, cond, eqb, ltb, ◌&&◌, ◌||◌, nat_lt, List, [], ◌∷◌, ◌++◌, length, ℤ, pos, unsigned_abs, Option, Some, None, is_some, unwrap_or, refl, sym, ap, subst, ◌∙◌, arith, append-nil, lit≤}
+use Rattle.std.specs.Prelude.{not, IsSome}
+use Rattle.std.proofs.lemmas.Bool.{eqb-true, lt-ltb}
+use Rattle.std.proofs.lemmas.Bool.Decides.{nat_tests}
+use Rattle.std.specs.List.{AllByRecursion}
+use Rattle.sf_base.specs.Bytes.{AreBytes, is_white}
+use Rattle.sf_base.specs.Sets.{has_byte}
+use Rattle.sf_base.specs.declared.values.Kind.{Kind}
+use Rattle.sf_base.specs.declared.values.Kind.TheVariants as kind
+use Rattle.sf_base.specs.Data.{Datum, Number, Bytes}
+use Rattle.sf_format.specs.declared.directive.Base.{Base}
+use Rattle.sf_format.specs.declared.directive.Base.TheVariants.{Dec, Oct, Hex, Auto}
+use Rattle.sf_format.specs.declared.directive.Shape.{Shape}
+use Rattle.sf_format.specs.declared.directive.Shape.TheVariants as shape
+use Rattle.sf_format.specs.declared.directive.Conversion.{Conversion}
+use Rattle.sf_format.specs.declared.unit.PrintConv.{PrintConv}
+use Rattle.sf_format.specs.declared.unit.PrintLetter.{PrintLetter}
+use Rattle.sf_format.specs.declared.unit.PrintLetter.TheVariants as letter
+use Rattle.sf_format.specs.Units.{IsProperConv, has_flag, prints_kind, is_unsigned, is_text as is_text_kind}
+use Rattle.sf_format.specs.Proper.{IsProperWidth, HasItsWidth}
+use Rattle.sf_item.specs.Tests.{is_ink}
+use Rattle.sf_print.specs.Text.{value_text, integer_text, bytes_text, shown_bytes, padded, blanks, base_of, base_mark, is_octal, least_digits, pads_with_zeros}
+use Rattle.sf_run.specs.Steps.{Stores}
+use Rattle.sf_run.specs.Machine.{shape_skips, passed_end}
+use Rattle.sf_print.specs.Visible.{visible, least}
+use Rattle.sf_pair.specs.Neighbours.{Bytes as ByteTest, stop_set, integer_first, first_by_letter, only, or, any_byte}
+use Rattle.sf_pair.specs.Groups.{is_integer, is_text, is_chars, is_auto, letters_pair, width_of, always_full}
+use Rattle.sf_pair.specs.Fits.{is_negative, IsOfKind, TextFits, ValueFits}
+use Rattle.sf_pair.proofs.Bodies.{StartsInk, FirstByte, blanks_byte, Body, body_of}
+use Rattle.sf_pair.proofs.Numbers.{NumberRead, read_decimal, read_octal, read_hex, read_auto}
+use Rattle.sf_pair.proofs.Shortest.{least_is_shortest, visible_some}
+use Rattle.sf_pair.proofs.Firsts.{FirstIn, first_weaker, or_right, NoSign, SignFits, integer_text_first}
+use Rattle.sf_pair.proofs.Taken.{Takes, FirstOut, integer_takes, integer_stored}
+use Rattle.sf_pair.proofs.TakenTexts.{text_takes, set_takes, chars_takes, text_stored, set_stored, chars_stored}
+use Rattle.sf_pair.proofs.Paired.{or_none, Pairs, kinds_are, slot_is, width_is, small_of, unsigned_number, no_number_of_text}
+
+-- the white space before an item, where its shape skips it, is that of the padding
+abbrev pub SkipsSo : Bool → ℕ → List ℕ → Type 0
+SkipsSo true before item = StartsInk item
+SkipsSo false before item = before ≡ 0
+
+-- how a value's text is read back
+pub record ReadsBack (c : PrintConv) (s : Conversion) (v : Datum) : Type 0 where
+  pub before : ℕ
+  pub item : List ℕ
+  pub text_is : value_text c v ≡ blanks before ++ item
+  pub skips : SkipsSo (shape_skips s.shape) before item
+  pub takes : (rest : List ℕ) → (always_full c s ≡ true) ⊎ FirstOut (stop_set s.shape c) rest → Takes s item rest
+  pub stored : passed_end s s.slot item ≡ Stores c.slot v
+  pub first : FirstIn (first_by_letter c.letter c s.shape) (value_text c v)
+  pub first_byte : FirstByte (value_text c v)
+
+-- ---- integers
+
+zero_test : (n : ℕ) → eqb n 0 ≡ false → 0 < n
+zero_test n e = grind (arith, nat_tests)
+
+one_test : (n : ℕ) → 0 < n → nat_lt 1 n ≡ false → n ≡ 1
+one_test n some e = grind (arith, nat_tests)
+
+no_sign : (c : PrintConv) (z : ℤ) → IsProperConv c → IsOfKind c.kind z → (l : PrintLetter) → c.letter ≡ l → has_flag l 43 ≡ false → has_flag l 32 ≡ false → ((k : Kind) → prints_kind l k ≡ true → is_unsigned k ≡ true) → NoSign c z
+no_sign c z proper kind l e plus blank unsigned =
+    let n = unsigned_number c.kind (unsigned c.kind (ap (λ (l : PrintLetter). prints_kind l c.kind) (sym e) ∙ proper.kind)) z kind in
+    record {
+      plus = proper.plus (ap (λ (l : PrintLetter). has_flag l 43) e ∙ plus);
+      blank = proper.blank (ap (λ (l : PrintLetter). has_flag l 32) e ∙ blank);
+      number = n.0;
+      value = n.1;
+    }
+
+-- what a letter and a base that pair say of a number
+pub record Reading (c : PrintConv) (base : Base) (z : ℤ) : Type 0 where
+  pub number : NumberRead base c z
+  pub sign : SignFits c z
+  pub first : (s : Shape) → first_by_letter c.letter c s ≡ integer_first c
+
+hex_reading : (c : PrintConv) (z : ℤ) (b : Body c z) → base_of c.letter ≡ 16 → NoSign c z → NumberRead Hex c z
+hex_reading c z b hex n =
+    subst (NumberRead Hex c) (sym n.value) (read_hex c n.number (subst (Body c) n.value b) hex n.plus)
+
+first_is : (c : PrintConv) (l : PrintLetter) → c.letter ≡ l → ((s : Shape) → first_by_letter l c s ≡ integer_first c) → (s : Shape) → first_by_letter c.letter c s ≡ integer_first c
+first_is c l e h s = ap (λ (l : PrintLetter). first_by_letter l c s) e ∙ h s
+
+reading : (c : PrintConv) (z : ℤ) (b : Body c z) → IsProperConv c → IsOfKind c.kind z → (l : PrintLetter) (base : Base) → c.letter ≡ l → letters_pair l (shape.Int base) ≡ true
+    → (base ≡ Auto → (least_digits c ≡ 1) × (pads_with_zeros c ≡ false)) → Reading c base z
+reading c z b proper kind letter.Signed Dec e pair auto =
+    record { number = read_decimal c z b (ap base_of e) (ap base_mark e); sign = inl e; first = first_is c letter.Signed e (λ s. refl) }
+reading c z b proper kind letter.Signed Auto e pair auto =
+    let a = auto refl in
+    record { number = read_auto c z b (ap base_of e) (ap base_mark e) (ap is_octal e) a.0 a.1; sign = inl e; first = first_is c letter.Signed e (λ s. refl) }
+reading c z b proper kind letter.Unsigned Dec e pair auto =
+    record { number = read_decimal c z b (ap base_of e) (ap base_mark e); sign = inr (no_sign c z proper kind letter.Unsigned e refl refl (λ k h. h)); first = first_is c letter.Unsigned e (λ s. refl) }
+reading c z b proper kind letter.Octal Oct e pair auto =
+    record { number = read_octal c z b (ap base_of e) (ap base_mark e); sign = inr (no_sign c z proper kind letter.Octal e refl refl (λ k h. h)); first = first_is c letter.Octal e (λ s. refl) }
+reading c z b proper kind letter.HexLower Hex e pair auto =
+    let n = no_sign c z proper kind letter.HexLower e refl refl (λ k h. h) in
+    record { number = hex_reading c z b (ap base_of e) n; sign = inr n; first = first_is c letter.HexLower e (λ s. refl) }
+reading c z b proper kind letter.HexUpper Hex e pair auto =
+    let n = no_sign c z proper kind letter.HexUpper e refl refl (λ k h. h) in
+    record { number = hex_reading c z b (ap base_of e) n; sign = inr n; first = first_is c letter.HexUpper e (λ s. refl) }
+reading c z b proper kind _ _ e pair auto = absurd cc
+
+module _ (c : PrintConv) (s : Conversion) (proper : IsProperConv c) (p : Pairs c s) (assigned : is_some s.slot ≡ true) where
+  at_int : (base : Base) → s.shape ≡ shape.Int base → is_integer s.shape ≡ true
+  at_int base e = ap is_integer e
+
+  int_full : (base : Base) → s.shape ≡ shape.Int base → always_full c s ≡ true → length (least c) ≡ width_of s
+  int_full base e full = eqb-true (length (least c)) (width_of s) (sym (ap full_by e) ∙ full)
+    where
+      full_by : Shape → Bool
+      full_by h = is_chars h || cond (is_integer h) (eqb (length (least c)) (width_of s)) (eqb (width_of s) 1)
+
+  auto_bare : (base : Base) → s.shape ≡ shape.Int base → 0 < least_digits c → base ≡ Auto → (least_digits c ≡ 1) × (pads_with_zeros c ≡ false)
+  auto_bare base e some auto =
+      let zeros = pads_with_zeros c || nat_lt 1 (least_digits c) in
+      let h = or_none (pads_with_zeros c) (nat_lt 1 (least_digits c)) (sym (ap (λ (t : Bool). t && zeros) (ap is_auto e ∙ ap (λ (b : Base). is_auto (shape.Int b)) auto)) ∙ p.no_zeros) in
+      (one_test (least_digits c) some h.1, h.0)
+
+  pub integer_reads_back : (base : Base) → s.shape ≡ shape.Int base → (k : Kind) (z : ℤ) → ValueFits c s (Number k z) → ReadsBack c s (Number k z)
+  integer_reads_back base e k z fits =
+      let digits : 0 < least_digits c = zero_test (least_digits c) (sym (ap (λ (t : Bool). t && eqb (least_digits c) 0) (at_int base e)) ∙ p.some_digit) in
+      let of_kind : IsOfKind c.kind z = subst (λ (k : Kind). IsOfKind k z) fits.0 fits.1 in
+      let b : Body c z = body_of c z p.right digits (small_of k (is_negative z) (unsigned_abs z) z fits.1) in
+      let o : Body c (pos 0) = body_of c (pos 0) p.right digits (lit≤ tt) in
+      let r : Reading c base z = reading c z b proper of_kind c.letter base refl (ap (letters_pair c.letter) (sym e) ∙ p.letters) (auto_bare base e digits) in
+      let width : s.width ≡ Some (width_of s) = width_is s (ap is_chars e) p.width in
+      let short = least_is_shortest c z b o in
+      record {
+        before = b.before;
+        item = visible c z;
+        text_is = b.text_is ∙ ap (λ (xs : List ℕ). blanks b.before ++ xs) (sym b.visible_is);
+        skips = subst (λ (h : Shape). SkipsSo (shape_skips h) b.before (visible c z)) (sym e) (subst StartsInk (sym b.visible_is) b.ink);
+        takes = λ rest closed. integer_takes c s z base (width_of s) c.slot rest e width (slot_is c s p assigned) r.number (visible_some c z b) fits.2 (elim closed [
+          | inl full ↦ inl (omega (arith, int_full base e full, short, fits.2))
+          | inr out ↦ inr (subst (λ (h : Shape). FirstOut (stop_set h c) rest) e out)
+        ]);
+        stored = integer_stored c s z base (width_of s) c.slot [] e width (slot_is c s p assigned) r.number (visible_some c z b) fits.2 (subst (λ (k : Kind). IsOfKind k z) (kinds_are c.kind s.kind p.same) of_kind)
+            ∙ ap (λ (k : Kind). Stores c.slot (Number k z)) (sym (kinds_are c.kind s.kind p.same) ∙ sym fits.0);
+        first = subst (λ (set : ByteTest). FirstIn set (integer_text c z)) (sym (r.first s.shape)) (integer_text_first c z b r.sign);
+        first_byte = b.first_byte;
+      }
+
+-- ---- texts
+
+text_byte : (xs : List ℕ) → AreBytes xs → FirstByte xs
+text_byte [] h = tt
+text_byte (b ∷ bs) h = h.0
+
+all_first : (p : ByteTest) (xs : List ℕ) → 0 < length xs → AllByRecursion (λ b. p b ≡ true) xs → FirstIn p xs
+all_first p [] some all = absurd (omega arith)
+all_first p (b ∷ bs) some all = all.0
+
+any_first : (xs : List ℕ) → 0 < length xs → FirstIn any_byte xs
+any_first [] some = absurd (omega arith)
+any_first (b ∷ bs) some = refl
+
+starts_ink : (xs : List ℕ) → 0 < length xs → AllByRecursion (λ b. is_white b ≡ false) xs → StartsInk xs
+starts_ink [] some all = absurd (omega arith)
+starts_ink (b ∷ bs) some all = all.0
+
+ink_first : (xs : List ℕ) → 0 < length xs → AllByRecursion (λ b. is_white b ≡ false) xs → FirstIn is_ink xs
+ink_first [] some all = absurd (omega arith)
+ink_first (b ∷ bs) some all = ap not all.0
+
+-- blanks before a text, where a width pads
+padded_first : (w k : ℕ) (xs : List ℕ) → (0 < k → 0 < w) → FirstIn is_ink xs → FirstIn (cond (ltb 0 w) (or (only 32) is_ink) is_ink) (blanks k ++ xs)
+padded_first w zero xs more f = by (ltb 0 w)
+  where
+    by : (t : Bool) → FirstIn (cond t (or (only 32) is_ink) is_ink) xs
+    by true = first_weaker is_ink (or (only 32) is_ink) xs (λ b h. or_right (only 32 b) (is_ink b) h) f
+    by false = f
+padded_first w (suc k) xs more f = ap (λ (t : Bool). cond t (or (only 32) is_ink) is_ink 32) (lt-ltb 0 w (more (omega arith)))
+
+none_padded : (n : ℕ) → nat_lt 0 n ≡ false → n ≡ 0
+none_padded n e = grind (arith, nat_tests)
+
+no_precision : (o : Option ℕ) → is_some o ≡ false → o ≡ None
+no_precision None e = refl
+no_precision (Some k) e = absurd cc
+
+module _ (c : PrintConv) (s : Conversion) (p : Pairs c s) (assigned : is_some s.slot ≡ true) where
+  bytes_part : (bytes : List ℕ) → is_integer s.shape ≡ false → (c.letter ≡ letter.Text) ⊎ (c.letter ≡ letter.One) → bytes_text c bytes ≡ blanks (c.width - length bytes) ++ bytes
+  bytes_part bytes no_int l =
+      let precision : c.precision ≡ None = no_precision c.precision (sym (ap (λ (t : Bool). not t && is_some c.precision) no_int) ∙ p.whole) in
+      let shown : shown_bytes c.letter c.precision bytes ≡ bytes = elim l [
+        | inl e ↦ (λ t. shown_bytes (e t) (precision t) bytes)
+        | inr e ↦ (λ t. shown_bytes (e t) (precision t) bytes)
+      ] in
+      ap (padded c) shown
+      ∙ (λ t. blanks (cond (p.right t) 0 (c.width - length bytes)) ++ bytes ++ blanks (cond (p.right t) (c.width - length bytes) 0))
+      ∙ append-nil (blanks (c.width - length bytes) ++ bytes)
+
+  unpadded_width : is_integer s.shape ≡ false → is_text s.shape ≡ false → c.width ≡ 0
+  unpadded_width no_int no_text = none_padded c.width (sym (λ t. not (no_int t) && not (no_text t) && nat_lt 0 c.width) ∙ p.unpadded)
+
+  text_full : (bytes : List ℕ) → is_chars s.shape ≡ false → is_integer s.shape ≡ false → 0 < length bytes → length bytes ≤ width_of s → always_full c s ≡ true → length bytes ≡ width_of s
+  text_full bytes no_chars no_int some fits full =
+      let one : eqb (width_of s) 1 ≡ true = sym (λ t. no_chars t || cond (no_int t) (eqb (length (least c)) (width_of s)) (eqb (width_of s) 1)) ∙ full in
+      omega (arith, eqb-true (width_of s) 1 one, some, fits)
+
+  pub text_reads_back : c.letter ≡ letter.Text → s.shape ≡ shape.Text → (bytes : List ℕ) → ValueFits c s (Bytes bytes) → ReadsBack c s (Bytes bytes)
+  text_reads_back l e bytes fits =
+      let h : (0 < length bytes) × AllByRecursion (λ b. is_white b ≡ false) bytes × (length bytes ≤ width_of s) = subst (λ (h : Shape). TextFits h (width_of s) bytes) e fits.1 in
+      let no_int : is_integer s.shape ≡ false = ap is_integer e in
+      let no_chars : is_chars s.shape ≡ false = ap is_chars e in
+      let width : s.width ≡ Some (width_of s) = width_is s no_chars p.width in
+      record {
+        before = c.width - length bytes;
+        item = bytes;
+        text_is = bytes_part bytes no_int (inl l);
+        skips = subst (λ (h : Shape). SkipsSo (shape_skips h) (c.width - length bytes) bytes) (sym e) (starts_ink bytes h.0 h.1);
+        takes = λ rest closed. text_takes s (width_of s) bytes rest e width h.0 h.1 h.2 (elim closed [
+          | inl full ↦ inl (text_full bytes no_chars no_int h.0 h.2 full)
+          | inr out ↦ inr (subst (λ (h : Shape). FirstOut (stop_set h c) rest) e out)
+        ]);
+        stored = text_stored s c.slot bytes (slot_is c s p assigned) e;
+        first = (first_so l e (bytes_part bytes no_int (inl l)) (padded_first c.width (c.width - length bytes) bytes (λ k. omega (arith, k)) (ink_first bytes h.0 h.1)));
+        first_byte = subst FirstByte (sym (bytes_part bytes no_int (inl l))) (blanks_byte (c.width - length bytes) bytes (text_byte bytes fits.0));
+      }
+    where
+      first_so : c.letter ≡ letter.Text → s.shape ≡ shape.Text → bytes_text c bytes ≡ blanks (c.width - length bytes) ++ bytes → FirstIn (first_by_letter letter.Text c shape.Text) (blanks (c.width - length bytes) ++ bytes) → FirstIn (first_by_letter c.letter c s.shape) (bytes_text c bytes)
+      first_so l e t f = subst (λ (xs : List ℕ). FirstIn (first_by_letter c.letter c s.shape) xs) (sym t) (subst (λ (a : PrintLetter). FirstIn (first_by_letter a c s.shape) (blanks (c.width - length bytes) ++ bytes)) (sym l) (subst (λ (h : Shape). FirstIn (first_by_letter letter.Text c h) (blanks (c.width - length bytes) ++ bytes)) (sym e) f))
+
+  pub set_reads_back : c.letter ≡ letter.Text → (members : List Bool) → s.shape ≡ shape.Set members → (bytes : List ℕ) → ValueFits c s (Bytes bytes) → ReadsBack c s (Bytes bytes)
+  set_reads_back l members e bytes fits =
+      let h : (0 < length bytes) × AllByRecursion (λ b. has_byte members b ≡ true) bytes × (length bytes ≤ width_of s) = subst (λ (h : Shape). TextFits h (width_of s) bytes) e fits.1 in
+      let no_int : is_integer s.shape ≡ false = ap is_integer e in
+      let no_chars : is_chars s.shape ≡ false = ap is_chars e in
+      let none : c.width - length bytes ≡ 0 = omega (arith, unpadded_width no_int (ap is_text e)) in
+      let width : s.width ≡ Some (width_of s) = width_is s no_chars p.width in
+      let whole : bytes_text c bytes ≡ bytes = bytes_part bytes no_int (inl l) ∙ ap (λ (k : ℕ). blanks k ++ bytes) none in
+      record {
+        before = 0;
+        item = bytes;
+        text_is = whole;
+        skips = subst (λ (h : Shape). SkipsSo (shape_skips h) 0 bytes) (sym e) refl;
+        takes = λ rest closed. set_takes s members (width_of s) bytes rest e width h.0 h.1 h.2 (elim closed [
+          | inl full ↦ inl (text_full bytes no_chars no_int h.0 h.2 full)
+          | inr out ↦ inr (subst (λ (h : Shape). FirstOut (stop_set h c) rest) e out)
+        ]);
+        stored = set_stored s members c.slot bytes (slot_is c s p assigned) e;
+        first = subst (λ (xs : List ℕ). FirstIn (first_by_letter c.letter c s.shape) xs) (sym whole) (subst (λ (a : PrintLetter). FirstIn (first_by_letter a c s.shape) bytes) (sym l) (subst (λ (h : Shape). FirstIn (first_by_letter letter.Text c h) bytes) (sym e) (all_first (has_byte members) bytes h.0 h.1)));
+        first_byte = subst FirstByte (sym whole) (text_byte bytes fits.0);
+      }
+
+  pub chars_reads_back : (c.letter ≡ letter.Text) ⊎ (c.letter ≡ letter.One) → s.shape ≡ shape.Chars → IsProperWidth s.width → IsSome s.width → (bytes : List ℕ) → ValueFits c s (Bytes bytes) → ReadsBack c s (Bytes bytes)
+  chars_reads_back l e proper sized bytes fits =
+      let full : length bytes ≡ width_of s = subst (λ (h : Shape). TextFits h (width_of s) bytes) e fits.1 in
+      let no_int : is_integer s.shape ≡ false = ap is_integer e in
+      let none : c.width - length bytes ≡ 0 = omega (arith, unpadded_width no_int (ap is_text e)) in
+      let some_width = width_of_chars s.width proper sized in
+      let some : 0 < length bytes = omega (arith, full, some_width.1) in
+      let whole : bytes_text c bytes ≡ bytes = bytes_part bytes no_int l ∙ ap (λ (k : ℕ). blanks k ++ bytes) none in
+      record {
+        before = 0;
+        item = bytes;
+        text_is = whole;
+        skips = subst (λ (h : Shape). SkipsSo (shape_skips h) 0 bytes) (sym e) refl;
+        takes = λ rest closed. chars_takes s (width_of s) bytes rest e some_width.0 some full;
+        stored = chars_stored s c.slot bytes (slot_is c s p assigned) e;
+        first = subst (λ (xs : List ℕ). FirstIn (first_by_letter c.letter c s.shape) xs) (sym whole) (subst (λ (h : Shape). FirstIn (first_by_letter c.letter c h) bytes) (sym e) (elim l [
+          | inl t ↦ subst (λ (a : PrintLetter). FirstIn (first_by_letter a c shape.Chars) bytes) (sym t) (any_first bytes some)
+          | inr t ↦ subst (λ (a : PrintLetter). FirstIn (first_by_letter a c shape.Chars) bytes) (sym t) (any_first bytes some)
+        ]));
+        first_byte = subst FirstByte (sym whole) (text_byte bytes fits.0);
+      }
+    where
+      width_of_chars : (o : Option ℕ) → IsProperWidth o → IsSome o → (o ≡ Some (unwrap_or o 1)) × (0 < unwrap_or o 1)
+      width_of_chars None w some = absurd cc
+      width_of_chars (Some w) some here = (refl, omega (arith, some))
+
+-- ---- each conversion
+
+no_number : (k : Kind) (z : ℤ) → is_text_kind k ≡ true → IsOfKind k z → ⊥
+no_number kind.Text z e h = no_number_of_text z h
+no_number _ z e h = cc
+
+pub reads_back : (c : PrintConv) (s : Conversion) (v : Datum) → IsProperConv c → IsProperWidth s.width → HasItsWidth s.shape s.width → Pairs c s → is_some s.slot ≡ true → ValueFits c s v → ReadsBack c s v
+reads_back c s v proper width sized p assigned fits = by c.letter s.shape refl refl p.letters v fits
+  where
+    none_of : (l : PrintLetter) → c.letter ≡ l → ((k : Kind) → prints_kind l k ≡ true → is_text_kind k ≡ true) → (k : Kind) (z : ℤ) → ValueFits c s (Number k z) → ⊥
+    none_of l a text k z f = no_number c.kind z (text c.kind (ap (λ (l : PrintLetter). prints_kind l c.kind) (sym a) ∙ proper.kind)) (subst (λ (k : Kind). IsOfKind k z) f.0 f.1)
+
+    by : (l : PrintLetter) (h : Shape) → c.letter ≡ l → s.shape ≡ h → letters_pair l h ≡ true → (v : Datum) → ValueFits c s v → ReadsBack c s v
+    by l (shape.Int base) a e pair (Number k z) f = integer_reads_back c s proper p assigned base e k z f
+    by l (shape.Int base) a e pair (Bytes bytes) f = absurd (subst (λ (h : Shape). TextFits h (width_of s) bytes) e f.1)
+    by letter.Text shape.Text a e pair (Bytes bytes) f = text_reads_back c s p assigned a e bytes f
+    by letter.Text (shape.Set members) a e pair (Bytes bytes) f = set_reads_back c s p assigned a members e bytes f
+    by letter.Text shape.Chars a e pair (Bytes bytes) f = chars_reads_back c s p assigned (inl a) e width (subst (λ (h : Shape). HasItsWidth h s.width) e sized) bytes f
+    by letter.One shape.Chars a e pair (Bytes bytes) f = chars_reads_back c s p assigned (inr a) e width (subst (λ (h : Shape). HasItsWidth h s.width) e sized) bytes f
+    by letter.Text h a e pair (Number k z) f = absurd (none_of letter.Text a (λ k h. h) k z f)
+    by letter.One h a e pair (Number k z) f = absurd (none_of letter.One a (λ k h. h) k z f)
+    by _ _ a e pair v f = absurd cc

@@ -1,0 +1,126 @@
+-- A scan of an input that begins with a printed text reads it back, and leaves what follows.
+use Rattle.std.proofs.Common.{◌≡◌, ℕ, zero, suc, ◌-◌, ◌≤◌, ◌<◌, ◌⊎◌, inl, inr, Bool, true, false, List, [], ◌∷◌, ◌++◌, length, take, drop, Option, Some, None, refl, sym, ap, ap₂, subst, ◌∙◌, arith, true≢false}
+use Rattle.std.proofs.lemmas.List.{drop_at}
+use Rattle.sf_base.specs.Data.{Datum}
+use Rattle.sf_format.specs.declared.directive.Directive.{Directive}
+use Rattle.sf_format.specs.declared.unit.Unit.{Unit as PrintUnit}
+use Rattle.sf_format.specs.Units.{AreAccepted}
+use Rattle.sf_format.specs.Proper.{IsAccepted}
+use Rattle.sf_print.specs.Printed.{printed}
+use Rattle.sf_run.specs.declared.outcome.Ending.TheVariants.{End, Fault}
+use Rattle.sf_run.specs.Runs.{RunReport}
+use Rattle.sf_run.specs.Limits.{RunWithin}
+use Rattle.sf_run.specs.Stopping.{is_memory_status}
+use Rattle.sf_read.specs.Ahead.{Ahead, input_of}
+use Rattle.sf_read.specs.Scan.{Scan, is_fault}
+use Rattle.sf_pair.specs.Groups.{IsAligned}
+use Rattle.sf_pair.specs.Fits.{Fit}
+use Rattle.sf_pair.specs.Laws.{read_back}
+use Rattle.std.specs.Prelude.{IfOk, IsSome, is_some, Result, Ok, Err}
+use Rattle.sf_run.specs.Rows.{AreRowOf}
+use Rattle.sf_run.specs.Runs.{IsOpen}
+use Rattle.sf_read.specs.Scan.{WaitedFor}
+use Rattle.sf_pair.specs.Formats.{Formats, IsChecked}
+use Rattle.sf_pair.specs.Reading.{NotReadBehind, ReadsBackWhole}
+use Rattle.sf_pair.proofs.Whole.{not_open}
+use Rattle.sf_pair.proofs.SlotRows.{row_of_printed}
+use Rattle.sf_pair.proofs.Cutting.{aligned_is_accepted}
+use Rattle.sf_pair.proofs.Bounds.{read_within}
+
+take_past : (xs ys : List ℕ) (n : ℕ) → length xs ≤ n → take n (xs ++ ys) ≡ xs ++ take (n - length xs) ys
+take_past [] ys n h = ap (λ (k : ℕ). take k ys) {x = n} {y = n - 0} (omega arith)
+take_past (x ∷ xs) ys zero h = absurd (omega arith)
+take_past (x ∷ xs) ys (suc n) h = ap (λ (t : List ℕ). x ∷ t) (take_past xs ys n (omega arith)) ∙ ap (λ (k : ℕ). x ∷ (xs ++ take k ys)) {x = n - length xs} {y = suc n - length (x ∷ xs)} (omega arith)
+
+take_at : (xs ys : List ℕ) → take (length xs) (xs ++ ys) ≡ xs
+take_at [] ys = refl
+take_at (x ∷ xs) ys = ap (λ (t : List ℕ). x ∷ t) (take_at xs ys)
+
+-- a front that is as long as a text is that text and more
+longer_front : (text held x block : List ℕ) → text ++ held ≡ x ++ block → length text ≤ length x → x ≡ text ++ drop (length text) x
+longer_front [] held x block e h = refl
+longer_front (b ∷ text) held [] block e h = absurd (omega arith)
+longer_front (b ∷ text) held (a ∷ x) block e h =
+    let first : a ≡ b = (let same = e in cc) in
+    let rest : text ++ held ≡ x ++ block = (let same = e in cc) in
+    ap₂ (λ (k : ℕ) (t : List ℕ). k ∷ t) first (longer_front text held x block rest (omega arith))
+
+le_or_lt : (n k : ℕ) → (n ≤ k) ⊎ (k < n)
+le_or_lt zero k = inl (omega arith)
+le_or_lt (suc n) zero = inr (omega arith)
+le_or_lt (suc n) (suc k) = elim (le_or_lt n k) [ inl h ↦ inl (omega arith) | inr h ↦ inr (omega arith) ]
+
+module _ {S : Type 0} (to_come : S → Option (List ℕ)) (us : List PrintUnit) (ds : List Directive) (accepted : AreAccepted us) (proper : IsAccepted ds) (aligned : IsAligned us ds) (values : List Datum) (fit : Fit us ds values)
+    (m : ℕ) (fits : length (printed us values) ≤ m) (z : List ℕ) (old new : Ahead S) (report : RunReport) (scan : Scan to_come ds m (printed us values ++ z) old new report) (stored : is_memory_status report.status ≡ false) where
+  -- the source didn't fail
+  whole : is_fault report.met ≡ false → report ≡ read_back us ds values
+  whole e = elim (scan.whole e) [
+    | inl w ↦ read_within us ds accepted proper aligned values fit m fits z End report w
+    | inr w ↦ absurd (true≢false (sym (ap (λ (r : RunReport). is_memory_status r.status) w.2.3) ∙ stored))
+  ]
+
+  -- it failed, but not within the text: it can't have been read then
+  cut : is_fault report.met ≡ true → length (printed us values) ≤ report.used → report ≡ read_back us ds values
+  cut e behind =
+      let run = subst (λ (x : List ℕ). RunWithin ds m x Fault report) (take_past (printed us values) z report.used behind) (scan.cut e) in
+      read_within us ds accepted proper aligned values fit m fits (take (report.used - length (printed us values)) z) Fault report run
+
+  pub report_is : (is_fault report.met ≡ false) ⊎ (length (printed us values) ≤ report.used) → report ≡ read_back us ds values
+  report_is (inl e) = whole e
+  report_is (inr behind) = by (is_fault report.met) refl
+    where
+      by : (t : Bool) → is_fault report.met ≡ t → report ≡ read_back us ds values
+      by true e = cut e behind
+      by false e = whole e
+
+  -- a front that the run goes on from is shorter than the text
+  pub asked : (x block : List ℕ) → printed us values ++ new.held ≡ x ++ block → IsOpen ds x → length x < length (printed us values)
+  asked x block e goes = either (length (printed us values)) (length x) (λ h. h) (λ h.
+      let front : x ≡ printed us values ++ drop (length (printed us values)) x = longer_front (printed us values) new.held x block e h in
+      absurd (not_open us ds accepted proper aligned values fit (drop (length (printed us values)) x) (subst (IsOpen ds) front goes)))
+    where
+      either : {P : Type 0} (n k : ℕ) → (k < n → P) → (n ≤ k → P) → P
+      either n k f g = elim (le_or_lt n k) [ inl h ↦ g h | inr h ↦ f h ]
+
+  pub not_behind : report ≡ read_back us ds values → NotReadBehind (printed us values) old new
+  not_behind is =
+      let used : take report.used (printed us values ++ z) ≡ printed us values = ap (λ (r : RunReport). take r.used (printed us values ++ z)) is ∙ take_at (printed us values) z in
+      elim (subst (λ (t : List ℕ). WaitedFor ds m old t new) used scan.waited) [
+        | inl e ↦ inl e
+        | inr w ↦ inr (w.0, w.1, w.2, asked w.0 w.1 w.2 w.3)
+      ]
+
+  pub rest_is : (is_fault report.met ≡ false) ⊎ (length (printed us values) ≤ report.used) → input_of to_come new ≡ Some z
+  rest_is h =
+      let used : report.used ≡ length (printed us values) = ap (λ (r : RunReport). r.used) (report_is h) in
+      scan.rest ∙ ap Some (ap (λ (k : ℕ). drop k (printed us values ++ z)) used ∙ drop_at (printed us values) z (length (printed us values)) refl)
+
+pub both_ok : {A E : Type 0} {P Q R : A → Type 0} (r : Result A E) → IfOk r P → IfOk r Q → ((a : A) → P a → Q a → R a) → IfOk r R
+both_ok (Ok a) p q f = f a p q
+both_ok (Err e) p q f = tt
+
+pub some_none : (o : Option ℕ) → IsSome o → o ≡ None → ⊥
+some_none o some e = let wrong : is_some {T = ℕ} None ≡ true = ap is_some (sym e) ∙ some in absurd cc
+
+-- what is known of a pair's formats, as a contract sees them
+pub checked_of : (us : List PrintUnit) (ds : List Directive) (f : Formats) → record { print = us; scan = ds } ≡ f → IsChecked us ds → IsChecked f.print f.scan
+checked_of us ds f e h = subst (λ (f : Formats). IsChecked f.print f.scan) e h
+
+pub same_scan : (us : List PrintUnit) (ds : List Directive) (f : Formats) → record { print = us; scan = ds } ≡ f → ds ≡ f.scan
+same_scan us ds f e = ap (λ (f : Formats). f.scan) e
+
+pub aligned_of : (us : List PrintUnit) (ds : List Directive) → IsChecked us ds → IsAligned us ds
+aligned_of us ds checked = (aligned_is_accepted us ds).0 checked.found
+
+pub reads_whole : {S : Type 0} (to_come : S → Option (List ℕ)) (us : List PrintUnit) (ds : List Directive) → IsChecked us ds → (values : List Datum) → Fit us ds values
+    → (m : ℕ) → length (printed us values) ≤ m → (z : List ℕ) (old new : Ahead S) (report : RunReport) → Scan to_come ds m (printed us values ++ z) old new report → is_memory_status report.status ≡ false
+    → ReadsBackWhole to_come us ds values z old new report
+reads_whole to_come us ds checked values fit m fits z old new report scan stored = λ h.
+    let aligned : IsAligned us ds = aligned_of us ds checked in
+    let is : report ≡ read_back us ds values = report_is to_come us ds checked.printed checked.scanned aligned values fit m fits z old new report scan stored h in
+    record {
+      report_is = is;
+      row = subst (AreRowOf (length values) values) (sym (ap (λ (r : RunReport). r.values) is)) (row_of_printed us values checked.printed fit.count);
+      left = rest_is to_come us ds checked.printed checked.scanned aligned values fit m fits z old new report scan stored h;
+      read = not_behind to_come us ds checked.printed checked.scanned aligned values fit m fits z old new report scan stored is;
+    }

@@ -1,0 +1,73 @@
+-- What fits a pair is refused by no printing.
+use Rattle.std.proofs.Common.{◌≡◌, ℕ, Bool, true, false, cond, ◌&&◌, eqb, nat_eq, List, length, ℤ, Option, Some, None, refl, ap, ◌∙◌, arith}
+use Rattle.std.specs.Prelude.{not}
+use Rattle.std.proofs.lemmas.Bool.{eqb-true}
+use Rattle.std.proofs.lemmas.Bool.Decides.{nat_tests}
+use Rattle.sf_base.specs.Data.{Datum, Number, Bytes}
+use Rattle.sf_base.specs.declared.values.Kind.{Kind}
+use Rattle.sf_base.specs.declared.values.Kind.TheVariants as kind
+use Rattle.sf_format.specs.declared.directive.Shape.{Shape}
+use Rattle.sf_format.specs.declared.directive.Shape.TheVariants as shape
+use Rattle.sf_format.specs.declared.directive.Conversion.{Conversion}
+use Rattle.sf_format.specs.declared.unit.PrintLetter.{PrintLetter}
+use Rattle.sf_format.specs.declared.unit.PrintLetter.TheVariants as letter
+use Rattle.sf_format.specs.declared.unit.PrintConv.{PrintConv}
+use Rattle.sf_format.specs.Units.{is_text, prints_kind, IsProperConv}
+use Rattle.sf_print.specs.declared.fault.PrintFault.{PrintFault}
+use Rattle.sf_print.specs.declared.fault.PrintFault.TheVariants as fault
+use Rattle.sf_print.specs.Printed.{kind_of, same_kind, suits, value_fault}
+use Rattle.sf_pair.specs.Groups.{is_one, letters_pair, width_of}
+use Rattle.sf_pair.specs.Fits.{TextFits, ValueFits}
+use Rattle.sf_pair.proofs.Paired.{Pairs, not_none}
+
+itself : (k : Kind) → same_kind k k ≡ true
+itself kind.I8 = refl
+itself kind.I16 = refl
+itself kind.I32 = refl
+itself kind.I64 = refl
+itself kind.U8 = refl
+itself kind.U16 = refl
+itself kind.U32 = refl
+itself kind.U64 = refl
+itself kind.Text = refl
+
+text_so : (k : Kind) → is_text k ≡ true → same_kind kind.Text k ≡ true
+text_so kind.Text e = refl
+text_so _ e = absurd cc
+
+-- a conversion that is read as a text prints texts
+prints_texts : (l : PrintLetter) (k : Kind) (h : Shape) (w : ℕ) (bytes : List ℕ) → letters_pair l h ≡ true → TextFits h w bytes → prints_kind l k ≡ true → same_kind kind.Text k ≡ true
+prints_texts l k (shape.Int base) w bytes e fit is = absurd fit
+prints_texts l k shape.Count w bytes e fit is = absurd fit
+prints_texts letter.Text k h w bytes e fit is = text_so k is
+prints_texts letter.One k h w bytes e fit is = text_so k is
+prints_texts letter.Signed k _ w bytes e fit is = absurd cc
+prints_texts letter.Unsigned k _ w bytes e fit is = absurd cc
+prints_texts letter.Octal k _ w bytes e fit is = absurd cc
+prints_texts letter.HexLower k _ w bytes e fit is = absurd cc
+prints_texts letter.HexUpper k _ w bytes e fit is = absurd cc
+
+one_byte : (h : Shape) (w : ℕ) (bytes : List ℕ) → letters_pair letter.One h ≡ true → not (eqb w 1) ≡ false → TextFits h w bytes → nat_eq (length bytes) 1 ≡ true
+one_byte shape.Chars w bytes e single fit =
+    let one : w ≡ 1 = eqb-true w 1 (not_none (eqb w 1) single) in
+    let many : length bytes ≡ w = fit in
+    grind (arith, nat_tests)
+one_byte _ w bytes e single fit = absurd cc
+
+suits_so : (l : PrintLetter) (h : Shape) (w : ℕ) (bytes : List ℕ) → letters_pair l h ≡ true → (is_one l && not (eqb w 1)) ≡ false → TextFits h w bytes → suits l (Bytes bytes) ≡ true
+suits_so letter.One h w bytes e single fit = one_byte h w bytes e single fit
+suits_so _ h w bytes e single fit = refl
+
+suits_number : (l : PrintLetter) (k : Kind) (z : ℤ) → suits l (Number k z) ≡ true
+suits_number letter.One k z = refl
+suits_number _ k z = refl
+
+no_fault : (c : PrintConv) (v : Datum) → same_kind (kind_of v) c.kind ≡ true → suits c.letter v ≡ true → value_fault c v ≡ None
+no_fault c v e f =
+    ap (λ (t : Bool). cond (not t) (Some (fault.WrongKind c.slot)) (cond (not (suits c.letter v)) (Some (fault.NotOneByte c.slot)) None)) e
+    ∙ ap (λ (t : Bool). cond {A = Option PrintFault} (not t) (Some (fault.NotOneByte c.slot)) None) f
+
+pub fits_unfaulted : (c : PrintConv) (s : Conversion) (v : Datum) → IsProperConv c → Pairs c s → ValueFits c s v → value_fault c v ≡ None
+fits_unfaulted c s (Number k z) proper p fit = no_fault c (Number k z) (ap (λ (k : Kind). same_kind k c.kind) fit.0 ∙ itself c.kind) (suits_number c.letter k z)
+fits_unfaulted c s (Bytes bytes) proper p fit =
+    no_fault c (Bytes bytes) (prints_texts c.letter c.kind s.shape (width_of s) bytes p.letters fit.1 proper.kind) (suits_so c.letter s.shape (width_of s) bytes p.letters p.single fit.1)

@@ -1,0 +1,36 @@
+use Rattle.std.proofs.Common.{◌≡◌, ◌≤◌, ℕ, List, ◌++◌, length, Some, subst}
+use Rattle.std.specs.Prelude.{IfOk}
+use Rattle.sf_base.specs.Kept.{texts_in}
+use Rattle.sf_format.specs.declared.directive.Directive.{Directive}
+use Rattle.sf_format.specs.Widths.{width_sum}
+use Rattle.sf_print.specs.Printed.{printed}
+use Rattle.sf_run.specs.declared.outcome.Ending.{Ending}
+use Rattle.sf_run.specs.Limits.{RunTold}
+use Rattle.sf_read.specs.Scan.{Scan}
+use Rattle.sf_pair.proofs.Held.{told_held}
+use Rattle.sf_pair.proofs.Bounds.{aligned_is_bounded}
+use Rattle.sf_pair.proofs.Scans.{both_ok, checked_of, same_scan, aligned_of, reads_whole}
+use Rattle.sf_pair.proofs.pair.Pair.read.Goals as goal
+
+pub returns-clause-told : goal.returns-clause-told
+returns-clause-told g c =
+    subst (λ (ds : List Directive). IfOk c.fscan.result (λ s. (x : List ℕ) × (ending : Ending) × RunTold ds c.args.limit x ending s))
+    (same_scan c.self.inside.print.now c.self.inside.scan.now c.args.self.now c.self.view_is) c.fscan.ensures.told
+
+pub returns-clause-stored : goal.returns-clause-stored
+returns-clause-stored g c = c.fscan.ensures.bounded (aligned_is_bounded c.self.inside.print.now c.self.inside.scan.now c.self.invariant.scanned (aligned_of c.self.inside.print.now c.self.inside.scan.now c.self.invariant))
+
+pub returns-clause-held : goal.returns-clause-held
+returns-clause-held g c =
+    subst (λ (ds : List Directive). IfOk c.fscan.result (λ s. (n : ℕ) → width_sum ds ≡ Some n → length (texts_in s.values) ≤ n))
+    (same_scan c.self.inside.print.now c.self.inside.scan.now c.args.self.now c.self.view_is) (told_held c.fscan.result c.self.inside.scan.now c.args.limit c.fscan.ensures.told)
+
+pub returns-clause-back : goal.returns-clause-back
+returns-clause-back g c = λ values fit z input fits.
+    let us = c.self.inside.print.now in
+    let ds = c.self.inside.scan.now in
+    let f = c.args.self.now in
+    both_ok c.fscan.result
+    (subst (λ (ds : List Directive). IfOk c.fscan.result (Scan g.S.Source.to_come ds c.args.limit (printed f.print values ++ z) c.args.from.now c.fscan.new.from)) (same_scan us ds f c.self.view_is) (c.fscan.ensures.scan _ input))
+    (c.fscan.ensures.bounded (aligned_is_bounded c.self.inside.print.now c.self.inside.scan.now c.self.invariant.scanned (aligned_of c.self.inside.print.now c.self.inside.scan.now c.self.invariant)))
+    (λ report scan stored. reads_whole g.S.Source.to_come f.print f.scan (checked_of us ds f c.self.view_is c.self.invariant) values fit c.args.limit fits z c.args.from.now c.fscan.new.from report scan stored)

@@ -1,0 +1,38 @@
+use Rattle.std.proofs.Common.{◌≡◌, ◌≤◌, ℕ, List, ◌++◌, length, Some, subst}
+use Rattle.std.specs.Prelude.{IfOk}
+use Rattle.sf_base.specs.Kept.{texts_in}
+use Rattle.sf_format.specs.declared.directive.Directive.{Directive}
+use Rattle.sf_format.specs.Widths.{width_sum}
+use Rattle.sf_print.specs.Printed.{printed}
+use Rattle.sf_run.specs.declared.outcome.Ending.{Ending}
+use Rattle.sf_run.specs.Limits.{RunTold}
+use Rattle.sf_read.specs.Scan.{Scan}
+use Rattle.sf_pair.proofs.Held.{told_held}
+use Rattle.sf_pair.proofs.Bounds.{aligned_is_bounded}
+use Rattle.sf_pair.proofs.Scans.{both_ok, checked_of, same_scan, aligned_of, some_none, reads_whole}
+use Rattle.sf_pair.proofs.pair.Pair.read_fixed.Goals as goal
+
+pub returns-clause-told : goal.returns-clause-told
+returns-clause-told g c =
+    subst (λ (ds : List Directive). IfOk c.fscan_fixed.result (λ s. (x : List ℕ) × (ending : Ending) × RunTold ds c.args.limit x ending s))
+    (same_scan c.self.inside.print.now c.self.inside.scan.now c.args.self.now c.self.view_is) c.fscan_fixed.ensures.told
+
+pub returns-clause-bounded : goal.returns-clause-bounded
+returns-clause-bounded g c =
+    let some = aligned_is_bounded c.self.inside.print.now c.self.inside.scan.now c.self.invariant.scanned (aligned_of c.self.inside.print.now c.self.inside.scan.now c.self.invariant) in
+    λ refused. some_none _ some ((c.fscan_fixed.ensures.unbounded.0 refused).1)
+
+pub returns-clause-held : goal.returns-clause-held
+returns-clause-held g c =
+    subst (λ (ds : List Directive). IfOk c.fscan_fixed.result (λ s. (n : ℕ) → width_sum ds ≡ Some n → length (texts_in s.values) ≤ n))
+    (same_scan c.self.inside.print.now c.self.inside.scan.now c.args.self.now c.self.view_is) (told_held c.fscan_fixed.result c.self.inside.scan.now c.args.limit c.fscan_fixed.ensures.told)
+
+pub returns-clause-back : goal.returns-clause-back
+returns-clause-back g c = λ values fit z input fits.
+    let us = c.self.inside.print.now in
+    let ds = c.self.inside.scan.now in
+    let f = c.args.self.now in
+    both_ok c.fscan_fixed.result
+    (subst (λ (ds : List Directive). IfOk c.fscan_fixed.result (Scan g.S.Source.to_come ds c.args.limit (printed f.print values ++ z) c.args.from.now c.fscan_fixed.new.from)) (same_scan us ds f c.self.view_is) (c.fscan_fixed.ensures.scan _ input))
+    c.fscan_fixed.ensures.bounded
+    (λ report scan stored. reads_whole g.S.Source.to_come f.print f.scan (checked_of us ds f c.self.view_is c.self.invariant) values fit c.args.limit fits z c.args.from.now c.fscan_fixed.new.from report scan stored)

@@ -1,0 +1,111 @@
+-- Values that a pair carries over.
+use Rattle.std.specs.Prelude.{ℕ, ℤ, pos, negsuc, ◌≡◌, ◌<◌, ◌≤◌, ◌↔◌, Bool, true, false, ◌==◌, ◌&&◌, nat_lt, nat_le, List, [], ◌∷◌, length, Option, Some, None, unsigned_abs}
+use Rattle.std.specs.List.{AllByRecursion, filter_map, list_all}
+use Rattle.std.specs.Ordering.{int_eq}
+use Rattle.sf_base.specs.Bytes.{AreBytes, is_white}
+use Rattle.sf_base.specs.Sets.{has_byte}
+use Rattle.sf_base.specs.Data.{Datum, Number, Bytes, value_of}
+use Rattle.sf_base.specs.declared.values.Kind.{Kind}
+use Rattle.sf_format.specs.declared.unit.PrintConv.{PrintConv}
+use Rattle.sf_format.specs.declared.unit.Unit.{Unit as PrintUnit}
+use Rattle.sf_format.specs.declared.unit.Unit.TheVariants as unit
+use Rattle.sf_format.specs.declared.directive.Shape.{Shape}
+use Rattle.sf_format.specs.declared.directive.Shape.TheVariants as shape
+use Rattle.sf_format.specs.declared.directive.Conversion.{Conversion}
+use Rattle.sf_format.specs.declared.directive.Directive.{Directive}
+use Rattle.sf_format.specs.declared.directive.Directive.TheVariants as directive
+use Rattle.sf_format.specs.Units.{values_of}
+use Rattle.sf_item.specs.Tests.{is_ink}
+use Rattle.sf_print.specs.Printed.{value_at, same_kind}
+use Rattle.sf_print.specs.Visible.{visible}
+use Rattle.sf_pair.specs.Groups.{width_of}
+
+abbrev pub is_negative : ℤ → Bool
+is_negative (pos m) = false
+is_negative (negsuc n) = true
+
+-- the number is one of the kind
+abbrev pub IsOfKind : Kind → ℤ → Type 0
+IsOfKind kind z = value_of kind (is_negative z) (unsigned_abs z) ≡ Some z
+
+-- a text that an item of the shape and width can be
+abbrev pub TextFits : Shape → ℕ → List ℕ → Type 0
+TextFits shape.Text width bytes = (0 < length bytes) × AllByRecursion (λ b. is_white b ≡ false) bytes × (length bytes ≤ width)
+TextFits (shape.Set members) width bytes = (0 < length bytes) × AllByRecursion (λ b. has_byte members b ≡ true) bytes × (length bytes ≤ width)
+TextFits shape.Chars width bytes = length bytes ≡ width
+TextFits _ width bytes = ⊥
+
+-- what the conversion prints of the value, the scan's conversion can hold
+abbrev pub ValueFits : PrintConv → Conversion → Datum → Type 0
+ValueFits c s (Number kind z) = (kind ≡ c.kind) × IsOfKind kind z × (length (visible c z) ≤ width_of s)
+ValueFits c s (Bytes bytes) = AreBytes bytes × TextFits s.shape (width_of s) bytes
+
+abbrev pub FitsAt : List Datum → PrintConv → Conversion → Type 0
+FitsAt values c s = (v : Datum) × (value_at values c.slot ≡ Some v) × ValueFits c s v
+
+abbrev pub AllFit : List Datum → List PrintConv → List Conversion → Type 0
+AllFit values [] [] = Unit {0}
+AllFit values (c ∷ cs) (s ∷ ss) = FitsAt values c s × AllFit values cs ss
+AllFit values _ _ = ⊥
+
+-- the conversions of a print format, in order
+abbrev pub printed_by : PrintUnit → Option PrintConv
+printed_by (unit.Byte b) = None
+printed_by (unit.Conv c) = Some c
+
+abbrev pub conversions : List PrintUnit → List PrintConv
+conversions us = filter_map printed_by us
+
+-- the assigned conversions of a scan format, in order
+abbrev pub assigned_by : Directive → Option Conversion
+assigned_by (directive.Conv s) = elim s.slot [ None ↦ None | Some slot ↦ Some s ]
+assigned_by _ = None
+
+abbrev pub assigned_conversions : List Directive → List Conversion
+assigned_conversions ds = filter_map assigned_by ds
+
+-- the values are as many as the slots, and each fits the conversions that print and read it
+pub record Fit (us : List PrintUnit) (ds : List Directive) (values : List Datum) : Type 0 where
+  pub count : length values ≡ length (values_of us)
+  pub each : AllFit values (conversions us) (assigned_conversions ds)
+
+-- ---- the same as a test
+
+abbrev pub is_number_so : Option ℤ → ℤ → Bool
+is_number_so None z = false
+is_number_so (Some y) z = int_eq y z
+
+abbrev pub is_of_kind : Kind → ℤ → Bool
+is_of_kind kind z = is_number_so (value_of kind (is_negative z) (unsigned_abs z)) z
+
+abbrev pub is_byte : ℕ → Bool
+is_byte b = nat_lt b 256
+
+abbrev pub is_item_of : (ℕ → Bool) → ℕ → List ℕ → Bool
+is_item_of test width bytes = nat_lt 0 (length bytes) && nat_le (length bytes) width && list_all test bytes
+
+abbrev pub text_fits : Shape → ℕ → List ℕ → Bool
+text_fits shape.Text width bytes = is_item_of is_ink width bytes
+text_fits (shape.Set members) width bytes = is_item_of (has_byte members) width bytes
+text_fits shape.Chars width bytes = length bytes == width
+text_fits _ width bytes = false
+
+abbrev pub value_fits : PrintConv → Conversion → Datum → Bool
+value_fits c s (Number kind z) = same_kind kind c.kind && is_of_kind kind z && nat_le (length (visible c z)) (width_of s)
+value_fits c s (Bytes bytes) = list_all is_byte bytes && text_fits s.shape (width_of s) bytes
+
+abbrev pub fits_or_not : PrintConv → Conversion → Option Datum → Bool
+fits_or_not c s None = false
+fits_or_not c s (Some v) = value_fits c s v
+
+abbrev pub all_fit : List Datum → List PrintConv → List Conversion → Bool
+all_fit values [] [] = true
+all_fit values (c ∷ cs) (s ∷ ss) = fits_or_not c s (value_at values c.slot) && all_fit values cs ss
+all_fit values _ _ = false
+
+abbrev pub fits : List PrintUnit → List Directive → List Datum → Bool
+fits us ds values = (length values == length (values_of us)) && all_fit values (conversions us) (assigned_conversions ds)
+
+-- the test says exactly what fits
+abbrev pub FitsIsFit : Type 0
+FitsIsFit = (us : List PrintUnit) (ds : List Directive) (values : List Datum) → fits us ds values ≡ true ↔ Fit us ds values

@@ -1,0 +1,204 @@
+-- The units of a print format, cut into one group for each directive of a scan format.
+use Rattle.std.specs.Prelude.{ℕ, ◌≡◌, ◌≢◌, Bool, true, false, ◌==◌, ◌&&◌, ◌||◌, not, if◌then◌else◌, nat_lt, List, [], ◌∷◌, ◌++◌, length, Option, Some, None, unwrap_or, is_none, is_some}
+use Rattle.std.specs.List.{list_any}
+use Rattle.sf_base.specs.Bytes.{is_white}
+use Rattle.sf_base.specs.Sets.{has_byte}
+use Rattle.sf_base.specs.declared.rules.Rule.{Rule}
+use Rattle.sf_base.specs.Rules.{first_reason}
+use Rattle.sf_format.specs.declared.unit.PrintLetter.{PrintLetter}
+use Rattle.sf_format.specs.declared.unit.PrintLetter.TheVariants as letter
+use Rattle.sf_format.specs.declared.unit.PrintConv.{PrintConv}
+use Rattle.sf_format.specs.declared.unit.Unit.{Unit as PrintUnit}
+use Rattle.sf_format.specs.declared.unit.Unit.TheVariants as unit
+use Rattle.sf_format.specs.declared.directive.Base.TheVariants.{Dec, Oct, Hex, Auto}
+use Rattle.sf_format.specs.declared.directive.Shape.{Shape}
+use Rattle.sf_format.specs.declared.directive.Shape.TheVariants as shape
+use Rattle.sf_format.specs.declared.directive.Conversion.{Conversion}
+use Rattle.sf_format.specs.declared.directive.Directive.{Directive}
+use Rattle.sf_format.specs.declared.directive.Directive.TheVariants as directive
+use Rattle.sf_print.specs.Printed.{same_kind}
+use Rattle.sf_print.specs.Text.{pads_with_zeros, least_digits}
+use Rattle.sf_pair.specs.declared.fault.PairWhy.{PairWhy}
+use Rattle.sf_pair.specs.declared.fault.PairWhy.TheVariants as why
+use Rattle.sf_print.specs.Visible.{least}
+use Rattle.sf_pair.specs.Neighbours.{Bytes, no_byte, any_byte, only, meet, first_by, reads, stop_set}
+
+-- ---- one conversion of each
+
+abbrev pub is_integer : Shape → Bool
+is_integer (shape.Int base) = true
+is_integer _ = false
+
+abbrev pub is_text : Shape → Bool
+is_text shape.Text = true
+is_text _ = false
+
+abbrev pub is_chars : Shape → Bool
+is_chars shape.Chars = true
+is_chars _ = false
+
+abbrev pub is_auto : Shape → Bool
+is_auto (shape.Int Auto) = true
+is_auto _ = false
+
+abbrev pub is_count : Shape → Bool
+is_count shape.Count = true
+is_count _ = false
+
+abbrev pub is_one : PrintLetter → Bool
+is_one letter.One = true
+is_one _ = false
+
+-- `d i` with `d i`, `u` with `u`, `o` with `o`, `x X` with `x X`, `s` with `s`, `[` or `c`, `c` with `c`; the kinds tell `d` from `u`
+abbrev pub letters_pair : PrintLetter → Shape → Bool
+letters_pair letter.Signed (shape.Int Dec) = true
+letters_pair letter.Signed (shape.Int Auto) = true
+letters_pair letter.Unsigned (shape.Int Dec) = true
+letters_pair letter.Octal (shape.Int Oct) = true
+letters_pair letter.HexLower (shape.Int Hex) = true
+letters_pair letter.HexUpper (shape.Int Hex) = true
+letters_pair letter.Text shape.Text = true
+letters_pair letter.Text (shape.Set members) = true
+letters_pair letter.Text shape.Chars = true
+letters_pair letter.One shape.Chars = true
+letters_pair _ _ = false
+
+-- the scan's width; a conversion without one is refused
+abbrev pub width_of : Conversion → ℕ
+width_of s = unwrap_or s.width 1
+
+abbrev pub kinds_differ : PrintConv → Conversion → Bool
+kinds_differ c s = not (same_kind c.kind s.kind && letters_pair c.letter s.shape)
+
+abbrev pub numbers_differ : PrintConv → Conversion → Bool
+numbers_differ c s = not (unwrap_or s.slot 0 == c.slot)
+
+-- flags, widths and precisions that the scan can't undo
+abbrev pub bad_flag : PrintConv → Conversion → Bool
+bad_flag c s = c.minus
+    || (is_integer s.shape && least_digits c == 0)
+    || (not (is_integer s.shape) && is_some c.precision)
+    || (not (is_integer s.shape) && not (is_text s.shape) && nat_lt 0 c.width)
+    || (is_one c.letter && not (width_of s == 1))
+
+abbrev pub has_no_width : Conversion → Bool
+has_no_width s = not (is_chars s.shape) && is_none s.width
+
+abbrev pub too_narrow : PrintConv → Conversion → Bool
+too_narrow c s = is_integer s.shape && nat_lt (width_of s) (length (least c))
+
+-- a zero before its digits makes a number octal
+abbrev pub leading_zero : PrintConv → Conversion → Bool
+leading_zero c s = is_auto s.shape && (pads_with_zeros c || nat_lt 1 (least_digits c))
+
+-- why the scan's conversion can't read what the other prints: the first of these rules that applies
+abbrev pub rule : PairWhy → Bool → Rule PairWhy
+rule reason applies = record { why = reason; applies = applies }
+
+abbrev pub pairing_fault : PrintConv → Conversion → Option PairWhy
+pairing_fault c s = first_reason (
+    rule why.KindDiffers (kinds_differ c s)
+    ∷ rule why.NumberDiffers (numbers_differ c s)
+    ∷ rule why.BadFlagHere (bad_flag c s)
+    ∷ rule why.NoWidth (has_no_width s)
+    ∷ rule why.TooNarrow (too_narrow c s)
+    ∷ rule why.LeadingZero (leading_zero c s)
+    ∷ [])
+
+-- the item has as many bytes as the width, whatever the value
+abbrev pub always_full : PrintConv → Conversion → Bool
+always_full c s = is_chars s.shape || (if is_integer s.shape then length (least c) == width_of s else width_of s == 1)
+
+abbrev pub follow_fault : Bytes → List PrintUnit → Shape → Option PairWhy
+follow_fault stop [] read = Some why.OpenEnd
+follow_fault stop (u ∷ us) read = if meet (first_by u read) stop then Some why.RunsOn else None
+
+-- why the item doesn't end with the text, where these units come next and are read so
+abbrev pub closing_fault : PrintConv → Conversion → List PrintUnit → Shape → Option PairWhy
+closing_fault c s rest read = if always_full c s then None else follow_fault (stop_set s.shape c) rest read
+
+-- ---- white space
+
+abbrev pub starts_with_space : List PrintUnit → Bool
+starts_with_space (unit.Byte b ∷ us) = is_white b
+starts_with_space _ = false
+
+-- white space is no part of what is skipped where the next item may have it
+abbrev pub keeps_space : Shape → Bool
+keeps_space (shape.Set members) = true
+keeps_space shape.Chars = true
+keeps_space _ = false
+
+abbrev pub space_fault : List PrintUnit → Shape → Option PairWhy
+space_fault [] read = Some why.OpenEnd
+space_fault (u ∷ us) read = if keeps_space read && meet (first_by u read) is_white then Some why.RunsOn else None
+
+-- ---- suppressed conversions of one byte
+
+abbrev pub is_width_one : Option ℕ → Bool
+is_width_one None = false
+is_width_one (Some w) = w == 1
+
+abbrev pub members_of : Shape → Bytes
+members_of shape.Chars = any_byte
+members_of (shape.Set members) = has_byte members
+members_of _ = no_byte
+
+-- the literals that a suppressed conversion takes: `%*c` each, `%*1[` a member
+abbrev pub suppressed_by : Shape → Option ℕ → Bytes
+suppressed_by shape width = if is_width_one width then members_of shape else no_byte
+
+-- the literals that a directive takes, but for white space
+abbrev pub literals_of : Directive → Bytes
+literals_of (directive.Byte b) = only b
+literals_of directive.Percent = only 37
+literals_of (directive.Conv s) = suppressed_by s.shape s.width
+literals_of directive.Space = no_byte
+
+-- ---- groups
+
+-- the literal of a byte of the set
+abbrev pub IsLiteral : Bytes → List PrintUnit → Type 0
+IsLiteral wanted group = (b : ℕ) × (group ≡ unit.Byte b ∷ []) × (wanted b ≡ true)
+
+abbrev pub AreSpace : List PrintUnit → Type 0
+AreSpace [] = Unit {0}
+AreSpace (unit.Byte b ∷ us) = (is_white b ≡ true) × AreSpace us
+AreSpace (unit.Conv c ∷ us) = ⊥
+
+-- a run of white space, and then something else
+abbrev pub IsSpaceRun : List PrintUnit → List PrintUnit → Option Directive → Type 0
+IsSpaceRun group rest next = (group ≢ []) × AreSpace group × (starts_with_space rest ≡ false) × (space_fault rest (reads next) ≡ None)
+
+-- one conversion that the scan's conversion reads back, closed by what follows
+abbrev pub IsPaired : Conversion → List PrintUnit → List PrintUnit → Option Directive → Type 0
+IsPaired s group rest next = (c : PrintConv) × (group ≡ unit.Conv c ∷ []) × (pairing_fault c s ≡ None) × (closing_fault c s rest (reads next) ≡ None)
+
+abbrev pub IsConversionGroup : Bool → Bool → Conversion → List PrintUnit → List PrintUnit → Option Directive → Type 0
+IsConversionGroup true assigned s group rest next = ⊥
+IsConversionGroup false true s group rest next = IsPaired s group rest next
+IsConversionGroup false false s group rest next = IsLiteral (suppressed_by s.shape s.width) group
+
+-- the directive's group, where these units and this directive come next
+abbrev pub IsGroup : Directive → List PrintUnit → List PrintUnit → Option Directive → Type 0
+IsGroup directive.Space group rest next = IsSpaceRun group rest next
+IsGroup (directive.Byte b) group rest next = IsLiteral (only b) group
+IsGroup directive.Percent group rest next = IsLiteral (only 37) group
+IsGroup (directive.Conv s) group rest next = IsConversionGroup (is_count s.shape) (is_some s.slot) s group rest next
+
+abbrev pub next_of : List Directive → Option Directive
+next_of [] = None
+next_of (d ∷ ds) = Some d
+
+abbrev pub AreCut : List Directive → List PrintUnit → Type 0
+AreCut [] us = us ≡ []
+AreCut (d ∷ ds) us = (group : List PrintUnit) × (rest : List PrintUnit) × (us ≡ group ++ rest) × IsGroup d group rest (next_of ds) × AreCut ds rest
+
+abbrev pub assigns : Directive → Bool
+assigns (directive.Conv s) = is_some s.slot && not (is_count s.shape)
+assigns _ = false
+
+-- the print units are cut into consecutive groups, one for each directive, and some directive assigns a conversion
+pub record IsAligned (us : List PrintUnit) (ds : List Directive) : Type 0 where
+  pub cut : AreCut ds us
+  pub assigned : list_any assigns ds ≡ true

@@ -1,0 +1,122 @@
+-- What a checked pair promises.
+use Rattle.std.specs.Prelude.{ℕ, ◌+◌, ◌≡◌, ◌<◌, ◌≤◌, List, [], ◌∷◌, ◌++◌, length, Option, Some, None, IsSome}
+use Rattle.std.specs.List.{filter_map, count_by}
+use Rattle.sf_base.specs.Data.{Datum, Assigned}
+use Rattle.sf_format.specs.declared.unit.Unit.{Unit as PrintUnit}
+use Rattle.sf_format.specs.declared.unit.Unit.TheVariants as unit
+use Rattle.sf_format.specs.declared.directive.Directive.{Directive}
+use Rattle.sf_format.specs.Units.{AreAccepted, values_of}
+use Rattle.sf_format.specs.Proper.{IsAccepted, destinations_of}
+use Rattle.sf_base.specs.Kept.{texts_in}
+use Rattle.sf_print.specs.Printed.{value_at, printed}
+use Rattle.sf_run.specs.declared.outcome.Ending.{Ending}
+use Rattle.sf_run.specs.declared.outcome.Ending.TheVariants.{End}
+use Rattle.sf_run.specs.declared.outcome.Status.TheVariants.{Done, InputFailure}
+use Rattle.sf_run.specs.Runs.{RunReport, Run, is_conversion}
+use Rattle.sf_run.specs.Limits.{RunWithin, RunTold}
+use Rattle.sf_run.specs.Rows.{AreRowOf}
+use Rattle.sf_format.specs.Widths.{width_sum}
+use Rattle.sf_format.specs.declared.directive.Directive.TheVariants as directive
+use Rattle.sf_print.specs.Text.{value_text}
+use Rattle.sf_run.specs.Steps.{StepEnd, Step}
+use Rattle.sf_pair.specs.declared.fault.PairWhy.TheVariants as why
+use Rattle.sf_pair.specs.declared.fault.PairFault.{PairFault}
+use Rattle.sf_pair.specs.Walk.{pair_fault}
+use Rattle.sf_pair.specs.Groups.{IsAligned}
+use Rattle.sf_pair.specs.Fits.{Fit, ValueFits}
+
+-- the values of the print conversions, in their order
+abbrev pub with_value : ℕ → Option Datum → Option Assigned
+with_value slot None = None
+with_value slot (Some v) = Some (record { slot = slot; datum = v })
+
+abbrev pub printed_value : List Datum → PrintUnit → Option Assigned
+printed_value values (unit.Byte b) = None
+printed_value values (unit.Conv c) = with_value c.slot (value_at values c.slot)
+
+abbrev pub printed_values : List PrintUnit → List Datum → List Assigned
+printed_values us values = filter_map (printed_value values) us
+
+-- Done at 0, with as many bytes as the text has, nothing met, every slot assigned, and the values
+abbrev pub read_back : List PrintUnit → List Directive → List Datum → RunReport
+read_back us ds values = record {
+  status = Done;
+  at = 0;
+  assigned = length (values_of us);
+  converted = count_by is_conversion ds;
+  used = length (printed us values);
+  met = None;
+  values = printed_values us values;
+}
+
+-- the scan of a printed text, whatever follows it and however that ends, takes just that text and gives the values
+abbrev pub RoundTrip : Type 0
+RoundTrip = (us : List PrintUnit) (ds : List Directive) → AreAccepted us → IsAccepted ds → IsAligned us ds
+    → (values : List Datum) → Fit us ds values → (z : List ℕ) (ending : Ending) → Run ds (printed us values ++ z) ending (read_back us ds values)
+
+-- within a limit that the text keeps to, no other report is given of it, whatever follows
+abbrev pub ReadWithin : Type 0
+ReadWithin = (us : List PrintUnit) (ds : List Directive) → AreAccepted us → IsAccepted ds → IsAligned us ds
+    → (values : List Datum) → Fit us ds values → (m : ℕ) → length (printed us values) ≤ m → (z : List ℕ) (ending : Ending) (report : RunReport)
+    → RunWithin ds m (printed us values ++ z) ending report → report ≡ read_back us ds values
+
+-- the texts that a scan of an aligned format stores are bounded
+abbrev pub AlignedIsBounded : Type 0
+AlignedIsBounded = (us : List PrintUnit) (ds : List Directive) → IsAccepted ds → IsAligned us ds → IsSome (width_sum ds)
+
+-- no text that is printed of values that fit is empty
+abbrev pub PrintsSome : Type 0
+PrintsSome = (us : List PrintUnit) (ds : List Directive) → AreAccepted us → IsAccepted ds → IsAligned us ds
+    → (values : List Datum) → Fit us ds values → 0 < length (printed us values)
+
+-- on the empty input a run meets the end, which is an input failure before any conversion has completed
+pub record EndsOnNothing (ds : List Directive) : Type 0 where
+  pub report : RunReport
+  pub run : Run ds [] End report
+  pub status : report.status ≡ InputFailure
+  pub converted : report.converted ≡ 0
+  pub used : report.used ≡ 0
+  pub met : report.met ≡ Some End
+
+abbrev pub AlignedEndsOnNothing : Type 0
+AlignedEndsOnNothing = (us : List PrintUnit) (ds : List Directive) → IsAccepted ds → IsAligned us ds → EndsOnNothing ds
+
+-- slot by slot, what is read back are the values; the formats have as many slots
+pub record SlotsAgree (us : List PrintUnit) (ds : List Directive) (values : List Datum) : Type 0 where
+  pub row : AreRowOf (length values) values (read_back us ds values).values
+  pub count : length values ≡ length (destinations_of ds)
+
+abbrev pub AlignedSlotsAgree : Type 0
+AlignedSlotsAgree = (us : List PrintUnit) (ds : List Directive) → AreAccepted us → IsAccepted ds → IsAligned us ds
+    → (values : List Datum) → Fit us ds values → SlotsAgree us ds values
+
+-- the texts that a report holds have together at most as many bytes as the widths
+abbrev pub HeldIsBounded : Type 0
+HeldIsBounded = (ds : List Directive) (m : ℕ) (x : List ℕ) (ending : Ending) (report : RunReport) → RunTold ds m x ending report
+    → (n : ℕ) → width_sum ds ≡ Some n → length (texts_in report.values) ≤ n
+
+-- ---- refusals
+
+-- after the text u, the step of the directive takes the byte b too
+abbrev pub TakesToo : Directive → List ℕ → ℕ → Type 0
+TakesToo d u b = (n : ℕ) → (end : StepEnd) × Step d (u ++ b ∷ []) n (length u + 1) end
+
+-- the text that a group prints: that of a value that fits, or its white space
+abbrev pub GroupText : Directive → List PrintUnit → List ℕ → Type 0
+GroupText (directive.Conv s) (unit.Conv c ∷ us) u = (v : Datum) × ValueFits c s v × (u ≡ value_text c v)
+GroupText directive.Space us u = u ≡ printed us []
+GroupText _ us u = ⊥
+
+-- some byte that follows some text of the group is taken too
+abbrev pub RunsPast : Directive → List PrintUnit → Type 0
+RunsPast d group = (u : List ℕ) × (b : ℕ) × (b < 256) × GroupText d group u × TakesToo d u b
+
+-- some directive has this number, and the units before it are taken; some byte behind some text of the units that are left is taken too
+abbrev pub IsOpenAt : List PrintUnit → List Directive → ℕ → Type 0
+IsOpenAt us ds at = (before : List Directive) × (d : Directive) × (after : List Directive) × (taken : List PrintUnit) × (left : List PrintUnit)
+    × (ds ≡ before ++ d ∷ after) × (us ≡ taken ++ left) × (at ≡ length before + 1) × RunsPast d left
+
+-- where an open end is told, what is printed there is read on into what may follow
+abbrev pub OpenEndsAreOpen : Type 0
+OpenEndsAreOpen = (us : List PrintUnit) (ds : List Directive) → AreAccepted us → IsAccepted ds → (f : PairFault) → pair_fault us ds ≡ Some f
+    → f.why ≡ why.OpenEnd → IsOpenAt us ds f.at

@@ -1,0 +1,55 @@
+//! Laws of pairs.
+//! None of these functions does anything: its contract is the law.
+ghost use Rattle.sf_pair.specs.Walk.{AlignedIsAccepted};
+ghost use Rattle.sf_pair.specs.Fits.{FitsIsFit};
+ghost use Rattle.sf_pair.specs.Laws.{AlignedEndsOnNothing, AlignedIsBounded, AlignedSlotsAgree, HeldIsBounded, OpenEndsAreOpen, PrintsSome, ReadWithin, RoundTrip};
+
+/// The walk finds no fault exactly where the formats are aligned.
+pub fn aligned_is_accepted()
+    ensures { AlignedIsAccepted }
+{}
+
+/// The test of what fits says exactly that.
+pub fn fits_is_fit()
+    ensures { FitsIsFit }
+{}
+
+/// What a print format prints of values that fit, an aligned scan format reads back, whatever follows.
+pub fn round_trip()
+    ensures { RoundTrip }
+{}
+
+/// The same under a limit, and no other report.
+pub fn read_within()
+    ensures { ReadWithin }
+{}
+
+/// What is read back are the values slot by slot, and aligned formats have as many slots.
+pub fn slots_agree()
+    ensures { AlignedSlotsAgree }
+{}
+
+/// A scan format that is aligned with a print format has a width sum.
+pub fn aligned_is_bounded()
+    ensures { AlignedIsBounded }
+{}
+
+/// No text that is printed of values that fit is empty.
+pub fn prints_some()
+    ensures { PrintsSome }
+{}
+
+/// On the empty input a run of an aligned scan format meets the end, before any conversion has completed.
+pub fn ends_on_nothing()
+    ensures { AlignedEndsOnNothing }
+{}
+
+/// The texts that a report holds have together at most as many bytes as the width sum of the format.
+pub fn held_is_bounded()
+    ensures { HeldIsBounded }
+{}
+
+/// Where an open end is told, a byte behind some text that is printed there is taken too.
+pub fn open_ends_are_open()
+    ensures { OpenEndsAreOpen }
+{}

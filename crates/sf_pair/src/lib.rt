@@ -1,0 +1,13 @@
+//! Pairs of a print format and a scan format that reads back what it prints.
+#![tactic(auto)]
+
+mod fault;
+mod fitting;
+pub mod laws;
+mod neighbours;
+mod pair;
+mod pairing;
+mod walk;
+
+pub use fault::{PairFault, PairWhy, WriteFault};
+pub use pair::Pair;

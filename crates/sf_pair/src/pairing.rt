@@ -1,0 +1,197 @@
+//! One conversion of a print format and one of a scan format.
+ghost use Rattle.std.specs.Prelude.{◌≡◌, ◌==◌, ◌&&◌, ◌≤◌, length, Some, None};
+ghost use Rattle.sf_print.specs.Printed.{same_kind};
+ghost use Rattle.sf_print.specs.Text.{pads_with_zeros, least_digits};
+ghost use Rattle.sf_print.specs.Visible.{least};
+ghost use Rattle.sf_pair.specs.Neighbours.{meet, first_by, stop_set};
+ghost use Rattle.sf_pair.specs.Groups.{is_integer, is_text, is_chars, is_auto, letters_pair, width_of, kinds_differ, numbers_differ, bad_flag, has_no_width, too_narrow, leading_zero, pairing_fault, always_full, closing_fault};
+
+use crate::fault::PairWhy;
+use crate::neighbours::{goes_on, may_begin, pads_with_zeros};
+use sf_base::{Rule, first_fault};
+use sf_format::{Base, Conversion, PrintConv, PrintLetter, Shape, Unit};
+use sf_print::least_len;
+
+fn is_integer(read: &Shape) -> bool
+    ensures { result ≡ is_integer read.now }
+{
+    matches!(read, Shape::Int(_))
+}
+
+fn is_text(read: &Shape) -> bool
+    ensures { result ≡ is_text read.now }
+{
+    matches!(read, Shape::Text)
+}
+
+fn is_chars(read: &Shape) -> bool
+    ensures { result ≡ is_chars read.now }
+{
+    matches!(read, Shape::Chars)
+}
+
+fn is_auto(read: &Shape) -> bool
+    ensures { result ≡ is_auto read.now }
+{
+    matches!(read, Shape::Int(Base::Auto))
+}
+
+fn letters_pair(letter: PrintLetter, read: &Shape) -> bool
+    ensures { result ≡ letters_pair letter read.now }
+{
+    match (letter, read) {
+        (PrintLetter::Signed, Shape::Int(Base::Dec | Base::Auto)) => true,
+        (PrintLetter::Unsigned, Shape::Int(Base::Dec)) => true,
+        (PrintLetter::Octal, Shape::Int(Base::Oct)) => true,
+        (PrintLetter::HexLower | PrintLetter::HexUpper, Shape::Int(Base::Hex)) => true,
+        (PrintLetter::Text, Shape::Text | Shape::Set(_) | Shape::Chars) => true,
+        (PrintLetter::One, Shape::Chars) => true,
+        _ => false,
+    }
+}
+
+/// The scan's width, 1 where it has none.
+pub(crate) fn width_of(scan: &Conversion) -> u32
+    ensures { result ≡ width_of scan.now }
+{
+    match scan.width {
+        Some(width) => width as u32,
+        None => 1,
+    }
+}
+
+fn least_digits(conv: &PrintConv) -> u8
+    ensures { result ≡ least_digits conv.now }
+{
+    match conv.precision {
+        Some(least) => least,
+        None => 1,
+    }
+}
+
+fn kinds_differ(conv: &PrintConv, scan: &Conversion) -> bool
+    ensures { result ≡ kinds_differ conv.now scan.now }
+{
+    !(conv.kind == scan.kind && letters_pair(conv.letter, &scan.shape))
+}
+
+fn numbers_differ(conv: &PrintConv, scan: &Conversion) -> bool
+    ensures { result ≡ numbers_differ conv.now scan.now }
+{
+    scan.slot.unwrap_or(0) != conv.slot
+}
+
+/// Whether a flag, width or precision is one that the scan can't undo.
+fn bad_flag(conv: &PrintConv, scan: &Conversion) -> bool
+    ensures { result ≡ bad_flag conv.now scan.now }
+{
+    let integer = is_integer(&scan.shape);
+    conv.minus
+        || (integer && least_digits(conv) == 0)
+        || (!integer && conv.precision.is_some())
+        || (!integer && !is_text(&scan.shape) && conv.width > 0)
+        || (conv.letter == PrintLetter::One && width_of(scan) != 1)
+}
+
+fn has_no_width(scan: &Conversion) -> bool
+    ensures { result ≡ has_no_width scan.now }
+{
+    !is_chars(&scan.shape) && scan.width.is_none()
+}
+
+fn too_narrow(conv: &PrintConv, scan: &Conversion) -> bool
+    ensures { result ≡ too_narrow conv.now scan.now }
+{
+    is_integer(&scan.shape) && least_len(conv) > width_of(scan)
+}
+
+fn leading_zero(conv: &PrintConv, scan: &Conversion) -> bool
+    ensures { result ≡ leading_zero conv.now scan.now }
+{
+    is_auto(&scan.shape) && (pads_with_zeros(conv) || least_digits(conv) > 1)
+}
+
+/// Why the scan's conversion can't read what the other prints.
+pub(crate) fn pairing_fault(conv: &PrintConv, scan: &Conversion) -> Option<PairWhy>
+    ensures { result ≡ pairing_fault conv.now scan.now }
+{
+    first_fault(&[
+        Rule {
+            why: PairWhy::KindDiffers,
+            applies: kinds_differ(conv, scan),
+        },
+        Rule {
+            why: PairWhy::NumberDiffers,
+            applies: numbers_differ(conv, scan),
+        },
+        Rule {
+            why: PairWhy::BadFlagHere,
+            applies: bad_flag(conv, scan),
+        },
+        Rule {
+            why: PairWhy::NoWidth,
+            applies: has_no_width(scan),
+        },
+        Rule {
+            why: PairWhy::TooNarrow,
+            applies: too_narrow(conv, scan),
+        },
+        Rule {
+            why: PairWhy::LeadingZero,
+            applies: leading_zero(conv, scan),
+        },
+    ])
+}
+
+/// Whether the item has as many bytes as the width, whatever the value.
+fn always_full(conv: &PrintConv, scan: &Conversion) -> bool
+    ensures { result ≡ always_full conv.now scan.now }
+{
+    if is_chars(&scan.shape) {
+        return true;
+    }
+    let least = if is_integer(&scan.shape) {
+        least_len(conv)
+    } else {
+        1
+    };
+    least == width_of(scan)
+}
+
+/// Whether the item would run on into the next unit.
+fn runs_on(conv: &PrintConv, read: &Shape, follower: &Unit, next: &Shape) -> bool
+    ensures { result ≡ meet (first_by follower.now next.now) (stop_set read.now conv.now) }
+{
+    let lone = least_len(conv) == 1;
+    for k in 0..256u16 {
+        let b = k as u8;
+        if may_begin(follower, next, b) && goes_on(read, lone, b) {
+            return true;
+        }
+    }
+    false
+}
+
+/// Why the item doesn't end with the text, where these units come next and are read so.
+pub(crate) fn closing_fault(
+    conv: &PrintConv,
+    scan: &Conversion,
+    rest: &[Unit],
+    next: &Shape,
+) -> Option<PairWhy>
+    ensures { result ≡ closing_fault conv.now scan.now rest.now next.now }
+{
+    if always_full(conv, scan) {
+        return None;
+    }
+    match rest.split_first() {
+        None => Some(PairWhy::OpenEnd),
+        Some((follower, _)) => {
+            if runs_on(conv, &scan.shape, follower, next) {
+                Some(PairWhy::RunsOn)
+            } else {
+                None
+            }
+        }
+    }
+}

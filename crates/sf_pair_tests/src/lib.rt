@@ -1,0 +1,11 @@
+//! Tests of `sf_pair`.
+#![tactic(auto)]
+
+#[cfg(test)]
+mod bounds;
+#[cfg(test)]
+mod checks;
+#[cfg(test)]
+mod shared;
+#[cfg(test)]
+mod trips;

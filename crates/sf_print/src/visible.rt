@@ -1,0 +1,78 @@
+//! How long an integer's text is as a scan sees it: without the blanks before it.
+ghost use Rattle.std.specs.Prelude.{◌≡◌, ◌<◌, ◌^◌, true, length};
+ghost use Rattle.std.specs.List.{flat_map};
+ghost use Rattle.sf_base.specs.Data.{datum_of, is_number};
+ghost use Rattle.sf_print.specs.Runs.{piece_bytes};
+ghost use Rattle.sf_print.specs.Text.{value_text};
+ghost use Rattle.sf_print.specs.Visible.{without_blanks, least};
+
+use crate::integer::{DIGIT_BYTES, integer_pieces, least};
+use crate::piece::Piece;
+use crate::text::value_pieces;
+use sf_base::Value;
+use sf_format::PrintConv;
+
+/// The length of the bytes behind the blanks that stand first.
+fn visible_bytes(bytes: &[u8]) -> u64
+    ensures { result ≡ length (without_blanks bytes.now) }
+{
+    let mut len = bytes.len() as u64;
+    for byte in bytes {
+        if *byte != b' ' {
+            return len;
+        }
+        len -= 1;
+    }
+    len
+}
+
+/// The length of the piece behind the blanks that stand first.
+fn visible_piece(piece: &Piece<'_>) -> u64
+    ensures { result ≡ length (without_blanks (piece_bytes piece.now)) }
+{
+    match *piece {
+        Piece::Run(b' ', _) => 0,
+        Piece::Run(_, count) => count as u64,
+        Piece::Bytes(bytes) => visible_bytes(bytes),
+    }
+}
+
+/// The length of the pieces behind the blanks that stand first.
+fn visible_pieces(pieces: &[Piece<'_>]) -> u64
+    requires { length (flat_map piece_bytes pieces.now) < 2 ^ 32 }
+    ensures { result ≡ length (without_blanks (flat_map piece_bytes pieces.now)) }
+{
+    let mut len = 0;
+    for piece in pieces {
+        len = if len == 0 {
+            visible_piece(piece)
+        } else {
+            len + piece.len()
+        };
+    }
+    len
+}
+
+/// The length of the text that the conversion prints of a number, without the blanks before it.
+pub fn core_len(conv: &PrintConv, value: Value<'_>) -> u32
+    requires { is_number value ≡ true }
+    ensures { result ≡ length (without_blanks (value_text conv.now (datum_of value.entry))) }
+{
+    // read for the ranges of their types, which bound the length
+    let (_width, _digits) = (conv.width, least(conv));
+    let mut buf = [0; DIGIT_BYTES];
+    visible_pieces(&value_pieces(conv, value, &mut buf)) as u32
+}
+
+/// The length of the text that the conversion prints of 0, without the blanks before it.
+///
+/// Where the conversion is one of an integer, no number of its kind has a shorter one, unless a `-` pads on the right
+/// or the precision is 0.
+pub fn least_len(conv: &PrintConv) -> u32
+    ensures { result ≡ length (least conv.now) }
+{
+    // read for the ranges of their types, which bound the length
+    let (_width, _digits) = (conv.width, least(conv));
+    let mut buf = [0; DIGIT_BYTES];
+    visible_pieces(&integer_pieces(conv, false, 0, &mut buf)) as u32
+}

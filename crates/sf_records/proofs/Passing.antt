@@ -1,0 +1,140 @@
+-- Records after which the loop goes on.
+use Rattle.std.proofs.Common.{◌≡◌, ℕ, ◌+◌, Bool, true, false, cond, nat_eq, List, [], ◌∷◌, ◌++◌, drop, Option, Some, None, ◌⊎◌, inl, inr, refl, sym, ap, ◌∙◌, arith, true≢false}
+use Rattle.sf_format.specs.declared.directive.Directive.{Directive}
+use Rattle.sf_run.specs.declared.outcome.Ending.{Ending}
+use Rattle.sf_run.specs.declared.outcome.Ending.TheVariants.{End, Fault}
+use Rattle.sf_run.specs.declared.outcome.Status.{Status}
+use Rattle.sf_run.specs.declared.outcome.Status.TheVariants.{Done, InputFailure, MatchingFailure, OutOfRange, TooLong, NoMemory}
+use Rattle.sf_run.specs.declared.outcome.Outcome.{Outcome}
+use Rattle.sf_run.specs.Runs.{RunReport}
+use Rattle.sf_run.specs.Limits.{RunWithin}
+use Rattle.sf_run.specs.Stopping.{is_memory_status}
+use Rattle.sf_read.specs.Scan.{is_fault}
+use Rattle.sf_records.specs.declared.turn.Turn.{Turn}
+use Rattle.sf_records.specs.declared.turn.Turn.TheVariants.{Goes, Ends, Cut, Failed, Stalled, Unfit, RanOut}
+use Rattle.sf_records.specs.Turns.{turn_by, turn_of, fit_turn, writes}
+use Rattle.sf_records.specs.Works.{Work, turn_in}
+use Rattle.sf_records.specs.Records.{Passed, uses, outcome_of}
+
+-- ---- turns
+
+abbrev pub is_goes : Turn → Bool
+is_goes Goes = true
+is_goes _ = false
+
+pub other : {A : Type 0} {turn : Turn} → is_goes turn ≡ false → turn ≡ Goes → A
+other not_goes goes = absurd (true≢false (sym (ap is_goes goes) ∙ not_goes))
+
+pub goes_or_not : (turn : Turn) → (turn ≡ Goes) ⊎ (turn ≡ Goes → ⊥)
+goes_or_not Goes = inl refl
+goes_or_not Ends = inr (λ e. other refl e)
+goes_or_not (Cut written) = inr (λ e. other refl e)
+goes_or_not Failed = inr (λ e. other refl e)
+goes_or_not Stalled = inr (λ e. other refl e)
+goes_or_not Unfit = inr (λ e. other refl e)
+goes_or_not RanOut = inr (λ e. other refl e)
+
+-- memory was refused
+abbrev pub is_ran_out : Turn → Bool
+is_ran_out RanOut = true
+is_ran_out _ = false
+
+of_two : (test : Turn → Bool) (b : Bool) (x y : Turn) → test x ≡ false → test y ≡ false → test (cond b x y) ≡ false
+of_two test true x y p q = p
+of_two test false x y p q = q
+
+-- just where memory was refused, the turn says so
+pub ran_out_by : (status : Status) (met : Option Ending) (used converted : ℕ) → is_ran_out (turn_by status met used converted) ≡ is_memory_status status
+ran_out_by NoMemory None used converted = refl
+ran_out_by NoMemory (Some End) used converted = refl
+ran_out_by NoMemory (Some Fault) used converted = refl
+ran_out_by Done None used converted = of_two is_ran_out (nat_eq used 0) Stalled Goes refl refl
+ran_out_by Done (Some End) used converted = of_two is_ran_out (nat_eq used 0) Stalled Goes refl refl
+ran_out_by Done (Some Fault) used converted = refl
+ran_out_by InputFailure None used converted = refl
+ran_out_by InputFailure (Some End) used converted = of_two is_ran_out (nat_eq converted 0) Ends Failed refl refl
+ran_out_by InputFailure (Some Fault) used converted = refl
+ran_out_by MatchingFailure None used converted = refl
+ran_out_by MatchingFailure (Some End) used converted = refl
+ran_out_by MatchingFailure (Some Fault) used converted = refl
+ran_out_by OutOfRange None used converted = refl
+ran_out_by OutOfRange (Some End) used converted = refl
+ran_out_by OutOfRange (Some Fault) used converted = refl
+ran_out_by TooLong None used converted = refl
+ran_out_by TooLong (Some End) used converted = refl
+ran_out_by TooLong (Some Fault) used converted = refl
+
+-- whether a record fits changes nothing of that
+fit_ran_out : (fits : Bool) (turn : Turn) → is_ran_out (fit_turn fits turn) ≡ is_ran_out turn
+fit_ran_out true Goes = refl
+fit_ran_out false Goes = refl
+fit_ran_out fits Ends = refl
+fit_ran_out true (Cut true) = refl
+fit_ran_out false (Cut true) = refl
+fit_ran_out fits (Cut false) = refl
+fit_ran_out fits Failed = refl
+fit_ran_out fits Stalled = refl
+fit_ran_out true Unfit = refl
+fit_ran_out false Unfit = refl
+fit_ran_out fits RanOut = refl
+
+pub not_ran_out : (w : Work) (r : RunReport) (turn : Turn) → turn_in w r ≡ turn → is_ran_out turn ≡ false → is_memory_status r.status ≡ false
+not_ran_out w r turn is fine =
+    sym (ran_out_by r.status r.met r.used r.converted) ∙ sym (fit_ran_out (w.fits r) (turn_of r)) ∙ ap is_ran_out is ∙ fine
+
+pub written_is_no_memory : (turn : Turn) → writes turn ≡ true → is_ran_out turn ≡ false
+written_is_no_memory Goes due = refl
+written_is_no_memory (Cut written) due = refl
+written_is_no_memory Ends due = refl
+written_is_no_memory Failed due = refl
+written_is_no_memory Stalled due = refl
+written_is_no_memory Unfit due = refl
+written_is_no_memory RanOut due = absurd (true≢false (sym due))
+
+-- where the loop goes on, no source has failed
+goes_by : (status : Status) (met : Option Ending) (used converted : ℕ) → turn_by status met used converted ≡ Goes → is_fault met ≡ false
+goes_by status None used converted e = refl
+goes_by status (Some End) used converted e = refl
+goes_by Done (Some Fault) used converted e = other refl e
+goes_by InputFailure (Some Fault) used converted e = other refl e
+goes_by MatchingFailure (Some Fault) used converted e = other refl e
+goes_by OutOfRange (Some Fault) used converted e = other refl e
+goes_by TooLong (Some Fault) used converted e = other refl e
+goes_by NoMemory (Some Fault) used converted e = other refl e
+
+-- where the loop goes on, the record fits
+pub fit_goes : (fits : Bool) (turn : Turn) → fit_turn fits turn ≡ Goes → (turn ≡ Goes) × (fits ≡ true)
+fit_goes true Goes e = (refl, refl)
+fit_goes false Goes e = other refl e
+fit_goes fits Ends e = other refl e
+fit_goes true (Cut true) e = other refl e
+fit_goes false (Cut true) e = other refl e
+fit_goes fits (Cut false) e = other refl e
+fit_goes fits Failed e = other refl e
+fit_goes fits Stalled e = other refl e
+fit_goes true Unfit e = other refl e
+fit_goes false Unfit e = other refl e
+fit_goes fits RanOut e = other refl e
+
+pub goes_is_no_fault : (w : Work) (r : RunReport) → turn_in w r ≡ Goes → is_fault r.met ≡ false
+goes_is_no_fault w r e = goes_by r.status r.met r.used r.converted (fit_goes (w.fits r) (turn_of r) e).0
+
+-- what a report's outcome is
+pub outcome_is : (o : Outcome) (r : RunReport) → o.status ≡ r.status → o.at ≡ r.at → o.assigned ≡ r.assigned
+    → o.converted ≡ r.converted → o.used ≡ r.used → o.met ≡ r.met → o ≡ outcome_of r
+outcome_is o r status at assigned converted used met = rw (← status, ← at, ← assigned, ← converted, ← used, ← met) refl
+
+-- ---- records
+
+pub passed_append : (w : Work) (ds : List Directive) (m : ℕ) (ending : Ending) (x y z : List ℕ) (front rest : List RunReport)
+    → Passed w ds m x ending front y → Passed w ds m y ending rest z → Passed w ds m x ending (front ++ rest) z
+passed_append w ds m ending x y z [] rest p q = rw p q
+passed_append w ds m ending x y z (r ∷ rs) rest p q = (p.0, p.1, passed_append w ds m ending (drop r.used x) y z rs rest p.2 q)
+
+pub passed_more : (w : Work) (ds : List Directive) (m : ℕ) (ending : Ending) (x y : List ℕ) (front : List RunReport) (r : RunReport)
+    → Passed w ds m x ending front y → RunWithin ds m y ending r → turn_in w r ≡ Goes → Passed w ds m x ending (front ++ r ∷ []) (drop r.used y)
+passed_more w ds m ending x y front r p ran goes = passed_append w ds m ending x y (drop r.used y) front (r ∷ []) p (ran, goes, refl)
+
+pub uses_append : (front rest : List RunReport) → uses (front ++ rest) ≡ uses front + uses rest
+uses_append [] rest = omega arith
+uses_append (r ∷ rs) rest = omega (arith, uses_append rs rest)

@@ -1,0 +1,10 @@
+pub mod Copied
+pub mod Copies
+pub mod Judging
+pub mod Laws
+pub mod Lines
+pub mod Quotes
+pub mod Records
+pub mod Texts
+pub mod Turns
+pub mod Works

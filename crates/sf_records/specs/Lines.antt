@@ -1,0 +1,28 @@
+-- The line of a record, and scans.
+use Rattle.std.specs.Prelude.{ℕ, true, List, [], ◌∷◌, ◌++◌, length, map}
+use Rattle.std.specs.Option.{option_map_or}
+use Rattle.std.specs.List.{join_with_byte, range_with_len}
+use Rattle.std.specs.Fmt.{signed_decimal}
+use Rattle.sf_base.specs.Data.{Datum, Number, Bytes, datum_at}
+use Rattle.sf_format.specs.declared.directive.Directive.{Directive}
+use Rattle.sf_format.specs.Proper.{destinations_of}
+use Rattle.sf_run.specs.Runs.{RunReport}
+use Rattle.sf_records.specs.Quotes.{quoted}
+use Rattle.sf_records.specs.Works.{Work}
+
+-- the text of a value: a number in decimal, bytes between quotes
+abbrev pub text_of : Datum → List ℕ
+text_of (Number kind n) = signed_decimal n
+text_of (Bytes bytes) = quoted bytes
+
+-- the text of what a slot was given
+abbrev pub text_at : RunReport → ℕ → List ℕ
+text_at report slot = option_map_or text_of (datum_at slot report.values) []
+
+-- the texts of the slots 1 to n, with a blank between each two, and a line end
+abbrev pub line_of : ℕ → RunReport → List ℕ
+line_of n report = join_with_byte 32 (map (text_at report) (range_with_len 1 n)) ++ 10 ∷ []
+
+-- a scan writes the line of each record
+abbrev pub scanning : List Directive → Work
+scanning ds = record { fits = λ r. true; text = line_of (length (destinations_of ds)) }

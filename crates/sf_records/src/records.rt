@@ -1,0 +1,114 @@
+//! The loop over the records of an input.
+ghost use Rattle.std.specs.Prelude.{◌≡◌, ◌≢◌, ◌<◌, ◌≤◌, ℕ, List, Some, if◌then◌else◌, IfSome, MatchOption};
+ghost use Rattle.sf_format.specs.Proper.{AreProper};
+ghost use Rattle.sf_print.specs.Sinks.{counted_on};
+ghost use Rattle.sf_read.specs.Ahead.{input_of};
+ghost use Rattle.sf_records.specs.Judging.{Judges, fault_by, fault_of, is_write};
+ghost use Rattle.sf_records.specs.Records.{Loops, end_by, status_by};
+ghost use Rattle.sf_records.specs.Works.{turn_in};
+
+use crate::end::{ToolEnd, ToolFault, ended_by};
+use crate::recorder::{Recorder, Unwritten};
+use crate::turn::{Turn, turn_after};
+use sf_base::{HeapStore, Store};
+use sf_format::ScanFormat;
+use sf_print::Sink;
+use sf_read::{Lookahead, Source, fscan_over};
+use sf_run::Report;
+use std::alloc::Global;
+
+/// The most records that one loop writes.
+const MOST_RECORDS: u32 = 2147483647;
+
+/// The loop's fault where the record of the run with this number was not written in full.
+fn fault_by(why: Unwritten, number: u32) -> ToolFault
+    ensures { result ≡ fault_by number why }
+{
+    match why {
+        Unwritten::Unfit => ToolFault::Unfit { number },
+        Unwritten::Write => ToolFault::Write,
+        Unwritten::Memory => ToolFault::Memory,
+    }
+}
+
+/// The loop's end after this turn, where it stops. `records` were written before.
+fn end_after<T: Store>(turn: Turn, report: &Report<'_, T>, records: u32) -> Option<ToolEnd>
+    requires { records < 2147483647 }
+    ensures { MatchOption result (turn ≡ Turn.Goes) (λ end. (turn ≢ Turn.Goes) × (end ≡ end_by turn records report.now)) }
+{
+    let outcome = report.outcome();
+    let number = records + 1;
+    match turn {
+        Turn::Goes => None,
+        Turn::Ends => Some(ToolEnd {
+            status: 0,
+            records,
+            fault: None,
+        }),
+        Turn::Cut { written } => {
+            let records = records + u32::from(written);
+            Some(ended_by(records, ToolFault::Read { number }))
+        }
+        Turn::Failed => Some(ended_by(records, ToolFault::Failed { number, outcome })),
+        Turn::Stalled => Some(ended_by(records, ToolFault::Stalled { number })),
+        Turn::Unfit => Some(ended_by(records, ToolFault::Unfit { number })),
+        Turn::RanOut => Some(ended_by(records, ToolFault::Memory)),
+    }
+}
+
+/// Writes the record of a run where one is due, and answers the loop's end where it stops. `records` were written before.
+fn judge<R: Recorder, K: Sink, T: Store>(
+    recorder: &mut R,
+    to: &mut K,
+    report: &Report<'_, T>,
+    records: u32,
+) -> Option<ToolEnd>
+    requires { records < 2147483647 }
+    ensures same { R.work recorder.new ≡ R.work recorder.old }
+    ensures judged { Judges records ((R.work recorder.old).text report.now) (turn_in (R.work recorder.old) report.now) report.now (K.contents to.old) (K.contents to.new) result }
+    ensures status { IfSome result (λ end. end.status ≡ status_by end.fault) }
+    ensures failures { K.failures to.new
+        ≡ (if is_write (fault_of result) then counted_on (K.failures to.old) else K.failures to.old) }
+{
+    let turn = turn_after(report.outcome());
+    if turn.writes()
+        && let Err(why) = recorder.write(to, report)
+    {
+        return Some(ended_by(records, fault_by(why, records + 1)));
+    }
+    end_after(turn, report, records)
+}
+
+/// Scans record after record of what the lookahead holds and its source gives, by runs of at most `limit` bytes, and has
+/// each written. It ends cleanly where fscanf would return EOF at the end of the input (C11 7.21.6.2p16); else it says
+/// why, and the records before stand. What the runs did not use stays held or unread.
+pub(crate) fn run_records<R: Recorder, S: Source, K: Sink, const N: usize>(
+    alloc: Global,
+    from: &mut Lookahead<S, N>,
+    to: &mut K,
+    recorder: &mut R,
+    format: &ScanFormat,
+    limit: u32,
+) -> ToolEnd
+    requires limit { limit ≤ 2147483647 }
+    requires proper { AreProper format.now }
+    ensures loops { (t : List ℕ) → input_of S.to_come from.old ≡ Some t
+        → Loops (R.work recorder.old) S.to_come format.now limit t from.new (S.failures from.old.source) (S.failures from.new.source) (K.contents to.old) (K.contents to.new) result }
+    ensures status { result.status ≡ status_by result.fault }
+    ensures sink { K.failures to.new
+        ≡ (if is_write result.fault then counted_on (K.failures to.old) else K.failures to.old) }
+{
+    let Ok(mut store) = HeapStore::new(alloc, format.width_sum().unwrap_or(0)) else {
+        return ended_by(0, ToolFault::Memory);
+    };
+    for records in 0..MOST_RECORDS {
+        let Ok(scanned) = fscan_over(alloc, store, from, format, limit) else {
+            return ended_by(records, ToolFault::Memory);
+        };
+        if let Some(end) = judge(recorder, to, &scanned.report(), records) {
+            return end;
+        }
+        store = scanned.into_store();
+    }
+    ended_by(MOST_RECORDS, ToolFault::TooMany)
+}

@@ -1,0 +1,11 @@
+//! Tests of `sf_records`: copies by a pair of formats.
+#![tactic(auto)]
+
+#[cfg(test)]
+mod copies;
+#[cfg(test)]
+mod devices;
+#[cfg(test)]
+mod memory;
+#[cfg(test)]
+mod random;

@@ -1,0 +1,199 @@
+-- Runs that begin and pass within a piece.
+use Rattle.std.proofs.Common.{◌≡◌, ℕ, zero, suc, ◌+◌, ◌-◌, ◌<◌, ◌≤◌, Bool, true, false, cond, List, [], ◌∷◌, ◌++◌, length, take, drop, get_or, Option, Some, None, refl, sym, ap, subst, ◌∙◌, arith, true≢false, length-drop}
+use Rattle.std.specs.Prelude.{slice_get}
+use Rattle.std.proofs.lemmas.List.{append-nil, append_assoc, drop-drop, length-append, length-take-le, take-append-drop}
+use Rattle.sf_base.specs.Data.{Assigned}
+use Rattle.sf_base.specs.Kept.{Kept, texts_in}
+use Rattle.sf_format.specs.declared.directive.Directive.{Directive}
+use Rattle.sf_format.specs.Proper.{AreProper, slots_of}
+use Rattle.sf_run.specs.declared.directive.Finished.{Finished}
+use Rattle.sf_run.specs.declared.directive.Finished.TheVariants as finish
+use Rattle.sf_run.specs.declared.outcome.Ending.{Ending}
+use Rattle.sf_run.specs.declared.outcome.Status.{Status}
+use Rattle.sf_run.specs.declared.outcome.Status.TheVariants.{Done}
+use Rattle.sf_run.specs.declared.tally.Tally as code
+use Rattle.sf_run.specs.declared.whole.Whole.{Whole}
+use Rattle.sf_run.specs.Holding.{are_apart, are_placed}
+use Rattle.sf_run.specs.Limits.{RunWithin, TellsWithin}
+use Rattle.sf_run.specs.Machine.{Skipping}
+use Rattle.sf_run.specs.Phases.{end_of, is_failing, slot_given}
+use Rattle.sf_run.specs.Places.{is_destination, places_left}
+use Rattle.sf_run.specs.Quick.{GivesTo, MayBeGiven, PassesWithin, TakesWithin, slot_stored}
+use Rattle.sf_run.specs.Residual.{Part, Tally, by_end, counted, nothing_yet, one_from, out_of, run_of, then_on, with_used}
+use Rattle.sf_run.specs.Runs.{IsOpen, RunReport, passed, stored}
+use Rattle.sf_run.specs.Steps.{StepEnd, Passes, Stores, Fails}
+use Rattle.sf_run.specs.Tallies.{PassesSo, tally_of, values_with}
+use Rattle.sf_run.specs.Texts.{slot_of, slots_in}
+use Rattle.sf_run.specs.Wholes.{EndsWithin}
+use Rattle.sf_run.proofs.Brought.{one_from-all}
+use Rattle.sf_run.proofs.Machines.{byte_refused}
+use Rattle.sf_run.proofs.Moves.{around, drop_at, next_is, place_taken}
+use Rattle.sf_run.proofs.Openness.{within_limit}
+use Rattle.sf_run.proofs.Slots.{is_destination_of, slot_free, slot_placed, slots_more, slots_none}
+use Rattle.sf_run.proofs.Told.{told_exists, uses_is, within_met}
+use Rattle.sf_run.proofs.Waits.{open_all}
+
+-- ---- one directive
+
+same_part : {n m : ℕ} {x y : List ℕ} {e f : StepEnd} → n ≡ m → x ≡ y → e ≡ f → ◌≡◌ {A = Part} (record { used = n; left = x; end = e }) (record { used = m; left = y; end = f })
+same_part p q r = (λ i. record { used = p i; left = q i; end = r i })
+
+-- what ends within the piece takes just these bytes however the piece goes on
+pub takes_within : (d : Directive) (piece : List ℕ) (w : Whole) → EndsWithin d piece w → TakesWithin d piece (w.before + w.item) (end_of (take w.item (drop w.before piece)) w.finished)
+takes_within d piece w e =
+    let k : ℕ = w.before + w.item in
+    let below : k < length piece = e.behind in
+    let long : length (take k piece) ≡ k = length-take-le k piece (omega (arith, below)) in
+    record {
+      within = below;
+      takes = λ n z.
+          let b : ℕ = get_or piece k 0 in
+          let rest : List ℕ = drop (k + 1) piece ++ z in
+          ap (one_from d Skipping n) (sym (around piece k z below))
+          ∙ one_from-all d Skipping e.stage n (take k piece) (b ∷ rest) e.goes
+          ∙ byte_refused d e.stage (n + length (take k piece)) b rest e.refused
+          ∙ same_part (ap (λ m. n + m) long) (sym (next_is piece k z below)) (sym (e.ends (n + length (take k piece))));
+    }
+
+-- the slot of what it gives is its own
+pub free_of : (f : Finished) (d : Directive) (values : List Assigned) → (is_failing f ≡ false → slot_given f ≡ slot_of d) → MayBeGiven (slot_of d) values → MayBeGiven (slot_given f) values
+free_of finish.Passes d values own free = tt
+free_of (finish.Stores slot value) d values own free = subst (λ o. MayBeGiven o values) (sym (own refl)) free
+free_of (finish.Closes slot) d values own free = subst (λ o. MayBeGiven o values) (sym (own refl)) free
+free_of (finish.Fails status) d values own free = tt
+
+own_slot : (f : Finished) (text : List ℕ) (slot : Option ℕ) → passed (end_of text f) ≡ true → (is_failing f ≡ false → slot_given f ≡ slot) → slot_stored (end_of text f) ≡ slot
+own_slot finish.Passes text slot ok own = own refl
+own_slot (finish.Stores n value) text slot ok own = own refl
+own_slot (finish.Closes n) text slot ok own = own refl
+own_slot (finish.Fails status) text slot ok own = absurd (true≢false (sym ok))
+
+pub passes_within : (d : Directive) (piece item : List ℕ) (w : Whole) (stores : Bool) (old new : Kept) → EndsWithin d piece w → item ≡ take w.item (drop w.before piece)
+    → (is_failing w.finished ≡ false → slot_given w.finished ≡ slot_of d) → GivesTo (end_of item w.finished) stores old new → PassesWithin d piece (w.before + w.item) stores old new
+passes_within d piece item w stores old new e is own gives = record {
+  end = end_of item w.finished;
+  takes = subst (λ y. TakesWithin d piece (w.before + w.item) (end_of y w.finished)) (sym is) (takes_within d piece w e);
+  gives = gives;
+  own = own_slot w.finished item (slot_of d) gives.passes.passes own;
+}
+
+-- ---- directive after directive
+
+by_passed : (end : StepEnd) (y : RunReport) (f : Status → RunReport) → passed end ≡ true → by_end end y f ≡ y
+by_passed Passes y f h = refl
+by_passed (Stores slot v) y f h = refl
+by_passed (Fails status) y f h = absurd (true≢false (sym h))
+
+-- The directives before this place have passed within the front, in which the run has come so far, and the store was given what they gave.
+pub record Going (ds : List Directive) (front : List ℕ) (p : ℕ) (t : code.Tally) (kept : Kept) : Type 0 where
+  pub same : (z : List ℕ) → run_of None ds 1 nothing_yet (front ++ z) ≡ run_of None (drop p ds) (p + 1) (tally_of t kept.values) (drop t.used front ++ z)
+  pub within : t.used ≤ length front
+  pub given : slots_in kept.values ≡ slots_of (take p ds)
+  pub opened : kept.opened ≡ None
+  pub joined : kept.closed ≡ texts_in kept.values
+  pub assigned : t.assigned + places_left ds p ≤ 32
+  pub converted : t.converted ≤ p
+
+-- a directive that passes takes the run on
+passes_on : (d : Directive) (ds : List Directive) (at : ℕ) (t : Tally) (x y : List ℕ) (taken : ℕ) (end : StepEnd) → passed end ≡ true
+    → one_from d Skipping t.used x ≡ record { used = t.used + taken; left = y; end = end }
+    → run_of None (d ∷ ds) at t x ≡ run_of None ds (at + 1) (counted d end (with_used (t.used + taken) t)) y
+passes_on d ds at t x y taken end ok is =
+    ap (λ (p : Part). then_on None d at t p (λ u v. run_of None ds (at + 1) u v)) is
+    ∙ by_passed end (run_of None ds (at + 1) (counted d end (with_used (t.used + taken) t)) y) (λ status. out_of status at (with_used (t.used + taken) t)) ok
+
+some_slot : (ds : List Directive) (p : ℕ) (d : Directive) (values : List Assigned) (end : StepEnd) → slice_get ds p ≡ Some d → slot_stored end ≡ slot_of d → passed end ≡ true
+    → slots_in values ≡ slots_of (take p ds) → slots_in (values_with end values) ≡ slots_of (take (p + 1) ds)
+some_slot ds p d values Passes at own ok given = slots_none ds p d values at (sym own) given
+some_slot ds p d values (Stores slot v) at own ok given = slots_more ds p d values slot v at (sym own) given
+some_slot ds p d values (Fails status) at own ok given = absurd (true≢false (sym ok))
+
+stores_own : (d : Directive) (end : StepEnd) (stores : Bool) → slot_stored end ≡ slot_of d → stored end ≡ stores → stores ≡ true → is_destination d ≡ true
+stores_own d Passes stores own is some = absurd (true≢false (sym (is ∙ some)))
+stores_own d (Stores slot v) stores own is some = is_destination_of d slot (sym own)
+stores_own d (Fails status) stores own is some = absurd (true≢false (sym (is ∙ some)))
+
+-- the next directive has passed
+pub going_on : (ds : List Directive) (front : List ℕ) (p : ℕ) (d : Directive) (t u : code.Tally) (old new : Kept) (piece : List ℕ) (taken : ℕ) (stores : Bool) → slice_get ds p ≡ Some d
+    → Going ds front p t old → piece ≡ drop t.used front → PassesWithin d piece taken stores old new
+    → ((end : StepEnd) (values : List Assigned) → PassesSo end stores → tally_of u (values_with end values) ≡ counted d end (with_used (t.used + taken) (tally_of t values)))
+    → u.used ≡ t.used + taken → u.assigned ≤ t.assigned + cond stores 1 0 → u.converted ≤ t.converted + 1 → Going ds front (p + 1) u new
+going_on ds front p d t u old new piece taken stores at h is w tally used assigned' converted' =
+    let end : StepEnd = w.end in
+    let ok : passed end ≡ true = w.gives.passes.passes in
+    let rest : List ℕ = drop t.used front in
+    let behind : taken < length rest = subst (λ y. taken < length y) is w.takes.within in
+    let left : length rest ≡ length front - t.used = length-drop t.used front in
+    let low = h.within in
+    record {
+      same = λ z.
+          let next : List ℕ = drop u.used front in
+          let place : drop taken piece ≡ next = ap (drop taken) is ∙ drop-drop taken t.used front ∙ ap (λ n. drop n front) (sym used) in
+          let step : one_from d Skipping t.used (rest ++ z) ≡ record { used = t.used + taken; left = next ++ z; end = end } =
+          ap (λ y. one_from d Skipping t.used (y ++ z)) (sym is) ∙ w.takes.takes t.used z ∙ ap (λ (y : List ℕ). record { used = t.used + taken; left = y ++ z; end = end }) place in
+          h.same z ∙ ap (λ l. run_of None l (p + 1) (tally_of t old.values) (rest ++ z)) (drop_at ds p d at)
+          ∙ passes_on d (drop (p + 1) ds) (p + 1) (tally_of t old.values) (rest ++ z) (next ++ z) taken end ok step
+          ∙ ap (λ v. run_of None (drop (p + 1) ds) (p + 1 + 1) v (next ++ z)) (sym (tally end old.values w.gives.passes) ∙ ap (tally_of u) (sym w.gives.values));
+      within = omega (arith, used, behind, left, low);
+      given = ap slots_in w.gives.values ∙ some_slot ds p d old.values end at w.own ok h.given;
+      opened = w.gives.opened;
+      joined = w.gives.joined h.joined;
+      assigned = (let place = place_taken ds p d stores at (stores_own d end stores w.own w.gives.passes.stored) in let few = h.assigned in omega (arith, place, few, assigned'));
+      converted = (let few = h.converted in omega (arith, few, converted'));
+    }
+
+-- the slot of the next directive is free
+pub free_at : (ds : List Directive) (p : ℕ) (d : Directive) (values : List Assigned) → slice_get ds p ≡ Some d → are_placed 32 ds ≡ true → are_apart (slots_of ds) ≡ true
+    → slots_in values ≡ slots_of (take p ds) → MayBeGiven (slot_of d) values
+free_at ds p d values at placed apart given = by_slot (slot_of d) refl
+  where
+    by_slot : (o : Option ℕ) → slot_of d ≡ o → MayBeGiven o values
+    by_slot None own = tt
+    by_slot (Some slot) own =
+        let h = slot_placed 32 ds p d slot placed at own in (h.0, h.1, slot_free ds p d slot values apart given at own)
+
+-- ---- the end
+
+-- past the last directive
+all_passed : (ds : List Directive) (p : ℕ) (x : List ℕ) (t : Tally) → length ds ≤ p → run_of None (drop p ds) (p + 1) t x ≡ out_of Done 0 t
+all_passed [] p x t h = by_place p
+  where
+    by_place : (p : ℕ) → run_of None (drop p []) (p + 1) t x ≡ out_of Done 0 t
+    by_place zero = refl
+    by_place (suc p) = refl
+all_passed (d ∷ ds) zero x t h = absurd (omega (arith, h))
+all_passed (d ∷ ds) (suc p) x t h = past ds p (suc p + 1) x t (omega (arith, h))
+  where
+    past : (ds : List Directive) (p at : ℕ) (x : List ℕ) (t : Tally) → length ds ≤ p → run_of None (drop p ds) at t x ≡ out_of Done 0 t
+    past [] zero at x t h = refl
+    past [] (suc p) at x t h = refl
+    past (d ∷ ds) zero at x t h = absurd (omega (arith, h))
+    past (d ∷ ds) (suc p) at x t h = past ds p at x t (omega (arith, h))
+
+-- a run that is the same however the input goes on is the report
+pub done_is : (ds : List Directive) → AreProper ds → (m : ℕ) (x : List ℕ) (ending : Ending) (t : Tally) → ((z : List ℕ) → run_of None ds 1 nothing_yet (x ++ z) ≡ out_of Done 0 t)
+    → t.used ≤ m → t.used ≤ length x → RunWithin ds m x ending (out_of Done 0 t)
+done_is ds proper m x ending t same fits within =
+    let here : run_of None ds 1 nothing_yet x ≡ out_of Done 0 t = ap (run_of None ds 1 nothing_yet) (sym (append-nil x)) ∙ same [] in
+    let used : (run_of None ds 1 nothing_yet x).used ≡ t.used = ap (λ (r : RunReport). r.used) here in
+    let cut : run_of (Some m) ds 1 nothing_yet x ≡ out_of Done 0 t = within_limit m ds 1 nothing_yet x (omega (arith, used, fits)) ∙ here in
+    within_met open_all ds proper m x ending None (out_of Done 0 t) (subst (λ r. TellsWithin ds m x r) cut (told_exists ds proper m x)) closed
+  where
+    closed : IsOpen ds x × (length x ≤ m) → ⊥
+    closed o =
+        let long : (run_of None ds 1 nothing_yet (x ++ o.0.0 ∷ [])).used ≡ length x + 1 = uses_is ds proper (x ++ o.0.0 ∷ []) (length x + 1) o.0.2 in
+        let short : (run_of None ds 1 nothing_yet (x ++ o.0.0 ∷ [])).used ≡ t.used = ap (λ (r : RunReport). r.used) (same (o.0.0 ∷ [])) in
+        omega (arith, long, short, within)
+
+-- what was read within a front of a piece is the report of each input that begins with the piece
+pub quick_is : (ds : List Directive) → AreProper ds → (m most : ℕ) (piece front : List ℕ) (t : code.Tally) (kept : Kept) (p : ℕ) → length ds ≤ p → front ≡ take most piece → length front ≤ m
+    → Going ds front p t kept → (z : List ℕ) (ending : Ending) → RunWithin ds m (piece ++ z) ending (out_of Done 0 (tally_of t kept.values))
+quick_is ds proper m most piece front t kept p all is fits h z ending =
+    let rest : List ℕ = drop most piece ++ z in
+    let whole : front ++ rest ≡ piece ++ z = ap (λ y. y ++ rest) is ∙ sym (append_assoc (take most piece) (drop most piece) z) ∙ ap (λ y. y ++ z) (take-append-drop most piece) in
+    let low = h.within in
+    let long : length (front ++ rest) ≡ length front + length rest = length-append front rest in
+    subst (λ y. RunWithin ds m y ending (out_of Done 0 (tally_of t kept.values))) whole
+    (done_is ds proper m (front ++ rest) ending (tally_of t kept.values)
+    (λ y. ap (run_of None ds 1 nothing_yet) (append_assoc front rest y) ∙ h.same (rest ++ y) ∙ all_passed ds p _ (tally_of t kept.values) all)
+    (omega (arith, low, fits)) (omega (arith, low, long)))

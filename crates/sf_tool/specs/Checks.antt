@@ -1,0 +1,96 @@
+-- What a check of two formats answers, and what it writes.
+use Rattle.std.specs.Prelude.{◌≡◌, ◌⊎◌, ℕ, List, [], ◌∷◌, ◌++◌, Option, Some, None, Ok, Err, codes}
+use Rattle.std.specs.Fmt.{decimal}
+use Rattle.std.specs.Io.KnownBytes.{Appends}
+use Rattle.sf_format.specs.declared.directive.Directive.{Directive}
+use Rattle.sf_format.specs.declared.directive.Profile.TheVariants.{One}
+use Rattle.sf_format.specs.declared.unit.Unit.{Unit as PrintUnit}
+use Rattle.sf_format.specs.Faults.{Fault, PrintFault}
+use Rattle.sf_format.specs.Grammar.{Spells, SpellsPrint}
+use Rattle.sf_pair.specs.declared.fault.PairFault.{PairFault}
+use Rattle.sf_pair.specs.declared.fault.PairWhy.{PairWhy}
+use Rattle.sf_pair.specs.declared.fault.PairWhy.TheVariants as why
+use Rattle.sf_pair.specs.Groups.{IsAligned}
+use Rattle.sf_pair.specs.Walk.{pair_fault}
+use Rattle.sf_records.specs.Judging.{TakesPart}
+use Rattle.sf_tool.specs.declared.fault.CommandFault.{CommandFault}
+use Rattle.sf_tool.specs.declared.fault.CommandFault.TheVariants.{BadEscape, Format, PrintFormat, Write, Memory}
+use Rattle.sf_tool.specs.declared.fault.FormatName.TheVariants as name
+use Rattle.sf_tool.specs.Answers.{Answer}
+use Rattle.sf_tool.specs.Escapes.{IsBadEscape, Unescapes}
+
+-- ---- formats as words
+
+-- the word's bytes, its escapes resolved, spell these units
+abbrev pub IsPrintWord : List ℕ → List PrintUnit → Type 0
+IsPrintWord word units = (text : List ℕ) × Unescapes word text × SpellsPrint One text units
+
+abbrev pub IsScanWord : List ℕ → List Directive → Type 0
+IsScanWord word ds = (text : List ℕ) × Unescapes word text × Spells One text ds
+
+-- why a word is no print format: its escapes come before its format; want of memory is told of one without a bad escape
+abbrev pub IsNoPrintWord : List ℕ → CommandFault → Type 0
+IsNoPrintWord word (BadEscape of at) = (of ≡ name.Print) × IsBadEscape word at
+IsNoPrintWord word (PrintFormat fault) = (text : List ℕ) × Unescapes word text × PrintFault One text fault.at fault.why
+IsNoPrintWord word Memory = (text : List ℕ) × Unescapes word text
+IsNoPrintWord word _ = ⊥
+
+abbrev pub IsNoScanWord : List ℕ → CommandFault → Type 0
+IsNoScanWord word (BadEscape of at) = (of ≡ name.Scan) × IsBadEscape word at
+IsNoScanWord word (Format fault) = (text : List ℕ) × Unescapes word text × Fault One text fault.at fault.why
+IsNoScanWord word Memory = (text : List ℕ) × Unescapes word text
+IsNoScanWord word _ = ⊥
+
+-- ---- verdicts
+
+-- why a pair is refused
+abbrev pub pair_why_text : PairWhy → List ℕ
+pair_why_text why.NotAligned = codes "Q1 NotAligned"
+pair_why_text why.KindDiffers = codes "Q2 KindDiffers"
+pair_why_text why.NumberDiffers = codes "Q3 NumberDiffers"
+pair_why_text why.NoWidth = codes "Q4 NoWidth"
+pair_why_text why.TooNarrow = codes "Q5 TooNarrow"
+pair_why_text why.RunsOn = codes "Q6 RunsOn"
+pair_why_text why.OpenEnd = codes "Q7 OpenEnd"
+pair_why_text why.LeadingZero = codes "Q8 LeadingZero"
+pair_why_text why.NotWritten = codes "Q9 NotWritten"
+pair_why_text why.BadFlagHere = codes "Q10 BadFlagHere"
+pair_why_text why.NoValues = codes "Q11 NoValues"
+
+abbrev pub pair_fault_text : PairFault → List ℕ
+pair_fault_text fault = pair_why_text fault.why ++ (codes " at " ++ decimal fault.at)
+
+-- accepted, or refused for this
+abbrev pub verdict_text : Option PairFault → List ℕ
+verdict_text None = codes "accepted"
+verdict_text (Some fault) = codes "refused: " ++ pair_fault_text fault
+
+abbrev pub verdict_status : Option PairFault → ℕ
+verdict_status None = 0
+verdict_status (Some fault) = 1
+
+-- the formats are aligned, or the fault is the first of the walk over both
+abbrev pub IsVerdict : List PrintUnit → List Directive → Option PairFault → Type 0
+IsVerdict units ds None = IsAligned units ds
+IsVerdict units ds (Some fault) = pair_fault units ds ≡ Some fault
+
+-- a line with this status, or the sink failed within it
+abbrev pub TellsLine : List ℕ → ℕ → Option (List ℕ) → Option (List ℕ) → Answer → Type 0
+TellsLine text status before after (Ok n) = Appends before after (text ++ 10 ∷ []) × (n ≡ status)
+TellsLine text status before after (Err Write) = TakesPart before after (text ++ 10 ∷ [])
+TellsLine text status before after (Err _) = ⊥
+
+-- the verdict on the formats is told in a line
+abbrev pub Checks : List PrintUnit → List Directive → Option (List ℕ) → Option (List ℕ) → Answer → Type 0
+Checks units ds before after answer =
+    (verdict : Option PairFault) × IsVerdict units ds verdict × TellsLine (verdict_text verdict) (verdict_status verdict) before after answer
+
+abbrev pub IsFaultOf : (CommandFault → Type 0) → Answer → Type 0
+IsFaultOf P answer = (fault : CommandFault) × (answer ≡ Err fault) × P fault
+
+-- The first word is no print format; or it is one, and the second is no scan format; or the verdict on both is told.
+abbrev pub ChecksWords : List ℕ → List ℕ → Option (List ℕ) → Option (List ℕ) → Answer → Type 0
+ChecksWords print scan before after answer =
+    IsFaultOf (IsNoPrintWord print) answer
+    ⊎ ((units : List PrintUnit) × IsPrintWord print units
+    × (IsFaultOf (IsNoScanWord scan) answer ⊎ ((ds : List Directive) × IsScanWord scan ds × Checks units ds before after answer)))

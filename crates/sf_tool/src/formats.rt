@@ -1,0 +1,46 @@
+//! Formats as words: their escapes, then what they spell.
+ghost use Rattle.std.specs.Prelude.{IfOk, IfErr};
+ghost use Rattle.sf_tool.specs.Checks.{IsNoPrintWord, IsNoScanWord, IsPrintWord, IsScanWord};
+ghost use Rattle.sf_tool.specs.Commands.{IsBadText};
+ghost use Rattle.sf_tool.specs.Escapes.{Unescapes};
+
+use crate::escape::{EscapeFault, unescape};
+use crate::fault::{CommandFault, FormatName, format_fault, print_format_fault};
+use sf_format::{PrintFormat, Profile, ScanFormat};
+use std::alloc::Global;
+
+/// The bytes of a format's text.
+pub(crate) fn resolved(alloc: Global, name: FormatName, word: &str) -> Result<Vec<u8>, CommandFault>
+    ensures ok { IfOk result (λ text. Unescapes word.now text.items) }
+    ensures err { IfErr result (IsBadText name word.now) }
+{
+    match unescape(alloc, word.as_bytes()) {
+        Ok(text) => Ok(text),
+        Err(EscapeFault::Bad { at }) => Err(CommandFault::BadEscape { name, at }),
+        Err(EscapeFault::Memory) => Err(CommandFault::Memory),
+    }
+}
+
+/// The print format that a word spells.
+pub(crate) fn read_print(alloc: Global, word: &str) -> Result<PrintFormat, CommandFault>
+    ensures ok { IfOk result (λ format. IsPrintWord word.now format) }
+    ensures err { IfErr result (IsNoPrintWord word.now) }
+{
+    let text = resolved(alloc, FormatName::Print, word)?;
+    match PrintFormat::parse(alloc, Profile::One, &text) {
+        Ok(format) => Ok(format),
+        Err(fault) => Err(print_format_fault(fault)),
+    }
+}
+
+/// The scan format that a word spells.
+pub(crate) fn read_scan(alloc: Global, word: &str) -> Result<ScanFormat, CommandFault>
+    ensures ok { IfOk result (λ format. IsScanWord word.now format) }
+    ensures err { IfErr result (IsNoScanWord word.now) }
+{
+    let text = resolved(alloc, FormatName::Scan, word)?;
+    match ScanFormat::parse(alloc, Profile::One, &text) {
+        Ok(format) => Ok(format),
+        Err(fault) => Err(format_fault(fault)),
+    }
+}

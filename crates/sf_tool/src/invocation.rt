@@ -1,0 +1,105 @@
+//! One run of the command, from its words to its exit status.
+ghost use Rattle.std.specs.Prelude.{map, string_bytes};
+ghost use Rattle.sf_tool.specs.Exits.{Declines, Ends, Exits, Helps, Says};
+
+use crate::command::carry_out;
+use crate::error_line::error_line;
+use crate::fault::CommandFault;
+use sf_print::Sink;
+use sf_read::{Lookahead, Source};
+use sf_records::write_whole;
+use sf_words::{WordsFault, read_words};
+use std::alloc::Global;
+
+/// How many bytes of the input are read at once.
+const BLOCK_BYTES: usize = 4096;
+
+/// Hands the error output a text. A fault of it is ignored.
+fn say<E: Sink>(err: &mut E, text: &[u8])
+    ensures { Says E.contents E.failures text.now err.old err.new }
+{
+    match write_whole(err, text) {
+        Ok(()) => {}
+        Err(_) => {}
+    }
+}
+
+/// Ends with this exit status, or says why not in a line on the error output and ends with the fault's status.
+fn end<E: Sink>(err: &mut E, answer: Result<u8, CommandFault>) -> u8
+    ensures { Ends E.contents E.failures answer err.old err.new result }
+{
+    match answer {
+        Ok(status) => status,
+        Err(fault) => {
+            say(err, error_line(fault).as_str().as_bytes());
+            fault.status()
+        }
+    }
+}
+
+/// Writes help that was asked for.
+fn help<K: Sink>(text: &str, out: &mut K) -> Result<u8, CommandFault>
+    ensures { Helps K.contents K.failures text.now out.old out.new result }
+{
+    match write_whole(out, text.as_bytes()) {
+        Ok(()) => Ok(0),
+        Err(_) => Err(CommandFault::Write),
+    }
+}
+
+/// Help that was asked for goes to the output; what else the words are refused for, to the error output.
+fn decline<K: Sink, E: Sink>(fault: &WordsFault, out: &mut K, err: &mut E) -> u8
+    ensures { Declines K.contents K.failures E.contents E.failures fault.now out.old out.new err.old err.new result }
+{
+    match fault {
+        WordsFault::Help(text) => {
+            let answer = help(text.as_str(), out);
+            end(err, answer)
+        }
+        WordsFault::Usage(text) => {
+            say(err, text.as_bytes());
+            2
+        }
+        WordsFault::NoMemory => end(err, Err(CommandFault::Memory)),
+    }
+}
+
+/// Runs the command of the words, which are those after the program's name, on what the lookahead holds and its source
+/// gives, and answers its exit status. Where it does not end cleanly, it says why in one line on `err`; a fault in writing
+/// that is ignored. What is written to `out` isn't flushed.
+pub fn run_words<S: Source, K: Sink, E: Sink, const N: usize>(
+    alloc: Global,
+    words: &[String],
+    from: &mut Lookahead<S, N>,
+    out: &mut K,
+    err: &mut E,
+) -> u8
+    ensures { Exits S.to_come S.failures K.contents K.failures E.contents E.failures (map string_bytes words.now)
+        from.old from.new out.old out.new err.old err.new result }
+{
+    match read_words(alloc, words) {
+        Ok(order) => {
+            let answer = carry_out(alloc, &order, from, out);
+            end(err, answer)
+        }
+        Err(fault) => decline(&fault, out, err),
+    }
+}
+
+/// Runs the command of the words, which are those after the program's name, on what the source gives, and answers its exit
+/// status. Where it does not end cleanly, it says why in one line on `err`; a fault in writing that is ignored. What is
+/// written to `out` isn't flushed.
+///
+/// 0: it ended cleanly. 1: a record failed or took no byte, a pair is refused, or there are too many records. 2: a format, a
+/// pair, a value or the words are refused. 3: a read or a write failed. 4: memory was refused.
+pub fn tool<S: Source, K: Sink, E: Sink>(
+    alloc: Global,
+    words: &[String],
+    from: S,
+    out: &mut K,
+    err: &mut E,
+) -> u8 {
+    let mut source = from;
+    let mut ahead = Lookahead::<&mut S, BLOCK_BYTES>::new(&mut source);
+    run_words(alloc, words, &mut ahead, out, err)
+}

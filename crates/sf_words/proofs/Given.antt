@@ -1,0 +1,98 @@
+-- What the getters of the matches answer, by the rows.
+use Rattle.std.proofs.Common.{◌≡◌, ◌≢◌, ◌⊎◌, inl, inr, ◌∙◌, ap, sym, subst, refl, Bool, true, false, true≢false, ℕ, List, [], Option, Some, None, Result, Ok, codes, arith, ◌≤◌, true≢false}
+use Rattle.std.specs.Prelude.{if◌then◌else◌, option_map, unwrap_or}
+use Rattle.std.specs.Str.{bytes_eq}
+use Rattle.std.proofs.lemmas.Slice.Eq.{bytes_eq-Decides}
+use Rattle.std.specs.Str.Parse.{ParsesBool, ParsesUnsigned}
+use Rattle.clap.specs.Words.{ReadsOne, Text, matched_of, raw_values, rows_of}
+use Rattle.clap.proofs.CallerReads.{signed_reads}
+use Rattle.clap.proofs.WalkLemmas.{raw_values-rows}
+use Rattle.clap.specs.declared.parser.matches.Found.{Found}
+use Rattle.clap.specs.Words.{IsAmong, Kinds, Row}
+use Rattle.clap.specs.declared.error.ErrorKind.{ErrorKind}
+use Rattle.clap.specs.declared.error.ErrorKind.TheVariants as kind
+use Rattle.sf_words.specs.Orders.{HasTexts, IsRefusal, IsRefusalOf, is_request, is_true, limit_by, texts_by, values_at, verb_text}
+use Rattle.sf_words.specs.declared.order.Verb.{Verb}
+use Rattle.sf_words.specs.declared.order.Verb.TheVariants.{Show, Scan, Print, Check, Copy}
+use Rattle.sf_words.specs.declared.order.WordsFault.{WordsFault}
+use Rattle.sf_words.specs.declared.order.WordsFault.TheVariants.{Help, Usage, NoMemory}
+use Rattle.sf_words.specs.Taken.{IsLimit, IsTaken}
+
+-- where the argument has no entry it was given nothing
+pub none_given : {X : Type 0} (g : X → List Text) (r : Option X) (f : Found) (id : Text) → option_map g r ≡ option_map raw_values (matched_of f id) → r ≡ None
+    → [] ≡ values_at id (rows_of f)
+none_given g r f id is none =
+    ap (λ o. unwrap_or (option_map g o) []) (sym none) ∙ ap (λ o. unwrap_or o []) (is ∙ raw_values-rows f id)
+
+pub some_given : {X : Type 0} (g : X → List Text) (r : Option X) (x : X) (f : Found) (id : Text) → option_map g r ≡ option_map raw_values (matched_of f id)
+    → r ≡ Some x → g x ≡ values_at id (rows_of f)
+some_given g r x f id is some =
+    ap (λ o. unwrap_or (option_map g o) []) (sym some) ∙ ap (λ o. unwrap_or o []) (is ∙ raw_values-rows f id)
+
+-- the limit that was given or is the default
+pub limit_read : (E : Type 0) (G : Text → Result ℕ E → Type 0) → ((t : Text) (r : Result ℕ E) → G t r → ParsesUnsigned 32 10 t r)
+    → (o : Option Text) (r : Option ℕ) → IsLimit o → (o ≡ None → r ≡ None) → ((t : Text) → o ≡ Some t → ReadsOne G t r)
+    → (unwrap_or r 1048576 ≡ limit_by o) × (unwrap_or r 1048576 ≤ 2147483647)
+limit_read E G parses None r limit none value = rw (none refl) (refl, omega arith)
+limit_read E G parses (Some t) r limit none value =
+    let read = value t refl in
+    let got = signed_reads E G 32 0 2147483647 limit.0 r (subst (λ u. ReadsOne G u r) limit.1 read) parses (omega arith) limit.2 in
+    let parsed = parses t (Ok got.0) (subst (ReadsOne G t) got.1 read) in
+    rw got.1 (parsed.1, got.3)
+
+-- whether an option without a value was given
+pub flag_read : (E : Type 0) (o : Option Text) (r : Option Bool) → (o ≡ None → r ≡ None) → ((t : Text) → o ≡ Some t → ReadsOne (ParsesBool {E = E}) t r)
+    → unwrap_or r false ≡ is_true o
+flag_read E None r none value = ap (λ x. unwrap_or x false) (none refl)
+flag_read E (Some t) r none value = by_text t r (value t refl)
+  where
+    either : (b : Bool) → (b ≡ true) ⊎ (b ≡ false)
+    either true = inl refl
+    either false = inr refl
+
+    no_other : (t : Text) → (t ≢ codes "true") → bytes_eq t (codes "true") ≡ false
+    no_other t other = elim (either (bytes_eq t (codes "true"))) [
+      | inl same ↦ absurd (other ((bytes_eq-Decides t (codes "true")).0 same))
+      | inr differs ↦ differs
+    ]
+
+    by_text : (t : Text) (r : Option Bool) → ReadsOne (ParsesBool {E = E}) t r → unwrap_or r false ≡ is_true (Some t)
+    by_text t (Some true) is = sym ((bytes_eq-Decides t (codes "true")).1 is)
+    by_text t (Some false) is = sym (ap (λ x. bytes_eq x (codes "true")) is)
+    by_text t None is = sym (no_other t is.1.0)
+
+-- the verb of a word
+abbrev verb_by : Text → Verb
+verb_by word =
+    if bytes_eq word (codes "show") then Show
+    else (if bytes_eq word (codes "scan") then Scan
+    else (if bytes_eq word (codes "print") then Print
+    else (if bytes_eq word (codes "check") then Check
+    else Copy)))
+
+verb_back : (verb : Verb) → verb_by (verb_text verb) ≡ verb
+verb_back Show = refl
+verb_back Scan = refl
+verb_back Print = refl
+verb_back Check = refl
+verb_back Copy = refl
+
+-- a subcommand that was taken has as many texts as its verb wants, under any name of the verb
+pub enough_texts : (entered : Option (Text × List Row)) → (taken : IsTaken entered) → (verb : Verb) (given : List Row) → entered ≡ Some (verb_text verb, given)
+    → HasTexts verb (texts_by verb given)
+enough_texts entered taken verb given is =
+    let same = ap (value_or (verb_text verb, given)) (sym taken.is_given ∙ is) in
+    let verbs : taken.verb ≡ verb = sym (verb_back taken.verb) ∙ ap (λ (p : Text × List Row). verb_by p.0) same ∙ verb_back verb in
+    subst (λ rows. HasTexts verb (texts_by verb rows)) (ap (λ (p : Text × List Row). p.1) same) (subst (λ v. HasTexts v (texts_by v taken.given)) verbs taken.enough)
+  where
+    value_or : Text × List Row → Option (Text × List Row) → Text × List Row
+    value_or other None = other
+    value_or other (Some value) = value
+
+-- what the error of a parse is told as
+pub refused_by : (found : ErrorKind) (kinds : Kinds) (fault : WordsFault) → IsRefusalOf found fault → (found ≡ kind.OutOfMemory) ⊎ IsAmong found kinds → IsRefusal kinds fault
+refused_by found kinds (Help text) told (inl memory) = absurd (true≢false (sym told ∙ ap is_request memory))
+refused_by found kinds (Help text) told (inr among) = (found, among, told)
+refused_by found kinds (Usage text) told (inl memory) = absurd (told.1 memory)
+refused_by found kinds (Usage text) told (inr among) = (found, among, told.0)
+refused_by found kinds NoMemory told among = tt

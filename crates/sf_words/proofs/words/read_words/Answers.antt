@@ -1,0 +1,42 @@
+use Rattle.std.proofs.Common.{◌≡◌, ◌∙◌, ◌∷◌, codes, map, string_bytes, true, ap, ap₂, refl, subst, sym}
+use Rattle.clap.specs.Walk.{texts}
+use Rattle.clap.specs.Words.{fault_of, is_simple, is_simple_and_free, kind_of, subcommand_of}
+use Rattle.sf_words.specs.Line.{sf_app}
+use Rattle.sf_words.specs.Orders.{IsOrderOf, IsRefusal}
+use Rattle.sf_words.specs.Taken.{IsTaken}
+use Rattle.sf_words.proofs.Given.{refused_by}
+use Rattle.sf_words.proofs.Taken.{taken_is}
+use Rattle.sf_words.proofs.words.read_words.Goals as goal
+
+simple : is_simple sf_app ≡ true
+simple = refl
+
+free : is_simple_and_free sf_app ≡ true
+free = refl
+
+pub order_of-requires : goal.order_of-requires
+order_of-requires c =
+    let words = ap texts c.as_slice.ensures.value ∙ c.in_ok-all.ensures in
+    let entered = (c.in-Ok.ensures.matches (subst (λ a. is_simple a ≡ true) (sym c.in_ok-line.ensures.is) simple)).1 in
+    let none = c.in-Ok.ensures.kinds (subst (λ a. is_simple_and_free a ≡ true) (sym c.in_ok-line.ensures.is) free) in
+    let taken = taken_is (codes "sf" ∷ map string_bytes c.args.words.now) (sym (ap₂ fault_of c.in_ok-line.ensures.is words) ∙ none) in
+    subst IsTaken (sym (entered ∙ ap₂ subcommand_of c.in_ok-line.ensures.is words)) taken
+
+pub returns-in-Ok-clause-order : goal.returns-in-Ok-clause-order
+returns-in-Ok-clause-order c =
+    let words = ap texts c.as_slice.ensures.value ∙ c.in_ok-all.ensures in
+    let entered = (c.in-Ok.ensures.matches (subst (λ a. is_simple a ≡ true) (sym c.in_ok-line.ensures.is) simple)).1 in
+    subst (λ e. IsOrderOf e c.in_ok-order_of-in-Ok.field-0) (entered ∙ ap₂ subcommand_of c.in_ok-line.ensures.is words) c.in_ok-order_of-in-Ok.ensures
+
+pub returns-in-Ok-clause-taken : goal.returns-in-Ok-clause-taken
+returns-in-Ok-clause-taken c =
+    let words = ap texts c.as_slice.ensures.value ∙ c.in_ok-all.ensures in
+    let none = c.in-Ok.ensures.kinds (subst (λ a. is_simple_and_free a ≡ true) (sym c.in_ok-line.ensures.is) free) in
+    sym (ap₂ fault_of c.in_ok-line.ensures.is words) ∙ none
+
+pub returns-clause-refused : goal.returns-clause-refused
+returns-clause-refused c =
+    let words = ap texts c.as_slice.ensures.value ∙ c.in_ok-all.ensures in
+    let among = c.in-Err.ensures.kinds (subst (λ a. is_simple_and_free a ≡ true) (sym c.in_ok-line.ensures.is) free) in
+    subst (λ kinds. IsRefusal kinds c.fault_of.result) (ap₂ fault_of c.in_ok-line.ensures.is words)
+    (refused_by (kind_of c.in-Err.error) _ c.fault_of.result c.fault_of.ensures among)

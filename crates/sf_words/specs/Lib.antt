@@ -1,0 +1,4 @@
+pub mod Laws
+pub mod Line
+pub mod Orders
+pub mod Taken

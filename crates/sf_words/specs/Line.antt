@@ -1,0 +1,68 @@
+-- The command line of sf: what clap's definitions read of it.
+use Rattle.std.specs.Prelude.{◌≡◌, ◌^◌, ◌-◌, pos, false, true, [], ◌∷◌, Some, codes}
+use Rattle.clap.specs.Words.{App, Rule, Text, app_of, new_app, new_rule, with_rule, with_subcommand}
+use Rattle.clap.specs.declared.builder.command.Command.{Command}
+use Rattle.clap.specs.declared.builder.command.Command.TheViews.{out-Command}
+use Rattle.clap.specs.declared.builder.value_parser.ValueParser.TheVariants.{Signed}
+use Rattle.clap.specs.declared.builder.action.ArgAction.TheVariants.{SetTrue}
+
+-- ---- arguments
+
+-- a word that has to be given
+abbrev pub word_rule : Text → Rule
+word_rule name = record (new_rule name) { required = true }
+
+-- --limit N: a number up to 2147483647, and 1048576 where it is not given
+abbrev pub limit_rule : Rule
+limit_rule = record (new_rule (codes "limit")) {
+  long = Some (codes "limit");
+  value_names = 1;
+  defaults = codes "1048576" ∷ [];
+  parser = Some (Signed (pos 0) (pos 2147483647));
+}
+
+-- an option without a value
+abbrev pub flag_rule : Text → Rule
+flag_rule name = record (new_rule name) { long = Some name; action = Some SetTrue }
+
+-- any number of words
+abbrev pub words_rule : Text → Rule
+words_rule name = record (new_rule name) { range = Some (record { start_inclusive = 0; end_inclusive = 2 ^ 64 - 1 }) }
+
+-- ---- commands
+
+abbrev pub show_app : App
+show_app = with_rule (new_app (codes "show")) (word_rule (codes "FORMAT"))
+
+abbrev pub scan_app : App
+scan_app =
+    with_rule (with_rule (with_rule (new_app (codes "scan")) limit_rule) (flag_rule (codes "line-buffered"))) (word_rule (codes "FORMAT"))
+
+abbrev pub print_app : App
+print_app = with_rule (with_rule (new_app (codes "print")) (word_rule (codes "FORMAT"))) (words_rule (codes "VALUES"))
+
+abbrev pub check_app : App
+check_app = with_rule (with_rule (new_app (codes "check")) (word_rule (codes "PRINT"))) (word_rule (codes "SCAN"))
+
+abbrev pub copy_app : App
+copy_app =
+    with_rule
+    (with_rule (with_rule (with_rule (new_app (codes "copy")) limit_rule) (flag_rule (codes "line-buffered"))) (word_rule (codes "PRINT")))
+    (word_rule (codes "SCAN"))
+
+-- a command with a version, which needs a subcommand, and shows its help where there is no word at all
+abbrev pub wanting_subcommand : App → App
+wanting_subcommand a = record a { top = record a.top { has_version = true; arg_required_else_help = true; subcommand_required = true } }
+
+abbrev pub sf_app : App
+sf_app =
+    with_subcommand
+    (with_subcommand
+    (with_subcommand (with_subcommand (with_subcommand (wanting_subcommand (new_app (codes "sf"))) show_app.top) scan_app.top) print_app.top)
+    check_app.top)
+    copy_app.top
+
+-- the command is this one, with no argument that goes down to its subcommands
+pub record IsLine (app : App) (command : Command) : Type 0 where
+  pub is : app_of command ≡ app
+  pub local : (out-Command command).has_globals ≡ false

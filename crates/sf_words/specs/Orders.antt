@@ -1,0 +1,97 @@
+-- What the words of a command ask for, as clap reads them.
+use Rattle.std.specs.Prelude.{◌≡◌, ◌≢◌, ◌≤◌, ℕ, Bool, true, false, List, [], ◌∷◌, ◌++◌, Option, Some, None, codes, map, string_bytes, unwrap_or}
+use Rattle.std.specs.Str.{bytes_eq}
+use Rattle.std.specs.Str.Parse.{digits_value, without_leading_plus}
+use Rattle.clap.specs.Words.{IsAmong, Kinds, Row, Text, all_of, fault_of, one_of, subcommand_of}
+use Rattle.clap.specs.declared.error.kind.ErrorKind.{ErrorKind}
+use Rattle.clap.specs.declared.error.kind.ErrorKind.TheVariants as kind
+use Rattle.sf_words.specs.Line.{sf_app}
+use Rattle.sf_words.specs.declared.order.Order.{Order}
+use Rattle.sf_words.specs.declared.order.Verb.{Verb}
+use Rattle.sf_words.specs.declared.order.Verb.TheVariants.{Show, Scan, Print, Check, Copy}
+use Rattle.sf_words.specs.declared.order.WordsFault.{WordsFault}
+use Rattle.sf_words.specs.declared.order.WordsFault.TheVariants.{Help, Usage, NoMemory}
+
+-- ---- the words are taken
+
+-- the word for what is done
+abbrev pub verb_text : Verb → Text
+verb_text Show = codes "show"
+verb_text Scan = codes "scan"
+verb_text Print = codes "print"
+verb_text Check = codes "check"
+verb_text Copy = codes "copy"
+
+-- the texts that a word, or a list of words, was given
+abbrev pub values_at : Text → List Row → List Text
+values_at id rows = unwrap_or (all_of id rows) []
+
+-- the formats, and then the values
+abbrev pub texts_by : Verb → List Row → List Text
+texts_by Show rows = values_at (codes "FORMAT") rows
+texts_by Scan rows = values_at (codes "FORMAT") rows
+texts_by Print rows = values_at (codes "FORMAT") rows ++ values_at (codes "VALUES") rows
+texts_by Check rows = values_at (codes "PRINT") rows ++ values_at (codes "SCAN") rows
+texts_by Copy rows = values_at (codes "PRINT") rows ++ values_at (codes "SCAN") rows
+
+-- the number that --limit was given or has by default; a command without it has 1048576
+abbrev pub limit_by : Option Text → ℕ
+limit_by None = 1048576
+limit_by (Some text) = digits_value 10 (without_leading_plus text)
+
+abbrev pub is_true : Option Text → Bool
+is_true None = false
+is_true (Some text) = bytes_eq text (codes "true")
+
+-- an option without a value was given: clap makes `true` of it, and else `false`; a command without it has no text of it
+abbrev pub is_set : Text → List Row → Bool
+is_set name rows = is_true (one_of name rows)
+
+-- as many texts as the verb wants
+abbrev pub HasTexts : Verb → List Text → Type 0
+HasTexts Show (word ∷ []) = Unit {0}
+HasTexts Scan (word ∷ []) = Unit {0}
+HasTexts Print (word ∷ values) = Unit {0}
+HasTexts Check (print ∷ scan ∷ []) = Unit {0}
+HasTexts Copy (print ∷ scan ∷ []) = Unit {0}
+HasTexts _ _ = ⊥
+
+-- The order is what a subcommand with these rows asks for.
+pub record IsOrderOf (entered : Option (Text × List Row)) (order : Order) : Type 0 where
+  pub given : List Row
+  pub is_given : entered ≡ Some (verb_text order.verb, given)
+  pub limit : order.limit ≡ limit_by (one_of (codes "limit") given)
+  pub small : order.limit ≤ 2147483647
+  pub line_buffered : order.line_buffered ≡ is_set (codes "line-buffered") given
+  pub texts : map string_bytes order.texts.items ≡ texts_by order.verb given
+  pub enough : HasTexts order.verb (map string_bytes order.texts.items)
+
+-- The order is what clap makes of the words after the program's name: the subcommand that they name, and what its arguments
+-- were given.
+abbrev pub IsOrder : List Text → Order → Type 0
+IsOrder words order = IsOrderOf (subcommand_of sf_app (codes "sf" ∷ words)) order
+
+-- ---- they are refused
+
+-- the kinds of fault that clap finds in the words after the program's name, of which there are none where it takes them
+abbrev pub faults_of : List Text → Kinds
+faults_of words = fault_of sf_app (codes "sf" ∷ words)
+
+-- it is no fault, but asks for a text that clap has
+abbrev pub is_request : ErrorKind → Bool
+is_request kind.DisplayHelp = true
+is_request kind.DisplayVersion = true
+is_request _ = false
+
+-- help is for what asks for a text, and usage for every other fault
+abbrev pub IsRefusalOf : ErrorKind → WordsFault → Type 0
+IsRefusalOf found (Help text) = is_request found ≡ true
+IsRefusalOf found (Usage text) = (is_request found ≡ false) × (found ≢ kind.OutOfMemory)
+IsRefusalOf found NoMemory = Unit {0}
+
+-- Help is answered where clap finds a request, and usage where it finds another fault. Nothing is said of want of memory, which
+-- can come at any words.
+abbrev pub IsRefusal : Kinds → WordsFault → Type 0
+IsRefusal faults (Help text) = (found : ErrorKind) × IsAmong found faults × (is_request found ≡ true)
+IsRefusal faults (Usage text) = (found : ErrorKind) × IsAmong found faults × (is_request found ≡ false)
+IsRefusal faults NoMemory = Unit {0}

@@ -1,0 +1,66 @@
+//! What the help of each command says below its options.
+
+/// The end of the help of `sf` itself.
+pub(crate) const SF: &str = "Examples:
+  sf scan '%d,%d' < points      print the two numbers of each record
+  sf print '%s is %d\\n' ann 7   print values by a format
+
+'sf help COMMAND' has the examples and the exit statuses of a command.";
+
+/// The end of the help of `sf show`.
+pub(crate) const SHOW: &str = "Examples:
+  sf show '%3d,%*s'         three directives, the last of which assigns nothing
+  sf show '%2$d %1$[a-z]'   directives that name their slots
+
+Exit status:
+  0  the directives were shown
+  2  the words or the format were at fault
+  3  standard output could not be written
+  4  memory was refused";
+
+/// The end of the help of `sf scan`.
+pub(crate) const SCAN: &str = "Examples:
+  sf scan '%d,%d' < points          a line of two numbers for each record
+  sf scan --limit 80 '%s' < words   no record may have more than 80 bytes
+
+Exit status:
+  0  each record was scanned, and the input ended where a record may begin
+  1  a record failed or took no bytes, or there were too many records
+  2  the words or the format were at fault
+  3  standard input could not be read, or standard output not written
+  4  memory was refused";
+
+/// The end of the help of `sf print`.
+pub(crate) const PRINT: &str = "Examples:
+  sf print '%s is %d\\n' ann 7   a text and a number
+  sf print '%+d\\n' -- -5        words that begin with - stand behind --
+
+Exit status:
+  0  the text was printed
+  2  the words, the format or a value were at fault
+  3  standard output could not be written
+  4  memory was refused";
+
+/// The end of the help of `sf check`.
+pub(crate) const CHECK: &str = "Examples:
+  sf check '%d\\n' '%11d%*1[\\n]'   a pair that is accepted
+  sf check '%xx' '%4xx'           a pair that is refused: %4x runs on into the x
+
+Exit status:
+  0  the pair was accepted
+  1  the pair was refused
+  2  the words or a format were at fault
+  3  standard output could not be written
+  4  memory was refused";
+
+/// The end of the help of `sf copy`.
+pub(crate) const COPY: &str = "Examples:
+  sf copy '%d,%s\\n' '%11d,%20s%*1[\\n]' < table   each line without needless blanks and zeros
+  sf copy '%+d;' '%3d;' < numbers                each number with its sign
+
+Exit status:
+  0  each record was copied, and the input ended where a record may begin
+  1  a record failed or took no bytes, its values did not fit, or there were too many records
+  2  the words, a format or the pair of formats were at fault
+  3  standard input could not be read, or standard output not written
+  4  memory was refused";

@@ -1,0 +1,11 @@
+//! The words of the command `sf`, as `clap` reads them.
+#![tactic(auto)]
+
+mod help;
+pub mod laws;
+mod line;
+mod order;
+mod words;
+
+pub use order::{Order, Verb, WordsFault};
+pub use words::read_words;

@@ -1,0 +1,159 @@
+//! The command line of `sf`, as `clap` has it.
+ghost use Rattle.std.specs.Prelude.{◌≡◌, IfOk, false, codes};
+ghost use Rattle.clap.specs.Words.{new_app, rule_of};
+ghost use Rattle.sf_words.specs.Line.{IsLine, check_app, copy_app, flag_rule, limit_rule, print_app, scan_app, sf_app, show_app, word_rule, words_rule};
+
+use crate::help;
+use clap::{Arg, ArgAction, Command, value_parser};
+use std::alloc::{AllocError, Global};
+
+/// The version that `sf --version` tells.
+const VERSION: &str = "0.2.0";
+
+/// The most bytes of one record.
+fn limit<'a>(alloc: Global) -> Arg<'a>
+    ensures rule { rule_of result ≡ limit_rule }
+    ensures local { result.global ≡ false }
+{
+    Arg::new(alloc, "limit")
+        .long("limit")
+        .value_name("N")
+        .value_parser(value_parser!(u32).range(0..=2147483647))
+        .default_value("1048576")
+        .help("The most bytes that one record may have, 0 to 2147483647")
+}
+
+/// An option without a value.
+fn flag<'a>(alloc: Global, name: &'a str, help: &'a str) -> Arg<'a>
+    ensures rule { rule_of result ≡ flag_rule name.entry.now }
+    ensures local { result.global ≡ false }
+{
+    Arg::new(alloc, name)
+        .long(name)
+        .action(ArgAction::SetTrue)
+        .help(help)
+}
+
+/// Whether what a record gives is written before the next record.
+fn line_buffered<'a>(alloc: Global) -> Arg<'a>
+    ensures rule { rule_of result ≡ flag_rule (codes "line-buffered") }
+    ensures local { result.global ≡ false }
+{
+    flag(
+        alloc,
+        "line-buffered",
+        "Write what each record gives at once, and not in blocks",
+    )
+}
+
+/// A word that has to be given.
+fn word<'a>(alloc: Global, name: &'a str, help: &'a str) -> Arg<'a>
+    ensures rule { rule_of result ≡ word_rule name.entry.now }
+    ensures local { result.global ≡ false }
+{
+    Arg::new(alloc, name).required(true).help(help)
+}
+
+/// Any number of values.
+fn values<'a>(alloc: Global) -> Arg<'a>
+    ensures rule { rule_of result ≡ words_rule (codes "VALUES") }
+    ensures local { result.global ≡ false }
+{
+    Arg::new(alloc, "VALUES").num_args(0..).help(
+        "The values of the slots, in their order; behind -- they may begin with -",
+    )
+}
+
+/// A command without arguments, whose help begins and ends with these texts.
+fn command<'a>(alloc: Global, name: &'a str, about: &'a str, end: &'a str) -> Command<'a>
+    ensures { IsLine (new_app name.entry.now) result }
+{
+    Command::new(alloc, name).about(about).after_help(end)
+}
+
+fn show<'a>(alloc: Global) -> Result<Command<'a>, AllocError>
+    ensures { IfOk result (IsLine show_app) }
+{
+    command(
+        alloc,
+        "show",
+        "Show the directives of a scan format, each on a line",
+        help::SHOW,
+    )
+    .arg(word(alloc, "FORMAT", "The scan format"))
+}
+
+fn scan<'a>(alloc: Global) -> Result<Command<'a>, AllocError>
+    ensures { IfOk result (IsLine scan_app) }
+{
+    command(
+        alloc,
+        "scan",
+        "Scan standard input by a format, and print a line of values for each record",
+        help::SCAN,
+    )
+    .arg(limit(alloc))?
+    .arg(line_buffered(alloc))?
+    .arg(word(alloc, "FORMAT", "The scan format of one record"))
+}
+
+fn print<'a>(alloc: Global) -> Result<Command<'a>, AllocError>
+    ensures { IfOk result (IsLine print_app) }
+{
+    command(
+        alloc,
+        "print",
+        "Print values by a format, with no line end added",
+        help::PRINT,
+    )
+    .arg(word(alloc, "FORMAT", "The print format"))?
+    .arg(values(alloc))
+}
+
+fn check<'a>(alloc: Global) -> Result<Command<'a>, AllocError>
+    ensures { IfOk result (IsLine check_app) }
+{
+    command(
+        alloc,
+        "check",
+        "Tell whether a scan format reads back whatever a print format writes",
+        help::CHECK,
+    )
+    .arg(word(alloc, "PRINT", "The print format"))?
+    .arg(word(alloc, "SCAN", "The scan format"))
+}
+
+fn copy<'a>(alloc: Global) -> Result<Command<'a>, AllocError>
+    ensures { IfOk result (IsLine copy_app) }
+{
+    command(
+        alloc,
+        "copy",
+        "Scan standard input by one format, and print each record by another",
+        help::COPY,
+    )
+    .arg(limit(alloc))?
+    .arg(line_buffered(alloc))?
+    .arg(word(alloc, "PRINT", "The print format of one record"))?
+    .arg(word(alloc, "SCAN", "The scan format of one record"))
+}
+
+/// The command with its subcommands.
+pub(crate) fn line<'a>(alloc: Global) -> Result<Command<'a>, AllocError>
+    ensures { IfOk result (IsLine sf_app) }
+{
+    command(
+        alloc,
+        "sf",
+        "Scan and print records by formats, as fscanf and fprintf of C do",
+        help::SF,
+    )
+    .version(VERSION)
+    .arg_required_else_help(true)
+    .subcommand_required(true)
+    .subcommand(show(alloc)?)?
+    .subcommand(scan(alloc)?)?
+    .subcommand(print(alloc)?)?
+    .subcommand(check(alloc)?)?
+    .subcommand(copy(alloc)?)
+}

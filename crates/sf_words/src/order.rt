@@ -1,0 +1,56 @@
+//! What the words of a command ask for, or why they ask for nothing.
+ghost use Rattle.std.specs.Prelude.{◌≡◌};
+ghost use Rattle.sf_words.specs.declared.order.WordsFault.TheVariants.{NoMemory};
+
+use std::alloc::AllocError;
+use thiserror::Error;
+
+/// What is done with the formats.
+#[derive(Clone, Copy, PartialEq, Eq, Debug)]
+pub enum Verb {
+    /// The directives of a scan format are shown.
+    Show,
+    /// The records of the input are scanned.
+    Scan,
+    /// Values are printed.
+    Print,
+    /// A print format and a scan format are checked as a pair.
+    Check,
+    /// The records of the input are scanned by one format and printed by another.
+    Copy,
+}
+
+/// What the words ask for.
+#[derive(Debug, Drop)]
+pub struct Order {
+    /// What is done.
+    pub verb: Verb,
+    /// The most bytes of one record.
+    pub limit: u32,
+    /// Whether what a record gives is written before the next record.
+    pub line_buffered: bool,
+    /// The formats and then the values, as they were given.
+    pub texts: Vec<String>,
+}
+
+/// Why the words ask for nothing that can be done.
+#[derive(Debug, Drop, Error)]
+pub enum WordsFault {
+    /// They ask for help, or for the version: this text.
+    #[error("{0}")]
+    Help(String),
+    /// They are at fault, as this text says.
+    #[error("{0}")]
+    Usage(String),
+    /// Memory was refused.
+    #[error("out of memory")]
+    NoMemory,
+}
+
+impl From<AllocError> for WordsFault {
+    ghost from_gives = { λ _ fault. fault ≡ NoMemory };
+
+    fn from(_error: AllocError) -> WordsFault {
+        WordsFault::NoMemory
+    }
+}

@@ -1,0 +1,155 @@
+//! How the words of a command are read.
+ghost use Rattle.std.specs.Prelude.{◌≡◌, ◌≤◌, [], ◌∷◌, ◌++◌, IfErr, IfOk, OnOk, codes, map, string_bytes};
+ghost use Rattle.clap.specs.Words.{found_of, one_of, rows_of, subcommand_rows_of};
+ghost use Rattle.clap.specs.Walk.{texts};
+ghost use Rattle.sf_words.specs.Orders.{IsOrder, IsOrderOf, IsRefusal, IsRefusalOf, faults_of, is_set, limit_by, texts_by, values_at, verb_text};
+ghost use Rattle.sf_words.specs.Taken.{IsLimit, IsTaken, IsVerb};
+
+use crate::line::line;
+use crate::order::{Order, Verb, WordsFault};
+use clap::error::ErrorKind;
+use clap::{ArgMatches, Error};
+use std::alloc::{AllocError, Global};
+
+/// The limit of a command that has none.
+const DEFAULT_LIMIT: u32 = 1048576;
+
+/// What the user is told where clap gave no matches.
+fn fault_of(alloc: Global, error: &Error) -> WordsFault
+    ensures { IsRefusalOf error.now.kind result }
+{
+    let kind = error.kind();
+    if kind == ErrorKind::OutOfMemory {
+        return WordsFault::NoMemory;
+    }
+    let Ok(text) = error.to_string(alloc) else {
+        return WordsFault::NoMemory;
+    };
+    match kind {
+        ErrorKind::DisplayHelp | ErrorKind::DisplayVersion => WordsFault::Help(text),
+        _ => WordsFault::Usage(text),
+    }
+}
+
+/// What the word of a subcommand asks for.
+fn verb_of(name: &str) -> Verb
+    requires { IsVerb name.now }
+    ensures { name.now ≡ verb_text result }
+{
+    match name {
+        "show" => Verb::Show,
+        "scan" => Verb::Scan,
+        "print" => Verb::Print,
+        "check" => Verb::Check,
+        "copy" => Verb::Copy,
+        _ => unreachable!(),
+    }
+}
+
+/// The words of a command, behind the program's name.
+fn named<'a>(alloc: Global, words: &'a [String]) -> Result<Vec<&'a str>, AllocError>
+    ensures { IfOk result (λ all. texts all.items ≡ codes "sf" ∷ map string_bytes words.entry.now) }
+{
+    let mut all = Vec::new(alloc);
+    all.push("sf")?;
+    for word in words {
+        all.push(word.as_str())?;
+    }
+    Ok(all)
+}
+
+/// Appends copies of texts.
+fn push_all(alloc: Global, values: &[&str], out: &mut Vec<String>) -> Result<(), AllocError>
+    ensures { OnOk result (map string_bytes out.new.items ≡ map string_bytes out.old.items ++ texts values.now) }
+{
+    for value in values {
+        out.push(String::from_str(alloc, value)?)?;
+    }
+    Ok(())
+}
+
+/// Appends what an argument was given.
+fn push_given(
+    alloc: Global,
+    given: &ArgMatches<'_>,
+    id: &str,
+    out: &mut Vec<String>,
+) -> Result<(), AllocError>
+    ensures { OnOk result (map string_bytes out.new.items ≡ map string_bytes out.old.items ++ values_at id.now (rows_of (found_of given.now))) }
+{
+    match given.get_strs(id) {
+        Some(values) => push_all(alloc, values, out),
+        None => Ok(()),
+    }
+}
+
+/// The formats and then the values.
+fn texts_of(alloc: Global, verb: Verb, given: &ArgMatches<'_>) -> Result<Vec<String>, AllocError>
+    ensures { IfOk result (λ all. map string_bytes all.items ≡ texts_by verb (rows_of (found_of given.now))) }
+{
+    let mut all = Vec::new(alloc);
+    match verb {
+        Verb::Show | Verb::Scan => push_given(alloc, given, "FORMAT", &mut all)?,
+        Verb::Print => {
+            push_given(alloc, given, "FORMAT", &mut all)?;
+            push_given(alloc, given, "VALUES", &mut all)?;
+        }
+        Verb::Check | Verb::Copy => {
+            push_given(alloc, given, "PRINT", &mut all)?;
+            push_given(alloc, given, "SCAN", &mut all)?;
+        }
+    }
+    Ok(all)
+}
+
+/// The most bytes of one record.
+fn limit_of(given: &ArgMatches<'_>) -> u32
+    requires { IsLimit (one_of (codes "limit") (rows_of (found_of given.now))) }
+    ensures value { result ≡ limit_by (one_of (codes "limit") (rows_of (found_of given.now))) }
+    ensures small { result ≤ 2147483647 }
+{
+    given.get_one("limit").unwrap_or(DEFAULT_LIMIT)
+}
+
+/// Whether an option without a value was given.
+fn is_set(given: &ArgMatches<'_>, name: &str) -> bool
+    ensures { result ≡ is_set name.now (rows_of (found_of given.now)) }
+{
+    given.get_one(name).unwrap_or(false)
+}
+
+/// What matches ask for.
+fn order_of(alloc: Global, matches: &ArgMatches<'_>) -> Result<Order, AllocError>
+    requires { IsTaken (subcommand_rows_of matches.now) }
+    ensures { IfOk result (IsOrderOf (subcommand_rows_of matches.now)) }
+{
+    let Some((name, given)) = matches.subcommand() else {
+        unreachable!();
+    };
+    let verb = verb_of(name);
+    Ok(Order {
+        verb,
+        limit: limit_of(given),
+        line_buffered: is_set(given, "line-buffered"),
+        texts: texts_of(alloc, verb, given)?,
+    })
+}
+
+/// Reads the words of a command, which are those after the program's name.
+///
+/// # Errors
+///
+/// `Help` where they ask for help or for the version, `Usage` where they are at fault in another
+/// way, and `NoMemory` where memory was refused.
+pub fn read_words(alloc: Global, words: &[String]) -> Result<Order, WordsFault>
+    ensures order { IfOk result (IsOrder (map string_bytes words.now)) }
+    ensures taken { IfOk result (λ _. faults_of (map string_bytes words.now) ≡ []) }
+    ensures refused { IfErr result (IsRefusal (faults_of (map string_bytes words.now))) }
+{
+    let all = named(alloc, words)?;
+    let line = line(alloc)?;
+    match line.try_get_matches_from(all.as_slice()) {
+        Ok(matches) => Ok(order_of(alloc, &matches)?),
+        Err(error) => Err(fault_of(alloc, &error)),
+    }
+}

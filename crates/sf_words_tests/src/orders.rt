@@ -1,0 +1,67 @@
+//! Words that clap takes.
+use crate::shared::answer;
+use sf_words::Order;
+use std::alloc::Global;
+use std::test::Fail;
+
+/// An order in one line: verb, limit, options, and the texts between bars.
+fn line_of(alloc: Global, order: &Order) -> Result<String, Fail> {
+    let mut line = format!(in alloc; "{:?} {}", order.verb, order.limit)?;
+    if order.line_buffered {
+        line.push_str(" line-buffered")?;
+    }
+    for text in order.texts.iter() {
+        line.push_str(" |")?;
+        line.push_str(text.as_str())?;
+    }
+    Ok(line)
+}
+
+/// Words, and the order that they make.
+const ORDERS: [(&str, &str); 26] = [
+    ("show|%3d,%*s", "Show 1048576 |%3d,%*s"),
+    ("scan|%d,%d", "Scan 1048576 |%d,%d"),
+    ("scan|--limit|3|%s", "Scan 3 |%s"),
+    ("scan|--limit=3|%s", "Scan 3 |%s"),
+    ("scan|%s|--limit|3", "Scan 3 |%s"),
+    ("scan|--limit|0|%s", "Scan 0 |%s"),
+    ("scan|--limit|2147483647|%s", "Scan 2147483647 |%s"),
+    ("scan|--limit|0000000000007|%s", "Scan 7 |%s"),
+    ("scan|--line-buffered|%d", "Scan 1048576 line-buffered |%d"),
+    (
+        "scan|%d|--limit|9|--line-buffered",
+        "Scan 9 line-buffered |%d",
+    ),
+    ("scan|--|--limit", "Scan 1048576 |--limit"),
+    ("scan|", "Scan 1048576 |"),
+    ("scan|a\\x00", "Scan 1048576 |a\\x00"),
+    ("scan|-", "Scan 1048576 |-"),
+    ("print|%d\\q|1", "Print 1048576 |%d\\q |1"),
+    ("print|%s|a\\x00b", "Print 1048576 |%s |a\\x00b"),
+    ("print|%hhu|--|-1", "Print 1048576 |%hhu |-1"),
+    ("print|%hhu|--|-0", "Print 1048576 |%hhu |-0"),
+    ("print|--|-%s-|--|-", "Print 1048576 |-%s- |-- |-"),
+    ("print|%d", "Print 1048576 |%d"),
+    ("print|%d%s%d|1|two|3", "Print 1048576 |%d%s%d |1 |two |3"),
+    ("check|%xx|%4xx", "Check 1048576 |%xx |%4xx"),
+    (
+        "check|%d\\n|%11d%*1[\\n]",
+        "Check 1048576 |%d\\n |%11d%*1[\\n]",
+    ),
+    ("copy|%+d;|%3d;", "Copy 1048576 |%+d; |%3d;"),
+    (
+        "copy|--limit|80|--line-buffered|%d;|%3d;",
+        "Copy 80 line-buffered |%d; |%3d;",
+    ),
+    ("show|help", "Show 1048576 |help"),
+];
+
+#[test]
+fn taken_words(rt: HostRuntime) -> Result<(), Fail> {
+    let alloc = rt.alloc();
+    for (words, wanted) in ORDERS {
+        let order = answer(alloc, words)??;
+        assert_eq!(rt; line_of(alloc, &order)?.as_str(), wanted, "at {words}");
+    }
+    Ok(())
+}

@@ -1,0 +1,175 @@
+//! Words that clap refuses.
+use crate::shared::{answer, first_line};
+use sf_words::WordsFault;
+use std::test::Fail;
+
+/// Words, the first line that is said of them, and how the command is called, where that is said.
+const REFUSALS: [(&str, &str, &str); 24] = [
+    (
+        "scan",
+        "error: the following required arguments were not provided:",
+        "Usage: sf scan <FORMAT>",
+    ),
+    (
+        "scan|%d|%d",
+        "error: unexpected argument '%d' found",
+        "Usage: sf scan [OPTIONS] <FORMAT>",
+    ),
+    (
+        "scan|--limit|-1|%s",
+        "error: unexpected argument '-1' found",
+        "Usage: sf scan [OPTIONS] <FORMAT>",
+    ),
+    (
+        "scan|--limit=-1|%s",
+        "error: invalid value '-1' for '--limit <N>': -1 is not in 0..=2147483647",
+        "For more information, try '--help'.",
+    ),
+    (
+        "scan|--limit|2147483648|%s",
+        "error: invalid value '2147483648' for '--limit <N>': 2147483648 is not in 0..=2147483647",
+        "For more information, try '--help'.",
+    ),
+    (
+        "copy|--limit|99999999999999999999|%d|%3d",
+        "error: invalid value '99999999999999999999' for '--limit <N>': number too large to fit in target type",
+        "For more information, try '--help'.",
+    ),
+    (
+        "scan|--limit|3k|%s",
+        "error: invalid value '3k' for '--limit <N>': invalid digit found in string",
+        "For more information, try '--help'.",
+    ),
+    (
+        "scan|--limit|3|--limit|4|%s",
+        "error: the argument '--limit <N>' cannot be used multiple times",
+        "Usage: sf scan [OPTIONS] <FORMAT>",
+    ),
+    (
+        "scan|%s|--limit",
+        "error: a value is required for '--limit <N>' but none was supplied",
+        "For more information, try '--help'.",
+    ),
+    (
+        "scan|--line-buffered|--line-buffered|%d",
+        "error: the argument '--line-buffered' cannot be used multiple times",
+        "Usage: sf scan [OPTIONS] <FORMAT>",
+    ),
+    (
+        "scan|--line-buffered=no|%d",
+        "error: unexpected value 'no' for '--line-buffered' found; no more were expected",
+        "Usage: sf scan --line-buffered <FORMAT>",
+    ),
+    (
+        "scan|--profile|1|%d",
+        "error: unexpected argument '--profile' found",
+        "Usage: sf scan [OPTIONS] <FORMAT>",
+    ),
+    (
+        "scan|--version",
+        "error: unexpected argument '--version' found",
+        "Usage: sf scan [OPTIONS] <FORMAT>",
+    ),
+    (
+        "show|--limit|3|%d",
+        "error: unexpected argument '--limit' found",
+        "Usage: sf show <FORMAT>",
+    ),
+    (
+        "print",
+        "error: the following required arguments were not provided:",
+        "Usage: sf print <FORMAT> [VALUES]...",
+    ),
+    (
+        "print|%hhu|-1",
+        "error: unexpected argument '-1' found",
+        "Usage: sf print <FORMAT> [VALUES]...",
+    ),
+    (
+        "check|%d",
+        "error: the following required arguments were not provided:",
+        "Usage: sf check <PRINT> <SCAN>",
+    ),
+    (
+        "check|%d|%3d|%d",
+        "error: unexpected argument '%d' found",
+        "Usage: sf check <PRINT> <SCAN>",
+    ),
+    (
+        "check|--line-buffered|%d|%3d",
+        "error: unexpected argument '--line-buffered' found",
+        "Usage: sf check <PRINT> <SCAN>",
+    ),
+    (
+        "copy|%d",
+        "error: the following required arguments were not provided:",
+        "Usage: sf copy <PRINT> <SCAN>",
+    ),
+    (
+        "copy|--profile|%d|%3d",
+        "error: unexpected argument '--profile' found",
+        "Usage: sf copy [OPTIONS] <PRINT> <SCAN>",
+    ),
+    (
+        "shov|%d",
+        "error: unrecognized subcommand 'shov'",
+        "tip: a similar subcommand exists: 'show'",
+    ),
+    (
+        "help|shov",
+        "error: unrecognized subcommand 'shov'",
+        "Usage: sf <COMMAND>",
+    ),
+    (
+        "--limit|3|scan|%d",
+        "error: unexpected argument '--limit' found",
+        "Usage: sf <COMMAND>",
+    ),
+];
+
+#[test]
+fn refused_words(rt: HostRuntime) -> Result<(), Fail> {
+    let alloc = rt.alloc();
+    for (words, first, call) in REFUSALS {
+        let Err(WordsFault::Usage(text)) = answer(alloc, words)? else {
+            assert!(rt; false, "{words} is not refused");
+            continue;
+        };
+        assert_eq!(rt; first_line(&text), first, "at {words}");
+        assert!(rt; text.contains(call), "at {words}: {text}");
+    }
+    Ok(())
+}
+
+/// A bare `sf` is a fault, of which the help is told.
+#[test]
+fn no_words(rt: HostRuntime) -> Result<(), Fail> {
+    let Err(WordsFault::Usage(text)) = answer(rt.alloc(), "")? else {
+        assert!(rt; false, "no words are not refused");
+        return Ok(());
+    };
+    assert_eq!(rt;
+        first_line(&text),
+        "Scan and print records by formats, as fscanf and fprintf of C do"
+    );
+    assert!(rt; text.contains("Usage: sf <COMMAND>"));
+    assert!(rt;
+        text.contains(
+            "  copy   Scan standard input by one format, and print each record by another"
+        )
+    );
+    Ok(())
+}
+
+/// The fault's text is what it holds, and memory has one of its own.
+#[test]
+fn texts_of_faults(rt: HostRuntime) -> Result<(), Fail> {
+    let alloc = rt.alloc();
+    let help = WordsFault::Help(String::from_str(alloc, "a text")?);
+    let usage = WordsFault::Usage(String::from_str(alloc, "another")?);
+    assert_eq!(rt;
+        format!(in alloc; "{help}, {usage}, {}", WordsFault::NoMemory)?.as_str(),
+        "a text, another, out of memory"
+    );
+    Ok(())
+}

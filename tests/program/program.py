@@ -1,0 +1,80 @@
+"""The built program, as the tests call it."""
+import contextlib
+import os
+import signal
+import subprocess
+
+HERE = os.path.dirname(os.path.abspath(__file__))
+ROOT = os.path.dirname(os.path.dirname(HERE))
+
+# The program that is tested; `run` sets it where it is given another one.
+path = os.path.join(ROOT, "crates", "sf", "out", "sf")
+
+# How many seconds a call may take: none of them should need one, and the machine may be busy.
+SECONDS = 20
+
+
+def run(*words, stdin=b"", **how):
+    """The status, output and error text of one call."""
+    return run_command([path, *words], stdin, **how)
+
+
+def run_script(script, stdin=b"", **how):
+    """The status, output and error text of a shell's script, which calls the program as "$0"."""
+    return run_command(["sh", "-c", script, path], stdin, **how)
+
+
+def run_command(command, stdin, **how):
+    given = None
+    if isinstance(stdin, bytes):
+        given, stdin = stdin, subprocess.PIPE
+    running = start_command(command, stdin=stdin, **how)
+    try:
+        out, err = running.communicate(given, timeout=SECONDS)
+    finally:
+        end(running)
+    return running.returncode, out, err
+
+
+def start(*words, **how):
+    """One call that is left running, with pipes where nothing else is said."""
+    return start_command([path, *words], **how)
+
+
+def start_command(command, **how):
+    for name in ("stdin", "stdout", "stderr"):
+        how.setdefault(name, subprocess.PIPE)
+    return subprocess.Popen(command, start_new_session=True, **how)
+
+
+def end(running):
+    """Ends a call, with all that it started, if it hasn't ended."""
+    try:
+        os.killpg(running.pid, signal.SIGKILL)
+    except OSError:
+        pass
+    running.wait()
+    for pipe in (running.stdin, running.stdout, running.stderr):
+        if pipe:
+            with contextlib.suppress(OSError):
+                pipe.close()
+
+
+@contextlib.contextmanager
+def opened(path, mode):
+    """A file that is closed in the end, as the system knows it."""
+    handle = os.open(path, mode)
+    try:
+        yield handle
+    finally:
+        os.close(handle)
+
+
+def full():
+    """A disk that is full: each write to it fails."""
+    return opened("/dev/full", os.O_WRONLY)
+
+
+def folder():
+    """A folder: each read from it fails."""
+    return opened("/", os.O_RDONLY)

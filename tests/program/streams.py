@@ -1,0 +1,196 @@
+"""What `main` does with its streams: when output is written, in which order, and what a stream that fails does."""
+import fcntl
+import os
+import pty
+import resource
+import select
+import subprocess
+import tempfile
+import termios
+import time
+import unittest
+
+import program
+from program import folder, full
+
+WRITE_FAULT = b"sf: write fault\n"
+FAILED = b"sf: record 2: matching failure at 1, used 1, assigned 0\n"
+
+
+def read_within(file, seconds):
+    """What can be read within that time, or None."""
+    number = file if isinstance(file, int) else file.fileno()
+    ready, _, _ = select.select([number], [], [], seconds)
+    return os.read(ready[0], 65536) if ready else None
+
+
+class Streams(unittest.TestCase):
+    def expect(self, status, out, err, *words, **how):
+        self.assertEqual(program.run(*words, **how), (status, out, err))
+
+    def started(self, *words, **how):
+        """A call that is left running, and is ended with the test."""
+        running = program.start(*words, **how)
+        self.addCleanup(program.end, running)
+        return running
+
+    def watched(self, *words, **how):
+        """A call that is fed by `feed` a piece at a time."""
+        running = self.started(*words, **how)
+        self.feed = lambda data: (running.stdin.write(data), running.stdin.flush())
+        return running
+
+    def writes(self, *words, stdin):
+        """What each single write held. A pipe of packets keeps them apart."""
+        ours, theirs = os.pipe2(os.O_DIRECT)
+        try:
+            fcntl.fcntl(theirs, fcntl.F_SETPIPE_SZ, 1 << 20)
+            status, _, err = program.run(*words, stdin=stdin, stdout=theirs)
+            os.close(theirs)
+            self.assertEqual((status, err), (0, b""))
+            return list(iter(lambda: os.read(ours, 65536), b""))
+        finally:
+            os.close(ours)
+
+    def bounded(self, *words, megabytes, **how):
+        bound = megabytes << 20
+        return program.run(*words, preexec_fn=lambda: resource.setrlimit(resource.RLIMIT_AS, (bound, bound)), **how)
+
+
+class FullDisk(Streams):
+    def fails(self, err, *words, stdin=b""):
+        with full() as disk:
+            self.expect(3, None, err, *words, stdin=stdin, stdout=disk)
+
+    def test_the_flush_at_the_end_is_not_ignored(self):
+        self.fails(WRITE_FAULT, "scan", "%d", stdin=b"1\n")
+        self.fails(WRITE_FAULT, "show", "%d")
+        self.fails(WRITE_FAULT, "print", "x")
+
+    def test_nothing_to_write_is_no_fault(self):
+        with full() as disk:
+            self.expect(0, None, b"", "scan", "%d", stdout=disk)
+            self.expect(2, None, b"sf: scan format: F4 UnknownLetter at 1\n", "show", "%q", stdout=disk)
+
+    def test_a_fault_before_the_end_is_told_once(self):
+        self.fails(WRITE_FAULT, "scan", "%d", stdin=b"1\n" * 100000)
+        self.fails(WRITE_FAULT, "print", "%60000s", "x")
+
+    def test_the_flush_fails_after_another_fault(self):
+        self.fails(FAILED + WRITE_FAULT, "scan", "%d", stdin=b"1\nx\n")
+        with full() as disk, folder() as unread:
+            self.expect(0, None, b"", "print", "", stdin=unread, stdout=disk)
+
+    def test_a_closed_output_is_a_write_fault(self):
+        self.assertEqual(program.run_script('exec "$0" scan %d >&-', b"1\n"), (3, b"", WRITE_FAULT))
+
+    def test_a_full_error_stream_changes_no_status(self):
+        with full() as disk:
+            self.expect(1, b"1\n", None, "scan", "%d", stdin=b"1\nx\n", stderr=disk)
+
+
+class ClosedPipe(Streams):
+    # (with an end, for a program that would keep all of it)
+    LINES = "yes 1 | head -c 400000000"
+
+    def test_it_ends_at_once(self):
+        lines = program.start_command(["sh", "-c", self.LINES])
+        self.addCleanup(program.end, lines)
+        running = self.started("scan", "%d", stdin=lines.stdout)
+        lines.stdout.close()
+        self.assertEqual(running.stdout.read(2), b"1\n")
+        running.stdout.close()
+        self.assertEqual(running.wait(program.SECONDS), 3)
+        self.assertEqual(running.stderr.read(), WRITE_FAULT)
+        self.assertNotEqual(lines.wait(program.SECONDS), 0, "all of the input was read")
+
+    def test_a_pipeline_ends_at_once(self):
+        status, out, err = program.run_script(self.LINES + ' | "$0" scan %d | head -n 1')
+        self.assertEqual((status, out), (0, b"1\n"))
+        self.assertIn(err, (b"", WRITE_FAULT))
+
+
+class Order(Streams):
+    def both(self, *words, stdin):
+        return program.run(*words, stdin=stdin, stderr=subprocess.STDOUT)
+
+    def test_lines_come_before_the_error_line_that_follows_them(self):
+        self.assertEqual(self.both("scan", "%d", stdin=b"1\nx\n"), (1, b"1\n" + FAILED, None))
+        many = b"1\n" * 10000
+        self.assertEqual(self.both("scan", "%d", stdin=many + b"x\n"), (1, many + FAILED.replace(b"2", b"10001", 1), None))
+
+    def test_the_order_holds_in_a_file_too(self):
+        with tempfile.TemporaryFile() as file:
+            program.run("scan", "%d", stdin=b"1\nx\n", stdout=file, stderr=file)
+            file.seek(0)
+            self.assertEqual(file.read(), b"1\n" + FAILED)
+
+
+class WhenItIsDue(Streams):
+    """A record's line on a terminal comes while the input is still open; for a pipe lines are kept for a block."""
+
+    def test_a_terminal_is_shown_each_record_when_it_is_read(self):
+        ours, theirs = pty.openpty()
+        self.addCleanup(os.close, ours)
+        running = self.watched("scan", "%d", stdout=theirs)
+        os.close(theirs)
+        for number in (b"1", b"22", b"-333"):
+            self.feed(number + b"\n")
+            self.assertEqual(read_within(ours, program.SECONDS), number + b"\r\n")
+        # the last one ends with the input alone
+        self.feed(b"4")
+        self.assertIsNone(read_within(ours, 0.2))
+        running.stdin.close()
+        running.stdin = None
+        self.assertEqual(read_within(ours, program.SECONDS), b"4\r\n")
+        self.assertEqual(running.wait(program.SECONDS), 0)
+
+    def test_a_terminal_on_both_sides(self):
+        ours, theirs = pty.openpty()
+        self.addCleanup(os.close, ours)
+        mode = termios.tcgetattr(theirs)
+        mode[3] &= ~termios.ECHO
+        termios.tcsetattr(theirs, termios.TCSANOW, mode)
+        running = self.started("scan", "%d,%d", stdin=theirs, stdout=theirs)
+        os.close(theirs)
+        os.write(ours, b"1,2\n")
+        self.assertEqual(read_within(ours, program.SECONDS), b"1 2\r\n")
+        os.write(ours, b"\x04")
+        self.assertEqual(running.wait(program.SECONDS), 0)
+
+    def test_a_pipe_is_written_in_blocks(self):
+        self.assertEqual(self.writes("scan", "%d", stdin=b"7\n" * 100), [b"7\n" * 100])
+        written = self.writes("scan", "%d", stdin=b"7\n" * 20000)
+        self.assertEqual(b"".join(written), b"7\n" * 20000)
+        self.assertLess(len(written), 40)
+
+
+class Input(Streams):
+    def test_an_input_that_cannot_be_read(self):
+        with folder() as unread:
+            self.expect(3, b"", b"sf: record 1: read fault\n", "scan", "%d", stdin=unread)
+
+    def test_a_closed_input(self):
+        self.assertEqual(program.run_script('exec "$0" scan %d <&-'), (3, b"", b"sf: record 1: read fault\n"))
+
+    def test_an_input_that_is_not_needed_is_not_read(self):
+        with folder() as unread:
+            self.expect(0, b"1 d i32 width - slot 1\ndestinations 1, width sum 0\n", b"", "show", "%d", stdin=unread)
+            self.expect(0, b"7", b"", "print", "%d", "7", stdin=unread)
+            self.expect(2, b"", b"sf: scan format: F4 UnknownLetter at 1\n", "scan", "%q", stdin=unread)
+
+    def test_pieces_of_any_size_give_the_same_lines(self):
+        text = b"".join(b"%d,%d\n" % (number, -number) for number in range(60))
+        for size in (1, 2, 3, 7):
+            running = self.started("scan", "%d,%d")
+            for at in range(0, len(text), size):
+                running.stdin.write(text[at : at + size])
+                running.stdin.flush()
+            out, err = running.communicate(timeout=program.SECONDS)
+            self.assertEqual((running.returncode, err), (0, b""))
+            self.assertEqual(out, text.replace(b",", b" "))
+
+    def test_what_is_kept_does_not_grow_with_the_input(self):
+        text = b"12345\n" * 2000000
+        status, out, err = self.bounded("scan", "%d", stdin=text, megabytes=16)
+        self.assertEqual((status, len(out), err), (0, len(text), b""))
