@@ -1,5 +1,5 @@
 -- Laws of formats.
-use Rattle.std.specs.Prelude.{◌≡◌, ℕ, ◌⊎◌, List}
+use Rattle.std.specs.Prelude.{◌≡◌, ℕ, ◌≤◌, ◌⊎◌, ◌↔◌, List, length, IsSome}
 use Rattle.sf_base.specs.Bytes.{AreBytes}
 use Rattle.sf_format.specs.declared.directive.Profile.{Profile}
 use Rattle.sf_format.specs.declared.directive.Directive.{Directive}
@@ -12,6 +12,7 @@ use Rattle.sf_format.specs.Grammar.{Spells, SpellsPrint, IsFormat, ArePlaced, de
 use Rattle.sf_format.specs.Faults.{Fault, PrintFault}
 use Rattle.sf_format.specs.Proper.{IsAccepted, AreInOrder}
 use Rattle.sf_format.specs.Units.{AreAccepted, ArePrintedInOrder}
+use Rattle.sf_format.specs.Slots.{Slotted, kind_with, AreSlots}
 
 -- a text spells at most one list
 abbrev pub SpellOne : {D : Type 0} → (Profile → List ℕ → List D → Type 0) → Type 0
@@ -79,3 +80,9 @@ abbrev pub EachUnnumberedPrintIsInOrder : Type 0
 EachUnnumberedPrintIsInOrder =
     (profile : Profile) (pieces : List Piece) (us : List PrintUnit) → IsFormat (Print profile) pieces → ArePlaced (destinations pieces)
     → MeanAll (Prints profile) 1 pieces us → ArePrintedInOrder us
+
+-- ---- slots
+
+-- of the slots of a format, just those from 1 to their count have a kind
+abbrev pub JustSlotsHaveKinds : Type 0
+JustSlotsHaveKinds = (slot : ℕ) (entries : List Slotted) → AreSlots entries → IsSome (kind_with slot entries) ↔ ((1 ≤ slot) × (slot ≤ length entries))

@@ -4,6 +4,7 @@ ghost use Rattle.sf_format.specs.Laws.{EachSpellsOne, EachHasOneFault, NoneIsBot
 ghost use Rattle.sf_format.specs.Laws.{EachIsEither, EachIsProper, EachUnnumberedIsInOrder};
 ghost use Rattle.sf_format.specs.Laws.{EachPrintSpellsOne, EachPrintHasOneFault, NoPrintIsBoth};
 ghost use Rattle.sf_format.specs.Laws.{EachPrintIsEither, EachPrintIsProper, EachUnnumberedPrintIsInOrder};
+ghost use Rattle.sf_format.specs.Laws.{JustSlotsHaveKinds};
 
 /// A text spells at most one list of directives, and at most one of units.
 pub fn one_list()
@@ -39,4 +40,9 @@ pub fn proper()
 pub fn in_order()
     ensures scan { EachUnnumberedIsInOrder }
     ensures print { EachUnnumberedPrintIsInOrder }
+{}
+
+/// Of the slots of a format, just those from 1 to their count have a kind.
+pub fn slots_have_kinds()
+    ensures { JustSlotsHaveKinds }
 {}

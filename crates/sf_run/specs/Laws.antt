@@ -1,12 +1,12 @@
 -- Laws of runs.
-use Rattle.std.specs.Prelude.{◌≡◌, ◌↔◌, ℕ, ◌≤◌, false, List, ◌++◌, length, None}
+use Rattle.std.specs.Prelude.{◌≡◌, ◌↔◌, ℕ, ◌<◌, ◌≤◌, Bool, true, false, List, ◌++◌, length, None}
 use Rattle.sf_format.specs.declared.directive.Directive.{Directive}
 use Rattle.sf_format.specs.Proper.{IsProper, AreProper}
 use Rattle.sf_run.specs.declared.outcome.Ending.{Ending}
 use Rattle.sf_run.specs.Steps.{StepEnd, Step}
 use Rattle.sf_run.specs.Runs.{RunReport, Ran, Steps, IsOpen, Run}
 use Rattle.sf_run.specs.Runs as runs
-use Rattle.sf_run.specs.Machine.{Skipping}
+use Rattle.sf_run.specs.Machine.{some_below, Skipping}
 use Rattle.sf_run.specs.Residual.{nothing_yet, one_from, run_of}
 use Rattle.sf_run.specs.Computed.{step_of, part_of, ran_of}
 use Rattle.sf_run.specs.Limits.{RunWithin}
@@ -62,3 +62,9 @@ EachRunIsComputed =
 -- what the running totals tell is what is told of those
 abbrev pub EachRunIsTold : Type 0
 EachRunIsTold = (ds : List Directive) (x : List ℕ) → run_of None ds 1 nothing_yet x ≡ runs.report_of (ran_of ds x 0) None
+
+-- ---- tests of bytes
+
+-- some byte below n passes the test, exactly where it is told so
+abbrev pub EachByteIsTried : Type 0
+EachByteIsTried = (n : ℕ) (test : ℕ → Bool) → some_below n test ≡ true ↔ ((b : ℕ) × (b < n) × (test b ≡ true))

@@ -1,5 +1,6 @@
 //! Laws of the definitions.
 ghost use Rattle.sf_run.specs.Laws.{
+  EachByteIsTried,
   EachClosedInputStays,
   EachHasOneReport,
   EachMachineSteps,
@@ -42,4 +43,9 @@ pub fn steps_are_computed()
 pub fn runs_are_computed()
     ensures steps { EachRunIsComputed }
     ensures report { EachRunIsTold }
+{}
+
+/// Whether some byte below a number passes a test is computed by trying each.
+pub fn bytes_are_tried()
+    ensures { EachByteIsTried }
 {}
