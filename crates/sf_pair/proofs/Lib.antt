@@ -18,8 +18,11 @@ pub mod Meets
 pub mod Walking
 pub mod Bounds
 pub mod RunsOn
-pub mod OpenEnds
-pub mod OpenWalk
+pub mod GoesOn
+pub mod IntoIntegers
+pub mod Into
+pub mod Stops
+pub mod Refusals
 pub mod SlotRows
 pub mod Scans
 pub mod FitTests

@@ -1,5 +1,5 @@
 -- How an integer's text is read, and what goes on after it.
-use Rattle.std.proofs.Common.{◌≡◌, ℕ, ◌+◌, ◌*◌, ◌<◌, ◌≤◌, ◌⊎◌, inl, inr, Bool, true, false, cond, eqb, ltb, ◌&&◌, ◌||◌, nat_eq, List, [], ◌∷◌, ◌++◌, length, slice_index, ℤ, pos, negsuc, unsigned_abs, Option, Some, None, refl, sym, ap, subst, ◌∙◌, arith, eq-eqb}
+use Rattle.std.proofs.Common.{◌≡◌, ℕ, ◌+◌, ◌*◌, ◌<◌, ◌≤◌, ◌⊎◌, inl, inr, Bool, true, false, cond, eqb, ltb, ◌&&◌, ◌||◌, nat_eq, List, [], ◌∷◌, ◌++◌, length, slice_index, ℤ, pos, negsuc, unsigned_abs, Option, Some, None, refl, sym, ap, subst, ◌∙◌, arith, eq-eqb, lit≤}
 use Rattle.std.proofs.lemmas.Bool.{ne_eqb}
 use Rattle.std.proofs.lemmas.Bool.Decides.{nat_tests}
 use Rattle.std.specs.Char.{digit_value, is_digit}
@@ -44,6 +44,12 @@ opening base c (pos n) = by c.plus
     by true = record { progress = Signed false; goes = λ t. refl; opens = λ d h. refl }
     by false = record { progress = Start; goes = λ t. refl; opens = start_opens base }
 
+-- a lone 0 is read as such, behind a sign or none
+pub lone_zero_read : (base : Base) (c : PrintConv) (z : ℤ) (t : List ℕ) → t ≡ bare_sign c z ++ 48 ∷ [] → read base (Some Start) t ≡ Some (Zero (is_negative z))
+lone_zero_read base c z t e =
+    let o = opening base c z in
+    ap (read base (Some Start)) e ∙ o.goes (48 ∷ []) ∙ ap (λ (q : Option Progress). read base q []) (o.opens 48 (lit≤ tt))
+
 -- ---- digits after it
 
 read_body : (base : Base) (q : Progress) (s : Bool) (r : ℕ) (body : List ℕ) → ((d : ℕ) → 48 ≤ d → advance base q d ≡ with_first_digit base s d) → first_radix base ≡ r → r ≤ 16
@@ -73,11 +79,20 @@ integer_read s r m body p (inl h) e =
     ap integer_of h.0 ∙ ap (λ (k : ℕ). Some (s, k)) (sym none)
 integer_read s r m body p (inr h) e = ap integer_of h ∙ ap (λ (k : ℕ). Some (s, k)) e
 
+-- where an integer's digits end: at one 0, or at digits of the radix that the base has without a prefix
+abbrev pub EndsIn : Base → Bool → Progress → Type 0
+EndsIn base s p = (p ≡ Zero s) ⊎ ((v : ℕ) × (p ≡ Digits s (first_radix base) v))
+
+ends_in : (base : Base) (s : Bool) (ds : List ℕ) (p : Progress) → IsRead s (first_radix base) ds p → EndsIn base s p
+ends_in base s ds p (inl h) = inl h.0
+ends_in base s ds p (inr h) = inr (digits_value (first_radix base) ds, h)
+
 -- the text of a number is read, to its sign and magnitude, and only a byte of the stop set goes on
 pub record NumberRead (base : Base) (c : PrintConv) (z : ℤ) : Type 0 where
   pub progress : Progress
   pub is : read base (Some Start) (visible c z) ≡ Some progress
   pub value : integer_of progress ≡ Some (is_negative z, unsigned_abs z)
+  pub end : EndsIn base (is_negative z) progress
   pub stops : (b : ℕ) → stop_set (shape.Int base) c b ≡ false → advance base progress b ≡ None
 
 -- ---- without a mark
@@ -154,7 +169,7 @@ marked c z b hex is =
       end = inr refl;
     }
 
-mark_of_zero : (c : PrintConv) → mark c 0 ≡ []
+pub mark_of_zero : (c : PrintConv) → mark c 0 ≡ []
 mark_of_zero c = by c.alt
   where
     none : List ℕ
@@ -201,7 +216,7 @@ module _ (c : PrintConv) (z : ℤ) (b : Body c z) where
       by true e = some (ap (λ (t : Bool). cond t (base_mark c.letter) []) e)
       by false e = none (ap (λ (t : Bool). cond t (base_mark c.letter) []) e)
 
-  none_marked : base_mark c.letter ≡ [] → mark c (unsigned_abs z) ≡ []
+  pub none_marked : base_mark c.letter ≡ [] → mark c (unsigned_abs z) ≡ []
   none_marked e = mark_by (λ xs. xs ≡ []) (λ h. refl) (λ h. e)
 
   pub read_decimal : base_of c.letter ≡ 10 → base_mark c.letter ≡ [] → NumberRead Dec c z
@@ -212,6 +227,7 @@ module _ (c : PrintConv) (z : ℤ) (b : Body c z) where
         progress = r.progress;
         is = r.is;
         value = integer_read (is_negative z) (base_of c.letter) (unsigned_abs z) b.body r.progress r.end b.value;
+        end = ends_in Dec (is_negative z) b.body r.progress end;
         stops = decimal_stops (is_negative z) b.body r.progress end;
       }
 
@@ -223,6 +239,7 @@ module _ (c : PrintConv) (z : ℤ) (b : Body c z) where
         progress = r.progress;
         is = r.is;
         value = integer_read (is_negative z) (base_of c.letter) (unsigned_abs z) b.body r.progress r.end b.value;
+        end = ends_in Oct (is_negative z) b.body r.progress end;
         stops = octal_stops (is_negative z) b.body r.progress end;
       }
 
@@ -234,6 +251,7 @@ module _ (c : PrintConv) (z : ℤ) (b : Body c z) where
         progress = r.progress;
         is = r.is;
         value = integer_read (is_negative z) (base_of c.letter) (unsigned_abs z) b.body r.progress r.end b.value;
+        end = ends_in Auto (is_negative z) b.body r.progress end;
         stops = auto_stops (is_negative z) b.body r.progress end;
       }
 
@@ -242,6 +260,7 @@ module _ (c : PrintConv) (z : ℤ) (b : Body c z) where
     progress = r.progress;
     is = r.is;
     value = integer_read (is_negative z) 16 (unsigned_abs z) b.body r.progress r.end value;
+    end = ends_in Hex (is_negative z) b.body r.progress r.end;
     stops = hex_stops c (is_negative z) b.body r.progress r.end alone;
   }
 

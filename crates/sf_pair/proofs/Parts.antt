@@ -73,8 +73,11 @@ two_or_more letter.HexLower = omega arith
 two_or_more letter.HexUpper = omega arith
 two_or_more _ = omega arith
 
-zero_digit : (c : PrintConv) (m : ℕ) → m ≡ 0 → digits (base_of c.letter) (is_upper c.letter) m ≡ 48 ∷ []
+pub zero_digit : (c : PrintConv) (m : ℕ) → m ≡ 0 → digits (base_of c.letter) (is_upper c.letter) m ≡ 48 ∷ []
 zero_digit c m e = let low = two_or_more c.letter in ap (digits (base_of c.letter) (is_upper c.letter)) e ∙ digits_one (base_of c.letter) (is_upper c.letter) 0 low (omega (arith, low))
+
+pub one_digit : (c : PrintConv) → digits (base_of c.letter) (is_upper c.letter) 1 ≡ 49 ∷ []
+one_digit c = let low = two_or_more c.letter in digits_one (base_of c.letter) (is_upper c.letter) 1 low (omega (arith, low))
 
 pub fill : (c : PrintConv) (m : ℕ) → 0 < least_digits c → 0 < length (digits (base_of c.letter) (is_upper c.letter) m) → Filled c m
 fill c m some any = by test refl

@@ -83,7 +83,7 @@ first_is : (c : PrintConv) (l : PrintLetter) → c.letter ≡ l → ((s : Shape)
 first_is c l e h s = ap (λ (l : PrintLetter). first_by_letter l c s) e ∙ h s
 
 reading : (c : PrintConv) (z : ℤ) (b : Body c z) → IsProperConv c → IsOfKind c.kind z → (l : PrintLetter) (base : Base) → c.letter ≡ l → letters_pair l (shape.Int base) ≡ true
-    → (base ≡ Auto → (least_digits c ≡ 1) × (pads_with_zeros c ≡ false)) → Reading c base z
+    → (is_auto (shape.Int base) ≡ true → (least_digits c ≡ 1) × (pads_with_zeros c ≡ false)) → Reading c base z
 reading c z b proper kind letter.Signed Dec e pair auto =
     record { number = read_decimal c z b (ap base_of e) (ap base_mark e); sign = inl e; first = first_is c letter.Signed e (λ s. refl) }
 reading c z b proper kind letter.Signed Auto e pair auto =
@@ -111,19 +111,32 @@ module _ (c : PrintConv) (s : Conversion) (proper : IsProperConv c) (p : Pairs c
       full_by : Shape → Bool
       full_by h = is_chars h || cond (is_integer h) (eqb (length (least c)) (width_of s)) (eqb (width_of s) 1)
 
-  auto_bare : (base : Base) → s.shape ≡ shape.Int base → 0 < least_digits c → base ≡ Auto → (least_digits c ≡ 1) × (pads_with_zeros c ≡ false)
+  pub auto_bare : (base : Base) → s.shape ≡ shape.Int base → 0 < least_digits c → is_auto (shape.Int base) ≡ true → (least_digits c ≡ 1) × (pads_with_zeros c ≡ false)
   auto_bare base e some auto =
       let zeros = pads_with_zeros c || nat_lt 1 (least_digits c) in
-      let h = or_none (pads_with_zeros c) (nat_lt 1 (least_digits c)) (sym (ap (λ (t : Bool). t && zeros) (ap is_auto e ∙ ap (λ (b : Base). is_auto (shape.Int b)) auto)) ∙ p.no_zeros) in
+      let h = or_none (pads_with_zeros c) (nat_lt 1 (least_digits c)) (sym (ap (λ (t : Bool). t && zeros) (ap is_auto e ∙ auto)) ∙ p.no_zeros) in
       (one_test (least_digits c) some h.1, h.0)
+
+  pub some_digits : (base : Base) → s.shape ≡ shape.Int base → 0 < least_digits c
+  some_digits base e = zero_test (least_digits c) (sym (ap (λ (t : Bool). t && eqb (least_digits c) 0) (at_int base e)) ∙ p.some_digit)
+
+  -- what is printed of a number of the kind, and how it is read
+  pub body_is : (base : Base) → s.shape ≡ shape.Int base → (z : ℤ) → IsOfKind c.kind z → Body c z
+  body_is base e z of_kind = body_of c z p.right (some_digits base e) (small_of c.kind (is_negative z) (unsigned_abs z) z of_kind)
+
+  reading_is : (base : Base) (e : s.shape ≡ shape.Int base) (z : ℤ) (of_kind : IsOfKind c.kind z) → Reading c base z
+  reading_is base e z of_kind =
+      reading c z (body_is base e z of_kind) proper of_kind c.letter base refl (ap (letters_pair c.letter) (sym e) ∙ p.letters) (auto_bare base e (some_digits base e))
+
+  pub number_is : (base : Base) → s.shape ≡ shape.Int base → (z : ℤ) → IsOfKind c.kind z → NumberRead base c z
+  number_is base e z of_kind = (reading_is base e z of_kind).number
 
   pub integer_reads_back : (base : Base) → s.shape ≡ shape.Int base → (k : Kind) (z : ℤ) → ValueFits c s (Number k z) → ReadsBack c s (Number k z)
   integer_reads_back base e k z fits =
-      let digits : 0 < least_digits c = zero_test (least_digits c) (sym (ap (λ (t : Bool). t && eqb (least_digits c) 0) (at_int base e)) ∙ p.some_digit) in
       let of_kind : IsOfKind c.kind z = subst (λ (k : Kind). IsOfKind k z) fits.0 fits.1 in
-      let b : Body c z = body_of c z p.right digits (small_of k (is_negative z) (unsigned_abs z) z fits.1) in
-      let o : Body c (pos 0) = body_of c (pos 0) p.right digits (lit≤ tt) in
-      let r : Reading c base z = reading c z b proper of_kind c.letter base refl (ap (letters_pair c.letter) (sym e) ∙ p.letters) (auto_bare base e digits) in
+      let b : Body c z = body_is base e z of_kind in
+      let o : Body c (pos 0) = body_of c (pos 0) p.right (some_digits base e) (lit≤ tt) in
+      let r : Reading c base z = reading_is base e z of_kind in
       let width : s.width ≡ Some (width_of s) = width_is s (ap is_chars e) p.width in
       let short = least_is_shortest c z b o in
       record {

@@ -4,7 +4,9 @@ use Rattle.std.specs.List.{filter_map, count_by}
 use Rattle.sf_base.specs.Data.{Datum, Assigned}
 use Rattle.sf_format.specs.declared.unit.Unit.{Unit as PrintUnit}
 use Rattle.sf_format.specs.declared.unit.Unit.TheVariants as unit
+use Rattle.sf_format.specs.declared.directive.Conversion.{Conversion}
 use Rattle.sf_format.specs.declared.directive.Directive.{Directive}
+use Rattle.sf_format.specs.declared.unit.PrintConv.{PrintConv}
 use Rattle.sf_format.specs.Units.{AreAccepted, values_of}
 use Rattle.sf_format.specs.Proper.{IsAccepted, destinations_of}
 use Rattle.sf_base.specs.Kept.{texts_in}
@@ -22,7 +24,7 @@ use Rattle.sf_run.specs.Steps.{StepEnd, Step}
 use Rattle.sf_pair.specs.declared.fault.PairWhy.TheVariants as why
 use Rattle.sf_pair.specs.declared.fault.PairFault.{PairFault}
 use Rattle.sf_pair.specs.Walk.{pair_fault}
-use Rattle.sf_pair.specs.Groups.{IsAligned}
+use Rattle.sf_pair.specs.Groups.{IsGroup, IsAligned, next_of}
 use Rattle.sf_pair.specs.Fits.{Fit, ValueFits}
 
 -- the values of the print conversions, in their order
@@ -97,9 +99,26 @@ HeldIsBounded = (ds : List Directive) (m : ℕ) (x : List ℕ) (ending : Ending)
 
 -- ---- refusals
 
+-- the units are cut so that each of these directives has its group, and `left` is what is left where `after` come next
+abbrev pub Leaves : List Directive → List Directive → List PrintUnit → List PrintUnit → Type 0
+Leaves [] after us left = us ≡ left
+Leaves (d ∷ ds) after us left = (group : List PrintUnit) × (rest : List PrintUnit) × (us ≡ group ++ rest) × IsGroup d group rest (next_of (ds ++ after)) × Leaves ds after rest left
+
+-- the directive d has this number, from 1; those before it have their groups, and these units are left for it
+pub record StopsAt (us : List PrintUnit) (ds : List Directive) (at : ℕ) (d : Directive) (left : List PrintUnit) : Type 0 where
+  pub before : List Directive
+  pub after : List Directive
+  pub directives : ds ≡ before ++ d ∷ after
+  pub taken : Leaves before (d ∷ after) us left
+  pub place : at ≡ length before + 1
+
 -- after the text u, the step of the directive takes the byte b too
 abbrev pub TakesToo : Directive → List ℕ → ℕ → Type 0
 TakesToo d u b = (n : ℕ) → (end : StepEnd) × Step d (u ++ b ∷ []) n (length u + 1) end
+
+-- behind the text of some value that fits, the conversion that reads it takes b too
+abbrev pub TakesInto : PrintConv → Conversion → ℕ → Type 0
+TakesInto c s b = (v : Datum) × ValueFits c s v × TakesToo (directive.Conv s) (value_text c v) b
 
 -- the text that a group prints: that of a value that fits, or its white space
 abbrev pub GroupText : Directive → List PrintUnit → List ℕ → Type 0
@@ -111,12 +130,25 @@ GroupText _ us u = ⊥
 abbrev pub RunsPast : Directive → List PrintUnit → Type 0
 RunsPast d group = (u : List ℕ) × (b : ℕ) × (b < 256) × GroupText d group u × TakesToo d u b
 
--- some directive has this number, and the units before it are taken; some byte behind some text of the units that are left is taken too
+-- some byte behind some text of the units that are left is taken too
 abbrev pub IsOpenAt : List PrintUnit → List Directive → ℕ → Type 0
-IsOpenAt us ds at = (before : List Directive) × (d : Directive) × (after : List Directive) × (taken : List PrintUnit) × (left : List PrintUnit)
-    × (ds ≡ before ++ d ∷ after) × (us ≡ taken ++ left) × (at ≡ length before + 1) × RunsPast d left
+IsOpenAt us ds at = (d : Directive) × (left : List PrintUnit) × StopsAt us ds at d left × RunsPast d left
 
 -- where an open end is told, what is printed there is read on into what may follow
 abbrev pub OpenEndsAreOpen : Type 0
 OpenEndsAreOpen = (us : List PrintUnit) (ds : List Directive) → AreAccepted us → IsAccepted ds → (f : PairFault) → pair_fault us ds ≡ Some f
     → f.why ≡ why.OpenEnd → IsOpenAt us ds f.at
+
+-- a literal that stands behind a conversion is taken too, behind the text of some value that fits; what else follows is left out
+abbrev pub RunsInto : Directive → List PrintUnit → Type 0
+RunsInto (directive.Conv s) (unit.Conv c ∷ unit.Byte b ∷ us) = TakesInto c s b
+RunsInto _ us = Unit {0}
+
+-- where the walk stops, the literal that follows there, if one does, is taken too
+abbrev pub IsRunInto : List PrintUnit → List Directive → ℕ → Type 0
+IsRunInto us ds at = (d : Directive) × (left : List PrintUnit) × StopsAt us ds at d left × RunsInto d left
+
+-- where it is told that an item runs on and a literal follows, it does run on into that literal
+abbrev pub LiteralsAreRunInto : Type 0
+LiteralsAreRunInto = (us : List PrintUnit) (ds : List Directive) → AreAccepted us → IsAccepted ds → (f : PairFault) → pair_fault us ds ≡ Some f
+    → f.why ≡ why.RunsOn → IsRunInto us ds f.at

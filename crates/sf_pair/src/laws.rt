@@ -2,7 +2,7 @@
 //! None of these functions does anything: its contract is the law.
 ghost use Rattle.sf_pair.specs.Walk.{AlignedIsAccepted};
 ghost use Rattle.sf_pair.specs.Fits.{FitsIsFit};
-ghost use Rattle.sf_pair.specs.Laws.{AlignedEndsOnNothing, AlignedIsBounded, AlignedSlotsAgree, HeldIsBounded, OpenEndsAreOpen, PrintsSome, ReadWithin, RoundTrip};
+ghost use Rattle.sf_pair.specs.Laws.{AlignedEndsOnNothing, AlignedIsBounded, AlignedSlotsAgree, HeldIsBounded, LiteralsAreRunInto, OpenEndsAreOpen, PrintsSome, ReadWithin, RoundTrip};
 
 /// The walk finds no fault exactly where the formats are aligned.
 pub fn aligned_is_accepted()
@@ -52,4 +52,10 @@ pub fn held_is_bounded()
 /// Where an open end is told, a byte behind some text that is printed there is taken too.
 pub fn open_ends_are_open()
     ensures { OpenEndsAreOpen }
+{}
+
+/// Where it is told that an item runs on and a literal comes next, the literal is taken too, behind the text of some value
+/// that fits.
+pub fn literals_are_run_into()
+    ensures { LiteralsAreRunInto }
 {}

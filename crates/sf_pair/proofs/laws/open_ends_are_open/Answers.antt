@@ -1,5 +1,5 @@
-use Rattle.sf_pair.proofs.OpenWalk as whole
+use Rattle.sf_pair.proofs.Refusals as refusals
 use Rattle.sf_pair.proofs.laws.open_ends_are_open.Goals as goal
 
 pub returns : goal.returns
-returns c = whole.open_ends_are_open
+returns c = refusals.open_ends_are_open
