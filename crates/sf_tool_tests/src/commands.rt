@@ -751,13 +751,7 @@ const COPIED: [Copied; 7] = [
         "sf: record 1: input failure at 4, used 4, assigned 2\n",
         1,
     ),
-    (
-        &["copy", "%d,%s\\n", "%11d,%20s%*1[\\n]"],
-        b"",
-        "",
-        "",
-        0,
-    ),
+    (&["copy", "%d,%s\\n", "%11d,%20s%*1[\\n]"], b"", "", "", 0),
     (
         &["copy", "%+d;", "%3d;"],
         b"12;123;",
