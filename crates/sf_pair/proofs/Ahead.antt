@@ -14,7 +14,7 @@ use Rattle.sf_format.specs.Units.{IsProperUnit, AreProperUnits}
 use Rattle.sf_print.specs.Text.{value_text, blanks}
 use Rattle.sf_print.specs.Printed.{text_or_none, printed}
 use Rattle.sf_run.specs.Machine.{shape_skips}
-use Rattle.sf_run.proofs.Machines.{some_to}
+use Rattle.sf_run.specs.Laws.{EachByteIsTried}
 use Rattle.sf_run.specs.Computed.{skip}
 use Rattle.sf_pair.specs.declared.fault.PairWhy.TheVariants as why
 use Rattle.sf_pair.specs.Neighbours.{Bytes as ByteTest, meet, first_of, first_by_letter, reads, stop_set}
@@ -26,17 +26,17 @@ use Rattle.sf_pair.proofs.FitCut.{PairedReads, FitCut}
 
 -- ---- sets that don't meet
 
-pub meet_apart : (s t : ByteTest) (b : ℕ) → meet s t ≡ false → b < 256 → s b ≡ true → t b ≡ false
+pub meet_apart : EachByteIsTried → (s t : ByteTest) (b : ℕ) → meet s t ≡ false → b < 256 → s b ≡ true → t b ≡ false
 unfolding meet
-meet_apart s t b none small here = by (t b) refl
+meet_apart tried s t b none small here = by (t b) refl
   where
     by : (v : Bool) → t b ≡ v → t b ≡ false
-    by true e = absurd (true≢false (sym (some_to 256 (λ k. s k && t k) b small (λ i. here i && e i)) ∙ none))
+    by true e = absurd (true≢false (sym ((tried 256 (λ k. s k && t k)).1 (b, small, λ i. here i && e i)) ∙ none))
     by false e = e
 
-pub first_out : (s t : ByteTest) (xs : List ℕ) → meet s t ≡ false → FirstByte xs → FirstIn s xs → FirstOut t xs
-first_out s t [] none small f = tt
-first_out s t (b ∷ bs) none small f = meet_apart s t b none small f
+pub first_out : EachByteIsTried → (s t : ByteTest) (xs : List ℕ) → meet s t ≡ false → FirstByte xs → FirstIn s xs → FirstOut t xs
+first_out tried s t [] none small f = tt
+first_out tried s t (b ∷ bs) none small f = meet_apart tried s t b none small f
 
 -- ---- white space, skipped
 
@@ -114,7 +114,7 @@ byte_append (b ∷ bs) ys s f h = h
 reads_assigned : (s : Conversion) (slot : ℕ) → s.slot ≡ Some slot → reads (Some (directive.Conv s)) ≡ s.shape
 reads_assigned s slot e = ap (λ (o : Option ℕ). cond (is_some o) s.shape shape.Count) e
 
-module _ (values : List Datum) (z : List ℕ) where
+module _ (tried : EachByteIsTried) (values : List Datum) (z : List ℕ) where
   conv_space : (c : PrintConv) (us group later : List PrintUnit) → unit.Conv c ∷ us ≡ group ++ later → (group ≢ []) → AreSpace group → ⊥
   conv_space c us [] later e some h = some refl
   conv_space c us (unit.Byte b ∷ g) later e some h = cc
@@ -168,7 +168,7 @@ module _ (values : List Datum) (z : List ℕ) where
       by false is [] proper cut e = absurd cc
       by false is (u ∷ us) proper cut e =
           let b = rest_begins ds u us proper.0 cut in
-          inr (first_out (first_of u (next_of ds)) (stop_set s.shape c) (printed (u ∷ us) values ++ z) (apart (meet (first_of u (next_of ds)) (stop_set s.shape c)) e) b.byte b.first)
+          inr (first_out tried (first_of u (next_of ds)) (stop_set s.shape c) (printed (u ∷ us) values ++ z) (apart (meet (first_of u (next_of ds)) (stop_set s.shape c)) e) b.byte b.first)
 
   -- ---- after white space
 
@@ -213,4 +213,4 @@ module _ (values : List Datum) (z : List ℕ) where
           let b = rest_begins (directive.Conv s ∷ ds) u us proper.0 (group, later, parts, is, more) in
           let keeps_it : keeps_space (reads (Some (directive.Conv s))) ≡ true = ap keeps_space (reads_assigned s p.conversion.slot p.slot) ∙ keeps s.shape e p.no_count in
           let none : meet (first_of u (Some (directive.Conv s))) is_white ≡ false = not_met _ _ keeps_it fault in
-          unskipped (directive.Conv s) _ (first_unskipped (printed (u ∷ us) values ++ z) (first_out (first_of u (Some (directive.Conv s))) is_white (printed (u ∷ us) values ++ z) none b.byte b.first))
+          unskipped (directive.Conv s) _ (first_unskipped (printed (u ∷ us) values ++ z) (first_out tried (first_of u (Some (directive.Conv s))) is_white (printed (u ∷ us) values ++ z) none b.byte b.first))

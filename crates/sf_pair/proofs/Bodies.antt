@@ -10,8 +10,8 @@ use Rattle.sf_format.specs.declared.unit.PrintConv.{PrintConv}
 use Rattle.sf_format.specs.declared.unit.PrintLetter.{PrintLetter}
 use Rattle.sf_format.specs.declared.unit.PrintLetter.TheVariants as letter
 use Rattle.sf_print.specs.Text.{integer_text, sign, all_digits, mark, least_digits, blanks, zeros, left_blanks, inner_zeros, base_of, base_mark, is_upper, is_octal, pads_with_zeros}
-use Rattle.sf_print.proofs.Numerals.{are_numerals}
 use Rattle.sf_print.specs.Visible.{without_blanks, visible}
+use Rattle.sf_pair.specs.Below.{LawsBelow}
 use Rattle.sf_pair.proofs.Parts.{bare_sign, hidden, sign_is, digits_of, Filled, fill, counted_length, parts_of}
 
 -- ---- digits are no white space
@@ -171,13 +171,13 @@ counted_is c z f =
     let ds : length (all_digits c m) ≡ f.lead + length (digits_of c z) = ap length f.is ∙ omega (arith, length-append (zeros f.lead) (digits_of c z), length-replicate {A = ℕ} f.lead 48) in
     omega (arith, signs, ds)
 
-pub body_of : (c : PrintConv) (z : ℤ) → c.minus ≡ false → 0 < least_digits c → unsigned_abs z < 2 ^ 64 → Body c z
-body_of c z right some small =
+pub body_of : LawsBelow → (c : PrintConv) (z : ℤ) → c.minus ≡ false → 0 < least_digits c → unsigned_abs z < 2 ^ 64 → Body c z
+body_of laws c z right some small =
     let m : ℕ = unsigned_abs z in
     let b = small_base c.letter in
-    let n = are_numerals (base_of c.letter) (is_upper c.letter) m b.0 b.1 small in
+    let n = laws.numerals (base_of c.letter) (is_upper c.letter) m b.0 b.1 small in
     let any : 0 < length (digits_of c z) = n.numeral.0 in
-    let f = fill c m some any in
+    let f = fill laws c m some any in
     let k : ℕ = inner_zeros c (counted_length c z) + f.lead in
     let body : List ℕ = zeros k ++ digits_of c z in
     let all : AllDigits (base_of c.letter) body = AllDigits-zeros (base_of c.letter) k (digits_of c z) (omega (arith, b.0)) n.numeral.1 in

@@ -9,16 +9,16 @@ use Rattle.sf_format.specs.declared.directive.Directive.TheVariants as directive
 use Rattle.sf_format.specs.declared.unit.Unit.{Unit as PrintUnit}
 use Rattle.sf_format.specs.Proper.{HasItsWidth, IsSized, AreSized}
 use Rattle.sf_format.specs.Widths.{add_widths, text_width, stored_width, width_sum}
-use Rattle.sf_run.proofs.Told.{one_report}
+use Rattle.sf_pair.specs.Below.{LawsBelow}
 use Rattle.sf_pair.specs.Groups.{is_count, is_chars, IsConversionGroup, IsGroup, AreCut, next_of}
 use Rattle.sf_pair.specs.Laws.{read_back, ReadWithin, AlignedIsBounded}
 use Rattle.sf_pair.proofs.Paired.{pairs, width_is}
 use Rattle.sf_pair.proofs.Whole.{round_trip}
 
-pub read_within : ReadWithin
-read_within us ds accepted proper aligned values fit m fits z ending report run =
-    let o = one_report ds proper.proper m _ ending in
-    o.only report run ∙ sym (o.only (read_back us ds values) (inl (fits, round_trip us ds accepted proper aligned values fit z ending)))
+pub read_within : LawsBelow → ReadWithin
+read_within laws us ds accepted proper aligned values fit m fits z ending report run =
+    let o = laws.reports ds proper.proper m _ ending in
+    o.only report run ∙ sym (o.only (read_back us ds values) (inl (fits, round_trip laws us ds accepted proper aligned values fit z ending)))
 
 both_some : (a b : Option ℕ) → IsSome a → IsSome b → IsSome (add_widths a b)
 both_some (Some m) (Some n) h k = refl

@@ -15,6 +15,7 @@ use Rattle.sf_format.specs.Units.{IsProperConv, IsProperUnit, AreProperUnits}
 use Rattle.sf_format.specs.Proper.{IsProperWidth, HasItsWidth, IsSized, AreSized, IsProper, AreProper}
 use Rattle.sf_print.specs.Printed.{value_at, value_fault}
 use Rattle.sf_run.specs.Machine.{shape_skips}
+use Rattle.sf_pair.specs.Below.{LawsBelow}
 use Rattle.sf_pair.specs.Neighbours.{only, no_byte, reads}
 use Rattle.sf_pair.specs.Groups.{IsLiteral, AreSpace, IsSpaceRun, IsPaired, IsConversionGroup, IsGroup, AreCut, is_count, is_width_one, members_of, suppressed_by, closing_fault, next_of}
 use Rattle.sf_pair.specs.Fits.{FitsAt, AllFit, conversions, assigned_by, assigned_conversions}
@@ -104,7 +105,7 @@ suppressed_reads s group slot (b, group_is, wanted) = by (is_width_one s.width) 
 
 -- ---- the whole
 
-module _ (values : List Datum) where
+module _ (laws : LawsBelow) (values : List Datum) where
   -- what is left of the values, after a group without a conversion and a directive that assigns none
   none_taken : (d : Directive) (ds : List Directive) (us rest : List PrintUnit) → conversions us ≡ conversions rest → assigned_by d ≡ None
       → AllFit values (conversions us) (assigned_conversions (d ∷ ds)) → AllFit values (conversions rest) (assigned_conversions ds)
@@ -142,7 +143,7 @@ module _ (values : List Datum) where
           at = all.0.1;
           slot = slot_is c s p assigned;
           good = fits_unfaulted c s all.0.0 proper.0 p all.0.2;
-          back = reads_back c s all.0.0 proper.0 width sized p assigned all.0.2;
+          back = reads_back laws c s all.0.0 proper.0 width sized p assigned all.0.2;
           closed = closing;
           no_count = no_count;
         },

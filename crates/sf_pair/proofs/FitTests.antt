@@ -22,11 +22,7 @@ use Rattle.sf_print.specs.Visible.{visible}
 use Rattle.sf_pair.specs.Groups.{width_of}
 use Rattle.sf_pair.specs.Fits.{is_negative, TextFits, ValueFits, FitsAt, AllFit, Fit, conversions, assigned_by, assigned_conversions, is_number_so, is_of_kind, is_byte, is_item_of, text_fits, value_fits, fits_or_not, all_fit, fits, FitsIsFit}
 use Rattle.sf_pair.specs.Formats.{Formats}
-use Rattle.sf_pair.proofs.Paired.{and_both, kinds_are}
-
-and_true : (x y : Bool) → x ≡ true → y ≡ true → (x && y) ≡ true
-and_true true y e h = h
-and_true false y e h = absurd cc
+use Rattle.sf_pair.proofs.Paired.{and_so, and_both, kinds_are}
 
 lt_true : (a b : ℕ) → a < b → nat_lt a b ≡ true
 lt_true a b h = grind (arith, nat_tests)
@@ -46,7 +42,7 @@ eq_true a b h = grind (arith, nat_tests)
 -- the bytes of a slice
 pub all_bytes : (bs : List ℕ) → ((i : ℕ) → get_or bs i 0 < 256) → list_all is_byte bs ≡ true
 all_bytes [] h = refl
-all_bytes (b ∷ bs) h = and_true (nat_lt b 256) (list_all is_byte bs) (lt_true b 256 (h 0)) (all_bytes bs (λ i. h (suc i)))
+all_bytes (b ∷ bs) h = and_so (nat_lt b 256) (list_all is_byte bs) (lt_true b 256 (h 0)) (all_bytes bs (λ i. h (suc i)))
 
 -- ---- lists
 
@@ -55,10 +51,10 @@ module _ {A : Type 0} (test : A → Bool) (P : A → Type 0) (each : (x : A) →
   all_is [] = (λ e. tt, λ h. refl)
   all_is (x ∷ xs) = (
     λ e. let h = and_both (test x) (list_all test xs) e in ((each x).0 h.0, (all_is xs).0 h.1),
-    λ h. and_true (test x) (list_all test xs) ((each x).1 h.0) ((all_is xs).1 h.1),
+    λ h. and_so (test x) (list_all test xs) ((each x).1 h.0) ((all_is xs).1 h.1),
   )
 
-ink_is : (b : ℕ) → is_ink b ≡ true ↔ (is_white b ≡ false)
+pub ink_is : (b : ℕ) → is_ink b ≡ true ↔ (is_white b ≡ false)
 ink_is b = by (is_white b)
   where
     by : (t : Bool) → not t ≡ true ↔ (t ≡ false)
@@ -76,8 +72,8 @@ item_is test P each width bytes = (
   λ e. let h = and_both (nat_lt 0 (length bytes) && nat_le (length bytes) width) (list_all test bytes) e in
       let k = and_both (nat_lt 0 (length bytes)) (nat_le (length bytes) width) h.0 in
       (lt_so 0 (length bytes) k.0, (all_is test P each bytes).0 h.1, le_so (length bytes) width k.1),
-  λ h. and_true (nat_lt 0 (length bytes) && nat_le (length bytes) width) (list_all test bytes)
-      (and_true (nat_lt 0 (length bytes)) (nat_le (length bytes) width) (lt_true 0 (length bytes) h.0) (le_true (length bytes) width h.2)) ((all_is test P each bytes).1 h.1),
+  λ h. and_so (nat_lt 0 (length bytes) && nat_le (length bytes) width) (list_all test bytes)
+      (and_so (nat_lt 0 (length bytes)) (nat_le (length bytes) width) (lt_true 0 (length bytes) h.0) (le_true (length bytes) width h.2)) ((all_is test P each bytes).1 h.1),
 )
 
 text_is : (read : Shape) (width : ℕ) (bytes : List ℕ) → text_fits read width bytes ≡ true ↔ TextFits read width bytes
@@ -109,14 +105,14 @@ value_is c s (Number k z) = (
   λ e. let h = and_both (same_kind k c.kind && is_of_kind k z) (nat_le (length (visible c z)) (width_of s)) e in
       let g = and_both (same_kind k c.kind) (is_of_kind k z) h.0 in
       (kinds_are k c.kind g.0, (number_so (value_of k (is_negative z) (unsigned_abs z)) z).0 g.1, le_so _ _ h.1),
-  λ h. and_true (same_kind k c.kind && is_of_kind k z) (nat_le (length (visible c z)) (width_of s))
-      (and_true (same_kind k c.kind) (is_of_kind k z) (ap (same_kind k) (sym h.0) ∙ same_itself k) ((number_so (value_of k (is_negative z) (unsigned_abs z)) z).1 h.1))
+  λ h. and_so (same_kind k c.kind && is_of_kind k z) (nat_le (length (visible c z)) (width_of s))
+      (and_so (same_kind k c.kind) (is_of_kind k z) (ap (same_kind k) (sym h.0) ∙ same_itself k) ((number_so (value_of k (is_negative z) (unsigned_abs z)) z).1 h.1))
       (le_true _ _ h.2),
 )
 value_is c s (Bytes bytes) = (
   λ e. let h = and_both (list_all is_byte bytes) (text_fits s.shape (width_of s) bytes) e in
       ((all_is is_byte (λ b. b < 256) byte_is bytes).0 h.0, (text_is s.shape (width_of s) bytes).0 h.1),
-  λ h. and_true (list_all is_byte bytes) (text_fits s.shape (width_of s) bytes) ((all_is is_byte (λ b. b < 256) byte_is bytes).1 h.0) ((text_is s.shape (width_of s) bytes).1 h.1),
+  λ h. and_so (list_all is_byte bytes) (text_fits s.shape (width_of s) bytes) ((all_is is_byte (λ b. b < 256) byte_is bytes).1 h.0) ((text_is s.shape (width_of s) bytes).1 h.1),
 )
 
 -- ---- the whole
@@ -134,14 +130,14 @@ all_fit_is values [] (s ∷ ss) = (λ e. absurd cc, λ h. absurd h)
 all_fit_is values (c ∷ cs) [] = (λ e. absurd cc, λ h. absurd h)
 all_fit_is values (c ∷ cs) (s ∷ ss) = (
   λ e. let h = and_both (fits_or_not c s (value_at values c.slot)) (all_fit values cs ss) e in ((at_is values c s).0 h.0, (all_fit_is values cs ss).0 h.1),
-  λ h. and_true (fits_or_not c s (value_at values c.slot)) (all_fit values cs ss) ((at_is values c s).1 h.0) ((all_fit_is values cs ss).1 h.1),
+  λ h. and_so (fits_or_not c s (value_at values c.slot)) (all_fit values cs ss) ((at_is values c s).1 h.0) ((all_fit_is values cs ss).1 h.1),
 )
 
 pub fits_is_fit : FitsIsFit
 fits_is_fit us ds values = (
   λ e. let h = and_both (nat_eq (length values) (length (values_of us))) (all_fit values (conversions us) (assigned_conversions ds)) e in
       record { count = eqb-true (length values) (length (values_of us)) h.0; each = (all_fit_is values (conversions us) (assigned_conversions ds)).0 h.1 },
-  λ h. and_true (nat_eq (length values) (length (values_of us))) (all_fit values (conversions us) (assigned_conversions ds))
+  λ h. and_so (nat_eq (length values) (length (values_of us))) (all_fit values (conversions us) (assigned_conversions ds))
       (eq_true _ _ h.count) ((all_fit_is values (conversions us) (assigned_conversions ds)).1 h.each),
 )
 

@@ -1,8 +1,6 @@
 -- An item that isn't full runs on into each byte of its stop set, behind the text of some value that fits.
 use Rattle.std.proofs.Common.{◌≡◌, ℕ, ◌<◌, ◌≤◌, inr, Bool, true, false, cond, ◌&&◌, ◌||◌, eqb, nat_le, List, [], ◌∷◌, ◌++◌, length, Option, Some, is_some, refl, sym, ap, ap₂, subst, ◌∙◌, arith, lit≤}
-use Rattle.std.specs.Prelude.{not}
 use Rattle.std.proofs.lemmas.Bool.Decides.{nat_tests}
-use Rattle.sf_base.specs.Bytes.{is_white}
 use Rattle.sf_base.specs.Sets.{has_byte}
 use Rattle.sf_base.specs.Data.{Datum, Bytes}
 use Rattle.sf_format.specs.declared.directive.Shape.{Shape}
@@ -20,11 +18,13 @@ use Rattle.sf_print.specs.Text.{value_text}
 use Rattle.sf_print.specs.Visible.{least}
 use Rattle.sf_run.specs.Steps.{Stores}
 use Rattle.sf_run.specs.Machine.{stored_end, passed_end}
+use Rattle.sf_pair.specs.Below.{LawsBelow}
 use Rattle.sf_pair.specs.Neighbours.{stop_set}
 use Rattle.sf_pair.specs.Groups.{is_integer, is_chars, letters_pair, width_of, always_full}
 use Rattle.sf_pair.specs.Fits.{TextFits, ValueFits}
 use Rattle.sf_pair.specs.Laws.{TakesInto, RunsPast}
-use Rattle.sf_pair.proofs.Paired.{Pairs, width_is, slot_is}
+use Rattle.sf_pair.proofs.Paired.{and_so, Pairs, width_is, slot_is}
+use Rattle.sf_pair.proofs.FitTests.{ink_is}
 use Rattle.sf_pair.proofs.ReadBack.{ReadsBack, reads_back}
 use Rattle.sf_pair.proofs.RunsOn.{takes_too}
 use Rattle.sf_pair.proofs.GoesOn.{zero_stops}
@@ -35,17 +35,6 @@ within_two w h e = grind (arith, nat_tests)
 
 le_so : (a b : ℕ) → a ≤ b → nat_le a b ≡ true
 le_so a b h = grind (arith, nat_tests)
-
-and_so : (a b : Bool) → a ≡ true → b ≡ true → (a && b) ≡ true
-and_so true b e h = h
-and_so false b e h = absurd cc
-
-no_white : (b : ℕ) → is_ink b ≡ true → is_white b ≡ false
-no_white b e = by (is_white b) e
-  where
-    by : (t : Bool) → not t ≡ true → t ≡ false
-    by true e = absurd cc
-    by false e = refl
 
 proper_least : (o : Option ℕ) (w : ℕ) → o ≡ Some w → IsProperWidth o → 1 ≤ w
 proper_least o w e h = subst IsProperWidth e h
@@ -59,7 +48,7 @@ count_pairs_none letter.Text e = cc
 count_pairs_none letter.One e = cc
 count_pairs_none _ e = cc
 
-module _ (c : PrintConv) (s : Conversion) (proper : IsProperConv c) (scan : IsProper (directive.Conv s)) (sized : HasItsWidth s.shape s.width)
+module _ (laws : LawsBelow) (c : PrintConv) (s : Conversion) (proper : IsProperConv c) (scan : IsProper (directive.Conv s)) (sized : HasItsWidth s.shape s.width)
     (p : Pairs c s) (assigned : is_some s.slot ≡ true) (not_full : always_full c s ≡ false) where
   -- a text of that one byte goes on with it
   text_into : (no_integer : is_integer s.shape ≡ false) (no_chars : is_chars s.shape ≡ false) (b : ℕ) → b < 256 → StoresItem s.shape
@@ -71,18 +60,18 @@ module _ (c : PrintConv) (s : Conversion) (proper : IsProperConv c) (scan : IsPr
       let two : 2 ≤ width_of s = within_two (width_of s) low not_one in
       let v : Datum = Bytes (b ∷ []) in
       let fit : ValueFits c s v = ((small, tt), fits (width_of s) low) in
-      let r : ReadsBack c s v = reads_back c s v proper scan.1 sized p assigned fit in
+      let r : ReadsBack c s v = reads_back laws c s v proper scan.1 sized p assigned fit in
       let t = r.takes [] (inr tt) in
       let item : r.item ≡ b ∷ [] = stores s c.slot c.slot r.item (b ∷ []) (sym (ap (λ (o : Option ℕ). passed_end s o r.item) (slot_is c s p assigned)) ∙ r.stored) in
       let more : can_take s (r.item ++ b ∷ []) ≡ true = ap (λ (f : List ℕ). can_take s (f ++ b ∷ [])) item
       ∙ and_so (is_within s.width 2) (shape_begins s.shape s.width (b ∷ b ∷ [])) (ap (λ (o : Option ℕ). is_within o 2) width ∙ le_so 2 (width_of s) two) begins in
-      (v, fit, takes_too c s v scan r t.has_item b more)
+      (v, fit, takes_too laws c s v scan r t.item b more)
 
   into_by : (b : ℕ) → b < 256 → (h : Shape) → s.shape ≡ h → stop_set h c b ≡ true → TakesInto c s b
-  into_by b small (shape.Int base) e stops = integer_into c s base e proper scan sized p assigned not_full b stops
+  into_by b small (shape.Int base) e stops = integer_into laws c s base e proper scan sized p assigned not_full b stops
   into_by b small shape.Text e stops = text_into (ap is_integer e) (ap is_chars e) b small
       (subst StoresItem (sym e) (λ s k slot item bytes stored. let same : item ≡ bytes = cc in same))
-      (λ w low. subst (λ (h : Shape). TextFits h w (b ∷ [])) (sym e) (lit≤ tt, (no_white b stops, tt), low))
+      (λ w low. subst (λ (h : Shape). TextFits h w (b ∷ [])) (sym e) (lit≤ tt, ((ink_is b).0 stops, tt), low))
       (ap (λ (h : Shape). shape_begins h s.width (b ∷ b ∷ [])) e ∙ and_so (is_ink b) (is_ink b && true) stops (and_so (is_ink b) true stops refl))
   into_by b small (shape.Set members) e stops = text_into (ap is_integer e) (ap is_chars e) b small
       (subst StoresItem (sym e) (λ s k slot item bytes stored. let same : item ≡ bytes = cc in same))

@@ -19,10 +19,10 @@ use Rattle.sf_format.specs.Units.{IsProperConv, prints_kind}
 use Rattle.sf_format.specs.Proper.{IsProper, HasItsWidth}
 use Rattle.sf_item.specs.Progress.{Progress, Start, Zero, integer_of, first_radix, is_prefix_letter, advance}
 use Rattle.sf_item.specs.Tests.{read, is_within, shape_begins, can_take}
-use Rattle.sf_item.proofs.Fronts.{both, read_more, length_more}
 use Rattle.sf_print.specs.Text.{zeros, base_mark, is_octal, least_digits, pads_with_zeros}
 use Rattle.sf_print.specs.Visible.{without_blanks, visible, least}
 use Rattle.sf_run.specs.Machine.{shape_skips}
+use Rattle.sf_pair.specs.Below.{LawsBelow}
 use Rattle.sf_pair.specs.Neighbours.{stop_set}
 use Rattle.sf_pair.specs.Groups.{is_integer, is_chars, is_auto, letters_pair, width_of, always_full}
 use Rattle.sf_pair.specs.Fits.{IsOfKind, ValueFits}
@@ -30,7 +30,7 @@ use Rattle.sf_pair.specs.Laws.{TakesInto}
 use Rattle.sf_pair.proofs.Parts.{bare_sign, zero_digit, one_digit}
 use Rattle.sf_pair.proofs.Bodies.{StartsInk, without_some, Body}
 use Rattle.sf_pair.proofs.Numbers.{NumberRead, lone_zero_read, mark_of_zero, none_marked}
-use Rattle.sf_pair.proofs.Paired.{Pairs, width_is}
+use Rattle.sf_pair.proofs.Paired.{and_so, Pairs, width_is}
 use Rattle.sf_pair.proofs.ReadBack.{SkipsSo, ReadsBack, reads_back, some_digits, body_is, number_is, auto_bare}
 use Rattle.sf_pair.proofs.RunsOn.{takes_too}
 use Rattle.sf_pair.proofs.GoesOn.{stops_so, same_radix, zero_goes, digits_go, end_goes}
@@ -79,12 +79,12 @@ item_is c s k z base e r =
     ap without_blanks r.text_is ∙ without_some r.before r.item ink
 
 -- an integer that is shorter than the width goes on where its reading does
-integer_goes : (s : Conversion) (base : Base) (w : ℕ) (f : List ℕ) (p : Progress) (b : ℕ) → s.shape ≡ shape.Int base → s.width ≡ Some w → length f < w → read base (Some Start) f ≡ Some p → is_some (advance base p b) ≡ true
+integer_goes : LawsBelow → (s : Conversion) (base : Base) (w : ℕ) (f : List ℕ) (p : Progress) (b : ℕ) → s.shape ≡ shape.Int base → s.width ≡ Some w → length f < w → read base (Some Start) f ≡ Some p → is_some (advance base p b) ≡ true
     → can_take s (f ++ b ∷ []) ≡ true
-integer_goes s base w f p b shape_is width short is goes =
-    both (is_within s.width (length (f ++ b ∷ []))) (shape_begins s.shape s.width (f ++ b ∷ []))
-    (ap (λ (o : Option ℕ). is_within o (length (f ++ b ∷ []))) width ∙ ap (λ (k : ℕ). nat_le k w) (length_more f b) ∙ room_for (length f) w short)
-    (ap (λ (h : Shape). shape_begins h s.width (f ++ b ∷ [])) shape_is ∙ ap is_some (read_more base (Some Start) f (b ∷ []) ∙ ap (λ (o : Option Progress). read base o (b ∷ [])) is ∙ one_byte (advance base p b)) ∙ goes)
+integer_goes laws s base w f p b shape_is width short is goes =
+    and_so (is_within s.width (length (f ++ b ∷ []))) (shape_begins s.shape s.width (f ++ b ∷ []))
+    (ap (λ (o : Option ℕ). is_within o (length (f ++ b ∷ []))) width ∙ ap (λ (k : ℕ). nat_le k w) (length-append f (b ∷ [])) ∙ room_for (length f) w short)
+    (ap (λ (h : Shape). shape_begins h s.width (f ++ b ∷ [])) shape_is ∙ ap is_some (laws.parts base (Some Start) f (b ∷ []) ∙ ap (λ (o : Option Progress). read base o (b ∷ [])) is ∙ one_byte (advance base p b)) ∙ goes)
   where
     one_byte : (o : Option Progress) → read base o [] ≡ o
     one_byte None = refl
@@ -100,9 +100,9 @@ first_zero : (k : ℕ) → slice_index (zeros k ++ 48 ∷ []) 0 ≡ 48
 first_zero zero = refl
 first_zero (suc k) = refl
 
-module _ (c : PrintConv) where
+module _ (laws : LawsBelow) (c : PrintConv) where
   zero_body : (o : Body c (pos 0)) → o.body ≡ zeros o.filling ++ 48 ∷ []
-  zero_body o = o.body_is ∙ ap (λ (ds : List ℕ). zeros o.filling ++ ds) (zero_digit c 0 refl)
+  zero_body o = o.body_is ∙ ap (λ (ds : List ℕ). zeros o.filling ++ ds) (zero_digit laws c 0 refl)
 
   zero_seen : (o : Body c (pos 0)) → visible c (pos 0) ≡ bare_sign c (pos 0) ++ (zeros o.filling ++ 48 ∷ [])
   zero_seen o = o.visible_is ∙ ap₂ (λ (m ds : List ℕ). bare_sign c (pos 0) ++ (m ++ ds)) (mark_of_zero c) (zero_body o)
@@ -121,7 +121,7 @@ module _ (c : PrintConv) where
       omega (arith, short, ap length e, zeros_one o.filling 48)
 
   one_body : (o : Body c (pos 1)) → o.body ≡ zeros o.filling ++ 49 ∷ []
-  one_body o = o.body_is ∙ ap (λ (ds : List ℕ). zeros o.filling ++ ds) (one_digit c)
+  one_body o = o.body_is ∙ ap (λ (ds : List ℕ). zeros o.filling ++ ds) (one_digit laws c)
 
   one_unfilled : (o : Body c (pos 1)) → least_digits c ≡ 1 → pads_with_zeros c ≡ false → is_octal c.letter ≡ false → o.filling ≡ 0
   one_unfilled o one pads octal = by o.filling refl
@@ -154,7 +154,7 @@ one_is_no_zero p s e value =
     magnitude_of None = 0
     magnitude_of (Some (s, m)) = m
 
-module _ (c : PrintConv) (s : Conversion) (base : Base) (is_int : s.shape ≡ shape.Int base) (proper : IsProperConv c) (scan : IsProper (directive.Conv s)) (sized : HasItsWidth s.shape s.width)
+module _ (laws : LawsBelow) (c : PrintConv) (s : Conversion) (base : Base) (is_int : s.shape ≡ shape.Int base) (proper : IsProperConv c) (scan : IsProper (directive.Conv s)) (sized : HasItsWidth s.shape s.width)
     (p : Pairs c s) (assigned : is_some s.slot ≡ true) (not_full : always_full c s ≡ false) (b : ℕ) where
   letters : letters_pair c.letter (shape.Int base) ≡ true
   letters = ap (letters_pair c.letter) (sym is_int) ∙ p.letters
@@ -174,18 +174,18 @@ module _ (c : PrintConv) (s : Conversion) (base : Base) (is_int : s.shape ≡ sh
   takes_into : (z : ℤ) → IsOfKind c.kind z → length (visible c z) ≡ length (least c) → (n : NumberRead base c z) → is_some (advance base n.progress b) ≡ true → TakesInto c s b
   takes_into z of_kind same n goes =
       let fits : ValueFits c s (Number c.kind z) = (refl, of_kind, omega (arith, same, wide)) in
-      let r : ReadsBack c s (Number c.kind z) = reads_back c s (Number c.kind z) proper scan.1 sized p assigned fits in
+      let r : ReadsBack c s (Number c.kind z) = reads_back laws c s (Number c.kind z) proper scan.1 sized p assigned fits in
       let t = r.takes [] (inr tt) in
       let width : s.width ≡ Some (width_of s) = width_is s (ap is_chars is_int) p.width in
       let more : can_take s (r.item ++ b ∷ []) ≡ true = ap (λ (f : List ℕ). can_take s (f ++ b ∷ [])) (sym (item_is c s c.kind z base is_int r))
-      ∙ integer_goes s base (width_of s) (visible c z) n.progress b is_int width (omega (arith, same, short)) n.is goes in
-      (Number c.kind z, fits, takes_too c s (Number c.kind z) scan r t.has_item b more)
+      ∙ integer_goes laws s base (width_of s) (visible c z) n.progress b is_int width (omega (arith, same, short)) n.is goes in
+      (Number c.kind z, fits, takes_too laws c s (Number c.kind z) scan r t.item b more)
 
   read_of : (z : ℤ) → IsOfKind c.kind z → NumberRead base c z
-  read_of z of_kind = number_is c s proper p assigned base is_int z of_kind
+  read_of z of_kind = number_is laws c s proper p assigned base is_int z of_kind
 
   body_of : (z : ℤ) → IsOfKind c.kind z → Body c z
-  body_of z of_kind = body_is c s proper p assigned base is_int z of_kind
+  body_of z of_kind = body_is laws c s proper p assigned base is_int z of_kind
 
   -- no zeros are asked for where `i` reads, and no mark is printed
   pub record Bare : Type 0 where
@@ -197,7 +197,7 @@ module _ (c : PrintConv) (s : Conversion) (base : Base) (is_int : s.shape ≡ sh
   bare : is_auto (shape.Int base) ≡ true → Bare
   bare auto =
       let signed = auto_signed c.letter base auto letters in
-      let none = auto_bare c s proper p assigned base is_int (some_digits c s proper p assigned base is_int) auto in
+      let none = auto_bare laws c s proper p assigned base is_int (some_digits laws c s proper p assigned base is_int) auto in
       record { one = none.0; pads = none.1; octal = ap is_octal signed; unmarked = ap base_mark signed }
 
   -- behind the text of 0, where a 0 doesn't change the radix, and else behind that of 1
@@ -209,7 +209,7 @@ module _ (c : PrintConv) (s : Conversion) (base : Base) (is_int : s.shape ≡ sh
       by true e =
           let k = bare e in
           let n = read_of (pos 1) of_kind.1 in
-          takes_into (pos 1) of_kind.1 (one_as_wide c (body_of (pos 0) of_kind.0) (body_of (pos 1) of_kind.1) k.one k.pads k.octal k.unmarked) n (elim n.end [
+          takes_into (pos 1) of_kind.1 (one_as_wide laws c (body_of (pos 0) of_kind.0) (body_of (pos 1) of_kind.1) k.one k.pads k.octal k.unmarked) n (elim n.end [
             | inl lone ↦ absurd (one_is_no_zero n.progress false lone n.value)
             | inr digits ↦ digits_go base false digits.0 n.progress digits.1 b digit
           ])
@@ -218,9 +218,9 @@ module _ (c : PrintConv) (s : Conversion) (base : Base) (is_int : s.shape ≡ sh
   letter_into : is_prefix_letter base b ≡ true → (is_auto (shape.Int base) ≡ true) ⊎ (length (least c) ≡ 1) → TakesInto c s b
   letter_into letter lone =
       let o = body_of (pos 0) of_kind.0 in
-      let none : o.filling ≡ 0 = elim lone [ inl auto ↦ (let k = bare auto in zero_unfilled c o k.one k.pads k.octal) | inr one ↦ lone_unfilled c o one ] in
+      let none : o.filling ≡ 0 = elim lone [ inl auto ↦ (let k = bare auto in zero_unfilled laws c o k.one k.pads k.octal) | inr one ↦ lone_unfilled laws c o one ] in
       let n = read_of (pos 0) of_kind.0 in
-      let at : n.progress ≡ Zero false = (let e : Some n.progress ≡ Some (Zero false) = sym n.is ∙ lone_zero_read base c (pos 0) (visible c (pos 0)) (unfilled c o none) in cc) in
+      let at : n.progress ≡ Zero false = (let e : Some n.progress ≡ Some (Zero false) = sym n.is ∙ lone_zero_read base c (pos 0) (visible c (pos 0)) (unfilled laws c o none) in cc) in
       takes_into (pos 0) of_kind.0 refl n (ap (λ (q : Progress). is_some (advance base q b)) at ∙ zero_goes base false b (inl letter))
 
   pub integer_into : stop_set (shape.Int base) c b ≡ true → TakesInto c s b

@@ -22,11 +22,10 @@ use Rattle.sf_run.specs.declared.outcome.Ending.TheVariants.{End}
 use Rattle.sf_run.specs.Steps.{StepEnd, Passes, Stores, Fails}
 use Rattle.sf_run.specs.Runs.{Ran, RunReport, Run, IsOpen, used, status_of, converted, report_of, is_conversion, passed}
 use Rattle.sf_run.specs.Computed.{skip_before, len, item_part, conversion_step, byte_choice, step_of, go_on, ran_of}
-use Rattle.sf_run.proofs.StepLaws.{step_within}
-use Rattle.sf_run.proofs.RunLaws.{steps_is}
-use Rattle.sf_run.proofs.Told.{one_report}
+use Rattle.sf_pair.specs.Below.{LawsBelow}
 use Rattle.sf_pair.specs.Groups.{is_count, IsConversionGroup, AreCut, assigns, next_of}
 use Rattle.sf_pair.specs.Laws.{read_back, AlignedEndsOnNothing, PrintsSome}
+use Rattle.sf_pair.proofs.Paired.{and_so}
 use Rattle.sf_pair.proofs.Whole.{round_trip}
 
 -- ---- what is used of nothing, and of one byte that is taken
@@ -43,14 +42,14 @@ after d x k n end ds e none = sum_by-cons (λ (r : Ran). r.bytes) (record { dire
     by (Stores slot v) = omega (arith, rest)
     by (Fails status) = omega arith
 
-used_none : (ds : List Directive) (n : ℕ) → used (ran_of ds [] n) ≡ 0
-used_none [] n = refl
-used_none (d ∷ ds) n =
-    let none : (step_of d [] n).0 ≡ 0 = omega (arith, step_within d [] n) in
-    after d [] (step_of d [] n).0 n (step_of d [] n).1 ds none (used_none ds) ∙ none
+used_none : LawsBelow → (ds : List Directive) (n : ℕ) → used (ran_of ds [] n) ≡ 0
+used_none laws [] n = refl
+used_none laws (d ∷ ds) n =
+    let none : (step_of d [] n).0 ≡ 0 = omega (arith, laws.within d [] n) in
+    after d [] (step_of d [] n).0 n (step_of d [] n).1 ds none (used_none laws ds) ∙ none
 
-one_used : (d : Directive) (ds : List Directive) (b : ℕ) → (step_of d (b ∷ []) 0).0 ≡ 1 → used (ran_of (d ∷ ds) (b ∷ []) 0) ≡ 1
-one_used d ds b one = after d (b ∷ []) (step_of d (b ∷ []) 0).0 0 (step_of d (b ∷ []) 0).1 ds one (used_none ds) ∙ one
+one_used : LawsBelow → (d : Directive) (ds : List Directive) (b : ℕ) → (step_of d (b ∷ []) 0).0 ≡ 1 → used (ran_of (d ∷ ds) (b ∷ []) 0) ≡ 1
+one_used laws d ds b one = after d (b ∷ []) (step_of d (b ∷ []) 0).0 0 (step_of d (b ∷ []) 0).1 ds one (used_none laws ds) ∙ one
 
 -- ---- some byte is taken
 
@@ -63,10 +62,6 @@ one_digit Dec = refl
 one_digit Oct = refl
 one_digit Hex = refl
 one_digit Auto = refl
-
-and_so : (a b : Bool) → a ≡ true → b ≡ true → (a && b) ≡ true
-and_so true b e h = h
-and_so false b e h = absurd cc
 
 takes_first : (s : Conversion) (b : ℕ) → can_take s (b ∷ []) ≡ true → len s [] (b ∷ []) ≡ 1
 takes_first s b e = ap (λ (t : Bool). cond t (suc (len s (b ∷ []) [])) 0) e
@@ -141,11 +136,11 @@ first_taken (directive.Conv s) ds us proper (group, rest, parts, is, more) =
     let t = one_taken s s.shape refl no_count proper.0 proper.1 in
     (t.byte, t.small, conversion_takes s 0 no_count proper.1 t)
 
-goes_on : (ds : List Directive) (us : List PrintUnit) → AreProper ds → AreCut ds us → list_any assigns ds ≡ true → IsOpen ds []
-goes_on [] us proper cut some = absurd cc
-goes_on (d ∷ ds) us proper cut some =
+goes_on : LawsBelow → (ds : List Directive) (us : List PrintUnit) → AreProper ds → AreCut ds us → list_any assigns ds ≡ true → IsOpen ds []
+goes_on laws [] us proper cut some = absurd cc
+goes_on laws (d ∷ ds) us proper cut some =
     let f = first_taken d ds us proper.0 cut in
-    (f.0, f.1, (ran_of (d ∷ ds) (f.0 ∷ []) 0, steps_is (d ∷ ds) proper (f.0 ∷ []) 0, one_used d ds f.0 f.2))
+    (f.0, f.1, (ran_of (d ∷ ds) (f.0 ∷ []) 0, (laws.runs (d ∷ ds) proper (f.0 ∷ []) 0 (ran_of (d ∷ ds) (f.0 ∷ []) 0)).1 refl, one_used laws d ds f.0 f.2))
 
 -- ---- the failure
 
@@ -178,15 +173,15 @@ fails_first (directive.Conv s ∷ ds) us n (group, rest, parts, is, more) some =
         by true = refl
         by false = refl
 
-pub ends_on_nothing : AlignedEndsOnNothing
-ends_on_nothing us ds proper aligned =
+pub ends_on_nothing : LawsBelow → AlignedEndsOnNothing
+ends_on_nothing laws us ds proper aligned =
     let f = fails_first ds us 0 aligned.cut aligned.assigned in
     record {
       report = report_of (ran_of ds [] 0) (Some End);
-      run = (ran_of ds [] 0, steps_is ds proper.proper [] 0, Some End, (goes_on ds us proper.proper aligned.cut aligned.assigned, refl), refl);
+      run = (ran_of ds [] 0, (laws.runs ds proper.proper [] 0 (ran_of ds [] 0)).1 refl, Some End, (goes_on laws ds us proper.proper aligned.cut aligned.assigned, refl), refl);
       status = f.0;
       converted = f.1;
-      used = used_none ds 0;
+      used = used_none laws ds 0;
       met = refl;
     }
 
@@ -199,15 +194,15 @@ empty (x ∷ xs) e = absurd (omega (arith, e))
 no_failure : (a b : RunReport) → a ≡ b → a.status ≡ Done → b.status ≡ InputFailure → ⊥
 no_failure a b e f g = let same : Done ≡ InputFailure = sym f ∙ ap (λ (r : RunReport). r.status) e ∙ g in absurd cc
 
-pub prints_some : PrintsSome
-prints_some us ds accepted proper aligned values fit = by (length (printed us values)) refl
+pub prints_some : LawsBelow → PrintsSome
+prints_some laws us ds accepted proper aligned values fit = by (length (printed us values)) refl
   where
     by : (n : ℕ) → length (printed us values) ≡ n → 0 < n
     by (suc n) e = omega arith
     by zero e =
         let e : printed us values ≡ [] = empty (printed us values) e in
-        let back : Run ds [] End (read_back us ds values) = subst (λ (x : List ℕ). Run ds x End (read_back us ds values)) (append-nil (printed us values) ∙ e) (round_trip us ds accepted proper aligned values fit [] End) in
-        let n = ends_on_nothing us ds proper aligned in
-        let o = one_report ds proper.proper 0 [] End in
+        let back : Run ds [] End (read_back us ds values) = subst (λ (x : List ℕ). Run ds x End (read_back us ds values)) (append-nil (printed us values) ∙ e) (round_trip laws us ds accepted proper aligned values fit [] End) in
+        let n = ends_on_nothing laws us ds proper aligned in
+        let o = laws.reports ds proper.proper 0 [] End in
         let short : length (printed us values) ≤ 0 = omega (arith, ap length e) in
         absurd (no_failure (read_back us ds values) n.report (o.only (read_back us ds values) (inl (short, back)) ∙ sym (o.only n.report (inl (omega (arith, n.used), n.run)))) refl n.status)

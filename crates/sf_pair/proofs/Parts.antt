@@ -1,5 +1,5 @@
 -- The parts of an integer's text: blanks, a sign, the mark of its base, zeros and its numeral.
-use Rattle.std.proofs.Common.{◌≡◌, ℕ, zero, suc, ◌+◌, ◌-◌, ◌<◌, ◌≤◌, Bool, true, false, cond, eqb, ◌&&◌, List, [], ◌∷◌, ◌++◌, length, ℤ, pos, negsuc, unsigned_abs, refl, sym, ap, ◌∙◌, arith, append_assoc, append-nil}
+use Rattle.std.proofs.Common.{◌≡◌, ℕ, zero, suc, ◌+◌, ◌-◌, ◌*◌, ◌<◌, ◌≤◌, lit≤, Bool, true, false, cond, eqb, ◌&&◌, List, [], ◌∷◌, ◌++◌, length, ℤ, pos, negsuc, unsigned_abs, refl, sym, ap, ◌∙◌, arith, append_assoc, append-nil}
 use Rattle.std.specs.Prelude.{not}
 use Rattle.std.proofs.lemmas.List.{replicate-append-replicate}
 use Rattle.std.proofs.lemmas.Bool.{ne_eqb}
@@ -8,7 +8,8 @@ use Rattle.sf_format.specs.declared.unit.PrintConv.{PrintConv}
 use Rattle.sf_format.specs.declared.unit.PrintLetter.{PrintLetter}
 use Rattle.sf_format.specs.declared.unit.PrintLetter.TheVariants as letter
 use Rattle.sf_print.specs.Text.{integer_text, sign, mark, prefix, numeral, all_digits, filled, is_octal, opens_with_zero, least_digits, blanks, zeros, left_blanks, inner_zeros, right_blanks, base_of, is_upper}
-use Rattle.sf_print.proofs.Digits.{digits_one}
+use Rattle.sf_print.specs.Numeral.{IsNumeralOf}
+use Rattle.sf_pair.specs.Below.{LawsBelow}
 
 -- ---- the sign
 
@@ -73,14 +74,35 @@ two_or_more letter.HexLower = omega arith
 two_or_more letter.HexUpper = omega arith
 two_or_more _ = omega arith
 
-pub zero_digit : (c : PrintConv) (m : ℕ) → m ≡ 0 → digits (base_of c.letter) (is_upper c.letter) m ≡ 48 ∷ []
-zero_digit c m e = let low = two_or_more c.letter in ap (digits (base_of c.letter) (is_upper c.letter)) e ∙ digits_one (base_of c.letter) (is_upper c.letter) 0 low (omega (arith, low))
+at_most_sixteen : (l : PrintLetter) → base_of l ≤ 16
+at_most_sixteen letter.Octal = omega arith
+at_most_sixteen letter.HexLower = omega arith
+at_most_sixteen letter.HexUpper = omega arith
+at_most_sixteen _ = omega arith
 
-pub one_digit : (c : PrintConv) → digits (base_of c.letter) (is_upper c.letter) 1 ≡ 49 ∷ []
-one_digit c = let low = two_or_more c.letter in digits_one (base_of c.letter) (is_upper c.letter) 1 low (omega (arith, low))
+module _ (laws : LawsBelow) (c : PrintConv) where
+  low : 2 ≤ base_of c.letter
+  low = two_or_more c.letter
 
-pub fill : (c : PrintConv) (m : ℕ) → 0 < least_digits c → 0 < length (digits (base_of c.letter) (is_upper c.letter) m) → Filled c m
-fill c m some any = by test refl
+  -- the numerals of 0 and 1 have one digit
+  pub zero_digit : (m : ℕ) → m ≡ 0 → digits (base_of c.letter) (is_upper c.letter) m ≡ 48 ∷ []
+  zero_digit m e =
+      let digit : IsNumeralOf (base_of c.letter) (is_upper c.letter) 0 (48 ∷ []) = record { numeral = (lit≤ tt, (omega (arith, low), tt)); value = none (base_of c.letter); in_case = (refl, tt); shortest = λ h. refl } in
+      ap (digits (base_of c.letter) (is_upper c.letter)) e ∙ sym (laws.only_numeral (base_of c.letter) (is_upper c.letter) 0 (48 ∷ []) low (at_most_sixteen c.letter) (lit≤ tt) digit)
+    where
+      none : (r : ℕ) → 0 * r + 0 ≡ 0
+      none r = omega arith
+
+  pub one_digit : digits (base_of c.letter) (is_upper c.letter) 1 ≡ 49 ∷ []
+  one_digit =
+      let digit : IsNumeralOf (base_of c.letter) (is_upper c.letter) 1 (49 ∷ []) = record { numeral = (lit≤ tt, (omega (arith, low), tt)); value = one (base_of c.letter); in_case = (refl, tt); shortest = λ h. refl } in
+      sym (laws.only_numeral (base_of c.letter) (is_upper c.letter) 1 (49 ∷ []) low (at_most_sixteen c.letter) (lit≤ tt) digit)
+    where
+      one : (r : ℕ) → 0 * r + 1 ≡ 1
+      one r = omega arith
+
+pub fill : LawsBelow → (c : PrintConv) (m : ℕ) → 0 < least_digits c → 0 < length (digits (base_of c.letter) (is_upper c.letter) m) → Filled c m
+fill laws c m some any = by test refl
   where
     ds : List ℕ
     ds = digits (base_of c.letter) (is_upper c.letter) m
@@ -109,14 +131,14 @@ fill c m some any = by test refl
       is = ap (λ (t : Bool). cond t (48 ∷ filled c (numeral c m)) (filled c (numeral c m))) e ∙ ap (λ (xs : List ℕ). 48 ∷ xs) filled_is;
       few = λ one no. let wrong : true ≡ false = sym e ∙ not_octal no in cc;
       enough = omega (arith, same);
-      of_zero = λ z. let wrong : true ≡ false = sym e ∙ not_opened (ap opens_with_zero filled_is ∙ zeros_first before ds (zero_digit c m z)) in cc;
+      of_zero = λ z. let wrong : true ≡ false = sym e ∙ not_opened (ap opens_with_zero filled_is ∙ zeros_first before ds (zero_digit laws c m z)) in cc;
     }
     by false e = record {
       lead = before;
       is = ap (λ (t : Bool). cond t (48 ∷ filled c (numeral c m)) (filled c (numeral c m))) e ∙ filled_is;
       few = λ one no. omega (arith, same, any, one);
       enough = omega (arith, same);
-      of_zero = λ z. let one = ap length (zero_digit c m z) in omega (arith, same, one, some);
+      of_zero = λ z. let one = ap length (zero_digit laws c m z) in omega (arith, same, one, some);
     }
 
 -- ---- the text

@@ -24,6 +24,7 @@ use Rattle.sf_print.specs.Text.{value_text, integer_text, bytes_text, shown_byte
 use Rattle.sf_run.specs.Steps.{Stores}
 use Rattle.sf_run.specs.Machine.{shape_skips, passed_end}
 use Rattle.sf_print.specs.Visible.{visible, least}
+use Rattle.sf_pair.specs.Below.{LawsBelow}
 use Rattle.sf_pair.specs.Neighbours.{Bytes as ByteTest, stop_set, integer_first, first_by_letter, only, or, any_byte}
 use Rattle.sf_pair.specs.Groups.{is_integer, is_text, is_chars, is_auto, letters_pair, width_of, always_full}
 use Rattle.sf_pair.specs.Fits.{is_negative, IsOfKind, TextFits, ValueFits}
@@ -101,7 +102,7 @@ reading c z b proper kind letter.HexUpper Hex e pair auto =
     record { number = hex_reading c z b (ap base_of e) n; sign = inr n; first = first_is c letter.HexUpper e (λ s. refl) }
 reading c z b proper kind _ _ e pair auto = absurd cc
 
-module _ (c : PrintConv) (s : Conversion) (proper : IsProperConv c) (p : Pairs c s) (assigned : is_some s.slot ≡ true) where
+module _ (laws : LawsBelow) (c : PrintConv) (s : Conversion) (proper : IsProperConv c) (p : Pairs c s) (assigned : is_some s.slot ≡ true) where
   at_int : (base : Base) → s.shape ≡ shape.Int base → is_integer s.shape ≡ true
   at_int base e = ap is_integer e
 
@@ -122,7 +123,7 @@ module _ (c : PrintConv) (s : Conversion) (proper : IsProperConv c) (p : Pairs c
 
   -- what is printed of a number of the kind, and how it is read
   pub body_is : (base : Base) → s.shape ≡ shape.Int base → (z : ℤ) → IsOfKind c.kind z → Body c z
-  body_is base e z of_kind = body_of c z p.right (some_digits base e) (small_of c.kind (is_negative z) (unsigned_abs z) z of_kind)
+  body_is base e z of_kind = body_of laws c z p.right (some_digits base e) (small_of c.kind (is_negative z) (unsigned_abs z) z of_kind)
 
   reading_is : (base : Base) (e : s.shape ≡ shape.Int base) (z : ℤ) (of_kind : IsOfKind c.kind z) → Reading c base z
   reading_is base e z of_kind =
@@ -135,7 +136,7 @@ module _ (c : PrintConv) (s : Conversion) (proper : IsProperConv c) (p : Pairs c
   integer_reads_back base e k z fits =
       let of_kind : IsOfKind c.kind z = subst (λ (k : Kind). IsOfKind k z) fits.0 fits.1 in
       let b : Body c z = body_is base e z of_kind in
-      let o : Body c (pos 0) = body_of c (pos 0) p.right (some_digits base e) (lit≤ tt) in
+      let o : Body c (pos 0) = body_of laws c (pos 0) p.right (some_digits base e) (lit≤ tt) in
       let r : Reading c base z = reading_is base e z of_kind in
       let width : s.width ≡ Some (width_of s) = width_is s (ap is_chars e) p.width in
       let short = least_is_shortest c z b o in
@@ -144,11 +145,11 @@ module _ (c : PrintConv) (s : Conversion) (proper : IsProperConv c) (p : Pairs c
         item = visible c z;
         text_is = b.text_is ∙ ap (λ (xs : List ℕ). blanks b.before ++ xs) (sym b.visible_is);
         skips = subst (λ (h : Shape). SkipsSo (shape_skips h) b.before (visible c z)) (sym e) (subst StartsInk (sym b.visible_is) b.ink);
-        takes = λ rest closed. integer_takes c s z base (width_of s) c.slot rest e width (slot_is c s p assigned) r.number (visible_some c z b) fits.2 (elim closed [
+        takes = λ rest closed. integer_takes laws c s z base (width_of s) c.slot rest e width (slot_is c s p assigned) r.number (visible_some c z b) fits.2 (elim closed [
           | inl full ↦ inl (omega (arith, int_full base e full, short, fits.2))
           | inr out ↦ inr (subst (λ (h : Shape). FirstOut (stop_set h c) rest) e out)
         ]);
-        stored = integer_stored c s z base (width_of s) c.slot [] e width (slot_is c s p assigned) r.number (visible_some c z b) fits.2 (subst (λ (k : Kind). IsOfKind k z) (kinds_are c.kind s.kind p.same) of_kind)
+        stored = integer_stored laws c s z base (width_of s) c.slot [] e width (slot_is c s p assigned) r.number (visible_some c z b) fits.2 (subst (λ (k : Kind). IsOfKind k z) (kinds_are c.kind s.kind p.same) of_kind)
             ∙ ap (λ (k : Kind). Stores c.slot (Number k z)) (sym (kinds_are c.kind s.kind p.same) ∙ sym fits.0);
         first = subst (λ (set : ByteTest). FirstIn set (integer_text c z)) (sym (r.first s.shape)) (integer_text_first c z b r.sign);
         first_byte = b.first_byte;
@@ -289,14 +290,14 @@ no_number : (k : Kind) (z : ℤ) → is_text_kind k ≡ true → IsOfKind k z �
 no_number kind.Text z e h = no_number_of_text z h
 no_number _ z e h = cc
 
-pub reads_back : (c : PrintConv) (s : Conversion) (v : Datum) → IsProperConv c → IsProperWidth s.width → HasItsWidth s.shape s.width → Pairs c s → is_some s.slot ≡ true → ValueFits c s v → ReadsBack c s v
-reads_back c s v proper width sized p assigned fits = by c.letter s.shape refl refl p.letters v fits
+pub reads_back : LawsBelow → (c : PrintConv) (s : Conversion) (v : Datum) → IsProperConv c → IsProperWidth s.width → HasItsWidth s.shape s.width → Pairs c s → is_some s.slot ≡ true → ValueFits c s v → ReadsBack c s v
+reads_back laws c s v proper width sized p assigned fits = by c.letter s.shape refl refl p.letters v fits
   where
     none_of : (l : PrintLetter) → c.letter ≡ l → ((k : Kind) → prints_kind l k ≡ true → is_text_kind k ≡ true) → (k : Kind) (z : ℤ) → ValueFits c s (Number k z) → ⊥
     none_of l a text k z f = no_number c.kind z (text c.kind (ap (λ (l : PrintLetter). prints_kind l c.kind) (sym a) ∙ proper.kind)) (subst (λ (k : Kind). IsOfKind k z) f.0 f.1)
 
     by : (l : PrintLetter) (h : Shape) → c.letter ≡ l → s.shape ≡ h → letters_pair l h ≡ true → (v : Datum) → ValueFits c s v → ReadsBack c s v
-    by l (shape.Int base) a e pair (Number k z) f = integer_reads_back c s proper p assigned base e k z f
+    by l (shape.Int base) a e pair (Number k z) f = integer_reads_back laws c s proper p assigned base e k z f
     by l (shape.Int base) a e pair (Bytes bytes) f = absurd (subst (λ (h : Shape). TextFits h (width_of s) bytes) e f.1)
     by letter.Text shape.Text a e pair (Bytes bytes) f = text_reads_back c s p assigned a e bytes f
     by letter.Text (shape.Set members) a e pair (Bytes bytes) f = set_reads_back c s p assigned a members e bytes f

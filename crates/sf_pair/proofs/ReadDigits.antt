@@ -1,13 +1,12 @@
 -- How far an integer is read with the digits of its text.
-use Rattle.std.proofs.Common.{◌≡◌, ℕ, ◌+◌, ◌*◌, ◌<◌, ◌≤◌, ◌⊎◌, inl, inr, Bool, true, false, cond, nat_eq, List, [], ◌∷◌, Option, Some, None, refl, sym, ap, subst, ◌∙◌, arith, lit≤}
-use Rattle.std.proofs.lemmas.Bool.{lt-ltb}
+use Rattle.std.proofs.Common.{◌≡◌, ℕ, ◌+◌, ◌*◌, ◌<◌, ◌≤◌, ◌⊎◌, inl, inr, Bool, true, false, cond, ◌||◌, nat_eq, ap₂, List, [], ◌∷◌, Option, Some, None, refl, sym, ap, ◌∙◌, arith, lit≤}
+use Rattle.std.proofs.lemmas.Bool.{eqb-true, lt-ltb, ne_eqb}
 use Rattle.std.specs.Char.{digit_value}
 use Rattle.std.specs.Str.Parse.{AllDigits, digits_value, digits_value_after}
 use Rattle.sf_format.specs.declared.directive.Base.{Base}
 use Rattle.sf_format.specs.declared.directive.Base.TheVariants.{Dec, Oct, Hex, Auto}
-use Rattle.sf_item.specs.Progress.{Progress, Zero, Prefix, Digits, first_radix, zero_radix, with_digit, with_first_digit, advance}
+use Rattle.sf_item.specs.Progress.{Progress, Zero, Prefix, Digits, first_radix, zero_radix, is_prefix_letter, with_digit, with_first_digit, advance}
 use Rattle.sf_item.specs.Tests.{read}
-use Rattle.sf_item.proofs.Integers.{by_eq, by_x, IsX}
 
 pub digit_taken : (s : Bool) (r v d : ℕ) → digit_value d < r → with_digit s r v d ≡ Some (Digits s r (v * r + digit_value d))
 digit_taken s r v d h = ap (λ (t : Bool). cond t (Some (Digits s r (v * r + digit_value d))) None) (lt-ltb (digit_value d) r h)
@@ -16,18 +15,21 @@ pub reads_on : (base : Base) (s : Bool) (r v : ℕ) (ds : List ℕ) → AllDigit
 reads_on base s r v [] h = refl
 reads_on base s r v (d ∷ ds) h = ap (λ (o : Option Progress). read base o ds) (digit_taken s r v d h.0) ∙ reads_on base s r (v * r + digit_value d) ds h.1
 
-x_is_no_digit : (b : ℕ) → IsX b → 16 ≤ digit_value b
-x_is_no_digit b (inl e) = subst (λ (x : ℕ). 16 ≤ digit_value x) (sym e) (lit≤ tt)
-x_is_no_digit b (inr e) = subst (λ (x : ℕ). 16 ≤ digit_value x) (sym e) (lit≤ tt)
+is_no_letter : (d letter : ℕ) → digit_value d < 16 → 16 ≤ digit_value letter → nat_eq d letter ≡ false
+is_no_letter d letter h above = ne_eqb d letter (λ e. let same : digit_value d ≡ digit_value letter = ap digit_value e in omega (arith, same))
+
+no_letter : (d : ℕ) → digit_value d < 16 → (nat_eq d 120 || nat_eq d 88) ≡ false
+no_letter d h = ap₂ (λ (x y : Bool). x || y) (is_no_letter d 120 h (lit≤ tt)) (is_no_letter d 88 h (lit≤ tt))
 
 -- no digit is the letter of a prefix
+no_prefix : (base : Base) (d : ℕ) → digit_value d < 16 → is_prefix_letter base d ≡ false
+no_prefix Dec d h = refl
+no_prefix Oct d h = refl
+no_prefix Hex d h = no_letter d h
+no_prefix Auto d h = no_letter d h
+
 digit_after_zero : (base : Base) (s : Bool) (d : ℕ) → digit_value d < 16 → advance base (Zero s) d ≡ with_digit s (zero_radix base) 0 d
-digit_after_zero Dec s d h = refl
-digit_after_zero Oct s d h = refl
-digit_after_zero Hex s d h =
-    by_x d (λ v. cond v (Some (Prefix s)) (with_digit s 16 0 d) ≡ with_digit s 16 0 d) (λ x. let n = x_is_no_digit d x in absurd (omega (arith, n))) (λ x. refl)
-digit_after_zero Auto s d h =
-    by_x d (λ v. cond v (Some (Prefix s)) (with_digit s 8 0 d) ≡ with_digit s 8 0 d) (λ x. let n = x_is_no_digit d x in absurd (omega (arith, n))) (λ x. refl)
+digit_after_zero base s d h = ap (λ (t : Bool). cond t (Some (Prefix s)) (with_digit s (zero_radix base) 0 d)) (no_prefix base d h)
 
 -- after the digits ds: one 0 alone may still be that of a prefix
 abbrev pub IsRead : Bool → ℕ → List ℕ → Progress → Type 0
@@ -44,10 +46,10 @@ no_first_zero r d = omega arith
 -- from where a first digit is due
 pub first_digits : (base : Base) (q : Progress) (s : Bool) (r d : ℕ) (ds : List ℕ) → advance base q d ≡ with_first_digit base s d → first_radix base ≡ r → r ≤ 16
     → (zero_radix base ≡ r) ⊎ (d ≡ 48 → ds ≡ []) → AllDigits r (d ∷ ds) → DigitsRead base q s r (d ∷ ds)
-first_digits base q s r d ds opens first small second all = by_eq d 48 (λ v. nat_eq d 48 ≡ v → DigitsRead base q s r (d ∷ ds)) zero_first other refl
+first_digits base q s r d ds opens first small second all = by (nat_eq d 48) refl
   where
-    other : (d ≡ 48 → ⊥) → nat_eq d 48 ≡ false → DigitsRead base q s r (d ∷ ds)
-    other n e = record {
+    other : nat_eq d 48 ≡ false → DigitsRead base q s r (d ∷ ds)
+    other e = record {
       progress = Digits s r (digits_value r (d ∷ ds));
       is = ap (λ (o : Option Progress). read base o ds) (opens ∙ ap (λ (t : Bool). cond t (Some (Zero s)) (with_digit s (first_radix base) 0 d)) e ∙ ap (λ (k : ℕ). with_digit s k 0 d) first ∙ digit_taken s r 0 d all.0)
           ∙ reads_on base s r (0 * r + digit_value d) ds all.1;
@@ -66,5 +68,9 @@ first_digits base q s r d ds opens first small second all = by_eq d 48 (λ v. na
       end = inr refl;
     }
 
-    zero_first : d ≡ 48 → nat_eq d 48 ≡ true → DigitsRead base q s r (d ∷ ds)
-    zero_first e t = after_zero ds all.1 second e (ap (λ (o : Option Progress). read base o ds) (opens ∙ ap (λ (t : Bool). cond t (Some (Zero s)) (with_digit s (first_radix base) 0 d)) t))
+    zero_first : nat_eq d 48 ≡ true → DigitsRead base q s r (d ∷ ds)
+    zero_first t = after_zero ds all.1 second (eqb-true d 48 t) (ap (λ (o : Option Progress). read base o ds) (opens ∙ ap (λ (t : Bool). cond t (Some (Zero s)) (with_digit s (first_radix base) 0 d)) t))
+
+    by : (t : Bool) → nat_eq d 48 ≡ t → DigitsRead base q s r (d ∷ ds)
+    by true e = zero_first e
+    by false e = other e

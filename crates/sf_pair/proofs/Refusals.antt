@@ -13,7 +13,7 @@ use Rattle.sf_format.specs.Proper.{IsSized, IsProper}
 use Rattle.sf_print.specs.Printed.{printed}
 use Rattle.sf_run.specs.Steps.{Passes, Step}
 use Rattle.sf_run.specs.Computed.{skip}
-use Rattle.sf_run.proofs.StepLaws.{step_is}
+use Rattle.sf_pair.specs.Below.{LawsBelow}
 use Rattle.sf_pair.specs.declared.fault.PairWhy.TheVariants as why
 use Rattle.sf_pair.specs.Neighbours.{only, meet, first_by, reads, stop_set}
 use Rattle.sf_pair.specs.Groups.{always_full, follow_fault, closing_fault, keeps_space, AreSpace, starts_with_space, space_fault, pairing_fault, next_of}
@@ -32,10 +32,10 @@ space_skipped [] h = refl
 space_skipped (unit.Byte b ∷ us) h = ap (λ (t : Bool). cond t (suc (skip (printed us [] ++ 32 ∷ []))) 0) h.0 ∙ (let e = space_skipped us h.1 in omega (arith, e))
 space_skipped (unit.Conv c ∷ us) h = absurd h
 
-space_runs_past : (us : List PrintUnit) → AreSpace us → RunsPast directive.Space us
-space_runs_past us h =
+space_runs_past : LawsBelow → (us : List PrintUnit) → AreSpace us → RunsPast directive.Space us
+space_runs_past laws us h =
     let x : List ℕ = printed us [] ++ 32 ∷ [] in
-    (printed us [], 32, lit≤ tt, refl, λ n. (Passes, subst (λ (k : ℕ). Step directive.Space x n k Passes) (space_skipped us h) (step_is directive.Space tt x n)))
+    (printed us [], 32, lit≤ tt, refl, λ n. (Passes, subst (λ (k : ℕ). Step directive.Space x n k Passes) (space_skipped us h) ((laws.steps directive.Space tt x n (skip x) Passes).1 refl)))
 
 none_left : (us kept : List PrintUnit) (read : Shape) → leaves (space_fault us read) kept ≡ Err why.OpenEnd → us ≡ []
 none_left [] kept read e = refl
@@ -77,40 +77,40 @@ closed_on c s b us read e = by (always_full c s) (meet (only b) (stop_set s.shap
     by false true e = (refl, refl)
     by false false e = absurd cc
 
-open_here : (d : Directive) (us : List PrintUnit) (next : Option Directive) → IsProper d → IsSized d → AreProperUnits us → take_group d us next ≡ Err why.OpenEnd → RunsPast d us
-open_here directive.Space us next proper sized units e = space_runs_past us (space_open us next e)
-open_here (directive.Byte b) us next proper sized units e = absurd (literal_never why.OpenEnd refl (only b) us e)
-open_here directive.Percent us next proper sized units e = absurd (literal_never why.OpenEnd refl (only 37) us e)
-open_here (directive.Conv s) us next proper sized units e =
+open_here : LawsBelow → (d : Directive) (us : List PrintUnit) (next : Option Directive) → IsProper d → IsSized d → AreProperUnits us → take_group d us next ≡ Err why.OpenEnd → RunsPast d us
+open_here laws directive.Space us next proper sized units e = space_runs_past laws us (space_open us next e)
+open_here laws (directive.Byte b) us next proper sized units e = absurd (literal_never why.OpenEnd refl (only b) us e)
+open_here laws directive.Percent us next proper sized units e = absurd (literal_never why.OpenEnd refl (only 37) us e)
+open_here laws (directive.Conv s) us next proper sized units e =
     let o = unclosed why.OpenEnd refl s us next e in
     let k = closed_open o.conversion s o.rest (reads next) o.closing in
     let units_are : us ≡ unit.Conv o.conversion ∷ [] = o.units_are ∙ ap (λ (t : List PrintUnit). unit.Conv o.conversion ∷ t) k.1 in
     let here : IsProperConv o.conversion × Unit {0} = subst AreProperUnits units_are units in
-    subst (RunsPast (directive.Conv s)) (sym units_are) (runs_past o.conversion s here.0 proper sized (pairs o.conversion s o.pairing) o.assigned k.0)
+    subst (RunsPast (directive.Conv s)) (sym units_are) (runs_past laws o.conversion s here.0 proper sized (pairs o.conversion s o.pairing) o.assigned k.0)
 
 -- a literal that follows is taken too
-on_here : (d : Directive) (us : List PrintUnit) (next : Option Directive) → IsProper d → IsSized d → AreProperUnits us → take_group d us next ≡ Err why.RunsOn → RunsInto d us
-on_here directive.Space us next proper sized units e = tt
-on_here (directive.Byte b) us next proper sized units e = tt
-on_here directive.Percent us next proper sized units e = tt
-on_here (directive.Conv s) [] next proper sized units e = tt
-on_here (directive.Conv s) (unit.Byte b ∷ us) next proper sized units e = tt
-on_here (directive.Conv s) (unit.Conv c ∷ []) next proper sized units e = tt
-on_here (directive.Conv s) (unit.Conv c ∷ unit.Conv a ∷ us) next proper sized units e = tt
-on_here (directive.Conv s) (unit.Conv c ∷ unit.Byte b ∷ us) next proper sized units e =
+on_here : LawsBelow → (d : Directive) (us : List PrintUnit) (next : Option Directive) → IsProper d → IsSized d → AreProperUnits us → take_group d us next ≡ Err why.RunsOn → RunsInto d us
+on_here laws directive.Space us next proper sized units e = tt
+on_here laws (directive.Byte b) us next proper sized units e = tt
+on_here laws directive.Percent us next proper sized units e = tt
+on_here laws (directive.Conv s) [] next proper sized units e = tt
+on_here laws (directive.Conv s) (unit.Byte b ∷ us) next proper sized units e = tt
+on_here laws (directive.Conv s) (unit.Conv c ∷ []) next proper sized units e = tt
+on_here laws (directive.Conv s) (unit.Conv c ∷ unit.Conv a ∷ us) next proper sized units e = tt
+on_here laws (directive.Conv s) (unit.Conv c ∷ unit.Byte b ∷ us) next proper sized units e =
     let o = unclosed why.RunsOn refl s (unit.Conv c ∷ unit.Byte b ∷ us) next e in
     let same : o.conversion ≡ c = (let parts = o.units_are in cc) in
     let rest : o.rest ≡ unit.Byte b ∷ us = (let parts = o.units_are in cc) in
     let pairing = sym (ap (λ (a : PrintConv). pairing_fault a s) same) ∙ o.pairing in
     let k = closed_on c s b us (reads next) ((λ i. closing_fault (sym same i) s (sym rest i) (reads next)) ∙ o.closing) in
-    runs_into c s units.0 proper sized (pairs c s pairing) o.assigned k.0 b units.1.0 (met_by b (stop_set s.shape c) k.1)
+    runs_into laws c s units.0 proper sized (pairs c s pairing) o.assigned k.0 b units.1.0 (met_by laws.tried b (stop_set s.shape c) k.1)
 
-pub open_ends_are_open : OpenEndsAreOpen
-open_ends_are_open us ds accepted proper f e is =
+pub open_ends_are_open : LawsBelow → OpenEndsAreOpen
+open_ends_are_open laws us ds accepted proper f e is =
     let m = stops_by us ds accepted proper f (ap follows is) e in
-    (m.stopper, m.left, stops_at us ds f m, open_here m.stopper m.left (next_of m.after) m.proper m.sized m.units (m.refused ∙ ap Err is))
+    (m.stopper, m.left, stops_at us ds f m, open_here laws m.stopper m.left (next_of m.after) m.proper m.sized m.units (m.refused ∙ ap Err is))
 
-pub literals_are_run_into : LiteralsAreRunInto
-literals_are_run_into us ds accepted proper f e is =
+pub literals_are_run_into : LawsBelow → LiteralsAreRunInto
+literals_are_run_into laws us ds accepted proper f e is =
     let m = stops_by us ds accepted proper f (ap follows is) e in
-    (m.stopper, m.left, stops_at us ds f m, on_here m.stopper m.left (next_of m.after) m.proper m.sized m.units (m.refused ∙ ap Err is))
+    (m.stopper, m.left, stops_at us ds f m, on_here laws m.stopper m.left (next_of m.after) m.proper m.sized m.units (m.refused ∙ ap Err is))

@@ -1,5 +1,5 @@
 -- An item that could go on with the byte behind its text takes that byte.
-use Rattle.std.proofs.Common.{◌≡◌, ℕ, ◌+◌, true, List, [], ◌∷◌, ◌++◌, length, drop, sym, ap, subst, ◌∙◌, arith, append_assoc, append-nil, length-append}
+use Rattle.std.proofs.Common.{◌≡◌, ℕ, ◌+◌, true, List, [], ◌∷◌, ◌++◌, length, drop, refl, sym, ap, subst, ◌∙◌, arith, append_assoc, append-nil, length-append}
 use Rattle.std.proofs.lemmas.List.{drop_at, length-replicate}
 use Rattle.sf_base.specs.Data.{Datum}
 use Rattle.sf_format.specs.declared.directive.Shape.{Shape}
@@ -8,19 +8,18 @@ use Rattle.sf_format.specs.declared.directive.Conversion.{Conversion}
 use Rattle.sf_format.specs.declared.directive.Directive.TheVariants.{Conv}
 use Rattle.sf_format.specs.declared.unit.PrintConv.{PrintConv}
 use Rattle.sf_format.specs.Proper.{IsProper}
-use Rattle.sf_item.specs.Tests.{can_take}
-use Rattle.sf_item.proofs.Fronts.{HasItem, length_more}
+use Rattle.sf_item.specs.Tests.{can_take, has_item}
 use Rattle.sf_print.specs.Text.{value_text, blanks}
 use Rattle.sf_run.specs.Steps.{StepEnd, Step}
 use Rattle.sf_run.specs.Machine.{shape_skips}
-use Rattle.sf_run.proofs.StepLaws.{step_is}
 use Rattle.sf_run.specs.Computed.{skip, len, skip_before, step_of}
+use Rattle.sf_pair.specs.Below.{LawsBelow}
 use Rattle.sf_pair.specs.Laws.{TakesToo}
 use Rattle.sf_pair.proofs.Taken.{len_is, by_shape}
 use Rattle.sf_pair.proofs.ReadBack.{SkipsSo, ReadsBack}
 use Rattle.sf_pair.proofs.Ahead.{skip_blanks}
 
-module _ (c : PrintConv) (s : Conversion) (v : Datum) (proper : IsProper (Conv s)) (r : ReadsBack c s v) (has_item : HasItem s.shape) (b : ℕ) (more : can_take s (r.item ++ b ∷ []) ≡ true) where
+module _ (laws : LawsBelow) (c : PrintConv) (s : Conversion) (v : Datum) (proper : IsProper (Conv s)) (r : ReadsBack c s v) (item : has_item s.shape ≡ true) (b : ℕ) (more : can_take s (r.item ++ b ∷ []) ≡ true) where
   whole : value_text c v ++ b ∷ [] ≡ blanks r.before ++ (r.item ++ b ∷ [])
   whole = ap (λ (t : List ℕ). t ++ b ∷ []) r.text_is ∙ append_assoc (blanks r.before) r.item (b ∷ [])
 
@@ -32,19 +31,19 @@ module _ (c : PrintConv) (s : Conversion) (v : Datum) (proper : IsProper (Conv s
   takes_bytes : (step_of (Conv s) (value_text c v ++ b ∷ []) 0).0 ≡ length (value_text c v) + 1
   takes_bytes =
       let x : List ℕ = value_text c v ++ b ∷ [] in
-      let item : List ℕ = r.item ++ b ∷ [] in
+      let all_of : List ℕ = r.item ++ b ∷ [] in
       let before : skip_before s.shape x ≡ r.before = skipped_by s.shape r.skips in
-      let rest : drop (skip_before s.shape x) x ≡ item = (λ i. drop (before i) (whole i)) ∙ drop_at (blanks r.before) item r.before (length-replicate r.before 32) in
-      let all : len s [] item ≡ length item = ap (len s []) (sym (append-nil item)) ∙ len_is s [] item [] more tt in
-      let taken : len s [] (drop (skip_before s.shape x) x) ≡ length item = ap (len s []) rest ∙ all in
+      let rest : drop (skip_before s.shape x) x ≡ all_of = (λ i. drop (before i) (whole i)) ∙ drop_at (blanks r.before) all_of r.before (length-replicate r.before 32) in
+      let all : len s [] all_of ≡ length all_of = ap (len s []) (sym (append-nil all_of)) ∙ len_is laws s [] all_of [] more tt in
+      let taken : len s [] (drop (skip_before s.shape x) x) ≡ length all_of = ap (len s []) rest ∙ all in
       let text : length (value_text c v) ≡ r.before + length r.item = ap length r.text_is ∙ omega (arith, length-append (blanks r.before) r.item, length-replicate {A = ℕ} r.before 32) in
-      ap (λ (k : ℕ × StepEnd). k.0) (by_shape s s.shape x 0 has_item) ∙ omega (arith, before, taken, text, length_more r.item b)
+      ap (λ (k : ℕ × StepEnd). k.0) (by_shape s s.shape x 0 item) ∙ omega (arith, before, taken, text, length-append r.item (b ∷ []))
 
   takes_at : (n : ℕ) → (step_of (Conv s) (value_text c v ++ b ∷ []) n).0 ≡ (step_of (Conv s) (value_text c v ++ b ∷ []) 0).0
-  takes_at n = ap (λ (k : ℕ × StepEnd). k.0) (by_shape s s.shape (value_text c v ++ b ∷ []) n has_item ∙ sym (by_shape s s.shape (value_text c v ++ b ∷ []) 0 has_item))
+  takes_at n = ap (λ (k : ℕ × StepEnd). k.0) (by_shape s s.shape (value_text c v ++ b ∷ []) n item ∙ sym (by_shape s s.shape (value_text c v ++ b ∷ []) 0 item))
 
   -- the step of the conversion takes the byte behind the text too
   pub takes_too : TakesToo (Conv s) (value_text c v) b
   takes_too n =
       let x : List ℕ = value_text c v ++ b ∷ [] in
-      ((step_of (Conv s) x n).1, subst (λ (k : ℕ). Step (Conv s) x n k (step_of (Conv s) x n).1) (takes_at n ∙ takes_bytes) (step_is (Conv s) proper x n))
+      ((step_of (Conv s) x n).1, subst (λ (k : ℕ). Step (Conv s) x n k (step_of (Conv s) x n).1) (takes_at n ∙ takes_bytes) ((laws.steps (Conv s) proper x n (step_of (Conv s) x n).0 (step_of (Conv s) x n).1).1 refl))

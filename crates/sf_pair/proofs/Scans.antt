@@ -13,6 +13,7 @@ use Rattle.sf_run.specs.Limits.{RunWithin}
 use Rattle.sf_run.specs.Stopping.{is_memory_status}
 use Rattle.sf_read.specs.Ahead.{Ahead, input_of}
 use Rattle.sf_read.specs.Scan.{Scan, is_fault}
+use Rattle.sf_pair.specs.Below.{LawsBelow}
 use Rattle.sf_pair.specs.Groups.{IsAligned}
 use Rattle.sf_pair.specs.Fits.{Fit}
 use Rattle.sf_pair.specs.Laws.{read_back}
@@ -50,12 +51,12 @@ le_or_lt zero k = inl (omega arith)
 le_or_lt (suc n) zero = inr (omega arith)
 le_or_lt (suc n) (suc k) = elim (le_or_lt n k) [ inl h ↦ inl (omega arith) | inr h ↦ inr (omega arith) ]
 
-module _ {S : Type 0} (to_come : S → Option (List ℕ)) (us : List PrintUnit) (ds : List Directive) (accepted : AreAccepted us) (proper : IsAccepted ds) (aligned : IsAligned us ds) (values : List Datum) (fit : Fit us ds values)
+module _ (laws : LawsBelow) {S : Type 0} (to_come : S → Option (List ℕ)) (us : List PrintUnit) (ds : List Directive) (accepted : AreAccepted us) (proper : IsAccepted ds) (aligned : IsAligned us ds) (values : List Datum) (fit : Fit us ds values)
     (m : ℕ) (fits : length (printed us values) ≤ m) (z : List ℕ) (old new : Ahead S) (report : RunReport) (scan : Scan to_come ds m (printed us values ++ z) old new report) (stored : is_memory_status report.status ≡ false) where
   -- the source didn't fail
   whole : is_fault report.met ≡ false → report ≡ read_back us ds values
   whole e = elim (scan.whole e) [
-    | inl w ↦ read_within us ds accepted proper aligned values fit m fits z End report w
+    | inl w ↦ read_within laws us ds accepted proper aligned values fit m fits z End report w
     | inr w ↦ absurd (true≢false (sym (ap (λ (r : RunReport). is_memory_status r.status) w.2.3) ∙ stored))
   ]
 
@@ -63,7 +64,7 @@ module _ {S : Type 0} (to_come : S → Option (List ℕ)) (us : List PrintUnit) 
   cut : is_fault report.met ≡ true → length (printed us values) ≤ report.used → report ≡ read_back us ds values
   cut e behind =
       let run = subst (λ (x : List ℕ). RunWithin ds m x Fault report) (take_past (printed us values) z report.used behind) (scan.cut e) in
-      read_within us ds accepted proper aligned values fit m fits (take (report.used - length (printed us values)) z) Fault report run
+      read_within laws us ds accepted proper aligned values fit m fits (take (report.used - length (printed us values)) z) Fault report run
 
   pub report_is : (is_fault report.met ≡ false) ⊎ (length (printed us values) ≤ report.used) → report ≡ read_back us ds values
   report_is (inl e) = whole e
@@ -77,7 +78,7 @@ module _ {S : Type 0} (to_come : S → Option (List ℕ)) (us : List PrintUnit) 
   pub asked : (x block : List ℕ) → printed us values ++ new.held ≡ x ++ block → IsOpen ds x → length x < length (printed us values)
   asked x block e goes = either (length (printed us values)) (length x) (λ h. h) (λ h.
       let front : x ≡ printed us values ++ drop (length (printed us values)) x = longer_front (printed us values) new.held x block e h in
-      absurd (not_open us ds accepted proper aligned values fit (drop (length (printed us values)) x) (subst (IsOpen ds) front goes)))
+      absurd (not_open laws us ds accepted proper aligned values fit (drop (length (printed us values)) x) (subst (IsOpen ds) front goes)))
     where
       either : {P : Type 0} (n k : ℕ) → (k < n → P) → (n ≤ k → P) → P
       either n k f g = elim (le_or_lt n k) [ inl h ↦ g h | inr h ↦ f h ]
@@ -112,15 +113,15 @@ same_scan us ds f e = ap (λ (f : Formats). f.scan) e
 pub aligned_of : (us : List PrintUnit) (ds : List Directive) → IsChecked us ds → IsAligned us ds
 aligned_of us ds checked = (aligned_is_accepted us ds).0 checked.found
 
-pub reads_whole : {S : Type 0} (to_come : S → Option (List ℕ)) (us : List PrintUnit) (ds : List Directive) → IsChecked us ds → (values : List Datum) → Fit us ds values
+pub reads_whole : LawsBelow → {S : Type 0} (to_come : S → Option (List ℕ)) (us : List PrintUnit) (ds : List Directive) → IsChecked us ds → (values : List Datum) → Fit us ds values
     → (m : ℕ) → length (printed us values) ≤ m → (z : List ℕ) (old new : Ahead S) (report : RunReport) → Scan to_come ds m (printed us values ++ z) old new report → is_memory_status report.status ≡ false
     → ReadsBackWhole to_come us ds values z old new report
-reads_whole to_come us ds checked values fit m fits z old new report scan stored = λ h.
+reads_whole laws to_come us ds checked values fit m fits z old new report scan stored = λ h.
     let aligned : IsAligned us ds = aligned_of us ds checked in
-    let is : report ≡ read_back us ds values = report_is to_come us ds checked.printed checked.scanned aligned values fit m fits z old new report scan stored h in
+    let is : report ≡ read_back us ds values = report_is laws to_come us ds checked.printed checked.scanned aligned values fit m fits z old new report scan stored h in
     record {
       report_is = is;
-      row = subst (AreRowOf (length values) values) (sym (ap (λ (r : RunReport). r.values) is)) (row_of_printed us values checked.printed fit.count);
-      left = rest_is to_come us ds checked.printed checked.scanned aligned values fit m fits z old new report scan stored h;
-      read = not_behind to_come us ds checked.printed checked.scanned aligned values fit m fits z old new report scan stored is;
+      row = subst (AreRowOf (length values) values) (sym (ap (λ (r : RunReport). r.values) is)) (row_of_printed laws us values checked.printed fit.count);
+      left = rest_is laws to_come us ds checked.printed checked.scanned aligned values fit m fits z old new report scan stored h;
+      read = not_behind laws to_come us ds checked.printed checked.scanned aligned values fit m fits z old new report scan stored is;
     }

@@ -9,6 +9,7 @@ use Rattle.sf_format.specs.declared.unit.Unit.TheVariants as unit
 use Rattle.sf_format.specs.Slots.{Slotted}
 use Rattle.sf_format.specs.Units.{values_of}
 use Rattle.sf_format.specs.Proper.{destinations_of}
+use Rattle.sf_pair.specs.Below.{LawsBelow}
 use Rattle.sf_pair.specs.Groups.{is_count, AreSpace, IsConversionGroup, IsGroup, AreCut, next_of}
 use Rattle.sf_pair.specs.Laws.{AlignedSlotsAgree}
 use Rattle.sf_pair.proofs.SlotRows.{row_of_printed}
@@ -38,8 +39,8 @@ counts (directive.Byte b ∷ ds) us (group, rest, parts, is, more) = ap (λ (us 
 counts (directive.Percent ∷ ds) us (group, rest, parts, is, more) = ap (λ (us : List PrintUnit). length (values_of us)) parts ∙ literal_has_none group rest is.0 is.1 ∙ counts ds rest more
 counts (directive.Conv s ∷ ds) us (group, rest, parts, is, more) = ap (λ (us : List PrintUnit). length (values_of us)) parts ∙ conversion_has s ds group rest is (counts ds rest more)
 
-pub slots_agree : AlignedSlotsAgree
-slots_agree us ds accepted proper aligned values fit = record {
-  row = row_of_printed us values accepted fit.count;
+pub slots_agree : LawsBelow → AlignedSlotsAgree
+slots_agree laws us ds accepted proper aligned values fit = record {
+  row = row_of_printed laws us values accepted fit.count;
   count = fit.count ∙ counts ds us aligned.cut;
 }

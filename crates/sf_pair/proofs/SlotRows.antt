@@ -9,9 +9,9 @@ use Rattle.sf_format.specs.declared.unit.Unit.{Unit as PrintUnit}
 use Rattle.sf_format.specs.declared.unit.Unit.TheVariants as unit
 use Rattle.sf_format.specs.Slots.{Slotted, kind_with, slots_from}
 use Rattle.sf_format.specs.Units.{AreAccepted, values_of}
-use Rattle.sf_format.proofs.SlotLookups.{kinds_are}
 use Rattle.sf_print.specs.Printed.{value_at}
 use Rattle.sf_run.specs.Rows.{AreRowOf}
+use Rattle.sf_pair.specs.Below.{LawsBelow}
 use Rattle.sf_pair.specs.Laws.{with_value, printed_values}
 
 same_slot : (a b : ℕ) → nat_eq a b ≡ true → a ≡ b
@@ -69,8 +69,8 @@ at_place values k = by (1 + k) (omega arith)
         ap (λ (t : Bool). cond t None (slice_get values (suc n - 1))) (let none : nat_eq (suc n) 0 ≡ false = grind (arith, nat_tests) in none)
         ∙ ap (slice_get values) {x = suc n - 1} {y = k} (omega (arith, e))
 
-pub row_of_printed : (us : List PrintUnit) (values : List Datum) → AreAccepted us → length values ≡ length (values_of us) → AreRowOf (length values) values (printed_values us values)
-row_of_printed us values accepted count =
+pub row_of_printed : LawsBelow → (us : List PrintUnit) (values : List Datum) → AreAccepted us → length values ≡ length (values_of us) → AreRowOf (length values) values (printed_values us values)
+row_of_printed laws us values accepted count =
     each (λ slot. datum_at slot (printed_values us values)) values 1 (λ k below.
     let v = there values k below in
-    given us values (1 + k) v.0 (at_place values k ∙ v.1) ((kinds_are (1 + k) (values_of us) accepted.slots).1 (omega arith, omega (arith, count))) ∙ sym v.1)
+    given us values (1 + k) v.0 (at_place values k ∙ v.1) ((laws.kinds (1 + k) (values_of us) accepted.slots).1 (omega arith, omega (arith, count))) ∙ sym v.1)

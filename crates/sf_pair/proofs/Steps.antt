@@ -18,6 +18,7 @@ use Rattle.sf_run.specs.Steps.{StepEnd, Passes, Stores, Fails}
 use Rattle.sf_run.specs.Runs.{is_conversion, is_shape_converted}
 use Rattle.sf_run.specs.Machine.{shape_skips}
 use Rattle.sf_run.specs.Computed.{skip, skip_before, byte_step, byte_choice, step_of}
+use Rattle.sf_pair.specs.Below.{LawsBelow}
 use Rattle.sf_pair.specs.Neighbours.{only}
 use Rattle.sf_pair.specs.Groups.{IsLiteral, AreSpace, is_count, next_of}
 use Rattle.sf_pair.specs.Laws.{with_value, printed_values}
@@ -53,7 +54,7 @@ literal_gains values d group rest b e =
 literal_text : (values : List Datum) (group rest : List PrintUnit) (z : List ℕ) (b : ℕ) → group ≡ unit.Byte b ∷ [] → printed (group ++ rest) values ++ z ≡ b ∷ (printed rest values ++ z)
 literal_text values group rest z b e = ap (λ (g : List PrintUnit). printed (g ++ rest) values ++ z) e
 
-module _ (values : List Datum) (z : List ℕ) (ds : List Directive) (group rest : List PrintUnit) (x : List ℕ) (n : ℕ) (proper : AreProperUnits rest) (cut : FitCut values ds rest) where
+module _ (laws : LawsBelow) (values : List Datum) (z : List ℕ) (ds : List Directive) (group rest : List PrintUnit) (x : List ℕ) (n : ℕ) (proper : AreProperUnits rest) (cut : FitCut values ds rest) where
   byte_moves : (b : ℕ) → IsLiteral (only b) group → x ≡ printed (group ++ rest) values ++ z → Move values (directive.Byte b) group rest (next_of ds) x z n
   byte_moves b (a, is, same) e =
       let f : x ≡ a ∷ (printed rest values ++ z) = e ∙ literal_text values group rest z a is in
@@ -126,8 +127,8 @@ module _ (values : List Datum) (z : List ℕ) (ds : List Directive) (group rest 
       ap (λ (t : List ℕ). t ++ z) (paired_text values s group rest (next_of ds) p ∙ ap (λ (t : List ℕ). t ++ printed rest values) b.text_is)
       ∙ append_assoc (blanks b.before ++ b.item) (printed rest values) z ∙ append_assoc (blanks b.before) b.item y in
       let e : drop (skip_before s.shape x) x ≡ b.item ++ y = item_ahead s b.before b.item y (shape_skips s.shape) refl b.skips (subst (At (Some (directive.Conv s)) x) whole at) in
-      let takes : Takes s b.item y = b.takes y (closed_by values z p.conversion s ds rest proper cut p.closed) in
-      conversion_moves s b.item (Stores p.conversion.slot p.value) e takes (conversion_taken s x b.item y n e takes ∙ ap (λ (end : StepEnd). (skip_before s.shape x + length b.item, end)) b.stored) (
+      let takes : Takes s b.item y = b.takes y (closed_by laws.tried values z p.conversion s ds rest proper cut p.closed) in
+      conversion_moves s b.item (Stores p.conversion.slot p.value) e takes (conversion_taken laws s x b.item y n e takes ∙ ap (λ (end : StepEnd). (skip_before s.shape x + length b.item, end)) b.stored) (
         converts s p.no_count,
         ap (λ (g : List PrintUnit). length (values_of (g ++ rest))) p.group_is ∙ (let k : suc (length (values_of rest)) ≡ length (values_of rest) + 1 = omega arith in k),
         ap (λ (g : List PrintUnit). printed_values (g ++ rest) values) p.group_is ∙ ap (λ (o : Option Datum). cons_option (with_value p.conversion.slot o) (printed_values rest values)) p.at,
@@ -137,7 +138,7 @@ module _ (values : List Datum) (z : List ℕ) (ds : List Directive) (group rest 
   literal_moves s l at =
       let y : List ℕ = printed rest values ++ z in
       let e : drop (skip_before s.shape x) x ≡ (l.byte ∷ []) ++ y = ap (λ (k : ℕ). drop k x) (no_skip_before s l.skips_none) ∙ at_unskipped (directive.Conv s) x _ l.skips_none at ∙ literal_text values group rest z l.byte l.group_is in
-      conversion_moves s (l.byte ∷ []) Passes e (l.takes y) (conversion_taken s x (l.byte ∷ []) y n e (l.takes y) ∙ ap (λ (end : StepEnd). (skip_before s.shape x + 1, end)) (suppressed_passes s (l.byte ∷ []) l.slot))
+      conversion_moves s (l.byte ∷ []) Passes e (l.takes y) (conversion_taken laws s x (l.byte ∷ []) y n e (l.takes y) ∙ ap (λ (end : StepEnd). (skip_before s.shape x + 1, end)) (suppressed_passes s (l.byte ∷ []) l.slot))
       (literal_gains values (directive.Conv s) group rest l.byte l.group_is)
 
   pub move : (d : Directive) → GroupReads values d group rest (next_of ds) → At (Some d) x (printed (group ++ rest) values ++ z) → Move values d group rest (next_of ds) x z n
@@ -145,7 +146,7 @@ module _ (values : List Datum) (z : List ℕ) (ds : List Directive) (group rest 
     bytes = skip x;
     end = Passes;
     is = refl;
-    left = subst (λ (t : List ℕ). At (next_of ds) t (printed rest values ++ z)) (sym (at_skipped directive.Space x _ at ∙ space_run values group rest z is.1)) (next_ready values z ds rest proper cut is.2 is.3);
+    left = subst (λ (t : List ℕ). At (next_of ds) t (printed rest values ++ z)) (sym (at_skipped directive.Space x _ at ∙ space_run values group rest z is.1)) (next_ready laws.tried values z ds rest proper cut is.2 is.3);
     gains = space_gains values group rest is.1;
   }
   move (directive.Byte b) is (inl e) = byte_moves b is e

@@ -6,17 +6,14 @@ use Rattle.sf_base.specs.Data.{Datum, Assigned}
 use Rattle.sf_format.specs.declared.directive.Directive.{Directive}
 use Rattle.sf_format.specs.declared.unit.Unit.{Unit as PrintUnit}
 use Rattle.sf_format.specs.Units.{IsProperUnit, AreProperUnits, AreAccepted, values_of}
-use Rattle.sf_format.specs.Proper.{IsAccepted}
+use Rattle.sf_format.specs.Proper.{AreProper, IsAccepted}
 use Rattle.sf_print.specs.Printed.{printed}
 use Rattle.sf_run.specs.declared.outcome.Status.TheVariants.{Done}
 use Rattle.sf_run.specs.Steps.{StepEnd, Passes, Stores, Fails}
-use Rattle.sf_run.specs.Runs.{RunReport, IsOpen, is_conversion}
+use Rattle.sf_run.specs.Runs.{RunReport, Uses, used, IsOpen, is_conversion}
 use Rattle.sf_run.specs.Residual.{Tally, nothing_yet, with_used, counted, out_of, then_on, run_of}
-use Rattle.sf_run.proofs.StepLaws.{step_within}
-use Rattle.sf_run.proofs.Ones.{one_made}
-use Rattle.sf_run.proofs.RunLaws.{steps_is}
-use Rattle.sf_run.proofs.Told.{run_told, uses_is}
 use Rattle.sf_run.specs.Computed.{step_of, part_of, ran_of}
+use Rattle.sf_pair.specs.Below.{LawsBelow}
 use Rattle.sf_pair.specs.Groups.{IsAligned, next_of}
 use Rattle.sf_pair.specs.Fits.{Fit}
 use Rattle.sf_pair.specs.Laws.{printed_values, read_back, RoundTrip}
@@ -39,10 +36,10 @@ pub record Reads (ds : List Directive) (us : List PrintUnit) (values : List Datu
   pub runs : run_of None ds at t x ≡ out_of Done 0 (total t used us ds values)
 
 -- one step that passes
-step_on : (d : Directive) (ds : List Directive) (at : ℕ) (t : Tally) (x : List ℕ) (k : ℕ) (end : StepEnd) → step_of d x t.used ≡ (k, end)
+step_on : LawsBelow → (d : Directive) (ds : List Directive) (at : ℕ) (t : Tally) (x : List ℕ) (k : ℕ) (end : StepEnd) → step_of d x t.used ≡ (k, end)
     → run_of None (d ∷ ds) at t x ≡ then_on None d at t (part_of t.used x (k, end)) (run_of None ds (at + 1))
-step_on d ds at t x k end e =
-    ap (λ p. then_on None d at t p (run_of None ds (at + 1))) (one_made d x t.used) ∙ ap (λ r. then_on None d at t (part_of t.used x r) (run_of None ds (at + 1))) e
+step_on laws d ds at t x k end e =
+    ap (λ p. then_on None d at t p (run_of None ds (at + 1))) (laws.machine d x t.used) ∙ ap (λ r. then_on None d at t (part_of t.used x r) (run_of None ds (at + 1))) e
 
 abbrev tally : ℕ → ℕ → ℕ → List Assigned → Tally
 tally u a c v = record { used = u; assigned = a; converted = c; values = v }
@@ -58,7 +55,7 @@ more_assigned : (b : Bool) (n k l : ℕ) → b ≡ true → l ≡ k + 1 → cond
 more_assigned true n k l e f = omega arith
 more_assigned false n k l e f = absurd cc
 
-module _ (values : List Datum) where
+module _ (laws : LawsBelow) (values : List Datum) where
   -- the totals after the first step, with those of the rest
   gained : (d : Directive) (ds : List Directive) (group rest : List PrintUnit) (t : Tally) (k used : ℕ) (end : StepEnd) → Gains values d end group rest
       → total (counted d end (with_used (t.used + k) t)) used rest ds values ≡ total t used (group ++ rest) (d ∷ ds) values
@@ -75,12 +72,12 @@ module _ (values : List Datum) where
   goes_on d ds group rest at t x z k Passes is within g r = record {
     used = r.used;
     used_is = omega (arith, r.used_is, length-drop k x);
-    runs = step_on d ds at t x k Passes is ∙ r.runs ∙ ap (out_of Done 0) (gained d ds group rest t k r.used Passes g);
+    runs = step_on laws d ds at t x k Passes is ∙ r.runs ∙ ap (out_of Done 0) (gained d ds group rest t k r.used Passes g);
   }
   goes_on d ds group rest at t x z k (Stores slot v) is within g r = record {
     used = r.used;
     used_is = omega (arith, r.used_is, length-drop k x);
-    runs = step_on d ds at t x k (Stores slot v) is ∙ r.runs ∙ ap (out_of Done 0) (gained d ds group rest t k r.used (Stores slot v) g);
+    runs = step_on laws d ds at t x k (Stores slot v) is ∙ r.runs ∙ ap (out_of Done 0) (gained d ds group rest t k r.used (Stores slot v) g);
   }
   goes_on d ds group rest at t x z k (Fails status) is within g r = absurd g
 
@@ -97,35 +94,38 @@ module _ (values : List Datum) where
       let F : List PrintUnit → Type 0 = λ us. Reads (d ∷ ds) us values at t x z in
       let A : List PrintUnit → Type 0 = λ us. At (Some d) x (printed us values ++ z) in
       let here : AreProperUnits rest = all_rest IsProperUnit group rest (subst AreProperUnits parts proper) in
-      let m = move values z ds group rest x t.used here more d is (subst A parts ahead) in
-      let within : m.bytes ≤ length x = subst (λ (k : ℕ). k ≤ length x) (ap (λ (r : ℕ × StepEnd). r.0) m.is) (step_within d x t.used) in
+      let m = move laws values z ds group rest x t.used here more d is (subst A parts ahead) in
+      let within : m.bytes ≤ length x = subst (λ (k : ℕ). k ≤ length x) (ap (λ (r : ℕ × StepEnd). r.0) m.is) (laws.within d x t.used) in
       subst F (sym parts) (goes_on d ds group rest at t x z m.bytes m.end m.is within m.gains (reads_all ds rest (at + 1) (counted d m.end (with_used (t.used + m.bytes) t)) (drop m.bytes x) z here more m.left))
 
 -- ---- the run
 
-run_is : (us : List PrintUnit) (ds : List Directive) → AreAccepted us → IsAccepted ds → IsAligned us ds → (values : List Datum) → Fit us ds values → (z : List ℕ)
+run_is : LawsBelow → (us : List PrintUnit) (ds : List Directive) → AreAccepted us → IsAccepted ds → IsAligned us ds → (values : List Datum) → Fit us ds values → (z : List ℕ)
     → run_of None ds 1 nothing_yet (printed us values ++ z) ≡ read_back us ds values
-run_is us ds accepted proper aligned values fit z =
-    let r = reads_all values ds us 1 nothing_yet (printed us values ++ z) z accepted.proper (fit_cut values ds us proper.proper proper.sized accepted.proper aligned.cut fit.each) (at_same (next_of ds) _ _ refl) in
+run_is laws us ds accepted proper aligned values fit z =
+    let r = reads_all laws values ds us 1 nothing_yet (printed us values ++ z) z accepted.proper (fit_cut laws values ds us proper.proper proper.sized accepted.proper aligned.cut fit.each) (at_same (next_of ds) _ _ refl) in
     let used : r.used ≡ length (printed us values) = omega (arith, r.used_is, length-append (printed us values) z) in
     r.runs ∙ (λ i. out_of Done 0 (record { used = used i; assigned = zero-add (length (values_of us)) i; converted = zero-add (count_by is_conversion ds) i; values = printed_values us values }))
 
+used_is : LawsBelow → (ds : List Directive) → AreProper ds → (x : List ℕ) (k : ℕ) → Uses ds x k → (run_of None ds 1 nothing_yet x).used ≡ k
+used_is laws ds proper x k (ran, steps, is) = ap (λ (r : RunReport). r.used) (laws.told ds x) ∙ ap used (sym ((laws.runs ds proper x 0 ran).0 steps)) ∙ is
+
 -- a byte more changes nothing
-pub not_open : (us : List PrintUnit) (ds : List Directive) → AreAccepted us → IsAccepted ds → IsAligned us ds → (values : List Datum) → Fit us ds values → (z : List ℕ) → IsOpen ds (printed us values ++ z) → ⊥
-not_open us ds accepted proper aligned values fit z (b, small, uses) =
-    let one : (run_of None ds 1 nothing_yet ((printed us values ++ z) ++ b ∷ [])).used ≡ length (printed us values ++ z) + 1 = uses_is ds proper.proper ((printed us values ++ z) ++ b ∷ []) _ uses in
+pub not_open : LawsBelow → (us : List PrintUnit) (ds : List Directive) → AreAccepted us → IsAccepted ds → IsAligned us ds → (values : List Datum) → Fit us ds values → (z : List ℕ) → IsOpen ds (printed us values ++ z) → ⊥
+not_open laws us ds accepted proper aligned values fit z (b, small, uses) =
+    let one : (run_of None ds 1 nothing_yet ((printed us values ++ z) ++ b ∷ [])).used ≡ length (printed us values ++ z) + 1 = used_is laws ds proper.proper ((printed us values ++ z) ++ b ∷ []) (length (printed us values ++ z) + 1) uses in
     let same : (run_of None ds 1 nothing_yet ((printed us values ++ z) ++ b ∷ [])).used ≡ length (printed us values) =
-    ap (λ (y : List ℕ). (run_of None ds 1 nothing_yet y).used) (append_assoc (printed us values) z (b ∷ [])) ∙ ap (λ (r : RunReport). r.used) (run_is us ds accepted proper aligned values fit (z ++ b ∷ [])) in
+    ap (λ (y : List ℕ). (run_of None ds 1 nothing_yet y).used) (append_assoc (printed us values) z (b ∷ [])) ∙ ap (λ (r : RunReport). r.used) (run_is laws us ds accepted proper aligned values fit (z ++ b ∷ [])) in
     omega (arith, one, same, length-append (printed us values) z)
 
 -- the scan of a printed text, whatever follows it
-pub round_trip : RoundTrip
-round_trip us ds accepted proper aligned values fit z ending =
+pub round_trip : LawsBelow → RoundTrip
+round_trip laws us ds accepted proper aligned values fit z ending =
     let x : List ℕ = printed us values ++ z in
-    let steps = steps_is ds proper.proper x 0 in (
+    let steps = (laws.runs ds proper.proper x 0 (ran_of ds x 0)).1 refl in (
       ran_of ds x 0,
       steps,
       None,
-      not_open us ds accepted proper aligned values fit z,
-      sym (run_is us ds accepted proper aligned values fit z) ∙ run_told ds proper.proper x (ran_of ds x 0) steps,
+      not_open laws us ds accepted proper aligned values fit z,
+      sym (run_is laws us ds accepted proper aligned values fit z) ∙ laws.told ds x,
     )

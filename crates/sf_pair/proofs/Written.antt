@@ -11,6 +11,7 @@ use Rattle.sf_format.specs.Units.{values_of}
 use Rattle.sf_print.specs.declared.fault.PrintFault.{PrintFault}
 use Rattle.sf_print.specs.declared.fault.PrintFault.TheVariants as fault
 use Rattle.sf_print.specs.Printed.{printed, unit_fault, fault_or_none, lower, lowest_fault, length_or_fault, measured, most_bytes}
+use Rattle.sf_pair.specs.Below.{LawsBelow}
 use Rattle.sf_pair.specs.Groups.{AreSpace, next_of}
 use Rattle.sf_pair.specs.Formats.{Formats, IsChecked}
 use Rattle.sf_pair.specs.Fits.{Fit}
@@ -43,26 +44,26 @@ unfaulted values (d ∷ ds) us (group, rest, parts, is, more) =
     ap (λ (us : List PrintUnit). lowest_fault us values) parts ∙ group_unfaulted values d group rest (next_of ds) is ∙ unfaulted values ds rest more
 
 -- values that fit are measured by the length alone
-pub fit_measured : (us : List PrintUnit) (ds : List Directive) → IsChecked us ds → (values : List Datum) → Fit us ds values → measured us values ≡ length_or_fault None (length (printed us values))
-fit_measured us ds checked values fit =
-    let none = unfaulted values ds us (fit_cut values ds us checked.scanned.proper checked.scanned.sized checked.printed.proper (aligned_of us ds checked).cut fit.each) in
+pub fit_measured : LawsBelow → (us : List PrintUnit) (ds : List Directive) → IsChecked us ds → (values : List Datum) → Fit us ds values → measured us values ≡ length_or_fault None (length (printed us values))
+fit_measured laws us ds checked values fit =
+    let none = unfaulted values ds us (fit_cut laws values ds us checked.scanned.proper checked.scanned.sized checked.printed.proper (aligned_of us ds checked).cut fit.each) in
     let count : nat_eq (length values) (length (values_of us)) ≡ true = (let e = fit.count in grind (arith, nat_tests)) in
     ap (λ (t : Bool). cond (not t) (Err fault.WrongCount) (length_or_fault (lowest_fault us values) (length (printed us values)))) count
     ∙ ap (λ (f : Option PrintFault). length_or_fault f (length (printed us values))) none
 
-pub short_measured : (us : List PrintUnit) (ds : List Directive) → IsChecked us ds → (values : List Datum) → Fit us ds values → length (printed us values) ≤ 2147483647 → measured us values ≡ Ok (length (printed us values))
-short_measured us ds checked values fit short =
+pub short_measured : LawsBelow → (us : List PrintUnit) (ds : List Directive) → IsChecked us ds → (values : List Datum) → Fit us ds values → length (printed us values) ≤ 2147483647 → measured us values ≡ Ok (length (printed us values))
+short_measured laws us ds checked values fit short =
     let within : nat_le (length (printed us values)) most_bytes ≡ true = grind (arith, nat_tests) in
-    fit_measured us ds checked values fit ∙ ap (λ (t : Bool). cond t (Ok (length (printed us values))) (Err fault.TooLong)) within
+    fit_measured laws us ds checked values fit ∙ ap (λ (t : Bool). cond t (Ok (length (printed us values))) (Err fault.TooLong)) within
 
-pub long_measured : (us : List PrintUnit) (ds : List Directive) → IsChecked us ds → (values : List Datum) → Fit us ds values → 2147483647 < length (printed us values) → measured us values ≡ Err fault.TooLong
-long_measured us ds checked values fit long =
+pub long_measured : LawsBelow → (us : List PrintUnit) (ds : List Directive) → IsChecked us ds → (values : List Datum) → Fit us ds values → 2147483647 < length (printed us values) → measured us values ≡ Err fault.TooLong
+long_measured laws us ds checked values fit long =
     let beyond : nat_le (length (printed us values)) most_bytes ≡ false = grind (arith, nat_tests) in
-    fit_measured us ds checked values fit ∙ ap (λ (t : Bool). cond t (Ok (length (printed us values))) (Err fault.TooLong)) beyond
+    fit_measured laws us ds checked values fit ∙ ap (λ (t : Bool). cond t (Ok (length (printed us values))) (Err fault.TooLong)) beyond
 
 -- ---- as the contract of a pair sees it
 
-module _ (us : List PrintUnit) (ds : List Directive) (f : Formats) (same : record { print = us; scan = ds } ≡ f) (checked : IsChecked us ds) (values : List Datum) (fit : Fit f.print f.scan values) where
+module _ (laws : LawsBelow) (us : List PrintUnit) (ds : List Directive) (f : Formats) (same : record { print = us; scan = ds } ≡ f) (checked : IsChecked us ds) (values : List Datum) (fit : Fit f.print f.scan values) where
   fit_inside : Fit us ds values
   fit_inside = subst (λ (f : Formats). Fit f.print f.scan values) (sym same) fit
 
@@ -70,8 +71,8 @@ module _ (us : List PrintUnit) (ds : List Directive) (f : Formats) (same : recor
   same_length = ap (λ (f : Formats). length (printed f.print values)) same
 
   pub long_refused : 2147483647 < length (printed f.print values) → (P : PrintFault → Type 0) → IfErr (measured us values) P → P fault.TooLong
-  long_refused long P h = subst (λ (r : Result ℕ PrintFault). IfErr r P) (long_measured us ds checked values fit_inside (omega (arith, long, same_length))) h
+  long_refused long P h = subst (λ (r : Result ℕ PrintFault). IfErr r P) (long_measured laws us ds checked values fit_inside (omega (arith, long, same_length))) h
 
   pub short_written : length (printed f.print values) ≤ 2147483647 → (Q : List PrintUnit → Type 0) → OnOk (measured us values) (Q us) → Q f.print
   short_written short Q h =
-      subst (λ (f : Formats). Q f.print) same (subst (λ (r : Result ℕ PrintFault). OnOk r (Q us)) (short_measured us ds checked values fit_inside (omega (arith, short, same_length))) h)
+      subst (λ (f : Formats). Q f.print) same (subst (λ (r : Result ℕ PrintFault). OnOk r (Q us)) (short_measured laws us ds checked values fit_inside (omega (arith, short, same_length))) h)

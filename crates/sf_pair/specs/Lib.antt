@@ -1,3 +1,4 @@
+pub mod Below
 pub mod Neighbours
 pub mod Groups
 pub mod Walk

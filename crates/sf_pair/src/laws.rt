@@ -4,6 +4,8 @@ ghost use Rattle.sf_pair.specs.Walk.{AlignedIsAccepted};
 ghost use Rattle.sf_pair.specs.Fits.{FitsIsFit};
 ghost use Rattle.sf_pair.specs.Laws.{AlignedEndsOnNothing, AlignedIsBounded, AlignedSlotsAgree, HeldIsBounded, LiteralsAreRunInto, OpenEndsAreOpen, PrintsSome, ReadWithin, RoundTrip};
 
+use crate::below::laws_below;
+
 /// The walk finds no fault exactly where the formats are aligned.
 pub fn aligned_is_accepted()
     ensures { AlignedIsAccepted }
@@ -17,17 +19,23 @@ pub fn fits_is_fit()
 /// What a print format prints of values that fit, an aligned scan format reads back, whatever follows.
 pub fn round_trip()
     ensures { RoundTrip }
-{}
+{
+    laws_below();
+}
 
 /// The same under a limit, and no other report.
 pub fn read_within()
     ensures { ReadWithin }
-{}
+{
+    laws_below();
+}
 
 /// What is read back are the values slot by slot, and aligned formats have as many slots.
 pub fn slots_agree()
     ensures { AlignedSlotsAgree }
-{}
+{
+    laws_below();
+}
 
 /// A scan format that is aligned with a print format has a width sum.
 pub fn aligned_is_bounded()
@@ -37,12 +45,16 @@ pub fn aligned_is_bounded()
 /// No text that is printed of values that fit is empty.
 pub fn prints_some()
     ensures { PrintsSome }
-{}
+{
+    laws_below();
+}
 
 /// On the empty input a run of an aligned scan format meets the end, before any conversion has completed.
 pub fn ends_on_nothing()
     ensures { AlignedEndsOnNothing }
-{}
+{
+    laws_below();
+}
 
 /// The texts that a report holds have together at most as many bytes as the width sum of the format.
 pub fn held_is_bounded()
@@ -52,10 +64,14 @@ pub fn held_is_bounded()
 /// Where an open end is told, a byte behind some text that is printed there is taken too.
 pub fn open_ends_are_open()
     ensures { OpenEndsAreOpen }
-{}
+{
+    laws_below();
+}
 
 /// Where it is told that an item runs on and a literal comes next, the literal is taken too, behind the text of some value
 /// that fits.
 pub fn literals_are_run_into()
     ensures { LiteralsAreRunInto }
-{}
+{
+    laws_below();
+}

@@ -1,6 +1,7 @@
 //! Pairs of a print format and a scan format that reads back what it prints.
 #![tactic(auto)]
 
+mod below;
 mod fault;
 mod fitting;
 pub mod laws;

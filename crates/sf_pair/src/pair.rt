@@ -21,6 +21,7 @@ ghost use Rattle.sf_pair.specs.Fits.{Fit, fits};
 ghost use Rattle.sf_pair.specs.Reading.{ReadsBackWhole};
 ghost use Rattle.sf_pair.specs.Writing.{WritesWhole, is_sink_failure};
 
+use crate::below::laws_below;
 use crate::fault::{PairFault, WriteFault};
 use crate::fitting::all_fit;
 use crate::walk::pair_fault;
@@ -103,6 +104,7 @@ impl<'f> Pair<'f> {
             → WritesWhole (K.contents to.old) (K.contents to.new) (printed self.now.print (map datum_of values.now)) result }
         ensures failures { K.failures to.new ≡ (if is_sink_failure result then sinks.counted_on (K.failures to.old) else K.failures to.old) }
     {
+        laws_below();
         if !self.fits(values) {
             return Err(WriteFault::NotFitting);
         }
@@ -135,6 +137,7 @@ impl<'f> Pair<'f> {
         ensures memory { IfErr result (λ fault. (fault ≡ StartFault.BadLimit) ⊎ (fault ≡ StartFault.NoMemory)) }
         ensures unread { IfErr result (λ _. from.new ≡ from.old) }
     {
+        laws_below();
         fscan(alloc, from, self.scan, limit)
     }
 
@@ -163,6 +166,7 @@ impl<'f> Pair<'f> {
         ensures memory { IsErrOf result StartFault.NoMemory → ⊥ }
         ensures unread { IfErr result (λ _. from.new ≡ from.old) }
     {
+        laws_below();
         fscan_fixed(from, self.scan, limit)
     }
 }

@@ -11,6 +11,7 @@ use crate::neighbours::{goes_on, may_begin, pads_with_zeros};
 use sf_base::{Rule, first_fault};
 use sf_format::{Base, Conversion, PrintConv, PrintLetter, Shape, Unit};
 use sf_print::least_len;
+use sf_run::laws::bytes_are_tried;
 
 fn is_integer(read: &Shape) -> bool
     ensures { result ≡ is_integer read.now }
@@ -166,6 +167,7 @@ fn runs_on(conv: &PrintConv, read: &Shape, follower: &Unit, next: &Shape) -> boo
     for k in 0..256u16 {
         let b = k as u8;
         if may_begin(follower, next, b) && goes_on(read, lone, b) {
+            bytes_are_tried();
             return true;
         }
     }

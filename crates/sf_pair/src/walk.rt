@@ -12,6 +12,7 @@ use crate::neighbours::may_begin;
 use crate::pairing::{closing_fault, pairing_fault};
 use sf_base::is_space;
 use sf_format::{Conversion, Directive, Shape, Unit};
+use sf_run::laws::bytes_are_tried;
 
 /// How the next directive reads: its shape, where it is an assigned conversion; `none`, which is Count, where it isn't.
 fn reads<'a>(after: &'a [Directive], none: &'a Shape) -> &'a Shape
@@ -87,6 +88,7 @@ fn may_begin_with_space(unit: &Unit, read: &Shape) -> bool
     for k in 0..256u16 {
         let b = k as u8;
         if may_begin(unit, read, b) && is_space(b) {
+            bytes_are_tried();
             return true;
         }
     }

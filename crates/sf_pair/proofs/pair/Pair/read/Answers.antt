@@ -33,4 +33,4 @@ returns-clause-back g c = λ values fit z input fits.
     both_ok c.fscan.result
     (subst (λ (ds : List Directive). IfOk c.fscan.result (Scan g.S.Source.to_come ds c.args.limit (printed f.print values ++ z) c.args.from.now c.fscan.new.from)) (same_scan us ds f c.self.view_is) (c.fscan.ensures.scan _ input))
     (c.fscan.ensures.bounded (aligned_is_bounded c.self.inside.print.now c.self.inside.scan.now c.self.invariant.scanned (aligned_of c.self.inside.print.now c.self.inside.scan.now c.self.invariant)))
-    (λ report scan stored. reads_whole g.S.Source.to_come f.print f.scan (checked_of us ds f c.self.view_is c.self.invariant) values fit c.args.limit fits z c.args.from.now c.fscan.new.from report scan stored)
+    (λ report scan stored. reads_whole c.laws_below.ensures g.S.Source.to_come f.print f.scan (checked_of us ds f c.self.view_is c.self.invariant) values fit c.args.limit fits z c.args.from.now c.fscan.new.from report scan stored)

@@ -35,4 +35,4 @@ returns-clause-back g c = λ values fit z input fits.
     both_ok c.fscan_fixed.result
     (subst (λ (ds : List Directive). IfOk c.fscan_fixed.result (Scan g.S.Source.to_come ds c.args.limit (printed f.print values ++ z) c.args.from.now c.fscan_fixed.new.from)) (same_scan us ds f c.self.view_is) (c.fscan_fixed.ensures.scan _ input))
     c.fscan_fixed.ensures.bounded
-    (λ report scan stored. reads_whole g.S.Source.to_come f.print f.scan (checked_of us ds f c.self.view_is c.self.invariant) values fit c.args.limit fits z c.args.from.now c.fscan_fixed.new.from report scan stored)
+    (λ report scan stored. reads_whole c.laws_below.ensures g.S.Source.to_come f.print f.scan (checked_of us ds f c.self.view_is c.self.invariant) values fit c.args.limit fits z c.args.from.now c.fscan_fixed.new.from report scan stored)

@@ -1,0 +1,19 @@
+-- What the crates below say by their laws.
+use Rattle.sf_format.specs.Laws.{JustSlotsHaveKinds}
+use Rattle.sf_item.specs.Laws.{FrontsCanBeTaken, ReadingsGoOn}
+use Rattle.sf_print.specs.Numeral.{AreNumerals, OnlyNumeral}
+use Rattle.sf_run.specs.Laws.{EachByteIsTried, EachHasOneReport, EachMachineSteps, EachRunIsComputed, EachRunIsTold, EachStepIsComputed, EachStepIsWithin}
+
+pub record LawsBelow : Type 0 where
+  pub kinds : JustSlotsHaveKinds
+  pub numerals : AreNumerals
+  pub only_numeral : OnlyNumeral
+  pub fronts : FrontsCanBeTaken
+  pub parts : ReadingsGoOn
+  pub steps : EachStepIsComputed
+  pub within : EachStepIsWithin
+  pub machine : EachMachineSteps
+  pub runs : EachRunIsComputed
+  pub told : EachRunIsTold
+  pub reports : EachHasOneReport
+  pub tried : EachByteIsTried

@@ -1,0 +1,21 @@
+//! What the crates below say by their laws, in one place.
+ghost use Rattle.sf_pair.specs.Below.{LawsBelow};
+
+use sf_format::laws::slots_have_kinds;
+use sf_item::laws::fronts_go_on;
+use sf_print::laws::{are_numerals, only_numeral};
+use sf_run::laws::{bytes_are_tried, one_report, runs_are_computed, steps_are_computed};
+
+/// It does nothing: its contract is what their laws say.
+pub(crate) fn laws_below()
+    ensures { LawsBelow }
+{
+    slots_have_kinds();
+    are_numerals();
+    only_numeral();
+    fronts_go_on();
+    steps_are_computed();
+    runs_are_computed();
+    one_report();
+    bytes_are_tried();
+}
