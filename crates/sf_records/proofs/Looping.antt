@@ -59,6 +59,15 @@ begins w to_come ds m t now was failures e = record {
   no_failure = refl;
 }
 
+-- a lookahead that is as before
+pub same_ahead : {S : Type 0} {w : Work} {to_come : S → Option (List ℕ)} {ds : List Directive} {m : ℕ} {t : List ℕ} {now new : Ahead S} {was is : Option (List ℕ)} {failures n : ℕ}
+    (failures_of : S → ℕ) → new ≡ now → Going w to_come ds m t now was is failures (failures_of now.source) n → Going w to_come ds m t new was is failures (failures_of new.source) n
+same_ahead failures_of e g = rw e g
+
+-- a scan whose report is known by another name
+pub scan_as : {S : Type 0} {to_come : S → Option (List ℕ)} {ds : List Directive} {m : ℕ} {t : List ℕ} {old new : Ahead S} {r named : RunReport} → named ≡ r → Scan to_come ds m t old new r → Scan to_come ds m t old new named
+scan_as e scan = rw e scan
+
 -- ---- lists
 
 -- the parts of the input before and after a record

@@ -13,7 +13,7 @@ use crate::turn::{Turn, turn_after};
 use sf_base::{HeapStore, Store};
 use sf_format::ScanFormat;
 use sf_print::Sink;
-use sf_read::{Lookahead, Source, fscan_over};
+use sf_read::{Lookahead, Source, fscan_held, fscan_over};
 use sf_run::Report;
 use std::alloc::Global;
 
@@ -102,6 +102,12 @@ pub(crate) fn run_records<R: Recorder, S: Source, K: Sink, const N: usize>(
         return ended_by(0, ToolFault::Memory);
     };
     for records in 0..MOST_RECORDS {
+        if let Some(outcome) = fscan_held(&mut store, from, format, limit) {
+            if let Some(end) = judge(recorder, to, &Report::new(outcome, &store), records) {
+                return end;
+            }
+            continue;
+        }
         let Ok(scanned) = fscan_over(alloc, store, from, format, limit) else {
             return ended_by(records, ToolFault::Memory);
         };

@@ -1,7 +1,14 @@
-use Rattle.std.proofs.Common.{◌≡◌, ap, sym, ◌∙◌, refl, arith}
+use Rattle.std.proofs.Common.{◌≡◌, ℕ, Option, None, cond, ap, ◌∙◌, refl, arith}
+use Rattle.sf_run.specs.declared.outcome.Ending.{Ending}
+use Rattle.sf_read.specs.Counts.{counted_on}
+use Rattle.sf_read.specs.Scan.{is_fault}
 use Rattle.sf_run.proofs.Told as told
-use Rattle.sf_records.proofs.Looping.{begins, no_memory, too_many, next, ends_at}
+use Rattle.sf_records.proofs.Looping.{begins, same_ahead, scan_as, no_memory, too_many, next, ends_at}
 use Rattle.sf_records.proofs.records.run_records.Goals as goal
+
+-- a run that met nothing has not failed
+quiet : {before after : ℕ} (met : Option Ending) → met ≡ None → after ≡ before → after ≡ cond (is_fault met) (counted_on before) before
+quiet met none same = rw none same
 
 pub loop-records-init : goal.loop-records-init
 loop-records-init g c = record {
@@ -15,30 +22,48 @@ returns-in_default-clause-loops g c t e =
     let start = begins (g.R.Recorder.work c.args.recorder.now) g.S.Source.to_come c.args.format.now c.args.limit t c.args.from.now (g.K.Sink.contents c.args.to.now) (g.S.Source.failures c.args.from.now.source) e in
     no_memory told.one_report c.requires.proper start (omega arith) c.ended_by.result c.ended_by.ensures
 
+pub returns-in-Some-judge-clause-loops : goal.returns-in-Some-judge-clause-loops
+returns-in-Some-judge-clause-loops g c t e =
+    let going = c.loop-records.invariant.going t e in
+    let judged = c.in-Some-judge.ensures.judged in
+    ends_at told.one_report c.requires.proper going c.new-in-Some.result (scan_as c.new-in-Some.ensures (c.in-Some.ensures.scan going.left going.input)) (λ at_end. c.fscan_held.ensures.stays ∙ at_end)
+        (quiet _ (ap (λ r. r.met) c.new-in-Some.ensures ∙ c.in-Some.ensures.met) (ap g.S.Source.failures c.fscan_held.ensures.no_read)) c.loop-records-test.true c.in-Some-judge.end _
+    (rw (← c.loop-records.invariant.same) judged)
+
+pub loop-records-preserved-in-Some : goal.loop-records-preserved-in-Some
+loop-records-preserved-in-Some g c = record {
+  going = λ t e.
+      let going = c.loop-records.invariant.going t e in
+      let judged = c.in_default-judge.ensures.judged in
+      next told.one_report c.requires.proper going c.new-in-Some.result (scan_as c.new-in-Some.ensures (c.in-Some.ensures.scan going.left going.input)) (λ at_end. c.fscan_held.ensures.stays ∙ at_end)
+      (quiet _ (ap (λ r. r.met) c.new-in-Some.ensures ∙ c.in-Some.ensures.met) (ap g.S.Source.failures c.fscan_held.ensures.no_read)) _
+      (rw (← c.loop-records.invariant.same) judged.0) (rw (← c.loop-records.invariant.same) judged.1);
+  same = c.in_default-judge.ensures.same ∙ c.loop-records.invariant.same;
+  sound = c.in_default-judge.ensures.failures ∙ c.loop-records.invariant.sound;
+}
+
 pub returns-in_default-fscan_over-clause-loops : goal.returns-in_default-fscan_over-clause-loops
 returns-in_default-fscan_over-clause-loops g c t e =
-    let here = no_memory told.one_report c.requires.proper (c.loop-records.invariant.going t e) (omega (arith, c.loop-records-test.true)) c.ended_by-in_default-fscan_over.result c.ended_by-in_default-fscan_over.ensures in
+    let going = same_ahead g.S.Source.failures (c.in_default-fscan_held.ensures.none refl) (c.loop-records.invariant.going t e) in
+    let here = no_memory told.one_report c.requires.proper going (omega (arith, c.loop-records-test.true)) c.ended_by-in_default-fscan_over.result c.ended_by-in_default-fscan_over.ensures in
     rw (c.in_default-fscan_over.ensures.unread) here
 
-pub returns-in-Some-clause-loops : goal.returns-in-Some-clause-loops
-returns-in-Some-clause-loops g c t e =
-    let going = c.loop-records.invariant.going t e in
-    let judged = c.in-Some.ensures.judged in
-    ends_at told.one_report c.requires.proper going c.in-Ok-fscan_over.scanned (c.in-Ok-fscan_over.ensures.scan going.left going.input) c.in-Ok-fscan_over.ensures.stays c.in-Ok-fscan_over.ensures.failures c.loop-records-test.true c.in-Some.end _
+pub returns-in-Some-judge-2-clause-loops : goal.returns-in-Some-judge-2-clause-loops
+returns-in-Some-judge-2-clause-loops g c t e =
+    let going = same_ahead g.S.Source.failures (c.in_default-fscan_held.ensures.none refl) (c.loop-records.invariant.going t e) in
+    let judged = c.in-Some-judge-2.ensures.judged in
+    ends_at told.one_report c.requires.proper going c.in-Ok-fscan_over.scanned (c.in-Ok-fscan_over.ensures.scan going.left going.input) c.in-Ok-fscan_over.ensures.stays c.in-Ok-fscan_over.ensures.failures c.loop-records-test.true c.in-Some-judge-2.end _
     (rw (← c.report.ensures, ← c.loop-records.invariant.same) judged)
-
-pub returns-in-Some-clause-status : goal.returns-in-Some-clause-status
-returns-in-Some-clause-status g c = c.in-Some.ensures.status
 
 pub loop-records-preserved : goal.loop-records-preserved
 loop-records-preserved g c = record {
   going = λ t e.
-      let going = c.loop-records.invariant.going t e in
-      let judged = c.in_default-judge.ensures.judged in
+      let going = same_ahead g.S.Source.failures (c.in_default-fscan_held.ensures.none refl) (c.loop-records.invariant.going t e) in
+      let judged = c.in_default-judge-2.ensures.judged in
       next told.one_report c.requires.proper going c.in-Ok-fscan_over.scanned (c.in-Ok-fscan_over.ensures.scan going.left going.input) c.in-Ok-fscan_over.ensures.stays c.in-Ok-fscan_over.ensures.failures _
       (rw (← c.report.ensures, ← c.loop-records.invariant.same) judged.0) (rw (← c.report.ensures, ← c.loop-records.invariant.same) judged.1);
-  same = c.in_default-judge.ensures.same ∙ c.loop-records.invariant.same;
-  sound = c.in_default-judge.ensures.failures ∙ c.loop-records.invariant.sound;
+  same = c.in_default-judge-2.ensures.same ∙ c.loop-records.invariant.same;
+  sound = c.in_default-judge-2.ensures.failures ∙ c.loop-records.invariant.sound;
 }
 
 pub returns-clause-loops : goal.returns-clause-loops
