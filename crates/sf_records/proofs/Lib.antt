@@ -4,3 +4,4 @@ pub mod Looping
 pub mod OneEnd
 pub mod Passing
 pub mod RowSlots
+pub mod Quoting

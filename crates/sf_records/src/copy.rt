@@ -23,9 +23,15 @@ use std::alloc::Global;
 /// The most values that a record has.
 const MOST_VALUES: usize = 32;
 
+/// As many as the records of most formats have: a list of so many places is made at less cost.
+const FEW_VALUES: usize = 4;
+
 /// The values of a record, slot by slot.
-fn row<'r, T: Store>(report: &Report<'r, T>, destinations: u8) -> ArrayVec<Value<'r>, MOST_VALUES>
-    requires { destinations ≤ 32 }
+fn row<'r, T: Store, const MOST: usize>(
+    report: &Report<'r, T>,
+    destinations: u8,
+) -> ArrayVec<Value<'r>, MOST>
+    requires { destinations ≤ MOST }
     ensures { map datum_of result.items ≡ row_of destinations report.now.values }
 {
     let mut values = ArrayVec::new();
@@ -82,8 +88,11 @@ fn print_record<T: Store>(
 ) -> Result<(), Unwritten>
     ensures { Prints pair.now.print pair.now.scan (row_in pair.now.scan report.now) text.new.bytes.items result }
 {
-    let values = row(report, pair.scan().destinations());
-    print_row(text, pair, &values)
+    let destinations = pair.scan().destinations();
+    if destinations as usize <= FEW_VALUES {
+        return print_row(text, pair, &row::<T, FEW_VALUES>(report, destinations));
+    }
+    print_row(text, pair, &row::<T, MOST_VALUES>(report, destinations))
 }
 
 /// Prints the values of each record.

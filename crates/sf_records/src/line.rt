@@ -4,12 +4,12 @@ ghost use Rattle.sf_base.specs.Data.{datum_of};
 ghost use Rattle.sf_records.specs.Lines.{line_of, text_at, text_of};
 
 use crate::quote::push_quoted;
+use itoa::Buffer;
 use sf_base::{Store, Value};
 use sf_run::Report;
 use std::alloc::AllocError;
-use std::io::Write;
 
-fn push_value(output: &mut Vec<u8>, value: Value<'_>) -> Result<(), AllocError>
+fn push_value(output: &mut Vec<u8>, digits: &mut Buffer, value: Value<'_>) -> Result<(), AllocError>
     ensures { OnOk result (output.new.items ≡ output.old.items ++ text_of (datum_of value.entry)) }
 {
     let number = match value {
@@ -20,21 +20,22 @@ fn push_value(output: &mut Vec<u8>, value: Value<'_>) -> Result<(), AllocError>
         Value::U8(number) => i64::from(number),
         Value::U16(number) => i64::from(number),
         Value::U32(number) => i64::from(number),
-        Value::U64(number) => return write!(output, "{number}").map_err(|_| AllocError),
+        Value::U64(number) => return output.extend_from_slice(digits.format(number).as_bytes()),
         Value::Text(text) => return push_quoted(output, text),
     };
-    write!(output, "{number}").map_err(|_| AllocError)
+    output.extend_from_slice(digits.format(number).as_bytes())
 }
 
 fn push_slot<S: Store>(
     output: &mut Vec<u8>,
+    digits: &mut Buffer,
     report: &Report<'_, S>,
     slot: u8,
 ) -> Result<(), AllocError>
     ensures { OnOk result (output.new.items ≡ output.old.items ++ text_at report.now slot) }
 {
     match report.value(slot) {
-        Some(value) => push_value(output, value),
+        Some(value) => push_value(output, digits, value),
         None => Ok(()),
     }
 }
@@ -42,6 +43,7 @@ fn push_slot<S: Store>(
 /// Appends the line of a record of a format that has so many destinations.
 pub(crate) fn push_line<S: Store>(
     output: &mut Vec<u8>,
+    digits: &mut Buffer,
     report: &Report<'_, S>,
     destinations: u8,
 ) -> Result<(), AllocError>
@@ -51,7 +53,7 @@ pub(crate) fn push_line<S: Store>(
         if before > 0 {
             output.push(b' ')?;
         }
-        push_slot(output, report, before + 1)?;
+        push_slot(output, digits, report, before + 1)?;
     }
     output.push(b'\n')?;
     Ok(())

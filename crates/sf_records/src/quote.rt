@@ -1,8 +1,13 @@
 //! Bytes between quotes.
-ghost use Rattle.std.specs.Prelude.{◌≡◌, ◌++◌, ◌<◌, OnOk};
-ghost use Rattle.sf_records.specs.Quotes.{hex_digit, escaped, quoted};
+ghost use Rattle.std.specs.Prelude.{◌≡◌, ◌++◌, ◌+◌, ◌<◌, ◌≤◌, length, map, not, OnOk};
+ghost use Rattle.std.specs.List.{prefix_len};
+ghost use Rattle.sf_records.specs.Quotes.{hex_digit, escaped, is_plain, quoted};
+ghost use lib.Lanes.{mask_l, chunk};
 
 use std::alloc::AllocError;
+use std::simd::prelude::*;
+
+const LANES: usize = 16;
 
 fn hex_digit(n: u8) -> u8
     requires { n < 16 }
@@ -11,6 +16,50 @@ fn hex_digit(n: u8) -> u8
     if n < 10 { b'0' + n } else { b'a' + (n - 10) }
 }
 
+/// Whether the byte stands between quotes as it is.
+#[inline(always)]
+fn is_plain(b: u8) -> bool
+    ensures { result ≡ is_plain b }
+{
+    b != b'\\' && b != b'"' && b >= 32 && b <= 126
+}
+
+/// Which of the sixteen bytes from the place on are not plain: a bit each, the first byte's the lowest.
+#[inline(always)]
+fn odd_mask(bytes: &[u8], at: usize) -> u64
+    requires { at + LANES ≤ length bytes.now }
+    ensures { result ≡ mask_l (map (λ b. not (is_plain b)) (chunk at 16 bytes.now)) }
+{
+    let lanes = u8x16::from_slice(&bytes[at..]);
+    let odd = (lanes - u8x16::splat(32)).simd_ge(u8x16::splat(95))
+        | lanes.simd_eq(u8x16::splat(b'"'))
+        | lanes.simd_eq(u8x16::splat(b'\\'));
+    odd.to_bitmask()
+}
+
+/// How many plain bytes stand in front.
+fn plain_run(bytes: &[u8]) -> usize
+    ensures within { result ≤ length bytes.now }
+    ensures count { result ≡ prefix_len is_plain bytes.now }
+{
+    let mut at = 0;
+    while bytes.len() - at >= LANES {
+        let odd = odd_mask(bytes, at);
+        if odd != 0 {
+            return at + odd.trailing_zeros() as usize;
+        }
+        at += LANES;
+    }
+    while at < bytes.len() {
+        if !is_plain(bytes[at]) {
+            return at;
+        }
+        at += 1;
+    }
+    at
+}
+
+#[inline(never)]
 fn push_escaped(output: &mut Vec<u8>, b: u8) -> Result<(), AllocError>
     ensures { OnOk result (output.new.items ≡ output.old.items ++ escaped b) }
 {
@@ -28,8 +77,15 @@ pub fn push_quoted(output: &mut Vec<u8>, bytes: &[u8]) -> Result<(), AllocError>
     ensures { OnOk result (output.new.items ≡ output.old.items ++ quoted bytes.now) }
 {
     output.push(b'"')?;
-    for byte in bytes {
-        push_escaped(output, *byte)?;
+    let mut done = 0;
+    while done < bytes.len() {
+        let run = plain_run(&bytes[done..]);
+        output.extend_from_slice(&bytes[done..done + run])?;
+        done += run;
+        if done < bytes.len() {
+            push_escaped(output, bytes[done])?;
+            done += 1;
+        }
     }
     output.push(b'"')?;
     Ok(())

@@ -11,6 +11,7 @@ use crate::line::push_line;
 use crate::output::write_whole;
 use crate::recorder::{Recorder, Unwritten};
 use crate::records::run_records;
+use itoa::Buffer;
 use sf_base::Store;
 use sf_format::ScanFormat;
 use sf_print::Sink;
@@ -25,6 +26,8 @@ struct Liner {
     destinations: u8,
     /// The last line.
     line: Vec<u8>,
+    /// Where digits are made.
+    digits: Buffer,
 }
 
 impl Recorder for Liner {
@@ -36,7 +39,8 @@ impl Recorder for Liner {
         report: &Report<'_, T>,
     ) -> Result<(), Unwritten> {
         self.line.clear();
-        if push_line(&mut self.line, report, self.destinations).is_err() {
+        let (line, digits) = (&mut self.line, &mut self.digits);
+        if push_line(line, digits, report, self.destinations).is_err() {
             return Err(Unwritten::Memory);
         }
         match write_whole(to, &self.line) {
@@ -67,6 +71,7 @@ pub fn run_scan<S: Source, K: Sink, const N: usize>(
     let mut liner = Liner {
         destinations: format.destinations(),
         line: Vec::new(alloc),
+        digits: Buffer::new(),
     };
     run_records(alloc, from, to, &mut liner, format, limit)
 }

@@ -8,4 +8,8 @@ mod devices;
 #[cfg(test)]
 mod memory;
 #[cfg(test)]
+mod numbers;
+#[cfg(test)]
 mod random;
+#[cfg(test)]
+mod texts;

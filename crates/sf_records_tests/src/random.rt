@@ -7,7 +7,7 @@ use std::test::Fail;
 const ROWS: u32 = 3000;
 
 /// Numbers that look random, each from the one before.
-fn next(state: u64) -> u64 {
+pub(crate) fn next(state: u64) -> u64 {
     state
         .wrapping_mul(6364136223846793005)
         .wrapping_add(1442695040888963407)
@@ -27,7 +27,7 @@ fn word(state: u64) -> &'static str {
 }
 
 /// A front of a number in which it may be written: it is skipped or counts for nothing.
-fn before(state: u64) -> &'static str {
+pub(crate) fn before(state: u64) -> &'static str {
     let fronts = ["", " ", "\t\n", "  "];
     fronts[(state >> 44) as usize % 4]
 }

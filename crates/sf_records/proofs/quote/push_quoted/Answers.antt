@@ -1,12 +1,22 @@
-use Rattle.std.proofs.Common.{arith}
-use Rattle.std.proofs.lemmas.Grind.{common_steps}
+use Rattle.std.proofs.Common.{◌+◌, ◌∷◌, [], ◌∙◌, arith}
+use Rattle.sf_records.proofs.Quoting.{front_written, byte_written, run_within}
 use Rattle.sf_records.proofs.quote.push_quoted.Goals as goal
 
-pub loop-byte-init : goal.loop-byte-init
-loop-byte-init c = grind (arith, common_steps)
+pub loop-done-preserved-then-done-bytes : goal.loop-done-preserved-then-done-bytes
+loop-done-preserved-then-done-bytes c =
+    let l = c.loop-done in
+    let bytes = c.args.bytes.now in
+    record {
+      within = omega (arith, c.if-done-bytes.true);
+      so_far = byte_written bytes _ _ (34 ∷ []) (l.done + c.plain_run-run.result) c.if-done-bytes.true (c.in_ok-push_escaped.ensures)
+          ∙ front_written bytes l.output.items _ (34 ∷ []) l.done c.plain_run-run.result l.invariant.within c.plain_run-run.ensures.count c.in_ok-extend_from_slice.ensures.items ∙ l.invariant.so_far;
+    }
 
-pub loop-byte-preserved : goal.loop-byte-preserved
-loop-byte-preserved c = grind (arith, common_steps)
-
-pub returns : goal.returns
-returns c = grind (arith, common_steps)
+pub loop-done-preserved : goal.loop-done-preserved
+loop-done-preserved c =
+    let l = c.loop-done in
+    let bytes = c.args.bytes.now in
+    record {
+      within = run_within bytes l.done c.plain_run-run.result l.invariant.within c.plain_run-run.ensures.within;
+      so_far = front_written bytes l.output.items _ (34 ∷ []) l.done c.plain_run-run.result l.invariant.within c.plain_run-run.ensures.count c.in_ok-extend_from_slice.ensures.items ∙ l.invariant.so_far;
+    }

@@ -1,9 +1,14 @@
-use Rattle.std.proofs.Common.{◌≡◌, ◌++◌, ◌∷◌, [], drop}
+use Rattle.std.proofs.Common.{◌≡◌, ◌≤◌, ◌-◌, ◌++◌, ◌∷◌, [], drop, length}
 use Rattle.std.specs.List.{flat_map}
 use Rattle.sf_records.specs.Quotes.{escaped, quoted}
 use Rattle.sf_records.proofs.quote.push_quoted.Given as goal
 
 -- with the bytes that are left, the output is what it is to be
-abbrev pub invariant-loop-byte : goal.invariant-loop-byte
-invariant-loop-byte l =
-    l.output.items ++ (flat_map escaped (drop l.byte-index l.bytes) ++ 34 ∷ []) ≡ l.fn.output.items ++ quoted l.bytes
+abbrev pub invariant-loop-done : goal.invariant-loop-done
+invariant-loop-done l = record {
+  within : l.done ≤ length l.bytes;
+  so_far : l.output.items ++ (flat_map escaped (drop l.done l.bytes) ++ 34 ∷ []) ≡ l.fn.output.items ++ quoted l.bytes;
+}
+
+abbrev pub decreases-loop-done : goal.decreases-loop-done
+decreases-loop-done l = length l.bytes - l.done

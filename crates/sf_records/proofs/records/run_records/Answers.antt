@@ -27,7 +27,7 @@ returns-in-Some-judge-clause-loops g c t e =
     let going = c.loop-records.invariant.going t e in
     let judged = c.in-Some-judge.ensures.judged in
     ends_at told.one_report c.requires.proper going c.new-in-Some.result (scan_as c.new-in-Some.ensures (c.in-Some.ensures.scan going.left going.input)) (λ at_end. c.fscan_held.ensures.stays ∙ at_end)
-        (quiet _ (ap (λ r. r.met) c.new-in-Some.ensures ∙ c.in-Some.ensures.met) (ap g.S.Source.failures c.fscan_held.ensures.no_read)) c.loop-records-test.true c.in-Some-judge.end _
+    (quiet _ (ap (λ r. r.met) c.new-in-Some.ensures ∙ c.in-Some.ensures.met) (ap g.S.Source.failures c.fscan_held.ensures.no_read)) c.loop-records-test.true c.in-Some-judge.end _
     (rw (← c.loop-records.invariant.same) judged)
 
 pub loop-records-preserved-in-Some : goal.loop-records-preserved-in-Some
