@@ -59,12 +59,19 @@ impl Letter {
 type Row = ((&'static str, &'static str), u64, Letter);
 
 const MOST_I8: u64 = 127;
+
 const MOST_I16: u64 = 32767;
+
 const MOST_I32: u64 = 2147483647;
+
 const MOST_I64: u64 = 9223372036854775807;
+
 const MOST_U8: u64 = 255;
+
 const MOST_U16: u64 = 65535;
+
 const MOST_U32: u64 = 4294967295;
+
 const MOST_U64: u64 = 18446744073709551615;
 
 const SIGNED: [Row; 12] = [
