@@ -69,7 +69,8 @@ impl<'f> Pair<'f> {
         ensures value { result.now ≡ self.entry.now.print }
         ensures checked { IsChecked self.entry.now.print self.entry.now.scan }
     {
-        self.print
+        let Pair { print, .. } = *self;
+        print
     }
 
     /// The scan format.
@@ -77,7 +78,8 @@ impl<'f> Pair<'f> {
         ensures value { result.now ≡ self.entry.now.scan }
         ensures checked { IsChecked self.entry.now.print self.entry.now.scan }
     {
-        self.scan
+        let Pair { scan, .. } = *self;
+        scan
     }
 
     /// Whether the scan format reads these values back, once they were printed. It takes no memory.
