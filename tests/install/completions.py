@@ -75,6 +75,9 @@ class Completions:
     def test_a_limit_is_no_word_to_complete(self):
         self.same("sf scan --limit ", [])
 
+    def test_profiles(self):
+        self.same("sf show --profile ", ["1", "2"])
+
 
 class Bash(Completions, unittest.TestCase):
     def complete(self, line):

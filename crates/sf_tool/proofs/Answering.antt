@@ -1,7 +1,7 @@
 -- What the command answers, by what its calls answer.
 use Rattle.std.proofs.Common.{◌≡◌, ℕ, List, Bool, true, false, Option, Some, Result, Ok, Err, [], get_or, arith, inl, inr, refl, sym, ap, subst, ◌∙◌}
 use Rattle.std.specs.Prelude.{IfErr}
-use Rattle.sf_format.specs.declared.directive.Profile.TheVariants.{One}
+use Rattle.sf_format.specs.declared.directive.Profile.{Profile}
 use Rattle.sf_format.specs.declared.fault.FormatFault.{FormatFault}
 use Rattle.sf_format.specs.declared.fault.FormatWhy.{FormatWhy}
 use Rattle.sf_format.specs.declared.fault.FormatWhy.TheVariants.{NoMemory}
@@ -17,39 +17,39 @@ abbrev pub is_memory : FormatWhy → Bool
 is_memory NoMemory = true
 is_memory _ = false
 
-pub fault_of : (format : List ℕ) (fault : FormatFault) → is_memory fault.why ≡ false → IsRefused One format fault → Fault One format fault.at fault.why
-fault_of format fault other (inl is) = is
-fault_of format fault other (inr (none, spelled)) = let no : false ≡ true = sym other ∙ ap (λ (f : FormatFault). is_memory f.why) none in absurd (cc)
+pub fault_of : (profile : Profile) (format : List ℕ) (fault : FormatFault) → is_memory fault.why ≡ false → IsRefused profile format fault → Fault profile format fault.at fault.why
+fault_of profile format fault other (inl is) = is
+fault_of profile format fault other (inr (none, spelled)) = let no : false ≡ true = sym other ∙ ap (λ (f : FormatFault). is_memory f.why) none in absurd (cc)
 
-pub print_fault_of : (format : List ℕ) (fault : FormatFault) → is_memory fault.why ≡ false → IsPrintRefused One format fault → PrintFault One format fault.at fault.why
-print_fault_of format fault other (inl is) = is
-print_fault_of format fault other (inr (none, spelled)) = let no : false ≡ true = sym other ∙ ap (λ (f : FormatFault). is_memory f.why) none in absurd (cc)
+pub print_fault_of : (profile : Profile) (format : List ℕ) (fault : FormatFault) → is_memory fault.why ≡ false → IsPrintRefused profile format fault → PrintFault profile format fault.at fault.why
+print_fault_of profile format fault other (inl is) = is
+print_fault_of profile format fault other (inr (none, spelled)) = let no : false ≡ true = sym other ∙ ap (λ (f : FormatFault). is_memory f.why) none in absurd (cc)
 
-scans_by : {S : Type 0} (to_come : S → Option (List ℕ)) (m : ℕ) (format text : List ℕ) (now : Ahead S) (failures : ℕ) (held : Option (List ℕ)) (fault : FormatFault) (why : FormatWhy) → fault.why ≡ why → IsRefused One format fault
-    → ScansBy to_come m format text now failures failures held held (Err (format_fault_by why fault))
-scans_by to_come m format text now failures held fault NoMemory is refused = refl
-scans_by to_come m format text now failures held fault _ is refused = fault_of format fault (ap is_memory is) refused
+scans_by : (profile : Profile) {S : Type 0} (to_come : S → Option (List ℕ)) (m : ℕ) (format text : List ℕ) (now : Ahead S) (failures : ℕ) (held : Option (List ℕ)) (fault : FormatFault) (why : FormatWhy) → fault.why ≡ why → IsRefused profile format fault
+    → ScansBy to_come profile m format text now failures failures held held (Err (format_fault_by why fault))
+scans_by profile to_come m format text now failures held fault NoMemory is refused = refl
+scans_by profile to_come m format text now failures held fault _ is refused = fault_of profile format fault (ap is_memory is) refused
 
-pub refused_scans : {S : Type 0} (to_come : S → Option (List ℕ)) (m : ℕ) (format text : List ℕ) (now : Ahead S) (failures : ℕ) (held : Option (List ℕ)) (fault : FormatFault) → IsRefused One format fault
-    → ScansBy to_come m format text now failures failures held held (Err (format_fault fault))
-refused_scans to_come m format text now failures held fault refused = scans_by to_come m format text now failures held fault fault.why refl refused
+pub refused_scans : (profile : Profile) {S : Type 0} (to_come : S → Option (List ℕ)) (m : ℕ) (format text : List ℕ) (now : Ahead S) (failures : ℕ) (held : Option (List ℕ)) (fault : FormatFault) → IsRefused profile format fault
+    → ScansBy to_come profile m format text now failures failures held held (Err (format_fault fault))
+refused_scans profile to_come m format text now failures held fault refused = scans_by profile to_come m format text now failures held fault fault.why refl refused
 
-shows_by : (format : List ℕ) (held : Option (List ℕ)) (fault : FormatFault) (why : FormatWhy) → fault.why ≡ why → IsRefused One format fault
-    → ShowsBy format held held (Err (format_fault_by why fault))
-shows_by format held fault NoMemory is refused = refl
-shows_by format held fault _ is refused = fault_of format fault (ap is_memory is) refused
+shows_by : (profile : Profile) (format : List ℕ) (held : Option (List ℕ)) (fault : FormatFault) (why : FormatWhy) → fault.why ≡ why → IsRefused profile format fault
+    → ShowsBy profile format held held (Err (format_fault_by why fault))
+shows_by profile format held fault NoMemory is refused = refl
+shows_by profile format held fault _ is refused = fault_of profile format fault (ap is_memory is) refused
 
-pub refused_shows : (format : List ℕ) (held : Option (List ℕ)) (fault : FormatFault) → IsRefused One format fault → ShowsBy format held held (Err (format_fault fault))
-refused_shows format held fault refused = shows_by format held fault fault.why refl refused
+pub refused_shows : (profile : Profile) (format : List ℕ) (held : Option (List ℕ)) (fault : FormatFault) → IsRefused profile format fault → ShowsBy profile format held held (Err (format_fault fault))
+refused_shows profile format held fault refused = shows_by profile format held fault fault.why refl refused
 
-prints_by : (format : List ℕ) (values : List (List ℕ)) (held : Option (List ℕ)) (fault : FormatFault) (why : FormatWhy) → fault.why ≡ why → IsPrintRefused One format fault
-    → PrintsBy format values held held (Err (print_format_fault_by why fault))
-prints_by format values held fault NoMemory is refused = refl
-prints_by format values held fault _ is refused = print_fault_of format fault (ap is_memory is) refused
+prints_by : (profile : Profile) (format : List ℕ) (values : List (List ℕ)) (held : Option (List ℕ)) (fault : FormatFault) (why : FormatWhy) → fault.why ≡ why → IsPrintRefused profile format fault
+    → PrintsBy profile format values held held (Err (print_format_fault_by why fault))
+prints_by profile format values held fault NoMemory is refused = refl
+prints_by profile format values held fault _ is refused = print_fault_of profile format fault (ap is_memory is) refused
 
-pub refused_prints : (format : List ℕ) (values : List (List ℕ)) (held : Option (List ℕ)) (fault : FormatFault) → IsPrintRefused One format fault
-    → PrintsBy format values held held (Err (print_format_fault fault))
-refused_prints format values held fault refused = prints_by format values held fault fault.why refl refused
+pub refused_prints : (profile : Profile) (format : List ℕ) (values : List (List ℕ)) (held : Option (List ℕ)) (fault : FormatFault) → IsPrintRefused profile format fault
+    → PrintsBy profile format values held held (Err (print_format_fault fault))
+refused_prints profile format values held fault refused = prints_by profile format values held fault fault.why refl refused
 
 -- the fault of a format is none of the words, and nothing was read or written
 unread_by : {S K : Type 0} (why : FormatWhy) (fault : FormatFault) (from : Ahead S) (out : K) → Unread (format_fault_by why fault) from from out out

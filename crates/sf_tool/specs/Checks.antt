@@ -3,7 +3,7 @@ use Rattle.std.specs.Prelude.{◌≡◌, ◌⊎◌, ℕ, List, [], ◌∷◌, �
 use Rattle.std.specs.Fmt.{decimal}
 use Rattle.std.specs.Io.KnownBytes.{Appends}
 use Rattle.sf_format.specs.declared.directive.Directive.{Directive}
-use Rattle.sf_format.specs.declared.directive.Profile.TheVariants.{One}
+use Rattle.sf_format.specs.declared.directive.Profile.{Profile}
 use Rattle.sf_format.specs.declared.unit.Unit.{Unit as PrintUnit}
 use Rattle.sf_format.specs.Faults.{Fault, PrintFault}
 use Rattle.sf_format.specs.Grammar.{Spells, SpellsPrint}
@@ -22,24 +22,24 @@ use Rattle.sf_tool.specs.Escapes.{IsBadEscape, Unescapes}
 -- ---- formats as words
 
 -- the word's bytes, its escapes resolved, spell these units
-abbrev pub IsPrintWord : List ℕ → List PrintUnit → Type 0
-IsPrintWord word units = (text : List ℕ) × Unescapes word text × SpellsPrint One text units
+abbrev pub IsPrintWord : Profile → List ℕ → List PrintUnit → Type 0
+IsPrintWord profile word units = (text : List ℕ) × Unescapes word text × SpellsPrint profile text units
 
-abbrev pub IsScanWord : List ℕ → List Directive → Type 0
-IsScanWord word ds = (text : List ℕ) × Unescapes word text × Spells One text ds
+abbrev pub IsScanWord : Profile → List ℕ → List Directive → Type 0
+IsScanWord profile word ds = (text : List ℕ) × Unescapes word text × Spells profile text ds
 
 -- why a word is no print format: its escapes come before its format; want of memory is told of one without a bad escape
-abbrev pub IsNoPrintWord : List ℕ → CommandFault → Type 0
-IsNoPrintWord word (BadEscape of at) = (of ≡ name.Print) × IsBadEscape word at
-IsNoPrintWord word (PrintFormat fault) = (text : List ℕ) × Unescapes word text × PrintFault One text fault.at fault.why
-IsNoPrintWord word Memory = (text : List ℕ) × Unescapes word text
-IsNoPrintWord word _ = ⊥
+abbrev pub IsNoPrintWord : Profile → List ℕ → CommandFault → Type 0
+IsNoPrintWord profile word (BadEscape of at) = (of ≡ name.Print) × IsBadEscape word at
+IsNoPrintWord profile word (PrintFormat fault) = (text : List ℕ) × Unescapes word text × PrintFault profile text fault.at fault.why
+IsNoPrintWord profile word Memory = (text : List ℕ) × Unescapes word text
+IsNoPrintWord profile word _ = ⊥
 
-abbrev pub IsNoScanWord : List ℕ → CommandFault → Type 0
-IsNoScanWord word (BadEscape of at) = (of ≡ name.Scan) × IsBadEscape word at
-IsNoScanWord word (Format fault) = (text : List ℕ) × Unescapes word text × Fault One text fault.at fault.why
-IsNoScanWord word Memory = (text : List ℕ) × Unescapes word text
-IsNoScanWord word _ = ⊥
+abbrev pub IsNoScanWord : Profile → List ℕ → CommandFault → Type 0
+IsNoScanWord profile word (BadEscape of at) = (of ≡ name.Scan) × IsBadEscape word at
+IsNoScanWord profile word (Format fault) = (text : List ℕ) × Unescapes word text × Fault profile text fault.at fault.why
+IsNoScanWord profile word Memory = (text : List ℕ) × Unescapes word text
+IsNoScanWord profile word _ = ⊥
 
 -- ---- verdicts
 
@@ -89,8 +89,8 @@ abbrev pub IsFaultOf : (CommandFault → Type 0) → Answer → Type 0
 IsFaultOf P answer = (fault : CommandFault) × (answer ≡ Err fault) × P fault
 
 -- The first word is no print format; or it is one, and the second is no scan format; or the verdict on both is told.
-abbrev pub ChecksWords : List ℕ → List ℕ → Option (List ℕ) → Option (List ℕ) → Answer → Type 0
-ChecksWords print scan before after answer =
-    IsFaultOf (IsNoPrintWord print) answer
-    ⊎ ((units : List PrintUnit) × IsPrintWord print units
-    × (IsFaultOf (IsNoScanWord scan) answer ⊎ ((ds : List Directive) × IsScanWord scan ds × Checks units ds before after answer)))
+abbrev pub ChecksWords : Profile → List ℕ → List ℕ → Option (List ℕ) → Option (List ℕ) → Answer → Type 0
+ChecksWords profile print scan before after answer =
+    IsFaultOf (IsNoPrintWord profile print) answer
+    ⊎ ((units : List PrintUnit) × IsPrintWord profile print units
+    × (IsFaultOf (IsNoScanWord profile scan) answer ⊎ ((ds : List Directive) × IsScanWord profile scan ds × Checks units ds before after answer)))

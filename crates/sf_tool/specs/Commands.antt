@@ -3,7 +3,8 @@
 use Rattle.std.specs.Prelude.{◌≡◌, ◌⊎◌, ℕ, Bool, true, false, if◌then◌else◌, List, [], ◌∷◌, Option, Some, None, Result, Ok, Err, IfErr}
 use Rattle.std.specs.Io.KnownBytes.{Appends}
 use Rattle.sf_format.specs.declared.directive.Directive.{Directive}
-use Rattle.sf_format.specs.declared.directive.Profile.TheVariants.{One}
+use Rattle.sf_format.specs.declared.directive.Profile.{Profile}
+use Rattle.sf_format.specs.declared.directive.Profile.TheVariants as grammar
 use Rattle.sf_format.specs.Faults.{Fault, PrintFault}
 use Rattle.sf_format.specs.Grammar.{Spells, SpellsPrint}
 use Rattle.sf_format.specs.Widths.{width_sum}
@@ -22,6 +23,8 @@ use Rattle.sf_records.specs.Lines.{scanning}
 use Rattle.sf_records.specs.declared.end.ToolFault.TheVariants as record_fault
 use Rattle.sf_records.specs.Judging.{TakesPart}
 use Rattle.sf_records.specs.Records.{Loops}
+use Rattle.sf_words.specs.declared.order.Profile.{Profile as GivenProfile}
+use Rattle.sf_words.specs.declared.order.Profile.TheVariants as given
 use Rattle.sf_words.specs.declared.order.Verb.{Verb}
 use Rattle.sf_words.specs.declared.order.Verb.TheVariants as verb
 use Rattle.sf_tool.specs.declared.argument_fault.ArgumentFault.{ArgumentFault}
@@ -94,11 +97,11 @@ Scans to_come m ds text now failures failures' before after answer =
     (end : ToolEnd) × Loops (scanning ds) to_come ds m text now failures failures' before after end × (answer ≡ answer_by end.fault)
 
 -- what a scan of the text by the format answers: the format is refused for its first fault, or its directives scan
-abbrev pub ScansBy : {S : Type 0} → (S → Option (List ℕ)) → ℕ → List ℕ → List ℕ → Ahead S → ℕ → ℕ → Option (List ℕ) → Option (List ℕ) → Answer → Type 0
-ScansBy to_come m format text now failures failures' before after (Err (Format fault)) = Fault One format fault.at fault.why
-ScansBy to_come m format text now failures failures' before after (Err Memory) = after ≡ before
-ScansBy to_come m format text now failures failures' before after answer =
-    (ds : List Directive) × Spells One format ds × Scans to_come m ds text now failures failures' before after answer
+abbrev pub ScansBy : {S : Type 0} → (S → Option (List ℕ)) → Profile → ℕ → List ℕ → List ℕ → Ahead S → ℕ → ℕ → Option (List ℕ) → Option (List ℕ) → Answer → Type 0
+ScansBy to_come profile m format text now failures failures' before after (Err (Format fault)) = Fault profile format fault.at fault.why
+ScansBy to_come profile m format text now failures failures' before after (Err Memory) = after ≡ before
+ScansBy to_come profile m format text now failures failures' before after answer =
+    (ds : List Directive) × Spells profile format ds × Scans to_come m ds text now failures failures' before after answer
 
 -- ---- shows of a format
 
@@ -109,10 +112,10 @@ Shows ds before after (Err Write) = TakesPart before after (show_text ds (width_
 Shows ds before after (Err _) = ⊥
 
 -- what a show of the format answers: the format is refused for its first fault, or its directives are shown
-abbrev pub ShowsBy : List ℕ → Option (List ℕ) → Option (List ℕ) → Answer → Type 0
-ShowsBy format before after (Err (Format fault)) = Fault One format fault.at fault.why
-ShowsBy format before after (Err Memory) = after ≡ before
-ShowsBy format before after answer = (ds : List Directive) × Spells One format ds × Shows ds before after answer
+abbrev pub ShowsBy : Profile → List ℕ → Option (List ℕ) → Option (List ℕ) → Answer → Type 0
+ShowsBy profile format before after (Err (Format fault)) = Fault profile format fault.at fault.why
+ShowsBy profile format before after (Err Memory) = after ≡ before
+ShowsBy profile format before after answer = (ds : List Directive) × Spells profile format ds × Shows ds before after answer
 
 -- ---- prints of values
 
@@ -122,10 +125,10 @@ print_answer (Ok _) = Ok 0
 print_answer (Err fault) = Err (Values fault)
 
 -- what a print by the format answers: the format is refused for its first fault, or its units print the values
-abbrev pub PrintsBy : List ℕ → List (List ℕ) → Option (List ℕ) → Option (List ℕ) → Answer → Type 0
-PrintsBy format values before after (Err (PrintFormat fault)) = PrintFault One format fault.at fault.why
-PrintsBy format values before after (Err Memory) = after ≡ before
-PrintsBy format values before after answer = (units : List PrintUnit) × SpellsPrint One format units
+abbrev pub PrintsBy : Profile → List ℕ → List (List ℕ) → Option (List ℕ) → Option (List ℕ) → Answer → Type 0
+PrintsBy profile format values before after (Err (PrintFormat fault)) = PrintFault profile format fault.at fault.why
+PrintsBy profile format values before after (Err Memory) = after ≡ before
+PrintsBy profile format values before after answer = (units : List PrintUnit) × SpellsPrint profile format units
     × ((given : Result (Unit {0}) ArgumentFault) × Answers units values before after given × (answer ≡ print_answer given))
 
 -- ---- words
@@ -145,44 +148,44 @@ pub record IsRefusedText {S K : Type 0} (name : FormatName) (word : List ℕ) (f
   pub bad : IsBadText name word fault
 
 -- what is done by a format's text: its faults are told, and where it is refused nothing was read or written
-pub record ScansText {S K : Type 0} (to_come : S → Option (List ℕ)) (read_faults : S → ℕ) (contents : K → Option (List ℕ)) (write_faults : K → ℕ) (limit : ℕ) (text : List ℕ)
+pub record ScansText {S K : Type 0} (to_come : S → Option (List ℕ)) (read_faults : S → ℕ) (contents : K → Option (List ℕ)) (write_faults : K → ℕ) (profile : Profile) (limit : ℕ) (text : List ℕ)
     (from from' : Ahead S) (out out' : K) (answer : Answer) : Type 0 where
-  pub scans : (t : List ℕ) → input_of to_come from ≡ Some t → ScansBy to_come limit text t from' (read_faults from.source) (read_faults from'.source) (contents out) (contents out') answer
-  pub refused : TellsFault (Fault One text) format_fault answer
+  pub scans : (t : List ℕ) → input_of to_come from ≡ Some t → ScansBy to_come profile limit text t from' (read_faults from.source) (read_faults from'.source) (contents out) (contents out') answer
+  pub refused : TellsFault (Fault profile text) format_fault answer
   pub unread : IfErr answer (λ fault. Unread fault from from' out out')
   pub failures : Counts (write_faults out) (write_faults out') answer
 
-abbrev pub ScansWord : {S K : Type 0} → (S → Option (List ℕ)) → (S → ℕ) → (K → Option (List ℕ)) → (K → ℕ) → ℕ → List ℕ → Ahead S → Ahead S → K → K → Answer → Type 0
-ScansWord to_come read_faults contents write_faults limit word from from' out out' answer =
+abbrev pub ScansWord : {S K : Type 0} → (S → Option (List ℕ)) → (S → ℕ) → (K → Option (List ℕ)) → (K → ℕ) → Profile → ℕ → List ℕ → Ahead S → Ahead S → K → K → Answer → Type 0
+ScansWord to_come read_faults contents write_faults profile limit word from from' out out' answer =
     IsRefusedText name.Scan word from from' out out' answer
-    ⊎ ((text : List ℕ) × Unescapes word text × ScansText to_come read_faults contents write_faults limit text from from' out out' answer)
+    ⊎ ((text : List ℕ) × Unescapes word text × ScansText to_come read_faults contents write_faults profile limit text from from' out out' answer)
 
-pub record ShowsText {K : Type 0} (contents : K → Option (List ℕ)) (write_faults : K → ℕ) (text : List ℕ) (out out' : K) (answer : Answer) : Type 0 where
-  pub shows : ShowsBy text (contents out) (contents out') answer
-  pub refused : TellsFault (Fault One text) format_fault answer
+pub record ShowsText {K : Type 0} (contents : K → Option (List ℕ)) (write_faults : K → ℕ) (profile : Profile) (text : List ℕ) (out out' : K) (answer : Answer) : Type 0 where
+  pub shows : ShowsBy profile text (contents out) (contents out') answer
+  pub refused : TellsFault (Fault profile text) format_fault answer
   pub unwritten : IfErr answer (λ fault. IsUnwrittenBy fault out out')
   pub failures : Counts (write_faults out) (write_faults out') answer
 
-abbrev pub ShowsWord : {K : Type 0} → (K → Option (List ℕ)) → (K → ℕ) → List ℕ → K → K → Answer → Type 0
-ShowsWord contents write_faults word out out' answer =
+abbrev pub ShowsWord : {K : Type 0} → (K → Option (List ℕ)) → (K → ℕ) → Profile → List ℕ → K → K → Answer → Type 0
+ShowsWord contents write_faults profile word out out' answer =
     IsRefusedText {S = Unit {0}} name.Scan word tt tt out out' answer
-    ⊎ ((text : List ℕ) × Unescapes word text × ShowsText contents write_faults text out out' answer)
+    ⊎ ((text : List ℕ) × Unescapes word text × ShowsText contents write_faults profile text out out' answer)
 
-pub record PrintsText {K : Type 0} (contents : K → Option (List ℕ)) (write_faults : K → ℕ) (text : List ℕ) (values : List (List ℕ)) (out out' : K) (answer : Answer) : Type 0 where
-  pub prints : PrintsBy text values (contents out) (contents out') answer
-  pub refused : TellsFault (PrintFault One text) print_format_fault answer
+pub record PrintsText {K : Type 0} (contents : K → Option (List ℕ)) (write_faults : K → ℕ) (profile : Profile) (text : List ℕ) (values : List (List ℕ)) (out out' : K) (answer : Answer) : Type 0 where
+  pub prints : PrintsBy profile text values (contents out) (contents out') answer
+  pub refused : TellsFault (PrintFault profile text) print_format_fault answer
   pub unwritten : IfErr answer (λ fault. IsUnwrittenBy fault out out')
   pub failures : Counts (write_faults out) (write_faults out') answer
 
-abbrev pub PrintsWord : {K : Type 0} → (K → Option (List ℕ)) → (K → ℕ) → List ℕ → List (List ℕ) → K → K → Answer → Type 0
-PrintsWord contents write_faults word values out out' answer =
+abbrev pub PrintsWord : {K : Type 0} → (K → Option (List ℕ)) → (K → ℕ) → Profile → List ℕ → List (List ℕ) → K → K → Answer → Type 0
+PrintsWord contents write_faults profile word values out out' answer =
     IsRefusedText {S = Unit {0}} name.Print word tt tt out out' answer
-    ⊎ ((text : List ℕ) × Unescapes word text × PrintsText contents write_faults text values out out' answer)
+    ⊎ ((text : List ℕ) × Unescapes word text × PrintsText contents write_faults profile text values out out' answer)
 
 -- ---- checks of two formats
 
-pub record ChecksBoth {K : Type 0} (contents : K → Option (List ℕ)) (write_faults : K → ℕ) (print scan : List ℕ) (out out' : K) (answer : Answer) : Type 0 where
-  pub checks : ChecksWords print scan (contents out) (contents out') answer
+pub record ChecksBoth {K : Type 0} (contents : K → Option (List ℕ)) (write_faults : K → ℕ) (profile : Profile) (print scan : List ℕ) (out out' : K) (answer : Answer) : Type 0 where
+  pub checks : ChecksWords profile print scan (contents out) (contents out') answer
   pub unwritten : IfErr answer (λ fault. IsUnwrittenBy fault out out')
   pub failures : Counts (write_faults out) (write_faults out') answer
 
@@ -197,31 +200,36 @@ Copies to_come read_faults m units ds from from' before after answer =
     × ((t : List ℕ) → input_of to_come from ≡ Some t → Loops (copying units ds) to_come ds m t from' (read_faults from.source) (read_faults from'.source) before after end))
 
 -- the first word is no print format; or it is one, and the second is no scan format; or both copy
-abbrev pub CopiesWords : {S : Type 0} → (S → Option (List ℕ)) → (S → ℕ) → ℕ → List ℕ → List ℕ → Ahead S → Ahead S → Option (List ℕ) → Option (List ℕ) → Answer → Type 0
-CopiesWords to_come read_faults m print scan from from' before after answer =
-    IsFaultOf (IsNoPrintWord print) answer
-    ⊎ ((units : List PrintUnit) × IsPrintWord print units
-    × (IsFaultOf (IsNoScanWord scan) answer ⊎ ((ds : List Directive) × IsScanWord scan ds × Copies to_come read_faults m units ds from from' before after answer)))
+abbrev pub CopiesWords : {S : Type 0} → (S → Option (List ℕ)) → (S → ℕ) → Profile → ℕ → List ℕ → List ℕ → Ahead S → Ahead S → Option (List ℕ) → Option (List ℕ) → Answer → Type 0
+CopiesWords to_come read_faults profile m print scan from from' before after answer =
+    IsFaultOf (IsNoPrintWord profile print) answer
+    ⊎ ((units : List PrintUnit) × IsPrintWord profile print units
+    × (IsFaultOf (IsNoScanWord profile scan) answer ⊎ ((ds : List Directive) × IsScanWord profile scan ds × Copies to_come read_faults m units ds from from' before after answer)))
 
 -- where a word is no format, or the formats are no pair, nothing was read or written
-pub record CopiesBoth {S K : Type 0} (to_come : S → Option (List ℕ)) (read_faults : S → ℕ) (contents : K → Option (List ℕ)) (write_faults : K → ℕ) (limit : ℕ) (print scan : List ℕ)
+pub record CopiesBoth {S K : Type 0} (to_come : S → Option (List ℕ)) (read_faults : S → ℕ) (contents : K → Option (List ℕ)) (write_faults : K → ℕ) (profile : Profile) (limit : ℕ) (print scan : List ℕ)
     (from from' : Ahead S) (out out' : K) (answer : Answer) : Type 0 where
-  pub copies : CopiesWords to_come read_faults limit print scan from from' (contents out) (contents out') answer
+  pub copies : CopiesWords to_come read_faults profile limit print scan from from' (contents out) (contents out') answer
   pub unread : IfErr answer (λ fault. Unread fault from from' out out')
   pub failures : Counts (write_faults out) (write_faults out') answer
 
 -- ---- orders
 
+-- the grammar that a profile of the words is
+abbrev pub grammar_of : GivenProfile → Profile
+grammar_of given.One = grammar.One
+grammar_of given.Two = grammar.Two
+
 -- what an order does
-abbrev pub CarriesOut : {S K : Type 0} → (S → Option (List ℕ)) → (S → ℕ) → (K → Option (List ℕ)) → (K → ℕ) → Verb → ℕ → List (List ℕ) → Ahead S → Ahead S → K → K → Answer → Type 0
-CarriesOut to_come read_faults contents write_faults verb.Scan limit (word ∷ []) from from' out out' answer =
-    ScansWord to_come read_faults contents write_faults limit word from from' out out' answer
-CarriesOut to_come read_faults contents write_faults verb.Show limit (word ∷ []) from from' out out' answer =
-    (from' ≡ from) × ShowsWord contents write_faults word out out' answer
-CarriesOut to_come read_faults contents write_faults verb.Print limit (word ∷ values) from from' out out' answer =
-    (from' ≡ from) × PrintsWord contents write_faults word values out out' answer
-CarriesOut to_come read_faults contents write_faults verb.Check limit (print ∷ scan ∷ []) from from' out out' answer =
-    (from' ≡ from) × ChecksBoth contents write_faults print scan out out' answer
-CarriesOut to_come read_faults contents write_faults verb.Copy limit (print ∷ scan ∷ []) from from' out out' answer =
-    CopiesBoth to_come read_faults contents write_faults limit print scan from from' out out' answer
-CarriesOut to_come read_faults contents write_faults _ limit texts from from' out out' answer = ⊥
+abbrev pub CarriesOut : {S K : Type 0} → (S → Option (List ℕ)) → (S → ℕ) → (K → Option (List ℕ)) → (K → ℕ) → Profile → Verb → ℕ → List (List ℕ) → Ahead S → Ahead S → K → K → Answer → Type 0
+CarriesOut to_come read_faults contents write_faults profile verb.Scan limit (word ∷ []) from from' out out' answer =
+    ScansWord to_come read_faults contents write_faults profile limit word from from' out out' answer
+CarriesOut to_come read_faults contents write_faults profile verb.Show limit (word ∷ []) from from' out out' answer =
+    (from' ≡ from) × ShowsWord contents write_faults profile word out out' answer
+CarriesOut to_come read_faults contents write_faults profile verb.Print limit (word ∷ values) from from' out out' answer =
+    (from' ≡ from) × PrintsWord contents write_faults profile word values out out' answer
+CarriesOut to_come read_faults contents write_faults profile verb.Check limit (print ∷ scan ∷ []) from from' out out' answer =
+    (from' ≡ from) × ChecksBoth contents write_faults profile print scan out out' answer
+CarriesOut to_come read_faults contents write_faults profile verb.Copy limit (print ∷ scan ∷ []) from from' out out' answer =
+    CopiesBoth to_come read_faults contents write_faults profile limit print scan from from' out out' answer
+CarriesOut to_come read_faults contents write_faults profile _ limit texts from from' out out' answer = ⊥

@@ -10,7 +10,7 @@ use Rattle.sf_words.specs.declared.order.WordsFault.TheVariants.{Help, Usage, No
 use Rattle.sf_words.specs.Orders.{IsOrder, IsRefusal, faults_of}
 use Rattle.sf_tool.specs.declared.fault.CommandFault.TheVariants.{Write, Memory}
 use Rattle.sf_tool.specs.Answers.{Answer}
-use Rattle.sf_tool.specs.Commands.{CarriesOut, Counts}
+use Rattle.sf_tool.specs.Commands.{CarriesOut, Counts, grammar_of}
 use Rattle.sf_tool.specs.Texts.{error_line, status_of}
 
 -- the sink took the text; or it failed once, and took a front of it
@@ -45,7 +45,7 @@ Declines contents failures said unsaid NoMemory out out' err err' status = (out'
 abbrev pub Does : {S K E : Type 0} → (S → Option (List ℕ)) → (S → ℕ) → (K → Option (List ℕ)) → (K → ℕ) → (E → Option (List ℕ)) → (E → ℕ) → Result Order WordsFault
     → Ahead S → Ahead S → K → K → E → E → ℕ → Type 0
 Does to_come read_faults contents write_faults said unsaid (Ok order) from from' out out' err err' status =
-    (answer : Answer) × CarriesOut to_come read_faults contents write_faults order.verb order.limit (map string_bytes order.texts.items) from from' out out' answer
+    (answer : Answer) × CarriesOut to_come read_faults contents write_faults (grammar_of order.profile) order.verb order.limit (map string_bytes order.texts.items) from from' out out' answer
     × Ends said unsaid answer err err' status
 Does to_come read_faults contents write_faults said unsaid (Err fault) from from' out out' err err' status =
     (from' ≡ from) × Declines contents write_faults said unsaid fault out out' err err' status

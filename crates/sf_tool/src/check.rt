@@ -7,7 +7,7 @@ use crate::error_line::{ErrorLine, joined};
 use crate::fault::CommandFault;
 use crate::formats::{read_print, read_scan};
 use itoa::Buffer;
-use sf_format::{PrintFormat, ScanFormat};
+use sf_format::{PrintFormat, Profile, ScanFormat};
 use sf_pair::{Pair, PairFault, PairWhy};
 use sf_print::Sink;
 use sf_records::write_whole;
@@ -92,15 +92,16 @@ fn check_by<K: Sink>(
 /// Checks the formats of the words: the first is a print format, the second a scan format. They are judged in this order.
 pub(crate) fn check_words<K: Sink>(
     alloc: Global,
+    profile: Profile,
     print: &str,
     scan: &str,
     out: &mut K,
 ) -> Result<u8, CommandFault>
-    ensures checks { ChecksWords print.now scan.now (K.contents out.old) (K.contents out.new) result }
+    ensures checks { ChecksWords profile print.now scan.now (K.contents out.old) (K.contents out.new) result }
     ensures unwritten { IfErr result (λ fault. IsUnwrittenBy fault out.old out.new) }
     ensures failures { Counts (K.failures out.old) (K.failures out.new) result }
 {
-    let print = read_print(alloc, print)?;
-    let scan = read_scan(alloc, scan)?;
+    let print = read_print(alloc, profile, print)?;
+    let scan = read_scan(alloc, profile, scan)?;
     check_by(&print, &scan, out)
 }

@@ -1,10 +1,9 @@
 //! What an order asks for: by its formats, on an input and an output.
 ghost use Rattle.std.specs.Prelude.{◌≡◌, ◌≤◌, ◌∷◌, [], ℕ, List, length, map, string_bytes, IfErr, Some};
-ghost use Rattle.sf_format.specs.declared.directive.Profile.TheVariants.{One};
 ghost use Rattle.sf_format.specs.Faults.{Fault, PrintFault};
 ghost use Rattle.sf_read.specs.Ahead.{input_of};
 ghost use Rattle.sf_words.specs.Orders.{HasTexts};
-ghost use Rattle.sf_tool.specs.Commands.{CarriesOut, ChecksBoth, CopiesBoth, Counts, IsUnwrittenBy, PrintsBy, PrintsWord, ScansBy, ScansWord, ShowsBy, ShowsWord, TellsFault, Unread, format_fault, print_format_fault};
+ghost use Rattle.sf_tool.specs.Commands.{CarriesOut, ChecksBoth, CopiesBoth, Counts, IsUnwrittenBy, PrintsBy, PrintsWord, ScansBy, ScansWord, ShowsBy, ShowsWord, TellsFault, Unread, format_fault, grammar_of, print_format_fault};
 
 use crate::check::check_words;
 use crate::copy::copy_words;
@@ -16,12 +15,13 @@ use sf_format::{PrintFormat, Profile, ScanFormat};
 use sf_print::Sink;
 use sf_read::{Lookahead, Source};
 use sf_records::{run_scan, write_whole};
-use sf_words::{Order, Verb};
+use sf_words::{Order, Profile as GivenProfile, Verb};
 use std::alloc::Global;
 
 /// Scans the records of an input by the format that a text spells, and writes their lines.
 fn scan_by<S: Source, K: Sink, const N: usize>(
     alloc: Global,
+    profile: Profile,
     text: &[u8],
     limit: u32,
     from: &mut Lookahead<S, N>,
@@ -29,12 +29,12 @@ fn scan_by<S: Source, K: Sink, const N: usize>(
 ) -> Result<u8, CommandFault>
     requires { limit ≤ 2147483647 }
     ensures scans { (t : List ℕ) → input_of S.to_come from.old ≡ Some t
-        → ScansBy S.to_come limit text.now t from.new (S.failures from.old.source) (S.failures from.new.source) (K.contents out.old) (K.contents out.new) result }
-    ensures refused { TellsFault (Fault One text.now) format_fault result }
+        → ScansBy S.to_come profile limit text.now t from.new (S.failures from.old.source) (S.failures from.new.source) (K.contents out.old) (K.contents out.new) result }
+    ensures refused { TellsFault (Fault profile text.now) format_fault result }
     ensures unread { IfErr result (λ fault. Unread fault from.old from.new out.old out.new) }
     ensures failures { Counts (K.failures out.old) (K.failures out.new) result }
 {
-    let format = match ScanFormat::parse(alloc, Profile::One, text) {
+    let format = match ScanFormat::parse(alloc, profile, text) {
         Ok(format) => format,
         Err(fault) => return Err(format_fault(fault)),
     };
@@ -45,13 +45,18 @@ fn scan_by<S: Source, K: Sink, const N: usize>(
 }
 
 /// Writes the lines that show the format that a text spells.
-fn show_by<K: Sink>(alloc: Global, text: &[u8], out: &mut K) -> Result<u8, CommandFault>
-    ensures shows { ShowsBy text.now (K.contents out.old) (K.contents out.new) result }
-    ensures refused { TellsFault (Fault One text.now) format_fault result }
+fn show_by<K: Sink>(
+    alloc: Global,
+    profile: Profile,
+    text: &[u8],
+    out: &mut K,
+) -> Result<u8, CommandFault>
+    ensures shows { ShowsBy profile text.now (K.contents out.old) (K.contents out.new) result }
+    ensures refused { TellsFault (Fault profile text.now) format_fault result }
     ensures unwritten { IfErr result (λ fault. IsUnwrittenBy fault out.old out.new) }
     ensures failures { Counts (K.failures out.old) (K.failures out.new) result }
 {
-    let format = match ScanFormat::parse(alloc, Profile::One, text) {
+    let format = match ScanFormat::parse(alloc, profile, text) {
         Ok(format) => format,
         Err(fault) => return Err(format_fault(fault)),
     };
@@ -65,16 +70,17 @@ fn show_by<K: Sink>(alloc: Global, text: &[u8], out: &mut K) -> Result<u8, Comma
 /// Prints values by the format that a text spells.
 fn print_by<K: Sink>(
     alloc: Global,
+    profile: Profile,
     text: &[u8],
     values: &[String],
     out: &mut K,
 ) -> Result<u8, CommandFault>
-    ensures prints { PrintsBy text.now (map string_bytes values.now) (K.contents out.old) (K.contents out.new) result }
-    ensures refused { TellsFault (PrintFault One text.now) print_format_fault result }
+    ensures prints { PrintsBy profile text.now (map string_bytes values.now) (K.contents out.old) (K.contents out.new) result }
+    ensures refused { TellsFault (PrintFault profile text.now) print_format_fault result }
     ensures unwritten { IfErr result (λ fault. IsUnwrittenBy fault out.old out.new) }
     ensures failures { Counts (K.failures out.old) (K.failures out.new) result }
 {
-    let format = match PrintFormat::parse(alloc, Profile::One, text) {
+    let format = match PrintFormat::parse(alloc, profile, text) {
         Ok(format) => format,
         Err(fault) => return Err(print_format_fault(fault)),
     };
@@ -86,53 +92,62 @@ fn print_by<K: Sink>(
 
 fn scan_word<S: Source, K: Sink, const N: usize>(
     alloc: Global,
+    profile: Profile,
     word: &str,
     limit: u32,
     from: &mut Lookahead<S, N>,
     out: &mut K,
 ) -> Result<u8, CommandFault>
     requires { limit ≤ 2147483647 }
-    ensures { ScansWord S.to_come S.failures K.contents K.failures limit word.now from.old from.new out.old out.new result }
+    ensures { ScansWord S.to_come S.failures K.contents K.failures profile limit word.now from.old from.new out.old out.new result }
 {
     let text = resolved(alloc, FormatName::Scan, word)?;
-    scan_by(alloc, &text, limit, from, out)
+    scan_by(alloc, profile, &text, limit, from, out)
 }
 
-fn show_word<K: Sink>(alloc: Global, word: &str, out: &mut K) -> Result<u8, CommandFault>
-    ensures { ShowsWord K.contents K.failures word.now out.old out.new result }
+fn show_word<K: Sink>(
+    alloc: Global,
+    profile: Profile,
+    word: &str,
+    out: &mut K,
+) -> Result<u8, CommandFault>
+    ensures { ShowsWord K.contents K.failures profile word.now out.old out.new result }
 {
     let text = resolved(alloc, FormatName::Scan, word)?;
-    show_by(alloc, &text, out)
+    show_by(alloc, profile, &text, out)
 }
 
 fn print_word<K: Sink>(
     alloc: Global,
+    profile: Profile,
     word: &str,
     values: &[String],
     out: &mut K,
 ) -> Result<u8, CommandFault>
-    ensures { PrintsWord K.contents K.failures word.now (map string_bytes values.now) out.old out.new result }
+    ensures { PrintsWord K.contents K.failures profile word.now (map string_bytes values.now) out.old out.new result }
 {
     let text = resolved(alloc, FormatName::Print, word)?;
-    print_by(alloc, &text, values, out)
+    print_by(alloc, profile, &text, values, out)
 }
 
 /// Checks the format of a word and that of the other.
 fn check_both<K: Sink>(
     alloc: Global,
+    profile: Profile,
     print: &str,
     rest: &[String],
     out: &mut K,
 ) -> Result<u8, CommandFault>
     requires { length rest.now ≡ 1 }
-    ensures { (scan : List ℕ) × (map string_bytes rest.now ≡ scan ∷ []) × ChecksBoth K.contents K.failures print.now scan out.old out.new result }
+    ensures { (scan : List ℕ) × (map string_bytes rest.now ≡ scan ∷ []) × ChecksBoth K.contents K.failures profile print.now scan out.old out.new result }
 {
-    check_words(alloc, print, rest[0].as_str(), out)
+    check_words(alloc, profile, print, rest[0].as_str(), out)
 }
 
 /// Copies by the format of a word and that of the other.
 fn copy_both<S: Source, K: Sink, const N: usize>(
     alloc: Global,
+    profile: Profile,
     print: &str,
     rest: &[String],
     limit: u32,
@@ -142,9 +157,44 @@ fn copy_both<S: Source, K: Sink, const N: usize>(
     requires limit { limit ≤ 2147483647 }
     requires one { length rest.now ≡ 1 }
     ensures { (scan : List ℕ) × (map string_bytes rest.now ≡ scan ∷ [])
-        × CopiesBoth S.to_come S.failures K.contents K.failures limit print.now scan from.old from.new out.old out.new result }
+        × CopiesBoth S.to_come S.failures K.contents K.failures profile limit print.now scan from.old from.new out.old out.new result }
 {
-    copy_words(alloc, print, rest[0].as_str(), limit, from, out)
+    copy_words(alloc, profile, print, rest[0].as_str(), limit, from, out)
+}
+
+/// The grammar that the profile of an order is.
+fn grammar_of(profile: GivenProfile) -> Profile
+    ensures { result ≡ grammar_of profile }
+{
+    match profile {
+        GivenProfile::One => Profile::One,
+        GivenProfile::Two => Profile::Two,
+    }
+}
+
+/// Does what an order asks for, by the formats of this grammar.
+fn carry_out_by<S: Source, K: Sink, const N: usize>(
+    alloc: Global,
+    profile: Profile,
+    order: &Order,
+    from: &mut Lookahead<S, N>,
+    out: &mut K,
+) -> Result<u8, CommandFault>
+    requires limit { order.now.limit ≤ 2147483647 }
+    requires texts { HasTexts order.now.verb (map string_bytes order.now.texts.items) }
+    ensures { CarriesOut S.to_come S.failures K.contents K.failures profile order.now.verb order.now.limit (map string_bytes order.now.texts.items)
+        from.old from.new out.old out.new result }
+{
+    let [word, rest @ ..] = order.texts.as_slice() else {
+        unreachable!()
+    };
+    match order.verb {
+        Verb::Scan => scan_word(alloc, profile, word.as_str(), order.limit, from, out),
+        Verb::Show => show_word(alloc, profile, word.as_str(), out),
+        Verb::Print => print_word(alloc, profile, word.as_str(), rest, out),
+        Verb::Check => check_both(alloc, profile, word.as_str(), rest, out),
+        Verb::Copy => copy_both(alloc, profile, word.as_str(), rest, order.limit, from, out),
+    }
 }
 
 /// Does what an order asks for, on what the lookahead holds and its source gives, and answers the exit status. Err says why it
@@ -157,17 +207,8 @@ pub fn carry_out<S: Source, K: Sink, const N: usize>(
 ) -> Result<u8, CommandFault>
     requires limit { order.now.limit ≤ 2147483647 }
     requires texts { HasTexts order.now.verb (map string_bytes order.now.texts.items) }
-    ensures { CarriesOut S.to_come S.failures K.contents K.failures order.now.verb order.now.limit (map string_bytes order.now.texts.items)
+    ensures { CarriesOut S.to_come S.failures K.contents K.failures (grammar_of order.now.profile) order.now.verb order.now.limit (map string_bytes order.now.texts.items)
         from.old from.new out.old out.new result }
 {
-    let [word, rest @ ..] = order.texts.as_slice() else {
-        unreachable!()
-    };
-    match order.verb {
-        Verb::Scan => scan_word(alloc, word.as_str(), order.limit, from, out),
-        Verb::Show => show_word(alloc, word.as_str(), out),
-        Verb::Print => print_word(alloc, word.as_str(), rest, out),
-        Verb::Check => check_both(alloc, word.as_str(), rest, out),
-        Verb::Copy => copy_both(alloc, word.as_str(), rest, order.limit, from, out),
-    }
+    carry_out_by(alloc, grammar_of(order.profile), order, from, out)
 }

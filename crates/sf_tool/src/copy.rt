@@ -4,7 +4,7 @@ ghost use Rattle.sf_tool.specs.Commands.{Copies, CopiesWords, Counts, Unread};
 
 use crate::fault::CommandFault;
 use crate::formats::{read_print, read_scan};
-use sf_format::{PrintFormat, ScanFormat};
+use sf_format::{PrintFormat, Profile, ScanFormat};
 use sf_pair::Pair;
 use sf_print::Sink;
 use sf_read::{Lookahead, Source};
@@ -39,6 +39,7 @@ fn copy_by<S: Source, K: Sink, const N: usize>(
 /// are judged in this order, and then as a pair.
 pub(crate) fn copy_words<S: Source, K: Sink, const N: usize>(
     alloc: Global,
+    profile: Profile,
     print: &str,
     scan: &str,
     limit: u32,
@@ -46,11 +47,11 @@ pub(crate) fn copy_words<S: Source, K: Sink, const N: usize>(
     out: &mut K,
 ) -> Result<u8, CommandFault>
     requires { limit ≤ 2147483647 }
-    ensures copies { CopiesWords S.to_come S.failures limit print.now scan.now from.old from.new (K.contents out.old) (K.contents out.new) result }
+    ensures copies { CopiesWords S.to_come S.failures profile limit print.now scan.now from.old from.new (K.contents out.old) (K.contents out.new) result }
     ensures unread { IfErr result (λ fault. Unread fault from.old from.new out.old out.new) }
     ensures failures { Counts (K.failures out.old) (K.failures out.new) result }
 {
-    let print = read_print(alloc, print)?;
-    let scan = read_scan(alloc, scan)?;
+    let print = read_print(alloc, profile, print)?;
+    let scan = read_scan(alloc, profile, scan)?;
     copy_by(alloc, &print, &scan, limit, from, out)
 }

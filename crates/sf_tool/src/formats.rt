@@ -22,24 +22,32 @@ pub(crate) fn resolved(alloc: Global, name: FormatName, word: &str) -> Result<Ve
 }
 
 /// The print format that a word spells.
-pub(crate) fn read_print(alloc: Global, word: &str) -> Result<PrintFormat, CommandFault>
-    ensures ok { IfOk result (λ format. IsPrintWord word.now format) }
-    ensures err { IfErr result (IsNoPrintWord word.now) }
+pub(crate) fn read_print(
+    alloc: Global,
+    profile: Profile,
+    word: &str,
+) -> Result<PrintFormat, CommandFault>
+    ensures ok { IfOk result (λ format. IsPrintWord profile word.now format) }
+    ensures err { IfErr result (IsNoPrintWord profile word.now) }
 {
     let text = resolved(alloc, FormatName::Print, word)?;
-    match PrintFormat::parse(alloc, Profile::One, &text) {
+    match PrintFormat::parse(alloc, profile, &text) {
         Ok(format) => Ok(format),
         Err(fault) => Err(print_format_fault(fault)),
     }
 }
 
 /// The scan format that a word spells.
-pub(crate) fn read_scan(alloc: Global, word: &str) -> Result<ScanFormat, CommandFault>
-    ensures ok { IfOk result (λ format. IsScanWord word.now format) }
-    ensures err { IfErr result (IsNoScanWord word.now) }
+pub(crate) fn read_scan(
+    alloc: Global,
+    profile: Profile,
+    word: &str,
+) -> Result<ScanFormat, CommandFault>
+    ensures ok { IfOk result (λ format. IsScanWord profile word.now format) }
+    ensures err { IfErr result (IsNoScanWord profile word.now) }
 {
     let text = resolved(alloc, FormatName::Scan, word)?;
-    match ScanFormat::parse(alloc, Profile::One, &text) {
+    match ScanFormat::parse(alloc, profile, &text) {
         Ok(format) => Ok(format),
         Err(fault) => Err(format_fault(fault)),
     }

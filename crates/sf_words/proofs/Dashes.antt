@@ -15,6 +15,7 @@ use Rattle.clap.proofs.OnLiterals.{clap_on_literals}
 use Rattle.clap.proofs.WalkLemmas.{walk_stopped}
 use Rattle.sf_words.specs.Laws.{IsTakenAs, TakesBehindDashes}
 use Rattle.sf_words.specs.Line.{print_app, sf_app, words_rule}
+use Rattle.sf_words.specs.Orders.{texts_by}
 use Rattle.sf_words.specs.declared.order.Verb.TheVariants.{Show, Scan, Print, Check, Copy}
 use Rattle.sf_words.proofs.Rows.{either, no_kind}
 
@@ -147,10 +148,10 @@ top_checks : (words : List Text) → checks_after top true (stopped_at words) �
 unfolding clap_on_literals
 top_checks words = refl
 
-pub rows_of_values : (format value : Text) (rest : List Text)
-    → finished print_level.rules (at_values format (value ∷ rest)).held ≡ row (codes "FORMAT") (format ∷ []) ∷ row (codes "VALUES") (value ∷ rest) ∷ []
+pub texts_of_values : (format value : Text) (rest : List Text)
+    → texts_by Print (finished print_level.rules (at_values format (value ∷ rest)).held) ≡ format ∷ value ∷ rest
 unfolding clap_on_literals
-rows_of_values format value rest = refl
+texts_of_values format value rest = refl
 
 print_taken : (format value : Text) (rest : List Text) → length (format ∷ value ∷ rest) < 2 ^ 64
     → IsTakenAs (codes "print" ∷ codes "--" ∷ format ∷ value ∷ rest) Print (format ∷ value ∷ rest)
@@ -159,12 +160,11 @@ print_taken format value rest few = record {
       nothing (walk_fault top names (walk_from nothing_held) (codes "print" ∷ words)) _ (top_walk_fine words)
       (subst (λ w. or_else (entered_fault (built sf_app) w.stopped) (checks_after top (is_some (entered (built sf_app) w.stopped)) w) ≡ []) (sym (top_walk words))
       (nothing (level_fault print_level [] nothing_held words false []) _ (print_fine format value rest (omega (arith, few))) (top_checks words)));
-  given = row (codes "FORMAT") (format ∷ []) ∷ row (codes "VALUES") (value ∷ rest) ∷ [];
+  given = finished print_level.rules (at_values format (value ∷ rest)).held;
   is_given =
       ap (λ w. entered (built sf_app) w.stopped) (top_walk words)
-      ∙ ap (λ w. Some (codes "print", finished print_level.rules w.held)) (print_walk format value rest)
-      ∙ ap (λ rows. Some (codes "print", rows)) (rows_of_values format value rest);
-  texts_are = refl;
+      ∙ ap (λ w. Some (codes "print", finished print_level.rules w.held)) (print_walk format value rest);
+  texts_are = texts_of_values format value rest;
 }
   where
     words : List Text

@@ -1,5 +1,5 @@
 -- What the getters of the matches answer, by the rows.
-use Rattle.std.proofs.Common.{◌≡◌, ◌≢◌, ◌⊎◌, inl, inr, ◌∙◌, ap, sym, subst, refl, Bool, true, false, true≢false, ℕ, List, [], Option, Some, None, Result, Ok, codes, arith, ◌≤◌, true≢false}
+use Rattle.std.proofs.Common.{◌≡◌, ◌≢◌, ◌⊎◌, inl, inr, ◌∙◌, ap, sym, subst, refl, Bool, true, false, true≢false, ℕ, List, [], Option, Some, None, Result, Ok, codes, arith, ◌≤◌, ◌<◌, ◌^◌}
 use Rattle.std.specs.Prelude.{if◌then◌else◌, option_map, unwrap_or}
 use Rattle.std.specs.Str.{bytes_eq}
 use Rattle.std.proofs.lemmas.Slice.Eq.{bytes_eq-Decides}
@@ -11,12 +11,12 @@ use Rattle.clap.specs.declared.parser.matches.Found.{Found}
 use Rattle.clap.specs.Words.{IsAmong, Kinds, Row}
 use Rattle.clap.specs.declared.error.ErrorKind.{ErrorKind}
 use Rattle.clap.specs.declared.error.ErrorKind.TheVariants as kind
-use Rattle.sf_words.specs.Orders.{HasTexts, IsRefusal, IsRefusalOf, is_request, is_true, limit_by, texts_by, values_at, verb_text}
+use Rattle.sf_words.specs.Orders.{HasTexts, IsRefusal, IsRefusalOf, is_request, is_true, number_by, texts_by, values_at, verb_text}
 use Rattle.sf_words.specs.declared.order.Verb.{Verb}
 use Rattle.sf_words.specs.declared.order.Verb.TheVariants.{Show, Scan, Print, Check, Copy}
 use Rattle.sf_words.specs.declared.order.WordsFault.{WordsFault}
 use Rattle.sf_words.specs.declared.order.WordsFault.TheVariants.{Help, Usage, NoMemory}
-use Rattle.sf_words.specs.Taken.{IsLimit, IsTaken}
+use Rattle.sf_words.specs.Taken.{IsTaken, IsWithin}
 
 -- where the argument has no entry it was given nothing
 pub none_given : {X : Type 0} (g : X → List Text) (r : Option X) (f : Found) (id : Text) → option_map g r ≡ option_map raw_values (matched_of f id) → r ≡ None
@@ -29,16 +29,17 @@ pub some_given : {X : Type 0} (g : X → List Text) (r : Option X) (x : X) (f : 
 some_given g r x f id is some =
     ap (λ o. unwrap_or (option_map g o) []) (sym some) ∙ ap (λ o. unwrap_or o []) (is ∙ raw_values-rows f id)
 
--- the limit that was given or is the default
-pub limit_read : (E : Type 0) (G : Text → Result ℕ E → Type 0) → ((t : Text) (r : Result ℕ E) → G t r → ParsesUnsigned 32 10 t r)
-    → (o : Option Text) (r : Option ℕ) → IsLimit o → (o ≡ None → r ≡ None) → ((t : Text) → o ≡ Some t → ReadsOne G t r)
-    → (unwrap_or r 1048576 ≡ limit_by o) × (unwrap_or r 1048576 ≤ 2147483647)
-limit_read E G parses None r limit none value = rw (none refl) (refl, omega arith)
-limit_read E G parses (Some t) r limit none value =
+-- the number that was given, or the other where none was
+pub number_read : (low high other : ℕ) → low ≤ other → other ≤ high → high < 2 ^ 32 → (E : Type 0) (G : Text → Result ℕ E → Type 0)
+    → ((t : Text) (r : Result ℕ E) → G t r → ParsesUnsigned 32 10 t r)
+    → (o : Option Text) (r : Option ℕ) → IsWithin low high o → (o ≡ None → r ≡ None) → ((t : Text) → o ≡ Some t → ReadsOne G t r)
+    → (unwrap_or r other ≡ number_by other o) × (low ≤ unwrap_or r other) × (unwrap_or r other ≤ high)
+number_read low high other above below fits E G parses None r within none value = rw (none refl) (refl, above, below)
+number_read low high other above below fits E G parses (Some t) r within none value =
     let read = value t refl in
-    let got = signed_reads E G 32 0 2147483647 limit.0 r (subst (λ u. ReadsOne G u r) limit.1 read) parses (omega arith) limit.2 in
+    let got = signed_reads E G 32 low high within.0 r (subst (λ u. ReadsOne G u r) within.1 read) parses fits within.2 in
     let parsed = parses t (Ok got.0) (subst (ReadsOne G t) got.1 read) in
-    rw got.1 (parsed.1, got.3)
+    rw got.1 (parsed.1, got.2, got.3)
 
 -- whether an option without a value was given
 pub flag_read : (E : Type 0) (o : Option Text) (r : Option Bool) → (o ≡ None → r ≡ None) → ((t : Text) → o ≡ Some t → ReadsOne (ParsesBool {E = E}) t r)

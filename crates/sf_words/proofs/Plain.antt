@@ -18,7 +18,7 @@ use Rattle.sf_words.specs.Line.{check_app, copy_app, print_app, scan_app, sf_app
 use Rattle.sf_words.specs.Orders.{texts_by, verb_text}
 use Rattle.sf_words.specs.declared.order.Verb.{Verb}
 use Rattle.sf_words.specs.declared.order.Verb.TheVariants.{Show, Scan, Print, Check, Copy}
-use Rattle.sf_words.proofs.Dashes.{checks_after, names, nothing, row, rows_of_values, top, values_checks}
+use Rattle.sf_words.proofs.Dashes.{checks_after, names, nothing, row, texts_of_values, top, values_checks}
 
 -- the word is no flag
 record NoFlag (word : Text) : Type 0 where
@@ -173,7 +173,8 @@ show_fine w fact = nothing (turn_fault (level Show) [] (walk_from nothing_held) 
 show_plain : (w : Text) → NoFlag w → IsTakenAs (codes "show" ∷ w ∷ []) Show (w ∷ [])
 unfolding clap_on_literals
 show_plain w fact =
-    taken_by Show (w ∷ []) (w ∷ []) (one_pending (codes "FORMAT") w [] 2) (row (codes "FORMAT") (w ∷ []) ∷ []) (show_walk w fact) (show_fine w fact) refl refl refl
+    taken_by Show (w ∷ []) (w ∷ []) (one_pending (codes "FORMAT") w [] 2)
+    (finished (level Show).rules (one_pending (codes "FORMAT") w [] 2).held) (show_walk w fact) (show_fine w fact) refl refl refl
 
 scan_walk : (w : Text) → NoFlag w → walk (level Scan).rules [] nothing_held (w ∷ []) ≡ one_pending (codes "FORMAT") w [] 2
 scan_walk w fact = step w fact nothing_held (level Scan).rules idle 1 refl
@@ -242,7 +243,8 @@ print_fine w fact = nothing (turn_fault (level Print) [] (walk_from nothing_held
 format_plain : (w : Text) → NoFlag w → IsTakenAs (codes "print" ∷ w ∷ []) Print (w ∷ [])
 unfolding clap_on_literals
 format_plain w fact =
-    taken_by Print (w ∷ []) (w ∷ []) (one_pending (codes "FORMAT") w [] 2) (row (codes "FORMAT") (w ∷ []) ∷ []) (print_walk w fact) (print_fine w fact) refl refl refl
+    taken_by Print (w ∷ []) (w ∷ []) (one_pending (codes "FORMAT") w [] 2)
+    (finished (level Print).rules (one_pending (codes "FORMAT") w [] 2).held) (print_walk w fact) (print_fine w fact) refl refl refl
 
 abbrev values_held : Text → List Text → Held
 values_held format values = record { rows = row (codes "FORMAT") (format ∷ []) ∷ []; pending = Some (codes "VALUES", values); skip = 0 }
@@ -286,9 +288,8 @@ values_plain : (f v : Text) (rest : List Text) → NoFlag f → NoFlag v → All
     → IsTakenAs (codes "print" ∷ f ∷ v ∷ rest) Print (f ∷ v ∷ rest)
 values_plain f v rest format first_value others few =
     taken_by Print (f ∷ v ∷ rest) (f ∷ v ∷ rest) (state (values_held f (v ∷ rest)) positional 2)
-    (row (codes "FORMAT") (f ∷ []) ∷ row (codes "VALUES") (v ∷ rest) ∷ [])
-    (values_walk f v rest format first_value others) (values_fine f v rest format first_value others) (values_checks f v rest (omega (arith, few)))
-    (ap (λ rows. Some (codes "print", rows)) (rows_of_values f v rest)) refl
+    (finished (level Print).rules (values_held f (v ∷ rest))) (values_walk f v rest format first_value others) (values_fine f v rest format first_value others) (values_checks f v rest (omega (arith, few))) refl
+    (texts_of_values f v rest)
 
 -- ---- all of them
 

@@ -1,5 +1,5 @@
 -- A command line of sf that clap took names one of the verbs, with what the verb wants.
-use Rattle.std.proofs.Common.{◌≡◌, ◌⊎◌, ◌∙◌, Bool, true, false, not, cond, ◌&&◌, ◌||◌, List, [], ◌∷◌, ◌++◌, Option, Some, None, is_some, refl, sym, ap, ap₂, subst, true≢false, inl, inr, codes, pos}
+use Rattle.std.proofs.Common.{◌≡◌, ◌⊎◌, ◌∙◌, ℕ, Bool, true, false, not, cond, ◌&&◌, ◌||◌, List, [], ◌∷◌, ◌++◌, Option, Some, None, is_some, refl, sym, ap, ap₂, subst, true≢false, inl, inr, codes, pos}
 use Rattle.std.specs.Prelude.{find, option_and_then, option_map, slice_get, unwrap_or}
 use Rattle.std.specs.Option.{option_map_or}
 use Rattle.std.specs.List.{AllByRecursion, list_any}
@@ -19,7 +19,7 @@ use Rattle.clap.specs.declared.builder.value_parser.ValueParser.{ValueParser}
 use Rattle.clap.proofs.ValueTestLemmas.{accepts-Accepts}
 use Rattle.sf_words.specs.Line.{sf_app}
 use Rattle.sf_words.specs.Orders.{HasTexts, texts_by, values_at, verb_text}
-use Rattle.sf_words.specs.Taken.{IsLimit, IsTaken}
+use Rattle.sf_words.specs.Taken.{IsTaken, IsWithin}
 use Rattle.sf_words.specs.declared.order.Verb.{Verb}
 use Rattle.sf_words.specs.declared.order.Verb.TheVariants.{Show, Scan, Print, Check, Copy}
 use Rattle.sf_words.proofs.Walking.{checks_pass}
@@ -78,11 +78,11 @@ pub record IsWanted (c : List Rule) (id : Text) : Type 0 where
   pub has : HasOne c id
   pub required : has.rule.required ≡ true
 
--- the level has no limit, or one in the range
-abbrev pub LimitOf : List Rule → Type 0
-LimitOf c =
-    (has_id (codes "limit") c ≡ false)
-    ⊎ ((has : HasOne c (codes "limit")) × (has.rule.parser ≡ Some (Signed (pos 0) (pos 2147483647))) × (has.rule.ignore_case ≡ false))
+-- the level has no number of this id, or one in the range
+abbrev pub NumberOf : Text → ℕ → ℕ → List Rule → Type 0
+NumberOf id low high c =
+    (has_id id c ≡ false)
+    ⊎ ((has : HasOne c id) × (has.rule.parser ≡ Some (Signed (pos low) (pos high))) × (has.rule.ignore_case ≡ false))
 
 abbrev row_at : Text → List Row → Option Row
 row_at id rows = find (λ r. bytes_eq r.id id) rows
@@ -160,34 +160,36 @@ module _ (s : Shape) (distinct : is_distinct s.rules ≡ true) (rows : List Row)
       by_row None pass e = absurd (true≢false (sym e))
       by_row (Some r) pass e = ((pass r refl).text, (pass r refl).values)
 
-  -- a limit that is there is in the range
-  limit_given : LimitOf s.rules → IsLimit (one_of (codes "limit") rows)
-  limit_given (inl none) = by_row (row_at (codes "limit") rows) (no_row (codes "limit") none)
+  -- a number that is there is in the range
+  number_given : (id : Text) (low high : ℕ) → NumberOf id low high s.rules → IsWithin low high (one_of id rows)
+  number_given id low high (inl none) = by_row (row_at id rows) (no_row id none)
     where
-      by_row : (o : Option Row) → ((r : Row) → o ≡ Some r → ⊥) → IsLimit (option_and_then row_text o)
+      by_row : (o : Option Row) → ((r : Row) → o ≡ Some r → ⊥) → IsWithin low high (option_and_then row_text o)
       by_row None absent = tt
       by_row (Some r) absent = absurd (absent r refl)
-  limit_given (inr limit) = by_row (row_at (codes "limit") rows) (passing (codes "limit") limit.0)
+  number_given id low high (inr number) = by_row (row_at id rows) (passing id number.0)
     where
+      within : ValueParser
+      within = Signed (pos low) (pos high)
+
       accepted : (p : ValueParser) (t : Text) (b : Bool) → cond b [] (refused_kind p ∷ []) ≡ [] → b ≡ true
       accepted p t true e = refl
       accepted p t false e = absurd (no_kind e)
 
-      read_text : (how : Reading) (values : List Text) (t : Text) → how ≡ reading_of (Signed (pos 0) (pos 2147483647)) → values ≡ t ∷ []
+      read_text : (how : Reading) (values : List Text) (t : Text) → how ≡ reading_of within → values ≡ t ∷ []
           → option_map (read_as how) (slice_get values 0) ≡ Some (without_minus t)
       read_text how values t how_is values_are = ap₂ (λ h vs. option_map (read_as h) (slice_get vs 0)) how_is values_are
 
-      by_row : (o : Option Row) → ((r : Row) → o ≡ Some r → Passing limit.0.rule r) → IsLimit (option_and_then row_text o)
+      by_row : (o : Option Row) → ((r : Row) → o ≡ Some r → Passing number.0.rule r) → IsWithin low high (option_and_then row_text o)
       by_row None pass = tt
       by_row (Some r) pass =
           let p = pass r refl in
-          let parser : parser_of_value limit.0.rule.parser ≡ Signed (pos 0) (pos 2147483647) = ap parser_of_value limit.1 in
-          let passes : value_kinds false (Signed (pos 0) (pos 2147483647)) p.text ≡ [] =
-          subst (λ q. value_kinds false q p.text ≡ []) parser (subst (λ b. value_kinds b (parser_of_value limit.0.rule.parser) p.text ≡ []) limit.2 p.passes) in
-          let is_in : IsSignedIn (pos 0) (pos 2147483647) p.text =
-          accepts-Accepts false (Signed (pos 0) (pos 2147483647)) p.text (accepted (Signed (pos 0) (pos 2147483647)) p.text _ passes) in
+          let parser : parser_of_value number.0.rule.parser ≡ within = ap parser_of_value number.1 in
+          let passes : value_kinds false within p.text ≡ [] =
+          subst (λ q. value_kinds false q p.text ≡ []) parser (subst (λ b. value_kinds b (parser_of_value number.0.rule.parser) p.text ≡ []) number.2 p.passes) in
+          let is_in : IsSignedIn (pos low) (pos high) p.text = accepts-Accepts false within p.text (accepted within p.text _ passes) in
           let text : row_text r ≡ Some (without_minus p.text) = read_text r.reading r.values p.text (p.reading ∙ ap reading_of parser) p.values in
-          subst IsLimit (sym text) (p.text, refl, is_in)
+          subst (IsWithin low high) (sym text) (p.text, refl, is_in)
 
 -- ---- the five subcommands
 
@@ -212,7 +214,8 @@ pub record IsLevel (verb : Verb) (s : Shape) : Type 0 where
   pub once : s.args_override_self ≡ false
   pub wants : s.subcommand_negates_reqs ≡ false
   pub distinct : is_distinct s.rules ≡ true
-  pub limit : LimitOf s.rules
+  pub limit : NumberOf (codes "limit") 0 2147483647 s.rules
+  pub profile : NumberOf (codes "profile") 1 2 s.rules
   pub words : AllByRecursion (IsWanted s.rules) (wanted verb)
 
 -- a subcommand without a fault is taken
@@ -224,7 +227,8 @@ level_taken verb s level words e =
       verb = verb;
       given = rows;
       is_given = ap (λ name. Some (name, rows)) level.name;
-      limit = limit_given s level.distinct rows good level.limit;
+      limit = number_given s level.distinct rows good (codes "limit") 0 2147483647 level.limit;
+      profile = number_given s level.distinct rows good (codes "profile") 1 2 level.profile;
       enough = texts_enough verb rows (each (wanted verb) level.words (one_given s level.distinct rows good level.wants (checks_pass s [] words false [] e)));
     }
   where
@@ -243,7 +247,8 @@ level_of s (inl is) name answers no_help = (
     wants = refl;
     distinct = refl;
     limit = inl refl;
-    words = (record { has = record { rule = _; is_in = inl refl; named = refl; one = refl }; required = refl }, tt);
+    profile = inr (record { rule = _; is_in = inl refl; named = refl; one = refl }, refl, refl);
+    words = (record { has = record { rule = _; is_in = inr (inr (inl refl)); named = refl; one = refl }; required = refl }, tt);
   }),
 )
 level_of s (inr (inl is)) name answers no_help = (
@@ -254,7 +259,8 @@ level_of s (inr (inl is)) name answers no_help = (
     wants = refl;
     distinct = refl;
     limit = inr (record { rule = _; is_in = inl refl; named = refl; one = refl }, refl, refl);
-    words = (record { has = record { rule = _; is_in = inr (inr (inl refl)); named = refl; one = refl }; required = refl }, tt);
+    profile = inr (record { rule = _; is_in = inr (inr (inl refl)); named = refl; one = refl }, refl, refl);
+    words = (record { has = record { rule = _; is_in = inr (inr (inr (inr (inl refl)))); named = refl; one = refl }; required = refl }, tt);
   }),
 )
 level_of s (inr (inr (inl is))) name answers no_help = (
@@ -265,7 +271,8 @@ level_of s (inr (inr (inl is))) name answers no_help = (
     wants = refl;
     distinct = refl;
     limit = inl refl;
-    words = (record { has = record { rule = _; is_in = inl refl; named = refl; one = refl }; required = refl }, tt);
+    profile = inr (record { rule = _; is_in = inl refl; named = refl; one = refl }, refl, refl);
+    words = (record { has = record { rule = _; is_in = inr (inr (inl refl)); named = refl; one = refl }; required = refl }, tt);
   }),
 )
 level_of s (inr (inr (inr (inl is)))) name answers no_help = (
@@ -276,9 +283,10 @@ level_of s (inr (inr (inr (inl is)))) name answers no_help = (
     wants = refl;
     distinct = refl;
     limit = inl refl;
+    profile = inr (record { rule = _; is_in = inl refl; named = refl; one = refl }, refl, refl);
     words = (
-      record { has = record { rule = _; is_in = inl refl; named = refl; one = refl }; required = refl },
-      (record { has = record { rule = _; is_in = inr (inl refl); named = refl; one = refl }; required = refl }, tt),
+      record { has = record { rule = _; is_in = inr (inr (inl refl)); named = refl; one = refl }; required = refl },
+      (record { has = record { rule = _; is_in = inr (inr (inr (inl refl))); named = refl; one = refl }; required = refl }, tt),
     );
   }),
 )
@@ -290,9 +298,10 @@ level_of s (inr (inr (inr (inr (inl is))))) name answers no_help = (
     wants = refl;
     distinct = refl;
     limit = inr (record { rule = _; is_in = inl refl; named = refl; one = refl }, refl, refl);
+    profile = inr (record { rule = _; is_in = inr (inr (inl refl)); named = refl; one = refl }, refl, refl);
     words = (
-      record { has = record { rule = _; is_in = inr (inr (inl refl)); named = refl; one = refl }; required = refl },
-      (record { has = record { rule = _; is_in = inr (inr (inr (inl refl))); named = refl; one = refl }; required = refl }, tt),
+      record { has = record { rule = _; is_in = inr (inr (inr (inr (inl refl)))); named = refl; one = refl }; required = refl },
+      (record { has = record { rule = _; is_in = inr (inr (inr (inr (inr (inl refl))))); named = refl; one = refl }; required = refl }, tt),
     );
   }),
 )

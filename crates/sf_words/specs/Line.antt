@@ -21,6 +21,15 @@ limit_rule = record (new_rule (codes "limit")) {
   parser = Some (Signed (pos 0) (pos 2147483647));
 }
 
+-- --profile N: 1 or 2, and 1 where it is not given
+abbrev pub profile_rule : Rule
+profile_rule = record (new_rule (codes "profile")) {
+  long = Some (codes "profile");
+  value_names = 1;
+  defaults = codes "1" ∷ [];
+  parser = Some (Signed (pos 1) (pos 2));
+}
+
 -- an option without a value
 abbrev pub flag_rule : Text → Rule
 flag_rule name = record (new_rule name) { long = Some name; action = Some SetTrue }
@@ -31,24 +40,28 @@ words_rule name = record (new_rule name) { range = Some (record { start_inclusiv
 
 -- ---- commands
 
+-- the options of each command
+abbrev pub with_options : App → App
+with_options a = with_rule (with_rule a profile_rule) (flag_rule (codes "explain"))
+
+-- those of a command that scans records
+abbrev pub with_records : App → App
+with_records a = with_options (with_rule (with_rule a limit_rule) (flag_rule (codes "line-buffered")))
+
 abbrev pub show_app : App
-show_app = with_rule (new_app (codes "show")) (word_rule (codes "FORMAT"))
+show_app = with_rule (with_options (new_app (codes "show"))) (word_rule (codes "FORMAT"))
 
 abbrev pub scan_app : App
-scan_app =
-    with_rule (with_rule (with_rule (new_app (codes "scan")) limit_rule) (flag_rule (codes "line-buffered"))) (word_rule (codes "FORMAT"))
+scan_app = with_rule (with_records (new_app (codes "scan"))) (word_rule (codes "FORMAT"))
 
 abbrev pub print_app : App
-print_app = with_rule (with_rule (new_app (codes "print")) (word_rule (codes "FORMAT"))) (words_rule (codes "VALUES"))
+print_app = with_rule (with_rule (with_options (new_app (codes "print"))) (word_rule (codes "FORMAT"))) (words_rule (codes "VALUES"))
 
 abbrev pub check_app : App
-check_app = with_rule (with_rule (new_app (codes "check")) (word_rule (codes "PRINT"))) (word_rule (codes "SCAN"))
+check_app = with_rule (with_rule (with_options (new_app (codes "check"))) (word_rule (codes "PRINT"))) (word_rule (codes "SCAN"))
 
 abbrev pub copy_app : App
-copy_app =
-    with_rule
-    (with_rule (with_rule (with_rule (new_app (codes "copy")) limit_rule) (flag_rule (codes "line-buffered"))) (word_rule (codes "PRINT")))
-    (word_rule (codes "SCAN"))
+copy_app = with_rule (with_rule (with_records (new_app (codes "copy"))) (word_rule (codes "PRINT"))) (word_rule (codes "SCAN"))
 
 -- a command with a version, which needs a subcommand, and shows its help where there is no word at all
 abbrev pub wanting_subcommand : App → App

@@ -7,6 +7,8 @@ use Rattle.clap.specs.declared.error.kind.ErrorKind.{ErrorKind}
 use Rattle.clap.specs.declared.error.kind.ErrorKind.TheVariants as kind
 use Rattle.sf_words.specs.Line.{sf_app}
 use Rattle.sf_words.specs.declared.order.Order.{Order}
+use Rattle.sf_words.specs.declared.order.Profile.{Profile}
+use Rattle.sf_words.specs.declared.order.Profile.TheVariants.{One, Two}
 use Rattle.sf_words.specs.declared.order.Verb.{Verb}
 use Rattle.sf_words.specs.declared.order.Verb.TheVariants.{Show, Scan, Print, Check, Copy}
 use Rattle.sf_words.specs.declared.order.WordsFault.{WordsFault}
@@ -34,10 +36,15 @@ texts_by Print rows = values_at (codes "FORMAT") rows ++ values_at (codes "VALUE
 texts_by Check rows = values_at (codes "PRINT") rows ++ values_at (codes "SCAN") rows
 texts_by Copy rows = values_at (codes "PRINT") rows ++ values_at (codes "SCAN") rows
 
--- the number that --limit was given or has by default; a command without it has 1048576
-abbrev pub limit_by : Option Text → ℕ
-limit_by None = 1048576
-limit_by (Some text) = digits_value 10 (without_leading_plus text)
+-- the number that an option was given or has by default; a command without the option has this one
+abbrev pub number_by : ℕ → Option Text → ℕ
+number_by other None = other
+number_by other (Some text) = digits_value 10 (without_leading_plus text)
+
+-- the number for a profile
+abbrev pub profile_number : Profile → ℕ
+profile_number One = 1
+profile_number Two = 2
 
 abbrev pub is_true : Option Text → Bool
 is_true None = false
@@ -60,9 +67,11 @@ HasTexts _ _ = ⊥
 pub record IsOrderOf (entered : Option (Text × List Row)) (order : Order) : Type 0 where
   pub given : List Row
   pub is_given : entered ≡ Some (verb_text order.verb, given)
-  pub limit : order.limit ≡ limit_by (one_of (codes "limit") given)
+  pub limit : order.limit ≡ number_by 1048576 (one_of (codes "limit") given)
   pub small : order.limit ≤ 2147483647
+  pub profile : profile_number order.profile ≡ number_by 1 (one_of (codes "profile") given)
   pub line_buffered : order.line_buffered ≡ is_set (codes "line-buffered") given
+  pub explain : order.explain ≡ is_set (codes "explain") given
   pub texts : map string_bytes order.texts.items ≡ texts_by order.verb given
   pub enough : HasTexts order.verb (map string_bytes order.texts.items)
 

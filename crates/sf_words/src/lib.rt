@@ -7,5 +7,5 @@ mod line;
 mod order;
 mod words;
 
-pub use order::{Order, Verb, WordsFault};
+pub use order::{Order, Profile, Verb, WordsFault};
 pub use words::read_words;

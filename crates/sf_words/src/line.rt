@@ -1,7 +1,7 @@
 //! The command line of `sf`, as `clap` has it.
 ghost use Rattle.std.specs.Prelude.{◌≡◌, IfOk, false, codes};
 ghost use Rattle.clap.specs.Words.{new_app, rule_of};
-ghost use Rattle.sf_words.specs.Line.{IsLine, check_app, copy_app, flag_rule, limit_rule, print_app, scan_app, sf_app, show_app, word_rule, words_rule};
+ghost use Rattle.sf_words.specs.Line.{IsLine, check_app, copy_app, flag_rule, limit_rule, print_app, profile_rule, scan_app, sf_app, show_app, with_options, with_records, word_rule, words_rule};
 
 use crate::help;
 use clap::{Arg, ArgAction, Command, value_parser};
@@ -21,6 +21,19 @@ fn limit<'a>(alloc: Global) -> Arg<'a>
         .value_parser(value_parser!(u32).range(0..=2147483647))
         .default_value("1048576")
         .help("The most bytes that one record may have, 0 to 2147483647")
+}
+
+/// By which grammar the formats are read.
+fn profile<'a>(alloc: Global) -> Arg<'a>
+    ensures rule { rule_of result ≡ profile_rule }
+    ensures local { result.global ≡ false }
+{
+    Arg::new(alloc, "profile")
+        .long("profile")
+        .value_name("N")
+        .value_parser(value_parser!(u32).range(1..=2))
+        .default_value("1")
+        .help("The formats that are read: 1 those of C, 2 those of base 2 too")
 }
 
 /// An option without a value.
@@ -43,6 +56,18 @@ fn line_buffered<'a>(alloc: Global) -> Arg<'a>
         alloc,
         "line-buffered",
         "Write what each record gives at once, and not in blocks",
+    )
+}
+
+/// Whether more is said of a fault than its line.
+fn explain<'a>(alloc: Global) -> Arg<'a>
+    ensures rule { rule_of result ≡ flag_rule (codes "explain") }
+    ensures local { result.global ≡ false }
+{
+    flag(
+        alloc,
+        "explain",
+        "Say more of what is at fault, in lines behind the first",
     )
 }
 
@@ -71,41 +96,69 @@ fn command<'a>(alloc: Global, name: &'a str, about: &'a str, end: &'a str) -> Co
     Command::new(alloc, name).about(about).after_help(end)
 }
 
+/// A command with the options of each.
+fn with_options<'a>(
+    alloc: Global,
+    name: &'a str,
+    about: &'a str,
+    end: &'a str,
+) -> Result<Command<'a>, AllocError>
+    ensures { IfOk result (IsLine (with_options (new_app name.entry.now))) }
+{
+    command(alloc, name, about, end)
+        .arg(profile(alloc))?
+        .arg(explain(alloc))
+}
+
+/// A command with the options of those that scan records.
+fn with_records<'a>(
+    alloc: Global,
+    name: &'a str,
+    about: &'a str,
+    end: &'a str,
+) -> Result<Command<'a>, AllocError>
+    ensures { IfOk result (IsLine (with_records (new_app name.entry.now))) }
+{
+    command(alloc, name, about, end)
+        .arg(limit(alloc))?
+        .arg(line_buffered(alloc))?
+        .arg(profile(alloc))?
+        .arg(explain(alloc))
+}
+
 fn show<'a>(alloc: Global) -> Result<Command<'a>, AllocError>
     ensures { IfOk result (IsLine show_app) }
 {
-    command(
+    with_options(
         alloc,
         "show",
         "Show the directives of a scan format, each on a line",
         help::SHOW,
-    )
+    )?
     .arg(word(alloc, "FORMAT", "The scan format"))
 }
 
 fn scan<'a>(alloc: Global) -> Result<Command<'a>, AllocError>
     ensures { IfOk result (IsLine scan_app) }
 {
-    command(
+    with_records(
         alloc,
         "scan",
         "Scan standard input by a format, and print a line of values for each record",
         help::SCAN,
-    )
-    .arg(limit(alloc))?
-    .arg(line_buffered(alloc))?
+    )?
     .arg(word(alloc, "FORMAT", "The scan format of one record"))
 }
 
 fn print<'a>(alloc: Global) -> Result<Command<'a>, AllocError>
     ensures { IfOk result (IsLine print_app) }
 {
-    command(
+    with_options(
         alloc,
         "print",
         "Print values by a format, with no line end added",
         help::PRINT,
-    )
+    )?
     .arg(word(alloc, "FORMAT", "The print format"))?
     .arg(values(alloc))
 }
@@ -113,12 +166,12 @@ fn print<'a>(alloc: Global) -> Result<Command<'a>, AllocError>
 fn check<'a>(alloc: Global) -> Result<Command<'a>, AllocError>
     ensures { IfOk result (IsLine check_app) }
 {
-    command(
+    with_options(
         alloc,
         "check",
         "Tell whether a scan format reads back whatever a print format writes",
         help::CHECK,
-    )
+    )?
     .arg(word(alloc, "PRINT", "The print format"))?
     .arg(word(alloc, "SCAN", "The scan format"))
 }
@@ -126,14 +179,12 @@ fn check<'a>(alloc: Global) -> Result<Command<'a>, AllocError>
 fn copy<'a>(alloc: Global) -> Result<Command<'a>, AllocError>
     ensures { IfOk result (IsLine copy_app) }
 {
-    command(
+    with_records(
         alloc,
         "copy",
         "Scan standard input by one format, and print each record by another",
         help::COPY,
-    )
-    .arg(limit(alloc))?
-    .arg(line_buffered(alloc))?
+    )?
     .arg(word(alloc, "PRINT", "The print format of one record"))?
     .arg(word(alloc, "SCAN", "The scan format of one record"))
 }

@@ -20,15 +20,28 @@ pub enum Verb {
     Copy,
 }
 
+/// By which grammar the formats are read.
+#[derive(Clone, Copy, PartialEq, Eq, Debug)]
+pub enum Profile {
+    /// That of C, without what is left out here.
+    One,
+    /// The same, with base 2.
+    Two,
+}
+
 /// What the words ask for.
 #[derive(Debug, Drop)]
 pub struct Order {
     /// What is done.
     pub verb: Verb,
+    /// By which grammar the formats are read.
+    pub profile: Profile,
     /// The most bytes of one record.
     pub limit: u32,
     /// Whether what a record gives is written before the next record.
     pub line_buffered: bool,
+    /// Whether more is said of a fault than its line.
+    pub explain: bool,
     /// The formats and then the values, as they were given.
     pub texts: Vec<String>,
 }

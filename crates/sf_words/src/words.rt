@@ -2,17 +2,20 @@
 ghost use Rattle.std.specs.Prelude.{◌≡◌, ◌≤◌, [], ◌∷◌, ◌++◌, IfErr, IfOk, OnOk, codes, map, string_bytes};
 ghost use Rattle.clap.specs.Words.{found_of, one_of, rows_of, subcommand_rows_of};
 ghost use Rattle.clap.specs.Walk.{texts};
-ghost use Rattle.sf_words.specs.Orders.{IsOrder, IsOrderOf, IsRefusal, IsRefusalOf, faults_of, is_set, limit_by, texts_by, values_at, verb_text};
-ghost use Rattle.sf_words.specs.Taken.{IsLimit, IsTaken, IsVerb};
+ghost use Rattle.sf_words.specs.Orders.{IsOrder, IsOrderOf, IsRefusal, IsRefusalOf, faults_of, is_set, number_by, profile_number, texts_by, values_at, verb_text};
+ghost use Rattle.sf_words.specs.Taken.{IsTaken, IsVerb, IsWithin};
 
 use crate::line::line;
-use crate::order::{Order, Verb, WordsFault};
+use crate::order::{Order, Profile, Verb, WordsFault};
 use clap::error::ErrorKind;
 use clap::{ArgMatches, Error};
 use std::alloc::{AllocError, Global};
 
 /// The limit of a command that has none.
 const DEFAULT_LIMIT: u32 = 1048576;
+
+/// The number of the profile of a command that has none.
+const DEFAULT_PROFILE: u32 = 1;
 
 /// What the user is told where clap gave no matches.
 fn fault_of(alloc: Global, error: &Error) -> WordsFault
@@ -104,11 +107,22 @@ fn texts_of(alloc: Global, verb: Verb, given: &ArgMatches<'_>) -> Result<Vec<Str
 
 /// The most bytes of one record.
 fn limit_of(given: &ArgMatches<'_>) -> u32
-    requires { IsLimit (one_of (codes "limit") (rows_of (found_of given.now))) }
-    ensures value { result ≡ limit_by (one_of (codes "limit") (rows_of (found_of given.now))) }
+    requires { IsWithin 0 2147483647 (one_of (codes "limit") (rows_of (found_of given.now))) }
+    ensures value { result ≡ number_by 1048576 (one_of (codes "limit") (rows_of (found_of given.now))) }
     ensures small { result ≤ 2147483647 }
 {
     given.get_one("limit").unwrap_or(DEFAULT_LIMIT)
+}
+
+/// By which grammar the formats are read.
+fn profile_of(given: &ArgMatches<'_>) -> Profile
+    requires { IsWithin 1 2 (one_of (codes "profile") (rows_of (found_of given.now))) }
+    ensures { profile_number result ≡ number_by 1 (one_of (codes "profile") (rows_of (found_of given.now))) }
+{
+    match given.get_one("profile").unwrap_or(DEFAULT_PROFILE) {
+        2 => Profile::Two,
+        _ => Profile::One,
+    }
 }
 
 /// Whether an option without a value was given.
@@ -129,8 +143,10 @@ fn order_of(alloc: Global, matches: &ArgMatches<'_>) -> Result<Order, AllocError
     let verb = verb_of(name);
     Ok(Order {
         verb,
+        profile: profile_of(given),
         limit: limit_of(given),
         line_buffered: is_set(given, "line-buffered"),
+        explain: is_set(given, "explain"),
         texts: texts_of(alloc, verb, given)?,
     })
 }

@@ -21,7 +21,7 @@ const HELPS: [(&str, &str, &str, [&str; 2], &[&str]); 5] = [
     (
         "show",
         "Show the directives of a scan format, each on a line",
-        "Usage: sf show <FORMAT>",
+        "Usage: sf show [OPTIONS] <FORMAT>",
         ["\n  sf show '%3d,%*s'", "\n  sf show '%2$d %1$[a-z]'"],
         &["\n  0  ", "\n  2  ", "\n  3  ", "\n  4  "],
     ),
@@ -38,7 +38,7 @@ const HELPS: [(&str, &str, &str, [&str; 2], &[&str]); 5] = [
     (
         "print",
         "Print values by a format, with no line end added",
-        "Usage: sf print <FORMAT> [VALUES]...",
+        "Usage: sf print [OPTIONS] <FORMAT> [VALUES]...",
         [
             "\n  sf print '%s is %d\\n' ann 7",
             "\n  sf print '%+d\\n' -- -5",
@@ -48,7 +48,7 @@ const HELPS: [(&str, &str, &str, [&str; 2], &[&str]); 5] = [
     (
         "check",
         "Tell whether a scan format reads back whatever a print format writes",
-        "Usage: sf check <PRINT> <SCAN>",
+        "Usage: sf check [OPTIONS] <PRINT> <SCAN>",
         [
             "\n  sf check '%d\\n' '%11d%*1[\\n]'",
             "\n  sf check '%xx' '%4xx'",

@@ -1,14 +1,20 @@
 //! Words that clap takes.
 use crate::shared::answer;
-use sf_words::Order;
+use sf_words::{Order, Profile};
 use std::alloc::Global;
 use std::test::Fail;
 
-/// An order in one line: verb, limit, options, and the texts between bars.
+/// An order in one line: verb, limit, options, and the texts between bars. Profile 1 isn't named.
 fn line_of(alloc: Global, order: &Order) -> Result<String, Fail> {
     let mut line = format!(in alloc; "{:?} {}", order.verb, order.limit)?;
     if order.line_buffered {
         line.push_str(" line-buffered")?;
+    }
+    if order.profile == Profile::Two {
+        line.push_str(" profile-2")?;
+    }
+    if order.explain {
+        line.push_str(" explain")?;
     }
     for text in order.texts.iter() {
         line.push_str(" |")?;
@@ -18,7 +24,7 @@ fn line_of(alloc: Global, order: &Order) -> Result<String, Fail> {
 }
 
 /// Words, and the order that they make.
-const ORDERS: [(&str, &str); 26] = [
+const ORDERS: [(&str, &str); 36] = [
     ("show|%3d,%*s", "Show 1048576 |%3d,%*s"),
     ("scan|%d,%d", "Scan 1048576 |%d,%d"),
     ("scan|--limit|3|%s", "Scan 3 |%s"),
@@ -54,6 +60,25 @@ const ORDERS: [(&str, &str); 26] = [
         "Copy 80 line-buffered |%d; |%3d;",
     ),
     ("show|help", "Show 1048576 |help"),
+    ("scan|--profile|1|%d", "Scan 1048576 |%d"),
+    ("scan|--profile|2|%d", "Scan 1048576 profile-2 |%d"),
+    ("scan|%d|--profile=02", "Scan 1048576 profile-2 |%d"),
+    ("show|--profile|2|%d", "Show 1048576 profile-2 |%d"),
+    (
+        "print|--profile|2|--explain|%d|7",
+        "Print 1048576 profile-2 explain |%d |7",
+    ),
+    ("print|%d|7|--explain", "Print 1048576 explain |%d |7"),
+    ("check|--explain|%d|%3d", "Check 1048576 explain |%d |%3d"),
+    (
+        "copy|--limit|8|--line-buffered|--profile|2|--explain|%d;|%3d;",
+        "Copy 8 line-buffered profile-2 explain |%d; |%3d;",
+    ),
+    ("show|--explain|%d", "Show 1048576 explain |%d"),
+    (
+        "scan|--explain|--|--explain",
+        "Scan 1048576 explain |--explain",
+    ),
 ];
 
 #[test]

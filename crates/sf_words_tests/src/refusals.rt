@@ -4,7 +4,7 @@ use sf_words::WordsFault;
 use std::test::Fail;
 
 /// Words, the first line that is said of them, and how the command is called, where that is said.
-const REFUSALS: [(&str, &str, &str); 24] = [
+const REFUSALS: [(&str, &str, &str); 28] = [
     (
         "scan",
         "error: the following required arguments were not provided:",
@@ -61,9 +61,29 @@ const REFUSALS: [(&str, &str, &str); 24] = [
         "Usage: sf scan --line-buffered <FORMAT>",
     ),
     (
-        "scan|--profile|1|%d",
-        "error: unexpected argument '--profile' found",
-        "Usage: sf scan [OPTIONS] <FORMAT>",
+        "scan|--profile|0|%d",
+        "error: invalid value '0' for '--profile <N>': 0 is not in 1..=2",
+        "For more information, try '--help'.",
+    ),
+    (
+        "show|--profile|3|%d",
+        "error: invalid value '3' for '--profile <N>': 3 is not in 1..=2",
+        "For more information, try '--help'.",
+    ),
+    (
+        "print|--profile|two|%d",
+        "error: invalid value 'two' for '--profile <N>': invalid digit found in string",
+        "For more information, try '--help'.",
+    ),
+    (
+        "check|--profile|1|--profile|1|%d|%3d",
+        "error: the argument '--profile <N>' cannot be used multiple times",
+        "Usage: sf check [OPTIONS] <PRINT> <SCAN>",
+    ),
+    (
+        "scan|--explain=yes|%d",
+        "error: unexpected value 'yes' for '--explain' found; no more were expected",
+        "Usage: sf scan --explain <FORMAT>",
     ),
     (
         "scan|--version",
@@ -73,7 +93,7 @@ const REFUSALS: [(&str, &str, &str); 24] = [
     (
         "show|--limit|3|%d",
         "error: unexpected argument '--limit' found",
-        "Usage: sf show <FORMAT>",
+        "Usage: sf show [OPTIONS] <FORMAT>",
     ),
     (
         "print",
@@ -83,7 +103,7 @@ const REFUSALS: [(&str, &str, &str); 24] = [
     (
         "print|%hhu|-1",
         "error: unexpected argument '-1' found",
-        "Usage: sf print <FORMAT> [VALUES]...",
+        "Usage: sf print [OPTIONS] <FORMAT> [VALUES]...",
     ),
     (
         "check|%d",
@@ -93,12 +113,12 @@ const REFUSALS: [(&str, &str, &str); 24] = [
     (
         "check|%d|%3d|%d",
         "error: unexpected argument '%d' found",
-        "Usage: sf check <PRINT> <SCAN>",
+        "Usage: sf check [OPTIONS] <PRINT> <SCAN>",
     ),
     (
         "check|--line-buffered|%d|%3d",
         "error: unexpected argument '--line-buffered' found",
-        "Usage: sf check <PRINT> <SCAN>",
+        "Usage: sf check [OPTIONS] <PRINT> <SCAN>",
     ),
     (
         "copy|%d",
@@ -107,8 +127,8 @@ const REFUSALS: [(&str, &str, &str); 24] = [
     ),
     (
         "copy|--profile|%d|%3d",
-        "error: unexpected argument '--profile' found",
-        "Usage: sf copy [OPTIONS] <PRINT> <SCAN>",
+        "error: invalid value '%d' for '--profile <N>': invalid digit found in string",
+        "For more information, try '--help'.",
     ),
     (
         "shov|%d",

@@ -1,6 +1,5 @@
 use Rattle.std.proofs.Common.{◌≡◌, ℕ, List, Err, ap, ◌∙◌, sym, subst, map}
 use Rattle.std.specs.String.{string_bytes}
-use Rattle.sf_format.specs.declared.directive.Profile.TheVariants.{One}
 use Rattle.sf_format.specs.Faults.{PrintFault, IsPrintRefused}
 use Rattle.sf_tool.specs.declared.fault.CommandFault.{CommandFault}
 use Rattle.sf_tool.specs.Commands.{print_format_fault}
@@ -9,12 +8,12 @@ use Rattle.sf_tool.proofs.command.print_by.Goals as goal
 
 pub returns-in-Err-clause-prints : goal.returns-in-Err-clause-prints
 returns-in-Err-clause-prints g c =
-    let refused : IsPrintRefused One c.args.text.now c.in-Err.fault = c.in-Err.ensures.refused in
-    rw c.print_format_fault.ensures (refused_prints c.args.text.now (map string_bytes c.args.values.now) (g.K.Sink.contents c.args.out.now) c.in-Err.fault refused)
+    let refused : IsPrintRefused c.args.profile c.args.text.now c.in-Err.fault = c.in-Err.ensures.refused in
+    rw c.print_format_fault.ensures (refused_prints c.args.profile c.args.text.now (map string_bytes c.args.values.now) (g.K.Sink.contents c.args.out.now) c.in-Err.fault refused)
 
 pub returns-in-Err-clause-refused : goal.returns-in-Err-clause-refused
 returns-in-Err-clause-refused g c at why faulty =
-    let here : PrintFault One c.args.text.now at why = faulty in
+    let here : PrintFault c.args.profile c.args.text.now at why = faulty in
     let told = c.in-Err.ensures.fault at why here in
     let same : c.in-Err.fault ≡ record { at = at; why = why } = cc in
     ap (λ (f : CommandFault). Err f) (c.print_format_fault.ensures ∙ ap print_format_fault same)
@@ -24,10 +23,10 @@ returns-in-Err-clause-failures g c = rw c.print_format_fault.ensures (print_coun
 
 pub returns-in-Ok-print_values-clause-refused : goal.returns-in-Ok-print_values-clause-refused
 returns-in-Ok-print_values-clause-refused g c at why faulty =
-    let here : PrintFault One c.args.text.now at why = faulty in
+    let here : PrintFault c.args.profile c.args.text.now at why = faulty in
     let told = c.in-Ok.ensures.fault at why here in absurd (cc)
 
 pub returns-clause-refused : goal.returns-clause-refused
 returns-clause-refused g c at why faulty =
-    let here : PrintFault One c.args.text.now at why = faulty in
+    let here : PrintFault c.args.profile c.args.text.now at why = faulty in
     let told = c.in-Ok.ensures.fault at why here in absurd (cc)

@@ -1,5 +1,4 @@
 use Rattle.std.proofs.Common.{rules}
-use Rattle.sf_format.specs.declared.directive.Profile.TheVariants.{One}
 use Rattle.sf_format.specs.Faults.{IsRefused}
 use Rattle.sf_tool.specs.Escapes.{Unescapes}
 use Rattle.sf_tool.proofs.Checking.{no_scan_format}
@@ -8,5 +7,5 @@ use Rattle.sf_tool.proofs.formats.read_scan.Goals as goal
 pub returns-clause-err : goal.returns-clause-err
 returns-clause-err c =
     let stands : Unescapes c.args.word.now c.deref.result.now = search rules in
-    let refused : IsRefused One c.deref.result.now c.in-Err.fault = c.in-Err.ensures.refused in
-    rw c.format_fault.ensures (no_scan_format c.args.word.now c.deref.result.now c.in-Err.fault stands refused)
+    let refused : IsRefused c.args.profile c.deref.result.now c.in-Err.fault = c.in-Err.ensures.refused in
+    rw c.format_fault.ensures (no_scan_format c.args.profile c.args.word.now c.deref.result.now c.in-Err.fault stands refused)

@@ -1,15 +1,15 @@
-use Rattle.std.proofs.Common.{◌∙◌, ap, codes, subst, sym}
+use Rattle.std.proofs.Common.{◌∙◌, ap, arith, codes, subst, sym}
 use Rattle.std.specs.Str.Parse.{ParsesUnsigned, ExplainsUnsignedError, HasUnsignedDigitsIfOk}
 use Rattle.clap.specs.Words.{found_of, one_text}
 use Rattle.clap.proofs.WalkLemmas.{one_text-rows}
-use Rattle.sf_words.specs.Orders.{limit_by}
-use Rattle.sf_words.specs.Taken.{IsLimit}
-use Rattle.sf_words.proofs.Given.{limit_read}
+use Rattle.sf_words.specs.Orders.{number_by}
+use Rattle.sf_words.specs.Taken.{IsWithin}
+use Rattle.sf_words.proofs.Given.{number_read}
 use Rattle.sf_words.proofs.words.limit_of.Goals as goal
 
 pub returns : goal.returns
 returns c =
     let same = one_text-rows (found_of c.args.given.now) (codes "limit") in
-    let read = limit_read _ (λ bs r. ParsesUnsigned 32 10 bs r × ExplainsUnsignedError 10 bs r × HasUnsignedDigitsIfOk bs r) (λ t r h. h.0)
-    (one_text (found_of c.args.given.now) (codes "limit")) c.get_one.result (subst IsLimit (sym same) c.requires) c.get_one.ensures.none c.get_one.ensures.value in
-    record { value = c.unwrap_or.ensures ∙ read.0 ∙ ap limit_by same; small = rw c.unwrap_or.ensures read.1 }
+    let read = number_read 0 2147483647 1048576 (omega arith) (omega arith) (omega arith) _ (λ bs r. ParsesUnsigned 32 10 bs r × ExplainsUnsignedError 10 bs r × HasUnsignedDigitsIfOk bs r) (λ t r h. h.0)
+    (one_text (found_of c.args.given.now) (codes "limit")) c.get_one.result (subst (IsWithin 0 2147483647) (sym same) c.requires) c.get_one.ensures.none c.get_one.ensures.value in
+    record { value = c.unwrap_or.ensures ∙ read.0 ∙ ap (number_by 1048576) same; small = rw c.unwrap_or.ensures read.2 }

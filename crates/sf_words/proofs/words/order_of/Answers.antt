@@ -14,7 +14,9 @@ returns c =
       is_given = is_given;
       limit = c.limit_of.ensures.value;
       small = c.limit_of.ensures.small;
+      profile = c.profile_of.ensures;
       line_buffered = c.is_set.ensures;
+      explain = c.is_set-2.ensures;
       texts = c.in_ok-texts_of.ensures;
       enough = subst (HasTexts verb) (sym c.in_ok-texts_of.ensures) (enough_texts (subcommand_rows_of c.args.matches.now) c.requires verb rows is_given);
     }
