@@ -1,0 +1,193 @@
+"""Malicious formats: each byte as a letter, numbers that overflow, formats of 4096 bytes and more, thousands of directives.
+
+Each fault and its place is that of the table "Refused formats" in docs/FORMATS.md; the kinds are those of its tables of
+conversions.
+"""
+from answers import answers, escaped
+
+SIGNED, UNSIGNED = "di", "uoxX"
+LENGTHS = {"hh": 8, "h": 16, "": 32, "l": 64, "ll": 64, "j": 64, "z": 64, "t": 64}
+
+# C11 has these; they are left out here. 'm' is POSIX's, in scan formats.
+LEFT_OUT = "LaAeEfFgGpCS"
+
+
+def is_prefix_of_length(text):
+    return any(it.startswith(text) for it in LENGTHS)
+
+
+def directive(letter, length="", width="-", slot="1"):
+    """The line by which `sf show` tells the first directive."""
+    kind = "text" if letter in "cs" else ("i" if letter in SIGNED + "n" else "u") + str(LENGTHS[length])
+    return f"1 {letter.lower()} {kind} width {'1' if letter == 'c' else width} slot {slot}\n"
+
+
+def last(destinations, total):
+    return f"destinations {destinations}, width sum {total}\n"
+
+
+def scan_letter(before, length, letter):
+    """What `sf show` answers of a conversion that ends with this letter: its output, or its fault and place."""
+    at = 1 + len(before) + len(length)
+    if letter == "\0":
+        return f"F14 Nul at {at}"
+    if letter == "%" and at == 1:
+        return "1 percent\n" + last(0, 0)
+    if letter in "diuoxXcsn":
+        if letter in "cs" and length:
+            return f"F5 LeftOut at {at}" if length == "l" else f"F6 BadLength at {at}"
+        if letter == "n" and before:
+            return f"F9 BadCount at {at}"
+        slot, total = ("-", 0) if before else ("1", {"c": 1, "s": "-"}.get(letter, 0))
+        return directive(letter, length, slot=slot) + last(0 if before else 1, total)
+    if letter == "[":
+        if length:
+            return f"F5 LeftOut at {at}" if length == "l" else f"F6 BadLength at {at}"
+        return f"F7 OpenSet at {at}"
+    if letter == "0" and not length:
+        return f"F2 ZeroWidth at {at}"
+    goes_on = letter in "123456789" and not length or letter == "*" and not before and not length
+    if goes_on or is_prefix_of_length(length + letter):
+        return f"F1 Truncated at {at + 1}"
+    return f"F5 LeftOut at {at}" if letter in LEFT_OUT + "m" else f"F4 UnknownLetter at {at}"
+
+
+def print_letter(letter):
+    """What `sf print` answers of this letter and, where it is a conversion's, of the value 7."""
+    if letter == "\0":
+        return "F14 Nul at 1"
+    if letter in "diuoxXcs":
+        return "7"
+    if letter == "%":
+        return "%"
+    if letter in "-+ #0.123456789" or is_prefix_of_length(letter):
+        return "F1 Truncated at 2"
+    return "F5 LeftOut at 1" if letter in LEFT_OUT + "*'n" else "F4 UnknownLetter at 1"
+
+
+def judged(verb, kind, text, answer, *values):
+    """A check that a format has this fault, or else gives this output."""
+    if answer[:1] == "F" and answer[1:2].isdigit():
+        return answers(verb, text, *values, err=f"{kind} format: {answer}", status=2)
+    return answers(verb, text, *values, out=answer.encode())
+
+
+def letters():
+    """Each byte where a letter is due."""
+    for code in range(256):
+        letter = chr(code)
+        word = escaped(b"%" + bytes([code]))
+        yield f"%{letter!r} scans", judged("show", "scan", word, scan_letter("", "", letter))
+        yield f"%{letter!r} prints", judged("print", "print", word, print_letter(letter), *"7" * (letter in "diuoxXcs"))
+    for before, length in [("*", ""), ("", "hh"), ("", "l"), ("", "t"), ("*", "ll")]:
+        for code in [0, 9, 10, 32, *range(33, 127), 128, 255]:
+            letter = chr(code)
+            text = "%" + before + length + letter
+            word = escaped(text.encode("latin-1"))
+            yield f"{text!r} scans", judged("show", "scan", word, scan_letter(before, length, letter))
+
+
+def told(text, answer):
+    return f"{text if len(text) < 40 else text[:30] + '..' + str(len(text))} scans", judged("show", "scan", text, answer)
+
+
+def printed(text, answer, *values):
+    return f"{text if len(text) < 40 else text[:30] + '..' + str(len(text))} prints", judged("print", "print", text, answer, *values)
+
+
+# Numbers that have no end, or that wrap to good ones in 8, 16, 32 and 64 bits.
+WRAPPING = [2**8 + 1, 2**16 + 1, 2**32 + 1, 2**64 + 1, 2**128 + 1]
+
+
+def numbers():
+    yield told("%99999999999999999999$d", "F11 BadNumber at 1")
+    yield told("%" + "9" * 4000 + "$d", "F11 BadNumber at 1")
+    yield told("%" + "0" * 4000 + "$d", "F11 BadNumber at 1")
+    yield told("%" + "0" * 4000 + "1$d", directive("d") + last(1, 0))
+    yield told("%" + "0" * 4000 + "7c", "1 c text width 7 slot 1\n" + last(1, 7))
+    yield told("%" + "9" * 4000 + "c", "F3 TooWide at 1")
+    yield told("%" + "0" * 4000 + "c", "F2 ZeroWidth at 1")
+    yield told("%65535c", "1 c text width 65535 slot 1\n" + last(1, 65535))
+    yield told("%65535d", directive("d", width=65535) + last(1, 0))
+    yield told("%*65535s", directive("s", width=65535, slot="-") + last(0, 0))
+    yield told("%65536c", "F3 TooWide at 1")
+    for number in [0, 33, *WRAPPING]:
+        yield told(f"%{number}$d", "F11 BadNumber at 1")
+        yield printed(f"%{number}$d", "F11 BadNumber at 1", "1")
+    for number in [65536, 2**16 + 1, 2**31, 2**32 + 1, 2**63, 2**64 + 1, 2**128 + 1]:
+        yield told(f"%{number}d", "F3 TooWide at 1")
+        yield told(f"%*{number}[a]", "F3 TooWide at 2")
+        yield told(f"%1${number}d", "F3 TooWide at 3")
+        yield printed(f"%{number}d", "F3 TooWide at 1", "1")
+        yield printed(f"%-{number}.{number}d", "F3 TooWide at 2", "1")
+    for number in [256, *WRAPPING]:
+        yield printed(f"%.{number}d", "F18 PrecisionTooLarge at 2", "1")
+    yield printed("%." + "9" * 4000 + "d", "F18 PrecisionTooLarge at 2", "1")
+    yield printed("%." + "0" * 4000 + "3d", "007", "7")
+    yield printed("%.255d", "0" * 254 + "7", "7")
+    yield printed("%65535d", " " * 65534 + "7", "7")
+    yield printed("%-65535d", "7" + " " * 65534, "7")
+    yield printed("%065535d", "-" + "0" * 65533 + "7", "--", "-7")
+    yield printed("%" + "0" * 4000 + "d", "7", "7")
+    yield printed("%" + "-+ #0" * 800 + "s", "F17 BadFlag at 2", "7")
+    yield printed("%" + "- +" * 1300 + "d", "+7", "7")
+    # (of these, only '-' is a flag of 's')
+    yield printed("%" + "-" * 4000 + "3s|", "a  |", "a")
+
+
+def lengths():
+    """Formats of 4096 bytes, of more, and of as much as a word can have."""
+    yield told("a" * 4096, "".join(f'{it} byte "a"\n' for it in range(1, 4097)) + last(0, 0))
+    yield told(" " * 4096, "1 space\n" + last(0, 0))
+    yield told("a" * 4094 + "%d", "".join(f'{it} byte "a"\n' for it in range(1, 4095))
+               + "4095 d i32 width - slot 1\n" + last(1, 0))
+    yield told("a" * 4093 + "%zq", "F4 UnknownLetter at 4095")
+    yield told("a" * 4095 + "%", "F1 Truncated at 4096")
+    yield told("%" * 4096, "".join(f"{it} percent\n" for it in range(1, 2049)) + last(0, 0))
+    yield told("%" * 4095, "F1 Truncated at 4095")
+    yield told("\\x00" * 4096, "F14 Nul at 0")
+    yield told("\\x25" * 4096, "".join(f"{it} percent\n" for it in range(1, 2049)) + last(0, 0))
+    for size in (4097, 65536 + 3, 131071):
+        for byte in "a%[ ":
+            yield told(byte * size, "F15 FormatTooLong at 4096")
+        yield printed("%" * size, "F15 FormatTooLong at 4096", "7")
+    yield told("\\x00" * 4097, "F15 FormatTooLong at 4096")
+    yield printed("b" * 4096, "b" * 4096)
+    yield printed("%" * 4096, "%" * 2048)
+    yield told("", last(0, 0))
+    yield printed("", "")
+
+
+def many():
+    """As many directives as a format can have."""
+    yield told("%d" * 32, "".join(f"{it} d i32 width - slot {it}\n" for it in range(1, 33)) + last(32, 0))
+    yield told("%d" * 33, "F16 TooManyDestinations at 64")
+    yield told("%n" * 2048, "F16 TooManyDestinations at 64")
+    yield told("%65535s" * 32, "".join(f"{it} s text width 65535 slot {it}\n" for it in range(1, 33)) + last(32, 2097120))
+    yield told("%*d" * 1365, "".join(f"{it} d i32 width - slot -\n" for it in range(1, 1366)) + last(0, 0))
+    yield told("%*[a]" * 819, "".join(f"{it} [ text width - slot - members 1\n" for it in range(1, 820)) + last(0, 0))
+    yield told("".join(f"%{it}$d" for it in range(32, 0, -1)),
+               "".join(f"{33 - it} d i32 width - slot {it}\n" for it in range(32, 0, -1)) + last(32, 0))
+    yield told("".join(f"%{it}$d" for it in range(33, 0, -1)), "F11 BadNumber at 1")
+    yield told("%1$d" * 1024, "F12 NumberTwice at 4")
+    yield told("%32$d", "F13 NumberGap at 0")
+    yield told("%*d%1$d%*d%d", "F10 MixedNumbering at 10")
+    yield printed("%d" * 33, "F16 TooManyDestinations at 64", *"1" * 33)
+    yield printed("%d" * 32, "1" * 32, *"1" * 32)
+    yield printed("%65535d" * 32, (" " * 65534 + "7") * 32, *"7" * 32)
+    yield printed("".join(f"%{it}$d," for it in range(32, 0, -1)),
+                  "".join(f"{it}," for it in range(32, 0, -1)), *map(str, range(1, 33)))
+
+
+def escapes():
+    """Escapes are judged before the format, by the place of the backslash in the word."""
+    for text, at in [("\\", 0), ("\\q", 0), ("\\x", 0), ("\\x0", 0), ("\\x0g", 0), ("\\xG0", 0), ("\\X00", 0), ("\\0", 0),
+                     ("\\\\\\", 2), ("a" * 5000 + "\\q", 5000), ("%q\\z", 2), ("a" * 130000 + "\\", 130000), ("\\é", 0)]:
+        for verb, kind in (("show", "scan"), ("print", "print")):
+            yield f"{kind} {text[:20]!r} {at}", answers(verb, text, err=f"{kind} format: bad escape at {at}", status=2)
+    yield told("\\\\" * 4096, "".join(f'{it} byte "\\\\"\n' for it in range(1, 4097)) + last(0, 0))
+
+
+def checks():
+    for group in (letters, numbers, lengths, many, escapes):
+        yield from group()

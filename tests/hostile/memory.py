@@ -1,0 +1,97 @@
+"""Memory that is short: each verb under `ulimit -v`, from the least that starts up to 16 MB in steps.
+
+With less memory than a call wants it ends with status 4 and one line, and what it has written is a front of its output
+(of records: whole ones); else it answers what it answers with ample memory. Nothing hangs, aborts or is lost between.
+"""
+import os
+import resource
+
+import program
+from answers import NO_MEMORY, shown
+
+# In kB, as `ulimit -v` takes it.
+MOST = 16384
+STEP = 1024
+FINE_STEP = 4
+FINE_STEPS = 32
+
+CALLS = [
+    ("show", ["show", "%3d,%*s"], b""),
+    ("show 4096 directives", ["show", "a" * 4096], b""),
+    ("scan", ["scan", "%d"], b"1\n22\n333\n"),
+    ("scan, a text of 1,000,000 bytes", ["scan", "%s"], b"a" * 1000000),
+    ("scan, texts of any length", ["scan", "%s"], b" ".join(b"b" * (1 << size) for size in range(20))),
+    ("scan, 32 texts of 65,535 bytes", ["scan", "%65535s" * 32], b"c d e f " * 8),
+    ("scan, 4096 directives", ["scan", "%*d" * 1365], b"1 " * 2730),
+    ("print", ["print", "%d %s|", "1", "abc"], b""),
+    ("print, 2 MB", ["print", "%65535d" * 32, *["7"] * 32], b""),
+    ("check", ["check", "%d,%s\\n", "%11d,%20s%*1[\\n]"], b""),
+    ("copy", ["copy", "%d,%s\\n", "%11d,%20s%*1[\\n]"], b"1,a\n +2,b\n"),
+    ("copy, long texts", ["copy", "%s;" * 16, "%65535[^;];" * 16], (b"z" * 60000 + b";") * 16),
+    ("help", ["--help"], b""),
+    ("version", ["--version"], b""),
+    ("bad words", ["scan", "--limit", "x", "%d"], b""),
+    # (the system keeps 128 kB of stack ready behind the list of words; with many more words than this the stack has to
+    # grow later, and where the system refuses that, no program hears of it)
+    ("many words", ["print", "%d", *["1"] * 10000], b""),
+]
+
+
+def within(kilobytes, words, text, **how):
+    """The status, output and error text of a call within so many kB of address space."""
+    room = kilobytes << 10
+    return program.run(*words, stdin=text, preexec_fn=lambda: resource.setrlimit(resource.RLIMIT_AS, (room, room)), **how)
+
+
+def is_loaded(kilobytes, words):
+    """Whether the system has room for the program and these words, before its first instruction: the loader tells."""
+    return within(kilobytes, words, b"", env={**os.environ, "LD_TRACE_LOADED_OBJECTS": "1"})[0] == 0
+
+
+def least_start(words):
+    """The least memory, in kB, with which a call with these words starts."""
+    low, high = 0, MOST
+    while high - low > FINE_STEP:
+        middle = (low + high) // 2 // FINE_STEP * FINE_STEP
+        low, high = (low, middle) if is_loaded(middle, words) else (middle, high)
+    return high
+
+
+def limits(words):
+    """Those near the least that starts closely, the others in greater steps."""
+    fine = range(least := least_start(words), least + FINE_STEP * FINE_STEPS, FINE_STEP)
+    return [*fine, *range(fine[-1] + STEP, MOST, STEP), MOST]
+
+
+def end_fault(got, ample, is_by_record):
+    """What is wrong with an end, if anything is."""
+    if got == ample:
+        return ""
+    status, out, err = got
+    if (status, err) != (4, NO_MEMORY):
+        return f"{status}, {shown(err)}"
+    if not ample[1].startswith(out):
+        return f"no front: {shown(out)}"
+    return f"cut within a record: {shown(out)}" if is_by_record and out and not out.endswith(b"\n") else ""
+
+
+def under(words, text):
+    """A check of one call under each limit, and that more memory is never worse."""
+    def check():
+        ample = program.run(*words, stdin=text)
+        enough = None
+        for kilobytes in limits(words):
+            got = within(kilobytes, words, text)
+            fault = end_fault(got, ample, words[0] == "scan")
+            if fault:
+                return f"{kilobytes} kB: {fault}"
+            if enough is not None and got != ample:
+                return f"{kilobytes} kB is worse than {enough} kB"
+            enough = kilobytes if enough is None and got == ample else enough
+        return "" if enough is not None else f"not even {MOST} kB are enough"
+    return check
+
+
+def checks():
+    for name, words, text in CALLS:
+        yield name, under(words, text)
