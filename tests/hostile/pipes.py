@@ -45,9 +45,7 @@ def closed_within(words, want, size):
             feeder.stdout.close()
             feeder.stdout = None
             try:
-                read = b""
-                while len(read) < size:
-                    read += running.stdout.read(size - len(read))
+                read = running.stdout.read(size)
                 running.stdout.close()
                 running.stdout = None
                 err = running.stderr.read()
