@@ -3,8 +3,6 @@
 What is due follows from C11 7.21.6.2 and docs/FORMATS.md: the item is the longest front that begins a match, what follows
 stays, a number that its kind doesn't hold is out of range, and a run is cut off by its limit.
 """
-import random
-
 import program
 from answers import answers, difference, quoted
 
@@ -136,31 +134,6 @@ def fronts():
     yield "copy, cut at each place", cut(text, ["copy", "%d,%s\\n", "%11d,%20s%*1[\\n]"], [b"7,ab\n", b"8,c\n", b"-12,zz\n"])
 
 
-def noise():
-    """Bytes by chance, always the same ones: the call ends with a documented status, and its lines are those of a scan that goes on."""
-    chance = random.Random(2111)
-    alphabet = b"0123456789+-xX abf,;%\n\0\xff"
-    for number in range(40):
-        text = bytes(chance.choice(alphabet) for _ in range(chance.randrange(1, 200)))
-        yield f"noise {number}", split(text, chance.choice(["%c", "%3c", "%5[^,]%*[,]", "%*[^,]%*c%n"]))
-
-
-def split(text, format_):
-    """A check that the records of a text that comes in two pieces are those of the whole text."""
-    def check():
-        whole = program.run("scan", format_, stdin=text)
-        at = len(text) // 2
-        running = program.start("scan", format_)
-        try:
-            running.stdin.write(text[:at])
-            running.stdin.flush()
-            out, err = running.communicate(text[at:], timeout=program.SECONDS)
-        finally:
-            program.end(running)
-        return difference((running.returncode, out, err), whole)
-    return check
-
-
 def checks():
-    for group in (for_ever, long_ones, directives, every_byte, fronts, noise):
+    for group in (for_ever, long_ones, directives, every_byte, fronts):
         yield from group()

@@ -1,6 +1,6 @@
 """Malicious words: values that are no numbers or wrap to good ones, thousands of values, limits, bytes that are no text."""
 import program
-from answers import answers, difference, shown
+from answers import answers, shown
 
 # What a sign or none and decimal digits are not.
 NO_NUMBERS = ["", "+", "-", "++1", "+-1", "--1", " 1", "1 ", "1\n", "0x1", "1e3", "1.0", "1_000", "1,0", "a", "१", "１", "1\\x31",

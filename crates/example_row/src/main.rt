@@ -7,7 +7,7 @@ use sf_base::{Kind, Store, Value};
 use sf_format::{PrintFormat, Profile, ScanFormat};
 use sf_print::{StdSink, fprint};
 use sf_read::{Lookahead, ScanRowFault, StdSource, scan_row};
-use sf_run::{Ending, Report, Row, RowFault, Status};
+use sf_run::{Ending, Outcome, Report, Row, RowFault, Status};
 use std::alloc::Global;
 
 /// The most bytes that one row may have.
@@ -61,6 +61,13 @@ impl Row for Stock {
     }
 }
 
+/// Whether the input ended before a row: nothing but white space was left.
+fn is_end(outcome: Outcome) -> bool {
+    outcome.status == Status::InputFailure
+        && outcome.converted == 0
+        && outcome.met == Some(Ending::End)
+}
+
 fn main(rt: HostRuntime) -> anyhow::Result<()> {
     let alloc = rt.alloc();
     let scan = ScanFormat::parse(alloc, Profile::One, b" %[^:]:%u")?;
@@ -74,14 +81,7 @@ fn main(rt: HostRuntime) -> anyhow::Result<()> {
                     bail!("not printed: {fault:?}");
                 }
             }
-            // nothing but white space was left
-            Err(ScanRowFault::Failed(outcome))
-                if outcome.status == Status::InputFailure
-                    && outcome.converted == 0
-                    && outcome.met == Some(Ending::End) =>
-            {
-                break;
-            }
+            Err(ScanRowFault::Failed(outcome)) if is_end(outcome) => break,
             Err(fault) => bail!("not scanned: {fault:?}"),
         }
     }
