@@ -57,6 +57,14 @@ def full(words, text, want):
     return check
 
 
+def told_as_fault(words):
+    """What was asked for and can't be written is a fault, too."""
+    def check():
+        with program.full() as disk:
+            return difference(program.run(*words, stdout=disk), (3, None, WRITE_FAULT))
+    return check
+
+
 def full_errors(words, text, want):
     """Standard error there: the status and the output are the same."""
     def check():
@@ -136,4 +144,6 @@ def checks():
         for room in (0, 1, 7, 100, 4096, BLOCK - 1, BLOCK, BLOCK + 1, 3 * BLOCK, len(want[1]) - 1):
             if 0 <= room < len(want[1]):
                 yield f"{name}, room for {room} bytes", limited(words, text, want, room)
+    for words in (["--help"], ["help", "copy"], ["scan", "-h"], ["--version"]):
+        yield f"{' '.join(words)}, output full", told_as_fault(words)
     yield "a small disk", on_small_disk

@@ -31,6 +31,8 @@ CALLS = [
     ("help", ["--help"], b""),
     ("version", ["--version"], b""),
     ("bad words", ["scan", "--limit", "x", "%d"], b""),
+    ("a word of 131,000 bytes", ["x" * 131000], b""),
+    ("bytes that are no text", [b"\xff" * 100000], b""),
     # (the system keeps 128 kB of stack ready behind the list of words; with many more words than this the stack has to
     # grow later, and where the system refuses that, no program hears of it)
     ("many words", ["print", "%d", *["1"] * 10000], b""),
