@@ -14,7 +14,7 @@ const LIMIT: u32 = 1048576;
 /// A pair of formats, and two values of its kind: the least and the greatest.
 type Row = (&'static [u8], &'static [u8], Value<'static>, Value<'static>);
 
-const NUMBERS: [Row; 23] = [
+const NUMBERS: [Row; 26] = [
     (b"%hhd;", b"%4hhd;", Value::I8(i8::MIN), Value::I8(i8::MAX)),
     (
         b"%hd;",
@@ -57,7 +57,10 @@ const NUMBERS: [Row; 23] = [
     (b"%#o;", b"%12o;", Value::U32(0), Value::U32(u32::MAX)),
     (b"%lo;", b"%22lo;", Value::U64(0), Value::U64(u64::MAX)),
     (b"%hhx;", b"%2hhx;", Value::U8(0), Value::U8(u8::MAX)),
+    (b"%hx;", b"%4hX;", Value::U16(0), Value::U16(u16::MAX)),
+    (b"%hhX;", b"%2hhx;", Value::U8(0), Value::U8(u8::MAX)),
     (b"%hX;", b"%4hx;", Value::U16(0), Value::U16(u16::MAX)),
+    (b"%X;", b"%8x;", Value::U32(0), Value::U32(u32::MAX)),
     (b"%#x;", b"%10X;", Value::U32(0), Value::U32(u32::MAX)),
     (b"%lX;", b"%16lx;", Value::U64(0), Value::U64(u64::MAX)),
     (b"%02hhx", b"%2hhx", Value::U8(0), Value::U8(u8::MAX)),
@@ -65,13 +68,19 @@ const NUMBERS: [Row; 23] = [
     (b"%010u", b"%10u", Value::U32(0), Value::U32(u32::MAX)),
 ];
 
-const TEXTS: [Row; 4] = [
+const TEXTS: [Row; 5] = [
     (b"%s", b"%1s", Value::Text(b"\x00"), Value::Text(b"\xff")),
     (b"%c", b"%c", Value::Text(b"\x00"), Value::Text(b"\xff")),
     (
         b"%s",
         b"%3c",
         Value::Text(b"\x00\x00\x00"),
+        Value::Text(b"\xff\xff\xff"),
+    ),
+    (
+        b"%s ;",
+        b"%3s ;",
+        Value::Text(b"\x00"),
         Value::Text(b"\xff\xff\xff"),
     ),
     (
