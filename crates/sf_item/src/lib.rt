@@ -9,4 +9,4 @@ mod reading;
 mod whole;
 
 pub use item::{ItemEnd, ItemScan, Step};
-pub use whole::{WholeInteger, whole_decimal};
+pub use whole::{WholeInteger, whole_bytes, whole_decimal, whole_hex};

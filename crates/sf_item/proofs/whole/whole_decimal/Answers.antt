@@ -2,7 +2,7 @@ use Rattle.std.proofs.Common.{◌+◌, ◌<◌, ◌≤◌, length, ap, arith}
 use Rattle.std.proofs.lemmas.List.{length-take}
 use Rattle.sf_format.specs.declared.directive.Base.TheVariants.{Dec}
 use Rattle.sf_item.proofs.Readings.{length_rest}
-use Rattle.sf_item.proofs.Wholes.{ends_within}
+use Rattle.sf_item.proofs.Wholes.{decimal_within}
 use Rattle.sf_item.proofs.whole.whole_decimal.Goals as goal
 
 pub returns : goal.returns
@@ -17,7 +17,6 @@ returns c =
     let most = c.decimal_front-count.ensures.within in
     let within = c.sign-start.ensures.within in
     let behind : start + count < length piece = omega (arith, most, short, length_rest front start, within, c.if-bytes-piece.false) in
-    ends_within piece front c.args.width c.cut-front.ensures.front short c.cut-front.ensures.room c.cut-front.ensures.whole
-    start c.sign-start.result.1 within c.sign-start.ensures.plain (c.sign-start.ensures.read Dec)
-    count c.decimal_front-count.new.number some most (c.decimal_front-count.ensures.read Dec c.sign-start.result.1) behind
-    (c.is_digit_at.ensures c.if-is_digit_at.false)
+    decimal_within piece front c.args.width c.cut-front.ensures.front short c.cut-front.ensures.room c.cut-front.ensures.whole start count within most
+    c.sign-start.result.1 c.decimal_front-count.new.number c.sign-start.ensures.plain (c.sign-start.ensures.read Dec) some
+    (c.decimal_front-count.ensures.read Dec c.sign-start.result.1) behind (c.is_digit_at.ensures c.if-is_digit_at.false)
