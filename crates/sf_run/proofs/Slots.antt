@@ -292,21 +292,6 @@ module _ (ds : List Directive) (p : ℕ) (d : Directive) (current : Phase) (slot
       omega (arith, a, b, e, fits)
   room_opened (Some stop) room fits = omega arith
 
--- the bytes of a text that is taken whole
-pub whole_left : (ended : Option Stop) (ds : List Directive) (p : ℕ) (d : Directive) (slot n : ℕ) → ended ≡ None → slice_get ds p ≡ Some d → text_slot d ≡ Some slot → is_some (width_sum ds) ≡ true
-    → FitsLeft (left_before d phase.Skipping) n → still_stored ended ds (p + 1) phase.Skipping + n ≤ still_stored ended ds p phase.Skipping
-whole_left (Some stop) ds p d slot n waits at text bounded fits = cc
-whole_left None ds p d slot n waits at text bounded fits =
-    let a = plain_widths (drop (p + 1) ds) in
-    let b = widths_at ds p d phase.Skipping at in
-    let has = width_at ds p d bounded at in
-    let most = most_by (stored_width d) has (subst (λ o. FitsLeft o n) (begins_with d phase.Skipping slot refl text has) fits) in
-    omega (arith, a, b, most)
-  where
-    most_by : (o : Option ℕ) → is_some o ≡ true → FitsLeft o n → n ≤ unwrap_or o 0
-    most_by None h f = absurd (true≢false (sym h))
-    most_by (Some m) h f = f
-
 one_less : (a b : Option ℕ) → is_some a ≡ true → IsOneLess a b → (is_some b ≡ true) × (unwrap_or b 0 + 1 ≡ unwrap_or a 0)
 one_less None b h e = absurd (true≢false (sym h))
 one_less (Some n) None h e = absurd e
@@ -478,17 +463,6 @@ pub begun_dropped : (kept : Kept) (slot : ℕ) → kept.opened ≡ None → with
 begun_dropped kept slot none =
     let same : kept.room + 0 ≡ kept.room = omega arith in
     ap (λ n. record kept { opened = None; room = n }) same ∙ ap (λ o. record kept { opened = o }) (sym none)
-
--- ---- a text that is taken whole
-
-pub kept_whole : (kept begun longer closed : Kept) (slot : ℕ) (item : List ℕ) → begun ≡ with_opened slot kept → longer ≡ with_bytes item longer.room begun → closed ≡ with_closed longer
-    → closed ≡ record { values = kept.values ++ assigned slot (Bytes item) ∷ []; closed = kept.closed ++ item; opened = None; room = longer.room }
-kept_whole kept begun longer closed slot item e1 e2 e3 = e3 ∙ ap with_closed (e2 ∙ ap (with_bytes item longer.room) e1)
-
-pub size_whole : (closed item : List ℕ) (opened : Option Opened) → opened ≡ None → length ((closed ++ item) ++ []) ≡ length (closed ++ text_of opened) + length item
-size_whole closed item opened e =
-    let same = ap (λ o. length (closed ++ text_of o)) e in
-    omega (arith, same, length-append (closed ++ item) [], length-append closed item, length-append closed [])
 
 -- ---- what a store can hold
 

@@ -1,35 +1,34 @@
 -- Directives that begin and end within a piece.
-use Rattle.std.proofs.Common.{◌≡◌, ◌≢◌, ℕ, zero, suc, ◌+◌, ◌<◌, ◌≤◌, Bool, true, false, cond, ◌&&◌, List, [], ◌∷◌, ◌++◌, length, take, drop, get_or, length-drop, Some, None, refl, sym, ap, subst, ◌∙◌, arith, true≢false}
+use Rattle.std.proofs.Common.{◌≡◌, ◌≢◌, ℕ, zero, suc, ◌+◌, ◌<◌, ◌≤◌, Bool, true, false, cond, ◌&&◌, List, [], ◌∷◌, ◌++◌, length, take, drop, get_or, length-drop, append-nil, take-append-drop, Option, Some, None, refl, sym, ap, subst, ◌∙◌, arith}
 use Rattle.std.specs.Prelude.{slice_get}
 use Rattle.std.proofs.Math.Seq.{take-suc}
-use Rattle.std.proofs.lemmas.List.{get_or-drop, get_or-take, length-take-le}
+use Rattle.std.proofs.lemmas.List.{get_or-drop, length-take-le}
 use Rattle.sf_base.specs.Bytes.{is_white}
-use Rattle.sf_base.specs.Data.{Datum}
+use Rattle.sf_base.specs.Data.{value_of}
+use Rattle.sf_format.specs.declared.directive.Base.{Base}
 use Rattle.sf_format.specs.declared.directive.Conversion.{Conversion}
-use Rattle.sf_format.specs.declared.directive.Directive.{Directive}
 use Rattle.sf_format.specs.declared.directive.Directive.TheVariants.{Space, Byte, Conv}
+use Rattle.sf_format.specs.declared.directive.Shape.{Shape}
+use Rattle.sf_format.specs.declared.directive.Shape.TheVariants.{Int, Text, Set, Chars, Count}
 use Rattle.sf_format.specs.Proper.{IsProperShape}
+use Rattle.sf_item.specs.declared.whole.WholeInteger.{WholeInteger}
+use Rattle.sf_item.specs.Matching.{IsInteger, IsItem, IsWithin, Matches, ShapeMatches}
 use Rattle.sf_item.specs.Taking.{CanTake}
 use Rattle.sf_item.specs.Tests.{can_take}
-use Rattle.sf_item.proofs.Deciding.{tests_can_take}
+use Rattle.sf_item.specs.Wholes as items
+use Rattle.sf_item.proofs.Deciding.{integer_at_is, tests_can_take}
 use Rattle.sf_run.specs.declared.directive.Finished.{Finished}
 use Rattle.sf_run.specs.declared.directive.Finished.TheVariants as finish
-use Rattle.sf_run.specs.declared.directive.Phase.{Phase}
-use Rattle.sf_run.specs.declared.directive.Phase.TheVariants as phase
-use Rattle.sf_run.specs.declared.outcome.Status.{Status}
-use Rattle.sf_run.specs.declared.whole.Whole.{Whole}
-use Rattle.sf_run.specs.Machine.{Stage, Skipping, Taken, Item, shape_skips, item_end, stepped}
-use Rattle.sf_run.specs.Phases.{Shows, end_of, is_failing}
-use Rattle.sf_run.specs.Residual.{Tally, by_end, counted, out_of, run_from, run_of, stepped_all, with_used}
-use Rattle.sf_run.specs.Standing.{Standing, ShowsFirst, DoesBy, Follows}
-use Rattle.sf_run.specs.Steps.{StepEnd, Stores, Fails}
-use Rattle.sf_run.specs.Texts.{is_count}
-use Rattle.sf_run.specs.Wholes.{EndsWithin, PassesWhole}
+use Rattle.sf_run.specs.declared.whole.Item.{Item}
+use Rattle.sf_run.specs.Machine.{Skipping, Taken, shape_skips, item_end, stepped}
+use Rattle.sf_run.specs.Machine as machine
+use Rattle.sf_run.specs.Phases.{end_of, passed_number}
+use Rattle.sf_run.specs.Residual.{stepped_all}
+use Rattle.sf_run.specs.Texts.{is_count, slot_of_text, text_slot}
+use Rattle.sf_run.specs.Wholes.{EndsWithin, ItemEnds}
 use Rattle.sf_run.proofs.Brought.{take-take, can_all, first_goes, some_first, brings_space, brings_byte}
-use Rattle.sf_run.proofs.Machines.{byte_refused}
-use Rattle.sf_run.proofs.Moves.{counted-used, drop_at, fresh, next_is, passes, refused, same_does, shows_fresh, took_all, waiting}
-use Rattle.sf_run.proofs.Moves.{around}
-use Rattle.sf_run.proofs.Stages.{other_finished}
+use Rattle.sf_run.proofs.Items.{can_take_prefix}
+use Rattle.sf_run.proofs.Stages.{integer_ends, other_finished, suppressed_end, text_end}
 
 -- ---- how a directive goes
 
@@ -39,14 +38,14 @@ not_true false never = refl
 
 -- the byte behind an item that ends there
 not_taken : (c : Conversion) (piece : List ℕ) (w n : ℕ) → IsProperShape c.shape → n < length (drop w piece) → (CanTake c (take (n + 1) (drop w piece)) → ⊥)
-    → stepped (Conv c) (Item (take n (drop w piece))) (get_or piece (w + n) 0) ≡ None
+    → stepped (Conv c) (machine.Item (take n (drop w piece))) (get_or piece (w + n) 0) ≡ None
 not_taken c piece w n proper below never =
     let one : suc n ≡ n + 1 = omega arith in
     let next : take (n + 1) (drop w piece) ≡ take n (drop w piece) ++ get_or piece (w + n) 0 ∷ [] =
     ap (λ m. take m (drop w piece)) (sym one) ∙ take-suc (drop w piece) n 0 below ∙ ap (λ b. take n (drop w piece) ++ b ∷ []) (get_or-drop w piece n 0) in
     let no : can_take c (take n (drop w piece) ++ get_or piece (w + n) 0 ∷ []) ≡ false =
     not_true _ (λ e. never ((tests_can_take c proper (take (n + 1) (drop w piece))).from (ap (can_take c) next ∙ e))) in
-    ap (λ v. cond v (Some (Item (take n (drop w piece) ++ get_or piece (w + n) 0 ∷ []))) None) no
+    ap (λ v. cond v (Some (machine.Item (take n (drop w piece) ++ get_or piece (w + n) 0 ∷ []))) None) no
 
 pub ends_item : (c : Conversion) (piece : List ℕ) (w n : ℕ) (end : Finished) → IsProperShape c.shape → is_count c.shape ≡ false → w ≤ length piece
     → ((k : ℕ) → k < w → (shape_skips c.shape && is_white (get_or piece k 0)) ≡ true) → (w < length piece → (shape_skips c.shape && is_white (get_or piece w 0)) ≡ false)
@@ -56,11 +55,11 @@ ends_item c piece w n end proper other within white ink some below can never is 
     let long = length-drop w piece in
     let fits : w + n < length piece = omega (arith, within, below, long) in
     record {
-      stage = Item (take n (drop w piece));
+      stage = machine.Item (take n (drop w piece));
       behind = fits;
       goes = first_goes c piece w within white n (omega (arith, fits)) some (ink (omega (arith, fits))) (can_all c [] (drop w piece) n proper (omega (arith, below)) can);
       refused = not_taken c piece w n proper below never;
-      ends = λ m. is (some_first c piece w within white n (omega (arith, fits)) some) ∙ sym (other_finished c c.shape (Item (take n (drop w piece))) m true other);
+      ends = λ m. is (some_first c piece w within white n (omega (arith, fits)) some) ∙ sym (other_finished c c.shape (machine.Item (take n (drop w piece))) m true other);
     }
 
 pub ends_space : (piece : List ℕ) (w : ℕ) → w < length piece → ((k : ℕ) → k < w → is_white (get_or piece k 0) ≡ true) → is_white (get_or piece w 0) ≡ false
@@ -87,68 +86,100 @@ ends_byte a b piece e at below =
       ends = λ n. refl;
     }
 
-pub item_in_front : (b i m : ℕ) (xs : List ℕ) → b + i < m → take i (drop b (take m xs)) ≡ take i (drop b xs)
-item_in_front zero i m xs h = take-take i m xs (omega (arith, h))
-item_in_front (suc b) i zero xs h = absurd (omega (arith, h))
-item_in_front (suc b) i (suc m) [] h = refl
-item_in_front (suc b) i (suc m) (x ∷ xs) h = item_in_front b i m xs (omega (arith, h))
+-- ---- items that were read in one go
 
--- what ends within a front of a piece ends so within the piece
-pub ends_longer : (d : Directive) (m : ℕ) (piece : List ℕ) (w : Whole) → m ≤ length piece → EndsWithin d (take m piece) w → EndsWithin d piece w
-ends_longer d m piece w fits goes =
-    let long : length (take m piece) ≡ m = length-take-le m piece fits in
-    let behind : w.before + w.item < m = let h = goes.behind in omega (arith, h, long) in
+-- the fronts of the bytes of an item can be taken, and they with the next byte can't
+pub fronts_of : (c : Conversion) (x : List ℕ) (n : ℕ) → IsProperShape c.shape → n < length x → ((z : List ℕ) → IsItem c (x ++ z) n)
+    → ((k : ℕ) → k < n → CanTake c (take (k + 1) x)) × (CanTake c (take (n + 1) x) → ⊥)
+fronts_of c x n proper below is = (can, cannot)
+  where
+    item : IsItem c x n
+    item = subst (λ y. IsItem c y n) (append-nil x) (is [])
+
+    whole : can_take c (take n x) ≡ true
+    whole = (tests_can_take c proper (take n x)).to (subst (IsWithin c) (sym (length-take-le n x (omega (arith, below)))) item.holds.1, item.holds.2)
+
+    can : (k : ℕ) → k < n → CanTake c (take (k + 1) x)
+    can k h =
+        let parts : take (k + 1) x ++ drop (k + 1) (take n x) ≡ take n x =
+        ap (λ f. f ++ drop (k + 1) (take n x)) (sym (take-take (k + 1) n x (omega (arith, h)))) ∙ take-append-drop (k + 1) (take n x) in
+        (tests_can_take c proper (take (k + 1) x)).from (can_take_prefix c (take (k + 1) x) (drop (k + 1) (take n x)) (ap (can_take c) parts ∙ whole))
+
+    cannot : CanTake c (take (n + 1) x) → ⊥
+    cannot h =
+        let most = item.above (n + 1) (omega (arith, below), subst (IsWithin c) (length-take-le (n + 1) x (omega (arith, below))) h.0, h.1) in
+        omega (arith, most)
+
+some_bytes : (base : Base) (piece : List ℕ) (n : ℕ) (negative : Bool) (m : ℕ) → IsInteger base (take n piece) negative m → 0 < n
+some_bytes base piece zero negative m is = absurd (nothing (integer_at_is base [] negative m is))
+  where
+    nothing : ◌≡◌ {A = Option (Bool × ℕ)} None (Some (negative, m)) → ⊥
+    nothing e = cc
+some_bytes base piece (suc n) negative m is = omega arith
+
+pub integer_ends_so : (c : Conversion) (base : Base) (piece : List ℕ) (w : WholeInteger) (end : Finished) → c.shape ≡ Int base → items.EndsWithin base c.width piece w
+    → ((text : List ℕ) → end_of text end ≡ passed_number c c.slot (value_of c.kind w.negative w.magnitude)) → ItemEnds c piece (record { bytes = w.bytes; finished = end })
+integer_ends_so c base piece w end shape is ends =
+    let fronts = fronts_of c piece w.bytes (subst IsProperShape (sym shape) tt) is.behind (is.item c shape refl) in
     record {
-      stage = goes.stage;
-      behind = omega (arith, behind, fits);
-      goes = ap (λ y. stepped_all d Skipping y) (sym (take-take (w.before + w.item) m piece (omega (arith, behind)))) ∙ goes.goes;
-      refused = ap (stepped d goes.stage) (sym (get_or-take m piece (w.before + w.item) 0 behind)) ∙ goes.refused;
-      ends = λ n. ap (λ y. end_of y w.finished) (sym (item_in_front w.before w.item m piece behind)) ∙ goes.ends n;
+      other = ap is_count shape;
+      some = some_bytes base piece w.bytes w.negative w.magnitude is.integer;
+      behind = is.behind;
+      can = fronts.0;
+      cannot = fronts.1;
+      ends = ends (take w.bytes piece) ∙ integer_ends c (take w.bytes piece) w.negative w.magnitude false (base, w.magnitude, shape, is.integer, refl);
     }
 
-pub not_failing : (text : List ℕ) (end : Finished) → is_failing end ≡ false → (status : Status) → end_of text end ≡ Fails status → ⊥
-not_failing text finish.Passes ok status e = cc
-not_failing text (finish.Stores slot value) ok status e = cc
-not_failing text (finish.Closes slot) ok status e = cc
-not_failing text (finish.Fails s) ok status e = true≢false ok
+pub bytes_ends_so : (c : Conversion) (piece : List ℕ) (n : ℕ) (end : Finished) → ((base : Base) → c.shape ≢ Int base) → IsProperShape c.shape → items.ItemWithin c.shape c.width piece n
+    → (c.slot ≡ None → end ≡ finish.Passes) → ((slot : ℕ) → c.slot ≡ Some slot → end ≡ finish.Closes slot) → ItemEnds c piece (record { bytes = n; finished = end })
+bytes_ends_so c piece n end other proper is none some =
+    let fronts = fronts_of c piece n proper is.behind (is.item c refl refl proper) in
+    record {
+      other = (by_shape c.shape refl).0;
+      some = is.some;
+      behind = is.behind;
+      can = fronts.0;
+      cannot = fronts.1;
+      ends = by_slot c.slot refl;
+    }
+  where
+    f : List ℕ
+    f = take n piece
 
--- ---- what the run then does
+    matched : Matches c f
+    matched = is.matches c refl refl
 
-pub whole_follows : (new old : Standing) (d : Directive) (n : ℕ) (piece : List ℕ) (w : Whole) (f : StepEnd) → slice_get old.directives old.passed ≡ Some d → old.ended ≡ None
-    → old.phase ≡ phase.Skipping → EndsWithin d piece w → n ≡ w.before + w.item → f ≡ end_of (take w.item (drop w.before piece)) w.finished → ((status : Status) → f ≡ Fails status → ⊥)
-    → PassesWhole new old d n f → (z : List ℕ) → Follows new old (drop n piece ++ z) (piece ++ z)
-whole_follows new old d n piece w f at waits none goes is end ok passed z k report low high does =
-    let ds : List Directive = old.directives in
-    let p : ℕ = old.passed in
-    let t : Tally = old.tally in
-    let y : List ℕ = take n piece in
-    let b : ℕ = get_or piece n 0 in
-    let rest : List ℕ = drop (n + 1) piece ++ z in
-    let q : Stage = goes.stage in
-    let below : n < length piece = let h = goes.behind in omega (arith, h, is) in
-    let long : length y ≡ n = length-take-le n piece (omega (arith, below)) in
-    let u : Tally = with_used (t.used + length y) t in
-    let own : DoesBy None ds p old.phase old.opened t k (piece ++ z) report = waiting old k (piece ++ z) report waits does in
-    let here : ShowsFirst (d ∷ drop (p + 1) ds) old.phase old.opened own.0 = subst (λ rest. ShowsFirst rest old.phase old.opened own.0) (drop_at ds p d at) own.1 in
-    let fresh_here : own.0 ≡ Skipping = subst (λ (c : Phase). Shows d c own.0) none here.0 in
-    let to_stage : stepped_all d Skipping y ≡ Some q = ap (λ m. stepped_all d Skipping (take m piece)) is ∙ goes.goes in
-    let no : stepped d q b ≡ None = ap (λ m. stepped d q (get_or piece m 0)) is ∙ goes.refused in
-    let first : report ≡ run_from (Some k) (drop p ds) Skipping (p + 1) t (y ++ b ∷ rest) =
-    own.2 ∙ ap (λ s. run_from (Some k) (drop p ds) s (p + 1) t (piece ++ z)) fresh_here ∙ ap (λ l. run_from (Some k) (drop p ds) Skipping (p + 1) t l) (sym (around piece n z below)) in
-    let low_used : u.used ≤ k = let v = ap (λ (s : Tally). s.used) passed.tally ∙ counted-used d f (with_used (t.used + n) t) in omega (arith, low, v, long) in
-    let third : run_from (Some k) (drop p ds) q (p + 1) u (b ∷ rest) ≡ by_end f (run_of (Some k) (drop (p + 1) ds) (p + 1 + 1) (counted d f u) (b ∷ rest)) (λ status. out_of status (p + 1) u) =
-    ap (λ l. run_from (Some k) l q (p + 1) u (b ∷ rest)) (drop_at ds p d at)
-    ∙ refused k d (drop (p + 1) ds) q (p + 1) u (b ∷ rest) f low_used
-    (byte_refused d q u.used b rest no ∙ ap (λ e. record { used = u.used; left = b ∷ rest; end = e }) (sym (end ∙ goes.ends u.used))) in
-    same_does new None ds (p + 1) phase.Skipping None (counted d f u) k (drop n piece ++ z) report
-    (passed.ended ∙ waits) passed.keeps.directives passed.passed passed.phase passed.opened (passed.tally ∙ ap (λ m. counted d f (with_used (t.used + m) t)) (sym long)) (
-      Skipping,
-      shows_fresh (drop (p + 1) ds),
-      first ∙ took_all k ds p d Skipping q t y (b ∷ rest) at to_stage ∙ third ∙ passes f _ _ ok ∙ sym (fresh (Some k) (drop (p + 1) ds) (p + 1 + 1) (counted d f u) (b ∷ rest))
-          ∙ ap (λ l. run_from (Some k) (drop (p + 1) ds) Skipping (p + 1 + 1) (counted d f u) l) (sym (next_is piece n z below)),
-    )
+    by_shape : (shape : Shape) → c.shape ≡ shape → (is_count c.shape ≡ false) × (text_slot (Conv c) ≡ c.slot)
+    by_shape (Int base) e = absurd (other base e)
+    by_shape Text e = (ap is_count e, ap (λ s. slot_of_text s c.slot) e)
+    by_shape (Set members) e = (ap is_count e, ap (λ s. slot_of_text s c.slot) e)
+    by_shape Chars e = (ap is_count e, ap (λ s. slot_of_text s c.slot) e)
+    by_shape Count e = absurd (subst (λ s. ShapeMatches s c.width f) e matched)
 
--- counting what was stored, and then the bytes
-pub counted_whole : (d : Directive) (slot : ℕ) (v : Datum) (n : ℕ) (new old : Tally) → new ≡ counted d (Stores slot v) old → new.used ≡ old.used
-    → with_used (new.used + n) new ≡ counted d (Stores slot v) (with_used (old.used + n) old)
-counted_whole d slot v n new old is same = ap (λ m. with_used (m + n) new) same ∙ ap (with_used (old.used + n)) is
+    by_slot : (slot : Option ℕ) → c.slot ≡ slot → end_of f end ≡ item_end c f
+    by_slot None e = ap (end_of f) (none e) ∙ suppressed_end c f e matched
+    by_slot (Some slot) e = ap (end_of f) (some slot e) ∙ text_end c f slot ((by_shape c.shape refl).1 ∙ e) matched
+
+-- an item that was taken byte by byte
+pub stepped_ends_so : (c : Conversion) (piece : List ℕ) (n : ℕ) (end : Finished) → is_count c.shape ≡ false → (n ≡ 0 → ⊥) → (n ≡ length piece → ⊥) → n ≤ length piece
+    → ((k : ℕ) → k < n → CanTake c (take (k + 1) piece)) → (n < length piece → CanTake c (take (n + 1) piece) → ⊥) → (take n piece ≢ [] → end_of (take n piece) end ≡ item_end c (take n piece))
+    → ItemEnds c piece (record { bytes = n; finished = end })
+stepped_ends_so c piece n end other some not_all within can cannot ends =
+    let below : n < length piece = omega (arith, within, not_all) in
+    let one : 0 < n = omega (arith, some) in
+    record {
+      other = other;
+      some = one;
+      behind = below;
+      can = can;
+      cannot = cannot below;
+      ends = ends (λ e. let long = ap length e in omega (arith, long, length-take-le n piece within, one));
+    }
+
+-- with what stands before the item
+pub ends_item_so : (c : Conversion) (piece rest : List ℕ) (w : ℕ) (i : Item) → IsProperShape c.shape → w ≤ length piece → rest ≡ drop w piece
+    → ((k : ℕ) → k < w → (shape_skips c.shape && is_white (get_or piece k 0)) ≡ true) → (w < length piece → (shape_skips c.shape && is_white (get_or piece w 0)) ≡ false)
+    → ItemEnds c rest i → EndsWithin (Conv c) piece (record { before = w; item = i.bytes; finished = i.finished })
+ends_item_so c piece rest w i proper within is white next ends =
+    let own : ItemEnds c (drop w piece) i = subst (λ y. ItemEnds c y i) is ends in
+    ends_item c piece w i.bytes i.finished proper own.other within white next own.some own.behind own.can own.cannot (λ more. own.ends)

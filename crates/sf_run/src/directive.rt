@@ -355,7 +355,7 @@ fn finish_byte(phase: Phase<'_>, more: bool) -> Finished
 }
 
 /// A conversion that matched a number; None where its kind doesn't hold it.
-fn finish_number(conversion: &Conversion, value: Option<Value<'static>>) -> Finished
+pub(crate) fn finish_number(conversion: &Conversion, value: Option<Value<'static>>) -> Finished
     requires { IfSome value (λ v. is_number v ≡ true) }
     ensures end { (text : List ℕ) (n : Option ℤ) → option_map datum_of value.entry ≡ option_map (Number conversion.now.kind) n
         → end_of text result ≡ passed_number conversion.now conversion.now.slot n }

@@ -10,7 +10,6 @@ ghost use Rattle.sf_format.specs.Widths.{width_sum};
 ghost use Rattle.sf_run.specs.declared.outcome.Ending.{Ending};
 ghost use Rattle.sf_run.specs.declared.outcome.Status.TheVariants as status;
 ghost use Rattle.sf_run.specs.Holding.{are_placed, are_apart, first_slot, is_text, still_stored, is_limited, LeftAfter, LeftAfterAll, left_before};
-ghost use Rattle.sf_item.specs.Scan.{FitsLeft};
 ghost use Rattle.sf_run.specs.declared.directive.Phase.TheVariants as phase;
 ghost use Rattle.sf_run.specs.Phases.{IsNumberGiven, end_of, is_failing, slot_closed, slot_given, slot_in};
 ghost use Rattle.sf_run.specs.Places.{places_left};
@@ -22,7 +21,6 @@ use crate::directive::{Finished, Phase, Run, finish, is_full, run_on, step};
 use crate::outcome::{Ending, Fed, FeedState, Outcome, StartFault, Status};
 use crate::report::{Report, Scanned};
 use crate::tally::Tally;
-use crate::whole::{Whole, ends_within};
 use sf_base::{FixedStore, HeapStore, Store, Value};
 use sf_format::{Directive, ScanFormat};
 use sf_item::ItemScan;
@@ -88,7 +86,6 @@ impl<'f, S: Store> Scanner<'f, S> {
     ghost use Rattle.sf_run.specs.Memory.{HoldsTexts, HoldsValues, capacity_of};
     ghost use Rattle.sf_run.specs.Scanner.{kept_by, standing};
     ghost use Rattle.sf_run.specs.Tallies.{tally_of};
-    ghost use Rattle.sf_run.specs.Wholes.{PassesWhole};
 
     /// Ends the run here. A text under way is taken away.
     fn stop(&mut self, stop: Stop)
@@ -410,93 +407,8 @@ impl<'f, S: Store> Scanner<'f, S> {
         }
     }
 
-    /// Passes a directive that took nothing yet, with the item that is the text of the slot. Where its storing is
-    /// refused, nothing has changed.
-    fn store_whole(&mut self, directive: &Directive, slot: u8, item: &[u8], taken: usize) -> bool
-        requires current { slice_get self.old.directives.now self.old.passed ≡ Some directive.now }
-        requires waits { self.old.ended ≡ None }
-        requires fresh { self.old.phase ≡ phase.Skipping }
-        requires own { text_slot directive.now ≡ Some slot }
-        requires below { self.old.tally.used + taken ≤ self.old.limit }
-        requires fits { FitsLeft (left_before directive.now phase.Skipping) (length item.now) }
-        ensures passes { OnTrue result (PassesWhole (standing self.new) (standing self.old) directive.now taken (StepEnd.Stores slot (Bytes item.now))) }
-        ensures refused { OnFalse result (standing self.new ≡ standing self.old) }
-    {
-        let tally = self.tally.counted(directive, true);
-        self.store.open_text(slot);
-        if self.store.push_all(item).is_err() {
-            self.store.drop_text();
-            return false;
-        }
-        self.store.close_text();
-        self.tally = tally;
-        self.tally.used += taken as u32;
-        self.passed += 1;
-        true
-    }
-
-    /// Passes a directive that took nothing yet and goes so; `item` are the bytes of its item. Where it doesn't pass, or
-    /// the storing is refused, nothing has changed.
-    fn pass_whole(&mut self, directive: &Directive, whole: Whole, item: &[u8]) -> bool
-        requires current { slice_get self.old.directives.now self.old.passed ≡ Some directive.now }
-        requires waits { self.old.ended ≡ None }
-        requires fresh { self.old.phase ≡ phase.Skipping }
-        requires below { self.old.tally.used + (whole.before + whole.item) ≤ self.old.limit }
-        requires closes { is_failing whole.finished ≡ false → slot_closed whole.finished ≡ text_slot directive.now }
-        requires given { is_failing whole.finished ≡ false → slot_given whole.finished ≡ slot_of directive.now }
-        requires number { IsNumberGiven whole.finished }
-        requires fits { FitsLeft (left_before directive.now phase.Skipping) (length item.now) }
-        ensures passes { OnTrue result (PassesWhole (standing self.new) (standing self.old) directive.now (whole.before + whole.item) (end_of item.now whole.finished)) }
-        ensures ok { OnTrue result (is_failing whole.finished ≡ false) }
-        ensures refused { OnFalse result (standing self.new ≡ standing self.old) }
-    {
-        let taken = whole.before + whole.item;
-        match whole.finished {
-            Finished::Passes => {
-                self.tally.used += taken as u32;
-                self.pass(directive);
-                true
-            }
-            Finished::Stores { slot, value } => {
-                self.tally.used += taken as u32;
-                self.set(directive, slot, value);
-                true
-            }
-            Finished::Closes { slot } => self.store_whole(directive, slot, item, taken),
-            Finished::Fails(_) => false,
-        }
-    }
-
-    /// Takes what the directive under way takes, and passes it, where it begins and ends within the piece. None: nothing
-    /// has changed.
-    fn take_whole(&mut self, piece: &[u8]) -> Option<usize>
-        requires waits { self.old.ended ≡ None }
-        ensures within { IfSome result (λ n. n ≤ length piece.now) }
-        ensures same { IfSome result (λ n. AreProper self.old.directives.now → (z : List ℕ) → Follows (standing self.new) (standing self.old) (drop n piece.now ++ z) (piece.now ++ z)) }
-        ensures used { IfSome result (λ n. self.new.tally.used ≡ self.old.tally.used + n) }
-        ensures fewer { IsSome result → turns_left (standing self.new) < turns_left (standing self.old) }
-        ensures keeps { Keeps (standing self.new) (standing self.old) }
-        ensures waits { self.new.ended ≡ None }
-        ensures none { IsNone result → standing self.new ≡ standing self.old }
-    {
-        let directive = self.directives.get(self.passed)?;
-        if !matches!(self.phase, Phase::Skipping) {
-            return None;
-        }
-        let most = (self.limit - self.tally.used) as usize;
-        let (front, _) = piece.split_at(most.min(piece.len()));
-        let whole = ends_within(directive, front)?;
-        let (_, rest) = front.split_at(whole.before);
-        let (item, _) = rest.split_at(whole.item);
-        if self.pass_whole(directive, whole, item) {
-            Some(whole.before + whole.item)
-        } else {
-            None
-        }
-    }
-
     /// Hands bytes to the run: what the directive under way takes at once, and the byte behind. Says how many were taken.
-    fn hand_on(&mut self, piece: &[u8]) -> usize
+    fn hand(&mut self, piece: &[u8]) -> usize
         requires some { 0 < length piece.now }
         requires waits { self.old.ended ≡ None }
         ensures same { AreProper self.old.directives.now → ran_out (standing self.new) ≡ false → (z : List ℕ) → Follows (standing self.new) (standing self.old) (drop result piece.now ++ z) (piece.now ++ z) }
@@ -514,23 +426,6 @@ impl<'f, S: Store> Scanner<'f, S> {
             front + 1
         } else {
             front
-        }
-    }
-
-    /// Hands bytes to the run, at most those that the directive under way takes and one behind, and says how many were taken.
-    fn hand(&mut self, piece: &[u8]) -> usize
-        requires some { 0 < length piece.now }
-        requires waits { self.old.ended ≡ None }
-        ensures same { AreProper self.old.directives.now → ran_out (standing self.new) ≡ false → (z : List ℕ) → Follows (standing self.new) (standing self.old) (drop result piece.now ++ z) (piece.now ++ z) }
-        ensures memory { AreProper self.old.directives.now → ran_out (standing self.new) ≡ true → RefusesIn (standing self.new) (standing self.old) piece.now }
-        ensures used { self.new.tally.used ≡ self.old.tally.used + result }
-        ensures within { result ≤ length piece.now }
-        ensures keeps { Keeps (standing self.new) (standing self.old) }
-        ensures goes { turns_left (standing self.new) < turns_left (standing self.old) + result }
-    {
-        match self.take_whole(piece) {
-            Some(taken) => taken,
-            None => self.hand_on(piece),
         }
     }
 

@@ -5,7 +5,7 @@ use Rattle.sf_format.specs.Proper.{AreProper}
 use Rattle.sf_run.specs.Standing.{Standing}
 use Rattle.sf_run.specs.Scanner.{standing}
 use Rattle.sf_run.proofs.Moves.{behind, refused_next}
-use Rattle.sf_run.proofs.scanner.Scanner.hand_on.Goals as goal
+use Rattle.sf_run.proofs.scanner.Scanner.hand.Goals as goal
 
 pub returns-else-turn-clause-memory : goal.returns-else-turn-clause-memory
 returns-else-turn-clause-memory g c proper out =
