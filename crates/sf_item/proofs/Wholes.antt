@@ -1,7 +1,8 @@
 -- Items that end within a piece.
-use Rattle.std.proofs.Common.{◌≡◌, ℕ, zero, suc, ◌+◌, ◌*◌, ◌<◌, ◌≤◌, ◌⊎◌, inl, inr, Bool, true, false, ◌&&◌, append_assoc, cond, List, [], ◌∷◌, ◌++◌, length, take, get_or, slice_index_or, nat_lt, nat_le, Option, Some, None, is_some, unwrap_or, refl, sym, ap, ◌∙◌, subst, arith}
+use Rattle.std.proofs.Common.{◌^◌, ◌≡◌, ℕ, zero, suc, ◌+◌, ◌-◌, ◌*◌, ◌<◌, ◌≤◌, ◌⊎◌, inl, inr, Bool, true, false, ◌&&◌, append_assoc, cond, List, [], ◌∷◌, ◌++◌, length, take, get_or, slice_index_or, nat_lt, nat_le, Option, Some, None, is_some, unwrap_or, refl, sym, ap, ◌∙◌, subst, arith}
 use Rattle.std.proofs.lemmas.Bool.Decides.{nat_tests}
-use Rattle.std.proofs.Math.Seq.{take-add}
+use Rattle.std.proofs.Math.Nat.{pow-succ'}
+use Rattle.std.proofs.Math.Seq.{take-add, take-length}
 use Rattle.std.proofs.lemmas.List.{get_or-drop, length-take, length-take-le, take-take}
 use Rattle.std.specs.Char.{digit_value}
 use Rattle.std.specs.List.{list_all, prefix_len}
@@ -334,3 +335,31 @@ opens_at bytes start sign plain signed below zero_digit letter =
     ∙ sym (append_assoc (take start bytes) (get_or bytes start 0 ∷ []) (get_or bytes (start + 1) 0 ∷ []))
     ∙ ap (λ f. f ++ get_or bytes (start + 1) 0 ∷ []) first ∙ second ∙ ap (λ n. take n bytes) (sym two) in
     subst (λ f. OpensHex f sign) parts (opens_prefixed (take start bytes) start (get_or bytes (start + 1) 0) sign plain signed letter)
+
+-- ---- how great a number of so many digits is
+
+tens_more : (k i : ℕ) → 10 ^ i ≤ 10 ^ (k + i)
+tens_more zero i = let same : i ≡ 0 + i = omega arith in subst (λ n. 10 ^ i ≤ 10 ^ n) same (omega arith)
+tens_more (suc k) i = let same : suc (k + i) ≡ suc k + i = omega arith in subst (λ n. 10 ^ i ≤ 10 ^ n) same (let less = tens_more k i in let more : 10 ^ suc (k + i) ≡ 10 * 10 ^ (k + i) = pow-succ' 10 (k + i) in omega (arith, less, more))
+
+pub tens : (i : ℕ) → i < 19 → 10 ^ i ≤ 1000000000000000000
+tens i below = let all : 18 - i + i ≡ 18 = omega (arith, below) in subst (λ n. 10 ^ i ≤ 10 ^ n) all (tens_more (18 - i) i)
+
+pub ten_more : (i n d : ℕ) → n < 10 ^ i → d < 10 → n * 10 + d < 10 ^ (i + 1)
+ten_more i n d small low = let one : i + 1 ≡ suc i = omega arith in subst (λ k. n * 10 + d < 10 ^ k) (sym one) (let more : 10 ^ suc i ≡ 10 * 10 ^ i = pow-succ' 10 i in omega (arith, more, small, low))
+
+sixteens_more : (k i : ℕ) → 16 ^ i ≤ 16 ^ (k + i)
+sixteens_more zero i = let same : i ≡ 0 + i = omega arith in subst (λ n. 16 ^ i ≤ 16 ^ n) same (omega arith)
+sixteens_more (suc k) i = let same : suc (k + i) ≡ suc k + i = omega arith in subst (λ n. 16 ^ i ≤ 16 ^ n) same (let less = sixteens_more k i in let more : 16 ^ suc (k + i) ≡ 16 * 16 ^ (k + i) = pow-succ' 16 (k + i) in omega (arith, less, more))
+
+pub sixteens : (i : ℕ) → i < 16 → 16 ^ i ≤ 1152921504606846976
+sixteens i below = let all : 15 - i + i ≡ 15 = omega (arith, below) in subst (λ n. 16 ^ i ≤ 16 ^ n) all (sixteens_more (15 - i) i)
+
+pub sixteen_more : (i n d : ℕ) → n < 16 ^ i → d < 16 → n * 16 + d < 16 ^ (i + 1)
+sixteen_more i n d small low = let one : i + 1 ≡ suc i = omega arith in subst (λ k. n * 16 + d < 16 ^ k) (sym one) (let more : 16 ^ suc i ≡ 16 * 16 ^ i = pow-succ' 16 i in omega (arith, more, small, low))
+
+-- the whole of the first bytes of a piece
+pub whole_front : (P : List ℕ → Type 0) (piece few : List ℕ) (n i : ℕ) → few ≡ take n piece → length few ≡ n → length few ≤ i → i ≤ length few → P (take i few) → P (take (length few) piece)
+whole_front P piece few n i front long past most h =
+    let all : i ≡ length few = omega (arith, past, most) in
+    subst P (ap (λ k. take k few) all ∙ take-length few ∙ front ∙ ap (λ k. take k piece) (sym long)) h

@@ -4,16 +4,19 @@ ghost use Rattle.std.specs.Char.{digit_value};
 ghost use Rattle.sf_format.specs.declared.directive.Base.{Base};
 ghost use Rattle.sf_format.specs.declared.directive.Base.TheVariants.{Dec, Hex};
 ghost use Rattle.sf_item.specs.Progress.{Start};
+ghost use Rattle.sf_item.specs.Scan.{ReadsDecimal};
 ghost use Rattle.sf_item.specs.Tests.{read};
 ghost use Rattle.sf_item.specs.Wholes.{EndsWithin, ItemWithin, OpensHex, ReadsHex, signed_as};
 
-use crate::integer::decimal_front;
 use crate::item::cut;
 use sf_base::{digit_value, text_run};
 use sf_format::Shape;
 
-// Below it a number has room for one hexadecimal digit more.
-const ROOM_FOR_HEX: u64 = 1 << 60;
+/// The most decimal digits whose number fits in 64 bits, whichever they are.
+const SURE_DECIMAL: usize = 19;
+
+/// The most hexadecimal ones.
+const SURE_HEX: usize = 16;
 
 /// An integer that was read whole.
 #[derive(Clone, Copy, Debug, PartialEq, Eq)]
@@ -73,39 +76,51 @@ fn hex_opening(bytes: &[u8]) -> (usize, bool)
     }
 }
 
-/// Takes hexadecimal digits of the piece, one after the other, as long as their number stays within 64 bits, and answers how
-/// many.
-fn hex_front(number: &mut u64, piece: &[u8]) -> usize
-    ensures within { result ≤ length piece.now }
-    ensures read { ReadsHex number.old (take result piece.now) number.new }
+/// Takes the decimal digits that the piece begins with, as many as surely fit in 64 bits: their number, and how many.
+fn decimal_digits(piece: &[u8]) -> (u64, usize)
+    ensures within { result.1 ≤ length piece.now }
+    ensures read { ReadsDecimal 0 (take result.1 piece.now) result.0 }
 {
-    let mut value = *number;
-    for i in 0..piece.len() {
-        match digit_value(piece[i], 16) {
-            Some(digit) if value < ROOM_FOR_HEX => value = value * 16 + digit as u64,
-            _ => {
-                *number = value;
-                return i;
-            }
+    let (few, _) = piece.split_at(piece.len().min(SURE_DECIMAL));
+    let mut number: u64 = 0;
+    for i in 0..few.len() {
+        let b = few[i];
+        if b < b'0' || b > b'9' {
+            return (number, i);
         }
+        number = number * 10 + (b - b'0') as u64;
     }
-    *number = value;
-    piece.len()
+    (number, few.len())
+}
+
+/// As `decimal_digits`, of hexadecimal digits.
+fn hex_digits(piece: &[u8]) -> (u64, usize)
+    ensures within { result.1 ≤ length piece.now }
+    ensures read { ReadsHex 0 (take result.1 piece.now) result.0 }
+{
+    let (few, _) = piece.split_at(piece.len().min(SURE_HEX));
+    let mut number: u64 = 0;
+    for i in 0..few.len() {
+        let Some(digit) = digit_value(few[i], 16) else {
+            return (number, i);
+        };
+        number = number * 16 + digit as u64;
+    }
+    (number, few.len())
 }
 
 /// The decimal integer that the piece begins with, of so many bytes at most, where it ends before a byte of the piece, so
 /// that what follows the piece does not matter. It is what as many `step`s take, and what `finish` then tells.
 ///
-/// None where the piece begins with no integer, where it may go on behind the piece, and where its number is near
-/// `u64::MAX` or above.
+/// None where the piece begins with no integer, where it may go on behind the piece, and where it has more digits than
+/// surely fit in 64 bits.
 pub fn whole_decimal(width: Option<u16>, piece: &[u8]) -> Option<WholeInteger>
     ensures { IfSome result (EndsWithin Dec width piece.now) }
 {
     let front = cut(piece, width);
     let (start, negative) = sign(front);
     let digits = &front[start..];
-    let mut magnitude = 0;
-    let count = decimal_front(&mut magnitude, digits);
+    let (magnitude, count) = decimal_digits(digits);
     let bytes = start + count;
     if count == 0 || bytes == piece.len() {
         return None;
@@ -127,8 +142,7 @@ pub fn whole_hex(width: Option<u16>, piece: &[u8]) -> Option<WholeInteger>
     let front = cut(piece, width);
     let (start, negative) = hex_opening(front);
     let digits = &front[start..];
-    let mut magnitude = 0;
-    let count = hex_front(&mut magnitude, digits);
+    let (magnitude, count) = hex_digits(digits);
     let bytes = start + count;
     if magnitude == 0 || bytes == piece.len() {
         return None;

@@ -6,6 +6,7 @@ ghost use Rattle.sf_base.specs.Data.{Number, datum_of, is_number, value_of};
 use sf_base::{Kind, ScanInt, Value};
 
 /// The number with the sign (true: a minus) and the magnitude, where the kind holds it.
+#[inline(always)]
 pub(crate) fn number_of(
     kind: Kind,
     negative: bool,

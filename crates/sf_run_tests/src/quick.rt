@@ -68,7 +68,7 @@ fn run(rt: &(impl Abort + AllocGlobal), row: &Row) -> Result<(), Fail> {
     Ok(())
 }
 
-const ROWS: [Row; 10] = [
+const ROWS: [Row; 19] = [
     Row {
         format: b"%d,%d",
         limit: 9,
@@ -131,6 +131,69 @@ const ROWS: [Row; 10] = [
         piece: b" \n\t",
         told: None,
         values: &[],
+    },
+    Row {
+        format: b"%x %X",
+        limit: 20,
+        piece: b"-0X1f 0\n",
+        told: Some(Told::Done(2, 7, None)),
+        values: &[Value::U32(4294967265), Value::U32(0)],
+    },
+    Row {
+        format: b"%llx",
+        limit: 20,
+        piece: b"ffffffffffffffff;",
+        told: Some(Told::Done(1, 16, None)),
+        values: &[Value::U64(18446744073709551615)],
+    },
+    Row {
+        format: b"%llx",
+        limit: 20,
+        piece: b"1000000000000000a;",
+        told: None,
+        values: &[],
+    },
+    Row {
+        format: b"%x",
+        limit: 20,
+        piece: b"0xg",
+        told: None,
+        values: &[],
+    },
+    Row {
+        format: b"%2x",
+        limit: 20,
+        piece: b"0x1f;",
+        told: None,
+        values: &[],
+    },
+    Row {
+        format: b"%3x%s",
+        limit: 20,
+        piece: b"0x1f ",
+        told: Some(Told::Done(2, 4, None)),
+        values: &[Value::U32(1), Value::Text(b"f")],
+    },
+    Row {
+        format: b"%i %o",
+        limit: 20,
+        piece: b"0x1f 017 ",
+        told: Some(Told::Done(2, 8, None)),
+        values: &[Value::I32(31), Value::U32(15)],
+    },
+    Row {
+        format: b"%5[^,],%*[^,],%[^\n]",
+        limit: 60,
+        piece: b"a b,a text of many bytes,another one\n",
+        told: Some(Told::Counted(2, 3, 36, None)),
+        values: &[Value::Text(b"a b"), Value::Text(b"another one")],
+    },
+    Row {
+        format: b"%lu",
+        limit: 30,
+        piece: b"-00000000000000000000000012;",
+        told: Some(Told::Done(1, 27, None)),
+        values: &[Value::U64(18446744073709551604)],
     },
     Row {
         format: b"",

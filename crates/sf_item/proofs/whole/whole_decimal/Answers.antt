@@ -12,11 +12,11 @@ returns c =
     let long = ap length c.cut-front.ensures.front in
     let short : length front ≤ length piece = omega (arith, long, length-take (length front) piece) in
     let start = c.sign-start.result.0 in
-    let count = c.decimal_front-count.result in
+    let count = c.decimal_digits-magnitude.result.1 in
     let some : 0 < count = omega (arith, c.if-count-eq0.false) in
-    let most = c.decimal_front-count.ensures.within in
+    let most = c.decimal_digits-magnitude.ensures.within in
     let within = c.sign-start.ensures.within in
     let behind : start + count < length piece = omega (arith, most, short, length_rest front start, within, c.if-bytes-piece.false) in
     decimal_within piece front c.args.width c.cut-front.ensures.front short c.cut-front.ensures.room c.cut-front.ensures.whole start count within most
-    c.sign-start.result.1 c.decimal_front-count.new.number c.sign-start.ensures.plain (c.sign-start.ensures.read Dec) some
-    (c.decimal_front-count.ensures.read Dec c.sign-start.result.1) behind (c.is_digit_at.ensures c.if-is_digit_at.false)
+    c.sign-start.result.1 c.decimal_digits-magnitude.result.0 c.sign-start.ensures.plain (c.sign-start.ensures.read Dec) some
+    (c.decimal_digits-magnitude.ensures.read Dec c.sign-start.result.1) behind (c.is_digit_at.ensures c.if-is_digit_at.false)

@@ -11,10 +11,10 @@ returns c =
     let long = ap length c.cut-front.ensures.front in
     let short : length front ≤ length piece = omega (arith, long, length-take (length front) piece) in
     let start = c.hex_opening-start.result.0 in
-    let count = c.hex_front-count.result in
-    let most = c.hex_front-count.ensures.within in
+    let count = c.hex_digits-magnitude.result.1 in
+    let most = c.hex_digits-magnitude.ensures.within in
     let within = c.hex_opening-start.ensures.within in
     let behind : start + count < length piece = omega (arith, most, short, length_rest front start, within, c.if-bytes-piece.false) in
     hex_within piece front c.args.width c.cut-front.ensures.front short c.cut-front.ensures.room c.cut-front.ensures.whole start count within most
-    c.hex_opening-start.result.1 c.hex_front-count.new.number c.hex_opening-start.ensures.opens (omega (arith, c.if-magnitude-eq0.false))
-    c.hex_front-count.ensures.read behind (c.is_digit_at.ensures c.if-is_digit_at.false)
+    c.hex_opening-start.result.1 c.hex_digits-magnitude.result.0 c.hex_opening-start.ensures.opens (omega (arith, c.if-magnitude-eq0.false))
+    c.hex_digits-magnitude.ensures.read behind (c.is_digit_at.ensures c.if-is_digit_at.false)
