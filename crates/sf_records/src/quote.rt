@@ -1,6 +1,6 @@
 //! Bytes between quotes.
 ghost use Rattle.std.specs.Prelude.{◌≡◌, ◌++◌, ◌+◌, ◌<◌, ◌≤◌, length, map, not, OnOk};
-ghost use Rattle.std.specs.List.{prefix_len};
+ghost use Rattle.std.specs.List.{flat_map, prefix_len};
 ghost use Rattle.sf_records.specs.Quotes.{hex_digit, escaped, is_plain, quoted};
 ghost use lib.Lanes.{mask_l, chunk};
 
@@ -16,14 +16,6 @@ fn hex_digit(n: u8) -> u8
     if n < 10 { b'0' + n } else { b'a' + (n - 10) }
 }
 
-/// Whether the byte stands between quotes as it is.
-#[inline(always)]
-fn is_plain(b: u8) -> bool
-    ensures { result ≡ is_plain b }
-{
-    b != b'\\' && b != b'"' && b >= 32 && b <= 126
-}
-
 /// Which of the sixteen bytes from the place on are not plain: a bit each, the first byte's the lowest.
 #[inline(always)]
 fn odd_mask(bytes: &[u8], at: usize) -> u64
@@ -37,7 +29,21 @@ fn odd_mask(bytes: &[u8], at: usize) -> u64
     odd.to_bitmask()
 }
 
+/// How many plain bytes stand in front of fewer than sixteen: they are looked at in an array that has room for sixteen.
+#[inline(always)]
+fn short_run(bytes: &[u8]) -> usize
+    requires { length bytes.now < 16 }
+    ensures within { result ≤ length bytes.now }
+    ensures count { result ≡ prefix_len is_plain bytes.now }
+{
+    let mut lanes = [0; LANES];
+    lanes[..bytes.len()].copy_from_slice(bytes);
+    let odd = odd_mask(&lanes, 0);
+    bytes.len().min(odd.trailing_zeros() as usize)
+}
+
 /// How many plain bytes stand in front.
+#[inline(always)]
 fn plain_run(bytes: &[u8]) -> usize
     ensures within { result ≤ length bytes.now }
     ensures count { result ≡ prefix_len is_plain bytes.now }
@@ -50,13 +56,7 @@ fn plain_run(bytes: &[u8]) -> usize
         }
         at += LANES;
     }
-    while at < bytes.len() {
-        if !is_plain(bytes[at]) {
-            return at;
-        }
-        at += 1;
-    }
-    at
+    at + short_run(&bytes[at..])
 }
 
 #[inline(never)]
@@ -71,12 +71,11 @@ fn push_escaped(output: &mut Vec<u8>, b: u8) -> Result<(), AllocError>
     }
 }
 
-/// Appends the bytes between quotes: printable ones as they are, a quote and a backslash behind a backslash, and every
-/// other by its two digits of base 16.
-pub fn push_quoted(output: &mut Vec<u8>, bytes: &[u8]) -> Result<(), AllocError>
-    ensures { OnOk result (output.new.items ≡ output.old.items ++ quoted bytes.now) }
+/// Appends the bytes as they stand between quotes.
+#[inline(never)]
+fn push_mixed(output: &mut Vec<u8>, bytes: &[u8]) -> Result<(), AllocError>
+    ensures { OnOk result (output.new.items ≡ output.old.items ++ flat_map escaped bytes.now) }
 {
-    output.push(b'"')?;
     let mut done = 0;
     while done < bytes.len() {
         let run = plain_run(&bytes[done..]);
@@ -86,6 +85,20 @@ pub fn push_quoted(output: &mut Vec<u8>, bytes: &[u8]) -> Result<(), AllocError>
             push_escaped(output, bytes[done])?;
             done += 1;
         }
+    }
+    Ok(())
+}
+
+/// Appends the bytes between quotes: printable ones as they are, a quote and a backslash behind a backslash, and every
+/// other by its two digits of base 16.
+pub fn push_quoted(output: &mut Vec<u8>, bytes: &[u8]) -> Result<(), AllocError>
+    ensures { OnOk result (output.new.items ≡ output.old.items ++ quoted bytes.now) }
+{
+    output.push(b'"')?;
+    if plain_run(bytes) == bytes.len() {
+        output.extend_from_slice(bytes)?;
+    } else {
+        push_mixed(output, bytes)?;
     }
     output.push(b'"')?;
     Ok(())

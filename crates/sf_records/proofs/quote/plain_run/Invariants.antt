@@ -12,12 +12,3 @@ invariant-loop-at l = record {
 
 abbrev pub decreases-loop-at : goal.decreases-loop-at
 decreases-loop-at l = length l.bytes - l.at
-
-abbrev pub invariant-loop-at-2 : goal.invariant-loop-at-2
-invariant-loop-at-2 l = record {
-  within : l.at ≤ length l.bytes;
-  front : prefix_len is_plain l.bytes ≡ l.at + prefix_len is_plain (drop l.at l.bytes);
-}
-
-abbrev pub decreases-loop-at-2 : goal.decreases-loop-at-2
-decreases-loop-at-2 l = length l.bytes - l.at

@@ -1,22 +1,17 @@
-use Rattle.std.proofs.Common.{◌+◌, ◌∷◌, [], ◌∙◌, arith}
-use Rattle.sf_records.proofs.Quoting.{front_written, byte_written, run_within}
+use Rattle.std.proofs.Common.{◌∙◌, ap, refl, sym}
+use Rattle.sf_records.proofs.Quoting.{quoted_is, whole_front}
+use Rattle.sf_records.proofs.quote.push_quoted.Goals.{then-plain_run-bytes+in_ok-extend_from_slice, else-plain_run-bytes+in_ok-push_mixed}
 use Rattle.sf_records.proofs.quote.push_quoted.Goals as goal
 
-pub loop-done-preserved-then-done-bytes : goal.loop-done-preserved-then-done-bytes
-loop-done-preserved-then-done-bytes c =
-    let l = c.loop-done in
+pub returns : goal.returns
+returns c =
     let bytes = c.args.bytes.now in
-    record {
-      within = omega (arith, c.if-done-bytes.true);
-      so_far = byte_written bytes _ _ (34 ∷ []) (l.done + c.plain_run-run.result) c.if-done-bytes.true (c.in_ok-push_escaped.ensures)
-          ∙ front_written bytes l.output.items _ (34 ∷ []) l.done c.plain_run-run.result l.invariant.within c.plain_run-run.ensures.count c.in_ok-extend_from_slice.ensures.items ∙ l.invariant.so_far;
-    }
-
-pub loop-done-preserved : goal.loop-done-preserved
-loop-done-preserved c =
-    let l = c.loop-done in
-    let bytes = c.args.bytes.now in
-    record {
-      within = run_within bytes l.done c.plain_run-run.result l.invariant.within c.plain_run-run.ensures.within;
-      so_far = front_written bytes l.output.items _ (34 ∷ []) l.done c.plain_run-run.result l.invariant.within c.plain_run-run.ensures.count c.in_ok-extend_from_slice.ensures.items ∙ l.invariant.so_far;
-    }
+    elim c.if-plain_run-bytes.branch [
+      | then-plain_run-bytes+in_ok-extend_from_slice w ↦
+          quoted_is c.args.output.now.items _ c.if-plain_run-bytes.output.items _ bytes bytes c.in_ok-push.ensures.items
+          (ap (λ v. v.items) w.output-is ∙ w.in_ok-extend_from_slice.ensures.items)
+          (sym (whole_front bytes (sym c.plain_run.ensures.count ∙ w.if-plain_run-bytes.true))) c.in_ok-push-2.ensures.items
+      | else-plain_run-bytes+in_ok-push_mixed w ↦
+          quoted_is c.args.output.now.items _ c.if-plain_run-bytes.output.items _ bytes _ c.in_ok-push.ensures.items
+          (ap (λ v. v.items) w.output-is ∙ w.in_ok-push_mixed.ensures) refl c.in_ok-push-2.ensures.items
+    ]

@@ -1,13 +1,13 @@
-use Rattle.std.proofs.Common.{◌≡◌, ◌≤◌, ◌-◌, ◌++◌, ◌∷◌, [], drop, length}
+use Rattle.std.proofs.Common.{◌≡◌, ◌≤◌, ◌-◌, ◌++◌, drop, length}
 use Rattle.std.specs.List.{flat_map}
-use Rattle.sf_records.specs.Quotes.{escaped, quoted}
-use Rattle.sf_records.proofs.quote.push_quoted.Given as goal
+use Rattle.sf_records.specs.Quotes.{escaped}
+use Rattle.sf_records.proofs.quote.push_mixed.Given as goal
 
 -- with the bytes that are left, the output is what it is to be
 abbrev pub invariant-loop-done : goal.invariant-loop-done
 invariant-loop-done l = record {
   within : l.done ≤ length l.bytes;
-  so_far : l.output.items ++ (flat_map escaped (drop l.done l.bytes) ++ 34 ∷ []) ≡ l.fn.output.items ++ quoted l.bytes;
+  so_far : l.output.items ++ flat_map escaped (drop l.done l.bytes) ≡ l.fn.output.items ++ flat_map escaped l.bytes;
 }
 
 abbrev pub decreases-loop-done : goal.decreases-loop-done
