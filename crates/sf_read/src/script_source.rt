@@ -1,5 +1,5 @@
 //! A source that follows a script, for tests.
-ghost use Rattle.std.specs.Prelude.{◌≡◌, ◌<◌, ◌++◌, ◌∷◌, [], None, Some, IfOk, IfErr, is_err, if◌then◌else◌, length, take};
+ghost use Rattle.std.specs.Prelude.{◌≡◌, ◌≢◌, ◌<◌, ◌++◌, ◌∷◌, [], None, Some, IfOk, IfErr, IsOk, is_err, if◌then◌else◌, length, min, take};
 ghost use Rattle.std.specs.Counts.{IsPrefixLen};
 ghost use Rattle.std.specs.Io.{ReadsAtMost};
 ghost use Rattle.std.specs.Io.KnownBytes.{ReadConsumes};
@@ -68,6 +68,7 @@ impl<'a> ScriptSource<'a> {
         ensures ready { IfOk result (λ _. self.new.present ≡ [] → self.new.later ≡ []) }
         ensures reads { self.new.reads ≡ self.old.reads }
         ensures failures { self.new.failures ≡ (if is_err result then counted_on self.old.failures else self.old.failures) }
+        ensures stays { self.old.present ≢ [] → (self.new.present ≡ self.old.present) × IsOk result }
     {
         'steps: while self.present.is_empty() {
             match self.steps {
@@ -90,6 +91,8 @@ impl<'a> ScriptSource<'a> {
     fn give(&mut self, buf: &mut [u8]) -> usize
         ensures bound { IsPrefixLen result buf.new }
         ensures present { self.old.present ≡ take result buf.new ++ self.new.present }
+        ensures count { result ≡ min (length buf.new) (length self.old.present) }
+        ensures filled { result < length buf.new → self.new.present ≡ [] }
         ensures later { self.new.later ≡ self.old.later }
         ensures end { result ≡ 0 → 0 < length buf.new → self.new.present ≡ [] }
         ensures reads { self.new.reads ≡ self.old.reads }
@@ -113,7 +116,7 @@ impl Source for ScriptSource<'_> {
 
     ghost failures = { λ s. s.failures };
 
-    /// Fails exactly where the script says so next.
+    /// Fails exactly where the script says so next. Else it gives as many bytes of the present text as the buffer holds.
     fn read(&mut self, buf: &mut [u8]) -> Result<usize, SourceFault>
         ensures bound { ReadsAtMost result buf.new }
         ensures bytes { ReadConsumes (Some (bytes_of (left_of self.old))) (Some (bytes_of (left_of self.new))) result buf.new }
@@ -121,6 +124,8 @@ impl Source for ScriptSource<'_> {
         ensures failures { self.new.failures ≡ (if is_err result then counted_on self.old.failures else self.old.failures) }
         ensures gave { IfOk result (λ count. left_of self.old ≡ given (take count buf.new) ++ left_of self.new) }
         ensures end { IfOk result (λ count. count ≡ 0 → 0 < length buf.new → left_of self.old ≡ []) }
+        ensures count { self.old.present ≢ [] → IfOk result (λ count. count ≡ min (length buf.new) (length self.old.present)) }
+        ensures filled { IfOk result (λ count. count < length buf.new → self.new.present ≡ []) }
         ensures failed { IfErr result (λ _. left_of self.old ≡ None ∷ left_of self.new) }
     {
         self.reads = self.reads.saturating_add(1);

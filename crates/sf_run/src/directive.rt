@@ -19,7 +19,7 @@ ghost use Rattle.sf_run.specs.Phases.{ShowsItem, Shows, ShowsNext, CanAll, Bring
 
 use crate::number::number_of;
 use crate::outcome::Status;
-use sf_base::{Value, is_space};
+use sf_base::{Value, is_space, space_run};
 use sf_format::{Conversion, Directive, Shape};
 use sf_item::{ItemEnd, ItemScan, Step};
 
@@ -185,12 +185,10 @@ pub(crate) fn space_before(piece: &[u8]) -> usize
     ensures white { (k : ℕ) → k < result → is_white (get_or piece.now k 0) ≡ true }
     ensures next { result < length piece.now → is_white (get_or piece.now result 0) ≡ false }
 {
-    for i in 0..piece.len() {
-        if !is_space(piece[i]) {
-            return i;
-        }
+    match piece.first() {
+        Some(b) if is_space(*b) => space_run(piece),
+        _ => 0,
     }
-    piece.len()
 }
 
 /// How many bytes a conversion of the shape skips at the front of the piece.
