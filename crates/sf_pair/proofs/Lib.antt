@@ -23,6 +23,7 @@ pub mod IntoIntegers
 pub mod Into
 pub mod Stops
 pub mod Refusals
+pub mod OneStop
 pub mod SlotRows
 pub mod Scans
 pub mod FitTests

@@ -112,6 +112,11 @@ pub record StopsAt (us : List PrintUnit) (ds : List Directive) (at : ℕ) (d : D
   pub taken : Leaves before (d ∷ after) us left
   pub place : at ≡ length before + 1
 
+-- that is one directive, and one list of units
+abbrev pub EachStopIsOne : Type 0
+EachStopIsOne = (us : List PrintUnit) (ds : List Directive) (at : ℕ) (d e : Directive) (left other : List PrintUnit)
+    → StopsAt us ds at d left → StopsAt us ds at e other → (d ≡ e) × (left ≡ other)
+
 -- after the text u, the step of the directive takes the byte b too
 abbrev pub TakesToo : Directive → List ℕ → ℕ → Type 0
 TakesToo d u b = (n : ℕ) → (end : StepEnd) × Step d (u ++ b ∷ []) n (length u + 1) end

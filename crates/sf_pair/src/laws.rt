@@ -2,7 +2,7 @@
 //! None of these functions does anything: its contract is the law.
 ghost use Rattle.sf_pair.specs.Walk.{AlignedIsAccepted};
 ghost use Rattle.sf_pair.specs.Fits.{FitsIsFit};
-ghost use Rattle.sf_pair.specs.Laws.{AlignedEndsOnNothing, AlignedIsBounded, AlignedSlotsAgree, HeldIsBounded, LiteralsAreRunInto, OpenEndsAreOpen, PrintsSome, ReadWithin, RoundTrip};
+ghost use Rattle.sf_pair.specs.Laws.{AlignedEndsOnNothing, AlignedIsBounded, AlignedSlotsAgree, EachStopIsOne, HeldIsBounded, LiteralsAreRunInto, OpenEndsAreOpen, PrintsSome, ReadWithin, RoundTrip};
 
 use crate::below::laws_below;
 
@@ -75,3 +75,8 @@ pub fn literals_are_run_into()
 {
     laws_below();
 }
+
+/// The place where the walk stops has one directive, and one list of units is left there.
+pub fn stops_are_one()
+    ensures { EachStopIsOne }
+{}
