@@ -1,15 +1,13 @@
 -- What the command answers, by what its calls answer.
-use Rattle.std.proofs.Common.{◌≡◌, ℕ, List, Bool, true, false, Option, Some, Result, Ok, Err, [], get_or, arith, inl, inr, refl, sym, ap, subst, ◌∙◌}
-use Rattle.std.specs.Prelude.{IfErr}
+use Rattle.std.proofs.Common.{◌≡◌, ℕ, List, Bool, true, false, Option, Err, inl, inr, refl, sym, ap, ◌∙◌}
 use Rattle.sf_format.specs.declared.directive.Profile.{Profile}
 use Rattle.sf_format.specs.declared.fault.FormatFault.{FormatFault}
 use Rattle.sf_format.specs.declared.fault.FormatWhy.{FormatWhy}
 use Rattle.sf_format.specs.declared.fault.FormatWhy.TheVariants.{NoMemory}
 use Rattle.sf_format.specs.Faults.{Fault, PrintFault, IsRefused, IsPrintRefused}
-use Rattle.sf_read.specs.Ahead.{Ahead, input_of}
-use Rattle.sf_tool.specs.declared.fault.CommandFault.{CommandFault}
-use Rattle.sf_tool.specs.declared.fault.CommandFault.TheVariants.{BadEscape, Format, PrintFormat, Values, Record, Write, Memory, Pair}
-use Rattle.sf_tool.specs.Commands.{Counts, IsUnwrittenBy, PrintsBy, ScansBy, ShowsBy, TellsFault, Unread, format_fault, format_fault_by, print_format_fault, print_format_fault_by}
+use Rattle.sf_read.specs.Ahead.{Ahead}
+use Rattle.sf_tool.specs.Commands.{Counts, IsUnwrittenBy, PrintsBy, ScansBy, ShowsBy, Unread}
+use Rattle.sf_messages.specs.Faults.{format_fault, format_fault_by, print_format_fault, print_format_fault_by}
 
 -- ---- a format that is refused
 

@@ -1,16 +1,16 @@
 -- What is answered where a word is no format, or its format no pair.
-use Rattle.std.proofs.Common.{◌≡◌, ◌∙◌, ℕ, List, Bool, true, false, Option, Err, inl, inr, ap, refl, sym, subst}
-use Rattle.std.specs.Prelude.{IfErr}
+use Rattle.std.proofs.Common.{◌≡◌, ℕ, List, Err, ap, refl}
 use Rattle.sf_format.specs.declared.directive.Profile.{Profile}
 use Rattle.sf_format.specs.declared.fault.FormatFault.{FormatFault}
 use Rattle.sf_format.specs.declared.fault.FormatWhy.{FormatWhy}
 use Rattle.sf_format.specs.declared.fault.FormatWhy.TheVariants.{NoMemory}
 use Rattle.sf_format.specs.Faults.{IsRefused, IsPrintRefused}
-use Rattle.sf_tool.specs.declared.fault.CommandFault.{CommandFault}
-use Rattle.sf_tool.specs.declared.fault.CommandFault.TheVariants.{BadEscape, Format, PrintFormat, Values, Record, Write, Memory, Pair}
-use Rattle.sf_tool.specs.declared.fault.FormatName.TheVariants as name
+use Rattle.sf_messages.specs.declared.fault.CommandFault.{CommandFault}
+use Rattle.sf_messages.specs.declared.fault.CommandFault.TheVariants.{BadEscape, Format, PrintFormat, Values, Record, Write, Memory, Pair}
+use Rattle.sf_messages.specs.declared.fault.FormatName.TheVariants as name
 use Rattle.sf_tool.specs.Checks.{IsNoPrintWord, IsNoScanWord}
-use Rattle.sf_tool.specs.Commands.{Counts, IsBadText, IsUnwrittenBy, format_fault, format_fault_by, print_format_fault, print_format_fault_by}
+use Rattle.sf_tool.specs.Commands.{Counts, IsBadText, IsUnwrittenBy}
+use Rattle.sf_messages.specs.Faults.{format_fault, format_fault_by, print_format_fault, print_format_fault_by}
 use Rattle.sf_tool.specs.Escapes.{Unescapes}
 use Rattle.sf_tool.proofs.Answering.{fault_of, is_memory, print_fault_of}
 

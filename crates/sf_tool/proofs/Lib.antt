@@ -2,11 +2,11 @@ pub mod Answering
 pub mod Checking
 pub mod Escaping
 pub mod Finding
-pub mod Lines
 pub mod Numbers
 pub mod OneAnswer
 pub mod Places
 pub mod PrintAnswering
 pub mod Reading
+pub mod Saying
 pub mod Suiting
 pub mod WordRows

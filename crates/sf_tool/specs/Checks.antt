@@ -1,6 +1,5 @@
 -- What a check of two formats answers, and what it writes.
 use Rattle.std.specs.Prelude.{◌≡◌, ◌⊎◌, ℕ, List, [], ◌∷◌, ◌++◌, Option, Some, None, Ok, Err, codes}
-use Rattle.std.specs.Fmt.{decimal}
 use Rattle.std.specs.Io.KnownBytes.{Appends}
 use Rattle.sf_format.specs.declared.directive.Directive.{Directive}
 use Rattle.sf_format.specs.declared.directive.Profile.{Profile}
@@ -8,14 +7,13 @@ use Rattle.sf_format.specs.declared.unit.Unit.{Unit as PrintUnit}
 use Rattle.sf_format.specs.Faults.{Fault, PrintFault}
 use Rattle.sf_format.specs.Grammar.{Spells, SpellsPrint}
 use Rattle.sf_pair.specs.declared.fault.PairFault.{PairFault}
-use Rattle.sf_pair.specs.declared.fault.PairWhy.{PairWhy}
-use Rattle.sf_pair.specs.declared.fault.PairWhy.TheVariants as why
 use Rattle.sf_pair.specs.Groups.{IsAligned}
 use Rattle.sf_pair.specs.Walk.{pair_fault}
+use Rattle.sf_messages.specs.Texts.{pair_fault_text}
 use Rattle.sf_records.specs.Judging.{TakesPart}
-use Rattle.sf_tool.specs.declared.fault.CommandFault.{CommandFault}
-use Rattle.sf_tool.specs.declared.fault.CommandFault.TheVariants.{BadEscape, Format, PrintFormat, Write, Memory}
-use Rattle.sf_tool.specs.declared.fault.FormatName.TheVariants as name
+use Rattle.sf_messages.specs.declared.fault.CommandFault.{CommandFault}
+use Rattle.sf_messages.specs.declared.fault.CommandFault.TheVariants.{BadEscape, Format, PrintFormat, Write, Memory}
+use Rattle.sf_messages.specs.declared.fault.FormatName.TheVariants as name
 use Rattle.sf_tool.specs.Answers.{Answer}
 use Rattle.sf_tool.specs.Escapes.{IsBadEscape, Unescapes}
 
@@ -42,23 +40,6 @@ IsNoScanWord profile word Memory = (text : List ℕ) × Unescapes word text
 IsNoScanWord profile word _ = ⊥
 
 -- ---- verdicts
-
--- why a pair is refused
-abbrev pub pair_why_text : PairWhy → List ℕ
-pair_why_text why.NotAligned = codes "Q1 NotAligned"
-pair_why_text why.KindDiffers = codes "Q2 KindDiffers"
-pair_why_text why.NumberDiffers = codes "Q3 NumberDiffers"
-pair_why_text why.NoWidth = codes "Q4 NoWidth"
-pair_why_text why.TooNarrow = codes "Q5 TooNarrow"
-pair_why_text why.RunsOn = codes "Q6 RunsOn"
-pair_why_text why.OpenEnd = codes "Q7 OpenEnd"
-pair_why_text why.LeadingZero = codes "Q8 LeadingZero"
-pair_why_text why.NotWritten = codes "Q9 NotWritten"
-pair_why_text why.BadFlagHere = codes "Q10 BadFlagHere"
-pair_why_text why.NoValues = codes "Q11 NoValues"
-
-abbrev pub pair_fault_text : PairFault → List ℕ
-pair_fault_text fault = pair_why_text fault.why ++ (codes " at " ++ decimal fault.at)
 
 -- accepted, or refused for this
 abbrev pub verdict_text : Option PairFault → List ℕ

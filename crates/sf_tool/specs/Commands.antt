@@ -10,8 +10,8 @@ use Rattle.sf_format.specs.Grammar.{Spells, SpellsPrint}
 use Rattle.sf_format.specs.Widths.{width_sum}
 use Rattle.sf_format.specs.declared.fault.FormatFault.{FormatFault}
 use Rattle.sf_format.specs.declared.fault.FormatWhy.{FormatWhy}
-use Rattle.sf_format.specs.declared.fault.FormatWhy.TheVariants.{NoMemory}
 use Rattle.sf_format.specs.declared.unit.Unit.{Unit as PrintUnit}
+use Rattle.sf_messages.specs.Faults.{format_fault, print_format_fault}
 use Rattle.sf_pair.specs.Groups.{IsAligned}
 use Rattle.sf_pair.specs.Walk.{pair_fault}
 use Rattle.sf_print.specs.Sinks.{counted_on}
@@ -27,12 +27,12 @@ use Rattle.sf_words.specs.declared.order.Profile.{Profile as GivenProfile}
 use Rattle.sf_words.specs.declared.order.Profile.TheVariants as given
 use Rattle.sf_words.specs.declared.order.Verb.{Verb}
 use Rattle.sf_words.specs.declared.order.Verb.TheVariants as verb
-use Rattle.sf_tool.specs.declared.argument_fault.ArgumentFault.{ArgumentFault}
-use Rattle.sf_tool.specs.declared.argument_fault.ArgumentFault.TheVariants as argument_fault
-use Rattle.sf_tool.specs.declared.fault.FormatName.{FormatName}
-use Rattle.sf_tool.specs.declared.fault.FormatName.TheVariants as name
-use Rattle.sf_tool.specs.declared.fault.CommandFault.{CommandFault}
-use Rattle.sf_tool.specs.declared.fault.CommandFault.TheVariants.{BadEscape, Format, PrintFormat, Values, Record, Write, Memory, Pair}
+use Rattle.sf_messages.specs.declared.argument_fault.ArgumentFault.{ArgumentFault}
+use Rattle.sf_messages.specs.declared.argument_fault.ArgumentFault.TheVariants as argument_fault
+use Rattle.sf_messages.specs.declared.fault.FormatName.{FormatName}
+use Rattle.sf_messages.specs.declared.fault.FormatName.TheVariants as name
+use Rattle.sf_messages.specs.declared.fault.CommandFault.{CommandFault}
+use Rattle.sf_messages.specs.declared.fault.CommandFault.TheVariants.{BadEscape, Format, PrintFormat, Values, Record, Write, Memory, Pair}
 use Rattle.sf_tool.specs.Answers.{Answer}
 use Rattle.sf_tool.specs.Checks.{ChecksWords, IsFaultOf, IsNoPrintWord, IsNoScanWord, IsPrintWord, IsScanWord}
 use Rattle.sf_tool.specs.Escapes.{IsBadEscape, Unescapes}
@@ -40,21 +40,6 @@ use Rattle.sf_tool.specs.Prints.{Answers, IsUnwritten}
 use Rattle.sf_tool.specs.Show.{show_text}
 
 -- ---- faults
-
--- the command's fault for a format's fault
-abbrev pub format_fault_by : FormatWhy → FormatFault → CommandFault
-format_fault_by NoMemory fault = Memory
-format_fault_by _ fault = Format fault
-
-abbrev pub format_fault : FormatFault → CommandFault
-format_fault fault = format_fault_by fault.why fault
-
-abbrev pub print_format_fault_by : FormatWhy → FormatFault → CommandFault
-print_format_fault_by NoMemory fault = Memory
-print_format_fault_by _ fault = PrintFormat fault
-
-abbrev pub print_format_fault : FormatFault → CommandFault
-print_format_fault fault = print_format_fault_by fault.why fault
 
 -- a format that has a fault is refused for it
 abbrev pub TellsFault : (ℕ → FormatWhy → Type 0) → (FormatFault → CommandFault) → Answer → Type 0

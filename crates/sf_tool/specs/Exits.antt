@@ -1,5 +1,5 @@
 -- What one run of the command writes, says and answers.
-use Rattle.std.specs.Prelude.{◌≡◌, ◌⊎◌, ℕ, List, [], Option, Result, Ok, Err, IfErr, IfOk, map, string_bytes}
+use Rattle.std.specs.Prelude.{◌≡◌, ◌⊎◌, ◌++◌, ℕ, List, [], Option, Result, Ok, Err, IfErr, IfOk, map, string_bytes}
 use Rattle.std.specs.Io.KnownBytes.{Appends}
 use Rattle.sf_print.specs.Sinks.{counted_on}
 use Rattle.sf_read.specs.Ahead.{Ahead}
@@ -8,10 +8,11 @@ use Rattle.sf_words.specs.declared.order.Order.{Order}
 use Rattle.sf_words.specs.declared.order.WordsFault.{WordsFault}
 use Rattle.sf_words.specs.declared.order.WordsFault.TheVariants.{Help, Usage, NoMemory}
 use Rattle.sf_words.specs.Orders.{IsOrder, IsRefusal, faults_of}
-use Rattle.sf_tool.specs.declared.fault.CommandFault.TheVariants.{Write, Memory}
+use Rattle.sf_messages.specs.declared.fault.CommandFault.TheVariants.{Write, Memory}
 use Rattle.sf_tool.specs.Answers.{Answer}
 use Rattle.sf_tool.specs.Commands.{CarriesOut, Counts, grammar_of}
-use Rattle.sf_tool.specs.Texts.{error_line, status_of}
+use Rattle.sf_tool.specs.Explains.{SaysMore}
+use Rattle.sf_messages.specs.Texts.{error_line, status_of}
 
 -- the sink took the text; or it failed once, and took a front of it
 abbrev pub Says : {E : Type 0} → (E → Option (List ℕ)) → (E → ℕ) → List ℕ → E → E → Type 0
@@ -19,10 +20,10 @@ Says contents failures text err err' =
     Appends (contents err) (contents err') text × (failures err' ≡ failures err)
     ⊎ TakesPart (contents err) (contents err') text × (failures err' ≡ counted_on (failures err))
 
--- nothing is said where there is an exit status; else the line of the fault, whose status it is
-abbrev pub Ends : {E : Type 0} → (E → Option (List ℕ)) → (E → ℕ) → Answer → E → E → ℕ → Type 0
-Ends contents failures (Ok n) err err' status = (err' ≡ err) × (status ≡ n)
-Ends contents failures (Err fault) err err' status = Says contents failures (error_line fault) err err' × (status ≡ status_of fault)
+-- nothing is said where there is an exit status; else the line of the fault, whose status it is, and the notes behind it
+abbrev pub Ends : {E : Type 0} → (E → Option (List ℕ)) → (E → ℕ) → List ℕ → Answer → E → E → ℕ → Type 0
+Ends contents failures notes (Ok n) err err' status = (err' ≡ err) × (status ≡ n)
+Ends contents failures notes (Err fault) err err' status = Says contents failures (error_line fault ++ notes) err err' × (status ≡ status_of fault)
 
 -- help is written to the output
 abbrev pub HelpsBy : List ℕ → Option (List ℕ) → Option (List ℕ) → Answer → Type 0
@@ -36,17 +37,19 @@ Helps contents failures text out out' answer = HelpsBy text (contents out) (cont
 -- what is done where the words ask for nothing that can be done
 abbrev pub Declines : {K E : Type 0} → (K → Option (List ℕ)) → (K → ℕ) → (E → Option (List ℕ)) → (E → ℕ) → WordsFault → K → K → E → E → ℕ → Type 0
 Declines contents failures said unsaid (Help text) out out' err err' status =
-    (answer : Answer) × Helps contents failures (string_bytes text) out out' answer × Ends said unsaid answer err err' status
+    (answer : Answer) × Helps contents failures (string_bytes text) out out' answer × Ends said unsaid [] answer err err' status
 Declines contents failures said unsaid (Usage text) out out' err err' status =
     (out' ≡ out) × Says said unsaid (string_bytes text) err err' × (status ≡ 2)
-Declines contents failures said unsaid NoMemory out out' err err' status = (out' ≡ out) × Ends said unsaid (Err Memory) err err' status
+Declines contents failures said unsaid NoMemory out out' err err' status = (out' ≡ out) × Ends said unsaid [] (Err Memory) err err' status
 
 -- what is done for what was read of the words: the order, or help, or the words are refused with nothing read
 abbrev pub Does : {S K E : Type 0} → (S → Option (List ℕ)) → (S → ℕ) → (K → Option (List ℕ)) → (K → ℕ) → (E → Option (List ℕ)) → (E → ℕ) → Result Order WordsFault
     → Ahead S → Ahead S → K → K → E → E → ℕ → Type 0
 Does to_come read_faults contents write_faults said unsaid (Ok order) from from' out out' err err' status =
     (answer : Answer) × CarriesOut to_come read_faults contents write_faults (grammar_of order.profile) order.verb order.limit (map string_bytes order.texts.items) from from' out out' answer
-    × Ends said unsaid answer err err' status
+    × ((notes : List ℕ)
+    × SaysMore order.explain (grammar_of order.profile) order.verb (map string_bytes order.texts.items) from'.held answer notes
+    × Ends said unsaid notes answer err err' status)
 Does to_come read_faults contents write_faults said unsaid (Err fault) from from' out out' err err' status =
     (from' ≡ from) × Declines contents write_faults said unsaid fault out out' err err' status
 

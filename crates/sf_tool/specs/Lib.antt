@@ -4,9 +4,8 @@ pub mod Checks
 pub mod Commands
 pub mod Escapes
 pub mod Exits
-pub mod Joined
+pub mod Explains
 pub mod Laws
 pub mod Prints
 pub mod Show
-pub mod Texts
 pub mod Words

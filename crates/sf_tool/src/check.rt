@@ -1,36 +1,16 @@
 //! The check of a print format and a scan format as a pair.
 ghost use Rattle.std.specs.Prelude.{◌≡◌, ◌++◌, ◌∷◌, [], IfOk, IfErr};
-ghost use Rattle.sf_tool.specs.Checks.{Checks, ChecksWords, IsNoPrintWord, IsNoScanWord, IsPrintWord, IsScanWord, IsVerdict, pair_fault_text, pair_why_text, verdict_status, verdict_text};
+ghost use Rattle.sf_tool.specs.Checks.{Checks, ChecksWords, IsNoPrintWord, IsNoScanWord, IsPrintWord, IsScanWord, IsVerdict, verdict_status, verdict_text};
 ghost use Rattle.sf_tool.specs.Commands.{Counts, IsUnwrittenBy};
 
-use crate::error_line::{ErrorLine, joined};
-use crate::fault::CommandFault;
 use crate::formats::{read_print, read_scan};
 use itoa::Buffer;
 use sf_format::{PrintFormat, Profile, ScanFormat};
+use sf_messages::{CommandFault, ErrorLine, joined, pair_why_text};
 use sf_pair::{Pair, PairFault, PairWhy};
 use sf_print::Sink;
 use sf_records::write_whole;
 use std::alloc::Global;
-
-/// The number and the name of why a pair is refused.
-pub(crate) fn pair_why_text(why: PairWhy) -> &'static str
-    ensures { result.now ≡ pair_why_text why }
-{
-    match why {
-        PairWhy::NotAligned => "Q1 NotAligned",
-        PairWhy::KindDiffers => "Q2 KindDiffers",
-        PairWhy::NumberDiffers => "Q3 NumberDiffers",
-        PairWhy::NoWidth => "Q4 NoWidth",
-        PairWhy::TooNarrow => "Q5 TooNarrow",
-        PairWhy::RunsOn => "Q6 RunsOn",
-        PairWhy::OpenEnd => "Q7 OpenEnd",
-        PairWhy::LeadingZero => "Q8 LeadingZero",
-        PairWhy::NotWritten => "Q9 NotWritten",
-        PairWhy::BadFlagHere => "Q10 BadFlagHere",
-        PairWhy::NoValues => "Q11 NoValues",
-    }
-}
 
 /// The line that tells of a pair's fault.
 fn refusal_line(why: PairWhy, at: u16) -> ErrorLine

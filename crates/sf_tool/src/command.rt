@@ -3,15 +3,16 @@ ghost use Rattle.std.specs.Prelude.{◌≡◌, ◌≤◌, ◌∷◌, [], ℕ, Li
 ghost use Rattle.sf_format.specs.Faults.{Fault, PrintFault};
 ghost use Rattle.sf_read.specs.Ahead.{input_of};
 ghost use Rattle.sf_words.specs.Orders.{HasTexts};
-ghost use Rattle.sf_tool.specs.Commands.{CarriesOut, ChecksBoth, CopiesBoth, Counts, IsUnwrittenBy, PrintsBy, PrintsWord, ScansBy, ScansWord, ShowsBy, ShowsWord, TellsFault, Unread, format_fault, grammar_of, print_format_fault};
+ghost use Rattle.sf_messages.specs.Faults.{format_fault, print_format_fault};
+ghost use Rattle.sf_tool.specs.Commands.{CarriesOut, ChecksBoth, CopiesBoth, Counts, IsUnwrittenBy, PrintsBy, PrintsWord, ScansBy, ScansWord, ShowsBy, ShowsWord, TellsFault, Unread, grammar_of};
 
 use crate::check::check_words;
 use crate::copy::copy_words;
-use crate::fault::{CommandFault, FormatName, format_fault, print_format_fault};
 use crate::formats::resolved;
 use crate::print::print_values;
 use crate::show::show;
 use sf_format::{PrintFormat, Profile, ScanFormat};
+use sf_messages::{CommandFault, FormatName, format_fault, print_format_fault};
 use sf_print::Sink;
 use sf_read::{Lookahead, Source};
 use sf_records::{run_scan, write_whole};
@@ -163,7 +164,7 @@ fn copy_both<S: Source, K: Sink, const N: usize>(
 }
 
 /// The grammar that the profile of an order is.
-fn grammar_of(profile: GivenProfile) -> Profile
+pub(crate) fn grammar_of(profile: GivenProfile) -> Profile
     ensures { result ≡ grammar_of profile }
 {
     match profile {

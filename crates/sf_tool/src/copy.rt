@@ -2,9 +2,9 @@
 ghost use Rattle.std.specs.Prelude.{◌≤◌, IfErr};
 ghost use Rattle.sf_tool.specs.Commands.{Copies, CopiesWords, Counts, Unread};
 
-use crate::fault::CommandFault;
 use crate::formats::{read_print, read_scan};
 use sf_format::{PrintFormat, Profile, ScanFormat};
+use sf_messages::CommandFault;
 use sf_pair::Pair;
 use sf_print::Sink;
 use sf_read::{Lookahead, Source};

@@ -5,8 +5,8 @@ ghost use Rattle.sf_tool.specs.Commands.{IsBadText};
 ghost use Rattle.sf_tool.specs.Escapes.{Unescapes};
 
 use crate::escape::{EscapeFault, unescape};
-use crate::fault::{CommandFault, FormatName, format_fault, print_format_fault};
 use sf_format::{PrintFormat, Profile, ScanFormat};
+use sf_messages::{CommandFault, FormatName, format_fault, print_format_fault};
 use std::alloc::Global;
 
 /// The bytes of a format's text.

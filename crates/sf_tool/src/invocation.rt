@@ -1,10 +1,10 @@
 //! One run of the command, from its words to its exit status.
-ghost use Rattle.std.specs.Prelude.{map, string_bytes};
+ghost use Rattle.std.specs.Prelude.{◌++◌, map, string_bytes};
 ghost use Rattle.sf_tool.specs.Exits.{Declines, Ends, Exits, Helps, Says};
 
 use crate::command::carry_out;
-use crate::error_line::error_line;
-use crate::fault::CommandFault;
+use crate::explain::notes_of;
+use sf_messages::{CommandFault, error_line};
 use sf_print::Sink;
 use sf_read::{Lookahead, Source};
 use sf_records::write_whole;
@@ -24,14 +24,25 @@ fn say<E: Sink>(err: &mut E, text: &[u8])
     }
 }
 
-/// Ends with this exit status, or says why not in a line on the error output and ends with the fault's status.
-fn end<E: Sink>(err: &mut E, answer: Result<u8, CommandFault>) -> u8
-    ensures { Ends E.contents E.failures answer err.old err.new result }
+/// Hands the error output a line, and then what is said behind it. A fault of it is ignored.
+fn tell<E: Sink>(err: &mut E, line: &[u8], notes: &[u8])
+    ensures { Says E.contents E.failures (line.now ++ notes.now) err.old err.new }
+{
+    match write_whole(err, line) {
+        Ok(()) => say(err, notes),
+        Err(_) => {}
+    }
+}
+
+/// Ends with this exit status, or says why not in a line on the error output, with the notes behind it, and ends with the
+/// fault's status.
+fn end<E: Sink>(err: &mut E, answer: Result<u8, CommandFault>, notes: &[u8]) -> u8
+    ensures { Ends E.contents E.failures notes.now answer err.old err.new result }
 {
     match answer {
         Ok(status) => status,
         Err(fault) => {
-            say(err, error_line(fault).as_str().as_bytes());
+            tell(err, error_line(fault).as_str().as_bytes(), notes);
             fault.status()
         }
     }
@@ -54,19 +65,19 @@ fn decline<K: Sink, E: Sink>(fault: &WordsFault, out: &mut K, err: &mut E) -> u8
     match fault {
         WordsFault::Help(text) => {
             let answer = help(text.as_str(), out);
-            end(err, answer)
+            end(err, answer, &[])
         }
         WordsFault::Usage(text) => {
             say(err, text.as_bytes());
             2
         }
-        WordsFault::NoMemory => end(err, Err(CommandFault::Memory)),
+        WordsFault::NoMemory => end(err, Err(CommandFault::Memory), &[]),
     }
 }
 
 /// Runs the command of the words, which are those after the program's name, on what the lookahead holds and its source
-/// gives, and answers its exit status. Where it does not end cleanly, it says why in one line on `err`; a fault in writing
-/// that is ignored. What is written to `out` isn't flushed.
+/// gives, and answers its exit status. Where it does not end cleanly, it says why in one line on `err`, with more lines behind
+/// it where the words ask for them; a fault in writing these is ignored. What is written to `out` isn't flushed.
 pub fn run_words<S: Source, K: Sink, E: Sink, const N: usize>(
     alloc: Global,
     words: &[String],
@@ -80,7 +91,8 @@ pub fn run_words<S: Source, K: Sink, E: Sink, const N: usize>(
     match read_words(alloc, words) {
         Ok(order) => {
             let answer = carry_out(alloc, &order, from, out);
-            end(err, answer)
+            let notes = notes_of(alloc, &order, from.held(), answer);
+            end(err, answer, &notes)
         }
         Err(fault) => decline(&fault, out, err),
     }

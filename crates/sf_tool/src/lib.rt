@@ -2,23 +2,20 @@
 #![tactic(auto)]
 
 mod argument;
-mod argument_fault;
 mod check;
 mod command;
 mod copy;
-mod error_line;
 mod escape;
-mod fault;
+mod explain;
 mod formats;
 mod invocation;
 pub mod laws;
 mod print;
 mod show;
 
-pub use argument_fault::ArgumentFault;
 pub use command::carry_out;
-pub use fault::{CommandFault, FormatName};
 pub use invocation::{run_words, tool};
 pub use print::print_values;
+pub use sf_messages::{ArgumentFault, CommandFault, FormatName};
 pub use sf_records::{ToolEnd, ToolFault, run_copy, run_scan};
 pub use sf_words::{Order, Verb, WordsFault, read_words};

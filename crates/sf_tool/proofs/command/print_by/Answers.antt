@@ -1,8 +1,8 @@
-use Rattle.std.proofs.Common.{◌≡◌, ℕ, List, Err, ap, ◌∙◌, sym, subst, map}
+use Rattle.std.proofs.Common.{◌≡◌, Err, ap, ◌∙◌, map}
 use Rattle.std.specs.String.{string_bytes}
 use Rattle.sf_format.specs.Faults.{PrintFault, IsPrintRefused}
-use Rattle.sf_tool.specs.declared.fault.CommandFault.{CommandFault}
-use Rattle.sf_tool.specs.Commands.{print_format_fault}
+use Rattle.sf_messages.specs.declared.fault.CommandFault.{CommandFault}
+use Rattle.sf_messages.specs.Faults.{print_format_fault}
 use Rattle.sf_tool.proofs.Answering.{refused_prints, print_counts_is}
 use Rattle.sf_tool.proofs.command.print_by.Goals as goal
 

@@ -1,8 +1,9 @@
-use Rattle.std.proofs.Common.{◌≡◌, ℕ, List, Err, ap, ◌∙◌, sym, subst}
+use Rattle.std.proofs.Common.{◌≡◌, Err, ap, ◌∙◌, sym}
 use Rattle.sf_format.specs.Faults.{Fault, IsRefused}
 use Rattle.sf_format.specs.Grammar.{Spells}
-use Rattle.sf_tool.specs.declared.fault.CommandFault.{CommandFault}
-use Rattle.sf_tool.specs.Commands.{answer_by, format_fault}
+use Rattle.sf_messages.specs.declared.fault.CommandFault.{CommandFault}
+use Rattle.sf_tool.specs.Commands.{answer_by}
+use Rattle.sf_messages.specs.Faults.{format_fault}
 use Rattle.sf_tool.proofs.Answering.{refused_scans, counts_is}
 use Rattle.sf_tool.proofs.command.scan_by.Goals as goal
 

@@ -1,9 +1,10 @@
-use Rattle.std.proofs.Common.{◌≡◌, ◌∙◌, ℕ, List, subst}
+use Rattle.std.proofs.Common.{◌≡◌, ◌∙◌, ◌++◌, ℕ, List, subst}
+use Rattle.sf_messages.specs.Texts.{error_line}
 use Rattle.sf_tool.specs.Exits.{Says}
-use Rattle.sf_tool.specs.Texts.{error_line}
 use Rattle.sf_tool.proofs.invocation.end.Goals as goal
 
 pub returns-in-Err : goal.returns-in-Err
 returns-in-Err g c =
     let line : c.as_bytes.result.now ≡ error_line c.in-Err.fault = c.as_bytes.ensures.value ∙ c.as_str.ensures.value ∙ c.error_line.ensures in
-    rw c.in-Err.is (subst (λ (text : List ℕ). Says g.E.Sink.contents g.E.Sink.failures text c.args.err.now c.say.new.err) line c.say.ensures, c.status.ensures)
+    let said : List ℕ → Type 0 = λ text. Says g.E.Sink.contents g.E.Sink.failures (text ++ c.args.notes.now) c.args.err.now c.tell.new.err in
+    rw c.in-Err.is (subst said line c.tell.ensures, c.status.ensures)

@@ -1,4 +1,4 @@
-use Rattle.std.proofs.Common.{◌≡◌, ◌+◌, ◌∙◌, ◌++◌, ◌∷◌, [], ℕ, List, arith, length, map, string_bytes, subst, ap, sym}
+use Rattle.std.proofs.Common.{◌≡◌, ◌+◌, ◌∙◌, ◌∷◌, [], arith, length, map, string_bytes, subst, ap, sym}
 use Rattle.std.proofs.lemmas.List.{length-map, map-append}
 use Rattle.sf_tool.specs.Arguments.{IsTextAt}
 use Rattle.sf_tool.proofs.Places.{Stood, shown_is, stood_more, texts_all}

@@ -1,0 +1,66 @@
+-- What is said behind the line of a fault, where more is asked for: lines, each behind two blanks.
+use Rattle.std.specs.Prelude.{ℕ, ◌&&◌, nat_eq, nat_lt, Bool, false, if◌then◌else◌, List, [], ◌∷◌, ◌++◌, length, map, min, take, Option, Some, slice_get, unwrap_or, codes}
+use Rattle.std.specs.Fmt.{decimal}
+use Rattle.sf_base.specs.Bytes.{is_white}
+use Rattle.sf_format.specs.declared.fault.FormatFault.{FormatFault}
+use Rattle.sf_pair.specs.declared.fault.PairWhy.{PairWhy}
+use Rattle.sf_run.specs.declared.outcome.Ending.{Ending}
+use Rattle.sf_run.specs.declared.outcome.Ending.TheVariants.{End}
+use Rattle.sf_run.specs.declared.outcome.Outcome.{Outcome}
+use Rattle.sf_records.specs.Quotes.{quoted}
+use Rattle.sf_messages.specs.Sentences.{escape_sentence, left_white_sentence, pair_sentence, why_sentence}
+
+-- a line of its own
+abbrev pub note : List ℕ → List ℕ
+note text = codes "  " ++ (text ++ 10 ∷ [])
+
+-- a blank for each byte
+abbrev pub blanks : List ℕ → List ℕ
+blanks bytes = map (λ b. 32) bytes
+
+-- the text between quotes, and a line with a caret under the byte at this place, or behind the last one
+abbrev pub place_notes : List ℕ → ℕ → List ℕ
+place_notes text at =
+    codes "  " ++ (quoted text ++ (codes "\n " ++ (blanks (quoted (take (min at (length text)) text)) ++ codes "^\n")))
+
+-- ---- formats
+
+-- a bad escape of a word
+abbrev pub escape_notes : List ℕ → ℕ → List ℕ
+escape_notes word at = note escape_sentence ++ place_notes word at
+
+-- a format that is refused, by its bytes
+abbrev pub format_notes : List ℕ → FormatFault → List ℕ
+format_notes text fault = note (why_sentence fault.why (unwrap_or (slice_get text fault.at) 0)) ++ place_notes text fault.at
+
+abbrev pub pair_notes : PairWhy → List ℕ
+pair_notes why = note (pair_sentence why)
+
+-- ---- records
+
+-- the first bytes that the run left, at most 24
+abbrev pub rest_notes : List ℕ → List ℕ
+rest_notes rest = if nat_eq (length rest) 0 then [] else note (codes "there stood " ++ quoted (take (min (length rest) 24) rest))
+
+-- where the run stopped, by the bytes that it left
+abbrev pub stood_notes : Option Ending → List ℕ → List ℕ
+stood_notes (Some End) rest = note (codes "the input ended there")
+stood_notes met rest = rest_notes rest
+
+-- the directive with this number
+abbrev pub directive_note : ℕ → List ℕ → List ℕ
+directive_note number shown = note (codes "directive " ++ (decimal number ++ (codes ": " ++ shown)))
+
+-- the bytes begin with white space
+abbrev pub begins_white : List ℕ → Bool
+begins_white [] = false
+begins_white (b ∷ rest) = is_white b
+
+-- a record after the first took nothing, and failed at its first directive on white space
+abbrev pub is_left_white : ℕ → Outcome → List ℕ → Bool
+is_left_white number outcome rest = nat_lt 1 number && (nat_eq outcome.at 1 && (nat_eq outcome.used 0 && begins_white rest))
+
+-- a record that is no match, where its directive is shown so
+abbrev pub failed_notes : List ℕ → ℕ → Outcome → List ℕ → List ℕ
+failed_notes shown number outcome rest =
+    directive_note outcome.at shown ++ (stood_notes outcome.met rest ++ (if is_left_white number outcome rest then note left_white_sentence else []))

@@ -1,0 +1,69 @@
+-- What the command says and answers where it doesn't end cleanly.
+use Rattle.std.specs.Prelude.{ℕ, List, [], ◌∷◌, ◌++◌, codes, Some}
+use Rattle.std.specs.Fmt.{decimal}
+use Rattle.sf_format.specs.declared.fault.FormatWhy.{FormatWhy}
+use Rattle.sf_records.specs.Records.{status_by}
+use Rattle.sf_records.specs.Texts.{tool_fault_text}
+use Rattle.sf_pair.specs.declared.fault.PairFault.{PairFault}
+use Rattle.sf_messages.specs.Names.{kind_text, name_text, pair_why_text, why_text}
+use Rattle.sf_messages.specs.declared.argument_fault.ArgumentFault.{ArgumentFault}
+use Rattle.sf_messages.specs.declared.argument_fault.ArgumentFault.TheVariants as argument
+use Rattle.sf_messages.specs.declared.fault.FormatName.{FormatName}
+use Rattle.sf_messages.specs.declared.fault.FormatName.TheVariants as name
+use Rattle.sf_messages.specs.declared.fault.CommandFault.{CommandFault}
+use Rattle.sf_messages.specs.declared.fault.CommandFault.TheVariants.{BadEscape, Format, PrintFormat, Values, Record, Write, Memory, Pair}
+
+abbrev pub format_fault_text : FormatName → FormatWhy → ℕ → List ℕ
+format_fault_text name why at = codes "sf: " ++ (name_text name ++ (codes ": " ++ (why_text why ++ (codes " at " ++ decimal at))))
+
+-- the line of words that are not printed, without its line end
+abbrev pub argument_fault_text : ArgumentFault → List ℕ
+argument_fault_text (argument.WrongCount expected got) = codes "sf: expected " ++ (decimal expected ++ (codes " values, got " ++ decimal got))
+argument_fault_text (argument.BadEscape at offset) = codes "sf: value " ++ (decimal at ++ (codes ": bad escape at " ++ decimal offset))
+argument_fault_text (argument.NotInKind at kind) = codes "sf: value " ++ (decimal at ++ (codes ": expected " ++ kind_text kind))
+argument_fault_text (argument.NotOneByte at) = codes "sf: value " ++ (decimal at ++ codes ": expected one byte")
+argument_fault_text argument.TooLong = codes "sf: text too long"
+argument_fault_text argument.Write = codes "sf: write fault"
+argument_fault_text argument.Memory = codes "sf: out of memory"
+
+-- their exit status
+abbrev pub argument_status : ArgumentFault → ℕ
+argument_status argument.Write = 3
+argument_status argument.Memory = 4
+argument_status _ = 2
+
+abbrev pub pair_fault_text : PairFault → List ℕ
+pair_fault_text fault = pair_why_text fault.why ++ (codes " at " ++ decimal fault.at)
+
+-- a value that isn't what is expected of it
+abbrev pub expected_text : ℕ → List ℕ → List ℕ
+expected_text at what = codes "sf: value " ++ (decimal at ++ (codes ": expected " ++ what))
+
+abbrev pub record_text : ℕ → List ℕ → List ℕ
+record_text number why = codes "sf: record " ++ (decimal number ++ (codes ": " ++ why))
+
+-- the line on standard error, without its line end
+abbrev pub command_fault_text : CommandFault → List ℕ
+command_fault_text (BadEscape name at) = codes "sf: " ++ (name_text name ++ (codes ": bad escape at " ++ decimal at))
+command_fault_text (Format fault) = format_fault_text name.Scan fault.why fault.at
+command_fault_text (PrintFormat fault) = format_fault_text name.Print fault.why fault.at
+command_fault_text (Values fault) = argument_fault_text fault
+command_fault_text (Record fault) = codes "sf: " ++ tool_fault_text fault
+command_fault_text Write = codes "sf: write fault"
+command_fault_text Memory = codes "sf: out of memory"
+command_fault_text (Pair fault) = codes "sf: pair: " ++ pair_fault_text fault
+
+-- and with it
+abbrev pub error_line : CommandFault → List ℕ
+error_line fault = command_fault_text fault ++ 10 ∷ []
+
+-- the exit status
+abbrev pub status_of : CommandFault → ℕ
+status_of (BadEscape name at) = 2
+status_of (Format fault) = 2
+status_of (PrintFormat fault) = 2
+status_of (Values fault) = argument_status fault
+status_of (Record fault) = status_by (Some fault)
+status_of Write = 3
+status_of Memory = 4
+status_of (Pair fault) = 2

@@ -1,0 +1,158 @@
+//! What is said behind the line of a fault, where more is asked for.
+ghost use Rattle.std.specs.Prelude.{◌≡◌, ◌++◌, OnOk, IfOk};
+ghost use Rattle.sf_messages.specs.Notes.{begins_white, blanks, directive_note, escape_notes, failed_notes, format_notes, is_left_white, note, pair_notes, place_notes, rest_notes, stood_notes};
+
+use crate::sentences::{escape_sentence, left_white_sentence, pair_sentence, why_sentence};
+use sf_base::is_space;
+use sf_format::FormatFault;
+use sf_pair::PairWhy;
+use sf_records::push_quoted;
+use sf_run::{Ending, Outcome};
+use std::alloc::{AllocError, Global};
+use std::io::Write;
+
+/// How many of the bytes that a run left are shown.
+const SHOWN_BYTES: usize = 24;
+
+/// Appends a line of its own.
+fn push_note(output: &mut Vec<u8>, text: &[u8]) -> Result<(), AllocError>
+    ensures { OnOk result (output.new.items ≡ output.old.items ++ note text.now) }
+{
+    output.extend_from_slice(b"  ")?;
+    output.extend_from_slice(text)?;
+    output.extend_from_slice(b"\n")
+}
+
+/// Appends a blank for each byte.
+fn push_blanks(output: &mut Vec<u8>, bytes: &[u8]) -> Result<(), AllocError>
+    ensures { OnOk result (output.new.items ≡ output.old.items ++ blanks bytes.now) }
+{
+    for byte in bytes {
+        output.push(b' ')?;
+    }
+    Ok(())
+}
+
+/// Appends a text between quotes, and a line with a caret under the byte at this place, or behind the last one.
+fn push_place(alloc: Global, output: &mut Vec<u8>, text: &[u8], at: usize) -> Result<(), AllocError>
+    ensures { OnOk result (output.new.items ≡ output.old.items ++ place_notes text.now at) }
+{
+    let mut front = Vec::new(alloc);
+    push_quoted(&mut front, &text[..at.min(text.len())])?;
+    output.extend_from_slice(b"  ")?;
+    push_quoted(output, text)?;
+    output.extend_from_slice(b"\n ")?;
+    push_blanks(output, &front)?;
+    output.extend_from_slice(b"^\n")
+}
+
+/// What is said of a word's bad escape, by the offset of its backslash.
+pub fn escape_notes(alloc: Global, word: &[u8], at: usize) -> Result<Vec<u8>, AllocError>
+    ensures { IfOk result (λ notes. notes.items ≡ escape_notes word.now at) }
+{
+    let mut notes = Vec::new(alloc);
+    push_note(&mut notes, escape_sentence().as_bytes())?;
+    push_place(alloc, &mut notes, word, at)?;
+    Ok(notes)
+}
+
+/// What is said of the fault of a format, by its bytes.
+pub fn format_notes(alloc: Global, text: &[u8], fault: FormatFault) -> Result<Vec<u8>, AllocError>
+    ensures { IfOk result (λ notes. notes.items ≡ format_notes text.now fault) }
+{
+    let at = usize::from(fault.at);
+    let byte = text.get(at).copied().unwrap_or(0);
+    let mut notes = Vec::new(alloc);
+    push_note(&mut notes, why_sentence(fault.why, byte).as_bytes())?;
+    push_place(alloc, &mut notes, text, at)?;
+    Ok(notes)
+}
+
+/// What is said of why a pair is refused.
+pub fn pair_notes(alloc: Global, why: PairWhy) -> Result<Vec<u8>, AllocError>
+    ensures { IfOk result (λ notes. notes.items ≡ pair_notes why) }
+{
+    let mut notes = Vec::new(alloc);
+    push_note(&mut notes, pair_sentence(why).as_bytes())?;
+    Ok(notes)
+}
+
+/// Appends the line of the bytes that a run left.
+fn push_rest(alloc: Global, output: &mut Vec<u8>, rest: &[u8]) -> Result<(), AllocError>
+    ensures { OnOk result (output.new.items ≡ output.old.items ++ rest_notes rest.now) }
+{
+    if rest.is_empty() {
+        return Ok(());
+    }
+    let mut text = Vec::new(alloc);
+    text.extend_from_slice(b"there stood ")?;
+    push_quoted(&mut text, &rest[..rest.len().min(SHOWN_BYTES)])?;
+    push_note(output, &text)
+}
+
+/// Appends where a run stopped, by what it met and the bytes that it left.
+fn push_stood(
+    alloc: Global,
+    output: &mut Vec<u8>,
+    met: Option<Ending>,
+    rest: &[u8],
+) -> Result<(), AllocError>
+    ensures { OnOk result (output.new.items ≡ output.old.items ++ stood_notes met rest.now) }
+{
+    match met {
+        Some(Ending::End) => push_note(output, b"the input ended there"),
+        _ => push_rest(alloc, output, rest),
+    }
+}
+
+/// Appends the line of a directive.
+fn push_directive(
+    alloc: Global,
+    output: &mut Vec<u8>,
+    number: u16,
+    shown: &[u8],
+) -> Result<(), AllocError>
+    ensures { OnOk result (output.new.items ≡ output.old.items ++ directive_note number shown.now) }
+{
+    let mut text = Vec::new(alloc);
+    write!(text, "directive {number}: ").map_err(|_| AllocError)?;
+    text.extend_from_slice(shown)?;
+    push_note(output, &text)
+}
+
+/// Whether bytes begin with white space.
+fn begins_white(rest: &[u8]) -> bool
+    ensures { result ≡ begins_white rest.now }
+{
+    match rest {
+        [] => false,
+        [b, ..] => is_space(*b),
+    }
+}
+
+/// Whether a record after the first took nothing, and failed at its first directive on white space.
+fn is_left_white(number: u32, outcome: Outcome, rest: &[u8]) -> bool
+    ensures { result ≡ is_left_white number outcome rest.now }
+{
+    1 < number && outcome.at == 1 && outcome.used == 0 && begins_white(rest)
+}
+
+/// What is said of a record that is no match: its number, the directive at which it failed, as it is shown, and the bytes that
+/// the run left.
+pub fn failed_notes(
+    alloc: Global,
+    shown: &[u8],
+    number: u32,
+    outcome: Outcome,
+    rest: &[u8],
+) -> Result<Vec<u8>, AllocError>
+    ensures { IfOk result (λ notes. notes.items ≡ failed_notes shown.now number outcome rest.now) }
+{
+    let mut notes = Vec::new(alloc);
+    push_directive(alloc, &mut notes, outcome.at, shown)?;
+    push_stood(alloc, &mut notes, outcome.met, rest)?;
+    if is_left_white(number, outcome, rest) {
+        push_note(&mut notes, left_white_sentence().as_bytes())?;
+    }
+    Ok(notes)
+}

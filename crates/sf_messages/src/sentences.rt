@@ -1,0 +1,82 @@
+//! A sentence for each fault, said behind its line where more is asked for.
+ghost use Rattle.std.specs.Prelude.{◌≡◌};
+ghost use Rattle.sf_messages.specs.Sentences.{escape_sentence, left_out_sentence, left_white_sentence, pair_sentence, why_sentence};
+
+use sf_format::FormatWhy;
+use sf_pair::PairWhy;
+
+/// Why a word's escapes are refused.
+pub(crate) fn escape_sentence() -> &'static str
+    ensures { result.now ≡ escape_sentence }
+{
+    "behind a backslash stands one of \\ n t v f r, or x and two hexadecimal digits"
+}
+
+/// What is done about white space that a record leaves.
+pub(crate) fn left_white_sentence() -> &'static str
+    ensures { result.now ≡ left_white_sentence }
+{
+    "the record before left this white space: put %*1[\\n] at the format's end, or a blank at its front"
+}
+
+/// What C or POSIX has at this byte of a format, and sf has not.
+fn left_out_sentence(b: u8) -> &'static str
+    ensures { result.now ≡ left_out_sentence b }
+{
+    match b {
+        b'p' => "pointers are not part of sf",
+        b'C' | b'S' | b'c' | b's' | b'[' => "wide characters are not part of sf",
+        b'm' => "memory of the scan's own is not part of sf",
+        b'*' => "a width or a precision among the values is not part of sf",
+        b'\'' => "groups of digits are not part of sf",
+        b'n' => "a count is not part of sf's print formats",
+        _ => "floating point is not part of sf",
+    }
+}
+
+/// Why a format is refused, by the byte where that was found.
+pub(crate) fn why_sentence(why: FormatWhy, b: u8) -> &'static str
+    ensures { result.now ≡ why_sentence why b }
+{
+    match why {
+        FormatWhy::Truncated => "the format ends inside a conversion",
+        FormatWhy::ZeroWidth => "a conversion of width 0 takes nothing",
+        FormatWhy::TooWide => "a width is at most 65535",
+        FormatWhy::UnknownLetter => "no conversion has this letter",
+        FormatWhy::LeftOut => left_out_sentence(b),
+        FormatWhy::BadLength => "this letter has no such length",
+        FormatWhy::OpenSet => "no ] closes the set",
+        FormatWhy::BackwardRange => "the range runs backward",
+        FormatWhy::BadCount => "%n has neither a * nor a width",
+        FormatWhy::MixedNumbering => "either all conversions have a number with $, or none has",
+        FormatWhy::BadNumber => "a number is 1 to 32, and what is dropped has none",
+        FormatWhy::NumberTwice => "this number stands twice",
+        FormatWhy::NumberGap => "the numbers leave a gap",
+        FormatWhy::Nul => "a format has no NUL",
+        FormatWhy::FormatTooLong => "a format has at most 4096 bytes",
+        FormatWhy::TooManyDestinations => "a format has at most 32 values",
+        FormatWhy::BadFlag => "this letter has no such flag or precision",
+        FormatWhy::PrecisionTooLarge => "a precision is at most 255",
+        FormatWhy::NoMemory => "memory was refused",
+    }
+}
+
+/// Why a pair is refused.
+pub(crate) fn pair_sentence(why: PairWhy) -> &'static str
+    ensures { result.now ≡ pair_sentence why }
+{
+    match why {
+        PairWhy::NotAligned => "what stands here is not what the other format has in its place",
+        PairWhy::KindDiffers => "the kinds or the letters of the two conversions differ",
+        PairWhy::NumberDiffers => "the two conversions are of different values",
+        PairWhy::NoWidth => "a conversion that is read back needs a width",
+        PairWhy::TooNarrow => "the width is less than the shortest text that is written",
+        PairWhy::RunsOn => "what is written next could be read as more of this value",
+        PairWhy::OpenEnd =>
+            "nothing is written behind this, so what follows could be read as more of it",
+        PairWhy::LeadingZero => "%i reads a leading zero as octal",
+        PairWhy::NotWritten => "nothing is written for %n",
+        PairWhy::BadFlagHere => "what this flag, width or precision writes is not read back",
+        PairWhy::NoValues => "a pair has at least one value",
+    }
+}

@@ -1,0 +1,198 @@
+//! The line on the error output. It is made without memory, so that want of memory can be told.
+ghost use Rattle.std.specs.Prelude.{◌≡◌, ◌≤◌, ◌++◌, ◌∷◌, [], length};
+ghost use Rattle.sf_records.specs.Texts.{status_text};
+ghost use Rattle.sf_messages.specs.Texts.{argument_fault_text, command_fault_text, error_line, expected_text, format_fault_text, record_text};
+ghost use Rattle.sf_messages.specs.Joined.{joined};
+
+use crate::argument_fault::ArgumentFault;
+use crate::fault::{CommandFault, FormatName};
+use crate::names::{kind_text, name_text, pair_why_text, why_text};
+use arrayvec::ArrayString;
+use itoa::Buffer;
+use sf_format::FormatWhy;
+use sf_pair::PairWhy;
+use sf_records::ToolFault;
+use sf_run::{Outcome, Status};
+
+/// The most bytes of a line, with its line end.
+const LINE_BYTES: usize = 128;
+
+/// A line with its line end.
+pub type ErrorLine = ArrayString<LINE_BYTES>;
+
+/// The texts one after the other.
+pub fn joined(texts: &[&str]) -> ErrorLine
+    requires { length (joined texts.now) ≤ 128 }
+    ensures { result.bytes ≡ joined texts.now }
+{
+    let mut line = ErrorLine::new();
+    for text in texts {
+        line.push_str(text);
+    }
+    line
+}
+
+/// The line of a bad escape.
+fn bad_escape_line(name: FormatName, at: usize) -> ErrorLine
+    ensures { result.bytes ≡ command_fault_text (CommandFault.BadEscape name at) ++ 10 ∷ [] }
+{
+    let mut number = Buffer::new();
+    let number = number.format(at);
+    joined(&["sf: ", name_text(name), ": bad escape at ", number, "\n"])
+}
+
+/// The line of a format's fault.
+fn format_line(name: FormatName, why: FormatWhy, at: u16) -> ErrorLine
+    ensures { result.bytes ≡ format_fault_text name why at ++ 10 ∷ [] }
+{
+    let mut number = Buffer::new();
+    let number = number.format(at);
+    joined(&[
+        "sf: ",
+        name_text(name),
+        ": ",
+        why_text(why),
+        " at ",
+        number,
+        "\n",
+    ])
+}
+
+/// The line of a wrong number of values.
+fn count_line(expected: u8, got: usize) -> ErrorLine
+    ensures { result.bytes ≡ argument_fault_text (ArgumentFault.WrongCount expected got) ++ 10 ∷ [] }
+{
+    let mut first = Buffer::new();
+    let mut second = Buffer::new();
+    let first = first.format(expected);
+    let second = second.format(got);
+    joined(&["sf: expected ", first, " values, got ", second, "\n"])
+}
+
+/// The line of a value's bad escape.
+fn bad_value_line(at: u8, offset: usize) -> ErrorLine
+    ensures { result.bytes ≡ argument_fault_text (ArgumentFault.BadEscape at offset) ++ 10 ∷ [] }
+{
+    let mut first = Buffer::new();
+    let mut second = Buffer::new();
+    let first = first.format(at);
+    let second = second.format(offset);
+    joined(&["sf: value ", first, ": bad escape at ", second, "\n"])
+}
+
+/// The line of a value that isn't what was expected.
+fn value_line(at: u8, expected: &str) -> ErrorLine
+    requires { length expected.now ≤ 8 }
+    ensures { result.bytes ≡ expected_text at expected.now ++ 10 ∷ [] }
+{
+    let mut number = Buffer::new();
+    let number = number.format(at);
+    joined(&["sf: value ", number, ": expected ", expected, "\n"])
+}
+
+/// The line of why words were not printed.
+fn argument_line(fault: ArgumentFault) -> ErrorLine
+    ensures { result.bytes ≡ argument_fault_text fault ++ 10 ∷ [] }
+{
+    match fault {
+        ArgumentFault::WrongCount { expected, got } => count_line(expected, got),
+        ArgumentFault::BadEscape { at, offset } => bad_value_line(at, offset),
+        ArgumentFault::NotInKind { at, kind } => value_line(at, kind_text(kind)),
+        ArgumentFault::NotOneByte { at } => value_line(at, "one byte"),
+        ArgumentFault::TooLong => joined(&["sf: text too long\n"]),
+        ArgumentFault::Write => joined(&["sf: write fault\n"]),
+        ArgumentFault::Memory => joined(&["sf: out of memory\n"]),
+    }
+}
+
+/// The words for a status.
+fn status_text(status: Status) -> &'static str
+    ensures { result.now ≡ status_text status }
+{
+    match status {
+        Status::Done => "done",
+        Status::InputFailure => "input failure",
+        Status::MatchingFailure => "matching failure",
+        Status::OutOfRange => "out of range",
+        Status::TooLong => "too long",
+        Status::NoMemory => "out of memory",
+    }
+}
+
+/// The line of a record that is no match.
+fn failed_line(place: u32, outcome: Outcome) -> ErrorLine
+    ensures { result.bytes ≡ command_fault_text (CommandFault.Record (ToolFault.Failed place outcome)) ++ 10 ∷ [] }
+{
+    let mut number = Buffer::new();
+    let mut at = Buffer::new();
+    let mut used = Buffer::new();
+    let mut assigned = Buffer::new();
+    let number = number.format(place);
+    let at = at.format(outcome.at);
+    let used = used.format(outcome.used);
+    let assigned = assigned.format(outcome.assigned);
+    let status = status_text(outcome.status);
+    joined(&[
+        "sf: record ",
+        number,
+        ": ",
+        status,
+        " at ",
+        at,
+        ", used ",
+        used,
+        ", assigned ",
+        assigned,
+        "\n",
+    ])
+}
+
+/// The line of a record at which the records stop.
+fn record_line(place: u32, why: &str) -> ErrorLine
+    requires { length why.now ≤ 32 }
+    ensures { result.bytes ≡ record_text place why.now ++ 10 ∷ [] }
+{
+    let mut number = Buffer::new();
+    let number = number.format(place);
+    joined(&["sf: record ", number, ": ", why, "\n"])
+}
+
+/// The line of why the records stopped.
+fn records_line(fault: ToolFault) -> ErrorLine
+    ensures { result.bytes ≡ command_fault_text (CommandFault.Record fault) ++ 10 ∷ [] }
+{
+    match fault {
+        ToolFault::Failed { number, outcome } => failed_line(number, outcome),
+        ToolFault::Stalled { number } => record_line(number, "stalled"),
+        ToolFault::Unfit { number } => record_line(number, "values do not fit"),
+        ToolFault::Read { number } => record_line(number, "read fault"),
+        ToolFault::TooMany => joined(&["sf: too many records\n"]),
+        ToolFault::Write => joined(&["sf: write fault\n"]),
+        ToolFault::Memory => joined(&["sf: out of memory\n"]),
+    }
+}
+
+/// The line of formats that are no pair.
+fn pair_line(why: PairWhy, at: u16) -> ErrorLine
+    ensures { result.bytes ≡ command_fault_text (CommandFault.Pair (record { at = at; why = why })) ++ 10 ∷ [] }
+{
+    let mut number = Buffer::new();
+    let number = number.format(at);
+    joined(&["sf: pair: ", pair_why_text(why), " at ", number, "\n"])
+}
+
+/// The line on the error output, with its line end.
+pub fn error_line(fault: CommandFault) -> ErrorLine
+    ensures { result.bytes ≡ error_line fault }
+{
+    match fault {
+        CommandFault::BadEscape { name, at } => bad_escape_line(name, at),
+        CommandFault::Format(fault) => format_line(FormatName::Scan, fault.why, fault.at),
+        CommandFault::PrintFormat(fault) => format_line(FormatName::Print, fault.why, fault.at),
+        CommandFault::Values(fault) => argument_line(fault),
+        CommandFault::Record(fault) => records_line(fault),
+        CommandFault::Write => joined(&["sf: write fault\n"]),
+        CommandFault::Memory => joined(&["sf: out of memory\n"]),
+        CommandFault::Pair(fault) => pair_line(fault.why, fault.at),
+    }
+}
