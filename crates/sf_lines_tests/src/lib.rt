@@ -1,0 +1,5 @@
+//! Tests of `sf_lines`.
+#![tactic(auto)]
+
+#[cfg(test)]
+mod lines;

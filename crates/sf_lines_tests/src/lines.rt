@@ -1,0 +1,92 @@
+//! Texts and their lines, as fgets reads them (C11 7.21.7.2), without their line ends.
+use sf_lines::{LineRead, LineReader};
+use sf_read::{ReadStep, ScriptSource, SliceSource, Source};
+use std::alloc::Global;
+use std::test::Fail;
+
+/// The most lines that a test reads.
+const MOST: usize = 16;
+
+/// Texts, and their lines with a bar behind each.
+const ROWS: [(&str, &str); 8] = [
+    ("", ""),
+    ("\n", "|"),
+    ("a", "a|"),
+    ("a\n", "a|"),
+    ("\na", "|a|"),
+    ("ab\n\ncd", "ab||cd|"),
+    ("ab\n\n\n", "ab|||"),
+    ("12 x\r\n\t 7\n", "12 x\r|\t 7|"),
+];
+
+/// The lines of at most `limit` bytes that a reader gives, with a bar behind each, and an exclamation
+/// mark for each that is longer; and what stood behind them.
+fn listed<S: Source, const N: usize>(
+    alloc: Global,
+    from: &mut LineReader<S, N>,
+    limit: usize,
+) -> Result<(Vec<u8>, LineRead), Fail> {
+    let mut line = Vec::new(alloc);
+    let mut out = Vec::new(alloc);
+    for _ in 0..MOST {
+        match from.next_line(&mut line, limit) {
+            LineRead::Line => out.extend_from_slice(&line)?,
+            LineRead::TooLong => out.push(b'!')?,
+            last => return Ok((out, last)),
+        }
+        out.push(b'|')?;
+    }
+    Ok((out, LineRead::Endless))
+}
+
+#[test]
+fn texts_are_cut_into_lines(rt: HostRuntime) -> Result<(), Fail> {
+    for (text, wanted) in ROWS {
+        let mut from = LineReader::<SliceSource<'_>, 1>::new(SliceSource::new(text.as_bytes()));
+        let (out, last) = listed(rt.alloc(), &mut from, 8)?;
+        assert_eq!(rt; out.as_slice(), wanted.as_bytes());
+        assert_eq!(rt; last, LineRead::End);
+        let mut from = LineReader::<SliceSource<'_>, 3>::new(SliceSource::new(text.as_bytes()));
+        let (out, last) = listed(rt.alloc(), &mut from, 8)?;
+        assert_eq!(rt; out.as_slice(), wanted.as_bytes());
+        assert_eq!(rt; last, LineRead::End);
+    }
+    Ok(())
+}
+
+/// Texts, and their lines of at most two bytes.
+const LONG: [(&str, &str); 4] = [
+    ("ab\nabc\nd", "ab|!|d|"),
+    ("abcdefgh\n\nab", "!||ab|"),
+    ("ab\nabcd", "ab|!|"),
+    ("abc\n", "!|"),
+];
+
+#[test]
+fn long_lines_are_passed_over(rt: HostRuntime) -> Result<(), Fail> {
+    for (text, wanted) in LONG {
+        let mut from = LineReader::<SliceSource<'_>, 1>::new(SliceSource::new(text.as_bytes()));
+        let (out, last) = listed(rt.alloc(), &mut from, 2)?;
+        assert_eq!(rt; out.as_slice(), wanted.as_bytes());
+        assert_eq!(rt; last, LineRead::End);
+        let mut from = LineReader::<SliceSource<'_>, 64>::new(SliceSource::new(text.as_bytes()));
+        let (out, last) = listed(rt.alloc(), &mut from, 2)?;
+        assert_eq!(rt; out.as_slice(), wanted.as_bytes());
+        assert_eq!(rt; last, LineRead::End);
+    }
+    Ok(())
+}
+
+#[test]
+fn a_read_fails_within_a_line(rt: HostRuntime) -> Result<(), Fail> {
+    let steps = [
+        ReadStep::Give(b"ab\nc"),
+        ReadStep::Fail,
+        ReadStep::Give(b"d\n"),
+    ];
+    let mut from = LineReader::<ScriptSource<'_>, 64>::new(ScriptSource::new(&steps));
+    let (out, last) = listed(rt.alloc(), &mut from, 8)?;
+    assert_eq!(rt; out.as_slice(), b"ab|".as_slice());
+    assert_eq!(rt; last, LineRead::Fault);
+    Ok(())
+}
