@@ -34,6 +34,7 @@ pub mod PrintAccepted
 pub mod FormatLaws
 pub mod ScanLaws
 pub mod PrintLaws
+pub mod Profiles
 pub mod Answers
 pub mod Rows
 pub mod PrintRows

@@ -13,7 +13,7 @@ use Rattle.sf_format.specs.declared.directive.Directive.{Directive}
 use Rattle.sf_format.specs.declared.directive.Directive.TheVariants as directive
 use Rattle.sf_format.specs.declared.letter.Letter.{Letter}
 use Rattle.sf_format.specs.declared.letter.Letter.TheVariants.{Signed, Unsigned, Chars, Text, Set, Count}
-use Rattle.sf_format.specs.Letters.{letters_of_one, letter_of, kind_of}
+use Rattle.sf_format.specs.Letters.{added_letters, letters, letter_of, kind_of}
 use Rattle.sf_format.specs.Scanlist.{Scanlist, is_member, IsSetOf}
 use Rattle.sf_format.specs.Pieces.{Opening, Piece, WhiteSpace, Ordinary, Percents, Plain, Bracket, Printed}
 use Rattle.sf_format.specs.Grammar.{IsScanPiece, IsConversion, Means, shape_of, width_of, slot_of, destinations}
@@ -106,29 +106,14 @@ abbrev NoOtherSet : ℕ → Letter → Type 0
 NoOtherSet b letter = IsSetLetter letter → b ≡ 91
 
 set_letter : (profile : Profile) (b : ℕ) → letter_of profile b ≡ Some Set → b ≡ 91
-set_letter profile b e = by_profile profile e
+set_letter profile b e = found NoOtherSet (letters profile) each b Set e tt
   where
-    each : AllByRecursion (λ entry. NoOtherSet entry.0 entry.1) letters_of_one
-    each = (
-      λ h. absurd h,
-      (
-        λ h. absurd h,
-        (
-          λ h. absurd h,
-          (
-            λ h. absurd h,
-            (
-              λ h. absurd h,
-              (λ h. absurd h, (λ h. absurd h, (λ h. absurd h, (λ h. refl, (λ h. absurd h, tt))))),
-            ),
-          ),
-        ),
-      ),
-    )
+    added : (p : Profile) → AllByRecursion (λ entry. NoOtherSet entry.0 entry.1) (added_letters p)
+    added One = tt
+    added Two = (λ h. absurd h, tt)
 
-    by_profile : (p : Profile) → letter_of p b ≡ Some Set → b ≡ 91
-    by_profile One f = found NoOtherSet letters_of_one each b Set f tt
-    by_profile Two f = found NoOtherSet letters_of_one each b Set f tt
+    each : AllByRecursion (λ entry. NoOtherSet entry.0 entry.1) (letters profile)
+    each = (λ h. absurd h, (λ h. absurd h, (λ h. absurd h, (λ h. absurd h, (λ h. absurd h, (λ h. absurd h, (λ h. absurd h, (λ h. absurd h, (λ h. refl, (λ h. absurd h, added profile))))))))))
 
 some_kind : (o : Option Kind) → IsSome o → (kind : Kind) × (o ≡ Some kind)
 some_kind None h = absurd (cc)

@@ -13,7 +13,7 @@ use Rattle.sf_format.specs.declared.letter.Letter.{Letter}
 use Rattle.sf_format.specs.declared.letter.Letter.TheVariants.{Signed, Unsigned, Chars, Text, Set, Count}
 use Rattle.sf_format.specs.declared.slots.Slots.{Slots}
 use Rattle.sf_format.specs.declared.passing.Passed.{Passed}
-use Rattle.sf_format.specs.Letters.{letters_of_one, letter_of}
+use Rattle.sf_format.specs.Letters.{added_letters, letters, letter_of}
 use Rattle.sf_format.specs.Lists.{is_written, mark_at, begins}
 use Rattle.sf_format.specs.Pieces.{Opening, Percents, Plain, opening_text}
 use Rattle.sf_format.specs.Cut.{Part, cut, letter_at, bracket_at, specification_at}
@@ -76,14 +76,11 @@ abbrev IsBracket : ℕ → Letter → Type 0
 IsBracket b letter = is_set letter ≡ nat_eq b 91
 
 set_is : (profile : Profile) (b : ℕ) (letter : Letter) → letter_of profile b ≡ Some letter → is_set letter ≡ nat_eq b 91
-set_is profile b letter e = by_profile profile e
+set_is profile b letter e = found IsBracket (letters profile) (refl, (refl, (refl, (refl, (refl, (refl, (refl, (refl, (refl, (refl, added profile)))))))))) b letter e
   where
-    each : AllByRecursion (λ entry. IsBracket entry.0 entry.1) letters_of_one
-    each = (refl, (refl, (refl, (refl, (refl, (refl, (refl, (refl, (refl, (refl, tt))))))))))
-
-    by_profile : (p : Profile) → letter_of p b ≡ Some letter → is_set letter ≡ nat_eq b 91
-    by_profile One f = found IsBracket letters_of_one each b letter f
-    by_profile Two f = found IsBracket letters_of_one each b letter f
+    added : (p : Profile) → AllByRecursion (λ entry. IsBracket entry.0 entry.1) (added_letters p)
+    added One = tt
+    added Two = (refl, tt)
 
 only_set : (letter : Letter) → is_set letter ≡ true → letter ≡ Set
 only_set (Signed base) e = absurd (cc)

@@ -13,7 +13,7 @@ use Rattle.sf_format.specs.declared.language.Language.TheVariants.{Print}
 use Rattle.sf_format.specs.declared.letter.Length.{Length}
 use Rattle.sf_format.specs.declared.letter.Length.TheVariants.{NoLength, HH, H, LL, L, J, Z, T}
 use Rattle.sf_format.specs.declared.unit.PrintLetter.{PrintLetter}
-use Rattle.sf_format.specs.declared.unit.PrintLetter.TheVariants.{Signed, Unsigned, Octal, HexLower, HexUpper, Text, One}
+use Rattle.sf_format.specs.declared.unit.PrintLetter.TheVariants.{Signed, Unsigned, Octal, HexLower, HexUpper, Binary, Text, One}
 use Rattle.sf_format.specs.declared.unit.PrintConv.{PrintConv}
 use Rattle.sf_format.specs.declared.unit.Unit.{Unit as PrintUnit}
 use Rattle.sf_format.specs.declared.unit.Unit.TheVariants as unit
@@ -74,6 +74,7 @@ kind_fits Unsigned size k e = is_unsigned_kind size k e
 kind_fits Octal size k e = is_unsigned_kind size k e
 kind_fits HexLower size k e = is_unsigned_kind size k e
 kind_fits HexUpper size k e = is_unsigned_kind size k e
+kind_fits Binary size k e = is_unsigned_kind size k e
 kind_fits Text size k e = is_text_kind size k e
 kind_fits One size k e = is_text_kind size k e
 

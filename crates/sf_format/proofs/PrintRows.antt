@@ -121,8 +121,17 @@ in_another_order : judged (Print One) (codes "%2$s-%1$d")
     ≡ parts (Printed (opened (codes "2") [] [] None NoLength) 115 ∷ Ordinary 45 ∷ Printed (opened (codes "1") [] [] None NoLength) 100 ∷ [])
 in_another_order = refl
 
-second_profile : judged (Print Two) (codes "%b%d") ≡ judged (Print One) (codes "%b%d")
+second_profile : judged (Print Two) (codes "b%d") ≡ judged (Print One) (codes "b%d")
 second_profile = refl
+
+binary : judged (Print Two) (codes "%#b") ≡ parts (Printed (opened [] (codes "#") [] None NoLength) 98 ∷ [])
+binary = refl
+
+sign_of_binary : judged (Print Two) (codes "%+b") ≡ at BadFlag 1
+sign_of_binary = refl
+
+no_binary : judged (Print One) (codes "%#b") ≡ at UnknownLetter 2
+no_binary = refl
 
 -- what one language takes the other may refuse
 set_is_for_scans : judged (Scan One) (codes "%[a]") ≢ judged (Print One) (codes "%[a]")

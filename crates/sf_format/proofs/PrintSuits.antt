@@ -11,11 +11,11 @@ use Rattle.sf_base.specs.Bytes.{magnitude}
 use Rattle.sf_format.specs.declared.directive.Profile.{Profile}
 use Rattle.sf_format.specs.declared.directive.Profile.TheVariants as profile
 use Rattle.sf_format.specs.declared.unit.PrintLetter.{PrintLetter}
-use Rattle.sf_format.specs.declared.unit.PrintLetter.TheVariants.{Signed, Unsigned, Octal, HexLower, HexUpper, Text, One}
+use Rattle.sf_format.specs.declared.unit.PrintLetter.TheVariants.{Signed, Unsigned, Octal, HexLower, HexUpper, Binary, Text, One}
 use Rattle.sf_format.specs.Digits.{is_decimal}
 use Rattle.sf_format.specs.Lists.{is_written}
 use Rattle.sf_format.specs.Letters.{text_kind}
-use Rattle.sf_format.specs.PrintLetters.{print_letters_of_one, print_letter_of, print_kind_of}
+use Rattle.sf_format.specs.PrintLetters.{added_print_letters, print_letters, print_letter_of, print_kind_of}
 use Rattle.sf_format.specs.Units.{has_flag, HasPrecision}
 use Rattle.sf_format.specs.Pieces.{PrintOpening}
 use Rattle.sf_format.specs.PrintGrammar.{IsPrecision, StartsAboveZero, SuitsPrint}
@@ -29,17 +29,24 @@ use Rattle.sf_format.proofs.PrintCutting.{IsPrintLast, HasPrintDigits}
 
 -- ---- letters
 
--- what is known of a letter's byte in the first profile
-pub record IsPrintLetterOf (b : ℕ) (letter : PrintLetter) : Type 0 where
+-- what is known of a letter's byte
+pub record IsPrintLetterOf (p : Profile) (b : ℕ) (letter : PrintLetter) : Type 0 where
   pub last : IsPrintLast b
-  pub allowed : (o : PrintOpening) (q : ℕ) → Quiet (print_letter_rules profile.One o b q) → IsSome (print_kind_of letter o.size)
-  pub quiet : (o : PrintOpening) (q : ℕ) → IsSome (print_kind_of letter o.size) → Quiet (print_letter_rules profile.One o b q)
+  pub allowed : (o : PrintOpening) (q : ℕ) → Quiet (print_letter_rules p o b q) → IsSome (print_kind_of letter o.size)
+  pub quiet : (o : PrintOpening) (q : ℕ) → IsSome (print_kind_of letter o.size) → Quiet (print_letter_rules p o b q)
 
 abbrev five_quiet : (false ≡ false) × ((false ≡ false) × ((false ≡ false) × ((false ≡ false) × ((false ≡ false) × Unit {0}))))
 five_quiet = (refl, (refl, (refl, (refl, (refl, tt)))))
 
-each_letter : AllByRecursion (λ entry. IsPrintLetterOf entry.0 entry.1) print_letters_of_one
-each_letter = (
+each_added : (p : Profile) → AllByRecursion (λ entry. IsPrintLetterOf p entry.0 entry.1) (added_print_letters p)
+each_added profile.One = tt
+each_added profile.Two = (
+  record { last = record { last = last_byte 98 refl refl refl refl refl refl refl refl refl; flag = refl; point = refl }; allowed = λ o q h. refl; quiet = λ o q s. five_quiet },
+  tt,
+)
+
+each_letter : (p : Profile) → AllByRecursion (λ entry. IsPrintLetterOf p entry.0 entry.1) (print_letters p)
+each_letter p = (
   record { last = record { last = last_byte 100 refl refl refl refl refl refl refl refl refl; flag = refl; point = refl }; allowed = λ o q h. refl; quiet = λ o q s. five_quiet },
   (
     record { last = record { last = last_byte 105 refl refl refl refl refl refl refl refl refl; flag = refl; point = refl }; allowed = λ o q h. refl; quiet = λ o q s. five_quiet },
@@ -55,7 +62,7 @@ each_letter = (
               record { last = record { last = last_byte 115 refl refl refl refl refl refl refl refl refl; flag = refl; point = refl }; allowed = of_text; quiet = quiet_text },
               (
                 record { last = record { last = last_byte 99 refl refl refl refl refl refl refl refl refl; flag = refl; point = refl }; allowed = of_text; quiet = quiet_text },
-                tt,
+                each_added p,
               ),
             ),
           ),
@@ -65,19 +72,14 @@ each_letter = (
   ),
 )
   where
-    of_text : (o : PrintOpening) (q : ℕ) → Quiet (print_letter_rules profile.One o 99 q) → IsSome (text_kind o.size)
+    of_text : (o : PrintOpening) (q : ℕ) → Quiet (print_letter_rules p o 99 q) → IsSome (text_kind o.size)
     of_text o q h = text_allowed o.size h.1.1.1.1.0
 
-    quiet_text : (o : PrintOpening) (q : ℕ) → IsSome (text_kind o.size) → Quiet (print_letter_rules profile.One o 99 q)
+    quiet_text : (o : PrintOpening) (q : ℕ) → IsSome (text_kind o.size) → Quiet (print_letter_rules p o 99 q)
     quiet_text o q s = let t = text_quiet o.size s in (refl, (refl, (refl, (t.0, (t.1, tt)))))
 
-pub print_letter_is : (p : Profile) (b : ℕ) (letter : PrintLetter) → print_letter_of p b ≡ Some letter → IsPrintLetterOf b letter
-print_letter_is profile.One b letter e = found IsPrintLetterOf print_letters_of_one each_letter b letter e
-print_letter_is profile.Two b letter e = found IsPrintLetterOf print_letters_of_one each_letter b letter e
-
-pub print_rules_of_one : (p : Profile) (o : PrintOpening) (b q : ℕ) → print_letter_rules p o b q ≡ print_letter_rules profile.One o b q
-print_rules_of_one profile.One o b q = refl
-print_rules_of_one profile.Two o b q = refl
+pub print_letter_is : (p : Profile) (b : ℕ) (letter : PrintLetter) → print_letter_of p b ≡ Some letter → IsPrintLetterOf p b letter
+print_letter_is p b letter e = found (IsPrintLetterOf p) (print_letters p) (each_letter p) b letter e
 
 -- ---- widths
 
@@ -120,6 +122,7 @@ one_from Unsigned precision e = tt
 one_from Octal precision e = tt
 one_from HexLower precision e = tt
 one_from HexUpper precision e = tt
+one_from Binary precision e = tt
 one_from Text precision e = tt
 one_from One None e = refl
 one_from One (Some ds) e = absurd (cc)
@@ -131,6 +134,7 @@ one_test Unsigned precision h = refl
 one_test Octal precision h = refl
 one_test HexLower precision h = refl
 one_test HexUpper precision h = refl
+one_test Binary precision h = refl
 one_test Text precision h = refl
 one_test One None h = refl
 one_test One (Some ds) h = absurd (cc)
@@ -166,7 +170,7 @@ suits_print_from p letter o b place q e digits opening rules flags = record {
   first = digits.3;
   precision = precision_from o.precision digits.4 opening.1.1.0;
   one = one_from letter o.precision flags.1.0;
-  size = (print_letter_is p b letter e).allowed o q (subst Quiet (print_rules_of_one p o b q) rules);
+  size = (print_letter_is p b letter e).allowed o q rules;
 }
 
 pub print_opening_quiet : (letter : PrintLetter) (o : PrintOpening) (place : ℕ) → SuitsPrint letter o → Quiet (print_opening_rules place o)
@@ -176,7 +180,7 @@ print_opening_quiet letter o place suits =
 pub print_letter_quiet : (p : Profile) (letter : PrintLetter) (o : PrintOpening) (b q : ℕ) → print_letter_of p b ≡ Some letter
     → SuitsPrint letter o → Quiet (print_letter_rules p o b q)
 print_letter_quiet p letter o b q e suits =
-    subst Quiet (sym (print_rules_of_one p o b q)) ((print_letter_is p b letter e).quiet o q suits.size)
+    (print_letter_is p b letter e).quiet o q suits.size
 
 pub flags_quiet : (letter : PrintLetter) (o : PrintOpening) (place : ℕ) → SuitsPrint letter o → Quiet (flag_rules place o (Some letter))
 flags_quiet letter o place suits =
@@ -202,6 +206,6 @@ some_print_letter p o b q none e =
 pub some_print_kind : {A : Type 0} (p : Profile) (o : PrintOpening) (b q : ℕ) (letter : PrintLetter) → first_of (print_letter_rules p o b q) ≡ None
     → print_letter_of p b ≡ Some letter → print_kind_of letter o.size ≡ None → A
 some_print_kind p o b q letter none found e =
-    let quiet = subst Quiet (print_rules_of_one p o b q) (quiet_is (print_letter_rules p o b q) none) in
+    let quiet = quiet_is (print_letter_rules p o b q) none in
     let some = (print_letter_is p b letter found).allowed o q quiet in
     let nothing : is_some (print_kind_of letter o.size) ≡ false = ap is_some e in absurd (cc)

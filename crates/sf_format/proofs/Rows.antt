@@ -195,8 +195,14 @@ bracket_first = refl
 all_but_bracket : judged (Scan One) (codes "%[^]]x") ≡ parts (Bracket plain (listed true 93 []) ∷ Ordinary 120 ∷ [])
 all_but_bracket = refl
 
-second_profile : judged (Scan Two) (codes "%2$d %1$s%b") ≡ judged (Scan One) (codes "%2$d %1$s%b")
+second_profile : judged (Scan Two) (codes "%2$d %1$s%[b]") ≡ judged (Scan One) (codes "%2$d %1$s%[b]")
 second_profile = refl
+
+binary_number : judged (Scan Two) (codes "%hhb") ≡ parts (Plain (sized [] HH) 98 ∷ [])
+binary_number = refl
+
+no_binary : judged (Scan One) (codes "%hhb") ≡ at UnknownLetter 3
+no_binary = refl
 
 -- ---- sets
 

@@ -3,7 +3,6 @@ use Rattle.std.proofs.Common.{◌≡◌, ℕ, ◌+◌, ◌<◌, Bool, true, fals
 use Rattle.std.proofs.lemmas.Bool.Decides.{nat_tests}
 use Rattle.sf_base.specs.Bytes.{AreBytes, is_white}
 use Rattle.sf_format.specs.declared.directive.Profile.{Profile}
-use Rattle.sf_format.specs.declared.directive.Profile.TheVariants.{One, Two}
 use Rattle.sf_format.specs.Lists.{front, behind, begins, mark_at}
 use Rattle.sf_format.specs.Letters.{letter_of, length_text}
 use Rattle.sf_format.specs.Scanlist.{Scanlist, scanlist_text}
@@ -48,8 +47,7 @@ letter_some (Some letter) e = (letter, refl)
 
 -- of the bracket's letter there is one
 bracket_letter : (profile : Profile) → letter_of profile 91 ≡ Some Set
-bracket_letter One = refl
-bracket_letter Two = refl
+bracket_letter profile = refl
 
 abbrev QuietSpecification : Profile → List Opening → ℕ → Opening → ℕ → List ℕ → Type 0
 QuietSpecification profile earlier p o q rest = Quiet (opening_rules p o) × Quiet (rest_rules profile earlier p o q rest)

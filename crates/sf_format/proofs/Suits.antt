@@ -6,7 +6,7 @@ use Rattle.std.specs.List.{AllByRecursion}
 use Rattle.sf_base.specs.Bytes.{magnitude}
 use Rattle.sf_format.specs.Digits.{is_decimal, IsOptionalNumber}
 use Rattle.sf_format.specs.Lists.{is_written}
-use Rattle.sf_format.specs.Letters.{letters_of_one, find_letter, letter_of, kind_of, text_kind}
+use Rattle.sf_format.specs.Letters.{added_letters, letters, find_letter, letter_of, kind_of, text_kind}
 use Rattle.sf_format.specs.Pieces.{Opening}
 use Rattle.sf_format.specs.Grammar.{SuitsCount, Suits}
 use Rattle.sf_format.specs.Rules.{first_of, has_length, is_l}
@@ -24,11 +24,11 @@ use Rattle.sf_format.proofs.Rules.{Quiet, quiet_is}
 
 -- ---- letters
 
--- what is known of a letter's byte in the first profile
-pub record IsLetterOf (b : ℕ) (letter : Letter) : Type 0 where
+-- what is known of a letter's byte
+pub record IsLetterOf (profile : Profile) (b : ℕ) (letter : Letter) : Type 0 where
   pub last : IsLast b
-  pub allowed : (o : Opening) (q : ℕ) → Quiet (letter_rules One o b q) → IsSome (kind_of letter o.size) × SuitsCount letter o
-  pub quiet : (o : Opening) (q : ℕ) → IsSome (kind_of letter o.size) → SuitsCount letter o → Quiet (letter_rules One o b q)
+  pub allowed : (o : Opening) (q : ℕ) → Quiet (letter_rules profile o b q) → IsSome (kind_of letter o.size) × SuitsCount letter o
+  pub quiet : (o : Opening) (q : ℕ) → IsSome (kind_of letter o.size) → SuitsCount letter o → Quiet (letter_rules profile o b q)
 
 pub text_allowed : (size : Length) → has_length size ≡ false → IsSome (text_kind size)
 text_allowed NoLength e = refl
@@ -68,8 +68,15 @@ last_byte b h j l t z decimal dollar percent star = record {
 abbrev all_quiet : (false ≡ false) × ((false ≡ false) × ((false ≡ false) × ((false ≡ false) × ((false ≡ false) × ((false ≡ false) × Unit {0})))))
 all_quiet = (refl, (refl, (refl, (refl, (refl, (refl, tt))))))
 
-pub each_letter : AllByRecursion (λ entry. IsLetterOf entry.0 entry.1) letters_of_one
-each_letter = (
+each_added : (profile : Profile) → AllByRecursion (λ entry. IsLetterOf profile entry.0 entry.1) (added_letters profile)
+each_added One = tt
+each_added Two = (
+  record { last = last_byte 98 refl refl refl refl refl refl refl refl refl; allowed = λ o q h. (refl, tt); quiet = λ o q s c. all_quiet },
+  tt,
+)
+
+pub each_letter : (profile : Profile) → AllByRecursion (λ entry. IsLetterOf profile entry.0 entry.1) (letters profile)
+each_letter profile = (
   record { last = last_byte 100 refl refl refl refl refl refl refl refl refl; allowed = λ o q h. (refl, tt); quiet = λ o q s c. all_quiet },
   (
     record { last = last_byte 105 refl refl refl refl refl refl refl refl refl; allowed = λ o q h. (refl, tt); quiet = λ o q s c. all_quiet },
@@ -89,7 +96,7 @@ each_letter = (
                   record { last = last_byte 91 refl refl refl refl refl refl refl refl refl; allowed = of_text; quiet = quiet_text },
                   (
                     record { last = last_byte 110 refl refl refl refl refl refl refl refl refl; allowed = of_count; quiet = quiet_count },
-                    tt,
+                    each_added profile,
                   ),
                 ),
               ),
@@ -101,16 +108,16 @@ each_letter = (
   ),
 )
   where
-    of_text : (o : Opening) (q : ℕ) → Quiet (letter_rules One o 99 q) → IsSome (text_kind o.size) × Unit {0}
+    of_text : (o : Opening) (q : ℕ) → Quiet (letter_rules profile o 99 q) → IsSome (text_kind o.size) × Unit {0}
     of_text o q h = (text_allowed o.size h.1.1.1.1.0, tt)
 
-    quiet_text : (o : Opening) (q : ℕ) → IsSome (text_kind o.size) → Unit {0} → Quiet (letter_rules One o 99 q)
+    quiet_text : (o : Opening) (q : ℕ) → IsSome (text_kind o.size) → Unit {0} → Quiet (letter_rules profile o 99 q)
     quiet_text o q s c = let t = text_quiet o.size s in (refl, (refl, (refl, (t.0, (t.1, (refl, tt))))))
 
-    of_count : (o : Opening) (q : ℕ) → Quiet (letter_rules One o 110 q) → IsSome (kind_of Count o.size) × SuitsCount Count o
+    of_count : (o : Opening) (q : ℕ) → Quiet (letter_rules profile o 110 q) → IsSome (kind_of Count o.size) × SuitsCount Count o
     of_count o q h = (refl, (or_left o.star _ h.1.1.1.1.1.0, nothing_written o.width (or_right o.star _ h.1.1.1.1.1.0)))
 
-    quiet_count : (o : Opening) (q : ℕ) → IsSome (kind_of Count o.size) → SuitsCount Count o → Quiet (letter_rules One o 110 q)
+    quiet_count : (o : Opening) (q : ℕ) → IsSome (kind_of Count o.size) → SuitsCount Count o → Quiet (letter_rules profile o 110 q)
     quiet_count o q s c =
         (refl, (refl, (refl, (refl, (refl, (ap (λ v. v || is_written o.width) c.0 ∙ ap is_written c.1, tt))))))
 
@@ -125,13 +132,8 @@ found P (entry ∷ entries) all b letter e =
     (λ same h. let l : entry.1 ≡ letter = cc in subst (λ a. P a letter) (same_byte entry.0 b same) (subst (P entry.0) l all.0))
     (λ other h. found P entries all.1 b letter h) e
 
-pub letter_is : (profile : Profile) (b : ℕ) (letter : Letter) → letter_of profile b ≡ Some letter → IsLetterOf b letter
-letter_is One b letter e = found IsLetterOf letters_of_one each_letter b letter e
-letter_is Two b letter e = found IsLetterOf letters_of_one each_letter b letter e
-
-pub rules_of_one : (profile : Profile) (o : Opening) (b q : ℕ) → letter_rules profile o b q ≡ letter_rules One o b q
-rules_of_one One o b q = refl
-rules_of_one Two o b q = refl
+pub letter_is : (profile : Profile) (b : ℕ) (letter : Letter) → letter_of profile b ≡ Some letter → IsLetterOf profile b letter
+letter_is profile b letter e = found (IsLetterOf profile) (letters profile) (each_letter profile) b letter e
 
 -- ---- numbers
 
@@ -189,7 +191,7 @@ suppressed_test (d ∷ ds) true h = absurd (let e = h refl in cc)
 pub suits_from : (profile : Profile) (letter : Letter) (o : Opening) (b p q : ℕ) → letter_of profile b ≡ Some letter → HasDigits o
     → Quiet (opening_rules p o) → Quiet (letter_rules profile o b q) → Suits letter o
 suits_from profile letter o b p q e digits opening rules =
-    let h = (letter_is profile b letter e).allowed o q (subst Quiet (rules_of_one profile o b q) rules) in
+    let h = (letter_is profile b letter e).allowed o q rules in
     record {
       number = slot_from o.number digits.0 opening.0;
       suppressed = suppressed_from o.number o.star opening.1.0;
@@ -213,7 +215,7 @@ opening_quiet letter o p suits = (
 pub letter_quiet : (profile : Profile) (letter : Letter) (o : Opening) (b q : ℕ) → letter_of profile b ≡ Some letter → Suits letter o
     → Quiet (letter_rules profile o b q)
 letter_quiet profile letter o b q e suits =
-    subst Quiet (sym (rules_of_one profile o b q)) ((letter_is profile b letter e).quiet o q suits.size suits.count)
+    (letter_is profile b letter e).quiet o q suits.size suits.count
 
 pub suits_digits : (letter : Letter) (o : Opening) → Suits letter o → HasDigits o
 suits_digits letter o suits = (number_digits 32 o.number suits.number, number_digits 65535 o.width suits.width)
@@ -228,6 +230,6 @@ some_letter profile o b q none e =
 pub some_kind : {A : Type 0} (profile : Profile) (o : Opening) (b q : ℕ) (letter : Letter) → first_of (letter_rules profile o b q) ≡ None
     → letter_of profile b ≡ Some letter → kind_of letter o.size ≡ None → A
 some_kind profile o b q letter none found e =
-    let quiet = subst Quiet (rules_of_one profile o b q) (quiet_is (letter_rules profile o b q) none) in
+    let quiet = quiet_is (letter_rules profile o b q) none in
     let some = ((letter_is profile b letter found).allowed o q quiet).0 in
     let nothing : is_some (kind_of letter o.size) ≡ false = ap is_some e in absurd (cc)

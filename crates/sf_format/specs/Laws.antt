@@ -2,6 +2,7 @@
 use Rattle.std.specs.Prelude.{◌≡◌, ℕ, ◌≤◌, ◌⊎◌, ◌↔◌, List, length, IsSome}
 use Rattle.sf_base.specs.Bytes.{AreBytes}
 use Rattle.sf_format.specs.declared.directive.Profile.{Profile}
+use Rattle.sf_format.specs.declared.directive.Profile.TheVariants.{One, Two}
 use Rattle.sf_format.specs.declared.directive.Directive.{Directive}
 use Rattle.sf_format.specs.declared.language.Language.TheVariants.{Scan, Print}
 use Rattle.sf_format.specs.declared.unit.Unit.{Unit as PrintUnit}
@@ -13,6 +14,7 @@ use Rattle.sf_format.specs.Faults.{Fault, PrintFault}
 use Rattle.sf_format.specs.Proper.{IsAccepted, AreInOrder}
 use Rattle.sf_format.specs.Units.{AreAccepted, ArePrintedInOrder}
 use Rattle.sf_format.specs.Slots.{Slotted, kind_with, AreSlots}
+use Rattle.sf_format.specs.Profiles.{in_two, in_one, HaveBases, IsNotBin, IsOfOne, AreNotBinary}
 
 -- a text spells at most one list
 abbrev pub SpellOne : {D : Type 0} → (Profile → List ℕ → List D → Type 0) → Type 0
@@ -86,3 +88,24 @@ EachUnnumberedPrintIsInOrder =
 -- of the slots of a format, just those from 1 to their count have a kind
 abbrev pub JustSlotsHaveKinds : Type 0
 JustSlotsHaveKinds = (slot : ℕ) (entries : List Slotted) → AreSlots entries → IsSome (kind_with slot entries) ↔ ((1 ≤ slot) × (slot ≤ length entries))
+
+-- ---- both profiles
+
+-- a text that profile 1 spells, profile 2 spells with the same directives, but AutoBin for Auto
+abbrev pub TwoSpellsOne : Type 0
+TwoSpellsOne = (text : List ℕ) (ds : List Directive) → Spells One text ds → Spells Two text (in_two ds)
+
+-- a text that profile 2 spells without Bin, profile 1 spells with the same directives, but Auto for AutoBin
+abbrev pub OneSpellsTwo : Type 0
+OneSpellsTwo = (text : List ℕ) (ds : List Directive) → Spells Two text ds → HaveBases IsNotBin ds → Spells One text (in_one ds)
+
+-- what profile 1 spells has no Bin and no AutoBin
+abbrev pub OneHasOldBases : Type 0
+OneHasOldBases = (text : List ℕ) (ds : List Directive) → Spells One text ds → HaveBases IsOfOne ds
+
+-- the same of print formats; without Binary nothing changes
+abbrev pub TwoPrintsOne : Type 0
+TwoPrintsOne = (text : List ℕ) (us : List PrintUnit) → SpellsPrint One text us → SpellsPrint Two text us × AreNotBinary us
+
+abbrev pub OnePrintsTwo : Type 0
+OnePrintsTwo = (text : List ℕ) (us : List PrintUnit) → SpellsPrint Two text us → AreNotBinary us → SpellsPrint One text us

@@ -4,21 +4,28 @@ use Rattle.sf_base.specs.declared.values.Kind.{Kind}
 use Rattle.sf_base.specs.declared.values.Kind.TheVariants as kind
 use Rattle.sf_format.specs.declared.directive.Profile.{Profile}
 use Rattle.sf_format.specs.declared.directive.Profile.TheVariants.{One, Two}
-use Rattle.sf_format.specs.declared.directive.Base.TheVariants.{Dec, Oct, Hex, Auto}
+use Rattle.sf_format.specs.declared.directive.Base.{Base}
+use Rattle.sf_format.specs.declared.directive.Base.TheVariants.{Dec, Oct, Hex, Bin, Auto, AutoBin}
 use Rattle.sf_format.specs.declared.letter.Letter.{Letter}
 use Rattle.sf_format.specs.declared.letter.Letter.TheVariants.{Signed, Unsigned, Chars, Text, Set, Count}
 use Rattle.sf_format.specs.declared.letter.Length.{Length}
 use Rattle.sf_format.specs.declared.letter.Length.TheVariants.{NoLength, HH, H, LL, L, J, Z, T}
 
--- d i u o x X c s [ n
-abbrev pub letters_of_one : List (ℕ × Letter)
-letters_of_one =
-    (100, Signed Dec) ∷ (105, Signed Auto) ∷ (117, Unsigned Dec) ∷ (111, Unsigned Oct) ∷ (120, Unsigned Hex) ∷ (88, Unsigned Hex)
-    ∷ (99, Chars) ∷ (115, Text) ∷ (91, Set) ∷ (110, Count) ∷ []
+-- how i reads the digits
+abbrev pub auto_base : Profile → Base
+auto_base One = Auto
+auto_base Two = AutoBin
 
+-- b, of profile 2
+abbrev pub added_letters : Profile → List (ℕ × Letter)
+added_letters One = []
+added_letters Two = (98, Unsigned Bin) ∷ []
+
+-- d i u o x X c s [ n
 abbrev pub letters : Profile → List (ℕ × Letter)
-letters One = letters_of_one
-letters Two = letters_of_one
+letters profile =
+    (100, Signed Dec) ∷ (105, Signed (auto_base profile)) ∷ (117, Unsigned Dec) ∷ (111, Unsigned Oct) ∷ (120, Unsigned Hex) ∷ (88, Unsigned Hex)
+    ∷ (99, Chars) ∷ (115, Text) ∷ (91, Set) ∷ (110, Count) ∷ added_letters profile
 
 abbrev pub find_letter : {L : Type 0} → List (ℕ × L) → ℕ → Option L
 find_letter [] b = None

@@ -15,6 +15,7 @@ pub mod PrintRules
 pub mod Faults
 pub mod Reading
 pub mod Widths
+pub mod Profiles
 pub mod Laws
 pub mod Classes
 pub mod Passing

@@ -13,15 +13,16 @@ use Rattle.sf_format.specs.Letters.{find_letter, signed_kind, unsigned_kind, tex
 abbrev pub is_flag : ℕ → Bool
 is_flag b = list_any (λ a. nat_eq a b) (45 ∷ 43 ∷ 32 ∷ 35 ∷ 48 ∷ [])
 
--- d i u o x X s c
-abbrev pub print_letters_of_one : List (ℕ × PrintLetter)
-print_letters_of_one =
-    (100, letter.Signed) ∷ (105, letter.Signed) ∷ (117, letter.Unsigned) ∷ (111, letter.Octal) ∷ (120, letter.HexLower)
-    ∷ (88, letter.HexUpper) ∷ (115, letter.Text) ∷ (99, letter.One) ∷ []
+-- b, of profile 2
+abbrev pub added_print_letters : Profile → List (ℕ × PrintLetter)
+added_print_letters One = []
+added_print_letters Two = (98, letter.Binary) ∷ []
 
+-- d i u o x X s c
 abbrev pub print_letters : Profile → List (ℕ × PrintLetter)
-print_letters One = print_letters_of_one
-print_letters Two = print_letters_of_one
+print_letters profile =
+    (100, letter.Signed) ∷ (105, letter.Signed) ∷ (117, letter.Unsigned) ∷ (111, letter.Octal) ∷ (120, letter.HexLower)
+    ∷ (88, letter.HexUpper) ∷ (115, letter.Text) ∷ (99, letter.One) ∷ added_print_letters profile
 
 -- what the byte prints as a letter
 abbrev pub print_letter_of : Profile → ℕ → Option PrintLetter
@@ -34,5 +35,6 @@ print_kind_of letter.Unsigned size = Some (unsigned_kind size)
 print_kind_of letter.Octal size = Some (unsigned_kind size)
 print_kind_of letter.HexLower size = Some (unsigned_kind size)
 print_kind_of letter.HexUpper size = Some (unsigned_kind size)
+print_kind_of letter.Binary size = Some (unsigned_kind size)
 print_kind_of letter.Text size = text_kind size
 print_kind_of letter.One size = text_kind size

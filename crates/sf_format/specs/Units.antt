@@ -4,7 +4,7 @@ use Rattle.std.specs.List.{AllByRecursion, filter_map, list_any}
 use Rattle.sf_base.specs.declared.values.Kind.{Kind}
 use Rattle.sf_base.specs.declared.values.Kind.TheVariants as kind
 use Rattle.sf_format.specs.declared.unit.PrintLetter.{PrintLetter}
-use Rattle.sf_format.specs.declared.unit.PrintLetter.TheVariants.{Signed, Unsigned, Octal, HexLower, HexUpper, Text, One}
+use Rattle.sf_format.specs.declared.unit.PrintLetter.TheVariants.{Signed, Unsigned, Octal, HexLower, HexUpper, Binary, Text, One}
 use Rattle.sf_format.specs.declared.unit.PrintConv.{PrintConv}
 use Rattle.sf_format.specs.declared.unit.Unit.{Unit as PrintUnit}
 use Rattle.sf_format.specs.declared.unit.Unit.TheVariants as unit
@@ -37,6 +37,7 @@ prints_kind Unsigned = is_unsigned
 prints_kind Octal = is_unsigned
 prints_kind HexLower = is_unsigned
 prints_kind HexUpper = is_unsigned
+prints_kind Binary = is_unsigned
 prints_kind Text = is_text
 prints_kind One = is_text
 
@@ -47,6 +48,7 @@ flags_of Unsigned = 45 ∷ 48 ∷ []
 flags_of Octal = 45 ∷ 35 ∷ 48 ∷ []
 flags_of HexLower = 45 ∷ 35 ∷ 48 ∷ []
 flags_of HexUpper = 45 ∷ 35 ∷ 48 ∷ []
+flags_of Binary = 45 ∷ 35 ∷ 48 ∷ []
 flags_of Text = 45 ∷ []
 flags_of One = 45 ∷ []
 

@@ -4,7 +4,9 @@ use sf_base::{ByteSet, Kind};
 /// Which conversions a format may have.
 #[derive(Clone, Copy, Debug, PartialEq, Eq)]
 pub enum Profile {
+    /// Those of C11.
     One,
+    /// Those, the letter `b` of unsigned binary numbers, and `0b` under `i`.
     Two,
 }
 
@@ -14,8 +16,12 @@ pub enum Base {
     Dec,
     Oct,
     Hex,
+    /// Binary, perhaps after `0b`. Of profile 2.
+    Bin,
     /// Decimal, octal after `0`, hexadecimal after `0x`.
     Auto,
+    /// As `Auto`, and binary after `0b`. Of profile 2.
+    AutoBin,
 }
 
 /// What a conversion takes.

@@ -5,6 +5,7 @@ ghost use Rattle.sf_format.specs.Laws.{EachIsEither, EachIsProper, EachUnnumbere
 ghost use Rattle.sf_format.specs.Laws.{EachPrintSpellsOne, EachPrintHasOneFault, NoPrintIsBoth};
 ghost use Rattle.sf_format.specs.Laws.{EachPrintIsEither, EachPrintIsProper, EachUnnumberedPrintIsInOrder};
 ghost use Rattle.sf_format.specs.Laws.{JustSlotsHaveKinds};
+ghost use Rattle.sf_format.specs.Laws.{TwoSpellsOne, OneSpellsTwo, OneHasOldBases, TwoPrintsOne, OnePrintsTwo};
 
 /// A text spells at most one list of directives, and at most one of units.
 pub fn one_list()
@@ -45,4 +46,14 @@ pub fn in_order()
 /// Of the slots of a format, just those from 1 to their count have a kind.
 pub fn slots_have_kinds()
     ensures { JustSlotsHaveKinds }
+{}
+
+/// A text that profile 1 spells, profile 2 spells as well, with `AutoBin` for `Auto`; one that profile 2 spells without `Bin` and
+/// without `Binary`, profile 1 spells as well, with `Auto` for `AutoBin`. What profile 1 spells has nothing of profile 2.
+pub fn profiles()
+    ensures scan_two { TwoSpellsOne }
+    ensures scan_one { OneSpellsTwo }
+    ensures scan_old { OneHasOldBases }
+    ensures print_two { TwoPrintsOne }
+    ensures print_one { OnePrintsTwo }
 {}

@@ -1,6 +1,6 @@
 //! Letters and lengths of conversion specifications.
 ghost use Rattle.std.specs.Prelude.{◌≡◌};
-ghost use Rattle.sf_format.specs.Letters.{letter_of, kind_of, signed_kind, unsigned_kind};
+ghost use Rattle.sf_format.specs.Letters.{auto_base, letter_of, kind_of, signed_kind, unsigned_kind};
 ghost use Rattle.sf_format.specs.Faults.{is_left_out};
 ghost use Rattle.sf_format.specs.Rules.{takes_text, has_length};
 
@@ -31,23 +31,35 @@ pub enum Length {
     T,
 }
 
+/// How `i` reads the digits.
+fn auto_base(profile: Profile) -> Base
+    ensures { result ≡ auto_base profile }
+{
+    match profile {
+        Profile::One => Base::Auto,
+        Profile::Two => Base::AutoBin,
+    }
+}
+
 /// What the byte converts as a letter.
 pub fn letter_of(profile: Profile, b: u8) -> Option<Letter>
     ensures { result ≡ letter_of profile b }
 {
-    match profile {
-        Profile::One | Profile::Two => match b {
-            b'd' => Some(Letter::Signed(Base::Dec)),
-            b'i' => Some(Letter::Signed(Base::Auto)),
-            b'u' => Some(Letter::Unsigned(Base::Dec)),
-            b'o' => Some(Letter::Unsigned(Base::Oct)),
-            b'x' | b'X' => Some(Letter::Unsigned(Base::Hex)),
-            b'c' => Some(Letter::Chars),
-            b's' => Some(Letter::Text),
-            b'[' => Some(Letter::Set),
-            b'n' => Some(Letter::Count),
-            _ => None,
+    match b {
+        b'd' => Some(Letter::Signed(Base::Dec)),
+        b'i' => Some(Letter::Signed(auto_base(profile))),
+        b'u' => Some(Letter::Unsigned(Base::Dec)),
+        b'o' => Some(Letter::Unsigned(Base::Oct)),
+        b'x' | b'X' => Some(Letter::Unsigned(Base::Hex)),
+        b'c' => Some(Letter::Chars),
+        b's' => Some(Letter::Text),
+        b'[' => Some(Letter::Set),
+        b'n' => Some(Letter::Count),
+        b'b' => match profile {
+            Profile::One => None,
+            Profile::Two => Some(Letter::Unsigned(Base::Bin)),
         },
+        _ => None,
     }
 }
 

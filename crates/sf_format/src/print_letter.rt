@@ -23,17 +23,19 @@ use sf_base::Kind;
 pub fn print_letter_of(profile: Profile, b: u8) -> Option<PrintLetter>
     ensures { result ≡ print_letter_of profile b }
 {
-    match profile {
-        Profile::One | Profile::Two => match b {
-            b'd' | b'i' => Some(PrintLetter::Signed),
-            b'u' => Some(PrintLetter::Unsigned),
-            b'o' => Some(PrintLetter::Octal),
-            b'x' => Some(PrintLetter::HexLower),
-            b'X' => Some(PrintLetter::HexUpper),
-            b's' => Some(PrintLetter::Text),
-            b'c' => Some(PrintLetter::One),
-            _ => None,
+    match b {
+        b'd' | b'i' => Some(PrintLetter::Signed),
+        b'u' => Some(PrintLetter::Unsigned),
+        b'o' => Some(PrintLetter::Octal),
+        b'x' => Some(PrintLetter::HexLower),
+        b'X' => Some(PrintLetter::HexUpper),
+        b's' => Some(PrintLetter::Text),
+        b'c' => Some(PrintLetter::One),
+        b'b' => match profile {
+            Profile::One => None,
+            Profile::Two => Some(PrintLetter::Binary),
         },
+        _ => None,
     }
 }
 
@@ -69,7 +71,8 @@ fn printed_kind(letter: PrintLetter, size: Length) -> Option<Kind>
         PrintLetter::Unsigned
         | PrintLetter::Octal
         | PrintLetter::HexLower
-        | PrintLetter::HexUpper => Some(unsigned_kind(size)),
+        | PrintLetter::HexUpper
+        | PrintLetter::Binary => Some(unsigned_kind(size)),
         PrintLetter::Text | PrintLetter::One => match size {
             Length::NoLength => Some(Kind::Text),
             _ => None,
@@ -128,9 +131,8 @@ fn has_flag(letter: PrintLetter, flag: u8) -> bool
     match letter {
         PrintLetter::Signed => matches!(flag, b'-' | b'+' | b' ' | b'0'),
         PrintLetter::Unsigned => matches!(flag, b'-' | b'0'),
-        PrintLetter::Octal | PrintLetter::HexLower | PrintLetter::HexUpper => {
-            matches!(flag, b'-' | b'#' | b'0')
-        }
+        PrintLetter::Octal | PrintLetter::HexLower | PrintLetter::HexUpper | PrintLetter::Binary =>
+            matches!(flag, b'-' | b'#' | b'0'),
         PrintLetter::Text | PrintLetter::One => flag == b'-',
     }
 }

@@ -1,7 +1,7 @@
 //! The units of a print format.
 use sf_base::Kind;
 
-/// What a conversion of a print format prints: the letters `d i`, `u`, `o`, `x`, `X`, `s` and `c`.
+/// What a conversion of a print format prints: the letters `d i`, `u`, `o`, `x`, `X`, `b`, `s` and `c`.
 #[derive(Clone, Copy, Debug, PartialEq, Eq)]
 pub enum PrintLetter {
     Signed,
@@ -9,6 +9,8 @@ pub enum PrintLetter {
     Octal,
     HexLower,
     HexUpper,
+    /// Of profile 2.
+    Binary,
     Text,
     /// A text of one byte.
     One,

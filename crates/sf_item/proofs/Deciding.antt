@@ -15,7 +15,7 @@ use Rattle.sf_item.specs.Matching.{IsInteger, ShapeMatches, Matches}
 use Rattle.sf_item.specs.Progress.{Progress, Start, IsAfter, advance}
 use Rattle.sf_item.specs.Taking.{CanTake}
 use Rattle.sf_item.specs.Tests.{read, integer_in, integer_at, is_ink, shape_matches, shape_begins, is_within, matches, can_take}
-use Rattle.sf_item.proofs.Integers.{IsAfter-start, IsAfter-advance, stuck, completion, integer_next, integer_back}
+use Rattle.sf_item.proofs.Integers.{IsAfter-start, IsAfter-advance, stuck, MayHaveRadix, next_radix, completion, integer_next, integer_back}
 
 -- ---- integers
 
@@ -40,6 +40,11 @@ known_all base (Some p) f [] h = subst (IsAfter base p) (sym (append-nil f)) h
 known_all base (Some p) f (b ∷ g) h =
     subst (Known base (read base (advance base p b) g)) (append_assoc f (b ∷ []) g)
     (known_all base (advance base p b) (f ++ b ∷ []) g (known_next base p f b h))
+
+pub read_radix : (base : Base) (o : Option Progress) (f : List ℕ) → MayHaveRadix o → MayHaveRadix (read base o f)
+read_radix base None f h = tt
+read_radix base (Some p) [] h = h
+read_radix base (Some p) (b ∷ f) h = read_radix base (advance base p b) f (next_radix base p b)
 
 known : (base : Base) (f : List ℕ) → Known base (read base (Some Start) f) f
 known base f = known_all base (Some Start) [] f (IsAfter-start base)
@@ -143,15 +148,15 @@ abbrev pub ShapeBegins : Shape → Option ℕ → List ℕ → Type 0
 ShapeBegins shape width f = (t : List ℕ) × AreBytes t × ShapeMatches shape width (f ++ t)
 
 integer_begins : (base : Base) (width : Option ℕ) (f : List ℕ) → Tests (is_some (read base (Some Start) f)) (ShapeBegins (Int base) width f)
-integer_begins base width f = by_case (read base (Some Start) f) (known base f)
+integer_begins base width f = by_case (read base (Some Start) f) (known base f) (read_radix base (Some Start) f tt)
   where
-    by_case : (o : Option Progress) → Known base o f → Tests (is_some o) (ShapeBegins (Int base) width f)
-    by_case None h = record {
+    by_case : (o : Option Progress) → Known base o f → MayHaveRadix o → Tests (is_some o) (ShapeBegins (Int base) width f)
+    by_case None h some = record {
       from = λ e. absurd (true≢false (sym e));
       to = λ b. absurd (h b.0 b.2.0 b.2.1 b.2.2);
     }
-    by_case (Some p) h =
-        let rest = completion base p in
+    by_case (Some p) h some =
+        let rest = completion base p some in
         record {
           from = λ e. (rest.text, rest.bytes, (rest.negative, rest.magnitude, (h rest.text rest.negative rest.magnitude).1 rest.completes));
           to = λ b. refl;

@@ -3,19 +3,18 @@ use Rattle.std.proofs.Common.{◌≡◌, ℕ, ◌+◌, ◌*◌, ◌<◌, Bool, t
 use Rattle.std.proofs.lemmas.Bool.Decides.{nat_tests}
 use Rattle.std.proofs.lemmas.List.{append_assoc, append-nil}
 use Rattle.std.proofs.lemmas.Grind.{common_steps}
-use Rattle.std.specs.Char.{digit_value}
 use Rattle.std.specs.List.{list_all}
 use Rattle.sf_base.specs.Sets.{has_byte}
 use Rattle.sf_format.specs.declared.directive.Base.{Base}
-use Rattle.sf_format.specs.declared.directive.Base.TheVariants.{Dec, Oct, Hex, Auto}
 use Rattle.sf_format.specs.declared.directive.Shape.{Shape}
 use Rattle.sf_format.specs.declared.directive.Shape.TheVariants.{Int, Text, Set, Chars, Count}
 use Rattle.sf_format.specs.declared.directive.Conversion.{Conversion}
-use Rattle.sf_item.specs.Progress.{Progress, Start, Signed, Zero, Prefix, Digits, first_radix, with_digit, with_first_digit, advance}
+use Rattle.sf_item.specs.Radices.{zero_radix}
+use Rattle.sf_item.specs.Progress.{Progress, Start, Signed, Zero, Prefix, Digits, with_digit, advance}
 use Rattle.sf_item.specs.Taking.{IsInt}
 use Rattle.sf_item.specs.Tests.{read, is_ink, shape_begins, is_within, can_take, has_item}
-use Rattle.sf_item.proofs.Deciding.{Tests}
-use Rattle.sf_item.proofs.Integers.{by_lt, by_eq, by_sign, by_x}
+use Rattle.sf_item.proofs.Deciding.{Tests, read_radix}
+use Rattle.sf_item.proofs.Integers.{by_lt, HasRadix, MayHaveRadix, some_zero_radix}
 
 -- ---- tests
 
@@ -110,59 +109,19 @@ tests_item Count = record { from = λ e. absurd (true≢false (sym e)); to = λ 
 
 -- ---- one 0 more
 
-abbrev HasRadix : Progress → Type 0
-HasRadix (Digits sign radix value) = 0 < radix
-HasRadix _ = Unit {0}
+digit_goes_on : (sign : Bool) (radix value : ℕ) → 0 < radix → (q : Progress) × (with_digit sign radix value 48 ≡ Some q)
+digit_goes_on sign radix value some =
+    by_lt 0 radix (λ v. (q : Progress) × (◌≡◌ {A = Option Progress} (cond v (Some (Digits sign radix (value * radix + 0))) None) (Some q)))
+    (λ below. (Digits sign radix (value * radix + 0), refl))
+    (λ above. absurd (omega (arith, some)))
 
 -- an integer can always go on with a 0
 goes_on : (base : Base) (p : Progress) → HasRadix p → (q : Progress) × (advance base p 48 ≡ Some q)
 goes_on base Start h = (Zero false, refl)
 goes_on base (Signed sign) h = (Zero sign, refl)
-goes_on Dec (Zero sign) h = (Digits sign 10 0, refl)
-goes_on Oct (Zero sign) h = (Digits sign 8 0, refl)
-goes_on Hex (Zero sign) h = (Digits sign 16 0, refl)
-goes_on Auto (Zero sign) h = (Digits sign 8 0, refl)
-goes_on base (Prefix sign) h = (Digits sign 16 0, refl)
-goes_on base (Digits sign radix value) h =
-    by_lt 0 radix (λ v. (q : Progress) × (◌≡◌ {A = Option Progress} (cond v (Some (Digits sign radix (value * radix + 0))) None) (Some q)))
-    (λ below. (Digits sign radix (value * radix + 0), refl))
-    (λ above. absurd (omega (arith, h)))
-
--- the radix of the digits so far, if some were read, is above 0
-abbrev MayHaveRadix : Option Progress → Type 0
-MayHaveRadix None = Unit {0}
-MayHaveRadix (Some p) = HasRadix p
-
-digit_radix : (sign : Bool) (radix value b : ℕ) → MayHaveRadix (with_digit sign radix value b)
-digit_radix sign radix value b =
-    by_lt (digit_value b) radix (λ v. MayHaveRadix (cond v (Some (Digits sign radix (value * radix + digit_value b))) None))
-    (λ below. omega (arith, below))
-    (λ above. tt)
-
-first_radix_is : (base : Base) (sign : Bool) (b : ℕ) → MayHaveRadix (with_first_digit base sign b)
-first_radix_is base sign b =
-    by_eq b 48 (λ v. MayHaveRadix (cond v (Some (Zero sign)) (with_digit sign (first_radix base) 0 b))) (λ _. tt)
-    (λ _. digit_radix sign (first_radix base) 0 b)
-
-zero_radix_is : (base : Base) (sign : Bool) (b : ℕ) → MayHaveRadix (advance base (Zero sign) b)
-zero_radix_is Dec sign b = digit_radix sign 10 0 b
-zero_radix_is Oct sign b = digit_radix sign 8 0 b
-zero_radix_is Hex sign b =
-    by_x b (λ v. MayHaveRadix (cond v (Some (Prefix sign)) (with_digit sign 16 0 b))) (λ _. tt) (λ _. digit_radix sign 16 0 b)
-zero_radix_is Auto sign b =
-    by_x b (λ v. MayHaveRadix (cond v (Some (Prefix sign)) (with_digit sign 8 0 b))) (λ _. tt) (λ _. digit_radix sign 8 0 b)
-
-next_radix : (base : Base) (p : Progress) (b : ℕ) → MayHaveRadix (advance base p b)
-next_radix base Start b = by_sign base b MayHaveRadix (λ _. tt) (λ _. tt) (λ _ _. first_radix_is base false b)
-next_radix base (Signed sign) b = first_radix_is base sign b
-next_radix base (Zero sign) b = zero_radix_is base sign b
-next_radix base (Prefix sign) b = digit_radix sign 16 0 b
-next_radix base (Digits sign radix value) b = digit_radix sign radix value b
-
-read_radix : (base : Base) (o : Option Progress) (f : List ℕ) → MayHaveRadix o → MayHaveRadix (read base o f)
-read_radix base None f h = tt
-read_radix base (Some p) [] h = h
-read_radix base (Some p) (b ∷ f) h = read_radix base (advance base p b) f (next_radix base p b)
+goes_on base (Zero sign) h = digit_goes_on sign (zero_radix base) 0 (some_zero_radix base)
+goes_on base (Prefix sign radix) h = digit_goes_on sign radix 0 h
+goes_on base (Digits sign radix value) h = digit_goes_on sign radix value h
 
 pub read_more : (base : Base) (o : Option Progress) (f g : List ℕ) → read base o (f ++ g) ≡ read base (read base o f) g
 read_more base None f g = refl

@@ -13,11 +13,11 @@ use Rattle.sf_format.specs.declared.directive.Shape.TheVariants.{Int, Chars}
 use Rattle.sf_format.specs.declared.directive.Conversion.{Conversion}
 use Rattle.sf_format.specs.Proper.{IsProperShape}
 use Rattle.sf_item.specs.Matching.{IsItem, Matches}
-use Rattle.sf_item.specs.Progress.{Progress, Start, Zero, Prefix, Digits, integer_of, advance, with_digit, with_first_digit}
+use Rattle.sf_item.specs.Progress.{Progress, Start, Zero, Prefix, Digits, integer_of, advance, with_digit, with_first_digit, after_zero}
 use Rattle.sf_item.specs.Scan.{FitsLeft}
 use Rattle.sf_item.specs.Tests.{read, integer_in, is_within, shape_begins, shape_matches, can_take}
 use Rattle.sf_item.specs.Wholes.{EndsWithin, ItemWithin, OpensHex, signed_as, ReadsHex}
-use Rattle.sf_item.proofs.Integers.{by_lt, by_eq, by_sign, by_x}
+use Rattle.sf_item.proofs.Integers.{by_lt, by_eq, by_sign, by_prefix, plain_zero}
 use Rattle.sf_item.proofs.Deciding.{integer_from_at, tests_matches}
 use Rattle.sf_item.proofs.Fronts.{read_more, one_more}
 use Rattle.sf_item.proofs.ItemLaws.{item_ends, item_stays}
@@ -39,7 +39,7 @@ ReadsTo sign m o = (p : Progress) × (o ≡ Some p) × IsDecimal sign m p
 first_digit : (sign : Bool) (b : ℕ) → digit_value b < 10 → ReadsTo sign (0 * 10 + digit_value b) (with_first_digit Dec sign b)
 first_digit sign b low =
     by_eq b 48 (λ v. ReadsTo sign (0 * 10 + digit_value b) (cond v (Some (Zero sign)) (with_digit sign 10 0 b)))
-    (λ is. subst (λ c. ReadsTo sign (0 * 10 + digit_value c) (Some (Zero sign))) (sym is) (Zero sign, refl, record { integer = refl; goes = λ c. refl }))
+    (λ is. subst (λ c. ReadsTo sign (0 * 10 + digit_value c) (Some (Zero sign))) (sym is) (Zero sign, refl, record { integer = refl; goes = λ c. plain_zero Dec sign c refl refl }))
     (λ other.
     by_lt (digit_value b) 10 (λ v. ReadsTo sign (0 * 10 + digit_value b) (cond v (Some (Digits sign 10 (0 * 10 + digit_value b))) None))
     (λ below. (Digits sign 10 (0 * 10 + digit_value b), refl, record { integer = refl; goes = λ c. refl }))
@@ -212,9 +212,10 @@ zero_goes sign [] n some reads = absurd (nothing some reads)
     nothing : 0 < n → ◌≡◌ {A = Option Progress} (Some (Digits sign 16 0)) (Some (Digits sign 16 n)) → ⊥
     nothing some h = let same = same_number sign 16 0 n h in omega (arith, same, some)
 zero_goes sign (b ∷ t) n some reads =
-    by_x b (λ v. read Hex (cond v (Some (Prefix sign)) (with_digit sign 16 0 b)) t ≡ Some (Digits sign 16 n))
+    by_prefix Hex b (λ o. read Hex (after_zero sign 16 b o) t ≡ Some (Digits sign 16 n))
     (λ x. absurd (no_letter x))
     (λ other. reads)
+    reads
   where
     low : digit_value b < 16
     low = begins_low Hex sign 16 0 n b t reads
@@ -251,11 +252,11 @@ opens_prefixed f start letter sign plain signed is t n some reads =
     zero_read zero plain = ap (λ s. read Hex (Some (Zero s)) (letter ∷ t)) (sym (plain refl))
     zero_read (suc k) plain = refl
 
-    prefix : (letter ≡ 120) ⊎ (letter ≡ 88) → advance Hex (Zero sign) letter ≡ Some (Prefix sign)
+    prefix : (letter ≡ 120) ⊎ (letter ≡ 88) → advance Hex (Zero sign) letter ≡ Some (Prefix sign 16)
     prefix (inl e) = ap (advance Hex (Zero sign)) e
     prefix (inr e) = ap (advance Hex (Zero sign)) e
 
-    go : (t : List ℕ) → read Hex (Some (Digits sign 16 0)) t ≡ Some (Digits sign 16 n) → read Hex (Some (Prefix sign)) t ≡ Some (Digits sign 16 n)
+    go : (t : List ℕ) → read Hex (Some (Digits sign 16 0)) t ≡ Some (Digits sign 16 n) → read Hex (Some (Prefix sign 16)) t ≡ Some (Digits sign 16 n)
     go [] is = let same = same_number sign 16 0 n is in absurd (omega (arith, same, some))
     go (b ∷ t) is = is
 

@@ -1,4 +1,5 @@
 pub mod Laws
+pub mod Radices
 pub mod Matching
 pub mod Progress
 pub mod Scan

@@ -1,26 +1,26 @@
 -- Matching sequences and input items (C11 7.21.6.2p9, p12; 7.22.1.4p3 for integers).
-use Rattle.std.specs.Prelude.{◌≡◌, ℕ, ◌<◌, ◌≤◌, ◌⊎◌, Bool, true, false, List, [], ◌∷◌, ◌++◌, length, take, Option, IfSome, unwrap_or}
+use Rattle.std.specs.Prelude.{◌≡◌, ℕ, ◌<◌, ◌≤◌, ◌⊎◌, Bool, true, false, List, [], ◌∷◌, ◌++◌, length, take, Option, Some, IfSome, unwrap_or}
 use Rattle.std.specs.List.{AllByRecursion}
 use Rattle.std.specs.Str.Parse.{IsNumeral}
 use Rattle.sf_base.specs.Greatest.{IsGreatest}
 use Rattle.sf_base.specs.Bytes.{AreBytes, is_white, magnitude}
 use Rattle.sf_base.specs.Sets.{has_byte}
 use Rattle.sf_format.specs.declared.directive.Base.{Base}
-use Rattle.sf_format.specs.declared.directive.Base.TheVariants.{Dec, Oct, Hex, Auto}
 use Rattle.sf_format.specs.declared.directive.Shape.{Shape}
 use Rattle.sf_format.specs.declared.directive.Shape.TheVariants.{Int, Text, Set, Chars, Count}
 use Rattle.sf_format.specs.declared.directive.Conversion.{Conversion}
+use Rattle.sf_item.specs.Radices.{first_radix, zero_radix, prefix_radix}
 
 -- one or more digits of the radix, and their number
 abbrev pub IsNumber : ℕ → List ℕ → ℕ → Type 0
 IsNumber radix ds m = IsNumeral radix ds × (m ≡ magnitude radix ds)
 
--- 0, the letter in either case, and a number
-abbrev pub IsPrefixed : ℕ → ℕ → ℕ → List ℕ → ℕ → Type 0
-IsPrefixed lower upper radix [] m = ⊥
-IsPrefixed lower upper radix (zero_digit ∷ []) m = ⊥
-IsPrefixed lower upper radix (zero_digit ∷ letter ∷ ds) m =
-    (zero_digit ≡ 48) × ((letter ≡ lower) ⊎ (letter ≡ upper)) × IsNumber radix ds m
+-- 0, the letter of a prefix that the base has, and a number of its radix
+abbrev pub IsPrefixed : Base → List ℕ → ℕ → Type 0
+IsPrefixed base [] m = ⊥
+IsPrefixed base (zero_digit ∷ []) m = ⊥
+IsPrefixed base (zero_digit ∷ letter ∷ ds) m =
+    (zero_digit ≡ 48) × ((radix : ℕ) × (prefix_radix base letter ≡ Some radix) × IsNumber radix ds m)
 
 -- the first digit is 0
 abbrev pub StartsWithZero : List ℕ → Type 0
@@ -29,13 +29,10 @@ StartsWithZero (b ∷ bs) = b ≡ 48
 
 -- what follows the sign of an integer, and its magnitude
 abbrev pub IsUnsigned : Base → List ℕ → ℕ → Type 0
-IsUnsigned Dec body m = IsNumber 10 body m
-IsUnsigned Oct body m = IsNumber 8 body m
-IsUnsigned Hex body m = IsNumber 16 body m ⊎ IsPrefixed 120 88 16 body m
-IsUnsigned Auto body m =
-    ((StartsWithZero body → ⊥) × IsNumber 10 body m)
-    ⊎ (StartsWithZero body × IsNumber 8 body m)
-    ⊎ IsPrefixed 120 88 16 body m
+IsUnsigned base body m =
+    ((StartsWithZero body → ⊥) × IsNumber (first_radix base) body m)
+    ⊎ (StartsWithZero body × IsNumber (zero_radix base) body m)
+    ⊎ IsPrefixed base body m
 
 -- an optional sign; a minus is negative
 abbrev pub IsSign : List ℕ → Bool → Type 0

@@ -1,10 +1,11 @@
 //! Integers, read byte by byte: sign, prefix, digits (C11 7.21.6.2p12, 7.22.1.4p3).
 ghost use Rattle.std.specs.Prelude.{◌≡◌, false, ◌+◌, ◌*◌, ◌<◌, ◌≤◌, ◌↔◌, ◌⊎◌, if◌then◌else◌, ℕ, List, [], ◌∷◌, ◌++◌, length, take, Some, None};
-ghost use Rattle.sf_item.specs.Progress.{Progress, Start, Zero, advance, first_radix, zero_radix, is_prefix_letter, with_digit, with_first_digit};
+ghost use Rattle.sf_item.specs.Progress.{Progress, Start, Zero, advance, with_digit, with_first_digit};
 ghost use Rattle.sf_item.specs.Tests.{read};
 ghost use Rattle.sf_item.specs.Scan.{HoldsNumber, Shows, ShowsNext, HasDigits, ReadsDecimal};
 
-use crate::reached::{Digits, Reached};
+use crate::radices::{prefix_radix, radices_of};
+use crate::reached::{Digits, Prefixed, Reached};
 use sf_base::digit_value;
 use sf_format::Base;
 
@@ -68,42 +69,6 @@ fn begin(negative: bool, radix: u8, b: u8, reached: &mut Reached) -> bool
     }
 }
 
-// The radix of an integer that begins with another digit than 0.
-fn first_radix(base: Base) -> u8
-    ensures positive { 0 < result }
-    ensures small { result ≤ 16 }
-    ensures radix { result ≡ first_radix base }
-{
-    match base {
-        Base::Dec | Base::Auto => 10,
-        Base::Oct => 8,
-        Base::Hex => 16,
-    }
-}
-
-// The radix of one that begins with 0 and has no prefix.
-fn zero_radix(base: Base) -> u8
-    ensures positive { 0 < result }
-    ensures small { result ≤ 16 }
-    ensures radix { result ≡ zero_radix base }
-{
-    match base {
-        Base::Dec => 10,
-        Base::Oct | Base::Auto => 8,
-        Base::Hex => 16,
-    }
-}
-
-// Whether the byte after a first 0 makes it a prefix.
-fn is_prefix_letter(base: Base, b: u8) -> bool
-    ensures { result ≡ is_prefix_letter base b }
-{
-    match base {
-        Base::Dec | Base::Oct => false,
-        Base::Hex | Base::Auto => b == b'x' || b == b'X',
-    }
-}
-
 // Takes the first digit, or the 0 of a prefix.
 fn first_digit(base: Base, negative: bool, b: u8, reached: &mut Reached) -> bool
     ensures next { ShowsNext (if result then Some reached.new else None) (with_first_digit base negative b) }
@@ -113,7 +78,7 @@ fn first_digit(base: Base, negative: bool, b: u8, reached: &mut Reached) -> bool
         *reached = Reached::Zero(negative);
         return true;
     }
-    begin(negative, first_radix(base), b, reached)
+    begin(negative, radices_of(base).first, b, reached)
 }
 
 // Takes the first byte: a sign or a digit.
@@ -133,11 +98,13 @@ fn second_byte(base: Base, negative: bool, b: u8, reached: &mut Reached) -> bool
     ensures next { ShowsNext (if result then Some reached.new else None) (advance base (Zero negative) b) }
     ensures refused { result ≡ false → reached.new ≡ reached.old }
 {
-    if is_prefix_letter(base, b) {
-        *reached = Reached::Prefix(negative);
-        return true;
+    match prefix_radix(base, b) {
+        Some(radix) => {
+            *reached = Reached::Prefix(Prefixed { negative, radix });
+            true
+        }
+        None => begin(negative, radices_of(base).zero, b, reached),
     }
-    begin(negative, zero_radix(base), b, reached)
 }
 
 // Takes one byte more of an integer of the base, and tells so, if one begins so.
@@ -149,7 +116,7 @@ pub fn advance(base: Base, reached: &mut Reached, b: u8) -> bool
         Reached::Start => first_byte(base, b, reached),
         Reached::Signed(negative) => first_digit(base, *negative, b, reached),
         Reached::Zero(negative) => second_byte(base, *negative, b, reached),
-        Reached::Prefix(negative) => begin(*negative, 16, b, reached),
+        Reached::Prefix(prefixed) => begin(prefixed.negative, prefixed.radix, b, reached),
         Reached::Digits(digits) => add_byte(digits, b),
     }
 }

@@ -4,9 +4,11 @@
 mod integer;
 mod item;
 pub mod laws;
+mod radices;
 mod reached;
 mod reading;
 mod whole;
 
 pub use item::{ItemEnd, ItemScan, Step};
+pub use radices::{Radices, prefix_radix, radices_of};
 pub use whole::{WholeInteger, whole_bytes, whole_decimal, whole_hex};

@@ -47,6 +47,7 @@ mark_by true letter.Unsigned xs h = h
 mark_by true letter.Octal xs h = h
 mark_by true letter.HexLower xs h = refl
 mark_by true letter.HexUpper xs h = refl
+mark_by true letter.Binary xs h = refl
 mark_by true letter.Text xs h = h
 mark_by true letter.One xs h = h
 mark_by false l xs h = h
@@ -84,6 +85,7 @@ mark_byte true letter.Unsigned xs h = h
 mark_byte true letter.Octal xs h = h
 mark_byte true letter.HexLower xs h = omega arith
 mark_byte true letter.HexUpper xs h = omega arith
+mark_byte true letter.Binary xs h = omega arith
 mark_byte true letter.Text xs h = h
 mark_byte true letter.One xs h = h
 mark_byte false l xs h = h
@@ -158,6 +160,7 @@ small_base : (l : PrintLetter) → (2 ≤ base_of l) × (base_of l ≤ 16)
 small_base letter.Octal = (omega arith, omega arith)
 small_base letter.HexLower = (omega arith, omega arith)
 small_base letter.HexUpper = (omega arith, omega arith)
+small_base letter.Binary = (omega arith, omega arith)
 small_base _ = (omega arith, omega arith)
 
 no_padding : (c : PrintConv) (len : ℕ) → pads_with_zeros c ≡ false → inner_zeros c len ≡ 0

@@ -37,6 +37,7 @@ marked_first : (t : Bool) (l : PrintLetter) (xs : List ℕ) → FirstIn (digits_
 marked_first false l xs f = f
 marked_first true letter.HexLower xs f = refl
 marked_first true letter.HexUpper xs f = refl
+marked_first true letter.Binary xs f = refl
 marked_first true letter.Octal xs f = f
 marked_first true letter.Signed xs f = f
 marked_first true letter.Unsigned xs f = f
@@ -85,6 +86,7 @@ visible_first letter.Unsigned c z xs (inr n) f = unsigned_first (digits_in 10) c
 visible_first letter.Octal c z xs (inr n) f = unsigned_first (digits_in 8) c z xs n f
 visible_first letter.HexLower c z xs (inr n) f = unsigned_first (digits_in 16) c z xs n f
 visible_first letter.HexUpper c z xs (inr n) f = unsigned_first (digits_in 16) c z xs n f
+visible_first letter.Binary c z xs (inr n) f = unsigned_first (digits_in 2) c z xs n f
 visible_first letter.Text c z xs (inr n) f = unsigned_first (digits_in 10) c z xs n f
 visible_first letter.One c z xs (inr n) f = unsigned_first (digits_in 10) c z xs n f
 visible_first _ c z xs (inl e) f = absurd cc

@@ -1,14 +1,15 @@
 -- Which bytes an integer's text goes on with, base by base.
-use Rattle.std.proofs.Common.{◌≡◌, ℕ, ◌+◌, ◌*◌, ◌⊎◌, inl, inr, Bool, true, false, cond, eqb, ◌||◌, length, Some, None, is_some, refl, sym, ap, ◌∙◌}
+use Rattle.std.proofs.Common.{◌≡◌, ℕ, ◌+◌, ◌*◌, ◌⊎◌, inl, inr, Bool, true, false, cond, eqb, ◌&&◌, ◌||◌, length, Option, Some, None, is_some, refl, sym, ap, ◌∙◌}
 use Rattle.std.proofs.lemmas.Bool.{eqb-true}
 use Rattle.std.specs.Char.{digit_value, is_digit}
 use Rattle.sf_format.specs.declared.directive.Base.{Base}
-use Rattle.sf_format.specs.declared.directive.Base.TheVariants.{Dec, Oct, Hex, Auto}
+use Rattle.sf_format.specs.declared.directive.Base.TheVariants.{Dec, Oct, Hex, Bin, Auto, AutoBin}
 use Rattle.sf_format.specs.declared.directive.Shape.TheVariants as shape
 use Rattle.sf_format.specs.declared.unit.PrintConv.{PrintConv}
-use Rattle.sf_item.specs.Progress.{Progress, Zero, Prefix, Digits, first_radix, zero_radix, is_prefix_letter, with_digit, advance}
+use Rattle.sf_item.specs.Radices.{first_radix, zero_radix, prefix_radix}
+use Rattle.sf_item.specs.Progress.{Progress, Zero, Digits, with_digit, after_zero, advance}
 use Rattle.sf_print.specs.Visible.{least}
-use Rattle.sf_pair.specs.Neighbours.{or, digits_in, prefix_letters, stop_set}
+use Rattle.sf_pair.specs.Neighbours.{prefix_letters, is_auto_base, stop_set}
 use Rattle.sf_pair.specs.Groups.{is_auto}
 use Rattle.sf_pair.proofs.Numbers.{EndsIn}
 
@@ -16,39 +17,48 @@ use Rattle.sf_pair.proofs.Numbers.{EndsIn}
 
 -- it is a digit; or the letter of a prefix, which may stand behind a lone 0 alone, or a 0 behind which the base isn't known yet
 abbrev pub Stops : Base → PrintConv → ℕ → Type 0
-Stops base c b = (is_digit b (first_radix base) ≡ true) ⊎ ((is_prefix_letter base b ≡ true) × ((is_auto (shape.Int base) ≡ true) ⊎ (length (least c) ≡ 1)))
+Stops base c b = (is_digit b (first_radix base) ≡ true) ⊎ ((prefix_letters base b ≡ true) × ((is_auto (shape.Int base) ≡ true) ⊎ (length (least c) ≡ 1)))
 
 either_so : (x y : Bool) → (x || y) ≡ true → (x ≡ true) ⊎ (y ≡ true)
 either_so true y e = inl refl
 either_so false y e = inr e
 
 pub stops_so : (base : Base) (c : PrintConv) (b : ℕ) → stop_set (shape.Int base) c b ≡ true → Stops base c b
-stops_so Dec c b e = inl e
-stops_so Oct c b e = inl e
-stops_so Hex c b e = by (eqb (length (least c)) 1) refl e
+stops_so base c b e = elim (either_so ((eqb (length (least c)) 1 || is_auto_base base) && prefix_letters base b) (is_digit b (first_radix base)) e) [
+  | inl h ↦ (
+      let k = both_so (eqb (length (least c)) 1 || is_auto_base base) (prefix_letters base b) h in
+      inr (k.1, elim (either_so (eqb (length (least c)) 1) (is_auto_base base) k.0) [ inl one ↦ inr (eqb-true (length (least c)) 1 one) | inr auto ↦ inl auto ]))
+  | inr h ↦ inl h
+]
   where
-    by : (t : Bool) → eqb (length (least c)) 1 ≡ t → cond t (or prefix_letters (digits_in 16)) (digits_in 16) b ≡ true → Stops Hex c b
-    by true one e = elim (either_so (prefix_letters b) (is_digit b 16) e) [ inl h ↦ inr (h, inr (eqb-true (length (least c)) 1 one)) | inr h ↦ inl h ]
-    by false one e = inl e
-stops_so Auto c b e = elim (either_so (prefix_letters b) (is_digit b 10) e) [ inl h ↦ inr (h, inl refl) | inr h ↦ inl h ]
+    both_so : (x y : Bool) → (x && y) ≡ true → (x ≡ true) × (y ≡ true)
+    both_so true y e = (refl, e)
+    both_so false y e = absurd cc
 
 -- a 0 goes on after each integer
 pub zero_stops : (base : Base) (c : PrintConv) → stop_set (shape.Int base) c 48 ≡ true
-zero_stops Dec c = refl
-zero_stops Oct c = refl
-zero_stops Hex c = by (eqb (length (least c)) 1)
+zero_stops base c = or_so ((eqb (length (least c)) 1 || is_auto_base base) && prefix_letters base 48) (is_digit 48 (first_radix base)) (zero_digit base)
   where
-    by : (t : Bool) → cond t (or prefix_letters (digits_in 16)) (digits_in 16) 48 ≡ true
-    by true = refl
-    by false = refl
-zero_stops Auto c = refl
+    or_so : (x y : Bool) → y ≡ true → (x || y) ≡ true
+    or_so true y e = refl
+    or_so false y e = e
+
+    zero_digit : (base : Base) → is_digit 48 (first_radix base) ≡ true
+    zero_digit Dec = refl
+    zero_digit Oct = refl
+    zero_digit Hex = refl
+    zero_digit Bin = refl
+    zero_digit Auto = refl
+    zero_digit AutoBin = refl
 
 -- but for `i`, digits behind a 0 are of the same radix
 pub same_radix : (base : Base) → is_auto (shape.Int base) ≡ false → zero_radix base ≡ first_radix base
 same_radix Dec e = refl
 same_radix Oct e = refl
 same_radix Hex e = refl
+same_radix Bin e = refl
 same_radix Auto e = absurd cc
+same_radix AutoBin e = absurd cc
 
 -- ---- it is taken
 
@@ -56,12 +66,12 @@ digit_goes : (s : Bool) (r v b : ℕ) → is_digit b r ≡ true → is_some (wit
 digit_goes s r v b e = ap (λ (t : Bool). is_some (cond t (Some (Digits s r (v * r + digit_value b))) None)) e
 
 -- behind one 0: a letter of a prefix, or a digit of the radix that the base then has
-pub zero_goes : (base : Base) (s : Bool) (b : ℕ) → (is_prefix_letter base b ≡ true) ⊎ (is_digit b (zero_radix base) ≡ true) → is_some (advance base (Zero s) b) ≡ true
-zero_goes base s b h = by (is_prefix_letter base b) refl
+pub zero_goes : (base : Base) (s : Bool) (b : ℕ) → (prefix_letters base b ≡ true) ⊎ (is_digit b (zero_radix base) ≡ true) → is_some (advance base (Zero s) b) ≡ true
+zero_goes base s b h = by (prefix_radix base b) refl
   where
-    by : (t : Bool) → is_prefix_letter base b ≡ t → is_some (cond t (Some (Prefix s)) (with_digit s (zero_radix base) 0 b)) ≡ true
-    by true e = refl
-    by false e = elim h [ inl letter ↦ (let wrong : true ≡ false = sym letter ∙ e in absurd cc) | inr digit ↦ digit_goes s (zero_radix base) 0 b digit ]
+    by : (o : Option ℕ) → prefix_radix base b ≡ o → is_some (after_zero s (zero_radix base) b o) ≡ true
+    by (Some r) e = refl
+    by None e = elim h [ inl letter ↦ (let wrong : true ≡ false = sym letter ∙ ap is_some e in absurd cc) | inr digit ↦ digit_goes s (zero_radix base) 0 b digit ]
 
 pub digits_go : (base : Base) (s : Bool) (v : ℕ) (p : Progress) → p ≡ Digits s (first_radix base) v → (b : ℕ) → is_digit b (first_radix base) ≡ true → is_some (advance base p b) ≡ true
 digits_go base s v p e b digit = ap (λ (q : Progress). is_some (advance base q b)) e ∙ digit_goes s (first_radix base) v b digit

@@ -7,7 +7,7 @@ use Rattle.sf_base.specs.Data.{Number}
 use Rattle.sf_base.specs.declared.values.Kind.{Kind}
 use Rattle.sf_base.specs.declared.values.Kind.TheVariants as kind
 use Rattle.sf_format.specs.declared.directive.Base.{Base}
-use Rattle.sf_format.specs.declared.directive.Base.TheVariants.{Auto}
+use Rattle.sf_format.specs.declared.directive.Base.TheVariants.{Auto, AutoBin}
 use Rattle.sf_format.specs.declared.directive.Shape.{Shape}
 use Rattle.sf_format.specs.declared.directive.Shape.TheVariants as shape
 use Rattle.sf_format.specs.declared.directive.Conversion.{Conversion}
@@ -17,13 +17,14 @@ use Rattle.sf_format.specs.declared.unit.PrintLetter.{PrintLetter}
 use Rattle.sf_format.specs.declared.unit.PrintLetter.TheVariants as letter
 use Rattle.sf_format.specs.Units.{IsProperConv, prints_kind}
 use Rattle.sf_format.specs.Proper.{IsProper, HasItsWidth}
-use Rattle.sf_item.specs.Progress.{Progress, Start, Zero, integer_of, first_radix, is_prefix_letter, advance}
+use Rattle.sf_item.specs.Radices.{first_radix}
+use Rattle.sf_item.specs.Progress.{Progress, Start, Zero, integer_of, advance}
 use Rattle.sf_item.specs.Tests.{read, is_within, shape_begins, can_take}
 use Rattle.sf_print.specs.Text.{zeros, base_mark, is_octal, least_digits, pads_with_zeros}
 use Rattle.sf_print.specs.Visible.{without_blanks, visible, least}
 use Rattle.sf_run.specs.Machine.{shape_skips}
 use Rattle.sf_pair.specs.Below.{LawsBelow}
-use Rattle.sf_pair.specs.Neighbours.{stop_set}
+use Rattle.sf_pair.specs.Neighbours.{prefix_letters, stop_set}
 use Rattle.sf_pair.specs.Groups.{is_integer, is_chars, is_auto, letters_pair, width_of, always_full}
 use Rattle.sf_pair.specs.Fits.{IsOfKind, ValueFits}
 use Rattle.sf_pair.specs.Laws.{TakesInto}
@@ -57,6 +58,7 @@ no_text _ base e h = cc
 auto_signed : (l : PrintLetter) (base : Base) → is_auto (shape.Int base) ≡ true → letters_pair l (shape.Int base) ≡ true → l ≡ letter.Signed
 auto_signed letter.Signed base a e = refl
 auto_signed _ Auto a e = absurd cc
+auto_signed _ AutoBin a e = absurd cc
 auto_signed _ _ a e = absurd cc
 
 -- ---- lengths
@@ -215,7 +217,7 @@ module _ (laws : LawsBelow) (c : PrintConv) (s : Conversion) (base : Base) (is_i
           ])
 
   -- the letter of a prefix, behind a lone 0
-  letter_into : is_prefix_letter base b ≡ true → (is_auto (shape.Int base) ≡ true) ⊎ (length (least c) ≡ 1) → TakesInto c s b
+  letter_into : prefix_letters base b ≡ true → (is_auto (shape.Int base) ≡ true) ⊎ (length (least c) ≡ 1) → TakesInto c s b
   letter_into letter lone =
       let o = body_of (pos 0) of_kind.0 in
       let none : o.filling ≡ 0 = elim lone [ inl auto ↦ (let k = bare auto in zero_unfilled laws c o k.one k.pads k.octal) | inr one ↦ lone_unfilled laws c o one ] in

@@ -6,7 +6,7 @@ use Rattle.std.proofs.lemmas.List.Sums.{sum_by-cons}
 use Rattle.std.specs.List.{sum_by, list_any}
 use Rattle.sf_base.specs.Sets.{has_byte}
 use Rattle.sf_format.specs.declared.directive.Base.{Base}
-use Rattle.sf_format.specs.declared.directive.Base.TheVariants.{Dec, Oct, Hex, Auto}
+use Rattle.sf_format.specs.declared.directive.Base.TheVariants.{Dec, Oct, Hex, Bin, Auto, AutoBin}
 use Rattle.sf_format.specs.declared.directive.Shape.{Shape}
 use Rattle.sf_format.specs.declared.directive.Shape.TheVariants as shape
 use Rattle.sf_format.specs.declared.directive.Conversion.{Conversion}
@@ -61,7 +61,9 @@ one_digit : (base : Base) → is_some (read base (Some Start) (49 ∷ [])) ≡ t
 one_digit Dec = refl
 one_digit Oct = refl
 one_digit Hex = refl
+one_digit Bin = refl
 one_digit Auto = refl
+one_digit AutoBin = refl
 
 takes_first : (s : Conversion) (b : ℕ) → can_take s (b ∷ []) ≡ true → len s [] (b ∷ []) ≡ 1
 takes_first s b e = ap (λ (t : Bool). cond t (suc (len s (b ∷ []) [])) 0) e

@@ -1,25 +1,26 @@
 -- How an integer's text is read, and what goes on after it.
-use Rattle.std.proofs.Common.{◌≡◌, ℕ, ◌+◌, ◌*◌, ◌<◌, ◌≤◌, ◌⊎◌, inl, inr, Bool, true, false, cond, eqb, ltb, ◌&&◌, ◌||◌, nat_eq, List, [], ◌∷◌, ◌++◌, length, slice_index, ℤ, pos, negsuc, unsigned_abs, Option, Some, None, refl, sym, ap, subst, ◌∙◌, arith, eq-eqb, lit≤}
+use Rattle.std.proofs.Common.{◌≡◌, ℕ, ◌+◌, ◌*◌, ◌<◌, ◌≤◌, ◌⊎◌, inl, inr, Bool, true, false, cond, eqb, ltb, ◌&&◌, ◌||◌, nat_eq, List, [], ◌∷◌, ◌++◌, length, slice_index, ℤ, pos, negsuc, unsigned_abs, Option, Some, None, is_some, refl, sym, ap, subst, ◌∙◌, arith, eq-eqb, lit≤}
 use Rattle.std.proofs.lemmas.Bool.{ne_eqb}
 use Rattle.std.proofs.lemmas.Bool.Decides.{nat_tests}
 use Rattle.std.specs.Char.{digit_value, is_digit}
 use Rattle.std.specs.Prelude.{not}
 use Rattle.std.specs.Str.Parse.{AllDigits, digits_value}
 use Rattle.sf_format.specs.declared.directive.Base.{Base}
-use Rattle.sf_format.specs.declared.directive.Base.TheVariants.{Dec, Oct, Hex, Auto}
+use Rattle.sf_format.specs.declared.directive.Base.TheVariants.{Dec, Oct, Hex, Bin, Auto, AutoBin}
 use Rattle.sf_format.specs.declared.directive.Shape.TheVariants as shape
 use Rattle.sf_format.specs.declared.unit.PrintConv.{PrintConv}
 use Rattle.sf_format.specs.declared.unit.PrintLetter.{PrintLetter}
 use Rattle.sf_format.specs.declared.unit.PrintLetter.TheVariants as letter
-use Rattle.sf_item.specs.Progress.{Progress, Start, Signed, Zero, Prefix, Digits, integer_of, first_radix, zero_radix, with_digit, with_first_digit, advance}
+use Rattle.sf_item.specs.Radices.{first_radix, zero_radix, prefix_radix}
+use Rattle.sf_item.specs.Progress.{Progress, Start, Signed, Zero, Prefix, Digits, integer_of, with_digit, with_first_digit, after_zero, advance}
 use Rattle.sf_item.specs.Tests.{read}
 use Rattle.sf_print.specs.Text.{mark, base_mark, base_of, least_digits, pads_with_zeros, is_octal}
 use Rattle.sf_print.specs.Visible.{visible, least}
-use Rattle.sf_pair.specs.Neighbours.{or, digits_in, prefix_letters, stop_set}
+use Rattle.sf_pair.specs.Neighbours.{prefix_letters, is_auto_base, integer_stops, stop_set}
 use Rattle.sf_pair.specs.Fits.{is_negative}
 use Rattle.sf_pair.proofs.Parts.{bare_sign}
 use Rattle.sf_pair.proofs.Bodies.{digit_above, Body}
-use Rattle.sf_pair.proofs.ReadDigits.{digit_taken, reads_on, IsRead, DigitsRead, first_digits}
+use Rattle.sf_pair.proofs.ReadDigits.{digit_taken, reads_on, no_prefix_of_dec, no_prefix_of_oct, IsRead, DigitsRead, first_digits}
 
 -- ---- the sign
 
@@ -66,10 +67,10 @@ read_body base q s r (d ∷ ds) opens first small second all some =
     by (inl e) = inl e
     by (inr h) = inr (λ e. none_left ds (h e))
 
--- after the mark of a base
-marked_body : (s : Bool) (body : List ℕ) → AllDigits 16 body → 0 < length body → read Hex (Some (Prefix s)) body ≡ Some (Digits s 16 (digits_value 16 body))
-marked_body s [] all some = absurd (omega arith)
-marked_body s (d ∷ ds) all some = ap (λ (o : Option Progress). read Hex o ds) (digit_taken s 16 0 d all.0) ∙ reads_on Hex s 16 (0 * 16 + digit_value d) ds all.1
+-- after the letter of a prefix
+marked_body : (base : Base) (s : Bool) (r : ℕ) (body : List ℕ) → AllDigits r body → 0 < length body → read base (Some (Prefix s r)) body ≡ Some (Digits s r (digits_value r body))
+marked_body base s r [] all some = absurd (omega arith)
+marked_body base s r (d ∷ ds) all some = ap (λ (o : Option Progress). read base o ds) (digit_taken s r 0 d all.0) ∙ reads_on base s r (0 * r + digit_value d) ds all.1
 
 -- ---- the number
 
@@ -116,56 +117,71 @@ unmarked base c z b none first small second =
 no_digit : (s : Bool) (r v b : ℕ) → is_digit b r ≡ false → with_digit s r v b ≡ None
 no_digit s r v b e = ap (λ (t : Bool). cond t (Some (Digits s r (v * r + digit_value b))) None) e
 
-decimal_stops : (s : Bool) (body : List ℕ) (p : Progress) → IsRead s 10 body p → (b : ℕ) → is_digit b 10 ≡ false → advance Dec p b ≡ None
-decimal_stops s body p (inl h) b e = ap (λ (q : Progress). advance Dec q b) h.0 ∙ no_digit s 10 0 b e
-decimal_stops s body p (inr h) b e = ap (λ (q : Progress). advance Dec q b) h ∙ no_digit s 10 (digits_value 10 body) b e
-
-octal_stops : (s : Bool) (body : List ℕ) (p : Progress) → IsRead s 8 body p → (b : ℕ) → is_digit b 8 ≡ false → advance Oct p b ≡ None
-octal_stops s body p (inl h) b e = ap (λ (q : Progress). advance Oct q b) h.0 ∙ no_digit s 8 0 b e
-octal_stops s body p (inr h) b e = ap (λ (q : Progress). advance Oct q b) h ∙ no_digit s 8 (digits_value 8 body) b e
-
 or_none : (x y : Bool) → (x || y) ≡ false → (x ≡ false) × (y ≡ false)
 or_none true y e = absurd cc
 or_none false y e = (refl, e)
 
-prefix_stops : (base : Base) (s : Bool) (r b : ℕ) → prefix_letters b ≡ false → is_digit b r ≡ false → cond (nat_eq b 120 || nat_eq b 88) (Some (Prefix s)) (with_digit s r 0 b) ≡ None
-prefix_stops base s r b x d = ap (λ (t : Bool). cond t (Some (Prefix s)) (with_digit s r 0 b)) x ∙ no_digit s r 0 b d
+-- ---- what does not go on
 
-eight : (n : ℕ) → ltb n 10 ≡ false → ltb n 8 ≡ false
-eight n e = grind (arith, nat_tests)
+no_radix : (o : Option ℕ) → is_some o ≡ false → o ≡ None
+no_radix None e = refl
+no_radix (Some r) e = absurd cc
 
-below_eight : (b : ℕ) → is_digit b 10 ≡ false → is_digit b 8 ≡ false
-below_eight b e = eight (digit_value b) e
+-- a byte outside the stop set is no digit
+outside_digits : (base : Base) (lone : Bool) (b : ℕ) → integer_stops base lone b ≡ false → is_digit b (first_radix base) ≡ false
+outside_digits base lone b e = (or_none ((lone || is_auto_base base) && prefix_letters base b) (is_digit b (first_radix base)) e).1
 
-auto_stops : (s : Bool) (body : List ℕ) (p : Progress) → IsRead s 10 body p → (b : ℕ) → or prefix_letters (digits_in 10) b ≡ false → advance Auto p b ≡ None
-auto_stops s body p (inl h) b e = let n = or_none (prefix_letters b) (is_digit b 10) e in ap (λ (q : Progress). advance Auto q b) h.0 ∙ prefix_stops Auto s 8 b n.0 (below_eight b n.1)
-auto_stops s body p (inr h) b e = let n = or_none (prefix_letters b) (is_digit b 10) e in ap (λ (q : Progress). advance Auto q b) h ∙ no_digit s 10 (digits_value 10 body) b n.1
+-- nor the letter of a prefix, where a 0 may be alone
+outside_letters : (base : Base) (lone : Bool) (b : ℕ) → (lone || is_auto_base base) ≡ true → integer_stops base lone b ≡ false → prefix_radix base b ≡ None
+outside_letters base lone b may e =
+    no_radix (prefix_radix base b)
+    (sym (ap (λ (t : Bool). t && prefix_letters base b) may) ∙ (or_none ((lone || is_auto_base base) && prefix_letters base b) (is_digit b (first_radix base)) e).0)
 
--- ---- hexadecimal
+lower : (m n d : ℕ) → m ≤ n → ltb d n ≡ false → ltb d m ≡ false
+lower m n d h e = grind (arith, nat_tests)
 
-hex_mark : (l : PrintLetter) → base_of l ≡ 16 → (x : ℕ) × (base_mark l ≡ 48 ∷ x ∷ []) × ((s : Bool) → advance Hex (Zero s) x ≡ Some (Prefix s))
-hex_mark letter.HexLower e = (120, refl, λ s. refl)
-hex_mark letter.HexUpper e = (88, refl, λ s. refl)
-hex_mark letter.Octal e = absurd (omega (arith, e))
-hex_mark letter.Signed e = absurd (omega (arith, e))
-hex_mark letter.Unsigned e = absurd (omega (arith, e))
-hex_mark letter.Text e = absurd (omega (arith, e))
-hex_mark letter.One e = absurd (omega (arith, e))
+-- behind a 0 there are no more digits than before
+fewer_digits : (base : Base) (b : ℕ) → is_digit b (first_radix base) ≡ false → is_digit b (zero_radix base) ≡ false
+fewer_digits Dec b e = e
+fewer_digits Oct b e = e
+fewer_digits Hex b e = e
+fewer_digits Bin b e = e
+fewer_digits Auto b e = lower 8 10 (digit_value b) (lit≤ tt) e
+fewer_digits AutoBin b e = lower 8 10 (digit_value b) (lit≤ tt) e
 
-marked : (c : PrintConv) (z : ℤ) (b : Body c z) → base_of c.letter ≡ 16 → mark c (unsigned_abs z) ≡ base_mark c.letter → Read Hex c z b.body 16
-marked c z b hex is =
-    let o = opening Hex c z in
+read_stops : (base : Base) (lone : Bool) (s : Bool) (body : List ℕ) (p : Progress) → IsRead s (first_radix base) body p
+    → (b : ℕ) → (body ≡ 48 ∷ [] → prefix_radix base b ≡ None) → integer_stops base lone b ≡ false → advance base p b ≡ None
+read_stops base lone s body p (inl h) b none e =
+    ap (λ (q : Progress). advance base q b) h.0
+    ∙ ap (after_zero s (zero_radix base) b) (none h.1)
+    ∙ no_digit s (zero_radix base) 0 b (fewer_digits base b (outside_digits base lone b e))
+read_stops base lone s body p (inr h) b none e =
+    ap (λ (q : Progress). advance base q b) h ∙ no_digit s (first_radix base) (digits_value (first_radix base) body) b (outside_digits base lone b e)
+
+-- ---- with a mark
+
+-- the letter's mark is a prefix of the base
+pub record HasMark (base : Base) (l : PrintLetter) : Type 0 where
+  pub byte : ℕ
+  pub mark : base_mark l ≡ 48 ∷ byte ∷ []
+  pub radix : prefix_radix base byte ≡ Some (base_of l)
+  pub first : first_radix base ≡ base_of l
+  pub zero : zero_radix base ≡ base_of l
+  pub small : base_of l ≤ 16
+
+marked : (c : PrintConv) (z : ℤ) (b : Body c z) (base : Base) → HasMark base c.letter → mark c (unsigned_abs z) ≡ base_mark c.letter → Read base c z b.body (base_of c.letter)
+marked c z b base k is =
+    let o = opening base c z in
     let s : Bool = is_negative z in
-    let k = hex_mark c.letter hex in
-    let all : AllDigits 16 b.body = subst (λ (r : ℕ). AllDigits r b.body) hex b.all in
+    let r : ℕ = base_of c.letter in
     record {
-      progress = Digits s 16 (digits_value 16 b.body);
+      progress = Digits s r (digits_value r b.body);
       is =
-          ap (read Hex (Some Start)) (b.visible_is ∙ ap (λ (xs : List ℕ). bare_sign c z ++ (xs ++ b.body)) (is ∙ k.1))
-          ∙ o.goes (48 ∷ k.0 ∷ b.body)
-          ∙ ap (λ (q : Option Progress). read Hex q (k.0 ∷ b.body)) (o.opens 48 (omega arith))
-          ∙ ap (λ (q : Option Progress). read Hex q b.body) (k.2 s)
-          ∙ marked_body s b.body all b.some;
+          ap (read base (Some Start)) (b.visible_is ∙ ap (λ (xs : List ℕ). bare_sign c z ++ (xs ++ b.body)) (is ∙ k.mark))
+          ∙ o.goes (48 ∷ k.byte ∷ b.body)
+          ∙ ap (λ (q : Option Progress). read base q (k.byte ∷ b.body)) (o.opens 48 (omega arith))
+          ∙ ap (λ (q : Option ℕ). read base (after_zero s (zero_radix base) k.byte q) b.body) k.radix
+          ∙ marked_body base s r b.body b.all b.some;
       end = inr refl;
     }
 
@@ -188,24 +204,6 @@ lone_zero c m b plus body zero_is =
     plus_sign : List ℕ
     plus_sign = 43 ∷ []
 
-hex_stops : (c : PrintConv) (s : Bool) (body : List ℕ) (p : Progress) → IsRead s 16 body p → (body ≡ 48 ∷ [] → length (least c) ≡ 1)
-    → (b : ℕ) → stop_set (shape.Int Hex) c b ≡ false → advance Hex p b ≡ None
-hex_stops c s body p read alone b e = by (eqb (length (least c)) 1) refl e
-  where
-    digit_only : (t : Bool) → cond t (or prefix_letters (digits_in 16)) (digits_in 16) b ≡ false → is_digit b 16 ≡ false
-    digit_only true e = (or_none (prefix_letters b) (is_digit b 16) e).1
-    digit_only false e = e
-
-    prefix_too : (t : Bool) → eqb (length (least c)) 1 ≡ t → length (least c) ≡ 1 → cond t (or prefix_letters (digits_in 16)) (digits_in 16) b ≡ false → prefix_letters b ≡ false
-    prefix_too true is one e = (or_none (prefix_letters b) (is_digit b 16) e).0
-    prefix_too false is one e = let h : true ≡ false = sym (eq-eqb (length (least c)) 1 one) ∙ is in absurd cc
-
-    by : (t : Bool) → eqb (length (least c)) 1 ≡ t → cond t (or prefix_letters (digits_in 16)) (digits_in 16) b ≡ false → advance Hex p b ≡ None
-    by t is e = elim read [
-      | inl h ↦ ap (λ (q : Progress). advance Hex q b) h.0 ∙ prefix_stops Hex s 16 b (prefix_too t is (alone h.1) e) (digit_only t e)
-      | inr h ↦ ap (λ (q : Progress). advance Hex q b) h ∙ no_digit s 16 (digits_value 16 body) b (digit_only t e)
-    ]
-
 -- ---- each base
 
 module _ (c : PrintConv) (z : ℤ) (b : Body c z) where
@@ -219,58 +217,46 @@ module _ (c : PrintConv) (z : ℤ) (b : Body c z) where
   pub none_marked : base_mark c.letter ≡ [] → mark c (unsigned_abs z) ≡ []
   none_marked e = mark_by (λ xs. xs ≡ []) (λ h. refl) (λ h. e)
 
+  number_read : (base : Base) → first_radix base ≡ base_of c.letter → Read base c z b.body (base_of c.letter)
+      → ((x : ℕ) → stop_set (shape.Int base) c x ≡ false → b.body ≡ 48 ∷ [] → prefix_radix base x ≡ None) → NumberRead base c z
+  number_read base first r none =
+      let end : IsRead (is_negative z) (first_radix base) b.body r.progress = subst (λ (k : ℕ). IsRead (is_negative z) k b.body r.progress) (sym first) r.end in
+      record {
+        progress = r.progress;
+        is = r.is;
+        value = integer_read (is_negative z) (base_of c.letter) (unsigned_abs z) b.body r.progress r.end b.value;
+        end = ends_in base (is_negative z) b.body r.progress end;
+        stops = λ x e. read_stops base (eqb (length (least c)) 1) (is_negative z) b.body r.progress end x (none x e) e;
+      }
+
   pub read_decimal : base_of c.letter ≡ 10 → base_mark c.letter ≡ [] → NumberRead Dec c z
   read_decimal ten no_mark =
-      let r = unmarked Dec c z b (none_marked no_mark) (sym ten) (omega (arith, ten)) (inl (sym ten)) in
-      let end : IsRead (is_negative z) 10 b.body r.progress = subst (λ (k : ℕ). IsRead (is_negative z) k b.body r.progress) ten r.end in
-      record {
-        progress = r.progress;
-        is = r.is;
-        value = integer_read (is_negative z) (base_of c.letter) (unsigned_abs z) b.body r.progress r.end b.value;
-        end = ends_in Dec (is_negative z) b.body r.progress end;
-        stops = decimal_stops (is_negative z) b.body r.progress end;
-      }
+      number_read Dec (sym ten) (unmarked Dec c z b (none_marked no_mark) (sym ten) (omega (arith, ten)) (inl (sym ten))) (λ x e lone. no_prefix_of_dec x)
 
   pub read_octal : base_of c.letter ≡ 8 → base_mark c.letter ≡ [] → NumberRead Oct c z
-  read_octal eight_is no_mark =
-      let r = unmarked Oct c z b (none_marked no_mark) (sym eight_is) (omega (arith, eight_is)) (inl (sym eight_is)) in
-      let end : IsRead (is_negative z) 8 b.body r.progress = subst (λ (k : ℕ). IsRead (is_negative z) k b.body r.progress) eight_is r.end in
-      record {
-        progress = r.progress;
-        is = r.is;
-        value = integer_read (is_negative z) (base_of c.letter) (unsigned_abs z) b.body r.progress r.end b.value;
-        end = ends_in Oct (is_negative z) b.body r.progress end;
-        stops = octal_stops (is_negative z) b.body r.progress end;
-      }
+  read_octal eight no_mark =
+      number_read Oct (sym eight) (unmarked Oct c z b (none_marked no_mark) (sym eight) (omega (arith, eight)) (inl (sym eight))) (λ x e lone. no_prefix_of_oct x)
 
-  pub read_auto : base_of c.letter ≡ 10 → base_mark c.letter ≡ [] → is_octal c.letter ≡ false → least_digits c ≡ 1 → pads_with_zeros c ≡ false → NumberRead Auto c z
-  read_auto ten no_mark octal one pads =
-      let r = unmarked Auto c z b (none_marked no_mark) (sym ten) (omega (arith, ten)) (inr (b.bare one pads octal)) in
-      let end : IsRead (is_negative z) 10 b.body r.progress = subst (λ (k : ℕ). IsRead (is_negative z) k b.body r.progress) ten r.end in
-      record {
-        progress = r.progress;
-        is = r.is;
-        value = integer_read (is_negative z) (base_of c.letter) (unsigned_abs z) b.body r.progress r.end b.value;
-        end = ends_in Auto (is_negative z) b.body r.progress end;
-        stops = auto_stops (is_negative z) b.body r.progress end;
-      }
+  pub read_auto : (base : Base) → is_auto_base base ≡ true → first_radix base ≡ 10 → base_of c.letter ≡ 10 → base_mark c.letter ≡ [] → is_octal c.letter ≡ false
+      → least_digits c ≡ 1 → pads_with_zeros c ≡ false → NumberRead base c z
+  read_auto base auto first ten no_mark octal one pads =
+      number_read base (first ∙ sym ten) (unmarked base c z b (none_marked no_mark) (first ∙ sym ten) (omega (arith, ten)) (inr (b.bare one pads octal)))
+      (λ x e lone. outside_letters base (eqb (length (least c)) 1) x (or_true (eqb (length (least c)) 1) (is_auto_base base) auto) e)
+    where
+      or_true : (x y : Bool) → y ≡ true → (x || y) ≡ true
+      or_true true y e = refl
+      or_true false y e = e
 
-  hex_of : (alone : b.body ≡ 48 ∷ [] → length (least c) ≡ 1) → Read Hex c z b.body 16 → digits_value 16 b.body ≡ unsigned_abs z → NumberRead Hex c z
-  hex_of alone r value = record {
-    progress = r.progress;
-    is = r.is;
-    value = integer_read (is_negative z) 16 (unsigned_abs z) b.body r.progress r.end value;
-    end = ends_in Hex (is_negative z) b.body r.progress r.end;
-    stops = hex_stops c (is_negative z) b.body r.progress r.end alone;
-  }
+pub read_marked : (c : PrintConv) (m : ℕ) (b : Body c (pos m)) (base : Base) → HasMark base c.letter → c.plus ≡ false → NumberRead base c (pos m)
+read_marked c m b base k plus =
+    mark_by c (pos m) b (λ xs. NumberRead base c (pos m))
+    (λ none. number_read c (pos m) b base k.first (unmarked base c (pos m) b none k.first k.small (inl k.zero)) letters)
+    (λ some. number_read c (pos m) b base k.first (marked c (pos m) b base k some) letters)
+  where
+    lone : b.body ≡ 48 ∷ [] → (eqb (length (least c)) 1 || is_auto_base base) ≡ true
+    lone e =
+        let zero_is : m ≡ 0 = sym b.value ∙ ap (digits_value (base_of c.letter)) e ∙ (let none : 0 * base_of c.letter + 0 ≡ 0 = omega arith in none) in
+        ap (λ (t : Bool). t || is_auto_base base) (eq-eqb (length (least c)) 1 (lone_zero c m b plus e zero_is))
 
-pub read_hex : (c : PrintConv) (m : ℕ) (b : Body c (pos m)) → base_of c.letter ≡ 16 → c.plus ≡ false → NumberRead Hex c (pos m)
-read_hex c m b hex plus =
-    let value : digits_value 16 b.body ≡ m = ap (λ (r : ℕ). digits_value r b.body) (sym hex) ∙ b.value in
-    let zero_is : b.body ≡ 48 ∷ [] → m ≡ 0 = λ e. sym value ∙ ap (digits_value 16) e in
-    mark_by c (pos m) b (λ xs. NumberRead Hex c (pos m))
-    (λ none.
-    let r = unmarked Hex c (pos m) b none (sym hex) (omega (arith, hex)) (inl (sym hex)) in
-    hex_of c (pos m) b (λ e. lone_zero c m b plus e (zero_is e))
-    (record { progress = r.progress; is = r.is; end = subst (λ (k : ℕ). IsRead false k b.body r.progress) hex r.end }) value)
-    (λ some. hex_of c (pos m) b (λ e. lone_zero c m b plus e (zero_is e)) (marked c (pos m) b hex some) value)
+    letters : (x : ℕ) → stop_set (shape.Int base) c x ≡ false → b.body ≡ 48 ∷ [] → prefix_radix base x ≡ None
+    letters x e alone = outside_letters base (eqb (length (least c)) 1) x (lone alone) e

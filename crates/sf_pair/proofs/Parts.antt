@@ -72,12 +72,14 @@ two_or_more : (l : PrintLetter) → 2 ≤ base_of l
 two_or_more letter.Octal = omega arith
 two_or_more letter.HexLower = omega arith
 two_or_more letter.HexUpper = omega arith
+two_or_more letter.Binary = omega arith
 two_or_more _ = omega arith
 
 at_most_sixteen : (l : PrintLetter) → base_of l ≤ 16
 at_most_sixteen letter.Octal = omega arith
 at_most_sixteen letter.HexLower = omega arith
 at_most_sixteen letter.HexUpper = omega arith
+at_most_sixteen letter.Binary = omega arith
 at_most_sixteen _ = omega arith
 
 module _ (laws : LawsBelow) (c : PrintConv) where

@@ -10,7 +10,7 @@ use Rattle.sf_base.specs.declared.values.Kind.{Kind}
 use Rattle.sf_base.specs.declared.values.Kind.TheVariants as kind
 use Rattle.sf_base.specs.Data.{Datum, Number, Bytes}
 use Rattle.sf_format.specs.declared.directive.Base.{Base}
-use Rattle.sf_format.specs.declared.directive.Base.TheVariants.{Dec, Oct, Hex, Auto}
+use Rattle.sf_format.specs.declared.directive.Base.TheVariants.{Dec, Oct, Hex, Bin, Auto, AutoBin}
 use Rattle.sf_format.specs.declared.directive.Shape.{Shape}
 use Rattle.sf_format.specs.declared.directive.Shape.TheVariants as shape
 use Rattle.sf_format.specs.declared.directive.Conversion.{Conversion}
@@ -29,7 +29,7 @@ use Rattle.sf_pair.specs.Neighbours.{Bytes as ByteTest, stop_set, integer_first,
 use Rattle.sf_pair.specs.Groups.{is_integer, is_text, is_chars, is_auto, letters_pair, width_of, always_full}
 use Rattle.sf_pair.specs.Fits.{is_negative, IsOfKind, TextFits, ValueFits}
 use Rattle.sf_pair.proofs.Bodies.{StartsInk, FirstByte, blanks_byte, Body, body_of}
-use Rattle.sf_pair.proofs.Numbers.{NumberRead, read_decimal, read_octal, read_hex, read_auto}
+use Rattle.sf_pair.proofs.Numbers.{NumberRead, HasMark, read_decimal, read_octal, read_marked, read_auto}
 use Rattle.sf_pair.proofs.Shortest.{least_is_shortest, visible_some}
 use Rattle.sf_pair.proofs.Firsts.{FirstIn, first_weaker, or_right, NoSign, SignFits, integer_text_first}
 use Rattle.sf_pair.proofs.Taken.{Takes, FirstOut, integer_takes, integer_stored}
@@ -76,9 +76,13 @@ pub record Reading (c : PrintConv) (base : Base) (z : ℤ) : Type 0 where
   pub sign : SignFits c z
   pub first : (s : Shape) → first_by_letter c.letter c s ≡ integer_first c
 
-hex_reading : (c : PrintConv) (z : ℤ) (b : Body c z) → base_of c.letter ≡ 16 → NoSign c z → NumberRead Hex c z
-hex_reading c z b hex n =
-    subst (NumberRead Hex c) (sym n.value) (read_hex c n.number (subst (Body c) n.value b) hex n.plus)
+marked_reading : (c : PrintConv) (z : ℤ) (b : Body c z) (base : Base) → HasMark base c.letter → NoSign c z → NumberRead base c z
+marked_reading c z b base k n =
+    subst (NumberRead base c) (sym n.value) (read_marked c n.number (subst (Body c) n.value b) base k n.plus)
+
+-- a letter's mark is that of its base
+has_mark : (c : PrintConv) (base : Base) (l : PrintLetter) → c.letter ≡ l → HasMark base l → HasMark base c.letter
+has_mark c base l e k = subst (HasMark base) (sym e) k
 
 first_is : (c : PrintConv) (l : PrintLetter) → c.letter ≡ l → ((s : Shape) → first_by_letter l c s ≡ integer_first c) → (s : Shape) → first_by_letter c.letter c s ≡ integer_first c
 first_is c l e h s = ap (λ (l : PrintLetter). first_by_letter l c s) e ∙ h s
@@ -89,17 +93,26 @@ reading c z b proper kind letter.Signed Dec e pair auto =
     record { number = read_decimal c z b (ap base_of e) (ap base_mark e); sign = inl e; first = first_is c letter.Signed e (λ s. refl) }
 reading c z b proper kind letter.Signed Auto e pair auto =
     let a = auto refl in
-    record { number = read_auto c z b (ap base_of e) (ap base_mark e) (ap is_octal e) a.0 a.1; sign = inl e; first = first_is c letter.Signed e (λ s. refl) }
+    record { number = read_auto c z b Auto refl refl (ap base_of e) (ap base_mark e) (ap is_octal e) a.0 a.1; sign = inl e; first = first_is c letter.Signed e (λ s. refl) }
+reading c z b proper kind letter.Signed AutoBin e pair auto =
+    let a = auto refl in
+    record { number = read_auto c z b AutoBin refl refl (ap base_of e) (ap base_mark e) (ap is_octal e) a.0 a.1; sign = inl e; first = first_is c letter.Signed e (λ s. refl) }
 reading c z b proper kind letter.Unsigned Dec e pair auto =
     record { number = read_decimal c z b (ap base_of e) (ap base_mark e); sign = inr (no_sign c z proper kind letter.Unsigned e refl refl (λ k h. h)); first = first_is c letter.Unsigned e (λ s. refl) }
 reading c z b proper kind letter.Octal Oct e pair auto =
     record { number = read_octal c z b (ap base_of e) (ap base_mark e); sign = inr (no_sign c z proper kind letter.Octal e refl refl (λ k h. h)); first = first_is c letter.Octal e (λ s. refl) }
 reading c z b proper kind letter.HexLower Hex e pair auto =
     let n = no_sign c z proper kind letter.HexLower e refl refl (λ k h. h) in
-    record { number = hex_reading c z b (ap base_of e) n; sign = inr n; first = first_is c letter.HexLower e (λ s. refl) }
+    let k = has_mark c Hex letter.HexLower e (record { byte = 120; mark = refl; radix = refl; first = refl; zero = refl; small = lit≤ tt }) in
+    record { number = marked_reading c z b Hex k n; sign = inr n; first = first_is c letter.HexLower e (λ s. refl) }
 reading c z b proper kind letter.HexUpper Hex e pair auto =
     let n = no_sign c z proper kind letter.HexUpper e refl refl (λ k h. h) in
-    record { number = hex_reading c z b (ap base_of e) n; sign = inr n; first = first_is c letter.HexUpper e (λ s. refl) }
+    let k = has_mark c Hex letter.HexUpper e (record { byte = 88; mark = refl; radix = refl; first = refl; zero = refl; small = lit≤ tt }) in
+    record { number = marked_reading c z b Hex k n; sign = inr n; first = first_is c letter.HexUpper e (λ s. refl) }
+reading c z b proper kind letter.Binary Bin e pair auto =
+    let n = no_sign c z proper kind letter.Binary e refl refl (λ k h. h) in
+    let k = has_mark c Bin letter.Binary e (record { byte = 98; mark = refl; radix = refl; first = refl; zero = refl; small = lit≤ tt }) in
+    record { number = marked_reading c z b Bin k n; sign = inr n; first = first_is c letter.Binary e (λ s. refl) }
 reading c z b proper kind _ _ e pair auto = absurd cc
 
 module _ (laws : LawsBelow) (c : PrintConv) (s : Conversion) (proper : IsProperConv c) (p : Pairs c s) (assigned : is_some s.slot ≡ true) where

@@ -4,8 +4,9 @@ use Rattle.std.proofs.lemmas.Bool.{eqb-true, lt-ltb, ne_eqb}
 use Rattle.std.specs.Char.{digit_value}
 use Rattle.std.specs.Str.Parse.{AllDigits, digits_value, digits_value_after}
 use Rattle.sf_format.specs.declared.directive.Base.{Base}
-use Rattle.sf_format.specs.declared.directive.Base.TheVariants.{Dec, Oct, Hex, Auto}
-use Rattle.sf_item.specs.Progress.{Progress, Zero, Prefix, Digits, first_radix, zero_radix, is_prefix_letter, with_digit, with_first_digit, advance}
+use Rattle.sf_format.specs.declared.directive.Base.TheVariants.{Dec, Oct, Hex, Bin, Auto, AutoBin}
+use Rattle.sf_item.specs.Radices.{first_radix, zero_radix, prefix_radix}
+use Rattle.sf_item.specs.Progress.{Progress, Zero, Digits, with_digit, with_first_digit, after_zero as zero_then, advance}
 use Rattle.sf_item.specs.Tests.{read}
 
 pub digit_taken : (s : Bool) (r v d : ℕ) → digit_value d < r → with_digit s r v d ≡ Some (Digits s r (v * r + digit_value d))
@@ -15,21 +16,42 @@ pub reads_on : (base : Base) (s : Bool) (r v : ℕ) (ds : List ℕ) → AllDigit
 reads_on base s r v [] h = refl
 reads_on base s r v (d ∷ ds) h = ap (λ (o : Option Progress). read base o ds) (digit_taken s r v d h.0) ∙ reads_on base s r (v * r + digit_value d) ds h.1
 
-is_no_letter : (d letter : ℕ) → digit_value d < 16 → 16 ≤ digit_value letter → nat_eq d letter ≡ false
-is_no_letter d letter h above = ne_eqb d letter (λ e. let same : digit_value d ≡ digit_value letter = ap digit_value e in omega (arith, same))
+-- neither prefix: the byte isn't its letter, or the base doesn't have it
+neither : (x b : Option ℕ) (s t : Bool) → (s ≡ false) ⊎ (x ≡ None) → (t ≡ false) ⊎ (b ≡ None) → cond s x (cond t b None) ≡ None
+neither x b true t (inl e) k = absurd cc
+neither x b true t (inr e) k = e
+neither x b false true h (inl e) = absurd cc
+neither x b false true h (inr e) = e
+neither x b false false h k = refl
 
-no_letter : (d : ℕ) → digit_value d < 16 → (nat_eq d 120 || nat_eq d 88) ≡ false
-no_letter d h = ap₂ (λ (x y : Bool). x || y) (is_no_letter d 120 h (lit≤ tt)) (is_no_letter d 88 h (lit≤ tt))
+is_no_letter : (r d letter : ℕ) → digit_value d < r → r ≤ digit_value letter → nat_eq d letter ≡ false
+is_no_letter r d letter h above = ne_eqb d letter (λ e. let same : digit_value d ≡ digit_value letter = ap digit_value e in omega (arith, same))
 
--- no digit is the letter of a prefix
-no_prefix : (base : Base) (d : ℕ) → digit_value d < 16 → is_prefix_letter base d ≡ false
-no_prefix Dec d h = refl
-no_prefix Oct d h = refl
-no_prefix Hex d h = no_letter d h
-no_prefix Auto d h = no_letter d h
+no_x : (d : ℕ) → digit_value d < 16 → (nat_eq d 120 || nat_eq d 88) ≡ false
+no_x d h = ap₂ (λ (x y : Bool). x || y) (is_no_letter 16 d 120 h (lit≤ tt)) (is_no_letter 16 d 88 h (lit≤ tt))
 
-digit_after_zero : (base : Base) (s : Bool) (d : ℕ) → digit_value d < 16 → advance base (Zero s) d ≡ with_digit s (zero_radix base) 0 d
-digit_after_zero base s d h = ap (λ (t : Bool). cond t (Some (Prefix s)) (with_digit s (zero_radix base) 0 d)) (no_prefix base d h)
+no_b : (d : ℕ) → digit_value d < 8 → (nat_eq d 98 || nat_eq d 66) ≡ false
+no_b d h = ap₂ (λ (x y : Bool). x || y) (is_no_letter 8 d 98 h (lit≤ tt)) (is_no_letter 8 d 66 h (lit≤ tt))
+
+-- some bases have no prefix
+pub no_prefix_of_dec : (d : ℕ) → prefix_radix Dec d ≡ None
+no_prefix_of_dec d = neither None None (nat_eq d 120 || nat_eq d 88) (nat_eq d 98 || nat_eq d 66) (inr refl) (inr refl)
+
+pub no_prefix_of_oct : (d : ℕ) → prefix_radix Oct d ≡ None
+no_prefix_of_oct d = neither None None (nat_eq d 120 || nat_eq d 88) (nat_eq d 98 || nat_eq d 66) (inr refl) (inr refl)
+
+-- no digit behind a 0 is the letter of a prefix
+no_prefix : (base : Base) (d : ℕ) → digit_value d < zero_radix base → prefix_radix base d ≡ None
+no_prefix Dec d h = no_prefix_of_dec d
+no_prefix Oct d h = no_prefix_of_oct d
+no_prefix Hex d h = neither (Some 16) None (nat_eq d 120 || nat_eq d 88) (nat_eq d 98 || nat_eq d 66) (inl (no_x d h)) (inr refl)
+no_prefix Bin d h = neither None (Some 2) (nat_eq d 120 || nat_eq d 88) (nat_eq d 98 || nat_eq d 66) (inr refl) (inl (no_b d (omega (arith, h))))
+no_prefix Auto d h = neither (Some 16) None (nat_eq d 120 || nat_eq d 88) (nat_eq d 98 || nat_eq d 66) (inl (no_x d (omega (arith, h)))) (inr refl)
+no_prefix AutoBin d h =
+    neither (Some 16) (Some 2) (nat_eq d 120 || nat_eq d 88) (nat_eq d 98 || nat_eq d 66) (inl (no_x d (omega (arith, h)))) (inl (no_b d h))
+
+digit_after_zero : (base : Base) (s : Bool) (d : ℕ) → digit_value d < zero_radix base → advance base (Zero s) d ≡ with_digit s (zero_radix base) 0 d
+digit_after_zero base s d h = ap (zero_then s (zero_radix base) d) (no_prefix base d h)
 
 -- after the digits ds: one 0 alone may still be that of a prefix
 abbrev pub IsRead : Bool → ℕ → List ℕ → Progress → Type 0
@@ -62,7 +84,7 @@ first_digits base q s r d ds opens first small second all = by (nat_eq d 48) ref
     after_zero (x ∷ xs) all (inl radix) e start = record {
       progress = Digits s r (digits_value r (d ∷ x ∷ xs));
       is = start
-          ∙ ap (λ (o : Option Progress). read base o xs) (digit_after_zero base s x (let h = all.0 in omega arith) ∙ ap (λ (k : ℕ). with_digit s k 0 x) radix ∙ digit_taken s r 0 x all.0)
+          ∙ ap (λ (o : Option Progress). read base o xs) (digit_after_zero base s x (let h = all.0 in omega (arith, h, radix)) ∙ ap (λ (k : ℕ). with_digit s k 0 x) radix ∙ digit_taken s r 0 x all.0)
           ∙ reads_on base s r (0 * r + digit_value x) xs all.1
           ∙ ap (λ (k : ℕ). Some (Digits s r (digits_value_after r k xs))) (sym (no_first_zero r (digit_value x)) ∙ ap (λ (b : ℕ). (0 * r + digit_value b) * r + digit_value x) (sym e));
       end = inr refl;

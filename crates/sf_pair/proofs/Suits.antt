@@ -46,6 +46,7 @@ prints_texts letter.Unsigned k _ w bytes e fit is = absurd cc
 prints_texts letter.Octal k _ w bytes e fit is = absurd cc
 prints_texts letter.HexLower k _ w bytes e fit is = absurd cc
 prints_texts letter.HexUpper k _ w bytes e fit is = absurd cc
+prints_texts letter.Binary k _ w bytes e fit is = absurd cc
 
 one_byte : (h : Shape) (w : ℕ) (bytes : List ℕ) → letters_pair letter.One h ≡ true → not (eqb w 1) ≡ false → TextFits h w bytes → nat_eq (length bytes) 1 ≡ true
 one_byte shape.Chars w bytes e single fit =

@@ -10,7 +10,7 @@ use Rattle.sf_format.specs.declared.unit.PrintLetter.TheVariants as letter
 use Rattle.sf_format.specs.declared.unit.PrintConv.{PrintConv}
 use Rattle.sf_format.specs.declared.unit.Unit.{Unit as PrintUnit}
 use Rattle.sf_format.specs.declared.unit.Unit.TheVariants as unit
-use Rattle.sf_format.specs.declared.directive.Base.TheVariants.{Dec, Oct, Hex, Auto}
+use Rattle.sf_format.specs.declared.directive.Base.TheVariants.{Dec, Oct, Hex, Bin, Auto, AutoBin}
 use Rattle.sf_format.specs.declared.directive.Shape.{Shape}
 use Rattle.sf_format.specs.declared.directive.Shape.TheVariants as shape
 use Rattle.sf_format.specs.declared.directive.Conversion.{Conversion}
@@ -21,7 +21,7 @@ use Rattle.sf_print.specs.Text.{pads_with_zeros, least_digits}
 use Rattle.sf_pair.specs.declared.fault.PairWhy.{PairWhy}
 use Rattle.sf_pair.specs.declared.fault.PairWhy.TheVariants as why
 use Rattle.sf_print.specs.Visible.{least}
-use Rattle.sf_pair.specs.Neighbours.{Bytes, no_byte, any_byte, only, meet, first_by, reads, stop_set}
+use Rattle.sf_pair.specs.Neighbours.{Bytes, no_byte, any_byte, only, meet, first_by, reads, is_auto_base, stop_set}
 
 -- ---- one conversion of each
 
@@ -38,7 +38,7 @@ is_chars shape.Chars = true
 is_chars _ = false
 
 abbrev pub is_auto : Shape → Bool
-is_auto (shape.Int Auto) = true
+is_auto (shape.Int base) = is_auto_base base
 is_auto _ = false
 
 abbrev pub is_count : Shape → Bool
@@ -49,14 +49,16 @@ abbrev pub is_one : PrintLetter → Bool
 is_one letter.One = true
 is_one _ = false
 
--- `d i` with `d i`, `u` with `u`, `o` with `o`, `x X` with `x X`, `s` with `s`, `[` or `c`, `c` with `c`; the kinds tell `d` from `u`
+-- `d i` with `d i`, `u` with `u`, `o` with `o`, `x X` with `x X`, `b` with `b`, `s` with `s`, `[` or `c`, `c` with `c`; the kinds tell `d` from `u`
 abbrev pub letters_pair : PrintLetter → Shape → Bool
 letters_pair letter.Signed (shape.Int Dec) = true
 letters_pair letter.Signed (shape.Int Auto) = true
+letters_pair letter.Signed (shape.Int AutoBin) = true
 letters_pair letter.Unsigned (shape.Int Dec) = true
 letters_pair letter.Octal (shape.Int Oct) = true
 letters_pair letter.HexLower (shape.Int Hex) = true
 letters_pair letter.HexUpper (shape.Int Hex) = true
+letters_pair letter.Binary (shape.Int Bin) = true
 letters_pair letter.Text shape.Text = true
 letters_pair letter.Text (shape.Set members) = true
 letters_pair letter.Text shape.Chars = true

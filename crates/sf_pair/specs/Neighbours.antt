@@ -7,11 +7,13 @@ use Rattle.sf_format.specs.declared.unit.PrintLetter.TheVariants as letter
 use Rattle.sf_format.specs.declared.unit.PrintConv.{PrintConv}
 use Rattle.sf_format.specs.declared.unit.Unit.{Unit as PrintUnit}
 use Rattle.sf_format.specs.declared.unit.Unit.TheVariants as unit
-use Rattle.sf_format.specs.declared.directive.Base.TheVariants.{Dec, Oct, Hex, Auto}
+use Rattle.sf_format.specs.declared.directive.Base.{Base}
+use Rattle.sf_format.specs.declared.directive.Base.TheVariants.{Auto, AutoBin}
 use Rattle.sf_format.specs.declared.directive.Shape.{Shape}
 use Rattle.sf_format.specs.declared.directive.Shape.TheVariants as shape
 use Rattle.sf_format.specs.declared.directive.Directive.{Directive}
 use Rattle.sf_format.specs.declared.directive.Directive.TheVariants as directive
+use Rattle.sf_item.specs.Radices.{first_radix, prefix_radix}
 use Rattle.sf_item.specs.Tests.{is_ink}
 use Rattle.sf_print.specs.Text.{base_of, pads_with_zeros}
 use Rattle.sf_run.specs.Machine.{some_below}
@@ -85,15 +87,23 @@ first_of u next = first_by u (reads next)
 
 -- ---- stop sets
 
-abbrev pub prefix_letters : Bytes
-prefix_letters = or (only 120) (only 88)
+-- the letters of the base's prefixes
+abbrev pub prefix_letters : Base → Bytes
+prefix_letters base b = is_some (prefix_radix base b)
+
+-- the radix comes of the first digits
+abbrev pub is_auto_base : Base → Bool
+is_auto_base Auto = true
+is_auto_base AutoBin = true
+is_auto_base _ = false
+
+-- an integer goes on with digits; and with the letter of a prefix where its text may be a 0 alone: under `i`, and where the least text is one byte
+abbrev pub integer_stops : Base → Bool → Bytes
+integer_stops base lone b = ((lone || is_auto_base base) && prefix_letters base b) || is_digit b (first_radix base)
 
 -- the bytes that an item of the shape would take after the conversion's text
 abbrev pub stop_set : Shape → PrintConv → Bytes
-stop_set (shape.Int Dec) c = digits_in 10
-stop_set (shape.Int Oct) c = digits_in 8
-stop_set (shape.Int Hex) c = if length (least c) == 1 then or prefix_letters (digits_in 16) else digits_in 16
-stop_set (shape.Int Auto) c = or prefix_letters (digits_in 10)
+stop_set (shape.Int base) c = integer_stops base (length (least c) == 1)
 stop_set shape.Text c = is_ink
 stop_set (shape.Set members) c = has_byte members
 stop_set _ c = no_byte

@@ -7,7 +7,7 @@ ghost use Rattle.sf_pair.specs.Neighbours.{meet, first_by, stop_set};
 ghost use Rattle.sf_pair.specs.Groups.{is_integer, is_text, is_chars, is_auto, letters_pair, width_of, kinds_differ, numbers_differ, bad_flag, has_no_width, too_narrow, leading_zero, pairing_fault, always_full, closing_fault};
 
 use crate::fault::PairWhy;
-use crate::neighbours::{goes_on, may_begin, pads_with_zeros};
+use crate::neighbours::{goes_on, is_auto_base, may_begin, pads_with_zeros};
 use sf_base::{Rule, first_fault};
 use sf_format::{Base, Conversion, PrintConv, PrintLetter, Shape, Unit};
 use sf_print::least_len;
@@ -34,17 +34,21 @@ fn is_chars(read: &Shape) -> bool
 fn is_auto(read: &Shape) -> bool
     ensures { result ≡ is_auto read.now }
 {
-    matches!(read, Shape::Int(Base::Auto))
+    match read {
+        Shape::Int(base) => is_auto_base(*base),
+        _ => false,
+    }
 }
 
 fn letters_pair(letter: PrintLetter, read: &Shape) -> bool
     ensures { result ≡ letters_pair letter read.now }
 {
     match (letter, read) {
-        (PrintLetter::Signed, Shape::Int(Base::Dec | Base::Auto)) => true,
+        (PrintLetter::Signed, Shape::Int(Base::Dec | Base::Auto | Base::AutoBin)) => true,
         (PrintLetter::Unsigned, Shape::Int(Base::Dec)) => true,
         (PrintLetter::Octal, Shape::Int(Base::Oct)) => true,
         (PrintLetter::HexLower | PrintLetter::HexUpper, Shape::Int(Base::Hex)) => true,
+        (PrintLetter::Binary, Shape::Int(Base::Bin)) => true,
         (PrintLetter::Text, Shape::Text | Shape::Set(_) | Shape::Chars) => true,
         (PrintLetter::One, Shape::Chars) => true,
         _ => false,

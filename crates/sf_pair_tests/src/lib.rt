@@ -6,6 +6,8 @@ mod bounds;
 #[cfg(test)]
 mod checks;
 #[cfg(test)]
+mod profiles;
+#[cfg(test)]
 mod refusals;
 #[cfg(test)]
 mod shared;

@@ -33,11 +33,13 @@ laid c z m ds sgn mrk left inner lead right len abs is_numeral is_sign is_mark l
     ∙ (λ t. text_around c (p t) (d t))
 
 -- other letters have decimal digits
-pub ten : (l : PrintLetter) → (l ≡ letter.Octal → ⊥) → (l ≡ letter.HexLower → ⊥) → (l ≡ letter.HexUpper → ⊥) → (10 ≡ base_of l) × (false ≡ is_upper l)
-ten letter.Octal o x u = absurd (o refl)
-ten letter.HexLower o x u = absurd (x refl)
-ten letter.HexUpper o x u = absurd (u refl)
-ten _ o x u = (refl, refl)
+pub ten : (l : PrintLetter) → (l ≡ letter.Octal → ⊥) → (l ≡ letter.HexLower → ⊥) → (l ≡ letter.HexUpper → ⊥) → (l ≡ letter.Binary → ⊥)
+    → (10 ≡ base_of l) × (false ≡ is_upper l)
+ten letter.Octal o x u b = absurd (o refl)
+ten letter.HexLower o x u b = absurd (x refl)
+ten letter.HexUpper o x u b = absurd (u refl)
+ten letter.Binary o x u b = absurd (b refl)
+ten _ o x u b = (refl, refl)
 
 pub at_end : (ds buf : List ℕ) → length buf ≡ 64 → ds ++ drop 64 buf ≡ ds
 at_end ds buf e = ap (λ (t : List ℕ). ds ++ t) (drop_all 64 buf (omega arith)) ∙ append-nil ds

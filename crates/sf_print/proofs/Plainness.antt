@@ -40,6 +40,7 @@ decimal_letter letter.Unsigned e = (refl, refl, refl, refl)
 decimal_letter letter.Octal e = absurd cc
 decimal_letter letter.HexLower e = absurd cc
 decimal_letter letter.HexUpper e = absurd cc
+decimal_letter letter.Binary e = absurd cc
 decimal_letter letter.Text e = absurd cc
 decimal_letter letter.One e = absurd cc
 

@@ -26,6 +26,9 @@ o = plain letter.Octal kind.U32 1
 abbrev x : PrintConv
 x = plain letter.HexLower kind.U32 1
 
+abbrev b : PrintConv
+b = plain letter.Binary kind.U32 1
+
 abbrev s : PrintConv
 s = plain letter.Text kind.Text 1
 
@@ -58,6 +61,23 @@ marked = refl
 
 cut : bytes_text (record s { precision = Some 2 }) (codes "abc") ≡ codes "ab"
 cut = refl
+
+-- `%#b` of 5 and of 0, `%#010b` of 5, `%#.4b` of 5
+binary_marked : integer_text (record b { alt = true }) (pos 5) ≡ codes "0b101"
+unfolding digits
+binary_marked = refl
+
+binary_zero : integer_text (record b { alt = true }) (pos 0) ≡ codes "0"
+unfolding digits
+binary_zero = refl
+
+binary_padded : integer_text (record b { alt = true; zero = true; width = 10 }) (pos 5) ≡ codes "0b00000101"
+unfolding digits
+binary_padded = refl
+
+binary_filled : integer_text (record b { alt = true; precision = Some 4 }) (pos 5) ≡ codes "0b0101"
+unfolding digits
+binary_filled = refl
 
 -- `%+ d` of 5, `% d` of -3, `%-05d` of 42
 plus_over_blank : integer_text (record (d 1) { plus = true; blank = true }) (pos 5) ≡ codes "+5"

@@ -42,6 +42,7 @@ sign_short c (pos n) = one_of c.plus (43 ∷ []) (cond c.blank (32 ∷ []) []) 1
 base_mark_short : (l : PrintLetter) → length (base_mark l) ≤ 2
 base_mark_short letter.HexLower = omega arith
 base_mark_short letter.HexUpper = omega arith
+base_mark_short letter.Binary = omega arith
 base_mark_short letter.Signed = omega arith
 base_mark_short letter.Unsigned = omega arith
 base_mark_short letter.Octal = omega arith
@@ -100,6 +101,7 @@ shown_short letter.Unsigned p bytes = omega arith
 shown_short letter.Octal p bytes = omega arith
 shown_short letter.HexLower p bytes = omega arith
 shown_short letter.HexUpper p bytes = omega arith
+shown_short letter.Binary p bytes = omega arith
 shown_short letter.One p bytes = omega arith
 
 bytes_short : (c : PrintConv) (bytes : List ℕ) → c.width ≤ 65535 → length bytes ≤ 65536 → length (bytes_text c bytes) ≤ 200000

@@ -9,11 +9,12 @@ use Rattle.sf_format.specs.declared.unit.PrintConv.{PrintConv}
 
 -- ---- the digits of an integer
 
--- o is unsigned octal, x and X unsigned hexadecimal, d and u decimal (paragraph 8)
+-- o is unsigned octal, x and X unsigned hexadecimal, d and u decimal (paragraph 8); b is unsigned binary (ours)
 abbrev pub base_of : PrintLetter → ℕ
 base_of letter.Octal = 8
 base_of letter.HexLower = 16
 base_of letter.HexUpper = 16
+base_of letter.Binary = 2
 base_of _ = 10
 
 -- X has the digits A to F, x has a to f (paragraph 8)
@@ -61,13 +62,14 @@ abbrev pub sign : PrintConv → ℤ → List ℕ
 sign c (negsuc n) = 45 ∷ []
 sign c (pos n) = if c.plus then 43 ∷ [] else (if c.blank then 32 ∷ [] else [])
 
--- 0x and 0X
+-- 0x, 0X and 0b
 abbrev pub base_mark : PrintLetter → List ℕ
 base_mark letter.HexLower = 48 ∷ 120 ∷ []
 base_mark letter.HexUpper = 48 ∷ 88 ∷ []
+base_mark letter.Binary = 48 ∷ 98 ∷ []
 base_mark _ = []
 
--- the flag `#` puts its mark before a hexadecimal number other than 0 (paragraph 6)
+-- the flag `#` puts its mark before a hexadecimal or binary number other than 0 (paragraph 6)
 abbrev pub mark : PrintConv → ℕ → List ℕ
 mark c m = if c.alt && not (m == 0) then base_mark c.letter else []
 

@@ -39,6 +39,7 @@ fn mark_bytes(conv: &PrintConv, magnitude: u64) -> &'static [u8]
     match conv.letter {
         PrintLetter::HexLower => b"0x",
         PrintLetter::HexUpper => b"0X",
+        PrintLetter::Binary => b"0b",
         _ => b"",
     }
 }
@@ -138,6 +139,7 @@ fn write_magnitude(letter: PrintLetter, magnitude: u64, buf: &mut [u8; DIGIT_BYT
         PrintLetter::Octal => write_digits(8, false, magnitude, buf, DIGIT_BYTES),
         PrintLetter::HexLower => write_digits(16, false, magnitude, buf, DIGIT_BYTES),
         PrintLetter::HexUpper => write_digits(16, true, magnitude, buf, DIGIT_BYTES),
+        PrintLetter::Binary => write_digits(2, false, magnitude, buf, DIGIT_BYTES),
         _ => write_decimal(magnitude, buf, DIGIT_BYTES),
     }
 }

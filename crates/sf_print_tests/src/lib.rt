@@ -6,6 +6,8 @@ mod print_formats;
 #[cfg(test)]
 mod prints;
 #[cfg(test)]
+mod profiles;
+#[cfg(test)]
 mod runs;
 #[cfg(test)]
 mod scan_formats;

@@ -6,6 +6,8 @@ mod conversions;
 #[cfg(test)]
 mod items;
 #[cfg(test)]
+mod profiles;
+#[cfg(test)]
 mod quick;
 #[cfg(test)]
 mod rows;

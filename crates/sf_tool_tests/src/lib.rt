@@ -9,3 +9,5 @@ mod loops;
 mod memory;
 #[cfg(test)]
 mod prints;
+#[cfg(test)]
+mod profiles;

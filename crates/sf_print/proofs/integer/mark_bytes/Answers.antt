@@ -6,3 +6,6 @@ returns-in-HexLower-clause-text c = search rules
 
 pub returns-in-HexUpper-clause-text : goal.returns-in-HexUpper-clause-text
 returns-in-HexUpper-clause-text c = search rules
+
+pub returns-in-Binary-clause-text : goal.returns-in-Binary-clause-text
+returns-in-Binary-clause-text c = search rules

@@ -1,0 +1,73 @@
+-- A format in both profiles.
+use Rattle.std.specs.Prelude.{List, map}
+use Rattle.std.specs.List.{AllByRecursion}
+use Rattle.sf_format.specs.declared.directive.Base.{Base}
+use Rattle.sf_format.specs.declared.directive.Base.TheVariants.{Bin, Auto, AutoBin}
+use Rattle.sf_format.specs.declared.directive.Shape.{Shape}
+use Rattle.sf_format.specs.declared.directive.Shape.TheVariants.{Int}
+use Rattle.sf_format.specs.declared.directive.Directive.{Directive}
+use Rattle.sf_format.specs.declared.directive.Directive.TheVariants.{Conv}
+use Rattle.sf_format.specs.declared.unit.PrintLetter.{PrintLetter}
+use Rattle.sf_format.specs.declared.unit.PrintLetter.TheVariants.{Binary}
+use Rattle.sf_format.specs.declared.unit.Unit.{Unit as PrintUnit}
+use Rattle.sf_format.specs.declared.unit.Unit.TheVariants as unit
+
+-- another base in its place
+abbrev pub shape_with : (Base → Base) → Shape → Shape
+shape_with other (Int base) = Int (other base)
+shape_with other shape = shape
+
+abbrev pub directive_with : (Base → Base) → Directive → Directive
+directive_with other (Conv c) = Conv (record c { shape = shape_with other c.shape })
+directive_with other d = d
+
+-- profile 2 has AutoBin for Auto
+abbrev pub base_in_two : Base → Base
+base_in_two Auto = AutoBin
+base_in_two base = base
+
+abbrev pub base_in_one : Base → Base
+base_in_one AutoBin = Auto
+base_in_one base = base
+
+abbrev pub in_two : List Directive → List Directive
+in_two ds = map (directive_with base_in_two) ds
+
+abbrev pub in_one : List Directive → List Directive
+in_one ds = map (directive_with base_in_one) ds
+
+-- ---- what is of profile 2 alone
+
+abbrev pub ShapeHas : (Base → Type 0) → Shape → Type 0
+ShapeHas P (Int base) = P base
+ShapeHas P shape = Unit {0}
+
+abbrev pub DirectiveHas : (Base → Type 0) → Directive → Type 0
+DirectiveHas P (Conv c) = ShapeHas P c.shape
+DirectiveHas P d = Unit {0}
+
+-- each integer's base is so
+abbrev pub HaveBases : (Base → Type 0) → List Directive → Type 0
+HaveBases P ds = AllByRecursion (DirectiveHas P) ds
+
+-- not the base of b
+abbrev pub IsNotBin : Base → Type 0
+IsNotBin Bin = ⊥
+IsNotBin base = Unit {0}
+
+-- of profile 1
+abbrev pub IsOfOne : Base → Type 0
+IsOfOne Bin = ⊥
+IsOfOne AutoBin = ⊥
+IsOfOne base = Unit {0}
+
+abbrev pub IsNotBinary : PrintLetter → Type 0
+IsNotBinary Binary = ⊥
+IsNotBinary letter = Unit {0}
+
+abbrev pub UnitIsNotBinary : PrintUnit → Type 0
+UnitIsNotBinary (unit.Conv c) = IsNotBinary c.letter
+UnitIsNotBinary u = Unit {0}
+
+abbrev pub AreNotBinary : List PrintUnit → Type 0
+AreNotBinary us = AllByRecursion UnitIsNotBinary us

@@ -1,0 +1,114 @@
+//! Formats and printed texts of profile 2, and what profile 1 makes of the same texts.
+use crate::shared::is;
+use sf_base::{Kind, Value};
+use sf_format::{
+    Base, Directive, FormatFault, FormatWhy, PrintConv, PrintFormat, PrintLetter, Profile,
+    ScanFormat, Shape, Unit,
+};
+use sf_print::{ListSink, fprint, printed_len};
+use std::alloc::Global;
+use std::test::Fail;
+
+/// The base and the kind of a format's only conversion, where that is of an integer.
+fn integer_of(alloc: Global, profile: Profile, text: &[u8]) -> Result<Option<(Base, Kind)>, Fail> {
+    let format = ScanFormat::parse(alloc, profile, text)?;
+    Ok(match format.directives() {
+        [Directive::Conv(conversion)] => match &conversion.shape {
+            Shape::Int(base) => Some((*base, conversion.kind)),
+            _ => None,
+        },
+        _ => None,
+    })
+}
+
+/// Scan formats of profile 2, with the base and the kind of their conversion.
+const INTEGERS: [(&[u8], Base, Kind); 7] = [
+    (b"%b", Base::Bin, Kind::U32),
+    (b"%hhb", Base::Bin, Kind::U8),
+    (b"%hb", Base::Bin, Kind::U16),
+    (b"%lb", Base::Bin, Kind::U64),
+    (b"%2b", Base::Bin, Kind::U32),
+    (b"%i", Base::AutoBin, Kind::I32),
+    (b"%d", Base::Dec, Kind::I32),
+];
+
+#[test]
+fn profile_two_has_binary_numbers(rt: HostRuntime) -> Result<(), Fail> {
+    for (text, base, kind) in INTEGERS {
+        let found = integer_of(rt.alloc(), Profile::Two, text)?;
+        is(&rt, &found, &Some((base, kind)), &text);
+    }
+    Ok(())
+}
+
+/// The fault of a letter that is none, at the place.
+fn unknown_at(at: u16) -> Option<FormatFault> {
+    Some(FormatFault {
+        at,
+        why: FormatWhy::UnknownLetter,
+    })
+}
+
+#[test]
+fn profile_one_has_none(rt: HostRuntime) -> Result<(), Fail> {
+    let scan = ScanFormat::parse(rt.alloc(), Profile::One, b"%b").err();
+    assert_eq!(rt; scan, unknown_at(1));
+    let print = PrintFormat::parse(rt.alloc(), Profile::One, b"%#b").err();
+    assert_eq!(rt; print, unknown_at(2));
+    let auto = integer_of(rt.alloc(), Profile::One, b"%i")?;
+    assert_eq!(rt; auto, Some((Base::Auto, Kind::I32)));
+    Ok(())
+}
+
+#[test]
+fn binary_numbers_have_their_flags(rt: HostRuntime) -> Result<(), Fail> {
+    let format = PrintFormat::parse(rt.alloc(), Profile::Two, b"%-#010hb")?;
+    let wanted = PrintConv {
+        letter: PrintLetter::Binary,
+        kind: Kind::U16,
+        slot: 1,
+        minus: true,
+        plus: false,
+        blank: false,
+        alt: true,
+        zero: true,
+        width: 10,
+        precision: None,
+    };
+    assert!(rt; format.directives() == &[Unit::Conv(wanted)][..]);
+    let signed = PrintFormat::parse(rt.alloc(), Profile::Two, b"%+b").err();
+    let wanted = Some(FormatFault {
+        at: 1,
+        why: FormatWhy::BadFlag,
+    });
+    assert_eq!(rt; signed, wanted);
+    Ok(())
+}
+
+/// Print formats of profile 2, a value, and its text.
+const PRINTED: [(&[u8], Value<'static>, &[u8]); 8] = [
+    (b"%b", Value::U32(5), b"101"),
+    (b"%#b", Value::U32(5), b"0b101"),
+    (b"%#b", Value::U32(0), b"0"),
+    (b"%#010b", Value::U32(5), b"0b00000101"),
+    (b"%#.4b", Value::U32(5), b"0b0101"),
+    (b"%.0b", Value::U32(0), b""),
+    (b"%-6hhb|", Value::U8(2), b"10    |"),
+    (
+        b"%jb",
+        Value::U64(18446744073709551615),
+        b"1111111111111111111111111111111111111111111111111111111111111111",
+    ),
+];
+
+#[test]
+fn binary_numbers_are_printed(rt: HostRuntime) -> Result<(), Fail> {
+    for (text, value, wanted) in PRINTED {
+        let format = PrintFormat::parse(rt.alloc(), Profile::Two, text)?;
+        let mut sink = ListSink::new(rt.alloc());
+        let printed = fprint(&mut sink, &format, &[value]);
+        is(&rt, &sink.bytes(), &wanted, &text);
+        is(&rt, &printed, &printed_len(&format, &[value]), &text);
+    }
+    Ok(())
+}
