@@ -19,7 +19,7 @@ ghost use Rattle.sf_read.specs.Scan.{Scan, is_fault};
 use crate::{Lookahead, Source};
 use sf_base::{FixedStore, HeapStore, Store};
 use sf_format::ScanFormat;
-use sf_run::{Ending, FeedState, Outcome, Scanned, Scanner, StartFault, quick_run};
+use sf_run::{Ending, FeedState, MOST_BYTES, Outcome, Scanned, Scanner, StartFault, quick_run};
 use std::alloc::Global;
 
 /// Feeds the run until it ends: first what is held, then block by block.
@@ -99,14 +99,16 @@ pub fn fscan<S: Source, const N: usize>(
     ensures memory { IfErr result (λ fault. (fault ≡ StartFault.BadLimit) ⊎ (fault ≡ StartFault.NoMemory)) }
     ensures unread { IfErr result (λ _. from.new ≡ from.old) }
 {
-    Ok(run(Scanner::new(alloc, format, limit)?, from))
+    let store = Scanner::new(alloc, format, limit)?.into_store();
+    fscan_over(alloc, store, from, format, limit)
 }
 
 /// As `fscan`, over a store that was used before, as `Scanner::over` uses it: what it keeps is taken away, and its memory
-/// is used again. The store of a report is given back by `Scanned::into_store`.
+/// is used again. The store of a report is given back by `Scanned::into_store`. A record that is held whole is scanned
+/// without a scanner, as `fscan_held` scans it, where the store has room for the format's width sum.
 pub fn fscan_over<S: Source, const N: usize>(
     alloc: Global,
-    store: HeapStore,
+    mut store: HeapStore,
     from: &mut Lookahead<S, N>,
     format: &ScanFormat,
     limit: u32,
@@ -124,6 +126,14 @@ pub fn fscan_over<S: Source, const N: usize>(
     ensures enough { limit ≤ 2147483647 → unwrap_or (width_sum format.now) 0 ≤ store.room + length (buffer_of store) → IsOk result }
     ensures unread { IfErr result (λ _. from.new ≡ from.old) }
 {
+    store.clear();
+    let reserve = format.width_sum().unwrap_or(0) as usize;
+    if limit <= MOST_BYTES
+        && reserve <= store.room()
+        && let Some(outcome) = fscan_held(&mut store, from, format, limit)
+    {
+        return Ok(Scanned::new(outcome, store));
+    }
     Ok(run(Scanner::over(alloc, store, format, limit)?, from))
 }
 

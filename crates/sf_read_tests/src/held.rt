@@ -2,8 +2,8 @@
 use crate::texts::{Row, is, is_told, rows};
 use sf_base::{HeapStore, Store, Value};
 use sf_format::{Profile, ScanFormat};
-use sf_read::{Lookahead, ReadStep, ScriptSource, fscan_held, fscan_over, sscan};
-use sf_run::{Report, Status, quick_run};
+use sf_read::{Lookahead, ReadStep, ScriptSource, fscan, fscan_held, fscan_over, sscan};
+use sf_run::{Report, Scanned, StartFault, Status, quick_run};
 use std::process::Abort;
 use std::test::Fail;
 
@@ -29,6 +29,47 @@ fn held_records(rt: HostRuntime) -> Result<(), Fail> {
         is(&rt, &store.value(2), &Some(Value::I32(second)), &first);
         is(&rt, &from.source().reads(), &reads, &first);
     }
+    Ok(())
+}
+
+/// The scan is Done, with a number and a word, and the source was read once.
+fn is_pair(
+    rt: &(impl Abort + AllocGlobal),
+    scanned: &Scanned<HeapStore>,
+    from: &Lookahead<ScriptSource<'_>, 16>,
+    number: i32,
+    word: &[u8],
+) {
+    let report = scanned.report();
+    is(rt, &report.outcome().status, &Status::Done, &number);
+    is(rt, &report.value(1), &Some(Value::I32(number)), &number);
+    is(rt, &report.value(2), &Some(Value::Text(word)), &number);
+    is(rt, &report.value(3), &None, &number);
+    is(rt, &from.source().reads(), &1, &number);
+}
+
+/// Whole scans of three records of one block: the first is read, the second and the third are held. A refused limit
+/// consumes nothing of what is held.
+#[test]
+fn whole_scans_of_held_records(rt: HostRuntime) -> Result<(), Fail> {
+    let steps = [ReadStep::Give(b"1,ab;2,cd;3,ef;")];
+    let mut from = Lookahead::<ScriptSource<'_>, 16>::new(ScriptSource::new(&steps));
+    let format = ScanFormat::parse(rt.alloc(), Profile::One, b"%d,%2s;")?;
+    let first = fscan(rt.alloc(), &mut from, &format, LIMIT)?;
+    is_pair(&rt, &first, &from, 1, b"ab");
+    let second = fscan_over(rt.alloc(), first.into_store(), &mut from, &format, LIMIT)?;
+    is_pair(&rt, &second, &from, 2, b"cd");
+    let refused = fscan_over(
+        rt.alloc(),
+        second.into_store(),
+        &mut from,
+        &format,
+        2147483648,
+    );
+    assert_eq!(rt; refused.err(), Some(StartFault::BadLimit));
+    assert_eq!(rt; from.held(), b"3,ef;");
+    let third = fscan(rt.alloc(), &mut from, &format, LIMIT)?;
+    is_pair(&rt, &third, &from, 3, b"ef");
     Ok(())
 }
 

@@ -16,4 +16,4 @@ pub use outcome::{Ending, Fed, FeedState, Outcome, StartFault, Status};
 pub use quick::quick_run;
 pub use report::{Report, Scanned};
 pub use row::{Row, RowFault};
-pub use scanner::Scanner;
+pub use scanner::{MOST_BYTES, Scanner};

@@ -31,6 +31,15 @@ impl<S: Store> Model for Scanned<S> {
 
 impl<S: Store> Scanned<S> {
     ghost use Rattle.sf_run.specs.Memory.{HoldsValues};
+    ghost use Rattle.sf_run.specs.Views.{report_by};
+
+    /// The outcome with the store of its values, as `quick_run` leaves both.
+    pub fn new(outcome: Outcome, store: S) -> Self
+        requires { HoldsValues (S.kept store) }
+        ensures { result ≡ report_by outcome (S.kept store).values }
+    {
+        Scanned { outcome, store }
+    }
 
     /// The report of the run.
     pub fn report(&self) -> Report<'_, S>

@@ -26,8 +26,8 @@ use sf_format::{Directive, ScanFormat};
 use sf_item::ItemScan;
 use std::alloc::Global;
 
-/// The most bytes that a run may consume.
-const MOST_BYTES: u32 = 2147483647;
+/// The most bytes that a run may consume: no limit is above it.
+pub const MOST_BYTES: u32 = 2147483647;
 
 /// Where and how a run stopped.
 #[derive(Clone, Copy, Debug, PartialEq, Eq)]

@@ -1,8 +1,8 @@
 //! Examples of records that are read at once, beside the scanner's answers.
-use crate::shared::{Told, ended, has_values, is};
+use crate::shared::{Told, ended, has_values, is, tells};
 use sf_base::{HeapStore, Store, Value};
 use sf_format::{Profile, ScanFormat};
-use sf_run::{Ending, Outcome, Report, Scanner, Status, quick_run};
+use sf_run::{Ending, Outcome, Report, Scanned, Scanner, Status, quick_run};
 use std::process::Abort;
 use std::test::Fail;
 
@@ -228,5 +228,20 @@ fn a_store_is_used_again(rt: HostRuntime) -> Result<(), Fail> {
         (_, rest) = rest.split_at((outcome.used as usize).min(rest.len()));
     }
     assert_eq!(rt; quick_run(&mut store, &format, 99, rest), None);
+    Ok(())
+}
+
+/// The outcome of a record and the store of its values are a whole scan, which gives the store back.
+#[test]
+fn scanned_of_a_record(rt: HostRuntime) -> Result<(), Fail> {
+    let format = ScanFormat::parse(rt.alloc(), Profile::One, b"%d %s")?;
+    let mut store = HeapStore::new(rt.alloc(), 8)?;
+    let Some(outcome) = quick_run(&mut store, &format, 99, b"-12  abc\n") else {
+        return Err(Fail::new("a record is read"));
+    };
+    let scanned = Scanned::new(outcome, store);
+    let values = [Value::I32(-12), Value::Text(b"abc")];
+    tells(&rt, &scanned, Told::Done(2, 8, None), &values, &b"%d %s");
+    assert_eq!(rt; scanned.into_store().value(2), Some(Value::Text(b"abc")));
     Ok(())
 }

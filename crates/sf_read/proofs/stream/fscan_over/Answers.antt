@@ -1,10 +1,29 @@
+use Rattle.std.proofs.Common.{rules, ◌≡◌, ◌≤◌, ◌+◌, ◌∙◌, sym, ap, subst}
+use Rattle.sf_run.specs.Limits.{RunTold}
+use Rattle.sf_read.specs.Ahead.{input_of}
+use Rattle.sf_read.specs.Scan.{Scan}
 use Rattle.sf_read.proofs.stream.fscan_over.Goals as goal
 
 pub returns-clause-scan : goal.returns-clause-scan
-returns-clause-scan g c t e = c.run.ensures.scan c.args.format.now c.args.limit t c.in_ok-over.ensures.after e
+returns-clause-scan g c t e =
+    subst (λ report. Scan g.S.Source.to_come c.args.format.now c.args.limit t c.args.from.now c.fscan_held.new.from report) (sym c.new.ensures) (c.in-Some.ensures.scan t e)
 
-pub returns-clause-bounded : goal.returns-clause-bounded
-returns-clause-bounded g c sum = c.run.ensures.bounded c.args.format.now c.args.limit c.in_ok-over.ensures.after sum
+pub returns-clause-told : goal.returns-clause-told
+returns-clause-told g c =
+    let told = c.in-Some.ensures.told in
+    (told.0, told.1, subst (λ report. RunTold c.args.format.now c.args.limit told.0 told.1 report) (sym c.new.ensures) told.2)
 
-pub returns-clause-reads : goal.returns-clause-reads
-returns-clause-reads g c = c.run.ensures.reads c.args.format.now c.args.limit c.in_ok-over.ensures.after
+pub returns-2-clause-scan : goal.returns-2-clause-scan
+returns-2-clause-scan g c t e =
+    let stood : c.else-limit-le-MOST_BYTES.from ≡ c.args.from.now = search rules in
+    subst (λ old. Scan g.S.Source.to_come c.args.format.now c.args.limit t old c.run.new.from c.run.result) stood
+    (c.run.ensures.scan c.args.format.now c.args.limit t c.in_ok-over.ensures.after (ap (input_of g.S.Source.to_come) stood ∙ e))
+
+pub returns-2-clause-bounded : goal.returns-2-clause-bounded
+returns-2-clause-bounded g c sum = c.run.ensures.bounded c.args.format.now c.args.limit c.in_ok-over.ensures.after sum
+
+pub returns-2-clause-reads : goal.returns-2-clause-reads
+returns-2-clause-reads g c =
+    let stood : c.else-limit-le-MOST_BYTES.from ≡ c.args.from.now = search rules in
+    subst (λ old. g.S.Source.reads c.run.new.from.source ≤ g.S.Source.reads old.source + c.args.limit + 1) stood
+    (c.run.ensures.reads c.args.format.now c.args.limit c.in_ok-over.ensures.after)
