@@ -67,7 +67,7 @@ fn whole_scans_of_held_records(rt: HostRuntime) -> Result<(), Fail> {
         2147483648,
     );
     assert_eq!(rt; refused.err(), Some(StartFault::BadLimit));
-    assert_eq!(rt; from.held(), b"3,ef;");
+    assert_eq!(rt; from.held(), b"3,ef;".as_slice());
     let third = fscan(rt.alloc(), &mut from, &format, LIMIT)?;
     is_pair(&rt, &third, &from, 3, b"ef");
     Ok(())
