@@ -551,8 +551,9 @@ fn pieces_of_texts_are_as_steps(rt: HostRuntime) {
     }
 }
 
-/// Texts whose first bytes are a decimal integer of so many bytes, or perhaps none that ends within the text.
-const WHOLE: [(Option<u16>, &str, Option<(usize, bool, u64)>); 17] = [
+/// Texts whose first bytes are a decimal integer of so many bytes, or none that is told so: none that ends within the
+/// text, or one with more digits than surely fit.
+const WHOLE: [(Option<u16>, &str, Option<(usize, bool, u64)>); 18] = [
     (None, "12,", Some((2, false, 12))),
     (None, "-7 ", Some((2, true, 7))),
     (None, "+0;", Some((2, false, 0))),
@@ -563,7 +564,8 @@ const WHOLE: [(Option<u16>, &str, Option<(usize, bool, u64)>); 17] = [
         "1844674407370955160,",
         Some((19, false, 1844674407370955160)),
     ),
-    (None, "00000000000000000000042\n", Some((23, false, 42))),
+    (None, "0000000000000000042\n", Some((19, false, 42))),
+    (None, "00000000000000000000042\n", None),
     (Some(2), "123", Some((2, false, 12))),
     (Some(2), "-12", Some((2, true, 1))),
     (Some(1), "-1,", None),

@@ -68,7 +68,7 @@ fn run(rt: &(impl Abort + AllocGlobal), row: &Row) -> Result<(), Fail> {
     Ok(())
 }
 
-const ROWS: [Row; 19] = [
+const ROWS: [Row; 20] = [
     Row {
         format: b"%d,%d",
         limit: 9,
@@ -194,6 +194,13 @@ const ROWS: [Row; 19] = [
         piece: b"-00000000000000000000000012;",
         told: Some(Told::Done(1, 27, None)),
         values: &[Value::U64(18446744073709551604)],
+    },
+    Row {
+        format: b"%d",
+        limit: 99,
+        piece: b"00000000000000000000042\n",
+        told: Some(Told::Done(1, 23, None)),
+        values: &[Value::I32(42)],
     },
     Row {
         format: b"",
