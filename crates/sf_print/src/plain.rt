@@ -1,4 +1,5 @@
-//! Numbers that are printed as a minus and decimal digits alone.
+//! Values whose text is not padded: numbers that are a minus and decimal digits alone, and bytes that are printed as they
+//! are.
 ghost use Rattle.std.specs.Prelude.{◌≡◌, ◌≤◌, ◌++◌, length, IfSome};
 ghost use Rattle.std.specs.Fmt.{decimal};
 ghost use Rattle.sf_base.specs.Data.{datum_of};
@@ -42,5 +43,19 @@ pub(crate) fn plain_number(conv: &PrintConv, value: &Value<'_>) -> Option<(bool,
     match printable_of(*value) {
         Printable::Number(negative, magnitude) => Some((negative, magnitude)),
         Printable::Bytes(_) => None,
+    }
+}
+
+/// The bytes of a text that is printed as it is.
+#[inline]
+pub(crate) fn plain_bytes<'a>(conv: &PrintConv, value: &Value<'a>) -> Option<&'a [u8]>
+    ensures { IfSome result (λ bytes. value_text conv.now (datum_of value.now) ≡ bytes.now) }
+{
+    if conv.width > 0 || conv.precision.is_some() {
+        return None;
+    }
+    match *value {
+        Value::Text(bytes) => Some(bytes),
+        _ => None,
     }
 }

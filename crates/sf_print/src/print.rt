@@ -10,11 +10,11 @@ ghost use Rattle.sf_print.specs.Printed.{unit_text, printed, length_or_fault, me
 
 use crate::decimal::decimal_len;
 use crate::fault::PrintFault;
-use crate::handing::{flush, put_byte, put_number};
+use crate::handing::{flush, put, put_byte, put_number};
 use crate::integer::DIGIT_BYTES;
 use crate::judging::{find_lowest_fault, value_of_slot};
 use crate::piece::{pieces_len, put_pieces};
-use crate::plain::plain_number;
+use crate::plain::{plain_bytes, plain_number};
 use crate::sink::{Sink, SinkFault};
 use crate::stage::Stage;
 use crate::text::value_pieces;
@@ -28,7 +28,7 @@ const MOST_BYTES: u32 = 2147483647;
 /// greatest width, are within `MOST_BYTES`.
 const SHORT_BYTES: usize = 65536;
 
-/// Puts the text of any value, by its pieces. It is a call of its own, so that plain numbers pay for no buffer.
+/// Puts the text of any value, by its pieces. It is a call of its own, so that plain values pay for no buffer.
 #[inline(never)]
 fn put_padded<K: Sink>(
     to: &mut K,
@@ -66,6 +66,9 @@ fn put_value<K: Sink>(
     if let Some((negative, magnitude)) = plain_number(conv, value) {
         return put_number(to, stage, negative, magnitude);
     }
+    if let Some(bytes) = plain_bytes(conv, value) {
+        return put(to, stage, bytes);
+    }
     put_padded(to, stage, conv, value)
 }
 
@@ -77,6 +80,9 @@ fn value_len(conv: &PrintConv, value: &Value<'_>, most: u64) -> u64
 {
     if let Some((negative, magnitude)) = plain_number(conv, value) {
         return most.min(negative as u64 + decimal_len(magnitude) as u64);
+    }
+    if let Some(bytes) = plain_bytes(conv, value) {
+        return most.min(bytes.len() as u64);
     }
     let mut buf = [0; DIGIT_BYTES];
     pieces_len(&value_pieces(conv, *value, &mut buf), most)
