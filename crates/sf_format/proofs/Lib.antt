@@ -36,5 +36,6 @@ pub mod ScanLaws
 pub mod PrintLaws
 pub mod Profiles
 pub mod Answers
+pub mod PartTexts
 pub mod Rows
 pub mod PrintRows

@@ -71,13 +71,14 @@ text_push (first ∷ done) piece =
       text_push done piece,
     )
 
--- the lengths of a part and of what follows it, which are bytes
-record IsPart (language : Language) (x : List ℕ) : Type 0 where
+-- a part and what follows it, which are bytes
+pub record IsPart (language : Language) (x : List ℕ) : Type 0 where
   pub some : 0 < length (piece_text (part_at language x).piece)
+  pub text : x ≡ piece_text (part_at language x).piece ++ (part_at language x).rest
   pub lengths : length (piece_text (part_at language x).piece) + length (part_at language x).rest ≡ length x
   pub bytes : AreBytes (part_at language x).rest
 
-is_part : (language : Language) (earlier : List Opening) (p : ℕ) (x : List ℕ) → 0 < length x → AreBytes x
+pub is_part : (language : Language) (earlier : List Opening) (p : ℕ) (x : List ℕ) → 0 < length x → AreBytes x
     → first_of (part_rules language earlier p x) ≡ None → IsPart language x
 is_part language earlier p [] some bytes quiet = absurd (omega (arith, some))
 is_part language earlier p (b ∷ x) some bytes quiet =
@@ -85,6 +86,7 @@ is_part language earlier p (b ∷ x) some bytes quiet =
     let part = part_at language (b ∷ x) in
     record {
       some = empty_text language part.piece begins.is;
+      text = begins.text;
       lengths = sym (length-append (piece_text part.piece) part.rest) ∙ sym (ap length begins.text);
       bytes = all_back (λ c. c < 256) (piece_text part.piece) part.rest (subst AreBytes begins.text bytes);
     }

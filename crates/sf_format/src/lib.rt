@@ -10,6 +10,7 @@ pub mod laws;
 mod letter;
 mod numbering;
 mod opening;
+mod part_text;
 mod passing;
 mod print;
 mod print_letter;
@@ -24,6 +25,7 @@ mod walking;
 
 pub use directive::{Base, Conversion, Directive, Profile, Shape};
 pub use fault::{FormatFault, FormatWhy};
+pub use part_text::directive_text;
 pub use print::PrintFormat;
 pub use scan::ScanFormat;
 pub use unit::{PrintConv, PrintLetter, Unit};

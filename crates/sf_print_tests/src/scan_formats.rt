@@ -1,7 +1,9 @@
 //! Examples of formats, and of texts that are none.
 use crate::shared::is;
 use sf_base::{ByteSet, Kind};
-use sf_format::{Base, Conversion, Directive, FormatFault, FormatWhy, Profile, ScanFormat, Shape};
+use sf_format::{
+    Base, Conversion, Directive, FormatFault, FormatWhy, Profile, ScanFormat, Shape, directive_text,
+};
 use std::alloc::Global;
 use std::test::Fail;
 
@@ -381,5 +383,31 @@ fn sums_widths(rt: HostRuntime) -> Result<(), Fail> {
     let text = repeated(rt.alloc(), b"%65535s", 32)?;
     let format = ScanFormat::parse(rt.alloc(), Profile::One, &text)?;
     assert_eq!(rt; format.width_sum(), Some(2097120));
+    Ok(())
+}
+
+/// Formats, numbers of directives, and their texts as they stand there.
+const DIRECTIVE_TEXTS: [(&[u8], u16, Option<&[u8]>); 12] = [
+    (b"%d", 0, None),
+    (b"%d", 1, Some(b"%d")),
+    (b"%d", 2, None),
+    (b"", 1, None),
+    (b"a \n%5hhd", 1, Some(b"a")),
+    (b"a \n%5hhd", 2, Some(b" \n")),
+    (b"a \n%5hhd", 3, Some(b"%5hhd")),
+    (b"%%%*[^]x]%2$s", 1, None),
+    (b"%%%*[^]x]%1$s", 1, Some(b"%%")),
+    (b"%%%*[^]x]%1$s", 2, Some(b"%*[^]x]")),
+    (b"%%%*[^]x]%1$s", 3, Some(b"%1$s")),
+    (b"%d%", 1, None),
+];
+
+#[test]
+fn tells_texts_of_directives(rt: HostRuntime) -> Result<(), Fail> {
+    for (text, number, wanted) in DIRECTIVE_TEXTS {
+        let found = directive_text(Profile::One, text, number);
+        is(&rt, &found, &wanted, &(text, number));
+    }
+    assert_eq!(rt; directive_text(Profile::Two, b"%b,%x", 1), Some(&b"%b"[..]));
     Ok(())
 }
