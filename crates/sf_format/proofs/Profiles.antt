@@ -16,7 +16,7 @@ use Rattle.sf_format.specs.Letters.{letters, letter_of}
 use Rattle.sf_format.specs.PrintLetters.{print_letters, print_letter_of}
 use Rattle.sf_format.specs.Pieces.{Opening, Piece, WhiteSpace, Ordinary, Percents, Plain, Bracket, Printed}
 use Rattle.sf_format.specs.PrintGrammar.{SuitsPrint, Prints}
-use Rattle.sf_format.specs.Grammar.{Suits, IsScanPiece, IsPiece, IsFormat, IsConversion, shape_of, destinations, Means, MeanAll}
+use Rattle.sf_format.specs.Grammar.{Suits, IsScanPiece, IsPiece, IsConversion, shape_of, destinations, Means, MeanAll}
 use Rattle.sf_format.specs.Profiles.{shape_with, directive_with, base_in_two, base_in_one, in_two, in_one, ShapeHas, DirectiveHas, HaveBases, IsNotBin, IsOfOne, IsNotBinary, UnitIsNotBinary, AreNotBinary}
 use Rattle.sf_format.specs.Laws.{TwoSpellsOne, OneSpellsTwo, OneHasOldBases, TwoPrintsOne, OnePrintsTwo}
 use Rattle.sf_format.proofs.Suits.{found}

@@ -17,17 +17,19 @@ use sf_base::Kind;
 use std::alloc::Global;
 use std::marker::Model;
 
-/// A scan format: its directives, and the count of its destinations.
+/// A scan format: its directives, the count of its destinations, and the sum of their widths.
 #[derive(Drop)]
 pub struct ScanFormat {
     directives: Vec<Directive>,
     destinations: u8,
+    widths: Option<u32>,
 }
 
 impl Model for ScanFormat {
     ghost use Rattle.std.specs.Prelude.{◌≡◌, List, length};
     ghost use Rattle.sf_format.specs.declared.directive.Directive.{Directive};
     ghost use Rattle.sf_format.specs.Proper.{IsAccepted, destinations_of};
+    ghost use Rattle.sf_format.specs.Widths.{width_sum};
 
     ghost Value = { List Directive };
 
@@ -36,6 +38,7 @@ impl Model for ScanFormat {
     ghost invariant = { λ f. record {
       accepted : IsAccepted f.directives.items;
       counted : f.destinations ≡ length (destinations_of f.directives.items);
+      summed : f.widths ≡ width_sum f.directives.items;
     } };
 }
 
@@ -105,9 +108,11 @@ impl ScanFormat {
     {
         let destinations = judge(Language::Scan(profile), text)?;
         let directives = gather(alloc, profile, text)?;
+        let widths = sum_of_widths(&directives);
         Ok(ScanFormat {
             directives,
             destinations,
+            widths,
         })
     }
 
@@ -150,6 +155,6 @@ impl ScanFormat {
     pub fn width_sum(&self) -> Option<u32>
         ensures { result ≡ width_sum self.now }
     {
-        sum_of_widths(self.directives())
+        self.widths
     }
 }

@@ -3,6 +3,7 @@ use Rattle.std.proofs.lemmas.Result.{err_from_is_err_and}
 use Rattle.sf_format.proofs.Answers.{gathers_spells, gathers_count, judged_fault, hindered, same_fault, no_fault, not_refused, gathers_one}
 use Rattle.sf_format.specs.declared.language.Language.TheVariants.{Scan}
 use Rattle.sf_format.specs.Grammar.{Means}
+use Rattle.sf_format.specs.Widths.{width_sum}
 use Rattle.sf_format.proofs.Walks.{bytes_of}
 use Rattle.sf_format.proofs.Meanings.{scan_meaning}
 use Rattle.sf_format.proofs.Accepted.{destinations_count}
@@ -37,6 +38,14 @@ pub returns-in_err-directives-clause-fault : goal.returns-in_err-directives-clau
 returns-in_err-directives-clause-fault c = λ at why fault.
     no_fault (Scan c.args.profile) c.args.text.now c.in_ok-destinations.destinations at why c.in_ok-destinations.ensures fault
 
+pub sum_of_widths-widths-requires : goal.sum_of_widths-widths-requires
+sum_of_widths-widths-requires c =
+    rw c.deref.ensures.value
+    (laws.proper c.args.profile c.args.text.now c.in_ok-directives.directives.items
+    (gathers_spells (Scan c.args.profile) (Means c.args.profile) c.args.text.now c.in_ok-destinations.destinations
+    c.in_ok-directives.directives.items (bytes_of c.args.text.now (λ i. omega (arith, c.type_inv.text i))) c.in_ok-destinations.ensures
+    c.in_ok-directives.ensures.gathered)).short
+
 pub invariant_of-result : goal.invariant_of-result
 invariant_of-result c =
     let gathered = c.in_ok-directives.ensures.gathered in record {
@@ -49,6 +58,7 @@ invariant_of-result c =
           gathers_count (Scan c.args.profile) (Means c.args.profile) c.args.text.now c.in_ok-destinations.destinations
           c.in_ok-directives.directives.items c.in_ok-destinations.ensures gathered
           ∙ sym (destinations_count c.args.profile gathered.0 c.in_ok-directives.directives.items gathered.2);
+      summed = c.sum_of_widths-widths.ensures ∙ ap width_sum c.deref.ensures.value;
     }
 
 pub returns-clause-spelled : goal.returns-clause-spelled
