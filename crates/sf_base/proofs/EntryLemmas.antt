@@ -1,9 +1,9 @@
 -- Facts about the entries of a store.
-use Rattle.std.proofs.Common.{◌≡◌, ◌<◌, ◌≤◌, ◌+◌, ◌||◌, ℕ, Bool, true, false, cond, List, [], ◌∷◌, ◌++◌, length, map, take, drop, slice_range, Option, Some, None, nat_eq, refl, ap, sym, ◌∙◌, inl, inr, arith, length-append}
-use Rattle.std.specs.List.{All, IsDistinct, list_any, find}
+use Rattle.std.proofs.Common.{◌≡◌, ◌<◌, ◌≤◌, ◌+◌, ◌||◌, ℕ, zero, suc, Bool, true, false, cond, List, [], ◌∷◌, ◌++◌, length, map, take, drop, slice_range, get_or, Option, Some, None, nat_eq, refl, ap, sym, ◌∙◌, inl, inr, arith, length-append}
+use Rattle.std.specs.List.{All, AllByRecursion, IsDistinct, list_any, find}
 use Rattle.std.specs.Option.{option_map}
 use Rattle.std.specs.Cmp.{nat_eq_equiv}
-use Rattle.std.proofs.lemmas.Bool.{or_cases, eqb-true, eqb-false, ne_eqb}
+use Rattle.std.proofs.lemmas.Bool.{or_cases, eqb-true, eqb-false, eq-eqb, ne_eqb}
 use Rattle.std.proofs.lemmas.List.{map-append, length-map, take-take, take-append-drop}
 use Rattle.std.proofs.lemmas.List.Folds.{list_any-append}
 use Rattle.std.proofs.lemmas.Slice.{between_is, between_to_end}
@@ -152,3 +152,20 @@ IsSound-open slots es closed len opened slot sound is_slot absent = record {
   closed_held = sound.closed_held;
   under_way = (is_slot, absent);
 }
+
+-- the slot of an entry differs from one that differs from all
+differs_at : (k slot i : ℕ) (es : List Entry) (d : Entry) → AllByRecursion (λ y. nat_eq k y ≡ false) (slots_of es) → i < length es → (get_or es i d).slot ≡ slot → nat_eq k slot ≡ false
+differs_at k slot i [] d all below is = absurd (omega (arith, below))
+differs_at k slot zero (e ∷ es) d all below is = ap (nat_eq k) (sym is) ∙ all.0
+differs_at k slot (suc i) (e ∷ es) d all below is = differs_at k slot i es d all.1 (omega (arith, below)) is
+
+-- an entry for the slot is the one that is found, as no two are for one slot
+pub found_at : (closed : List ℕ) (slot i : ℕ) (es : List Entry) (d : Entry) → IsDistinct nat_eq (slots_of es) → i < length es → (get_or es i d).slot ≡ slot
+    → Some (datum_in closed (get_or es i d).cell) ≡ datum_at slot (map (assigned_in closed) es)
+unfolding IsDistinct
+found_at closed slot i [] d apart below is = absurd (omega (arith, below))
+found_at closed slot zero (e ∷ es) d apart below is = let same : nat_eq slot e.slot ≡ true = eq-eqb slot e.slot (sym is) in rw same refl
+found_at closed slot (suc i) (e ∷ es) d apart below is =
+    let differs : nat_eq e.slot slot ≡ false = differs_at e.slot slot i es d apart.0 (omega (arith, below)) is in
+    let other : nat_eq slot e.slot ≡ false = ne_eqb slot e.slot (λ same. eqb-false e.slot slot differs (sym same)) in
+    rw other (found_at closed slot i es d apart.1 (omega (arith, below)) is)

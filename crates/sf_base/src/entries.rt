@@ -1,14 +1,14 @@
 //! What a store writes down of each slot.
-ghost use Rattle.std.specs.Prelude.{◌≡◌, ℕ, List, true, length, map};
+ghost use Rattle.std.specs.Prelude.{◌≡◌, ℕ, List, true, length, map, nat_eq};
 ghost use Rattle.std.specs.Option.{option_map};
-ghost use Rattle.std.specs.List.{All};
+ghost use Rattle.std.specs.List.{All, IsDistinct};
 ghost use Rattle.sf_base.specs.Data.{datum_of, datum_at, is_number};
-ghost use Rattle.sf_base.specs.Entries.{datum_in, assigned_in, IsWithin};
+ghost use Rattle.sf_base.specs.Entries.{datum_in, assigned_in, slots_of, IsWithin};
 
 use crate::Value;
 
 /// A value; a text is a part of the buffer.
-#[derive(Clone, Copy)]
+#[derive(Clone, Copy, Debug)]
 pub(crate) enum Cell {
     I8(i8),
     I16(i16),
@@ -21,7 +21,7 @@ pub(crate) enum Cell {
     Text { from: usize, to: usize },
 }
 
-#[derive(Clone, Copy)]
+#[derive(Clone, Copy, Debug)]
 pub(crate) struct Entry {
     pub(crate) slot: u8,
     pub(crate) cell: Cell,
@@ -76,11 +76,17 @@ fn value_in<'a>(cell: Cell, closed: &'a [u8]) -> Value<'a>
     }
 }
 
-/// The value of the slot by these entries.
+/// The value of the slot by these entries. Where the slots were given their values in order, it is found at once.
 pub(crate) fn find_value<'a>(entries: &[Entry], slot: u8, closed: &'a [u8]) -> Option<Value<'a>>
-    requires { All (λ e. IsWithin (length closed.now) e.cell) entries.now }
+    requires apart { IsDistinct nat_eq (slots_of entries.now) }
+    requires within { All (λ e. IsWithin (length closed.now) e.cell) entries.now }
     ensures { option_map datum_of result ≡ datum_at slot (map (assigned_in closed.now) entries.now) }
 {
+    if let Some(entry) = entries.get((slot as usize).wrapping_sub(1)) {
+        if entry.slot == slot {
+            return Some(value_in(entry.cell, closed));
+        }
+    }
     for entry in entries {
         if slot == entry.slot {
             return Some(value_in(entry.cell, closed));
