@@ -7,7 +7,7 @@ ghost use Rattle.sf_base.specs.Sets.{has_byte, marks_of, count_below};
 use std::marker::Model;
 
 /// A set of bytes, as the scanlist of a format has one (C11 7.21.6.2p12).
-#[derive(Drop)]
+#[derive(Debug, Drop)]
 pub struct ByteSet {
     // byte b is bit b % 64 of word b / 64
     words: [u64; 4],

@@ -9,7 +9,7 @@ use arrayvec::ArrayVec;
 use std::marker::Model;
 
 /// A store of fixed capacity, which takes no memory.
-#[derive(Drop)]
+#[derive(Debug, Drop)]
 pub struct FixedStore<const CAP: usize, const SLOTS: usize> {
     entries: ArrayVec<Entry, SLOTS>,
     bytes: ArrayVec<u8, CAP>,

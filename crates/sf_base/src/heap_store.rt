@@ -9,7 +9,7 @@ use std::alloc::{AllocError, Global};
 use std::marker::Model;
 
 /// A store on the heap.
-#[derive(Drop)]
+#[derive(Debug, Drop)]
 pub struct HeapStore {
     entries: Vec<Entry>,
     bytes: Vec<u8>,

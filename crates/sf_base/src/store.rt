@@ -5,9 +5,11 @@ ghost use Rattle.sf_base.specs.Data.{datum_of, datum_at, is_number};
 ghost use Rattle.sf_base.specs.Kept.{Kept, is_opened, with_value, with_opened, with_bytes, with_closed, with_dropped};
 
 use crate::Value;
+use thiserror::Error;
 
 /// A byte could not be stored.
-#[derive(Clone, Copy, PartialEq, Eq, Debug)]
+#[derive(Clone, Copy, PartialEq, Eq, Debug, Error)]
+#[error("the store is full")]
 pub struct StoreFull;
 
 /// What values and texts of a run are kept in. The texts lie one after the other in one buffer.

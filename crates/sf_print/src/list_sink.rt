@@ -6,7 +6,7 @@ use std::alloc::Global;
 use std::marker::Model;
 
 /// A list that grows. A write fails only where the growth was refused.
-#[derive(Drop)]
+#[derive(Debug, Drop)]
 pub struct ListSink {
     list: Vec<u8>,
     failures: u64,

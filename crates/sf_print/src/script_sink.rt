@@ -21,7 +21,7 @@ pub enum WriteStep {
 }
 
 /// What is left of a script: of its present step, and the steps after it.
-#[derive(Drop)]
+#[derive(Debug, Drop)]
 struct Script<'a> {
     left: usize,
     steps: &'a [WriteStep],
@@ -63,7 +63,7 @@ impl Script<'_> {
 }
 
 /// A list that grows by the steps of a script; after them it takes all. A refused growth is a failed write.
-#[derive(Drop)]
+#[derive(Debug, Drop)]
 pub struct ScriptSink<'a> {
     list: Vec<u8>,
     script: Script<'a>,

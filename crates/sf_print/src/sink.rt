@@ -4,8 +4,11 @@ ghost use Rattle.std.specs.Io.{WritesAtMost};
 ghost use Rattle.std.specs.Io.KnownBytes.{WriteAppends};
 ghost use Rattle.sf_print.specs.Sinks.{counted_on};
 
+use thiserror::Error;
+
 /// A write failed.
-#[derive(Clone, Copy, Debug, PartialEq, Eq)]
+#[derive(Clone, Copy, Debug, Error, PartialEq, Eq)]
+#[error("write fault")]
 pub struct SinkFault;
 
 /// What takes bytes.
