@@ -1,5 +1,7 @@
 pub mod Copying
+pub mod Escaping
 pub mod Joining
+pub mod JsonWriting
 pub mod Looping
 pub mod OneEnd
 pub mod Passing

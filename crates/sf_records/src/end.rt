@@ -63,7 +63,8 @@ pub(crate) fn ended_by(records: u32, fault: ToolFault) -> ToolEnd
     }
 }
 
-fn status_text(status: Status) -> &'static str
+/// The words for a status.
+pub fn status_text(status: Status) -> &'static str
     ensures { result.now ≡ status_text status }
 {
     match status {

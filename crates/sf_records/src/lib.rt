@@ -1,8 +1,10 @@
-//! Records scanned from an input, one after the other, and what is written for each: a line, or its copy.
+//! Records scanned from an input, one after the other, and what is written for each: its values in one form, or its copy.
 #![tactic(auto)]
 
 mod copy;
 mod end;
+mod form;
+mod json;
 pub mod laws;
 mod line;
 mod output;
@@ -10,10 +12,14 @@ mod quote;
 mod recorder;
 mod records;
 mod scan;
+mod tables;
 mod turn;
+mod writer;
 
 pub use copy::run_copy;
-pub use end::{ToolEnd, ToolFault};
+pub use end::{ToolEnd, ToolFault, status_text};
+pub use form::OutputForm;
+pub use line::push_record;
 pub use output::write_whole;
 pub use quote::push_quoted;
-pub use scan::run_scan;
+pub use scan::{run_scan, run_scan_as};

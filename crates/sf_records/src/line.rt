@@ -1,16 +1,34 @@
-//! The line of a record.
+//! The text of a record.
 ghost use Rattle.std.specs.Prelude.{◌≡◌, ◌++◌, OnOk};
-ghost use Rattle.sf_base.specs.Data.{datum_of};
-ghost use Rattle.sf_records.specs.Lines.{line_of, text_at, text_of};
+ghost use Rattle.sf_base.specs.Data.{datum_of, Bytes};
+ghost use Rattle.sf_records.specs.Forms.{record_text, slot_text, value_text};
 
+use crate::form::OutputForm;
+use crate::json::push_json_string;
 use crate::quote::push_quoted;
+use crate::tables::push_tsv_text;
 use itoa::Buffer;
 use sf_base::{Store, Value};
 use sf_run::Report;
 use std::alloc::AllocError;
 
-fn push_value(output: &mut Vec<u8>, digits: &mut Buffer, value: Value<'_>) -> Result<(), AllocError>
-    ensures { OnOk result (output.new.items ≡ output.old.items ++ text_of (datum_of value.entry)) }
+fn push_text(output: &mut Vec<u8>, form: OutputForm, text: &[u8]) -> Result<(), AllocError>
+    ensures { OnOk result (output.new.items ≡ output.old.items ++ value_text form (Bytes text.now)) }
+{
+    match form {
+        OutputForm::Plain => push_quoted(output, text),
+        OutputForm::Tsv => push_tsv_text(output, text),
+        OutputForm::Json => push_json_string(output, text),
+    }
+}
+
+fn push_value(
+    output: &mut Vec<u8>,
+    digits: &mut Buffer,
+    form: OutputForm,
+    value: Value<'_>,
+) -> Result<(), AllocError>
+    ensures { OnOk result (output.new.items ≡ output.old.items ++ value_text form (datum_of value.entry)) }
 {
     let number = match value {
         Value::I8(number) => i64::from(number),
@@ -21,7 +39,7 @@ fn push_value(output: &mut Vec<u8>, digits: &mut Buffer, value: Value<'_>) -> Re
         Value::U16(number) => i64::from(number),
         Value::U32(number) => i64::from(number),
         Value::U64(number) => return output.extend_from_slice(digits.format(number).as_bytes()),
-        Value::Text(text) => return push_quoted(output, text),
+        Value::Text(text) => return push_text(output, form, text),
     };
     output.extend_from_slice(digits.format(number).as_bytes())
 }
@@ -29,32 +47,35 @@ fn push_value(output: &mut Vec<u8>, digits: &mut Buffer, value: Value<'_>) -> Re
 fn push_slot<S: Store>(
     output: &mut Vec<u8>,
     digits: &mut Buffer,
+    form: OutputForm,
     report: &Report<'_, S>,
     slot: u8,
 ) -> Result<(), AllocError>
-    ensures { OnOk result (output.new.items ≡ output.old.items ++ text_at report.now slot) }
+    ensures { OnOk result (output.new.items ≡ output.old.items ++ slot_text form report.now slot) }
 {
     match report.value(slot) {
-        Some(value) => push_value(output, digits, value),
-        None => Ok(()),
+        Some(value) => push_value(output, digits, form, value),
+        None => output.extend_from_slice(form.absent()),
     }
 }
 
-/// Appends the line of a record of a format that has so many destinations.
-pub(crate) fn push_line<S: Store>(
+/// Appends, in this form, the record of a format that has so many destinations, by the report of a run. Where memory is
+/// refused, a part of it may have been appended.
+pub fn push_record<S: Store>(
     output: &mut Vec<u8>,
     digits: &mut Buffer,
+    form: OutputForm,
     report: &Report<'_, S>,
     destinations: u8,
 ) -> Result<(), AllocError>
-    ensures { OnOk result (output.new.items ≡ output.old.items ++ line_of destinations report.now) }
+    ensures { OnOk result (output.new.items ≡ output.old.items ++ record_text form destinations report.now) }
 {
+    output.extend_from_slice(form.opening())?;
     for before in 0..destinations {
         if before > 0 {
-            output.push(b' ')?;
+            output.push(form.separator())?;
         }
-        push_slot(output, digits, report, before + 1)?;
+        push_slot(output, digits, form, report, before + 1)?;
     }
-    output.push(b'\n')?;
-    Ok(())
+    output.extend_from_slice(form.closing())
 }

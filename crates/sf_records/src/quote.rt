@@ -9,7 +9,7 @@ use std::simd::prelude::*;
 
 const LANES: usize = 16;
 
-fn hex_digit(n: u8) -> u8
+pub(crate) fn hex_digit(n: u8) -> u8
     requires { n < 16 }
     ensures { result ≡ hex_digit n }
 {
@@ -44,7 +44,7 @@ fn short_run(bytes: &[u8]) -> usize
 
 /// How many plain bytes stand in front.
 #[inline(always)]
-fn plain_run(bytes: &[u8]) -> usize
+pub(crate) fn plain_run(bytes: &[u8]) -> usize
     ensures within { result ≤ length bytes.now }
     ensures count { result ≡ prefix_len is_plain bytes.now }
 {

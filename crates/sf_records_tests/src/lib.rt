@@ -1,10 +1,12 @@
-//! Tests of `sf_records`: copies by a pair of formats.
+//! Tests of `sf_records`: records in each form, and copies by a pair of formats.
 #![tactic(auto)]
 
 #[cfg(test)]
 mod copies;
 #[cfg(test)]
 mod devices;
+#[cfg(test)]
+mod forms;
 #[cfg(test)]
 mod memory;
 #[cfg(test)]

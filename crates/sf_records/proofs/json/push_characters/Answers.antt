@@ -1,0 +1,14 @@
+use Rattle.std.proofs.Common.{◌∙◌}
+use Rattle.std.proofs.lemmas.Bool.{eqb-false}
+use Rattle.sf_records.proofs.JsonWriting.{kept_within, kept_written}
+use Rattle.sf_records.proofs.json.push_characters.Goals as goal
+
+pub loop-done-preserved : goal.loop-done-preserved
+loop-done-preserved c =
+    let l = c.loop-done in
+    let bytes = c.args.bytes.now in
+    let kept = c.utf8_front-kept in
+    record {
+      within = kept_within bytes l.done kept.result c.loop-done-test.true kept.ensures.within;
+      so_far = kept_written bytes l.output.items _ l.done kept.result c.loop-done-test.true kept.ensures.count kept.ensures.within (λ none. c.if-kept-eq0.false none) c.in_ok-push_kept.ensures ∙ l.invariant.so_far;
+    }

@@ -1,0 +1,59 @@
+//! Writes records, each in one form.
+ghost use Rattle.std.specs.Prelude.{◌≡◌};
+ghost use Rattle.sf_records.specs.Forms.{writer_work, writing_of};
+
+use crate::form::OutputForm;
+use crate::line::push_record;
+use crate::output::write_whole;
+use crate::recorder::{Recorder, Unwritten};
+use itoa::Buffer;
+use sf_base::Store;
+use sf_print::Sink;
+use sf_run::Report;
+use std::alloc::Global;
+
+/// Writes records, each in one form, by one buffer.
+#[derive(Drop)]
+pub(crate) struct RecordWriter {
+    form: OutputForm,
+    /// How many values a record has.
+    destinations: u8,
+    /// The last record.
+    text: Vec<u8>,
+    /// Where digits are made.
+    digits: Buffer,
+}
+
+impl RecordWriter {
+    /// Of records of so many values. It takes no memory until a record is written.
+    pub(crate) fn new(alloc: Global, form: OutputForm, destinations: u8) -> RecordWriter
+        ensures { writer_work result ≡ writing_of form destinations }
+    {
+        RecordWriter {
+            form,
+            destinations,
+            text: Vec::new(alloc),
+            digits: Buffer::new(),
+        }
+    }
+}
+
+impl Recorder for RecordWriter {
+    ghost work = { writer_work };
+
+    fn write<K: Sink, T: Store>(
+        &mut self,
+        to: &mut K,
+        report: &Report<'_, T>,
+    ) -> Result<(), Unwritten> {
+        self.text.clear();
+        let (text, digits) = (&mut self.text, &mut self.digits);
+        if push_record(text, digits, self.form, report, self.destinations).is_err() {
+            return Err(Unwritten::Memory);
+        }
+        match write_whole(to, &self.text) {
+            Ok(()) => Ok(()),
+            Err(_) => Err(Unwritten::Write),
+        }
+    }
+}
