@@ -1,7 +1,11 @@
 -- Lists of rules of which none applies.
-use Rattle.std.proofs.Common.{◌≡◌, false, cond, List, [], ◌∷◌, ◌++◌, Option, Some, None, is_some, refl, ap, ◌∙◌}
+use Rattle.std.proofs.Common.{◌≡◌, false, cond, List, [], ◌∷◌, ◌++◌, map, Option, Some, None, is_some, refl, ap, ◌∙◌}
 use Rattle.std.specs.List.{AllByRecursion}
+use Rattle.sf_base.specs.declared.rules.Rule.{Rule as CodeRule}
+use Rattle.sf_base.specs.Rules.{first_reason}
+use Rattle.sf_format.specs.declared.fault.FormatFault.{FormatFault}
 use Rattle.sf_format.specs.Rules.{Rule, first_of}
+use Rattle.sf_format.specs.Passing.{fault_in, row_of}
 use Rattle.sf_format.proofs.Outcomes.{by_test}
 
 -- no rule applies
@@ -33,3 +37,11 @@ all_back P (x ∷ xs) ys h = all_back P xs ys h.1
 pub none_from : {A : Type 0} (o : Option A) → is_some o ≡ false → o ≡ None
 none_from None e = refl
 none_from (Some a) e = absurd (cc)
+
+-- the first rule of a table in the code
+pub table_fault : (rules : List (CodeRule FormatFault)) → fault_in (first_reason rules) ≡ first_of (map row_of rules)
+table_fault [] = refl
+table_fault (rule ∷ rules) =
+    by_test rule.applies
+    (λ v. fault_in (cond v (Some rule.why) (first_reason rules)) ≡ cond v (Some (rule.why.why, rule.why.at)) (first_of (map row_of rules)))
+    (λ t. refl) (λ f. table_fault rules)

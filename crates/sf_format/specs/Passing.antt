@@ -2,6 +2,7 @@
 use Rattle.std.specs.Prelude.{◌≡◌, ℕ, ◌+◌, Bool, true, false, List, [], ◌∷◌, ◌++◌, ◌<◌, length, map, drop, ◌⊎◌, Result, Ok, Err, Option, Some, None}
 use Rattle.std.specs.List.{AllByRecursion}
 use Rattle.sf_base.specs.declared.values.Kind.{Kind}
+use Rattle.sf_base.specs.declared.rules.Rule.{Rule as CodeRule}
 use Rattle.sf_base.specs.Sets.{has_byte}
 use Rattle.sf_format.specs.declared.directive.Profile.{Profile}
 use Rattle.sf_format.specs.declared.directive.Shape.{Shape}
@@ -49,10 +50,9 @@ abbrev pub fault_in : Option FormatFault → Option (FormatWhy × ℕ)
 fault_in None = None
 fault_in (Some fault) = Some (fault_of fault)
 
--- a reason, told at the place
-abbrev pub why_at : ℕ → Option FormatWhy → Option (FormatWhy × ℕ)
-why_at at None = None
-why_at at (Some why) = Some (why, at)
+-- a row of a table of rules
+abbrev pub row_of : CodeRule FormatFault → Rule
+row_of rule = record { why = rule.why.why; applies = rule.applies; at = rule.why.at }
 
 -- ---- one specification
 

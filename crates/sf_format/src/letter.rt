@@ -2,7 +2,7 @@
 ghost use Rattle.std.specs.Prelude.{◌≡◌};
 ghost use Rattle.sf_format.specs.Letters.{auto_base, letter_of, kind_of, signed_kind, unsigned_kind};
 ghost use Rattle.sf_format.specs.Faults.{is_left_out};
-ghost use Rattle.sf_format.specs.Rules.{takes_text, has_length};
+ghost use Rattle.sf_format.specs.Rules.{takes_text, has_length, is_l};
 
 use crate::directive::{Base, Profile};
 use sf_base::Kind;
@@ -81,6 +81,13 @@ pub fn of_text(b: u8) -> bool
 }
 
 impl Length {
+    /// Whether it is `l`.
+    pub fn is_l(self) -> bool
+        ensures { result ≡ is_l self }
+    {
+        matches!(self, Length::L)
+    }
+
     /// Whether a length is written.
     pub fn is_written(self) -> bool
         ensures { result ≡ has_length self }

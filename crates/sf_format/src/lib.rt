@@ -16,6 +16,7 @@ mod print;
 mod print_letter;
 mod print_opening;
 mod print_passing;
+mod rule_table;
 mod scan;
 mod scanlist;
 mod shaping;

@@ -1,11 +1,12 @@
 //! Conversion specifications up to their letter.
-ghost use Rattle.std.specs.Prelude.{◌≡◌, ◌≤◌, ◌+◌, ◌*◌, true, length, min};
+ghost use Rattle.std.specs.Prelude.{◌≡◌, ◌≤◌, ◌+◌, ◌*◌, ◌&&◌, ◌||◌, true, length, min, nat_eq, nat_lt};
 ghost use Rattle.std.specs.List.{AllByRecursion};
 ghost use Rattle.std.specs.Char.{digit_value};
 ghost use Rattle.sf_base.specs.Bytes.{magnitude};
 ghost use Rattle.sf_format.specs.Digits.{is_decimal};
+ghost use Rattle.sf_format.specs.Lists.{is_written};
 ghost use Rattle.sf_format.specs.Cut.{cut};
-ghost use Rattle.sf_format.specs.Pieces.{number_text, opening_text};
+ghost use Rattle.sf_format.specs.Pieces.{number_text, opening_text, star_text};
 ghost use Rattle.sf_format.specs.Rules.{first_of};
 ghost use Rattle.sf_format.specs.Faults.{opening_rules};
 ghost use Rattle.sf_format.specs.Passing.{opening_of, fault_in};
@@ -13,6 +14,7 @@ ghost use Rattle.sf_format.specs.Passing.{opening_of, fault_in};
 use crate::fault::{FormatFault, FormatWhy};
 use crate::fronts::{Class, mark, number, size, split_front};
 use crate::letter::Length;
+use crate::rule_table::{fault_by, rule};
 
 /// A conversion specification up to its letter, as it is written.
 #[derive(Clone, Copy)]
@@ -21,6 +23,15 @@ pub struct Written<'a> {
     pub star: bool,
     pub width: &'a [u8],
     pub size: Length,
+}
+
+impl Written<'_> {
+    /// Whether it has a number and is suppressed.
+    fn is_starred_number(&self) -> bool
+        ensures { result ≡ (is_written self.now.number.now && self.now.star) }
+    {
+        !self.number.is_empty() && self.star
+    }
 }
 
 fn cut_opening(text: &[u8]) -> (Written, &[u8])
@@ -74,6 +85,31 @@ pub fn capped(digits: &[u8]) -> u32
     value
 }
 
+/// Whether a number is written that is no slot's: those are 1 to 32.
+pub fn is_no_slot(number: &[u8]) -> bool
+    requires { AllByRecursion (λ b. is_decimal b ≡ true) number.now }
+    ensures { result ≡ (is_written number.now && (nat_eq (magnitude 10 number.now) 0 || nat_lt 32 (magnitude 10 number.now))) }
+{
+    let slot = capped(number);
+    !number.is_empty() && (slot == 0 || slot > 32)
+}
+
+/// Whether digits are written that stand for 0.
+fn is_zero(digits: &[u8]) -> bool
+    requires { AllByRecursion (λ b. is_decimal b ≡ true) digits.now }
+    ensures { result ≡ (is_written digits.now && nat_eq (magnitude 10 digits.now) 0) }
+{
+    !digits.is_empty() && capped(digits) == 0
+}
+
+/// Whether digits stand for more than any width: those are at most 65535.
+pub fn is_too_wide(digits: &[u8]) -> bool
+    requires { AllByRecursion (λ b. is_decimal b ≡ true) digits.now }
+    ensures { result ≡ nat_lt 65535 (magnitude 10 digits.now) }
+{
+    capped(digits) > 65535
+}
+
 /// The length of a number with its `$`.
 pub fn number_len(number: &[u8]) -> u16
     requires { length number.now ≤ 4096 }
@@ -86,6 +122,12 @@ pub fn number_len(number: &[u8]) -> u16
     }
 }
 
+fn star_len(star: bool) -> u16
+    ensures { result ≡ length (star_text star) }
+{
+    if star { 1 } else { 0 }
+}
+
 /// The first fault of an opening whose `%` stands at the place.
 pub fn opening_fault(at: u16, written: &Written) -> Option<FormatFault>
     requires place { at ≤ 4096 }
@@ -95,32 +137,11 @@ pub fn opening_fault(at: u16, written: &Written) -> Option<FormatFault>
     ensures { fault_in result ≡ first_of (opening_rules at (opening_of written.now)) }
 {
     let star_at = at + 1 + number_len(written.number);
-    let width_at = star_at + if written.star { 1 } else { 0 };
-    let slot = capped(written.number);
-    let width = capped(written.width);
-    if !written.number.is_empty() && (slot == 0 || slot > 32) {
-        return Some(FormatFault {
-            why: FormatWhy::BadNumber,
-            at: at + 1,
-        });
-    }
-    if !written.number.is_empty() && written.star {
-        return Some(FormatFault {
-            why: FormatWhy::BadNumber,
-            at: star_at,
-        });
-    }
-    if !written.width.is_empty() && width == 0 {
-        return Some(FormatFault {
-            why: FormatWhy::ZeroWidth,
-            at: width_at,
-        });
-    }
-    if width > 65535 {
-        return Some(FormatFault {
-            why: FormatWhy::TooWide,
-            at: width_at,
-        });
-    }
-    None
+    let width_at = star_at + star_len(written.star);
+    fault_by(&[
+        rule(FormatWhy::BadNumber, at + 1, is_no_slot(written.number)),
+        rule(FormatWhy::BadNumber, star_at, written.is_starred_number()),
+        rule(FormatWhy::ZeroWidth, width_at, is_zero(written.width)),
+        rule(FormatWhy::TooWide, width_at, is_too_wide(written.width)),
+    ])
 }

@@ -9,13 +9,14 @@ ghost use Rattle.sf_format.specs.PrintLetters.{print_letter_of, print_kind_of};
 ghost use Rattle.sf_format.specs.PrintGrammar.{is_set_flag, or_place, IsPrintConv};
 ghost use Rattle.sf_format.specs.Rules.{first_of};
 ghost use Rattle.sf_format.specs.PrintRules.{is_print_left_out, print_letter_rules, flag_rules, foreign_flag, precision_number};
-ghost use Rattle.sf_format.specs.Passing.{print_opening_of, why_at, fault_in, ConvertsPrint};
+ghost use Rattle.sf_format.specs.Passing.{print_opening_of, fault_in, ConvertsPrint};
 
 use crate::directive::Profile;
 use crate::fault::{FormatFault, FormatWhy};
 use crate::letter::{Length, of_text, signed_kind, unsigned_kind};
 use crate::opening::capped;
 use crate::print_opening::PrintWritten;
+use crate::rule_table::{fault_by, rule};
 use crate::unit::{PrintConv, PrintLetter};
 use sf_base::Kind;
 
@@ -80,27 +81,25 @@ fn printed_kind(letter: PrintLetter, size: Length) -> Option<Kind>
     }
 }
 
-/// Why the letter is refused, by the first rule that applies.
-fn print_letter_why(profile: Profile, written: &PrintWritten, letter: u8) -> Option<FormatWhy>
-    ensures { (at : ℕ) → why_at at result ≡ first_of (print_letter_rules profile (print_opening_of written.now) letter at) }
+/// The first fault of the letter at the place.
+fn print_letter_fault(
+    profile: Profile,
+    written: &PrintWritten,
+    letter: u8,
+    at: u16,
+) -> Option<FormatFault>
+    ensures { fault_in result ≡ first_of (print_letter_rules profile (print_opening_of written.now) letter at) }
 {
+    let is_known = print_letter_of(profile, letter).is_some();
     let is_text = of_text(letter);
-    if letter == 0 {
-        return Some(FormatWhy::Nul);
-    }
-    if print_left_out(letter) {
-        return Some(FormatWhy::LeftOut);
-    }
-    if print_letter_of(profile, letter).is_none() {
-        return Some(FormatWhy::UnknownLetter);
-    }
-    if is_text && matches!(written.size, Length::L) {
-        return Some(FormatWhy::LeftOut);
-    }
-    if is_text && written.size.is_written() {
-        return Some(FormatWhy::BadLength);
-    }
-    None
+    let has_length = written.size.is_written();
+    fault_by(&[
+        rule(FormatWhy::Nul, at, letter == 0),
+        rule(FormatWhy::LeftOut, at, print_left_out(letter)),
+        rule(FormatWhy::UnknownLetter, at, !is_known),
+        rule(FormatWhy::LeftOut, at, is_text && written.size.is_l()),
+        rule(FormatWhy::BadLength, at, is_text && has_length),
+    ])
 }
 
 /// What the letter at the place prints, and its kind.
@@ -112,8 +111,8 @@ pub fn print_converted(
 ) -> Result<(PrintLetter, Kind), FormatFault>
     ensures { ConvertsPrint profile (print_opening_of written.now) letter (print_letter_rules profile (print_opening_of written.now) letter at) result }
 {
-    if let Some(why) = print_letter_why(profile, written, letter) {
-        return Err(FormatFault { at, why });
+    if let Some(fault) = print_letter_fault(profile, written, letter, at) {
+        return Err(fault);
     }
     let Some(found) = print_letter_of(profile, letter) else {
         unreachable!()
@@ -157,19 +156,12 @@ pub fn flag_fault(percent: u16, written: &PrintWritten, letter: PrintLetter) -> 
     ensures { fault_in result ≡ first_of (flag_rules percent (print_opening_of written.now) (Some letter)) }
 {
     let places = written.places(percent);
-    if let Some(at) = foreign_flag(letter, places.flags, written.flags) {
-        return Some(FormatFault {
-            at,
-            why: FormatWhy::BadFlag,
-        });
-    }
-    if written.point && matches!(letter, PrintLetter::One) {
-        return Some(FormatFault {
-            at: places.point,
-            why: FormatWhy::BadFlag,
-        });
-    }
-    None
+    let foreign = foreign_flag(letter, places.flags, written.flags);
+    let is_one = matches!(letter, PrintLetter::One);
+    fault_by(&[
+        rule(FormatWhy::BadFlag, foreign.unwrap_or(0), foreign.is_some()),
+        rule(FormatWhy::BadFlag, places.point, is_one && written.point),
+    ])
 }
 
 fn is_set(flag: u8, flags: &[u8]) -> bool

@@ -12,7 +12,8 @@ ghost use Rattle.sf_format.specs.Passing.{opening_of, precision_of, print_openin
 use crate::fault::{FormatFault, FormatWhy};
 use crate::fronts::{Class, mark, number, size, split_front};
 use crate::letter::Length;
-use crate::opening::{Written, capped, number_len};
+use crate::opening::{Written, capped, is_no_slot, is_too_wide, number_len};
+use crate::rule_table::{fault_by, rule};
 
 /// A conversion specification of a print format up to its letter, as it is written.
 #[derive(Clone, Copy)]
@@ -122,25 +123,12 @@ pub fn print_opening_fault(at: u16, written: &PrintWritten) -> Option<FormatFaul
     requires precision { written.now.point ≡ true → AllByRecursion (λ b. is_decimal b ≡ true) written.now.precision.now }
     ensures { fault_in result ≡ first_of (print_opening_rules at (print_opening_of written.now)) }
 {
-    let slot = capped(written.number);
-    let width = capped(written.width);
-    if !written.number.is_empty() && (slot == 0 || slot > 32) {
-        return Some(FormatFault {
-            why: FormatWhy::BadNumber,
-            at: at + 1,
-        });
-    }
-    if width > 65535 {
-        return Some(FormatFault {
-            why: FormatWhy::TooWide,
-            at: written.places(at).width,
-        });
-    }
-    if written.point && capped(written.precision) > 255 {
-        return Some(FormatFault {
-            why: FormatWhy::PrecisionTooLarge,
-            at: written.places(at).point + 1,
-        });
-    }
-    None
+    let places = written.places(at);
+    let digits_at = places.point + 1;
+    let is_long = written.point && capped(written.precision) > 255;
+    fault_by(&[
+        rule(FormatWhy::BadNumber, at + 1, is_no_slot(written.number)),
+        rule(FormatWhy::TooWide, places.width, is_too_wide(written.width)),
+        rule(FormatWhy::PrecisionTooLarge, digits_at, is_long),
+    ])
 }

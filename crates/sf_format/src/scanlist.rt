@@ -8,6 +8,7 @@ ghost use Rattle.sf_format.specs.Passing.{fault_in, ReadsList};
 
 use crate::fault::{FormatFault, FormatWhy};
 use crate::fronts::{Class, split_front};
+use crate::rule_table::{fault_by, rule};
 use sf_base::ByteSet;
 
 /// The set of a scanlist, and what follows its `]`.
@@ -58,27 +59,15 @@ fn member_fault(at: u16, from: u16, members: &[u8], closed: bool) -> Option<Form
 {
     let nul = place(0, from, members);
     let range = backward(from, members);
-    match nul {
-        Some(at) => Some(FormatFault {
-            why: FormatWhy::Nul,
-            at,
-        }),
-        None => {
-            if !closed {
-                return Some(FormatFault {
-                    why: FormatWhy::OpenSet,
-                    at,
-                });
-            }
-            match range {
-                Some(at) => Some(FormatFault {
-                    why: FormatWhy::BackwardRange,
-                    at,
-                }),
-                None => None,
-            }
-        }
-    }
+    fault_by(&[
+        rule(FormatWhy::Nul, nul.unwrap_or(0), nul.is_some()),
+        rule(FormatWhy::OpenSet, at, !closed),
+        rule(
+            FormatWhy::BackwardRange,
+            range.unwrap_or(0),
+            range.is_some(),
+        ),
+    ])
 }
 
 /// The members of a scanlist, and what follows them.

@@ -1,5 +1,5 @@
 //! The letters of conversion specifications, and what stands behind them.
-ghost use Rattle.std.specs.Prelude.{◌≡◌, ◌≤◌, ◌+◌, ℕ, true, length};
+ghost use Rattle.std.specs.Prelude.{◌≡◌, ◌≤◌, ◌+◌, true, length};
 ghost use Rattle.std.specs.List.{AllByRecursion};
 ghost use Rattle.sf_base.specs.Bytes.{magnitude};
 ghost use Rattle.sf_format.specs.Digits.{is_decimal};
@@ -7,14 +7,15 @@ ghost use Rattle.sf_format.specs.Scanlist.{caret_text};
 ghost use Rattle.sf_format.specs.Grammar.{width_of};
 ghost use Rattle.sf_format.specs.Rules.{first_of};
 ghost use Rattle.sf_format.specs.Faults.{letter_rules};
-ghost use Rattle.sf_format.specs.Passing.{opening_of, why_at, Converts, Shapes, is_set};
+ghost use Rattle.sf_format.specs.Passing.{opening_of, fault_in, Converts, Shapes, is_set};
 ghost use Rattle.sf_format.specs.declared.letter.Letter.TheVariants as letter;
 
 use crate::directive::{Profile, Shape};
 use crate::fault::{FormatFault, FormatWhy};
 use crate::fronts::mark;
-use crate::letter::{Length, Letter, left_out, letter_of, of_text};
+use crate::letter::{Letter, left_out, letter_of, of_text};
 use crate::opening::{Written, capped};
+use crate::rule_table::{fault_by, rule};
 use crate::scanlist::scanlist;
 use sf_base::Kind;
 
@@ -25,30 +26,22 @@ pub struct Shaped<'a> {
     pub rest: &'a [u8],
 }
 
-/// Why the letter is refused, by the first rule that applies.
-fn letter_why(profile: Profile, written: &Written, letter: u8) -> Option<FormatWhy>
-    ensures { (at : ℕ) → why_at at result ≡ first_of (letter_rules profile (opening_of written.now) letter at) }
+/// The first fault of the letter at the place.
+fn letter_fault(profile: Profile, written: &Written, letter: u8, at: u16) -> Option<FormatFault>
+    ensures { fault_in result ≡ first_of (letter_rules profile (opening_of written.now) letter at) }
 {
+    let is_known = letter_of(profile, letter).is_some();
     let is_text = of_text(letter);
-    if letter == 0 {
-        return Some(FormatWhy::Nul);
-    }
-    if left_out(letter) {
-        return Some(FormatWhy::LeftOut);
-    }
-    if letter_of(profile, letter).is_none() {
-        return Some(FormatWhy::UnknownLetter);
-    }
-    if is_text && matches!(written.size, Length::L) {
-        return Some(FormatWhy::LeftOut);
-    }
-    if is_text && written.size.is_written() {
-        return Some(FormatWhy::BadLength);
-    }
-    if letter == b'n' && (written.star || !written.width.is_empty()) {
-        return Some(FormatWhy::BadCount);
-    }
-    None
+    let has_length = written.size.is_written();
+    let is_bounded = written.star || !written.width.is_empty();
+    fault_by(&[
+        rule(FormatWhy::Nul, at, letter == 0),
+        rule(FormatWhy::LeftOut, at, left_out(letter)),
+        rule(FormatWhy::UnknownLetter, at, !is_known),
+        rule(FormatWhy::LeftOut, at, is_text && written.size.is_l()),
+        rule(FormatWhy::BadLength, at, is_text && has_length),
+        rule(FormatWhy::BadCount, at, letter == b'n' && is_bounded),
+    ])
 }
 
 /// What the letter at the place converts, and its kind.
@@ -60,8 +53,8 @@ pub fn converted(
 ) -> Result<(Letter, Kind), FormatFault>
     ensures { Converts profile (opening_of written.now) letter (letter_rules profile (opening_of written.now) letter at) result }
 {
-    if let Some(why) = letter_why(profile, written, letter) {
-        return Err(FormatFault { at, why });
+    if let Some(fault) = letter_fault(profile, written, letter, at) {
+        return Err(fault);
     }
     let Some(found) = letter_of(profile, letter) else {
         unreachable!()

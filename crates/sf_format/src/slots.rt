@@ -11,6 +11,7 @@ ghost use Rattle.sf_format.specs.Passing.{opening_of, fault_in, Holds};
 
 use crate::fault::{FormatFault, FormatWhy};
 use crate::opening::{Written, capped};
+use crate::rule_table::{fault_by, rule};
 
 /// How many destinations or values there are, and whether they have numbers.
 #[derive(Clone, Copy)]
@@ -49,19 +50,14 @@ pub fn slot_fault(slots: Slots, written: &Written, at: u16) -> Option<FormatFaul
     ensures first { (earlier : List Opening) → Holds slots earlier → fault_in result ≡ first_of (slot_rules earlier at (opening_of written.now)) }
     ensures room { result ≡ None → (not written.now.star && not (is_written written.now.number.now) && nat_lt 31 slots.count) ≡ false }
 {
-    if mixes(slots, written) {
-        return Some(FormatFault {
-            why: FormatWhy::MixedNumbering,
+    fault_by(&[
+        rule(FormatWhy::MixedNumbering, at, mixes(slots, written)),
+        rule(
+            FormatWhy::TooManyDestinations,
             at,
-        });
-    }
-    if is_beyond(slots, written) {
-        return Some(FormatFault {
-            why: FormatWhy::TooManyDestinations,
-            at,
-        });
-    }
-    None
+            is_beyond(slots, written),
+        ),
+    ])
 }
 
 /// The slot of one more destination, which has no fault. None if it is suppressed.

@@ -5,10 +5,10 @@ use Rattle.sf_format.proofs.shaping.converted.Goals as goal
 
 pub unreachable-requires : goal.unreachable-requires
 unreachable-requires c =
-    some_letter c.args.profile (opening_of c.args.written.now) c.args.letter c.args.at (sym (c.in_default.ensures c.args.at))
+    some_letter c.args.profile (opening_of c.args.written.now) c.args.letter c.args.at (sym c.in_default.ensures)
     (sym c.letter_of.ensures ∙ c.in_default-letter_of.is)
 
 pub unreachable-requires-in_default-kind : goal.unreachable-requires-in_default-kind
 unreachable-requires-in_default-kind c =
     some_kind c.args.profile (opening_of c.args.written.now) c.args.letter c.args.at c.in-Some-letter_of.found
-    (sym (c.in_default.ensures c.args.at)) (sym c.letter_of.ensures ∙ c.in-Some-letter_of.is) (sym c.kind.ensures ∙ c.in_default-kind.is)
+    (sym c.in_default.ensures) (sym c.letter_of.ensures ∙ c.in-Some-letter_of.is) (sym c.kind.ensures ∙ c.in_default-kind.is)
