@@ -6,10 +6,8 @@ mod bounds;
 #[cfg(test)]
 mod checks;
 #[cfg(test)]
-mod profiles;
+mod failures;
 #[cfg(test)]
 mod refusals;
-#[cfg(test)]
-mod shared;
 #[cfg(test)]
 mod trips;
