@@ -1,9 +1,14 @@
 pub mod Copying
+pub mod Decimals
 pub mod Escaping
 pub mod Joining
+pub mod JsonReading
+pub mod JsonUtf8
 pub mod JsonWriting
 pub mod Looping
 pub mod OneEnd
 pub mod Passing
-pub mod RowSlots
 pub mod Quoting
+pub mod RecordRows
+pub mod RowSlots
+pub mod TableReading

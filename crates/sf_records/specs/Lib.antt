@@ -1,11 +1,13 @@
 pub mod Copied
 pub mod Copies
 pub mod Forms
+pub mod JsonReading
 pub mod JsonStrings
 pub mod Judging
 pub mod Laws
 pub mod Lines
 pub mod Quotes
+pub mod ReadingBack
 pub mod Records
 pub mod Tables
 pub mod Texts

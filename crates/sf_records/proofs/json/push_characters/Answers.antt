@@ -1,5 +1,4 @@
 use Rattle.std.proofs.Common.{◌∙◌}
-use Rattle.std.proofs.lemmas.Bool.{eqb-false}
 use Rattle.sf_records.proofs.JsonWriting.{kept_within, kept_written}
 use Rattle.sf_records.proofs.json.push_characters.Goals as goal
 
