@@ -8,6 +8,7 @@ ghost use Rattle.sf_item.specs.Scan.{ReadsDecimal};
 ghost use Rattle.sf_item.specs.Tests.{read};
 ghost use Rattle.sf_item.specs.Wholes.{EndsWithin, ItemWithin, OpensHex, ReadsHex, signed_as};
 
+use crate::eight::first_digits;
 use crate::item::cut;
 use sf_base::{digit_value, text_run};
 use sf_format::Shape;
@@ -82,8 +83,8 @@ fn decimal_digits(piece: &[u8]) -> (u64, usize)
     ensures read { ReadsDecimal 0 (take result.1 piece.now) result.0 }
 {
     let (few, _) = piece.split_at(piece.len().min(SURE_DECIMAL));
-    let mut number: u64 = 0;
-    for i in 0..few.len() {
+    let (mut number, first) = first_digits(few);
+    for i in first..few.len() {
         let b = few[i];
         if b < b'0' || b > b'9' {
             return (number, i);

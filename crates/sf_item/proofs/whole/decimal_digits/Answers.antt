@@ -34,4 +34,4 @@ loop-i-preserved c =
 pub returns-clause-read : goal.returns-clause-read
 returns-clause-read c = λ base sign.
     whole_front (λ f. read base (Some (Digits sign 10 0)) f ≡ Some (Digits sign 10 c.loop-i.number)) c.args.piece.now c.split_at.result.0.now c.min.result c.loop-i.i
-    c.split_at.ensures.front c.split_at.ensures.front_len c.loop-i-test.false c.loop-i.auto.i-end (c.loop-i.invariant.read base sign)
+    c.split_at.ensures.front c.split_at.ensures.front_len c.loop-i-test.false (c.loop-i.auto.i-end c.first_digits-number.ensures.within) (c.loop-i.invariant.read base sign)
