@@ -12,15 +12,16 @@ use Rattle.sf_format.specs.declared.fault.FormatWhy.{FormatWhy}
 use Rattle.sf_format.specs.declared.letter.Letter.{Letter}
 use Rattle.sf_format.specs.declared.letter.Letter.TheVariants.{Signed, Unsigned, Chars, Text, Set, Count}
 use Rattle.sf_format.specs.declared.slots.Slots.{Slots}
-use Rattle.sf_format.specs.declared.passing.Passed.{Passed}
+use Rattle.sf_format.specs.declared.grammar.Passed.{Passed}
 use Rattle.sf_format.specs.Letters.{added_letters, letters, letter_of}
 use Rattle.sf_format.specs.Lists.{is_written, mark_at, begins}
-use Rattle.sf_format.specs.Pieces.{Opening, Percents, Plain, opening_text}
-use Rattle.sf_format.specs.Cut.{Part, cut, letter_at, bracket_at, specification_at}
+use Rattle.sf_format.specs.Pieces.{Opening, Piece, Percents, Plain, opening_text}
+use Rattle.sf_format.specs.Cut.{Part, cut, letter_at, bracket_at, conversion_at, specification_at}
 use Rattle.sf_format.specs.Grammar.{destinations, assigned_opening, IsConversion, Means}
 use Rattle.sf_format.specs.Rules.{Rule, first_of, slot_rules}
-use Rattle.sf_format.specs.Faults.{letter_rules, bracket_rules, scanlist_rules, rest_rules, opening_rules, percent_rules}
+use Rattle.sf_format.specs.Faults.{letter_rules, bracket_rules, scanlist_rules, rest_rules, opening_rules, conversion_rules, percent_rules}
 use Rattle.sf_format.specs.Passing.{Holds, rest_behind, is_set, IsShape, PassesAs, PassesBy}
+use Rattle.sf_format.specs.declared.language.Language.{Language}
 use Rattle.sf_format.specs.declared.language.Language.TheVariants.{Scan}
 use Rattle.sf_format.proofs.Outcomes.{by_test}
 use Rattle.sf_format.proofs.Rules.{quiet_is}
@@ -139,43 +140,49 @@ number_bound p o none = number_low o.number (quiet_is (opening_rules p o) none).
 
 -- ---- one contract from another
 
-pub passes_by : (profile : Profile) (a b : List Rule) (s t : Part) (earlier : List Opening) (r : Result Passed FormatFault)
-    → first_of a ≡ first_of b → s ≡ t → PassesBy profile b earlier t r → PassesBy profile a earlier s r
-passes_by profile a b s t earlier r e f h = by_rules r (subst (λ u. PassesBy profile b earlier u r) (sym f) h)
+pub passes_by : {D : Type 0} (means : ℕ → Piece → D → Type 0) (a b : List Rule) (s t : Part) (earlier : List Opening)
+    (r : Result (Passed D) FormatFault) → first_of a ≡ first_of b → s ≡ t → PassesBy means b earlier t r → PassesBy means a earlier s r
+passes_by {D} means a b s t earlier r e f h = by_rules r (subst (λ u. PassesBy means b earlier u r) (sym f) h)
   where
-    by_rules : (r : Result Passed FormatFault) → PassesBy profile b earlier s r → PassesBy profile a earlier s r
+    by_rules : (r : Result (Passed D) FormatFault) → PassesBy means b earlier s r → PassesBy means a earlier s r
     by_rules (Ok passed) k = (e ∙ k.0, k.1, k.2, k.3)
     by_rules (Err fault) k = e ∙ k
+
+-- ---- behind a %, in both languages
 
 abbrev percent_choice : List Rule → Bool → List Rule
 percent_choice rules v = cond (not v) rules []
 
-abbrev part_choice : List ℕ → Bool → Part
-part_choice x v = cond v (record { piece = Percents; rest = drop 1 x }) (letter_at (cut x).opening (cut x).rest)
+abbrev part_choice : List ℕ → Part → Bool → Part
+part_choice x part v = cond v (record { piece = Percents; rest = drop 1 x }) part
 
-pub specification_fault : (profile : Profile) (earlier : List Opening) (p : ℕ) (x : List ℕ) (o : Opening) (f : FormatWhy × ℕ)
-    → begins (37 ∷ []) x ≡ false → o ≡ (cut x).opening → first_of (opening_rules p o) ≡ Some f
-    → first_of (percent_rules (Scan profile) earlier p x) ≡ Some f
-specification_fault profile earlier p x o f other same first =
-    let o' = (cut x).opening in
-    let rest = rest_rules profile earlier p o' (p + length (opening_text o')) (cut x).rest in
-    ap (λ v. first_of (percent_choice (opening_rules p o' ++ rest) v)) other
-    ∙ first_left (opening_rules p o') rest f (ap (λ a. first_of (opening_rules p a)) (sym same) ∙ first)
+-- the first fault of the opening
+pub specification_fault : (language : Language) (earlier : List Opening) (p : ℕ) (x : List ℕ) (opening rest : List Rule) (f : FormatWhy × ℕ)
+    → begins (37 ∷ []) x ≡ false → conversion_rules language earlier p x ≡ opening ++ rest → first_of opening ≡ Some f
+    → first_of (percent_rules language earlier p x) ≡ Some f
+specification_fault language earlier p x opening rest f other rules first =
+    ap (λ v. first_of (percent_choice (conversion_rules language earlier p x) v)) other ∙ ap first_of rules ∙ first_left opening rest f first
 
-pub passes_specification : (profile : Profile) (earlier : List Opening) (p q : ℕ) (x rest : List ℕ) (o : Opening) (r : Result Passed FormatFault)
-    → begins (37 ∷ []) x ≡ false → o ≡ (cut x).opening → rest ≡ (cut x).rest → q ≡ p + length (opening_text o)
-    → first_of (opening_rules p o) ≡ None
-    → PassesBy profile (rest_rules profile earlier p o q rest) earlier (letter_at o rest) r
-    → PassesBy profile (percent_rules (Scan profile) earlier p x) earlier (specification_at (Scan profile) x) r
-passes_specification profile earlier p q x rest o r other same behind place quiet passes =
-    let o' = (cut x).opening in
-    let q' = p + length (opening_text o') in
-    let rules : Opening → List ℕ → ℕ → List Rule = λ a y n. rest_rules profile earlier p a n y in
-    let moved : PassesBy profile (rules o' (cut x).rest q') earlier (letter_at o' (cut x).rest) r =
-    subst (λ n. PassesBy profile (rules o' (cut x).rest n) earlier (letter_at o' (cut x).rest) r) (place ∙ ap (λ a. p + length (opening_text a)) same)
-    (subst (λ y. PassesBy profile (rules o' y q) earlier (letter_at o' y) r) behind
-    (subst (λ a. PassesBy profile (rules a rest q) earlier (letter_at a rest) r) same passes)) in
-    passes_by profile (percent_rules (Scan profile) earlier p x) (rules o' (cut x).rest q') (specification_at (Scan profile) x) (letter_at o' (cut x).rest) earlier r
-    (ap (λ v. first_of (percent_choice (opening_rules p o' ++ rules o' (cut x).rest q') v)) other
-    ∙ first_right (opening_rules p o') (rules o' (cut x).rest q') (ap (λ a. first_of (opening_rules p a)) (sym same) ∙ quiet))
-    (ap (part_choice x) other) moved
+-- what passes from where the letter is due
+pub passes_specification : {D : Type 0} (means : ℕ → Piece → D → Type 0) (language : Language) (earlier : List Opening) (p : ℕ) (x : List ℕ)
+    (opening rest : List Rule) (part : Part) (r : Result (Passed D) FormatFault) → begins (37 ∷ []) x ≡ false
+    → conversion_rules language earlier p x ≡ opening ++ rest → conversion_at language x ≡ part → first_of opening ≡ None
+    → PassesBy means rest earlier part r → PassesBy means (percent_rules language earlier p x) earlier (specification_at language x) r
+passes_specification means language earlier p x opening rest part r other rules is quiet passes =
+    passes_by means (percent_rules language earlier p x) rest (specification_at language x) part earlier r
+    (ap (λ v. first_of (percent_choice (conversion_rules language earlier p x) v)) other ∙ ap first_of rules ∙ first_right opening rest quiet)
+    (ap (part_choice x (conversion_at language x)) other ∙ is) passes
+
+-- ---- behind a % of a scan format
+
+pub cut_rules : (profile : Profile) (earlier : List Opening) (p q : ℕ) (x rest : List ℕ) (o : Opening) → o ≡ (cut x).opening → rest ≡ (cut x).rest
+    → q ≡ p + length (opening_text o) → conversion_rules (Scan profile) earlier p x ≡ opening_rules p o ++ rest_rules profile earlier p o q rest
+cut_rules profile earlier p q x rest o same behind place =
+    let rules : Opening → ℕ → List ℕ → List Rule = λ a n y. opening_rules p a ++ rest_rules profile earlier p a n y in
+    ap (λ a. rules a (p + length (opening_text a)) (cut x).rest) (sym same)
+    ∙ ap (λ n. rules o n (cut x).rest) (sym place)
+    ∙ ap (rules o q) (sym behind)
+
+pub cut_part : (profile : Profile) (x rest : List ℕ) (o : Opening) → o ≡ (cut x).opening → rest ≡ (cut x).rest
+    → conversion_at (Scan profile) x ≡ letter_at o rest
+cut_part profile x rest o same behind = ap (λ a. letter_at a (cut x).rest) (sym same) ∙ ap (letter_at o) (sym behind)

@@ -23,8 +23,7 @@ use Rattle.sf_format.specs.declared.unit.PrintLetter.{PrintLetter}
 use Rattle.sf_format.specs.declared.unit.Unit.{Unit as PrintUnit}
 use Rattle.sf_format.specs.declared.unit.Unit.TheVariants as unit
 use Rattle.sf_format.specs.declared.print_opening.PrintWritten.{PrintWritten}
-use Rattle.sf_format.specs.declared.passing.Passed.{Passed}
-use Rattle.sf_format.specs.declared.print_passing.PassedUnit.{PassedUnit}
+use Rattle.sf_format.specs.declared.grammar.Passed.{Passed}
 use Rattle.sf_format.specs.declared.walking.Step.{Step}
 use Rattle.sf_format.specs.declared.numbering.Noted.{Noted}
 use Rattle.sf_format.specs.Lists.{is_written, mark_at}
@@ -33,8 +32,7 @@ use Rattle.sf_format.specs.Scanlist.{IsSetOf}
 use Rattle.sf_format.specs.Pieces.{Opening, PrintOpening, Piece}
 use Rattle.sf_format.specs.Cut.{Part, list_of, close_at}
 use Rattle.sf_format.specs.PrintLetters.{print_letter_of, print_kind_of}
-use Rattle.sf_format.specs.PrintGrammar.{Prints}
-use Rattle.sf_format.specs.Grammar.{destinations, slot_of, shape_of, Means, MeanAll}
+use Rattle.sf_format.specs.Grammar.{destinations, slot_of, shape_of, MeanAll}
 use Rattle.sf_format.specs.Rules.{Rule, first_of, is_any_of}
 use Rattle.sf_format.specs.Faults.{bracket_rules, repeated, beyond, no_memory}
 use Rattle.sf_format.specs.Reading.{read, judged}
@@ -123,13 +121,9 @@ PassesAs means rules earlier part d rest slots =
     × Holds slots (earlier ++ destinations (part.piece ∷ []))
 
 -- that, or the first fault by the rules
-abbrev pub PassesBy : Profile → List Rule → List Opening → Part → Result Passed FormatFault → Type 0
-PassesBy profile rules earlier part (Ok passed) = PassesAs (Means profile) rules earlier part passed.directive passed.rest.now passed.slots
-PassesBy profile rules earlier part (Err fault) = first_of rules ≡ Some (fault_of fault)
-
-abbrev pub PrintsBy : Profile → List Rule → List Opening → Part → Result PassedUnit FormatFault → Type 0
-PrintsBy profile rules earlier part (Ok passed) = PassesAs (Prints profile) rules earlier part passed.unit passed.rest.now passed.slots
-PrintsBy profile rules earlier part (Err fault) = first_of rules ≡ Some (fault_of fault)
+abbrev pub PassesBy : {D : Type 0} → (ℕ → Piece → D → Type 0) → List Rule → List Opening → Part → Result (Passed D) FormatFault → Type 0
+PassesBy means rules earlier part (Ok passed) = PassesAs means rules earlier part passed.part passed.rest.now passed.slots
+PassesBy means rules earlier part (Err fault) = first_of rules ≡ Some (fault_of fault)
 
 -- the slot of the first of the destinations, where place is that of one without a number
 abbrev pub slot_at : ℕ → List Opening → Option ℕ

@@ -4,6 +4,7 @@
 mod directive;
 mod fault;
 mod fronts;
+mod grammar;
 mod judging;
 mod language;
 pub mod laws;

@@ -1,5 +1,5 @@
 //! The parts of a scan format.
-ghost use Rattle.std.specs.Prelude.{◌≡◌, ◌≤◌, ◌<◌, ◌+◌, List, [], ◌∷◌, None, true, length, IfOk, IfErr};
+ghost use Rattle.std.specs.Prelude.{◌≡◌, ◌≤◌, ◌<◌, ◌+◌, List, [], ◌∷◌, None, true, length};
 ghost use Rattle.std.specs.List.{AllByRecursion};
 ghost use Rattle.sf_format.specs.Digits.{is_decimal};
 ghost use Rattle.sf_format.specs.Pieces.{Opening};
@@ -9,23 +9,21 @@ ghost use Rattle.sf_format.specs.declared.language.Language.TheVariants.{Scan};
 ghost use Rattle.sf_format.specs.Grammar.{Means};
 ghost use Rattle.sf_format.specs.Rules.{first_of};
 ghost use Rattle.sf_format.specs.Faults.{opening_rules, rest_rules, percent_rules, part_rules};
-ghost use Rattle.sf_format.specs.Passing.{opening_of, Holds, PassesBy, Gathers, IsHindered};
+ghost use Rattle.sf_format.specs.Passing.{opening_of, Holds, PassesBy};
 
 use crate::directive::{Conversion, Directive, Profile};
 use crate::fault::{FormatFault, FormatWhy};
 use crate::fronts::{Class, split_front};
+use crate::grammar::{Grammar, Passed};
 use crate::opening::{Written, opening, opening_fault};
 use crate::shaping::{converted, shape_behind, width_of};
-use crate::slots::{Slots, no_slots, pushed, slot_fault, slot_of};
+use crate::slots::{Slots, pushed, slot_fault, slot_of};
 use sf_base::is_space;
-use std::alloc::Global;
 
-/// The directive of a part, what follows the part, and the destinations with it.
-#[derive(Drop)]
-pub struct Passed<'a> {
-    pub directive: Directive,
-    pub rest: &'a [u8],
-    pub slots: Slots,
+/// The grammar of scan formats, with the conversions of a profile.
+#[derive(Clone, Copy)]
+pub struct ScanGrammar {
+    pub profile: Profile,
 }
 
 /// Passes a specification from its letter on, which stands at the second place. Its `%` stands at the first.
@@ -37,14 +35,14 @@ fn pass_letter<'a>(
     percent: u16,
     at: u16,
     slots: Slots,
-) -> Result<Passed<'a>, FormatFault>
+) -> Result<Passed<'a, Directive>, FormatFault>
     requires place { at + 1 + length text.now ≤ 4096 }
     requires count { slots.count ≤ 4096 }
     requires number { AllByRecursion (λ b. is_decimal b ≡ true) written.now.number.now }
     requires width { AllByRecursion (λ b. is_decimal b ≡ true) written.now.width.now }
     requires opening { first_of (opening_rules percent (opening_of written.now)) ≡ None }
     ensures { (earlier : List Opening) → Holds slots earlier
-        → PassesBy profile (rest_rules profile earlier percent (opening_of written.now) at (letter ∷ text.now)) earlier
+        → PassesBy (Means profile) (rest_rules profile earlier percent (opening_of written.now) at (letter ∷ text.now)) earlier
         (letter_at (opening_of written.now) (letter ∷ text.now)) result }
 {
     let (found, kind) = converted(profile, written, letter, at)?;
@@ -59,7 +57,7 @@ fn pass_letter<'a>(
         slot: slot_of(slots, written),
     };
     Ok(Passed {
-        directive: Directive::Conv(conversion),
+        part: Directive::Conv(conversion),
         rest: shaped.rest,
         slots: pushed(slots, written),
     })
@@ -73,14 +71,14 @@ fn pass_rest<'a>(
     percent: u16,
     at: u16,
     slots: Slots,
-) -> Result<Passed<'a>, FormatFault>
+) -> Result<Passed<'a, Directive>, FormatFault>
     requires place { at + length text.now ≤ 4096 }
     requires count { slots.count ≤ 4096 }
     requires number { AllByRecursion (λ b. is_decimal b ≡ true) written.now.number.now }
     requires width { AllByRecursion (λ b. is_decimal b ≡ true) written.now.width.now }
     requires opening { first_of (opening_rules percent (opening_of written.now)) ≡ None }
     ensures { (earlier : List Opening) → Holds slots earlier
-        → PassesBy profile (rest_rules profile earlier percent (opening_of written.now) at text.now) earlier (letter_at (opening_of written.now) text.now) result }
+        → PassesBy (Means profile) (rest_rules profile earlier percent (opening_of written.now) at text.now) earlier (letter_at (opening_of written.now) text.now) result }
 {
     match text {
         [] => Err(FormatFault {
@@ -107,15 +105,15 @@ fn pass_specification<'a>(
     text: &'a [u8],
     at: u16,
     slots: Slots,
-) -> Result<Passed<'a>, FormatFault>
+) -> Result<Passed<'a, Directive>, FormatFault>
     requires place { at + 1 + length text.now ≤ 4096 }
     requires count { slots.count ≤ 4096 }
     ensures { (earlier : List Opening) → Holds slots earlier
-        → PassesBy profile (percent_rules (Scan profile) earlier at text.now) earlier (specification_at (Scan profile) text.now) result }
+        → PassesBy (Means profile) (percent_rules (Scan profile) earlier at text.now) earlier (specification_at (Scan profile) text.now) result }
 {
     if percent_follows(text) {
         return Ok(Passed {
-            directive: Directive::Percent,
+            part: Directive::Percent,
             rest: &text[1..],
             slots,
         });
@@ -134,12 +132,12 @@ pub fn pass<'a>(
     text: &'a [u8],
     at: u16,
     slots: Slots,
-) -> Result<Passed<'a>, FormatFault>
+) -> Result<Passed<'a, Directive>, FormatFault>
     requires some { 0 < length text.now }
     requires place { at + length text.now ≤ 4096 }
     requires count { slots.count ≤ 4096 }
     ensures { (earlier : List Opening) → Holds slots earlier
-        → PassesBy profile (part_rules (Scan profile) earlier at text.now) earlier (part_at (Scan profile) text.now) result }
+        → PassesBy (Means profile) (part_rules (Scan profile) earlier at text.now) earlier (part_at (Scan profile) text.now) result }
 {
     let first = text[0];
     if first == 0 {
@@ -151,7 +149,7 @@ pub fn pass<'a>(
     if is_space(first) {
         let (_run, rest) = split_front(text, Class::White);
         return Ok(Passed {
-            directive: Directive::Space,
+            part: Directive::Space,
             rest,
             slots,
         });
@@ -161,28 +159,25 @@ pub fn pass<'a>(
         return pass_specification(profile, rest, at, slots);
     }
     Ok(Passed {
-        directive: Directive::Byte(first),
+        part: Directive::Byte(first),
         rest,
         slots,
     })
 }
 
-/// The directives of a text without a fault in its parts.
-pub fn gather(alloc: Global, profile: Profile, text: &[u8]) -> Result<Vec<Directive>, FormatFault>
-    requires { length text.now ≤ 4096 }
-    ensures gathered { IfOk result (λ directives. Gathers (Scan profile) (Means profile) text.now directives.items) }
-    ensures hindered { IfErr result (IsHindered (Scan profile) text.now) }
-{
-    let mut directives = Vec::new(alloc);
-    let mut rest = text;
-    let mut at: u16 = 0;
-    let mut slots = no_slots();
-    while !rest.is_empty() {
-        let passed = pass(profile, rest, at, slots)?;
-        rest = passed.rest;
-        at = (text.len() - rest.len()) as u16;
-        slots = passed.slots;
-        directives.push(passed.directive)?;
+impl Grammar for ScanGrammar {
+    type Part = Directive;
+
+    ghost language = { λ grammar. Scan grammar.profile };
+
+    ghost means = { λ grammar. Means grammar.profile };
+
+    fn pass<'a>(
+        self,
+        text: &'a [u8],
+        at: u16,
+        slots: Slots,
+    ) -> Result<Passed<'a, Directive>, FormatFault> {
+        pass(self.profile, text, at, slots)
     }
-    Ok(directives)
 }

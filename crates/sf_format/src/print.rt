@@ -9,9 +9,10 @@ ghost use Rattle.sf_format.specs.Faults.{PrintFault, IsPrintRefused, no_memory};
 
 use crate::directive::Profile;
 use crate::fault::FormatFault;
+use crate::grammar::gather;
 use crate::judging::judge;
 use crate::language::Language;
-use crate::print_passing::gather_units;
+use crate::print_passing::PrintGrammar;
 use crate::unit::Unit;
 use sf_base::Kind;
 use std::alloc::Global;
@@ -75,7 +76,7 @@ impl PrintFormat {
             → MatchResult result (λ format. format ≡ us) (λ fault. fault ≡ no_memory) }
     {
         let values = judge(Language::Print(profile), text)?;
-        let units = gather_units(alloc, profile, text)?;
+        let units = gather(alloc, PrintGrammar { profile }, text)?;
         Ok(PrintFormat { units, values })
     }
 

@@ -1,5 +1,5 @@
 //! The parts of a print format.
-ghost use Rattle.std.specs.Prelude.{◌≡◌, ◌≤◌, ◌<◌, ◌+◌, List, ◌∷◌, None, true, length, IfOk, IfErr};
+ghost use Rattle.std.specs.Prelude.{◌≡◌, ◌≤◌, ◌<◌, ◌+◌, List, ◌∷◌, None, true, length};
 ghost use Rattle.std.specs.List.{AllByRecursion};
 ghost use Rattle.sf_format.specs.declared.language.Language.TheVariants.{Print};
 ghost use Rattle.sf_format.specs.Digits.{is_decimal};
@@ -9,23 +9,21 @@ ghost use Rattle.sf_format.specs.PrintGrammar.{Prints};
 ghost use Rattle.sf_format.specs.Rules.{first_of};
 ghost use Rattle.sf_format.specs.PrintRules.{print_opening_rules, print_rest_rules};
 ghost use Rattle.sf_format.specs.Faults.{percent_rules, part_rules};
-ghost use Rattle.sf_format.specs.Passing.{print_opening_of, Holds, PrintsBy, Gathers, IsHindered};
+ghost use Rattle.sf_format.specs.Passing.{print_opening_of, Holds, PassesBy};
 
 use crate::directive::Profile;
 use crate::fault::{FormatFault, FormatWhy};
+use crate::grammar::{Grammar, Passed};
 use crate::passing::percent_follows;
 use crate::print_letter::{conversion, flag_fault, print_converted};
 use crate::print_opening::{PrintWritten, print_opening, print_opening_fault};
-use crate::slots::{Slots, no_slots, pushed, slot_fault, slot_of};
+use crate::slots::{Slots, pushed, slot_fault, slot_of};
 use crate::unit::Unit;
-use std::alloc::Global;
 
-/// The unit of a part, what follows the part, and the values with it.
-#[derive(Drop)]
-pub struct PassedUnit<'a> {
-    pub unit: Unit,
-    pub rest: &'a [u8],
-    pub slots: Slots,
+/// The grammar of print formats, with the conversions of a profile.
+#[derive(Clone, Copy)]
+pub struct PrintGrammar {
+    pub profile: Profile,
 }
 
 /// Passes a specification from its letter on, which stands at the second place. Its `%` stands at the first.
@@ -37,7 +35,7 @@ fn pass_print_letter<'a>(
     percent: u16,
     at: u16,
     slots: Slots,
-) -> Result<PassedUnit<'a>, FormatFault>
+) -> Result<Passed<'a, Unit>, FormatFault>
     requires place { percent ≤ 4096 }
     requires count { slots.count ≤ 4096 }
     requires parts { length written.now.number.now + length written.now.flags.now + length written.now.width.now ≤ 4096 }
@@ -46,7 +44,7 @@ fn pass_print_letter<'a>(
     requires precision { written.now.point ≡ true → AllByRecursion (λ b. is_decimal b ≡ true) written.now.precision.now }
     requires opening { first_of (print_opening_rules percent (print_opening_of written.now)) ≡ None }
     ensures { (earlier : List Opening) → Holds slots earlier
-        → PrintsBy profile (print_rest_rules profile earlier percent (print_opening_of written.now) at (letter ∷ text.now)) earlier
+        → PassesBy (Prints profile) (print_rest_rules profile earlier percent (print_opening_of written.now) at (letter ∷ text.now)) earlier
         (print_letter_at (print_opening_of written.now) (letter ∷ text.now)) result }
 {
     let (found, kind) = print_converted(profile, written, letter, at)?;
@@ -60,8 +58,8 @@ fn pass_print_letter<'a>(
     let Some(slot) = slot_of(slots, &value) else {
         unreachable!()
     };
-    Ok(PassedUnit {
-        unit: Unit::Conv(conversion(written, found, kind, slot)),
+    Ok(Passed {
+        part: Unit::Conv(conversion(written, found, kind, slot)),
         rest: text,
         slots: pushed(slots, &value),
     })
@@ -75,7 +73,7 @@ fn pass_print_rest<'a>(
     percent: u16,
     at: u16,
     slots: Slots,
-) -> Result<PassedUnit<'a>, FormatFault>
+) -> Result<Passed<'a, Unit>, FormatFault>
     requires place { percent ≤ 4096 }
     requires count { slots.count ≤ 4096 }
     requires parts { length written.now.number.now + length written.now.flags.now + length written.now.width.now ≤ 4096 }
@@ -84,7 +82,7 @@ fn pass_print_rest<'a>(
     requires precision { written.now.point ≡ true → AllByRecursion (λ b. is_decimal b ≡ true) written.now.precision.now }
     requires opening { first_of (print_opening_rules percent (print_opening_of written.now)) ≡ None }
     ensures { (earlier : List Opening) → Holds slots earlier
-        → PrintsBy profile (print_rest_rules profile earlier percent (print_opening_of written.now) at text.now) earlier
+        → PassesBy (Prints profile) (print_rest_rules profile earlier percent (print_opening_of written.now) at text.now) earlier
         (print_letter_at (print_opening_of written.now) text.now) result }
 {
     match text {
@@ -104,15 +102,15 @@ fn pass_print_specification<'a>(
     text: &'a [u8],
     at: u16,
     slots: Slots,
-) -> Result<PassedUnit<'a>, FormatFault>
+) -> Result<Passed<'a, Unit>, FormatFault>
     requires place { at + 1 + length text.now ≤ 4096 }
     requires count { slots.count ≤ 4096 }
     ensures { (earlier : List Opening) → Holds slots earlier
-        → PrintsBy profile (percent_rules (Print profile) earlier at text.now) earlier (specification_at (Print profile) text.now) result }
+        → PassesBy (Prints profile) (percent_rules (Print profile) earlier at text.now) earlier (specification_at (Print profile) text.now) result }
 {
     if percent_follows(text) {
-        return Ok(PassedUnit {
-            unit: Unit::Byte(b'%'),
+        return Ok(Passed {
+            part: Unit::Byte(b'%'),
             rest: &text[1..],
             slots,
         });
@@ -131,12 +129,12 @@ pub fn pass_print<'a>(
     text: &'a [u8],
     at: u16,
     slots: Slots,
-) -> Result<PassedUnit<'a>, FormatFault>
+) -> Result<Passed<'a, Unit>, FormatFault>
     requires some { 0 < length text.now }
     requires place { at + length text.now ≤ 4096 }
     requires count { slots.count ≤ 4096 }
     ensures { (earlier : List Opening) → Holds slots earlier
-        → PrintsBy profile (part_rules (Print profile) earlier at text.now) earlier (part_at (Print profile) text.now) result }
+        → PassesBy (Prints profile) (part_rules (Print profile) earlier at text.now) earlier (part_at (Print profile) text.now) result }
 {
     let first = text[0];
     if first == 0 {
@@ -149,29 +147,26 @@ pub fn pass_print<'a>(
     if first == b'%' {
         return pass_print_specification(profile, rest, at, slots);
     }
-    Ok(PassedUnit {
-        unit: Unit::Byte(first),
+    Ok(Passed {
+        part: Unit::Byte(first),
         rest,
         slots,
     })
 }
 
-/// The units of a text without a fault in its parts.
-pub fn gather_units(alloc: Global, profile: Profile, text: &[u8]) -> Result<Vec<Unit>, FormatFault>
-    requires { length text.now ≤ 4096 }
-    ensures gathered { IfOk result (λ units. Gathers (Print profile) (Prints profile) text.now units.items) }
-    ensures hindered { IfErr result (IsHindered (Print profile) text.now) }
-{
-    let mut units = Vec::new(alloc);
-    let mut rest = text;
-    let mut at: u16 = 0;
-    let mut slots = no_slots();
-    while !rest.is_empty() {
-        let passed = pass_print(profile, rest, at, slots)?;
-        rest = passed.rest;
-        at = (text.len() - rest.len()) as u16;
-        slots = passed.slots;
-        units.push(passed.unit)?;
+impl Grammar for PrintGrammar {
+    type Part = Unit;
+
+    ghost language = { λ grammar. Print grammar.profile };
+
+    ghost means = { λ grammar. Prints grammar.profile };
+
+    fn pass<'a>(
+        self,
+        text: &'a [u8],
+        at: u16,
+        slots: Slots,
+    ) -> Result<Passed<'a, Unit>, FormatFault> {
+        pass_print(self.profile, text, at, slots)
     }
-    Ok(units)
 }

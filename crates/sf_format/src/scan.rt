@@ -10,9 +10,10 @@ ghost use Rattle.sf_format.specs.Faults.{Fault, IsRefused, no_memory};
 
 use crate::directive::{Directive, Profile, Shape};
 use crate::fault::FormatFault;
+use crate::grammar::gather;
 use crate::judging::judge;
 use crate::language::Language;
-use crate::passing::gather;
+use crate::passing::ScanGrammar;
 use sf_base::Kind;
 use std::alloc::Global;
 use std::marker::Model;
@@ -107,7 +108,7 @@ impl ScanFormat {
             → MatchResult result (λ format. format ≡ ds) (λ fault. fault ≡ no_memory) }
     {
         let destinations = judge(Language::Scan(profile), text)?;
-        let directives = gather(alloc, profile, text)?;
+        let directives = gather(alloc, ScanGrammar { profile }, text)?;
         let widths = sum_of_widths(&directives);
         Ok(ScanFormat {
             directives,

@@ -58,7 +58,7 @@ pub fn advance<'a>(
         Language::Scan(profile) => {
             let passed = pass(profile, text, at, slots)?;
             Ok(Step {
-                slot: slot_in(&passed.directive),
+                slot: slot_in(&passed.part),
                 rest: passed.rest,
                 slots: passed.slots,
             })
@@ -66,7 +66,7 @@ pub fn advance<'a>(
         Language::Print(profile) => {
             let passed = pass_print(profile, text, at, slots)?;
             Ok(Step {
-                slot: printed_slot(&passed.unit),
+                slot: printed_slot(&passed.part),
                 rest: passed.rest,
                 slots: passed.slots,
             })

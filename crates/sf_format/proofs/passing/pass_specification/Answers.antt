@@ -1,17 +1,33 @@
-use Rattle.std.proofs.Common.{sym, ◌∙◌, arith}
+use Rattle.std.proofs.Common.{◌+◌, length, refl, sym, ◌∙◌, arith}
+use Rattle.sf_format.specs.declared.language.Language.TheVariants.{Scan}
+use Rattle.sf_format.specs.Pieces.{opening_text}
+use Rattle.sf_format.specs.Cut.{letter_at}
+use Rattle.sf_format.specs.Grammar.{Means}
+use Rattle.sf_format.specs.Faults.{opening_rules, rest_rules}
 use Rattle.sf_format.specs.Passing.{opening_of, fault_of}
-use Rattle.sf_format.proofs.Passages.{specification_fault, passes_specification}
+use Rattle.sf_format.proofs.Passages.{specification_fault, passes_specification, cut_rules, cut_part}
 use Rattle.sf_format.proofs.passing.pass_specification.Goals as goal
 
 pub returns-in-Some : goal.returns-in-Some
 returns-in-Some c =
     λ earlier holds.
-    specification_fault c.args.profile earlier c.args.at c.args.text.now (opening_of c.opening.result.0) (fault_of c.in-Some.fault)
-    (sym c.percent_follows.ensures.begins ∙ c.if-percent_follows.false) c.opening.ensures.opening (sym c.in-Some.ensures)
+    let o = opening_of c.opening.result.0 in
+    let rest = c.opening.result.1.now in
+    let q = c.args.at + length (opening_text o) in
+    specification_fault (Scan c.args.profile) earlier c.args.at c.args.text.now (opening_rules c.args.at o)
+    (rest_rules c.args.profile earlier c.args.at o q rest) (fault_of c.in-Some.fault)
+    (sym c.percent_follows.ensures.begins ∙ c.if-percent_follows.false)
+    (cut_rules c.args.profile earlier c.args.at q c.args.text.now rest o c.opening.ensures.opening c.opening.ensures.rest refl)
+    (sym c.in-Some.ensures)
 
 pub returns : goal.returns
 returns c =
     λ earlier holds.
-    passes_specification c.args.profile earlier c.args.at _ c.args.text.now c.opening.result.1.now (opening_of c.opening.result.0) c.pass_rest.result
-    (sym c.percent_follows.ensures.begins ∙ c.if-percent_follows.false) c.opening.ensures.opening c.opening.ensures.rest
-    (omega (arith, c.opening.ensures.length)) (sym c.in_default.ensures) (c.pass_rest.ensures earlier holds)
+    let o = opening_of c.opening.result.0 in
+    let rest = c.opening.result.1.now in
+    passes_specification (Means c.args.profile) (Scan c.args.profile) earlier c.args.at c.args.text.now (opening_rules c.args.at o) _
+    (letter_at o rest) c.pass_rest.result (sym c.percent_follows.ensures.begins ∙ c.if-percent_follows.false)
+    (cut_rules c.args.profile earlier c.args.at _ c.args.text.now rest o c.opening.ensures.opening c.opening.ensures.rest
+    (omega (arith, c.opening.ensures.length)))
+    (cut_part c.args.profile c.args.text.now rest o c.opening.ensures.opening c.opening.ensures.rest) (sym c.in_default.ensures)
+    (c.pass_rest.ensures earlier holds)

@@ -1,18 +1,34 @@
-use Rattle.std.proofs.Common.{sym, ◌∙◌, arith}
+use Rattle.std.proofs.Common.{◌+◌, length, refl, sym, ◌∙◌, arith}
+use Rattle.sf_format.specs.declared.language.Language.TheVariants.{Print}
+use Rattle.sf_format.specs.Pieces.{print_opening_text}
+use Rattle.sf_format.specs.Cut.{print_letter_at}
+use Rattle.sf_format.specs.PrintGrammar.{Prints}
+use Rattle.sf_format.specs.PrintRules.{print_opening_rules, print_rest_rules}
 use Rattle.sf_format.specs.Passing.{print_opening_of, fault_of}
-use Rattle.sf_format.proofs.PrintPassages.{print_specification_fault, passes_print_specification}
+use Rattle.sf_format.proofs.Passages.{specification_fault, passes_specification}
+use Rattle.sf_format.proofs.PrintPassages.{print_cut_rules, print_cut_part}
 use Rattle.sf_format.proofs.print_passing.pass_print_specification.Goals as goal
 
 pub returns-in-Some : goal.returns-in-Some
 returns-in-Some c =
     λ earlier holds.
-    print_specification_fault c.args.profile earlier c.args.at c.args.text.now (print_opening_of c.print_opening.result.0) (fault_of c.in-Some.fault)
-    (sym c.percent_follows.ensures.begins ∙ c.if-percent_follows.false) c.print_opening.ensures.opening (sym c.in-Some.ensures)
+    let o = print_opening_of c.print_opening.result.0 in
+    let rest = c.print_opening.result.1.now in
+    let q = c.args.at + length (print_opening_text o) in
+    specification_fault (Print c.args.profile) earlier c.args.at c.args.text.now (print_opening_rules c.args.at o)
+    (print_rest_rules c.args.profile earlier c.args.at o q rest) (fault_of c.in-Some.fault)
+    (sym c.percent_follows.ensures.begins ∙ c.if-percent_follows.false)
+    (print_cut_rules c.args.profile earlier c.args.at q c.args.text.now rest o c.print_opening.ensures.opening c.print_opening.ensures.rest refl)
+    (sym c.in-Some.ensures)
 
 pub returns : goal.returns
 returns c =
     λ earlier holds.
-    passes_print_specification c.args.profile earlier c.args.at _ c.args.text.now c.print_opening.result.1.now
-    (print_opening_of c.print_opening.result.0) c.pass_print_rest.result
-    (sym c.percent_follows.ensures.begins ∙ c.if-percent_follows.false) c.print_opening.ensures.opening c.print_opening.ensures.rest
-    (omega (arith, c.print_opening.ensures.length)) (sym c.in_default.ensures) (c.pass_print_rest.ensures earlier holds)
+    let o = print_opening_of c.print_opening.result.0 in
+    let rest = c.print_opening.result.1.now in
+    passes_specification (Prints c.args.profile) (Print c.args.profile) earlier c.args.at c.args.text.now (print_opening_rules c.args.at o) _
+    (print_letter_at o rest) c.pass_print_rest.result (sym c.percent_follows.ensures.begins ∙ c.if-percent_follows.false)
+    (print_cut_rules c.args.profile earlier c.args.at _ c.args.text.now rest o c.print_opening.ensures.opening c.print_opening.ensures.rest
+    (omega (arith, c.print_opening.ensures.length)))
+    (print_cut_part c.args.profile c.args.text.now rest o c.print_opening.ensures.opening c.print_opening.ensures.rest) (sym c.in_default.ensures)
+    (c.pass_print_rest.ensures earlier holds)

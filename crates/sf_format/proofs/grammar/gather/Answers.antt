@@ -1,43 +1,42 @@
 use Rattle.std.proofs.Common.{inl, arith}
 use Rattle.std.proofs.lemmas.Result.{err_from_is_err_and}
-use Rattle.sf_format.specs.Grammar.{destinations, Means}
-use Rattle.sf_format.specs.declared.language.Language.TheVariants.{Scan}
+use Rattle.sf_format.specs.Grammar.{destinations}
 use Rattle.sf_format.proofs.Walks.{bytes_of, some_left, none_left, passes_on, gathering_none, gathering_more, passing_fault, gathering_all, rest_shorter}
-use Rattle.sf_format.proofs.passing.gather.Goals as goal
+use Rattle.sf_format.proofs.grammar.gather.Goals as goal
 
 pub loop-rest-init : goal.loop-rest-init
-loop-rest-init c =
-    rw c.new-directives.ensures.items
-    (gathering_none (Scan c.args.profile) (Means c.args.profile) c.args.text.now c.no_slots-slots.result (bytes_of c.args.text.now (λ i. omega (arith, c.type_inv.text i)))
+loop-rest-init g c =
+    rw c.new-parts.ensures.items
+    (gathering_none (g.G.Grammar.language c.args.grammar) (g.G.Grammar.means c.args.grammar) c.args.text.now c.no_slots-slots.result (bytes_of c.args.text.now (λ i. omega (arith, c.type_inv.text i)))
     c.no_slots-slots.ensures)
 
 pub returns-in_err-passed-clause-hindered : goal.returns-in_err-passed-clause-hindered
-returns-in_err-passed-clause-hindered c =
+returns-in_err-passed-clause-hindered g c =
     let h = c.loop-rest.invariant.passing in
     let p = err_from_is_err_and c.from_residual.result c.from_residual.ensures.1 in
     rw (p.1, p.2) (inl (passing_fault c.in_err-passed.field-0.0 h (c.in_err-passed.ensures (destinations h.done) h.holds)))
 
 pub overflow_sub-at : goal.overflow_sub-at
-overflow_sub-at c =
+overflow_sub-at g c =
     let h = c.loop-rest.invariant.passing in
     let some = some_left c.loop-rest.rest.now c.is_empty.result c.is_empty.ensures c.loop-rest-test.true in
     (rest_shorter c.in_ok-passed.passed.rest.now c.in_ok-passed.passed.slots h some (passes_on (c.in_ok-passed.ensures (destinations h.done) h.holds))).1
 
 pub loop-rest-smaller : goal.loop-rest-smaller
-loop-rest-smaller c =
+loop-rest-smaller g c =
     let h = c.loop-rest.invariant.passing in
     let some = some_left c.loop-rest.rest.now c.is_empty.result c.is_empty.ensures c.loop-rest-test.true in
     (rest_shorter c.in_ok-passed.passed.rest.now c.in_ok-passed.passed.slots h some (passes_on (c.in_ok-passed.ensures (destinations h.done) h.holds))).0
 
 pub loop-rest-preserved : goal.loop-rest-preserved
-loop-rest-preserved c =
+loop-rest-preserved g c =
     let h = c.loop-rest.invariant in
     let some = some_left c.loop-rest.rest.now c.is_empty.result c.is_empty.ensures c.loop-rest-test.true in
     let passes = c.in_ok-passed.ensures (destinations h.passing.done) h.passing.holds in
     rw c.in_ok-push.ensures.items
-    (gathering_more (Means c.args.profile) c.in_ok-passed.passed.directive c.in_ok-passed.passed.rest.now c.in_ok-passed.passed.slots h some
+    (gathering_more (g.G.Grammar.means c.args.grammar) c.in_ok-passed.passed.part c.in_ok-passed.passed.rest.now c.in_ok-passed.passed.slots h some
     (passes_on passes) passes.2)
 
 pub returns-clause-gathered : goal.returns-clause-gathered
-returns-clause-gathered c =
+returns-clause-gathered g c =
     gathering_all c.loop-rest.invariant (none_left c.loop-rest.rest.now c.is_empty.result c.is_empty.ensures c.loop-rest-test.false)
