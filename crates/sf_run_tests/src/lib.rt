@@ -2,11 +2,9 @@
 #![tactic(auto)]
 
 #[cfg(test)]
-mod conversions;
+mod cuttings;
 #[cfg(test)]
 mod items;
-#[cfg(test)]
-mod profiles;
 #[cfg(test)]
 mod quick;
 #[cfg(test)]
@@ -14,4 +12,4 @@ mod rows;
 #[cfg(test)]
 mod runs;
 #[cfg(test)]
-mod shared;
+mod starts;
