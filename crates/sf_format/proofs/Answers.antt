@@ -1,7 +1,7 @@
 -- What is answered about a text.
 use Rattle.std.proofs.Common.{◌≡◌, ℕ, ◌≤◌, inl, inr, List, [], length, Option, Some, None, Ok, Err, sym, ap, ◌∙◌, subst, arith}
 use Rattle.sf_base.specs.Bytes.{AreBytes}
-use Rattle.sf_format.specs.declared.language.Language.{Language}
+use Rattle.sf_format.specs.Language.{Language}
 use Rattle.sf_format.specs.declared.fault.FormatFault.{FormatFault}
 use Rattle.sf_format.specs.declared.fault.FormatWhy.{FormatWhy}
 use Rattle.sf_format.specs.declared.slots.Slots.{Slots}

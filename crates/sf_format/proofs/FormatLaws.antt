@@ -1,7 +1,7 @@
 -- Laws of formats, from what is judged.
 use Rattle.std.proofs.Common.{◌≡◌, ℕ, ◌⊎◌, inl, inr, List, Option, Result, Ok, Err, sym, ap, ◌∙◌, subst}
 use Rattle.sf_base.specs.Bytes.{AreBytes}
-use Rattle.sf_format.specs.declared.language.Language.{Language}
+use Rattle.sf_format.specs.Language.{Language}
 use Rattle.sf_format.specs.declared.fault.FormatWhy.{FormatWhy}
 use Rattle.sf_format.specs.Pieces.{Piece}
 use Rattle.sf_format.specs.Grammar.{MeanAll, SpellsAs}

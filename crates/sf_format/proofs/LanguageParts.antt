@@ -1,8 +1,8 @@
 -- The part that a format without a fault there begins with, in both languages.
 use Rattle.std.proofs.Common.{◌≡◌, ℕ, ◌<◌, List, [], ◌∷◌, ◌++◌, length}
 use Rattle.sf_base.specs.Bytes.{AreBytes}
-use Rattle.sf_format.specs.declared.language.Language.{Language}
-use Rattle.sf_format.specs.declared.language.Language.TheVariants.{Scan, Print}
+use Rattle.sf_format.specs.Language.{Language}
+use Rattle.sf_format.specs.Language.{Scan, Print}
 use Rattle.sf_format.specs.Pieces.{Opening, Piece, piece_text}
 use Rattle.sf_format.specs.Cut.{part_at}
 use Rattle.sf_format.specs.Grammar.{IsPiece, AreAlike, destinations}

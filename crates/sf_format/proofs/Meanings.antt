@@ -17,7 +17,7 @@ use Rattle.sf_format.specs.Letters.{added_letters, letters, letter_of, kind_of}
 use Rattle.sf_format.specs.Scanlist.{Scanlist, is_member, IsSetOf}
 use Rattle.sf_format.specs.Pieces.{Opening, Piece, WhiteSpace, Ordinary, Percents, Plain, Bracket, Printed}
 use Rattle.sf_format.specs.Grammar.{IsScanPiece, IsConversion, Means, shape_of, width_of, slot_of, destinations}
-use Rattle.sf_format.specs.declared.language.Language.TheVariants.{Scan}
+use Rattle.sf_format.specs.Language.{Scan}
 use Rattle.sf_format.specs.Digits.{optional_number}
 use Rattle.sf_format.specs.Passing.{slot_in, slot_at}
 use Rattle.sf_format.proofs.WholeMeanings.{IsMeaning}

@@ -6,11 +6,10 @@ use Rattle.std.specs.Prelude.{◌==◌}
 use Rattle.std.specs.List.{AllByRecursion}
 use Rattle.sf_base.specs.Bytes.{AreBytes, magnitude}
 use Rattle.sf_base.specs.Sets.{has_byte}
-use Rattle.sf_format.specs.declared.language.Language.{Language}
+use Rattle.sf_format.specs.Language.{Language}
 use Rattle.sf_format.specs.declared.fault.FormatWhy.{FormatWhy}
 use Rattle.sf_format.specs.declared.fault.FormatWhy.TheVariants.{NumberTwice, NumberGap}
 use Rattle.sf_format.specs.declared.numbering.Noted.{Noted}
-use Rattle.sf_format.specs.declared.walking.Step.{Step}
 use Rattle.sf_format.specs.declared.slots.Slots.{Slots}
 use Rattle.sf_format.specs.Lists.{is_written}
 use Rattle.sf_format.specs.Pieces.{Opening, Piece, WhiteSpace, Ordinary, Percents, Plain, Bracket, Printed, piece_text, text_of}
@@ -178,25 +177,25 @@ noting_none language text slots count noted bytes holds notes =
     }
 
 pub noting_more : {language : Language} {text : List ℕ} {at : ℕ} {rest : List ℕ} {slots : Slots} {count : ℕ} {old : Noted} (new : Noted)
-    (step : Step) (h : Noting language text at rest slots count old) → 0 < length rest
-    → PassesFirst language h.passing.done at rest step.rest.now step.slots
-    → step.slot ≡ slot_at (1 + length (destinations h.passing.done)) (destinations ((part_at language rest).piece ∷ []))
-    → Notes count (h.ns ++ with_place step.slot at) new
-    → Noting language text (length text - length step.rest.now) step.rest.now step.slots count new
-noting_more {language} {at = at} {rest = rest} new step h some passes slot notes =
+    (after : List ℕ) (later : Slots) (slot : Option ℕ) (h : Noting language text at rest slots count old) → 0 < length rest
+    → PassesFirst language h.passing.done at rest after later
+    → slot ≡ slot_at (1 + length (destinations h.passing.done)) (destinations ((part_at language rest).piece ∷ []))
+    → Notes count (h.ns ++ with_place slot at) new
+    → Noting language text (length text - length after) after later count new
+noting_more {language} {at = at} {rest = rest} new after later slot h some passes is notes =
     let done = h.passing.done in
     let piece = (part_at language rest).piece in
     let here = destinations (piece ∷ []) in
     record {
-      passing = passing_more step.rest.now step.slots h.passing some passes;
-      ns = h.ns ++ with_place step.slot at;
+      passing = passing_more after later h.passing some passes;
+      ns = h.ns ++ with_place slot at;
       notes = notes;
       same = λ written.
-          let pushed = done_more step.rest.now step.slots h.passing some passes in
+          let pushed = done_more after later h.passing some passes in
           let all = subst AreWritten (destinations_push done piece) (subst (λ ps. AreWritten (destinations ps)) pushed written) in
-          ap (λ ns. ns ++ with_place step.slot at) (h.same (all_front (λ (o : Opening). o.number ≢ []) (destinations done) here all))
+          ap (λ ns. ns ++ with_place slot at) (h.same (all_front (λ (o : Opening). o.number ≢ []) (destinations done) here all))
           ∙ ap (λ ns. numbered 0 done ++ ns)
-          (ap (λ n. with_place n at) slot
+          (ap (λ n. with_place n at) is
           ∙ part_placed (1 + length (destinations done)) at piece
           (all_back (λ (o : Opening). o.number ≢ []) (destinations done) here all))
           ∙ ap (λ q. numbered 0 done ++ at_place q here) (place h.passing.place)

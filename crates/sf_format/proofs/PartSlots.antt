@@ -4,8 +4,8 @@ use Rattle.std.proofs.lemmas.List.{length-map, map-append}
 use Rattle.std.specs.List.{AllByRecursion}
 use Rattle.sf_base.specs.Bytes.{magnitude}
 use Rattle.sf_format.specs.declared.directive.Profile.{Profile}
-use Rattle.sf_format.specs.declared.language.Language.{Language}
-use Rattle.sf_format.specs.declared.language.Language.TheVariants.{Scan, Print}
+use Rattle.sf_format.specs.Language.{Language}
+use Rattle.sf_format.specs.Language.{Scan, Print}
 use Rattle.sf_format.specs.Digits.{IsOptionalNumber, optional_number}
 use Rattle.sf_format.specs.Slots.{slots_from, AreDistinct}
 use Rattle.sf_format.specs.Pieces.{Opening, Piece, WhiteSpace, Ordinary, Percents, Plain, Bracket, Printed, piece_text, text_of}

@@ -1,7 +1,7 @@
 -- The text of the part with a number.
 use Rattle.std.proofs.Common.{◌≡◌, ℕ, zero, suc, ◌+◌, ◌-◌, ◌<◌, ◌≤◌, List, [], ◌∷◌, ◌++◌, length, map, take, Option, Some, None, Ok, Err, refl, sym, ap, ◌∙◌, arith, slice_get, length-append}
 use Rattle.sf_base.specs.Bytes.{AreBytes}
-use Rattle.sf_format.specs.declared.language.Language.{Language}
+use Rattle.sf_format.specs.Language.{Language}
 use Rattle.sf_format.specs.declared.fault.FormatWhy.{FormatWhy}
 use Rattle.sf_format.specs.declared.slots.Slots.{Slots}
 use Rattle.sf_format.specs.Pieces.{Opening, Piece, piece_text, text_of, text_at}

@@ -21,8 +21,8 @@ use Rattle.sf_format.specs.Grammar.{destinations, assigned_opening, IsConversion
 use Rattle.sf_format.specs.Rules.{Rule, first_of, slot_rules}
 use Rattle.sf_format.specs.Faults.{letter_rules, bracket_rules, scanlist_rules, rest_rules, opening_rules, conversion_rules, percent_rules}
 use Rattle.sf_format.specs.Passing.{Holds, rest_behind, is_set, IsShape, PassesAs, PassesBy}
-use Rattle.sf_format.specs.declared.language.Language.{Language}
-use Rattle.sf_format.specs.declared.language.Language.TheVariants.{Scan}
+use Rattle.sf_format.specs.Language.{Language}
+use Rattle.sf_format.specs.Language.{Scan}
 use Rattle.sf_format.proofs.Outcomes.{by_test}
 use Rattle.sf_format.proofs.Rules.{quiet_is}
 use Rattle.sf_format.proofs.Suits.{found}

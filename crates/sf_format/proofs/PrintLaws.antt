@@ -1,5 +1,5 @@
 -- Laws of print formats.
-use Rattle.sf_format.specs.declared.language.Language.TheVariants.{Print}
+use Rattle.sf_format.specs.Language.{Print}
 use Rattle.sf_format.specs.PrintGrammar.{Prints}
 use Rattle.sf_format.specs.Laws.{EachPrintSpellsOne, EachPrintHasOneFault, NoPrintIsBoth, EachPrintIsEither, EachPrintIsProper, EachUnnumberedPrintIsInOrder}
 use Rattle.sf_format.proofs.PrintMeanings.{print_meaning}

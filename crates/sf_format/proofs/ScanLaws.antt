@@ -1,5 +1,5 @@
 -- Laws of scan formats.
-use Rattle.sf_format.specs.declared.language.Language.TheVariants.{Scan}
+use Rattle.sf_format.specs.Language.{Scan}
 use Rattle.sf_format.specs.Grammar.{Means}
 use Rattle.sf_format.specs.Laws.{EachSpellsOne, EachHasOneFault, NoneIsBoth, EachIsEither, EachIsProper, EachUnnumberedIsInOrder}
 use Rattle.sf_format.proofs.Meanings.{scan_meaning}

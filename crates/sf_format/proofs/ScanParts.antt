@@ -13,7 +13,7 @@ use Rattle.sf_format.specs.Rules.{Rule, slot_rules}
 use Rattle.sf_format.specs.Faults.{opening_rules, letter_rules, scanlist_rules, after_caret, rest_rules, percent_rules, part_rules}
 use Rattle.sf_format.specs.declared.letter.Letter.{Letter}
 use Rattle.sf_format.specs.declared.letter.Letter.TheVariants.{Set}
-use Rattle.sf_format.specs.declared.language.Language.TheVariants.{Scan}
+use Rattle.sf_format.specs.Language.{Scan}
 use Rattle.sf_format.proofs.Outcomes.{by_test}
 use Rattle.sf_format.proofs.Beginnings.{StopsAfter, BeginsWith, nothing_more, byte_rules, byte_quiet, white_quiet}
 use Rattle.sf_format.proofs.Prefixes.{front_behind, front_passes, behind_stops, front_of, behind_of}

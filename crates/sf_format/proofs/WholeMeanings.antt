@@ -1,13 +1,10 @@
 -- What the parts of a format stand for.
-use Rattle.std.proofs.Common.{◌≡◌, ℕ, ◌+◌, List, [], ◌∷◌, ◌++◌, length, Option, refl, sym, ap, ◌∙◌, subst, arith, length-append}
+use Rattle.std.proofs.Common.{◌≡◌, ℕ, ◌+◌, List, [], ◌∷◌, ◌++◌, length, Option, refl, ap, ◌∙◌, subst, arith, length-append}
 use Rattle.std.specs.List.{AllByRecursion}
-use Rattle.sf_format.specs.declared.language.Language.{Language}
-use Rattle.sf_format.specs.Pieces.{Opening, Piece}
+use Rattle.sf_format.specs.Language.{Language}
+use Rattle.sf_format.specs.Pieces.{Piece}
 use Rattle.sf_format.specs.Grammar.{IsPiece, MeanAll, destinations}
-use Rattle.sf_format.specs.declared.slots.Slots.{Slots}
-use Rattle.sf_format.specs.Cut.{part_at}
-use Rattle.sf_format.specs.Faults.{part_rules}
-use Rattle.sf_format.specs.Passing.{slot_at, HasSlot, PassesAs}
+use Rattle.sf_format.specs.Passing.{slot_at}
 use Rattle.sf_format.proofs.Destinations.{destinations_cons}
 
 -- each part stands for exactly one of these, which has the part's slot
@@ -51,14 +48,3 @@ mean_push means place (first ∷ done) (e ∷ ds) piece d all one =
     let same : place + length (destinations (first ∷ done)) ≡ (place + here) + length (destinations done)
     = omega (arith, ap length (destinations_cons first done), length-append (destinations (first ∷ [])) (destinations done)) in
     (all.0, mean_push means (place + here) done ds piece d all.1 (subst (λ n. means n piece d) same one))
-
--- ---- one step
-
--- a part that was passed with what it stands for, in the language that there is
-pub stepped : {D : Type 0} {slot_in : D → Option ℕ} (language l : Language) (means : ℕ → Piece → D → Type 0) → IsMeaning D l means slot_in
-    → language ≡ l → (earlier : List Opening) (p : ℕ) (x : List ℕ) (d : D) (rest : List ℕ) (slots : Slots) (slot : Option ℕ) → slot ≡ slot_in d
-    → PassesAs means (part_rules l earlier p x) earlier (part_at l x) d rest slots
-    → PassesAs HasSlot (part_rules language earlier p x) earlier (part_at language x) slot rest slots
-stepped language l means m e earlier p x d rest slots slot same h =
-    subst (λ k. PassesAs HasSlot (part_rules k earlier p x) earlier (part_at k x) slot rest slots) (sym e)
-    (h.0, h.1, same ∙ m.slot (1 + length earlier) (part_at l x).piece d h.2, h.3)

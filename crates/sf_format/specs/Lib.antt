@@ -1,4 +1,5 @@
 pub mod Digits
+pub mod Language
 pub mod Lists
 pub mod Letters
 pub mod PrintLetters

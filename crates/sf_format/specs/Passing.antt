@@ -18,13 +18,12 @@ use Rattle.sf_format.specs.declared.opening.Written.{Written}
 use Rattle.sf_format.specs.declared.slots.Slots.{Slots}
 use Rattle.sf_format.specs.declared.scanlist.Listed.{Listed}
 use Rattle.sf_format.specs.declared.shaping.Shaped.{Shaped}
-use Rattle.sf_format.specs.declared.language.Language.{Language}
+use Rattle.sf_format.specs.Language.{Language}
 use Rattle.sf_format.specs.declared.unit.PrintLetter.{PrintLetter}
 use Rattle.sf_format.specs.declared.unit.Unit.{Unit as PrintUnit}
 use Rattle.sf_format.specs.declared.unit.Unit.TheVariants as unit
 use Rattle.sf_format.specs.declared.print_opening.PrintWritten.{PrintWritten}
 use Rattle.sf_format.specs.declared.grammar.Passed.{Passed}
-use Rattle.sf_format.specs.declared.walking.Step.{Step}
 use Rattle.sf_format.specs.declared.numbering.Noted.{Noted}
 use Rattle.sf_format.specs.Lists.{is_written, mark_at}
 use Rattle.sf_format.specs.Letters.{letter_of, kind_of}
@@ -129,14 +128,6 @@ PassesBy means rules earlier part (Err fault) = first_of rules ≡ Some (fault_o
 abbrev pub slot_at : ℕ → List Opening → Option ℕ
 slot_at place [] = None
 slot_at place (o ∷ os) = slot_of place o
-
--- the slot that a part assigns, if it assigns one
-abbrev pub HasSlot : ℕ → Piece → Option ℕ → Type 0
-HasSlot place piece slot = slot ≡ slot_at place (destinations (piece ∷ []))
-
-abbrev pub StepsBy : List Rule → List Opening → Part → Result Step FormatFault → Type 0
-StepsBy rules earlier part (Ok step) = PassesAs HasSlot rules earlier part step.slot step.rest.now step.slots
-StepsBy rules earlier part (Err fault) = first_of rules ≡ Some (fault_of fault)
 
 -- ---- whole texts
 

@@ -1,10 +1,11 @@
 //! What the grammars of scan formats and of print formats have in common.
-ghost use Rattle.std.specs.Prelude.{◌≡◌, ◌≤◌, ◌<◌, ◌+◌, ℕ, List, length, IfOk, IfErr};
-ghost use Rattle.sf_format.specs.declared.language.Language.{Language};
+ghost use Rattle.std.specs.Prelude.{◌≡◌, ◌≤◌, ◌<◌, ◌+◌, ℕ, List, [], ◌∷◌, length, IfOk, IfErr};
+ghost use Rattle.sf_format.specs.Language.{Language};
 ghost use Rattle.sf_format.specs.Pieces.{Opening, Piece};
 ghost use Rattle.sf_format.specs.Cut.{part_at};
+ghost use Rattle.sf_format.specs.Grammar.{destinations};
 ghost use Rattle.sf_format.specs.Faults.{part_rules};
-ghost use Rattle.sf_format.specs.Passing.{Holds, PassesBy, Gathers, IsHindered};
+ghost use Rattle.sf_format.specs.Passing.{slot_at, Holds, PassesBy, Walked, Gathers, IsHindered};
 
 use crate::fault::FormatFault;
 use crate::slots::{Slots, no_slots};
@@ -38,6 +39,27 @@ pub trait Grammar: Copy {
         requires count { slots.count ≤ 4096 }
         ensures { (earlier : List Opening) → Holds slots earlier
             → PassesBy (means self) (part_rules (language self) earlier at text.now) earlier (part_at (language self) text.now) result };
+
+    /// The slot of the destination or value that the part has, if it has one.
+    fn slot(self, part: &Self::Part) -> Option<u8>
+        ensures { (place : ℕ) (piece : Piece) → means self place piece part.now → result ≡ slot_at place (destinations (piece ∷ [])) };
+}
+
+/// The destinations or values of a text without a fault in its parts, or the first such fault. It takes no memory.
+pub fn walk<G: Grammar>(grammar: G, text: &[u8]) -> Result<Slots, FormatFault>
+    requires { length text.now ≤ 4096 }
+    ensures { Walked (G.language grammar) text.now result }
+{
+    let mut rest = text;
+    let mut at: u16 = 0;
+    let mut slots = no_slots();
+    while !rest.is_empty() {
+        let passed = grammar.pass(rest, at, slots)?;
+        rest = passed.rest;
+        at = (text.len() - rest.len()) as u16;
+        slots = passed.slots;
+    }
+    Ok(slots)
 }
 
 /// What the parts of a text stand for, where none of them has a fault.

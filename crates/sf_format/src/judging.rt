@@ -2,13 +2,12 @@
 ghost use Rattle.sf_format.specs.Passing.{Judged};
 
 use crate::fault::{FormatFault, FormatWhy};
-use crate::language::Language;
+use crate::grammar::{Grammar, walk};
 use crate::numbering::number_fault;
-use crate::walking::walk;
 
 /// The count of the destinations or values of a text without a fault, or its first fault. It takes no memory.
-pub fn judge(language: Language, text: &[u8]) -> Result<u8, FormatFault>
-    ensures { Judged language text.now result }
+pub fn judge<G: Grammar>(grammar: G, text: &[u8]) -> Result<u8, FormatFault>
+    ensures { Judged (G.language grammar) text.now result }
 {
     if text.len() > 4096 {
         return Err(FormatFault {
@@ -16,8 +15,8 @@ pub fn judge(language: Language, text: &[u8]) -> Result<u8, FormatFault>
             why: FormatWhy::FormatTooLong,
         });
     }
-    let slots = walk(language, text)?;
-    match number_fault(language, text, slots) {
+    let slots = walk(grammar, text)?;
+    match number_fault(grammar, text, slots) {
         Some(fault) => Err(fault),
         None => Ok(slots.count as u8),
     }

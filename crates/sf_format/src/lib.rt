@@ -6,7 +6,6 @@ mod fault;
 mod fronts;
 mod grammar;
 mod judging;
-mod language;
 pub mod laws;
 mod letter;
 mod numbering;
@@ -23,7 +22,6 @@ mod scanlist;
 mod shaping;
 mod slots;
 mod unit;
-mod walking;
 
 pub use directive::{Base, Conversion, Directive, Profile, Shape};
 pub use fault::{FormatFault, FormatWhy};

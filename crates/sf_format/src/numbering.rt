@@ -7,9 +7,8 @@ ghost use Rattle.sf_format.specs.Faults.{repeated, beyond, number_rules};
 ghost use Rattle.sf_format.specs.Passing.{fault_in, with_place, first_place, Notes, Walked};
 
 use crate::fault::{FormatFault, FormatWhy};
-use crate::language::Language;
+use crate::grammar::Grammar;
 use crate::slots::{Slots, no_slots};
-use crate::walking::advance;
 use sf_base::ByteSet;
 
 /// What was noted of the numbers so far.
@@ -74,10 +73,10 @@ fn noted_fault(noted: &Noted) -> Option<FormatFault>
 }
 
 /// The first fault of the numbers of a text without a fault in its parts, which has these destinations.
-pub fn number_fault(language: Language, text: &[u8], slots: Slots) -> Option<FormatFault>
+pub fn number_fault<G: Grammar>(grammar: G, text: &[u8], slots: Slots) -> Option<FormatFault>
     requires short { length text.now ≤ 4096 }
-    requires walked { Walked language text.now (Ok slots) }
-    ensures { (pieces : List Piece) → read (length text.now) language [] 0 text.now ≡ Ok pieces
+    requires walked { Walked (G.language grammar) text.now (Ok slots) }
+    ensures { (pieces : List Piece) → read (length text.now) (G.language grammar) [] 0 text.now ≡ Ok pieces
         → fault_in result ≡ first_of (number_rules pieces) }
 {
     if !slots.numbered {
@@ -88,13 +87,13 @@ pub fn number_fault(language: Language, text: &[u8], slots: Slots) -> Option<For
     let mut at: u16 = 0;
     let mut earlier = no_slots();
     while !rest.is_empty() {
-        let Ok(step) = advance(language, rest, at, earlier) else {
+        let Ok(passed) = grammar.pass(rest, at, earlier) else {
             unreachable!()
         };
-        note(&mut noted, step.slot, at, slots.count);
-        rest = step.rest;
+        note(&mut noted, grammar.slot(&passed.part), at, slots.count);
+        rest = passed.rest;
         at = (text.len() - rest.len()) as u16;
-        earlier = step.slots;
+        earlier = passed.slots;
     }
     noted_fault(&noted)
 }

@@ -2,22 +2,22 @@
 ghost use Rattle.std.specs.Prelude.{◌≡◌, ◌≤◌, ℕ, List, [], Ok, None, length};
 ghost use Rattle.std.specs.Option.{option_map};
 ghost use Rattle.sf_format.specs.declared.fault.FormatWhy.{FormatWhy};
-ghost use Rattle.sf_format.specs.declared.language.Language.TheVariants.{Scan};
+ghost use Rattle.sf_format.specs.Language.{Scan};
 ghost use Rattle.sf_format.specs.Pieces.{Piece, text_of, text_at};
 ghost use Rattle.sf_format.specs.Grammar.{IsFormat};
 ghost use Rattle.sf_format.specs.Faults.{Fault};
 ghost use Rattle.sf_format.specs.Reading.{read};
 
 use crate::directive::Profile;
+use crate::grammar::Grammar;
 use crate::judging::judge;
-use crate::language::Language;
+use crate::passing::ScanGrammar;
 use crate::slots::no_slots;
-use crate::walking::advance;
 
 /// The text of the part with the number, counted from 1, of a text without a fault in its parts.
-fn part_text(language: Language, text: &[u8], number: u16) -> Option<&[u8]>
+fn part_text<G: Grammar>(grammar: G, text: &[u8], number: u16) -> Option<&[u8]>
     requires { length text.now ≤ 4096 }
-    ensures { (pieces : List Piece) → read (length text.now) language [] 0 text.now ≡ Ok pieces
+    ensures { (pieces : List Piece) → read (length text.now) (G.language grammar) [] 0 text.now ≡ Ok pieces
         → option_map (λ t. t.now) result ≡ text_at number pieces }
 {
     if number == 0 {
@@ -28,16 +28,16 @@ fn part_text(language: Language, text: &[u8], number: u16) -> Option<&[u8]>
     let mut at: u16 = 0;
     let mut slots = no_slots();
     while !rest.is_empty() {
-        let Ok(step) = advance(language, rest, at, slots) else {
+        let Ok(passed) = grammar.pass(rest, at, slots) else {
             return None;
         };
         if left == 1 {
-            return Some(&rest[..rest.len() - step.rest.len()]);
+            return Some(&rest[..rest.len() - passed.rest.len()]);
         }
         left -= 1;
-        rest = step.rest;
+        rest = passed.rest;
         at = (text.len() - rest.len()) as u16;
-        slots = step.slots;
+        slots = passed.slots;
     }
     None
 }
@@ -50,9 +50,9 @@ pub fn directive_text(profile: Profile, text: &[u8], number: u16) -> Option<&[u8
         → option_map (λ t. t.now) result ≡ text_at number pieces }
     ensures refused { (at : ℕ) (why : FormatWhy) → Fault profile text.now at why → result ≡ None }
 {
-    let language = Language::Scan(profile);
-    let Ok(_count) = judge(language, text) else {
+    let grammar = ScanGrammar { profile };
+    let Ok(_count) = judge(grammar, text) else {
         return None;
     };
-    part_text(language, text, number)
+    part_text(grammar, text, number)
 }

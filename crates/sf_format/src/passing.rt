@@ -5,7 +5,7 @@ ghost use Rattle.sf_format.specs.Digits.{is_decimal};
 ghost use Rattle.sf_format.specs.Pieces.{Opening};
 ghost use Rattle.sf_format.specs.Lists.{begins};
 ghost use Rattle.sf_format.specs.Cut.{letter_at, specification_at, part_at};
-ghost use Rattle.sf_format.specs.declared.language.Language.TheVariants.{Scan};
+ghost use Rattle.sf_format.specs.Language.{Scan};
 ghost use Rattle.sf_format.specs.Grammar.{Means};
 ghost use Rattle.sf_format.specs.Rules.{first_of};
 ghost use Rattle.sf_format.specs.Faults.{opening_rules, rest_rules, percent_rules, part_rules};
@@ -179,5 +179,12 @@ impl Grammar for ScanGrammar {
         slots: Slots,
     ) -> Result<Passed<'a, Directive>, FormatFault> {
         pass(self.profile, text, at, slots)
+    }
+
+    fn slot(self, directive: &Directive) -> Option<u8> {
+        match directive {
+            Directive::Conv(conversion) => conversion.slot,
+            _ => None,
+        }
     }
 }

@@ -11,7 +11,6 @@ use crate::directive::Profile;
 use crate::fault::FormatFault;
 use crate::grammar::gather;
 use crate::judging::judge;
-use crate::language::Language;
 use crate::print_passing::PrintGrammar;
 use crate::unit::Unit;
 use sf_base::Kind;
@@ -75,8 +74,9 @@ impl PrintFormat {
         ensures accepted { (us : List PrintUnit) → SpellsPrint profile text.now us
             → MatchResult result (λ format. format ≡ us) (λ fault. fault ≡ no_memory) }
     {
-        let values = judge(Language::Print(profile), text)?;
-        let units = gather(alloc, PrintGrammar { profile }, text)?;
+        let grammar = PrintGrammar { profile };
+        let values = judge(grammar, text)?;
+        let units = gather(alloc, grammar, text)?;
         Ok(PrintFormat { units, values })
     }
 

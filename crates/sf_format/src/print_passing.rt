@@ -1,7 +1,7 @@
 //! The parts of a print format.
 ghost use Rattle.std.specs.Prelude.{◌≡◌, ◌≤◌, ◌<◌, ◌+◌, List, ◌∷◌, None, true, length};
 ghost use Rattle.std.specs.List.{AllByRecursion};
-ghost use Rattle.sf_format.specs.declared.language.Language.TheVariants.{Print};
+ghost use Rattle.sf_format.specs.Language.{Print};
 ghost use Rattle.sf_format.specs.Digits.{is_decimal};
 ghost use Rattle.sf_format.specs.Pieces.{Opening};
 ghost use Rattle.sf_format.specs.Cut.{print_letter_at, specification_at, part_at};
@@ -168,5 +168,12 @@ impl Grammar for PrintGrammar {
         slots: Slots,
     ) -> Result<Passed<'a, Unit>, FormatFault> {
         pass_print(self.profile, text, at, slots)
+    }
+
+    fn slot(self, unit: &Unit) -> Option<u8> {
+        match unit {
+            Unit::Conv(conversion) => Some(conversion.slot),
+            Unit::Byte(_) => None,
+        }
     }
 }

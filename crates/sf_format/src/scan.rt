@@ -12,7 +12,6 @@ use crate::directive::{Directive, Profile, Shape};
 use crate::fault::FormatFault;
 use crate::grammar::gather;
 use crate::judging::judge;
-use crate::language::Language;
 use crate::passing::ScanGrammar;
 use sf_base::Kind;
 use std::alloc::Global;
@@ -107,8 +106,9 @@ impl ScanFormat {
         ensures accepted { (ds : List Directive) → Spells profile text.now ds
             → MatchResult result (λ format. format ≡ ds) (λ fault. fault ≡ no_memory) }
     {
-        let destinations = judge(Language::Scan(profile), text)?;
-        let directives = gather(alloc, ScanGrammar { profile }, text)?;
+        let grammar = ScanGrammar { profile };
+        let destinations = judge(grammar, text)?;
+        let directives = gather(alloc, grammar, text)?;
         let widths = sum_of_widths(&directives);
         Ok(ScanFormat {
             directives,

@@ -1,4 +1,4 @@
-use Rattle.sf_format.specs.declared.language.Language.TheVariants.{Scan}
+use Rattle.sf_format.specs.Language.{Scan}
 use Rattle.sf_format.proofs.Judgements.{judged_short}
 use Rattle.sf_format.proofs.Answers.{no_fault}
 use Rattle.sf_format.proofs.PartTexts.{format_read, format_not_refused}

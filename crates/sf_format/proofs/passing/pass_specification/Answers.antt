@@ -1,5 +1,5 @@
 use Rattle.std.proofs.Common.{◌+◌, length, refl, sym, ◌∙◌, arith}
-use Rattle.sf_format.specs.declared.language.Language.TheVariants.{Scan}
+use Rattle.sf_format.specs.Language.{Scan}
 use Rattle.sf_format.specs.Pieces.{opening_text}
 use Rattle.sf_format.specs.Cut.{letter_at}
 use Rattle.sf_format.specs.Grammar.{Means}

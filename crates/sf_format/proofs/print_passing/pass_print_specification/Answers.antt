@@ -1,5 +1,5 @@
 use Rattle.std.proofs.Common.{◌+◌, length, refl, sym, ◌∙◌, arith}
-use Rattle.sf_format.specs.declared.language.Language.TheVariants.{Print}
+use Rattle.sf_format.specs.Language.{Print}
 use Rattle.sf_format.specs.Pieces.{print_opening_text}
 use Rattle.sf_format.specs.Cut.{print_letter_at}
 use Rattle.sf_format.specs.PrintGrammar.{Prints}

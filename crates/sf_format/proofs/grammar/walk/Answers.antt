@@ -1,0 +1,37 @@
+use Rattle.std.proofs.Common.{arith}
+use Rattle.std.proofs.lemmas.Result.{err_from_is_err_and}
+use Rattle.sf_format.specs.Grammar.{destinations}
+use Rattle.sf_format.proofs.Walks.{bytes_of, passing_none, some_left, none_left, passes_on, passing_more, passing_fault, walked_all, rest_shorter}
+use Rattle.sf_format.proofs.grammar.walk.Goals as goal
+
+pub loop-rest-init : goal.loop-rest-init
+loop-rest-init g c =
+    passing_none (g.G.Grammar.language c.args.grammar) c.args.text.now c.no_slots-slots.result (bytes_of c.args.text.now (λ i. omega (arith, c.type_inv.text i)))
+    c.no_slots-slots.ensures
+
+pub returns-in_err-passed : goal.returns-in_err-passed
+returns-in_err-passed g c =
+    let h = c.loop-rest.invariant in
+    let p = err_from_is_err_and c.from_residual.result c.from_residual.ensures.1 in
+    rw (p.1, p.2) (passing_fault c.in_err-passed.field-0.0 h (c.in_err-passed.ensures (destinations h.done) h.holds))
+
+pub overflow_sub-at : goal.overflow_sub-at
+overflow_sub-at g c =
+    let h = c.loop-rest.invariant in
+    let some = some_left c.loop-rest.rest.now c.is_empty.result c.is_empty.ensures c.loop-rest-test.true in
+    (rest_shorter c.in_ok-passed.passed.rest.now c.in_ok-passed.passed.slots h some (passes_on (c.in_ok-passed.ensures (destinations h.done) h.holds))).1
+
+pub loop-rest-smaller : goal.loop-rest-smaller
+loop-rest-smaller g c =
+    let h = c.loop-rest.invariant in
+    let some = some_left c.loop-rest.rest.now c.is_empty.result c.is_empty.ensures c.loop-rest-test.true in
+    (rest_shorter c.in_ok-passed.passed.rest.now c.in_ok-passed.passed.slots h some (passes_on (c.in_ok-passed.ensures (destinations h.done) h.holds))).0
+
+pub loop-rest-preserved : goal.loop-rest-preserved
+loop-rest-preserved g c =
+    let h = c.loop-rest.invariant in
+    let some = some_left c.loop-rest.rest.now c.is_empty.result c.is_empty.ensures c.loop-rest-test.true in
+    passing_more c.in_ok-passed.passed.rest.now c.in_ok-passed.passed.slots h some (passes_on (c.in_ok-passed.ensures (destinations h.done) h.holds))
+
+pub returns : goal.returns
+returns g c = walked_all c.loop-rest.invariant (none_left c.loop-rest.rest.now c.is_empty.result c.is_empty.ensures c.loop-rest-test.false)
