@@ -8,52 +8,30 @@ use Rattle.sf_format.specs.declared.directive.Directive.{Directive}
 use Rattle.sf_format.specs.Proper.{AreProper, slots_of}
 use Rattle.sf_run.specs.declared.directive.Finished.{Finished}
 use Rattle.sf_run.specs.declared.directive.Finished.TheVariants as finish
+use Rattle.sf_run.specs.declared.directive.Run.{Run}
 use Rattle.sf_run.specs.declared.outcome.Ending.{Ending}
 use Rattle.sf_run.specs.declared.outcome.Status.{Status}
 use Rattle.sf_run.specs.declared.outcome.Status.TheVariants.{Done}
 use Rattle.sf_run.specs.declared.tally.Tally as code
-use Rattle.sf_run.specs.declared.whole.Whole.{Whole}
 use Rattle.sf_run.specs.Holding.{are_apart, are_placed}
 use Rattle.sf_run.specs.Limits.{RunWithin, TellsWithin}
 use Rattle.sf_run.specs.Machine.{Skipping}
 use Rattle.sf_run.specs.Phases.{end_of, is_failing, slot_given}
+use Rattle.sf_run.specs.Pieces.{EndsIn}
 use Rattle.sf_run.specs.Places.{is_destination, places_left}
-use Rattle.sf_run.specs.Quick.{GivesTo, MayBeGiven, PassesWithin, TakesWithin, slot_stored}
+use Rattle.sf_run.specs.Quick.{GivesTo, MayBeGiven, PassesWithin, slot_stored}
 use Rattle.sf_run.specs.Residual.{Part, Tally, by_end, counted, nothing_yet, one_from, out_of, run_of, then_on, with_used}
 use Rattle.sf_run.specs.Runs.{IsOpen, RunReport, passed, stored}
 use Rattle.sf_run.specs.Steps.{StepEnd, Passes, Stores, Fails}
 use Rattle.sf_run.specs.Tallies.{PassesSo, tally_of, values_with}
 use Rattle.sf_run.specs.Texts.{slot_of, slots_in}
-use Rattle.sf_run.specs.Wholes.{EndsWithin}
-use Rattle.sf_run.proofs.Brought.{one_from-all}
-use Rattle.sf_run.proofs.Machines.{byte_refused}
-use Rattle.sf_run.proofs.Moves.{around, drop_at, next_is, place_taken}
+use Rattle.sf_run.proofs.Moves.{drop_at, place_taken}
 use Rattle.sf_run.proofs.Openness.{within_limit}
 use Rattle.sf_run.proofs.Slots.{is_destination_of, slot_free, slot_placed, slots_more, slots_none}
 use Rattle.sf_run.proofs.Told.{told_exists, uses_is, within_met}
 use Rattle.sf_run.proofs.Waits.{open_all}
 
 -- ---- one directive
-
-same_part : {n m : ℕ} {x y : List ℕ} {e f : StepEnd} → n ≡ m → x ≡ y → e ≡ f → ◌≡◌ {A = Part} (record { used = n; left = x; end = e }) (record { used = m; left = y; end = f })
-same_part p q r = (λ i. record { used = p i; left = q i; end = r i })
-
--- what ends within the piece takes just these bytes however the piece goes on
-pub takes_within : (d : Directive) (piece : List ℕ) (w : Whole) → EndsWithin d piece w → TakesWithin d piece (w.before + w.item) (end_of (take w.item (drop w.before piece)) w.finished)
-takes_within d piece w e =
-    let k : ℕ = w.before + w.item in
-    let below : k < length piece = e.behind in
-    let long : length (take k piece) ≡ k = length-take-le k piece (omega (arith, below)) in
-    record {
-      within = below;
-      takes = λ n z.
-          let b : ℕ = get_or piece k 0 in
-          let rest : List ℕ = drop (k + 1) piece ++ z in
-          ap (one_from d Skipping n) (sym (around piece k z below))
-          ∙ one_from-all d Skipping e.stage n (take k piece) (b ∷ rest) e.goes
-          ∙ byte_refused d e.stage (n + length (take k piece)) b rest e.refused
-          ∙ same_part (ap (λ m. n + m) long) (sym (next_is piece k z below)) (sym (e.ends (n + length (take k piece))));
-    }
 
 -- the slot of what it gives is its own
 pub free_of : (f : Finished) (d : Directive) (values : List Assigned) → (is_failing f ≡ false → slot_given f ≡ slot_of d) → MayBeGiven (slot_of d) values → MayBeGiven (slot_given f) values
@@ -68,13 +46,14 @@ own_slot (finish.Stores n value) text slot ok own = own refl
 own_slot (finish.Closes n) text slot ok own = own refl
 own_slot (finish.Fails status) text slot ok own = absurd (true≢false (sym ok))
 
-pub passes_within : (d : Directive) (piece item : List ℕ) (w : Whole) (stores : Bool) (old new : Kept) → EndsWithin d piece w → item ≡ take w.item (drop w.before piece)
-    → (is_failing w.finished ≡ false → slot_given w.finished ≡ slot_of d) → GivesTo (end_of item w.finished) stores old new → PassesWithin d piece (w.before + w.item) stores old new
-passes_within d piece item w stores old new e is own gives = record {
-  end = end_of item w.finished;
-  takes = subst (λ y. TakesWithin d piece (w.before + w.item) (end_of y w.finished)) (sym is) (takes_within d piece w e);
+pub passes_within : (d : Directive) (n : ℕ) (piece item : List ℕ) (run : Run) (end : Finished) (stores : Bool) (old new : Kept) → EndsIn d Skipping n piece (run.before + run.item) (end_of (take run.item (drop run.before piece)) end)
+    → item ≡ take run.item (drop run.before piece) → (is_failing end ≡ false → slot_given end ≡ slot_of d) → GivesTo (end_of item end) stores old new
+    → PassesWithin d n piece (run.before + run.item) stores old new
+passes_within d n piece item run end stores old new e is own gives = record {
+  end = end_of item end;
+  takes = subst (λ y. EndsIn d Skipping n piece (run.before + run.item) (end_of y end)) (sym is) e;
   gives = gives;
-  own = own_slot w.finished item (slot_of d) gives.passes.passes own;
+  own = own_slot end item (slot_of d) gives.passes.passes own;
 }
 
 -- ---- directive after directive
@@ -115,14 +94,14 @@ stores_own d (Fails status) stores own is some = absurd (true≢false (sym (is �
 
 -- the next directive has passed
 pub going_on : (ds : List Directive) (front : List ℕ) (p : ℕ) (d : Directive) (t u : code.Tally) (old new : Kept) (piece : List ℕ) (taken : ℕ) (stores : Bool) → slice_get ds p ≡ Some d
-    → Going ds front p t old → piece ≡ drop t.used front → PassesWithin d piece taken stores old new
+    → Going ds front p t old → piece ≡ drop t.used front → PassesWithin d t.used piece taken stores old new
     → ((end : StepEnd) (values : List Assigned) → PassesSo end stores → tally_of u (values_with end values) ≡ counted d end (with_used (t.used + taken) (tally_of t values)))
     → u.used ≡ t.used + taken → u.assigned ≤ t.assigned + cond stores 1 0 → u.converted ≤ t.converted + 1 → Going ds front (p + 1) u new
 going_on ds front p d t u old new piece taken stores at h is w tally used assigned' converted' =
     let end : StepEnd = w.end in
     let ok : passed end ≡ true = w.gives.passes.passes in
     let rest : List ℕ = drop t.used front in
-    let behind : taken < length rest = subst (λ y. taken < length y) is w.takes.within in
+    let behind : taken ≤ length rest = subst (λ y. taken ≤ length y) is w.takes.within in
     let left : length rest ≡ length front - t.used = length-drop t.used front in
     let low = h.within in
     record {
@@ -130,7 +109,7 @@ going_on ds front p d t u old new piece taken stores at h is w tally used assign
           let next : List ℕ = drop u.used front in
           let place : drop taken piece ≡ next = ap (drop taken) is ∙ drop-drop taken t.used front ∙ ap (λ n. drop n front) (sym used) in
           let step : one_from d Skipping t.used (rest ++ z) ≡ record { used = t.used + taken; left = next ++ z; end = end } =
-          ap (λ y. one_from d Skipping t.used (y ++ z)) (sym is) ∙ w.takes.takes t.used z ∙ ap (λ (y : List ℕ). record { used = t.used + taken; left = y ++ z; end = end }) place in
+          ap (λ y. one_from d Skipping t.used (y ++ z)) (sym is) ∙ w.takes.takes z ∙ ap (λ (y : List ℕ). record { used = t.used + taken; left = y ++ z; end = end }) place in
           h.same z ∙ ap (λ l. run_of None l (p + 1) (tally_of t old.values) (rest ++ z)) (drop_at ds p d at)
           ∙ passes_on d (drop (p + 1) ds) (p + 1) (tally_of t old.values) (rest ++ z) (next ++ z) taken end ok step
           ∙ ap (λ v. run_of None (drop (p + 1) ds) (p + 1 + 1) v (next ++ z)) (sym (tally end old.values w.gives.passes) ∙ ap (tally_of u) (sym w.gives.values));

@@ -1,17 +1,16 @@
 -- Many bytes at once.
-use Rattle.std.proofs.Common.{◌≡◌, ◌≢◌, ℕ, zero, suc, ◌+◌, ◌<◌, ◌≤◌, true, false, cond, ◌&&◌, nat_eq, List, [], ◌∷◌, ◌++◌, length, take, drop, get_or, append_assoc, length-drop, Option, Some, None, refl, sym, ap, subst, ◌∙◌, arith}
-use Rattle.std.specs.Prelude.{slice_get}
+use Rattle.std.proofs.Common.{◌≡◌, ◌≢◌, ℕ, zero, suc, ◌+◌, ◌<◌, ◌≤◌, true, false, cond, ◌&&◌, List, [], ◌∷◌, ◌++◌, length, take, drop, get_or, append_assoc, length-drop, Option, Some, None, refl, sym, ap, subst, ◌∙◌, arith}
 use Rattle.std.proofs.Math.Seq.{take-add}
 use Rattle.std.proofs.lemmas.List.{append-nil, length-take-le, drop_more}
 use Rattle.sf_base.specs.Bytes.{is_white}
 use Rattle.sf_format.specs.declared.directive.Conversion.{Conversion}
 use Rattle.sf_format.specs.declared.directive.Directive.{Directive}
-use Rattle.sf_format.specs.declared.directive.Directive.TheVariants.{Space, Byte, Conv}
+use Rattle.sf_format.specs.declared.directive.Directive.TheVariants.{Space, Conv}
 use Rattle.sf_format.specs.Proper.{IsProper, IsProperShape}
 use Rattle.sf_item.specs.Taking.{CanTake, HasTaken, conversion_of}
 use Rattle.sf_item.specs.Tests.{can_take}
 use Rattle.sf_item.specs.declared.item.ItemScan.{ItemScan}
-use Rattle.sf_item.proofs.Deciding.{tests_can_take, tests_same}
+use Rattle.sf_item.proofs.Deciding.{tests_can_take}
 use Rattle.sf_run.specs.declared.directive.Phase.{Phase}
 use Rattle.sf_run.specs.declared.directive.Phase.TheVariants as phase
 use Rattle.sf_run.specs.Machine.{Stage, Skipping, Taken, Item, shape_skips, item_stepped, stepped, finished}
@@ -67,7 +66,7 @@ take-take (suc j) zero xs h = absurd (omega (arith, h))
 take-take (suc j) (suc n) [] h = refl
 take-take (suc j) (suc n) (x ∷ xs) h = ap (λ l. x ∷ l) (take-take j n xs (omega (arith, h)))
 
-not_nothing : (f y : List ℕ) → f ≢ [] → f ++ y ≢ []
+pub not_nothing : (f y : List ℕ) → f ≢ [] → f ++ y ≢ []
 not_nothing [] y some e = some refl
 not_nothing (x ∷ f) y some e = cc
 
@@ -88,37 +87,6 @@ shows_all d slot scan new f y p shows same own text taken some = shows (Item (f 
   text = text;
 })
 
--- an item that goes on
-pub brings_on : (d : Directive) (q : Stage) (slot : Option ℕ) (scan : ItemScan) (y : List ℕ) (p : Phase) → ShowsItem d slot scan q
-    → ((f : List ℕ) → HasTaken scan f → CanAll (conversion_of scan) f y)
-    → ((f : List ℕ) → HasTaken scan f → f ++ y ≢ [] → Shows d p (Item (f ++ y))) → Brings d q y y p
-brings_on d q slot scan y p shows can is = record {
-  stage = Item (shows.item ++ y);
-  stepped = ap (λ (x : Directive). stepped_all x q y) shows.own ∙ ap (λ s. stepped_all (Conv (conversion_of scan)) s y) shows.stage ∙ item_all (conversion_of scan) shows.item y (can shows.item shows.taken);
-  shown = is shows.item shows.taken (not_nothing shows.item y shows.begun);
-  grown = subst (λ s. GrowsBy s y (Item (shows.item ++ y))) (sym shows.stage) refl;
-}
-
-pub goes_on : (d : Directive) (q : Stage) (slot : Option ℕ) (scan : ItemScan) (piece : List ℕ) (w n : ℕ) (p : Phase) → IsProper d → ShowsItem d slot scan q → w ≡ 0
-    → ((f : List ℕ) → IsProperShape (conversion_of scan).shape → HasTaken scan f → CanAll (conversion_of scan) f (take n piece))
-    → ((e : Directive) (f : List ℕ) → e ≡ Conv (conversion_of scan) → text_slot e ≡ slot → HasTaken scan f → f ++ take n piece ≢ [] → Shows e p (Item (f ++ take n piece)))
-    → Brings d q (take (w + n) piece) (take n (drop w piece)) p
-goes_on d q slot scan piece w n p proper shows none can is =
-    let own : IsProper (Conv (conversion_of scan)) = subst IsProper shows.own proper in
-    let same : n ≡ 0 + n = omega arith in
-    subst (λ v. Brings d q (take (v + n) piece) (take n (drop v piece)) p) (sym none)
-    (subst (λ m. Brings d q (take m piece) (take n piece) p) same
-    (brings_on d q slot scan (take n piece) p shows (λ f h. can f own.0 h) (λ f h some. is d f shows.own shows.text h some)))
-
--- nothing was taken
-pub brings_nothing : (d : Directive) (q : Stage) (p : Phase) → Shows d p q → Brings d q [] [] p
-brings_nothing d q p shows = record { stage = q; stepped = refl; shown = shows; grown = by_stage q }
-  where
-    by_stage : (q : Stage) → GrowsBy q [] q
-    by_stage Skipping = tt
-    by_stage Taken = tt
-    by_stage (Item f) = ap Item (sym (append-nil f))
-
 -- ---- what is skipped before an item
 
 pub skips_all : (d : Directive) (piece : List ℕ) (n : ℕ) → n ≤ length piece → ((k : ℕ) → k < n → stepped d Skipping (get_or piece k 0) ≡ Some Skipping) → stepped_all d Skipping (take n piece) ≡ Some Skipping
@@ -129,62 +97,6 @@ skips_all d (b ∷ piece) (suc n) within skips =
     ap (λ (o : Option Stage). choose o None (λ s. stepped_all d s (take n piece))) first
     ∙ skips_all d piece n (omega (arith, within)) (λ k below. let e : suc k ≡ k + 1 = omega arith in ap (λ j. stepped d Skipping (get_or (b ∷ piece) j 0)) e ∙ skips (k + 1) (omega (arith, below)))
 
-pub below_of : (piece : List ℕ) (w n : ℕ) → w ≤ length piece → n ≤ length (drop w piece) → w + n ≤ length piece
-below_of piece w n h fits = let e = length-drop w piece in omega (arith, h, fits, e)
-
-first_of : (n : ℕ) (piece : List ℕ) (w : ℕ) → w < length piece → take (suc n) (drop w piece) ≡ get_or piece w 0 ∷ take n (drop (w + 1) piece)
-first_of n piece w h = ap (take (suc n)) (drop_more piece w 0 h)
-
-module _ (c : Conversion) (piece : List ℕ) (w : ℕ) (within : w ≤ length piece) (white : (k : ℕ) → k < w → (shape_skips c.shape && is_white (get_or piece k 0)) ≡ true) where
-  skips : stepped_all (Conv c) Skipping (take w piece) ≡ Some Skipping
-  skips = skips_all (Conv c) piece w within (λ k below. ap (λ v. cond v (Some Skipping) (item_stepped c [] (get_or piece k 0))) (white k below))
-
-  -- white space alone
-  pub brings_skipped : Brings (Conv c) Skipping (take (w + 0) piece) (take 0 (drop w piece)) phase.Skipping
-  brings_skipped =
-      let e : w ≡ w + 0 = omega arith in
-      record { stage = Skipping; stepped = ap (λ n. stepped_all (Conv c) Skipping (take n piece)) (sym e) ∙ skips; shown = refl; grown = tt }
-
-  pub first_goes : (n : ℕ) → w + n ≤ length piece → 0 < n → (shape_skips c.shape && is_white (get_or piece w 0)) ≡ false → CanAll c [] (take n (drop w piece))
-      → stepped_all (Conv c) Skipping (take (w + n) piece) ≡ Some (Item (take n (drop w piece)))
-  first_goes zero all some ink can = absurd (omega (arith, some))
-  first_goes (suc n) all some ink can =
-      let first : take (suc n) (drop w piece) ≡ get_or piece w 0 ∷ take n (drop (w + 1) piece) = first_of n piece w (omega (arith, all)) in
-      ap (stepped_all (Conv c) Skipping) (take-add w (suc n) piece) ∙ all-append (Conv c) Skipping Skipping (take w piece) (take (suc n) (drop w piece)) skips
-      ∙ ap (stepped_all (Conv c) Skipping) first ∙ first_all c (get_or piece w 0) (take n (drop (w + 1) piece)) ink (subst (λ y. CanAll c [] y) first can) ∙ ap (λ y. Some (Item y)) (sym first)
-
-  pub some_first : (n : ℕ) → w + n ≤ length piece → 0 < n → take n (drop w piece) ≢ []
-  some_first zero all some e = absurd (omega (arith, some))
-  some_first (suc n) all some e =
-      let first : take (suc n) (drop w piece) ≡ get_or piece w 0 ∷ take n (drop (w + 1) piece) = first_of n piece w (omega (arith, all)) in
-      let other : [] ≡ get_or piece w 0 ∷ take n (drop (w + 1) piece) = sym e ∙ first in
-      cc
-
-  -- and an item
-  pub brings_first : (n : ℕ) (p : Phase) → w + n ≤ length piece → 0 < n → (shape_skips c.shape && is_white (get_or piece w 0)) ≡ false → CanAll c [] (take n (drop w piece))
-      → (take n (drop w piece) ≢ [] → Shows (Conv c) p (Item (take n (drop w piece)))) → Brings (Conv c) Skipping (take (w + n) piece) (take n (drop w piece)) p
-  brings_first n p all some ink can shows = record {
-    stage = Item (take n (drop w piece));
-    stepped = first_goes n all some ink can;
-    shown = shows (some_first n all some);
-    grown = refl;
-  }
-
--- ---- the other directives
-
-pub brings_space : (piece : List ℕ) (n : ℕ) → n ≤ length piece → ((k : ℕ) → k < n → is_white (get_or piece k 0) ≡ true) → Brings Space Skipping (take n piece) [] phase.Skipping
-brings_space piece n within white = record {
-  stage = Skipping;
-  stepped = skips_all Space piece n within (λ k below. ap (λ v. cond v (Some Skipping) None) (white k below));
-  shown = refl;
-  grown = tt;
-}
-
-pub brings_byte : (a b : ℕ) (piece : List ℕ) → b ≡ a → slice_get piece 0 ≡ Some b → Brings (Byte a) Skipping (take 1 piece) [] phase.Taken
-brings_byte a b [] e at = cc
-brings_byte a b (x ∷ piece) e at =
-    let same : nat_eq a x ≡ true = (tests_same a x).to (sym e ∙ some_is b x (sym at)) in
-    record { stage = Taken; stepped = ap (λ v. choose (cond v (Some Taken) None) None (λ s. stepped_all (Byte a) s [])) same; shown = refl; grown = tt }
-  where
-    some_is : (m n : ℕ) → Some m ≡ Some n → m ≡ n
-    some_is m n e = cc
+pub item_skips : (c : Conversion) (piece : List ℕ) (w : ℕ) → w ≤ length piece → ((k : ℕ) → k < w → (shape_skips c.shape && is_white (get_or piece k 0)) ≡ true)
+    → stepped_all (Conv c) Skipping (take w piece) ≡ Some Skipping
+item_skips c piece w within white = skips_all (Conv c) piece w within (λ k below. ap (λ v. cond v (Some Skipping) (item_stepped c [] (get_or piece k 0))) (white k below))

@@ -9,6 +9,7 @@ pub mod Rows
 pub mod Machines
 pub mod Stages
 pub mod Brought
+pub mod Pieces
 pub mod Moves
 pub mod Slots
 pub mod Openness
@@ -16,5 +17,4 @@ pub mod Waits
 pub mod Refusals
 pub mod Inputs
 pub mod TwoStores
-pub mod Wholes
 pub mod AtOnce

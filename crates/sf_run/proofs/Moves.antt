@@ -1,39 +1,37 @@
 -- How the rest of a run changes with each move of the scanner.
-use Rattle.std.proofs.Common.{◌≡◌, ℕ, zero, suc, ◌+◌, ◌≤◌, ◌<◌, Bool, true, false, cond, not, ◌&&◌, ◌⊎◌, ltb, List, [], ◌∷◌, ◌++◌, length, take, drop, get_or, append_assoc, length-append, Option, Some, None, is_some, inl, inr, refl, sym, ap, subst, ◌∙◌, arith, true≢false}
+use Rattle.std.proofs.Common.{◌≡◌, ℕ, zero, suc, ◌+◌, ◌≤◌, ◌<◌, Bool, true, false, cond, ltb, List, [], ◌∷◌, ◌++◌, length, take, drop, get_or, append_assoc, length-append, Option, Some, None, is_some, inl, inr, refl, sym, ap, subst, ◌∙◌, arith, true≢false}
 use Rattle.std.specs.Prelude.{slice_get, IfNone, IsSome}
-use Rattle.std.specs.List.{AllByRecursion, list_all}
+use Rattle.std.specs.List.{AllByRecursion}
 use Rattle.std.proofs.lemmas.Option.{slice_get_within, slice_get_cases, get_or_from_slice_get}
-use Rattle.std.proofs.lemmas.List.{drop_more, drop_all, take-append-drop, length-take-le}
+use Rattle.std.proofs.lemmas.List.{drop_more, drop_all, get_or-take, take-append-drop, length-take-le}
 use Rattle.std.proofs.lemmas.Bool.{le-ltb, lt-ltb}
-use Rattle.sf_base.specs.Bytes.{is_white}
+use Rattle.sf_base.specs.Data.{Bytes}
+use Rattle.sf_base.specs.Kept.{Opened, text_of}
 use Rattle.sf_base.specs.declared.values.Kind.{Kind}
-use Rattle.sf_format.specs.declared.directive.Shape.{Shape}
-use Rattle.sf_format.specs.declared.directive.Shape.TheVariants.{Int, Text, Set, Chars, Count}
-use Rattle.sf_format.specs.declared.directive.Conversion.{Conversion}
-use Rattle.sf_format.specs.declared.directive.Directive.TheVariants.{Space, Byte, Percent, Conv}
-use Rattle.sf_item.specs.declared.item.ItemScan.{ItemScan}
-use Rattle.sf_item.specs.Taking.{conversion_of}
-use Rattle.sf_item.specs.Tests.{is_ink, is_within, shape_begins, can_take}
 use Rattle.sf_format.specs.declared.directive.Directive.{Directive}
 use Rattle.sf_format.specs.Proper.{IsProper, AreProper, destination_of, destinations_of}
+use Rattle.sf_run.specs.declared.directive.Finished.{Finished}
+use Rattle.sf_run.specs.declared.directive.Finished.TheVariants as finish
 use Rattle.sf_run.specs.declared.directive.Phase.{Phase}
 use Rattle.sf_run.specs.declared.directive.Phase.TheVariants as phase
+use Rattle.sf_run.specs.declared.directive.Run.{Run}
 use Rattle.sf_run.specs.declared.outcome.Status.{Status}
-use Rattle.sf_run.specs.declared.outcome.Status.TheVariants.{Done, TooLong, NoMemory}
+use Rattle.sf_run.specs.declared.outcome.Status.TheVariants.{Done, TooLong}
 use Rattle.sf_run.specs.declared.scanner.Stop.{Stop}
 use Rattle.sf_run.specs.Steps.{StepEnd, Passes, Stores, Fails}
 use Rattle.sf_run.specs.Runs.{RunReport}
-use Rattle.sf_run.specs.Machine.{Stage, Skipping, Taken, Item, shape_skips, item_stepped, stepped, finished}
-use Rattle.sf_run.specs.Phases.{ShowsItem, Shows, ShowsNext, GrowsBy, Brings, slot_in}
+use Rattle.sf_run.specs.Machine.{Stage, Skipping, Taken, Item, stepped, finished}
+use Rattle.sf_run.specs.Phases.{Shows, GrowsBy, Brings, end_of, slot_in}
+use Rattle.sf_run.specs.Pieces.{IsEnd, item_of}
 use Rattle.sf_run.specs.Places.{is_destination, places_left}
 use Rattle.sf_run.specs.Residual.{Tally, stepped_all, one_from, with_used, counted, out_of, by_end, run_of, run_from}
 use Rattle.sf_run.specs.Stopping.{is_no_memory}
-use Rattle.sf_run.specs.Standing.{Standing, ShowsFirst, DoesBy, Does, Follows, IsRefused, Stops, Takes, TakesAll, Refuses, RefusesIn, StoresByte, IsInText, turns_left}
+use Rattle.sf_run.specs.Standing.{Standing, ShowsFirst, DoesBy, Does, Ends, Follows, Keeps, Stops, TakesAll, Refuses, RefusesIn, RunsOut, turns_left}
 use Rattle.sf_run.specs.Standing.{Passes as Passed}
-use Rattle.sf_run.specs.Texts.{text_slot, opened_for, opened_after, opened_with}
-use Rattle.sf_base.specs.Kept.{Opened}
+use Rattle.sf_run.specs.Texts.{IsNextSlot, StoresByte, text_slot, opened_for, opened_with}
 use Rattle.sf_run.proofs.Machines.{grows}
 use Rattle.sf_run.proofs.Brought.{one_from-all}
+use Rattle.sf_run.proofs.Pieces.{parted, same_part}
 
 -- ---- the directive at a place
 
@@ -70,12 +68,6 @@ places_next ds p d at = ap (λ rest. length (destinations_of rest)) (drop_at ds 
 
 -- ---- a directive that ends
 
--- a directive that takes nothing of z
-pub refused : (m : ℕ) (d : Directive) (ds : List Directive) (q : Stage) (at : ℕ) (t : Tally) (z : List ℕ) (f : StepEnd) → t.used ≤ m
-    → one_from d q t.used z ≡ record { used = t.used; left = z; end = f }
-    → run_from (Some m) (d ∷ ds) q at t z ≡ by_end f (run_of (Some m) ds (at + 1) (counted d f t) z) (λ status. out_of status at t)
-refused m d ds q at t z f le e = rw (e, le-ltb _ _ le) refl
-
 pub passes : (f : StepEnd) (y : RunReport) (g : Status → RunReport) → ((status : Status) → f ≡ Fails status → ⊥) → by_end f y g ≡ y
 passes (Fails status) y g h = absurd (h status refl)
 passes Passes y g h = refl
@@ -93,29 +85,44 @@ pub shows_fresh : (ds : List Directive) → ShowsFirst ds phase.Skipping None Sk
 shows_fresh [] = tt
 shows_fresh (d ∷ ds) = (refl, nothing_opened (text_slot d))
 
-module _ (ds : List Directive) (p : ℕ) (d : Directive) (at : slice_get ds p ≡ Some d) (current : Phase) (opened : Option Opened) (t : Tally) (more : Bool) (k : ℕ) (z : List ℕ)
-    (report : RunReport) (within : t.used ≤ k) (nothing : IsRefused d current t.used more z) (does : DoesBy None ds p current opened t k z report)
-    (f : StepEnd) (is : (q : Stage) → Shows d current q → opened ≡ opened_for (text_slot d) q → f ≡ finished d q t.used more) where
+-- the first directive takes so much of y, ends so and leaves z
+ended_part : (k : ℕ) (d : Directive) (ds : List Directive) (q : Stage) (at : ℕ) (t u : Tally) (y z : List ℕ) (f : StepEnd) → u.used ≤ k → u ≡ with_used u.used t
+    → one_from d q t.used y ≡ record { used = u.used; left = z; end = f }
+    → run_from (Some k) (d ∷ ds) q at t y ≡ by_end f (run_of (Some k) ds (at + 1) (counted d f u) z) (λ status. out_of status at u)
+ended_part k d ds q at t u y z f le same e =
+    rw (e, le-ltb _ _ le) (ap (λ (v : Tally). by_end f (run_of (Some k) ds (at + 1) (counted d f v) z) (λ status. out_of status at v)) (sym same))
+
+-- it would take more than the limit allows
+over_limit : (k : ℕ) (d : Directive) (ds : List Directive) (q : Stage) (at : ℕ) (t : Tally) (y : List ℕ) → k < (one_from d q t.used y).used
+    → run_from (Some k) (d ∷ ds) q at t y ≡ out_of TooLong at (with_used k t)
+over_limit k d ds q at t y more = rw (lt-ltb _ _ more) refl
+
+module _ (ds : List Directive) (p : ℕ) (d : Directive) (at : slice_get ds p ≡ Some d) (current : Phase) (opened : Option Opened) (t : Tally) (k : ℕ) (y : List ℕ)
+    (report : RunReport) (does : DoesBy None ds p current opened t k y report) where
   -- the stage that the phase shows
-  shows : Shows d current does.0 × (opened ≡ opened_for (text_slot d) does.0)
+  pub shows : Shows d current does.0 × (opened ≡ opened_for (text_slot d) does.0)
   shows = subst (λ rest. ShowsFirst rest current opened does.0) (drop_at ds p d at) does.1
 
-  went : report ≡ by_end f (run_of (Some k) (drop (p + 1) ds) (p + 1 + 1) (counted d f t) z) (λ status. out_of status (p + 1) t)
-  went =
-      does.2 ∙ ap (λ rest. run_from (Some k) rest does.0 (p + 1) t z) (drop_at ds p d at)
-      ∙ refused k d (drop (p + 1) ds) does.0 (p + 1) t z f within
-      (subst (λ e. one_from d does.0 t.used z ≡ record { used = t.used; left = z; end = e }) (sym (is does.0 shows.0 shows.1)) (nothing does.0 shows.0))
+  went : report ≡ run_from (Some k) (d ∷ drop (p + 1) ds) does.0 (p + 1) t y
+  went = does.2 ∙ ap (λ rest. run_from (Some k) rest does.0 (p + 1) t y) (drop_at ds p d at)
 
-  pub close_passes : (u : Tally) → ((status : Status) → f ≡ Fails status → ⊥) → u ≡ counted d f t → DoesBy None ds (p + 1) phase.Skipping None u k z report
-  close_passes u ok counts = (
-    Skipping,
-    shows_fresh (drop (p + 1) ds),
-    went ∙ passes f _ _ ok ∙ sym (fresh (Some k) (drop (p + 1) ds) (p + 1 + 1) (counted d f t) z)
-        ∙ ap (λ v. run_from (Some k) (drop (p + 1) ds) Skipping (p + 1 + 1) v z) (sym counts),
-  )
+  pub too_long : ((q : Stage) → Shows d current q → k < (one_from d q t.used y).used) → report ≡ out_of TooLong (p + 1) (with_used k t)
+  too_long more = went ∙ over_limit k d (drop (p + 1) ds) does.0 (p + 1) t y (more does.0 shows.0)
 
-  pub close_fails : (status : Status) → f ≡ Fails status → report ≡ out_of status (p + 1) t
-  close_fails status e = went ∙ ap (λ g. by_end g (run_of (Some k) (drop (p + 1) ds) (p + 1 + 1) (counted d f t) z) (λ s. out_of s (p + 1) t)) e
+  module _ (u : Tally) (z : List ℕ) (f : StepEnd) (within : u.used ≤ k) (same : u ≡ with_used u.used t)
+      (takes : (q : Stage) → Shows d current q → opened ≡ opened_for (text_slot d) q → one_from d q t.used y ≡ record { used = u.used; left = z; end = f }) where
+    ended : report ≡ by_end f (run_of (Some k) (drop (p + 1) ds) (p + 1 + 1) (counted d f u) z) (λ status. out_of status (p + 1) u)
+    ended = went ∙ ended_part k d (drop (p + 1) ds) does.0 (p + 1) t u y z f within same (takes does.0 shows.0 shows.1)
+
+    pub close_passes : ((status : Status) → f ≡ Fails status → ⊥) → DoesBy None ds (p + 1) phase.Skipping None (counted d f u) k z report
+    close_passes ok = (
+      Skipping,
+      shows_fresh (drop (p + 1) ds),
+      ended ∙ passes f _ _ ok ∙ sym (fresh (Some k) (drop (p + 1) ds) (p + 1 + 1) (counted d f u) z),
+    )
+
+    pub close_fails : (status : Status) → f ≡ Fails status → report ≡ out_of status (p + 1) u
+    close_fails status e = ended ∙ ap (λ g. by_end g (run_of (Some k) (drop (p + 1) ds) (p + 1 + 1) (counted d f u) z) (λ s. out_of s (p + 1) u)) e
 
 slice_get_none : {A : Type 0} (xs : List A) (i : ℕ) → slice_get xs i ≡ None → length xs ≤ i
 slice_get_none xs i h = elim (slice_get_cases xs i).1 [ inl w ↦ absurd (let e = w.2 in cc) | inr w ↦ w.0 ]
@@ -143,27 +150,7 @@ counted-used d Passes t = refl
 counted-used d (Stores slot v) t = refl
 counted-used d (Fails status) t = refl
 
-not_true : (v : Bool) → not v ≡ true → v ≡ false
-not_true true e = absurd (true≢false (sym e))
-not_true false e = refl
-
-right_of : (a b : Bool) → (a && b) ≡ true → b ≡ true
-right_of true b e = e
-right_of false b e = absurd (true≢false (sym e))
-
-left_of : (a b : Bool) → (a && b) ≡ true → a ≡ true
-left_of true b e = refl
-left_of false b e = e
-
--- ---- a byte
-
-shows_some : (d : Directive) (new : Phase) (o : Option Stage) → ShowsNext d (Some new) o → (r : Stage) × (o ≡ Some r) × Shows d new r
-shows_some d new None h = absurd h
-shows_some d new (Some r) h = (r, refl, h)
-
-pub shows_none : (d : Directive) (o : Option Stage) → ShowsNext d None o → o ≡ None
-shows_none d None h = refl
-shows_none d (Some r) h = absurd h
+-- ---- bytes that are taken
 
 took : (k : ℕ) (ds : List Directive) (p : ℕ) (d : Directive) (q r : Stage) (t u : Tally) (b : ℕ) (z : List ℕ) → slice_get ds p ≡ Some d → stepped d q b ≡ Some r
     → u ≡ with_used (t.used + 1) t → run_from (Some k) (drop p ds) q (p + 1) t (b ∷ z) ≡ run_from (Some k) (drop p ds) r (p + 1) u z
@@ -172,145 +159,8 @@ took k ds p d q r t u b z at e is = rw (drop_at ds p d at, e, is) refl
 passed_limit : (k : ℕ) (ds : List Directive) (p : ℕ) (d : Directive) (q r : Stage) (t : Tally) (b : ℕ) (z : List ℕ) → slice_get ds p ≡ Some d → stepped d q b ≡ Some r
     → t.used ≡ k → run_from (Some k) (drop p ds) q (p + 1) t (b ∷ z) ≡ out_of TooLong (p + 1) t
 passed_limit k ds p d q r t b z at e full =
-    let over : ltb k (one_from d r (t.used + 1) z).used ≡ true = lt-ltb _ _ (omega (arith, grows d r (t.used + 1) z)) in
+    let over : ltb k (one_from d r (t.used + 1) z).used ≡ true = lt-ltb _ _ (omega (arith, full, grows d r (t.used + 1) z)) in
     rw (drop_at ds p d at, e, over, ← full) refl
-
--- an item grows by the byte
-item_is : (c : Conversion) (f : List ℕ) (b : ℕ) (r : Stage) → item_stepped c f b ≡ Some r → (r ≡ Item (f ++ b ∷ [])) × (can_take c (f ++ b ∷ []) ≡ true)
-item_is c f b r = by_case (can_take c (f ++ b ∷ [])) refl
-  where
-    by_case : (v : Bool) → can_take c (f ++ b ∷ []) ≡ v → cond v (Some (Item (f ++ b ∷ []))) None ≡ Some r → (r ≡ Item (f ++ b ∷ [])) × (can_take c (f ++ b ∷ []) ≡ true)
-    by_case true e h = (cc, e)
-    by_case false e h = cc
-
--- the stage before and after a byte of an item
-pub record Grows (c : Conversion) (q : Stage) (b : ℕ) (r : Stage) : Type 0 where
-  pub before : List ℕ
-  pub after : r ≡ Item (before ++ b ∷ [])
-  pub can : can_take c (before ++ b ∷ []) ≡ true
-  pub from : (q ≡ Item before) ⊎ ((q ≡ Skipping) × (before ≡ []))
-
-grows_by : (c : Conversion) (q r : Stage) (b : ℕ) (g : List ℕ) → r ≡ Item g → stepped (Conv c) q b ≡ Some r → Grows c q b r
-grows_by c Skipping r b g is e = by_skip (shape_skips c.shape && is_white b) refl
-  where
-    by_skip : (v : Bool) → (shape_skips c.shape && is_white b) ≡ v → Grows c Skipping b r
-    by_skip true w = let k : Some Skipping ≡ Some r = ap (λ v. cond v (Some Skipping) (item_stepped c [] b)) (sym w) ∙ e in absurd cc
-    by_skip false w =
-        let h = item_is c [] b r (ap (λ v. cond v (Some Skipping) (item_stepped c [] b)) (sym w) ∙ e) in
-        record { before = []; after = h.0; can = h.1; from = inr (refl, refl) }
-grows_by c Taken r b g is e = absurd cc
-grows_by c (Item f) r b g is e = let h = item_is c f b r e in record { before = f; after = h.0; can = h.1; from = inl refl }
-
--- what was opened is that of the next stage, after the byte
-text_after : (c : Conversion) (slot : ℕ) (q r : Stage) (b : ℕ) (opened : Option Opened) → Grows c q b r → opened ≡ opened_for (Some slot) q
-    → opened_after (Some slot) b opened ≡ opened_for (Some slot) r
-text_after c slot q r b opened g e = ap (opened_after (Some slot) b) e ∙ elim g.from [
-  | inl is ↦ ap (λ s. opened_after (Some slot) b (opened_for (Some slot) s)) is ∙ ap (opened_for (Some slot)) (sym g.after)
-  | inr is ↦ ap (λ s. opened_after (Some slot) b (opened_for (Some slot) s)) is.0
-      ∙ ap (λ f. Some (record { slot = slot; text = f ++ b ∷ [] })) (sym is.1) ∙ ap (opened_for (Some slot)) (sym g.after)
-]
-
-none_after : (text : Option ℕ) (q r : Stage) (opened : Option Opened) → ((f : List ℕ) → q ≡ Item f → ⊥) → ((f : List ℕ) → r ≡ Item f → ⊥) → opened ≡ opened_for text q → opened ≡ opened_for text r
-none_after None q r opened a c e = e
-none_after (Some slot) Skipping Skipping opened a c e = e
-none_after (Some slot) Skipping Taken opened a c e = e
-none_after (Some slot) Taken Skipping opened a c e = e
-none_after (Some slot) Taken Taken opened a c e = e
-none_after (Some slot) (Item f) r opened a c e = absurd (a f refl)
-none_after (Some slot) Skipping (Item g) opened a c e = absurd (c g refl)
-none_after (Some slot) Taken (Item g) opened a c e = absurd (c g refl)
-
--- from an item only an item is reached
-from_item : (d : Directive) (f : List ℕ) (b : ℕ) (r : Stage) → stepped d (Item f) b ≡ Some r → (g : List ℕ) × (r ≡ Item g)
-from_item Space f b r e = absurd cc
-from_item (Byte a) f b r e = absurd cc
-from_item Percent f b r e = absurd cc
-from_item (Conv c) f b r e = let h = item_is c f b r e in (f ++ b ∷ [], h.0)
-
-plain_after : (d : Directive) (q r : Stage) (b : ℕ) (opened : Option Opened) → ((f : List ℕ) → r ≡ Item f → ⊥) → stepped d q b ≡ Some r → opened ≡ opened_for (text_slot d) q
-    → opened ≡ opened_for (text_slot d) r
-plain_after d q r b opened none e is = none_after (text_slot d) q r opened (λ f at. let w = from_item d f b r (ap (λ s. stepped d s b) (sym at) ∙ e) in none w.0 w.1) none is
-
-opened_next : (d : Directive) (p : Phase) (q r : Stage) (b : ℕ) (opened : Option Opened) → Shows d p r → stepped d q b ≡ Some r → opened ≡ opened_for (text_slot d) q
-    → opened_after (slot_in p) b opened ≡ opened_for (text_slot d) r
-opened_next d phase.Skipping q r b opened shows e is = plain_after d q r b opened (λ f at. cc) e is
-opened_next d phase.Taken q r b opened shows e is = plain_after d q r b opened (λ f at. cc) e is
-opened_next d (phase.Item scan) q r b opened shows e is = is ∙ ap (λ t. opened_for t q) shows.text ∙ ap (λ t. opened_for t r) (sym shows.text)
-opened_next d (phase.Text slot scan) q r b opened shows e is =
-    let c : Conversion = conversion_of scan in
-    text_after c slot q r b opened (grows_by c q r b shows.item shows.stage (ap (λ (x : Directive). stepped x q b) (sym shows.own) ∙ e)) (is ∙ ap (λ t. opened_for t q) shows.text)
-    ∙ ap (λ t. opened_for t r) (sym shows.text)
-
-module _ (ds : List Directive) (p : ℕ) (d : Directive) (at : slice_get ds p ≡ Some d) (current new : Phase) (opened : Option Opened) (t : Tally) (b k : ℕ) (z : List ℕ)
-    (report : RunReport) (does : DoesBy None ds p current opened t k (b ∷ z) report)
-    (next : (q : Stage) → Shows d current q → ShowsNext d (Some new) (stepped d q b)) where
-  here : Shows d current does.0 × (opened ≡ opened_for (text_slot d) does.0)
-  here = subst (λ rest. ShowsFirst rest current opened does.0) (drop_at ds p d at) does.1
-
-  pub taken : (r : Stage) × (stepped d does.0 b ≡ Some r) × Shows d new r
-  taken = shows_some d new (stepped d does.0 b) (next does.0 here.0)
-
-  -- the directive takes the byte
-  pub byte_taken : (u : Tally) → u ≡ with_used (t.used + 1) t → DoesBy None ds p new (opened_after (slot_in new) b opened) u k z report
-  byte_taken u is = (
-    taken.0,
-    subst (λ rest. ShowsFirst rest new (opened_after (slot_in new) b opened) taken.0) (sym (drop_at ds p d at))
-        (taken.2, opened_next d new does.0 taken.0 b opened taken.2 taken.1 here.1),
-    does.2 ∙ took k ds p d does.0 taken.0 t u b z at taken.1 is,
-  )
-
-  -- it would take it past the limit
-  pub past_limit : t.used ≡ k → report ≡ out_of TooLong (p + 1) t
-  past_limit full = does.2 ∙ passed_limit k ds p d does.0 taken.0 t b z at taken.1 full
-
--- a byte of a text
-in_text : (shape : Shape) (width : Option ℕ) (f : List ℕ) (b : ℕ) → shape_begins shape width (f ++ b ∷ []) ≡ true → IsInText shape b
-in_text (Int base) width f b e = tt
-in_text (Set members) width f b e = tt
-in_text Chars width f b e = tt
-in_text Count width f b e = tt
-in_text Text width [] b e = not_true (is_white b) (left_of (is_ink b) true e)
-in_text Text width (x ∷ f) b e = in_text Text width f b (right_of (is_ink x) (list_all is_ink (f ++ b ∷ [])) e)
-
-pub stores_byte : (d : Directive) (slot : ℕ) (scan : ItemScan) (q r : Stage) (b : ℕ) → ShowsItem d (Some slot) scan r → stepped d q b ≡ Some r → StoresByte d b
-stores_byte d slot scan q r b shows e =
-    let c : Conversion = conversion_of scan in
-    let g = grows_by c q r b shows.item shows.stage (ap (λ (x : Directive). stepped x q b) (sym shows.own) ∙ e) in
-    subst (λ (x : Directive). StoresByte x b) (sym shows.own)
-    (slot, ap text_slot (sym shows.own) ∙ shows.text, in_text c.shape c.width g.before b (right_of (is_within c.width (length (g.before ++ b ∷ []))) (shape_begins c.shape c.width (g.before ++ b ∷ [])) g.can))
-
--- the storing of the byte was refused
-pub refuses : (new old : Standing) (d : Directive) (b : ℕ) (p : Phase) → slice_get old.directives old.passed ≡ Some d → old.ended ≡ None
-    → Stops new old (record { status = NoMemory; at = old.passed + 1 }) → old.tally.used < old.limit → IsSome (slot_in p)
-    → ((q : Stage) → Shows d old.phase q → ShowsNext d (Some p) (stepped d q b)) → (z : List ℕ) → Refuses new old b (b ∷ z)
-refuses new old d b p at waits stops below text next z = record {
-  at = old.passed;
-  directive = d;
-  under_way = ap (λ ds. slice_get ds old.passed) stops.keeps.directives ∙ at;
-  ended = stops.ended;
-  below = let u = ap (λ (t : Tally). t.used) stops.tally in let l = stops.keeps.limit in omega (arith, below, u, l);
-  cut = λ report does.
-      let u : new.tally.used ≡ old.tally.used = ap (λ (t : Tally). t.used) stops.tally in
-      let own : DoesBy None old.directives old.passed old.phase old.opened old.tally new.tally.used (b ∷ z) report = waiting old new.tally.used (b ∷ z) report waits does in
-      let took = taken old.directives old.passed d at old.phase p old.opened old.tally b new.tally.used z report own next in (
-        by_phase p text took.2 own.0 took.1,
-        past_limit old.directives old.passed d at old.phase p old.opened old.tally b new.tally.used z report own next (sym u) ∙ ap (out_of TooLong (old.passed + 1)) (sym stops.tally),
-      );
-}
-  where
-    by_phase : (p : Phase) → IsSome (slot_in p) → {r : Stage} → Shows d p r → (q : Stage) → stepped d q b ≡ Some r → StoresByte d b
-    by_phase phase.Skipping text shows q e = absurd cc
-    by_phase phase.Taken text shows q e = absurd cc
-    by_phase (phase.Item scan) text shows q e = absurd cc
-    by_phase (phase.Text slot scan) text {r} shows q e = stores_byte d slot scan q r b shows e
-
--- a byte was taken
-pub takes_follows : (new old : Standing) (d : Directive) (b : ℕ) (p : Phase) → slice_get old.directives old.passed ≡ Some d → old.ended ≡ None
-    → Takes new old p (opened_after (slot_in p) b old.opened) → ((q : Stage) → Shows d old.phase q → ShowsNext d (Some p) (stepped d q b)) → (z : List ℕ) → Follows new old z (b ∷ z)
-takes_follows new old d b p at waits takes next z k report low high does =
-    same_does new None old.directives old.passed p (opened_after (slot_in p) b old.opened) (with_used (old.tally.used + 1) old.tally) k z report
-    (takes.ended ∙ waits) takes.keeps.directives takes.passed takes.phase takes.opened takes.tally
-    (byte_taken old.directives old.passed d at old.phase p old.opened old.tally b k z report (waiting old k (b ∷ z) report waits does) next (with_used (old.tally.used + 1) old.tally) refl)
 
 -- what was opened is that of the stage that the bytes of the item lead to
 opened_grown : (d : Directive) (p : Phase) (q r : Stage) (g : List ℕ) (opened : Option Opened) → Shows d p r → GrowsBy q g r → opened ≡ opened_for (text_slot d) q
@@ -339,7 +189,6 @@ opened_grown d p q r g opened showing grown is = ap (opened_with (slot_in p) g) 
 
     by_phase : (p : Phase) → Shows d p r → opened_with (slot_in p) g (opened_for (text_slot d) q) ≡ opened_for (text_slot d) r
     by_phase phase.Skipping e = by_plain (text_slot d) q r (λ h at. cc) grown
-    by_phase phase.Taken e = by_plain (text_slot d) q r (λ h at. cc) grown
     by_phase (phase.Item scan) e = by_item (text_slot d) q r e.text
     by_phase (phase.Text slot scan) e =
         by_text (text_slot d) slot q e.item e.text (subst (GrowsBy q g) e.stage grown) ∙ ap (opened_for (text_slot d)) (sym e.stage)
@@ -363,36 +212,153 @@ takes_all_follows new old d n y g p at waits long takes brings z k report low hi
       own.2 ∙ took_all k old.directives old.passed d own.0 b.stage old.tally y z at b.stepped,
     )
 
--- a directive has passed
-pub passes_follows : (new old : Standing) (d : Directive) (f : StepEnd) (more : Bool) → slice_get old.directives old.passed ≡ Some d → old.ended ≡ None → Passed new old d f
-    → ((q : Stage) → Shows d old.phase q → old.opened ≡ opened_for (text_slot d) q → f ≡ finished d q old.tally.used more) → ((status : Status) → f ≡ Fails status → ⊥)
-    → (z : List ℕ) → IsRefused d old.phase old.tally.used more z → Follows new old z z
-passes_follows new old d f more at waits passes is ok z nothing k report low high does =
-    let u : new.tally.used ≡ old.tally.used = ap (λ (t : Tally). t.used) passes.tally ∙ counted-used d f old.tally in
-    same_does new None old.directives (old.passed + 1) phase.Skipping None (counted d f old.tally) k z report
-    (passes.ended ∙ waits) passes.keeps.directives passes.passed passes.phase passes.opened passes.tally
-    (close_passes old.directives old.passed d at old.phase old.opened old.tally more k z report (omega (arith, low, u)) nothing (waiting old k z report waits does) f is (counted d f old.tally) ok refl)
+-- the directive under way has used up what it was handed of the piece, and waits for more
+pub waits_follow : (new old : Standing) (d : Directive) (run : Run) (m : ℕ) (piece front item : List ℕ) → slice_get old.directives old.passed ≡ Some d → old.ended ≡ None → front ≡ take m piece → m ≤ length piece
+    → run.before + run.item ≡ length front → item ≡ take run.item (drop run.before front) → TakesAll new old run.phase (run.before + run.item) (opened_with (slot_in run.phase) item old.opened)
+    → ((q : Stage) → Shows d old.phase q → Brings d q front (take run.item (drop run.before front)) run.phase) → (z : List ℕ) → Follows new old (drop (run.before + run.item) piece ++ z) (piece ++ z)
+waits_follow new old d run m piece front item at waits is within all own takes brings z =
+    let long : length front ≡ m = ap length is ∙ length-take-le m piece within in
+    let same : run.before + run.item ≡ m = omega (arith, long, all) in
+    subst (λ n. Follows new old (drop n piece ++ z) (piece ++ z)) (sym same)
+    (subst (λ y. Follows new old (drop m piece ++ z) y) (ap (λ (y : List ℕ). y ++ (drop m piece ++ z)) is ∙ parted piece m z)
+    (takes_all_follows new old d (run.before + run.item) front item run.phase at waits all takes
+    (λ q shows. subst (λ g. Brings d q front g run.phase) (sym own) (brings q shows)) (drop m piece ++ z)))
 
--- a directive has failed
-pub fails_follows : (new old : Standing) (d : Directive) (status : Status) (more : Bool) → slice_get old.directives old.passed ≡ Some d → old.ended ≡ None
-    → Stops new old (record { status = status; at = old.passed + 1 })
-    → ((q : Stage) → Shows d old.phase q → old.opened ≡ opened_for (text_slot d) q → Fails status ≡ finished d q old.tally.used more)
-    → (z : List ℕ) → IsRefused d old.phase old.tally.used more z → Follows new old z z
-fails_follows new old d status more at waits stops is z nothing k report low high does =
-    let u : new.tally.used ≡ old.tally.used = ap (λ (t : Tally). t.used) stops.tally in
-    stopped_does new (record { status = status; at = old.passed + 1 }) k z report stops.ended
-    (close_fails old.directives old.passed d at old.phase old.opened old.tally more k z report (omega (arith, low, u)) nothing (waiting old k z report waits does) (Fails status) is status refl
-    ∙ ap (out_of status (old.passed + 1)) (sym stops.tally))
+-- ---- the directive under way ends
 
--- the limit is passed with the byte
-pub limit_follows : (new old : Standing) (d : Directive) (b : ℕ) (p : Phase) → slice_get old.directives old.passed ≡ Some d → old.ended ≡ None
-    → Stops new old (record { status = TooLong; at = old.passed + 1 }) → old.tally.used ≡ old.limit
-    → ((q : Stage) → Shows d old.phase q → ShowsNext d (Some p) (stepped d q b)) → (z : List ℕ) → Follows new old (b ∷ z) (b ∷ z)
-limit_follows new old d b p at waits stops full next z k report low high does =
+-- The scanner's fields have come to where the directive under way has taken some bytes; its phase and its text may be any.
+pub record Reaches (new old : Standing) : Type 0 where
+  pub keeps : Keeps new old
+  pub ended : new.ended ≡ old.ended
+  pub passed : new.passed ≡ old.passed
+  pub tally : new.tally ≡ with_used new.tally.used old.tally
+
+pub reaches_taken : (new old : Standing) (p : Phase) (n : ℕ) (text : Option Opened) → TakesAll new old p n text → Reaches new old
+reaches_taken new old p n text takes = record {
+  keeps = takes.keeps;
+  ended = takes.ended;
+  passed = takes.passed;
+  tally = takes.tally ∙ ap (λ m. with_used m old.tally) (sym (ap (λ (t : Tally). t.used) takes.tally));
+}
+
+-- the directive has passed
+passes_follows : (new mid old : Standing) (d : Directive) (f : StepEnd) (y z : List ℕ) → slice_get old.directives old.passed ≡ Some d → old.ended ≡ None → Reaches mid old → Passed new mid d f
+    → ((status : Status) → f ≡ Fails status → ⊥)
+    → ((q : Stage) → Shows d old.phase q → old.opened ≡ opened_for (text_slot d) q → one_from d q old.tally.used y ≡ record { used = mid.tally.used; left = z; end = f }) → Follows new old z y
+passes_follows new mid old d f y z at waits here passes ok takes k report low high does =
+    let u : new.tally.used ≡ mid.tally.used = ap (λ (t : Tally). t.used) passes.tally ∙ counted-used d f mid.tally in
+    same_does new None old.directives (old.passed + 1) phase.Skipping None (counted d f mid.tally) k z report
+    (passes.ended ∙ here.ended ∙ waits) (passes.keeps.directives ∙ here.keeps.directives) (passes.passed ∙ ap (λ n. n + 1) here.passed) passes.phase passes.opened passes.tally
+    (close_passes old.directives old.passed d at old.phase old.opened old.tally k y report (waiting old k y report waits does) mid.tally z f (omega (arith, low, u)) here.tally takes ok)
+
+-- the directive has failed
+fails_follows : (new mid old : Standing) (d : Directive) (status : Status) (y z : List ℕ) → slice_get old.directives old.passed ≡ Some d → old.ended ≡ None → Reaches mid old
+    → Stops new mid (record { status = status; at = mid.passed + 1 })
+    → ((q : Stage) → Shows d old.phase q → old.opened ≡ opened_for (text_slot d) q → one_from d q old.tally.used y ≡ record { used = mid.tally.used; left = z; end = Fails status })
+    → Follows new old z y
+fails_follows new mid old d status y z at waits here stops takes k report low high does =
+    let u : new.tally.used ≡ mid.tally.used = ap (λ (t : Tally). t.used) stops.tally in
+    stopped_does new (record { status = status; at = mid.passed + 1 }) k z report stops.ended
+    (close_fails old.directives old.passed d at old.phase old.opened old.tally k y report (waiting old k y report waits does) mid.tally z (Fails status) (omega (arith, low, u)) here.tally takes status refl
+    ∙ ap (λ n. out_of status (n + 1) mid.tally) (sym here.passed) ∙ ap (out_of status (mid.passed + 1)) (sym stops.tally))
+
+-- the directive has ended after some bytes, as it does on y
+pub ends_follows : (new mid old : Standing) (d : Directive) (f : StepEnd) (y z : List ℕ) → slice_get old.directives old.passed ≡ Some d → old.ended ≡ None → Reaches mid old → Ends new mid d f
+    → ((q : Stage) → Shows d old.phase q → old.opened ≡ opened_for (text_slot d) q → one_from d q old.tally.used y ≡ record { used = mid.tally.used; left = z; end = f }) → Follows new old z y
+ends_follows new mid old d Passes y z at waits here ends takes = passes_follows new mid old d Passes y z at waits here ends (λ status e. cc) takes
+ends_follows new mid old d (Stores slot v) y z at waits here ends takes = passes_follows new mid old d (Stores slot v) y z at waits here ends (λ status e. cc) takes
+ends_follows new mid old d (Fails status) y z at waits here ends takes = fails_follows new mid old d status y z at waits here ends takes
+
+-- where nothing follows
+pub last_follows : (new old : Standing) (d : Directive) (f : StepEnd) → slice_get old.directives old.passed ≡ Some d → old.ended ≡ None → Ends new old d f
+    → ((q : Stage) → Shows d old.phase q → old.opened ≡ opened_for (text_slot d) q → f ≡ finished d q old.tally.used false) → Follows new old [] []
+last_follows new old d f at waits ends is =
+    ends_follows new old old d f [] [] at waits (record { keeps = record { directives = refl; limit = refl; met = refl; capacity = omega arith }; ended = refl; passed = refl; tally = refl }) ends
+    (λ q shows opened. ap (λ (e : StepEnd). record { used = old.tally.used; left = []; end = e }) (sym (is q shows opened)))
+
+-- what closes the text under way closes the whole item
+closing_text : (d : Directive) (current new : Phase) (q : Stage) (opened : Option Opened) (g : List ℕ) (end : Finished) → Shows d current q → opened ≡ opened_for (text_slot d) q
+    → IsNextSlot (text_slot d) (slot_in current) (slot_in new) → IsEnd d new end → end_of (text_of (opened_with (slot_in new) g opened)) end ≡ end_of (item_of q ++ g) end
+closing_text d current new q opened g finish.Passes shows is next own = refl
+closing_text d current new q opened g (finish.Stores slot v) shows is next own = refl
+closing_text d current new q opened g (finish.Fails status) shows is next own = refl
+closing_text d current new q opened g (finish.Closes slot) shows is next own = ap (λ (text : List ℕ). Stores slot (Bytes text)) (by_phase current shows (subst (IsNextSlot (text_slot d) (slot_in current)) (own.text refl) next))
+  where
+    by_stage : (text : Option ℕ) (q : Stage) → text ≡ Some slot → text_of (opened_with (Some slot) g (opened_for text q)) ≡ item_of q ++ g
+    by_stage None q e = cc
+    by_stage (Some own) Skipping e = refl
+    by_stage (Some own) Taken e = refl
+    by_stage (Some own) (Item f) e = refl
+
+    at : (text : text_slot d ≡ Some slot) → text_of (opened_with (slot_in new) g opened) ≡ item_of q ++ g
+    at text = ap (λ s. text_of (opened_with s g opened)) (own.text refl) ∙ ap (λ o. text_of (opened_with (Some slot) g o)) is ∙ by_stage (text_slot d) q text
+
+    by_phase : (p : Phase) → Shows d p q → IsNextSlot (text_slot d) (slot_in p) (Some slot) → text_of (opened_with (slot_in new) g opened) ≡ item_of q ++ g
+    by_phase phase.Skipping shows next = at next
+    by_phase (phase.Item scan) shows next = at next
+    by_phase (phase.Text s scan) shows next = at (shows.text ∙ ap (λ n. Some n) (sym next))
+
+-- the directive under way has ended within the piece
+pub answer_follows : (new mid old : Standing) (d : Directive) (run : Run) (end : Finished) (front : List ℕ) (y z : List ℕ) → slice_get old.directives old.passed ≡ Some d → old.ended ≡ None
+    → TakesAll mid old run.phase (run.before + run.item) (opened_with (slot_in run.phase) (take run.item (drop run.before front)) old.opened) → Ends new mid d (end_of (text_of mid.opened) end)
+    → IsNextSlot (text_slot d) (slot_in old.phase) (slot_in run.phase) → IsEnd d run.phase end
+    → ((q : Stage) → Shows d old.phase q
+    → one_from d q old.tally.used y ≡ record { used = old.tally.used + (run.before + run.item); left = z; end = end_of (item_of q ++ take run.item (drop run.before front)) end })
+    → Follows new old z y
+answer_follows new mid old d run end front y z at waits takes ends next own parts =
+    ends_follows new mid old d (end_of (text_of mid.opened) end) y z at waits (reaches_taken mid old run.phase _ _ takes) ends
+    (λ q shows is. parts q shows ∙ same_part (sym (ap (λ (t : Tally). t.used) takes.tally)) refl
+    (sym (ap (λ o. end_of (text_of o) end) takes.opened ∙ closing_text d old.phase run.phase q old.opened (take run.item (drop run.before front)) end shows is next own)))
+
+-- ---- the limit, and memory that is refused
+
+-- at the limit the directive under way would take more
+pub limit_follows : (new old : Standing) (d : Directive) → slice_get old.directives old.passed ≡ Some d → old.ended ≡ None
+    → Stops new old (record { status = TooLong; at = old.passed + 1 }) → old.tally.used ≡ old.limit → (y : List ℕ)
+    → ((q : Stage) → Shows d old.phase q → old.tally.used < (one_from d q old.tally.used y).used) → Follows new old y y
+limit_follows new old d at waits stops full y more k report low high does =
     let u : new.tally.used ≡ old.tally.used = ap (λ (t : Tally). t.used) stops.tally in
-    stopped_does new (record { status = TooLong; at = old.passed + 1 }) k (b ∷ z) report stops.ended
-    (past_limit old.directives old.passed d at old.phase p old.opened old.tally b k z report (waiting old k (b ∷ z) report waits does) next (omega (arith, low, high, full, u))
-    ∙ ap (out_of TooLong (old.passed + 1)) (sym stops.tally))
+    let same : k ≡ old.tally.used = omega (arith, low, high, full, u) in
+    stopped_does new (record { status = TooLong; at = old.passed + 1 }) k y report stops.ended
+    (too_long old.directives old.passed d at old.phase old.opened old.tally k y report (waiting old k y report waits does) (λ q shows. let h = more q shows in omega (arith, same, h))
+    ∙ ap (λ m. out_of TooLong (old.passed + 1) (with_used m old.tally)) same ∙ ap (out_of TooLong (old.passed + 1)) (sym stops.tally))
+
+-- the storing of a byte of the item was refused
+pub runs_out_refuses : (new old : Standing) (d : Directive) (before item : ℕ) (piece : List ℕ) → slice_get old.directives old.passed ≡ Some d → old.ended ≡ None → RunsOut new old before item
+    → before + item ≤ length piece → old.tally.used + (before + item) ≤ old.limit
+    → ((q : Stage) → Shows d old.phase q → (z : List ℕ) → old.tally.used + (before + item) ≤ (one_from d q old.tally.used (piece ++ z)).used)
+    → ((q : Stage) → Shows d old.phase q → (j : ℕ) → j < item → StoresByte d (get_or piece (before + j) 0)) → RefusesIn new old piece
+runs_out_refuses new old d before item piece at waits r within limit uses stores = record {
+  front = take i piece;
+  byte = get_or piece i 0;
+  rest = drop (i + 1) piece;
+  whole = sym (take-append-drop i piece) ∙ ap (λ (l : List ℕ). take i piece ++ l) (drop_more piece i 0 below);
+  used = used ∙ ap (λ n. old.tally.used + n) (sym (length-take-le i piece (omega (arith, below))));
+  refuses = λ z. record {
+    at = old.passed;
+    directive = d;
+    under_way = ap (λ ds. slice_get ds old.passed) r.keeps.directives ∙ at;
+    ended = r.ended;
+    below = (let l = r.keeps.limit in let s = r.short in let u = used in omega (arith, limit, l, s, u));
+    cut = λ report does.
+        let own : DoesBy None old.directives old.passed old.phase old.opened old.tally new.tally.used (piece ++ z) report = waiting old new.tally.used (piece ++ z) report waits does in
+        let here = shows old.directives old.passed d at old.phase old.opened old.tally new.tally.used (piece ++ z) report own in (
+          stores own.0 here.0 r.stored r.short,
+          too_long old.directives old.passed d at old.phase old.opened old.tally new.tally.used (piece ++ z) report own
+              (λ q showing. let all = uses q showing z in let s = r.short in let u = used in omega (arith, all, s, u))
+              ∙ ap (λ n. out_of TooLong (old.passed + 1) (with_used n old.tally)) used ∙ ap (out_of TooLong (old.passed + 1)) (sym r.tally),
+        );
+  };
+}
+  where
+    i : ℕ
+    i = before + r.stored
+
+    used : new.tally.used ≡ old.tally.used + i
+    used = ap (λ (t : Tally). t.used) r.tally
+
+    below : i < length piece
+    below = (let s = r.short in omega (arith, s, within))
 
 -- every directive has passed
 pub done_follows : (new old : Standing) → slice_get old.directives old.passed ≡ None → old.ended ≡ None → Stops new old (record { status = Done; at = 0 }) → (z : List ℕ) → Follows new old z z
@@ -430,9 +396,6 @@ turns_by new old ended directives passed =
     ap (λ o. turns_left (record new { ended = o })) ended ∙ ap (λ ds. turns_left (record new { ended = old.ended; directives = ds })) directives
     ∙ ap (λ p. turns_left (record new { ended = old.ended; directives = old.directives; passed = p })) passed
 
-pub turns_one : (new old : Standing) (p : Phase) (text : Option Opened) → Takes new old p text → turns_left new ≡ turns_left old
-turns_one new old p text takes = turns_by new old takes.ended takes.keeps.directives takes.passed
-
 pub turns_all : (new old : Standing) (p : Phase) (n : ℕ) (text : Option Opened) → TakesAll new old p n text → turns_left new ≡ turns_left old
 turns_all new old p n text takes = turns_by new old takes.ended takes.keeps.directives takes.passed
 
@@ -454,9 +417,16 @@ refuses_on old mid new b y z more same first r = record {
   cut = λ report does. let low = r.below in r.cut report (first new.tally.used report more (omega (arith, low, same)) does);
 }
 
--- nothing has happened
-pub follows_same : (new old : Standing) (z : List ℕ) → new ≡ old → Follows new old z z
-follows_same new old z e k report low high does = subst (λ (s : Standing). Does s k z report) (sym e) does
+-- of no byte none is refused
+pub none_refused : (new old : Standing) (xs : List ℕ) → length xs ≡ 0 → (is_no_memory new.ended ≡ true → RefusesIn new old xs) → is_no_memory new.ended ≡ false
+none_refused new old xs none h = by_case (is_no_memory new.ended) h
+  where
+    by_case : (v : Bool) → (v ≡ true → RefusesIn new old xs) → v ≡ false
+    by_case false h = refl
+    by_case true h =
+        let r = h refl in
+        let long = ap length r.whole in
+        absurd (omega (arith, long, none, length-append r.front (r.byte ∷ r.rest)))
 
 -- a byte that is refused behind the first of a piece
 pub refused_behind : (old mid new : Standing) (xs : List ℕ) (i : ℕ) → i ≤ length xs → new.limit ≡ old.limit → mid.tally.used ≡ old.tally.used + i → ((z : List ℕ) → Follows mid old (drop i xs ++ z) (xs ++ z))
@@ -489,32 +459,6 @@ to_the_end new old xs n within all follows z k report low high does = by_case ne
     by_case : (o : Option Stop) → new.ended ≡ o → Does new k z report
     by_case None e = subst (λ y. Does new k (y ++ z) report) (drop_all n xs (all e)) done
     by_case (Some stop) e = ended_does new k (drop n xs ++ z) z report (subst IsSome (sym e) refl) done
-
--- the byte behind a front of a piece, and those after it
-pub next_is : (xs : List ℕ) (i : ℕ) (z : List ℕ) → i < length xs → drop i xs ++ z ≡ get_or xs i 0 ∷ (drop (i + 1) xs ++ z)
-next_is xs i z h = ap (λ (y : List ℕ). y ++ z) (drop_more xs i 0 h)
-
--- the byte behind a front of a piece is refused
-pub refused_next : (old mid new : Standing) (xs : List ℕ) (i : ℕ) → i < length xs → new.limit ≡ old.limit → mid.tally.used ≡ old.tally.used + i → new.tally.used ≡ mid.tally.used
-    → ((z : List ℕ) → Follows mid old (drop i xs ++ z) (xs ++ z)) → ((z : List ℕ) → Refuses new mid (get_or xs i 0) (get_or xs i 0 ∷ z)) → RefusesIn new old xs
-refused_next old mid new xs i within limit used same first refuses = refused_behind old mid new xs i (omega (arith, within)) limit used first (record {
-  front = [];
-  byte = get_or xs i 0;
-  rest = drop (i + 1) xs;
-  whole = drop_more xs i 0 within;
-  used = omega (arith, same);
-  refuses = λ z. subst (λ y. Refuses new mid (get_or xs i 0) y) (sym (next_is xs i z within)) (refuses (drop (i + 1) xs ++ z));
-})
-
--- the bytes up to one, that one and those after it
-pub around : (xs : List ℕ) (i : ℕ) (z : List ℕ) → i < length xs → take i xs ++ get_or xs i 0 ∷ (drop (i + 1) xs ++ z) ≡ xs ++ z
-around xs i z h =
-    ap (λ (y : List ℕ). take i xs ++ y) (sym (next_is xs i z h)) ∙ sym (append_assoc (take i xs) (drop i xs) z) ∙ ap (λ (y : List ℕ). y ++ z) (take-append-drop i xs)
-
--- behind a front of a piece
-pub behind : (old mid : Standing) (xs : List ℕ) (n : ℕ) (z : List ℕ) → Follows mid old (drop n xs ++ z) (take n xs ++ (drop n xs ++ z)) → Follows mid old (drop n xs ++ z) (xs ++ z)
-behind old mid xs n z follows =
-    subst (λ y. Follows mid old (drop n xs ++ z) y) (sym (append_assoc (take n xs) (drop n xs) z) ∙ ap (λ y. y ++ z) (take-append-drop n xs)) follows
 
 pub if_none : {A : Type 0} (o : Option A) (P : Type 0) → P → IfNone o P
 if_none None P p = p

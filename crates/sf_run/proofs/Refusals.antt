@@ -20,9 +20,9 @@ use Rattle.sf_run.specs.Limits.{IsCut, TellsWithin, RunRefused}
 use Rattle.sf_run.specs.Limits.{Stores as StoresAt, StoresShape}
 use Rattle.sf_run.specs.Machine.{Stage, Skipping, Taken, Item, stepped, finished, number_end, count_end, integer_end, stored_end, passed_end, item_end, nothing_end, byte_finished, item_finished, conversion_finished}
 use Rattle.sf_run.specs.Residual.{Tally, Part, nothing_yet, with_used, counted, out_of, by_end, one_from, is_over, run_of}
-use Rattle.sf_run.specs.Standing.{Standing, Keeps, After, Does, Gives, Refuses, RefusesIn, StoresByte, IsInText, ran_out, report_by}
+use Rattle.sf_run.specs.Standing.{Standing, Keeps, After, Does, Gives, Refuses, RefusesIn, ran_out, report_by}
 use Rattle.sf_run.specs.Stopping.{is_memory_status, is_no_memory}
-use Rattle.sf_run.specs.Texts.{slot_of_text}
+use Rattle.sf_run.specs.Texts.{IsInText, StoresByte, slot_of_text}
 use Rattle.sf_run.specs.Computed.{skip}
 use Rattle.sf_run.proofs.Skips.{skip_is, one_more-le}
 use Rattle.sf_run.proofs.Machines.{by_option}

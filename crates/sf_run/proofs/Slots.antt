@@ -20,13 +20,13 @@ use Rattle.sf_format.specs.declared.directive.Shape.TheVariants.{Int, Text, Set,
 use Rattle.sf_format.specs.Slots.{AreDistinct}
 use Rattle.sf_format.specs.Proper.{slots_of}
 use Rattle.sf_format.specs.Widths.{add_widths, text_width, stored_width, width_sum}
-use Rattle.sf_item.specs.Scan.{most_bytes, FitsLeft, IsOneLess}
+use Rattle.sf_item.specs.Scan.{most_bytes}
 use Rattle.sf_item.specs.declared.item.ItemScan.{ItemScan}
 use Rattle.sf_item.specs.Taking.{left_of}
 use Rattle.sf_run.specs.declared.directive.Phase.{Phase}
 use Rattle.sf_run.specs.declared.directive.Phase.TheVariants as phase
 use Rattle.sf_run.specs.declared.scanner.Stop.{Stop}
-use Rattle.sf_run.specs.Holding.{are_placed, are_apart, first_slot, is_text, stored_widths, width_left, widths_from, still_stored, is_limited, left_before, LeftAfter}
+use Rattle.sf_run.specs.Holding.{are_placed, are_apart, first_slot, is_text, stored_widths, width_left, widths_from, still_stored, is_limited, left_before}
 use Rattle.sf_run.specs.Places.{is_destination}
 use Rattle.sf_run.specs.Texts.{slot_of, slot_of_text, text_slot, opened_slot, slots_in}
 use Rattle.sf_run.specs.Phases.{slot_in}
@@ -267,12 +267,10 @@ begins_with (Byte a) current slot none e h = cc
 begins_with Percent current slot none e h = cc
 begins_with (Conv c) (phase.Text s scan) slot none e h = cc
 begins_with (Conv c) phase.Skipping slot none e h = start_left c slot e h
-begins_with (Conv c) phase.Taken slot none e h = start_left c slot e h
 begins_with (Conv c) (phase.Item scan) slot none e h = start_left c slot e h
 
 width_before : (d : Directive) (current : Phase) → slot_in current ≡ None → width_left d current ≡ unwrap_or (stored_width d) 0
 width_before d phase.Skipping none = refl
-width_before d phase.Taken none = refl
 width_before d (phase.Item scan) none = refl
 width_before d (phase.Text slot scan) none = cc
 
@@ -292,58 +290,11 @@ module _ (ds : List Directive) (p : ℕ) (d : Directive) (current : Phase) (slot
       omega (arith, a, b, e, fits)
   room_opened (Some stop) room fits = omega arith
 
-one_less : (a b : Option ℕ) → is_some a ≡ true → IsOneLess a b → (is_some b ≡ true) × (unwrap_or b 0 + 1 ≡ unwrap_or a 0)
-one_less None b h e = absurd (true≢false (sym h))
-one_less (Some n) None h e = absurd e
-one_less (Some n) (Some k) h e = (refl, e)
-
--- a byte of a text
-byte_left : (d : Directive) (before after : Phase) (slot : ℕ) → slot_in before ≡ Some slot → slot_in after ≡ slot_in before → LeftAfter d before after → is_limited before ≡ true
-    → (is_limited after ≡ true) × (width_left d after + 1 ≡ width_left d before)
-byte_left d phase.Skipping after slot text same left limited = cc
-byte_left d phase.Taken after slot text same left limited = cc
-byte_left d (phase.Item scan) after slot text same left limited = cc
-byte_left d (phase.Text s scan) phase.Skipping slot text same left limited = cc
-byte_left d (phase.Text s scan) phase.Taken slot text same left limited = cc
-byte_left d (phase.Text s scan) (phase.Item next) slot text same left limited = cc
-byte_left d (phase.Text s scan) (phase.Text n next) slot text same left limited = by_directive d left
-  where
-    by_directive : (d : Directive) → LeftAfter d (phase.Text s scan) (phase.Text n next) → (is_limited (phase.Text n next) ≡ true) × (width_left d (phase.Text n next) + 1 ≡ width_left d (phase.Text s scan))
-    by_directive d left = one_less (left_of scan) (left_of next) limited left
-
-some_slot : (o : Option ℕ) → is_some o ≡ true → (n : ℕ) × (o ≡ Some n)
-some_slot None e = absurd (true≢false (sym e))
-some_slot (Some n) e = (n, refl)
-
-module _ (ds : List Directive) (p : ℕ) (d : Directive) (before after : Phase) (at : slice_get ds p ≡ Some d) (text : is_some (slot_in before) ≡ true) (same : slot_in after ≡ slot_in before)
-    (left : LeftAfter d before after) (limited : is_limited before ≡ true) where
-  byte : (is_limited after ≡ true) × (width_left d after + 1 ≡ width_left d before)
-  byte = let w = some_slot (slot_in before) text in byte_left d before after w.0 w.1 same left limited
-
-  pub byte_limited : is_limited after ≡ true
-  byte_limited = byte.0
-
-  pub room_taken : (ended : Option Stop) (old new : ℕ) → still_stored ended ds p before ≤ old → old ≤ new + 1 → still_stored ended ds p after ≤ new
-  room_taken None old new fits falls =
-      let a = widths_at ds p d before at in
-      let b = widths_at ds p d after at in
-      let e = byte.1 in
-      omega (arith, a, b, e, fits, falls)
-  room_taken (Some stop) old new fits falls = omega arith
-
-  -- there is room for the byte
-  pub room_left : (room : ℕ) → still_stored None ds p before ≤ room → 1 ≤ room
-  room_left room fits =
-      let a = widths_at ds p d before at in
-      let e = byte.1 in
-      omega (arith, a, e, fits)
-
 -- ---- the text under way is that of the directive
 
 pub own_text : (ds : List Directive) (p : ℕ) (d : Directive) (current : Phase) → slice_get ds p ≡ Some d → (is_text current ≡ true → first_slot (drop p ds) ≡ slot_in current)
     → (slot : ℕ) → slot_in current ≡ Some slot → text_slot d ≡ Some slot
 own_text ds p d phase.Skipping at own slot e = cc
-own_text ds p d phase.Taken at own slot e = cc
 own_text ds p d (phase.Item scan) at own slot e = cc
 own_text ds p d (phase.Text s scan) at own slot e = ap first_slot (sym (drop_at ds p d at)) ∙ own refl ∙ e
 
@@ -360,7 +311,6 @@ left_first Space c current e none = cc
 left_first (Byte a) c current e none = cc
 left_first Percent c current e none = cc
 left_first (Conv k) c phase.Skipping e none = ap (λ (x : Conversion). most_bytes x.shape x.width) (sym (conv_is k c e))
-left_first (Conv k) c phase.Taken e none = ap (λ (x : Conversion). most_bytes x.shape x.width) (sym (conv_is k c e))
 left_first (Conv k) c (phase.Item scan) e none = ap (λ (x : Conversion). most_bytes x.shape x.width) (sym (conv_is k c e))
 left_first (Conv k) c (phase.Text slot scan) e none = cc
 
@@ -456,13 +406,6 @@ holds ds kept still joined sized = record {
     few_by : (o : Option ℕ) → (is_some o ≡ true → length (buffer_of kept) + still ≤ unwrap_or o 0) → IfSome o (λ n. length (buffer_of kept) ≤ n)
     few_by None f = tt
     few_by (Some n) f = let h = f refl in omega (arith, h)
-
--- ---- a text that was begun and taken away
-
-pub begun_dropped : (kept : Kept) (slot : ℕ) → kept.opened ≡ None → with_dropped (with_opened slot kept) ≡ kept
-begun_dropped kept slot none =
-    let same : kept.room + 0 ≡ kept.room = omega arith in
-    ap (λ n. record kept { opened = None; room = n }) same ∙ ap (λ o. record kept { opened = o }) (sym none)
 
 -- ---- what a store can hold
 

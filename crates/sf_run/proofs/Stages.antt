@@ -22,12 +22,13 @@ use Rattle.sf_item.specs.declared.item.ItemEnd.{ItemEnd}
 use Rattle.sf_item.specs.declared.item.ItemEnd.TheVariants as ends
 use Rattle.sf_item.proofs.Deciding.{Tests, tests_same, tests_can_take, tests_matches, integer_at_is}
 use Rattle.sf_run.specs.declared.directive.Phase.{Phase}
+use Rattle.sf_run.specs.declared.directive.Phase.TheVariants as phase
 use Rattle.sf_run.specs.declared.outcome.Status.TheVariants.{MatchingFailure}
 use Rattle.sf_run.specs.Steps.{Passes, Stores, Fails}
 use Rattle.sf_run.specs.Texts.{slot_of_text, text_slot, opened_for, is_count, counts_bytes}
 use Rattle.sf_base.specs.Kept.{Opened, text_of}
 use Rattle.sf_run.specs.Machine.{Stage, Skipping, Taken, Item, shape_skips, stepped, item_stepped, is_full, count_end, integer_end, stored_end, passed_end, item_end, item_finished, conversion_finished}
-use Rattle.sf_run.specs.Phases.{ShowsItem, Shows, ShowsNext, passed_number}
+use Rattle.sf_run.specs.Phases.{ShowsItem, Shows, passed_number}
 use Rattle.sf_run.proofs.Machines.{not_full, full_of_none, item_not_full}
 
 -- ---- a byte more
@@ -35,31 +36,6 @@ use Rattle.sf_run.proofs.Machines.{not_full, full_of_none, item_not_full}
 module _ (scan : ItemScan) (f : List ℕ) (b : ℕ) (proper : IsProperShape (conversion_of scan).shape) where
   decides : Tests (can_take (conversion_of scan) (f ++ b ∷ [])) (CanTake (conversion_of scan) (f ++ b ∷ []))
   decides = tests_can_take (conversion_of scan) proper (f ++ b ∷ [])
-
-  pub item_taken : (new : ItemScan) (slot : Option ℕ) (p : Phase) → ((q : Stage) → ShowsItem (Conv (conversion_of scan)) slot new q → Shows (Conv (conversion_of scan)) p q)
-      → text_slot (Conv (conversion_of scan)) ≡ slot → conversion_of new ≡ conversion_of scan → CanTake (conversion_of scan) (f ++ b ∷ []) → HasTaken new (f ++ b ∷ [])
-      → ShowsNext (Conv (conversion_of scan)) (Some p) (item_stepped (conversion_of scan) f b)
-  item_taken new slot p shows text same can taken =
-      subst (λ v. ShowsNext (Conv (conversion_of scan)) (Some p) (cond v (Some (Item (f ++ b ∷ []))) None)) (sym (decides.to can))
-      (shows (Item (f ++ b ∷ [])) (record {
-        item = f ++ b ∷ [];
-        stage = refl;
-        own = ap Conv (sym same);
-        taken = taken;
-        begun = not_nothing f;
-        text = text;
-      }))
-    where
-      not_nothing : (f : List ℕ) → f ++ b ∷ [] ≢ []
-      not_nothing [] e = cc
-      not_nothing (x ∷ f) e = cc
-
-  pub item_refused : (CanTake (conversion_of scan) (f ++ b ∷ []) → ⊥) → ShowsNext (Conv (conversion_of scan)) None (item_stepped (conversion_of scan) f b)
-  item_refused cannot = by_case (can_take (conversion_of scan) (f ++ b ∷ [])) refl
-    where
-      by_case : (v : Bool) → can_take (conversion_of scan) (f ++ b ∷ []) ≡ v → ShowsNext (Conv (conversion_of scan)) None (cond v (Some (Item (f ++ b ∷ []))) None)
-      by_case true e = absurd (cannot (decides.from e))
-      by_case false e = tt
 
 -- n takes nothing
 pub count_takes_nothing : (c : Conversion) (b : ℕ) → c.shape ≡ Count → stepped (Conv c) Skipping b ≡ None
@@ -119,6 +95,12 @@ item_full scan f full proper says = sym (by_case full says)
     by_case : (v : Bool) → (IsTrue v ↔ ((b : ℕ) → b < 256 → CanTake (conversion_of scan) (f ++ b ∷ []) → ⊥)) → is_full (Conv (conversion_of scan)) (Item f) ≡ v
     by_case true says = full_of_none (Conv (conversion_of scan)) (Item f) (λ b below. stops b (says.0 refl b below) (can_take (conversion_of scan) (f ++ b ∷ [])) refl)
     by_case false says = full_is (is_full (Conv (conversion_of scan)) (Item f)) refl (λ none. true≢false (sym (says.1 none)))
+
+-- only a conversion comes further while it waits
+pub skipping_shown : (d : Directive) → ((c : Conversion) → d ≡ Conv c → ⊥) → (p : Phase) (q : Stage) → Shows d p q → q ≡ Skipping
+skipping_shown d never phase.Skipping q shows = shows
+skipping_shown d never (phase.Item scan) q shows = absurd (never (conversion_of scan) shows.own)
+skipping_shown d never (phase.Text slot scan) q shows = absurd (never (conversion_of scan) shows.own)
 
 -- ---- the end of an item
 

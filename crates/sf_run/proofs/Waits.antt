@@ -84,9 +84,6 @@ one_byte : (d : Directive) → IsProper d → (current : Phase) (q : Stage) → 
 one_byte d proper phase.Skipping q shows more =
     let (b, below, r, is) = can_take_one d Skipping (more Skipping refl) in
     record { byte = b; is_byte = below; taken = λ p e. (r, ap (λ s. stepped d s b) e ∙ is) }
-one_byte d proper phase.Taken q shows more =
-    let (b, below, r, is) = can_take_one d Taken (more Taken refl) in
-    record { byte = b; is_byte = below; taken = λ p e. (r, ap (λ s. stepped d s b) e ∙ is) }
 one_byte d proper (phase.Item scan) q shows more = item_one d proper None scan q shows more
 one_byte d proper (phase.Text slot scan) q shows more = item_one d proper (Some slot) scan q shows more
 

@@ -5,7 +5,7 @@ use Rattle.sf_format.specs.declared.directive.Directive.{Directive}
 use Rattle.sf_format.specs.Proper.{slots_of}
 use Rattle.sf_format.specs.Widths.{stored_width}
 use Rattle.sf_format.specs.declared.directive.Directive.TheVariants.{Conv}
-use Rattle.sf_item.specs.Scan.{most_bytes, HasLeft, IsOneLess}
+use Rattle.sf_item.specs.Scan.{most_bytes, HasLeft}
 use Rattle.sf_item.specs.Taking.{left_of}
 use Rattle.sf_run.specs.declared.directive.Phase.{Phase}
 use Rattle.sf_run.specs.declared.directive.Phase.TheVariants.{Text}
@@ -59,21 +59,12 @@ left_before d (Text slot scan) = left_of scan
 left_before (Conv c) _ = most_bytes c.shape c.width
 left_before _ _ = None
 
--- where a byte of a text was taken, one less is left
-abbrev pub LeftAfter : Directive → Phase → Phase → Type 0
-LeftAfter d before (Text slot scan) = IsOneLess (left_before d before) (left_of scan)
-LeftAfter d before _ = Unit {0}
-
--- from so many bytes that are left
-abbrev pub FallsTo : Option ℕ → Phase → Type 0
-FallsTo left (Text slot scan) = IsOneLess left (left_of scan)
-FallsTo left _ = Unit {0}
-
 -- where n bytes of a text were taken, so many less are left
 abbrev pub LeftAfterAll : Directive → Phase → Phase → ℕ → Type 0
 LeftAfterAll d before (Text slot scan) n = HasLeft (left_before d before) (left_of scan) n
 LeftAfterAll d before _ n = Unit {0}
 
+-- from so many bytes that are left
 abbrev pub FallsBy : Option ℕ → Phase → ℕ → Type 0
 FallsBy left (Text slot scan) n = HasLeft left (left_of scan) n
 FallsBy left _ n = Unit {0}

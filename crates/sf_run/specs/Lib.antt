@@ -8,6 +8,7 @@ pub mod Views
 pub mod Texts
 pub mod Stopping
 pub mod Phases
+pub mod Pieces
 pub mod Tallies
 pub mod Places
 pub mod Holding
@@ -16,5 +17,4 @@ pub mod Rows
 pub mod Standing
 pub mod Scanner
 pub mod Laws
-pub mod Wholes
 pub mod Quick

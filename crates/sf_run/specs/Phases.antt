@@ -29,15 +29,8 @@ pub record ShowsItem (d : Directive) (slot : Option ℕ) (scan : ItemScan) (q : 
 -- the directive has come to this stage
 abbrev pub Shows : Directive → Phase → Stage → Type 0
 Shows d phase.Skipping q = q ≡ Skipping
-Shows d phase.Taken q = q ≡ Taken
 Shows d (phase.Item scan) q = ShowsItem d None scan q
 Shows d (phase.Text slot scan) q = ShowsItem d (Some slot) scan q
-
-abbrev pub ShowsNext : Directive → Option Phase → Option Stage → Type 0
-ShowsNext d None None = Unit {0}
-ShowsNext d (Some p) (Some q) = Shows d p q
-ShowsNext d None (Some q) = ⊥
-ShowsNext d (Some p) None = ⊥
 
 -- each front of f and the bytes y that has one of y at least can be taken
 abbrev pub CanAll : Conversion → List ℕ → List ℕ → Type 0
@@ -60,7 +53,6 @@ pub record Brings (d : Directive) (q : Stage) (y g : List ℕ) (new : Phase) : T
 -- the slot of the text under way
 abbrev pub slot_in : Phase → Option ℕ
 slot_in phase.Skipping = None
-slot_in phase.Taken = None
 slot_in (phase.Item scan) = None
 slot_in (phase.Text slot scan) = Some slot
 

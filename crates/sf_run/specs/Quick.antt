@@ -4,15 +4,10 @@ use Rattle.sf_base.specs.Data.{Assigned, datum_at}
 use Rattle.sf_base.specs.Kept.{Kept, texts_in}
 use Rattle.sf_format.specs.declared.directive.Directive.{Directive}
 use Rattle.sf_run.specs.Machine.{Skipping}
-use Rattle.sf_run.specs.Residual.{one_from}
+use Rattle.sf_run.specs.Pieces.{EndsIn}
 use Rattle.sf_run.specs.Steps.{StepEnd, Stores}
 use Rattle.sf_run.specs.Tallies.{PassesSo, values_with}
 use Rattle.sf_run.specs.Texts.{slot_of}
-
--- on every input that begins with the piece the directive takes these bytes of it, not all, and ends so
-pub record TakesWithin (d : Directive) (piece : List ℕ) (taken : ℕ) (end : StepEnd) : Type 0 where
-  pub within : taken < length piece
-  pub takes : (n : ℕ) (z : List ℕ) → one_from d Skipping n (piece ++ z) ≡ record { used = n + taken; left = drop taken piece ++ z; end = end }
 
 -- the slot, where there is one, is a slot of a store with these values that may be given something
 abbrev pub MayBeGiven : Option ℕ → List Assigned → Type 0
@@ -32,8 +27,8 @@ slot_stored (Stores slot v) = Some slot
 slot_stored _ = None
 
 -- the directive has passed within the piece
-pub record PassesWithin (d : Directive) (piece : List ℕ) (taken : ℕ) (stores : Bool) (old new : Kept) : Type 0 where
+pub record PassesWithin (d : Directive) (n : ℕ) (piece : List ℕ) (taken : ℕ) (stores : Bool) (old new : Kept) : Type 0 where
   pub end : StepEnd
-  pub takes : TakesWithin d piece taken end
+  pub takes : EndsIn d Skipping n piece taken end
   pub gives : GivesTo end stores old new
   pub own : slot_stored end ≡ slot_of d

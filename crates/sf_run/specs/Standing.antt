@@ -1,25 +1,21 @@
 -- Where a run stands, and of what input.
 use Rattle.std.specs.Prelude.{ℕ, suc, ◌+◌, ◌-◌, ◌≡◌, ◌<◌, ◌≤◌, Bool, false, List, [], ◌∷◌, ◌++◌, length, drop, slice_get, Option, Some, None, IfNone, is_some}
-use Rattle.sf_base.specs.Bytes.{is_white}
 use Rattle.sf_base.specs.Kept.{Opened}
-use Rattle.sf_format.specs.declared.directive.Shape.{Shape}
-use Rattle.sf_format.specs.declared.directive.Shape.TheVariants.{Text}
 use Rattle.sf_format.specs.declared.directive.Directive.{Directive}
-use Rattle.sf_format.specs.declared.directive.Directive.TheVariants.{Conv}
 use Rattle.sf_format.specs.Proper.{IsProper, AreProper}
 use Rattle.sf_run.specs.declared.directive.Phase.{Phase}
 use Rattle.sf_run.specs.declared.directive.Phase.TheVariants.{Skipping}
 use Rattle.sf_run.specs.declared.outcome.Ending.{Ending}
 use Rattle.sf_run.specs.declared.outcome.Status.TheVariants.{TooLong, NoMemory}
 use Rattle.sf_run.specs.declared.scanner.Stop.{Stop}
-use Rattle.sf_run.specs.Steps.{StepEnd}
+use Rattle.sf_run.specs.Steps.{StepEnd, Fails}
 use Rattle.sf_run.specs.Runs.{RunReport, Ran, assigned, converted, values}
 use Rattle.sf_run.specs.Limits.{IsCut, RunTold, TellsWithin}
-use Rattle.sf_run.specs.Machine.{Stage, is_full, finished}
+use Rattle.sf_run.specs.Machine.{Stage, is_full}
 use Rattle.sf_run.specs.Phases.{Shows, slot_in}
 use Rattle.sf_run.specs.Stopping.{is_no_memory}
-use Rattle.sf_run.specs.Texts.{text_slot, opened_for}
-use Rattle.sf_run.specs.Residual.{Tally, with_used, counted, out_of, one_from, run_from, choose}
+use Rattle.sf_run.specs.Texts.{StoresByte, text_slot, opened_for}
+use Rattle.sf_run.specs.Residual.{Tally, with_used, counted, out_of, run_from, choose}
 
 -- the fields of a scanner, with what its store has been given
 pub record Standing : Type 0 where
@@ -52,10 +48,6 @@ Does s k z report = DoesBy s.ended s.directives s.passed s.phase s.opened s.tall
 -- what the new one does with y the old one does with z, under each limit that is not yet passed
 abbrev pub Follows : Standing → Standing → List ℕ → List ℕ → Type 0
 Follows new old y z = (k : ℕ) (report : RunReport) → new.tally.used ≤ k → k ≤ old.limit → Does old k z report → Does new k y report
-
--- the directive takes nothing of z; more: a byte follows
-abbrev pub IsRefused : Directive → Phase → ℕ → Bool → List ℕ → Type 0
-IsRefused d phase n more z = (q : Stage) → Shows d phase q → one_from d q n z ≡ record { used = n; left = z; end = finished d q n more }
 
 -- it goes on with the same format under the same limit, and its store can hold as much
 pub record Keeps (new old : Standing) : Type 0 where
@@ -90,15 +82,6 @@ pub record Opens (new old : Standing) (slot : ℕ) : Type 0 where
   pub opened : new.opened ≡ Some (record { slot = slot; text = [] })
   pub tally : new.tally ≡ old.tally
 
--- the directive under way has taken a byte, and come so far
-pub record Takes (new old : Standing) (next : Phase) (text : Option Opened) : Type 0 where
-  pub keeps : Keeps new old
-  pub ended : new.ended ≡ old.ended
-  pub passed : new.passed ≡ old.passed
-  pub phase : new.phase ≡ next
-  pub opened : new.opened ≡ text
-  pub tally : new.tally ≡ with_used (old.tally.used + 1) old.tally
-
 -- the directive under way has taken n bytes at once, and come so far
 pub record TakesAll (new old : Standing) (next : Phase) (n : ℕ) (text : Option Opened) : Type 0 where
   pub keeps : Keeps new old
@@ -108,14 +91,19 @@ pub record TakesAll (new old : Standing) (next : Phase) (n : ℕ) (text : Option
   pub opened : new.opened ≡ text
   pub tally : new.tally ≡ with_used (old.tally.used + n) old.tally
 
--- the byte belongs to a text that the directive stores
-abbrev pub IsInText : Shape → ℕ → Type 0
-IsInText Text b = is_white b ≡ false
-IsInText _ b = Unit {0}
+-- the directive under way has ended so
+abbrev pub Ends : Standing → Standing → Directive → StepEnd → Type 0
+Ends new old d (Fails status) = Stops new old (record { status = status; at = old.passed + 1 })
+Ends new old d end = Passes new old d end
 
-abbrev pub StoresByte : Directive → ℕ → Type 0
-StoresByte (Conv c) b = (slot : ℕ) × (text_slot (Conv c) ≡ Some slot) × IsInText c.shape b
-StoresByte _ b = ⊥
+-- The run has stopped as the storing of a byte was refused: the directive under way has taken so many bytes before those of its item, and those of
+-- the item that were stored, but not all.
+pub record RunsOut (new old : Standing) (before item : ℕ) : Type 0 where
+  pub stored : ℕ
+  pub short : stored < item
+  pub keeps : Keeps new old
+  pub ended : new.ended ≡ Some (record { status = NoMemory; at = old.passed + 1 })
+  pub tally : new.tally ≡ with_used (old.tally.used + (before + stored)) old.tally
 
 -- the new one stopped as the storing of the byte b was refused, which is next in y for the old one
 pub record Refuses (new old : Standing) (b : ℕ) (y : List ℕ) : Type 0 where

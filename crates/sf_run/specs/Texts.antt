@@ -1,6 +1,7 @@
 -- The texts that a run stores.
 use Rattle.std.specs.Prelude.{◌≡◌, ℕ, Bool, true, false, List, [], ◌∷◌, map, Option, Some, None}
 use Rattle.std.specs.Option.{option_map}
+use Rattle.sf_base.specs.Bytes.{is_white}
 use Rattle.sf_base.specs.Data.{Assigned}
 use Rattle.sf_base.specs.Kept.{Opened, longer}
 use Rattle.sf_format.specs.declared.directive.Shape.{Shape}
@@ -50,19 +51,22 @@ opened_slot opened = option_map (λ o. o.slot) opened
 abbrev pub slots_in : List Assigned → List ℕ
 slots_in values = map (λ a. a.slot) values
 
--- after the byte b of a directive with a text for its slot, or with none
-abbrev pub opened_after : Option ℕ → ℕ → Option Opened → Option Opened
-opened_after None b opened = opened
-opened_after (Some slot) b None = Some (record { slot = slot; text = b ∷ [] })
-opened_after (Some slot) b (Some o) = longer (b ∷ []) (Some o)
-
 -- after the bytes g of its item
 abbrev pub opened_with : Option ℕ → List ℕ → Option Opened → Option Opened
 opened_with None g opened = opened
 opened_with (Some slot) g None = Some (record { slot = slot; text = g })
 opened_with (Some slot) g (Some o) = longer g (Some o)
 
--- the slot of the text under way, before and after a byte, in a directive with this one
+-- the byte belongs to a text that the directive stores
+abbrev pub IsInText : Shape → ℕ → Type 0
+IsInText Text b = is_white b ≡ false
+IsInText _ b = Unit {0}
+
+abbrev pub StoresByte : Directive → ℕ → Type 0
+StoresByte (Conv c) b = (slot : ℕ) × (text_slot (Conv c) ≡ Some slot) × IsInText c.shape b
+StoresByte _ b = ⊥
+
+-- the slot of the text under way, before and after some bytes, in a directive with this one
 abbrev pub IsNextSlot : Option ℕ → Option ℕ → Option ℕ → Type 0
 IsNextSlot text None None = Unit {0}
 IsNextSlot text None (Some slot) = text ≡ Some slot

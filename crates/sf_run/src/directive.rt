@@ -1,5 +1,5 @@
-//! One directive, handed byte after byte.
-ghost use Rattle.std.specs.Prelude.{◌≡◌, ◌≢◌, ◌+◌, ◌<◌, ◌≤◌, ◌&&◌, true, false, ℕ, ℤ, List, [], ◌++◌, length, take, drop, get_or, Option, Some, None, IfSome};
+//! What one directive makes of a piece of the input, and how it ends (C11 7.21.6.2p4 to p10).
+ghost use Rattle.std.specs.Prelude.{◌≡◌, ◌≢◌, ◌+◌, ◌<◌, ◌≤◌, ◌&&◌, ◌^◌, true, false, ℕ, ℤ, List, [], ◌++◌, length, take, drop, get_or, Option, Some, None, IfSome};
 ghost use Rattle.sf_base.specs.Bytes.{is_white};
 ghost use Rattle.std.specs.Option.{option_map};
 ghost use Rattle.sf_base.specs.Data.{Number, datum_of, is_number};
@@ -8,42 +8,32 @@ ghost use Rattle.sf_format.specs.declared.directive.Conversion.{Conversion};
 ghost use Rattle.sf_format.specs.declared.directive.Directive.{Directive};
 ghost use Rattle.sf_format.specs.declared.directive.Directive.TheVariants as directive;
 ghost use Rattle.sf_format.specs.Proper.{IsProper, IsProperShape};
+ghost use Rattle.sf_item.specs.Scan.{HasLeft};
+ghost use Rattle.sf_item.specs.Taking.{CanTake, HasTaken, conversion_of, left_of};
 ghost use Rattle.sf_run.specs.Steps.{StepEnd};
 ghost use Rattle.sf_run.specs.declared.directive.Phase.TheVariants as phase;
-ghost use Rattle.sf_item.specs.Scan.{IsOneLess, HasLeft};
-ghost use Rattle.sf_item.specs.Taking.{HasTaken, conversion_of, left_of};
-ghost use Rattle.sf_run.specs.Machine.{Stage, Skipping, Item, shape_skips, byte_stepped, item_stepped, conversion_stepped, percent_stepped, space_stepped, stepped, is_full, nothing_end, byte_finished, item_end, count_end, item_finished, finished};
-ghost use Rattle.sf_run.specs.Texts.{text_slot, opened_for, slot_of, is_count, counts_bytes, IsNextSlot};
-ghost use Rattle.sf_run.specs.Holding.{is_text, FallsTo, FallsBy, LeftAfter, LeftAfterAll};
-ghost use Rattle.sf_run.specs.Phases.{ShowsItem, Shows, ShowsNext, CanAll, Brings, end_of, is_failing, slot_in, slot_closed, slot_given, passed_number, IsNumberGiven, is_memory_failure};
+ghost use Rattle.sf_run.specs.declared.directive.Finished.TheVariants as finish;
+ghost use Rattle.sf_run.specs.Machine.{Stage, Skipping, Item, shape_skips, is_full, item_end, item_finished, count_end, finished};
+ghost use Rattle.sf_run.specs.Texts.{text_slot, opened_for, slot_of, is_count};
+ghost use Rattle.sf_run.specs.Holding.{FallsBy};
+ghost use Rattle.sf_run.specs.Phases.{ShowsItem, Shows, CanAll, IsNumberGiven, end_of, is_failing, is_memory_failure, passed_number, slot_closed, slot_given, slot_in};
+ghost use Rattle.sf_run.specs.Pieces.{Answers, EndsAt, IsEnd, IsWhole, StaysAt, Suits};
 
 use crate::number::number_of;
 use crate::outcome::Status;
 use sf_base::{Value, is_space, space_run};
-use sf_format::{Conversion, Directive, Shape};
-use sf_item::{ItemEnd, ItemScan, Step};
+use sf_format::{Base, Conversion, Directive, Shape};
+use sf_item::{ItemEnd, ItemScan, WholeInteger, whole_decimal, whole_hex};
 
-/// How far a directive has come.
+/// How far a directive has come that waits for more.
 #[derive(Clone, Copy)]
 pub(crate) enum Phase<'f> {
     /// It took nothing, or white space alone.
     Skipping,
-    /// It took its one byte.
-    Taken,
     /// It took bytes of an item that is not stored as it stands.
     Item(ItemScan<'f>),
     /// It took bytes of an item that is the text of this slot.
     Text { slot: u8, scan: ItemScan<'f> },
-}
-
-/// How far a directive has come with bytes that it took at once.
-#[derive(Clone, Copy)]
-pub(crate) struct Run<'f> {
-    pub(crate) phase: Phase<'f>,
-    /// The bytes before those of an item.
-    pub(crate) before: usize,
-    /// The bytes of an item.
-    pub(crate) item: usize,
 }
 
 /// How a directive ended.
@@ -55,6 +45,19 @@ pub(crate) enum Finished {
     /// The slot is given the opened text.
     Closes { slot: u8 },
     Fails(Status),
+}
+
+/// What a directive takes of a piece, and whether it then waits for more or ends.
+#[derive(Clone, Copy)]
+pub(crate) struct Run<'f> {
+    /// The bytes before those of an item.
+    pub(crate) before: usize,
+    /// The bytes of an item.
+    pub(crate) item: usize,
+    /// How far it has come with them.
+    pub(crate) phase: Phase<'f>,
+    /// How it ends there, whatever follows. None: it has used the piece up, and waits for more.
+    pub(crate) ends: Option<Finished>,
 }
 
 /// The slot that is given the item of the conversion as it stands, if there is one.
@@ -81,101 +84,16 @@ fn skips_space(shape: &Shape) -> bool
     matches!(shape, Shape::Int(_) | Shape::Text)
 }
 
-fn step_byte<'f>(due: u8, phase: Phase<'f>, b: u8) -> Option<Phase<'f>>
-    ensures slot { IfSome result (λ next. (slot_in phase.entry ≡ None) × (slot_in next ≡ None)) }
-    ensures left { IfSome result (λ next. is_text next ≡ false) }
-    ensures shows { (d : Directive) (q : Stage) → Shows d phase.entry q → ShowsNext d result (byte_stepped due q b) }
-{
-    match phase {
-        Phase::Skipping if due == b => Some(Phase::Taken),
-        _ => None,
-    }
-}
-
 /// How far a directive has come that took bytes of its item; `slot` is that of its text.
 fn item_phase<'f>(slot: Option<u8>, scan: ItemScan<'f>) -> Phase<'f>
     ensures shows { (d : Directive) (q : Stage) → ShowsItem d slot scan.entry q → Shows d result q }
     ensures slot { slot_in result ≡ slot }
-    ensures left { (n : Option ℕ) → IsOneLess n (left_of scan.entry) → FallsTo n result }
+    ensures shown { (d : Directive) (q : Stage) → Shows d result q → ShowsItem d slot scan.entry q }
     ensures run { (n : Option ℕ) (k : ℕ) → HasLeft n (left_of scan.entry) k → FallsBy n result k }
 {
     match slot {
         None => Phase::Item(scan),
         Some(slot) => Phase::Text { slot, scan },
-    }
-}
-
-/// Hands the item a byte; `slot` is that of its text.
-fn step_item<'f>(slot: Option<u8>, mut scan: ItemScan<'f>, b: u8) -> Option<Phase<'f>>
-    ensures shows { (f : List ℕ) → IsProperShape (conversion_of scan.entry).shape → HasTaken scan.entry f
-        → slot ≡ text_slot (directive.Conv (conversion_of scan.entry))
-        → ShowsNext (directive.Conv (conversion_of scan.entry)) result (item_stepped (conversion_of scan.entry) f b) }
-    ensures slot { IfSome result (λ next. slot_in next ≡ slot) }
-    ensures left { IfSome result (λ next. FallsTo (left_of scan.entry) next) }
-{
-    match scan.step(b) {
-        Step::Taken => Some(item_phase(slot, scan)),
-        Step::Refused => None,
-    }
-}
-
-fn step_conversion<'f>(conversion: &'f Conversion, phase: Phase<'f>, b: u8) -> Option<Phase<'f>>
-    ensures slot { IfSome result (λ next. IsNextSlot (text_slot (directive.Conv conversion.now)) (slot_in phase.entry) (slot_in next)) }
-    ensures left { IfSome result (λ next. LeftAfter (directive.Conv conversion.now) phase.entry next) }
-    ensures shows { (q : Stage) → IsProperShape conversion.now.shape → Shows (directive.Conv conversion.now) phase.entry q
-        → ShowsNext (directive.Conv conversion.now) result (conversion_stepped conversion.now q b) }
-{
-    match phase {
-        Phase::Skipping => {
-            if skips_space(&conversion.shape) && is_space(b) {
-                return Some(Phase::Skipping);
-            }
-            if is_count(&conversion.shape) {
-                return None;
-            }
-            step_item(text_slot(conversion), ItemScan::start(conversion), b)
-        }
-        Phase::Taken => None,
-        Phase::Item(scan) => step_item(None, scan, b),
-        Phase::Text { slot, scan } => step_item(Some(slot), scan, b),
-    }
-}
-
-fn step_percent<'f>(phase: Phase<'f>, b: u8) -> Option<Phase<'f>>
-    ensures slot { IfSome result (λ next. (slot_in phase.entry ≡ None) × (slot_in next ≡ None)) }
-    ensures left { IfSome result (λ next. is_text next ≡ false) }
-    ensures shows { (d : Directive) (q : Stage) → Shows d phase.entry q → ShowsNext d result (percent_stepped q b) }
-{
-    match phase {
-        Phase::Skipping if is_space(b) => Some(Phase::Skipping),
-        Phase::Skipping if b == b'%' => Some(Phase::Taken),
-        _ => None,
-    }
-}
-
-fn step_space<'f>(phase: Phase<'f>, b: u8) -> Option<Phase<'f>>
-    ensures slot { IfSome result (λ next. (slot_in phase.entry ≡ None) × (slot_in next ≡ None)) }
-    ensures left { IfSome result (λ next. is_text next ≡ false) }
-    ensures shows { (d : Directive) (q : Stage) → Shows d phase.entry q → ShowsNext d result (space_stepped q b) }
-{
-    match phase {
-        Phase::Skipping if is_space(b) => Some(Phase::Skipping),
-        _ => None,
-    }
-}
-
-/// Hands the directive a byte: how far it has then come, where it takes the byte.
-pub(crate) fn step<'f>(directive: &'f Directive, phase: Phase<'f>, b: u8) -> Option<Phase<'f>>
-    ensures slot { IfSome result (λ next. IsNextSlot (text_slot directive.now) (slot_in phase.entry) (slot_in next)) }
-    ensures left { IfSome result (λ next. LeftAfter directive.now phase.entry next) }
-    ensures shows { (q : Stage) → IsProper directive.now → Shows directive.now phase.entry q
-        → ShowsNext directive.now result (stepped directive.now q b) }
-{
-    match directive {
-        Directive::Space => step_space(phase, b),
-        Directive::Byte(due) => step_byte(*due, phase, b),
-        Directive::Percent => step_percent(phase, b),
-        Directive::Conv(conversion) => step_conversion(conversion, phase, b),
     }
 }
 
@@ -201,154 +119,6 @@ pub(crate) fn skipped(shape: &Shape, piece: &[u8]) -> usize
         space_before(piece)
     } else {
         0
-    }
-}
-
-/// Takes bytes of the piece as long as the item goes on with them; `slot` is that of its text.
-fn go_on<'f>(slot: Option<u8>, mut scan: ItemScan<'f>, piece: &[u8]) -> Run<'f>
-    ensures before { result.before ≡ 0 }
-    ensures within { result.item ≤ length piece.now }
-    ensures can { (f : List ℕ) → IsProperShape (conversion_of scan.entry).shape → HasTaken scan.entry f → CanAll (conversion_of scan.entry) f (take result.item piece.now) }
-    ensures shows { (d : Directive) (f : List ℕ) → d ≡ directive.Conv (conversion_of scan.entry) → text_slot d ≡ slot → HasTaken scan.entry f
-        → f ++ take result.item piece.now ≢ [] → Shows d result.phase (Item (f ++ take result.item piece.now)) }
-    ensures slot { slot_in result.phase ≡ slot }
-    ensures left { FallsBy (left_of scan.entry) result.phase result.item }
-{
-    let item = scan.take_all(piece);
-    Run {
-        phase: item_phase(slot, scan),
-        before: 0,
-        item,
-    }
-}
-
-/// Skips white space where the conversion does, and then takes the bytes of its item.
-fn begin_item<'f>(conversion: &'f Conversion, piece: &[u8]) -> Run<'f>
-    ensures within { result.before + result.item ≤ length piece.now }
-    ensures brings { IsProperShape conversion.now.shape → Brings (directive.Conv conversion.now) Skipping (take (result.before + result.item) piece.now)
-        (take result.item (drop result.before piece.now)) result.phase }
-    ensures slot { IsNextSlot (text_slot (directive.Conv conversion.now)) None (slot_in result.phase) }
-    ensures left { LeftAfterAll (directive.Conv conversion.now) phase.Skipping result.phase result.item }
-{
-    if is_count(&conversion.shape) {
-        return nothing_taken(Phase::Skipping);
-    }
-    let before = skipped(&conversion.shape, piece);
-    let (_, rest) = piece.split_at(before);
-    let run = go_on(text_slot(conversion), ItemScan::start(conversion), rest);
-    if run.item == 0 {
-        return Run {
-            phase: Phase::Skipping,
-            before,
-            item: 0,
-        };
-    }
-    Run {
-        phase: run.phase,
-        before,
-        item: run.item,
-    }
-}
-
-fn nothing_taken(phase: Phase<'_>) -> Run<'_>
-    ensures { result ≡ record { phase = phase.entry; before = 0; item = 0 } }
-{
-    Run {
-        phase,
-        before: 0,
-        item: 0,
-    }
-}
-
-fn run_space<'f>(piece: &[u8]) -> Run<'f>
-    ensures within { result.before ≤ length piece.now }
-    ensures brings { Brings directive.Space Skipping (take result.before piece.now) [] phase.Skipping }
-    ensures white { result.phase ≡ phase.Skipping }
-    ensures item { result.item ≡ 0 }
-{
-    Run {
-        phase: Phase::Skipping,
-        before: space_before(piece),
-        item: 0,
-    }
-}
-
-/// Hands a directive that took nothing yet the bytes of the piece that it takes at once.
-fn begin<'f>(directive: &'f Directive, piece: &[u8]) -> Run<'f>
-    ensures within { result.before + result.item ≤ length piece.now }
-    ensures brings { IsProper directive.now → Brings directive.now Skipping (take (result.before + result.item) piece.now)
-        (take result.item (drop result.before piece.now)) result.phase }
-    ensures slot { IsNextSlot (text_slot directive.now) None (slot_in result.phase) }
-    ensures left { LeftAfterAll directive.now phase.Skipping result.phase result.item }
-{
-    match directive {
-        Directive::Space => run_space(piece),
-        Directive::Byte(_) | Directive::Percent => nothing_taken(Phase::Skipping),
-        Directive::Conv(conversion) => begin_item(conversion, piece),
-    }
-}
-
-/// Hands the directive the bytes of the piece that it takes at once. That may be fewer than it takes one by one.
-pub(crate) fn run_on<'f>(directive: &'f Directive, phase: Phase<'f>, piece: &[u8]) -> Run<'f>
-    ensures within { result.before + result.item ≤ length piece.now }
-    ensures brings { (q : Stage) → IsProper directive.now → Shows directive.now phase.entry q → Brings directive.now q (take (result.before + result.item) piece.now)
-        (take result.item (drop result.before piece.now)) result.phase }
-    ensures slot { IsNextSlot (text_slot directive.now) (slot_in phase.entry) (slot_in result.phase) }
-    ensures left { LeftAfterAll directive.now phase.entry result.phase result.item }
-{
-    match phase {
-        Phase::Skipping => begin(directive, piece),
-        Phase::Taken => nothing_taken(phase),
-        Phase::Item(scan) => go_on(None, scan, piece),
-        Phase::Text { slot, scan } => go_on(Some(slot), scan, piece),
-    }
-}
-
-/// Whether the directive is `n`, which takes nothing.
-fn counts_bytes(directive: &Directive) -> bool
-    ensures { result ≡ counts_bytes directive.now }
-{
-    match directive {
-        Directive::Conv(conversion) => is_count(&conversion.shape),
-        _ => false,
-    }
-}
-
-/// Whether the directive, which has come so far, would take no byte.
-pub(crate) fn is_full(directive: &Directive, phase: Phase<'_>) -> bool
-    ensures { (q : Stage) → IsProper directive.now → Shows directive.now phase.entry q → result ≡ is_full directive.now q }
-{
-    match phase {
-        Phase::Skipping => counts_bytes(directive),
-        Phase::Taken => true,
-        Phase::Item(scan) => scan.is_full(),
-        Phase::Text { scan, .. } => scan.is_full(),
-    }
-}
-
-fn finish_nothing(more: bool) -> Finished
-    ensures end { (text : List ℕ) → end_of text result ≡ nothing_end more }
-    ensures fails { is_failing result ≡ true }
-    ensures none { slot_given result ≡ None }
-    ensures memory { is_memory_failure result ≡ false }
-{
-    Finished::Fails(if more {
-        Status::MatchingFailure
-    } else {
-        Status::InputFailure
-    })
-}
-
-fn finish_byte(phase: Phase<'_>, more: bool) -> Finished
-    ensures end { (text : List ℕ) (d : Directive) (q : Stage) → Shows d phase.entry q → end_of text result ≡ byte_finished q more }
-    ensures text { is_failing result ≡ false → slot_in phase.entry ≡ slot_closed result }
-    ensures none { slot_given result ≡ None }
-    ensures memory { is_memory_failure result ≡ false }
-{
-    match phase {
-        Phase::Skipping => finish_nothing(more),
-        Phase::Taken => Finished::Passes,
-        Phase::Item(_) | Phase::Text { .. } => Finished::Fails(Status::MatchingFailure),
     }
 }
 
@@ -421,23 +191,6 @@ pub(crate) fn finish_text(slot: u8, scan: ItemScan<'_>) -> Finished
     }
 }
 
-fn finish_conversion(conversion: &Conversion, phase: Phase<'_>, more: bool) -> Finished
-    requires { IfSome (slot_in phase) (λ slot. text_slot (directive.Conv conversion.now) ≡ Some slot) }
-    ensures end { (q : Stage) (opened : Option Opened) → Shows (directive.Conv conversion.now) phase.entry q
-        → opened ≡ opened_for (text_slot (directive.Conv conversion.now)) q → end_of (text_of opened) result ≡ item_finished conversion.now q more }
-    ensures text { is_failing result ≡ false → slot_in phase.entry ≡ slot_closed result }
-    ensures given { is_failing result ≡ false → slot_given result ≡ conversion.now.slot }
-    ensures number { IsNumberGiven result }
-    ensures memory { is_memory_failure result ≡ false }
-{
-    match phase {
-        Phase::Skipping => finish_nothing(more),
-        Phase::Taken => Finished::Fails(Status::MatchingFailure),
-        Phase::Item(scan) => finish_item(conversion, scan),
-        Phase::Text { slot, scan } => finish_text(slot, scan),
-    }
-}
-
 /// `n` after so many bytes of the run.
 fn finish_count(conversion: &Conversion, used: u32) -> Finished
     ensures end { (text : List ℕ) → end_of text result ≡ count_end conversion.now conversion.now.slot used }
@@ -452,23 +205,249 @@ fn finish_count(conversion: &Conversion, used: u32) -> Finished
     )
 }
 
-/// How the directive ends, which takes nothing more. `more`: a byte follows.
-pub(crate) fn finish(directive: &Directive, phase: Phase<'_>, used: u32, more: bool) -> Finished
-    requires { IfSome (slot_in phase) (λ slot. text_slot directive.now ≡ Some slot) }
-    ensures end { (q : Stage) (opened : Option Opened) → Shows directive.now phase.entry q → opened ≡ opened_for (text_slot directive.now) q
-        → end_of (text_of opened) result ≡ finished directive.now q used more }
-    ensures text { is_failing result ≡ false → slot_in phase.entry ≡ slot_closed result }
-    ensures given { is_failing result ≡ false → slot_given result ≡ slot_of directive.now }
+/// An item that was taken, one byte at least; `slot` is that of its text.
+fn finish_taken(conversion: &Conversion, slot: Option<u8>, scan: ItemScan<'_>) -> Finished
+    requires { IfSome slot (λ n. text_slot (directive.Conv conversion.now) ≡ Some n) }
+    ensures end { (f : List ℕ) → f ≢ [] → conversion.now ≡ conversion_of scan.entry → HasTaken scan.entry f → text_slot (directive.Conv conversion.now) ≡ slot
+        → end_of f result ≡ item_end conversion.now f }
+    ensures text { is_failing result ≡ false → slot ≡ slot_closed result }
+    ensures given { is_failing result ≡ false → slot_given result ≡ conversion.now.slot }
     ensures number { IsNumberGiven result }
     ensures memory { is_memory_failure result ≡ false }
 {
+    match slot {
+        Some(slot) => finish_text(slot, scan),
+        None => finish_item(conversion, scan),
+    }
+}
+
+/// How a conversion ends where the input ends.
+fn finish_conversion(conversion: &Conversion, phase: Phase<'_>) -> Finished
+    requires { IfSome (slot_in phase) (λ slot. text_slot (directive.Conv conversion.now) ≡ Some slot) }
+    ensures end { (q : Stage) (opened : Option Opened) → Shows (directive.Conv conversion.now) phase.entry q
+        → opened ≡ opened_for (text_slot (directive.Conv conversion.now)) q → end_of (text_of opened) result ≡ item_finished conversion.now q false }
+    ensures is { IsEnd (directive.Conv conversion.now) phase.entry result }
+{
+    match phase {
+        Phase::Skipping => Finished::Fails(Status::InputFailure),
+        Phase::Item(scan) => finish_item(conversion, scan),
+        Phase::Text { slot, scan } => finish_text(slot, scan),
+    }
+}
+
+/// How the directive ends, which waits, where the input ends.
+pub(crate) fn finish(directive: &Directive, phase: Phase<'_>, used: u32) -> Finished
+    requires { IfSome (slot_in phase) (λ slot. text_slot directive.now ≡ Some slot) }
+    ensures end { (q : Stage) (opened : Option Opened) → Shows directive.now phase.entry q → opened ≡ opened_for (text_slot directive.now) q
+        → end_of (text_of opened) result ≡ finished directive.now q used false }
+    ensures is { IsEnd directive.now phase.entry result }
+{
     match directive {
         Directive::Space => Finished::Passes,
-        Directive::Byte(_) => finish_byte(phase, more),
-        Directive::Percent => finish_byte(phase, more),
+        Directive::Byte(_) | Directive::Percent => Finished::Fails(Status::InputFailure),
         Directive::Conv(conversion) if is_count(&conversion.shape) => {
             finish_count(conversion, used)
         }
-        Directive::Conv(conversion) => finish_conversion(conversion, phase, more),
+        Directive::Conv(conversion) => finish_conversion(conversion, phase),
+    }
+}
+
+/// The piece is used up, and no item has begun.
+fn waits<'f>(before: usize) -> Run<'f>
+    ensures { result ≡ record { before = before; item = 0; phase = phase.Skipping; ends = None } }
+{
+    Run {
+        before,
+        item: 0,
+        phase: Phase::Skipping,
+        ends: None,
+    }
+}
+
+/// The directive ends so after so many bytes, none of them of a text.
+fn ends<'f>(before: usize, item: usize, finished: Finished) -> Run<'f>
+    ensures { result ≡ record { before = before; item = item; phase = phase.Skipping; ends = Some finished } }
+{
+    Run {
+        before,
+        item,
+        phase: Phase::Skipping,
+        ends: Some(finished),
+    }
+}
+
+/// White space.
+fn run_space<'f>(piece: &[u8]) -> Run<'f>
+    ensures answers { (n : ℕ) → Answers directive.Space Skipping n piece.now result }
+    ensures suits { Suits directive.Space phase.Skipping piece.now result }
+{
+    let space = space_before(piece);
+    if space < piece.len() {
+        ends(space, 0, Finished::Passes)
+    } else {
+        waits(space)
+    }
+}
+
+/// The byte that is due.
+fn run_byte<'f>(due: u8, piece: &[u8]) -> Run<'f>
+    ensures answers { (n : ℕ) → Answers (directive.Byte due) Skipping n piece.now result }
+    ensures percent { due ≡ 37 → (0 < length piece.now → is_white (get_or piece.now 0 0) ≡ false) → (n : ℕ) → Answers directive.Percent Skipping n piece.now result }
+    ensures suits { Suits (directive.Byte due) phase.Skipping piece.now result }
+    ensures suits_percent { Suits directive.Percent phase.Skipping piece.now result }
+{
+    match piece.first() {
+        None => waits(0),
+        Some(b) if *b == due => ends(1, 0, Finished::Passes),
+        Some(_) => ends(0, 0, Finished::Fails(Status::MatchingFailure)),
+    }
+}
+
+/// Whether the item ends behind so many bytes of the piece, which it took.
+fn is_over(scan: &ItemScan<'_>, item: usize, piece: &[u8]) -> bool
+    ensures over { (f : List ℕ) → IsProper (directive.Conv (conversion_of scan.now)) → HasTaken scan.now (f ++ take item piece.now)
+        → (item < length piece.now → CanTake (conversion_of scan.now) (f ++ take (item + 1) piece.now) → ⊥) → result ≡ true
+        → StaysAt (directive.Conv (conversion_of scan.now)) (Item (f ++ take item piece.now)) (drop item piece.now) }
+    ensures all { result ≡ false → length piece.now ≤ item }
+    ensures more { (d : Directive) (slot : Option ℕ) (q : Stage) → IsProper d → ShowsItem d slot scan.now q → result ≡ false → is_full d q ≡ false }
+{
+    item < piece.len() || scan.is_full()
+}
+
+/// Takes bytes of the piece as long as the item goes on with them; `slot` is that of its text.
+fn go_on<'f>(
+    conversion: &'f Conversion,
+    slot: Option<u8>,
+    mut scan: ItemScan<'f>,
+    piece: &[u8],
+) -> Run<'f>
+    requires { IfSome slot (λ n. text_slot (directive.Conv conversion.now) ≡ Some n) }
+    ensures before { result.before ≡ 0 }
+    ensures within { result.item ≤ length piece.now }
+    ensures can { (f : List ℕ) → IsProperShape (conversion_of scan.entry).shape → HasTaken scan.entry f → CanAll (conversion_of scan.entry) f (take result.item piece.now) }
+    ensures stops { (f : List ℕ) → HasTaken scan.entry f → result.item < length piece.now
+        → CanTake (conversion_of scan.entry) (f ++ take (result.item + 1) piece.now) → ⊥ }
+    ensures shows { (d : Directive) (f : List ℕ) → d ≡ directive.Conv (conversion_of scan.entry) → text_slot d ≡ slot → HasTaken scan.entry f
+        → f ++ take result.item piece.now ≢ [] → Shows d result.phase (Item (f ++ take result.item piece.now)) }
+    ensures waits { result.ends ≡ None → result.item ≡ length piece.now }
+    ensures more { result.ends ≡ None → (d : Directive) (q : Stage) → IsProper d → Shows d result.phase q → is_full d q ≡ false }
+    ensures ends { (f : List ℕ) → IsProper (directive.Conv conversion.now) → conversion.now ≡ conversion_of scan.entry → HasTaken scan.entry f
+        → text_slot (directive.Conv conversion.now) ≡ slot → f ++ take result.item piece.now ≢ []
+        → IfSome result.ends (EndsAt (directive.Conv conversion.now) (f ++ take result.item piece.now) (drop result.item piece.now)) }
+    ensures slot { slot_in result.phase ≡ slot }
+    ensures left { FallsBy (left_of scan.entry) result.phase result.item }
+    ensures is { IfSome result.ends (IsEnd (directive.Conv conversion.now) result.phase) }
+{
+    let item = scan.take_run(piece);
+    let phase = item_phase(slot, scan);
+    if !is_over(&scan, item, piece) {
+        return Run {
+            before: 0,
+            item,
+            phase,
+            ends: None,
+        };
+    }
+    Run {
+        before: 0,
+        item,
+        phase,
+        ends: Some(finish_taken(conversion, slot, scan)),
+    }
+}
+
+/// The integer that the piece begins with, where there is a quick way to read it and a byte of the piece follows.
+fn whole_integer(shape: &Shape, width: Option<u16>, piece: &[u8]) -> Option<WholeInteger>
+    ensures { IfSome result (IsWhole shape.now width piece.now) }
+{
+    match shape {
+        Shape::Int(Base::Dec) => whole_decimal(width, piece),
+        Shape::Int(Base::Hex) => whole_hex(width, piece),
+        _ => None,
+    }
+}
+
+/// The item of a conversion, whose first byte is that of the piece.
+fn begin_item<'f>(conversion: &'f Conversion, piece: &[u8]) -> Run<'f>
+    requires { is_count conversion.now.shape ≡ false }
+    ensures answers { IsProper (directive.Conv conversion.now) → (0 < length piece.now → (shape_skips conversion.now.shape && is_white (get_or piece.now 0 0)) ≡ false) → (n : ℕ)
+        → Answers (directive.Conv conversion.now) Skipping n piece.now result }
+    ensures suits { Suits (directive.Conv conversion.now) phase.Skipping piece.now result }
+{
+    if piece.is_empty() {
+        return waits(0);
+    }
+    if let Some(whole) = whole_integer(&conversion.shape, conversion.width, piece) {
+        let number = number_of(conversion.kind, whole.negative, whole.magnitude, false);
+        return ends(0, whole.bytes, finish_number(conversion, number));
+    }
+    let run = go_on(conversion, text_slot(conversion), ItemScan::start(conversion), piece);
+    if run.item == 0 {
+        return ends(0, 0, Finished::Fails(Status::MatchingFailure));
+    }
+    run
+}
+
+/// As the answer for what is behind so many bytes, which are skipped.
+fn behind<'f>(before: usize, run: Run<'f>) -> Run<'f>
+    requires { before + run.before < 2 ^ 64 }
+    ensures { result ≡ record run.entry { before = before + run.entry.before } }
+{
+    Run {
+        before: before + run.before,
+        item: run.item,
+        phase: run.phase,
+        ends: run.ends,
+    }
+}
+
+/// Hands a conversion that took nothing yet the piece, which comes so many bytes into the run.
+fn begin<'f>(conversion: &'f Conversion, piece: &[u8], used: u32) -> Run<'f>
+    ensures answers { IsProper (directive.Conv conversion.now) → Answers (directive.Conv conversion.now) Skipping used piece.now result }
+    ensures suits { Suits (directive.Conv conversion.now) phase.Skipping piece.now result }
+{
+    if is_count(&conversion.shape) {
+        return ends(0, 0, finish_count(conversion, used));
+    }
+    let before = skipped(&conversion.shape, piece);
+    let (_, rest) = piece.split_at(before);
+    behind(before, begin_item(conversion, rest))
+}
+
+/// Hands a conversion, which has come so far, the piece, which comes so many bytes into the run.
+fn run_conversion<'f>(conversion: &'f Conversion, phase: Phase<'f>, piece: &[u8], used: u32) -> Run<'f>
+    requires { IfSome (slot_in phase) (λ slot. text_slot (directive.Conv conversion.now) ≡ Some slot) }
+    ensures answers { (q : Stage) → IsProper (directive.Conv conversion.now) → Shows (directive.Conv conversion.now) phase.entry q
+        → Answers (directive.Conv conversion.now) q used piece.now result }
+    ensures suits { Suits (directive.Conv conversion.now) phase.entry piece.now result }
+{
+    match phase {
+        Phase::Skipping => begin(conversion, piece, used),
+        Phase::Item(scan) => go_on(conversion, None, scan, piece),
+        Phase::Text { slot, scan } => go_on(conversion, Some(slot), scan, piece),
+    }
+}
+
+/// `%%`: white space, and the percent sign behind it.
+fn run_percent<'f>(piece: &[u8]) -> Run<'f>
+    ensures answers { (n : ℕ) → Answers directive.Percent Skipping n piece.now result }
+    ensures suits { Suits directive.Percent phase.Skipping piece.now result }
+{
+    let before = space_before(piece);
+    let (_, rest) = piece.split_at(before);
+    behind(before, run_byte(b'%', rest))
+}
+
+/// Hands the directive, which has come so far, the piece, which comes so many bytes into the run.
+pub(crate) fn run_on<'f>(directive: &'f Directive, phase: Phase<'f>, piece: &[u8], used: u32) -> Run<'f>
+    requires { IfSome (slot_in phase) (λ slot. text_slot directive.now ≡ Some slot) }
+    ensures answers { (q : Stage) → IsProper directive.now → Shows directive.now phase.entry q → Answers directive.now q used piece.now result }
+    ensures suits { Suits directive.now phase.entry piece.now result }
+{
+    match directive {
+        Directive::Space => run_space(piece),
+        Directive::Byte(due) => run_byte(*due, piece),
+        Directive::Percent => run_percent(piece),
+        Directive::Conv(conversion) => run_conversion(conversion, phase, piece, used),
     }
 }

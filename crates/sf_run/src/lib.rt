@@ -10,7 +10,6 @@ mod report;
 mod row;
 mod scanner;
 mod tally;
-mod whole;
 
 pub use outcome::{Ending, Fed, FeedState, Outcome, StartFault, Status};
 pub use quick::quick_run;

@@ -11,10 +11,9 @@ ghost use Rattle.sf_run.specs.Quick.{GivesTo, MayBeGiven, PassesWithin};
 ghost use Rattle.sf_run.specs.Texts.{slot_of};
 ghost use Rattle.sf_run.specs.Views.{report_by};
 
-use crate::directive::Finished;
+use crate::directive::{Finished, Phase, run_on};
 use crate::outcome::{Outcome, Status};
 use crate::tally::Tally;
-use crate::whole::ends_within;
 use sf_base::{HeapStore, Store};
 use sf_format::{Directive, ScanFormat};
 
@@ -54,20 +53,22 @@ fn give(store: &mut HeapStore, finished: Finished, item: &[u8]) -> Option<bool>
     }
 }
 
-/// Passes a directive that ends before a byte of the piece. None where that is not told here.
-fn pass(store: &mut HeapStore, directive: &Directive, piece: &[u8]) -> Option<Passed>
+/// Passes a directive that ends within the piece, which comes so many bytes into the run. None where it may go on behind the
+/// piece, or fails.
+fn pass(store: &mut HeapStore, directive: &Directive, piece: &[u8], used: u32) -> Option<Passed>
     requires opened { store.old.opened ≡ None }
     requires free { MayBeGiven (slot_of directive.now) store.old.values }
-    ensures passes { IsProper directive.now → IfSome result (λ p. PassesWithin directive.now piece.now p.taken p.stores store.old store.new) }
-    ensures within { IfSome result (λ p. p.taken < length piece.now) }
+    ensures passes { IsProper directive.now → IfSome result (λ p. PassesWithin directive.now used piece.now p.taken p.stores store.old store.new) }
+    ensures within { IfSome result (λ p. p.taken ≤ length piece.now) }
     ensures room { capacity_of store.old ≤ capacity_of store.new }
 {
-    let whole = ends_within(directive, piece)?;
-    let (_, rest) = piece.split_at(whole.before);
-    let (item, _) = rest.split_at(whole.item);
-    let stores = give(store, whole.finished, item)?;
+    let run = run_on(directive, Phase::Skipping, piece, used);
+    let finished = run.ends?;
+    let (_, rest) = piece.split_at(run.before);
+    let (item, _) = rest.split_at(run.item);
+    let stores = give(store, finished, item)?;
     Some(Passed {
-        taken: whole.before + whole.item,
+        taken: run.before + run.item,
         stores,
     })
 }
@@ -76,7 +77,7 @@ fn pass(store: &mut HeapStore, directive: &Directive, piece: &[u8]) -> Option<Pa
 /// the values. What it answers is what the run comes to on every input that begins with the piece, with every ending; the
 /// run consumes at most `limit` bytes.
 ///
-/// None where the record isn't Done before a byte of the piece, where the limit may be passed or the storing of a text was
+/// None where the record isn't Done whatever follows the piece, where the limit may be passed or the storing of a text was
 /// refused: then nothing is said of the run, and the store may keep something.
 pub fn quick_run(
     store: &mut HeapStore,
@@ -98,7 +99,7 @@ pub fn quick_run(
     let mut tally = Tally::new();
     for directive in directives {
         let (_, rest) = front.split_at(tally.used as usize);
-        let passed = pass(store, directive, rest)?;
+        let passed = pass(store, directive, rest, tally.used)?;
         tally.used += passed.taken as u32;
         tally = tally.counted(directive, passed.stores);
     }

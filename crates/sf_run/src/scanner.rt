@@ -3,25 +3,26 @@ ghost use Rattle.std.specs.Prelude.{◌≡◌, ℕ, ◌+◌, ◌<◌, ◌≤◌,
 ghost use Rattle.std.specs.Bool.{OnTrue, OnFalse};
 ghost use Rattle.std.specs.Result.{result_ok};
 ghost use Rattle.sf_base.specs.Data.{Assigned, Bytes, datum_of, is_number};
-ghost use Rattle.sf_base.specs.Kept.{buffer_of, longer, with_opened, nothing_kept, text_of, texts_in};
+ghost use Rattle.sf_base.specs.Kept.{buffer_of, longer, with_bytes, nothing_kept, text_of, texts_in};
 ghost use Rattle.sf_format.specs.declared.directive.Directive.{Directive};
-ghost use Rattle.sf_format.specs.Proper.{AreProper, destinations_of, slots_of};
+ghost use Rattle.sf_format.specs.Proper.{AreProper, IsProper, destinations_of, slots_of};
 ghost use Rattle.sf_format.specs.Widths.{width_sum};
 ghost use Rattle.sf_run.specs.declared.outcome.Ending.{Ending};
 ghost use Rattle.sf_run.specs.declared.outcome.Status.TheVariants as status;
-ghost use Rattle.sf_run.specs.Holding.{are_placed, are_apart, first_slot, is_text, still_stored, is_limited, LeftAfter, LeftAfterAll, left_before};
+ghost use Rattle.sf_run.specs.Holding.{are_placed, are_apart, first_slot, is_text, still_stored, is_limited, LeftAfterAll, left_before};
 ghost use Rattle.sf_run.specs.declared.directive.Phase.TheVariants as phase;
-ghost use Rattle.sf_run.specs.Phases.{IsNumberGiven, end_of, is_failing, slot_closed, slot_given, slot_in};
+ghost use Rattle.sf_run.specs.Phases.{end_of, slot_in};
+ghost use Rattle.sf_run.specs.Pieces.{IsEnd};
 ghost use Rattle.sf_run.specs.Places.{places_left};
 ghost use Rattle.sf_run.specs.Stopping.{is_no_memory, is_memory_status};
-ghost use Rattle.sf_run.specs.Texts.{text_slot, slot_of, opened_slot, slots_in, IsNextSlot, opened_after, opened_with};
+ghost use Rattle.sf_run.specs.Texts.{text_slot, slot_of, opened_slot, slots_in, IsNextSlot, opened_with};
 ghost use Rattle.sf_run.specs.Steps.{StepEnd};
 
-use crate::directive::{Finished, Phase, Run, finish, is_full, run_on, step};
+use crate::directive::{Finished, Phase, Run, finish, run_on};
 use crate::outcome::{Ending, Fed, FeedState, Outcome, StartFault, Status};
 use crate::report::{Report, Scanned};
 use crate::tally::Tally;
-use sf_base::{FixedStore, HeapStore, Store, Value};
+use sf_base::{FixedStore, HeapStore, Store, Value, push_each};
 use sf_format::{Directive, ScanFormat};
 use sf_item::ItemScan;
 use std::alloc::Global;
@@ -35,6 +36,27 @@ pub(crate) struct Stop {
     pub(crate) status: Status,
     /// The directive that failed, counted from 1, or 0.
     pub(crate) at: u16,
+}
+
+/// How many bytes a directive was handed that were taken, and whether it waits for more.
+#[derive(Clone, Copy)]
+struct Handed {
+    taken: usize,
+    waits: bool,
+}
+
+/// Appends bytes to the opened text as far as the store takes them, and says how many it took.
+fn store_bytes<S: Store>(store: &mut S, bytes: &[u8]) -> usize
+    requires { IsSome (S.kept store.old).opened }
+    ensures within { result ≤ length bytes.now }
+    ensures pushed { S.kept store.new ≡ with_bytes (take result bytes.now) (S.kept store.new).room (S.kept store.old) }
+    ensures room { (S.kept store.old).room ≤ (S.kept store.new).room + result }
+    ensures full { result < length bytes.now → (S.kept store.old).room < length bytes.now }
+{
+    if store.push_all(bytes).is_ok() {
+        return bytes.len();
+    }
+    push_each(store, bytes)
 }
 
 /// Scans values by a format from bytes that are handed to it, into a store. It keeps no byte of its input but the texts
@@ -82,7 +104,7 @@ impl<'f, S: Store> Scanner<'f, S> {
     ghost use Rattle.sf_run.specs.Views.{report_by};
     ghost use Rattle.sf_run.specs.Runs.{RunReport, IsOpen};
     ghost use Rattle.sf_run.specs.Limits.{RunWithin, RunTold};
-    ghost use Rattle.sf_run.specs.Standing.{Follows, IsRefused, Keeps, Passes, Stops, Opens, Takes, TakesAll, Refuses, RefusesIn, turns_left, IsSettled, After, Gives, HasCome, has_ended, report_of, used_by, ran_out};
+    ghost use Rattle.sf_run.specs.Standing.{Ends, Follows, Keeps, Passes, Stops, Opens, TakesAll, RefusesIn, RunsOut, turns_left, IsSettled, After, Gives, HasCome, has_ended, report_of, used_by, ran_out};
     ghost use Rattle.sf_run.specs.Memory.{HoldsTexts, HoldsValues, capacity_of};
     ghost use Rattle.sf_run.specs.Scanner.{kept_by, standing};
     ghost use Rattle.sf_run.specs.Tallies.{tally_of};
@@ -155,17 +177,17 @@ impl<'f, S: Store> Scanner<'f, S> {
         self.phase = Phase::Skipping;
     }
 
-    /// Ends the directive under way, which takes nothing more. `more`: a byte follows.
-    fn close(&mut self, directive: &Directive, more: bool)
+    /// Ends the directive under way so.
+    fn close(&mut self, directive: &Directive, finished: Finished)
         requires current { slice_get self.old.directives.now self.old.passed ≡ Some directive.now }
         requires waits { self.old.ended ≡ None }
-        ensures same { (z : List ℕ) → IsRefused directive.now self.old.phase self.old.tally.used more z → Follows (standing self.new) (standing self.old) z z }
+        requires is { IsEnd directive.now self.old.phase finished }
+        ensures ends { Ends (standing self.new) (standing self.old) directive.now (end_of (text_of (kept_by self.old).opened) finished) }
         ensures used { self.new.tally.used ≡ self.old.tally.used }
         ensures keeps { Keeps (standing self.new) (standing self.old) }
         ensures fewer { turns_left (standing self.new) < turns_left (standing self.old) }
         ensures memory { ran_out (standing self.new) ≡ false }
     {
-        let finished = finish(directive, self.phase, self.tally.used, more);
         match finished {
             Finished::Fails(status) => self.fail(status),
             Finished::Passes => self.pass(directive),
@@ -191,30 +213,6 @@ impl<'f, S: Store> Scanner<'f, S> {
         self.stop(stop);
     }
 
-    /// Passes on over directives that no byte can change.
-    fn settle(&mut self)
-        ensures same { AreProper self.old.directives.now → (z : List ℕ) → Follows (standing self.new) (standing self.old) z z }
-        ensures used { self.new.tally.used ≡ self.old.tally.used }
-        ensures keeps { Keeps (standing self.new) (standing self.old) }
-        ensures stays { IsSome self.old.ended → IsSome self.new.ended }
-        ensures unchanged { IsSome self.old.ended → self.new ≡ self.old }
-        ensures turns { turns_left (standing self.new) ≤ turns_left (standing self.old) }
-        ensures settled { IsSettled (standing self.new) }
-        ensures memory { ran_out (standing self.new) ≡ ran_out (standing self.old) }
-    {
-        while self.ended.is_none() {
-            match self.directives.get(self.passed) {
-                None => self.conclude(),
-                Some(directive) => {
-                    if !is_full(directive, self.phase) {
-                        return;
-                    }
-                    self.close(directive, true);
-                }
-            }
-        }
-    }
-
     /// Begins the text of the directive under way.
     fn open(&mut self, directive: &'f Directive, slot: u8)
         requires current { slice_get self.old.directives.now self.old.passed ≡ Some directive.now }
@@ -223,7 +221,6 @@ impl<'f, S: Store> Scanner<'f, S> {
         requires own { text_slot directive.now ≡ Some slot }
         ensures opens { Opens (standing self.new) (standing self.old) slot }
         ensures left { left_before directive.now self.new.phase ≡ left_before directive.now self.old.phase }
-        ensures kept { kept_by self.new ≡ with_opened slot (kept_by self.old) }
     {
         let Directive::Conv(conversion) = directive else {
             return;
@@ -235,66 +232,23 @@ impl<'f, S: Store> Scanner<'f, S> {
         };
     }
 
-    /// Stores a byte of the text under way, after which the directive has come so far. Where that is refused, the run
-    /// ends.
-    fn store_byte(&mut self, directive: &Directive, phase: Phase<'f>, b: u8) -> bool
-        requires current { slice_get self.old.directives.now self.old.passed ≡ Some directive.now }
-        requires waits { self.old.ended ≡ None }
-        requires text { IsSome (slot_in self.old.phase) }
-        requires same_slot { slot_in phase ≡ slot_in self.old.phase }
-        requires below { self.old.tally.used < self.old.limit }
-        requires left { LeftAfter directive.now self.old.phase phase }
-        ensures taken { OnTrue result (Takes (standing self.new) (standing self.old) phase.entry (longer (b ∷ []) (kept_by self.old).opened)) }
-        ensures refused { OnFalse result (Stops (standing self.new) (standing self.old) (record { status = status.NoMemory; at = self.old.passed + 1 })) }
-    {
-        if self.store.push(b).is_err() {
-            self.fail(Status::NoMemory);
-            return false;
-        }
-        self.phase = phase;
-        self.tally.used += 1;
-        true
-    }
-
-    /// Takes the byte, after which the directive under way has come so far. Where its storing is refused, the run ends.
-    fn take(&mut self, directive: &'f Directive, phase: Phase<'f>, b: u8) -> bool
-        requires current { slice_get self.old.directives.now self.old.passed ≡ Some directive.now }
-        requires waits { self.old.ended ≡ None }
-        requires below { self.old.tally.used < self.old.limit }
-        requires slot { IsNextSlot (text_slot directive.now) (slot_in self.old.phase) (slot_in phase) }
-        requires left { LeftAfter directive.now self.old.phase phase }
-        ensures taken { OnTrue result (Takes (standing self.new) (standing self.old) phase.entry (opened_after (slot_in phase.entry) b (kept_by self.old).opened)) }
-        ensures refused { OnFalse result (Stops (standing self.new) (standing self.old) (record { status = status.NoMemory; at = self.old.passed + 1 })) }
-        ensures text { OnFalse result (IsSome (slot_in phase.entry)) }
-    {
-        match (self.phase, phase) {
-            (Phase::Text { .. }, Phase::Text { .. }) => self.store_byte(directive, phase, b),
-            (_, Phase::Text { slot, .. }) => {
-                self.open(directive, slot);
-                self.store_byte(directive, phase, b)
-            }
-            _ => {
-                self.phase = phase;
-                self.tally.used += 1;
-                true
-            }
-        }
-    }
-
-    /// Stores bytes of the text under way, after which the directive has come so far. Where that is refused, nothing has
-    /// changed.
+    /// Stores bytes of the text under way, after which the directive has come so far. Where the storing of one is refused,
+    /// the run ends before it.
     fn store_all(&mut self, directive: &Directive, run: Run<'f>, item: &[u8]) -> bool
         requires current { slice_get self.old.directives.now self.old.passed ≡ Some directive.now }
         requires waits { self.old.ended ≡ None }
         requires text { IsSome (slot_in self.old.phase) }
         requires same_slot { slot_in run.phase ≡ slot_in self.old.phase }
         requires below { self.old.tally.used + (run.before + run.item) ≤ self.old.limit }
+        requires all { run.item ≡ length item.now }
         requires left { LeftAfterAll directive.now self.old.phase run.phase (length item.now) }
         ensures taken { OnTrue result (TakesAll (standing self.new) (standing self.old) run.entry.phase (run.entry.before + run.entry.item) (longer item.now (kept_by self.old).opened)) }
-        ensures refused { OnFalse result (standing self.new ≡ standing self.old) }
-        ensures kept { OnFalse result (kept_by self.new ≡ kept_by self.old) }
+        ensures refused { OnFalse result (RunsOut (standing self.new) (standing self.old) run.entry.before run.entry.item) }
     {
-        if self.store.push_all(item).is_err() {
+        let stored = store_bytes(&mut self.store, item);
+        if stored < item.len() {
+            self.tally.used += (run.before + stored) as u32;
+            self.fail(Status::NoMemory);
             return false;
         }
         self.phase = run.phase;
@@ -302,7 +256,7 @@ impl<'f, S: Store> Scanner<'f, S> {
         true
     }
 
-    /// Begins the text of the directive under way with these bytes. Where their storing is refused, nothing has changed.
+    /// Begins the text of the directive under way with these bytes.
     fn open_all(&mut self, directive: &'f Directive, slot: u8, run: Run<'f>, item: &[u8]) -> bool
         requires current { slice_get self.old.directives.now self.old.passed ≡ Some directive.now }
         requires waits { self.old.ended ≡ None }
@@ -310,31 +264,28 @@ impl<'f, S: Store> Scanner<'f, S> {
         requires own { text_slot directive.now ≡ Some slot }
         requires same_slot { slot_in run.phase ≡ Some slot }
         requires below { self.old.tally.used + (run.before + run.item) ≤ self.old.limit }
+        requires all { run.item ≡ length item.now }
         requires left { LeftAfterAll directive.now self.old.phase run.phase (length item.now) }
         ensures taken { OnTrue result (TakesAll (standing self.new) (standing self.old) run.entry.phase (run.entry.before + run.entry.item) (opened_with (Some slot) item.now (kept_by self.old).opened)) }
-        ensures refused { OnFalse result (standing self.new ≡ standing self.old) }
+        ensures refused { OnFalse result (RunsOut (standing self.new) (standing self.old) run.entry.before run.entry.item) }
     {
-        let before = self.phase;
         self.open(directive, slot);
-        if self.store_all(directive, run, item) {
-            return true;
-        }
-        self.store.drop_text();
-        self.phase = before;
-        false
+        self.store_all(directive, run, item)
     }
 
-    /// Takes bytes at once, after which the directive under way has come so far; `item` are those of its item. Where
-    /// their storing is refused, nothing has changed.
+    /// Takes the bytes of the answer, after which the directive under way has come so far; `item` are those of its item.
+    /// Where the storing of one is refused, the run ends before it.
     fn take_all(&mut self, directive: &'f Directive, run: Run<'f>, item: &[u8]) -> bool
         requires current { slice_get self.old.directives.now self.old.passed ≡ Some directive.now }
         requires waits { self.old.ended ≡ None }
         requires slot { IsNextSlot (text_slot directive.now) (slot_in self.old.phase) (slot_in run.phase) }
         requires below { self.old.tally.used + (run.before + run.item) ≤ self.old.limit }
+        requires all { run.item ≡ length item.now }
         requires left { LeftAfterAll directive.now self.old.phase run.phase (length item.now) }
         ensures taken { OnTrue result (TakesAll (standing self.new) (standing self.old) run.entry.phase (run.entry.before + run.entry.item)
             (opened_with (slot_in run.entry.phase) item.now (kept_by self.old).opened)) }
-        ensures refused { OnFalse result (standing self.new ≡ standing self.old) }
+        ensures refused { OnFalse result (RunsOut (standing self.new) (standing self.old) run.entry.before run.entry.item) }
+        ensures text { OnFalse result (IsSome (slot_in run.entry.phase)) }
     {
         match (self.phase, run.phase) {
             (Phase::Text { .. }, Phase::Text { .. }) => self.store_all(directive, run, item),
@@ -347,89 +298,53 @@ impl<'f, S: Store> Scanner<'f, S> {
         }
     }
 
-    /// Takes a front of the piece at once, and says how many bytes those are. Where that is none, a byte may still be taken
-    /// alone.
-    fn take_run(&mut self, piece: &[u8]) -> usize
+    /// Hands the directive under way the bytes as far as the limit goes; it waits for more, or it has ended, or the run has.
+    fn hand(&mut self, directive: &'f Directive, piece: &[u8]) -> Handed
+        requires current { slice_get self.old.directives.now self.old.passed ≡ Some directive.now }
         requires waits { self.old.ended ≡ None }
-        ensures within { result ≤ length piece.now }
-        ensures same { AreProper self.old.directives.now → (z : List ℕ) → Follows (standing self.new) (standing self.old) z (take result piece.now ++ z) }
-        ensures used { self.new.tally.used ≡ self.old.tally.used + result }
+        ensures same { IsProper directive.now → ran_out (standing self.new) ≡ false → (z : List ℕ) → Follows (standing self.new) (standing self.old) (drop result.taken piece.now ++ z) (piece.now ++ z) }
+        ensures memory { IsProper directive.now → ran_out (standing self.new) ≡ true → RefusesIn (standing self.new) (standing self.old) piece.now }
+        ensures used { self.new.tally.used ≡ self.old.tally.used + result.taken }
+        ensures within { result.taken ≤ length piece.now }
         ensures keeps { Keeps (standing self.new) (standing self.old) }
-        ensures waits { self.new.ended ≡ None }
-        ensures turns { turns_left (standing self.new) ≡ turns_left (standing self.old) }
+        ensures ends { result.waits ≡ false → turns_left (standing self.new) < turns_left (standing self.old) }
+        ensures goes { result.waits ≡ true → turns_left (standing self.new) ≡ turns_left (standing self.old) }
+        ensures some { result.waits ≡ true → 0 < length piece.now → 0 < result.taken }
+        ensures settled { result.waits ≡ true → IsSettled (standing self.new) }
     {
-        let Some(directive) = self.directives.get(self.passed) else {
-            return 0;
-        };
-        let most = (self.limit - self.tally.used) as usize;
-        let (front, _) = piece.split_at(most.min(piece.len()));
-        let run = run_on(directive, self.phase, front);
+        let room = (self.limit - self.tally.used) as usize;
+        // At the limit one byte more is handed over, to see whether it would be taken.
+        let (front, _) = piece.split_at(piece.len().min(room.max(1)));
+        let run = run_on(directive, self.phase, front, self.tally.used);
         let taken = run.before + run.item;
+        if taken > room {
+            self.fail(Status::TooLong);
+            return Handed {
+                taken: 0,
+                waits: false,
+            };
+        }
+        let used = self.tally.used;
         let (_, rest) = front.split_at(run.before);
         let (item, _) = rest.split_at(run.item);
-        if taken > 0 && self.take_all(directive, run, item) {
-            taken
-        } else {
-            0
+        if !self.take_all(directive, run, item) {
+            let taken = (self.tally.used - used) as usize;
+            return Handed {
+                taken,
+                waits: false,
+            };
+        }
+        let Some(finished) = run.ends else {
+            return Handed { taken, waits: true };
+        };
+        self.close(directive, finished);
+        Handed {
+            taken,
+            waits: false,
         }
     }
 
-    /// Hands the byte to the directive under way. Where that doesn't take it, the directive has ended, or the run.
-    fn turn(&mut self, b: u8) -> bool
-        requires waits { self.old.ended ≡ None }
-        ensures taken { OnTrue result (AreProper self.old.directives.now → (z : List ℕ) → Follows (standing self.new) (standing self.old) z (b ∷ z)) }
-        ensures refused { OnFalse result (AreProper self.old.directives.now → ran_out (standing self.new) ≡ false → (z : List ℕ) → Follows (standing self.new) (standing self.old) (b ∷ z) (b ∷ z)) }
-        ensures memory { AreProper self.old.directives.now → ran_out (standing self.new) ≡ true → (z : List ℕ) → Refuses (standing self.new) (standing self.old) b (b ∷ z) }
-        ensures stopped { OnTrue result (ran_out (standing self.new) ≡ false) }
-        ensures used { self.new.tally.used ≡ self.old.tally.used + (if result then 1 else 0) }
-        ensures keeps { Keeps (standing self.new) (standing self.old) }
-        ensures fewer { OnFalse result (turns_left (standing self.new) < turns_left (standing self.old)) }
-        ensures as_many { OnTrue result (turns_left (standing self.new) ≡ turns_left (standing self.old)) }
-    {
-        match self.directives.get(self.passed) {
-            None => {
-                self.conclude();
-                false
-            }
-            Some(directive) => match step(directive, self.phase, b) {
-                None => {
-                    self.close(directive, true);
-                    false
-                }
-                Some(phase) => {
-                    if self.tally.used == self.limit {
-                        self.fail(Status::TooLong);
-                        return false;
-                    }
-                    self.take(directive, phase, b)
-                }
-            },
-        }
-    }
-
-    /// Hands bytes to the run: what the directive under way takes at once, and the byte behind. Says how many were taken.
-    fn hand(&mut self, piece: &[u8]) -> usize
-        requires some { 0 < length piece.now }
-        requires waits { self.old.ended ≡ None }
-        ensures same { AreProper self.old.directives.now → ran_out (standing self.new) ≡ false → (z : List ℕ) → Follows (standing self.new) (standing self.old) (drop result piece.now ++ z) (piece.now ++ z) }
-        ensures memory { AreProper self.old.directives.now → ran_out (standing self.new) ≡ true → RefusesIn (standing self.new) (standing self.old) piece.now }
-        ensures used { self.new.tally.used ≡ self.old.tally.used + result }
-        ensures within { result ≤ length piece.now }
-        ensures keeps { Keeps (standing self.new) (standing self.old) }
-        ensures goes { turns_left (standing self.new) < turns_left (standing self.old) + result }
-    {
-        let front = self.take_run(piece);
-        if front == piece.len() {
-            return front;
-        }
-        if self.turn(piece[front]) {
-            front + 1
-        } else {
-            front
-        }
-    }
-
-    /// Hands bytes to the run until it ends, and says how many were taken.
+    /// Hands bytes to the run until it ends or waits for more, and says how many were taken.
     fn push(&mut self, piece: &[u8]) -> usize
         ensures same { AreProper self.old.directives.now → ran_out (standing self.new) ≡ false → (z : List ℕ) → Follows (standing self.new) (standing self.old) z (piece.now ++ z) }
         ensures memory { AreProper self.old.directives.now → self.old.ended ≡ None → ran_out (standing self.new) ≡ true → RefusesIn (standing self.new) (standing self.old) piece.now }
@@ -440,15 +355,36 @@ impl<'f, S: Store> Scanner<'f, S> {
         ensures unchanged { IsSome self.old.ended → self.new ≡ self.old }
         ensures stays { IsSome self.old.ended → IsSome self.new.ended }
         ensures keeps { Keeps (standing self.new) (standing self.old) }
-        ensures settled { IsSettled (standing self.old) → IsSettled (standing self.new) }
+        ensures settled { IsSettled (standing self.new) }
     {
         let mut taken = 0;
-        while taken < piece.len() && self.ended.is_none() {
+        while self.ended.is_none() {
+            let Some(directive) = self.directives.get(self.passed) else {
+                self.conclude();
+                return taken;
+            };
             let (_, rest) = piece.split_at(taken);
-            taken += self.hand(rest);
-            self.settle();
+            let handed = self.hand(directive, rest);
+            taken += handed.taken;
+            if handed.waits && taken == piece.len() {
+                return taken;
+            }
         }
         taken
+    }
+
+    /// Ends the directive under way where nothing follows.
+    fn close_last(&mut self, directive: &Directive)
+        requires current { slice_get self.old.directives.now self.old.passed ≡ Some directive.now }
+        requires waits { self.old.ended ≡ None }
+        ensures same { Follows (standing self.new) (standing self.old) [] [] }
+        ensures used { self.new.tally.used ≡ self.old.tally.used }
+        ensures keeps { Keeps (standing self.new) (standing self.old) }
+        ensures fewer { turns_left (standing self.new) < turns_left (standing self.old) }
+        ensures memory { ran_out (standing self.new) ≡ false }
+    {
+        let finished = finish(directive, self.phase, self.tally.used);
+        self.close(directive, finished);
     }
 
     /// Ends each directive in turn: nothing follows.
@@ -463,7 +399,7 @@ impl<'f, S: Store> Scanner<'f, S> {
         while self.ended.is_none() {
             match self.directives.get(self.passed) {
                 None => self.conclude(),
-                Some(directive) => self.close(directive, false),
+                Some(directive) => self.close_last(directive),
             }
         }
     }
@@ -493,7 +429,7 @@ impl<'f, S: Store> Scanner<'f, S> {
             met: None,
             store,
         };
-        scanner.settle();
+        scanner.push(&[]);
         scanner
     }
 

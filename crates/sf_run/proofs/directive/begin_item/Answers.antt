@@ -1,29 +1,57 @@
-use Rattle.std.proofs.Common.{◌≡◌, ◌≢◌, ◌<◌, ◌+◌, ◌≤◌, List, ℕ, [], length, take, sym, ap, subst, arith}
+use Rattle.std.proofs.Common.{rules, ◌≡◌, ◌<◌, ◌+◌, ℕ, List, [], length, take, drop, sym, subst, ap, arith, ◌∙◌}
+use Rattle.sf_base.specs.Data.{value_of}
 use Rattle.sf_format.specs.declared.directive.Conversion.{Conversion}
 use Rattle.sf_format.specs.declared.directive.Directive.TheVariants.{Conv}
+use Rattle.sf_item.specs.Taking.{CanTake, conversion_of}
+use Rattle.sf_run.specs.declared.directive.Phase.TheVariants as phase
+use Rattle.sf_run.specs.declared.directive.Run.{Run}
+use Rattle.sf_run.specs.Machine.{Skipping}
 use Rattle.sf_format.specs.Proper.{IsProperShape}
-use Rattle.sf_item.specs.Taking.{conversion_of}
-use Rattle.sf_run.specs.Machine.{Item}
-use Rattle.sf_run.specs.Phases.{CanAll, Shows}
-use Rattle.sf_run.proofs.Brought.{brings_skipped, brings_first, below_of}
+use Rattle.sf_run.specs.Phases.{CanAll}
+use Rattle.sf_run.specs.Pieces.{Answers, Suits}
+use Rattle.sf_run.proofs.Pieces.{integer_read, item_begins, nothing_taken, suits_waits}
 use Rattle.sf_run.proofs.directive.begin_item.Goals as goal
 
-pub returns-then-run-eq0-clause-brings : goal.returns-then-run-eq0-clause-brings
-returns-then-run-eq0-clause-brings c proper =
-    brings_skipped c.args.conversion.now c.args.piece.now c.skipped-before.result c.skipped-before.ensures.within c.skipped-before.ensures.white
+pub returns-then-is_empty-clause-suits : goal.returns-then-is_empty-clause-suits
+returns-then-is_empty-clause-suits c =
+    let none : 0 ≡ length c.args.piece.now = search rules in
+    subst (λ (r : Run). Suits (Conv c.args.conversion.now) phase.Skipping c.args.piece.now r) (sym c.waits.ensures) (suits_waits (Conv c.args.conversion.now) 0 c.args.piece.now c.requires none)
 
-pub returns-clause-brings : goal.returns-clause-brings
-returns-clause-brings c proper =
+pub returns-in-Some-clause-answers : goal.returns-in-Some-clause-answers
+returns-in-Some-clause-answers c proper ink n =
+    let k : Conversion = c.args.conversion.now in
+    let w = c.in-Some.whole in
+    let is = c.in-Some.ensures in
+    let below = is.ends.behind in
+    subst (λ (r : Run). Answers (Conv k) Skipping n c.args.piece.now r) (sym c.ends.ensures)
+    (integer_read k n c.args.piece.now w c.finish_number.result is (ink (omega (arith, below)))
+    (λ text. c.finish_number.ensures.end text (value_of k.kind w.negative w.magnitude) c.number_of-number.ensures.value))
+
+pub returns-then-run-eq0-clause-answers : goal.returns-then-run-eq0-clause-answers
+returns-then-run-eq0-clause-answers c proper ink n =
     let k : Conversion = c.args.conversion.now in
     let piece : List ℕ = c.args.piece.now in
-    let w : ℕ = c.skipped-before.result in
-    let n : ℕ = c.go_on-run.result.item in
+    let some : 0 < length piece = search rules in
     let same : conversion_of c.start.result ≡ k = c.start.ensures.conversion in
-    let rest = c.split_at.ensures.back in
-    let within = c.skipped-before.ensures.within in
-    let fits : w + n ≤ length piece = below_of piece w n within (subst (λ y. n ≤ length y) rest c.go_on-run.ensures.within) in
-    let some : 0 < n = let e = c.if-run-eq0.false in omega (arith, e) in
-    brings_first k piece w within c.skipped-before.ensures.white n c.go_on-run.result.phase fits some (c.skipped-before.ensures.next (omega (arith, fits, some)))
-    (subst (λ y. CanAll k [] (take n y)) rest (subst (λ (x : Conversion). CanAll x [] (take n c.split_at.result.1.now)) same (c.go_on-run.ensures.can [] (subst (λ (x : Conversion). IsProperShape x.shape) (sym same) proper) c.start.ensures.nothing)))
-    (λ more. subst (λ y. take n y ≢ [] → Shows (Conv k) c.go_on-run.result.phase (Item (take n y))) rest
-    (c.go_on-run.ensures.shows (Conv k) [] (ap Conv (sym same)) (sym c.text_slot.ensures) c.start.ensures.nothing) more)
+    subst (λ (r : Run). Answers (Conv k) Skipping n piece r) (sym c.ends-then-run-eq0.ensures)
+    (nothing_taken k n piece proper.0 c.requires some (ink some) (λ can.
+        let none : c.go_on-run.result.item ≡ 0 = c.if-run-eq0.true in
+        c.go_on-run.ensures.stops [] c.start.ensures.nothing (omega (arith, none, some))
+        (subst (λ i. CanTake (conversion_of c.start.result) (take (i + 1) piece)) (sym none) (subst (λ (x : Conversion). CanTake x (take 1 piece)) (sym same) can))))
+
+pub returns-clause-answers : goal.returns-clause-answers
+returns-clause-answers c proper ink n =
+    let k : Conversion = c.args.conversion.now in
+    let piece : List ℕ = c.args.piece.now in
+    let same : conversion_of c.start.result ≡ k = c.start.ensures.conversion in
+    let e = c.go_on-run.ensures in
+    let run = c.go_on-run.result in
+    let some : 0 < run.item = (let e = c.if-run-eq0.false in omega (arith, e)) in
+    let within = e.within in
+    let shape = subst (λ (x : Conversion). IsProperShape x.shape) (sym same) proper.0 in
+    subst (λ b. Answers (Conv k) Skipping n piece (record { before = b; item = run.item; phase = run.phase; ends = run.ends })) (sym e.before)
+    (item_begins k n piece run.item proper some within (ink (omega (arith, some, within)))
+    (subst (λ (x : Conversion). CanAll x [] (take run.item piece)) same (e.can [] shape c.start.ensures.nothing))
+    run.phase run.ends (e.slot ∙ c.text_slot.ensures) e.waits
+    (λ more. e.shows (Conv k) [] (ap Conv (sym same)) (sym c.text_slot.ensures) c.start.ensures.nothing more)
+    (λ more. e.ends [] proper (sym same) c.start.ensures.nothing (sym c.text_slot.ensures) more))

@@ -8,16 +8,6 @@ use Rattle.sf_run.specs.Phases.{Shows}
 use Rattle.sf_run.proofs.Stages.{conv_is, other_finished}
 use Rattle.sf_run.proofs.directive.finish.Goals as goal
 
-pub returns-in-Byte-clause-end : goal.returns-in-Byte-clause-end
-returns-in-Byte-clause-end c q opened shows is =
-    c.finish_byte.ensures.end (text_of opened) c.args.directive.now q shows
-    ∙ ap (λ (d : Directive). finished d q c.args.used c.args.more) (sym c.in-Byte.is)
-
-pub returns-in-Percent-clause-end : goal.returns-in-Percent-clause-end
-returns-in-Percent-clause-end c q opened shows is =
-    c.finish_byte-in-Percent.ensures.end (text_of opened) c.args.directive.now q shows
-    ∙ ap (λ (d : Directive). finished d q c.args.used c.args.more) (sym c.in-Percent.is)
-
 pub returns-in-Conv-2-clause-end : goal.returns-in-Conv-2-clause-end
 returns-in-Conv-2-clause-end c q opened shows is =
     let d = c.in-Conv-2.conversion in
@@ -25,4 +15,4 @@ returns-in-Conv-2-clause-end c q opened shows is =
     let same : c.in-Conv.conversion ≡ d = conv_is c.in-Conv.conversion d (sym c.in-Conv.is ∙ e) in
     let other : is_count d.shape ≡ false = ap (λ (x : Conversion). is_count x.shape) (sym same) ∙ sym c.is_count.ensures ∙ c.if-is_count.false in
     c.finish_conversion.ensures.end q opened (subst (λ (x : Directive). Shows x c.args.phase q) e shows) (is ∙ ap (λ (x : Directive). opened_for (text_slot x) q) e)
-    ∙ sym (other_finished d d.shape q c.args.used c.args.more other) ∙ ap (λ (x : Directive). finished x q c.args.used c.args.more) (sym e)
+    ∙ sym (other_finished d d.shape q c.args.used false other) ∙ ap (λ (x : Directive). finished x q c.args.used false) (sym e)

@@ -1,4 +1,4 @@
-use Rattle.std.proofs.Common.{sym, subst, ap, ◌≡◌, ◌∙◌, Some}
+use Rattle.std.proofs.Common.{false, sym, subst, ap, ◌≡◌, ◌∙◌, Some}
 use Rattle.sf_base.specs.Kept.{text_of}
 use Rattle.sf_format.specs.declared.directive.Conversion.{Conversion}
 use Rattle.sf_format.specs.declared.directive.Directive.TheVariants.{Conv}
@@ -16,7 +16,7 @@ returns-in-Item-clause-end c q opened shows is =
     let d = c.args.conversion.now in
     let s : Shows (Conv d) (phase.Item c.in-Item.scan) q = subst (λ (p : Phase). Shows (Conv d) p q) c.in-Item.is shows in
     c.finish_item.ensures.end (text_of opened) s.item s.begun (conv_is d (conversion_of c.in-Item.scan) s.own) s.taken s.text
-    ∙ item_finish d q c.args.more s.item s.stage
+    ∙ item_finish d q false s.item s.stage
 
 pub returns-in-Text-clause-end : goal.returns-in-Text-clause-end
 returns-in-Text-clause-end c q opened shows is =
@@ -28,4 +28,4 @@ returns-in-Text-clause-end c q opened shows is =
     ap (λ t. end_of t c.finish_text.result) (shown_text (Conv d) slot c.in-Text.scan q opened s is)
     ∙ c.finish_text.ensures.end s.item s.begun s.taken text
     ∙ ap (λ (e : Conversion). item_end e s.item) (sym own)
-    ∙ item_finish d q c.args.more s.item s.stage
+    ∙ item_finish d q false s.item s.stage

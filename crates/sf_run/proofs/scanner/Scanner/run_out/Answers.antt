@@ -8,8 +8,8 @@ conclude-requires-clause-current g c =
     let w = c.in-None.ensures.lookup in
     slice_get_past s.directives.now s.passed (omega (arith, w.0))
 
-pub close-requires-clause-current : goal.close-requires-clause-current
-close-requires-clause-current g c =
+pub close_last-requires-clause-current : goal.close_last-requires-clause-current
+close_last-requires-clause-current g c =
     let s = c.loop-self.self in
     let w = c.in-Some.ensures.lookup in
     slice_get_read s.directives.now (length s.directives.now) s.passed c.in-Some.directive.now refl w.3.0 w.1

@@ -1,9 +1,11 @@
-use Rattle.std.proofs.Common.{◌≡◌, ◌∙◌, Some, refl, ap, length, arith}
+use Rattle.std.proofs.Common.{◌≡◌, ◌∙◌, [], false, Some, refl, ap, length, arith}
 use Rattle.sf_base.specs.Kept.{Kept, buffer_of}
 use Rattle.sf_run.specs.Residual.{nothing_yet, run_of}
 use Rattle.sf_run.specs.Texts.{slots_in, opened_slot}
 use Rattle.sf_run.specs.Tallies.{tally_of}
 use Rattle.sf_run.specs.Scanner.{standing}
+use Rattle.sf_run.specs.Standing.{ran_out}
+use Rattle.sf_run.proofs.Moves.{none_refused}
 use Rattle.sf_run.proofs.Slots.{room_first, size_first}
 use Rattle.sf_run.proofs.Waits.{after_nothing, start_does, tally_nothing}
 use Rattle.sf_run.proofs.scanner.Scanner.start.Goals as goal
@@ -41,8 +43,12 @@ returns-clause-after g c =
     let kept : Kept = g.S.Store.kept c.args.store in
     let nothing : tally_of c.new.result kept.values ≡ nothing_yet =
     tally_nothing c.new.result kept.values c.new.ensures.used c.new.ensures.assigned c.new.ensures.converted (ap (λ (k : Kept). k.values) c.requires.empty) in
-    let used : c.settle.new.self.tally.used ≡ 0 = c.settle.ensures.used ∙ c.new.ensures.used in
-    after_nothing ds c.args.limit (standing c.settle.new.self) c.settle.ensures.keeps.directives c.settle.ensures.keeps.limit c.requires.proper
-    (λ k z within. c.settle.ensures.same c.requires.proper z k (run_of (Some k) ds 1 nothing_yet z) (omega (arith, used)) within
+    let none = c.push.ensures.within in
+    let count = c.push.ensures.used in
+    let first = c.new.ensures.used in
+    let used : c.push.new.self.tally.used ≡ 0 = omega (arith, none, count, first) in
+    let fine : ran_out (standing c.push.new.self) ≡ false = none_refused (standing c.push.new.self) _ [] refl (λ out. c.push.ensures.memory c.requires.proper refl out) in
+    after_nothing ds c.args.limit (standing c.push.new.self) c.push.ensures.keeps.directives c.push.ensures.keeps.limit c.requires.proper
+    (λ k z within. c.push.ensures.same c.requires.proper fine z k (run_of (Some k) ds 1 nothing_yet z) (omega (arith, used)) within
     (start_does ds ds kept.opened (tally_of c.new.result kept.values) k z refl (ap (λ (k : Kept). k.opened) c.requires.empty) nothing))
-    c.settle.ensures.settled used c.settle.ensures.keeps.met
+    c.push.ensures.settled used c.push.ensures.keeps.met

@@ -1,0 +1,525 @@
+-- What a directive makes of a piece.
+use Rattle.std.proofs.Common.{◌≡◌, ◌≢◌, ℕ, zero, suc, ◌+◌, ◌<◌, ◌≤◌, Bool, true, false, cond, ◌&&◌, not, nat_eq, List, [], ◌∷◌, ◌++◌, length, take, drop, get_or, append_assoc, append-nil, take-append-drop, length-drop, Option, Some, None, inl, inr, ◌⊎◌, refl, sym, ap, subst, ◌∙◌, arith, true≢false}
+use Rattle.std.specs.Prelude.{IfSome, IsSome, slice_get}
+use Rattle.std.proofs.lemmas.Option.{get_or_from_slice_get, slice_get_within}
+use Rattle.std.specs.List.{list_all}
+use Rattle.std.proofs.Math.Seq.{take-suc}
+use Rattle.std.proofs.lemmas.List.{length-take, length-take-le, drop_more, drop-drop, drop-append-le, get_or-drop, get_or-take, take_all}
+use Rattle.sf_base.specs.Bytes.{is_white}
+use Rattle.sf_base.specs.Data.{value_of}
+use Rattle.sf_format.specs.declared.directive.Base.{Base}
+use Rattle.sf_format.specs.declared.directive.Conversion.{Conversion}
+use Rattle.sf_format.specs.declared.directive.Directive.{Directive}
+use Rattle.sf_format.specs.declared.directive.Directive.TheVariants.{Space, Byte, Percent, Conv}
+use Rattle.sf_format.specs.declared.directive.Shape.{Shape}
+use Rattle.sf_format.specs.declared.directive.Shape.TheVariants.{Int, Text, Set, Chars, Count}
+use Rattle.sf_format.specs.Proper.{IsProper, IsProperShape}
+use Rattle.sf_item.specs.declared.item.ItemScan.{ItemScan}
+use Rattle.sf_item.specs.declared.reading.Reading.{Reading}
+use Rattle.sf_item.specs.declared.reading.Reading.TheVariants as reading
+use Rattle.sf_item.specs.declared.whole.WholeInteger.{WholeInteger}
+use Rattle.sf_item.specs.Scan.{HasLeft, shape_of}
+use Rattle.sf_item.specs.Taking as taking
+use Rattle.sf_item.specs.Matching.{IsInteger, IsItem, IsWithin}
+use Rattle.sf_item.specs.Taking.{CanTake, HasTaken, conversion_of}
+use Rattle.sf_item.specs.Tests.{is_ink, is_within, shape_begins, can_take}
+use Rattle.sf_item.specs.Wholes as items
+use Rattle.sf_item.proofs.Deciding.{integer_at_is, tests_can_take, tests_same}
+use Rattle.sf_run.specs.declared.directive.Finished.{Finished}
+use Rattle.sf_run.specs.declared.directive.Finished.TheVariants as finish
+use Rattle.sf_run.specs.declared.directive.Phase.{Phase}
+use Rattle.sf_run.specs.declared.directive.Phase.TheVariants as phase
+use Rattle.sf_run.specs.declared.directive.Run.{Run}
+use Rattle.sf_run.specs.declared.outcome.Status.TheVariants.{MatchingFailure}
+use Rattle.sf_run.specs.Steps.{StepEnd}
+use Rattle.sf_run.specs.Holding.{LeftAfterAll, left_before}
+use Rattle.sf_run.specs.Machine.{Stage, Skipping, Taken, Item, shape_skips, count_end, item_stepped, item_end, stepped, finished, is_full}
+use Rattle.sf_run.specs.Phases.{Brings, CanAll, GrowsBy, Shows, ShowsItem, end_of, passed_number, slot_in}
+use Rattle.sf_run.specs.Pieces.{Answers, AnswersBy, EndsAt, EndsIn, IsEnd, IsWhole, StaysAt, Suits, item_of}
+use Rattle.sf_run.specs.Residual.{Part, choose, one_from, stepped_all}
+use Rattle.sf_run.specs.Texts.{IsInText, StoresByte, counts_bytes, is_count, text_slot}
+use Rattle.sf_run.proofs.Brought.{all-append, can_all, first_all, item_all, one_from-all, skips_all, take-take}
+use Rattle.sf_run.proofs.Items.{can_take_prefix}
+use Rattle.sf_run.proofs.Machines.{byte_refused, full_refuses, grows}
+use Rattle.sf_run.proofs.Stages.{count_finished, integer_ends, other_finished, skipping_full, taken_full}
+
+-- ---- bytes of a piece
+
+-- the byte behind a front of a piece, and those after it
+pub next_is : (xs : List ℕ) (i : ℕ) (z : List ℕ) → i < length xs → drop i xs ++ z ≡ get_or xs i 0 ∷ (drop (i + 1) xs ++ z)
+next_is xs i z h = ap (λ (y : List ℕ). y ++ z) (drop_more xs i 0 h)
+
+-- a front of a piece, and what is behind it
+pub parted : (xs : List ℕ) (i : ℕ) (z : List ℕ) → take i xs ++ (drop i xs ++ z) ≡ xs ++ z
+parted xs i z = sym (append_assoc (take i xs) (drop i xs) z) ∙ ap (λ (y : List ℕ). y ++ z) (take-append-drop i xs)
+
+pub same_part : {n m : ℕ} {x y : List ℕ} {e f : StepEnd} → n ≡ m → x ≡ y → e ≡ f → ◌≡◌ {A = Part} (record { used = n; left = x; end = e }) (record { used = m; left = y; end = f })
+same_part p q r = (λ i. record { used = p i; left = q i; end = r i })
+
+not_true : (v : Bool) → (v ≡ true → ⊥) → v ≡ false
+not_true true never = absurd (never refl)
+not_true false never = refl
+
+not_of : (v : Bool) → not v ≡ true → v ≡ false
+not_of true e = absurd (true≢false (sym e))
+not_of false e = refl
+
+right_of : (a b : Bool) → (a && b) ≡ true → b ≡ true
+right_of true b e = e
+right_of false b e = absurd (true≢false (sym e))
+
+left_of : (a b : Bool) → (a && b) ≡ true → a ≡ true
+left_of true b e = refl
+left_of false b e = e
+
+pub none_first : (xs : List ℕ) → None ≡ slice_get xs 0 → 0 ≡ length xs
+none_first [] e = refl
+none_first (x ∷ xs) e = absurd cc
+
+pub some_first : (xs : List ℕ) (b : ℕ) → Some b ≡ slice_get xs 0 → (0 < length xs) × (get_or xs 0 0 ≡ b)
+some_first xs b e = (slice_get_within xs 0 b (sym e), get_or_from_slice_get xs 0 b 0 (sym e))
+
+-- ---- where a directive ends
+
+-- it takes nothing of the rest where it doesn't take the next byte
+pub stays_next : (d : Directive) (q : Stage) (k : ℕ) (piece : List ℕ) → k < length piece → stepped d q (get_or piece k 0) ≡ None → StaysAt d q (drop k piece)
+stays_next d q k piece below none n z =
+    subst (λ y. one_from d q n y ≡ record { used = n; left = y; end = finished d q n true }) (sym (next_is piece k z below)) (byte_refused d q n (get_or piece k 0) (drop (k + 1) piece ++ z) none)
+
+-- and where it is full
+pub stays_full : (d : Directive) (q : Stage) (rest : List ℕ) → IsProper d → is_full d q ≡ true → StaysAt d q rest
+stays_full d q rest proper full n z = full_refuses d proper q n (rest ++ z) full
+
+-- a front of the piece brings it to a stage at which it ends
+pub ends_in : (d : Directive) (q r : Stage) (n k : ℕ) (piece : List ℕ) (end : StepEnd) → k ≤ length piece → stepped_all d q (take k piece) ≡ Some r
+    → ((m : ℕ) (z : List ℕ) → one_from d r m (drop k piece ++ z) ≡ record { used = m; left = drop k piece ++ z; end = end }) → EndsIn d q n piece k end
+ends_in d q r n k piece end within goes stays = record {
+  within = within;
+  takes = λ z.
+      let long : n + length (take k piece) ≡ n + k = ap (λ m. n + m) (length-take-le k piece within) in
+      ap (one_from d q n) (sym (parted piece k z)) ∙ one_from-all d q r n (take k piece) (drop k piece ++ z) goes
+      ∙ subst (λ m. one_from d r m (drop k piece ++ z) ≡ record { used = n + k; left = drop k piece ++ z; end = end }) (sym long) (stays (n + k) z);
+}
+
+-- a front of the piece on which it ends
+ends_longer : (d : Directive) (q : Stage) (n k m : ℕ) (piece : List ℕ) (end : StepEnd) → m ≤ length piece → EndsIn d q n (take m piece) k end → EndsIn d q n piece k end
+ends_longer d q n k m piece end within e =
+    let fits = e.within in
+    let long = length-take-le m piece within in
+    record {
+      within = omega (arith, fits, long, within);
+      takes = λ z.
+          let left : drop k (take m piece) ++ (drop m piece ++ z) ≡ drop k piece ++ z =
+          sym (append_assoc (drop k (take m piece)) (drop m piece) z)
+          ∙ ap (λ (y : List ℕ). y ++ z) (sym (drop-append-le k (take m piece) (drop m piece) fits) ∙ ap (drop k) (take-append-drop m piece)) in
+          subst (λ y. one_from d q n y ≡ record { used = n + k; left = drop k piece ++ z; end = end }) (parted piece m z)
+          (subst (λ y. one_from d q n (take m piece ++ (drop m piece ++ z)) ≡ record { used = n + k; left = y; end = end }) left (e.takes (drop m piece ++ z)));
+    }
+
+pub front_ends : (d : Directive) (q : Stage) (n m k : ℕ) (piece front : List ℕ) (end : StepEnd) → front ≡ take m piece → m ≤ length piece → EndsIn d q n front k end
+    → (z : List ℕ) → one_from d q n (piece ++ z) ≡ record { used = n + k; left = drop k piece ++ z; end = end }
+front_ends d q n m k piece front end is within e = let w = ends_longer d q n k m piece end within (subst (λ y. EndsIn d q n y k end) is e) in w.takes
+
+-- ---- what the answer says is taken
+
+pub answers_use : (d : Directive) (q : Stage) (n : ℕ) (piece : List ℕ) (run : Run) → run.before + run.item ≤ length piece → Answers d q n piece run
+    → (z : List ℕ) → n + (run.before + run.item) ≤ (one_from d q n (piece ++ z)).used
+answers_use d q n piece run within a z = by_ends run.ends a.goes
+  where
+    by_ends : (o : Option Finished) → AnswersBy o d q n piece run → n + (run.before + run.item) ≤ (one_from d q n (piece ++ z)).used
+    by_ends None h =
+        let more = grows d h.stage (n + length piece) z in
+        let same = ap (λ (p : Part). p.used) (one_from-all d q h.stage n piece z h.stepped) in
+        omega (arith, within, more, same)
+    by_ends (Some end) h = let same = ap (λ (p : Part). p.used) (h.takes z) in omega (arith, same)
+
+-- of a piece of which the directive was handed a front
+module _ (d : Directive) (q : Stage) (n m : ℕ) (piece front : List ℕ) (run : Run) (is : front ≡ take m piece) (within : run.before + run.item ≤ length front) (a : Answers d q n front run) where
+  pub uses_front : (z : List ℕ) → n + (run.before + run.item) ≤ (one_from d q n (piece ++ z)).used
+  uses_front z =
+      subst (λ y. n + (run.before + run.item) ≤ (one_from d q n y).used) (ap (λ (y : List ℕ). y ++ (drop m piece ++ z)) is ∙ parted piece m z) (answers_use d q n front run within a (drop m piece ++ z))
+
+  pub stores_front : (slot : Option ℕ) → slot_in run.phase ≡ slot → IsSome slot → (j : ℕ) → j < run.item → StoresByte d (get_or piece (run.before + j) 0)
+  stores_front None own some j below = absurd cc
+  stores_front (Some slot) own some j below =
+      let few = length-take m piece in
+      let long = ap length is in
+      subst (StoresByte d) (ap (λ (y : List ℕ). get_or y (run.before + j) 0) is ∙ get_or-take m piece (run.before + j) 0 (omega (arith, below, within, few, long))) (a.stores slot j own below)
+
+-- ---- behind bytes that are skipped
+
+pub answers_behind : (d : Directive) (n w : ℕ) (piece : List ℕ) (run : Run) → w ≤ length piece → run.before + run.item ≤ length (drop w piece) → stepped_all d Skipping (take w piece) ≡ Some Skipping
+    → Answers d Skipping (n + w) (drop w piece) run → Answers d Skipping n piece (record run { before = w + run.before })
+answers_behind d n w piece run within fits skips a = record {
+  goes = by_ends run.ends a.goes;
+  stores = λ slot j own below.
+      let place : get_or (drop w piece) (run.before + j) 0 ≡ get_or piece (w + (run.before + j)) 0 = get_or-drop w piece (run.before + j) 0 in
+      let same : w + (run.before + j) ≡ w + run.before + j = omega arith in
+      subst (StoresByte d) (place ∙ ap (λ i. get_or piece i 0) same) (a.stores slot j own below);
+}
+  where
+    item_is : take run.item (drop run.before (drop w piece)) ≡ take run.item (drop (w + run.before) piece)
+    item_is = ap (take run.item) (drop-drop run.before w piece)
+
+    by_ends : (o : Option Finished) → AnswersBy o d Skipping (n + w) (drop w piece) run → AnswersBy o d Skipping n piece (record run { before = w + run.before })
+    by_ends None h = record {
+      stage = h.stage;
+      stepped = ap (stepped_all d Skipping) (sym (take-append-drop w piece)) ∙ all-append d Skipping Skipping (take w piece) (drop w piece) skips ∙ h.stepped;
+      shown = h.shown;
+      grown = subst (λ g. GrowsBy Skipping g h.stage) item_is h.grown;
+    }
+    by_ends (Some end) h =
+        let k : ℕ = run.before + run.item in
+        let long : length (take w piece) ≡ w = length-take-le w piece within in
+        let all : length (drop w piece) + w ≡ length piece = (let l = length-drop w piece in omega (arith, l, within)) in
+        let more : n + w + k ≡ n + (w + run.before + run.item) = omega arith in
+        let place : w + k ≡ w + run.before + run.item = omega arith in
+        record {
+          within = omega (arith, all, fits);
+          takes = λ z.
+              let here : one_from d Skipping n (piece ++ z) ≡ one_from d Skipping (n + w) (drop w piece ++ z) =
+              ap (one_from d Skipping n) (sym (parted piece w z)) ∙ one_from-all d Skipping Skipping n (take w piece) (drop w piece ++ z) skips
+              ∙ ap (λ m. one_from d Skipping (n + m) (drop w piece ++ z)) long in
+              let left : drop k (drop w piece) ++ z ≡ drop (w + run.before + run.item) piece ++ z = ap (λ y. y ++ z) (drop-drop k w piece ∙ ap (λ i. drop i piece) place) in
+              here ∙ h.takes z ∙ same_part more left (ap (λ g. end_of g end) item_is);
+        }
+
+-- the byte behind them
+pub next_behind : (test : ℕ → Bool) (w : ℕ) (piece : List ℕ) → (w < length piece → test (get_or piece w 0) ≡ false) → 0 < length (drop w piece) → test (get_or (drop w piece) 0 0) ≡ false
+next_behind test w piece next some =
+    let all = length-drop w piece in
+    let same : w + 0 ≡ w = omega arith in
+    ap test (get_or-drop w piece 0 0 ∙ ap (λ i. get_or piece i 0) same) ∙ next (omega (arith, all, some))
+
+-- ---- directives without an item
+
+nothing_stored : (d : Directive) (piece : List ℕ) (w slot j : ℕ) → ◌≡◌ {A = Option ℕ} None (Some slot) → StoresByte d (get_or piece (w + j) 0)
+nothing_stored d piece w slot j e = cc
+
+pub plain_waits : (d : Directive) (n w : ℕ) (piece : List ℕ) → length piece ≤ w → stepped_all d Skipping (take w piece) ≡ Some Skipping
+    → Answers d Skipping n piece (record { before = w; item = 0; phase = phase.Skipping; ends = None })
+plain_waits d n w piece all skips = record {
+  goes = record { stage = Skipping; stepped = ap (stepped_all d Skipping) (sym (take_all w piece all)) ∙ skips; shown = refl; grown = tt };
+  stores = λ slot j own below. absurd (omega (arith, below));
+}
+
+pub plain_ends : (d : Directive) (n w : ℕ) (r : Stage) (piece : List ℕ) (end : Finished) → w ≤ length piece → stepped_all d Skipping (take w piece) ≡ Some r
+    → ((m : ℕ) (z : List ℕ) → one_from d r m (drop w piece ++ z) ≡ record { used = m; left = drop w piece ++ z; end = end_of [] end })
+    → Answers d Skipping n piece (record { before = w; item = 0; phase = phase.Skipping; ends = Some end })
+plain_ends d n w r piece end within goes stays = record {
+  goes =
+      let same : w ≡ w + 0 = omega arith in
+      subst (λ k. EndsIn d Skipping n piece k (end_of [] end)) same (ends_in d Skipping r n w piece (end_of [] end) within goes stays);
+  stores = λ slot j own below. absurd (omega (arith, below));
+}
+
+module _ (piece : List ℕ) (n w : ℕ) (within : w ≤ length piece) (white : (k : ℕ) → k < w → is_white (get_or piece k 0) ≡ true) where
+  space_skips : stepped_all Space Skipping (take w piece) ≡ Some Skipping
+  space_skips = skips_all Space piece w within (λ k below. ap (λ v. cond v (Some Skipping) None) (white k below))
+
+  pub space_waits : length piece ≤ w → Answers Space Skipping n piece (record { before = w; item = 0; phase = phase.Skipping; ends = None })
+  space_waits all = plain_waits Space n w piece all space_skips
+
+  pub space_ends : w < length piece → is_white (get_or piece w 0) ≡ false → Answers Space Skipping n piece (record { before = w; item = 0; phase = phase.Skipping; ends = Some finish.Passes })
+  space_ends below ink = plain_ends Space n w Skipping piece finish.Passes within space_skips (stays_next Space Skipping w piece below (ap (λ v. cond v (Some Skipping) None) ink))
+
+  pub percent_skips : stepped_all Percent Skipping (take w piece) ≡ Some Skipping
+  percent_skips = skips_all Percent piece w within (λ k below. ap (λ v. cond v (Some Skipping) (stepped (Byte 37) Skipping (get_or piece k 0))) (white k below))
+
+-- ---- the byte that is due
+
+not_same : (a b : ℕ) → (b ≡ a → ⊥) → nat_eq a b ≡ false
+not_same a b other = by_case (nat_eq a b) refl
+  where
+    by_case : (v : Bool) → nat_eq a b ≡ v → v ≡ false
+    by_case true e = absurd (other (sym ((tests_same a b).from e)))
+    by_case false e = refl
+
+due_taken : (d : Directive) (piece : List ℕ) → 0 < length piece → stepped d Skipping (get_or piece 0 0) ≡ Some Taken → stepped_all d Skipping (take 1 piece) ≡ Some Taken
+due_taken d [] some e = absurd (omega (arith, some))
+due_taken d (x ∷ xs) some e = ap (λ (o : Option Stage). choose o None (λ s. stepped_all d s [])) e
+
+pub byte_passes : (a n : ℕ) (piece : List ℕ) → a < 256 → 0 < length piece → get_or piece 0 0 ≡ a
+    → Answers (Byte a) Skipping n piece (record { before = 1; item = 0; phase = phase.Skipping; ends = Some finish.Passes })
+byte_passes a n piece proper some is =
+    let takes : stepped (Byte a) Skipping (get_or piece 0 0) ≡ Some Taken = ap (λ v. cond v (Some Taken) None) ((tests_same a (get_or piece 0 0)).to (sym is)) in
+    plain_ends (Byte a) n 1 Taken piece finish.Passes (omega (arith, some)) (due_taken (Byte a) piece some takes) (stays_full (Byte a) Taken (drop 1 piece) proper (sym (taken_full (Byte a))))
+
+pub byte_fails : (a n : ℕ) (piece : List ℕ) → 0 < length piece → (get_or piece 0 0 ≡ a → ⊥)
+    → Answers (Byte a) Skipping n piece (record { before = 0; item = 0; phase = phase.Skipping; ends = Some (finish.Fails MatchingFailure) })
+byte_fails a n piece some other =
+    plain_ends (Byte a) n 0 Skipping piece (finish.Fails MatchingFailure) (omega arith) refl
+    (stays_next (Byte a) Skipping 0 piece some (ap (λ v. cond v (Some Taken) None) (not_same a (get_or piece 0 0) other)))
+
+pub percent_passes : (n : ℕ) (piece : List ℕ) → 0 < length piece → is_white (get_or piece 0 0) ≡ false → get_or piece 0 0 ≡ 37
+    → Answers Percent Skipping n piece (record { before = 1; item = 0; phase = phase.Skipping; ends = Some finish.Passes })
+percent_passes n piece some ink is =
+    let takes : stepped Percent Skipping (get_or piece 0 0) ≡ Some Taken =
+    ap (λ v. cond v (Some Skipping) (stepped (Byte 37) Skipping (get_or piece 0 0))) ink ∙ ap (λ v. cond v (Some Taken) None) ((tests_same 37 (get_or piece 0 0)).to (sym is)) in
+    plain_ends Percent n 1 Taken piece finish.Passes (omega (arith, some)) (due_taken Percent piece some takes) (stays_full Percent Taken (drop 1 piece) tt (sym (taken_full Percent)))
+
+pub percent_fails : (n : ℕ) (piece : List ℕ) → 0 < length piece → is_white (get_or piece 0 0) ≡ false → (get_or piece 0 0 ≡ 37 → ⊥)
+    → Answers Percent Skipping n piece (record { before = 0; item = 0; phase = phase.Skipping; ends = Some (finish.Fails MatchingFailure) })
+percent_fails n piece some ink other =
+    plain_ends Percent n 0 Skipping piece (finish.Fails MatchingFailure) (omega arith) refl
+    (stays_next Percent Skipping 0 piece some (ap (λ v. cond v (Some Skipping) (stepped (Byte 37) Skipping (get_or piece 0 0))) ink ∙ ap (λ v. cond v (Some Taken) None) (not_same 37 (get_or piece 0 0) other)))
+
+-- n
+pub count_answers : (c : Conversion) (n : ℕ) (piece : List ℕ) (end : Finished) → IsProper (Conv c) → is_count c.shape ≡ true → end_of [] end ≡ count_end c c.slot n
+    → Answers (Conv c) Skipping n piece (record { before = 0; item = 0; phase = phase.Skipping; ends = Some end })
+count_answers c n piece end proper is e =
+    let same : n ≡ n + (0 + 0) = omega arith in
+    record {
+      goes = record {
+        within = omega arith;
+        takes = λ z. full_refuses (Conv c) proper Skipping n (piece ++ z) (sym (skipping_full (Conv c) proper) ∙ is) ∙ same_part same refl (count_finished c c.shape Skipping n true is ∙ sym e);
+      };
+      stores = λ slot j own below. absurd (omega (arith, below));
+    }
+
+-- ---- items
+
+-- a byte of a text
+in_text : (shape : Shape) (width : Option ℕ) (f : List ℕ) (b : ℕ) → shape_begins shape width (f ++ b ∷ []) ≡ true → IsInText shape b
+in_text (Int base) width f b e = tt
+in_text (Set members) width f b e = tt
+in_text Chars width f b e = tt
+in_text Count width f b e = tt
+in_text Text width [] b e = not_of (is_white b) (left_of (is_ink b) true e)
+in_text Text width (x ∷ f) b e = in_text Text width f b (right_of (is_ink x) (list_all is_ink (f ++ b ∷ [])) e)
+
+-- the bytes of an item that is a text belong to it
+pub item_stores : (c : Conversion) (f y : List ℕ) (slot j : ℕ) → CanAll c f y → text_slot (Conv c) ≡ Some slot → j < length y → StoresByte (Conv c) (get_or y j 0)
+item_stores c f y slot j can own below =
+    let one : suc j ≡ j + 1 = omega arith in
+    let last : f ++ take (j + 1) y ≡ (f ++ take j y) ++ get_or y j 0 ∷ [] =
+    ap (λ m. f ++ take m y) (sym one) ∙ ap (λ g. f ++ g) (take-suc y j 0 below) ∙ sym (append_assoc f (take j y) (get_or y j 0 ∷ [])) in
+    let can : can_take c ((f ++ take j y) ++ get_or y j 0 ∷ []) ≡ true = ap (can_take c) (sym last) ∙ can j below in
+    (slot, own, in_text c.shape c.width (f ++ take j y) (get_or y j 0) (right_of (is_within c.width (length ((f ++ take j y) ++ get_or y j 0 ∷ []))) (shape_begins c.shape c.width ((f ++ take j y) ++ get_or y j 0 ∷ [])) can))
+
+pub stores_behind : (c : Conversion) (f piece : List ℕ) (n slot j : ℕ) → n ≤ length piece → CanAll c f (take n piece) → text_slot (Conv c) ≡ Some slot → j < n → StoresByte (Conv c) (get_or piece j 0)
+stores_behind c f piece n slot j within can own below =
+    let long = length-take-le n piece within in
+    subst (StoresByte (Conv c)) (get_or-take n piece j 0 below) (item_stores c f (take n piece) slot j can own (omega (arith, below, long)))
+
+-- a scan is of a conversion with an item
+pub scan_has_item : (scan : ItemScan) (f : List ℕ) → HasTaken scan f → is_count (conversion_of scan).shape ≡ false
+scan_has_item scan f h = ap is_count (sym h.shape) ∙ by_reading scan.reading
+  where
+    by_reading : (r : Reading) → is_count (shape_of r) ≡ false
+    by_reading (reading.Integer base reached) = refl
+    by_reading reading.Text = refl
+    by_reading (reading.Set members) = refl
+    by_reading reading.Chars = refl
+
+-- the item f with bytes of the piece ends where the next byte can't be taken
+pub over_next : (c : Conversion) (f piece : List ℕ) (n : ℕ) → IsProperShape c.shape → n < length piece → (CanTake c (f ++ take (n + 1) piece) → ⊥) → StaysAt (Conv c) (Item (f ++ take n piece)) (drop n piece)
+over_next c f piece n proper below never =
+    let one : suc n ≡ n + 1 = omega arith in
+    let next : f ++ take (n + 1) piece ≡ (f ++ take n piece) ++ get_or piece n 0 ∷ [] =
+    ap (λ m. f ++ take m piece) (sym one) ∙ ap (λ g. f ++ g) (take-suc piece n 0 below) ∙ sym (append_assoc f (take n piece) (get_or piece n 0 ∷ [])) in
+    let no : can_take c ((f ++ take n piece) ++ get_or piece n 0 ∷ []) ≡ false =
+    not_true (can_take c ((f ++ take n piece) ++ get_or piece n 0 ∷ [])) (λ e. never ((tests_can_take c proper (f ++ take (n + 1) piece)).from (ap (can_take c) next ∙ e))) in
+    stays_next (Conv c) (Item (f ++ take n piece)) n piece below (ap (λ v. cond v (Some (Item ((f ++ take n piece) ++ get_or piece n 0 ∷ []))) None) no)
+
+-- the first bytes of an item
+begins : (c : Conversion) (piece : List ℕ) (n : ℕ) → 0 < n → n ≤ length piece → (shape_skips c.shape && is_white (get_or piece 0 0)) ≡ false → CanAll c [] (take n piece)
+    → stepped_all (Conv c) Skipping (take n piece) ≡ Some (Item (take n piece))
+begins c piece zero some within ink can = absurd (omega (arith, some))
+begins c [] (suc n) some within ink can = absurd (omega (arith, within))
+begins c (b ∷ piece) (suc n) some within ink can = first_all c b (take n piece) ink can
+
+some_taken : (piece : List ℕ) (n : ℕ) → 0 < n → n ≤ length piece → take n piece ≢ []
+some_taken piece n some within e = let long = length-take-le n piece within in let none = ap length e in omega (arith, long, none, some)
+
+-- an item that begins with the piece
+module _ (c : Conversion) (n : ℕ) (piece : List ℕ) (item : ℕ) (proper : IsProper (Conv c)) (some : 0 < item) (within : item ≤ length piece)
+    (ink : (shape_skips c.shape && is_white (get_or piece 0 0)) ≡ false) (can : CanAll c [] (take item piece)) where
+  pub item_begins : (current : Phase) (ends : Option Finished) → slot_in current ≡ text_slot (Conv c) → (ends ≡ None → item ≡ length piece)
+      → (take item piece ≢ [] → Shows (Conv c) current (Item (take item piece))) → (take item piece ≢ [] → IfSome ends (EndsAt (Conv c) (take item piece) (drop item piece)))
+      → Answers (Conv c) Skipping n piece (record { before = 0; item = item; phase = current; ends = ends })
+  item_begins current ends own all shows over = record {
+    goes = by_ends ends all (over (some_taken piece item some within));
+    stores = λ slot j is below. let same : j ≡ 0 + j = omega arith in subst (λ i. StoresByte (Conv c) (get_or piece i 0)) same (stores_behind c [] piece item slot j within can (sym own ∙ is) below);
+  }
+    where
+      by_ends : (o : Option Finished) → (o ≡ None → item ≡ length piece) → IfSome o (EndsAt (Conv c) (take item piece) (drop item piece))
+          → AnswersBy o (Conv c) Skipping n piece (record { before = 0; item = item; phase = current; ends = ends })
+      by_ends None all over =
+          let whole : length piece ≤ item = (let e = all refl in omega (arith, e)) in
+          record {
+            stage = Item (take item piece);
+            stepped = ap (stepped_all (Conv c) Skipping) (sym (take_all item piece whole)) ∙ begins c piece item some within ink can;
+            shown = shows (some_taken piece item some within);
+            grown = refl;
+          }
+      by_ends (Some end) all over =
+          let same : item ≡ 0 + item = omega arith in
+          subst (λ k. EndsIn (Conv c) Skipping n piece k (end_of (take item piece) end)) same
+          (ends_in (Conv c) Skipping (Item (take item piece)) n item piece (end_of (take item piece) end) within (begins c piece item some within ink can) over)
+
+-- an item that goes on with the piece
+pub item_goes_on : (d : Directive) (q : Stage) (slot : Option ℕ) (scan : ItemScan) (n item : ℕ) (piece : List ℕ) (current : Phase) (ends : Option Finished)
+    → (shows : ShowsItem d slot scan q) → item ≤ length piece → CanAll (conversion_of scan) shows.item (take item piece) → slot_in current ≡ slot → (ends ≡ None → item ≡ length piece)
+    → Shows d current (Item (shows.item ++ take item piece)) → IfSome ends (EndsAt d (shows.item ++ take item piece) (drop item piece))
+    → Answers d q n piece (record { before = 0; item = item; phase = current; ends = ends })
+item_goes_on d q slot scan n item piece current ends shows within can own all now over = record {
+  goes = by_ends ends all over;
+  stores = λ s j is below.
+      let same : j ≡ 0 + j = omega arith in
+      subst (λ i. StoresByte d (get_or piece i 0)) same (subst (λ (x : Directive). StoresByte x (get_or piece j 0)) (sym shows.own)
+      (stores_behind (conversion_of scan) shows.item piece item s j within can (ap text_slot (sym shows.own) ∙ shows.text ∙ sym own ∙ is) below));
+}
+  where
+    goes : stepped_all d q (take item piece) ≡ Some (Item (shows.item ++ take item piece))
+    goes =
+        ap (λ (x : Directive). stepped_all x q (take item piece)) shows.own ∙ ap (λ s. stepped_all (Conv (conversion_of scan)) s (take item piece)) shows.stage
+        ∙ item_all (conversion_of scan) shows.item (take item piece) can
+
+    text : item_of q ≡ shows.item
+    text = ap item_of shows.stage
+
+    by_ends : (o : Option Finished) → (o ≡ None → item ≡ length piece) → IfSome o (EndsAt d (shows.item ++ take item piece) (drop item piece))
+        → AnswersBy o d q n piece (record { before = 0; item = item; phase = current; ends = ends })
+    by_ends None all over =
+        let whole : length piece ≤ item = (let e = all refl in omega (arith, e)) in
+        record {
+          stage = Item (shows.item ++ take item piece);
+          stepped = ap (stepped_all d q) (sym (take_all item piece whole)) ∙ goes;
+          shown = now;
+          grown = subst (λ s. GrowsBy s (take item piece) (Item (shows.item ++ take item piece))) (sym shows.stage) refl;
+        }
+    by_ends (Some end) all over =
+        let same : item ≡ 0 + item = omega arith in
+        subst (λ k. EndsIn d q n piece k (end_of (item_of q ++ take item piece) end)) same
+        (subst (λ g. EndsIn d q n piece item (end_of (g ++ take item piece) end)) (sym text)
+        (ends_in d q (Item (shows.item ++ take item piece)) n item piece (end_of (shows.item ++ take item piece) end) within goes over))
+
+-- nothing of an item is taken where the first byte can't be
+pub nothing_taken : (c : Conversion) (n : ℕ) (piece : List ℕ) → IsProperShape c.shape → is_count c.shape ≡ false → 0 < length piece → (shape_skips c.shape && is_white (get_or piece 0 0)) ≡ false
+    → (CanTake c (take 1 piece) → ⊥) → Answers (Conv c) Skipping n piece (record { before = 0; item = 0; phase = phase.Skipping; ends = Some (finish.Fails MatchingFailure) })
+nothing_taken c n piece proper other some ink never =
+    plain_ends (Conv c) n 0 Skipping piece (finish.Fails MatchingFailure) (omega arith) refl
+    (λ m z. stays_next (Conv c) Skipping 0 piece some refused m z ∙ same_part refl refl (other_finished c c.shape Skipping m true other))
+  where
+    first : (xs : List ℕ) → 0 < length xs → take 1 xs ≡ get_or xs 0 0 ∷ []
+    first [] h = absurd (omega (arith, h))
+    first (x ∷ xs) h = refl
+
+    no : can_take c (get_or piece 0 0 ∷ []) ≡ false
+    no = not_true (can_take c (get_or piece 0 0 ∷ [])) (λ e. never ((tests_can_take c proper (take 1 piece)).from (ap (can_take c) (first piece some) ∙ e)))
+
+    refused : stepped (Conv c) Skipping (get_or piece 0 0) ≡ None
+    refused = ap (λ v. cond v (Some Skipping) (item_stepped c [] (get_or piece 0 0))) ink ∙ ap (λ v. cond v (Some (Item (get_or piece 0 0 ∷ []))) None) no
+
+-- an item that is over ends as the code tells
+pub over_ends : (c k : Conversion) (h rest : List ℕ) (end : Finished) → k ≡ c → is_count c.shape ≡ false → StaysAt (Conv k) (Item h) rest → end_of h end ≡ item_end c h → EndsAt (Conv c) h rest end
+over_ends c k h rest end same other stays is n z =
+    subst (λ (x : Conversion). one_from (Conv x) (Item h) n (rest ++ z) ≡ record { used = n; left = rest ++ z; end = finished (Conv x) (Item h) n true }) same (stays n z)
+    ∙ same_part refl refl (other_finished c c.shape (Item h) n true other ∙ sym is)
+
+-- ---- integers that were read in one go
+
+-- the fronts of the bytes of an item can be taken, and they with the next byte can't
+fronts_of : (c : Conversion) (x : List ℕ) (n : ℕ) → IsProperShape c.shape → n < length x → ((z : List ℕ) → IsItem c (x ++ z) n)
+    → ((k : ℕ) → k < n → CanTake c (take (k + 1) x)) × (CanTake c (take (n + 1) x) → ⊥)
+fronts_of c x n proper below is = (can, cannot)
+  where
+    item : IsItem c x n
+    item = subst (λ y. IsItem c y n) (append-nil x) (is [])
+
+    whole : can_take c (take n x) ≡ true
+    whole = (tests_can_take c proper (take n x)).to (subst (IsWithin c) (sym (length-take-le n x (omega (arith, below)))) item.holds.1, item.holds.2)
+
+    can : (k : ℕ) → k < n → CanTake c (take (k + 1) x)
+    can k h =
+        let parts : take (k + 1) x ++ drop (k + 1) (take n x) ≡ take n x =
+        ap (λ f. f ++ drop (k + 1) (take n x)) (sym (take-take (k + 1) n x (omega (arith, h)))) ∙ take-append-drop (k + 1) (take n x) in
+        (tests_can_take c proper (take (k + 1) x)).from (can_take_prefix c (take (k + 1) x) (drop (k + 1) (take n x)) (ap (can_take c) parts ∙ whole))
+
+    cannot : CanTake c (take (n + 1) x) → ⊥
+    cannot h =
+        let most = item.above (n + 1) (omega (arith, below), subst (IsWithin c) (length-take-le (n + 1) x (omega (arith, below))) h.0, h.1) in
+        omega (arith, most)
+
+some_bytes : (base : Base) (piece : List ℕ) (n : ℕ) (negative : Bool) (m : ℕ) → IsInteger base (take n piece) negative m → 0 < n
+some_bytes base piece zero negative m is = absurd (nothing (integer_at_is base [] negative m is))
+  where
+    nothing : ◌≡◌ {A = Option (Bool × ℕ)} None (Some (negative, m)) → ⊥
+    nothing e = cc
+some_bytes base piece (suc n) negative m is = omega arith
+
+pub integer_read : (c : Conversion) (n : ℕ) (piece : List ℕ) (w : WholeInteger) (end : Finished) → IsWhole c.shape c.width piece w → (shape_skips c.shape && is_white (get_or piece 0 0)) ≡ false
+    → ((text : List ℕ) → end_of text end ≡ passed_number c c.slot (value_of c.kind w.negative w.magnitude))
+    → Answers (Conv c) Skipping n piece (record { before = 0; item = w.bytes; phase = phase.Skipping; ends = Some end })
+integer_read c n piece w end is ink ends = record {
+  goes =
+      let same : w.bytes ≡ 0 + w.bytes = omega arith in
+      subst (λ k. EndsIn (Conv c) Skipping n piece k (end_of f end)) same (ends_in (Conv c) Skipping (Item f) n w.bytes piece (end_of f end) (omega (arith, below)) (begins c piece w.bytes some (omega (arith, below)) ink can)
+      (λ m z. over_next c [] piece w.bytes proper below fronts.1 m z ∙ same_part refl refl (other_finished c c.shape (Item f) m true (ap is_count is.is) ∙ sym (ends f ∙ number))));
+  stores = λ slot j own less. absurd cc;
+}
+  where
+    f : List ℕ
+    f = take w.bytes piece
+
+    below : w.bytes < length piece
+    below = is.ends.behind
+
+    proper : IsProperShape c.shape
+    proper = subst IsProperShape (sym is.is) tt
+
+    some : 0 < w.bytes
+    some = some_bytes is.base piece w.bytes w.negative w.magnitude is.ends.integer
+
+    fronts : ((k : ℕ) → k < w.bytes → CanTake c (take (k + 1) piece)) × (CanTake c (take (w.bytes + 1) piece) → ⊥)
+    fronts = fronts_of c piece w.bytes proper below (is.ends.item c is.is refl)
+
+    can : CanAll c [] f
+    can = can_all c [] piece w.bytes proper (omega (arith, below)) fronts.0
+
+    number : passed_number c c.slot (value_of c.kind w.negative w.magnitude) ≡ item_end c f
+    number = integer_ends c f w.negative w.magnitude false (is.base, w.magnitude, is.is, is.ends.integer, refl)
+
+-- ---- what the answer does to the text under way
+
+pub suits_waits : (d : Directive) (w : ℕ) (piece : List ℕ) → counts_bytes d ≡ false → w ≡ length piece
+    → Suits d phase.Skipping piece (record { before = w; item = 0; phase = phase.Skipping; ends = None })
+suits_waits d w piece none all = record {
+  within = omega (arith, all);
+  all = λ e. omega (arith, all);
+  more = λ e q proper shows. ap (is_full d) shows ∙ sym (skipping_full d proper) ∙ none;
+  slot = tt;
+  left = tt;
+  end = tt;
+}
+
+pub suits_ends : (d : Directive) (w item : ℕ) (piece : List ℕ) (end : Finished) → w + item ≤ length piece → IsEnd d phase.Skipping end
+    → Suits d phase.Skipping piece (record { before = w; item = item; phase = phase.Skipping; ends = Some end })
+suits_ends d w item piece end within is = record { within = within; all = λ e. cc; more = λ e. cc; slot = tt; left = tt; end = is }
+
+pub suits_behind : (d : Directive) (w : ℕ) (piece : List ℕ) (run : Run) → w ≤ length piece → Suits d phase.Skipping (drop w piece) run → Suits d phase.Skipping piece (record run { before = w + run.before })
+suits_behind d w piece run within s =
+    let all : length (drop w piece) + w ≡ length piece = (let l = length-drop w piece in omega (arith, l, within)) in
+    let fits = s.within in
+    record { within = omega (arith, all, fits); all = λ e. let k = s.all e in omega (arith, all, k); more = s.more; slot = s.slot; left = s.left; end = s.end }
+
+-- one that isn't of a conversion
+pub suits_plain : (d : Directive) (p : Phase) (piece : List ℕ) (run : Run) → text_slot d ≡ None → IfSome (slot_in p) (λ slot. text_slot d ≡ Some slot) → Suits d phase.Skipping piece run → Suits d p piece run
+suits_plain d phase.Skipping piece run none own s = s
+suits_plain d (phase.Text slot scan) piece run none own s = let e : None ≡ Some slot = sym none ∙ own in cc
+suits_plain d (phase.Item scan) piece run none own s = record { within = s.within; all = s.all; more = s.more; slot = s.slot; left = by_phase run.phase s.left; end = s.end }
+  where
+    same : (d : Directive) → left_before d phase.Skipping ≡ left_before d (phase.Item scan)
+    same Space = refl
+    same (Byte a) = refl
+    same Percent = refl
+    same (Conv c) = refl
+
+    by_phase : (new : Phase) → LeftAfterAll d phase.Skipping new run.item → LeftAfterAll d (phase.Item scan) new run.item
+    by_phase phase.Skipping h = tt
+    by_phase (phase.Item next) h = tt
+    by_phase (phase.Text slot next) h = subst (λ m. HasLeft m (taking.left_of next) run.item) (same d) h
+
+pub end_is : (d : Directive) (current : Phase) (o : Option Finished) (end : Finished) → o ≡ Some end → IfSome o (IsEnd d current) → IsEnd d current end
+end_is d current o end e own = subst (λ (o : Option Finished). IfSome o (IsEnd d current)) e own

@@ -1,0 +1,18 @@
+use Rattle.std.proofs.Common.{◌≡◌, Some}
+use Rattle.sf_run.specs.Texts.{text_slot}
+use Rattle.sf_run.specs.Phases.{slot_in}
+use Rattle.sf_run.specs.Scanner.{kept_by, standing}
+use Rattle.sf_run.proofs.Moves.{last_follows}
+use Rattle.sf_run.proofs.Slots.{if_some, own_text}
+use Rattle.sf_run.proofs.scanner.Scanner.close_last.Goals as goal
+
+pub finish-finished-requires : goal.finish-finished-requires
+finish-finished-requires g c =
+    let s = c.args.self.now in
+    if_some (slot_in s.phase) (λ slot. text_slot c.args.directive.now ≡ Some slot) (own_text s.directives.now s.passed c.args.directive.now s.phase c.requires.current s.own_slot)
+
+pub returns-clause-same : goal.returns-clause-same
+returns-clause-same g c =
+    let s = c.args.self.now in
+    last_follows (standing c.close.new.self) (standing s) c.args.directive.now _ c.requires.current c.requires.waits c.close.ensures.ends
+    (λ q shows is. c.finish-finished.ensures.end q (kept_by s).opened shows is)

@@ -1,0 +1,69 @@
+-- What a directive makes of a piece of the input.
+use Rattle.std.specs.Prelude.{◌≡◌, ℕ, ◌+◌, ◌<◌, ◌≤◌, true, false, List, [], ◌++◌, length, take, drop, get_or, Option, Some, None, IfSome}
+use Rattle.sf_format.specs.declared.directive.Base.{Base}
+use Rattle.sf_format.specs.declared.directive.Shape.{Shape}
+use Rattle.sf_format.specs.declared.directive.Shape.TheVariants.{Int}
+use Rattle.sf_format.specs.declared.directive.Directive.{Directive}
+use Rattle.sf_format.specs.Proper.{IsProper}
+use Rattle.sf_item.specs.declared.whole.WholeInteger.{WholeInteger}
+use Rattle.sf_item.specs.Wholes.{EndsWithin}
+use Rattle.sf_run.specs.declared.directive.Finished.{Finished}
+use Rattle.sf_run.specs.declared.directive.Phase.{Phase}
+use Rattle.sf_run.specs.declared.directive.Run.{Run}
+use Rattle.sf_run.specs.Holding.{LeftAfterAll}
+use Rattle.sf_run.specs.Machine.{Stage, Skipping, Taken, Item, finished, is_full}
+use Rattle.sf_run.specs.Phases.{Brings, IsNumberGiven, Shows, end_of, is_failing, is_memory_failure, slot_closed, slot_given, slot_in}
+use Rattle.sf_run.specs.Residual.{one_from}
+use Rattle.sf_run.specs.Steps.{StepEnd}
+use Rattle.sf_run.specs.Texts.{IsNextSlot, StoresByte, slot_of, text_slot}
+
+-- the bytes of the item at this stage
+abbrev pub item_of : Stage → List ℕ
+item_of Skipping = []
+item_of Taken = []
+item_of (Item f) = f
+
+-- From this stage, n bytes into the run, the directive takes so many bytes of the piece and no more, however the piece goes on, and ends so.
+pub record EndsIn (d : Directive) (q : Stage) (n : ℕ) (piece : List ℕ) (taken : ℕ) (end : StepEnd) : Type 0 where
+  pub within : taken ≤ length piece
+  pub takes : (z : List ℕ) → one_from d q n (piece ++ z) ≡ record { used = n + taken; left = drop taken piece ++ z; end = end }
+
+abbrev pub AnswersBy : Option Finished → Directive → Stage → ℕ → List ℕ → Run → Type 0
+AnswersBy None d q n piece run = Brings d q piece (take run.item (drop run.before piece)) run.phase
+AnswersBy (Some end) d q n piece run = EndsIn d q n piece (run.before + run.item) (end_of (item_of q ++ take run.item (drop run.before piece)) end)
+
+-- The answer is what the directive, which stands at this stage n bytes into the run, makes of the piece.
+pub record Answers (d : Directive) (q : Stage) (n : ℕ) (piece : List ℕ) (run : Run) : Type 0 where
+  pub goes : AnswersBy run.ends d q n piece run
+  pub stores : (slot j : ℕ) → slot_in run.phase ≡ Some slot → j < run.item → StoresByte d (get_or piece (run.before + j) 0)
+
+-- the directive, which has come so far, may end so: it closes the text that is under way, and gives its own slot something
+pub record IsEnd (d : Directive) (current : Phase) (end : Finished) : Type 0 where
+  pub text : is_failing end ≡ false → slot_in current ≡ slot_closed end
+  pub given : is_failing end ≡ false → slot_given end ≡ slot_of d
+  pub number : IsNumberGiven end
+  pub memory : is_memory_failure end ≡ false
+
+-- Whatever its stage, the answer fits a directive that has come so far: it uses the piece up where it waits, and would then take one byte more; the text
+-- under way goes on.
+pub record Suits (d : Directive) (current : Phase) (piece : List ℕ) (run : Run) : Type 0 where
+  pub within : run.before + run.item ≤ length piece
+  pub all : run.ends ≡ None → run.before + run.item ≡ length piece
+  pub more : run.ends ≡ None → (q : Stage) → IsProper d → Shows d run.phase q → is_full d q ≡ false
+  pub slot : IsNextSlot (text_slot d) (slot_in current) (slot_in run.phase)
+  pub left : LeftAfterAll d current run.phase run.item
+  pub end : IfSome run.ends (IsEnd d run.phase)
+
+-- at this stage the directive takes nothing of the rest, however that goes on
+abbrev pub StaysAt : Directive → Stage → List ℕ → Type 0
+StaysAt d q rest = (n : ℕ) (z : List ℕ) → one_from d q n (rest ++ z) ≡ record { used = n; left = rest ++ z; end = finished d q n true }
+
+-- after the item f it takes nothing of the rest, however that goes on, and ends so
+abbrev pub EndsAt : Directive → List ℕ → List ℕ → Finished → Type 0
+EndsAt d f rest end = (n : ℕ) (z : List ℕ) → one_from d (Item f) n (rest ++ z) ≡ record { used = n; left = rest ++ z; end = end_of f end }
+
+-- an integer that ends before a byte of the piece is the item of each conversion with this shape and width
+pub record IsWhole (shape : Shape) (width : Option ℕ) (piece : List ℕ) (whole : WholeInteger) : Type 0 where
+  pub base : Base
+  pub is : shape ≡ Int base
+  pub ends : EndsWithin base width piece whole
