@@ -3,7 +3,7 @@ use Rattle.std.proofs.Common.{◌≡◌, ℕ, zero, suc, ◌+◌, ◌≤◌, ◌
 use Rattle.std.specs.Prelude.{slice_get, IfNone, IsSome}
 use Rattle.std.specs.List.{AllByRecursion}
 use Rattle.std.proofs.lemmas.Option.{slice_get_within, slice_get_cases, get_or_from_slice_get}
-use Rattle.std.proofs.lemmas.List.{drop_more, drop_all, get_or-take, take-append-drop, length-take-le}
+use Rattle.std.proofs.lemmas.List.{drop_more, drop_all, take-append-drop, length-take-le}
 use Rattle.std.proofs.lemmas.Bool.{le-ltb, lt-ltb}
 use Rattle.sf_base.specs.Data.{Bytes}
 use Rattle.sf_base.specs.Kept.{Opened, text_of}
@@ -26,7 +26,7 @@ use Rattle.sf_run.specs.Pieces.{IsEnd, item_of}
 use Rattle.sf_run.specs.Places.{is_destination, places_left}
 use Rattle.sf_run.specs.Residual.{Tally, stepped_all, one_from, with_used, counted, out_of, by_end, run_of, run_from}
 use Rattle.sf_run.specs.Stopping.{is_no_memory}
-use Rattle.sf_run.specs.Standing.{Standing, ShowsFirst, DoesBy, Does, Ends, Follows, Keeps, Stops, TakesAll, Refuses, RefusesIn, RunsOut, turns_left}
+use Rattle.sf_run.specs.Standing.{Standing, ShowsFirst, DoesBy, Does, Ends, Follows, Keeps, Stops, TakesAll, Refuses, RefusesIn, RunsOut}
 use Rattle.sf_run.specs.Standing.{Passes as Passed}
 use Rattle.sf_run.specs.Texts.{IsNextSlot, StoresByte, text_slot, opened_for, opened_with}
 use Rattle.sf_run.proofs.Machines.{grows}
@@ -391,14 +391,6 @@ one_more false n = omega arith
 
 -- ---- counting the directives that may still end
 
-turns_by : (new old : Standing) → new.ended ≡ old.ended → new.directives ≡ old.directives → new.passed ≡ old.passed → turns_left new ≡ turns_left old
-turns_by new old ended directives passed =
-    ap (λ o. turns_left (record new { ended = o })) ended ∙ ap (λ ds. turns_left (record new { ended = old.ended; directives = ds })) directives
-    ∙ ap (λ p. turns_left (record new { ended = old.ended; directives = old.directives; passed = p })) passed
-
-pub turns_all : (new old : Standing) (p : Phase) (n : ℕ) (text : Option Opened) → TakesAll new old p n text → turns_left new ≡ turns_left old
-turns_all new old p n text takes = turns_by new old takes.ended takes.keeps.directives takes.passed
-
 -- ---- one move after another
 
 pub follows_on : (old mid new : Standing) (x y z : List ℕ) → mid.tally.used ≤ new.tally.used → mid.limit ≡ old.limit → Follows mid old y z → Follows new mid x y
@@ -449,17 +441,6 @@ ended_does s k y z report ended does = by_case s.ended ended does
     by_case None h does = absurd cc
     by_case (Some stop) h does = does
 
--- where a run waits, it has come to the end of the piece
-pub to_the_end : (new old : Standing) (xs : List ℕ) (n : ℕ) → n ≤ length xs → (new.ended ≡ None → length xs ≤ n) → ((z : List ℕ) → Follows new old (drop n xs ++ z) (xs ++ z)) → (z : List ℕ) → Follows new old z (xs ++ z)
-to_the_end new old xs n within all follows z k report low high does = by_case new.ended refl
-  where
-    done : Does new k (drop n xs ++ z) report
-    done = follows z k report low high does
-
-    by_case : (o : Option Stop) → new.ended ≡ o → Does new k z report
-    by_case None e = subst (λ y. Does new k (y ++ z) report) (drop_all n xs (all e)) done
-    by_case (Some stop) e = ended_does new k (drop n xs ++ z) z report (subst IsSome (sym e) refl) done
-
 pub if_none : {A : Type 0} (o : Option A) (P : Type 0) → P → IfNone o P
 if_none None P p = p
 if_none (Some a) P p = tt
@@ -476,10 +457,6 @@ byte_past k ds p d q r t b at e full = passed_limit k ds p d q r t b [] at e ful
 pub not_out : (o : Option Stop) → is_some o ≡ false → is_no_memory o ≡ false
 not_out None e = refl
 not_out (Some stop) e = absurd (true≢false e)
-
-pub out_ended : (o : Option Stop) → is_no_memory o ≡ true → IsSome o
-out_ended None e = absurd (true≢false (sym e))
-out_ended (Some stop) e = refl
 
 pub waits_for : (o : Option Stop) → (IsSome o → ⊥) → o ≡ None
 waits_for None never = refl

@@ -1,5 +1,5 @@
 -- What a directive makes of a piece.
-use Rattle.std.proofs.Common.{◌≡◌, ◌≢◌, ℕ, zero, suc, ◌+◌, ◌<◌, ◌≤◌, Bool, true, false, cond, ◌&&◌, not, nat_eq, List, [], ◌∷◌, ◌++◌, length, take, drop, get_or, append_assoc, append-nil, take-append-drop, length-drop, Option, Some, None, inl, inr, ◌⊎◌, refl, sym, ap, subst, ◌∙◌, arith, true≢false}
+use Rattle.std.proofs.Common.{◌≡◌, ◌≢◌, ℕ, zero, suc, ◌+◌, ◌<◌, ◌≤◌, Bool, true, false, cond, ◌&&◌, not, List, [], ◌∷◌, ◌++◌, length, take, drop, get_or, append_assoc, append-nil, take-append-drop, length-drop, Option, Some, None, refl, sym, ap, subst, ◌∙◌, arith, true≢false}
 use Rattle.std.specs.Prelude.{IfSome, IsSome, slice_get}
 use Rattle.std.proofs.lemmas.Option.{get_or_from_slice_get, slice_get_within}
 use Rattle.std.specs.List.{list_all}
@@ -23,7 +23,6 @@ use Rattle.sf_item.specs.Taking as taking
 use Rattle.sf_item.specs.Matching.{IsInteger, IsItem, IsWithin}
 use Rattle.sf_item.specs.Taking.{CanTake, HasTaken, conversion_of}
 use Rattle.sf_item.specs.Tests.{is_ink, is_within, shape_begins, can_take}
-use Rattle.sf_item.specs.Wholes as items
 use Rattle.sf_item.proofs.Deciding.{integer_at_is, tests_can_take, tests_same}
 use Rattle.sf_run.specs.declared.directive.Finished.{Finished}
 use Rattle.sf_run.specs.declared.directive.Finished.TheVariants as finish
@@ -34,7 +33,7 @@ use Rattle.sf_run.specs.declared.outcome.Status.TheVariants.{MatchingFailure}
 use Rattle.sf_run.specs.Steps.{StepEnd}
 use Rattle.sf_run.specs.Holding.{LeftAfterAll, left_before}
 use Rattle.sf_run.specs.Machine.{Stage, Skipping, Taken, Item, shape_skips, count_end, item_stepped, item_end, stepped, finished, is_full}
-use Rattle.sf_run.specs.Phases.{Brings, CanAll, GrowsBy, Shows, ShowsItem, end_of, passed_number, slot_in}
+use Rattle.sf_run.specs.Phases.{CanAll, GrowsBy, Shows, ShowsItem, end_of, passed_number, slot_in}
 use Rattle.sf_run.specs.Pieces.{Answers, AnswersBy, EndsAt, EndsIn, IsEnd, IsWhole, StaysAt, Suits, item_of}
 use Rattle.sf_run.specs.Residual.{Part, choose, one_from, stepped_all}
 use Rattle.sf_run.specs.Texts.{IsInText, StoresByte, counts_bytes, is_count, text_slot}
@@ -193,9 +192,6 @@ next_behind test w piece next some =
 
 -- ---- directives without an item
 
-nothing_stored : (d : Directive) (piece : List ℕ) (w slot j : ℕ) → ◌≡◌ {A = Option ℕ} None (Some slot) → StoresByte d (get_or piece (w + j) 0)
-nothing_stored d piece w slot j e = cc
-
 pub plain_waits : (d : Directive) (n w : ℕ) (piece : List ℕ) → length piece ≤ w → stepped_all d Skipping (take w piece) ≡ Some Skipping
     → Answers d Skipping n piece (record { before = w; item = 0; phase = phase.Skipping; ends = None })
 plain_waits d n w piece all skips = record {
@@ -228,13 +224,6 @@ module _ (piece : List ℕ) (n w : ℕ) (within : w ≤ length piece) (white : (
 
 -- ---- the byte that is due
 
-not_same : (a b : ℕ) → (b ≡ a → ⊥) → nat_eq a b ≡ false
-not_same a b other = by_case (nat_eq a b) refl
-  where
-    by_case : (v : Bool) → nat_eq a b ≡ v → v ≡ false
-    by_case true e = absurd (other (sym ((tests_same a b).from e)))
-    by_case false e = refl
-
 due_taken : (d : Directive) (piece : List ℕ) → 0 < length piece → stepped d Skipping (get_or piece 0 0) ≡ Some Taken → stepped_all d Skipping (take 1 piece) ≡ Some Taken
 due_taken d [] some e = absurd (omega (arith, some))
 due_taken d (x ∷ xs) some e = ap (λ (o : Option Stage). choose o None (λ s. stepped_all d s [])) e
@@ -245,24 +234,12 @@ byte_passes a n piece proper some is =
     let takes : stepped (Byte a) Skipping (get_or piece 0 0) ≡ Some Taken = ap (λ v. cond v (Some Taken) None) ((tests_same a (get_or piece 0 0)).to (sym is)) in
     plain_ends (Byte a) n 1 Taken piece finish.Passes (omega (arith, some)) (due_taken (Byte a) piece some takes) (stays_full (Byte a) Taken (drop 1 piece) proper (sym (taken_full (Byte a))))
 
-pub byte_fails : (a n : ℕ) (piece : List ℕ) → 0 < length piece → (get_or piece 0 0 ≡ a → ⊥)
-    → Answers (Byte a) Skipping n piece (record { before = 0; item = 0; phase = phase.Skipping; ends = Some (finish.Fails MatchingFailure) })
-byte_fails a n piece some other =
-    plain_ends (Byte a) n 0 Skipping piece (finish.Fails MatchingFailure) (omega arith) refl
-    (stays_next (Byte a) Skipping 0 piece some (ap (λ v. cond v (Some Taken) None) (not_same a (get_or piece 0 0) other)))
-
 pub percent_passes : (n : ℕ) (piece : List ℕ) → 0 < length piece → is_white (get_or piece 0 0) ≡ false → get_or piece 0 0 ≡ 37
     → Answers Percent Skipping n piece (record { before = 1; item = 0; phase = phase.Skipping; ends = Some finish.Passes })
 percent_passes n piece some ink is =
     let takes : stepped Percent Skipping (get_or piece 0 0) ≡ Some Taken =
     ap (λ v. cond v (Some Skipping) (stepped (Byte 37) Skipping (get_or piece 0 0))) ink ∙ ap (λ v. cond v (Some Taken) None) ((tests_same 37 (get_or piece 0 0)).to (sym is)) in
     plain_ends Percent n 1 Taken piece finish.Passes (omega (arith, some)) (due_taken Percent piece some takes) (stays_full Percent Taken (drop 1 piece) tt (sym (taken_full Percent)))
-
-pub percent_fails : (n : ℕ) (piece : List ℕ) → 0 < length piece → is_white (get_or piece 0 0) ≡ false → (get_or piece 0 0 ≡ 37 → ⊥)
-    → Answers Percent Skipping n piece (record { before = 0; item = 0; phase = phase.Skipping; ends = Some (finish.Fails MatchingFailure) })
-percent_fails n piece some ink other =
-    plain_ends Percent n 0 Skipping piece (finish.Fails MatchingFailure) (omega arith) refl
-    (stays_next Percent Skipping 0 piece some (ap (λ v. cond v (Some Skipping) (stepped (Byte 37) Skipping (get_or piece 0 0))) ink ∙ ap (λ v. cond v (Some Taken) None) (not_same 37 (get_or piece 0 0) other)))
 
 -- n
 pub count_answers : (c : Conversion) (n : ℕ) (piece : List ℕ) (end : Finished) → IsProper (Conv c) → is_count c.shape ≡ true → end_of [] end ≡ count_end c c.slot n
@@ -493,10 +470,6 @@ suits_waits d w piece none all = record {
   left = tt;
   end = tt;
 }
-
-pub suits_ends : (d : Directive) (w item : ℕ) (piece : List ℕ) (end : Finished) → w + item ≤ length piece → IsEnd d phase.Skipping end
-    → Suits d phase.Skipping piece (record { before = w; item = item; phase = phase.Skipping; ends = Some end })
-suits_ends d w item piece end within is = record { within = within; all = λ e. cc; more = λ e. cc; slot = tt; left = tt; end = is }
 
 pub suits_behind : (d : Directive) (w : ℕ) (piece : List ℕ) (run : Run) → w ≤ length piece → Suits d phase.Skipping (drop w piece) run → Suits d phase.Skipping piece (record run { before = w + run.before })
 suits_behind d w piece run within s =

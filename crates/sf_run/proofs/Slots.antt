@@ -8,7 +8,7 @@ use Rattle.std.proofs.lemmas.Bool.Decides.{nat_tests}
 use Rattle.std.proofs.lemmas.List.{map-append}
 use Rattle.std.proofs.lemmas.List.Sums.{sum_by-cons}
 use Rattle.sf_base.specs.Data.{Datum, Bytes, Assigned, datum_at, datum_of, is_number}
-use Rattle.sf_base.specs.Kept.{Kept, assigned, with_bytes, with_closed, with_opened, with_dropped, buffer_of, longer, Opened, text_of, text_in, texts_in, values_closed}
+use Rattle.sf_base.specs.Kept.{Kept, assigned, with_closed, buffer_of, Opened, text_of, text_in, texts_in, values_closed}
 use Rattle.sf_run.specs.Memory.{HoldsTexts, capacity_of}
 use Rattle.sf_base.specs.declared.values.Value.{Value}
 use Rattle.sf_base.specs.declared.values.Value.TheVariants as value
@@ -26,7 +26,7 @@ use Rattle.sf_item.specs.Taking.{left_of}
 use Rattle.sf_run.specs.declared.directive.Phase.{Phase}
 use Rattle.sf_run.specs.declared.directive.Phase.TheVariants as phase
 use Rattle.sf_run.specs.declared.scanner.Stop.{Stop}
-use Rattle.sf_run.specs.Holding.{are_placed, are_apart, first_slot, is_text, stored_widths, width_left, widths_from, still_stored, is_limited, left_before}
+use Rattle.sf_run.specs.Holding.{are_placed, are_apart, first_slot, is_text, stored_widths, width_left, widths_from, still_stored, left_before}
 use Rattle.sf_run.specs.Places.{is_destination}
 use Rattle.sf_run.specs.Texts.{slot_of, slot_of_text, text_slot, opened_slot, slots_in}
 use Rattle.sf_run.specs.Phases.{slot_in}
@@ -213,10 +213,6 @@ pub closed_values : (values : List Assigned) (opened : Option Opened) (slot : �
 closed_values values None slot e = cc
 closed_values values (Some o) slot e = ap (λ n. values ++ assigned n (Bytes o.text) ∷ []) (some_is o.slot slot e)
 
-pub opened_is : (opened : Option Opened) (slot : ℕ) → opened_slot opened ≡ Some slot → is_some opened ≡ true
-opened_is None slot e = cc
-opened_is (Some o) slot e = refl
-
 pub opened_none : (opened : Option Opened) → opened_slot opened ≡ None → opened ≡ None
 opened_none None e = refl
 opened_none (Some o) e = cc
@@ -381,15 +377,8 @@ size_passed ended ds p d current held sum at fits =
 pub size_closed : (closed text : List ℕ) → length ((closed ++ text) ++ []) ≡ length (closed ++ text)
 size_closed closed text = ap length (append-nil (closed ++ text))
 
-pub size_longer : (closed : List ℕ) (opened : Option Opened) (b : ℕ) → is_some opened ≡ true → length (closed ++ text_of (longer (b ∷ []) opened)) ≡ length (closed ++ text_of opened) + 1
-size_longer closed None b h = absurd (true≢false (sym h))
-size_longer closed (Some o) b h = omega (arith, length-append closed (o.text ++ b ∷ []), length-append o.text (b ∷ []), length-append closed o.text)
-
 pub size_begun : (closed : List ℕ) (opened : Option Opened) → opened ≡ None → length (closed ++ []) ≡ length (closed ++ text_of opened)
 size_begun closed opened e = ap (λ o. length (closed ++ text_of o)) (sym e)
-
-pub size_dropped : (closed : List ℕ) (opened : Option Opened) (still sum : ℕ) → length (closed ++ text_of opened) + still ≤ sum → length (closed ++ []) + 0 ≤ sum
-size_dropped closed opened still sum fits = omega (arith, fits, length-append closed (text_of opened), length-append closed [])
 
 pub size_first : (ds : List Directive) → is_some (width_sum ds) ≡ true → widths_from ds phase.Skipping ≡ unwrap_or (width_sum ds) 0
 size_first ds bounded = widths_are ds (unwrap_or (width_sum ds) 0) (some_back (width_sum ds) bounded)
@@ -411,17 +400,3 @@ holds ds kept still joined sized = record {
 
 pub closed_capacity : (kept : Kept) → capacity_of kept ≤ capacity_of (with_closed kept)
 closed_capacity kept = omega (arith, length-append (kept.closed ++ text_of kept.opened) [])
-
-pub dropped_capacity : (kept : Kept) → capacity_of kept ≤ capacity_of (with_dropped kept)
-dropped_capacity kept = omega (arith, length-append kept.closed (text_of kept.opened), length-append kept.closed [])
-
-pub opened_capacity : (kept : Kept) (slot : ℕ) → kept.opened ≡ None → capacity_of kept ≤ capacity_of (with_opened slot kept)
-opened_capacity kept slot none = let same = ap (λ o. length (kept.closed ++ text_of o)) none in omega (arith, same)
-
-pub longer_capacity : (kept : Kept) (bytes : List ℕ) (room : ℕ) → is_some kept.opened ≡ true → kept.room ≤ room + length bytes → capacity_of kept ≤ capacity_of (with_bytes bytes room kept)
-longer_capacity kept bytes room some falls = by_opened kept.opened some
-  where
-    by_opened : (o : Option Opened) → is_some o ≡ true → kept.room + length (kept.closed ++ text_of o) ≤ room + length (kept.closed ++ text_of (longer bytes o))
-    by_opened None some = absurd (true≢false (sym some))
-    by_opened (Some o) some =
-        omega (arith, falls, length-append kept.closed o.text, length-append kept.closed (o.text ++ bytes), length-append o.text bytes)

@@ -27,7 +27,7 @@ use Rattle.sf_run.specs.declared.outcome.Status.TheVariants.{MatchingFailure}
 use Rattle.sf_run.specs.Steps.{Passes, Stores, Fails}
 use Rattle.sf_run.specs.Texts.{slot_of_text, text_slot, opened_for, is_count, counts_bytes}
 use Rattle.sf_base.specs.Kept.{Opened, text_of}
-use Rattle.sf_run.specs.Machine.{Stage, Skipping, Taken, Item, shape_skips, stepped, item_stepped, is_full, count_end, integer_end, stored_end, passed_end, item_end, item_finished, conversion_finished}
+use Rattle.sf_run.specs.Machine.{Stage, Skipping, Taken, Item, shape_skips, stepped, is_full, count_end, integer_end, stored_end, passed_end, item_end, item_finished, conversion_finished}
 use Rattle.sf_run.specs.Phases.{ShowsItem, Shows, passed_number}
 use Rattle.sf_run.proofs.Machines.{not_full, full_of_none, item_not_full}
 
@@ -180,17 +180,6 @@ not_suppressed c f slot text own m never = by_shape c.shape refl
     by_shape (Set members) e = let k : slot_of_text (Set members) c.slot ≡ None = ap (λ s. slot_of_text s c.slot) (sym e) ∙ text in cc
     by_shape Chars e = let k : slot_of_text Chars c.slot ≡ None = ap (λ s. slot_of_text s c.slot) (sym e) ∙ text in cc
     by_shape Count e = let k : ShapeMatches Count c.width f = subst (λ s. ShapeMatches s c.width f) e m in k
-
--- one that has a slot for its text has an item
-pub text_has_item : (c : Conversion) (slot : ℕ) → text_slot (Conv c) ≡ Some slot → is_count c.shape ≡ false
-text_has_item c slot e = by_shape c.shape e
-  where
-    by_shape : (shape : Shape) → slot_of_text shape c.slot ≡ Some slot → is_count shape ≡ false
-    by_shape (Int base) e = cc
-    by_shape Text e = refl
-    by_shape (Set members) e = refl
-    by_shape Chars e = refl
-    by_shape Count e = cc
 
 -- a text that is no match
 pub text_fails : (c : Conversion) (f : List ℕ) (slot : ℕ) (e : ItemEnd) → text_slot (Conv c) ≡ Some slot → f ≢ [] → Ends c f e → (e ≡ ends.Matched → ⊥)

@@ -15,7 +15,7 @@ use Rattle.sf_run.specs.declared.outcome.Status.TheVariants.{TooLong}
 use Rattle.sf_run.specs.declared.scanner.Stop.{Stop}
 use Rattle.sf_run.specs.Runs.{RunReport, IsOpen}
 use Rattle.sf_run.specs.Limits.{RunWithin, TellsWithin, cut_report}
-use Rattle.sf_run.specs.Machine.{Stage, Skipping, Taken, Item, stepped, is_full}
+use Rattle.sf_run.specs.Machine.{Stage, Skipping, Item, stepped, is_full}
 use Rattle.sf_run.specs.Phases.{ShowsItem, Shows}
 use Rattle.sf_run.specs.Residual.{Tally, nothing_yet, with_used, out_of, run_of, run_from}
 use Rattle.sf_run.specs.Standing.{Standing, ShowsFirst, DoesBy, Does, Follows, Waits, IsSettled, Keeps, After, HasCome, report_by, report_of, Gives}

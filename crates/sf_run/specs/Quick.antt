@@ -1,5 +1,5 @@
 -- Directives that begin and pass within a piece of the input, and give a store what they give.
-use Rattle.std.specs.Prelude.{◌≡◌, ℕ, ◌+◌, ◌<◌, ◌≤◌, Bool, List, ◌++◌, length, drop, Option, Some, None}
+use Rattle.std.specs.Prelude.{◌≡◌, ℕ, ◌≤◌, Bool, List, Option, Some, None}
 use Rattle.sf_base.specs.Data.{Assigned, datum_at}
 use Rattle.sf_base.specs.Kept.{Kept, texts_in}
 use Rattle.sf_format.specs.declared.directive.Directive.{Directive}

@@ -1,5 +1,5 @@
 -- The texts that a run stores.
-use Rattle.std.specs.Prelude.{◌≡◌, ℕ, Bool, true, false, List, [], ◌∷◌, map, Option, Some, None}
+use Rattle.std.specs.Prelude.{◌≡◌, ℕ, Bool, true, false, List, map, Option, Some, None}
 use Rattle.std.specs.Option.{option_map}
 use Rattle.sf_base.specs.Bytes.{is_white}
 use Rattle.sf_base.specs.Data.{Assigned}

@@ -381,7 +381,12 @@ fn begin_item<'f>(conversion: &'f Conversion, piece: &[u8]) -> Run<'f>
         let number = number_of(conversion.kind, whole.negative, whole.magnitude, false);
         return ends(0, whole.bytes, finish_number(conversion, number));
     }
-    let run = go_on(conversion, text_slot(conversion), ItemScan::start(conversion), piece);
+    let run = go_on(
+        conversion,
+        text_slot(conversion),
+        ItemScan::start(conversion),
+        piece,
+    );
     if run.item == 0 {
         return ends(0, 0, Finished::Fails(Status::MatchingFailure));
     }
@@ -415,7 +420,12 @@ fn begin<'f>(conversion: &'f Conversion, piece: &[u8], used: u32) -> Run<'f>
 }
 
 /// Hands a conversion, which has come so far, the piece, which comes so many bytes into the run.
-fn run_conversion<'f>(conversion: &'f Conversion, phase: Phase<'f>, piece: &[u8], used: u32) -> Run<'f>
+fn run_conversion<'f>(
+    conversion: &'f Conversion,
+    phase: Phase<'f>,
+    piece: &[u8],
+    used: u32,
+) -> Run<'f>
     requires { IfSome (slot_in phase) (λ slot. text_slot (directive.Conv conversion.now) ≡ Some slot) }
     ensures answers { (q : Stage) → IsProper (directive.Conv conversion.now) → Shows (directive.Conv conversion.now) phase.entry q
         → Answers (directive.Conv conversion.now) q used piece.now result }
@@ -439,7 +449,12 @@ fn run_percent<'f>(piece: &[u8]) -> Run<'f>
 }
 
 /// Hands the directive, which has come so far, the piece, which comes so many bytes into the run.
-pub(crate) fn run_on<'f>(directive: &'f Directive, phase: Phase<'f>, piece: &[u8], used: u32) -> Run<'f>
+pub(crate) fn run_on<'f>(
+    directive: &'f Directive,
+    phase: Phase<'f>,
+    piece: &[u8],
+    used: u32,
+) -> Run<'f>
     requires { IfSome (slot_in phase) (λ slot. text_slot directive.now ≡ Some slot) }
     ensures answers { (q : Stage) → IsProper directive.now → Shows directive.now phase.entry q → Answers directive.now q used piece.now result }
     ensures suits { Suits directive.now phase.entry piece.now result }

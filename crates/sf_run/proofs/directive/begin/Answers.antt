@@ -1,4 +1,4 @@
-use Rattle.std.proofs.Common.{◌≡◌, ◌<◌, ◌+◌, ◌≤◌, ◌&&◌, false, ℕ, List, [], length, take, drop, get_or, sym, subst, ap, arith, ◌∙◌, refl}
+use Rattle.std.proofs.Common.{◌≡◌, ◌<◌, ◌+◌, ◌≤◌, ◌&&◌, false, ℕ, List, [], length, drop, get_or, sym, subst, ◌∙◌}
 use Rattle.sf_base.specs.Bytes.{is_white}
 use Rattle.sf_format.specs.declared.directive.Conversion.{Conversion}
 use Rattle.sf_format.specs.declared.directive.Directive.TheVariants.{Conv}
@@ -7,7 +7,7 @@ use Rattle.sf_run.specs.declared.directive.Run.{Run}
 use Rattle.sf_run.specs.Machine.{Skipping, shape_skips}
 use Rattle.sf_run.specs.Pieces.{Answers, Suits}
 use Rattle.sf_run.proofs.Brought.{item_skips}
-use Rattle.sf_run.proofs.Pieces.{answers_behind, count_answers, next_behind, suits_behind, suits_ends}
+use Rattle.sf_run.proofs.Pieces.{answers_behind, count_answers, next_behind, suits_behind}
 use Rattle.sf_run.proofs.directive.begin.Goals as goal
 
 pub returns-then-is_count-clause-answers : goal.returns-then-is_count-clause-answers

@@ -1,4 +1,4 @@
-use Rattle.std.proofs.Common.{rules, ◌≡◌, ◌<◌, ◌+◌, ℕ, List, [], length, take, drop, sym, subst, ap, arith, ◌∙◌}
+use Rattle.std.proofs.Common.{rules, ◌≡◌, ◌<◌, ◌+◌, ℕ, List, [], length, take, sym, subst, ap, arith, ◌∙◌}
 use Rattle.sf_base.specs.Data.{value_of}
 use Rattle.sf_format.specs.declared.directive.Conversion.{Conversion}
 use Rattle.sf_format.specs.declared.directive.Directive.TheVariants.{Conv}
@@ -35,9 +35,9 @@ returns-then-run-eq0-clause-answers c proper ink n =
     let same : conversion_of c.start.result ≡ k = c.start.ensures.conversion in
     subst (λ (r : Run). Answers (Conv k) Skipping n piece r) (sym c.ends-then-run-eq0.ensures)
     (nothing_taken k n piece proper.0 c.requires some (ink some) (λ can.
-        let none : c.go_on-run.result.item ≡ 0 = c.if-run-eq0.true in
-        c.go_on-run.ensures.stops [] c.start.ensures.nothing (omega (arith, none, some))
-        (subst (λ i. CanTake (conversion_of c.start.result) (take (i + 1) piece)) (sym none) (subst (λ (x : Conversion). CanTake x (take 1 piece)) (sym same) can))))
+    let none : c.go_on-run.result.item ≡ 0 = c.if-run-eq0.true in
+    c.go_on-run.ensures.stops [] c.start.ensures.nothing (omega (arith, none, some))
+    (subst (λ i. CanTake (conversion_of c.start.result) (take (i + 1) piece)) (sym none) (subst (λ (x : Conversion). CanTake x (take 1 piece)) (sym same) can))))
 
 pub returns-clause-answers : goal.returns-clause-answers
 returns-clause-answers c proper ink n =

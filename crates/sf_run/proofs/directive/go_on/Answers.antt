@@ -4,7 +4,7 @@ use Rattle.sf_format.specs.declared.directive.Directive.TheVariants.{Conv}
 use Rattle.sf_format.specs.Proper.{IsProper}
 use Rattle.sf_item.specs.Taking.{CanTake, conversion_of}
 use Rattle.sf_run.specs.Texts.{is_count}
-use Rattle.sf_run.proofs.Brought.{can_all, shows_all}
+use Rattle.sf_run.proofs.Brought.{can_all}
 use Rattle.sf_run.proofs.Pieces.{over_ends, scan_has_item}
 use Rattle.sf_run.proofs.directive.go_on.Goals as goal
 

@@ -3,7 +3,6 @@ use Rattle.sf_format.specs.declared.directive.Conversion.{Conversion}
 use Rattle.sf_format.specs.declared.directive.Directive.TheVariants.{Conv}
 use Rattle.sf_format.specs.Proper.{IsProperShape}
 use Rattle.sf_item.specs.Taking.{conversion_of}
-use Rattle.sf_run.specs.declared.directive.Phase.TheVariants as phase
 use Rattle.sf_run.specs.Phases.{Shows, ShowsItem}
 use Rattle.sf_run.specs.Pieces.{Answers}
 use Rattle.sf_run.proofs.Brought.{not_nothing}

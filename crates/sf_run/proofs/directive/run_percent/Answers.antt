@@ -1,4 +1,4 @@
-use Rattle.std.proofs.Common.{◌≡◌, ◌<◌, ◌+◌, ◌≤◌, false, ℕ, List, [], length, take, drop, get_or, sym, subst, ap, arith, ◌∙◌, refl}
+use Rattle.std.proofs.Common.{◌≡◌, ◌<◌, ◌+◌, ◌≤◌, false, ℕ, List, length, drop, get_or, sym, subst, refl}
 use Rattle.sf_base.specs.Bytes.{is_white}
 use Rattle.sf_format.specs.declared.directive.Directive.TheVariants.{Percent}
 use Rattle.sf_run.specs.declared.directive.Phase.TheVariants as phase

@@ -1,4 +1,4 @@
-use Rattle.std.proofs.Common.{◌≡◌, ◌∙◌, [], false, Some, refl, ap, length, arith}
+use Rattle.std.proofs.Common.{◌≡◌, [], false, Some, refl, ap, length, arith}
 use Rattle.sf_base.specs.Kept.{Kept, buffer_of}
 use Rattle.sf_run.specs.Residual.{nothing_yet, run_of}
 use Rattle.sf_run.specs.Texts.{slots_in, opened_slot}
