@@ -15,7 +15,7 @@ use Rattle.sf_base.specs.Data.{Bytes, Assigned, datum_at}
 use Rattle.sf_base.specs.Kept.{assigned, is_opened, with_closed}
 use Rattle.sf_base.specs.Entries.{datum_in, assigned_in, IsWithin, slots_of, opened_at, kept_of, IsSlot, IsAbsent, IsUnderWay, IsSound}
 use Rattle.sf_base.specs.declared.entries.Cell.{Cell}
-use Rattle.sf_base.specs.declared.entries.Cell.TheVariants.{I8, I16, I32, I64, U8, U16, U32, U64, Text}
+use Rattle.sf_base.specs.declared.entries.Cell.TheVariants as cell
 use Rattle.sf_base.specs.declared.entries.Entry.{Entry}
 
 -- what was not found is not among the rest
@@ -57,16 +57,9 @@ length-lt-slots n xs slot apart in_range is_slot absent =
     let few : length all ≤ n + 1 = length-le_from_distinct_below all (n + 1) all_apart (below (n + 1) all all_below) in
     omega (arith, few, length-append more (0 ∷ []), length-append xs (slot ∷ []))
 
-IsWithin-le : (m n : ℕ) → m ≤ n → (cell : Cell) → IsWithin m cell → IsWithin n cell
-IsWithin-le m n le (Text from to) h = (h.0, omega (arith, h.1))
-IsWithin-le m n le (I8 x) h = tt
-IsWithin-le m n le (I16 x) h = tt
-IsWithin-le m n le (I32 x) h = tt
-IsWithin-le m n le (I64 x) h = tt
-IsWithin-le m n le (U8 x) h = tt
-IsWithin-le m n le (U16 x) h = tt
-IsWithin-le m n le (U32 x) h = tt
-IsWithin-le m n le (U64 x) h = tt
+IsWithin-le : (m n : ℕ) → m ≤ n → (x : Cell) → IsWithin m x → IsWithin n x
+IsWithin-le m n le (cell.Number kind negative magnitude) h = h
+IsWithin-le m n le (cell.Text from to) h = (h.0, omega (arith, h.1))
 
 -- one entry more, which may be a text that ends where the closed ones now do
 pub IsSound-push : (slots : ℕ) (es : List Entry) (closed closed' len : ℕ) (opened opened' : Option ℕ) (e : Entry) → IsSound slots es closed len opened → closed ≤ closed' → closed' ≤ len → IsSlot slots e.slot → IsAbsent e.slot (slots_of es) → IsWithin closed' e.cell → IsUnderWay slots (slots_of es ++ e.slot ∷ []) closed' len opened' → IsSound slots (es ++ e ∷ []) closed' len opened'
@@ -96,16 +89,9 @@ closed-all slots taken closed len (Some s) text h none = cc
 
 -- a text within the first n bytes is the same in all of them
 datum_in-take : (all : List ℕ) (n : ℕ) (cell : Cell) → IsWithin n cell → datum_in all cell ≡ datum_in (take n all) cell
-datum_in-take all n (Text from to) h =
+datum_in-take all n (cell.Number kind negative magnitude) h = refl
+datum_in-take all n (cell.Text from to) h =
     ap Bytes (between_is all from to ∙ (ap (drop from) (sym (take-take to n all h.1)) ∙ sym (between_is (take n all) from to)))
-datum_in-take all n (I8 x) h = refl
-datum_in-take all n (I16 x) h = refl
-datum_in-take all n (I32 x) h = refl
-datum_in-take all n (I64 x) h = refl
-datum_in-take all n (U8 x) h = refl
-datum_in-take all n (U16 x) h = refl
-datum_in-take all n (U32 x) h = refl
-datum_in-take all n (U64 x) h = refl
 
 pub assigned_in-take : (all : List ℕ) (n : ℕ) (es : List Entry) → All (λ (e : Entry). IsWithin n e.cell) es → map (assigned_in all) es ≡ map (assigned_in (take n all)) es
 assigned_in-take all n [] within = refl
@@ -115,9 +101,9 @@ assigned_in-take all n (e ∷ es) within =
     cc
 
 -- what is kept after the text from n on is closed
-pub kept_of-close : (es : List Entry) (all : List ℕ) (n len slot room : ℕ) → len ≡ length all → All (λ (e : Entry). IsWithin n e.cell) es → kept_of (es ++ record { slot = slot; cell = Text n len } ∷ []) all len None room ≡ with_closed (kept_of es all n (Some slot) room)
+pub kept_of-close : (es : List Entry) (all : List ℕ) (n len slot room : ℕ) → len ≡ length all → All (λ (e : Entry). IsWithin n e.cell) es → kept_of (es ++ record { slot = slot; cell = cell.Text n len } ∷ []) all len None room ≡ with_closed (kept_of es all n (Some slot) room)
 kept_of-close es all n len slot room is_len within =
-    let e : Entry = record { slot = slot; cell = Text n len } in
+    let e : Entry = record { slot = slot; cell = cell.Text n len } in
     let whole : take len all ≡ all = rw is_len (take-length all) in
     let text : slice_range all n len ≡ drop n all = between_to_end all n len (omega (arith, is_len)) in
     let entries : map (assigned_in all) (es ++ e ∷ []) ≡ map (assigned_in all) es ++ assigned slot (Bytes (slice_range all n len)) ∷ [] = map-append (assigned_in all) es (e ∷ []) in

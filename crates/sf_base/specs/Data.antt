@@ -22,6 +22,11 @@ abbrev pub number_in : Datum → Option ℤ
 number_in (Number kind n) = Some n
 number_in (Bytes text) = None
 
+-- the number of a sign (true: a minus) and a magnitude
+abbrev pub with_sign : Bool → ℕ → ℤ
+with_sign true m = neg_ℤ (pos m)
+with_sign false m = pos m
+
 -- ---- the numbers of a kind
 
 -- n bits beside the sign, in two's complement (C11 6.2.6.2p2)

@@ -1,24 +1,16 @@
 -- What the entries of a store stand for, and when they are sound.
-use Rattle.std.specs.Prelude.{◌≡◌, ◌≤◌, nat_eq, ℕ, List, Option, Some, None, false, pos, slice_range, map, take, drop}
+use Rattle.std.specs.Prelude.{◌≡◌, ◌≤◌, nat_eq, ℕ, List, Option, Some, None, false, slice_range, map, take, drop}
 use Rattle.std.specs.List.{All, IsDistinct, list_any}
-use Rattle.sf_base.specs.Data.{Datum, Number, Bytes, Assigned}
+use Rattle.sf_base.specs.Data.{Datum, Number, Bytes, Assigned, IsIn, with_sign}
 use Rattle.sf_base.specs.Kept.{assigned, Opened, Kept}
 use Rattle.sf_base.specs.declared.entries.Cell.{Cell}
-use Rattle.sf_base.specs.declared.entries.Cell.TheVariants.{I8, I16, I32, I64, U8, U16, U32, U64, Text}
+use Rattle.sf_base.specs.declared.entries.Cell.TheVariants as cell
 use Rattle.sf_base.specs.declared.entries.Entry.{Entry}
-use Rattle.sf_base.specs.declared.values.Kind.TheVariants as k
 
 -- what a cell holds, where these are the closed texts
 abbrev pub datum_in : List ℕ → Cell → Datum
-datum_in closed (I8 n) = Number k.I8 n
-datum_in closed (I16 n) = Number k.I16 n
-datum_in closed (I32 n) = Number k.I32 n
-datum_in closed (I64 n) = Number k.I64 n
-datum_in closed (U8 n) = Number k.U8 (pos n)
-datum_in closed (U16 n) = Number k.U16 (pos n)
-datum_in closed (U32 n) = Number k.U32 (pos n)
-datum_in closed (U64 n) = Number k.U64 (pos n)
-datum_in closed (Text from to) = Bytes (slice_range closed from to)
+datum_in closed (cell.Number kind negative magnitude) = Number kind (with_sign negative magnitude)
+datum_in closed (cell.Text from to) = Bytes (slice_range closed from to)
 
 abbrev pub assigned_in : List ℕ → Entry → Assigned
 assigned_in closed e = assigned e.slot (datum_in closed e.cell)
@@ -36,10 +28,10 @@ kept_of entries all n slot room = record {
   room = room;
 }
 
--- a text lies within so many bytes
+-- a number is of its kind, a text lies within so many bytes
 abbrev pub IsWithin : ℕ → Cell → Type 0
-IsWithin n (Text from to) = (from ≤ to) × (to ≤ n)
-IsWithin n _ = Unit {0}
+IsWithin n (cell.Number kind negative magnitude) = IsIn kind (with_sign negative magnitude)
+IsWithin n (cell.Text from to) = (from ≤ to) × (to ≤ n)
 
 abbrev pub slots_of : List Entry → List ℕ
 slots_of = map (λ e. e.slot)

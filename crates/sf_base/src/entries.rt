@@ -5,20 +5,21 @@ ghost use Rattle.std.specs.List.{All, IsDistinct};
 ghost use Rattle.sf_base.specs.Data.{datum_of, datum_at, is_number};
 ghost use Rattle.sf_base.specs.Entries.{datum_in, assigned_in, slots_of, IsWithin};
 
-use crate::Value;
+use crate::values::signed;
+use crate::{Kind, Value};
 
-/// A value; a text is a part of the buffer.
+/// A value: a number of a kind, or a part of the buffer.
 #[derive(Clone, Copy, Debug)]
 pub(crate) enum Cell {
-    I8(i8),
-    I16(i16),
-    I32(i32),
-    I64(i64),
-    U8(u8),
-    U16(u16),
-    U32(u32),
-    U64(u64),
-    Text { from: usize, to: usize },
+    Number {
+        kind: Kind,
+        negative: bool,
+        magnitude: u64,
+    },
+    Text {
+        from: usize,
+        to: usize,
+    },
 }
 
 #[derive(Clone, Copy, Debug)]
@@ -29,14 +30,14 @@ pub(crate) struct Entry {
 
 impl Default for Entry {
     ghost use Rattle.std.specs.Prelude.{◌≡◌};
-    ghost use Rattle.sf_base.specs.declared.entries.Cell.TheVariants.{U8};
+    ghost use Rattle.sf_base.specs.declared.entries.Cell.TheVariants.{Text};
 
-    ghost is_default = { λ e. (e.slot ≡ 0) × (e.cell ≡ U8 0) };
+    ghost is_default = { λ e. (e.slot ≡ 0) × (e.cell ≡ Text 0 0) };
 
     fn default() -> Self {
         Entry {
             slot: 0,
-            cell: Cell::U8(0),
+            cell: Cell::Text { from: 0, to: 0 },
         }
     }
 }
@@ -46,16 +47,13 @@ pub(crate) fn number_cell(value: Value<'_>) -> Cell
     ensures value { (closed : List ℕ) → datum_in closed result ≡ datum_of value.entry }
     ensures within { (n : ℕ) → IsWithin n result }
 {
-    match value {
-        Value::I8(n) => Cell::I8(n),
-        Value::I16(n) => Cell::I16(n),
-        Value::I32(n) => Cell::I32(n),
-        Value::I64(n) => Cell::I64(n),
-        Value::U8(n) => Cell::U8(n),
-        Value::U16(n) => Cell::U16(n),
-        Value::U32(n) => Cell::U32(n),
-        Value::U64(n) => Cell::U64(n),
-        Value::Text(_) => unreachable!(),
+    match value.sign_and_magnitude() {
+        Some((negative, magnitude)) => Cell::Number {
+            kind: value.kind(),
+            negative,
+            magnitude,
+        },
+        None => unreachable!(),
     }
 }
 
@@ -64,14 +62,14 @@ fn value_in<'a>(cell: Cell, closed: &'a [u8]) -> Value<'a>
     ensures { datum_of result ≡ datum_in closed.now cell }
 {
     match cell {
-        Cell::I8(n) => Value::I8(n),
-        Cell::I16(n) => Value::I16(n),
-        Cell::I32(n) => Value::I32(n),
-        Cell::I64(n) => Value::I64(n),
-        Cell::U8(n) => Value::U8(n),
-        Cell::U16(n) => Value::U16(n),
-        Cell::U32(n) => Value::U32(n),
-        Cell::U64(n) => Value::U64(n),
+        Cell::Number {
+            kind,
+            negative,
+            magnitude,
+        } => match kind.value(signed(negative, magnitude)) {
+            Some(value) => value,
+            None => unreachable!(),
+        },
         Cell::Text { from, to } => Value::Text(&closed[from..to]),
     }
 }

@@ -1,4 +1,6 @@
 //! What a destination can hold.
+ghost use Rattle.std.specs.Prelude.{◌≡◌};
+ghost use Rattle.sf_base.specs.Data.{with_sign};
 
 /// The kind of a destination: an integer type of the given sign and bits, or a text of bytes.
 #[derive(Clone, Copy, Debug, PartialEq, Eq)]
@@ -15,7 +17,7 @@ pub enum Kind {
 }
 
 impl Kind {
-    ghost use Rattle.std.specs.Prelude.{◌≡◌, IfSome, IfNone};
+    ghost use Rattle.std.specs.Prelude.{IfSome, IfNone};
     ghost use Rattle.sf_base.specs.Data.{datum_of, IsIn};
     ghost use Rattle.sf_base.specs.Data.Datum.{Number};
 
@@ -54,8 +56,9 @@ pub enum Value<'a> {
 }
 
 impl Value<'_> {
-    ghost use Rattle.std.specs.Prelude.{◌≡◌};
-    ghost use Rattle.sf_base.specs.Data.{datum_of, kind_of, number_in};
+    ghost use Rattle.std.specs.Prelude.{◌<◌, IfSome, true};
+    ghost use Rattle.std.specs.Option.{option_map};
+    ghost use Rattle.sf_base.specs.Data.{datum_of, kind_of, number_in, IsIn};
 
     /// The kind of a destination that can be given it.
     pub fn kind(&self) -> Kind
@@ -74,27 +77,48 @@ impl Value<'_> {
         }
     }
 
+    /// The sign (true: a minus) and the magnitude of its number. None of a text.
+    pub fn sign_and_magnitude(&self) -> Option<(bool, u64)>
+        ensures number { option_map (λ p. with_sign p.0 p.1) result ≡ number_in (datum_of self.now) }
+        ensures held { IfSome result (λ p. IsIn (kind_of (datum_of self.now)) (with_sign p.0 p.1)) }
+        ensures sign { IfSome result (λ p. p.0 ≡ true → 0 < p.1) }
+    {
+        let parts = match self {
+            Value::I8(n) => (*n < 0, u64::from(n.unsigned_abs())),
+            Value::I16(n) => (*n < 0, u64::from(n.unsigned_abs())),
+            Value::I32(n) => (*n < 0, u64::from(n.unsigned_abs())),
+            Value::I64(n) => (*n < 0, n.unsigned_abs()),
+            Value::U8(n) => (false, u64::from(*n)),
+            Value::U16(n) => (false, u64::from(*n)),
+            Value::U32(n) => (false, u64::from(*n)),
+            Value::U64(n) => (false, *n),
+            Value::Text(_) => return None,
+        };
+        Some(parts)
+    }
+
     /// Its number. None of a text.
     pub fn number(&self) -> Option<i128>
         ensures { result ≡ number_in (datum_of self.now) }
     {
-        let number = match self {
-            Value::I8(n) => i128::from(*n),
-            Value::I16(n) => i128::from(*n),
-            Value::I32(n) => i128::from(*n),
-            Value::I64(n) => i128::from(*n),
-            Value::U8(n) => i128::from(*n),
-            Value::U16(n) => i128::from(*n),
-            Value::U32(n) => i128::from(*n),
-            Value::U64(n) => i128::from(*n),
-            Value::Text(_) => return None,
-        };
-        Some(number)
+        let (negative, magnitude) = self.sign_and_magnitude()?;
+        Some(signed(negative, magnitude))
+    }
+}
+
+/// The number of a sign (true: a minus) and a magnitude.
+pub(crate) fn signed(negative: bool, magnitude: u64) -> i128
+    ensures { result ≡ with_sign negative magnitude }
+{
+    if negative {
+        -i128::from(magnitude)
+    } else {
+        i128::from(magnitude)
     }
 }
 
 impl Default for Value<'_> {
-    ghost use Rattle.std.specs.Prelude.{◌≡◌, pos};
+    ghost use Rattle.std.specs.Prelude.{pos};
     ghost use Rattle.sf_base.specs.declared.values.Value.TheVariants.{I32};
 
     ghost is_default = { λ v. v ≡ I32 (pos 0) };

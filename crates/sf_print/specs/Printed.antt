@@ -5,7 +5,8 @@ use Rattle.std.specs.Io.KnownBytes.{Appends}
 use Rattle.sf_base.specs.declared.values.Kind.{Kind}
 use Rattle.sf_base.specs.declared.values.Kind.TheVariants as kind
 use Rattle.sf_base.specs.Data.{Datum}
-use Rattle.sf_base.specs.Data.Datum.{Number, Bytes}
+pub use Rattle.sf_base.specs.Data.{kind_of}
+use Rattle.sf_base.specs.Data.Datum.{Bytes}
 use Rattle.sf_format.specs.declared.unit.PrintLetter.{PrintLetter}
 use Rattle.sf_format.specs.declared.unit.PrintLetter.TheVariants as letter
 use Rattle.sf_format.specs.declared.unit.PrintConv.{PrintConv}
@@ -36,10 +37,6 @@ abbrev pub printed : List PrintUnit → List Datum → List ℕ
 printed units values = flat_map (unit_text values) units
 
 -- ---- what is refused
-
-abbrev pub kind_of : Datum → Kind
-kind_of (Number k z) = k
-kind_of (Bytes bytes) = kind.Text
 
 abbrev pub same_kind : Kind → Kind → Bool
 same_kind kind.I8 kind.I8 = true

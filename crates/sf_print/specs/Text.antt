@@ -1,7 +1,8 @@
 -- The text that a conversion of a print format makes of a value. (C11 7.21.6.1, paragraphs 4 to 8)
-use Rattle.std.specs.Prelude.{ℕ, ◌+◌, ◌-◌, ℤ, pos, negsuc, neg_ℤ, Bool, true, false, ◌==◌, ◌&&◌, not, if◌then◌else◌, List, [], ◌∷◌, ◌++◌, length, take, replicate, slice_index, unsigned_abs, Option, Some, None, unwrap_or, is_none}
+use Rattle.std.specs.Prelude.{ℕ, ◌+◌, ◌-◌, ℤ, pos, negsuc, Bool, true, false, ◌==◌, ◌&&◌, not, if◌then◌else◌, List, [], ◌∷◌, ◌++◌, length, take, replicate, slice_index, unsigned_abs, Option, Some, None, unwrap_or, is_none}
 use Rattle.std.specs.Fmt.{digits}
 use Rattle.sf_base.specs.Data.{Datum}
+pub use Rattle.sf_base.specs.Data.{with_sign}
 use Rattle.sf_base.specs.Data.Datum.{Number, Bytes}
 use Rattle.sf_format.specs.declared.unit.PrintLetter.{PrintLetter}
 use Rattle.sf_format.specs.declared.unit.PrintLetter.TheVariants as letter
@@ -122,8 +123,3 @@ bytes_text c bytes = padded c (shown_bytes c.letter c.precision bytes)
 abbrev pub value_text : PrintConv → Datum → List ℕ
 value_text c (Number kind z) = integer_text c z
 value_text c (Bytes bytes) = bytes_text c bytes
-
--- the number of a sign (true: a minus) and a magnitude
-abbrev pub with_sign : Bool → ℕ → ℤ
-with_sign true m = neg_ℤ (pos m)
-with_sign false m = pos m

@@ -1,27 +1,11 @@
 //! What is refused before anything is printed.
 ghost use Rattle.std.specs.Prelude.{◌≡◌, map, MatchOption, Some, None};
 ghost use Rattle.sf_base.specs.Data.{datum_of};
-ghost use Rattle.sf_print.specs.Printed.{kind_of, same_kind, suits, value_fault, value_at, fault_or_none, unit_fault, slot_of, lower, lowest_fault};
+ghost use Rattle.sf_print.specs.Printed.{same_kind, suits, value_fault, value_at, fault_or_none, unit_fault, slot_of, lower, lowest_fault};
 
 use crate::fault::PrintFault;
 use sf_base::{Kind, Value};
 use sf_format::{PrintConv, PrintLetter, Unit};
-
-fn kind_of_value(value: &Value<'_>) -> Kind
-    ensures { result ≡ kind_of (datum_of value.now) }
-{
-    match value {
-        Value::I8(_) => Kind::I8,
-        Value::I16(_) => Kind::I16,
-        Value::I32(_) => Kind::I32,
-        Value::I64(_) => Kind::I64,
-        Value::U8(_) => Kind::U8,
-        Value::U16(_) => Kind::U16,
-        Value::U32(_) => Kind::U32,
-        Value::U64(_) => Kind::U64,
-        Value::Text(_) => Kind::Text,
-    }
-}
 
 fn are_same(a: Kind, b: Kind) -> bool
     ensures { result ≡ same_kind a b }
@@ -43,7 +27,7 @@ fn suits_letter(letter: PrintLetter, value: &Value<'_>) -> bool
 fn fault_of(conv: &PrintConv, value: &Value<'_>) -> Option<PrintFault>
     ensures { result ≡ value_fault conv.now (datum_of value.now) }
 {
-    if !are_same(kind_of_value(value), conv.kind) {
+    if !are_same(value.kind(), conv.kind) {
         return Some(PrintFault::WrongKind { at: conv.slot });
     }
     if !suits_letter(conv.letter, value) {

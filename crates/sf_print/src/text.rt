@@ -48,16 +48,12 @@ pub(crate) enum Printable<'a> {
 pub(crate) fn printable_of<'a>(value: Value<'a>) -> Printable<'a>
     ensures { IsOf result (datum_of value.entry) }
 {
-    match value {
-        Value::I8(n) => Printable::Number(n < 0, n.unsigned_abs() as u64),
-        Value::I16(n) => Printable::Number(n < 0, n.unsigned_abs() as u64),
-        Value::I32(n) => Printable::Number(n < 0, n.unsigned_abs() as u64),
-        Value::I64(n) => Printable::Number(n < 0, n.unsigned_abs()),
-        Value::U8(n) => Printable::Number(false, n as u64),
-        Value::U16(n) => Printable::Number(false, n as u64),
-        Value::U32(n) => Printable::Number(false, n as u64),
-        Value::U64(n) => Printable::Number(false, n),
-        Value::Text(bytes) => Printable::Bytes(bytes),
+    if let Value::Text(bytes) = value {
+        return Printable::Bytes(bytes);
+    }
+    match value.sign_and_magnitude() {
+        Some((negative, magnitude)) => Printable::Number(negative, magnitude),
+        None => unreachable!(),
     }
 }
 
