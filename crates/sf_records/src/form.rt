@@ -1,6 +1,6 @@
 //! The forms in which records are written.
 ghost use Rattle.std.specs.Prelude.{◌≡◌};
-ghost use Rattle.sf_records.specs.Forms.{absent_text, closing, opening, separator};
+ghost use Rattle.sf_records.specs.Forms.{absent_text, separator};
 
 /// In which form records are written.
 #[derive(Clone, Copy, Debug, PartialEq, Eq)]
@@ -26,16 +26,6 @@ impl OutputForm {
         }
     }
 
-    /// What stands before the values of a record.
-    pub(crate) fn opening(self) -> &'static [u8]
-        ensures { result.now ≡ opening self }
-    {
-        match self {
-            OutputForm::Plain | OutputForm::Tsv => b"",
-            OutputForm::Json => b"[",
-        }
-    }
-
     /// What stands between each two values.
     pub(crate) fn separator(self) -> u8
         ensures { result ≡ separator self }
@@ -44,16 +34,6 @@ impl OutputForm {
             OutputForm::Plain => b' ',
             OutputForm::Tsv => b'\t',
             OutputForm::Json => b',',
-        }
-    }
-
-    /// What stands behind them.
-    pub(crate) fn closing(self) -> &'static [u8]
-        ensures { result.now ≡ closing self }
-    {
-        match self {
-            OutputForm::Plain | OutputForm::Tsv => b"\n",
-            OutputForm::Json => b"]\n",
         }
     }
 }

@@ -1,7 +1,7 @@
 //! The text of a record.
 ghost use Rattle.std.specs.Prelude.{◌≡◌, ◌++◌, OnOk};
 ghost use Rattle.sf_base.specs.Data.{datum_of, Bytes};
-ghost use Rattle.sf_records.specs.Forms.{record_text, slot_text, value_text};
+ghost use Rattle.sf_records.specs.Forms.{closing, opening, record_text, slot_text, value_text};
 
 use crate::form::OutputForm;
 use crate::json::push_json_string;
@@ -59,6 +59,29 @@ fn push_slot<S: Store>(
     }
 }
 
+/// Appends what stands before the values of a record.
+fn push_opening(output: &mut Vec<u8>, form: OutputForm) -> Result<(), AllocError>
+    ensures { OnOk result (output.new.items ≡ output.old.items ++ opening form) }
+{
+    match form {
+        OutputForm::Plain | OutputForm::Tsv => {}
+        OutputForm::Json => output.push(b'[')?,
+    }
+    Ok(())
+}
+
+/// Appends what stands behind them.
+fn push_closing(output: &mut Vec<u8>, form: OutputForm) -> Result<(), AllocError>
+    ensures { OnOk result (output.new.items ≡ output.old.items ++ closing form) }
+{
+    match form {
+        OutputForm::Plain | OutputForm::Tsv => {}
+        OutputForm::Json => output.push(b']')?,
+    }
+    output.push(b'\n')?;
+    Ok(())
+}
+
 /// Appends, in this form, the record of a format that has so many destinations, by the report of a run. Where memory is
 /// refused, a part of it may have been appended.
 pub fn push_record<S: Store>(
@@ -70,12 +93,12 @@ pub fn push_record<S: Store>(
 ) -> Result<(), AllocError>
     ensures { OnOk result (output.new.items ≡ output.old.items ++ record_text form destinations report.now) }
 {
-    output.extend_from_slice(form.opening())?;
+    push_opening(output, form)?;
     for before in 0..destinations {
         if before > 0 {
             output.push(form.separator())?;
         }
         push_slot(output, digits, form, report, before + 1)?;
     }
-    output.extend_from_slice(form.closing())
+    push_closing(output, form)
 }

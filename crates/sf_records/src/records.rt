@@ -32,6 +32,7 @@ fn fault_by(why: Unwritten, number: u32) -> ToolFault
 }
 
 /// The loop's end after this turn, where it stops. `records` were written before.
+#[inline(never)]
 fn end_after<T: Store>(turn: Turn, report: &Report<'_, T>, records: u32) -> Option<ToolEnd>
     requires { records < 2147483647 }
     ensures { MatchOption result (turn ≡ Turn.Goes) (λ end. (turn ≢ Turn.Goes) × (end ≡ end_by turn records report.now)) }
@@ -76,7 +77,10 @@ fn judge<R: Recorder, K: Sink, T: Store>(
     {
         return Some(ended_by(records, fault_by(why, records + 1)));
     }
-    end_after(turn, report, records)
+    match turn {
+        Turn::Goes => None,
+        _ => end_after(turn, report, records),
+    }
 }
 
 /// Scans record after record of what the lookahead holds and its source gives, by runs of at most `limit` bytes, and has
