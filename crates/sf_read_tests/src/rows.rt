@@ -1,15 +1,12 @@
 //! Rows of a number and a name from scripted sources.
-use crate::texts::is;
 use arrayvec::ArrayVec;
 use sf_base::{Kind, Store, Value};
 use sf_format::{Profile, ScanFormat};
 use sf_read::{Lookahead, ReadStep, ScanRowFault, ScriptSource, Source, scan_row};
+use sf_rows::{LIMIT, is};
 use sf_run::{Ending, Outcome, Report, Row, RowFault, StartFault, Status};
 use std::alloc::Global;
-use std::process::Abort;
 use std::test::Fail;
-
-const LIMIT: u32 = 1048576;
 
 /// A name with its number.
 #[derive(Debug, Drop)]
@@ -107,12 +104,12 @@ fn row<T: Row, S: Source, const N: usize>(
 }
 
 /// The row was found.
-fn is_row(rt: &impl Abort, found: &Result<Named, ScanRowFault>, number: i32, name: &[u8]) {
+fn is_row(found: &Result<Named, ScanRowFault>, number: i32, name: &[u8]) -> Result<(), Fail> {
     let named = match found {
         Ok(row) => Ok((row.number, row.name.as_slice())),
         Err(fault) => Err(fault),
     };
-    is(rt, &named, &Ok((number, name)), &name);
+    is(&named, &Ok((number, name)), &name)
 }
 
 fn failed(status: Status, at: u16, used: u32, met: Option<Ending>) -> ScanRowFault {
@@ -149,14 +146,13 @@ fn refused_before_the_run(rt: HostRuntime) -> Result<(), Fail> {
     let mut from = Lookahead::<ScriptSource<'_>, 7>::new(ScriptSource::new(&steps));
     for (format, limit, fault) in REFUSED {
         let found = row::<Named, _, _>(alloc, &mut from, format, limit)?;
-        is(&rt, &found.err(), &Some(fault), &format);
+        is(&found.err(), &Some(fault), &format)?;
     }
-    is(&rt, &from.source().reads(), &0, &"the source");
+    is(&from.source().reads(), &0, &"the source")?;
 
     // The same slots in another order.
     let found = row::<Named, _, _>(alloc, &mut from, b"%2$s %1$d", LIMIT)?;
-    is_row(&rt, &found, 7, b"up");
-    Ok(())
+    is_row(&found, 7, b"up")
 }
 
 /// A row by `%d %5s`, and what is held then.
@@ -184,7 +180,7 @@ fn a_row_and_the_rest(rt: HostRuntime) -> Result<(), Fail> {
     let steps = [ReadStep::Give(b"7 abcdefg")];
     let mut from = Lookahead::<ScriptSource<'_>, 4096>::new(ScriptSource::new(&steps));
     let (found, held) = row_and_rest(rt.alloc(), &mut from)?;
-    is_row(&rt, &found, 7, b"abcde");
+    is_row(&found, 7, b"abcde")?;
     assert!(rt; held.as_slice() == b"fg".as_slice());
     Ok(())
 }
@@ -206,8 +202,8 @@ fn three_rows(alloc: Global) -> Result<[Result<Named, ScanRowFault>; 3], Fail> {
 #[test]
 fn rows_in_turn(rt: HostRuntime) -> Result<(), Fail> {
     let [first, second, third] = three_rows(rt.alloc())?;
-    is_row(&rt, &first, 7, b"up");
-    is_row(&rt, &second, -8, b"down");
+    is_row(&first, 7, b"up")?;
+    is_row(&second, -8, b"down")?;
     let fault = failed(Status::InputFailure, 1, 0, Some(Ending::Fault));
     assert_eq!(rt; third.err(), Some(fault));
     Ok(())

@@ -1,34 +1,36 @@
 //! Scans over a store that is used again, and over stores of fixed capacity.
-use crate::streams::text_rows;
-use crate::texts::{Row, is, is_told, rows};
 use sf_base::HeapStore;
 use sf_format::{Profile, ScanFormat};
 use sf_read::{Lookahead, ReadStep, ScriptSource, SliceSource, fscan_fixed, fscan_over};
+use sf_rows::{LIMIT, ScanRow, is, scans};
 use sf_run::{Scanned, StartFault};
 use std::alloc::Global;
-use std::process::Abort;
 use std::test::Fail;
 
-const LIMIT: u32 = 1048576;
-
 /// A scan of the row's text over the store.
-fn scanned_over(alloc: Global, store: HeapStore, row: &Row) -> Result<Scanned<HeapStore>, Fail> {
-    let format = ScanFormat::parse(alloc, Profile::One, row.format)?;
+fn scanned_over(
+    alloc: Global,
+    store: HeapStore,
+    row: &ScanRow,
+) -> Result<Scanned<HeapStore>, Fail> {
+    let format = row.parsed(alloc)?;
     let mut from = Lookahead::<SliceSource<'_>, 3>::new(SliceSource::new(row.text));
-    Ok(fscan_over(alloc, store, &mut from, &format, LIMIT)?)
+    Ok(fscan_over(alloc, store, &mut from, &format, row.limit)?)
 }
 
 /// The row over the store, which is then given back.
-fn over(rt: &(impl Abort + AllocGlobal), store: HeapStore, row: &Row) -> Result<HeapStore, Fail> {
-    let scanned = scanned_over(rt.alloc(), store, row)?;
-    let report = scanned.report();
-    is_told(rt, row, &report);
-    let mut next = 1u8;
-    for _ in row.values {
-        next = next.saturating_add(1);
-    }
-    is(rt, &report.value(next), &None, &row.text);
+fn over(alloc: Global, store: HeapStore, row: &ScanRow) -> Result<HeapStore, Fail> {
+    let scanned = scanned_over(alloc, store, row)?;
+    row.is_told(&scanned.report())?;
     Ok(scanned.into_store())
+}
+
+/// The rows of a table, one after the other over the store.
+fn over_all(alloc: Global, mut store: HeapStore, rows: &[ScanRow]) -> Result<HeapStore, Fail> {
+    for row in rows {
+        store = over(alloc, store, row)?;
+    }
+    Ok(store)
 }
 
 /// Why a scan over the store under the limit is refused, and how many reads there were.
@@ -47,15 +49,11 @@ fn refusal_over(
 #[test]
 fn one_store_for_all(rt: HostRuntime) -> Result<(), Fail> {
     let mut store = HeapStore::new(rt.alloc(), 0)?;
-    for row in rows() {
-        store = over(&rt, store, row)?;
-    }
-    for row in text_rows() {
-        store = over(&rt, store, row)?;
+    for rows in scans() {
+        store = over_all(rt.alloc(), store, rows)?;
     }
     let refused = refusal_over(rt.alloc(), store, 2147483648)?;
-    assert_eq!(rt; refused, (Some(StartFault::BadLimit), 0));
-    Ok(())
+    is(&refused, &(Some(StartFault::BadLimit), 0), &2147483648u32)
 }
 
 /// What a store of 8 bytes and one slot answers, and how often the source was read.
@@ -81,7 +79,7 @@ const SMALL: [(&[u8], u32, Option<StartFault>, u64); 6] = [
 fn small_stores(rt: HostRuntime) -> Result<(), Fail> {
     for (format, limit, fault, reads) in SMALL {
         let answered = small(rt.alloc(), format, limit)?;
-        is(&rt, &answered, &(fault, reads), &format);
+        is(&answered, &(fault, reads), &format)?;
     }
     Ok(())
 }
