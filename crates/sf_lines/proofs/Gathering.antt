@@ -1,12 +1,11 @@
 -- A line that is read block by block.
-use Rattle.std.proofs.Common.{◌≡◌, ℕ, zero, suc, ◌+◌, ◌-◌, ◌<◌, ◌≤◌, Bool, true, false, cond, List, [], ◌∷◌, ◌++◌, length, take, drop, Option, Some, None, Result, Ok, Err, IfOk, IfErr, is_err, ◌==◌, ◌⊎◌, inl, inr, refl, sym, ap, subst, ◌∙◌, arith, append_assoc, append-nil, length-append, true≢false}
+use Rattle.std.proofs.Common.{◌≡◌, ℕ, zero, suc, ◌+◌, ◌-◌, ◌<◌, ◌≤◌, Bool, true, false, cond, List, [], ◌∷◌, ◌++◌, length, take, drop, Option, Some, None, Result, Ok, Err, IfOk, IfErr, is_err, ◌==◌, ◌⊎◌, inl, inr, refl, sym, ap, subst, ◌∙◌, arith, append_assoc, length-append, true≢false}
 use Rattle.std.proofs.lemmas.Bool.Decides.{nat_tests}
 use Rattle.std.proofs.lemmas.List.{take_all, length-take-le}
 use Rattle.std.proofs.KnownBytes.{Consumes-trans, Consumes-nil}
 use Rattle.std.specs.Io.KnownBytes.{Consumes, IsAtEnd, prepend_known}
 use Rattle.sf_read.specs.Ahead.{Ahead, input_of}
-use Rattle.sf_lines.specs.declared.line_reader.LineRead.{LineRead}
-use Rattle.sf_lines.specs.declared.line_reader.LineRead.TheVariants.{Line, TooLong, End}
+use Rattle.sf_lines.specs.declared.line.LineRead.TheVariants.{Line, TooLong, End}
 use Rattle.sf_lines.specs.Cut.{IsLine}
 use Rattle.sf_lines.specs.Reading.{Loses, Took, TookPart, Reads, endless}
 use Rattle.sf_lines.proofs.Cutting.{line_append}

@@ -1,2 +1,7 @@
+pub mod Choosing
+pub mod Coming
 pub mod Cutting
 pub mod Gathering
+pub mod Looping
+pub mod Reading
+pub mod Turning

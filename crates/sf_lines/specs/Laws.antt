@@ -2,7 +2,7 @@
 use Rattle.std.specs.Prelude.{◌≡◌, ◌<◌, ◌⊎◌, ℕ, List, [], ◌∷◌, ◌++◌, length}
 use Rattle.std.specs.List.{AllByRecursion}
 use Rattle.sf_run.specs.declared.outcome.Ending.{Ending}
-use Rattle.sf_run.specs.declared.outcome.Ending.TheVariants.{End, Fault}
+use Rattle.sf_run.specs.declared.outcome.Ending.TheVariants.{Fault}
 use Rattle.sf_lines.specs.Cut.{IsLine, lines_by, lines_of, joined}
 
 -- a line is cut off with its line end; the last one may lack that where the text ends, and not where a read failed

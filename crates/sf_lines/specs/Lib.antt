@@ -1,3 +1,6 @@
 pub mod Cut
+pub mod Judging
 pub mod Laws
+pub mod Loops
 pub mod Reading
+pub mod Turns

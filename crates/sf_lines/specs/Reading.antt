@@ -2,8 +2,8 @@
 use Rattle.std.specs.Prelude.{◌≡◌, ◌≤◌, ◌<◌, ◌^◌, ◌⊎◌, ℕ, List, [], ◌∷◌, ◌++◌, length, Bool, true, false, Option}
 use Rattle.std.specs.Io.KnownBytes.{Consumes, IsAtEnd}
 use Rattle.sf_read.specs.Ahead.{Ahead, input_of}
-use Rattle.sf_lines.specs.declared.line_reader.LineRead.{LineRead}
-use Rattle.sf_lines.specs.declared.line_reader.LineRead.TheVariants.{Line, TooLong, End, Fault, Endless, NoMemory}
+use Rattle.sf_lines.specs.declared.line.LineRead.{LineRead}
+use Rattle.sf_lines.specs.declared.line.LineRead.TheVariants.{Line, TooLong, End, Fault, Endless, NoMemory}
 use Rattle.sf_lines.specs.Cut.{IsLine}
 
 -- the input lost these bytes

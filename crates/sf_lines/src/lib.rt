@@ -1,7 +1,16 @@
-//! Lines of an input, read one by one.
+//! Lines of an input, read one by one, and what is scanned from each.
 #![tactic(auto)]
 
+mod end;
+mod judge;
 pub mod laws;
-mod line_reader;
+mod line;
+mod lines;
+mod options;
+mod writer;
 
-pub use line_reader::{LineRead, LineReader};
+pub use end::{LineFault, LinesEnd, LinesFault};
+pub use line::{LineRead, next_line};
+pub use lines::run_lines;
+pub use options::LinesOptions;
+pub use writer::{RecordFault, RecordWriter, Teller};

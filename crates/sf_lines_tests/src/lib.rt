@@ -2,4 +2,8 @@
 #![tactic(auto)]
 
 #[cfg(test)]
+mod hands;
+#[cfg(test)]
 mod lines;
+#[cfg(test)]
+mod loops;

@@ -1,6 +1,6 @@
 //! Texts and their lines, as fgets reads them (C11 7.21.7.2), without their line ends.
-use sf_lines::{LineRead, LineReader};
-use sf_read::{ReadStep, ScriptSource, SliceSource, Source};
+use sf_lines::{LineRead, next_line};
+use sf_read::{Lookahead, ReadStep, ScriptSource, SliceSource, Source};
 use std::alloc::Global;
 use std::test::Fail;
 
@@ -23,13 +23,13 @@ const ROWS: [(&str, &str); 8] = [
 /// mark for each that is longer; and what stood behind them.
 fn listed<S: Source, const N: usize>(
     alloc: Global,
-    from: &mut LineReader<S, N>,
+    from: &mut Lookahead<S, N>,
     limit: usize,
 ) -> Result<(Vec<u8>, LineRead), Fail> {
     let mut line = Vec::new(alloc);
     let mut out = Vec::new(alloc);
     for _ in 0..MOST {
-        match from.next_line(&mut line, limit) {
+        match next_line(from, &mut line, limit) {
             LineRead::Line => out.extend_from_slice(&line)?,
             LineRead::TooLong => out.push(b'!')?,
             last => return Ok((out, last)),
@@ -42,11 +42,11 @@ fn listed<S: Source, const N: usize>(
 #[test]
 fn texts_are_cut_into_lines(rt: HostRuntime) -> Result<(), Fail> {
     for (text, wanted) in ROWS {
-        let mut from = LineReader::<SliceSource<'_>, 1>::new(SliceSource::new(text.as_bytes()));
+        let mut from = Lookahead::<SliceSource<'_>, 1>::new(SliceSource::new(text.as_bytes()));
         let (out, last) = listed(rt.alloc(), &mut from, 8)?;
         assert_eq!(rt; out.as_slice(), wanted.as_bytes());
         assert_eq!(rt; last, LineRead::End);
-        let mut from = LineReader::<SliceSource<'_>, 3>::new(SliceSource::new(text.as_bytes()));
+        let mut from = Lookahead::<SliceSource<'_>, 3>::new(SliceSource::new(text.as_bytes()));
         let (out, last) = listed(rt.alloc(), &mut from, 8)?;
         assert_eq!(rt; out.as_slice(), wanted.as_bytes());
         assert_eq!(rt; last, LineRead::End);
@@ -65,11 +65,11 @@ const LONG: [(&str, &str); 4] = [
 #[test]
 fn long_lines_are_passed_over(rt: HostRuntime) -> Result<(), Fail> {
     for (text, wanted) in LONG {
-        let mut from = LineReader::<SliceSource<'_>, 1>::new(SliceSource::new(text.as_bytes()));
+        let mut from = Lookahead::<SliceSource<'_>, 1>::new(SliceSource::new(text.as_bytes()));
         let (out, last) = listed(rt.alloc(), &mut from, 2)?;
         assert_eq!(rt; out.as_slice(), wanted.as_bytes());
         assert_eq!(rt; last, LineRead::End);
-        let mut from = LineReader::<SliceSource<'_>, 64>::new(SliceSource::new(text.as_bytes()));
+        let mut from = Lookahead::<SliceSource<'_>, 64>::new(SliceSource::new(text.as_bytes()));
         let (out, last) = listed(rt.alloc(), &mut from, 2)?;
         assert_eq!(rt; out.as_slice(), wanted.as_bytes());
         assert_eq!(rt; last, LineRead::End);
@@ -84,7 +84,7 @@ fn a_read_fails_within_a_line(rt: HostRuntime) -> Result<(), Fail> {
         ReadStep::Fail,
         ReadStep::Give(b"d\n"),
     ];
-    let mut from = LineReader::<ScriptSource<'_>, 64>::new(ScriptSource::new(&steps));
+    let mut from = Lookahead::<ScriptSource<'_>, 64>::new(ScriptSource::new(&steps));
     let (out, last) = listed(rt.alloc(), &mut from, 8)?;
     assert_eq!(rt; out.as_slice(), b"ab|".as_slice());
     assert_eq!(rt; last, LineRead::Fault);

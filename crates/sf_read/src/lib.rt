@@ -17,4 +17,4 @@ pub use slice_source::SliceSource;
 pub use source::{Source, SourceFault};
 pub use std_source::StdSource;
 pub use stream::{fscan, fscan_fixed, fscan_held, fscan_over};
-pub use whole::sscan;
+pub use whole::{sscan, sscan_over};

@@ -70,8 +70,8 @@ impl<S: Source, const N: usize> Lookahead<S, N> {
         &self.source
     }
 
-    /// Whether the source has told its end.
-    pub(crate) fn is_at_end(&self) -> bool
+    /// Whether the source has told its end; then nothing is held, and nothing is to come.
+    pub fn is_at_end(&self) -> bool
         ensures is { result ≡ self.now.at_end }
         ensures held { result ≡ true → self.now.held ≡ [] }
         ensures told { result ≡ true → IsAtEnd (S.to_come self.now.source) }
@@ -79,8 +79,8 @@ impl<S: Source, const N: usize> Lookahead<S, N> {
         self.at_end
     }
 
-    /// Takes away the first held bytes.
-    pub(crate) fn consume(&mut self, count: usize)
+    /// Takes away so many of the bytes that are held, from the first on.
+    pub fn consume(&mut self, count: usize)
         requires { count ≤ length self.old.held }
         ensures held { self.new.held ≡ drop count self.old.held }
         ensures source { self.new.source ≡ self.old.source }
@@ -90,8 +90,9 @@ impl<S: Source, const N: usize> Lookahead<S, N> {
         self.start += count;
     }
 
-    /// Reads a block, where nothing is held.
-    pub(crate) fn refill(&mut self) -> Result<(), SourceFault>
+    /// Reads a block, where nothing is held and the source has not told its end: afterwards it has, or some bytes are held.
+    /// Where the read fails, nothing is held, and the source may be read again.
+    pub fn refill(&mut self) -> Result<(), SourceFault>
         requires empty { self.old.held ≡ [] }
         requires open { self.old.at_end ≡ false }
         ensures reads { S.reads self.new.source ≡ counted_on (S.reads self.old.source) }

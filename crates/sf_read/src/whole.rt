@@ -1,12 +1,30 @@
 //! Scans of whole texts.
-ghost use Rattle.std.specs.Prelude.{◌≡◌, ◌<◌, ◌↔◌, ◌⊎◌, IfOk, IfErr, IsErrOf, IsSome};
+ghost use Rattle.std.specs.Prelude.{◌≡◌, ◌<◌, ◌≤◌, ◌+◌, ◌↔◌, ◌⊎◌, ℕ, List, [], length, unwrap_or, IfOk, IfErr, IsErrOf, IsOk, IsSome};
+ghost use Rattle.sf_base.specs.Kept.{buffer_of};
+ghost use Rattle.sf_format.specs.declared.directive.Directive.{Directive};
 ghost use Rattle.sf_format.specs.Widths.{width_sum};
 ghost use Rattle.sf_run.specs.Limits.{RunTold, RunWithin};
+ghost use Rattle.sf_run.specs.Scanner.{standing};
+ghost use Rattle.sf_run.specs.Standing.{After};
 
-use sf_base::HeapStore;
+use sf_base::{HeapStore, Store};
 use sf_format::ScanFormat;
 use sf_run::{Ending, Scanned, Scanner, StartFault};
 use std::alloc::Global;
+
+/// What the run of the scanner comes to, over a whole text.
+fn run_over<S: Store>(mut scanner: Scanner<'_, S>, text: &[u8]) -> Scanned<S>
+    requires { After scanner.directives.now scanner.limit (standing scanner) [] }
+    ensures told { (ds : List Directive) (m : ℕ) → After ds m (standing scanner.entry) [] → RunTold ds m text.now Ending.End result }
+    ensures bounded { (ds : List Directive) (m : ℕ) → After ds m (standing scanner.entry) [] → IsSome (width_sum ds) → RunWithin ds m text.now Ending.End result }
+{
+    scanner.feed(text);
+    scanner.end(Ending::End);
+    match scanner.into_scanned() {
+        Ok(scanned) => scanned,
+        Err(_) => unreachable!(),
+    }
+}
 
 /// Scans a whole text by a format, as sscanf does (C11 7.21.6.7). The run consumes at most `limit` bytes.
 ///
@@ -23,11 +41,25 @@ pub fn sscan(
     ensures limit { IsErrOf result StartFault.BadLimit ↔ (2147483647 < limit) }
     ensures memory { IfErr result (λ fault. (fault ≡ StartFault.BadLimit) ⊎ (fault ≡ StartFault.NoMemory)) }
 {
-    let mut scanner = Scanner::new(alloc, format, limit)?;
-    scanner.feed(text);
-    scanner.end(Ending::End);
-    match scanner.into_scanned() {
-        Ok(scanned) => Ok(scanned),
-        Err(_) => unreachable!(),
-    }
+    let scanner = Scanner::new(alloc, format, limit)?;
+    Ok(run_over(scanner, text))
+}
+
+/// As `sscan`, over a store that was used before, as `Scanner::over` uses it: what it keeps is taken away, and its memory
+/// is used again. The store of a report is given back by `Scanned::into_store`.
+pub fn sscan_over(
+    alloc: Global,
+    store: HeapStore,
+    text: &[u8],
+    format: &ScanFormat,
+    limit: u32,
+) -> Result<Scanned<HeapStore>, StartFault>
+    ensures report { IfOk result (RunTold format.now limit text.now Ending.End) }
+    ensures bounded { IsSome (width_sum format.now) → IfOk result (RunWithin format.now limit text.now Ending.End) }
+    ensures limit { IsErrOf result StartFault.BadLimit ↔ (2147483647 < limit) }
+    ensures memory { IfErr result (λ fault. (fault ≡ StartFault.BadLimit) ⊎ (fault ≡ StartFault.NoMemory)) }
+    ensures enough { limit ≤ 2147483647 → unwrap_or (width_sum format.now) 0 ≤ store.room + length (buffer_of store) → IsOk result }
+{
+    let scanner = Scanner::over(alloc, store, format, limit)?;
+    Ok(run_over(scanner, text))
 }

@@ -1,11 +1,11 @@
 use Rattle.std.proofs.Common.{◌∙◌, Bool, cond, length, refl, sym, ap, arith}
 use Rattle.sf_read.specs.Counts.{counted_on}
 use Rattle.sf_lines.proofs.Gathering.{begins, at_end, ended_long, ended_short, failed, more, too_many, empty_list, tested_zero, tested_some, if_ok, if_err}
-use Rattle.sf_lines.proofs.line_reader.LineReader.next_line.Goals as goal
+use Rattle.sf_lines.proofs.line.next_line.Goals as goal
 
 pub loop-block-init : goal.loop-block-init
 loop-block-init g c = record {
-  going = begins g.S.Source.to_come c.args.self.now c.args.limit c.clear.new.self.items c.clear.ensures.items;
+  going = begins g.S.Source.to_come c.args.from.now c.args.limit c.clear.new.self.items c.clear.ensures.items;
   sound = refl;
 }
 
@@ -22,7 +22,7 @@ returns-then-is_at_end-clause-failures g c = rw (c.last_read.ensures.sound) c.lo
 
 pub gather-requires : goal.gather-requires
 gather-requires g c = record {
-  within = omega (arith, c.piece-piece.ensures.within, ap length c.held.ensures.held);
+  within = omega (arith, c.piece_of-piece.ensures.within, ap length c.held-held.ensures.held);
   kept = λ e. omega (arith, c.loop-block.line.ok.0, (c.loop-block.invariant.going.kept e).1);
 }
 
@@ -35,8 +35,8 @@ returns-in-Err-clause-failures g c = c.loop-block.invariant.sound
 pub returns-then-long-clause-reads : goal.returns-then-long-clause-reads
 returns-then-long-clause-reads g c =
     let going = c.loop-block.invariant.going in
-    ended_long going c.piece-piece.result.len c.piece-piece.ensures.line (sym c.is_at_end.ensures.is ∙ c.if-is_at_end.false) c.consume.new.self _
-    (c.piece-piece.ensures.ended c.if-piece.true) c.consume.ensures.held c.consume.ensures.source c.loop-block.line.ok.0 c.piece-piece.ensures.within (c.in-Ok.ensures.longer c.if-long.true)
+    ended_long going c.piece_of-piece.result.len (rw c.held-held.ensures.held at c.piece_of-piece.ensures.line) (sym c.is_at_end.ensures.is ∙ c.if-is_at_end.false) c.consume.new.self _
+    (rw c.held-held.ensures.held at (c.piece_of-piece.ensures.ended c.if-piece.true)) c.consume.ensures.held c.consume.ensures.source c.loop-block.line.ok.0 (rw c.held-held.ensures.held at c.piece_of-piece.ensures.within) (c.in-Ok.ensures.longer c.if-long.true)
 
 pub returns-then-long-clause-failures : goal.returns-then-long-clause-failures
 returns-then-long-clause-failures g c = ap g.S.Source.failures c.consume.ensures.source ∙ c.loop-block.invariant.sound
@@ -44,8 +44,8 @@ returns-then-long-clause-failures g c = ap g.S.Source.failures c.consume.ensures
 pub returns-else-long-clause-reads : goal.returns-else-long-clause-reads
 returns-else-long-clause-reads g c =
     let going = c.loop-block.invariant.going in
-    ended_short going c.piece-piece.result.len c.piece-piece.ensures.line (sym c.is_at_end.ensures.is ∙ c.if-is_at_end.false) c.consume.new.self c.gather.new.line.items _
-    (c.piece-piece.ensures.ended c.if-piece.true) c.consume.ensures.held c.consume.ensures.source c.gather.new.line.ok.0 (rw (← c.held.ensures.held) (c.in-Ok.ensures.within c.if-long.false))
+    ended_short going c.piece_of-piece.result.len (rw c.held-held.ensures.held at c.piece_of-piece.ensures.line) (sym c.is_at_end.ensures.is ∙ c.if-is_at_end.false) c.consume.new.self c.gather.new.line.items _
+    (rw c.held-held.ensures.held at (c.piece_of-piece.ensures.ended c.if-piece.true)) c.consume.ensures.held c.consume.ensures.source c.gather.new.line.ok.0 (rw (← c.held-held.ensures.held) (c.in-Ok.ensures.within c.if-long.false))
 
 pub returns-else-long-clause-failures : goal.returns-else-long-clause-failures
 returns-else-long-clause-failures g c = ap g.S.Source.failures c.consume.ensures.source ∙ c.loop-block.invariant.sound
@@ -53,7 +53,7 @@ returns-else-long-clause-failures g c = ap g.S.Source.failures c.consume.ensures
 pub returns-then-is_err-clause-reads : goal.returns-then-is_err-clause-reads
 returns-then-is_err-clause-reads g c =
     let going = c.loop-block.invariant.going in
-    failed going c.piece-piece.result.len c.piece-piece.ensures.line (sym c.is_at_end.ensures.is ∙ c.if-is_at_end.false) (c.piece-piece.ensures.all c.if-piece.false) c.consume-in-loop-block.new.self c.refill.new.self
+    failed going c.piece_of-piece.result.len (rw c.held-held.ensures.held at c.piece_of-piece.ensures.line) (sym c.is_at_end.ensures.is ∙ c.if-is_at_end.false) (rw c.held-held.ensures.held at (c.piece_of-piece.ensures.all c.if-piece.false)) c.consume-in-loop-block.new.self c.refill.new.self
     c.consume-in-loop-block.ensures.held c.consume-in-loop-block.ensures.source c.refill.ensures.bytes ((if_err c.refill.result (sym c.is_err.ensures.value ∙ c.if-is_err.true) c.refill.ensures.failed).0)
 
 pub returns-then-is_err-clause-failures : goal.returns-then-is_err-clause-failures
@@ -65,9 +65,9 @@ pub loop-block-preserved : goal.loop-block-preserved
 loop-block-preserved g c = record {
   going =
       let going = c.loop-block.invariant.going in
-      more going c.piece-piece.result.len c.piece-piece.ensures.line (sym c.is_at_end.ensures.is ∙ c.if-is_at_end.false) (c.piece-piece.ensures.all c.if-piece.false) c.consume-in-loop-block.new.self c.refill.new.self
+      more going c.piece_of-piece.result.len (rw c.held-held.ensures.held at c.piece_of-piece.ensures.line) (sym c.is_at_end.ensures.is ∙ c.if-is_at_end.false) (rw c.held-held.ensures.held at (c.piece_of-piece.ensures.all c.if-piece.false)) c.consume-in-loop-block.new.self c.refill.new.self
       c.consume-in-loop-block.ensures.held c.consume-in-loop-block.ensures.source c.refill.ensures.bytes c.gather.new.line.items _ _ c.in-Ok.longer c.loop-block.line.ok.0 c.gather.new.line.ok.0
-      c.in-Ok.ensures.longer (rw (← c.held.ensures.held) c.in-Ok.ensures.within) (if_ok c.refill.result (sym c.is_err.ensures.value ∙ c.if-is_err.false) c.refill.ensures.read);
+      c.in-Ok.ensures.longer (rw (← c.held-held.ensures.held) c.in-Ok.ensures.within) (if_ok c.refill.result (sym c.is_err.ensures.value ∙ c.if-is_err.false) c.refill.ensures.read);
   sound =
       c.refill.ensures.failures ∙ ap (λ (b : Bool). cond b (counted_on (g.S.Source.failures c.consume-in-loop-block.new.self.source)) (g.S.Source.failures c.consume-in-loop-block.new.self.source)) (sym c.is_err.ensures.value ∙ c.if-is_err.false)
       ∙ ap g.S.Source.failures c.consume-in-loop-block.ensures.source ∙ c.loop-block.invariant.sound;

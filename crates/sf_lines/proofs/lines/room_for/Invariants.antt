@@ -1,0 +1,8 @@
+use Rattle.std.proofs.Common.{take}
+use Rattle.std.specs.List.{AllByRecursion}
+use Rattle.sf_format.specs.Proper.{AreProper}
+use Rattle.sf_lines.proofs.lines.room_for.Given as goal
+
+-- those so far are proper
+abbrev pub invariant-loop-format : goal.invariant-loop-format
+invariant-loop-format l = AllByRecursion AreProper (take l.format-index l.formats)

@@ -1,0 +1,18 @@
+use Rattle.std.proofs.Common.{◌≡◌, ◌≤◌, ℕ, List, Some}
+use Rattle.sf_read.specs.Ahead.{input_of}
+use Rattle.sf_lines.specs.Turns.{work_of}
+use Rattle.sf_lines.proofs.Looping.{Going}
+use Rattle.sf_lines.proofs.lines.run_lines.Given as goal
+
+-- the lines so far; what is written and told of each stays the same, and neither the source nor the sink has failed
+abbrev pub invariant-loop-before : goal.invariant-loop-before
+invariant-loop-before g l = record {
+  going : (t : List ℕ) → input_of g.S.Source.to_come l.fn.from ≡ Some t
+      → Going (work_of l.options l.formats (g.R.RecordWriter.text l.fn.writer) (g.E.Teller.telling l.fn.teller)) g.S.Source.to_come t l.from (g.K.Sink.contents l.fn.to) (g.K.Sink.contents l.to) (g.E.Teller.failed l.teller) (g.E.Teller.told l.fn.teller) (g.E.Teller.told l.teller) l.counts.written l.counts.failed l.before;
+  text : g.R.RecordWriter.text l.writer ≡ g.R.RecordWriter.text l.fn.writer;
+  telling : g.E.Teller.telling l.teller ≡ g.E.Teller.telling l.fn.teller;
+  written : l.counts.written ≤ l.before;
+  failed : l.counts.failed ≤ l.before;
+  source : g.S.Source.failures l.from.source ≡ g.S.Source.failures l.fn.from.source;
+  sink : g.K.Sink.failures l.to ≡ g.K.Sink.failures l.fn.to;
+}

@@ -1,0 +1,82 @@
+-- What comes of one line.
+use Rattle.std.specs.Prelude.{◌≡◌, ◌≤◌, ◌<◌, ◌⊎◌, ◌++◌, ◌∷◌, ◌&&◌, ℕ, nat_lt, Bool, if◌then◌else◌, List, [], length, Option, Some, None, IsSome, Result, Ok, Err}
+use Rattle.std.specs.List.{AllByRecursion}
+use Rattle.sf_format.specs.declared.directive.Directive.{Directive}
+use Rattle.sf_run.specs.declared.outcome.Ending.TheVariants.{End}
+use Rattle.sf_run.specs.declared.outcome.Status.{Status}
+use Rattle.sf_run.specs.declared.outcome.Status.TheVariants.{Done}
+use Rattle.sf_run.specs.declared.outcome.Outcome.{Outcome}
+use Rattle.sf_run.specs.Runs.{RunReport}
+use Rattle.sf_run.specs.Limits.{RunWithin}
+use Rattle.sf_lines.specs.declared.options.LinesOptions.{LinesOptions}
+use Rattle.sf_lines.specs.declared.end.LineFault.{LineFault}
+use Rattle.sf_lines.specs.declared.end.LineFault.TheVariants.{Failed, LeftOver, TooLong}
+
+-- how lines are scanned, by which formats; what is written of a line that is a match, by its format and report; and what is
+-- told of one that is none, by its number
+pub record LineWork : Type 0 where
+  pub options : LinesOptions
+  pub formats : List (List Directive)
+  pub text : List Directive → RunReport → List ℕ
+  pub telling : ℕ → LineFault → List ℕ
+
+abbrev pub work_of : LinesOptions → List (List Directive) → (List Directive → RunReport → List ℕ) → (ℕ → LineFault → List ℕ) → LineWork
+work_of options formats text telling = record { options = options; formats = formats; text = text; telling = telling }
+
+-- ---- a line and a format
+
+-- what a run came to, but for its values
+abbrev pub outcome_of : RunReport → Outcome
+outcome_of r = record {
+  status = r.status;
+  at = r.at;
+  assigned = r.assigned;
+  converted = r.converted;
+  used = r.used;
+  met = r.met;
+}
+
+abbrev pub fault_from : Bool → ℕ → Status → Outcome → Option LineFault
+fault_from whole size Done o = if whole && nat_lt o.used size then Some (LeftOver o.used) else None
+fault_from whole size _ o = Some (Failed o)
+
+-- why a line of so many bytes is no match; where it has to be used whole, one of which something is left is none
+abbrev pub fault_by : Bool → ℕ → Outcome → Option LineFault
+fault_by whole size o = fault_from whole size o.status o
+
+abbrev pub fault_of : LinesOptions → List ℕ → RunReport → Option LineFault
+fault_of o line r = fault_by o.whole (length line) (outcome_of r)
+
+-- the line is no match by the format
+abbrev pub Misses : LinesOptions → List ℕ → List Directive → Type 0
+Misses o line ds = (r : RunReport) × RunWithin ds o.limit line End r × IsSome (fault_of o line r)
+
+-- The format that counts on a line, with its report: the first by which the line is a match, or the last where it is none.
+pub record Picks (o : LinesOptions) (formats : List (List Directive)) (line : List ℕ) (ds : List Directive) (r : RunReport) : Type 0 where
+  pub before : List (List Directive)
+  pub after : List (List Directive)
+  pub among : formats ≡ before ++ ds ∷ after
+  pub missed : AllByRecursion (Misses o line) before
+  pub ran : RunWithin ds o.limit line End r
+  pub counts : (fault_of o line r ≡ None) ⊎ (after ≡ [])
+
+-- ---- a line
+
+-- what comes of a line: nothing where it is passed over; else the text that is written, or why it is no match
+abbrev pub Turn : Type 0
+Turn = Option (Result (List ℕ) LineFault)
+
+abbrev pub judged : List ℕ → Option LineFault → Result (List ℕ) LineFault
+judged text None = Ok text
+judged text (Some fault) = Err fault
+
+-- a line within the limit is judged by the format that counts
+abbrev pub IsJudged : LineWork → List ℕ → Result (List ℕ) LineFault → Type 0
+IsJudged w line verdict =
+    (w.options.limit < length line) × (verdict ≡ Err TooLong)
+    ⊎ (length line ≤ w.options.limit) × ((ds : List Directive) × (r : RunReport) × Picks w.options w.formats line ds r × (verdict ≡ judged (w.text ds r) (fault_of w.options line r)))
+
+-- the line with this number, counted from 1
+abbrev pub Comes : LineWork → ℕ → List ℕ → Turn → Type 0
+Comes w number line None = number ≤ w.options.skip
+Comes w number line (Some verdict) = (w.options.skip < number) × IsJudged w line verdict

@@ -1,0 +1,88 @@
+//! Why a line is no match, and how the loop over the lines of an input ends.
+ghost use Rattle.std.specs.Prelude.{◌≡◌};
+ghost use Rattle.sf_lines.specs.Loops.{fault_after, status_by};
+
+use crate::line::LineRead;
+use sf_run::Outcome;
+
+/// Why a line is no match.
+#[derive(Clone, Copy, Debug, PartialEq, Eq)]
+pub enum LineFault {
+    /// No format is Done on it; the last one came to this.
+    Failed { outcome: Outcome },
+    /// The last format is Done, and leaves the bytes from this offset on.
+    LeftOver { at: u32 },
+    /// It has more bytes than the limit.
+    TooLong,
+}
+
+/// Why the lines of an input stopped before its end, where it was none of them.
+#[derive(Clone, Copy, Debug, PartialEq, Eq)]
+pub enum LinesFault {
+    /// The source failed in the line with this number, counted from 1.
+    Read { line: u64 },
+    /// The sink failed.
+    Write,
+    /// Memory was refused.
+    Memory,
+    /// There are 2^64 - 1 lines or more, or a line has 2^63 bytes or more.
+    TooMany,
+}
+
+/// How the loop over the lines of an input ended.
+#[derive(Clone, Copy, Debug, PartialEq, Eq)]
+pub struct LinesEnd {
+    /// The exit status: 0 where each line was a match.
+    pub status: u8,
+    /// How many lines were a match, and were written in full.
+    pub written: u64,
+    /// How many lines were no match.
+    pub failed: u64,
+    /// None where the loop came to the end of the input, or to a line at which it stops.
+    pub fault: Option<LinesFault>,
+}
+
+/// How many lines were written, and how many were no match.
+#[derive(Clone, Copy)]
+pub(crate) struct Counts {
+    pub(crate) written: u64,
+    pub(crate) failed: u64,
+}
+
+/// The exit status after so many lines that were no match.
+pub(crate) fn status(failed: u64, fault: Option<LinesFault>) -> u8
+    ensures { result ≡ status_by failed fault }
+{
+    match fault {
+        None => u8::from(failed > 0),
+        Some(LinesFault::TooMany) => 1,
+        Some(LinesFault::Read { .. } | LinesFault::Write) => 3,
+        Some(LinesFault::Memory) => 4,
+    }
+}
+
+impl Counts {
+    /// The end of the loop after these.
+    pub(crate) fn ended(self, fault: Option<LinesFault>) -> LinesEnd
+        ensures { result ≡ record { status = status_by self.failed fault; written = self.written; failed = self.failed; fault = fault } }
+    {
+        LinesEnd {
+            status: status(self.failed, fault),
+            written: self.written,
+            failed: self.failed,
+            fault,
+        }
+    }
+}
+
+/// Why the loop stops where the line with this number was not read.
+pub(crate) fn read_fault(read: LineRead, line: u64) -> Option<LinesFault>
+    ensures { result ≡ fault_after line read }
+{
+    match read {
+        LineRead::Line | LineRead::TooLong | LineRead::End => None,
+        LineRead::Fault => Some(LinesFault::Read { line }),
+        LineRead::Endless => Some(LinesFault::TooMany),
+        LineRead::NoMemory => Some(LinesFault::Memory),
+    }
+}

@@ -1,0 +1,102 @@
+//! The loop over the lines of an input.
+ghost use Rattle.std.specs.Prelude.{◌≡◌, ◌≤◌, ◌<◌, ℕ, List, Some, length, if◌then◌else◌};
+ghost use Rattle.std.specs.List.{AllByRecursion};
+ghost use Rattle.sf_format.specs.Proper.{AreProper};
+ghost use Rattle.sf_print.specs.Sinks.{counted_on};
+ghost use Rattle.sf_read.specs.Ahead.{input_of};
+ghost use Rattle.sf_lines.specs.Loops.{Loops, is_write, status_by};
+ghost use Rattle.sf_lines.specs.Turns.{LineWork, work_of};
+
+use crate::end::{Counts, LineFault, LinesEnd, LinesFault, read_fault};
+use crate::judge::{Judged, judge};
+use crate::line::{LineRead, next_line};
+use crate::options::LinesOptions;
+use crate::writer::{RecordWriter, Teller};
+use sf_base::HeapStore;
+use sf_format::ScanFormat;
+use sf_print::Sink;
+use sf_read::{Lookahead, Source};
+use std::alloc::Global;
+
+/// The most lines that one loop reads.
+const MOST_LINES: u64 = 18446744073709551615;
+
+/// The room that is made at once for the texts of a line: so much as the widths of each format tell.
+fn room_for(formats: &[ScanFormat]) -> u32
+    ensures proper { AllByRecursion AreProper formats.now }
+{
+    let mut room = 0;
+    for format in formats {
+        if format.destinations() > 0 {
+            room = room.max(format.width_sum().unwrap_or(0));
+        }
+    }
+    room
+}
+
+/// Scans each line of what the lookahead holds and its source gives as an input of its own, as C programs do with fgets and
+/// sscanf (C11 7.21.7.2, 7.21.6.7): up to byte 10, which is no part of it, or to the end of the input. The first of the
+/// formats that the line matches counts: that is Done on it, and, with `whole`, uses all of it. The writer writes what is
+/// made of that; the teller is told of a line that matches none, by what the last format comes to, or that has more than
+/// `limit` bytes, and the loop stops there, unless it is to keep going. What is behind the lines that were read stays
+/// held or unread.
+///
+/// The status is 0 where each line is a match, 1 where one isn't, 3 where a read or the sink failed, and 4 where memory was
+/// refused.
+pub fn run_lines<R: RecordWriter, E: Teller, S: Source, K: Sink, const N: usize>(
+    alloc: Global,
+    from: &mut Lookahead<S, N>,
+    to: &mut K,
+    writer: &mut R,
+    teller: &mut E,
+    formats: &[ScanFormat],
+    options: LinesOptions,
+) -> LinesEnd
+    requires limit { options.limit ≤ 2147483647 }
+    requires some { 0 < length formats.now }
+    ensures loops { (t : List ℕ) → input_of S.to_come from.old ≡ Some t
+        → Loops (work_of options formats.now (R.text writer.old) (E.telling teller.old)) S.to_come t from.new (S.failures from.old.source) (S.failures from.new.source) (K.contents to.old) (K.contents to.new) (E.failed teller.new) (E.told teller.old) (E.told teller.new) result }
+    ensures status { result.status ≡ status_by result.failed result.fault }
+    ensures sink { K.failures to.new
+        ≡ (if is_write result.fault then counted_on (K.failures to.old) else K.failures to.old) }
+{
+    let mut counts = Counts {
+        written: 0,
+        failed: 0,
+    };
+    let Ok(mut store) = HeapStore::new(alloc, room_for(formats)) else {
+        return counts.ended(Some(LinesFault::Memory));
+    };
+    let mut line = Vec::new(alloc);
+    for before in 0..MOST_LINES {
+        let number = before + 1;
+        let read = next_line(from, &mut line, options.limit as usize);
+        match read {
+            LineRead::Line | LineRead::TooLong => {}
+            _ => return counts.ended(read_fault(read, number)),
+        }
+        if before < options.skip {
+            continue;
+        }
+        let judged = match read {
+            LineRead::TooLong => Judged::Failed(store, LineFault::TooLong),
+            _ => judge(alloc, store, &line, to, writer, formats, options),
+        };
+        match judged {
+            Judged::Written(kept) => {
+                counts.written += 1;
+                store = kept;
+            }
+            Judged::Failed(kept, fault) => {
+                counts.failed += 1;
+                teller.tell(number, fault);
+                if !options.keep_going {
+                    return counts.ended(None);
+                }
+                store = kept;
+            }
+            Judged::Stopped(fault) => return counts.ended(Some(fault)),
+        }
+    }
+    counts.ended(Some(LinesFault::TooMany))
+}

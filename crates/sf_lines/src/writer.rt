@@ -1,0 +1,59 @@
+//! What is written of the lines of an input, and who is told of those that are no match.
+ghost use Rattle.std.specs.Prelude.{◌≡◌, ℕ, List, Option, Bool, true, false, if◌then◌else◌};
+ghost use Rattle.std.specs.Io.KnownBytes.{Appends};
+ghost use Rattle.sf_format.specs.declared.directive.Directive.{Directive};
+ghost use Rattle.sf_print.specs.Sinks.{counted_on};
+ghost use Rattle.sf_run.specs.Runs.{RunReport};
+ghost use Rattle.sf_lines.specs.Judging.{WritesRecord, is_sink_fault};
+ghost use Rattle.sf_lines.specs.declared.end.LineFault.{LineFault};
+
+use crate::end::LineFault;
+use sf_base::Store;
+use sf_format::ScanFormat;
+use sf_print::Sink;
+use sf_run::Report;
+
+/// Why the record of a line was not written in full.
+#[derive(Clone, Copy, Debug, PartialEq, Eq)]
+pub enum RecordFault {
+    /// The sink failed.
+    Write,
+    /// Memory was refused.
+    Memory,
+}
+
+/// Writes what is made of a line.
+pub trait RecordWriter {
+    // The text of a line that is a match, by its format and the report.
+    ghost text: { Self → List Directive → RunReport → List ℕ };
+
+    /// Writes the text of a line that is a match by the format, with this report.
+    fn write<K: Sink, T: Store>(
+        &mut self,
+        to: &mut K,
+        format: &ScanFormat,
+        report: &Report<'_, T>,
+    ) -> Result<(), RecordFault>
+        ensures same { text self.new ≡ text self.old }
+        ensures written { WritesRecord (text self.old format.now report.now) (K.contents to.old) (K.contents to.new) result }
+        ensures failures { K.failures to.new
+            ≡ (if is_sink_fault result then counted_on (K.failures to.old) else K.failures to.old) };
+}
+
+/// Is told of the lines that are no match.
+pub trait Teller {
+    // What it says of a line, by its number, counted from 1.
+    ghost telling: { Self → ℕ → LineFault → List ℕ };
+
+    // All that it said, where that is known.
+    ghost told: { Self → Option (List ℕ) };
+
+    // Whether something was not said in full, or not said.
+    ghost failed: { Self → Bool };
+
+    /// Says that the line with this number, counted from 1, is no match.
+    fn tell(&mut self, number: u64, fault: LineFault)
+        ensures same { telling self.new ≡ telling self.old }
+        ensures stays { failed self.old ≡ true → failed self.new ≡ true }
+        ensures told { failed self.new ≡ false → Appends (told self.old) (told self.new) (telling self.old number fault) };
+}

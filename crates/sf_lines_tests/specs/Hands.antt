@@ -1,0 +1,23 @@
+-- What the writer and the teller of the tests make of a line.
+use Rattle.std.specs.Prelude.{ℕ, ◌+◌, ◌%◌, ◌++◌, ◌∷◌, List, [], Option, Some}
+use Rattle.sf_base.specs.Data.{Datum, Bytes, datum_at}
+use Rattle.sf_run.specs.Runs.{RunReport}
+use Rattle.sf_lines.specs.declared.end.LineFault.{LineFault}
+use Rattle.sf_lines.specs.declared.end.LineFault.TheVariants.{Failed, LeftOver, TooLong}
+
+abbrev pub bytes_in : Option Datum → List ℕ
+bytes_in (Some (Bytes bytes)) = bytes
+bytes_in _ = []
+
+-- the text of slot 1, and a line end
+abbrev pub first_line : RunReport → List ℕ
+first_line report = bytes_in (datum_at 1 report.values) ++ 10 ∷ []
+
+abbrev pub letter_of : LineFault → ℕ
+letter_of (Failed outcome) = 109
+letter_of (LeftOver at) = 108
+letter_of TooLong = 116
+
+-- the last digit of the line's number, and a letter for why it is no match
+abbrev pub note_of : ℕ → LineFault → List ℕ
+note_of number fault = (48 + number % 10) ∷ letter_of fault ∷ []

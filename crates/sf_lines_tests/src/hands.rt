@@ -1,0 +1,81 @@
+//! A writer and a teller for tests.
+ghost use Rattle.std.specs.Prelude.{◌≡◌, Some};
+ghost use Rattle.sf_base.specs.Data.{datum_at};
+ghost use Rattle.sf_lines_tests.specs.Hands.{bytes_in, first_line, letter_of, note_of};
+
+use sf_base::{Store, Value};
+use sf_format::ScanFormat;
+use sf_lines::{LineFault, RecordFault, RecordWriter, Teller};
+use sf_print::Sink;
+use sf_records::write_whole;
+use sf_run::Report;
+
+/// What slot 1 was given, if that is a text.
+fn first_text<'r, T: Store>(report: &Report<'r, T>) -> &'r [u8]
+    ensures { result.now ≡ bytes_in (datum_at 1 report.now.values) }
+{
+    match report.value(1) {
+        Some(Value::Text(text)) => text,
+        _ => &[],
+    }
+}
+
+/// Writes the text of slot 1, and a line end.
+#[derive(Drop)]
+pub(crate) struct FirstText {
+    pub(crate) line: Vec<u8>,
+}
+
+impl RecordWriter for FirstText {
+    ghost text = { λ writer format report. first_line report };
+
+    fn write<K: Sink, T: Store>(
+        &mut self,
+        to: &mut K,
+        _format: &ScanFormat,
+        report: &Report<'_, T>,
+    ) -> Result<(), RecordFault> {
+        self.line.clear();
+        if self.line.extend_from_slice(first_text(report)).is_err()
+            || self.line.push(b'\n').is_err()
+        {
+            return Err(RecordFault::Memory);
+        }
+        match write_whole(to, &self.line) {
+            Ok(()) => Ok(()),
+            Err(_) => Err(RecordFault::Write),
+        }
+    }
+}
+
+fn letter(fault: LineFault) -> u8
+    ensures { result ≡ letter_of fault }
+{
+    match fault {
+        LineFault::Failed { .. } => b'm',
+        LineFault::LeftOver { .. } => b'l',
+        LineFault::TooLong => b't',
+    }
+}
+
+/// Notes the last digit of each line's number, and a letter for why it is no match.
+#[derive(Drop)]
+pub(crate) struct Notes {
+    pub(crate) said: Vec<u8>,
+    pub(crate) failed: bool,
+}
+
+impl Teller for Notes {
+    ghost telling = { λ notes number fault. note_of number fault };
+
+    ghost told = { λ notes. Some notes.said.items };
+
+    ghost failed = { λ notes. notes.failed };
+
+    fn tell(&mut self, number: u64, fault: LineFault) {
+        let note = [b'0' + (number % 10) as u8, letter(fault)];
+        if self.said.extend_from_slice(&note).is_err() {
+            self.failed = true;
+        }
+    }
+}
