@@ -156,22 +156,30 @@ percent_choice rules v = cond (not v) rules []
 abbrev part_choice : List ℕ → Part → Bool → Part
 part_choice x part v = cond v (record { piece = Percents; rest = drop 1 x }) part
 
+-- what follows a % that no other follows
+pub passes_specification : {D : Type 0} (means : ℕ → Piece → D → Type 0) (language : Language) (earlier : List Opening) (p : ℕ) (x : List ℕ)
+    (r : Result (Passed D) FormatFault) → begins (37 ∷ []) x ≡ false
+    → PassesBy means (conversion_rules language earlier p x) earlier (conversion_at language x) r
+    → PassesBy means (percent_rules language earlier p x) earlier (specification_at language x) r
+passes_specification means language earlier p x r other passes =
+    passes_by means (percent_rules language earlier p x) (conversion_rules language earlier p x) (specification_at language x)
+    (conversion_at language x) earlier r (ap (λ v. first_of (percent_choice (conversion_rules language earlier p x) v)) other)
+    (ap (part_choice x (conversion_at language x)) other) passes
+
 -- the first fault of the opening
-pub specification_fault : (language : Language) (earlier : List Opening) (p : ℕ) (x : List ℕ) (opening rest : List Rule) (f : FormatWhy × ℕ)
-    → begins (37 ∷ []) x ≡ false → conversion_rules language earlier p x ≡ opening ++ rest → first_of opening ≡ Some f
-    → first_of (percent_rules language earlier p x) ≡ Some f
-specification_fault language earlier p x opening rest f other rules first =
-    ap (λ v. first_of (percent_choice (conversion_rules language earlier p x) v)) other ∙ ap first_of rules ∙ first_left opening rest f first
+pub opening_fault : (language : Language) (earlier : List Opening) (p : ℕ) (x : List ℕ) (opening rest : List Rule) (f : FormatWhy × ℕ)
+    → conversion_rules language earlier p x ≡ opening ++ rest → first_of opening ≡ Some f
+    → first_of (conversion_rules language earlier p x) ≡ Some f
+opening_fault language earlier p x opening rest f rules first = ap first_of rules ∙ first_left opening rest f first
 
 -- what passes from where the letter is due
-pub passes_specification : {D : Type 0} (means : ℕ → Piece → D → Type 0) (language : Language) (earlier : List Opening) (p : ℕ) (x : List ℕ)
-    (opening rest : List Rule) (part : Part) (r : Result (Passed D) FormatFault) → begins (37 ∷ []) x ≡ false
-    → conversion_rules language earlier p x ≡ opening ++ rest → conversion_at language x ≡ part → first_of opening ≡ None
-    → PassesBy means rest earlier part r → PassesBy means (percent_rules language earlier p x) earlier (specification_at language x) r
-passes_specification means language earlier p x opening rest part r other rules is quiet passes =
-    passes_by means (percent_rules language earlier p x) rest (specification_at language x) part earlier r
-    (ap (λ v. first_of (percent_choice (conversion_rules language earlier p x) v)) other ∙ ap first_of rules ∙ first_right opening rest quiet)
-    (ap (part_choice x (conversion_at language x)) other ∙ is) passes
+pub passes_opening : {D : Type 0} (means : ℕ → Piece → D → Type 0) (language : Language) (earlier : List Opening) (p : ℕ) (x : List ℕ)
+    (opening rest : List Rule) (part : Part) (r : Result (Passed D) FormatFault) → conversion_rules language earlier p x ≡ opening ++ rest
+    → conversion_at language x ≡ part → first_of opening ≡ None → PassesBy means rest earlier part r
+    → PassesBy means (conversion_rules language earlier p x) earlier (conversion_at language x) r
+passes_opening means language earlier p x opening rest part r rules is quiet passes =
+    passes_by means (conversion_rules language earlier p x) rest (conversion_at language x) part earlier r
+    (ap first_of rules ∙ first_right opening rest quiet) is passes
 
 -- ---- behind a % of a scan format
 

@@ -7,7 +7,7 @@ ghost use Rattle.sf_format.specs.Faults.{repeated, beyond, number_rules};
 ghost use Rattle.sf_format.specs.Passing.{fault_in, with_place, first_place, Notes, Walked};
 
 use crate::fault::{FormatFault, FormatWhy};
-use crate::grammar::Grammar;
+use crate::grammar::{Grammar, pass};
 use crate::slots::{Slots, no_slots};
 use sf_base::ByteSet;
 
@@ -87,7 +87,7 @@ pub fn number_fault<G: Grammar>(grammar: G, text: &[u8], slots: Slots) -> Option
     let mut at: u16 = 0;
     let mut earlier = no_slots();
     while !rest.is_empty() {
-        let Ok(passed) = grammar.pass(rest, at, earlier) else {
+        let Ok(passed) = pass(grammar, rest, at, earlier) else {
             unreachable!()
         };
         note(&mut noted, grammar.slot(&passed.part), at, slots.count);

@@ -9,7 +9,7 @@ ghost use Rattle.sf_format.specs.Faults.{Fault};
 ghost use Rattle.sf_format.specs.Reading.{read};
 
 use crate::directive::Profile;
-use crate::grammar::Grammar;
+use crate::grammar::{Grammar, pass};
 use crate::judging::judge;
 use crate::passing::ScanGrammar;
 use crate::slots::no_slots;
@@ -28,7 +28,7 @@ fn part_text<G: Grammar>(grammar: G, text: &[u8], number: u16) -> Option<&[u8]>
     let mut at: u16 = 0;
     let mut slots = no_slots();
     while !rest.is_empty() {
-        let Ok(passed) = grammar.pass(rest, at, slots) else {
+        let Ok(passed) = pass(grammar, rest, at, slots) else {
             return None;
         };
         if left == 1 {

@@ -1,19 +1,17 @@
 //! The parts of a scan format.
-ghost use Rattle.std.specs.Prelude.{◌≡◌, ◌≤◌, ◌<◌, ◌+◌, List, [], ◌∷◌, None, true, length};
+ghost use Rattle.std.specs.Prelude.{◌≡◌, ◌≤◌, ◌+◌, List, ◌∷◌, None, true, length};
 ghost use Rattle.std.specs.List.{AllByRecursion};
 ghost use Rattle.sf_format.specs.Digits.{is_decimal};
 ghost use Rattle.sf_format.specs.Pieces.{Opening};
-ghost use Rattle.sf_format.specs.Lists.{begins};
-ghost use Rattle.sf_format.specs.Cut.{letter_at, specification_at, part_at};
+ghost use Rattle.sf_format.specs.Cut.{letter_at};
 ghost use Rattle.sf_format.specs.Language.{Scan};
 ghost use Rattle.sf_format.specs.Grammar.{Means};
 ghost use Rattle.sf_format.specs.Rules.{first_of};
-ghost use Rattle.sf_format.specs.Faults.{opening_rules, rest_rules, percent_rules, part_rules};
+ghost use Rattle.sf_format.specs.Faults.{opening_rules, rest_rules};
 ghost use Rattle.sf_format.specs.Passing.{opening_of, Holds, PassesBy};
 
 use crate::directive::{Conversion, Directive, Profile};
 use crate::fault::{FormatFault, FormatWhy};
-use crate::fronts::{Class, split_front};
 use crate::grammar::{Grammar, Passed};
 use crate::opening::{Written, opening, opening_fault};
 use crate::shaping::{converted, shape_behind, width_of};
@@ -89,82 +87,6 @@ fn pass_rest<'a>(
     }
 }
 
-pub fn percent_follows(text: &[u8]) -> bool
-    ensures begins { result ≡ begins (37 ∷ []) text.now }
-    ensures some { result ≡ true → 1 ≤ length text.now }
-{
-    match text {
-        [b'%', ..] => true,
-        _ => false,
-    }
-}
-
-/// Passes what stands behind the `%` at the place.
-fn pass_specification<'a>(
-    profile: Profile,
-    text: &'a [u8],
-    at: u16,
-    slots: Slots,
-) -> Result<Passed<'a, Directive>, FormatFault>
-    requires place { at + 1 + length text.now ≤ 4096 }
-    requires count { slots.count ≤ 4096 }
-    ensures { (earlier : List Opening) → Holds slots earlier
-        → PassesBy (Means profile) (percent_rules (Scan profile) earlier at text.now) earlier (specification_at (Scan profile) text.now) result }
-{
-    if percent_follows(text) {
-        return Ok(Passed {
-            part: Directive::Percent,
-            rest: &text[1..],
-            slots,
-        });
-    }
-    let (written, rest) = opening(text);
-    if let Some(fault) = opening_fault(at, &written) {
-        return Err(fault);
-    }
-    let letter_at = at + 1 + (text.len() - rest.len()) as u16;
-    pass_rest(profile, &written, rest, at, letter_at, slots)
-}
-
-/// Passes the part that begins with the byte at the place, after these destinations.
-pub fn pass<'a>(
-    profile: Profile,
-    text: &'a [u8],
-    at: u16,
-    slots: Slots,
-) -> Result<Passed<'a, Directive>, FormatFault>
-    requires some { 0 < length text.now }
-    requires place { at + length text.now ≤ 4096 }
-    requires count { slots.count ≤ 4096 }
-    ensures { (earlier : List Opening) → Holds slots earlier
-        → PassesBy (Means profile) (part_rules (Scan profile) earlier at text.now) earlier (part_at (Scan profile) text.now) result }
-{
-    let first = text[0];
-    if first == 0 {
-        return Err(FormatFault {
-            at,
-            why: FormatWhy::Nul,
-        });
-    }
-    if is_space(first) {
-        let (_run, rest) = split_front(text, Class::White);
-        return Ok(Passed {
-            part: Directive::Space,
-            rest,
-            slots,
-        });
-    }
-    let rest = &text[1..];
-    if first == b'%' {
-        return pass_specification(profile, rest, at, slots);
-    }
-    Ok(Passed {
-        part: Directive::Byte(first),
-        rest,
-        slots,
-    })
-}
-
 impl Grammar for ScanGrammar {
     type Part = Directive;
 
@@ -172,13 +94,34 @@ impl Grammar for ScanGrammar {
 
     ghost means = { λ grammar. Means grammar.profile };
 
-    fn pass<'a>(
+    fn run(self, first: u8) -> Option<Directive> {
+        if is_space(first) {
+            Some(Directive::Space)
+        } else {
+            None
+        }
+    }
+
+    fn byte(self, b: u8) -> Directive {
+        Directive::Byte(b)
+    }
+
+    fn percent(self) -> Directive {
+        Directive::Percent
+    }
+
+    fn pass_conversion<'a>(
         self,
         text: &'a [u8],
         at: u16,
         slots: Slots,
     ) -> Result<Passed<'a, Directive>, FormatFault> {
-        pass(self.profile, text, at, slots)
+        let (written, rest) = opening(text);
+        if let Some(fault) = opening_fault(at, &written) {
+            return Err(fault);
+        }
+        let letter_at = at + 1 + (text.len() - rest.len()) as u16;
+        pass_rest(self.profile, &written, rest, at, letter_at, slots)
     }
 
     fn slot(self, directive: &Directive) -> Option<u8> {

@@ -1,20 +1,18 @@
 //! The parts of a print format.
-ghost use Rattle.std.specs.Prelude.{◌≡◌, ◌≤◌, ◌<◌, ◌+◌, List, ◌∷◌, None, true, length};
+ghost use Rattle.std.specs.Prelude.{◌≡◌, ◌≤◌, ◌+◌, List, ◌∷◌, None, true, length};
 ghost use Rattle.std.specs.List.{AllByRecursion};
 ghost use Rattle.sf_format.specs.Language.{Print};
 ghost use Rattle.sf_format.specs.Digits.{is_decimal};
 ghost use Rattle.sf_format.specs.Pieces.{Opening};
-ghost use Rattle.sf_format.specs.Cut.{print_letter_at, specification_at, part_at};
+ghost use Rattle.sf_format.specs.Cut.{print_letter_at};
 ghost use Rattle.sf_format.specs.PrintGrammar.{Prints};
 ghost use Rattle.sf_format.specs.Rules.{first_of};
 ghost use Rattle.sf_format.specs.PrintRules.{print_opening_rules, print_rest_rules};
-ghost use Rattle.sf_format.specs.Faults.{percent_rules, part_rules};
 ghost use Rattle.sf_format.specs.Passing.{print_opening_of, Holds, PassesBy};
 
 use crate::directive::Profile;
 use crate::fault::{FormatFault, FormatWhy};
 use crate::grammar::{Grammar, Passed};
-use crate::passing::percent_follows;
 use crate::print_letter::{conversion, flag_fault, print_converted};
 use crate::print_opening::{PrintWritten, print_opening, print_opening_fault};
 use crate::slots::{Slots, pushed, slot_fault, slot_of};
@@ -96,64 +94,6 @@ fn pass_print_rest<'a>(
     }
 }
 
-/// Passes what stands behind the `%` at the place.
-fn pass_print_specification<'a>(
-    profile: Profile,
-    text: &'a [u8],
-    at: u16,
-    slots: Slots,
-) -> Result<Passed<'a, Unit>, FormatFault>
-    requires place { at + 1 + length text.now ≤ 4096 }
-    requires count { slots.count ≤ 4096 }
-    ensures { (earlier : List Opening) → Holds slots earlier
-        → PassesBy (Prints profile) (percent_rules (Print profile) earlier at text.now) earlier (specification_at (Print profile) text.now) result }
-{
-    if percent_follows(text) {
-        return Ok(Passed {
-            part: Unit::Byte(b'%'),
-            rest: &text[1..],
-            slots,
-        });
-    }
-    let (written, rest) = print_opening(text);
-    if let Some(fault) = print_opening_fault(at, &written) {
-        return Err(fault);
-    }
-    let letter_at = at + 1 + (text.len() - rest.len()) as u16;
-    pass_print_rest(profile, &written, rest, at, letter_at, slots)
-}
-
-/// Passes the part that begins with the byte at the place, after these values.
-pub fn pass_print<'a>(
-    profile: Profile,
-    text: &'a [u8],
-    at: u16,
-    slots: Slots,
-) -> Result<Passed<'a, Unit>, FormatFault>
-    requires some { 0 < length text.now }
-    requires place { at + length text.now ≤ 4096 }
-    requires count { slots.count ≤ 4096 }
-    ensures { (earlier : List Opening) → Holds slots earlier
-        → PassesBy (Prints profile) (part_rules (Print profile) earlier at text.now) earlier (part_at (Print profile) text.now) result }
-{
-    let first = text[0];
-    if first == 0 {
-        return Err(FormatFault {
-            at,
-            why: FormatWhy::Nul,
-        });
-    }
-    let rest = &text[1..];
-    if first == b'%' {
-        return pass_print_specification(profile, rest, at, slots);
-    }
-    Ok(Passed {
-        part: Unit::Byte(first),
-        rest,
-        slots,
-    })
-}
-
 impl Grammar for PrintGrammar {
     type Part = Unit;
 
@@ -161,13 +101,31 @@ impl Grammar for PrintGrammar {
 
     ghost means = { λ grammar. Prints grammar.profile };
 
-    fn pass<'a>(
+    /// None: each byte of white space is a part.
+    fn run(self, _first: u8) -> Option<Unit> {
+        None
+    }
+
+    fn byte(self, b: u8) -> Unit {
+        Unit::Byte(b)
+    }
+
+    fn percent(self) -> Unit {
+        Unit::Byte(b'%')
+    }
+
+    fn pass_conversion<'a>(
         self,
         text: &'a [u8],
         at: u16,
         slots: Slots,
     ) -> Result<Passed<'a, Unit>, FormatFault> {
-        pass_print(self.profile, text, at, slots)
+        let (written, rest) = print_opening(text);
+        if let Some(fault) = print_opening_fault(at, &written) {
+            return Err(fault);
+        }
+        let letter_at = at + 1 + (text.len() - rest.len()) as u16;
+        pass_print_rest(self.profile, &written, rest, at, letter_at, slots)
     }
 
     fn slot(self, unit: &Unit) -> Option<u8> {
