@@ -1,5 +1,5 @@
 -- What follows a part that no rule refuses.
-use Rattle.std.proofs.Common.{◌≡◌, ℕ, ◌+◌, ◌≤◌, Bool, true, false, cond, not, ◌&&◌, ◌||◌, nat_eq, nat_lt, List, [], ◌∷◌, ◌++◌, length, drop, Some, None, Result, Ok, Err, refl, sym, ap, ◌∙◌, subst, arith}
+use Rattle.std.proofs.Common.{◌≡◌, ℕ, suc, ◌+◌, ◌-◌, ◌<◌, ◌≤◌, Bool, true, false, cond, not, ◌&&◌, ◌||◌, nat_eq, nat_lt, List, [], ◌∷◌, ◌++◌, length, get_or, take, drop, Some, None, Result, Ok, Err, refl, sym, ap, ◌∙◌, subst, arith}
 use Rattle.std.proofs.lemmas.Bool.Decides.{nat_tests}
 use Rattle.std.specs.List.{AllByRecursion}
 use Rattle.sf_base.specs.Bytes.{magnitude}
@@ -180,6 +180,22 @@ pub passes_opening : {D : Type 0} (means : ℕ → Piece → D → Type 0) (lang
 passes_opening means language earlier p x opening rest part r rules is quiet passes =
     passes_by means (conversion_rules language earlier p x) rest (conversion_at language x) part earlier r
     (ap first_of rules ∙ first_right opening rest quiet) is passes
+
+pub nothing_left : (x : List ℕ) → length x < 1 → x ≡ []
+nothing_left [] h = refl
+nothing_left (b ∷ x) h = absurd (omega (arith, h))
+
+take_whole : (x : List ℕ) → take (length x) x ≡ x
+take_whole [] = refl
+take_whole (b ∷ x) = ap (λ y. b ∷ y) (take_whole x)
+
+-- the first byte and those that follow it
+abbrev pub split_first : List ℕ → List ℕ
+split_first x = get_or x 0 0 ∷ take (length x - 1) (drop 1 x)
+
+pub first_and_rest : (x : List ℕ) → 1 ≤ length x → split_first x ≡ x
+first_and_rest [] h = absurd (omega (arith, h))
+first_and_rest (b ∷ x) h = let one : suc (length x) - 1 ≡ length x = omega arith in ap (λ n. b ∷ take n x) one ∙ ap (λ y. b ∷ y) (take_whole x)
 
 -- ---- behind a % of a scan format
 

@@ -61,32 +61,6 @@ fn pass_letter<'a>(
     })
 }
 
-/// Passes a specification from where its letter is due, at the second place. Its `%` stands at the first.
-fn pass_rest<'a>(
-    profile: Profile,
-    written: &Written,
-    text: &'a [u8],
-    percent: u16,
-    at: u16,
-    slots: Slots,
-) -> Result<Passed<'a, Directive>, FormatFault>
-    requires place { at + length text.now ≤ 4096 }
-    requires count { slots.count ≤ 4096 }
-    requires number { AllByRecursion (λ b. is_decimal b ≡ true) written.now.number.now }
-    requires width { AllByRecursion (λ b. is_decimal b ≡ true) written.now.width.now }
-    requires opening { first_of (opening_rules percent (opening_of written.now)) ≡ None }
-    ensures { (earlier : List Opening) → Holds slots earlier
-        → PassesBy (Means profile) (rest_rules profile earlier percent (opening_of written.now) at text.now) earlier (letter_at (opening_of written.now) text.now) result }
-{
-    match text {
-        [] => Err(FormatFault {
-            at,
-            why: FormatWhy::Truncated,
-        }),
-        [letter, rest @ ..] => pass_letter(profile, written, *letter, rest, percent, at, slots),
-    }
-}
-
 impl Grammar for ScanGrammar {
     type Part = Directive;
 
@@ -121,7 +95,15 @@ impl Grammar for ScanGrammar {
             return Err(fault);
         }
         let letter_at = at + 1 + (text.len() - rest.len()) as u16;
-        pass_rest(self.profile, &written, rest, at, letter_at, slots)
+        match rest {
+            [] => Err(FormatFault {
+                at: letter_at,
+                why: FormatWhy::Truncated,
+            }),
+            [letter, rest @ ..] => {
+                pass_letter(self.profile, &written, *letter, rest, at, letter_at, slots)
+            }
+        }
     }
 
     fn slot(self, directive: &Directive) -> Option<u8> {

@@ -63,37 +63,6 @@ fn pass_print_letter<'a>(
     })
 }
 
-/// Passes a specification from where its letter is due, at the second place. Its `%` stands at the first.
-fn pass_print_rest<'a>(
-    profile: Profile,
-    written: &PrintWritten,
-    text: &'a [u8],
-    percent: u16,
-    at: u16,
-    slots: Slots,
-) -> Result<Passed<'a, Unit>, FormatFault>
-    requires place { percent ≤ 4096 }
-    requires count { slots.count ≤ 4096 }
-    requires parts { length written.now.number.now + length written.now.flags.now + length written.now.width.now ≤ 4096 }
-    requires number { AllByRecursion (λ b. is_decimal b ≡ true) written.now.number.now }
-    requires width { AllByRecursion (λ b. is_decimal b ≡ true) written.now.width.now }
-    requires precision { written.now.point ≡ true → AllByRecursion (λ b. is_decimal b ≡ true) written.now.precision.now }
-    requires opening { first_of (print_opening_rules percent (print_opening_of written.now)) ≡ None }
-    ensures { (earlier : List Opening) → Holds slots earlier
-        → PassesBy (Prints profile) (print_rest_rules profile earlier percent (print_opening_of written.now) at text.now) earlier
-        (print_letter_at (print_opening_of written.now) text.now) result }
-{
-    match text {
-        [] => Err(FormatFault {
-            at,
-            why: FormatWhy::Truncated,
-        }),
-        [letter, rest @ ..] => {
-            pass_print_letter(profile, written, *letter, rest, percent, at, slots)
-        }
-    }
-}
-
 impl Grammar for PrintGrammar {
     type Part = Unit;
 
@@ -125,7 +94,15 @@ impl Grammar for PrintGrammar {
             return Err(fault);
         }
         let letter_at = at + 1 + (text.len() - rest.len()) as u16;
-        pass_print_rest(self.profile, &written, rest, at, letter_at, slots)
+        match rest {
+            [] => Err(FormatFault {
+                at: letter_at,
+                why: FormatWhy::Truncated,
+            }),
+            [letter, rest @ ..] => {
+                pass_print_letter(self.profile, &written, *letter, rest, at, letter_at, slots)
+            }
+        }
     }
 
     fn slot(self, unit: &Unit) -> Option<u8> {

@@ -1,9 +1,0 @@
-use Rattle.std.proofs.Common.{rules, arith}
-use Rattle.std.proofs.lemmas.Grind.{common_steps}
-use Rattle.sf_format.proofs.passing.pass_rest.Goals as goal
-
-pub returns-in-empty : goal.returns-in-empty
-returns-in-empty c = search rules
-
-pub returns-in-len1-up : goal.returns-in-len1-up
-returns-in-len1-up c = grind (arith, common_steps)
