@@ -9,6 +9,7 @@ pub mod Looping
 pub mod OneEnd
 pub mod Passing
 pub mod Quoting
+pub mod ReadingRows
 pub mod RecordRows
 pub mod RowSlots
 pub mod TableReading
