@@ -17,13 +17,17 @@ _sf() {
         COMPREPLY=( $(compgen -W '1 2' -- "$word") )
         return
     fi
+    if [[ $before == --output ]]; then
+        COMPREPLY=( $(compgen -W 'plain tsv json' -- "$word") )
+        return
+    fi
     # what stands behind -- is no option
     for (( at = 2; at < COMP_CWORD; at++ )); do
         [[ ${COMP_WORDS[at]} == -- ]] && return
     done
     case ${COMP_WORDS[1]} in
         help) (( COMP_CWORD == 2 )) && COMPREPLY=( $(compgen -W 'show scan print check copy help' -- "$word") ) ;;
-        scan) [[ $word == -* ]] && COMPREPLY=( $(compgen -W '--limit --line-buffered --profile --explain -h --help' -- "$word") ) ;;
+        scan) [[ $word == -* ]] && COMPREPLY=( $(compgen -W '--limit --line-buffered --profile --explain --output -h --help' -- "$word") ) ;;
         copy) [[ $word == -* ]] && COMPREPLY=( $(compgen -W '--limit --line-buffered --profile --explain -h --help' -- "$word") ) ;;
         show|print|check) [[ $word == -* ]] && COMPREPLY=( $(compgen -W '--profile --explain -h --help' -- "$word") ) ;;
     esac

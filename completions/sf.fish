@@ -29,4 +29,5 @@ complete -c sf -n '__sf_has_command show scan print check copy' -s h -l help -d 
 complete -c sf -n '__sf_has_command scan copy' -l limit -x -d 'The most bytes of one record'
 complete -c sf -n '__sf_has_command scan copy' -l line-buffered -d 'Write what each record gives at once'
 complete -c sf -n '__sf_has_command show scan print check copy' -l profile -x -a '1 2' -d 'The formats that are read'
+complete -c sf -n '__sf_has_command scan' -l output -x -a 'plain tsv json' -d 'How values are written'
 complete -c sf -n '__sf_has_command show scan print check copy' -l explain -d 'Say more of what is at fault'

@@ -78,6 +78,10 @@ class Completions:
     def test_profiles(self):
         self.same("sf show --profile ", ["1", "2"])
 
+    def test_forms(self):
+        self.same("sf scan --output ", ["plain", "tsv", "json"])
+        self.same("sf scan --output t", ["tsv"])
+
 
 class Bash(Completions, unittest.TestCase):
     def complete(self, line):

@@ -5,9 +5,9 @@ use Rattle.std.proofs.lemmas.Bool.{ltb-true}
 use Rattle.std.proofs.lemmas.List.{append_assoc}
 use Rattle.clap.specs.Kinds.{Kinds, or_else, range_kinds}
 use Rattle.clap.specs.Lexer.{usize_max}
-use Rattle.clap.specs.Simple.{Shape, built, built_leaf, entered, inherited, marked_built, names_of, on_top, with_leaf_noted}
+use Rattle.clap.specs.Simple.{Shape, built, built_leaf, entered, inherited, marked_built, names_of, on_top, subcommand_of, with_leaf_noted}
 use Rattle.clap.specs.Walk.{Names, Row, Text, Walk, finished, idle, nothing_held, positional, settled, walk, walk_from, walked}
-use Rattle.clap.specs.Faults.{check_fault, defaults_fault, entered_fault, level_fault, settle_fault, values_fault, walk_fault}
+use Rattle.clap.specs.Faults.{check_fault, defaults_fault, entered_fault, fault_of, level_fault, settle_fault, values_fault, walk_fault}
 use Rattle.clap.specs.declared.parser.matches.ValueSource.TheVariants.{CommandLine}
 use Rattle.clap.specs.declared.builder.value_parser.Reading.TheVariants.{AsWritten}
 use Rattle.clap.proofs.FaultLemmas.{stopped_fault}
@@ -15,7 +15,8 @@ use Rattle.clap.proofs.OnLiterals.{clap_on_literals}
 use Rattle.clap.proofs.WalkLemmas.{walk_stopped}
 use Rattle.sf_words.specs.Laws.{IsTakenAs, TakesBehindDashes}
 use Rattle.sf_words.specs.Line.{print_app, sf_app, words_rule}
-use Rattle.sf_words.specs.Orders.{texts_by}
+use Rattle.sf_words.specs.Orders.{entered_faults, faults_of, own_faults, texts_by, verb_text}
+use Rattle.sf_words.specs.declared.order.Verb.{Verb}
 use Rattle.sf_words.specs.declared.order.Verb.TheVariants.{Show, Scan, Print, Check, Copy}
 use Rattle.sf_words.proofs.Rows.{either, no_kind}
 
@@ -113,6 +114,13 @@ pub nothing : (a b : Kinds) → a ≡ [] → b ≡ [] → or_else a b ≡ []
 nothing [] b none_a none_b = none_b
 nothing (k ∷ ks) b none_a none_b = absurd (no_kind none_a)
 
+-- nothing is at fault where clap finds nothing, and the command nothing in the rows
+pub none_at_fault : (words : List Text) (verb : Verb) (rows : List Row) → fault_of sf_app (codes "sf" ∷ words) ≡ []
+    → subcommand_of sf_app (codes "sf" ∷ words) ≡ Some (verb_text verb, rows) → own_faults rows ≡ [] → faults_of words ≡ []
+none_at_fault words verb rows taken is own =
+    nothing (fault_of sf_app (codes "sf" ∷ words)) (entered_faults (subcommand_of sf_app (codes "sf" ∷ words))) taken
+    (subst (λ e. entered_faults e ≡ []) (sym is) own)
+
 -- what is checked after a walk
 abbrev pub checks_after : Shape → Bool → Walk → Kinds
 checks_after s has end =
@@ -153,22 +161,35 @@ pub texts_of_values : (format value : Text) (rest : List Text)
 unfolding clap_on_literals
 texts_of_values format value rest = refl
 
+pub values_own : (format value : Text) (rest : List Text) → own_faults (finished print_level.rules (at_values format (value ∷ rest)).held) ≡ []
+unfolding clap_on_literals
+values_own format value rest = refl
+
 print_taken : (format value : Text) (rest : List Text) → length (format ∷ value ∷ rest) < 2 ^ 64
     → IsTakenAs (codes "print" ∷ codes "--" ∷ format ∷ value ∷ rest) Print (format ∷ value ∷ rest)
 print_taken format value rest few = record {
-  taken =
-      nothing (walk_fault top names (walk_from nothing_held) (codes "print" ∷ words)) _ (top_walk_fine words)
-      (subst (λ w. or_else (entered_fault (built sf_app) w.stopped) (checks_after top (is_some (entered (built sf_app) w.stopped)) w) ≡ []) (sym (top_walk words))
-      (nothing (level_fault print_level [] nothing_held words false []) _ (print_fine format value rest (omega (arith, few))) (top_checks words)));
-  given = finished print_level.rules (at_values format (value ∷ rest)).held;
-  is_given =
-      ap (λ w. entered (built sf_app) w.stopped) (top_walk words)
-      ∙ ap (λ w. Some (codes "print", finished print_level.rules w.held)) (print_walk format value rest);
+  taken = none_at_fault (codes "print" ∷ words) Print rows fine is (values_own format value rest);
+  given = rows;
+  is_given = is;
   texts_are = texts_of_values format value rest;
 }
   where
     words : List Text
     words = codes "--" ∷ format ∷ value ∷ rest
+
+    rows : List Row
+    rows = finished print_level.rules (at_values format (value ∷ rest)).held
+
+    fine : fault_of sf_app (codes "sf" ∷ codes "print" ∷ words) ≡ []
+    fine =
+        nothing (walk_fault top names (walk_from nothing_held) (codes "print" ∷ words)) _ (top_walk_fine words)
+        (subst (λ w. or_else (entered_fault (built sf_app) w.stopped) (checks_after top (is_some (entered (built sf_app) w.stopped)) w) ≡ []) (sym (top_walk words))
+        (nothing (level_fault print_level [] nothing_held words false []) _ (print_fine format value rest (omega (arith, few))) (top_checks words)))
+
+    is : subcommand_of sf_app (codes "sf" ∷ codes "print" ∷ words) ≡ Some (verb_text Print, rows)
+    is =
+        ap (λ w. entered (built sf_app) w.stopped) (top_walk words)
+        ∙ ap (λ w. Some (codes "print", finished print_level.rules w.held)) (print_walk format value rest)
 
 -- ---- all of them
 

@@ -1,5 +1,6 @@
 -- What the getters of the matches answer, by the rows.
-use Rattle.std.proofs.Common.{◌≡◌, ◌≢◌, ◌⊎◌, inl, inr, ◌∙◌, ap, sym, subst, refl, Bool, true, false, true≢false, ℕ, List, [], Option, Some, None, Result, Ok, codes, arith, ◌≤◌, ◌<◌, ◌^◌}
+use Rattle.std.proofs.Common.{◌≡◌, ◌≢◌, ◌⊎◌, inl, inr, ◌∙◌, ap, sym, subst, refl, Bool, true, false, true≢false, ℕ, List, [], ◌∷◌, Option, Some, None, Result, Ok, codes, ◌≤◌, ◌<◌, ◌^◌}
+use Rattle.std.specs.Borrow.{Bor}
 use Rattle.std.specs.Prelude.{if◌then◌else◌, option_map, unwrap_or}
 use Rattle.std.specs.Str.{bytes_eq}
 use Rattle.std.proofs.lemmas.Slice.Eq.{bytes_eq-Decides}
@@ -8,15 +9,25 @@ use Rattle.clap.specs.Words.{ReadsOne, Text, matched_of, raw_values, rows_of}
 use Rattle.clap.proofs.CallerReads.{signed_reads}
 use Rattle.clap.proofs.WalkLemmas.{raw_values-rows}
 use Rattle.clap.specs.declared.parser.matches.Found.{Found}
+use Rattle.clap.specs.Kinds.{or_else}
 use Rattle.clap.specs.Words.{IsAmong, Kinds, Row}
 use Rattle.clap.specs.declared.error.ErrorKind.{ErrorKind}
 use Rattle.clap.specs.declared.error.ErrorKind.TheVariants as kind
+use Rattle.sf_words.specs.Misuses.{misuse_kind}
 use Rattle.sf_words.specs.Orders.{HasTexts, IsRefusal, IsRefusalOf, is_request, is_true, number_by, texts_by, values_at, verb_text}
+use Rattle.sf_words.specs.declared.misuse.Misuse.{Misuse}
+use Rattle.sf_words.specs.declared.misuse.Misuse.TheVariants.{Form}
 use Rattle.sf_words.specs.declared.order.Verb.{Verb}
 use Rattle.sf_words.specs.declared.order.Verb.TheVariants.{Show, Scan, Print, Check, Copy}
 use Rattle.sf_words.specs.declared.order.WordsFault.{WordsFault}
 use Rattle.sf_words.specs.declared.order.WordsFault.TheVariants.{Help, Usage, NoMemory}
 use Rattle.sf_words.specs.Taken.{IsTaken, IsWithin}
+
+-- a text that was read, or another
+pub text_read : (o : Option (Bor Text)) (other text : Bor Text) (given : Option Text) → text ≡ unwrap_or o other → option_map (λ s. s.now) o ≡ given
+    → text.now ≡ unwrap_or given other.now
+text_read None other text given is same = ap (λ s. s.now) is ∙ ap (λ g. unwrap_or g other.now) same
+text_read (Some s) other text given is same = ap (λ s. s.now) is ∙ ap (λ g. unwrap_or g other.now) same
 
 -- where the argument has no entry it was given nothing
 pub none_given : {X : Type 0} (g : X → List Text) (r : Option X) (f : Found) (id : Text) → option_map g r ≡ option_map raw_values (matched_of f id) → r ≡ None
@@ -90,6 +101,15 @@ enough_texts entered taken verb given is =
     value_or other None = other
     value_or other (Some value) = value
 
+-- what the command refuses by itself is no request
+pub no_request : (misuse : Misuse) → is_request (misuse_kind misuse) ≡ false
+no_request (Form text) = refl
+
+-- a kind of the first faults is one of both
+pub among_first : (found : ErrorKind) (kinds others : Kinds) → IsAmong found kinds → IsAmong found (or_else kinds others)
+among_first found [] others is = elim is [ ]
+among_first found (k ∷ ks) others is = is
+
 -- what the error of a parse is told as
 pub refused_by : (found : ErrorKind) (kinds : Kinds) (fault : WordsFault) → IsRefusalOf found fault → (found ≡ kind.OutOfMemory) ⊎ IsAmong found kinds → IsRefusal kinds fault
 refused_by found kinds (Help text) told (inl memory) = absurd (true≢false (sym told ∙ ap is_request memory))
@@ -97,3 +117,9 @@ refused_by found kinds (Help text) told (inr among) = (found, among, told)
 refused_by found kinds (Usage text) told (inl memory) = absurd (told.1 memory)
 refused_by found kinds (Usage text) told (inr among) = (found, among, told.0)
 refused_by found kinds NoMemory told among = tt
+
+-- what refuses for the first faults does for both
+pub refused_first : (kinds others : Kinds) (fault : WordsFault) → IsRefusal kinds fault → IsRefusal (or_else kinds others) fault
+refused_first kinds others (Help text) is = (is.0, among_first is.0 kinds others is.1, is.2)
+refused_first kinds others (Usage text) is = (is.0, among_first is.0 kinds others is.1, is.2)
+refused_first kinds others NoMemory is = tt

@@ -7,18 +7,18 @@ use Rattle.std.specs.Str.{bytes_eq}
 use Rattle.std.proofs.lemmas.List.{append_assoc}
 use Rattle.clap.specs.Kinds.{or_else}
 use Rattle.clap.specs.Lexer.{long_of, short_of}
-use Rattle.clap.specs.Simple.{Shape, built, built_leaf, entered, inherited, marked_built, on_top, rows_at, with_leaf_noted}
+use Rattle.clap.specs.Simple.{Shape, built, built_leaf, entered, inherited, marked_built, on_top, rows_at, subcommand_of, with_leaf_noted}
 use Rattle.clap.specs.Walk.{Held, Row, Rule, Step, Text, Waiting, Walk, after_step, arg_by_index, finished, idle, long_or_other, nothing_held, option, positional, short_or_plain, to_positional, trailing, value, walk, walk_from, walked, word_met}
-use Rattle.clap.specs.Faults.{bundle_fault, entered_fault, flag_word_fault, level_fault, step_fault, turn_fault, walk_fault, word_fault}
+use Rattle.clap.specs.Faults.{bundle_fault, entered_fault, fault_of, flag_word_fault, level_fault, step_fault, turn_fault, walk_fault, word_fault}
 use Rattle.clap.proofs.FaultLemmas.{stopped_fault}
 use Rattle.clap.proofs.OnLiterals.{clap_on_literals}
 use Rattle.clap.proofs.WalkLemmas.{walk_stopped}
 use Rattle.sf_words.specs.Laws.{IsPlain, IsTakenAs, TakesPlainTexts}
 use Rattle.sf_words.specs.Line.{check_app, copy_app, print_app, scan_app, sf_app, show_app}
-use Rattle.sf_words.specs.Orders.{texts_by, verb_text}
+use Rattle.sf_words.specs.Orders.{own_faults, texts_by, verb_text}
 use Rattle.sf_words.specs.declared.order.Verb.{Verb}
 use Rattle.sf_words.specs.declared.order.Verb.TheVariants.{Show, Scan, Print, Check, Copy}
-use Rattle.sf_words.proofs.Dashes.{checks_after, names, nothing, row, texts_of_values, top, values_checks}
+use Rattle.sf_words.proofs.Dashes.{checks_after, names, none_at_fault, nothing, row, texts_of_values, top, values_checks, values_own}
 
 -- the word is no flag
 record NoFlag (word : Text) : Type 0 where
@@ -142,21 +142,27 @@ rows_named verb found rows = ◌≡◌ {A = Option (Text × List Row)} (Some ((l
 
 taken_by : (verb : Verb) (words texts : List Text) (end : Walk) (rows : List Row) → walk (level verb).rules [] nothing_held words ≡ end
     → walk_fault (level verb) [] (walk_from nothing_held) words ≡ [] → checks_after (level verb) false end ≡ []
-    → rows_named verb (finished (level verb).rules end.held) rows → texts_by verb rows ≡ texts → IsTakenAs (verb_text verb ∷ words) verb texts
-taken_by verb words texts end rows is walk_fine checks named are = record {
-  taken =
-      nothing (walk_fault top names (walk_from nothing_held) (verb_text verb ∷ words)) _ (top_fine verb words)
-      (subst (λ w. or_else (entered_fault (built sf_app) w.stopped) (checks_after top (is_some (entered (built sf_app) w.stopped)) w) ≡ []) (sym (top_walk verb words))
-      (nothing (entered_fault (built sf_app) (Some (verb_text verb, words))) _ (enters_fine verb words (level_fine (level verb) words end is walk_fine checks))
-      (subst (λ o. checks_after top (is_some o) (stopped_at verb words) ≡ []) (sym (enters verb words)) (top_checks verb words))));
+    → rows_named verb (finished (level verb).rules end.held) rows → own_faults rows ≡ [] → texts_by verb rows ≡ texts → IsTakenAs (verb_text verb ∷ words) verb texts
+taken_by verb words texts end rows is walk_fine checks named own are = record {
+  taken = none_at_fault (verb_text verb ∷ words) verb rows fine entered_is own;
   given = rows;
-  is_given =
-      ap (λ w. entered (built sf_app) w.stopped) (top_walk verb words)
-      ∙ enters verb words
-      ∙ ap (λ w. Some ((level verb).name, finished (level verb).rules w.held)) is
-      ∙ named;
+  is_given = entered_is;
   texts_are = are;
 }
+  where
+    fine : fault_of sf_app (codes "sf" ∷ verb_text verb ∷ words) ≡ []
+    fine =
+        nothing (walk_fault top names (walk_from nothing_held) (verb_text verb ∷ words)) _ (top_fine verb words)
+        (subst (λ w. or_else (entered_fault (built sf_app) w.stopped) (checks_after top (is_some (entered (built sf_app) w.stopped)) w) ≡ []) (sym (top_walk verb words))
+        (nothing (entered_fault (built sf_app) (Some (verb_text verb, words))) _ (enters_fine verb words (level_fine (level verb) words end is walk_fine checks))
+        (subst (λ o. checks_after top (is_some o) (stopped_at verb words) ≡ []) (sym (enters verb words)) (top_checks verb words))))
+
+    entered_is : subcommand_of sf_app (codes "sf" ∷ verb_text verb ∷ words) ≡ Some (verb_text verb, rows)
+    entered_is =
+        ap (λ w. entered (built sf_app) w.stopped) (top_walk verb words)
+        ∙ enters verb words
+        ∙ ap (λ w. Some ((level verb).name, finished (level verb).rules w.held)) is
+        ∙ named
 
 -- ---- the five
 
@@ -174,7 +180,7 @@ show_plain : (w : Text) → NoFlag w → IsTakenAs (codes "show" ∷ w ∷ []) S
 unfolding clap_on_literals
 show_plain w fact =
     taken_by Show (w ∷ []) (w ∷ []) (one_pending (codes "FORMAT") w [] 2)
-    (finished (level Show).rules (one_pending (codes "FORMAT") w [] 2).held) (show_walk w fact) (show_fine w fact) refl refl refl
+    (finished (level Show).rules (one_pending (codes "FORMAT") w [] 2).held) (show_walk w fact) (show_fine w fact) refl refl refl refl
 
 scan_walk : (w : Text) → NoFlag w → walk (level Scan).rules [] nothing_held (w ∷ []) ≡ one_pending (codes "FORMAT") w [] 2
 scan_walk w fact = step w fact nothing_held (level Scan).rules idle 1 refl
@@ -187,7 +193,7 @@ scan_plain : (w : Text) → NoFlag w → IsTakenAs (codes "scan" ∷ w ∷ []) S
 unfolding clap_on_literals
 scan_plain w fact =
     taken_by Scan (w ∷ []) (w ∷ []) (one_pending (codes "FORMAT") w [] 2)
-    (finished (level Scan).rules (one_pending (codes "FORMAT") w [] 2).held) (scan_walk w fact) (scan_fine w fact) refl refl refl
+    (finished (level Scan).rules (one_pending (codes "FORMAT") w [] 2).held) (scan_walk w fact) (scan_fine w fact) refl refl refl refl
 
 -- PRINT and then SCAN
 abbrev two_texts : Text → Text → Walk
@@ -210,7 +216,7 @@ check_plain : (p s : Text) → NoFlag p → NoFlag s → IsTakenAs (codes "check
 unfolding clap_on_literals
 check_plain p s print scan =
     taken_by Check (p ∷ s ∷ []) (p ∷ s ∷ []) (two_texts p s) (finished (level Check).rules (two_texts p s).held)
-    (check_walk p s print scan) (check_fine p s print scan) refl refl refl
+    (check_walk p s print scan) (check_fine p s print scan) refl refl refl refl
 
 copy_walk : (p s : Text) → NoFlag p → NoFlag s → walk (level Copy).rules [] nothing_held (p ∷ s ∷ []) ≡ two_texts p s
 copy_walk p s print scan =
@@ -229,7 +235,7 @@ copy_plain : (p s : Text) → NoFlag p → NoFlag s → IsTakenAs (codes "copy" 
 unfolding clap_on_literals
 copy_plain p s print scan =
     taken_by Copy (p ∷ s ∷ []) (p ∷ s ∷ []) (two_texts p s) (finished (level Copy).rules (two_texts p s).held)
-    (copy_walk p s print scan) (copy_fine p s print scan) refl refl refl
+    (copy_walk p s print scan) (copy_fine p s print scan) refl refl refl refl
 
 -- ---- print, with any number of values
 
@@ -244,7 +250,7 @@ format_plain : (w : Text) → NoFlag w → IsTakenAs (codes "print" ∷ w ∷ []
 unfolding clap_on_literals
 format_plain w fact =
     taken_by Print (w ∷ []) (w ∷ []) (one_pending (codes "FORMAT") w [] 2)
-    (finished (level Print).rules (one_pending (codes "FORMAT") w [] 2).held) (print_walk w fact) (print_fine w fact) refl refl refl
+    (finished (level Print).rules (one_pending (codes "FORMAT") w [] 2).held) (print_walk w fact) (print_fine w fact) refl refl refl refl
 
 abbrev values_held : Text → List Text → Held
 values_held format values = record { rows = row (codes "FORMAT") (format ∷ []) ∷ []; pending = Some (codes "VALUES", values); skip = 0 }
@@ -289,7 +295,7 @@ values_plain : (f v : Text) (rest : List Text) → NoFlag f → NoFlag v → All
 values_plain f v rest format first_value others few =
     taken_by Print (f ∷ v ∷ rest) (f ∷ v ∷ rest) (state (values_held f (v ∷ rest)) positional 2)
     (finished (level Print).rules (values_held f (v ∷ rest))) (values_walk f v rest format first_value others) (values_fine f v rest format first_value others) (values_checks f v rest (omega (arith, few))) refl
-    (texts_of_values f v rest)
+    (values_own f v rest) (texts_of_values f v rest)
 
 -- ---- all of them
 

@@ -260,7 +260,7 @@ level_of s (inr (inl is)) name answers no_help = (
     distinct = refl;
     limit = inr (record { rule = _; is_in = inl refl; named = refl; one = refl }, refl, refl);
     profile = inr (record { rule = _; is_in = inr (inr (inl refl)); named = refl; one = refl }, refl, refl);
-    words = (record { has = record { rule = _; is_in = inr (inr (inr (inr (inl refl)))); named = refl; one = refl }; required = refl }, tt);
+    words = (record { has = record { rule = _; is_in = inr (inr (inr (inr (inr (inl refl))))); named = refl; one = refl }; required = refl }, tt);
   }),
 )
 level_of s (inr (inr (inl is))) name answers no_help = (

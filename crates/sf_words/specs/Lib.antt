@@ -1,4 +1,5 @@
 pub mod Laws
 pub mod Line
+pub mod Misuses
 pub mod Orders
 pub mod Taken

@@ -30,6 +30,14 @@ profile_rule = record (new_rule (codes "profile")) {
   parser = Some (Signed (pos 1) (pos 2));
 }
 
+-- --output FORM: any text, and plain where it is not given
+abbrev pub output_rule : Rule
+output_rule = record (new_rule (codes "output")) {
+  long = Some (codes "output");
+  value_names = 1;
+  defaults = codes "plain" ∷ [];
+}
+
 -- an option without a value
 abbrev pub flag_rule : Text → Rule
 flag_rule name = record (new_rule name) { long = Some name; action = Some SetTrue }
@@ -52,7 +60,7 @@ abbrev pub show_app : App
 show_app = with_rule (with_options (new_app (codes "show"))) (word_rule (codes "FORMAT"))
 
 abbrev pub scan_app : App
-scan_app = with_rule (with_records (new_app (codes "scan"))) (word_rule (codes "FORMAT"))
+scan_app = with_rule (with_rule (with_records (new_app (codes "scan"))) output_rule) (word_rule (codes "FORMAT"))
 
 abbrev pub print_app : App
 print_app = with_rule (with_rule (with_options (new_app (codes "print"))) (word_rule (codes "FORMAT"))) (words_rule (codes "VALUES"))

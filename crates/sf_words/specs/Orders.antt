@@ -1,12 +1,16 @@
 -- What the words of a command ask for, as clap reads them.
-use Rattle.std.specs.Prelude.{◌≡◌, ◌≢◌, ◌≤◌, ℕ, Bool, true, false, List, [], ◌∷◌, ◌++◌, Option, Some, None, codes, map, string_bytes, unwrap_or}
+use Rattle.std.specs.Prelude.{◌≡◌, ◌≢◌, ◌≤◌, ◌||◌, ℕ, Bool, true, false, List, [], ◌∷◌, ◌++◌, Option, Some, None, if◌then◌else◌, codes, map, string_bytes, unwrap_or}
+use Rattle.std.specs.Option.{option_map_or}
 use Rattle.std.specs.Str.{bytes_eq}
 use Rattle.std.specs.Str.Parse.{digits_value, without_leading_plus}
-use Rattle.clap.specs.Words.{IsAmong, Kinds, Row, Text, all_of, fault_of, one_of, subcommand_of}
+use Rattle.clap.specs.Kinds.{or_else}
+use Rattle.clap.specs.Words.{IsAmong, Kinds, Row, Text, all_of, fault_of, first_of, one_of, subcommand_of}
 use Rattle.clap.specs.declared.error.kind.ErrorKind.{ErrorKind}
 use Rattle.clap.specs.declared.error.kind.ErrorKind.TheVariants as kind
 use Rattle.sf_words.specs.Line.{sf_app}
 use Rattle.sf_words.specs.declared.order.Order.{Order}
+use Rattle.sf_words.specs.declared.order.Output.{Output}
+use Rattle.sf_words.specs.declared.order.Output.TheVariants.{Plain, Tsv, Json}
 use Rattle.sf_words.specs.declared.order.Profile.{Profile}
 use Rattle.sf_words.specs.declared.order.Profile.TheVariants.{One, Two}
 use Rattle.sf_words.specs.declared.order.Verb.{Verb}
@@ -54,6 +58,16 @@ is_true (Some text) = bytes_eq text (codes "true")
 abbrev pub is_set : Text → List Row → Bool
 is_set name rows = is_true (one_of name rows)
 
+-- the name of a form
+abbrev pub output_text : Output → Text
+output_text Plain = codes "plain"
+output_text Tsv = codes "tsv"
+output_text Json = codes "json"
+
+-- the form's name that was given, or plain
+abbrev pub form_given : List Row → Text
+form_given rows = unwrap_or (first_of (codes "output") rows) (codes "plain")
+
 -- as many texts as the verb wants
 abbrev pub HasTexts : Verb → List Text → Type 0
 HasTexts Show (word ∷ []) = Unit {0}
@@ -72,6 +86,7 @@ pub record IsOrderOf (entered : Option (Text × List Row)) (order : Order) : Typ
   pub profile : profile_number order.profile ≡ number_by 1 (one_of (codes "profile") given)
   pub line_buffered : order.line_buffered ≡ is_set (codes "line-buffered") given
   pub explain : order.explain ≡ is_set (codes "explain") given
+  pub output : output_text order.output ≡ form_given given
   pub texts : map string_bytes order.texts.items ≡ texts_by order.verb given
   pub enough : HasTexts order.verb (map string_bytes order.texts.items)
 
@@ -82,9 +97,21 @@ IsOrder words order = IsOrderOf (subcommand_of sf_app (codes "sf" ∷ words)) or
 
 -- ---- they are refused
 
--- the kinds of fault that clap finds in the words after the program's name, of which there are none where it takes them
+-- the text is the name of a form
+abbrev pub is_form : Text → Bool
+is_form text = bytes_eq text (codes "plain") || (bytes_eq text (codes "tsv") || bytes_eq text (codes "json"))
+
+-- what is at fault in a subcommand's rows that its definition lets pass: the form
+abbrev pub own_faults : List Row → Kinds
+own_faults rows = if is_form (form_given rows) then [] else kind.InvalidValue ∷ []
+
+abbrev pub entered_faults : Option (Text × List Row) → Kinds
+entered_faults entered = option_map_or (λ e. own_faults e.1) entered []
+
+-- the kinds of fault in the words after the program's name: those that clap finds, and where it takes the words, those of the
+-- subcommand that they name. There are none where the words are taken.
 abbrev pub faults_of : List Text → Kinds
-faults_of words = fault_of sf_app (codes "sf" ∷ words)
+faults_of words = or_else (fault_of sf_app (codes "sf" ∷ words)) (entered_faults (subcommand_of sf_app (codes "sf" ∷ words)))
 
 -- it is no fault, but asks for a text that clap has
 abbrev pub is_request : ErrorKind → Bool

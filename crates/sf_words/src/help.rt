@@ -20,8 +20,9 @@ Exit status:
 
 /// The end of the help of `sf scan`.
 pub(crate) const SCAN: &str = "Examples:
-  sf scan '%d,%d' < points          a line of two numbers for each record
-  sf scan --limit 80 '%s' < words   no record may have more than 80 bytes
+  sf scan '%d,%d' < points                a line of two numbers for each record
+  sf scan --limit 80 '%s' < words         no record may have more than 80 bytes
+  sf scan --output json '%d,%d' < points  an array of two numbers for each record
 
 Exit status:
   0  each record was scanned, and the input ended where a record may begin

@@ -4,8 +4,9 @@
 mod help;
 pub mod laws;
 mod line;
+mod misuse;
 mod order;
 mod words;
 
-pub use order::{Order, Profile, Verb, WordsFault};
+pub use order::{Order, Output, Profile, Verb, WordsFault};
 pub use words::read_words;

@@ -1,7 +1,7 @@
 //! The command line of `sf`, as `clap` has it.
 ghost use Rattle.std.specs.Prelude.{◌≡◌, IfOk, false, codes};
 ghost use Rattle.clap.specs.Words.{new_app, rule_of};
-ghost use Rattle.sf_words.specs.Line.{IsLine, check_app, copy_app, flag_rule, limit_rule, print_app, profile_rule, scan_app, sf_app, show_app, with_options, with_records, word_rule, words_rule};
+ghost use Rattle.sf_words.specs.Line.{IsLine, check_app, copy_app, flag_rule, limit_rule, output_rule, print_app, profile_rule, scan_app, sf_app, show_app, with_options, with_records, word_rule, words_rule};
 
 use crate::help;
 use clap::{Arg, ArgAction, Command, value_parser};
@@ -34,6 +34,18 @@ fn profile<'a>(alloc: Global) -> Arg<'a>
         .value_parser(value_parser!(u32).range(1..=2))
         .default_value("1")
         .help("The formats that are read: 1 those of C, 2 those of base 2 too")
+}
+
+/// In which form the values of a record are written. That the text names a form, the definition doesn't say.
+fn output<'a>(alloc: Global) -> Arg<'a>
+    ensures rule { rule_of result ≡ output_rule }
+    ensures local { result.global ≡ false }
+{
+    Arg::new(alloc, "output")
+        .long("output")
+        .value_name("FORM")
+        .default_value("plain")
+        .help("How the values of a record are written: plain, tsv or json")
 }
 
 /// An option without a value.
@@ -147,6 +159,7 @@ fn scan<'a>(alloc: Global) -> Result<Command<'a>, AllocError>
         "Scan standard input by a format, and print a line of values for each record",
         help::SCAN,
     )?
+    .arg(output(alloc))?
     .arg(word(alloc, "FORMAT", "The scan format of one record"))
 }
 

@@ -29,6 +29,17 @@ pub enum Profile {
     Two,
 }
 
+/// In which form the values of a record are written.
+#[derive(Clone, Copy, PartialEq, Eq, Debug)]
+pub enum Output {
+    /// Values between blanks, texts between quotes.
+    Plain,
+    /// Values between tabs.
+    Tsv,
+    /// An array of values.
+    Json,
+}
+
 /// What the words ask for.
 #[derive(Debug, Drop)]
 pub struct Order {
@@ -42,6 +53,8 @@ pub struct Order {
     pub line_buffered: bool,
     /// Whether more is said of a fault than its line.
     pub explain: bool,
+    /// In which form the values of a record are written: plain for each command but `scan`.
+    pub output: Output,
     /// The formats and then the values, as they were given.
     pub texts: Vec<String>,
 }

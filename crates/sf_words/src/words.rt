@@ -1,12 +1,13 @@
 //! How the words of a command are read.
-ghost use Rattle.std.specs.Prelude.{◌≡◌, ◌≤◌, [], ◌∷◌, ◌++◌, IfErr, IfOk, OnOk, codes, map, string_bytes};
+ghost use Rattle.std.specs.Prelude.{◌≡◌, ◌≤◌, true, [], ◌∷◌, ◌++◌, IfErr, IfOk, OnOk, codes, map, string_bytes};
 ghost use Rattle.clap.specs.Words.{found_of, one_of, rows_of, subcommand_rows_of};
 ghost use Rattle.clap.specs.Walk.{texts};
-ghost use Rattle.sf_words.specs.Orders.{IsOrder, IsOrderOf, IsRefusal, IsRefusalOf, faults_of, is_set, number_by, profile_number, texts_by, values_at, verb_text};
+ghost use Rattle.sf_words.specs.Orders.{IsOrder, IsOrderOf, IsRefusal, IsRefusalOf, entered_faults, faults_of, form_given, is_form, is_set, number_by, output_text, profile_number, texts_by, values_at, verb_text};
 ghost use Rattle.sf_words.specs.Taken.{IsTaken, IsVerb, IsWithin};
 
 use crate::line::line;
-use crate::order::{Order, Profile, Verb, WordsFault};
+use crate::misuse::{form_given, misuse_of, refusal};
+use crate::order::{Order, Output, Profile, Verb, WordsFault};
 use clap::error::ErrorKind;
 use clap::{ArgMatches, Error};
 use std::alloc::{AllocError, Global};
@@ -125,6 +126,18 @@ fn profile_of(given: &ArgMatches<'_>) -> Profile
     }
 }
 
+/// In which form values are written.
+fn output_of(given: &ArgMatches<'_>) -> Output
+    requires { is_form (form_given (rows_of (found_of given.now))) ≡ true }
+    ensures { output_text result ≡ form_given (rows_of (found_of given.now)) }
+{
+    match form_given(given) {
+        "tsv" => Output::Tsv,
+        "json" => Output::Json,
+        _ => Output::Plain,
+    }
+}
+
 /// Whether an option without a value was given.
 fn is_set(given: &ArgMatches<'_>, name: &str) -> bool
     ensures { result ≡ is_set name.now (rows_of (found_of given.now)) }
@@ -133,20 +146,26 @@ fn is_set(given: &ArgMatches<'_>, name: &str) -> bool
 }
 
 /// What matches ask for.
-fn order_of(alloc: Global, matches: &ArgMatches<'_>) -> Result<Order, AllocError>
+fn order_of(alloc: Global, matches: &ArgMatches<'_>) -> Result<Order, WordsFault>
     requires { IsTaken (subcommand_rows_of matches.now) }
-    ensures { IfOk result (IsOrderOf (subcommand_rows_of matches.now)) }
+    ensures order { IfOk result (IsOrderOf (subcommand_rows_of matches.now)) }
+    ensures taken { IfOk result (λ _. entered_faults (subcommand_rows_of matches.now) ≡ []) }
+    ensures refused { IfErr result (IsRefusal (entered_faults (subcommand_rows_of matches.now))) }
 {
     let Some((name, given)) = matches.subcommand() else {
         unreachable!();
     };
     let verb = verb_of(name);
+    if let Some(misuse) = misuse_of(given) {
+        return Err(refusal(alloc, misuse));
+    }
     Ok(Order {
         verb,
         profile: profile_of(given),
         limit: limit_of(given),
         line_buffered: is_set(given, "line-buffered"),
         explain: is_set(given, "explain"),
+        output: output_of(given),
         texts: texts_of(alloc, verb, given)?,
     })
 }
@@ -165,7 +184,7 @@ pub fn read_words(alloc: Global, words: &[String]) -> Result<Order, WordsFault>
     let all = named(alloc, words)?;
     let line = line(alloc)?;
     match line.try_get_matches_from(all.as_slice()) {
-        Ok(matches) => Ok(order_of(alloc, &matches)?),
+        Ok(matches) => order_of(alloc, &matches),
         Err(error) => Err(fault_of(alloc, &error)),
     }
 }

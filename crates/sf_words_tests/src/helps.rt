@@ -16,22 +16,24 @@ fn help(rt: &impl Abort, alloc: Global, words: &str) -> Result<String, Fail> {
     }
 }
 
-/// A command, what its help says first, how it is called, two examples, and the statuses that it ends with.
-const HELPS: [(&str, &str, &str, [&str; 2], &[&str]); 5] = [
+/// A command, what its help says first, how it is called, examples and options, and the statuses that it ends with.
+const HELPS: [(&str, &str, &str, &[&str], &[&str]); 5] = [
     (
         "show",
         "Show the directives of a scan format, each on a line",
         "Usage: sf show [OPTIONS] <FORMAT>",
-        ["\n  sf show '%3d,%*s'", "\n  sf show '%2$d %1$[a-z]'"],
+        &["\n  sf show '%3d,%*s'", "\n  sf show '%2$d %1$[a-z]'"],
         &["\n  0  ", "\n  2  ", "\n  3  ", "\n  4  "],
     ),
     (
         "scan",
         "Scan standard input by a format, and print a line of values for each record",
         "Usage: sf scan [OPTIONS] <FORMAT>",
-        [
+        &[
             "\n  sf scan '%d,%d' < points",
             "\n  sf scan --limit 80 '%s' < words",
+            "\n  sf scan --output json '%d,%d' < points",
+            "\n      --output <FORM>  How the values of a record are written: plain, tsv or json [default: plain]",
         ],
         &["\n  0  ", "\n  1  ", "\n  2  ", "\n  3  ", "\n  4  "],
     ),
@@ -39,7 +41,7 @@ const HELPS: [(&str, &str, &str, [&str; 2], &[&str]); 5] = [
         "print",
         "Print values by a format, with no line end added",
         "Usage: sf print [OPTIONS] <FORMAT> [VALUES]...",
-        [
+        &[
             "\n  sf print '%s is %d\\n' ann 7",
             "\n  sf print '%+d\\n' -- -5",
         ],
@@ -49,7 +51,7 @@ const HELPS: [(&str, &str, &str, [&str; 2], &[&str]); 5] = [
         "check",
         "Tell whether a scan format reads back whatever a print format writes",
         "Usage: sf check [OPTIONS] <PRINT> <SCAN>",
-        [
+        &[
             "\n  sf check '%d\\n' '%11d%*1[\\n]'",
             "\n  sf check '%xx' '%4xx'",
         ],
@@ -59,7 +61,7 @@ const HELPS: [(&str, &str, &str, [&str; 2], &[&str]); 5] = [
         "copy",
         "Scan standard input by one format, and print each record by another",
         "Usage: sf copy [OPTIONS] <PRINT> <SCAN>",
-        [
+        &[
             "\n  sf copy '%d,%s\\n' '%11d,%20s%*1[\\n]' < table",
             "\n  sf copy '%+d;' '%3d;' < numbers",
         ],

@@ -1,10 +1,10 @@
 //! Words that clap takes.
 use crate::shared::answer;
-use sf_words::{Order, Profile};
+use sf_words::{Order, Output, Profile};
 use std::alloc::Global;
 use std::test::Fail;
 
-/// An order in one line: verb, limit, options, and the texts between bars. Profile 1 isn't named.
+/// An order in one line: verb, limit, options, and the texts between bars. Profile 1 and the plain form aren't named.
 fn line_of(alloc: Global, order: &Order) -> Result<String, Fail> {
     let mut line = format!(in alloc; "{:?} {}", order.verb, order.limit)?;
     if order.line_buffered {
@@ -16,6 +16,9 @@ fn line_of(alloc: Global, order: &Order) -> Result<String, Fail> {
     if order.explain {
         line.push_str(" explain")?;
     }
+    if order.output != Output::Plain {
+        line.push_str(format!(in alloc; " {:?}", order.output)?.as_str())?;
+    }
     for text in order.texts.iter() {
         line.push_str(" |")?;
         line.push_str(text.as_str())?;
@@ -24,7 +27,7 @@ fn line_of(alloc: Global, order: &Order) -> Result<String, Fail> {
 }
 
 /// Words, and the order that they make.
-const ORDERS: [(&str, &str); 36] = [
+const ORDERS: [(&str, &str); 43] = [
     ("show|%3d,%*s", "Show 1048576 |%3d,%*s"),
     ("scan|%d,%d", "Scan 1048576 |%d,%d"),
     ("scan|--limit|3|%s", "Scan 3 |%s"),
@@ -78,6 +81,22 @@ const ORDERS: [(&str, &str); 36] = [
     (
         "scan|--explain|--|--explain",
         "Scan 1048576 explain |--explain",
+    ),
+    ("scan|--output|plain|%d", "Scan 1048576 |%d"),
+    ("scan|--output|tsv|%d", "Scan 1048576 Tsv |%d"),
+    ("scan|%d|--output=json", "Scan 1048576 Json |%d"),
+    (
+        "scan|--output|json|--limit|8|--line-buffered|%d",
+        "Scan 8 line-buffered Json |%d",
+    ),
+    (
+        "scan|--output|json|--|--output",
+        "Scan 1048576 Json |--output",
+    ),
+    ("scan|--|--output", "Scan 1048576 |--output"),
+    (
+        "print|%s|--|--output|json",
+        "Print 1048576 |%s |--output |json",
     ),
 ];
 

@@ -4,7 +4,7 @@ use sf_words::WordsFault;
 use std::test::Fail;
 
 /// Words, the first line that is said of them, and how the command is called, where that is said.
-const REFUSALS: [(&str, &str, &str); 28] = [
+const REFUSALS: [(&str, &str, &str); 34] = [
     (
         "scan",
         "error: the following required arguments were not provided:",
@@ -84,6 +84,36 @@ const REFUSALS: [(&str, &str, &str); 28] = [
         "scan|--explain=yes|%d",
         "error: unexpected value 'yes' for '--explain' found; no more were expected",
         "Usage: sf scan --explain <FORMAT>",
+    ),
+    (
+        "scan|--output|xml|%d",
+        "error: invalid value 'xml' for '--output <FORM>'",
+        "\n  [possible values: plain, tsv, json]\n\nFor more information, try '--help'.\n",
+    ),
+    (
+        "scan|--output|JSON|%d",
+        "error: invalid value 'JSON' for '--output <FORM>'",
+        "\n  [possible values: plain, tsv, json]\n",
+    ),
+    (
+        "scan|--output=|%d",
+        "error: invalid value '' for '--output <FORM>'",
+        "\n  [possible values: plain, tsv, json]\n",
+    ),
+    (
+        "scan|--output|tsv",
+        "error: the following required arguments were not provided:",
+        "Usage: sf scan --output <FORM> <FORMAT>",
+    ),
+    (
+        "scan|--output|tsv|--output|json|%d",
+        "error: the argument '--output <FORM>' cannot be used multiple times",
+        "Usage: sf scan [OPTIONS] <FORMAT>",
+    ),
+    (
+        "copy|--output|tsv|%d|%3d",
+        "error: unexpected argument '--output' found",
+        "Usage: sf copy [OPTIONS] <PRINT> <SCAN>",
     ),
     (
         "scan|--version",

@@ -1,0 +1,14 @@
+-- The kinds of what the command refuses by itself.
+use Rattle.std.specs.Prelude.{[], ◌∷◌, Option, Some, None}
+use Rattle.clap.specs.Words.{Kinds}
+use Rattle.clap.specs.declared.error.kind.ErrorKind.{ErrorKind}
+use Rattle.clap.specs.declared.error.kind.ErrorKind.TheVariants as kind
+use Rattle.sf_words.specs.declared.misuse.Misuse.{Misuse}
+use Rattle.sf_words.specs.declared.misuse.Misuse.TheVariants.{Form}
+
+abbrev pub misuse_kind : Misuse → ErrorKind
+misuse_kind (Form text) = kind.InvalidValue
+
+abbrev pub misuse_kinds : Option Misuse → Kinds
+misuse_kinds None = []
+misuse_kinds (Some misuse) = misuse_kind misuse ∷ []
