@@ -158,6 +158,20 @@ class WhenItIsDue(Streams):
         os.write(ours, b"\x04")
         self.assertEqual(running.wait(program.SECONDS), 0)
 
+    def test_explain_keeps_no_line_back(self):
+        ours, theirs = pty.openpty()
+        self.addCleanup(os.close, ours)
+        running = self.watched("scan", "--explain", "%d", stdout=theirs)
+        os.close(theirs)
+        for number in (b"1", b"22"):
+            self.feed(number + b"\n")
+            self.assertEqual(read_within(ours, program.SECONDS), number + b"\r\n")
+        running.stdin.write(b"\n x")
+        running.stdin.close()
+        running.stdin = None
+        self.assertEqual(running.wait(program.SECONDS), 1)
+        self.assertIn(b"\n  at line 4, column 2 of the input\n", running.stderr.read())
+
     def test_a_pipe_is_written_in_blocks(self):
         self.assertEqual(self.writes("scan", "%d", stdin=b"7\n" * 100), [b"7\n" * 100])
         written = self.writes("scan", "%d", stdin=b"7\n" * 20000)
@@ -192,5 +206,17 @@ class Input(Streams):
 
     def test_what_is_kept_does_not_grow_with_the_input(self):
         text = b"12345\n" * 2000000
-        status, out, err = self.bounded("scan", "%d", stdin=text, megabytes=16)
-        self.assertEqual((status, len(out), err), (0, len(text), b""))
+        for words in (("scan", "%d"), ("scan", "--explain", "%d")):
+            status, out, err = self.bounded(*words, stdin=text, megabytes=16)
+            self.assertEqual((status, len(out), err), (0, len(text), b""))
+
+    def test_the_place_in_pieces_of_any_size(self):
+        for size in (1, 2, 3, 4095, 4096, 4097, 8192):
+            running = self.started("scan", "--explain", "%d")
+            text = b"1\n" * 2500 + b" \n\n x"
+            for at in range(0, len(text), size):
+                running.stdin.write(text[at : at + size])
+                running.stdin.flush()
+            out, err = running.communicate(timeout=program.SECONDS)
+            self.assertEqual((running.returncode, out), (1, b"1\n" * 2500))
+            self.assertIn(b"\n  at line 2503, column 2 of the input\n", err)

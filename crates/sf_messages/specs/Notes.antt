@@ -1,5 +1,5 @@
 -- What is said behind the line of a fault, where more is asked for: lines, each behind two blanks.
-use Rattle.std.specs.Prelude.{ℕ, ◌&&◌, nat_eq, nat_lt, Bool, false, if◌then◌else◌, List, [], ◌∷◌, ◌++◌, length, map, min, take, Option, Some, slice_get, unwrap_or, codes}
+use Rattle.std.specs.Prelude.{ℕ, ◌&&◌, nat_eq, nat_lt, Bool, false, if◌then◌else◌, List, [], ◌∷◌, ◌++◌, length, map, min, take, Option, Some, None, slice_get, unwrap_or, codes}
 use Rattle.std.specs.Fmt.{decimal}
 use Rattle.sf_base.specs.Bytes.{is_white}
 use Rattle.sf_format.specs.declared.fault.FormatFault.{FormatFault}
@@ -7,6 +7,7 @@ use Rattle.sf_pair.specs.declared.fault.PairWhy.{PairWhy}
 use Rattle.sf_run.specs.declared.outcome.Ending.{Ending}
 use Rattle.sf_run.specs.declared.outcome.Ending.TheVariants.{End}
 use Rattle.sf_run.specs.declared.outcome.Outcome.{Outcome}
+use Rattle.sf_places.specs.declared.place.Place.{Place}
 use Rattle.sf_records.specs.Quotes.{quoted}
 use Rattle.sf_messages.specs.Sentences.{escape_sentence, left_white_sentence, pair_sentence, why_sentence}
 
@@ -38,6 +39,12 @@ pair_notes why = note (pair_sentence why)
 
 -- ---- records
 
+-- the place in the input where the run stopped, where it is known
+abbrev pub input_notes : Option Place → List ℕ
+input_notes None = []
+input_notes (Some place) =
+    note (codes "at line " ++ (decimal place.line ++ (codes ", column " ++ (decimal place.column ++ codes " of the input"))))
+
 -- the first bytes that the run left, at most 24
 abbrev pub rest_notes : List ℕ → List ℕ
 rest_notes rest = if nat_eq (length rest) 0 then [] else note (codes "there stood " ++ quoted (take (min (length rest) 24) rest))
@@ -61,6 +68,7 @@ abbrev pub is_left_white : ℕ → Outcome → List ℕ → Bool
 is_left_white number outcome rest = nat_lt 1 number && (nat_eq outcome.at 1 && (nat_eq outcome.used 0 && begins_white rest))
 
 -- a record that is no match, where its directive is shown so
-abbrev pub failed_notes : List ℕ → ℕ → Outcome → List ℕ → List ℕ
-failed_notes shown number outcome rest =
-    directive_note outcome.at shown ++ (stood_notes outcome.met rest ++ (if is_left_white number outcome rest then note left_white_sentence else []))
+abbrev pub failed_notes : List ℕ → ℕ → Outcome → Option Place → List ℕ → List ℕ
+failed_notes shown number outcome place rest =
+    directive_note outcome.at shown
+    ++ (input_notes place ++ (stood_notes outcome.met rest ++ (if is_left_white number outcome rest then note left_white_sentence else [])))

@@ -1,11 +1,12 @@
 //! What is said behind the line of a fault, where more is asked for.
 ghost use Rattle.std.specs.Prelude.{◌≡◌, ◌++◌, OnOk, IfOk};
-ghost use Rattle.sf_messages.specs.Notes.{begins_white, blanks, directive_note, escape_notes, failed_notes, format_notes, is_left_white, note, pair_notes, place_notes, rest_notes, stood_notes};
+ghost use Rattle.sf_messages.specs.Notes.{begins_white, blanks, directive_note, escape_notes, failed_notes, format_notes, input_notes, is_left_white, note, pair_notes, place_notes, rest_notes, stood_notes};
 
 use crate::sentences::{escape_sentence, left_white_sentence, pair_sentence, why_sentence};
 use sf_base::is_space;
 use sf_format::FormatFault;
 use sf_pair::PairWhy;
+use sf_places::Place;
 use sf_records::push_quoted;
 use sf_run::{Ending, Outcome};
 use std::alloc::{AllocError, Global};
@@ -77,6 +78,28 @@ pub fn pair_notes(alloc: Global, why: PairWhy) -> Result<Vec<u8>, AllocError>
     Ok(notes)
 }
 
+/// Appends the line of the place where a run stopped, where it is known.
+fn push_input(alloc: Global, output: &mut Vec<u8>, place: Option<Place>) -> Result<(), AllocError>
+    ensures { OnOk result (output.new.items ≡ output.old.items ++ input_notes place) }
+{
+    let Some(place) = place else {
+        return Ok(());
+    };
+    let Place { line, column } = place;
+    let mut text = Vec::new(alloc);
+    write!(text, "at line {line}, column {column} of the input").map_err(|_| AllocError)?;
+    push_note(output, &text)
+}
+
+/// What is said of a run that stopped at a place of the input.
+pub fn input_notes(alloc: Global, place: Option<Place>) -> Result<Vec<u8>, AllocError>
+    ensures { IfOk result (λ notes. notes.items ≡ input_notes place) }
+{
+    let mut said = Vec::new(alloc);
+    push_input(alloc, &mut said, place)?;
+    Ok(said)
+}
+
 /// Appends the line of the bytes that a run left.
 fn push_rest(alloc: Global, output: &mut Vec<u8>, rest: &[u8]) -> Result<(), AllocError>
     ensures { OnOk result (output.new.items ≡ output.old.items ++ rest_notes rest.now) }
@@ -137,19 +160,21 @@ fn is_left_white(number: u32, outcome: Outcome, rest: &[u8]) -> bool
     1 < number && outcome.at == 1 && outcome.used == 0 && begins_white(rest)
 }
 
-/// What is said of a record that is no match: its number, the directive at which it failed, as it is shown, and the bytes that
-/// the run left.
+/// What is said of a record that is no match: its number, the directive at which it failed, as it is shown, the place in the
+/// input where the run stopped, where it is known, and the bytes that the run left.
 pub fn failed_notes(
     alloc: Global,
     shown: &[u8],
     number: u32,
     outcome: Outcome,
+    place: Option<Place>,
     rest: &[u8],
 ) -> Result<Vec<u8>, AllocError>
-    ensures { IfOk result (λ notes. notes.items ≡ failed_notes shown.now number outcome rest.now) }
+    ensures { IfOk result (λ notes. notes.items ≡ failed_notes shown.now number outcome place rest.now) }
 {
     let mut notes = Vec::new(alloc);
     push_directive(alloc, &mut notes, outcome.at, shown)?;
+    push_input(alloc, &mut notes, place)?;
     push_stood(alloc, &mut notes, outcome.met, rest)?;
     if is_left_white(number, outcome, rest) {
         push_note(&mut notes, left_white_sentence().as_bytes())?;

@@ -6,6 +6,7 @@ use Rattle.sf_format.specs.declared.fault.FormatWhy.{FormatWhy}
 use Rattle.sf_format.specs.declared.fault.FormatWhy.TheVariants.{NoMemory}
 use Rattle.sf_format.specs.Faults.{Fault, PrintFault, IsRefused, IsPrintRefused}
 use Rattle.sf_read.specs.Ahead.{Ahead}
+use Rattle.sf_records.specs.declared.form.OutputForm.{OutputForm}
 use Rattle.sf_tool.specs.Commands.{Counts, IsUnwrittenBy, PrintsBy, ScansBy, ShowsBy, Unread}
 use Rattle.sf_messages.specs.Faults.{format_fault, format_fault_by, print_format_fault, print_format_fault_by}
 
@@ -23,14 +24,14 @@ pub print_fault_of : (profile : Profile) (format : List ℕ) (fault : FormatFaul
 print_fault_of profile format fault other (inl is) = is
 print_fault_of profile format fault other (inr (none, spelled)) = let no : false ≡ true = sym other ∙ ap (λ (f : FormatFault). is_memory f.why) none in absurd (cc)
 
-scans_by : (profile : Profile) {S : Type 0} (to_come : S → Option (List ℕ)) (m : ℕ) (format text : List ℕ) (now : Ahead S) (failures : ℕ) (held : Option (List ℕ)) (fault : FormatFault) (why : FormatWhy) → fault.why ≡ why → IsRefused profile format fault
-    → ScansBy to_come profile m format text now failures failures held held (Err (format_fault_by why fault))
-scans_by profile to_come m format text now failures held fault NoMemory is refused = refl
-scans_by profile to_come m format text now failures held fault _ is refused = fault_of profile format fault (ap is_memory is) refused
+scans_by : (profile : Profile) {S : Type 0} (to_come : S → Option (List ℕ)) (form : OutputForm) (m : ℕ) (format text : List ℕ) (now : Ahead S) (failures : ℕ) (held : Option (List ℕ)) (fault : FormatFault) (why : FormatWhy) → fault.why ≡ why → IsRefused profile format fault
+    → ScansBy to_come profile form m format text now failures failures held held (Err (format_fault_by why fault))
+scans_by profile to_come form m format text now failures held fault NoMemory is refused = refl
+scans_by profile to_come form m format text now failures held fault _ is refused = fault_of profile format fault (ap is_memory is) refused
 
-pub refused_scans : (profile : Profile) {S : Type 0} (to_come : S → Option (List ℕ)) (m : ℕ) (format text : List ℕ) (now : Ahead S) (failures : ℕ) (held : Option (List ℕ)) (fault : FormatFault) → IsRefused profile format fault
-    → ScansBy to_come profile m format text now failures failures held held (Err (format_fault fault))
-refused_scans profile to_come m format text now failures held fault refused = scans_by profile to_come m format text now failures held fault fault.why refl refused
+pub refused_scans : (profile : Profile) {S : Type 0} (to_come : S → Option (List ℕ)) (form : OutputForm) (m : ℕ) (format text : List ℕ) (now : Ahead S) (failures : ℕ) (held : Option (List ℕ)) (fault : FormatFault) → IsRefused profile format fault
+    → ScansBy to_come profile form m format text now failures failures held held (Err (format_fault fault))
+refused_scans profile to_come form m format text now failures held fault refused = scans_by profile to_come form m format text now failures held fault fault.why refl refused
 
 shows_by : (profile : Profile) (format : List ℕ) (held : Option (List ℕ)) (fault : FormatFault) (why : FormatWhy) → fault.why ≡ why → IsRefused profile format fault
     → ShowsBy profile format held held (Err (format_fault_by why fault))

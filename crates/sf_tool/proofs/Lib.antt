@@ -1,10 +1,12 @@
 pub mod Answering
+pub mod Carrying
 pub mod Checking
 pub mod Escaping
 pub mod Finding
 pub mod Numbers
 pub mod OneAnswer
 pub mod Places
+pub mod Placing
 pub mod PrintAnswering
 pub mod Reading
 pub mod Saying

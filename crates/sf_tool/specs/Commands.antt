@@ -18,11 +18,15 @@ use Rattle.sf_print.specs.Sinks.{counted_on}
 use Rattle.sf_read.specs.Ahead.{Ahead, input_of}
 use Rattle.sf_records.specs.declared.end.ToolEnd.{ToolEnd}
 use Rattle.sf_records.specs.declared.end.ToolFault.{ToolFault}
+use Rattle.sf_records.specs.declared.form.OutputForm.{OutputForm}
+use Rattle.sf_records.specs.declared.form.OutputForm.TheVariants as form
 use Rattle.sf_records.specs.Copies.{copying}
-use Rattle.sf_records.specs.Lines.{scanning}
+use Rattle.sf_records.specs.Forms.{writing}
 use Rattle.sf_records.specs.declared.end.ToolFault.TheVariants as record_fault
 use Rattle.sf_records.specs.Judging.{TakesPart}
 use Rattle.sf_records.specs.Records.{Loops}
+use Rattle.sf_words.specs.declared.order.Output.{Output}
+use Rattle.sf_words.specs.declared.order.Output.TheVariants as output
 use Rattle.sf_words.specs.declared.order.Profile.{Profile as GivenProfile}
 use Rattle.sf_words.specs.declared.order.Profile.TheVariants as given
 use Rattle.sf_words.specs.declared.order.Verb.{Verb}
@@ -76,17 +80,17 @@ answer_by None = Ok 0
 answer_by (Some fault) = Err (Record fault)
 
 -- What a scan of the text by the directives writes and answers: what the loop over its records does, by runs of at most
--- m bytes.
-abbrev pub Scans : {S : Type 0} → (S → Option (List ℕ)) → ℕ → List Directive → List ℕ → Ahead S → ℕ → ℕ → Option (List ℕ) → Option (List ℕ) → Answer → Type 0
-Scans to_come m ds text now failures failures' before after answer =
-    (end : ToolEnd) × Loops (scanning ds) to_come ds m text now failures failures' before after end × (answer ≡ answer_by end.fault)
+-- m bytes, where each record is written in the form.
+abbrev pub Scans : {S : Type 0} → (S → Option (List ℕ)) → OutputForm → ℕ → List Directive → List ℕ → Ahead S → ℕ → ℕ → Option (List ℕ) → Option (List ℕ) → Answer → Type 0
+Scans to_come form m ds text now failures failures' before after answer =
+    (end : ToolEnd) × Loops (writing form ds) to_come ds m text now failures failures' before after end × (answer ≡ answer_by end.fault)
 
 -- what a scan of the text by the format answers: the format is refused for its first fault, or its directives scan
-abbrev pub ScansBy : {S : Type 0} → (S → Option (List ℕ)) → Profile → ℕ → List ℕ → List ℕ → Ahead S → ℕ → ℕ → Option (List ℕ) → Option (List ℕ) → Answer → Type 0
-ScansBy to_come profile m format text now failures failures' before after (Err (Format fault)) = Fault profile format fault.at fault.why
-ScansBy to_come profile m format text now failures failures' before after (Err Memory) = after ≡ before
-ScansBy to_come profile m format text now failures failures' before after answer =
-    (ds : List Directive) × Spells profile format ds × Scans to_come m ds text now failures failures' before after answer
+abbrev pub ScansBy : {S : Type 0} → (S → Option (List ℕ)) → Profile → OutputForm → ℕ → List ℕ → List ℕ → Ahead S → ℕ → ℕ → Option (List ℕ) → Option (List ℕ) → Answer → Type 0
+ScansBy to_come profile form m format text now failures failures' before after (Err (Format fault)) = Fault profile format fault.at fault.why
+ScansBy to_come profile form m format text now failures failures' before after (Err Memory) = after ≡ before
+ScansBy to_come profile form m format text now failures failures' before after answer =
+    (ds : List Directive) × Spells profile format ds × Scans to_come form m ds text now failures failures' before after answer
 
 -- ---- shows of a format
 
@@ -133,17 +137,17 @@ pub record IsRefusedText {S K : Type 0} (name : FormatName) (word : List ℕ) (f
   pub bad : IsBadText name word fault
 
 -- what is done by a format's text: its faults are told, and where it is refused nothing was read or written
-pub record ScansText {S K : Type 0} (to_come : S → Option (List ℕ)) (read_faults : S → ℕ) (contents : K → Option (List ℕ)) (write_faults : K → ℕ) (profile : Profile) (limit : ℕ) (text : List ℕ)
+pub record ScansText {S K : Type 0} (to_come : S → Option (List ℕ)) (read_faults : S → ℕ) (contents : K → Option (List ℕ)) (write_faults : K → ℕ) (profile : Profile) (form : OutputForm) (limit : ℕ) (text : List ℕ)
     (from from' : Ahead S) (out out' : K) (answer : Answer) : Type 0 where
-  pub scans : (t : List ℕ) → input_of to_come from ≡ Some t → ScansBy to_come profile limit text t from' (read_faults from.source) (read_faults from'.source) (contents out) (contents out') answer
+  pub scans : (t : List ℕ) → input_of to_come from ≡ Some t → ScansBy to_come profile form limit text t from' (read_faults from.source) (read_faults from'.source) (contents out) (contents out') answer
   pub refused : TellsFault (Fault profile text) format_fault answer
   pub unread : IfErr answer (λ fault. Unread fault from from' out out')
   pub failures : Counts (write_faults out) (write_faults out') answer
 
-abbrev pub ScansWord : {S K : Type 0} → (S → Option (List ℕ)) → (S → ℕ) → (K → Option (List ℕ)) → (K → ℕ) → Profile → ℕ → List ℕ → Ahead S → Ahead S → K → K → Answer → Type 0
-ScansWord to_come read_faults contents write_faults profile limit word from from' out out' answer =
+abbrev pub ScansWord : {S K : Type 0} → (S → Option (List ℕ)) → (S → ℕ) → (K → Option (List ℕ)) → (K → ℕ) → Profile → OutputForm → ℕ → List ℕ → Ahead S → Ahead S → K → K → Answer → Type 0
+ScansWord to_come read_faults contents write_faults profile form limit word from from' out out' answer =
     IsRefusedText name.Scan word from from' out out' answer
-    ⊎ ((text : List ℕ) × Unescapes word text × ScansText to_come read_faults contents write_faults profile limit text from from' out out' answer)
+    ⊎ ((text : List ℕ) × Unescapes word text × ScansText to_come read_faults contents write_faults profile form limit text from from' out out' answer)
 
 pub record ShowsText {K : Type 0} (contents : K → Option (List ℕ)) (write_faults : K → ℕ) (profile : Profile) (text : List ℕ) (out out' : K) (answer : Answer) : Type 0 where
   pub shows : ShowsBy profile text (contents out) (contents out') answer
@@ -205,16 +209,22 @@ abbrev pub grammar_of : GivenProfile → Profile
 grammar_of given.One = grammar.One
 grammar_of given.Two = grammar.Two
 
+-- the form that the words name
+abbrev pub form_of : Output → OutputForm
+form_of output.Plain = form.Plain
+form_of output.Tsv = form.Tsv
+form_of output.Json = form.Json
+
 -- what an order does
-abbrev pub CarriesOut : {S K : Type 0} → (S → Option (List ℕ)) → (S → ℕ) → (K → Option (List ℕ)) → (K → ℕ) → Profile → Verb → ℕ → List (List ℕ) → Ahead S → Ahead S → K → K → Answer → Type 0
-CarriesOut to_come read_faults contents write_faults profile verb.Scan limit (word ∷ []) from from' out out' answer =
-    ScansWord to_come read_faults contents write_faults profile limit word from from' out out' answer
-CarriesOut to_come read_faults contents write_faults profile verb.Show limit (word ∷ []) from from' out out' answer =
+abbrev pub CarriesOut : {S K : Type 0} → (S → Option (List ℕ)) → (S → ℕ) → (K → Option (List ℕ)) → (K → ℕ) → Profile → OutputForm → Verb → ℕ → List (List ℕ) → Ahead S → Ahead S → K → K → Answer → Type 0
+CarriesOut to_come read_faults contents write_faults profile form verb.Scan limit (word ∷ []) from from' out out' answer =
+    ScansWord to_come read_faults contents write_faults profile form limit word from from' out out' answer
+CarriesOut to_come read_faults contents write_faults profile form verb.Show limit (word ∷ []) from from' out out' answer =
     (from' ≡ from) × ShowsWord contents write_faults profile word out out' answer
-CarriesOut to_come read_faults contents write_faults profile verb.Print limit (word ∷ values) from from' out out' answer =
+CarriesOut to_come read_faults contents write_faults profile form verb.Print limit (word ∷ values) from from' out out' answer =
     (from' ≡ from) × PrintsWord contents write_faults profile word values out out' answer
-CarriesOut to_come read_faults contents write_faults profile verb.Check limit (print ∷ scan ∷ []) from from' out out' answer =
+CarriesOut to_come read_faults contents write_faults profile form verb.Check limit (print ∷ scan ∷ []) from from' out out' answer =
     (from' ≡ from) × ChecksBoth contents write_faults profile print scan out out' answer
-CarriesOut to_come read_faults contents write_faults profile verb.Copy limit (print ∷ scan ∷ []) from from' out out' answer =
+CarriesOut to_come read_faults contents write_faults profile form verb.Copy limit (print ∷ scan ∷ []) from from' out out' answer =
     CopiesBoth to_come read_faults contents write_faults profile limit print scan from from' out out' answer
-CarriesOut to_come read_faults contents write_faults profile _ limit texts from from' out out' answer = ⊥
+CarriesOut to_come read_faults contents write_faults profile form _ limit texts from from' out out' answer = ⊥

@@ -1,8 +1,10 @@
 -- What one run of the command writes, says and answers.
-use Rattle.std.specs.Prelude.{◌≡◌, ◌⊎◌, ◌++◌, ℕ, List, [], Option, Result, Ok, Err, IfErr, IfOk, map, string_bytes}
+use Rattle.std.specs.Prelude.{◌≡◌, ◌⊎◌, ◌++◌, ℕ, List, [], false, Option, Some, Result, Ok, Err, IfErr, IfOk, IfSome, map, string_bytes}
 use Rattle.std.specs.Io.KnownBytes.{Appends}
 use Rattle.sf_print.specs.Sinks.{counted_on}
-use Rattle.sf_read.specs.Ahead.{Ahead}
+use Rattle.sf_places.specs.Behind.{IsBehind}
+use Rattle.sf_places.specs.declared.place.Place.{Place}
+use Rattle.sf_read.specs.Ahead.{Ahead, input_of}
 use Rattle.sf_records.specs.Judging.{TakesPart}
 use Rattle.sf_words.specs.declared.order.Order.{Order}
 use Rattle.sf_words.specs.declared.order.WordsFault.{WordsFault}
@@ -10,7 +12,7 @@ use Rattle.sf_words.specs.declared.order.WordsFault.TheVariants.{Help, Usage, No
 use Rattle.sf_words.specs.Orders.{IsOrder, IsRefusal, faults_of}
 use Rattle.sf_messages.specs.declared.fault.CommandFault.TheVariants.{Write, Memory}
 use Rattle.sf_tool.specs.Answers.{Answer}
-use Rattle.sf_tool.specs.Commands.{CarriesOut, Counts, grammar_of}
+use Rattle.sf_tool.specs.Commands.{CarriesOut, Counts, form_of, grammar_of}
 use Rattle.sf_tool.specs.Explains.{SaysMore}
 use Rattle.sf_messages.specs.Texts.{error_line, status_of}
 
@@ -44,21 +46,34 @@ Declines contents failures said unsaid NoMemory out out' err err' status = (out'
 
 -- what is done for what was read of the words: the order, or help, or the words are refused with nothing read
 abbrev pub Does : {S K E : Type 0} → (S → Option (List ℕ)) → (S → ℕ) → (K → Option (List ℕ)) → (K → ℕ) → (E → Option (List ℕ)) → (E → ℕ) → Result Order WordsFault
-    → Ahead S → Ahead S → K → K → E → E → ℕ → Type 0
-Does to_come read_faults contents write_faults said unsaid (Ok order) from from' out out' err err' status =
-    (answer : Answer) × CarriesOut to_come read_faults contents write_faults (grammar_of order.profile) order.verb order.limit (map string_bytes order.texts.items) from from' out out' answer
+    → Option Place → Ahead S → Ahead S → K → K → E → E → ℕ → Type 0
+Does to_come read_faults contents write_faults said unsaid (Ok order) place from from' out out' err err' status =
+    (answer : Answer) × CarriesOut to_come read_faults contents write_faults (grammar_of order.profile) (form_of order.output) order.verb order.limit (map string_bytes order.texts.items) from from' out out' answer
     × ((notes : List ℕ)
-    × SaysMore order.explain (grammar_of order.profile) order.verb (map string_bytes order.texts.items) from'.held answer notes
+    × SaysMore order.explain (grammar_of order.profile) order.verb (map string_bytes order.texts.items) place from'.held answer notes
     × Ends said unsaid notes answer err err' status)
-Does to_come read_faults contents write_faults said unsaid (Err fault) from from' out out' err err' status =
+Does to_come read_faults contents write_faults said unsaid (Err fault) place from from' out out' err err' status =
     (from' ≡ from) × Declines contents write_faults said unsaid fault out out' err err' status
 
 -- What the command of the words comes to. `said` and `unsaid` tell of the error output what `contents` and `write_faults` tell
--- of the output.
+-- of the output. place: where in the input the run stopped, if that is known.
 pub record Exits {S K E : Type 0} (to_come : S → Option (List ℕ)) (read_faults : S → ℕ) (contents : K → Option (List ℕ)) (write_faults : K → ℕ)
-    (said : E → Option (List ℕ)) (unsaid : E → ℕ) (words : List (List ℕ)) (from from' : Ahead S) (out out' : K) (err err' : E) (status : ℕ) : Type 0 where
+    (said : E → Option (List ℕ)) (unsaid : E → ℕ) (words : List (List ℕ)) (place : Option Place) (from from' : Ahead S) (out out' : K) (err err' : E) (status : ℕ) : Type 0 where
   pub asked : Result Order WordsFault
   pub read : IfOk asked (IsOrder words)
   pub taken : IfOk asked (λ _. faults_of words ≡ [])
   pub refused : IfErr asked (IsRefusal (faults_of words))
-  pub done : Does to_come read_faults contents write_faults said unsaid asked from from' out out' err err' status
+  pub done : Does to_come read_faults contents write_faults said unsaid asked place from from' out out' err err' status
+
+-- nothing is held yet
+abbrev pub unread_of : {S : Type 0} → S → Ahead S
+unread_of source = record { held = []; source = source; at_end = false }
+
+-- The same on what a source gives. left: what is held afterwards, and the source then. Where the source tells its bytes, the
+-- place is that behind the bytes which are neither held nor to come then.
+pub record ExitsOn {S K E : Type 0} (to_come : S → Option (List ℕ)) (read_faults : S → ℕ) (contents : K → Option (List ℕ)) (write_faults : K → ℕ)
+    (said : E → Option (List ℕ)) (unsaid : E → ℕ) (words : List (List ℕ)) (from : S) (out out' : K) (err err' : E) (status : ℕ) : Type 0 where
+  pub left : Ahead S
+  pub place : Option Place
+  pub exits : Exits to_come read_faults contents write_faults said unsaid words place (unread_of from) left out out' err err' status
+  pub placed : IfSome place (λ p. (c z : List ℕ) → to_come from ≡ Some (c ++ z) → input_of to_come left ≡ Some z → IsBehind c p)

@@ -1,20 +1,26 @@
 -- What is said behind the line of a fault, where the words ask for more.
-use Rattle.std.specs.Prelude.{◌≡◌, ◌≢◌, ◌⊎◌, ◌-◌, ℕ, Bool, true, List, [], Option, Some, None, Err, slice_get}
+use Rattle.std.specs.Prelude.{◌≡◌, ◌⊎◌, ◌-◌, ◌++◌, ℕ, Bool, true, List, [], Option, Some, None, Err, codes, slice_get, unwrap_or}
 use Rattle.std.specs.Option.{option_map_or}
 use Rattle.sf_format.specs.declared.directive.Directive.{Directive}
 use Rattle.sf_format.specs.declared.directive.Profile.{Profile}
 use Rattle.sf_format.specs.declared.fault.FormatFault.{FormatFault}
+use Rattle.sf_format.specs.declared.fault.FormatWhy.{FormatWhy}
+use Rattle.sf_format.specs.Language.{Scan}
+use Rattle.sf_format.specs.Faults.{Fault}
+use Rattle.sf_format.specs.Grammar.{IsFormat, MeanAll, Means}
+use Rattle.sf_format.specs.Pieces.{Piece, text_at, text_of}
 use Rattle.sf_messages.specs.declared.fault.CommandFault.{CommandFault}
-use Rattle.sf_messages.specs.declared.fault.CommandFault.TheVariants.{BadEscape, Format, PrintFormat, Record, Memory, Pair}
+use Rattle.sf_messages.specs.declared.fault.CommandFault.TheVariants.{BadEscape, Format, PrintFormat, Record, Pair}
 use Rattle.sf_messages.specs.declared.fault.FormatName.{FormatName}
 use Rattle.sf_messages.specs.declared.fault.FormatName.TheVariants as name
-use Rattle.sf_messages.specs.Notes.{escape_notes, failed_notes, format_notes, pair_notes}
-use Rattle.sf_records.specs.declared.end.ToolFault.TheVariants.{Failed}
+use Rattle.sf_messages.specs.Notes.{escape_notes, failed_notes, format_notes, input_notes, pair_notes}
+use Rattle.sf_places.specs.declared.place.Place.{Place}
+use Rattle.sf_records.specs.declared.end.ToolFault.TheVariants.{Failed, Stalled, Unfit, Read}
+use Rattle.sf_records.specs.Quotes.{quoted}
 use Rattle.sf_run.specs.declared.outcome.Outcome.{Outcome}
 use Rattle.sf_words.specs.declared.order.Verb.{Verb}
 use Rattle.sf_words.specs.declared.order.Verb.TheVariants as verb
 use Rattle.sf_tool.specs.Answers.{Answer}
-use Rattle.sf_tool.specs.Checks.{IsNoScanWord, IsScanWord}
 use Rattle.sf_tool.specs.Escapes.{IsBadEscape, Unescapes}
 use Rattle.sf_tool.specs.Show.{directive_text}
 
@@ -43,22 +49,44 @@ SaysFormat fault word notes =
 abbrev pub shown_at : List Directive → ℕ → List ℕ
 shown_at ds number = option_map_or directive_text (slice_get ds (number - 1)) []
 
--- a record that is no match, by the directives of the format's word and the bytes that the run left
-abbrev pub SaysFailed : Profile → ℕ → Outcome → List ℕ → List ℕ → List ℕ → Type 0
-SaysFailed profile number outcome rest word notes =
-    ((ds : List Directive) × IsScanWord profile word ds × (notes ≡ failed_notes (shown_at ds outcome.at) number outcome rest))
-    ⊎ ((fault : CommandFault) × IsNoScanWord profile word fault × (fault ≢ Memory) × (notes ≡ []))
+-- how it is told: its own text, as it stands in the format, between quotes, and how it is shown
+abbrev pub told_at : List Piece → List Directive → ℕ → List ℕ
+told_at pieces ds number = quoted (unwrap_or (text_at number pieces) []) ++ (codes ", " ++ shown_at ds number)
 
-abbrev pub Explains : Profile → Verb → List (List ℕ) → List ℕ → CommandFault → List ℕ → Type 0
-Explains profile verb texts rest (BadEscape name at) notes = OfWord (λ word said. said ≡ escape_notes word at) (slice_get texts (word_place verb name)) notes
-Explains profile verb texts rest (Format fault) notes = OfWord (SaysFormat fault) (slice_get texts (word_place verb name.Scan)) notes
-Explains profile verb texts rest (PrintFormat fault) notes = OfWord (SaysFormat fault) (slice_get texts (word_place verb name.Print)) notes
-Explains profile verb texts rest (Record (Failed number outcome)) notes =
-    OfWord (SaysFailed profile number outcome rest) (slice_get texts (word_place verb name.Scan)) notes
-Explains profile verb texts rest (Pair fault) notes = notes ≡ pair_notes fault.why
-Explains profile verb texts rest _ notes = notes ≡ []
+-- The bytes are those of these parts of a format, which stand for these directives: the notes of a record that is no match, by
+-- the place where the run stopped, if that is known, and the bytes that the run left.
+pub record TellsFailed (profile : Profile) (number : ℕ) (outcome : Outcome) (place : Option Place) (rest text notes : List ℕ) : Type 0 where
+  pub pieces : List Piece
+  pub ds : List Directive
+  pub format : IsFormat (Scan profile) pieces
+  pub text_is : text ≡ text_of pieces
+  pub mean : MeanAll (Means profile) 1 pieces ds
+  pub notes_are : notes ≡ failed_notes (told_at pieces ds outcome.at) number outcome place rest
+
+-- nothing is said where the bytes are no format
+abbrev pub SaysFailedText : Profile → ℕ → Outcome → Option Place → List ℕ → List ℕ → List ℕ → Type 0
+SaysFailedText profile number outcome place rest text notes =
+    TellsFailed profile number outcome place rest text notes ⊎ ((at : ℕ) × (why : FormatWhy) × Fault profile text at why × (notes ≡ []))
+
+-- the notes of a record that is no match, by the word of its format
+abbrev pub SaysFailed : Profile → ℕ → Outcome → Option Place → List ℕ → List ℕ → List ℕ → Type 0
+SaysFailed profile number outcome place rest word notes =
+    ((text : List ℕ) × Unescapes word text × SaysFailedText profile number outcome place rest text notes)
+    ⊎ ((at : ℕ) × IsBadEscape word at × (notes ≡ []))
+
+abbrev pub Explains : Profile → Verb → List (List ℕ) → Option Place → List ℕ → CommandFault → List ℕ → Type 0
+Explains profile verb texts place rest (BadEscape name at) notes = OfWord (λ word said. said ≡ escape_notes word at) (slice_get texts (word_place verb name)) notes
+Explains profile verb texts place rest (Format fault) notes = OfWord (SaysFormat fault) (slice_get texts (word_place verb name.Scan)) notes
+Explains profile verb texts place rest (PrintFormat fault) notes = OfWord (SaysFormat fault) (slice_get texts (word_place verb name.Print)) notes
+Explains profile verb texts place rest (Record (Failed number outcome)) notes =
+    OfWord (SaysFailed profile number outcome place rest) (slice_get texts (word_place verb name.Scan)) notes
+Explains profile verb texts place rest (Record (Stalled number)) notes = notes ≡ input_notes place
+Explains profile verb texts place rest (Record (Unfit number)) notes = notes ≡ input_notes place
+Explains profile verb texts place rest (Record (Read number)) notes = notes ≡ input_notes place
+Explains profile verb texts place rest (Pair fault) notes = notes ≡ pair_notes fault.why
+Explains profile verb texts place rest _ notes = notes ≡ []
 
 -- nothing more is said where the words don't ask for it, or where memory for it was refused
-abbrev pub SaysMore : Bool → Profile → Verb → List (List ℕ) → List ℕ → Answer → List ℕ → Type 0
-SaysMore true profile verb texts rest (Err fault) notes = Explains profile verb texts rest fault notes ⊎ (notes ≡ [])
-SaysMore _ profile verb texts rest _ notes = notes ≡ []
+abbrev pub SaysMore : Bool → Profile → Verb → List (List ℕ) → Option Place → List ℕ → Answer → List ℕ → Type 0
+SaysMore true profile verb texts place rest (Err fault) notes = Explains profile verb texts place rest fault notes ⊎ (notes ≡ [])
+SaysMore _ profile verb texts place rest _ notes = notes ≡ []

@@ -4,7 +4,7 @@ ghost use Rattle.sf_format.specs.Faults.{Fault, PrintFault};
 ghost use Rattle.sf_read.specs.Ahead.{input_of};
 ghost use Rattle.sf_words.specs.Orders.{HasTexts};
 ghost use Rattle.sf_messages.specs.Faults.{format_fault, print_format_fault};
-ghost use Rattle.sf_tool.specs.Commands.{CarriesOut, ChecksBoth, CopiesBoth, Counts, IsUnwrittenBy, PrintsBy, PrintsWord, ScansBy, ScansWord, ShowsBy, ShowsWord, TellsFault, Unread, grammar_of};
+ghost use Rattle.sf_tool.specs.Commands.{CarriesOut, ChecksBoth, CopiesBoth, Counts, IsUnwrittenBy, PrintsBy, PrintsWord, ScansBy, ScansWord, ShowsBy, ShowsWord, TellsFault, Unread, form_of, grammar_of};
 
 use crate::check::check_words;
 use crate::copy::copy_words;
@@ -15,14 +15,15 @@ use sf_format::{PrintFormat, Profile, ScanFormat};
 use sf_messages::{CommandFault, FormatName, format_fault, print_format_fault};
 use sf_print::Sink;
 use sf_read::{Lookahead, Source};
-use sf_records::{run_scan, write_whole};
-use sf_words::{Order, Profile as GivenProfile, Verb};
+use sf_records::{OutputForm, run_scan_as, write_whole};
+use sf_words::{Order, Output, Profile as GivenProfile, Verb};
 use std::alloc::Global;
 
-/// Scans the records of an input by the format that a text spells, and writes their lines.
+/// Scans the records of an input by the format that a text spells, and writes them in a form.
 fn scan_by<S: Source, K: Sink, const N: usize>(
     alloc: Global,
     profile: Profile,
+    form: OutputForm,
     text: &[u8],
     limit: u32,
     from: &mut Lookahead<S, N>,
@@ -30,7 +31,7 @@ fn scan_by<S: Source, K: Sink, const N: usize>(
 ) -> Result<u8, CommandFault>
     requires { limit ≤ 2147483647 }
     ensures scans { (t : List ℕ) → input_of S.to_come from.old ≡ Some t
-        → ScansBy S.to_come profile limit text.now t from.new (S.failures from.old.source) (S.failures from.new.source) (K.contents out.old) (K.contents out.new) result }
+        → ScansBy S.to_come profile form limit text.now t from.new (S.failures from.old.source) (S.failures from.new.source) (K.contents out.old) (K.contents out.new) result }
     ensures refused { TellsFault (Fault profile text.now) format_fault result }
     ensures unread { IfErr result (λ fault. Unread fault from.old from.new out.old out.new) }
     ensures failures { Counts (K.failures out.old) (K.failures out.new) result }
@@ -39,7 +40,7 @@ fn scan_by<S: Source, K: Sink, const N: usize>(
         Ok(format) => format,
         Err(fault) => return Err(format_fault(fault)),
     };
-    match run_scan(alloc, from, out, &format, limit).fault {
+    match run_scan_as(alloc, from, out, &format, form, limit).fault {
         None => Ok(0),
         Some(fault) => Err(CommandFault::Record(fault)),
     }
@@ -94,16 +95,17 @@ fn print_by<K: Sink>(
 fn scan_word<S: Source, K: Sink, const N: usize>(
     alloc: Global,
     profile: Profile,
+    form: OutputForm,
     word: &str,
     limit: u32,
     from: &mut Lookahead<S, N>,
     out: &mut K,
 ) -> Result<u8, CommandFault>
     requires { limit ≤ 2147483647 }
-    ensures { ScansWord S.to_come S.failures K.contents K.failures profile limit word.now from.old from.new out.old out.new result }
+    ensures { ScansWord S.to_come S.failures K.contents K.failures profile form limit word.now from.old from.new out.old out.new result }
 {
     let text = resolved(alloc, FormatName::Scan, word)?;
-    scan_by(alloc, profile, &text, limit, from, out)
+    scan_by(alloc, profile, form, &text, limit, from, out)
 }
 
 fn show_word<K: Sink>(
@@ -173,24 +175,36 @@ pub(crate) fn grammar_of(profile: GivenProfile) -> Profile
     }
 }
 
-/// Does what an order asks for, by the formats of this grammar.
+/// The form that the words name.
+fn form_of(output: Output) -> OutputForm
+    ensures { result ≡ form_of output }
+{
+    match output {
+        Output::Plain => OutputForm::Plain,
+        Output::Tsv => OutputForm::Tsv,
+        Output::Json => OutputForm::Json,
+    }
+}
+
+/// Does what an order asks for, by the formats of this grammar, with records in this form.
 fn carry_out_by<S: Source, K: Sink, const N: usize>(
     alloc: Global,
     profile: Profile,
+    form: OutputForm,
     order: &Order,
     from: &mut Lookahead<S, N>,
     out: &mut K,
 ) -> Result<u8, CommandFault>
     requires limit { order.now.limit ≤ 2147483647 }
     requires texts { HasTexts order.now.verb (map string_bytes order.now.texts.items) }
-    ensures { CarriesOut S.to_come S.failures K.contents K.failures profile order.now.verb order.now.limit (map string_bytes order.now.texts.items)
+    ensures { CarriesOut S.to_come S.failures K.contents K.failures profile form order.now.verb order.now.limit (map string_bytes order.now.texts.items)
         from.old from.new out.old out.new result }
 {
     let [word, rest @ ..] = order.texts.as_slice() else {
         unreachable!()
     };
     match order.verb {
-        Verb::Scan => scan_word(alloc, profile, word.as_str(), order.limit, from, out),
+        Verb::Scan => scan_word(alloc, profile, form, word.as_str(), order.limit, from, out),
         Verb::Show => show_word(alloc, profile, word.as_str(), out),
         Verb::Print => print_word(alloc, profile, word.as_str(), rest, out),
         Verb::Check => check_both(alloc, profile, word.as_str(), rest, out),
@@ -208,8 +222,9 @@ pub fn carry_out<S: Source, K: Sink, const N: usize>(
 ) -> Result<u8, CommandFault>
     requires limit { order.now.limit ≤ 2147483647 }
     requires texts { HasTexts order.now.verb (map string_bytes order.now.texts.items) }
-    ensures { CarriesOut S.to_come S.failures K.contents K.failures (grammar_of order.now.profile) order.now.verb order.now.limit (map string_bytes order.now.texts.items)
+    ensures { CarriesOut S.to_come S.failures K.contents K.failures (grammar_of order.now.profile) (form_of order.now.output) order.now.verb order.now.limit (map string_bytes order.now.texts.items)
         from.old from.new out.old out.new result }
 {
-    carry_out_by(alloc, grammar_of(order.profile), order, from, out)
+    let form = form_of(order.output);
+    carry_out_by(alloc, grammar_of(order.profile), form, order, from, out)
 }

@@ -1,19 +1,31 @@
 //! What is said behind the line of a fault, where the words ask for more.
-ghost use Rattle.std.specs.Prelude.{◌≡◌, IfOk, map, option_map, slice_get, string_bytes};
+ghost use Rattle.std.specs.Prelude.{◌≡◌, ℕ, List, IfOk, map, option_map, slice_get, string_bytes};
+ghost use Rattle.sf_format.specs.Language.{Scan};
+ghost use Rattle.sf_format.specs.Grammar.{IsFormat};
+ghost use Rattle.sf_format.specs.Pieces.{Piece, text_of};
 ghost use Rattle.sf_messages.specs.Notes.{escape_notes};
 ghost use Rattle.sf_tool.specs.Commands.{grammar_of};
-ghost use Rattle.sf_tool.specs.Explains.{Explains, OfWord, SaysFailed, SaysFormat, SaysMore, shown_at, word_place};
+ghost use Rattle.sf_tool.specs.Explains.{Explains, OfWord, SaysFailed, SaysFailedText, SaysFormat, SaysMore, shown_at, told_at, word_place};
 
 use crate::command::grammar_of;
 use crate::escape::{EscapeFault, unescape};
-use crate::formats::read_scan;
 use crate::show::push_directive;
-use sf_format::{FormatFault, Profile, ScanFormat};
-use sf_messages::{CommandFault, FormatName, escape_notes, failed_notes, format_notes, pair_notes};
-use sf_records::ToolFault;
+use sf_format::{FormatFault, FormatWhy, Profile, ScanFormat, directive_text};
+use sf_messages::{
+    CommandFault, FormatName, escape_notes, failed_notes, format_notes, input_notes, pair_notes,
+};
+use sf_places::Place;
+use sf_records::{ToolFault, push_quoted};
 use sf_run::Outcome;
 use sf_words::{Order, Verb};
 use std::alloc::{AllocError, Global};
+
+/// What a run left: where in the input it stopped, if that is known, and the bytes that were read and not used.
+#[derive(Clone, Copy)]
+pub(crate) struct Left<'b> {
+    pub(crate) place: Option<Place>,
+    pub(crate) held: &'b [u8],
+}
 
 /// The place of a format among the texts of an order.
 fn word_place(verb: Verb, name: FormatName) -> usize
@@ -79,24 +91,62 @@ fn shown_at(alloc: Global, format: &ScanFormat, number: u16) -> Result<Vec<u8>, 
     Ok(shown)
 }
 
-/// What is said of a record that is no match, by the word of its format and the bytes that the run left.
+/// How a directive is told: its text as it stands in the format, and how it is shown.
+fn told_at(
+    alloc: Global,
+    profile: Profile,
+    text: &[u8],
+    format: &ScanFormat,
+    number: u16,
+) -> Result<Vec<u8>, AllocError>
+    ensures { IfOk result (λ told. (pieces : List Piece) → IsFormat (Scan profile) pieces → text.now ≡ text_of pieces → told.items ≡ told_at pieces format.now number) }
+{
+    let mut told = Vec::new(alloc);
+    let own = directive_text(profile, text, number).unwrap_or(&[]);
+    push_quoted(&mut told, own)?;
+    told.extend_from_slice(b", ")?;
+    told.extend_from_slice(&shown_at(alloc, format, number)?)?;
+    Ok(told)
+}
+
+/// What is said of a record that is no match, by the bytes of its format and what the run left.
+fn of_failed_text(
+    alloc: Global,
+    profile: Profile,
+    text: &[u8],
+    number: u32,
+    outcome: Outcome,
+    left: Left<'_>,
+) -> Result<Vec<u8>, AllocError>
+    ensures { IfOk result (λ notes. SaysFailedText profile number outcome left.entry.place left.entry.held.now text.now notes.items) }
+{
+    match ScanFormat::parse(alloc, profile, text) {
+        Ok(format) => {
+            let told = told_at(alloc, profile, text, &format, outcome.at)?;
+            failed_notes(alloc, &told, number, outcome, left.place, left.held)
+        }
+        Err(fault) => match fault.why {
+            FormatWhy::NoMemory => Err(AllocError),
+            _ => Ok(Vec::new(alloc)),
+        },
+    }
+}
+
+/// What is said of a record that is no match, by the word of its format.
 fn of_failed_word(
     alloc: Global,
     profile: Profile,
     word: &str,
     number: u32,
     outcome: Outcome,
-    rest: &[u8],
+    left: Left<'_>,
 ) -> Result<Vec<u8>, AllocError>
-    ensures { IfOk result (λ notes. SaysFailed profile number outcome rest.now word.now notes.items) }
+    ensures { IfOk result (λ notes. SaysFailed profile number outcome left.entry.place left.entry.held.now word.now notes.items) }
 {
-    match read_scan(alloc, profile, word) {
-        Ok(format) => {
-            let shown = shown_at(alloc, &format, outcome.at)?;
-            failed_notes(alloc, &shown, number, outcome, rest)
-        }
-        Err(CommandFault::Memory) => Err(AllocError),
-        Err(_) => Ok(Vec::new(alloc)),
+    match unescape(alloc, word.as_bytes()) {
+        Ok(text) => of_failed_text(alloc, profile, &text, number, outcome, left),
+        Err(EscapeFault::Bad { .. }) => Ok(Vec::new(alloc)),
+        Err(EscapeFault::Memory) => Err(AllocError),
     }
 }
 
@@ -106,25 +156,25 @@ fn of_failed(
     word: Option<&str>,
     number: u32,
     outcome: Outcome,
-    rest: &[u8],
+    left: Left<'_>,
 ) -> Result<Vec<u8>, AllocError>
-    ensures { IfOk result (λ notes. OfWord (SaysFailed profile number outcome rest.now) (option_map (λ given. given.now) word.entry) notes.items) }
+    ensures { IfOk result (λ notes. OfWord (SaysFailed profile number outcome left.entry.place left.entry.held.now) (option_map (λ given. given.now) word.entry) notes.items) }
 {
     match word {
-        Some(word) => of_failed_word(alloc, profile, word, number, outcome, rest),
+        Some(word) => of_failed_word(alloc, profile, word, number, outcome, left),
         None => Ok(Vec::new(alloc)),
     }
 }
 
-/// What is said of the fault of an order, by the bytes that were read and not used.
+/// What is said of the fault of an order, by what the run left.
 fn of_fault(
     alloc: Global,
     profile: Profile,
     order: &Order,
-    rest: &[u8],
+    left: Left<'_>,
     fault: CommandFault,
 ) -> Result<Vec<u8>, AllocError>
-    ensures { IfOk result (λ notes. Explains profile order.now.verb (map string_bytes order.now.texts.items) rest.now fault notes.items) }
+    ensures { IfOk result (λ notes. Explains profile order.now.verb (map string_bytes order.now.texts.items) left.entry.place left.entry.held.now fault notes.items) }
 {
     match fault {
         CommandFault::BadEscape { name, at } => of_escape(alloc, word_of(order, name), at),
@@ -134,22 +184,24 @@ fn of_fault(
         }
         CommandFault::Record(ToolFault::Failed { number, outcome }) => {
             let word = word_of(order, FormatName::Scan);
-            of_failed(alloc, profile, word, number, outcome, rest)
+            of_failed(alloc, profile, word, number, outcome, left)
         }
+        CommandFault::Record(
+            ToolFault::Stalled { .. } | ToolFault::Unfit { .. } | ToolFault::Read { .. },
+        ) => input_notes(alloc, left.place),
         CommandFault::Pair(fault) => pair_notes(alloc, fault.why),
         _ => Ok(Vec::new(alloc)),
     }
 }
 
-/// What is said behind the line of an answer, where the order asks for it and memory is there, by the bytes that were read and
-/// not used.
+/// What is said behind the line of an answer, where the order asks for it and memory is there, by what the run left.
 pub(crate) fn notes_of(
     alloc: Global,
     order: &Order,
-    rest: &[u8],
+    left: Left<'_>,
     answer: Result<u8, CommandFault>,
 ) -> Vec<u8>
-    ensures { SaysMore order.now.explain (grammar_of order.now.profile) order.now.verb (map string_bytes order.now.texts.items) rest.now answer result.items }
+    ensures { SaysMore order.now.explain (grammar_of order.now.profile) order.now.verb (map string_bytes order.now.texts.items) left.entry.place left.entry.held.now answer result.items }
 {
     let Err(fault) = answer else {
         return Vec::new(alloc);
@@ -157,7 +209,7 @@ pub(crate) fn notes_of(
     if !order.explain {
         return Vec::new(alloc);
     }
-    match of_fault(alloc, grammar_of(order.profile), order, rest, fault) {
+    match of_fault(alloc, grammar_of(order.profile), order, left, fault) {
         Ok(notes) => notes,
         Err(_) => Vec::new(alloc),
     }

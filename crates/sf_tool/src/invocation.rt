@@ -1,18 +1,17 @@
 //! One run of the command, from its words to its exit status.
-ghost use Rattle.std.specs.Prelude.{◌++◌, map, string_bytes};
-ghost use Rattle.sf_tool.specs.Exits.{Declines, Ends, Exits, Helps, Says};
+ghost use Rattle.std.specs.Prelude.{◌≡◌, ◌++◌, None, map, string_bytes};
+ghost use Rattle.sf_tool.specs.Exits.{Declines, Ends, Exits, ExitsOn, Helps, Says};
 
 use crate::command::carry_out;
-use crate::explain::notes_of;
+use crate::explain::{Left, notes_of};
 use sf_messages::{CommandFault, error_line};
+use sf_places::{BLOCK_BYTES, Input, Placed};
 use sf_print::Sink;
 use sf_read::{Lookahead, Source};
 use sf_records::write_whole;
 use sf_words::{WordsFault, read_words};
 use std::alloc::Global;
-
-/// How many bytes of the input are read at once.
-const BLOCK_BYTES: usize = 4096;
+use std::marker::Brand;
 
 /// Hands the error output a text. A fault of it is ignored.
 fn say<E: Sink>(err: &mut E, text: &[u8])
@@ -77,7 +76,8 @@ fn decline<K: Sink, E: Sink>(fault: &WordsFault, out: &mut K, err: &mut E) -> u8
 
 /// Runs the command of the words, which are those after the program's name, on what the lookahead holds and its source
 /// gives, and answers its exit status. Where it does not end cleanly, it says why in one line on `err`, with more lines behind
-/// it where the words ask for them; a fault in writing these is ignored. What is written to `out` isn't flushed.
+/// it where the words ask for them; a fault in writing these is ignored. The place in the input isn't told, as what was used
+/// of it before isn't known. What is written to `out` isn't flushed.
 pub fn run_words<S: Source, K: Sink, E: Sink, const N: usize>(
     alloc: Global,
     words: &[String],
@@ -85,17 +85,64 @@ pub fn run_words<S: Source, K: Sink, E: Sink, const N: usize>(
     out: &mut K,
     err: &mut E,
 ) -> u8
-    ensures { Exits S.to_come S.failures K.contents K.failures E.contents E.failures (map string_bytes words.now)
+    ensures { Exits S.to_come S.failures K.contents K.failures E.contents E.failures (map string_bytes words.now) None
         from.old from.new out.old out.new err.old err.new result }
 {
     match read_words(alloc, words) {
         Ok(order) => {
             let answer = carry_out(alloc, &order, from, out);
-            let notes = notes_of(alloc, &order, from.held(), answer);
+            let left = Left {
+                place: None,
+                held: from.held(),
+            };
+            let notes = notes_of(alloc, &order, left, answer);
             end(err, answer, &notes)
         }
         Err(fault) => decline(&fault, out, err),
     }
+}
+
+/// Runs the command of the words on what a source gives, with an account of its lines, so that the place in the input can be
+/// told.
+fn run_placed<S: Source, K: Sink, E: Sink, I: Input>(
+    alloc: Global,
+    words: &[String],
+    from: S,
+    out: &mut K,
+    err: &mut E,
+) -> u8
+    requires { I.input ≡ S.to_come from }
+    ensures { ExitsOn S.to_come S.failures K.contents K.failures E.contents E.failures (map string_bytes words.now)
+        from out.old out.new err.old err.new result }
+{
+    let mut source = from;
+    let mut ahead = Lookahead::<Placed<&mut S, I>, BLOCK_BYTES>::new(Placed::new(&mut source));
+    match read_words(alloc, words) {
+        Ok(order) => {
+            let answer = carry_out(alloc, &order, &mut ahead, out);
+            let held = ahead.held();
+            let place = ahead.source().place_before(held);
+            let notes = notes_of(alloc, &order, Left { place, held }, answer);
+            end(err, answer, &notes)
+        }
+        Err(fault) => decline(&fault, out, err),
+    }
+}
+
+/// Runs the command of the words on what a source gives, block by block.
+fn run_unplaced<S: Source, K: Sink, E: Sink>(
+    alloc: Global,
+    words: &[String],
+    from: S,
+    out: &mut K,
+    err: &mut E,
+) -> u8
+    ensures { ExitsOn S.to_come S.failures K.contents K.failures E.contents E.failures (map string_bytes words.now)
+        from out.old out.new err.old err.new result }
+{
+    let mut source = from;
+    let mut ahead = Lookahead::<&mut S, BLOCK_BYTES>::new(&mut source);
+    run_words(alloc, words, &mut ahead, out, err)
 }
 
 /// Runs the command of the words, which are those after the program's name, on what the source gives, and answers its exit
@@ -110,8 +157,14 @@ pub fn tool<S: Source, K: Sink, E: Sink>(
     from: S,
     out: &mut K,
     err: &mut E,
-) -> u8 {
-    let mut source = from;
-    let mut ahead = Lookahead::<&mut S, BLOCK_BYTES>::new(&mut source);
-    run_words(alloc, words, &mut ahead, out, err)
+) -> u8
+    ensures { ExitsOn S.to_come S.failures K.contents K.failures E.contents E.failures (map string_bytes words.now)
+        from out.old out.new err.old err.new result }
+{
+    // an account of the lines is kept only where it may be asked for
+    if words.iter().any(|word| word.as_str() == "--explain") {
+        run_placed::<S, K, E, Brand>(alloc, words, from, out, err)
+    } else {
+        run_unplaced(alloc, words, from, out, err)
+    }
 }

@@ -8,6 +8,8 @@ mod loops;
 #[cfg(test)]
 mod memory;
 #[cfg(test)]
+mod places;
+#[cfg(test)]
 mod prints;
 #[cfg(test)]
 mod profiles;

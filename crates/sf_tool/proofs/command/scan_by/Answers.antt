@@ -10,7 +10,7 @@ use Rattle.sf_tool.proofs.command.scan_by.Goals as goal
 pub returns-in-Err-clause-scans : goal.returns-in-Err-clause-scans
 returns-in-Err-clause-scans g c t e =
     let refused : IsRefused c.args.profile c.args.text.now c.in-Err.fault = c.in-Err.ensures.refused in
-    rw c.format_fault.ensures (refused_scans c.args.profile g.S.Source.to_come c.args.limit c.args.text.now t c.args.from.now (g.S.Source.failures c.args.from.now.source) (g.K.Sink.contents c.args.out.now) c.in-Err.fault refused)
+    rw c.format_fault.ensures (refused_scans c.args.profile g.S.Source.to_come c.args.form c.args.limit c.args.text.now t c.args.from.now (g.S.Source.failures c.args.from.now.source) (g.K.Sink.contents c.args.out.now) c.in-Err.fault refused)
 
 pub returns-in-Err-clause-refused : goal.returns-in-Err-clause-refused
 returns-in-Err-clause-refused g c at why faulty =
@@ -25,12 +25,12 @@ returns-in-Err-clause-failures g c = rw c.format_fault.ensures (counts_is c.in-E
 pub returns-in-None-clause-scans : goal.returns-in-None-clause-scans
 returns-in-None-clause-scans g c t e =
     let spelled : Spells c.args.profile c.args.text.now c.in-Ok.format = c.in-Ok.ensures.spelled in
-    (c.in-Ok.format, spelled, (c.run_scan.result, c.run_scan.ensures.loops t e, ap answer_by (sym c.in-None.is)))
+    (c.in-Ok.format, spelled, (c.run_scan_as.result, c.run_scan_as.ensures.loops t e, ap answer_by (sym c.in-None.is)))
 
 pub returns-clause-scans : goal.returns-clause-scans
 returns-clause-scans g c t e =
     let spelled : Spells c.args.profile c.args.text.now c.in-Ok.format = c.in-Ok.ensures.spelled in
-    (c.in-Ok.format, spelled, (c.run_scan.result, c.run_scan.ensures.loops t e, ap answer_by (sym c.in-Some.is)))
+    (c.in-Ok.format, spelled, (c.run_scan_as.result, c.run_scan_as.ensures.loops t e, ap answer_by (sym c.in-Some.is)))
 
 pub returns-in-None-clause-refused : goal.returns-in-None-clause-refused
 returns-in-None-clause-refused g c at why faulty =

@@ -1,0 +1,93 @@
+//! A source that knows where in its input it is.
+ghost use Rattle.std.specs.Prelude.{◌≡◌, ◌≤◌, ◌++◌, ◌↔◌, [], ℕ, List, Option, Some, IfSome, IsSome, length};
+ghost use Rattle.sf_places.specs.Behind.{IsBehind};
+
+use crate::Place;
+use arrayvec::ArrayVec;
+use sf_read::{Source, SourceFault};
+use std::marker::{Brand, Model, PhantomData};
+
+/// The most bytes that one read gives.
+pub const BLOCK_BYTES: usize = 4096;
+
+/// The whole input of a source, where it tells that. A call picks it.
+pub trait Input {
+    ghost input: { Option (List ℕ) };
+}
+
+impl Input for Brand {
+    ghost use Rattle.std.specs.Prelude.{None};
+
+    ghost input = { None };
+}
+
+/// A source with an account of the lines that it has given. It keeps the bytes of the last read, and gives at most
+/// `BLOCK_BYTES` at once.
+#[derive(Drop)]
+pub struct Placed<S: Source, I: Input> {
+    source: S,
+    last: ArrayVec<u8, BLOCK_BYTES>,
+    place: Place,
+    of: PhantomData<I>,
+}
+
+impl<S: Source, I: Input> Model for Placed<S, I> {
+    ghost use Rattle.sf_places.specs.Accounts.{Account, IsKept, account_code};
+
+    ghost Value = { Account S };
+
+    ghost coded = { account_code S.code };
+
+    ghost view = { λ p. record { source = p.source; last = p.last.items; place = p.place } };
+
+    ghost invariant = { λ p. IsKept I.input (S.to_come p.source) p.last.items p.place };
+}
+
+impl<S: Source, I: Input> Placed<S, I> {
+    /// Has given nothing yet.
+    pub fn new(source: S) -> Self
+        requires { I.input ≡ S.to_come source }
+        ensures { result.source ≡ source }
+    {
+        Placed {
+            source,
+            last: ArrayVec::new(),
+            place: Place::first(),
+            of: PhantomData,
+        }
+    }
+
+    /// The place before the bytes that it gave last. None where they are more than those of the last read.
+    pub fn place_before(&self, held: &[u8]) -> Option<Place>
+        ensures known { IsSome result ↔ (length held.now ≤ length self.now.last) }
+        ensures behind { IfSome result (λ place. (c z : List ℕ) → I.input ≡ Some (c ++ (held.now ++ z)) → S.to_come self.now.source ≡ Some z → IsBehind c place) }
+    {
+        let count = self.last.len().checked_sub(held.len())?;
+        Some(self.place.behind(&self.last[..count]))
+    }
+
+    /// Moves the place behind the bytes of the last read.
+    fn pass(&mut self)
+        ensures last { self.new.last ≡ [] }
+        ensures source { self.new.source ≡ self.old.source }
+    {
+        self.place = self.place.behind(&self.last);
+        self.last.clear();
+    }
+}
+
+impl<S: Source, I: Input> Source for Placed<S, I> {
+    ghost to_come = { λ p. S.to_come p.source };
+
+    ghost reads = { λ p. S.reads p.source };
+
+    ghost failures = { λ p. S.failures p.source };
+
+    fn read(&mut self, buf: &mut [u8]) -> Result<usize, SourceFault> {
+        self.pass();
+        let room = buf.len().min(BLOCK_BYTES);
+        let count = self.source.read(&mut buf[..room])?;
+        let _ = self.last.try_extend_from_slice(&buf[..count]);
+        Ok(count)
+    }
+}
