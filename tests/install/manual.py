@@ -34,12 +34,16 @@ def tags(lines):
 
 
 def synopsis():
-    """What the synopsis says of each command: its options, and its arguments in their order."""
+    """What the synopsis says of each command: its options, and its arguments in their order, each form of a command alike."""
     told = {}
     for piece in "\n".join(sections()["SYNOPSIS"]).split("\n.br\n"):
-        words = re.findall(r"[\w-]+", " ".join(plain(line) for line in piece.split("\n")))
-        options = {it for it in words if it.startswith("-")}
-        told[words[1]] = options, tuple(it for it in words[2:] if it.isupper() and len(it) > 1)
+        text = " ".join(plain(line) for line in piece.split("\n"))
+        words = re.findall(r"[\w-]+", text)
+        # (the name of an option's value is no argument)
+        arguments = tuple(re.findall(r"\b[A-Z]{2,}\b", re.sub(r"\[ ?-[^]]*\]", "", text)))
+        options, known = told.setdefault(words[1], (set(), arguments))
+        options.update(it for it in words if it.startswith("-"))
+        assert arguments == known, text
     return told
 
 
