@@ -9,7 +9,7 @@ use Rattle.sf_base.specs.Sets.{has_byte}
 use Rattle.sf_format.specs.Language.{Language}
 use Rattle.sf_format.specs.declared.fault.FormatWhy.{FormatWhy}
 use Rattle.sf_format.specs.declared.fault.FormatWhy.TheVariants.{NumberTwice, NumberGap}
-use Rattle.sf_format.specs.declared.numbering.Noted.{Noted}
+use Rattle.sf_format.specs.declared.noted.Noted.{Noted}
 use Rattle.sf_format.specs.declared.slots.Slots.{Slots}
 use Rattle.sf_format.specs.Lists.{is_written}
 use Rattle.sf_format.specs.Pieces.{Opening, Piece, WhiteSpace, Ordinary, Percents, Plain, Bracket, Printed, piece_text, text_of}

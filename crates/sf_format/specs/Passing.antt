@@ -16,15 +16,15 @@ use Rattle.sf_format.specs.declared.letter.Letter.{Letter}
 use Rattle.sf_format.specs.declared.letter.Letter.TheVariants.{Set}
 use Rattle.sf_format.specs.declared.opening.Written.{Written}
 use Rattle.sf_format.specs.declared.slots.Slots.{Slots}
-use Rattle.sf_format.specs.declared.scanlist.Listed.{Listed}
-use Rattle.sf_format.specs.declared.shaping.Shaped.{Shaped}
+use Rattle.sf_format.specs.declared.scan.scanlist.Listed.{Listed}
+use Rattle.sf_format.specs.declared.scan.conversion.Shaped.{Shaped}
 use Rattle.sf_format.specs.Language.{Language}
 use Rattle.sf_format.specs.declared.unit.PrintLetter.{PrintLetter}
 use Rattle.sf_format.specs.declared.unit.Unit.{Unit as PrintUnit}
 use Rattle.sf_format.specs.declared.unit.Unit.TheVariants as unit
-use Rattle.sf_format.specs.declared.print_opening.PrintWritten.{PrintWritten}
+use Rattle.sf_format.specs.declared.print.opening.PrintWritten.{PrintWritten}
 use Rattle.sf_format.specs.declared.grammar.Passed.{Passed}
-use Rattle.sf_format.specs.declared.numbering.Noted.{Noted}
+use Rattle.sf_format.specs.declared.noted.Noted.{Noted}
 use Rattle.sf_format.specs.Lists.{is_written, mark_at}
 use Rattle.sf_format.specs.Letters.{letter_of, kind_of}
 use Rattle.sf_format.specs.Scanlist.{IsSetOf}

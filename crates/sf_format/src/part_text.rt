@@ -10,8 +10,8 @@ ghost use Rattle.sf_format.specs.Reading.{read};
 
 use crate::directive::Profile;
 use crate::grammar::{Grammar, pass};
-use crate::judging::judge;
-use crate::passing::ScanGrammar;
+use crate::judgement::judge;
+use crate::scan::grammar::ScanGrammar;
 use crate::slots::no_slots;
 
 /// The text of the part with the number, counted from 1, of a text without a fault in its parts.

@@ -7,11 +7,15 @@ ghost use Rattle.sf_format.specs.Units.{AreAccepted, AreProperUnits, values_of};
 ghost use Rattle.sf_format.specs.Grammar.{SpellsPrint};
 ghost use Rattle.sf_format.specs.Faults.{PrintFault, IsPrintRefused, no_memory};
 
+pub mod grammar;
+mod letter;
+mod opening;
+
 use crate::directive::Profile;
 use crate::fault::FormatFault;
 use crate::grammar::gather;
-use crate::judging::judge;
-use crate::print_passing::PrintGrammar;
+use crate::judgement::judge;
+use crate::print::grammar::PrintGrammar;
 use crate::unit::Unit;
 use sf_base::Kind;
 use std::alloc::Global;

@@ -8,11 +8,15 @@ ghost use Rattle.sf_format.specs.Widths.{width_sum, stored_width};
 ghost use Rattle.sf_format.specs.Grammar.{Spells};
 ghost use Rattle.sf_format.specs.Faults.{Fault, IsRefused, no_memory};
 
+mod conversion;
+pub mod grammar;
+mod scanlist;
+
 use crate::directive::{Directive, Profile, Shape};
 use crate::fault::FormatFault;
 use crate::grammar::gather;
-use crate::judging::judge;
-use crate::passing::ScanGrammar;
+use crate::judgement::judge;
+use crate::scan::grammar::ScanGrammar;
 use sf_base::Kind;
 use std::alloc::Global;
 use std::marker::Model;

@@ -1,0 +1,49 @@
+use Rattle.std.proofs.Common.{sym, ◌∙◌, arith}
+use Rattle.sf_format.specs.Grammar.{destinations}
+use Rattle.sf_format.proofs.Outcomes.{not_false, not_true}
+use Rattle.sf_format.proofs.Walks.{bytes_of, some_left, none_left, passes_on, passing_fault, rest_shorter}
+use Rattle.sf_format.proofs.Notings.{unnumbered_none, noting_none, noting_more, noting_all}
+use Rattle.sf_format.proofs.noted.number_fault.Goals as goal
+
+pub returns-then-not-slots : goal.returns-then-not-slots
+returns-then-not-slots g c = λ pieces e. unnumbered_none (g.G.Grammar.language c.args.grammar) c.args.text.now c.args.slots pieces (not_true _ c.if-not-slots.true) c.requires.walked e
+
+pub loop-rest-init : goal.loop-rest-init
+loop-rest-init g c =
+    noting_none (g.G.Grammar.language c.args.grammar) c.args.text.now c.no_slots-earlier.result c.args.slots.count c.nothing_noted-noted.result
+    (bytes_of c.args.text.now (λ i. omega (arith, c.type_inv.text i))) c.no_slots-earlier.ensures
+    (c.nothing_noted-noted.ensures c.args.slots.count)
+
+pub unreachable-requires : goal.unreachable-requires
+unreachable-requires g c =
+    let h = c.loop-rest.invariant.passing in
+    let e = sym c.requires.walked.1 ∙ passing_fault c.in_default.field-0 h (c.in_default.ensures (destinations h.done) h.holds) in
+    cc
+
+pub overflow_sub-at : goal.overflow_sub-at
+overflow_sub-at g c =
+    let h = c.loop-rest.invariant.passing in
+    let some = some_left c.loop-rest.rest.now c.is_empty.result c.is_empty.ensures c.loop-rest-test.true in
+    (rest_shorter c.in-Ok.passed.rest.now c.in-Ok.passed.slots h some (passes_on (c.in-Ok.ensures (destinations h.done) h.holds))).1
+
+pub loop-rest-smaller : goal.loop-rest-smaller
+loop-rest-smaller g c =
+    let h = c.loop-rest.invariant.passing in
+    let some = some_left c.loop-rest.rest.now c.is_empty.result c.is_empty.ensures c.loop-rest-test.true in
+    (rest_shorter c.in-Ok.passed.rest.now c.in-Ok.passed.slots h some (passes_on (c.in-Ok.ensures (destinations h.done) h.holds))).0
+
+pub loop-rest-preserved : goal.loop-rest-preserved
+loop-rest-preserved g c =
+    let h = c.loop-rest.invariant in
+    let some = some_left c.loop-rest.rest.now c.is_empty.result c.is_empty.ensures c.loop-rest-test.true in
+    let passes = c.in-Ok.ensures (destinations h.passing.done) h.passing.holds in
+    noting_more c.note.new.noted c.in-Ok.passed.rest.now c.in-Ok.passed.slots c.slot.result h some (passes_on passes)
+    (c.slot.ensures _ _ passes.2) (c.note.ensures h.ns h.notes)
+
+pub returns : goal.returns
+returns g c =
+    λ pieces e.
+    let h = c.loop-rest.invariant in
+    c.noted_fault.ensures c.args.slots.count h.ns h.notes
+    ∙ noting_all c.args.slots pieces h (none_left c.loop-rest.rest.now c.is_empty.result c.is_empty.ensures c.loop-rest-test.false)
+    (not_false _ c.if-not-slots.false) c.requires.walked e

@@ -1,0 +1,15 @@
+use Rattle.std.proofs.Common.{sym, ◌∙◌}
+use Rattle.sf_format.specs.Passing.{print_opening_of}
+use Rattle.sf_format.proofs.PrintSuits.{some_print_letter, some_print_kind}
+use Rattle.sf_format.proofs.print.letter.print_converted.Goals as goal
+
+pub unreachable-requires : goal.unreachable-requires
+unreachable-requires c =
+    some_print_letter c.args.profile (print_opening_of c.args.written.now) c.args.letter c.args.at (sym c.in_default.ensures)
+    (sym c.print_letter_of.ensures ∙ c.in_default-print_letter_of.is)
+
+pub unreachable-requires-in_default-printed_kind : goal.unreachable-requires-in_default-printed_kind
+unreachable-requires-in_default-printed_kind c =
+    some_print_kind c.args.profile (print_opening_of c.args.written.now) c.args.letter c.args.at c.in-Some-print_letter_of.found
+    (sym c.in_default.ensures) (sym c.print_letter_of.ensures ∙ c.in-Some-print_letter_of.is)
+    (sym c.printed_kind.ensures ∙ c.in_default-printed_kind.is)

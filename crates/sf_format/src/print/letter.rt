@@ -1,0 +1,206 @@
+//! Letters of print formats, and what they convert.
+ghost use Rattle.std.specs.Prelude.{◌≡◌, ◌≤◌, ◌+◌, ℕ, true, length, Some};
+ghost use Rattle.std.specs.List.{AllByRecursion};
+ghost use Rattle.sf_base.specs.Bytes.{magnitude};
+ghost use Rattle.std.specs.Option.{option_map};
+ghost use Rattle.sf_format.specs.Digits.{is_decimal, optional_number};
+ghost use Rattle.sf_format.specs.Units.{has_flag};
+ghost use Rattle.sf_format.specs.PrintLetters.{print_letter_of, print_kind_of};
+ghost use Rattle.sf_format.specs.PrintGrammar.{is_set_flag, or_place, IsPrintConv};
+ghost use Rattle.sf_format.specs.Rules.{first_of};
+ghost use Rattle.sf_format.specs.PrintRules.{is_print_left_out, print_letter_rules, flag_rules, foreign_flag, precision_number};
+ghost use Rattle.sf_format.specs.Passing.{print_opening_of, fault_in, ConvertsPrint};
+
+use crate::directive::Profile;
+use crate::fault::{FormatFault, FormatWhy};
+use crate::letter::{Length, of_text, signed_kind, unsigned_kind};
+use crate::opening::capped;
+use crate::print::opening::PrintWritten;
+use crate::rule_table::{fault_by, rule};
+use crate::unit::{PrintConv, PrintLetter};
+use sf_base::Kind;
+
+/// What the byte prints as a letter.
+pub fn print_letter_of(profile: Profile, b: u8) -> Option<PrintLetter>
+    ensures { result ≡ print_letter_of profile b }
+{
+    match b {
+        b'd' | b'i' => Some(PrintLetter::Signed),
+        b'u' => Some(PrintLetter::Unsigned),
+        b'o' => Some(PrintLetter::Octal),
+        b'x' => Some(PrintLetter::HexLower),
+        b'X' => Some(PrintLetter::HexUpper),
+        b's' => Some(PrintLetter::Text),
+        b'c' => Some(PrintLetter::One),
+        b'b' => match profile {
+            Profile::One => None,
+            Profile::Two => Some(PrintLetter::Binary),
+        },
+        _ => None,
+    }
+}
+
+/// Whether the byte is a letter, a length or a mark that C or POSIX has and print formats here do not.
+fn print_left_out(b: u8) -> bool
+    ensures { result ≡ is_print_left_out b }
+{
+    matches!(
+        b,
+        b'*' | b'\''
+            | b'n'
+            | b'L'
+            | b'a'
+            | b'A'
+            | b'e'
+            | b'E'
+            | b'f'
+            | b'F'
+            | b'g'
+            | b'G'
+            | b'p'
+            | b'C'
+            | b'S'
+    )
+}
+
+/// The kind of a value by the letter and its length, if the letter has that length.
+fn printed_kind(letter: PrintLetter, size: Length) -> Option<Kind>
+    ensures { result ≡ print_kind_of letter size }
+{
+    match letter {
+        PrintLetter::Signed => Some(signed_kind(size)),
+        PrintLetter::Unsigned
+        | PrintLetter::Octal
+        | PrintLetter::HexLower
+        | PrintLetter::HexUpper
+        | PrintLetter::Binary => Some(unsigned_kind(size)),
+        PrintLetter::Text | PrintLetter::One => match size {
+            Length::NoLength => Some(Kind::Text),
+            _ => None,
+        },
+    }
+}
+
+/// The first fault of the letter at the place.
+fn print_letter_fault(
+    profile: Profile,
+    written: &PrintWritten,
+    letter: u8,
+    at: u16,
+) -> Option<FormatFault>
+    ensures { fault_in result ≡ first_of (print_letter_rules profile (print_opening_of written.now) letter at) }
+{
+    let is_known = print_letter_of(profile, letter).is_some();
+    let is_text = of_text(letter);
+    let has_length = written.size.is_written();
+    fault_by(&[
+        rule(FormatWhy::Nul, at, letter == 0),
+        rule(FormatWhy::LeftOut, at, print_left_out(letter)),
+        rule(FormatWhy::UnknownLetter, at, !is_known),
+        rule(FormatWhy::LeftOut, at, is_text && written.size.is_l()),
+        rule(FormatWhy::BadLength, at, is_text && has_length),
+    ])
+}
+
+/// What the letter at the place prints, and its kind.
+pub fn print_converted(
+    profile: Profile,
+    written: &PrintWritten,
+    letter: u8,
+    at: u16,
+) -> Result<(PrintLetter, Kind), FormatFault>
+    ensures { ConvertsPrint profile (print_opening_of written.now) letter (print_letter_rules profile (print_opening_of written.now) letter at) result }
+{
+    if let Some(fault) = print_letter_fault(profile, written, letter, at) {
+        return Err(fault);
+    }
+    let Some(found) = print_letter_of(profile, letter) else {
+        unreachable!()
+    };
+    let Some(kind) = printed_kind(found, written.size) else {
+        unreachable!()
+    };
+    Ok((found, kind))
+}
+
+/// Whether the letter has the flag.
+fn has_flag(letter: PrintLetter, flag: u8) -> bool
+    ensures { result ≡ has_flag letter flag }
+{
+    match letter {
+        PrintLetter::Signed => matches!(flag, b'-' | b'+' | b' ' | b'0'),
+        PrintLetter::Unsigned => matches!(flag, b'-' | b'0'),
+        PrintLetter::Octal | PrintLetter::HexLower | PrintLetter::HexUpper | PrintLetter::Binary =>
+            matches!(flag, b'-' | b'#' | b'0'),
+        PrintLetter::Text | PrintLetter::One => flag == b'-',
+    }
+}
+
+/// The place of the first flag that the letter does not have, where the flags begin at a place.
+fn foreign_flag(letter: PrintLetter, from: u16, flags: &[u8]) -> Option<u16>
+    requires { from + length flags.now ≤ 65535 }
+    ensures { result ≡ foreign_flag letter from flags.now }
+{
+    for (i, b) in flags.iter().enumerate() {
+        if !has_flag(letter, *b) {
+            return Some(from + i as u16);
+        }
+    }
+    None
+}
+
+/// The first fault of what stands before the letter, behind the `%` at the place, as far as the letter does not have it.
+pub fn flag_fault(percent: u16, written: &PrintWritten, letter: PrintLetter) -> Option<FormatFault>
+    requires place { percent ≤ 4096 }
+    requires parts { length written.now.number.now + length written.now.flags.now + length written.now.width.now ≤ 4096 }
+    ensures { fault_in result ≡ first_of (flag_rules percent (print_opening_of written.now) (Some letter)) }
+{
+    let places = written.places(percent);
+    let foreign = foreign_flag(letter, places.flags, written.flags);
+    let is_one = matches!(letter, PrintLetter::One);
+    fault_by(&[
+        rule(FormatWhy::BadFlag, foreign.unwrap_or(0), foreign.is_some()),
+        rule(FormatWhy::BadFlag, places.point, is_one && written.point),
+    ])
+}
+
+fn is_set(flag: u8, flags: &[u8]) -> bool
+    ensures { result ≡ is_set_flag flag flags.now }
+{
+    flags.contains(&flag)
+}
+
+fn precision_of(written: &PrintWritten) -> Option<u8>
+    requires digits { written.now.point ≡ true → AllByRecursion (λ b. is_decimal b ≡ true) written.now.precision.now }
+    requires bound { precision_number (print_opening_of written.now).precision ≤ 255 }
+    ensures { result ≡ option_map (λ ds. magnitude 10 ds) (print_opening_of written.now).precision }
+{
+    if written.point {
+        Some(capped(written.precision) as u8)
+    } else {
+        None
+    }
+}
+
+/// The conversion of a specification without a fault.
+pub fn conversion(written: &PrintWritten, letter: PrintLetter, kind: Kind, slot: u8) -> PrintConv
+    requires width { AllByRecursion (λ b. is_decimal b ≡ true) written.now.width.now }
+    requires precision { written.now.point ≡ true → AllByRecursion (λ b. is_decimal b ≡ true) written.now.precision.now }
+    requires wide { magnitude 10 written.now.width.now ≤ 65535 }
+    requires precise { precision_number (print_opening_of written.now).precision ≤ 255 }
+    ensures { (place : ℕ) → slot ≡ or_place place (optional_number written.now.number.now) → print_kind_of letter written.now.size ≡ Some kind
+        → IsPrintConv place (print_opening_of written.now) letter result }
+{
+    PrintConv {
+        letter,
+        kind,
+        slot,
+        minus: is_set(b'-', written.flags),
+        plus: is_set(b'+', written.flags),
+        blank: is_set(b' ', written.flags),
+        alt: is_set(b'#', written.flags),
+        zero: is_set(b'0', written.flags),
+        width: capped(written.width) as u16,
+        precision: precision_of(written),
+    }
+}
