@@ -7,3 +7,5 @@ mod hands;
 mod lines;
 #[cfg(test)]
 mod loops;
+#[cfg(test)]
+mod reading;
