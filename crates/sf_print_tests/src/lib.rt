@@ -12,7 +12,7 @@ mod runs;
 #[cfg(test)]
 mod scan_formats;
 #[cfg(test)]
-mod shared;
+mod sinks;
 #[cfg(test)]
 mod stores;
 #[cfg(test)]

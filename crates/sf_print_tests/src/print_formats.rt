@@ -1,8 +1,8 @@
 //! Examples of print formats, and of texts that are none.
 use crate::scan_formats::repeated;
-use crate::shared::is;
 use sf_base::Kind;
 use sf_format::{FormatFault, FormatWhy, PrintConv, PrintFormat, PrintLetter, Profile, Unit};
+use sf_rows::{is, print_faults};
 use std::alloc::Global;
 use std::test::Fail;
 
@@ -70,12 +70,7 @@ const LETTERS: [(&[u8], PrintLetter, Kind); 12] = [
 #[test]
 fn tells_letters_and_kinds(rt: HostRuntime) -> Result<(), Fail> {
     for (text, letter, kind) in LETTERS {
-        is(
-            &rt,
-            &only(rt.alloc(), text)?,
-            &Some(plain(letter, kind)),
-            &text,
-        );
+        is(&only(rt.alloc(), text)?, &Some(plain(letter, kind)), &text)?;
     }
     Ok(())
 }
@@ -123,7 +118,7 @@ fn tells_flags_widths_and_precisions(rt: HostRuntime) -> Result<(), Fail> {
             precision,
             ..flagged(plain(letter, kind), flags)
         };
-        is(&rt, &only(rt.alloc(), text)?, &Some(wanted), &text);
+        is(&only(rt.alloc(), text)?, &Some(wanted), &text)?;
     }
     Ok(())
 }
@@ -139,7 +134,7 @@ fn tells_values_by_number(rt: HostRuntime) -> Result<(), Fail> {
         format.kind(3),
     ];
     let wanted = [None, Some(Kind::I32), Some(Kind::Text), None];
-    is(&rt, &kinds, &wanted, &"%2$s-%1$d");
+    is(&kinds, &wanted, &"%2$s-%1$d")?;
     match format.directives() {
         [Unit::Conv(first), Unit::Byte(b'-'), Unit::Conv(second)] => {
             assert_eq!(rt; first.slot, 2);
@@ -150,57 +145,11 @@ fn tells_values_by_number(rt: HostRuntime) -> Result<(), Fail> {
     Ok(())
 }
 
-/// Texts that are no print format, with the place of the first fault.
-const FAULTS: [(&[u8], u16, FormatWhy); 38] = [
-    (b"%+u", 1, FormatWhy::BadFlag),
-    (b"%05s", 1, FormatWhy::BadFlag),
-    (b"%.3c", 1, FormatWhy::BadFlag),
-    (b"%.300d", 2, FormatWhy::PrecisionTooLarge),
-    (b"%'d", 1, FormatWhy::LeftOut),
-    (b"%*d", 1, FormatWhy::LeftOut),
-    (b"%n", 1, FormatWhy::LeftOut),
-    (b"%0$d", 1, FormatWhy::BadNumber),
-    (b"%-#d", 2, FormatWhy::BadFlag),
-    (b"%- 5u", 2, FormatWhy::BadFlag),
-    (b"%#s", 1, FormatWhy::BadFlag),
-    (b"%0.3c", 1, FormatWhy::BadFlag),
-    (b"%-7.c", 3, FormatWhy::BadFlag),
-    (b"%1$ x", 3, FormatWhy::BadFlag),
-    (b"%.*d", 2, FormatWhy::LeftOut),
-    (b"%5*d", 2, FormatWhy::LeftOut),
-    (b"%Lf", 1, FormatWhy::LeftOut),
-    (b"%.3f", 3, FormatWhy::LeftOut),
-    (b"%p", 1, FormatWhy::LeftOut),
-    (b"%ls", 2, FormatWhy::LeftOut),
-    (b"%lc", 2, FormatWhy::LeftOut),
-    (b"%hhs", 3, FormatWhy::BadLength),
-    (b"%m", 1, FormatWhy::UnknownLetter),
-    (b"%[a]", 1, FormatWhy::UnknownLetter),
-    (b"%b", 1, FormatWhy::UnknownLetter),
-    (b"%5%", 2, FormatWhy::UnknownLetter),
-    (b"%-1$d", 3, FormatWhy::UnknownLetter),
-    (b"%70000", 1, FormatWhy::TooWide),
-    (b"%+065536d", 3, FormatWhy::TooWide),
-    (b"%65536.256u", 1, FormatWhy::TooWide),
-    (b"%.256", 2, FormatWhy::PrecisionTooLarge),
-    (b"%33$d", 1, FormatWhy::BadNumber),
-    (b"%-05.3ll", 8, FormatWhy::Truncated),
-    (b"%d\0", 2, FormatWhy::Nul),
-    (b"%.\0", 2, FormatWhy::Nul),
-    (b"%1$d%d", 4, FormatWhy::MixedNumbering),
-    (b"%1$d%1$d", 4, FormatWhy::NumberTwice),
-    (b"%1$d%3$s", 4, FormatWhy::NumberGap),
-];
-
 #[test]
 fn finds_print_faults(rt: HostRuntime) -> Result<(), Fail> {
-    for (text, at, why) in FAULTS {
-        is(
-            &rt,
-            &fault(rt.alloc(), text),
-            &Some(FormatFault { at, why }),
-            &text,
-        );
+    for (text, at, why) in print_faults() {
+        let wanted = FormatFault { at: *at, why: *why };
+        is(&fault(rt.alloc(), text), &Some(wanted), &text)?;
     }
     Ok(())
 }

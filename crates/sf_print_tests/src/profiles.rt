@@ -1,11 +1,10 @@
-//! Formats and printed texts of profile 2, and what profile 1 makes of the same texts.
-use crate::shared::is;
-use sf_base::{Kind, Value};
+//! Formats of profile 2, and what profile 1 makes of the same texts.
+use sf_base::Kind;
 use sf_format::{
     Base, Directive, FormatFault, FormatWhy, PrintConv, PrintFormat, PrintLetter, Profile,
     ScanFormat, Shape, Unit,
 };
-use sf_print::{ListSink, fprint, printed_len};
+use sf_rows::is;
 use std::alloc::Global;
 use std::test::Fail;
 
@@ -36,7 +35,7 @@ const INTEGERS: [(&[u8], Base, Kind); 7] = [
 fn profile_two_has_binary_numbers(rt: HostRuntime) -> Result<(), Fail> {
     for (text, base, kind) in INTEGERS {
         let found = integer_of(rt.alloc(), Profile::Two, text)?;
-        is(&rt, &found, &Some((base, kind)), &text);
+        is(&found, &Some((base, kind)), &text)?;
     }
     Ok(())
 }
@@ -82,33 +81,5 @@ fn binary_numbers_have_their_flags(rt: HostRuntime) -> Result<(), Fail> {
         why: FormatWhy::BadFlag,
     });
     assert_eq!(rt; signed, wanted);
-    Ok(())
-}
-
-/// Print formats of profile 2, a value, and its text.
-const PRINTED: [(&[u8], Value<'static>, &[u8]); 8] = [
-    (b"%b", Value::U32(5), b"101"),
-    (b"%#b", Value::U32(5), b"0b101"),
-    (b"%#b", Value::U32(0), b"0"),
-    (b"%#010b", Value::U32(5), b"0b00000101"),
-    (b"%#.4b", Value::U32(5), b"0b0101"),
-    (b"%.0b", Value::U32(0), b""),
-    (b"%-6hhb|", Value::U8(2), b"10    |"),
-    (
-        b"%jb",
-        Value::U64(18446744073709551615),
-        b"1111111111111111111111111111111111111111111111111111111111111111",
-    ),
-];
-
-#[test]
-fn binary_numbers_are_printed(rt: HostRuntime) -> Result<(), Fail> {
-    for (text, value, wanted) in PRINTED {
-        let format = PrintFormat::parse(rt.alloc(), Profile::Two, text)?;
-        let mut sink = ListSink::new(rt.alloc());
-        let printed = fprint(&mut sink, &format, &[value]);
-        is(&rt, &sink.bytes(), &wanted, &text);
-        is(&rt, &printed, &printed_len(&format, &[value]), &text);
-    }
     Ok(())
 }

@@ -1,24 +1,41 @@
 //! Runs of white space, of text and of members, around the sixteen bytes that are read at once.
+ghost use Rattle.std.specs.Prelude.{◌<◌};
 
-use crate::shared::is;
 use sf_base::{ByteSet, space_run, text_run};
+use sf_rows::is;
 use std::test::Fail;
 
 /// What `isspace` is true of in the C locale.
 const WHITE: [u8; 6] = [9, 10, 11, 12, 13, 32];
 
+/// A text of fifty bytes ends at the white space that stands there, and so does the text that is cut there.
+fn text_ends_at(stop: usize, white: u8) -> Result<(), Fail>
+    requires { stop < 50 }
+{
+    let mut text = [b'a'; 50];
+    text[stop] = white;
+    is(&text_run(&text), &stop, &(stop, white))?;
+    let front = text.get(..stop).unwrap_or(&text);
+    is(&text_run(front), &stop, &(stop, white))
+}
+
+/// White space of fifty bytes ends at the letter that stands there.
+fn spaces_end_at(stop: usize, white: u8) -> Result<(), Fail>
+    requires { stop < 50 }
+{
+    let mut spaces = [white; 50];
+    spaces[stop] = b'a';
+    is(&space_run(&spaces), &stop, &(stop, white))?;
+    let front = spaces.get(..stop).unwrap_or(&spaces);
+    is(&space_run(front), &stop, &(stop, white))
+}
+
 #[test]
-fn runs_end_at_each_place(rt: HostRuntime) -> Result<(), Fail> {
+fn runs_end_at_each_place(_rt: HostRuntime) -> Result<(), Fail> {
     for stop in 0..50usize {
         for white in WHITE {
-            let mut text = [b'a'; 50];
-            text[stop] = white;
-            is(&rt, &text_run(&text), &stop, &(stop, white));
-            is(&rt, &text_run(&text[..stop]), &stop, &(stop, white));
-            let mut spaces = [white; 50];
-            spaces[stop] = b'a';
-            is(&rt, &space_run(&spaces), &stop, &(stop, white));
-            is(&rt, &space_run(&spaces[..stop]), &stop, &(stop, white));
+            text_ends_at(stop, white)?;
+            spaces_end_at(stop, white)?;
         }
     }
     Ok(())
@@ -33,11 +50,11 @@ fn runs_know_each_byte(rt: HostRuntime) -> Result<(), Fail> {
             let mut text = [b'a'; 20];
             text[place] = b;
             let wanted = if is_white { place } else { 20 };
-            is(&rt, &text_run(&text), &wanted, &(place, b));
+            is(&text_run(&text), &wanted, &(place, b))?;
             let mut spaces = [b' '; 20];
             spaces[place] = b;
             let wanted = if is_white { 20 } else { place };
-            is(&rt, &space_run(&spaces), &wanted, &(place, b));
+            is(&space_run(&spaces), &wanted, &(place, b))?;
         }
     }
     Ok(())
@@ -49,10 +66,10 @@ fn runs_of_members(rt: HostRuntime) -> Result<(), Fail> {
     set.insert_range(63, 64);
     set.insert(0);
     set.insert(255);
-    is(&rt, &set.run(b"?@?@@;?"), &5, &"the seam of two words");
-    is(&rt, &set.run(b";?"), &0, &"none");
-    is(&rt, &set.run(&[0, 255, 63, 64]), &4, &"all");
-    is(&rt, &set.run(&[0, 255, 128]), &2, &"128");
-    is(&rt, &set.run(b""), &0, &"nothing");
+    is(&set.run(b"?@?@@;?"), &5, &"the seam of two words")?;
+    is(&set.run(b";?"), &0, &"none")?;
+    is(&set.run(&[0, 255, 63, 64]), &4, &"all")?;
+    is(&set.run(&[0, 255, 128]), &2, &"128")?;
+    is(&set.run(b""), &0, &"nothing")?;
     Ok(())
 }

@@ -1,9 +1,9 @@
 //! Examples of formats, and of texts that are none.
-use crate::shared::is;
 use sf_base::{ByteSet, Kind};
 use sf_format::{
     Base, Conversion, Directive, FormatFault, FormatWhy, Profile, ScanFormat, Shape, directive_text,
 };
+use sf_rows::{is, scan_faults};
 use std::alloc::Global;
 use std::test::Fail;
 
@@ -125,7 +125,7 @@ const CONVERSIONS: [(&[u8], Told); 13] = [
 #[test]
 fn tells_conversions(rt: HostRuntime) -> Result<(), Fail> {
     for (text, wanted) in CONVERSIONS {
-        is(&rt, &only(rt.alloc(), text)?, &Some(wanted), &text);
+        is(&only(rt.alloc(), text)?, &Some(wanted), &text)?;
     }
     Ok(())
 }
@@ -164,7 +164,7 @@ const DESTINATIONS: [(&[u8], u8); 5] = [
 fn counts_destinations(rt: HostRuntime) -> Result<(), Fail> {
     for (text, wanted) in DESTINATIONS {
         let format = ScanFormat::parse(rt.alloc(), Profile::One, text)?;
-        is(&rt, &format.destinations(), &wanted, &text);
+        is(&format.destinations(), &wanted, &text)?;
     }
     Ok(())
 }
@@ -179,7 +179,7 @@ fn tells_kinds(rt: HostRuntime) -> Result<(), Fail> {
         format.kind(3),
     ];
     let wanted = [None, Some(Kind::I32), Some(Kind::U8), None];
-    is(&rt, &kinds, &wanted, &"%d, %hhu");
+    is(&kinds, &wanted, &"%d, %hhu")?;
     Ok(())
 }
 
@@ -218,7 +218,7 @@ const SETS: [(&[u8], &[u8]); 7] = [
 #[test]
 fn builds_sets(rt: HostRuntime) -> Result<(), Fail> {
     for (text, members) in SETS {
-        is(&rt, &has_members(rt.alloc(), text, members)?, &true, &text);
+        is(&has_members(rt.alloc(), text, members)?, &true, &text)?;
     }
     Ok(())
 }
@@ -240,61 +240,11 @@ fn complements_sets(rt: HostRuntime) -> Result<(), Fail> {
     Ok(())
 }
 
-/// Texts that are no format, with the place of the first fault.
-const FAULTS: [(&[u8], u16, FormatWhy); 42] = [
-    (b"%[z-a]", 2, FormatWhy::BackwardRange),
-    (b"%0d", 1, FormatWhy::ZeroWidth),
-    (b"%*n", 2, FormatWhy::BadCount),
-    (b"%1$d%d", 4, FormatWhy::MixedNumbering),
-    (b"%d%1$d", 2, FormatWhy::MixedNumbering),
-    (b"%1$s%3$d", 4, FormatWhy::NumberGap),
-    (b"%1$s%1$d", 4, FormatWhy::NumberTwice),
-    (b"%33$d", 1, FormatWhy::BadNumber),
-    (b"%5", 2, FormatWhy::Truncated),
-    (b"%lc", 2, FormatWhy::LeftOut),
-    (b"%[abc", 1, FormatWhy::OpenSet),
-    (b"%hhs", 3, FormatWhy::BadLength),
-    (b"%70000d", 1, FormatWhy::TooWide),
-    (b"%000d", 1, FormatWhy::ZeroWidth),
-    (b"%hhls", 3, FormatWhy::UnknownLetter),
-    (b"%5%", 2, FormatWhy::UnknownLetter),
-    (b"%*3$d", 3, FormatWhy::UnknownLetter),
-    (b"%1$*d", 3, FormatWhy::BadNumber),
-    (b"%0$d", 1, FormatWhy::BadNumber),
-    (b"%Lf", 1, FormatWhy::LeftOut),
-    (b"%m[a]", 1, FormatWhy::LeftOut),
-    (b"%[^]", 1, FormatWhy::OpenSet),
-    (b"%[]", 1, FormatWhy::OpenSet),
-    (b"%%%", 3, FormatWhy::Truncated),
-    (b"%2$d", 0, FormatWhy::NumberGap),
-    (b"%3$d%3$d", 4, FormatWhy::NumberTwice),
-    (b"%99999999999999999999$d", 1, FormatWhy::BadNumber),
-    (b"%70000", 1, FormatWhy::TooWide),
-    (b"%65536c", 1, FormatWhy::TooWide),
-    (b"%b", 1, FormatWhy::UnknownLetter),
-    (b"%", 1, FormatWhy::Truncated),
-    (b"a%", 2, FormatWhy::Truncated),
-    (b"% d", 1, FormatWhy::UnknownLetter),
-    (b"%3n", 2, FormatWhy::BadCount),
-    (b"%l[a]", 2, FormatWhy::LeftOut),
-    (b"%ts", 2, FormatWhy::BadLength),
-    (b"\0%x", 0, FormatWhy::Nul),
-    (b"%\0", 1, FormatWhy::Nul),
-    (b"%d \0", 3, FormatWhy::Nul),
-    (b"%[a\0]", 3, FormatWhy::Nul),
-    (b"%[a\0", 3, FormatWhy::Nul),
-    (b"%2$d%k", 5, FormatWhy::UnknownLetter),
-];
-
 #[test]
 fn finds_faults(rt: HostRuntime) -> Result<(), Fail> {
-    for (text, at, why) in FAULTS {
-        is(
-            &rt,
-            &fault(rt.alloc(), text),
-            &Some(FormatFault { at, why }),
-            &text,
-        );
+    for (text, at, why) in scan_faults() {
+        let wanted = FormatFault { at: *at, why: *why };
+        is(&fault(rt.alloc(), text), &Some(wanted), &text)?;
     }
     Ok(())
 }
@@ -378,7 +328,7 @@ const WIDTH_SUMS: [(&[u8], Option<u32>); 8] = [
 fn sums_widths(rt: HostRuntime) -> Result<(), Fail> {
     for (text, wanted) in WIDTH_SUMS {
         let format = ScanFormat::parse(rt.alloc(), Profile::One, text)?;
-        is(&rt, &format.width_sum(), &wanted, &text);
+        is(&format.width_sum(), &wanted, &text)?;
     }
     let text = repeated(rt.alloc(), b"%65535s", 32)?;
     let format = ScanFormat::parse(rt.alloc(), Profile::One, &text)?;
@@ -406,7 +356,7 @@ const DIRECTIVE_TEXTS: [(&[u8], u16, Option<&[u8]>); 12] = [
 fn tells_texts_of_directives(rt: HostRuntime) -> Result<(), Fail> {
     for (text, number, wanted) in DIRECTIVE_TEXTS {
         let found = directive_text(Profile::One, text, number);
-        is(&rt, &found, &wanted, &(text, number));
+        is(&found, &wanted, &(text, number))?;
     }
     assert_eq!(rt; directive_text(Profile::Two, b"%b,%x", 1), Some(&b"%b"[..]));
     Ok(())

@@ -2,9 +2,8 @@
 ghost use Rattle.std.specs.Prelude.{◌≡◌, ◌≤◌};
 ghost use Rattle.sf_base.specs.Kept.{nothing_kept};
 
-use crate::shared::is;
 use sf_base::{FixedStore, HeapStore, Store, StoreFull, Value, push_each};
-use std::process::Abort;
+use sf_rows::is;
 use std::test::Fail;
 
 /// Calls on an empty store: how many bytes of the last piece were pushed.
@@ -38,10 +37,11 @@ const KEPT: [(u8, Option<Value<'static>>); 7] = [
     (6, None),
 ];
 
-fn is_kept<S: Store>(rt: &impl Abort, store: &S) {
+fn is_kept<S: Store>(store: &S) -> Result<(), Fail> {
     for (slot, value) in KEPT {
-        is(rt, &store.value(slot), &value, &slot);
+        is(&store.value(slot), &value, &slot)?;
     }
+    Ok(())
 }
 
 #[test]
@@ -52,11 +52,11 @@ fn stores_answer_alike(rt: HostRuntime) -> Result<(), Fail> {
         heap.clear();
         assert!(rt; heap.room() >= 9);
         assert_eq!(rt; script(&mut heap)?, 2);
-        is_kept(&rt, &heap);
+        is_kept(&heap)?;
         fixed.clear();
         assert_eq!(rt; fixed.room(), 9);
         assert_eq!(rt; script(&mut fixed)?, 2);
-        is_kept(&rt, &fixed);
+        is_kept(&fixed)?;
         assert_eq!(rt; fixed.room(), 4);
     }
     Ok(())
@@ -165,7 +165,7 @@ impl Store for SevenCalls {
 fn seven_calls_make_a_store(rt: HostRuntime) -> Result<(), Fail> {
     let mut store = SevenCalls(FixedStore::new());
     assert_eq!(rt; script(&mut store)?, 2);
-    is_kept(&rt, &store);
+    is_kept(&store)?;
     assert_eq!(rt; store.room(), 4);
     let mut store = SevenCalls(FixedStore::new());
     store.open_text(3);

@@ -1,8 +1,8 @@
 //! Values from C's rules, beside what the clauses say.
-use crate::shared::is;
 use sf_base::{ByteSet, Kind, ScanInt, digit_value, is_space};
+use sf_rows::is;
 use std::fmt::Debug;
-use std::process::Abort;
+use std::test::Fail;
 
 const WHITE_SPACE: [(u8, bool); 9] = [
     (8, false),
@@ -17,10 +17,11 @@ const WHITE_SPACE: [(u8, bool); 9] = [
 ];
 
 #[test]
-fn white_space_is_told(rt: HostRuntime) {
+fn white_space_is_told(rt: HostRuntime) -> Result<(), Fail> {
     for (b, want) in WHITE_SPACE {
-        is(&rt, &is_space(b), &want, &b);
+        is(&is_space(b), &want, &b)?;
     }
+    Ok(())
 }
 
 const DIGITS: [(u8, u8, Option<u8>); 14] = [
@@ -41,11 +42,12 @@ const DIGITS: [(u8, u8, Option<u8>); 14] = [
 ];
 
 #[test]
-fn digits_have_values(rt: HostRuntime) {
+fn digits_have_values(rt: HostRuntime) -> Result<(), Fail> {
     for (b, base, want) in DIGITS {
         assert!(rt; base <= 16);
-        is(&rt, &digit_value(b, base), &want, &(b, base));
+        is(&digit_value(b, base), &want, &(b, base))?;
     }
+    Ok(())
 }
 
 const MEMBERS: [(u8, bool); 5] = [
@@ -57,7 +59,7 @@ const MEMBERS: [(u8, bool); 5] = [
 ];
 
 #[test]
-fn sets_have_members(rt: HostRuntime) {
+fn sets_have_members(rt: HostRuntime) -> Result<(), Fail> {
     let mut set = ByteSet::empty();
     assert!(rt; !set.contains(0));
     set.insert(0);
@@ -65,8 +67,9 @@ fn sets_have_members(rt: HostRuntime) {
     set.insert(255);
     set.insert(255);
     for (b, want) in MEMBERS {
-        is(&rt, &set.contains(b), &want, &b);
+        is(&set.contains(b), &want, &b)?;
     }
+    Ok(())
 }
 
 const RANGES: [(u8, u8, u16, u8, bool); 15] = [
@@ -88,14 +91,15 @@ const RANGES: [(u8, u8, u16, u8, bool); 15] = [
 ];
 
 #[test]
-fn ranges_have_members(rt: HostRuntime) {
+fn ranges_have_members(rt: HostRuntime) -> Result<(), Fail> {
     for (lo, hi, count, b, want) in RANGES {
         assert!(rt; lo <= hi);
         let mut set = ByteSet::empty();
         set.insert_range(lo, hi);
-        is(&rt, &set.count(), &count, &(lo, hi));
-        is(&rt, &set.contains(b), &want, &(lo, hi, b));
+        is(&set.count(), &count, &(lo, hi))?;
+        is(&set.contains(b), &want, &(lo, hi, b))?;
     }
+    Ok(())
 }
 
 #[test]
@@ -121,7 +125,7 @@ const OTHERS: [(u8, bool); 5] = [
 ];
 
 #[test]
-fn complements_have_the_others(rt: HostRuntime) {
+fn complements_have_the_others(rt: HostRuntime) -> Result<(), Fail> {
     let mut set = ByteSet::empty();
     set.complement();
     assert_eq!(rt; set.count(), 256);
@@ -132,10 +136,11 @@ fn complements_have_the_others(rt: HostRuntime) {
     set.complement();
     assert_eq!(rt; set.count(), 255);
     for (b, want) in OTHERS {
-        is(&rt, &set.contains(b), &want, &b);
+        is(&set.contains(b), &want, &b)?;
     }
     set.insert(b'\n');
     assert_eq!(rt; set.count(), 256);
+    Ok(())
 }
 
 const PAIRS: [(u8, u8, u8, u8, bool, bool); 11] = [
@@ -153,17 +158,18 @@ const PAIRS: [(u8, u8, u8, u8, bool, bool); 11] = [
 ];
 
 #[test]
-fn sets_are_compared(rt: HostRuntime) {
+fn sets_are_compared(rt: HostRuntime) -> Result<(), Fail> {
     for (a, b, c, d, meets, subset) in PAIRS {
         assert!(rt; a <= b && c <= d);
         let mut one = ByteSet::empty();
         one.insert_range(a, b);
         let mut other = ByteSet::empty();
         other.insert_range(c, d);
-        is(&rt, &one.meets(&other), &meets, &(a, b, c, d));
-        is(&rt, &other.meets(&one), &meets, &(c, d, a, b));
-        is(&rt, &one.subset(&other), &subset, &(a, b, c, d));
+        is(&one.meets(&other), &meets, &(a, b, c, d))?;
+        is(&other.meets(&one), &meets, &(c, d, a, b))?;
+        is(&one.subset(&other), &subset, &(a, b, c, d))?;
     }
+    Ok(())
 }
 
 #[test]
@@ -179,11 +185,12 @@ fn the_empty_set_is_compared(rt: HostRuntime) {
 /// Whether a minus stands there, the magnitude, whether that is too great for a u64, and the integer.
 type Parts<T> = (bool, u64, bool, Option<T>);
 
-fn are_made<T: ScanInt + Debug + Drop + PartialEq>(rt: &impl Abort, rows: &[Parts<T>]) {
+fn are_made<T: ScanInt + Debug + Drop + PartialEq>(rows: &[Parts<T>]) -> Result<(), Fail> {
     for (negative, magnitude, overflowed, want) in rows {
         let made = T::from_parts(*negative, *magnitude, *overflowed);
-        is(rt, &made, want, &(*negative, *magnitude, *overflowed));
+        is(&made, want, &(*negative, *magnitude, *overflowed))?;
     }
+    Ok(())
 }
 
 const I32_PARTS: [Parts<i32>; 11] = [
@@ -201,9 +208,9 @@ const I32_PARTS: [Parts<i32>; 11] = [
 ];
 
 #[test]
-fn a_sign_and_a_magnitude_make_an_i32(rt: HostRuntime) {
-    are_made(&rt, &I32_PARTS);
-    assert_eq!(rt; i32::kind(), Kind::I32);
+fn a_sign_and_a_magnitude_make_an_i32(_rt: HostRuntime) -> Result<(), Fail> {
+    are_made(&I32_PARTS)?;
+    is(&i32::kind(), &Kind::I32, &"kind")
 }
 
 const I8_PARTS: [Parts<i8>; 13] = [
@@ -223,9 +230,9 @@ const I8_PARTS: [Parts<i8>; 13] = [
 ];
 
 #[test]
-fn a_sign_and_a_magnitude_make_an_i8(rt: HostRuntime) {
-    are_made(&rt, &I8_PARTS);
-    assert_eq!(rt; i8::kind(), Kind::I8);
+fn a_sign_and_a_magnitude_make_an_i8(_rt: HostRuntime) -> Result<(), Fail> {
+    are_made(&I8_PARTS)?;
+    is(&i8::kind(), &Kind::I8, &"kind")
 }
 
 const I16_PARTS: [Parts<i16>; 13] = [
@@ -245,9 +252,9 @@ const I16_PARTS: [Parts<i16>; 13] = [
 ];
 
 #[test]
-fn a_sign_and_a_magnitude_make_an_i16(rt: HostRuntime) {
-    are_made(&rt, &I16_PARTS);
-    assert_eq!(rt; i16::kind(), Kind::I16);
+fn a_sign_and_a_magnitude_make_an_i16(_rt: HostRuntime) -> Result<(), Fail> {
+    are_made(&I16_PARTS)?;
+    is(&i16::kind(), &Kind::I16, &"kind")
 }
 
 const I64_PARTS: [Parts<i64>; 11] = [
@@ -265,9 +272,9 @@ const I64_PARTS: [Parts<i64>; 11] = [
 ];
 
 #[test]
-fn a_sign_and_a_magnitude_make_an_i64(rt: HostRuntime) {
-    are_made(&rt, &I64_PARTS);
-    assert_eq!(rt; i64::kind(), Kind::I64);
+fn a_sign_and_a_magnitude_make_an_i64(_rt: HostRuntime) -> Result<(), Fail> {
+    are_made(&I64_PARTS)?;
+    is(&i64::kind(), &Kind::I64, &"kind")
 }
 
 const U8_PARTS: [Parts<u8>; 12] = [
@@ -286,9 +293,9 @@ const U8_PARTS: [Parts<u8>; 12] = [
 ];
 
 #[test]
-fn a_sign_and_a_magnitude_make_a_u8(rt: HostRuntime) {
-    are_made(&rt, &U8_PARTS);
-    assert_eq!(rt; u8::kind(), Kind::U8);
+fn a_sign_and_a_magnitude_make_a_u8(_rt: HostRuntime) -> Result<(), Fail> {
+    are_made(&U8_PARTS)?;
+    is(&u8::kind(), &Kind::U8, &"kind")
 }
 
 const U16_PARTS: [Parts<u16>; 12] = [
@@ -307,9 +314,9 @@ const U16_PARTS: [Parts<u16>; 12] = [
 ];
 
 #[test]
-fn a_sign_and_a_magnitude_make_a_u16(rt: HostRuntime) {
-    are_made(&rt, &U16_PARTS);
-    assert_eq!(rt; u16::kind(), Kind::U16);
+fn a_sign_and_a_magnitude_make_a_u16(_rt: HostRuntime) -> Result<(), Fail> {
+    are_made(&U16_PARTS)?;
+    is(&u16::kind(), &Kind::U16, &"kind")
 }
 
 const U32_PARTS: [Parts<u32>; 12] = [
@@ -328,9 +335,9 @@ const U32_PARTS: [Parts<u32>; 12] = [
 ];
 
 #[test]
-fn a_sign_and_a_magnitude_make_a_u32(rt: HostRuntime) {
-    are_made(&rt, &U32_PARTS);
-    assert_eq!(rt; u32::kind(), Kind::U32);
+fn a_sign_and_a_magnitude_make_a_u32(_rt: HostRuntime) -> Result<(), Fail> {
+    are_made(&U32_PARTS)?;
+    is(&u32::kind(), &Kind::U32, &"kind")
 }
 
 const U64_PARTS: [Parts<u64>; 8] = [
@@ -345,7 +352,7 @@ const U64_PARTS: [Parts<u64>; 8] = [
 ];
 
 #[test]
-fn a_sign_and_a_magnitude_make_a_u64(rt: HostRuntime) {
-    are_made(&rt, &U64_PARTS);
-    assert_eq!(rt; u64::kind(), Kind::U64);
+fn a_sign_and_a_magnitude_make_a_u64(_rt: HostRuntime) -> Result<(), Fail> {
+    are_made(&U64_PARTS)?;
+    is(&u64::kind(), &Kind::U64, &"kind")
 }
