@@ -20,10 +20,11 @@ use Rattle.sf_item.specs.declared.reading.Reading.TheVariants as reading
 use Rattle.sf_item.specs.declared.whole.WholeInteger.{WholeInteger}
 use Rattle.sf_item.specs.Scan.{HasLeft, shape_of}
 use Rattle.sf_item.specs.Taking as taking
-use Rattle.sf_item.specs.Matching.{IsInteger, IsItem, IsWithin}
+use Rattle.sf_item.specs.Matching.{IsInteger, IsItem, IsWithin, Matches}
 use Rattle.sf_item.specs.Taking.{CanTake, HasTaken, conversion_of}
 use Rattle.sf_item.specs.Tests.{is_ink, is_within, shape_begins, can_take}
 use Rattle.sf_item.proofs.Deciding.{integer_at_is, tests_can_take, tests_same}
+use Rattle.sf_item.specs.Wholes.{ItemWithin}
 use Rattle.sf_run.specs.declared.directive.Finished.{Finished}
 use Rattle.sf_run.specs.declared.directive.Finished.TheVariants as finish
 use Rattle.sf_run.specs.declared.directive.Phase.{Phase}
@@ -36,11 +37,11 @@ use Rattle.sf_run.specs.Machine.{Stage, Skipping, Taken, Item, shape_skips, coun
 use Rattle.sf_run.specs.Phases.{CanAll, GrowsBy, Shows, ShowsItem, end_of, passed_number, slot_in}
 use Rattle.sf_run.specs.Pieces.{Answers, AnswersBy, EndsAt, EndsIn, IsEnd, IsWhole, StaysAt, Suits, item_of}
 use Rattle.sf_run.specs.Residual.{Part, choose, one_from, stepped_all}
-use Rattle.sf_run.specs.Texts.{IsInText, StoresByte, counts_bytes, is_count, text_slot}
+use Rattle.sf_run.specs.Texts.{IsInText, StoresByte, counts_bytes, is_count, text_slot, slot_of_text}
 use Rattle.sf_run.proofs.Brought.{all-append, can_all, first_all, item_all, one_from-all, skips_all, take-take}
 use Rattle.sf_run.proofs.Items.{can_take_prefix}
 use Rattle.sf_run.proofs.Machines.{byte_refused, full_refuses, grows}
-use Rattle.sf_run.proofs.Stages.{count_finished, integer_ends, other_finished, skipping_full, taken_full}
+use Rattle.sf_run.proofs.Stages.{count_finished, integer_ends, other_finished, skipping_full, suppressed_end, taken_full, text_end}
 
 -- ---- bytes of a piece
 
@@ -457,6 +458,38 @@ integer_read c n piece w end is ink ends = record {
 
     number : passed_number c c.slot (value_of c.kind w.negative w.magnitude) ≡ item_end c f
     number = integer_ends c f w.negative w.magnitude false (is.base, w.magnitude, is.is, is.ends.integer, refl)
+
+-- ---- items that are stored as they stand, looked at once
+
+pub bytes_read : (c : Conversion) (n item : ℕ) (piece : List ℕ) (end : Finished) → IsProper (Conv c) → ((slot : Option ℕ) → slot_of_text c.shape slot ≡ slot) → is_count c.shape ≡ false
+    → ItemWithin c.shape c.width piece item → (shape_skips c.shape && is_white (get_or piece 0 0)) ≡ false → (c.slot ≡ None → end ≡ finish.Passes)
+    → ((slot : ℕ) → c.slot ≡ Some slot → end ≡ finish.Closes slot) → Answers (Conv c) Skipping n piece (record { before = 0; item = item; phase = phase.Skipping; ends = Some end })
+bytes_read c n item piece end proper text other is ink none some = record {
+  goes =
+      let same : item ≡ 0 + item = omega arith in
+      subst (λ k. EndsIn (Conv c) Skipping n piece k (end_of f end)) same (ends_in (Conv c) Skipping (Item f) n item piece (end_of f end) (omega (arith, below)) (begins c piece item is.some (omega (arith, below)) ink can)
+      (λ m z. over_next c [] piece item proper.0 below fronts.1 m z ∙ same_part refl refl (other_finished c c.shape (Item f) m true other ∙ sym (by_slot c.slot refl))));
+  stores = λ slot j own less. absurd cc;
+}
+  where
+    f : List ℕ
+    f = take item piece
+
+    below : item < length piece
+    below = is.behind
+
+    fronts : ((k : ℕ) → k < item → CanTake c (take (k + 1) piece)) × (CanTake c (take (item + 1) piece) → ⊥)
+    fronts = fronts_of c piece item proper.0 below (is.item c refl refl proper.0)
+
+    can : CanAll c [] f
+    can = can_all c [] piece item proper.0 (omega (arith, below)) fronts.0
+
+    matched : Matches c f
+    matched = is.matches c refl refl
+
+    by_slot : (slot : Option ℕ) → c.slot ≡ slot → end_of f end ≡ item_end c f
+    by_slot None e = ap (end_of f) (none e) ∙ suppressed_end c f e matched
+    by_slot (Some slot) e = ap (end_of f) (some slot e) ∙ text_end c f slot (text c.slot ∙ e) matched
 
 -- ---- what the answer does to the text under way
 

@@ -14,7 +14,7 @@ ghost use Rattle.sf_run.specs.Steps.{StepEnd};
 ghost use Rattle.sf_run.specs.declared.directive.Phase.TheVariants as phase;
 ghost use Rattle.sf_run.specs.declared.directive.Finished.TheVariants as finish;
 ghost use Rattle.sf_run.specs.Machine.{Stage, Skipping, Item, shape_skips, is_full, item_end, item_finished, count_end, finished};
-ghost use Rattle.sf_run.specs.Texts.{text_slot, opened_for, slot_of, is_count};
+ghost use Rattle.sf_run.specs.Texts.{text_slot, opened_for, slot_of, slot_of_text, is_count};
 ghost use Rattle.sf_run.specs.Holding.{FallsBy};
 ghost use Rattle.sf_run.specs.Phases.{ShowsItem, Shows, CanAll, IsNumberGiven, end_of, is_failing, is_memory_failure, passed_number, slot_closed, slot_given, slot_in};
 ghost use Rattle.sf_run.specs.Pieces.{Answers, EndsAt, IsEnd, IsWhole, StaysAt, Suits};
@@ -23,7 +23,7 @@ use crate::number::number_of;
 use crate::outcome::Status;
 use sf_base::{Value, is_space, space_run};
 use sf_format::{Base, Conversion, Directive, Shape};
-use sf_item::{ItemEnd, ItemScan, WholeInteger, whole_decimal, whole_hex};
+use sf_item::{ItemEnd, ItemScan, WholeInteger, whole_bytes, whole_decimal, whole_hex};
 
 /// How far a directive has come that waits for more.
 #[derive(Clone, Copy)]
@@ -464,5 +464,58 @@ pub(crate) fn run_on<'f>(
         Directive::Byte(due) => run_byte(*due, piece),
         Directive::Percent => run_percent(piece),
         Directive::Conv(conversion) => run_conversion(conversion, phase, piece, used),
+    }
+}
+
+/// Whether an item of the shape is stored as it stands.
+fn is_text(shape: &Shape) -> bool
+    ensures slot { result ≡ true → (slot : Option ℕ) → slot_of_text shape.now slot ≡ slot }
+    ensures item { result ≡ true → is_count shape.now ≡ false }
+{
+    matches!(shape, Shape::Text | Shape::Set(_) | Shape::Chars)
+}
+
+/// How an item ends that is stored as it stands.
+fn finish_bytes(slot: Option<u8>) -> Finished
+    ensures none { slot ≡ None → result ≡ finish.Passes }
+    ensures some { (n : ℕ) → slot ≡ Some n → result ≡ finish.Closes n }
+    ensures given { slot_given result ≡ slot }
+    ensures number { IsNumberGiven result }
+{
+    match slot {
+        None => Finished::Passes,
+        Some(slot) => Finished::Closes { slot },
+    }
+}
+
+/// As `begin`, of an item that is stored as it stands: it is looked at once where a byte of the piece follows it.
+fn begin_text<'f>(conversion: &'f Conversion, piece: &[u8], used: u32) -> Run<'f>
+    requires slot { (slot : Option ℕ) → slot_of_text conversion.now.shape slot ≡ slot }
+    requires item { is_count conversion.now.shape ≡ false }
+    ensures answers { IsProper (directive.Conv conversion.now) → Answers (directive.Conv conversion.now) Skipping used piece.now result }
+    ensures within { result.before + result.item ≤ length piece.now }
+    ensures given { IfSome result.ends (λ f. is_failing f ≡ false → slot_given f ≡ conversion.now.slot) }
+    ensures number { IfSome result.ends (λ f. IsNumberGiven f) }
+{
+    let before = skipped(&conversion.shape, piece);
+    let (_, rest) = piece.split_at(before);
+    let Some(item) = whole_bytes(&conversion.shape, conversion.width, rest) else {
+        return begin(conversion, piece, used);
+    };
+    ends(before, item, finish_bytes(conversion.slot))
+}
+
+/// Hands the directive, which took nothing yet, the piece, for a run that keeps nothing where it doesn't end within the piece.
+pub(crate) fn run_at_once<'f>(directive: &'f Directive, piece: &[u8], used: u32) -> Run<'f>
+    ensures answers { IsProper directive.now → Answers directive.now Skipping used piece.now result }
+    ensures within { result.before + result.item ≤ length piece.now }
+    ensures given { IfSome result.ends (λ f. is_failing f ≡ false → slot_given f ≡ slot_of directive.now) }
+    ensures number { IfSome result.ends (λ f. IsNumberGiven f) }
+{
+    match directive {
+        Directive::Conv(conversion) if is_text(&conversion.shape) => {
+            begin_text(conversion, piece, used)
+        }
+        _ => run_on(directive, Phase::Skipping, piece, used),
     }
 }

@@ -11,7 +11,7 @@ ghost use Rattle.sf_run.specs.Quick.{GivesTo, MayBeGiven, PassesWithin};
 ghost use Rattle.sf_run.specs.Texts.{slot_of};
 ghost use Rattle.sf_run.specs.Views.{report_by};
 
-use crate::directive::{Finished, Phase, run_on};
+use crate::directive::{Finished, run_at_once};
 use crate::outcome::{Outcome, Status};
 use crate::tally::Tally;
 use sf_base::{HeapStore, Store};
@@ -62,7 +62,7 @@ fn pass(store: &mut HeapStore, directive: &Directive, piece: &[u8], used: u32) -
     ensures within { IfSome result (λ p. p.taken ≤ length piece.now) }
     ensures room { capacity_of store.old ≤ capacity_of store.new }
 {
-    let run = run_on(directive, Phase::Skipping, piece, used);
+    let run = run_at_once(directive, piece, used);
     let finished = run.ends?;
     let (_, rest) = piece.split_at(run.before);
     let (item, _) = rest.split_at(run.item);
