@@ -1,5 +1,5 @@
 -- What stands for bytes in a string of JSON, byte by byte.
-use Rattle.std.proofs.Common.{◌≡◌, ℕ, zero, suc, ◌+◌, ◌-◌, ◌<◌, ◌≤◌, nat_eq, cond, List, [], ◌∷◌, ◌++◌, length, take, drop, get_or, drop-cons, append_assoc, refl, sym, ap, subst, ◌∙◌, arith}
+use Rattle.std.proofs.Common.{◌≡◌, ℕ, zero, suc, ◌+◌, ◌-◌, ◌<◌, ◌≤◌, nat_eq, cond, List, [], ◌∷◌, ◌++◌, length, take, drop, append_assoc, refl, sym, ap, subst, ◌∙◌, arith}
 use Rattle.std.proofs.lemmas.Bool.{ne_eqb}
 use Rattle.std.proofs.lemmas.List.{append-nil, drop-drop, take_all, length-take, length-drop}
 use Rattle.std.proofs.lemmas.Str.{IsUtf8-append, IsUtf8-encode, IsUtf8-nil, encode_ascii, utf8_valid_len-IsUtf8}
@@ -31,22 +31,10 @@ longest_kept (x ∷ xs) few some = go (utf8_valid_len (x ∷ xs)) some ∙ known
     go (suc v) none =
         rw (ne_eqb (suc v) 0 none) (ap (λ (k : ℕ). json_escaped x ++ json_from k xs) {x = suc v - 1} {y = v} (omega arith))
 
--- where none is, the first byte is stray
-pub first_stray : (x : ℕ) (xs : List ℕ) → utf8_valid_len (x ∷ xs) ≡ 0 → json_from 0 (x ∷ xs) ≡ stray x ++ json_from 0 xs
-first_stray x xs none = rw none refl
-
--- ---- the loop's steps: what is left to be written is the same when some of it has been
+-- ---- the loop: what is left to be written is the same when the front has been
 
 rest_of : (xs : List ℕ) (d : ℕ) → d ≤ length xs → slice_range xs d (length xs) ≡ drop d xs
 rest_of xs d within = take_all (length xs - d) (drop d xs) (omega (arith, within, length-drop d xs))
-
-pub stray_written : (xs out new : List ℕ) (d k : ℕ) → d < length xs → k ≡ utf8_valid_len (slice_range xs d (length xs)) → k ≡ 0 → new ≡ out ++ stray (get_or xs d 0)
-    → new ++ json_from 0 (drop (d + 1) xs) ≡ out ++ json_from 0 (drop d xs)
-stray_written xs out new d k within count none e =
-    let at : drop d xs ≡ get_or xs d 0 ∷ drop (suc d) xs = drop-cons xs d 0 within in
-    let next : drop (d + 1) xs ≡ drop (suc d) xs = ap (λ (k : ℕ). drop k xs) {x = d + 1} {y = suc d} (omega arith) in
-    let zero : utf8_valid_len (get_or xs d 0 ∷ drop (suc d) xs) ≡ 0 = ap utf8_valid_len (sym (rest_of xs d (omega (arith, within)) ∙ at)) ∙ sym count ∙ none in
-    rw (e, next, at) (append_assoc out (stray (get_or xs d 0)) (json_from 0 (drop (suc d) xs)) ∙ ap (λ (t : List ℕ). out ++ t) (sym (first_stray (get_or xs d 0) (drop (suc d) xs) zero)))
 
 pub kept_written : (xs out new : List ℕ) (d k : ℕ) → d < length xs → k ≡ utf8_valid_len (slice_range xs d (length xs)) → k ≤ length (slice_range xs d (length xs)) → (k ≡ 0 → ⊥)
     → new ≡ out ++ flat_map json_escaped (slice_range xs d (d + k)) → new ++ json_from 0 (drop (d + k) xs) ≡ out ++ json_from 0 (drop d xs)
