@@ -1,5 +1,5 @@
 -- Texts, and what they read as: each is proved by computing.
-use Rattle.std.proofs.Common.{◌≡◌, List, [], ◌∷◌, Some, None, pos, negsuc, refl}
+use Rattle.std.proofs.Common.{◌≡◌, [], ◌∷◌, Some, None, pos, negsuc, refl}
 use Rattle.std.specs.Prelude.{codes}
 use Rattle.sf_records.specs.JsonReading.{Integer, String, json_rows}
 use Rattle.sf_records.specs.Tables.{table_of}
