@@ -94,12 +94,12 @@ pub fn is_no_slot(number: &[u8]) -> bool
     !number.is_empty() && (slot == 0 || slot > 32)
 }
 
-/// Whether digits are written that stand for 0.
-fn is_zero(digits: &[u8]) -> bool
-    requires { AllByRecursion (λ b. is_decimal b ≡ true) digits.now }
+/// Whether digits are written that stand for 0, where this is their magnitude or the limit.
+fn is_zero(digits: &[u8], value: u32) -> bool
+    requires { value ≡ min (magnitude 10 digits.now) 65536 }
     ensures { result ≡ (is_written digits.now && nat_eq (magnitude 10 digits.now) 0) }
 {
-    !digits.is_empty() && capped(digits) == 0
+    !digits.is_empty() && value == 0
 }
 
 /// Whether digits stand for more than any width: those are at most 65535.
@@ -138,10 +138,15 @@ pub fn opening_fault(at: u16, written: &Written) -> Option<FormatFault>
 {
     let star_at = at + 1 + number_len(written.number);
     let width_at = star_at + star_len(written.star);
+    let width = capped(written.width);
     fault_by(&[
         rule(FormatWhy::BadNumber, at + 1, is_no_slot(written.number)),
         rule(FormatWhy::BadNumber, star_at, written.is_starred_number()),
-        rule(FormatWhy::ZeroWidth, width_at, is_zero(written.width)),
-        rule(FormatWhy::TooWide, width_at, is_too_wide(written.width)),
+        rule(
+            FormatWhy::ZeroWidth,
+            width_at,
+            is_zero(written.width, width),
+        ),
+        rule(FormatWhy::TooWide, width_at, width > 65535),
     ])
 }
