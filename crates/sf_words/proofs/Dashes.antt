@@ -116,7 +116,7 @@ nothing (k ∷ ks) b none_a none_b = absurd (no_kind none_a)
 
 -- nothing is at fault where clap finds nothing, and the command nothing in the rows
 pub none_at_fault : (words : List Text) (verb : Verb) (rows : List Row) → fault_of sf_app (codes "sf" ∷ words) ≡ []
-    → subcommand_of sf_app (codes "sf" ∷ words) ≡ Some (verb_text verb, rows) → own_faults rows ≡ [] → faults_of words ≡ []
+    → subcommand_of sf_app (codes "sf" ∷ words) ≡ Some (verb_text verb, rows) → own_faults (verb_text verb) rows ≡ [] → faults_of words ≡ []
 none_at_fault words verb rows taken is own =
     nothing (fault_of sf_app (codes "sf" ∷ words)) (entered_faults (subcommand_of sf_app (codes "sf" ∷ words))) taken
     (subst (λ e. entered_faults e ≡ []) (sym is) own)
@@ -161,7 +161,7 @@ pub texts_of_values : (format value : Text) (rest : List Text)
 unfolding clap_on_literals
 texts_of_values format value rest = refl
 
-pub values_own : (format value : Text) (rest : List Text) → own_faults (finished print_level.rules (at_values format (value ∷ rest)).held) ≡ []
+pub values_own : (format value : Text) (rest : List Text) → own_faults (verb_text Print) (finished print_level.rules (at_values format (value ∷ rest)).held) ≡ []
 unfolding clap_on_literals
 values_own format value rest = refl
 

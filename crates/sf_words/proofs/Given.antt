@@ -1,8 +1,9 @@
 -- What the getters of the matches answer, by the rows.
-use Rattle.std.proofs.Common.{◌≡◌, ◌≢◌, ◌⊎◌, inl, inr, ◌∙◌, ap, sym, subst, refl, Bool, true, false, true≢false, ℕ, List, [], ◌∷◌, Option, Some, None, Result, Ok, codes, ◌≤◌, ◌<◌, ◌^◌}
+use Rattle.std.proofs.Common.{◌≡◌, ◌≢◌, ◌⊎◌, inl, inr, ◌∙◌, ap, sym, subst, refl, Bool, true, false, not, cond, ◌==◌, ◌&&◌, ◌||◌, map, true≢false, ℕ, List, [], ◌∷◌, ◌++◌, length, Option, Some, None, Result, Ok, codes, arith, ◌≤◌, ◌<◌, ◌^◌}
 use Rattle.std.specs.Borrow.{Bor}
 use Rattle.std.specs.Prelude.{if◌then◌else◌, option_map, unwrap_or}
 use Rattle.std.specs.Str.{bytes_eq}
+use Rattle.std.proofs.lemmas.Bool.{ne_eqb}
 use Rattle.std.proofs.lemmas.Slice.Eq.{bytes_eq-Decides}
 use Rattle.std.specs.Str.Parse.{ParsesBool, ParsesUnsigned}
 use Rattle.clap.specs.Words.{ReadsOne, Text, matched_of, raw_values, rows_of}
@@ -14,14 +15,16 @@ use Rattle.clap.specs.Words.{IsAmong, Kinds, Row}
 use Rattle.clap.specs.declared.error.ErrorKind.{ErrorKind}
 use Rattle.clap.specs.declared.error.ErrorKind.TheVariants as kind
 use Rattle.sf_words.specs.Misuses.{misuse_kind}
-use Rattle.sf_words.specs.Orders.{HasTexts, IsRefusal, IsRefusalOf, is_request, is_true, number_by, texts_by, values_at, verb_text}
+use Rattle.sf_words.specs.Orders.{HasLines, HasTexts, HasTextsFor, IsRefusal, IsRefusalOf, form_faults, format_faults, has_line_option, is_full, is_request, is_set, is_true, line_faults, number_by, own_faults, texts_by, values_at, verb_text}
 use Rattle.sf_words.specs.declared.misuse.Misuse.{Misuse}
-use Rattle.sf_words.specs.declared.misuse.Misuse.TheVariants.{Form}
+use Rattle.sf_words.specs.declared.misuse.Misuse.TheVariants.{Form, NoLines, TwoFormats, NoFormat}
+use Rattle.sf_words.specs.declared.order.LineOptions.{LineOptions}
 use Rattle.sf_words.specs.declared.order.Verb.{Verb}
 use Rattle.sf_words.specs.declared.order.Verb.TheVariants.{Show, Scan, Print, Check, Copy}
 use Rattle.sf_words.specs.declared.order.WordsFault.{WordsFault}
 use Rattle.sf_words.specs.declared.order.WordsFault.TheVariants.{Help, Usage, NoMemory}
-use Rattle.sf_words.specs.Taken.{IsTaken, IsWithin}
+use Rattle.sf_words.proofs.Walking.{both_pass}
+use Rattle.sf_words.specs.Taken.{AllowsLines, HasWords, IsOneAtMost, IsTaken, IsWithin}
 
 -- a text that was read, or another
 pub text_read : (o : Option (Bor Text)) (other text : Bor Text) (given : Option Text) → text ≡ unwrap_or o other → option_map (λ s. s.now) o ≡ given
@@ -40,15 +43,20 @@ pub some_given : {X : Type 0} (g : X → List Text) (r : Option X) (x : X) (f : 
 some_given g r x f id is some =
     ap (λ o. unwrap_or (option_map g o) []) (sym some) ∙ ap (λ o. unwrap_or o []) (is ∙ raw_values-rows f id)
 
+-- whether there are texts, by their number
+pub not_empty : (values : List (Bor Text)) (empty : Bool) → empty ≡ (length values == 0) → not empty ≡ is_full (map (λ v. v.now) values)
+not_empty [] empty is = ap not is
+not_empty (value ∷ rest) empty is = ap not (is ∙ ne_eqb (length (value ∷ rest)) 0 (λ none. omega (arith, none)))
+
 -- the number that was given, or the other where none was
-pub number_read : (low high other : ℕ) → low ≤ other → other ≤ high → high < 2 ^ 32 → (E : Type 0) (G : Text → Result ℕ E → Type 0)
-    → ((t : Text) (r : Result ℕ E) → G t r → ParsesUnsigned 32 10 t r)
+pub number_read : (bits low high other : ℕ) → low ≤ other → other ≤ high → high < 2 ^ bits → (E : Type 0) (G : Text → Result ℕ E → Type 0)
+    → ((t : Text) (r : Result ℕ E) → G t r → ParsesUnsigned bits 10 t r)
     → (o : Option Text) (r : Option ℕ) → IsWithin low high o → (o ≡ None → r ≡ None) → ((t : Text) → o ≡ Some t → ReadsOne G t r)
     → (unwrap_or r other ≡ number_by other o) × (low ≤ unwrap_or r other) × (unwrap_or r other ≤ high)
-number_read low high other above below fits E G parses None r within none value = rw (none refl) (refl, above, below)
-number_read low high other above below fits E G parses (Some t) r within none value =
+number_read bits low high other above below fits E G parses None r within none value = rw (none refl) (refl, above, below)
+number_read bits low high other above below fits E G parses (Some t) r within none value =
     let read = value t refl in
-    let got = signed_reads E G 32 low high within.0 r (subst (λ u. ReadsOne G u r) within.1 read) parses fits within.2 in
+    let got = signed_reads E G bits low high within.0 r (subst (λ u. ReadsOne G u r) within.1 read) parses fits within.2 in
     let parsed = parses t (Ok got.0) (subst (ReadsOne G t) got.1 read) in
     rw got.1 (parsed.1, got.2, got.3)
 
@@ -89,21 +97,77 @@ verb_back Print = refl
 verb_back Check = refl
 verb_back Copy = refl
 
--- a subcommand that was taken has as many texts as its verb wants, under any name of the verb
-pub enough_texts : (entered : Option (Text × List Row)) → (taken : IsTaken entered) → (verb : Verb) (given : List Row) → entered ≡ Some (verb_text verb, given)
-    → HasTexts verb (texts_by verb given)
-enough_texts entered taken verb given is =
+-- what is known of a subcommand that was taken, under any name of its verb
+pub taken_at : (entered : Option (Text × List Row)) → (taken : IsTaken entered) → (verb : Verb) (given : List Row) → entered ≡ Some (verb_text verb, given)
+    → AllowsLines verb given × HasWords verb given
+taken_at entered taken verb given is =
     let same = ap (value_or (verb_text verb, given)) (sym taken.is_given ∙ is) in
     let verbs : taken.verb ≡ verb = sym (verb_back taken.verb) ∙ ap (λ (p : Text × List Row). verb_by p.0) same ∙ verb_back verb in
-    subst (λ rows. HasTexts verb (texts_by verb rows)) (ap (λ (p : Text × List Row). p.1) same) (subst (λ v. HasTexts v (texts_by v taken.given)) verbs taken.enough)
+    subst (λ rows. AllowsLines verb rows × HasWords verb rows) (ap (λ (p : Text × List Row). p.1) same)
+    (subst (λ v. AllowsLines v taken.given × HasWords v taken.given) verbs (taken.lines, taken.enough))
   where
     value_or : Text × List Row → Option (Text × List Row) → Text × List Row
     value_or other None = other
     value_or other (Some value) = value
 
+-- ---- the formats of a scan
+
+no_fault : {k : ErrorKind} {ks : Kinds} → ◌≡◌ {A = Kinds} (k ∷ ks) [] → ⊥
+no_fault e = omega (arith, ap length e)
+
+-- nothing is at fault in formats
+abbrev NoFault : List Text → List Text → Type 0
+NoFault words others =
+    cond (is_full words) (cond (is_full others) (kind.ArgumentConflict ∷ []) []) (cond (is_full others) [] (kind.MissingRequiredArgument ∷ [])) ≡ []
+
+one_format : (words others : List Text) → IsOneAtMost words → is_full others ≡ false → NoFault words others → HasTexts Scan (words ++ others)
+one_format [] [] one none fine = absurd (no_fault fine)
+one_format (word ∷ []) [] one none fine = tt
+one_format (word ∷ next ∷ rest) [] one none fine = elim one [ ]
+one_format words (text ∷ rest) one none fine = absurd (true≢false none)
+
+formats_for : (words others : List Text) (options : LineOptions) → NoFault words others → HasTextsFor (Some options) Scan (words ++ others)
+formats_for [] [] options fine = absurd (no_fault fine)
+formats_for [] (text ∷ rest) options fine = tt
+formats_for (word ∷ more) others options fine = tt
+
+-- without --lines there is no option of lines
+none_without : (lines option : Bool) → lines ≡ false → cond (not lines && option) (kind.MissingRequiredArgument ∷ []) [] ≡ [] → option ≡ false
+none_without true option off fine = absurd (true≢false off)
+none_without false true off fine = absurd (no_fault fine)
+none_without false false off fine = refl
+
+first_false : (a b : Bool) → (a || b) ≡ false → a ≡ false
+first_false true b e = e
+first_false false b e = refl
+
+-- a subcommand in which the command finds nothing at fault has as many texts as its verb wants
+pub enough_for : (verb : Verb) (rows : List Row) (lines : Option LineOptions) → AllowsLines verb rows → HasWords verb rows → HasLines rows lines
+    → own_faults (verb_text verb) rows ≡ [] → HasTextsFor lines verb (texts_by verb rows)
+enough_for Show rows None allowed words has fine = words
+enough_for Show rows (Some options) allowed words has fine = absurd (true≢false (sym has.0 ∙ allowed))
+enough_for Print rows None allowed words has fine = words
+enough_for Print rows (Some options) allowed words has fine = absurd (true≢false (sym has.0 ∙ allowed))
+enough_for Check rows None allowed words has fine = words
+enough_for Check rows (Some options) allowed words has fine = absurd (true≢false (sym has.0 ∙ allowed))
+enough_for Copy rows None allowed words has fine = words
+enough_for Copy rows (Some options) allowed words has fine = absurd (true≢false (sym has.0 ∙ allowed))
+enough_for Scan rows None allowed words has fine =
+    let line = (both_pass (form_faults rows) (or_else (line_faults rows) (format_faults rows)) fine).1 in
+    let both = both_pass (line_faults rows) (format_faults rows) line in
+    let none = first_false _ _ (none_without (is_set (codes "lines") rows) (has_line_option rows) has both.0) in
+    one_format (values_at (codes "FORMAT") rows) (values_at (codes "formats") rows) words none both.1
+enough_for Scan rows (Some options) allowed words has fine =
+    let line = (both_pass (form_faults rows) (or_else (line_faults rows) (format_faults rows)) fine).1 in
+    let both = both_pass (line_faults rows) (format_faults rows) line in
+    formats_for (values_at (codes "FORMAT") rows) (values_at (codes "formats") rows) options both.1
+
 -- what the command refuses by itself is no request
 pub no_request : (misuse : Misuse) → is_request (misuse_kind misuse) ≡ false
 no_request (Form text) = refl
+no_request (NoLines option) = refl
+no_request TwoFormats = refl
+no_request NoFormat = refl
 
 -- a kind of the first faults is one of both
 pub among_first : (found : ErrorKind) (kinds others : Kinds) → IsAmong found kinds → IsAmong found (or_else kinds others)

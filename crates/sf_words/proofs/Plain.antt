@@ -142,7 +142,7 @@ rows_named verb found rows = ◌≡◌ {A = Option (Text × List Row)} (Some ((l
 
 taken_by : (verb : Verb) (words texts : List Text) (end : Walk) (rows : List Row) → walk (level verb).rules [] nothing_held words ≡ end
     → walk_fault (level verb) [] (walk_from nothing_held) words ≡ [] → checks_after (level verb) false end ≡ []
-    → rows_named verb (finished (level verb).rules end.held) rows → own_faults rows ≡ [] → texts_by verb rows ≡ texts → IsTakenAs (verb_text verb ∷ words) verb texts
+    → rows_named verb (finished (level verb).rules end.held) rows → own_faults (verb_text verb) rows ≡ [] → texts_by verb rows ≡ texts → IsTakenAs (verb_text verb ∷ words) verb texts
 taken_by verb words texts end rows is walk_fine checks named own are = record {
   taken = none_at_fault (verb_text verb ∷ words) verb rows fine entered_is own;
   given = rows;

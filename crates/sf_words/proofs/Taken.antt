@@ -18,8 +18,8 @@ use Rattle.clap.specs.declared.builder.value_parser.Reading.{Reading}
 use Rattle.clap.specs.declared.builder.value_parser.ValueParser.{ValueParser}
 use Rattle.clap.proofs.ValueTestLemmas.{accepts-Accepts}
 use Rattle.sf_words.specs.Line.{sf_app}
-use Rattle.sf_words.specs.Orders.{HasTexts, texts_by, values_at, verb_text}
-use Rattle.sf_words.specs.Taken.{IsTaken, IsWithin}
+use Rattle.sf_words.specs.Orders.{HasTexts, is_set, is_true, values_at, verb_text}
+use Rattle.sf_words.specs.Taken.{AllowsLines, HasWords, IsOneAtMost, IsTaken, IsWithin}
 use Rattle.sf_words.specs.declared.order.Verb.{Verb}
 use Rattle.sf_words.specs.declared.order.Verb.TheVariants.{Show, Scan, Print, Check, Copy}
 use Rattle.sf_words.proofs.Walking.{checks_pass}
@@ -148,6 +148,14 @@ module _ (s : Shape) (distinct : is_distinct s.rules ≡ true) (rows : List Row)
       let named = (bytes_eq-Decides r.id id).0 at.0 in
       true≢false (sym (id_in s.rules fits.rule id fits.is_in (sym fits.named ∙ named)) ∙ none)
 
+  -- no option without a value is set that no rule has
+  not_set : (id : Text) → has_id id s.rules ≡ false → is_set id rows ≡ false
+  not_set id none = by_row (row_at id rows) (no_row id none)
+    where
+      by_row : (o : Option Row) → ((r : Row) → o ≡ Some r → ⊥) → is_true (option_and_then row_text o) ≡ false
+      by_row None absent = refl
+      by_row (Some r) absent = absurd (absent r refl)
+
   -- what has to be given has one value
   one_given : s.subcommand_negates_reqs ≡ false → check_fault s rows false ≡ [] → (id : Text) → IsWanted s.rules id → (t : Text) × (values_at id rows ≡ t ∷ [])
   one_given negates checks id wanted =
@@ -159,6 +167,14 @@ module _ (s : Shape) (distinct : is_distinct s.rules ≡ true) (rows : List Row)
           → (t : Text) × (unwrap_or (option_map (λ (r : Row). r.values) o) [] ≡ t ∷ [])
       by_row None pass e = absurd (true≢false (sym e))
       by_row (Some r) pass e = ((pass r refl).text, (pass r refl).values)
+
+  -- what need not be given has no more than one value
+  one_at_most : (id : Text) → HasOne s.rules id → IsOneAtMost (values_at id rows)
+  one_at_most id has = by_row (row_at id rows) (passing id has)
+    where
+      by_row : (o : Option Row) → ((r : Row) → o ≡ Some r → Passing has.rule r) → IsOneAtMost (unwrap_or (option_map (λ (r : Row). r.values) o) [])
+      by_row None pass = tt
+      by_row (Some r) pass = subst IsOneAtMost (sym (pass r refl).values) tt
 
   -- a number that is there is in the range
   number_given : (id : Text) (low high : ℕ) → NumberOf id low high s.rules → IsWithin low high (one_of id rows)
@@ -196,17 +212,36 @@ module _ (s : Shape) (distinct : is_distinct s.rules ≡ true) (rows : List Row)
 -- the words that a verb wants
 abbrev wanted : Verb → List Text
 wanted Show = codes "FORMAT" ∷ []
-wanted Scan = codes "FORMAT" ∷ []
+wanted Scan = []
 wanted Print = codes "FORMAT" ∷ []
 wanted Check = codes "PRINT" ∷ codes "SCAN" ∷ []
 wanted Copy = codes "PRINT" ∷ codes "SCAN" ∷ []
 
-texts_enough : (verb : Verb) (rows : List Row) → AllByRecursion (λ id. (t : Text) × (values_at id rows ≡ t ∷ [])) (wanted verb) → HasTexts verb (texts_by verb rows)
-texts_enough Show rows each = subst (HasTexts Show) (sym each.0.1) tt
-texts_enough Scan rows each = subst (HasTexts Scan) (sym each.0.1) tt
-texts_enough Print rows each = subst (λ ts. HasTexts Print (ts ++ values_at (codes "VALUES") rows)) (sym each.0.1) tt
-texts_enough Check rows each = subst (HasTexts Check) (sym (ap₂ (λ a b. a ++ b) each.0.1 each.1.0.1)) tt
-texts_enough Copy rows each = subst (HasTexts Copy) (sym (ap₂ (λ a b. a ++ b) each.0.1 each.1.0.1)) tt
+-- and those that it takes
+abbrev taken_too : Verb → List Text
+taken_too Scan = codes "FORMAT" ∷ []
+taken_too _ = []
+
+texts_enough : (verb : Verb) (rows : List Row) → AllByRecursion (λ id. (t : Text) × (values_at id rows ≡ t ∷ [])) (wanted verb)
+    → AllByRecursion (λ id. IsOneAtMost (values_at id rows)) (taken_too verb) → HasWords verb rows
+texts_enough Show rows each others = subst (HasTexts Show) (sym each.0.1) tt
+texts_enough Scan rows each others = others.0
+texts_enough Print rows each others = subst (λ ts. HasTexts Print (ts ++ values_at (codes "VALUES") rows)) (sym each.0.1) tt
+texts_enough Check rows each others = subst (HasTexts Check) (sym (ap₂ (λ a b. a ++ b) each.0.1 each.1.0.1)) tt
+texts_enough Copy rows each others = subst (HasTexts Copy) (sym (ap₂ (λ a b. a ++ b) each.0.1 each.1.0.1)) tt
+
+-- only a scan has the option of lines
+abbrev LinesOf : Verb → List Rule → Type 0
+LinesOf Scan c = Unit {0}
+LinesOf verb c = has_id (codes "lines") c ≡ false
+
+lines_allowed : (verb : Verb) (c : List Rule) (rows : List Row) → LinesOf verb c
+    → (has_id (codes "lines") c ≡ false → is_set (codes "lines") rows ≡ false) → AllowsLines verb rows
+lines_allowed Show c rows none off = off none
+lines_allowed Scan c rows none off = tt
+lines_allowed Print c rows none off = off none
+lines_allowed Check c rows none off = off none
+lines_allowed Copy c rows none off = off none
 
 -- what is known of a subcommand
 pub record IsLevel (verb : Verb) (s : Shape) : Type 0 where
@@ -216,7 +251,10 @@ pub record IsLevel (verb : Verb) (s : Shape) : Type 0 where
   pub distinct : is_distinct s.rules ≡ true
   pub limit : NumberOf (codes "limit") 0 2147483647 s.rules
   pub profile : NumberOf (codes "profile") 1 2 s.rules
+  pub skip : NumberOf (codes "skip") 0 9223372036854775807 s.rules
+  pub lines : LinesOf verb s.rules
   pub words : AllByRecursion (IsWanted s.rules) (wanted verb)
+  pub others : AllByRecursion (HasOne s.rules) (taken_too verb)
 
 -- a subcommand without a fault is taken
 level_taken : (verb : Verb) (s : Shape) → IsLevel verb s → (words : List Text) → level_fault s [] nothing_held words false [] ≡ [] → IsTaken (Some (rows_at s words))
@@ -229,7 +267,10 @@ level_taken verb s level words e =
       is_given = ap (λ name. Some (name, rows)) level.name;
       limit = number_given s level.distinct rows good (codes "limit") 0 2147483647 level.limit;
       profile = number_given s level.distinct rows good (codes "profile") 1 2 level.profile;
-      enough = texts_enough verb rows (each (wanted verb) level.words (one_given s level.distinct rows good level.wants (checks_pass s [] words false [] e)));
+      skip = number_given s level.distinct rows good (codes "skip") 0 9223372036854775807 level.skip;
+      lines = lines_allowed verb s.rules rows level.lines (not_set s level.distinct rows good (codes "lines"));
+      enough = texts_enough verb rows (each (wanted verb) level.words (one_given s level.distinct rows good level.wants (checks_pass s [] words false [] e)))
+          (each (taken_too verb) level.others (one_at_most s level.distinct rows good));
     }
   where
     each : {P Q : Text → Type 0} (ids : List Text) → AllByRecursion P ids → ((id : Text) → P id → Q id) → AllByRecursion Q ids
@@ -248,7 +289,10 @@ level_of s (inl is) name answers no_help = (
     distinct = refl;
     limit = inl refl;
     profile = inr (record { rule = _; is_in = inl refl; named = refl; one = refl }, refl, refl);
+    skip = inl refl;
+    lines = refl;
     words = (record { has = record { rule = _; is_in = inr (inr (inl refl)); named = refl; one = refl }; required = refl }, tt);
+    others = tt;
   }),
 )
 level_of s (inr (inl is)) name answers no_help = (
@@ -260,7 +304,10 @@ level_of s (inr (inl is)) name answers no_help = (
     distinct = refl;
     limit = inr (record { rule = _; is_in = inl refl; named = refl; one = refl }, refl, refl);
     profile = inr (record { rule = _; is_in = inr (inr (inl refl)); named = refl; one = refl }, refl, refl);
-    words = (record { has = record { rule = _; is_in = inr (inr (inr (inr (inr (inl refl))))); named = refl; one = refl }; required = refl }, tt);
+    skip = inr (record { rule = _; is_in = inr (inr (inr (inr (inr (inr (inr (inl refl))))))); named = refl; one = refl }, refl, refl);
+    lines = tt;
+    words = tt;
+    others = (record { rule = _; is_in = inr (inr (inr (inr (inr (inr (inr (inr (inr (inr (inr (inl refl))))))))))); named = refl; one = refl }, tt);
   }),
 )
 level_of s (inr (inr (inl is))) name answers no_help = (
@@ -272,7 +319,10 @@ level_of s (inr (inr (inl is))) name answers no_help = (
     distinct = refl;
     limit = inl refl;
     profile = inr (record { rule = _; is_in = inl refl; named = refl; one = refl }, refl, refl);
+    skip = inl refl;
+    lines = refl;
     words = (record { has = record { rule = _; is_in = inr (inr (inl refl)); named = refl; one = refl }; required = refl }, tt);
+    others = tt;
   }),
 )
 level_of s (inr (inr (inr (inl is)))) name answers no_help = (
@@ -284,10 +334,13 @@ level_of s (inr (inr (inr (inl is)))) name answers no_help = (
     distinct = refl;
     limit = inl refl;
     profile = inr (record { rule = _; is_in = inl refl; named = refl; one = refl }, refl, refl);
+    skip = inl refl;
+    lines = refl;
     words = (
       record { has = record { rule = _; is_in = inr (inr (inl refl)); named = refl; one = refl }; required = refl },
       (record { has = record { rule = _; is_in = inr (inr (inr (inl refl))); named = refl; one = refl }; required = refl }, tt),
     );
+    others = tt;
   }),
 )
 level_of s (inr (inr (inr (inr (inl is))))) name answers no_help = (
@@ -299,10 +352,13 @@ level_of s (inr (inr (inr (inr (inl is))))) name answers no_help = (
     distinct = refl;
     limit = inr (record { rule = _; is_in = inl refl; named = refl; one = refl }, refl, refl);
     profile = inr (record { rule = _; is_in = inr (inr (inl refl)); named = refl; one = refl }, refl, refl);
+    skip = inl refl;
+    lines = refl;
     words = (
       record { has = record { rule = _; is_in = inr (inr (inr (inr (inl refl)))); named = refl; one = refl }; required = refl },
       (record { has = record { rule = _; is_in = inr (inr (inr (inr (inr (inl refl))))); named = refl; one = refl }; required = refl }, tt),
     );
+    others = tt;
   }),
 )
 level_of s (inr (inr (inr (inr (inr (inl is)))))) name answers no_help =

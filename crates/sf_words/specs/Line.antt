@@ -4,7 +4,7 @@ use Rattle.clap.specs.Words.{App, Rule, Text, app_of, new_app, new_rule, with_ru
 use Rattle.clap.specs.declared.builder.command.Command.{Command}
 use Rattle.clap.specs.declared.builder.command.Command.TheViews.{out-Command}
 use Rattle.clap.specs.declared.builder.value_parser.ValueParser.TheVariants.{Signed}
-use Rattle.clap.specs.declared.builder.action.ArgAction.TheVariants.{SetTrue}
+use Rattle.clap.specs.declared.builder.action.ArgAction.TheVariants.{Append, SetTrue}
 
 -- ---- arguments
 
@@ -42,6 +42,22 @@ output_rule = record (new_rule (codes "output")) {
 abbrev pub flag_rule : Text → Rule
 flag_rule name = record (new_rule name) { long = Some name; action = Some SetTrue }
 
+-- --skip N: a number of i64 that isn't negative
+abbrev pub skip_rule : Rule
+skip_rule = record (new_rule (codes "skip")) {
+  long = Some (codes "skip");
+  value_names = 1;
+  parser = Some (Signed (pos 0) (pos 9223372036854775807));
+}
+
+-- -e FORMAT (101), as often as wanted
+abbrev pub formats_rule : Rule
+formats_rule = record (new_rule (codes "formats")) { short = Some 101; value_names = 1; action = Some Append }
+
+-- a word that may be given
+abbrev pub format_rule : Rule
+format_rule = new_rule (codes "FORMAT")
+
 -- any number of words
 abbrev pub words_rule : Text → Rule
 words_rule name = record (new_rule name) { range = Some (record { start_inclusive = 0; end_inclusive = 2 ^ 64 - 1 }) }
@@ -59,8 +75,16 @@ with_records a = with_options (with_rule (with_rule a limit_rule) (flag_rule (co
 abbrev pub show_app : App
 show_app = with_rule (with_options (new_app (codes "show"))) (word_rule (codes "FORMAT"))
 
+-- those of a scan of lines
+abbrev pub with_lines : App → App
+with_lines a =
+    with_rule
+    (with_rule (with_rule (with_rule (with_rule (with_rule a (flag_rule (codes "lines"))) formats_rule) skip_rule) (flag_rule (codes "whole")))
+    (flag_rule (codes "keep-going")))
+    (flag_rule (codes "quiet"))
+
 abbrev pub scan_app : App
-scan_app = with_rule (with_rule (with_records (new_app (codes "scan"))) output_rule) (word_rule (codes "FORMAT"))
+scan_app = with_rule (with_lines (with_rule (with_records (new_app (codes "scan"))) output_rule)) format_rule
 
 abbrev pub print_app : App
 print_app = with_rule (with_rule (with_options (new_app (codes "print"))) (word_rule (codes "FORMAT"))) (words_rule (codes "VALUES"))

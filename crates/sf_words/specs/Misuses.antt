@@ -4,10 +4,13 @@ use Rattle.clap.specs.Words.{Kinds}
 use Rattle.clap.specs.declared.error.kind.ErrorKind.{ErrorKind}
 use Rattle.clap.specs.declared.error.kind.ErrorKind.TheVariants as kind
 use Rattle.sf_words.specs.declared.misuse.Misuse.{Misuse}
-use Rattle.sf_words.specs.declared.misuse.Misuse.TheVariants.{Form}
+use Rattle.sf_words.specs.declared.misuse.Misuse.TheVariants.{Form, NoLines, TwoFormats, NoFormat}
 
 abbrev pub misuse_kind : Misuse → ErrorKind
 misuse_kind (Form text) = kind.InvalidValue
+misuse_kind (NoLines option) = kind.MissingRequiredArgument
+misuse_kind TwoFormats = kind.ArgumentConflict
+misuse_kind NoFormat = kind.MissingRequiredArgument
 
 abbrev pub misuse_kinds : Option Misuse → Kinds
 misuse_kinds None = []

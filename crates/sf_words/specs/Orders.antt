@@ -1,5 +1,5 @@
 -- What the words of a command ask for, as clap reads them.
-use Rattle.std.specs.Prelude.{◌≡◌, ◌≢◌, ◌≤◌, ◌||◌, ℕ, Bool, true, false, List, [], ◌∷◌, ◌++◌, Option, Some, None, if◌then◌else◌, codes, map, string_bytes, unwrap_or}
+use Rattle.std.specs.Prelude.{◌≡◌, ◌≢◌, ◌≤◌, ◌&&◌, ◌||◌, ℕ, Bool, true, false, not, List, [], ◌∷◌, ◌++◌, Option, Some, None, if◌then◌else◌, codes, map, string_bytes, unwrap_or}
 use Rattle.std.specs.Option.{option_map_or}
 use Rattle.std.specs.Str.{bytes_eq}
 use Rattle.std.specs.Str.Parse.{digits_value, without_leading_plus}
@@ -8,6 +8,7 @@ use Rattle.clap.specs.Words.{IsAmong, Kinds, Row, Text, all_of, fault_of, first_
 use Rattle.clap.specs.declared.error.kind.ErrorKind.{ErrorKind}
 use Rattle.clap.specs.declared.error.kind.ErrorKind.TheVariants as kind
 use Rattle.sf_words.specs.Line.{sf_app}
+use Rattle.sf_words.specs.declared.order.LineOptions.{LineOptions}
 use Rattle.sf_words.specs.declared.order.Order.{Order}
 use Rattle.sf_words.specs.declared.order.Output.{Output}
 use Rattle.sf_words.specs.declared.order.Output.TheVariants.{Plain, Tsv, Json}
@@ -35,7 +36,7 @@ values_at id rows = unwrap_or (all_of id rows) []
 -- the formats, and then the values
 abbrev pub texts_by : Verb → List Row → List Text
 texts_by Show rows = values_at (codes "FORMAT") rows
-texts_by Scan rows = values_at (codes "FORMAT") rows
+texts_by Scan rows = values_at (codes "FORMAT") rows ++ values_at (codes "formats") rows
 texts_by Print rows = values_at (codes "FORMAT") rows ++ values_at (codes "VALUES") rows
 texts_by Check rows = values_at (codes "PRINT") rows ++ values_at (codes "SCAN") rows
 texts_by Copy rows = values_at (codes "PRINT") rows ++ values_at (codes "SCAN") rows
@@ -77,6 +78,24 @@ HasTexts Check (print ∷ scan ∷ []) = Unit {0}
 HasTexts Copy (print ∷ scan ∷ []) = Unit {0}
 HasTexts _ _ = ⊥
 
+-- the same where lines are scanned: one format or more
+abbrev pub HasTextsFor : Option LineOptions → Verb → List Text → Type 0
+HasTextsFor None verb texts = HasTexts verb texts
+HasTextsFor (Some options) Scan (format ∷ more) = Unit {0}
+HasTextsFor (Some options) _ _ = ⊥
+
+-- the options of lines
+pub record AreLineOptions (given : List Row) (options : LineOptions) : Type 0 where
+  pub skip : options.skip ≡ number_by 0 (one_of (codes "skip") given)
+  pub whole : options.whole ≡ is_set (codes "whole") given
+  pub keep_going : options.keep_going ≡ is_set (codes "keep-going") given
+  pub quiet : options.quiet ≡ is_set (codes "quiet") given
+
+-- there are options of lines where --lines was given
+abbrev pub HasLines : List Row → Option LineOptions → Type 0
+HasLines given None = is_set (codes "lines") given ≡ false
+HasLines given (Some options) = (is_set (codes "lines") given ≡ true) × AreLineOptions given options
+
 -- The order is what a subcommand with these rows asks for.
 pub record IsOrderOf (entered : Option (Text × List Row)) (order : Order) : Type 0 where
   pub given : List Row
@@ -87,8 +106,9 @@ pub record IsOrderOf (entered : Option (Text × List Row)) (order : Order) : Typ
   pub line_buffered : order.line_buffered ≡ is_set (codes "line-buffered") given
   pub explain : order.explain ≡ is_set (codes "explain") given
   pub output : output_text order.output ≡ form_given given
+  pub lines : HasLines given order.lines
   pub texts : map string_bytes order.texts.items ≡ texts_by order.verb given
-  pub enough : HasTexts order.verb (map string_bytes order.texts.items)
+  pub enough : HasTextsFor order.lines order.verb (map string_bytes order.texts.items)
 
 -- The order is what clap makes of the words after the program's name: the subcommand that they name, and what its arguments
 -- were given.
@@ -101,12 +121,42 @@ IsOrder words order = IsOrderOf (subcommand_of sf_app (codes "sf" ∷ words)) or
 abbrev pub is_form : Text → Bool
 is_form text = bytes_eq text (codes "plain") || (bytes_eq text (codes "tsv") || bytes_eq text (codes "json"))
 
--- what is at fault in a subcommand's rows that its definition lets pass: the form
-abbrev pub own_faults : List Row → Kinds
-own_faults rows = if is_form (form_given rows) then [] else kind.InvalidValue ∷ []
+abbrev pub form_faults : List Row → Kinds
+form_faults rows = if is_form (form_given rows) then [] else kind.InvalidValue ∷ []
+
+abbrev pub is_full : List Text → Bool
+is_full [] = false
+is_full (text ∷ rest) = true
+
+-- the argument was given texts
+abbrev pub has_texts : Text → List Row → Bool
+has_texts id rows = is_full (values_at id rows)
+
+-- an option was given that is one of lines
+abbrev pub has_line_option : List Row → Bool
+has_line_option rows =
+    has_texts (codes "formats") rows
+    || (has_texts (codes "skip") rows
+    || (is_set (codes "whole") rows || (is_set (codes "keep-going") rows || is_set (codes "quiet") rows)))
+
+-- such an option stands with --lines alone
+abbrev pub line_faults : List Row → Kinds
+line_faults rows = if not (is_set (codes "lines") rows) && has_line_option rows then kind.MissingRequiredArgument ∷ [] else []
+
+-- a scan has formats as a word or behind -e, and not both
+abbrev pub format_faults : List Row → Kinds
+format_faults rows =
+    if has_texts (codes "FORMAT") rows
+    then (if has_texts (codes "formats") rows then kind.ArgumentConflict ∷ [] else [])
+    else (if has_texts (codes "formats") rows then [] else kind.MissingRequiredArgument ∷ [])
+
+-- what is at fault in the rows of a subcommand that its definition lets pass
+abbrev pub own_faults : Text → List Row → Kinds
+own_faults name rows =
+    or_else (form_faults rows) (or_else (line_faults rows) (if bytes_eq name (codes "scan") then format_faults rows else []))
 
 abbrev pub entered_faults : Option (Text × List Row) → Kinds
-entered_faults entered = option_map_or (λ e. own_faults e.1) entered []
+entered_faults entered = option_map_or (λ e. own_faults e.0 e.1) entered []
 
 -- the kinds of fault in the words after the program's name: those that clap finds, and where it takes the words, those of the
 -- subcommand that they name. There are none where the words are taken.

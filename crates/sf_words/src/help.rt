@@ -18,16 +18,23 @@ Exit status:
   3  standard output could not be written
   4  memory was refused";
 
+/// How `sf scan` is called.
+pub(crate) const SCAN_USAGE: &str = "sf scan [OPTIONS] <FORMAT>
+       sf scan --lines [OPTIONS] -e <FORMAT>...";
+
 /// The end of the help of `sf scan`.
 pub(crate) const SCAN: &str = "Examples:
   sf scan '%d,%d' < points                a line of two numbers for each record
   sf scan --limit 80 '%s' < words         no record may have more than 80 bytes
   sf scan --output json '%d,%d' < points  an array of two numbers for each record
+  sf scan --lines '%d,%d' < points        each line by itself: what stands behind its numbers is dropped
+  sf scan --lines --skip 1 --whole -e '%d,%d' -e '%d' < points
+                                          lines of two numbers or of one, behind a head line
 
 Exit status:
-  0  each record was scanned, and the input ended where a record may begin
-  1  a record failed or took no bytes, or there were too many records
-  2  the words or the format were at fault
+  0  each record or line was scanned, and the input ended where a record may begin
+  1  a record or a line failed, a record took no bytes, or there were too many
+  2  the words or a format were at fault
   3  standard input could not be read, or standard output not written
   4  memory was refused";
 

@@ -8,5 +8,5 @@ mod misuse;
 mod order;
 mod words;
 
-pub use order::{Order, Output, Profile, Verb, WordsFault};
+pub use order::{LineOptions, Order, Output, Profile, Verb, WordsFault};
 pub use words::read_words;

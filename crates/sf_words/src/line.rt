@@ -1,7 +1,7 @@
 //! The command line of `sf`, as `clap` has it.
 ghost use Rattle.std.specs.Prelude.{◌≡◌, IfOk, false, codes};
 ghost use Rattle.clap.specs.Words.{new_app, rule_of};
-ghost use Rattle.sf_words.specs.Line.{IsLine, check_app, copy_app, flag_rule, limit_rule, output_rule, print_app, profile_rule, scan_app, sf_app, show_app, with_options, with_records, word_rule, words_rule};
+ghost use Rattle.sf_words.specs.Line.{IsLine, check_app, copy_app, flag_rule, format_rule, formats_rule, limit_rule, output_rule, print_app, profile_rule, scan_app, sf_app, show_app, skip_rule, with_options, with_records, word_rule, words_rule};
 
 use crate::help;
 use clap::{Arg, ArgAction, Command, value_parser};
@@ -83,6 +83,82 @@ fn explain<'a>(alloc: Global) -> Arg<'a>
     )
 }
 
+/// Whether each line is an input of its own.
+fn lines<'a>(alloc: Global) -> Arg<'a>
+    ensures rule { rule_of result ≡ flag_rule (codes "lines") }
+    ensures local { result.global ≡ false }
+{
+    flag(alloc, "lines", "Take each line as an input of its own")
+}
+
+/// Whether a line that isn't used whole has failed.
+fn whole<'a>(alloc: Global) -> Arg<'a>
+    ensures rule { rule_of result ≡ flag_rule (codes "whole") }
+    ensures local { result.global ≡ false }
+{
+    flag(
+        alloc,
+        "whole",
+        "Let a line fail that is not used whole, with --lines",
+    )
+}
+
+/// Whether the scan goes on behind a line that failed.
+fn keep_going<'a>(alloc: Global) -> Arg<'a>
+    ensures rule { rule_of result ≡ flag_rule (codes "keep-going") }
+    ensures local { result.global ≡ false }
+{
+    flag(
+        alloc,
+        "keep-going",
+        "Go on behind a line that fails, with --lines",
+    )
+}
+
+/// Whether nothing is told of lines that failed.
+fn quiet<'a>(alloc: Global) -> Arg<'a>
+    ensures rule { rule_of result ≡ flag_rule (codes "quiet") }
+    ensures local { result.global ≡ false }
+{
+    flag(
+        alloc,
+        "quiet",
+        "Tell nothing of lines that fail, with --lines",
+    )
+}
+
+/// How many lines are passed over first.
+fn skip<'a>(alloc: Global) -> Arg<'a>
+    ensures rule { rule_of result ≡ skip_rule }
+    ensures local { result.global ≡ false }
+{
+    Arg::new(alloc, "skip")
+        .long("skip")
+        .value_name("N")
+        .value_parser(value_parser!(i64).range(0..))
+        .help("Pass over the first N lines, with --lines")
+}
+
+/// The formats of a line.
+fn formats<'a>(alloc: Global) -> Arg<'a>
+    ensures rule { rule_of result ≡ formats_rule }
+    ensures local { result.global ≡ false }
+{
+    Arg::new(alloc, "formats")
+        .short('e')
+        .value_name("FORMAT")
+        .action(ArgAction::Append)
+        .help("A format of a line, with --lines; the first of several that is done counts")
+}
+
+/// The format of a scan, which may stand behind `-e` instead.
+fn format<'a>(alloc: Global) -> Arg<'a>
+    ensures rule { rule_of result ≡ format_rule }
+    ensures local { result.global ≡ false }
+{
+    Arg::new(alloc, "FORMAT").help("The scan format of one record, or of one line")
+}
+
 /// A word that has to be given.
 fn word<'a>(alloc: Global, name: &'a str, help: &'a str) -> Arg<'a>
     ensures rule { rule_of result ≡ word_rule name.entry.now }
@@ -159,8 +235,15 @@ fn scan<'a>(alloc: Global) -> Result<Command<'a>, AllocError>
         "Scan standard input by a format, and print a line of values for each record",
         help::SCAN,
     )?
+    .override_usage(help::SCAN_USAGE)
     .arg(output(alloc))?
-    .arg(word(alloc, "FORMAT", "The scan format of one record"))
+    .arg(lines(alloc))?
+    .arg(formats(alloc))?
+    .arg(skip(alloc))?
+    .arg(whole(alloc))?
+    .arg(keep_going(alloc))?
+    .arg(quiet(alloc))?
+    .arg(format(alloc))
 }
 
 fn print<'a>(alloc: Global) -> Result<Command<'a>, AllocError>

@@ -1,10 +1,11 @@
 //! What the definitions of the command line leave to the command to refuse.
-ghost use Rattle.std.specs.Prelude.{◌≡◌, [], ◌∷◌};
+ghost use Rattle.std.specs.Prelude.{◌≡◌, [], ◌∷◌, is_some};
 ghost use Rattle.clap.specs.Words.{found_of, rows_of};
 ghost use Rattle.sf_words.specs.Misuses.{misuse_kind, misuse_kinds};
-ghost use Rattle.sf_words.specs.Orders.{IsRefusal, form_given, own_faults};
+ghost use Rattle.sf_words.specs.Orders.{IsRefusal, form_given, format_faults, has_line_option, has_texts, is_set, own_faults, verb_text};
 
-use crate::order::WordsFault;
+use crate::help;
+use crate::order::{Verb, WordsFault};
 use clap::ArgMatches;
 use std::alloc::{AllocError, Global};
 
@@ -13,6 +14,19 @@ use std::alloc::{AllocError, Global};
 pub(crate) enum Misuse<'a> {
     /// No form has this name.
     Form(&'a str),
+    /// This option is one of lines.
+    NoLines(&'a str),
+    /// A format stands behind `-e`, and another without it.
+    TwoFormats,
+    /// There is no format.
+    NoFormat,
+}
+
+/// Whether an option without a value was given.
+pub(crate) fn is_set(given: &ArgMatches<'_>, name: &str) -> bool
+    ensures { result ≡ is_set name.now (rows_of (found_of given.now)) }
+{
+    given.get_one(name).unwrap_or(false)
 }
 
 /// The text of `--output`, as given or by default; that of a command without it.
@@ -22,23 +36,90 @@ pub(crate) fn form_given<'a>(given: &ArgMatches<'a>) -> &'a str
     given.get_str("output").unwrap_or("plain")
 }
 
+/// Whether an argument was given texts.
+fn has_texts(given: &ArgMatches<'_>, id: &str) -> bool
+    ensures { result ≡ has_texts id.now (rows_of (found_of given.now)) }
+{
+    match given.get_strs(id) {
+        Some(values) => !values.is_empty(),
+        None => false,
+    }
+}
+
+/// An option that was given and is one of lines, as it is written.
+fn line_option(given: &ArgMatches<'_>) -> Option<&'static str>
+    ensures { is_some result ≡ has_line_option (rows_of (found_of given.now)) }
+{
+    if has_texts(given, "formats") {
+        Some("-e <FORMAT>")
+    } else if has_texts(given, "skip") {
+        Some("--skip <N>")
+    } else if is_set(given, "whole") {
+        Some("--whole")
+    } else if is_set(given, "keep-going") {
+        Some("--keep-going")
+    } else if is_set(given, "quiet") {
+        Some("--quiet")
+    } else {
+        None
+    }
+}
+
+/// What is at fault in the formats of a scan.
+fn format_misuse<'a>(given: &ArgMatches<'_>) -> Option<Misuse<'a>>
+    ensures { misuse_kinds result ≡ format_faults (rows_of (found_of given.now)) }
+{
+    match (has_texts(given, "FORMAT"), has_texts(given, "formats")) {
+        (true, true) => Some(Misuse::TwoFormats),
+        (false, false) => Some(Misuse::NoFormat),
+        _ => None,
+    }
+}
+
 /// The first thing at fault.
-pub(crate) fn misuse_of<'a>(given: &ArgMatches<'a>) -> Option<Misuse<'a>>
-    ensures { misuse_kinds result ≡ own_faults (rows_of (found_of given.now)) }
+pub(crate) fn misuse_of<'a>(verb: Verb, given: &ArgMatches<'a>) -> Option<Misuse<'a>>
+    ensures { misuse_kinds result ≡ own_faults (verb_text verb) (rows_of (found_of given.now)) }
 {
     match form_given(given) {
-        "plain" | "tsv" | "json" => None,
-        other => Some(Misuse::Form(other)),
+        "plain" | "tsv" | "json" => {}
+        other => return Some(Misuse::Form(other)),
+    }
+    if !is_set(given, "lines") {
+        if let Some(option) = line_option(given) {
+            return Some(Misuse::NoLines(option));
+        }
+    }
+    match verb {
+        Verb::Scan => format_misuse(given),
+        Verb::Show | Verb::Print | Verb::Check | Verb::Copy => None,
     }
 }
 
 /// The text that is told, in the form of those of clap.
 fn text_of(alloc: Global, misuse: Misuse<'_>) -> Result<String, AllocError> {
+    let mut text = String::from_str(alloc, "error: ")?;
     match misuse {
-        Misuse::Form(text) => format!(in alloc;
-            "error: invalid value '{text}' for '--output <FORM>'\n  [possible values: plain, tsv, json]\n\nFor more information, try '--help'.\n"
-        ),
+        Misuse::Form(form) => write!(
+            text,
+            "invalid value '{form}' for '--output <FORM>'\n  [possible values: plain, tsv, json]"
+        )?,
+        Misuse::NoLines(option) => write!(
+            text,
+            "the argument '{option}' cannot be used without '--lines'"
+        )?,
+        Misuse::TwoFormats => {
+            text.push_str("the argument '<FORMAT>' cannot be used with '-e <FORMAT>'")?
+        }
+        Misuse::NoFormat => text.push_str(
+            "the following required arguments were not provided:\n  <FORMAT>",
+        )?,
     }
+    write!(
+        text,
+        "\n\nUsage: {}\n\nFor more information, try '--help'.\n",
+        help::SCAN_USAGE
+    )?;
+    Ok(text)
 }
 
 /// What the user is told.

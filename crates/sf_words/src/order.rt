@@ -40,6 +40,19 @@ pub enum Output {
     Json,
 }
 
+/// How lines are scanned, each as an input of its own.
+#[derive(Clone, Copy, PartialEq, Eq, Debug)]
+pub struct LineOptions {
+    /// How many lines are passed over first.
+    pub skip: u64,
+    /// Whether a line that isn't used whole has failed.
+    pub whole: bool,
+    /// Whether the scan goes on behind a line that failed.
+    pub keep_going: bool,
+    /// Whether nothing is told of lines that failed.
+    pub quiet: bool,
+}
+
 /// What the words ask for.
 #[derive(Debug, Drop)]
 pub struct Order {
@@ -55,7 +68,9 @@ pub struct Order {
     pub explain: bool,
     /// In which form the values of a record are written: plain for each command but `scan`.
     pub output: Output,
-    /// The formats and then the values, as they were given.
+    /// How lines are scanned, where not records but lines are: for `scan` alone.
+    pub lines: Option<LineOptions>,
+    /// The formats and then the values, as they were given. A scan has one format; one of lines has one or more.
     pub texts: Vec<String>,
 }
 

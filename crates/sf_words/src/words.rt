@@ -2,12 +2,12 @@
 ghost use Rattle.std.specs.Prelude.{◌≡◌, ◌≤◌, true, [], ◌∷◌, ◌++◌, IfErr, IfOk, OnOk, codes, map, string_bytes};
 ghost use Rattle.clap.specs.Words.{found_of, one_of, rows_of, subcommand_rows_of};
 ghost use Rattle.clap.specs.Walk.{texts};
-ghost use Rattle.sf_words.specs.Orders.{IsOrder, IsOrderOf, IsRefusal, IsRefusalOf, entered_faults, faults_of, form_given, is_form, is_set, number_by, output_text, profile_number, texts_by, values_at, verb_text};
+ghost use Rattle.sf_words.specs.Orders.{HasLines, IsOrder, IsOrderOf, IsRefusal, IsRefusalOf, entered_faults, faults_of, form_given, is_form, is_set, number_by, output_text, profile_number, texts_by, values_at, verb_text};
 ghost use Rattle.sf_words.specs.Taken.{IsTaken, IsVerb, IsWithin};
 
 use crate::line::line;
-use crate::misuse::{form_given, misuse_of, refusal};
-use crate::order::{Order, Output, Profile, Verb, WordsFault};
+use crate::misuse::{form_given, is_set, misuse_of, refusal};
+use crate::order::{LineOptions, Order, Output, Profile, Verb, WordsFault};
 use clap::error::ErrorKind;
 use clap::{ArgMatches, Error};
 use std::alloc::{AllocError, Global};
@@ -93,7 +93,11 @@ fn texts_of(alloc: Global, verb: Verb, given: &ArgMatches<'_>) -> Result<Vec<Str
 {
     let mut all = Vec::new(alloc);
     match verb {
-        Verb::Show | Verb::Scan => push_given(alloc, given, "FORMAT", &mut all)?,
+        Verb::Show => push_given(alloc, given, "FORMAT", &mut all)?,
+        Verb::Scan => {
+            push_given(alloc, given, "FORMAT", &mut all)?;
+            push_given(alloc, given, "formats", &mut all)?;
+        }
         Verb::Print => {
             push_given(alloc, given, "FORMAT", &mut all)?;
             push_given(alloc, given, "VALUES", &mut all)?;
@@ -138,11 +142,28 @@ fn output_of(given: &ArgMatches<'_>) -> Output
     }
 }
 
-/// Whether an option without a value was given.
-fn is_set(given: &ArgMatches<'_>, name: &str) -> bool
-    ensures { result ≡ is_set name.now (rows_of (found_of given.now)) }
+/// How many lines are passed over first.
+fn skip_of(given: &ArgMatches<'_>) -> u64
+    requires { IsWithin 0 9223372036854775807 (one_of (codes "skip") (rows_of (found_of given.now))) }
+    ensures { result ≡ number_by 0 (one_of (codes "skip") (rows_of (found_of given.now))) }
 {
-    given.get_one(name).unwrap_or(false)
+    given.get_one("skip").unwrap_or(0)
+}
+
+/// How lines are scanned, if they are.
+fn lines_of(given: &ArgMatches<'_>) -> Option<LineOptions>
+    requires { IsWithin 0 9223372036854775807 (one_of (codes "skip") (rows_of (found_of given.now))) }
+    ensures { HasLines (rows_of (found_of given.now)) result }
+{
+    if !is_set(given, "lines") {
+        return None;
+    }
+    Some(LineOptions {
+        skip: skip_of(given),
+        whole: is_set(given, "whole"),
+        keep_going: is_set(given, "keep-going"),
+        quiet: is_set(given, "quiet"),
+    })
 }
 
 /// What matches ask for.
@@ -156,7 +177,7 @@ fn order_of(alloc: Global, matches: &ArgMatches<'_>) -> Result<Order, WordsFault
         unreachable!();
     };
     let verb = verb_of(name);
-    if let Some(misuse) = misuse_of(given) {
+    if let Some(misuse) = misuse_of(verb, given) {
         return Err(refusal(alloc, misuse));
     }
     Ok(Order {
@@ -166,6 +187,7 @@ fn order_of(alloc: Global, matches: &ArgMatches<'_>) -> Result<Order, WordsFault
         line_buffered: is_set(given, "line-buffered"),
         explain: is_set(given, "explain"),
         output: output_of(given),
+        lines: lines_of(given),
         texts: texts_of(alloc, verb, given)?,
     })
 }

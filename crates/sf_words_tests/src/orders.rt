@@ -1,8 +1,23 @@
 //! Words that clap takes.
 use crate::shared::answer;
-use sf_words::{Order, Output, Profile};
+use sf_words::{LineOptions, Order, Output, Profile};
 use std::alloc::Global;
 use std::test::Fail;
+
+/// Appends the options of lines.
+fn push_lines(alloc: Global, line: &mut String, lines: LineOptions) -> Result<(), Fail> {
+    line.push_str(format!(in alloc; " lines skip {}", lines.skip)?.as_str())?;
+    for (is_set, name) in [
+        (lines.whole, " whole"),
+        (lines.keep_going, " keep-going"),
+        (lines.quiet, " quiet"),
+    ] {
+        if is_set {
+            line.push_str(name)?;
+        }
+    }
+    Ok(())
+}
 
 /// An order in one line: verb, limit, options, and the texts between bars. Profile 1 and the plain form aren't named.
 fn line_of(alloc: Global, order: &Order) -> Result<String, Fail> {
@@ -19,6 +34,9 @@ fn line_of(alloc: Global, order: &Order) -> Result<String, Fail> {
     if order.output != Output::Plain {
         line.push_str(format!(in alloc; " {:?}", order.output)?.as_str())?;
     }
+    if let Some(lines) = order.lines {
+        push_lines(alloc, &mut line, lines)?;
+    }
     for text in order.texts.iter() {
         line.push_str(" |")?;
         line.push_str(text.as_str())?;
@@ -27,7 +45,7 @@ fn line_of(alloc: Global, order: &Order) -> Result<String, Fail> {
 }
 
 /// Words, and the order that they make.
-const ORDERS: [(&str, &str); 43] = [
+const ORDERS: [(&str, &str); 58] = [
     ("show|%3d,%*s", "Show 1048576 |%3d,%*s"),
     ("scan|%d,%d", "Scan 1048576 |%d,%d"),
     ("scan|--limit|3|%s", "Scan 3 |%s"),
@@ -94,6 +112,39 @@ const ORDERS: [(&str, &str); 43] = [
         "Scan 1048576 Json |--output",
     ),
     ("scan|--|--output", "Scan 1048576 |--output"),
+    ("scan|--lines|%d", "Scan 1048576 lines skip 0 |%d"),
+    ("scan|%d|--lines", "Scan 1048576 lines skip 0 |%d"),
+    ("scan|--lines|-e|%d", "Scan 1048576 lines skip 0 |%d"),
+    (
+        "scan|-e|%d,%d|--lines|-e|%d|-e|",
+        "Scan 1048576 lines skip 0 |%d,%d |%d |",
+    ),
+    ("scan|--lines|-e%d", "Scan 1048576 lines skip 0 |%d"),
+    ("scan|--lines|-e=-%d", "Scan 1048576 lines skip 0 |-%d"),
+    ("scan|--lines|-e|=%d", "Scan 1048576 lines skip 0 |=%d"),
+    ("scan|--lines|--|-e", "Scan 1048576 lines skip 0 |-e"),
+    ("scan|--lines|--skip|3|%d", "Scan 1048576 lines skip 3 |%d"),
+    (
+        "scan|--skip=9223372036854775807|--lines|%d",
+        "Scan 1048576 lines skip 9223372036854775807 |%d",
+    ),
+    (
+        "scan|--whole|--lines|%d",
+        "Scan 1048576 lines skip 0 whole |%d",
+    ),
+    (
+        "scan|--lines|--keep-going|%d",
+        "Scan 1048576 lines skip 0 keep-going |%d",
+    ),
+    (
+        "scan|--lines|%d|--quiet",
+        "Scan 1048576 lines skip 0 quiet |%d",
+    ),
+    (
+        "scan|--lines|--whole|--keep-going|--quiet|--skip|1|--limit|80|--line-buffered|--output|tsv|-e|%d|-e|%s",
+        "Scan 80 line-buffered Tsv lines skip 1 whole keep-going quiet |%d |%s",
+    ),
+    ("show|--|--lines", "Show 1048576 |--lines"),
     (
         "print|%s|--|--output|json",
         "Print 1048576 |%s |--output |json",

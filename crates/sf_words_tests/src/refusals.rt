@@ -4,11 +4,11 @@ use sf_words::WordsFault;
 use std::test::Fail;
 
 /// Words, the first line that is said of them, and how the command is called, where that is said.
-const REFUSALS: [(&str, &str, &str); 34] = [
+const REFUSALS: [(&str, &str, &str); 46] = [
     (
         "scan",
         "error: the following required arguments were not provided:",
-        "Usage: sf scan <FORMAT>",
+        "Usage: sf scan [OPTIONS] <FORMAT>",
     ),
     (
         "scan|%d|%d",
@@ -58,7 +58,7 @@ const REFUSALS: [(&str, &str, &str); 34] = [
     (
         "scan|--line-buffered=no|%d",
         "error: unexpected value 'no' for '--line-buffered' found; no more were expected",
-        "Usage: sf scan --line-buffered <FORMAT>",
+        "Usage: sf scan [OPTIONS] <FORMAT>",
     ),
     (
         "scan|--profile|0|%d",
@@ -83,12 +83,12 @@ const REFUSALS: [(&str, &str, &str); 34] = [
     (
         "scan|--explain=yes|%d",
         "error: unexpected value 'yes' for '--explain' found; no more were expected",
-        "Usage: sf scan --explain <FORMAT>",
+        "Usage: sf scan [OPTIONS] <FORMAT>",
     ),
     (
         "scan|--output|xml|%d",
         "error: invalid value 'xml' for '--output <FORM>'",
-        "\n  [possible values: plain, tsv, json]\n\nFor more information, try '--help'.\n",
+        "\n  [possible values: plain, tsv, json]\n\nUsage: sf scan [OPTIONS] <FORMAT>\n       sf scan --lines [OPTIONS] -e <FORMAT>...\n\nFor more information, try '--help'.\n",
     ),
     (
         "scan|--output|JSON|%d",
@@ -103,7 +103,7 @@ const REFUSALS: [(&str, &str, &str); 34] = [
     (
         "scan|--output|tsv",
         "error: the following required arguments were not provided:",
-        "Usage: sf scan --output <FORM> <FORMAT>",
+        "Usage: sf scan [OPTIONS] <FORMAT>",
     ),
     (
         "scan|--output|tsv|--output|json|%d",
@@ -113,6 +113,66 @@ const REFUSALS: [(&str, &str, &str); 34] = [
     (
         "copy|--output|tsv|%d|%3d",
         "error: unexpected argument '--output' found",
+        "Usage: sf copy [OPTIONS] <PRINT> <SCAN>",
+    ),
+    (
+        "scan|--lines",
+        "error: the following required arguments were not provided:",
+        "\n  <FORMAT>\n\nUsage: sf scan [OPTIONS] <FORMAT>\n       sf scan --lines [OPTIONS] -e <FORMAT>...\n\nFor more information, try '--help'.\n",
+    ),
+    (
+        "scan|--lines|-e|%d|%s",
+        "error: the argument '<FORMAT>' cannot be used with '-e <FORMAT>'",
+        "Usage: sf scan [OPTIONS] <FORMAT>",
+    ),
+    (
+        "scan|-e|%d",
+        "error: the argument '-e <FORMAT>' cannot be used without '--lines'",
+        "Usage: sf scan [OPTIONS] <FORMAT>",
+    ),
+    (
+        "scan|--skip|0|%d",
+        "error: the argument '--skip <N>' cannot be used without '--lines'",
+        "Usage: sf scan [OPTIONS] <FORMAT>",
+    ),
+    (
+        "scan|%d|--whole",
+        "error: the argument '--whole' cannot be used without '--lines'",
+        "Usage: sf scan [OPTIONS] <FORMAT>",
+    ),
+    (
+        "scan|--keep-going|%d",
+        "error: the argument '--keep-going' cannot be used without '--lines'",
+        "Usage: sf scan [OPTIONS] <FORMAT>",
+    ),
+    (
+        "scan|--quiet|%d",
+        "error: the argument '--quiet' cannot be used without '--lines'",
+        "Usage: sf scan [OPTIONS] <FORMAT>",
+    ),
+    (
+        "scan|--lines|--skip=-1|%d",
+        "error: invalid value '-1' for '--skip <N>': -1 is not in 0..9223372036854775807",
+        "For more information, try '--help'.",
+    ),
+    (
+        "scan|--lines|-e",
+        "error: a value is required for '-e <FORMAT>' but none was supplied",
+        "For more information, try '--help'.",
+    ),
+    (
+        "scan|--lines|-e|-%d",
+        "error: unexpected argument '-%' found",
+        "Usage: sf scan [OPTIONS] <FORMAT>",
+    ),
+    (
+        "scan|--lines|--lines|%d",
+        "error: the argument '--lines' cannot be used multiple times",
+        "Usage: sf scan [OPTIONS] <FORMAT>",
+    ),
+    (
+        "copy|--lines|%d|%3d",
+        "error: unexpected argument '--lines' found",
         "Usage: sf copy [OPTIONS] <PRINT> <SCAN>",
     ),
     (

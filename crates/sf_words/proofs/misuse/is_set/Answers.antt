@@ -3,7 +3,7 @@ use Rattle.clap.specs.Words.{found_of}
 use Rattle.clap.proofs.WalkLemmas.{one_text-rows}
 use Rattle.sf_words.specs.Orders.{is_true}
 use Rattle.sf_words.proofs.Given.{flag_read}
-use Rattle.sf_words.proofs.words.is_set.Goals as goal
+use Rattle.sf_words.proofs.misuse.is_set.Goals as goal
 
 pub returns : goal.returns
 returns c =
