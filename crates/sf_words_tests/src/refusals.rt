@@ -173,7 +173,7 @@ const REFUSALS: [(&str, &str, &str); 46] = [
     (
         "copy|--lines|%d|%3d",
         "error: unexpected argument '--lines' found",
-        "Usage: sf copy [OPTIONS] <PRINT> <SCAN>",
+        "Usage: sf copy --line-buffered <PRINT> <SCAN>",
     ),
     (
         "scan|--version",
