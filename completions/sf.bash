@@ -12,7 +12,7 @@ _sf() {
         COMPREPLY=( $(compgen -W 'show scan print check copy help -h --help -V --version' -- "$word") )
         return
     fi
-    [[ $before == --limit ]] && return
+    [[ $before == --limit || $before == --skip || $before == -e ]] && return
     if [[ $before == --profile ]]; then
         COMPREPLY=( $(compgen -W '1 2' -- "$word") )
         return
@@ -27,7 +27,7 @@ _sf() {
     done
     case ${COMP_WORDS[1]} in
         help) (( COMP_CWORD == 2 )) && COMPREPLY=( $(compgen -W 'show scan print check copy help' -- "$word") ) ;;
-        scan) [[ $word == -* ]] && COMPREPLY=( $(compgen -W '--limit --line-buffered --profile --explain --output -h --help' -- "$word") ) ;;
+        scan) [[ $word == -* ]] && COMPREPLY=( $(compgen -W '--limit --line-buffered --profile --explain --output --lines -e --skip --whole --keep-going --quiet -h --help' -- "$word") ) ;;
         copy) [[ $word == -* ]] && COMPREPLY=( $(compgen -W '--limit --line-buffered --profile --explain -h --help' -- "$word") ) ;;
         show|print|check) [[ $word == -* ]] && COMPREPLY=( $(compgen -W '--profile --explain -h --help' -- "$word") ) ;;
     esac

@@ -74,9 +74,17 @@ class Completions:
 
     def test_a_limit_is_no_word_to_complete(self):
         self.same("sf scan --limit ", [])
+        self.same("sf scan --lines --skip ", [])
+
+    def test_a_format_is_no_word_to_complete(self):
+        self.same("sf scan --lines -e ", [])
 
     def test_profiles(self):
         self.same("sf show --profile ", ["1", "2"])
+
+    def test_options_behind_those_of_lines(self):
+        self.same("sf scan --lines --k", ["--keep-going"])
+        self.same("sf scan --lines -e %d --qui", ["--quiet"])
 
     def test_forms(self):
         self.same("sf scan --output ", ["plain", "tsv", "json"])

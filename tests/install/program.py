@@ -41,7 +41,7 @@ def commands():
 @functools.cache
 def options(command=None):
     """The options of a command, or of the program: short and long ones."""
-    lines = re.findall(r"^  (?:(-\w), |    )(--[\w-]+)", section(help_of(command), "Options"), re.MULTILINE)
+    lines = re.findall(r"^  (?:(-\w)(?:, | <)|    )(--[\w-]+)?", section(help_of(command), "Options"), re.MULTILINE)
     return frozenset(name for names in lines for name in names if name)
 
 
