@@ -1,5 +1,6 @@
 pub mod Dashes
 pub mod Entering
+pub mod Formats
 pub mod Given
 pub mod Lines
 pub mod Plain

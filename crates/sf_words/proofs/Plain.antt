@@ -21,10 +21,10 @@ use Rattle.sf_words.specs.declared.order.Verb.TheVariants.{Show, Scan, Print, Ch
 use Rattle.sf_words.proofs.Dashes.{checks_after, names, none_at_fault, nothing, row, texts_of_values, top, values_checks, values_own}
 
 -- the word is no flag
-record NoFlag (word : Text) : Type 0 where
-  dashes : bytes_eq word (45 ∷ 45 ∷ []) ≡ false
-  long : long_of word ≡ None
-  short : short_of word ≡ None
+pub record NoFlag (word : Text) : Type 0 where
+  pub dashes : bytes_eq word (45 ∷ 45 ∷ []) ≡ false
+  pub long : long_of word ≡ None
+  pub short : short_of word ≡ None
 
 no_flag : (word : Text) → IsPlain word → NoFlag word
 no_flag [] plain = record { dashes = refl; long = refl; short = refl }
@@ -35,7 +35,7 @@ abbrev is_calm : Waiting → Bool
 is_calm (option id) = false
 is_calm _ = true
 
-abbrev state : Held → Waiting → ℕ → Walk
+abbrev pub state : Held → Waiting → ℕ → Walk
 state held waiting position = record { held = held; waiting = waiting; position = position; is_trailing = false; stopped = None }
 
 module _ (word : Text) (fact : NoFlag word) (h : Held) where
@@ -74,10 +74,10 @@ module _ (word : Text) (fact : NoFlag word) (h : Held) where
 
 -- ---- the level of a verb
 
-abbrev level_of : Shape → Shape
+abbrev pub level_of : Shape → Shape
 level_of s = built_leaf (inherited (on_top with_leaf_noted (on_top marked_built sf_app)).top s)
 
-abbrev level : Verb → Shape
+abbrev pub level : Verb → Shape
 level Show = level_of show_app.top
 level Scan = level_of scan_app.top
 level Print = level_of print_app.top
@@ -137,32 +137,38 @@ level_fine : (s : Shape) (words : List Text) (end : Walk) → walk s.rules [] no
 level_fine s words end is walk_fine checks =
     nothing (walk_fault s [] (walk_from nothing_held) words) _ walk_fine (subst (λ w. checks_after s false w ≡ []) (sym is) checks)
 
-abbrev rows_named : Verb → List Row → List Row → Type 0
+abbrev pub rows_named : Verb → List Row → List Row → Type 0
 rows_named verb found rows = ◌≡◌ {A = Option (Text × List Row)} (Some ((level verb).name, found)) (Some (verb_text verb, rows))
+
+-- a command whose walk and checks are fine has no fault
+pub fine_by : (verb : Verb) (words : List Text) (end : Walk) → walk (level verb).rules [] nothing_held words ≡ end
+    → walk_fault (level verb) [] (walk_from nothing_held) words ≡ [] → checks_after (level verb) false end ≡ []
+    → fault_of sf_app (codes "sf" ∷ verb_text verb ∷ words) ≡ []
+fine_by verb words end is walk_fine checks =
+    nothing (walk_fault top names (walk_from nothing_held) (verb_text verb ∷ words)) _ (top_fine verb words)
+    (subst (λ w. or_else (entered_fault (built sf_app) w.stopped) (checks_after top (is_some (entered (built sf_app) w.stopped)) w) ≡ []) (sym (top_walk verb words))
+    (nothing (entered_fault (built sf_app) (Some (verb_text verb, words))) _ (enters_fine verb words (level_fine (level verb) words end is walk_fine checks))
+    (subst (λ o. checks_after top (is_some o) (stopped_at verb words) ≡ []) (sym (enters verb words)) (top_checks verb words))))
+
+-- and its rows are those of its walk
+pub entered_by : (verb : Verb) (words : List Text) (end : Walk) (rows : List Row) → walk (level verb).rules [] nothing_held words ≡ end
+    → rows_named verb (finished (level verb).rules end.held) rows → subcommand_of sf_app (codes "sf" ∷ verb_text verb ∷ words) ≡ Some (verb_text verb, rows)
+entered_by verb words end rows is named =
+    ap (λ w. entered (built sf_app) w.stopped) (top_walk verb words)
+    ∙ enters verb words
+    ∙ ap (λ w. Some ((level verb).name, finished (level verb).rules w.held)) is
+    ∙ named
 
 taken_by : (verb : Verb) (words texts : List Text) (end : Walk) (rows : List Row) → walk (level verb).rules [] nothing_held words ≡ end
     → walk_fault (level verb) [] (walk_from nothing_held) words ≡ [] → checks_after (level verb) false end ≡ []
-    → rows_named verb (finished (level verb).rules end.held) rows → own_faults (verb_text verb) rows ≡ [] → texts_by verb rows ≡ texts → IsTakenAs (verb_text verb ∷ words) verb texts
+    → rows_named verb (finished (level verb).rules end.held) rows → own_faults (verb_text verb) rows ≡ [] → texts_by verb rows ≡ texts
+    → IsTakenAs (verb_text verb ∷ words) verb texts
 taken_by verb words texts end rows is walk_fine checks named own are = record {
-  taken = none_at_fault (verb_text verb ∷ words) verb rows fine entered_is own;
+  taken = none_at_fault (verb_text verb ∷ words) verb rows (fine_by verb words end is walk_fine checks) (entered_by verb words end rows is named) own;
   given = rows;
-  is_given = entered_is;
+  is_given = entered_by verb words end rows is named;
   texts_are = are;
 }
-  where
-    fine : fault_of sf_app (codes "sf" ∷ verb_text verb ∷ words) ≡ []
-    fine =
-        nothing (walk_fault top names (walk_from nothing_held) (verb_text verb ∷ words)) _ (top_fine verb words)
-        (subst (λ w. or_else (entered_fault (built sf_app) w.stopped) (checks_after top (is_some (entered (built sf_app) w.stopped)) w) ≡ []) (sym (top_walk verb words))
-        (nothing (entered_fault (built sf_app) (Some (verb_text verb, words))) _ (enters_fine verb words (level_fine (level verb) words end is walk_fine checks))
-        (subst (λ o. checks_after top (is_some o) (stopped_at verb words) ≡ []) (sym (enters verb words)) (top_checks verb words))))
-
-    entered_is : subcommand_of sf_app (codes "sf" ∷ verb_text verb ∷ words) ≡ Some (verb_text verb, rows)
-    entered_is =
-        ap (λ w. entered (built sf_app) w.stopped) (top_walk verb words)
-        ∙ enters verb words
-        ∙ ap (λ w. Some ((level verb).name, finished (level verb).rules w.held)) is
-        ∙ named
 
 -- ---- the five
 
@@ -299,7 +305,7 @@ values_plain f v rest format first_value others few =
 
 -- ---- all of them
 
-no_flags : (words : List Text) → AllByRecursion IsPlain words → AllByRecursion NoFlag words
+pub no_flags : (words : List Text) → AllByRecursion IsPlain words → AllByRecursion NoFlag words
 no_flags [] plain = tt
 no_flags (word ∷ rest) plain = (no_flag word plain.0, no_flags rest plain.1)
 

@@ -1,5 +1,5 @@
 //! Laws of what `clap` takes.
-ghost use Rattle.sf_words.specs.Laws.{TakesBehindDashes, TakesPlainTexts};
+ghost use Rattle.sf_words.specs.Laws.{TakesBehindDashes, TakesFormats, TakesPlainTexts};
 
 /// Behind `--` a command takes any texts as they stand, where there are as many as it wants.
 pub fn texts_behind_dashes()
@@ -9,4 +9,9 @@ pub fn texts_behind_dashes()
 /// Without it, so it takes any that don't begin with a hyphen.
 pub fn plain_texts()
     ensures { TakesPlainTexts }
+{}
+
+/// With `--lines` a scan takes any of these as formats, one or more, each behind `-e`.
+pub fn formats_of_lines()
+    ensures { TakesFormats }
 {}

@@ -10,7 +10,7 @@ use thiserror::Error;
 pub enum Verb {
     /// The directives of a scan format are shown.
     Show,
-    /// The records of the input are scanned.
+    /// The records of the input are scanned, or its lines.
     Scan,
     /// Values are printed.
     Print,
@@ -60,7 +60,7 @@ pub struct Order {
     pub verb: Verb,
     /// By which grammar the formats are read.
     pub profile: Profile,
-    /// The most bytes of one record.
+    /// The most bytes of one record, or of one line.
     pub limit: u32,
     /// Whether what a record gives is written before the next record.
     pub line_buffered: bool,
