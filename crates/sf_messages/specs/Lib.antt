@@ -1,5 +1,6 @@
 pub mod Faults
 pub mod Joined
+pub mod LineTexts
 pub mod Names
 pub mod Notes
 pub mod Sentences

@@ -2,16 +2,18 @@
 use Rattle.std.specs.Prelude.{ℕ, List, [], ◌∷◌, ◌++◌, codes, Some}
 use Rattle.std.specs.Fmt.{decimal}
 use Rattle.sf_format.specs.declared.fault.FormatWhy.{FormatWhy}
+use Rattle.sf_lines.specs.Loops as lines
 use Rattle.sf_records.specs.Records.{status_by}
 use Rattle.sf_records.specs.Texts.{tool_fault_text}
 use Rattle.sf_pair.specs.declared.fault.PairFault.{PairFault}
+use Rattle.sf_messages.specs.LineTexts.{lines_fault_text}
 use Rattle.sf_messages.specs.Names.{kind_text, name_text, pair_why_text, why_text}
 use Rattle.sf_messages.specs.declared.argument_fault.ArgumentFault.{ArgumentFault}
 use Rattle.sf_messages.specs.declared.argument_fault.ArgumentFault.TheVariants as argument
 use Rattle.sf_messages.specs.declared.fault.FormatName.{FormatName}
 use Rattle.sf_messages.specs.declared.fault.FormatName.TheVariants as name
 use Rattle.sf_messages.specs.declared.fault.CommandFault.{CommandFault}
-use Rattle.sf_messages.specs.declared.fault.CommandFault.TheVariants.{BadEscape, Format, PrintFormat, Values, Record, Write, Memory, Pair}
+use Rattle.sf_messages.specs.declared.fault.CommandFault.TheVariants.{BadEscape, Format, PrintFormat, Values, Record, Lines, Write, Memory, Pair}
 
 abbrev pub format_fault_text : FormatName → FormatWhy → ℕ → List ℕ
 format_fault_text name why at = codes "sf: " ++ (name_text name ++ (codes ": " ++ (why_text why ++ (codes " at " ++ decimal at))))
@@ -49,6 +51,7 @@ command_fault_text (Format fault) = format_fault_text name.Scan fault.why fault.
 command_fault_text (PrintFormat fault) = format_fault_text name.Print fault.why fault.at
 command_fault_text (Values fault) = argument_fault_text fault
 command_fault_text (Record fault) = codes "sf: " ++ tool_fault_text fault
+command_fault_text (Lines fault) = codes "sf: " ++ lines_fault_text fault
 command_fault_text Write = codes "sf: write fault"
 command_fault_text Memory = codes "sf: out of memory"
 command_fault_text (Pair fault) = codes "sf: pair: " ++ pair_fault_text fault
@@ -64,6 +67,7 @@ status_of (Format fault) = 2
 status_of (PrintFormat fault) = 2
 status_of (Values fault) = argument_status fault
 status_of (Record fault) = status_by (Some fault)
+status_of (Lines fault) = lines.status_by 0 (Some fault)
 status_of Write = 3
 status_of Memory = 4
 status_of (Pair fault) = 2

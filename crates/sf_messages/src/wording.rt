@@ -3,6 +3,7 @@ ghost use Rattle.std.specs.Prelude.{◌≡◌, ◌≤◌, ◌++◌, ◌∷◌, [
 ghost use Rattle.sf_records.specs.Texts.{status_text};
 ghost use Rattle.sf_messages.specs.Texts.{argument_fault_text, command_fault_text, error_line, expected_text, format_fault_text, record_text};
 ghost use Rattle.sf_messages.specs.Joined.{joined};
+ghost use Rattle.sf_messages.specs.LineTexts.{line_fault_text};
 
 use crate::argument_fault::ArgumentFault;
 use crate::fault::{CommandFault, FormatName};
@@ -10,9 +11,10 @@ use crate::names::{kind_text, name_text, pair_why_text, why_text};
 use arrayvec::ArrayString;
 use itoa::Buffer;
 use sf_format::FormatWhy;
+use sf_lines::{LineFault, LinesFault};
 use sf_pair::PairWhy;
-use sf_records::ToolFault;
-use sf_run::{Outcome, Status};
+use sf_records::{ToolFault, status_text};
+use sf_run::Outcome;
 
 /// The most bytes of a line, with its line end.
 const LINE_BYTES: usize = 128;
@@ -105,20 +107,6 @@ fn argument_line(fault: ArgumentFault) -> ErrorLine
     }
 }
 
-/// The words for a status.
-fn status_text(status: Status) -> &'static str
-    ensures { result.now ≡ status_text status }
-{
-    match status {
-        Status::Done => "done",
-        Status::InputFailure => "input failure",
-        Status::MatchingFailure => "matching failure",
-        Status::OutOfRange => "out of range",
-        Status::TooLong => "too long",
-        Status::NoMemory => "out of memory",
-    }
-}
-
 /// The line of a record that is no match.
 fn failed_line(place: u32, outcome: Outcome) -> ErrorLine
     ensures { result.bytes ≡ command_fault_text (CommandFault.Record (ToolFault.Failed place outcome)) ++ 10 ∷ [] }
@@ -172,6 +160,86 @@ fn records_line(fault: ToolFault) -> ErrorLine
     }
 }
 
+/// The line of a read that failed.
+fn unread_line(line: u64) -> ErrorLine
+    ensures { result.bytes ≡ command_fault_text (CommandFault.Lines (LinesFault.Read line)) ++ 10 ∷ [] }
+{
+    let mut number = Buffer::new();
+    let number = number.format(line);
+    joined(&["sf: line ", number, ": read fault\n"])
+}
+
+/// The line of why the lines of an input stopped.
+fn lines_line(fault: LinesFault) -> ErrorLine
+    ensures { result.bytes ≡ command_fault_text (CommandFault.Lines fault) ++ 10 ∷ [] }
+{
+    match fault {
+        LinesFault::Read { line } => unread_line(line),
+        LinesFault::Write => joined(&["sf: write fault\n"]),
+        LinesFault::Memory => joined(&["sf: out of memory\n"]),
+        LinesFault::TooMany => joined(&["sf: too many lines\n"]),
+    }
+}
+
+/// The line of a line of the input on which no format is Done, with its number.
+fn missed_line(number: u64, outcome: Outcome) -> ErrorLine
+    ensures { result.bytes ≡ line_fault_text number (LineFault.Failed outcome) ++ 10 ∷ [] }
+{
+    let mut place = Buffer::new();
+    let mut at = Buffer::new();
+    let mut used = Buffer::new();
+    let mut assigned = Buffer::new();
+    let place = place.format(number);
+    let at = at.format(outcome.at);
+    let used = used.format(outcome.used);
+    let assigned = assigned.format(outcome.assigned);
+    let status = status_text(outcome.status);
+    joined(&[
+        "sf: line ",
+        place,
+        ": ",
+        status,
+        " at ",
+        at,
+        ", used ",
+        used,
+        ", assigned ",
+        assigned,
+        "\n",
+    ])
+}
+
+/// The line of a line of the input of which something is left.
+fn left_over_line(number: u64, at: u32) -> ErrorLine
+    ensures { result.bytes ≡ line_fault_text number (LineFault.LeftOver at) ++ 10 ∷ [] }
+{
+    let mut first = Buffer::new();
+    let mut second = Buffer::new();
+    let first = first.format(number);
+    let second = second.format(at);
+    joined(&["sf: line ", first, ": left over at ", second, "\n"])
+}
+
+/// The line of a line of the input that is longer than the limit.
+fn long_line(number: u64) -> ErrorLine
+    ensures { result.bytes ≡ line_fault_text number LineFault.TooLong ++ 10 ∷ [] }
+{
+    let mut place = Buffer::new();
+    let place = place.format(number);
+    joined(&["sf: line ", place, ": too long\n"])
+}
+
+/// The line on the error output for a line of the input that is no match, with its line end. Lines are counted from 1.
+pub fn line_fault_line(number: u64, fault: LineFault) -> ErrorLine
+    ensures { result.bytes ≡ line_fault_text number fault ++ 10 ∷ [] }
+{
+    match fault {
+        LineFault::Failed { outcome } => missed_line(number, outcome),
+        LineFault::LeftOver { at } => left_over_line(number, at),
+        LineFault::TooLong => long_line(number),
+    }
+}
+
 /// The line of formats that are no pair.
 fn pair_line(why: PairWhy, at: u16) -> ErrorLine
     ensures { result.bytes ≡ command_fault_text (CommandFault.Pair (record { at = at; why = why })) ++ 10 ∷ [] }
@@ -191,6 +259,7 @@ pub fn error_line(fault: CommandFault) -> ErrorLine
         CommandFault::PrintFormat(fault) => format_line(FormatName::Print, fault.why, fault.at),
         CommandFault::Values(fault) => argument_line(fault),
         CommandFault::Record(fault) => records_line(fault),
+        CommandFault::Lines(fault) => lines_line(fault),
         CommandFault::Write => joined(&["sf: write fault\n"]),
         CommandFault::Memory => joined(&["sf: out of memory\n"]),
         CommandFault::Pair(fault) => pair_line(fault.why, fault.at),
