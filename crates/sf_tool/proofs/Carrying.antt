@@ -1,11 +1,14 @@
 -- What is done on a source that stands for another, as told of that other.
-use Rattle.std.proofs.Common.{◌≡◌, ◌∙◌, ◌⊎◌, ℕ, false, inl, inr, refl, ap, List, [], ◌∷◌, Bool, Option, None, Some, Result, Ok, Err, map, string_bytes}
+use Rattle.std.proofs.Common.{◌≡◌, ◌∙◌, ℕ, false, inl, inr, ap, List, [], ◌∷◌, Bool, Option, None, Some, Result, Ok, Err}
 use Rattle.std.specs.Prelude.{IfErr}
 use Rattle.sf_format.specs.declared.directive.Directive.{Directive}
 use Rattle.sf_format.specs.declared.directive.Profile.{Profile}
 use Rattle.sf_format.specs.declared.unit.Unit.{Unit as PrintUnit}
+use Rattle.sf_lines.specs.declared.end.LinesEnd.{LinesEnd}
+use Rattle.sf_lines.specs.Loops.{Loops as LineLoops}
+use Rattle.sf_lines.specs.Turns.{LineWork}
 use Rattle.sf_messages.specs.declared.fault.CommandFault.{CommandFault}
-use Rattle.sf_messages.specs.declared.fault.CommandFault.TheVariants.{BadEscape, Format, PrintFormat, Values, Record, Write, Memory, Pair}
+use Rattle.sf_messages.specs.declared.fault.CommandFault.TheVariants.{BadEscape, Format, PrintFormat, Values, Record, Lines, Write, Memory, Pair}
 use Rattle.sf_messages.specs.declared.fault.FormatName.{FormatName}
 use Rattle.sf_places.specs.declared.place.Place.{Place}
 use Rattle.sf_read.specs.Ahead.{Ahead}
@@ -13,13 +16,15 @@ use Rattle.sf_records.specs.declared.end.ToolEnd.{ToolEnd}
 use Rattle.sf_records.specs.declared.form.OutputForm.{OutputForm}
 use Rattle.sf_records.specs.Records.{Loops}
 use Rattle.sf_records.specs.Works.{Work}
+use Rattle.sf_words.specs.declared.order.LineOptions.{LineOptions}
 use Rattle.sf_words.specs.declared.order.Order.{Order}
 use Rattle.sf_words.specs.declared.order.Verb.{Verb}
 use Rattle.sf_words.specs.declared.order.Verb.TheVariants as verb
 use Rattle.sf_words.specs.declared.order.WordsFault.{WordsFault}
 use Rattle.sf_tool.specs.Answers.{Answer}
 use Rattle.sf_tool.specs.Commands.{CarriesOut, Copies, CopiesBoth, CopiesWords, IsRefusedText, ScansBy, ScansText, ScansWord, Unread}
-use Rattle.sf_tool.specs.Exits.{Does, Exits, unread_of}
+use Rattle.sf_tool.specs.Exits.{Does, DoesOrder, EndsLines, Exits, unread_of}
+use Rattle.sf_tool.specs.Lines.{RunsLines, ScansLines, scanning}
 
 -- what is held, and the source that is stood for
 abbrev pub over : {T S : Type 0} → (T → S) → Ahead T → Ahead S
@@ -61,6 +66,7 @@ module _ {T S K : Type 0} (f : T → S) (to_come : S → Option (List ℕ)) (fau
   unread (PrintFormat fault) from from' out out' (same, h) = (ap (over f) same, h)
   unread (Values fault) from from' out out' (same, h) = (ap (over f) same, h)
   unread (Record fault) from from' out out' h = tt
+  unread (Lines fault) from from' out out' (same, h) = (ap (over f) same, h)
   unread Write from from' out out' (same, h) = (ap (over f) same, h)
   unread Memory from from' out out' (same, h) = (ap (over f) same, h)
   unread (Pair fault) from from' out out' (same, h) = (ap (over f) same, h)
@@ -91,6 +97,7 @@ module _ {T S K : Type 0} (f : T → S) (to_come : S → Option (List ℕ)) (fau
   scans_by form limit format t now n k before after (Err (PrintFormat fault)) (ds, spells, (end, l, is)) = (ds, spells, (end, loops _ ds limit t now n k before after end l, is))
   scans_by form limit format t now n k before after (Err (Values fault)) (ds, spells, (end, l, is)) = (ds, spells, (end, loops _ ds limit t now n k before after end l, is))
   scans_by form limit format t now n k before after (Err (Record fault)) (ds, spells, (end, l, is)) = (ds, spells, (end, loops _ ds limit t now n k before after end l, is))
+  scans_by form limit format t now n k before after (Err (Lines fault)) (ds, spells, (end, l, is)) = (ds, spells, (end, loops _ ds limit t now n k before after end l, is))
   scans_by form limit format t now n k before after (Err Write) (ds, spells, (end, l, is)) = (ds, spells, (end, loops _ ds limit t now n k before after end l, is))
   scans_by form limit format t now n k before after (Err (Pair fault)) (ds, spells, (end, l, is)) = (ds, spells, (end, loops _ ds limit t now n k before after end l, is))
 
@@ -126,6 +133,8 @@ module _ {T S K : Type 0} (f : T → S) (to_come : S → Option (List ℕ)) (fau
   copies limit units ds from from' before after (Err (Values fault)) (pair, (end, is, l)) =
       (pair, (end, is, λ t told_is. loops _ ds limit t from' (failed from.source) (failed from'.source) before after end (l t told_is)))
   copies limit units ds from from' before after (Err (Record fault)) (pair, (end, is, l)) =
+      (pair, (end, is, λ t told_is. loops _ ds limit t from' (failed from.source) (failed from'.source) before after end (l t told_is)))
+  copies limit units ds from from' before after (Err (Lines fault)) (pair, (end, is, l)) =
       (pair, (end, is, λ t told_is. loops _ ds limit t from' (failed from.source) (failed from'.source) before after end (l t told_is)))
   copies limit units ds from from' before after (Err Write) (pair, (end, is, l)) =
       (pair, (end, is, λ t told_is. loops _ ds limit t from' (failed from.source) (failed from'.source) before after end (l t told_is)))
@@ -170,14 +179,68 @@ module _ {T S K : Type 0} (f : T → S) (to_come : S → Option (List ℕ)) (fau
   carries form verb.Copy limit (print ∷ scan ∷ []) from from' out out' answer h = copies_both limit print scan from from' out out' answer h
   carries form verb.Copy limit (print ∷ scan ∷ other ∷ rest) from from' out out' answer h = absurd h
 
+-- ---- lines
+
+module _ {T S K E : Type 0} (f : T → S) (to_come : S → Option (List ℕ)) (faults : S → ℕ) (contents : K → Option (List ℕ)) (write_faults : K → ℕ)
+    (said : E → Option (List ℕ)) (unsaid : E → ℕ) where
+  line_loops : (w : LineWork) (t : List ℕ) (now : Ahead T) (n k : ℕ) (before after : Option (List ℕ)) (silent : Bool) (told told' : Option (List ℕ)) (end : LinesEnd)
+      → LineLoops w (λ s. to_come (f s)) t now n k before after silent told told' end → LineLoops w to_come t (over f now) n k before after silent told told' end
+  line_loops w t now n k before after silent told told' end l = record {
+    failed = l.failed;
+    failures_are = l.failures_are;
+    consumed = l.consumed;
+    rest = l.rest;
+    turns = l.turns;
+    are = l.are;
+    done = l.done;
+    later = l.later;
+    parts = l.parts;
+    part = l.part;
+    appends = l.appends;
+    tells = l.tells;
+    ends = l.ends;
+  }
+
+  runs_lines : (form : OutputForm) (options : LineOptions) (limit : ℕ) (formats : List (List Directive)) (from from' : Ahead T) (out out' : K) (err err' : E) (answer : Answer)
+      → RunsLines (λ s. to_come (f s)) (λ s. faults (f s)) contents write_faults said unsaid form options limit formats from from' out out' err err' answer
+      → RunsLines to_come faults contents write_faults said unsaid form options limit formats (over f from) (over f from') out out' err err' answer
+  runs_lines form options limit formats from from' out out' err err' answer r = record {
+    end = r.end;
+    lost = r.lost;
+    told = r.told;
+    loops = λ t is. line_loops (scanning form options limit formats) t from' (faults (f from.source)) (faults (f from'.source)) (contents out) (contents out') r.lost (Some []) (Some r.told) r.end (r.loops t is);
+    status = r.status;
+    says = r.says;
+    answers = r.answers;
+    failures = r.failures;
+  }
+
+  scans_lines : (profile : Profile) (form : OutputForm) (options : LineOptions) (limit : ℕ) (words : List (List ℕ)) (from from' : Ahead T) (out out' : K) (err err' : E) (answer : Answer)
+      → ScansLines (λ s. to_come (f s)) (λ s. faults (f s)) contents write_faults said unsaid profile form options limit words from from' out out' err err' answer
+      → ScansLines to_come faults contents write_faults said unsaid profile form options limit words (over f from) (over f from') out out' err err' answer
+  scans_lines profile form options limit words from from' out out' err err' answer (inl (bad, same, written, silent)) = inl (bad, ap (over f) same, written, silent)
+  scans_lines profile form options limit words from from' out out' err err' answer (inr (formats, are, r)) = inr (formats, are, runs_lines form options limit formats from from' out out' err err' answer r)
+
+  pub ends_lines : (options : LineOptions) (order : Order) (from from' : Ahead T) (out out' : K) (err err' : E) (status : ℕ)
+      → EndsLines (λ s. to_come (f s)) (λ s. faults (f s)) contents write_faults said unsaid options order from from' out out' err err' status
+      → EndsLines to_come faults contents write_faults said unsaid options order (over f from) (over f from') out out' err err' status
+  ends_lines options order from from' out out' err err' status (answer, (between, done, ends)) =
+      (answer, (between, scans_lines _ _ options order.limit _ from from' out out' err between answer done, ends))
+
 -- ---- the command
 
 module _ {T S K E : Type 0} (f : T → S) (to_come : S → Option (List ℕ)) (faults : S → ℕ) (contents : K → Option (List ℕ)) (write_faults : K → ℕ)
     (said : E → Option (List ℕ)) (unsaid : E → ℕ) (place : Option Place) (from from' : Ahead T) (out out' : K) (err err' : E) (status : ℕ) where
+  does_order : (lines : Option LineOptions) (order : Order)
+      → DoesOrder (λ s. to_come (f s)) (λ s. faults (f s)) contents write_faults said unsaid lines order place from from' out out' err err' status
+      → DoesOrder to_come faults contents write_faults said unsaid lines order place (over f from) (over f from') out out' err err' status
+  does_order None order (answer, done, more) = (answer, carries f to_come faults contents write_faults _ _ order.verb order.limit _ from from' out out' answer done, more)
+  does_order (Some options) order done = ends_lines f to_come faults contents write_faults said unsaid options order from from' out out' err err' status done
+
   does : (asked : Result Order WordsFault)
       → Does (λ s. to_come (f s)) (λ s. faults (f s)) contents write_faults said unsaid asked place from from' out out' err err' status
       → Does to_come faults contents write_faults said unsaid asked place (over f from) (over f from') out out' err err' status
-  does (Ok order) (answer, done, more) = (answer, carries f to_come faults contents write_faults _ _ order.verb order.limit _ from from' out out' answer done, more)
+  does (Ok order) done = does_order order.lines order done
   does (Err fault) (same, declined) = (ap (over f) same, declined)
 
   pub exits_over : (words : List (List ℕ)) → Exits (λ s. to_come (f s)) (λ s. faults (f s)) contents write_faults said unsaid words place from from' out out' err err' status

@@ -6,7 +6,7 @@ use Rattle.sf_format.specs.declared.fault.FormatWhy.{FormatWhy}
 use Rattle.sf_format.specs.declared.fault.FormatWhy.TheVariants.{NoMemory}
 use Rattle.sf_format.specs.Faults.{IsRefused, IsPrintRefused}
 use Rattle.sf_messages.specs.declared.fault.CommandFault.{CommandFault}
-use Rattle.sf_messages.specs.declared.fault.CommandFault.TheVariants.{BadEscape, Format, PrintFormat, Values, Record, Write, Memory, Pair}
+use Rattle.sf_messages.specs.declared.fault.CommandFault.TheVariants.{BadEscape, Format, PrintFormat, Values, Record, Lines, Write, Memory, Pair}
 use Rattle.sf_messages.specs.declared.fault.FormatName.TheVariants as name
 use Rattle.sf_tool.specs.Checks.{IsNoPrintWord, IsNoScanWord}
 use Rattle.sf_tool.specs.Commands.{Counts, IsBadText, IsUnwrittenBy}
@@ -23,6 +23,7 @@ no_print_text profile word (Format fault) bad = absurd bad
 no_print_text profile word (PrintFormat fault) bad = absurd bad
 no_print_text profile word (Values fault) bad = absurd bad
 no_print_text profile word (Record fault) bad = absurd bad
+no_print_text profile word (Lines fault) bad = absurd bad
 no_print_text profile word Write bad = absurd bad
 no_print_text profile word (Pair fault) bad = absurd bad
 
@@ -33,6 +34,7 @@ no_scan_text profile word (Format fault) bad = absurd bad
 no_scan_text profile word (PrintFormat fault) bad = absurd bad
 no_scan_text profile word (Values fault) bad = absurd bad
 no_scan_text profile word (Record fault) bad = absurd bad
+no_scan_text profile word (Lines fault) bad = absurd bad
 no_scan_text profile word Write bad = absurd bad
 no_scan_text profile word (Pair fault) bad = absurd bad
 
@@ -61,6 +63,7 @@ no_print_unwritten profile word (PrintFormat fault) out refused = refl
 no_print_unwritten profile word (Format fault) out refused = refl
 no_print_unwritten profile word (Values fault) out refused = absurd refused
 no_print_unwritten profile word (Record fault) out refused = tt
+no_print_unwritten profile word (Lines fault) out refused = absurd refused
 no_print_unwritten profile word Write out refused = tt
 no_print_unwritten profile word (Pair fault) out refused = refl
 
@@ -71,6 +74,7 @@ no_scan_unwritten profile word (PrintFormat fault) out refused = refl
 no_scan_unwritten profile word (Format fault) out refused = refl
 no_scan_unwritten profile word (Values fault) out refused = absurd refused
 no_scan_unwritten profile word (Record fault) out refused = tt
+no_scan_unwritten profile word (Lines fault) out refused = absurd refused
 no_scan_unwritten profile word Write out refused = tt
 no_scan_unwritten profile word (Pair fault) out refused = refl
 
@@ -81,6 +85,7 @@ no_print_counts profile word (PrintFormat fault) n refused = refl
 no_print_counts profile word (Format fault) n refused = refl
 no_print_counts profile word (Values fault) n refused = absurd refused
 no_print_counts profile word (Record fault) n refused = absurd refused
+no_print_counts profile word (Lines fault) n refused = absurd refused
 no_print_counts profile word Write n refused = absurd refused
 no_print_counts profile word (Pair fault) n refused = refl
 
@@ -91,5 +96,6 @@ no_scan_counts profile word (PrintFormat fault) n refused = refl
 no_scan_counts profile word (Format fault) n refused = refl
 no_scan_counts profile word (Values fault) n refused = absurd refused
 no_scan_counts profile word (Record fault) n refused = absurd refused
+no_scan_counts profile word (Lines fault) n refused = absurd refused
 no_scan_counts profile word Write n refused = absurd refused
 no_scan_counts profile word (Pair fault) n refused = refl

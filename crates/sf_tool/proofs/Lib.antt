@@ -3,6 +3,7 @@ pub mod Carrying
 pub mod Checking
 pub mod Escaping
 pub mod Finding
+pub mod Lining
 pub mod Numbers
 pub mod OneAnswer
 pub mod Places

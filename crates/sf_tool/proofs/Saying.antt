@@ -2,7 +2,7 @@
 use Rattle.std.proofs.Common.{◌≡◌, ◌∙◌, ◌++◌, ◌∷◌, ℕ, List, Option, None, Some, inl, inr, ap, append_assoc, sym}
 use Rattle.std.specs.Io.KnownBytes.{Appends}
 use Rattle.sf_print.specs.Sinks.{counted_on}
-use Rattle.sf_tool.specs.Exits.{Says}
+use Rattle.sf_tool.specs.Saying.{Says}
 
 appends_then : (a b c : Option (List ℕ)) (p q : List ℕ) → Appends a b p → Appends b c q → Appends a c (p ++ q)
 appends_then None b c p q h k = tt

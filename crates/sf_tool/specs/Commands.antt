@@ -11,6 +11,7 @@ use Rattle.sf_format.specs.Widths.{width_sum}
 use Rattle.sf_format.specs.declared.fault.FormatFault.{FormatFault}
 use Rattle.sf_format.specs.declared.fault.FormatWhy.{FormatWhy}
 use Rattle.sf_format.specs.declared.unit.Unit.{Unit as PrintUnit}
+use Rattle.sf_lines.specs.declared.end.LinesFault.TheVariants as lines_fault
 use Rattle.sf_messages.specs.Faults.{format_fault, print_format_fault}
 use Rattle.sf_pair.specs.Groups.{IsAligned}
 use Rattle.sf_pair.specs.Walk.{pair_fault}
@@ -36,7 +37,7 @@ use Rattle.sf_messages.specs.declared.argument_fault.ArgumentFault.TheVariants a
 use Rattle.sf_messages.specs.declared.fault.FormatName.{FormatName}
 use Rattle.sf_messages.specs.declared.fault.FormatName.TheVariants as name
 use Rattle.sf_messages.specs.declared.fault.CommandFault.{CommandFault}
-use Rattle.sf_messages.specs.declared.fault.CommandFault.TheVariants.{BadEscape, Format, PrintFormat, Values, Record, Write, Memory, Pair}
+use Rattle.sf_messages.specs.declared.fault.CommandFault.TheVariants.{BadEscape, Format, PrintFormat, Values, Record, Lines, Write, Memory, Pair}
 use Rattle.sf_tool.specs.Answers.{Answer}
 use Rattle.sf_tool.specs.Checks.{ChecksWords, IsFaultOf, IsNoPrintWord, IsNoScanWord, IsPrintWord, IsScanWord}
 use Rattle.sf_tool.specs.Escapes.{IsBadEscape, Unescapes}
@@ -54,6 +55,7 @@ abbrev pub is_write_fault : Answer → Bool
 is_write_fault (Err Write) = true
 is_write_fault (Err (Values argument_fault.Write)) = true
 is_write_fault (Err (Record record_fault.Write)) = true
+is_write_fault (Err (Lines lines_fault.Write)) = true
 is_write_fault _ = false
 
 -- the sink failed once if the answer tells it, and else never

@@ -1,11 +1,11 @@
 -- What one run of the command writes, says and answers.
-use Rattle.std.specs.Prelude.{◌≡◌, ◌⊎◌, ◌++◌, ℕ, List, [], false, Option, Some, Result, Ok, Err, IfErr, IfOk, IfSome, map, string_bytes}
+use Rattle.std.specs.Prelude.{◌≡◌, ◌++◌, ℕ, List, [], false, Option, Some, None, Result, Ok, Err, IfErr, IfOk, IfSome, map, string_bytes}
 use Rattle.std.specs.Io.KnownBytes.{Appends}
-use Rattle.sf_print.specs.Sinks.{counted_on}
 use Rattle.sf_places.specs.Behind.{IsBehind}
 use Rattle.sf_places.specs.declared.place.Place.{Place}
 use Rattle.sf_read.specs.Ahead.{Ahead, input_of}
 use Rattle.sf_records.specs.Judging.{TakesPart}
+use Rattle.sf_words.specs.declared.order.LineOptions.{LineOptions}
 use Rattle.sf_words.specs.declared.order.Order.{Order}
 use Rattle.sf_words.specs.declared.order.WordsFault.{WordsFault}
 use Rattle.sf_words.specs.declared.order.WordsFault.TheVariants.{Help, Usage, NoMemory}
@@ -14,13 +14,9 @@ use Rattle.sf_messages.specs.declared.fault.CommandFault.TheVariants.{Write, Mem
 use Rattle.sf_tool.specs.Answers.{Answer}
 use Rattle.sf_tool.specs.Commands.{CarriesOut, Counts, form_of, grammar_of}
 use Rattle.sf_tool.specs.Explains.{SaysMore}
+use Rattle.sf_tool.specs.Lines.{ScansLines}
+use Rattle.sf_tool.specs.Saying.{Says}
 use Rattle.sf_messages.specs.Texts.{error_line, status_of}
-
--- the sink took the text; or it failed once, and took a front of it
-abbrev pub Says : {E : Type 0} → (E → Option (List ℕ)) → (E → ℕ) → List ℕ → E → E → Type 0
-Says contents failures text err err' =
-    Appends (contents err) (contents err') text × (failures err' ≡ failures err)
-    ⊎ TakesPart (contents err) (contents err') text × (failures err' ≡ counted_on (failures err))
 
 -- nothing is said where there is an exit status; else the line of the fault, whose status it is, and the notes behind it
 abbrev pub Ends : {E : Type 0} → (E → Option (List ℕ)) → (E → ℕ) → List ℕ → Answer → E → E → ℕ → Type 0
@@ -44,14 +40,30 @@ Declines contents failures said unsaid (Usage text) out out' err err' status =
     (out' ≡ out) × Says said unsaid (string_bytes text) err err' × (status ≡ 2)
 Declines contents failures said unsaid NoMemory out out' err err' status = (out' ≡ out) × Ends said unsaid [] (Err Memory) err err' status
 
--- what is done for what was read of the words: the order, or help, or the words are refused with nothing read
-abbrev pub Does : {S K E : Type 0} → (S → Option (List ℕ)) → (S → ℕ) → (K → Option (List ℕ)) → (K → ℕ) → (E → Option (List ℕ)) → (E → ℕ) → Result Order WordsFault
+-- what an order of lines does: what is said of them comes before the line of the fault, and nothing behind that
+abbrev pub EndsLines : {S K E : Type 0} → (S → Option (List ℕ)) → (S → ℕ) → (K → Option (List ℕ)) → (K → ℕ) → (E → Option (List ℕ)) → (E → ℕ) → LineOptions → Order
+    → Ahead S → Ahead S → K → K → E → E → ℕ → Type 0
+EndsLines {S} {K} {E} to_come read_faults contents write_faults said unsaid options order from from' out out' err err' status =
+    (answer : Answer) × ((between : E)
+    × ScansLines to_come read_faults contents write_faults said unsaid (grammar_of order.profile) (form_of order.output) options order.limit (map string_bytes order.texts.items) from from' out out' err between answer
+    × Ends said unsaid [] answer between err' status)
+
+-- what an order of records does, or one of lines
+abbrev pub DoesOrder : {S K E : Type 0} → (S → Option (List ℕ)) → (S → ℕ) → (K → Option (List ℕ)) → (K → ℕ) → (E → Option (List ℕ)) → (E → ℕ) → Option LineOptions → Order
     → Option Place → Ahead S → Ahead S → K → K → E → E → ℕ → Type 0
-Does to_come read_faults contents write_faults said unsaid (Ok order) place from from' out out' err err' status =
+DoesOrder to_come read_faults contents write_faults said unsaid None order place from from' out out' err err' status =
     (answer : Answer) × CarriesOut to_come read_faults contents write_faults (grammar_of order.profile) (form_of order.output) order.verb order.limit (map string_bytes order.texts.items) from from' out out' answer
     × ((notes : List ℕ)
     × SaysMore order.explain (grammar_of order.profile) order.verb (map string_bytes order.texts.items) place from'.held answer notes
     × Ends said unsaid notes answer err err' status)
+DoesOrder to_come read_faults contents write_faults said unsaid (Some options) order place from from' out out' err err' status =
+    EndsLines to_come read_faults contents write_faults said unsaid options order from from' out out' err err' status
+
+-- what is done for what was read of the words: the order, or help, or the words are refused with nothing read
+abbrev pub Does : {S K E : Type 0} → (S → Option (List ℕ)) → (S → ℕ) → (K → Option (List ℕ)) → (K → ℕ) → (E → Option (List ℕ)) → (E → ℕ) → Result Order WordsFault
+    → Option Place → Ahead S → Ahead S → K → K → E → E → ℕ → Type 0
+Does to_come read_faults contents write_faults said unsaid (Ok order) place from from' out out' err err' status =
+    DoesOrder to_come read_faults contents write_faults said unsaid order.lines order place from from' out out' err err' status
 Does to_come read_faults contents write_faults said unsaid (Err fault) place from from' out out' err err' status =
     (from' ≡ from) × Declines contents write_faults said unsaid fault out out' err err' status
 

@@ -6,6 +6,8 @@ pub mod Escapes
 pub mod Exits
 pub mod Explains
 pub mod Laws
+pub mod Lines
 pub mod Prints
+pub mod Saying
 pub mod Show
 pub mod Words

@@ -176,7 +176,7 @@ pub(crate) fn grammar_of(profile: GivenProfile) -> Profile
 }
 
 /// The form that the words name.
-fn form_of(output: Output) -> OutputForm
+pub(crate) fn form_of(output: Output) -> OutputForm
     ensures { result ≡ form_of output }
 {
     match output {
@@ -212,8 +212,8 @@ fn carry_out_by<S: Source, K: Sink, const N: usize>(
     }
 }
 
-/// Does what an order asks for, on what the lookahead holds and its source gives, and answers the exit status. Err says why it
-/// was not done, or not to its end.
+/// Does what an order asks for, of records and not of lines, on what the lookahead holds and its source gives, and answers
+/// the exit status. Err says why it was not done, or not to its end.
 pub fn carry_out<S: Source, K: Sink, const N: usize>(
     alloc: Global,
     order: &Order,

@@ -1,27 +1,20 @@
 //! One run of the command, from its words to its exit status.
-ghost use Rattle.std.specs.Prelude.{◌≡◌, ◌++◌, None, map, string_bytes};
-ghost use Rattle.sf_tool.specs.Exits.{Declines, Ends, Exits, ExitsOn, Helps, Says};
+ghost use Rattle.std.specs.Prelude.{◌≡◌, ◌≤◌, ◌<◌, ◌++◌, None, length, map, string_bytes};
+ghost use Rattle.sf_tool.specs.Exits.{Declines, Ends, EndsLines, Exits, ExitsOn, Helps};
+ghost use Rattle.sf_tool.specs.Saying.{Says};
 
 use crate::command::carry_out;
+use crate::error_output::say;
 use crate::explain::{Left, notes_of};
+use crate::lines::scan_lines;
 use sf_messages::{CommandFault, error_line};
 use sf_places::{BLOCK_BYTES, Input, Placed};
 use sf_print::Sink;
 use sf_read::{Lookahead, Source};
 use sf_records::write_whole;
-use sf_words::{WordsFault, read_words};
+use sf_words::{LineOptions, Order, WordsFault, read_words};
 use std::alloc::Global;
 use std::marker::Brand;
-
-/// Hands the error output a text. A fault of it is ignored.
-fn say<E: Sink>(err: &mut E, text: &[u8])
-    ensures { Says E.contents E.failures text.now err.old err.new }
-{
-    match write_whole(err, text) {
-        Ok(()) => {}
-        Err(_) => {}
-    }
-}
 
 /// Hands the error output a line, and then what is said behind it. A fault of it is ignored.
 fn tell<E: Sink>(err: &mut E, line: &[u8], notes: &[u8])
@@ -74,10 +67,28 @@ fn decline<K: Sink, E: Sink>(fault: &WordsFault, out: &mut K, err: &mut E) -> u8
     }
 }
 
+/// Scans lines by an order, says why the command doesn't end cleanly where it doesn't, and answers its exit status.
+fn end_lines<S: Source, K: Sink, E: Sink, const N: usize>(
+    alloc: Global,
+    order: &Order,
+    options: LineOptions,
+    from: &mut Lookahead<S, N>,
+    out: &mut K,
+    err: &mut E,
+) -> u8
+    requires limit { order.now.limit ≤ 2147483647 }
+    requires some { 0 < length order.now.texts.items }
+    ensures { EndsLines S.to_come S.failures K.contents K.failures E.contents E.failures options order.now from.old from.new out.old out.new err.old err.new result }
+{
+    let answer = scan_lines(alloc, order, options, from, out, err);
+    end(err, answer, &[])
+}
+
 /// Runs the command of the words, which are those after the program's name, on what the lookahead holds and its source
 /// gives, and answers its exit status. Where it does not end cleanly, it says why in one line on `err`, with more lines behind
-/// it where the words ask for them; a fault in writing these is ignored. The place in the input isn't told, as what was used
-/// of it before isn't known. What is written to `out` isn't flushed.
+/// it where the words ask for them; a fault in writing these is ignored. Where lines are scanned, a line for each that is no
+/// match stands before that. The place in the input isn't told, as what was used of it before isn't known. What is written to
+/// `out` isn't flushed.
 pub fn run_words<S: Source, K: Sink, E: Sink, const N: usize>(
     alloc: Global,
     words: &[String],
@@ -89,15 +100,18 @@ pub fn run_words<S: Source, K: Sink, E: Sink, const N: usize>(
         from.old from.new out.old out.new err.old err.new result }
 {
     match read_words(alloc, words) {
-        Ok(order) => {
-            let answer = carry_out(alloc, &order, from, out);
-            let left = Left {
-                place: None,
-                held: from.held(),
-            };
-            let notes = notes_of(alloc, &order, left, answer);
-            end(err, answer, &notes)
-        }
+        Ok(order) => match order.lines {
+            None => {
+                let answer = carry_out(alloc, &order, from, out);
+                let left = Left {
+                    place: None,
+                    held: from.held(),
+                };
+                let notes = notes_of(alloc, &order, left, answer);
+                end(err, answer, &notes)
+            }
+            Some(options) => end_lines(alloc, &order, options, from, out, err),
+        },
         Err(fault) => decline(&fault, out, err),
     }
 }
@@ -118,13 +132,16 @@ fn run_placed<S: Source, K: Sink, E: Sink, I: Input>(
     let mut source = from;
     let mut ahead = Lookahead::<Placed<&mut S, I>, BLOCK_BYTES>::new(Placed::new(&mut source));
     match read_words(alloc, words) {
-        Ok(order) => {
-            let answer = carry_out(alloc, &order, &mut ahead, out);
-            let held = ahead.held();
-            let place = ahead.source().place_before(held);
-            let notes = notes_of(alloc, &order, Left { place, held }, answer);
-            end(err, answer, &notes)
-        }
+        Ok(order) => match order.lines {
+            None => {
+                let answer = carry_out(alloc, &order, &mut ahead, out);
+                let held = ahead.held();
+                let place = ahead.source().place_before(held);
+                let notes = notes_of(alloc, &order, Left { place, held }, answer);
+                end(err, answer, &notes)
+            }
+            Some(options) => end_lines(alloc, &order, options, &mut ahead, out, err),
+        },
         Err(fault) => decline(&fault, out, err),
     }
 }
@@ -146,11 +163,11 @@ fn run_unplaced<S: Source, K: Sink, E: Sink>(
 }
 
 /// Runs the command of the words, which are those after the program's name, on what the source gives, and answers its exit
-/// status. Where it does not end cleanly, it says why in one line on `err`; a fault in writing that is ignored. What is
-/// written to `out` isn't flushed.
+/// status. Where it does not end cleanly, it says why in one line on `err`, behind those of lines that are no match; a fault in
+/// writing that is ignored. What is written to `out` isn't flushed.
 ///
-/// 0: it ended cleanly. 1: a record failed or took no byte, a pair is refused, or there are too many records. 2: a format, a
-/// pair, a value or the words are refused. 3: a read or a write failed. 4: memory was refused.
+/// 0: it ended cleanly. 1: a record failed or took no byte, a line is no match, a pair is refused, or there are too many
+/// records or lines. 2: a format, a pair, a value or the words are refused. 3: a read or a write failed. 4: memory was refused.
 pub fn tool<S: Source, K: Sink, E: Sink>(
     alloc: Global,
     words: &[String],

@@ -5,11 +5,13 @@ mod argument;
 mod check;
 mod command;
 mod copy;
+mod error_output;
 mod escape;
 mod explain;
 mod formats;
 mod invocation;
 pub mod laws;
+mod lines;
 mod print;
 mod show;
 

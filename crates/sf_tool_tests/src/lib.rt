@@ -4,6 +4,8 @@
 #[cfg(test)]
 mod commands;
 #[cfg(test)]
+mod lines;
+#[cfg(test)]
 mod loops;
 #[cfg(test)]
 mod memory;

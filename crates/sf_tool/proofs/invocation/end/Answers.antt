@@ -1,6 +1,6 @@
 use Rattle.std.proofs.Common.{◌≡◌, ◌∙◌, ◌++◌, ℕ, List, subst}
 use Rattle.sf_messages.specs.Texts.{error_line}
-use Rattle.sf_tool.specs.Exits.{Says}
+use Rattle.sf_tool.specs.Saying.{Says}
 use Rattle.sf_tool.proofs.invocation.end.Goals as goal
 
 pub returns-in-Err : goal.returns-in-Err

@@ -1,0 +1,7 @@
+use Rattle.std.proofs.Common.{drop, map, string_bytes}
+use Rattle.sf_tool.proofs.Lining.{Opened}
+use Rattle.sf_tool.proofs.lines.formats_of.Given as goal
+
+-- the formats of the words so far
+abbrev pub invariant-loop-word : goal.invariant-loop-word
+invariant-loop-word l = Opened l.profile (map string_bytes l.words) (map string_bytes (drop l.word-index l.words)) l.formats.items
