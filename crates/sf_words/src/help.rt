@@ -28,8 +28,7 @@ pub(crate) const SCAN: &str = "Examples:
   sf scan --limit 80 '%s' < words         no record may have more than 80 bytes
   sf scan --output json '%d,%d' < points  an array of two numbers for each record
   sf scan --lines '%d,%d' < points        each line by itself: what stands behind its numbers is dropped
-  sf scan --lines --skip 1 --whole -e '%d,%d' -e '%d' < points
-                                          lines of two numbers or of one, behind a head line
+  sf scan --lines --skip 1 -e '%d,%d' -e '%d' < points  behind the first line, two numbers or one
 
 Exit status:
   0  each record or line was scanned, and the input ended where a record may begin

@@ -34,7 +34,7 @@ const HELPS: [(&str, &str, &str, &[&str], &[&str]); 5] = [
             "\n  sf scan --limit 80 '%s' < words",
             "\n  sf scan --output json '%d,%d' < points",
             "\n  sf scan --lines '%d,%d' < points",
-            "\n  sf scan --lines --skip 1 --whole -e '%d,%d' -e '%d' < points",
+            "\n  sf scan --lines --skip 1 -e '%d,%d' -e '%d' < points  behind the first line, two numbers or one",
             "\n      --lines          Take each line as an input of its own",
             "\n  -e <FORMAT>          A format of a line, with --lines; the first of several that is done counts",
             "\n      --skip <N>       Pass over the first N lines, with --lines",
