@@ -61,6 +61,7 @@ pub(crate) struct Run<'f> {
 }
 
 /// The slot that is given the item of the conversion as it stands, if there is one.
+#[inline(always)]
 pub(crate) fn text_slot(conversion: &Conversion) -> Option<u8>
     ensures { result ≡ text_slot (directive.Conv conversion.now) }
 {
@@ -71,6 +72,7 @@ pub(crate) fn text_slot(conversion: &Conversion) -> Option<u8>
 }
 
 /// Whether it is the shape of `n`.
+#[inline(always)]
 pub(crate) fn is_count(shape: &Shape) -> bool
     ensures { result ≡ is_count shape.now }
 {
@@ -78,6 +80,7 @@ pub(crate) fn is_count(shape: &Shape) -> bool
 }
 
 /// Whether white space is skipped before the item.
+#[inline(always)]
 fn skips_space(shape: &Shape) -> bool
     ensures { result ≡ shape_skips shape.now }
 {
@@ -98,6 +101,7 @@ fn item_phase<'f>(slot: Option<u8>, scan: ItemScan<'f>) -> Phase<'f>
 }
 
 /// How many bytes of white space the piece begins with.
+#[inline(always)]
 pub(crate) fn space_before(piece: &[u8]) -> usize
     ensures within { result ≤ length piece.now }
     ensures white { (k : ℕ) → k < result → is_white (get_or piece.now k 0) ≡ true }
@@ -110,6 +114,7 @@ pub(crate) fn space_before(piece: &[u8]) -> usize
 }
 
 /// How many bytes a conversion of the shape skips at the front of the piece.
+#[inline(always)]
 pub(crate) fn skipped(shape: &Shape, piece: &[u8]) -> usize
     ensures within { result ≤ length piece.now }
     ensures white { (k : ℕ) → k < result → (shape_skips shape.now && is_white (get_or piece.now k 0)) ≡ true }
@@ -123,6 +128,7 @@ pub(crate) fn skipped(shape: &Shape, piece: &[u8]) -> usize
 }
 
 /// A conversion that matched a number; None where its kind doesn't hold it.
+#[inline(always)]
 pub(crate) fn finish_number(conversion: &Conversion, value: Option<Value<'static>>) -> Finished
     requires { IfSome value (λ v. is_number v ≡ true) }
     ensures end { (text : List ℕ) (n : Option ℤ) → option_map datum_of value.entry ≡ option_map (Number conversion.now.kind) n
@@ -253,6 +259,7 @@ pub(crate) fn finish(directive: &Directive, phase: Phase<'_>, used: u32) -> Fini
 }
 
 /// The piece is used up, and no item has begun.
+#[inline(always)]
 fn waits<'f>(before: usize) -> Run<'f>
     ensures { result ≡ record { before = before; item = 0; phase = phase.Skipping; ends = None } }
 {
@@ -265,6 +272,7 @@ fn waits<'f>(before: usize) -> Run<'f>
 }
 
 /// The directive ends so after so many bytes, none of them of a text.
+#[inline(always)]
 fn ends<'f>(before: usize, item: usize, finished: Finished) -> Run<'f>
     ensures { result ≡ record { before = before; item = item; phase = phase.Skipping; ends = Some finished } }
 {
@@ -277,6 +285,7 @@ fn ends<'f>(before: usize, item: usize, finished: Finished) -> Run<'f>
 }
 
 /// White space.
+#[inline(always)]
 fn run_space<'f>(piece: &[u8]) -> Run<'f>
     ensures answers { (n : ℕ) → Answers directive.Space Skipping n piece.now result }
     ensures suits { Suits directive.Space phase.Skipping piece.now result }
@@ -290,6 +299,7 @@ fn run_space<'f>(piece: &[u8]) -> Run<'f>
 }
 
 /// The byte that is due.
+#[inline(always)]
 fn run_byte<'f>(due: u8, piece: &[u8]) -> Run<'f>
     ensures answers { (n : ℕ) → Answers (directive.Byte due) Skipping n piece.now result }
     ensures percent { due ≡ 37 → (0 < length piece.now → is_white (get_or piece.now 0 0) ≡ false) → (n : ℕ) → Answers directive.Percent Skipping n piece.now result }
@@ -357,6 +367,7 @@ fn go_on<'f>(
 }
 
 /// The integer that the piece begins with, where there is a quick way to read it and a byte of the piece follows.
+#[inline(always)]
 fn whole_integer(shape: &Shape, width: Option<u16>, piece: &[u8]) -> Option<WholeInteger>
     ensures { IfSome result (IsWhole shape.now width piece.now) }
 {
@@ -368,6 +379,7 @@ fn whole_integer(shape: &Shape, width: Option<u16>, piece: &[u8]) -> Option<Whol
 }
 
 /// The item of a conversion, whose first byte is that of the piece.
+#[inline(always)]
 fn begin_item<'f>(conversion: &'f Conversion, piece: &[u8]) -> Run<'f>
     requires { is_count conversion.now.shape ≡ false }
     ensures answers { IsProper (directive.Conv conversion.now) → (0 < length piece.now → (shape_skips conversion.now.shape && is_white (get_or piece.now 0 0)) ≡ false) → (n : ℕ)
@@ -394,6 +406,7 @@ fn begin_item<'f>(conversion: &'f Conversion, piece: &[u8]) -> Run<'f>
 }
 
 /// As the answer for what is behind so many bytes, which are skipped.
+#[inline(always)]
 fn behind<'f>(before: usize, run: Run<'f>) -> Run<'f>
     requires { before + run.before < 2 ^ 64 }
     ensures { result ≡ record run.entry { before = before + run.entry.before } }
@@ -407,6 +420,7 @@ fn behind<'f>(before: usize, run: Run<'f>) -> Run<'f>
 }
 
 /// Hands a conversion that took nothing yet the piece, which comes so many bytes into the run.
+#[inline(always)]
 fn begin<'f>(conversion: &'f Conversion, piece: &[u8], used: u32) -> Run<'f>
     ensures answers { IsProper (directive.Conv conversion.now) → Answers (directive.Conv conversion.now) Skipping used piece.now result }
     ensures suits { Suits (directive.Conv conversion.now) phase.Skipping piece.now result }
@@ -420,6 +434,7 @@ fn begin<'f>(conversion: &'f Conversion, piece: &[u8], used: u32) -> Run<'f>
 }
 
 /// Hands a conversion, which has come so far, the piece, which comes so many bytes into the run.
+#[inline(always)]
 fn run_conversion<'f>(
     conversion: &'f Conversion,
     phase: Phase<'f>,
@@ -439,6 +454,7 @@ fn run_conversion<'f>(
 }
 
 /// `%%`: white space, and the percent sign behind it.
+#[inline(always)]
 fn run_percent<'f>(piece: &[u8]) -> Run<'f>
     ensures answers { (n : ℕ) → Answers directive.Percent Skipping n piece.now result }
     ensures suits { Suits directive.Percent phase.Skipping piece.now result }
@@ -449,6 +465,7 @@ fn run_percent<'f>(piece: &[u8]) -> Run<'f>
 }
 
 /// Hands the directive, which has come so far, the piece, which comes so many bytes into the run.
+#[inline(always)]
 pub(crate) fn run_on<'f>(
     directive: &'f Directive,
     phase: Phase<'f>,
@@ -468,6 +485,7 @@ pub(crate) fn run_on<'f>(
 }
 
 /// Whether an item of the shape is stored as it stands.
+#[inline(always)]
 fn is_text(shape: &Shape) -> bool
     ensures slot { result ≡ true → (slot : Option ℕ) → slot_of_text shape.now slot ≡ slot }
     ensures item { result ≡ true → is_count shape.now ≡ false }
@@ -476,6 +494,7 @@ fn is_text(shape: &Shape) -> bool
 }
 
 /// How an item ends that is stored as it stands.
+#[inline(always)]
 fn finish_bytes(slot: Option<u8>) -> Finished
     ensures none { slot ≡ None → result ≡ finish.Passes }
     ensures some { (n : ℕ) → slot ≡ Some n → result ≡ finish.Closes n }
@@ -489,6 +508,7 @@ fn finish_bytes(slot: Option<u8>) -> Finished
 }
 
 /// As `begin`, of an item that is stored as it stands: it is looked at once where a byte of the piece follows it.
+#[inline(always)]
 fn begin_text<'f>(conversion: &'f Conversion, piece: &[u8], used: u32) -> Run<'f>
     requires slot { (slot : Option ℕ) → slot_of_text conversion.now.shape slot ≡ slot }
     requires item { is_count conversion.now.shape ≡ false }
@@ -506,6 +526,7 @@ fn begin_text<'f>(conversion: &'f Conversion, piece: &[u8], used: u32) -> Run<'f
 }
 
 /// Hands the directive, which took nothing yet, the piece, for a run that keeps nothing where it doesn't end within the piece.
+#[inline(always)]
 pub(crate) fn run_at_once<'f>(directive: &'f Directive, piece: &[u8], used: u32) -> Run<'f>
     ensures answers { IsProper directive.now → Answers directive.now Skipping used piece.now result }
     ensures within { result.before + result.item ≤ length piece.now }
