@@ -126,6 +126,33 @@ class Order(Streams):
             self.assertEqual(file.read(), b"1\n" + FAILED)
 
 
+class LinesThatAreTold(Streams):
+    """With --keep-going what is told of lines comes behind all records."""
+    WORDS = ("scan", "--lines", "--keep-going", "%d")
+    TOLD = b"sf: line %d: matching failure at 1, used 0, assigned 0\n"
+
+    def test_records_come_before_what_is_told(self):
+        expected = (1, b"1\n3\n" + self.TOLD % 2 + self.TOLD % 4, None)
+        self.assertEqual(program.run(*self.WORDS, stdin=b"1\nx\n3\ny\n", stderr=subprocess.STDOUT), expected)
+
+    def test_all_lines_are_told(self):
+        told = b"".join(self.TOLD % number for number in range(1, 20001))
+        self.expect(1, b"", told, *self.WORDS, stdin=b"x\n" * 20000)
+
+    def test_memory_stays_flat_where_nothing_is_told(self):
+        quiet = (*self.WORDS[:-1], "--quiet", "%d")
+        self.assertEqual(self.bounded(*quiet, megabytes=16, stdin=b"1\nx\n" * 200000), (1, b"1\n" * 200000, b""))
+
+    def test_a_write_fault_is_told_once(self):
+        with full() as disk:
+            self.expect(3, None, self.TOLD % 2 + WRITE_FAULT, *self.WORDS, stdin=b"1\nx\n", stdout=disk)
+            self.expect(3, None, WRITE_FAULT, *self.WORDS, stdin=b"1\n" * 100000 + b"x\n", stdout=disk)
+
+    def test_a_full_error_stream_changes_no_record(self):
+        with full() as disk:
+            self.expect(1, b"1\n3\n", None, *self.WORDS, stdin=b"1\nx\n3\n", stderr=disk)
+
+
 class WhenItIsDue(Streams):
     """A record's line on a terminal comes while the input is still open; for a pipe lines are kept for a block."""
 
