@@ -16,5 +16,6 @@ pub mod Openness
 pub mod Waits
 pub mod Refusals
 pub mod Inputs
+pub mod Fronts
 pub mod TwoStores
 pub mod AtOnce

@@ -1,8 +1,9 @@
 -- Laws of runs.
-use Rattle.std.specs.Prelude.{◌≡◌, ◌↔◌, ℕ, ◌<◌, ◌≤◌, Bool, true, false, List, ◌++◌, length, None}
+use Rattle.std.specs.Prelude.{◌≡◌, ◌↔◌, ℕ, ◌<◌, ◌≤◌, Bool, true, false, List, ◌++◌, length, Option, None}
 use Rattle.sf_format.specs.declared.directive.Directive.{Directive}
 use Rattle.sf_format.specs.Proper.{IsProper, AreProper}
 use Rattle.sf_run.specs.declared.outcome.Ending.{Ending}
+use Rattle.sf_run.specs.declared.outcome.Status.TheVariants.{Done}
 use Rattle.sf_run.specs.Steps.{StepEnd, Step}
 use Rattle.sf_run.specs.Runs.{RunReport, Ran, Steps, IsOpen, Run}
 use Rattle.sf_run.specs.Runs as runs
@@ -32,6 +33,14 @@ abbrev pub EachOpenInputIsUsed : Type 0
 EachOpenInputIsUsed =
     (ds : List Directive) → AreProper ds → (x : List ℕ) (ending : Ending) (report : RunReport) → IsOpen ds x → Run ds x ending report
     → report.used ≡ length x
+
+-- Where a run is Done on an input, it is Done with the same values on every front of that input that has the bytes which it
+-- used, with every ending; only what it met may be another.
+abbrev pub EachDoneRunStays : Type 0
+EachDoneRunStays =
+    (ds : List Directive) → AreProper ds → (m : ℕ) (x z : List ℕ) (first second : Ending) (report : RunReport)
+    → RunWithin ds m (x ++ z) first report → report.status ≡ Done → report.used ≤ length x
+    → (met : Option Ending) × RunWithin ds m x second (record report { met = met })
 
 -- two scanners, over whichever stores, that have ended on the same input and refused no storing, report the same
 abbrev pub EachStoreReportsAlike : Type 0

@@ -2,6 +2,7 @@
 ghost use Rattle.sf_run.specs.Laws.{
   EachByteIsTried,
   EachClosedInputStays,
+  EachDoneRunStays,
   EachHasOneReport,
   EachMachineSteps,
   EachOpenInputIsUsed,
@@ -25,6 +26,12 @@ pub fn closed_inputs_stay()
 /// A run that some byte would go on with has used all of its input.
 pub fn open_inputs_are_used()
     ensures { EachOpenInputIsUsed }
+{}
+
+/// A run that is Done is Done with the same values on every front of its input that has the bytes which it used, with every
+/// ending.
+pub fn done_runs_stay()
+    ensures { EachDoneRunStays }
 {}
 
 /// Scanners over two stores that refused no storing report the same of the same input.
