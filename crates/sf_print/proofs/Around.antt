@@ -1,7 +1,8 @@
 -- The parts of an integer's text, joined as the pieces are put.
-use Rattle.std.proofs.Common.{◌≡◌, ℕ, zero, suc, ◌+◌, Bool, true, false, List, [], ◌++◌, length, replicate, drop, ℤ, unsigned_abs, refl, sym, ap, ◌∙◌, arith, append_assoc, append-nil, length-append}
+use Rattle.std.proofs.Common.{◌≡◌, ℕ, zero, suc, ◌+◌, ◌-◌, Bool, true, false, List, [], ◌++◌, length, replicate, take, drop, ℤ, unsigned_abs, refl, sym, ap, ◌∙◌, arith, append_assoc, append-nil, length-append}
 use Rattle.std.proofs.lemmas.List.{replicate-append-replicate, length-replicate}
-use Rattle.std.proofs.lemmas.List.{drop_all}
+use Rattle.std.proofs.lemmas.List.{drop_all, take_all}
+use Rattle.std.specs.List.{slice_range}
 use Rattle.sf_format.specs.declared.unit.PrintConv.{PrintConv}
 use Rattle.sf_format.specs.declared.unit.PrintLetter.{PrintLetter}
 use Rattle.sf_format.specs.declared.unit.PrintLetter.TheVariants as letter
@@ -43,3 +44,10 @@ ten _ o x u b = (refl, refl)
 
 pub at_end : (ds buf : List ℕ) → length buf ≡ 64 → ds ++ drop 64 buf ≡ ds
 at_end ds buf e = ap (λ (t : List ℕ). ds ++ t) (drop_all 64 buf (omega arith)) ∙ append-nil ds
+
+-- what was written up to the end of the buffer, and from its start
+pub to_end : (start : ℕ) (ds new old : List ℕ) → start + length ds ≡ 64 → length old ≡ 64 → drop start new ≡ ds ++ drop 64 old → slice_range new start 64 ≡ ds
+to_end start ds new old e long is = ap (take (64 - start)) (is ∙ at_end ds old long) ∙ take_all (64 - start) ds (omega (arith, e))
+
+pub from_start : (end : ℕ) (ds new old : List ℕ) → take end new ≡ take 0 old ++ ds → slice_range new 0 end ≡ ds
+from_start end ds new old is = ap (λ (k : ℕ). take k new) {x = end - 0} {y = end} (omega arith) ∙ is

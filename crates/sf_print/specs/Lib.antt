@@ -11,3 +11,4 @@ pub mod Staged
 pub mod Runs
 pub mod Short
 pub mod Visible
+pub mod Decimals

@@ -1,7 +1,7 @@
 //! The text of an integer, in pieces.
-ghost use Rattle.std.specs.Prelude.{◌≡◌, ◌+◌, ◌<◌, ◌≤◌, ◌^◌, ◌++◌, IsTrue, length, replicate, drop};
+ghost use Rattle.std.specs.Prelude.{◌≡◌, ◌+◌, ◌<◌, ◌≤◌, ◌^◌, ◌++◌, IsTrue, length, replicate};
 ghost use Rattle.std.specs.Fmt.{digits};
-ghost use Rattle.std.specs.List.{flat_map};
+ghost use Rattle.std.specs.List.{flat_map, slice_range};
 ghost use Rattle.sf_print.specs.Runs.{piece_bytes};
 ghost use Rattle.sf_print.specs.Text.{integer_text, with_sign, sign, mark, base_of, is_upper, is_octal, numeral, pads_with_zeros, least_digits, with_octal_zero, filled, left_blanks, inner_zeros, right_blanks};
 
@@ -130,17 +130,33 @@ fn around_digits<'a>(
     ]
 }
 
-/// Writes the digits of a magnitude in the letter's base to the end of the buffer, and answers where they start.
-fn write_magnitude(letter: PrintLetter, magnitude: u64, buf: &mut [u8; DIGIT_BYTES]) -> usize
-    ensures start { result + length (digits (base_of letter) (is_upper letter) magnitude) ≡ 64 }
-    ensures written { drop result buf.new ≡ digits (base_of letter) (is_upper letter) magnitude }
+/// Writes the digits of a magnitude in the letter's base to the buffer, and answers where they start and end.
+fn write_magnitude(
+    letter: PrintLetter,
+    magnitude: u64,
+    buf: &mut [u8; DIGIT_BYTES],
+) -> (usize, usize)
+    ensures within { (result.0 ≤ result.1) × (result.1 ≤ 64) }
+    ensures written { slice_range buf.new result.0 result.1 ≡ digits (base_of letter) (is_upper letter) magnitude }
 {
     match letter {
-        PrintLetter::Octal => write_digits(8, false, magnitude, buf, DIGIT_BYTES),
-        PrintLetter::HexLower => write_digits(16, false, magnitude, buf, DIGIT_BYTES),
-        PrintLetter::HexUpper => write_digits(16, true, magnitude, buf, DIGIT_BYTES),
-        PrintLetter::Binary => write_digits(2, false, magnitude, buf, DIGIT_BYTES),
-        _ => write_decimal(magnitude, buf, DIGIT_BYTES),
+        PrintLetter::Octal => (
+            write_digits(8, false, magnitude, buf, DIGIT_BYTES),
+            DIGIT_BYTES,
+        ),
+        PrintLetter::HexLower => (
+            write_digits(16, false, magnitude, buf, DIGIT_BYTES),
+            DIGIT_BYTES,
+        ),
+        PrintLetter::HexUpper => (
+            write_digits(16, true, magnitude, buf, DIGIT_BYTES),
+            DIGIT_BYTES,
+        ),
+        PrintLetter::Binary => (
+            write_digits(2, false, magnitude, buf, DIGIT_BYTES),
+            DIGIT_BYTES,
+        ),
+        _ => (0, write_decimal(magnitude, buf, 0)),
     }
 }
 
@@ -157,6 +173,6 @@ pub(crate) fn integer_pieces<'a>(
     if magnitude == 0 && least(conv) == 0 {
         return around_digits(conv, negative, magnitude, &[]);
     }
-    let start = write_magnitude(conv.letter, magnitude, buf);
-    around_digits(conv, negative, magnitude, &buf[start..])
+    let (start, end) = write_magnitude(conv.letter, magnitude, buf);
+    around_digits(conv, negative, magnitude, &buf[start..end])
 }

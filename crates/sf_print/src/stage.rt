@@ -2,7 +2,7 @@
 ghost use Rattle.std.specs.Prelude.{◌≡◌, ◌≤◌, ◌<◌, ◌+◌, ◌++◌, ◌∷◌, [], replicate, length, take};
 ghost use Rattle.std.specs.Fmt.{decimal};
 
-use crate::decimal::{decimal_len, write_decimal};
+use crate::decimal::write_decimal;
 
 /// How many bytes are held at most.
 pub(crate) const STAGE_BYTES: usize = 128;
@@ -75,8 +75,6 @@ impl Stage {
         ensures len { self.new.len ≡ self.old.len + length (decimal number) }
         ensures written { self.new.written ≡ self.old.written }
     {
-        let end = self.len + decimal_len(number);
-        write_decimal(number, &mut self.buf, end);
-        self.len = end;
+        self.len = write_decimal(number, &mut self.buf, self.len);
     }
 }

@@ -1,4 +1,4 @@
-use Rattle.std.proofs.Common.{◌≡◌, ◌≤◌, length, pos, ap, ◌∙◌, arith}
+use Rattle.std.proofs.Common.{◌≤◌, length, ap, arith}
 use Rattle.std.specs.List.{flat_map}
 use Rattle.sf_print.specs.Runs.{piece_bytes}
 use Rattle.sf_print.proofs.Blanks.{number_short, without-le}

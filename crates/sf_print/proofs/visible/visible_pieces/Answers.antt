@@ -1,9 +1,8 @@
-use Rattle.std.proofs.Common.{◌≡◌, ◌+◌, length, take, get_or, sym, ap, ◌∙◌, arith, length-append}
+use Rattle.std.proofs.Common.{◌+◌, take, ap, ◌∙◌, arith}
 use Rattle.std.proofs.lemmas.List.Folds.{length-flat_map-take}
 use Rattle.std.specs.List.{flat_map}
 use Rattle.sf_print.specs.declared.piece.Piece.TheVariants as pieces
 use Rattle.sf_print.specs.Runs.{piece_bytes}
-use Rattle.sf_print.specs.Visible.{without_blanks}
 use Rattle.sf_print.proofs.Blanks.{without-le, next_hidden, next_visible}
 use Rattle.sf_print.proofs.visible.visible_pieces.Goals as goal
 use Rattle.sf_print.proofs.visible.visible_pieces.Goals.{then-len-eq0, else-len-eq0}

@@ -1,0 +1,24 @@
+use Rattle.std.proofs.Common.{arith}
+use Rattle.std.proofs.lemmas.Fmt.{decimal_digit}
+use Rattle.std.proofs.lemmas.List.{take_more_set}
+use Rattle.sf_print.proofs.FourDigits.{length_one, decimal_two, length_two}
+use Rattle.sf_print.proofs.decimal.put_first.Goals as goal
+
+pub bounds-buf-at : goal.bounds-buf-at
+bounds-buf-at c = omega (arith, length_one c.args.number c.if-number-lt10.true)
+
+pub returns-then-number-lt10-clause-end : goal.returns-then-number-lt10-clause-end
+returns-then-number-lt10-clause-end c = omega (arith, length_one c.args.number c.if-number-lt10.true)
+
+pub returns-then-number-lt10-clause-written : goal.returns-then-number-lt10-clause-written
+returns-then-number-lt10-clause-written c =
+    rw (decimal_digit c.args.number c.if-number-lt10.true) (take_more_set c.args.buf.now c.args.at _ (omega (arith, length_one c.args.number c.if-number-lt10.true)))
+
+pub write_pair-requires : goal.write_pair-requires
+write_pair-requires c = (c.requires.0, omega (arith, length_two c.args.number c.if-number-lt10.false c.requires.0))
+
+pub returns-clause-end : goal.returns-clause-end
+returns-clause-end c = omega (arith, length_two c.args.number c.if-number-lt10.false c.requires.0)
+
+pub returns-clause-written : goal.returns-clause-written
+returns-clause-written c = rw (decimal_two c.args.number c.if-number-lt10.false c.requires.0) c.write_pair.ensures
