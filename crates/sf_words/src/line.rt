@@ -59,18 +59,6 @@ fn flag<'a>(alloc: Global, name: &'a str, help: &'a str) -> Arg<'a>
         .help(help)
 }
 
-/// Whether what a record gives is written before the next record.
-fn line_buffered<'a>(alloc: Global) -> Arg<'a>
-    ensures rule { rule_of result ≡ flag_rule (codes "line-buffered") }
-    ensures local { result.global ≡ false }
-{
-    flag(
-        alloc,
-        "line-buffered",
-        "Write what each record gives at once, and not in blocks",
-    )
-}
-
 /// Whether more is said of a fault than its line.
 fn explain<'a>(alloc: Global) -> Arg<'a>
     ensures rule { rule_of result ≡ flag_rule (codes "explain") }
@@ -80,50 +68,6 @@ fn explain<'a>(alloc: Global) -> Arg<'a>
         alloc,
         "explain",
         "Say more of what is at fault, in lines behind the first",
-    )
-}
-
-/// Whether each line is an input of its own.
-fn lines<'a>(alloc: Global) -> Arg<'a>
-    ensures rule { rule_of result ≡ flag_rule (codes "lines") }
-    ensures local { result.global ≡ false }
-{
-    flag(alloc, "lines", "Take each line as an input of its own")
-}
-
-/// Whether a line that isn't used whole has failed.
-fn whole<'a>(alloc: Global) -> Arg<'a>
-    ensures rule { rule_of result ≡ flag_rule (codes "whole") }
-    ensures local { result.global ≡ false }
-{
-    flag(
-        alloc,
-        "whole",
-        "Let a line fail that is not used whole, with --lines",
-    )
-}
-
-/// Whether the scan goes on behind a line that failed.
-fn keep_going<'a>(alloc: Global) -> Arg<'a>
-    ensures rule { rule_of result ≡ flag_rule (codes "keep-going") }
-    ensures local { result.global ≡ false }
-{
-    flag(
-        alloc,
-        "keep-going",
-        "Go on behind a line that fails, with --lines",
-    )
-}
-
-/// Whether nothing is told of lines that failed.
-fn quiet<'a>(alloc: Global) -> Arg<'a>
-    ensures rule { rule_of result ≡ flag_rule (codes "quiet") }
-    ensures local { result.global ≡ false }
-{
-    flag(
-        alloc,
-        "quiet",
-        "Tell nothing of lines that fail, with --lines",
     )
 }
 
@@ -209,7 +153,11 @@ fn with_records<'a>(
 {
     command(alloc, name, about, end)
         .arg(limit(alloc))?
-        .arg(line_buffered(alloc))?
+        .arg(flag(
+            alloc,
+            "line-buffered",
+            "Write what each record gives at once, and not in blocks",
+        ))?
         .arg(profile(alloc))?
         .arg(explain(alloc))
 }
@@ -237,12 +185,24 @@ fn scan<'a>(alloc: Global) -> Result<Command<'a>, AllocError>
     )?
     .override_usage(help::SCAN_USAGE)
     .arg(output(alloc))?
-    .arg(lines(alloc))?
+    .arg(flag(alloc, "lines", "Take each line as an input of its own"))?
     .arg(formats(alloc))?
     .arg(skip(alloc))?
-    .arg(whole(alloc))?
-    .arg(keep_going(alloc))?
-    .arg(quiet(alloc))?
+    .arg(flag(
+        alloc,
+        "whole",
+        "Let a line fail that is not used whole, with --lines",
+    ))?
+    .arg(flag(
+        alloc,
+        "keep-going",
+        "Go on behind a line that fails, with --lines",
+    ))?
+    .arg(flag(
+        alloc,
+        "quiet",
+        "Tell nothing of lines that fail, with --lines",
+    ))?
     .arg(format(alloc))
 }
 
