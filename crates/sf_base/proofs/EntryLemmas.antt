@@ -7,12 +7,12 @@ use Rattle.std.proofs.lemmas.Bool.{or_cases, eqb-true, eqb-false, eq-eqb, ne_eqb
 use Rattle.std.proofs.lemmas.List.{map-append, length-map, take-take, take-append-drop}
 use Rattle.std.proofs.lemmas.List.Folds.{list_any-append}
 use Rattle.std.proofs.lemmas.Slice.{between_is, between_to_end}
-use Rattle.std.proofs.Math.Seq.{take-length}
+use Rattle.std.proofs.Math.Seq.{take-length, take-append_seam, drop-append_seam}
 use Rattle.std.proofs.lemmas.List.Elements.{All-nil, All-head, All-tail, All-push, All-weaker}
 use Rattle.std.proofs.lemmas.Map.Keys.{IsDistinct-push}
 use Rattle.std.proofs.lemmas.Map.Steps.{length-le_from_distinct_below}
 use Rattle.sf_base.specs.Data.{Bytes, Assigned, datum_at}
-use Rattle.sf_base.specs.Kept.{assigned, is_opened, with_closed}
+use Rattle.sf_base.specs.Kept.{assigned, is_opened, with_closed, with_text}
 use Rattle.sf_base.specs.Entries.{datum_in, assigned_in, IsWithin, slots_of, opened_at, kept_of, IsSlot, IsAbsent, IsUnderWay, IsSound}
 use Rattle.sf_base.specs.declared.entries.Cell.{Cell}
 use Rattle.sf_base.specs.declared.entries.Cell.TheVariants as cell
@@ -58,7 +58,7 @@ length-lt-slots n xs slot apart in_range is_slot absent =
     omega (arith, few, length-append more (0 ∷ []), length-append xs (slot ∷ []))
 
 IsWithin-le : (m n : ℕ) → m ≤ n → (x : Cell) → IsWithin m x → IsWithin n x
-IsWithin-le m n le (cell.Number kind negative magnitude) h = h
+IsWithin-le m n le (cell.Number number) h = h
 IsWithin-le m n le (cell.Text from to) h = (h.0, omega (arith, h.1))
 
 -- one entry more, which may be a text that ends where the closed ones now do
@@ -89,7 +89,7 @@ closed-all slots taken closed len (Some s) text h none = cc
 
 -- a text within the first n bytes is the same in all of them
 datum_in-take : (all : List ℕ) (n : ℕ) (cell : Cell) → IsWithin n cell → datum_in all cell ≡ datum_in (take n all) cell
-datum_in-take all n (cell.Number kind negative magnitude) h = refl
+datum_in-take all n (cell.Number number) h = refl
 datum_in-take all n (cell.Text from to) h =
     ap Bytes (between_is all from to ∙ (ap (drop from) (sym (take-take to n all h.1)) ∙ sym (between_is (take n all) from to)))
 
@@ -112,6 +112,24 @@ kept_of-close es all n len slot room is_len within =
     rw (whole, entries, before, text) refl in
     let closed : take len all ≡ take n all ++ drop n all = whole ∙ sym (take-append-drop n all) in
     cc
+
+none_opened : (text : List ℕ) (opened : Option ℕ) → opened_at text opened ≡ None → opened ≡ None
+none_opened text None h = refl
+none_opened text (Some slot) h = cc
+
+-- what is kept after a text is put behind the closed ones, where none is opened
+kept_of-put_none : (es : List Entry) (all text : List ℕ) (n len slot room room' : ℕ) → n ≡ length all → len ≡ length (all ++ text) → All (λ (e : Entry). IsWithin n e.cell) es
+    → kept_of (es ++ record { slot = slot; cell = cell.Text n len } ∷ []) (all ++ text) len None room' ≡ with_text slot text room' (kept_of es all n None room)
+kept_of-put_none es all text n len slot room room' is_n is_len within =
+    let front : take n (all ++ text) ≡ all = rw is_n (take-append_seam all text) in
+    let rest : drop n (all ++ text) ≡ text = rw is_n (drop-append_seam all text) in
+    let whole : take n all ≡ all = rw is_n (take-length all) in
+    rw (kept_of-close es (all ++ text) n len slot room' is_len within, front, rest, whole) refl
+
+pub kept_of-put : (es : List Entry) (all text : List ℕ) (n len slot room room' : ℕ) (opened : Option ℕ) → opened_at (drop n all) opened ≡ None → n ≡ length all → len ≡ length (all ++ text) → All (λ (e : Entry). IsWithin n e.cell) es
+    → kept_of (es ++ record { slot = slot; cell = cell.Text n len } ∷ []) (all ++ text) len opened room' ≡ with_text slot text room' (kept_of es all n opened room)
+kept_of-put es all text n len slot room room' opened none is_n is_len within =
+    rw (none_opened (drop n all) opened none) (kept_of-put_none es all text n len slot room room' is_n is_len within)
 
 -- the same of the entries
 pub length-lt-entries : (slots : ℕ) (es : List Entry) (closed len : ℕ) (opened : Option ℕ) (slot : ℕ) → IsSound slots es closed len opened → IsSlot slots slot → IsAbsent slot (slots_of es) → length es < slots
@@ -155,3 +173,18 @@ found_at closed slot (suc i) (e ∷ es) d apart below is =
     let differs : nat_eq e.slot slot ≡ false = differs_at e.slot slot i es d apart.0 (omega (arith, below)) is in
     let other : nat_eq slot e.slot ≡ false = ne_eqb slot e.slot (λ same. eqb-false e.slot slot differs (sym same)) in
     rw other (found_at closed slot i es d apart.1 (omega (arith, below)) is)
+
+-- a text is put behind the closed ones, where none is opened
+pub IsSound-put : (slots : ℕ) (es : List Entry) (closed len len' : ℕ) (opened : Option ℕ) (text : List ℕ) (slot : ℕ) → IsSound slots es closed len opened → opened_at text opened ≡ None → len ≤ len' → IsSlot slots slot → IsAbsent slot (slots_of es)
+    → IsSound slots (es ++ record { slot = slot; cell = cell.Text closed len' } ∷ []) len' len' opened
+IsSound-put slots es closed len len' opened text slot sound none more is_slot absent =
+    let held : closed ≤ len' = omega (arith, sound.closed_held, more) in
+    let longer : IsSound slots es closed len' (Some slot) = record {
+      apart = sound.apart;
+      in_range = sound.in_range;
+      within = sound.within;
+      closed_held = held;
+      under_way = (is_slot, absent);
+    } in
+    rw (none_opened text opened none)
+    (IsSound-push slots es closed len' len' (Some slot) None (record { slot = slot; cell = cell.Text closed len' }) longer held (omega arith) is_slot absent (held, omega arith) refl)

@@ -2,8 +2,12 @@
 use Rattle.std.specs.Prelude.{ℕ, ◌-◌, ◌%◌, ◌^◌, Bool, true, false, nat_eq, nat_lt, nat_le, if◌then◌else◌, List, find, ℤ, pos, neg_ℤ, ◌≤ℤ◌, ◌<ℤ◌}
 use Rattle.std.specs.Prelude.{Option, Some, None}
 use Rattle.std.specs.Option.{option_map}
+pub use Rattle.sf_base.specs.Kinds.{with_sign}
+use Rattle.sf_base.specs.declared.number.Number as number
 use Rattle.sf_base.specs.declared.values.Kind.{Kind}
 use Rattle.sf_base.specs.declared.values.Kind.TheVariants.{I8, I16, I32, I64, U8, U16, U32, U64, Text}
+use Rattle.sf_base.specs.declared.values.Shown.{Shown}
+use Rattle.sf_base.specs.declared.values.Shown.TheVariants as shown
 use Rattle.sf_base.specs.declared.values.Value.{Value}
 use Rattle.sf_base.specs.declared.values.Value.TheVariants as value
 
@@ -21,11 +25,6 @@ kind_of (Bytes text) = Text
 abbrev pub number_in : Datum → Option ℤ
 number_in (Number kind n) = Some n
 number_in (Bytes text) = None
-
--- the number of a sign (true: a minus) and a magnitude
-abbrev pub with_sign : Bool → ℕ → ℤ
-with_sign true m = neg_ℤ (pos m)
-with_sign false m = pos m
 
 -- ---- the numbers of a kind
 
@@ -82,6 +81,14 @@ datum_of (value.U16 n) = Number U16 (pos n)
 datum_of (value.U32 n) = Number U32 (pos n)
 datum_of (value.U64 n) = Number U64 (pos n)
 datum_of (value.Text t) = Bytes t.now
+
+-- the same of a number by its sign and its magnitude
+abbrev pub datum_of_number : number.Number → Datum
+datum_of_number n = Number n.kind (with_sign n.negative n.magnitude)
+
+abbrev pub datum_of_shown : Shown → Datum
+datum_of_shown (shown.Number n) = datum_of_number n
+datum_of_shown (shown.Text t) = Bytes t.now
 
 abbrev pub is_number : Value → Bool
 is_number (value.Text t) = false

@@ -1,7 +1,7 @@
 -- What the entries of a store stand for, and when they are sound.
 use Rattle.std.specs.Prelude.{◌≡◌, ◌≤◌, nat_eq, ℕ, List, Option, Some, None, false, slice_range, map, take, drop}
 use Rattle.std.specs.List.{All, IsDistinct, list_any}
-use Rattle.sf_base.specs.Data.{Datum, Number, Bytes, Assigned, IsIn, with_sign}
+use Rattle.sf_base.specs.Data.{Datum, Bytes, Assigned, datum_of_number}
 use Rattle.sf_base.specs.Kept.{assigned, Opened, Kept}
 use Rattle.sf_base.specs.declared.entries.Cell.{Cell}
 use Rattle.sf_base.specs.declared.entries.Cell.TheVariants as cell
@@ -9,7 +9,7 @@ use Rattle.sf_base.specs.declared.entries.Entry.{Entry}
 
 -- what a cell holds, where these are the closed texts
 abbrev pub datum_in : List ℕ → Cell → Datum
-datum_in closed (cell.Number kind negative magnitude) = Number kind (with_sign negative magnitude)
+datum_in closed (cell.Number number) = datum_of_number number
 datum_in closed (cell.Text from to) = Bytes (slice_range closed from to)
 
 abbrev pub assigned_in : List ℕ → Entry → Assigned
@@ -28,9 +28,9 @@ kept_of entries all n slot room = record {
   room = room;
 }
 
--- a number is of its kind, a text lies within so many bytes
+-- a text lies within so many bytes
 abbrev pub IsWithin : ℕ → Cell → Type 0
-IsWithin n (cell.Number kind negative magnitude) = IsIn kind (with_sign negative magnitude)
+IsWithin n (cell.Number number) = Unit {0}
 IsWithin n (cell.Text from to) = (from ≤ to) × (to ≤ n)
 
 abbrev pub slots_of : List Entry → List ℕ

@@ -61,6 +61,10 @@ values_closed values (Some o) = values ++ assigned o.slot (Bytes o.text) ∷ []
 abbrev pub with_closed : Kept → Kept
 with_closed s = record { values = values_closed s.values s.opened; closed = s.closed ++ text_of s.opened; opened = None; room = s.room }
 
+-- the slot was given this text, and so much room is left
+abbrev pub with_text : ℕ → List ℕ → ℕ → Kept → Kept
+with_text slot bytes room s = with_closed (with_bytes bytes room (with_opened slot s))
+
 -- the opened text is gone, and its bytes are free
 abbrev pub with_dropped : Kept → Kept
 with_dropped s = record s { opened = None; room = s.room + length (text_of s.opened) }

@@ -2,24 +2,16 @@
 ghost use Rattle.std.specs.Prelude.{◌≡◌, ℕ, List, true, length, map, nat_eq};
 ghost use Rattle.std.specs.Option.{option_map};
 ghost use Rattle.std.specs.List.{All, IsDistinct};
-ghost use Rattle.sf_base.specs.Data.{datum_of, datum_at, is_number};
+ghost use Rattle.sf_base.specs.Data.{datum_of, datum_of_number, datum_of_shown, datum_at, is_number};
 ghost use Rattle.sf_base.specs.Entries.{datum_in, assigned_in, slots_of, IsWithin};
 
-use crate::values::signed;
-use crate::{Kind, Value};
+use crate::{Number, Shown, Value};
 
 /// A value: a number of a kind, or a part of the buffer.
 #[derive(Clone, Copy, Debug)]
 pub(crate) enum Cell {
-    Number {
-        kind: Kind,
-        negative: bool,
-        magnitude: u64,
-    },
-    Text {
-        from: usize,
-        to: usize,
-    },
+    Number(Number),
+    Text { from: usize, to: usize },
 }
 
 #[derive(Clone, Copy, Debug)]
@@ -42,52 +34,42 @@ impl Default for Entry {
     }
 }
 
-pub(crate) fn number_cell(value: Value<'_>) -> Cell
+pub(crate) fn number_of(value: Value<'_>) -> Number
     requires { is_number value ≡ true }
-    ensures value { (closed : List ℕ) → datum_in closed result ≡ datum_of value.entry }
-    ensures within { (n : ℕ) → IsWithin n result }
+    ensures { datum_of_number result ≡ datum_of value.entry }
 {
-    match value.sign_and_magnitude() {
-        Some((negative, magnitude)) => Cell::Number {
-            kind: value.kind(),
-            negative,
-            magnitude,
-        },
-        None => unreachable!(),
+    match value.shown() {
+        Shown::Number(number) => number,
+        Shown::Text(_) => unreachable!(),
     }
 }
 
-fn value_in<'a>(cell: Cell, closed: &'a [u8]) -> Value<'a>
+#[inline(always)]
+fn shown_in<'a>(cell: Cell, closed: &'a [u8]) -> Shown<'a>
     requires { IsWithin (length closed.now) cell }
-    ensures { datum_of result ≡ datum_in closed.now cell }
+    ensures { datum_of_shown result ≡ datum_in closed.now cell }
 {
     match cell {
-        Cell::Number {
-            kind,
-            negative,
-            magnitude,
-        } => match kind.value(signed(negative, magnitude)) {
-            Some(value) => value,
-            None => unreachable!(),
-        },
-        Cell::Text { from, to } => Value::Text(&closed[from..to]),
+        Cell::Number(number) => Shown::Number(number),
+        Cell::Text { from, to } => Shown::Text(&closed[from..to]),
     }
 }
 
-/// The value of the slot by these entries. Where the slots were given their values in order, it is found at once.
-pub(crate) fn find_value<'a>(entries: &[Entry], slot: u8, closed: &'a [u8]) -> Option<Value<'a>>
+/// What the slot was given by these entries. Where the slots were given their values in order, it is found at once.
+#[inline(always)]
+pub(crate) fn find_shown<'a>(entries: &[Entry], slot: u8, closed: &'a [u8]) -> Option<Shown<'a>>
     requires apart { IsDistinct nat_eq (slots_of entries.now) }
     requires within { All (λ e. IsWithin (length closed.now) e.cell) entries.now }
-    ensures { option_map datum_of result ≡ datum_at slot (map (assigned_in closed.now) entries.now) }
+    ensures { option_map datum_of_shown result ≡ datum_at slot (map (assigned_in closed.now) entries.now) }
 {
     if let Some(entry) = entries.get((slot as usize).wrapping_sub(1)) {
         if entry.slot == slot {
-            return Some(value_in(entry.cell, closed));
+            return Some(shown_in(entry.cell, closed));
         }
     }
     for entry in entries {
         if slot == entry.slot {
-            return Some(value_in(entry.cell, closed));
+            return Some(shown_in(entry.cell, closed));
         }
     }
     None

@@ -3,7 +3,7 @@ ghost use Rattle.std.specs.Prelude.{◌≡◌, ◌+◌, length};
 ghost use Rattle.sf_base.specs.Kept.{buffer_of, nothing_kept};
 
 use crate::Value;
-use crate::entries::{Cell, Entry, find_value, number_cell};
+use crate::entries::{Cell, Entry, find_shown, number_of};
 use crate::store::{Store, StoreFull};
 use arrayvec::ArrayVec;
 use std::marker::Model;
@@ -62,10 +62,8 @@ impl<const CAP: usize, const SLOTS: usize> Store for FixedStore<CAP, SLOTS> {
     ghost kept = { λ s. s };
 
     fn set(&mut self, slot: u8, value: Value<'_>) {
-        self.entries.push(Entry {
-            slot,
-            cell: number_cell(value),
-        });
+        let cell = Cell::Number(number_of(value));
+        self.entries.push(Entry { slot, cell });
     }
 
     fn open_text(&mut self, slot: u8) {
@@ -113,6 +111,6 @@ impl<const CAP: usize, const SLOTS: usize> Store for FixedStore<CAP, SLOTS> {
 
     fn value(&self, slot: u8) -> Option<Value<'_>> {
         let bytes = self.bytes.as_slice();
-        find_value(self.entries.as_slice(), slot, &bytes[..self.closed])
+        Some(find_shown(self.entries.as_slice(), slot, &bytes[..self.closed])?.value())
     }
 }

@@ -1,10 +1,10 @@
 //! A store that grows.
-ghost use Rattle.std.specs.Prelude.{◌≡◌, ◌+◌, length, IfOk};
+ghost use Rattle.std.specs.Prelude.{◌≡◌, ◌+◌, ◌<◌, ◌≤◌, ◌++◌, length, vec_len, vec_capacity, IfOk, OnErr, is_ok, if◌then◌else◌};
 ghost use Rattle.sf_base.specs.Kept.{buffer_of, nothing_kept};
 
-use crate::Value;
-use crate::entries::{Cell, Entry, find_value, number_cell};
+use crate::entries::{Cell, Entry, find_shown, number_of};
 use crate::store::{Store, StoreFull};
+use crate::{Number, Shown, Value};
 use std::alloc::{AllocError, Global};
 use std::marker::Model;
 
@@ -61,16 +61,35 @@ impl HeapStore {
     }
 }
 
+/// Appends all of the bytes, or none; `sure` tells how many fit for sure.
+#[inline(always)]
+fn append(bytes: &mut Vec<u8>, sure: &mut usize, more: &[u8]) -> Result<(), StoreFull>
+    requires held { vec_len bytes.old ≤ sure.old }
+    requires fits { sure.old ≤ vec_capacity bytes.old }
+    ensures items { bytes.new.items ≡ (if is_ok result then bytes.old.items ++ more.now else bytes.old.items) }
+    ensures len { vec_len bytes.new ≡ (if is_ok result then vec_len bytes.old + length more.now else vec_len bytes.old) }
+    ensures sure { sure.old ≤ sure.new }
+    ensures same { OnErr result (sure.new ≡ sure.old) }
+    ensures held { vec_len bytes.new ≤ sure.new }
+    ensures fits { sure.new ≤ vec_capacity bytes.new }
+    ensures full { OnErr result (sure.old < vec_len bytes.old + length more.now) }
+{
+    if bytes.extend_from_slice(more).is_err() {
+        return Err(StoreFull);
+    }
+    if *sure < bytes.len() {
+        *sure = bytes.capacity();
+    }
+    Ok(())
+}
+
 impl Store for HeapStore {
     ghost slots = { 32 };
 
     ghost kept = { λ s. s };
 
     fn set(&mut self, slot: u8, value: Value<'_>) {
-        self.entries.push_reserved(Entry {
-            slot,
-            cell: number_cell(value),
-        });
+        self.set_number(slot, number_of(value));
     }
 
     fn open_text(&mut self, slot: u8) {
@@ -88,13 +107,7 @@ impl Store for HeapStore {
     }
 
     fn push_all(&mut self, bytes: &[u8]) -> Result<(), StoreFull> {
-        if self.bytes.extend_from_slice(bytes).is_err() {
-            return Err(StoreFull);
-        }
-        if self.sure < self.bytes.len() {
-            self.sure = self.bytes.capacity();
-        }
-        Ok(())
+        append(&mut self.bytes, &mut self.sure, bytes)
     }
 
     fn close_text(&mut self) {
@@ -123,6 +136,25 @@ impl Store for HeapStore {
     }
 
     fn value(&self, slot: u8) -> Option<Value<'_>> {
-        find_value(&self.entries, slot, &self.bytes[..self.closed])
+        Some(self.shown(slot)?.value())
+    }
+
+    fn set_number(&mut self, slot: u8, number: Number) {
+        let cell = Cell::Number(number);
+        self.entries.push_reserved(Entry { slot, cell });
+    }
+
+    fn put_text(&mut self, slot: u8, bytes: &[u8]) -> Result<(), StoreFull> {
+        let from = self.closed;
+        append(&mut self.bytes, &mut self.sure, bytes)?;
+        let to = self.bytes.len();
+        let cell = Cell::Text { from, to };
+        self.entries.push_reserved(Entry { slot, cell });
+        self.closed = to;
+        Ok(())
+    }
+
+    fn shown(&self, slot: u8) -> Option<Shown<'_>> {
+        find_shown(&self.entries, slot, &self.bytes[..self.closed])
     }
 }

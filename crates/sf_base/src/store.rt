@@ -1,10 +1,10 @@
 //! What values and texts are kept in.
 ghost use Rattle.std.specs.Prelude.{◌≡◌, ◌+◌, ◌<◌, ◌≤◌, ℕ, [], ◌∷◌, length, take, true, false, None, IsSome, OnOk, OnErr};
 ghost use Rattle.std.specs.Option.{option_map};
-ghost use Rattle.sf_base.specs.Data.{datum_of, datum_at, is_number};
-ghost use Rattle.sf_base.specs.Kept.{Kept, is_opened, with_value, with_opened, with_bytes, with_closed, with_dropped};
+ghost use Rattle.sf_base.specs.Data.{datum_of, datum_of_number, datum_of_shown, datum_at, is_number};
+ghost use Rattle.sf_base.specs.Kept.{Kept, is_opened, with_value, with_opened, with_bytes, with_closed, with_dropped, with_text};
 
-use crate::Value;
+use crate::{Number, Shown, Value};
 use thiserror::Error;
 
 /// A byte could not be stored.
@@ -76,6 +76,47 @@ pub trait Store: Drop {
             self.push(*b)?;
         }
         Ok(())
+    }
+
+    /// Gives the slot a number, as `set` does.
+    fn set_number(&mut self, slot: u8, number: Number)
+        requires at_least_one { 1 ≤ slot }
+        requires in_range { slot ≤ slots }
+        requires absent { datum_at slot (kept self.old).values ≡ None }
+        requires not_opened { is_opened slot (kept self.old).opened ≡ false }
+        ensures { kept self.new ≡ with_value slot (datum_of_number number) (kept self.old) }
+    {
+        self.set(slot, number.value());
+    }
+
+    /// Gives the slot a text: opens it, appends the bytes and closes it. Where it is refused the store is as before.
+    fn put_text(&mut self, slot: u8, bytes: &[u8]) -> Result<(), StoreFull>
+        requires at_least_one { 1 ≤ slot }
+        requires in_range { slot ≤ slots }
+        requires absent { datum_at slot (kept self.old).values ≡ None }
+        requires none_opened { (kept self.old).opened ≡ None }
+        ensures ok { OnOk result (kept self.new ≡ with_text slot bytes.now (kept self.new).room (kept self.old)) }
+        ensures room { (kept self.old).room ≤ (kept self.new).room + length bytes.now }
+        ensures err { OnErr result (kept self.new ≡ kept self.old) }
+        ensures full { OnErr result ((kept self.old).room < length bytes.now) }
+    {
+        self.open_text(slot);
+        if self.push_all(bytes).is_err() {
+            self.drop_text();
+            return Err(StoreFull);
+        }
+        self.close_text();
+        Ok(())
+    }
+
+    /// What the slot was given, if it was, without the Rust type that holds it.
+    fn shown(&self, slot: u8) -> Option<Shown<'_>>
+        ensures { option_map datum_of_shown result ≡ datum_at slot (kept self.now).values }
+    {
+        match self.value(slot) {
+            Some(value) => Some(value.shown()),
+            None => None,
+        }
     }
 }
 

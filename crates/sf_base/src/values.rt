@@ -2,6 +2,8 @@
 ghost use Rattle.std.specs.Prelude.{◌≡◌};
 ghost use Rattle.sf_base.specs.Data.{with_sign};
 
+use crate::Number;
+
 /// The kind of a destination: an integer type of the given sign and bits, or a text of bytes.
 #[derive(Clone, Copy, Debug, PartialEq, Eq)]
 pub enum Kind {
@@ -18,12 +20,64 @@ pub enum Kind {
 
 impl Kind {
     ghost use Rattle.std.specs.Prelude.{IfSome, IfNone};
-    ghost use Rattle.sf_base.specs.Data.{datum_of, IsIn};
-    ghost use Rattle.sf_base.specs.Data.Datum.{Number};
+    ghost use Rattle.std.specs.Option.{option_map};
+    ghost use Rattle.sf_base.specs.Kinds.{bounds_of};
+    ghost use Rattle.sf_base.specs.Data.{Number as NumberOf, datum_of, datum_of_number, IsIn, value_of};
+
+    /// Whether the kind's numbers have a sign, and the greatest of them. None of a text.
+    #[inline(always)]
+    fn bounds(self) -> Option<(bool, u64)>
+        ensures { result ≡ bounds_of self }
+    {
+        match self {
+            Kind::I8 => Some((true, 127)),
+            Kind::I16 => Some((true, 32_767)),
+            Kind::I32 => Some((true, 2_147_483_647)),
+            Kind::I64 => Some((true, 9_223_372_036_854_775_807)),
+            Kind::U8 => Some((false, 255)),
+            Kind::U16 => Some((false, 65_535)),
+            Kind::U32 => Some((false, 4_294_967_295)),
+            Kind::U64 => Some((false, 18_446_744_073_709_551_615)),
+            Kind::Text => None,
+        }
+    }
+
+    /// The number that the kind gives a sign (true: a minus) and a magnitude. None if the kind does not hold it, where C leaves
+    /// open what is stored (C11 7.21.6.2p10); a text holds none. A minus before an unsigned number negates it in its kind (C11
+    /// 7.22.1.4p5).
+    #[inline(always)]
+    pub fn number(self, negative: bool, magnitude: u64) -> Option<Number>
+        ensures { option_map datum_of_number result ≡ option_map (NumberOf self) (value_of self negative magnitude) }
+    {
+        let (signed, greatest) = self.bounds()?;
+        let below = negative && magnitude > 0;
+        if signed && below {
+            if magnitude - 1 > greatest {
+                return None;
+            }
+            return Some(Number {
+                kind: self,
+                negative: true,
+                magnitude,
+            });
+        }
+        if magnitude > greatest {
+            return None;
+        }
+        Some(Number {
+            kind: self,
+            negative: false,
+            magnitude: if below {
+                greatest - magnitude + 1
+            } else {
+                magnitude
+            },
+        })
+    }
 
     /// The value of the kind that is this number. None if the kind does not hold it; a text holds none.
     pub fn value(self, number: i128) -> Option<Value<'static>>
-        ensures held { IfSome result (λ v. IsIn self number × (datum_of v ≡ Number self number)) }
+        ensures held { IfSome result (λ v. IsIn self number × (datum_of v ≡ NumberOf self number)) }
         ensures beyond { IfNone result (¬ (IsIn self number)) }
     {
         let value = match self {
@@ -53,6 +107,50 @@ pub enum Value<'a> {
     U32(u32),
     U64(u64),
     Text(&'a [u8]),
+}
+
+/// A value without the Rust type that holds it: a number by its sign and its magnitude, or a text, which is lent.
+#[derive(Clone, Copy, Debug)]
+pub enum Shown<'a> {
+    Number(Number),
+    Text(&'a [u8]),
+}
+
+impl<'a> Shown<'a> {
+    ghost use Rattle.sf_base.specs.Data.{datum_of, datum_of_shown};
+
+    /// The value.
+    #[inline(always)]
+    pub fn value(self) -> Value<'a>
+        ensures { datum_of result ≡ datum_of_shown self.entry }
+    {
+        match self {
+            Shown::Number(number) => number.value(),
+            Shown::Text(bytes) => Value::Text(bytes),
+        }
+    }
+}
+
+impl<'a> Value<'a> {
+    ghost use Rattle.sf_base.specs.Data.{datum_of, datum_of_shown};
+
+    /// The value without the Rust type that holds it.
+    #[inline(always)]
+    pub fn shown(self) -> Shown<'a>
+        ensures { datum_of_shown result ≡ datum_of self.entry }
+    {
+        if let Value::Text(bytes) = self {
+            return Shown::Text(bytes);
+        }
+        match self.sign_and_magnitude() {
+            Some((negative, magnitude)) => Shown::Number(Number {
+                kind: self.kind(),
+                negative,
+                magnitude,
+            }),
+            None => unreachable!(),
+        }
+    }
 }
 
 impl Value<'_> {
@@ -102,18 +200,8 @@ impl Value<'_> {
         ensures { result ≡ number_in (datum_of self.now) }
     {
         let (negative, magnitude) = self.sign_and_magnitude()?;
-        Some(signed(negative, magnitude))
-    }
-}
-
-/// The number of a sign (true: a minus) and a magnitude.
-pub(crate) fn signed(negative: bool, magnitude: u64) -> i128
-    ensures { result ≡ with_sign negative magnitude }
-{
-    if negative {
-        -i128::from(magnitude)
-    } else {
-        i128::from(magnitude)
+        let number = i128::from(magnitude);
+        Some(if negative { -number } else { number })
     }
 }
 

@@ -18,7 +18,7 @@ invariant_of-self g c =
     let sound = c.self.invariant.0 in
     let other = rw (← c.self.view_is) at c.requires.not_opened in
     let under_way = IsUnderWay-push _ (slots_of s.entries.items) s.closed (length s.bytes.items) s.opened (drop s.closed s.bytes.items) c.args.slot sound.under_way other in (
-      rw c.push.ensures.items (IsSound-push _ s.entries.items s.closed s.closed (length s.bytes.items) s.opened s.opened _ sound (omega arith) sound.closed_held (c.requires.at_least_one, c.requires.in_range) absent (c.number_cell.ensures.within s.closed) under_way),
+      rw c.push.ensures.items (IsSound-push _ s.entries.items s.closed s.closed (length s.bytes.items) s.opened s.opened _ sound (omega arith) sound.closed_held (c.requires.at_least_one, c.requires.in_range) absent tt under_way),
       c.self.invariant.1,
     )
 

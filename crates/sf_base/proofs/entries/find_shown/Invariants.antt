@@ -1,7 +1,7 @@
 use Rattle.std.proofs.Common.{◌≡◌, drop, map}
 use Rattle.sf_base.specs.Data.{datum_at}
 use Rattle.sf_base.specs.Entries.{assigned_in}
-use Rattle.sf_base.proofs.entries.find_value.Given as goal
+use Rattle.sf_base.proofs.entries.find_shown.Given as goal
 
 abbrev pub invariant-loop-entry : goal.invariant-loop-entry
 invariant-loop-entry l =

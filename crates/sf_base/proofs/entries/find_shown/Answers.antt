@@ -3,7 +3,7 @@ use Rattle.std.proofs.lemmas.Grind.{common_steps}
 use Rattle.sf_base.specs.Entries.{datum_in}
 use Rattle.sf_base.specs.declared.entries.Entry.{Entry}
 use Rattle.sf_base.proofs.EntryLemmas.{found_at}
-use Rattle.sf_base.proofs.entries.find_value.Goals as goal
+use Rattle.sf_base.proofs.entries.find_shown.Goals as goal
 
 pub returns-then-slot-entry : goal.returns-then-slot-entry
 returns-then-slot-entry c = grind (arith, common_steps)
@@ -19,6 +19,6 @@ returns-then-entry-slot c =
     let closed = c.args.closed.now in
     let entry : Entry = c.in-Some.entry.now in
     let found = c.in-Some.ensures.lookup in
-    ap Some c.value_in.ensures
+    ap Some c.shown_in.ensures
     ∙ ap (λ (e : Entry). Some (datum_in closed e.cell)) found.1
     ∙ found_at closed c.args.slot _ c.args.entries.now entry c.requires.apart found.3.0 (ap (λ (e : Entry). e.slot) (sym found.1) ∙ c.if-entry-slot.true)

@@ -1,7 +1,7 @@
 use Rattle.std.proofs.Common.{take, drop, arith}
 use Rattle.sf_base.specs.Entries.{slots_of, IsAbsent}
 use Rattle.sf_base.proofs.EntryLemmas.{IsAbsent-from_datum, length-lt-entries, IsSound-push, IsUnderWay-push}
-use Rattle.sf_base.proofs.heap_store.HeapStoreStore.set.Goals as goal
+use Rattle.sf_base.proofs.heap_store.HeapStoreStore.set_number.Goals as goal
 
 pub push_reserved-requires : goal.push_reserved-requires
 push_reserved-requires c =
@@ -17,7 +17,7 @@ invariant_of-self c =
     let sound = c.self.invariant.0 in
     let other = rw (← c.self.view_is) at c.requires.not_opened in
     let under_way = IsUnderWay-push 32 (slots_of s.entries.items) s.closed s.bytes.len s.opened (drop s.closed s.bytes.items) c.args.slot sound.under_way other in (
-      rw c.push_reserved.ensures.items (IsSound-push 32 s.entries.items s.closed s.closed s.bytes.len s.opened s.opened _ sound (omega arith) sound.closed_held (c.requires.at_least_one, c.requires.in_range) absent (c.number_cell.ensures.within s.closed) under_way),
+      rw c.push_reserved.ensures.items (IsSound-push 32 s.entries.items s.closed s.closed s.bytes.len s.opened s.opened _ sound (omega arith) sound.closed_held (c.requires.at_least_one, c.requires.in_range) absent tt under_way),
       record {
         held = c.self.invariant.1.held;
         sure = c.self.invariant.1.sure;
