@@ -19,7 +19,11 @@ LINES = [
     (rb"record \d+: (?:matching failure|input failure|out of range|too long) at \d+, used \d+, assigned \d+", 1),
     (rb"record \d+: (?:stalled|values do not fit)", 1),
     (rb"too many records", 1),
+    (rb"line \d+: (?:matching failure|input failure|out of range) at \d+, used \d+, assigned \d+", 1),
+    (rb"line \d+: (?:left over at \d+|too long)", 1),
+    (rb"too many lines", 1),
     (rb"record \d+: read fault", 3),
+    (rb"line \d+: read fault", 3),
     (rb"write fault", 3),
     (rb"out of memory", 4),
 ]

@@ -17,12 +17,15 @@ BLOCK = 8192
 
 NUMBERS = b"".join(b"%d\n" % it for it in range(6000))
 FAILED = b"sf: record 6001: matching failure at 1, used %d, assigned 0\n"
+MISSED = b"sf: line 6001: matching failure at 1, used 0, assigned 0\n"
 
 # Calls with much output and with little: the words, the input, and what ample room gives.
 CALLS = [
     ("scan", ["scan", "%d"], NUMBERS, (0, NUMBERS, b"")),
     ("scan by line", ["scan", "--line-buffered", "%d"], NUMBERS[:9000], (0, NUMBERS[:9000], b"")),
     ("scan that fails", ["scan", "%d"], NUMBERS + b"x", (1, NUMBERS, FAILED % 1)),
+    ("lines", ["scan", "--lines", "%d"], NUMBERS, (0, NUMBERS, b"")),
+    ("lines, the last of them told", ["scan", "--lines", "--keep-going", "%d"], NUMBERS + b"x\n", (1, NUMBERS, MISSED)),
     ("copy", ["copy", "%d\\n", "%11d%*1[\\n]"], NUMBERS, (0, NUMBERS, b"")),
     ("copy that fails", ["copy", "%d\\n", "%11d%*1[\\n]"], NUMBERS + b"x", (1, NUMBERS, FAILED % 0)),
     ("show", ["show", "a" * 3000], b"", (0, b"".join(b'%d byte "a"\n' % it for it in range(1, 3001)) + b"destinations 0, width sum 0\n", b"")),

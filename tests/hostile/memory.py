@@ -23,6 +23,11 @@ CALLS = [
     ("scan, texts of any length", ["scan", "%s"], b" ".join(b"b" * (1 << size) for size in range(20))),
     ("scan, 32 texts of 65,535 bytes", ["scan", "%65535s" * 32], b"c d e f " * 8),
     ("scan, 4096 directives", ["scan", "%*d" * 1365], b"1 " * 2730),
+    ("lines", ["scan", "--lines", "%d"], b"1\n22\n333\n"),
+    ("lines, texts of any length", ["scan", "--lines", "%s"], b"\n".join(b"b" * (1 << size) for size in range(20))),
+    ("lines, two formats", ["scan", "--lines", "--output", "json", "-e", "%d%3s", "-e", "%s"], b"1ab\n22\nc\n" * 3000),
+    ("lines, some of them told", ["scan", "--lines", "--keep-going", "%d"], b"1\nx\n" * 30),
+    ("lines, many passed over", ["scan", "--lines", "--keep-going", "--quiet", "%d"], b"1\nx\n" * 40000),
     ("print", ["print", "%d %s|", "1", "abc"], b""),
     ("print, 2 MB", ["print", "%65535d" * 32, *["7"] * 32], b""),
     ("check", ["check", "%d,%s\\n", "%11d,%20s%*1[\\n]"], b""),
@@ -65,16 +70,22 @@ def limits(words):
     return [*fine, *range(fine[-1] + STEP, MOST, STEP), MOST]
 
 
-def end_fault(got, ample, is_by_record):
-    """What is wrong with an end, if anything is."""
+def is_front_of_lines(front, text):
+    return text.startswith(front) and (not front or front.endswith(b"\n"))
+
+
+def end_fault(got, ample, words):
+    """What is wrong with the end of a call with these words, if anything is."""
     if got == ample:
         return ""
     status, out, err = got
-    if (status, err) != (4, NO_MEMORY):
+    told = err[: -len(NO_MEMORY)] if err.endswith(NO_MEMORY) else None
+    # what was told of lines by then may stand before
+    if status != 4 or told is None or told and not ("--keep-going" in words and is_front_of_lines(told, ample[2])):
         return f"{status}, {shown(err)}"
     if not ample[1].startswith(out):
         return f"no front: {shown(out)}"
-    return f"cut within a record: {shown(out)}" if is_by_record and out and not out.endswith(b"\n") else ""
+    return "" if words[0] != "scan" or is_front_of_lines(out, ample[1]) else f"cut within a record: {shown(out)}"
 
 
 def under(words, text):
@@ -84,7 +95,7 @@ def under(words, text):
         enough = None
         for kilobytes in limits(words):
             got = within(kilobytes, words, text)
-            fault = end_fault(got, ample, words[0] == "scan")
+            fault = end_fault(got, ample, words)
             # (where the stack begins differs by some bytes from call to call, so that a page more may be wanted)
             if fault and not all(is_loaded(kilobytes, words) for _ in range(20)):
                 continue

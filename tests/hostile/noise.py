@@ -94,9 +94,10 @@ def lines_are_documented():
     with open(os.path.join(program.ROOT, "docs", "FORMATS.md"), encoding="utf-8") as file:
         page = file.read()
     heads = ["bad escape at", "scan format: F", "pair: Q", "expected E values, got G", "value V: expected", "text too long", "matching failure at", "stalled",
-             "values do not fit", "too many records", "read fault", "write fault", "out of memory", "input failure", "out of range", "too long"]
+             "values do not fit", "too many records", "read fault", "write fault", "out of memory", "input failure", "out of range", "too long",
+             "sf: line N: matching failure at", "left over at", "sf: line N: read fault", "too many lines"]
     missing = [it for it in heads if it not in page]
-    return f"not in the page: {missing}" if missing or len(LINES) != 12 else ""
+    return f"not in the page: {missing}" if missing or len(LINES) != 16 else ""
 
 
 def checks():

@@ -6,7 +6,7 @@ import program
 from answers import WRITE_FAULT, difference, shown
 from disks import BLOCK, CALLS
 
-READ_FAULT = b"sf: record 1: read fault\n"
+READ_FAULT = b"sf: %s 1: read fault\n"
 
 
 def closed_at_once(words, text, want):
@@ -67,7 +67,7 @@ def closed_streams(words, text, want, closed):
         status, out, err = want
         reads = words[0] in ("scan", "copy") and status != 2
         if 0 in closed and reads:
-            status, out, err = 3, b"", READ_FAULT
+            status, out, err = 3, b"", READ_FAULT % (b"line" if "--lines" in words else b"record")
         elif 1 in closed and out:
             status, out, err = 3, b"", WRITE_FAULT if want[0] != 1 or not want[2] else None
         out, err = b"" if 1 in closed else out, b"" if 2 in closed else err
@@ -104,4 +104,5 @@ def checks():
     for size in (0, 1, 2, 4096, BLOCK, 100001):
         yield f"scan, read for {size} bytes", closed_within(["scan", "%d"], b"1\n", size)
         yield f"scan by line, read for {size} bytes", closed_within(["scan", "--line-buffered", "%d"], b"1\n", size)
+        yield f"lines, read for {size} bytes", closed_within(["scan", "--lines", "%d"], b"1\n", size)
         yield f"copy, read for {size} bytes", closed_within(["copy", "%d\\n", "%11d%*1[\\n]"], b"1\n", size)

@@ -16,11 +16,13 @@ import tty
 import program
 from answers import difference
 
-READS = (["scan", "%d"], ["scan", "%s"], ["scan", "%c"], ["scan", " "], ["scan", "%*[^,]%*c"], ["copy", "%d;", "%11d;"], ["scan", "--limit", "1", "%d"])
+READS = (["scan", "%d"], ["scan", "%s"], ["scan", "%c"], ["scan", " "], ["scan", "%*[^,]%*c"], ["copy", "%d;", "%11d;"], ["scan", "--limit", "1", "%d"],
+         ["scan", "--lines", "%d"])
 
 
-def fault(record):
-    return f"sf: record {record}: read fault\n".encode()
+def fault(number, words=()):
+    """The line on standard error, where the read fails in the record or the line of this number."""
+    return f"sf: {'line' if '--lines' in words else 'record'} {number}: read fault\n".encode()
 
 
 @contextlib.contextmanager
@@ -64,7 +66,7 @@ SOURCES = [
 def fails_at_once(source, words):
     def check():
         with source() as unread:
-            return difference(program.run(*words, stdin=unread), (3, b"", fault(1)))
+            return difference(program.run(*words, stdin=unread), (3, b"", fault(1, words)))
     return check
 
 
@@ -76,7 +78,7 @@ def is_unread(source, words, want):
     return check
 
 
-# The words, the bytes before the failing read, the lines, and the record that the fault is told of.
+# The words, the bytes before the failing read, the lines, and the record (with --lines: the line) that the fault is told of.
 AMID = [
     (["scan", "%d"], b"12", b"12\n", 1),
     (["scan", "%d"], b"12\n", b"12\n", 2),
@@ -90,6 +92,10 @@ AMID = [
     (["scan", "%3c"], b"abcde", b'"abc"\n', 2),
     (["scan", "%c"], b"xyz", b'"x"\n"y"\n"z"\n', 4),
     (["scan", "%d;"], b"1;2;", b"1\n2\n", 3),
+    (["scan", "--lines", "%d"], b"12", b"", 1),
+    (["scan", "--lines", "%d"], b"12\n", b"12\n", 2),
+    (["scan", "--lines", "%d"], b"12\n34", b"12\n", 2),
+    (["scan", "--lines", "--quiet", "--keep-going", "%d"], b"12\nx\n34\n", b"12\n34\n", 4),
     (["copy", "%d;", "%11d;"], b"1;2;3", b"1;2;", 3),
     (["copy", "%d,%s\\n", "%11d,%20s%*1[\\n]"], b"1,a\n2,b\n", b"1,a\n2,b\n", 3),
     (["copy", "%d,%s\\n", "%11d,%20s%*1[\\n]"], b"1,a\n2,b", b"1,a\n", 2),
@@ -99,7 +105,7 @@ AMID = [
 def fails_amid(source, words, text, out, record):
     def check():
         with source(text) as unread:
-            return difference(program.run(*words, stdin=unread), (3, out, fault(record)))
+            return difference(program.run(*words, stdin=unread), (3, out, fault(record, words)))
     return check
 
 

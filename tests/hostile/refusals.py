@@ -22,6 +22,9 @@ CALLS = [
     ("scan, widths", ["scan", "%3s%*[a-c]%5c"], b"abcabcabcdefghi\nxyz,,"),
     ("scan, a failure", ["scan", "%d,%d"], b"1,2\n3;4\n"),
     ("scan by line", ["scan", "--line-buffered", "%s"], b"a\nbb\n" + b"c" * 300),
+    ("lines", ["scan", "--lines", "-e", "%d,%d", "-e", "%*d,%s"], b"1,2\n22,bb\n333," + b"c" * 5000 + b"\n4,d"),
+    ("lines, a miss", ["scan", "--lines", "--whole", "%d"], b"1\n2\n3x\n4\n"),
+    ("lines, misses told", ["scan", "--lines", "--keep-going", "%d"], b"x\n1\ny\n2\n" * 20),
     ("print", ["print", "%d %s|%5c|%x\\n", "1", "abc\\x00", "z", "255"], b""),
     ("print, 20,000 bytes", ["print", "%10000d%-10000d", "1", "2"], b""),
     ("check", ["check", "%d,%s\\n", "%11d,%20s%*1[\\n]"], b""),
@@ -77,7 +80,7 @@ def allocations(refusals, words, text):
             return "no allocation was seen"
         for number in places(count):
             for how in (f"{number}", f"{number}+"):
-                fault = end_fault(refusals.run(words, text, FAIL_ALLOC=how), ample, words[0] == "scan")
+                fault = end_fault(refusals.run(words, text, FAIL_ALLOC=how), ample, words)
                 if fault:
                     return f"allocation {how} of {count}: {fault}"
         return ""
@@ -121,12 +124,12 @@ def interrupted_writes(refusals, words, text):
     return check
 
 
-def reads(refusals, words, text, lines):
+def reads(refusals, words, text, lines, name=b"record"):
     """Each read of one byte fails in turn, or is interrupted: exactly the records that were whole by then are written."""
     def check():
         for number, why in itertools.product(range(1, len(text) + 2), (errno.EIO, errno.EINTR)):
             records = text[: number - 1].count(b"\n")
-            due = (3, b"".join(lines[:records]), b"sf: record %d: read fault\n" % (records + 1))
+            due = (3, b"".join(lines[:records]), b"sf: %s %d: read fault\n" % (name, records + 1))
             fault = difference(refusals.run(words, text, SHORT=1, FAIL_READ=number, FAIL_ERRNO=why), due)
             if fault:
                 return f"read {number}: {fault}"
@@ -147,4 +150,5 @@ def checks():
     text = b" +7,ab\n08,c\n-12,zz\n"
     yield "scan: reads", reads(refusals, ["scan", "%d,%s%*1[\\n]"], text, [b'7 "ab"\n', b'8 "c"\n', b'-12 "zz"\n'])
     yield "scan by line: reads", reads(refusals, ["scan", "--line-buffered", "%d,%s%*1[\\n]"], text, [b'7 "ab"\n', b'8 "c"\n', b'-12 "zz"\n'])
+    yield "lines: reads", reads(refusals, ["scan", "--lines", "%d,%s"], text, [b'7 "ab"\n', b'8 "c"\n', b'-12 "zz"\n'], b"line")
     yield "copy: reads", reads(refusals, ["copy", "%d,%s\\n", "%11d,%20s%*1[\\n]"], text, [b"7,ab\n", b"8,c\n", b"-12,zz\n"])
