@@ -1,9 +1,9 @@
 -- Eight decimal digits at once: how many there are, and their number as a sum of worths.
-use Rattle.std.proofs.Common.{◌≡◌, ℕ, zero, suc, ◌+◌, ◌-◌, ◌*◌, ◌%◌, ◌^◌, ◌<◌, ◌≤◌, min, Bool, true, not, ◌&&◌, T, eqb, eqb→eq, Fits, w8, List, [], ◌∷◌, map, length, take, get_or, refl, sym, ap, ap₂, ◌∙◌, subst, inl, inr, eq-zero-or-pos, arith, Some}
+use Rattle.std.proofs.Common.{◌≡◌, ℕ, zero, suc, ◌+◌, ◌-◌, ◌*◌, ◌%◌, ◌^◌, ◌<◌, ◌≤◌, min, Bool, true, false, not, ◌&&◌, T, eqb, eqb→eq, Fits, w8, List, [], ◌∷◌, map, length, take, get_or, refl, sym, ap, ap₂, ◌∙◌, subst, inl, inr, eq-zero-or-pos, arith, Some}
 use Rattle.std.proofs.lemmas.Bool.{agree_below, agree_below_at}
 use Rattle.std.proofs.lemmas.Bool.Decides.{nat_tests}
 use Rattle.std.proofs.lemmas.List.{get_or-map, get_or-take, length-map, length-take-le}
-use Rattle.std.proofs.lemmas.List.Sums.{prefix_len-le-length, prefix_len_passes}
+use Rattle.std.proofs.lemmas.List.Sums.{prefix_len-le-length, prefix_len_passes, prefix_len_stops}
 use Rattle.std.proofs.lemmas.Nat.{pow-add}
 use Rattle.std.proofs.lemmas.Simd.{map-map, mask_l-mod, length-chunk, chunk-fits, trailing_mask_l, leading_from_mask_l}
 use Rattle.std.proofs.Math.Nat.{mul-le-mul_right, mul-lt-mul_of_pos_right, one-le-pow, pow-le-pow_right, pow-succ'}
@@ -13,12 +13,11 @@ use lib.Count.{count_trailing_zeros}
 use lib.Ieee.Fits.{and_l, and_r}
 use lib.Lanes.{chunk, mask_l, top, Each1}
 use Rattle.sf_base.proofs.Lanes.{not_not}
-use Rattle.sf_format.specs.declared.directive.Base.{Base}
 use Rattle.sf_item.specs.declared.eight.TheConstants.{WORTHS}
 use Rattle.sf_item.specs.Progress.{Digits}
 use Rattle.sf_item.specs.Scan.{ReadsDecimal}
 use Rattle.sf_item.specs.Tests.{read}
-use Rattle.sf_item.proofs.Readings.{decimal_value, decimal_read}
+use Rattle.sf_item.proofs.Readings.{decimal_value, decimal_read, no_decimal}
 use Rattle.sf_item.proofs.Wholes.{ten_more}
 
 -- ---- the table
@@ -202,3 +201,11 @@ some_digits d m room mask some =
     let long = length-chunk 0 8 d room in
     let ne : mask_l (map (λ b. not (is_ascii_digit b)) (chunk 0 8 d)) ≡ 0 → ⊥ = λ z. some (mask ∙ z) in
     ap (count_trailing_zeros 64) mask ∙ trailing_mask_l (λ b. not (is_ascii_digit b)) 64 (chunk 0 8 d) (omega (arith, long)) (omega (arith, ne)) ∙ not_not is_ascii_digit (chunk 0 8 d)
+
+-- behind fewer than eight digits stands another byte
+pub digits_end : (d : List ℕ) (count : ℕ) → 8 ≤ length d → count ≡ prefix_len is_ascii_digit (take 8 d) → count < 8 → 10 ≤ digit_value (get_or d count 0)
+digits_end d count room is below =
+    let long = length-take-le 8 d room in
+    let stops = prefix_len_stops is_ascii_digit (take 8 d) 0 (omega (arith, is, below, long)) in
+    let at : is_ascii_digit (get_or d count 0) ≡ false = ap is_ascii_digit (sym (get_or-take 8 d count 0 below)) ∙ ap (λ n. is_ascii_digit (get_or (take 8 d) n 0)) is ∙ stops in
+    no_decimal (get_or d count 0) at

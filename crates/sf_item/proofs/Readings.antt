@@ -1,9 +1,9 @@
 -- How far an integer is read with the bytes of a piece.
-use Rattle.std.proofs.Common.{◌≡◌, ℕ, ◌+◌, ◌-◌, ◌*◌, ◌<◌, ◌≤◌, Bool, cond, List, [], ◌∷◌, ◌++◌, length, take, drop, slice_index_or, Option, Some, None, is_some, refl, sym, ap, ◌∙◌, subst, arith}
+use Rattle.std.proofs.Common.{◌≡◌, ℕ, ◌+◌, ◌-◌, ◌*◌, ◌<◌, ◌≤◌, Bool, false, cond, List, [], ◌∷◌, ◌++◌, length, take, drop, slice_index_or, Option, Some, None, is_some, refl, sym, ap, ◌∙◌, subst, arith}
 use Rattle.std.proofs.lemmas.Bool.Decides.{nat_tests}
 use Rattle.std.proofs.Math.Seq.{take-add, take-length}
 use Rattle.std.proofs.lemmas.List.{length-drop}
-use Rattle.std.specs.Char.{digit_value}
+use Rattle.std.specs.Char.{digit_value, is_ascii_digit}
 use Rattle.sf_format.specs.declared.directive.Base.{Base}
 use Rattle.sf_item.specs.declared.reached.Reached.{Reached}
 use Rattle.sf_item.specs.declared.reading.Reading.TheVariants as reading
@@ -51,6 +51,10 @@ module _ (base : Base) (piece : List ℕ) (i : ℕ) (p : Progress) (now : Reache
 -- the decimal digits
 pub decimal_value : (b : ℕ) → 48 ≤ b → b ≤ 57 → digit_value b ≡ b - 48
 decimal_value b low high = grind (arith, nat_tests, low, high)
+
+-- another byte has no value as one
+pub no_decimal : (b : ℕ) → is_ascii_digit b ≡ false → 10 ≤ digit_value b
+no_decimal b h = grind (arith, nat_tests, h)
 
 -- with one decimal digit more
 pub decimal_read : (base : Base) (sign : Bool) (piece : List ℕ) (i before value digit : ℕ) → i < length piece

@@ -1,6 +1,6 @@
 //! Decimal digits, eight bytes at once.
-ghost use Rattle.std.specs.Prelude.{◌≡◌, ◌+◌, ◌<◌, ◌≤◌, ◌%◌, ◌^◌, length, map, not, take};
-ghost use Rattle.std.specs.Char.{is_ascii_digit};
+ghost use Rattle.std.specs.Prelude.{◌≡◌, ◌+◌, ◌<◌, ◌≤◌, ◌%◌, ◌^◌, length, map, not, slice_index, take};
+ghost use Rattle.std.specs.Char.{digit_value, is_ascii_digit};
 ghost use Rattle.std.specs.List.{prefix_len};
 ghost use Rattle.sf_item.specs.Scan.{ReadsDecimal};
 ghost use lib.Lanes.{mask_l, chunk};
@@ -8,7 +8,7 @@ ghost use lib.Lanes.{mask_l, chunk};
 use std::simd::prelude::*;
 
 /// How many bytes are looked at at once.
-const LANES: usize = 8;
+pub(crate) const LANES: usize = 8;
 
 /// What the first to the last of eight digits are worth, and nothing for what stands behind them. The worths of fewer
 /// digits begin later.
@@ -72,6 +72,7 @@ pub(crate) fn first_digits(piece: &[u8]) -> (u64, usize)
     ensures within { result.1 ≤ length piece.now }
     ensures read { ReadsDecimal 0 (take result.1 piece.now) result.0 }
     ensures small { result.0 < 10 ^ result.1 }
+    ensures stops { 0 < result.1 → result.1 < 8 → 10 ≤ digit_value (slice_index piece.now result.1) }
 {
     if piece.len() < LANES {
         return (0, 0);

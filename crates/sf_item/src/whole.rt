@@ -8,7 +8,7 @@ ghost use Rattle.sf_item.specs.Scan.{ReadsDecimal};
 ghost use Rattle.sf_item.specs.Tests.{read};
 ghost use Rattle.sf_item.specs.Wholes.{EndsWithin, ItemWithin, OpensHex, ReadsHex, signed_as};
 
-use crate::eight::first_digits;
+use crate::eight::{LANES, first_digits};
 use crate::item::cut;
 use sf_base::{digit_value, text_run};
 use sf_format::Shape;
@@ -78,12 +78,18 @@ fn hex_opening(bytes: &[u8]) -> (usize, bool)
 }
 
 /// Takes the decimal digits that the piece begins with, as many as surely fit in 64 bits: their number, and how many.
+#[inline(always)]
 fn decimal_digits(piece: &[u8]) -> (u64, usize)
     ensures within { result.1 ≤ length piece.now }
     ensures read { ReadsDecimal 0 (take result.1 piece.now) result.0 }
+    ensures few { result.1 ≤ SURE_DECIMAL }
+    ensures stops { result.1 < SURE_DECIMAL → result.1 < length piece.now → 10 ≤ digit_value (slice_index piece.now result.1) }
 {
     let (few, _) = piece.split_at(piece.len().min(SURE_DECIMAL));
     let (mut number, first) = first_digits(few);
+    if 0 < first && first < LANES {
+        return (number, first);
+    }
     for i in first..few.len() {
         let b = few[i];
         if b < b'0' || b > b'9' {
@@ -98,6 +104,8 @@ fn decimal_digits(piece: &[u8]) -> (u64, usize)
 fn hex_digits(piece: &[u8]) -> (u64, usize)
     ensures within { result.1 ≤ length piece.now }
     ensures read { ReadsHex 0 (take result.1 piece.now) result.0 }
+    ensures few { result.1 ≤ SURE_HEX }
+    ensures stops { result.1 < SURE_HEX → result.1 < length piece.now → 16 ≤ digit_value (slice_index piece.now result.1) }
 {
     let (few, _) = piece.split_at(piece.len().min(SURE_HEX));
     let mut number: u64 = 0;
@@ -126,7 +134,7 @@ pub fn whole_decimal(width: Option<u16>, piece: &[u8]) -> Option<WholeInteger>
     if count == 0 || bytes == piece.len() {
         return None;
     }
-    if is_digit_at(digits, count, 10) {
+    if count == SURE_DECIMAL && is_digit_at(digits, count, 10) {
         return None;
     }
     Some(WholeInteger {
@@ -148,7 +156,7 @@ pub fn whole_hex(width: Option<u16>, piece: &[u8]) -> Option<WholeInteger>
     if magnitude == 0 || bytes == piece.len() {
         return None;
     }
-    if is_digit_at(digits, count, 16) {
+    if count == SURE_HEX && is_digit_at(digits, count, 16) {
         return None;
     }
     Some(WholeInteger {
