@@ -88,7 +88,7 @@ module _ (laws : LawsBelow) {S : Type 0} (to_come : S → Option (List ℕ)) (us
       let used : take report.used (printed us values ++ z) ≡ printed us values = ap (λ (r : RunReport). take r.used (printed us values ++ z)) is ∙ take_at (printed us values) z in
       elim (subst (λ (t : List ℕ). WaitedFor ds m old t new) used scan.waited) [
         | inl e ↦ inl e
-        | inr w ↦ inr (w.0, w.1, w.2, asked w.0 w.1 w.2 w.3)
+        | inr w ↦ inr (w.0, w.1, w.2, asked w.0 w.1 w.2 w.3, w.5, w.6)
       ]
 
   pub rest_is : (is_fault report.met ≡ false) ⊎ (length (printed us values) ≤ report.used) → input_of to_come new ≡ Some z

@@ -10,10 +10,12 @@ use Rattle.sf_read.specs.Ahead.{Ahead, input_of}
 use Rattle.sf_read.specs.Scan.{is_fault}
 use Rattle.sf_pair.specs.Laws.{read_back}
 
--- the source was not read, or what was read last was asked for before the text was whole
+-- the source was not read, or what was read last was asked for before the text was whole, once all that was held had been used,
+-- and what is held now is of it
 abbrev pub NotReadBehind : {S : Type 0} → List ℕ → Ahead S → Ahead S → Type 0
 NotReadBehind text old new =
-    (new.source ≡ old.source) ⊎ ((x : List ℕ) × (block : List ℕ) × (text ++ new.held ≡ x ++ block) × (length x < length text))
+    (new.source ≡ old.source) ⊎ ((x : List ℕ) × (block : List ℕ) × (text ++ new.held ≡ x ++ block) × (length x < length text)
+    × (length old.held ≤ length x) × (length new.held ≤ length block))
 
 -- the report gives the values back and used just the text, what follows the text is left, and no read came behind it
 pub record GivesBack {S : Type 0} (to_come : S → Option (List ℕ)) (us : List PrintUnit) (ds : List Directive) (values : List Datum) (z : List ℕ) (old new : Ahead S) (report : RunReport) : Type 0 where

@@ -41,15 +41,24 @@ read_on o p t fed h z bs e is none b = let v = consumes_some o p z bs e b in (v.
 held_on : (fed h was read bs : List ℕ) → fed ++ h ≡ was ++ read → h ≡ [] → fed ++ bs ≡ was ++ (read ++ bs)
 held_on fed h was read bs e none = let all : fed ≡ was ++ read = rw (none, append-nil) at e in rw (all, append_assoc) refl
 
+-- where nothing is held any more, all that was held has been given to the run
+used_up : (fed h was read : List ℕ) → fed ++ h ≡ was ++ read → h ≡ [] → length was ≤ length fed
+used_up fed h was read e none = omega (arith, ap length e, ap length none, length-append fed h, length-append was read)
+
+-- what is left of a list is no longer
+left_over : (k : ℕ) (h left : List ℕ) → left ≡ drop k h → length left ≤ length h
+left_over k h left e = omega (arith, ap length e, ap length (take-append-drop k h), length-append (take k h) (drop k h))
+
 -- one more for what is held
 one_more : (h : List ℕ) (a b : ℕ) → a ≤ b + 1 → (h ≡ [] → a ≤ b) → a ≤ b + length h
 one_more [] a b p q = omega (arith, q refl)
 one_more (x ∷ h) a b p q = omega arith
 
 -- the wait for the last block is that of the same bytes
-same_wait : {S : Type 0} (ds : List Directive) (m : ℕ) (old now new : Ahead S) (x y : List ℕ) → WaitedFor ds m old x now → new.source ≡ now.source → x ++ now.held ≡ y ++ new.held → WaitedFor ds m old y new
-same_wait ds m old now new x y (inl w) source e = inl (source ∙ w)
-same_wait ds m old now new x y (inr w) source e = inr (w.0, w.1, sym e ∙ w.2, w.3, w.4)
+same_wait : {S : Type 0} (ds : List Directive) (m : ℕ) (old now new : Ahead S) (x y : List ℕ) → WaitedFor ds m old x now → new.source ≡ now.source → x ++ now.held ≡ y ++ new.held
+    → length new.held ≤ length now.held → WaitedFor ds m old y new
+same_wait ds m old now new x y (inl w) source e few = inl (source ∙ w)
+same_wait ds m old now new x y (inr w) source e few = inr (w.0, w.1, sym e ∙ w.2, w.3, w.4, w.5, omega (arith, few, w.6))
 
 -- ---- moves
 
@@ -66,7 +75,7 @@ fed_more {reads = reads} {ds = ds} {m = m} {old = old} {now = now} {mid = mid} p
     within = (waits r.fed r.after).1;
     input = λ t e. let w = r.input t e in (w.0, rw source w.1, rw (none, append-nil, is) w.2);
     read = (r.read.0, rw (none, append-nil, is) r.read.1, r.read.2);
-    waited = same_wait ds m old now mid r.fed (r.fed ++ piece) r.waited source (rw (none, append-nil, is) refl);
+    waited = same_wait ds m old now mid r.fed (r.fed ++ piece) r.waited source (rw (none, append-nil, is) refl) (omega (arith, ap length none));
     count = rw source (omega (arith, r.count, length-append r.fed piece));
     no_block = λ _ open'. let block : reads now.source ≤ reads old.source + length r.fed + length now.held = one_more now.held (reads now.source) (reads old.source + length r.fed) r.count (λ e. r.no_block e (sym at_end ∙ open')) in
         rw source (omega (arith, block, length-append r.fed piece, ap length is));
@@ -88,7 +97,7 @@ refilled {to_come = to_come} {old = old} {mid = mid} {new = new} (r, open_run) n
   within = r.within;
   input = λ t e. let w = r.input t e in read_on (to_come mid.source) (to_come new.source) t r.fed mid.held w.0 new.held w.1 w.2 none bytes;
   read = (r.read.0 ++ new.held, held_on r.fed mid.held old.held r.read.0 new.held r.read.1 none, λ e. absurd (let g = (r.quiet e).1 in cc));
-  waited = inr (r.fed, new.held, refl, open_run, r.within);
+  waited = inr (r.fed, new.held, refl, open_run, r.within, used_up r.fed mid.held old.held r.read.0 r.read.1 none, omega arith);
   count = omega (arith, r.no_block none open', count);
   no_block = λ e f. elim ends [ inl w ↦ absurd (omega (arith, w.1, ap length e)) | inr w ↦ absurd (let g = w.0 in cc) ];
   no_failure = no_failure ∙ r.no_failure;
@@ -109,7 +118,7 @@ ended {to_come = to_come} {ds = ds} {m = m} {old = old} {now = now} {new = new} 
   used = let le' : k ≤ length now.held = omega (arith, ap length is) in omega (arith, used, r.used, length-append r.fed (take k now.held), length-take-le k now.held le');
   input = λ t e. let w = r.input t e in (w.0, rw source w.1, rw (held, pieces r.fed now.held w.0 k) w.2);
   read = (r.read.0, rw (held, append_assoc, take-append-drop) r.read.1, r.read.2);
-  waited = same_wait ds m old now new r.fed (r.fed ++ take k now.held) r.waited source (rw (held, append_assoc, take-append-drop) refl);
+  waited = same_wait ds m old now new r.fed (r.fed ++ take k now.held) r.waited source (rw (held, append_assoc, take-append-drop) refl) (left_over k now.held new.held held);
   told = λ e z f. at_end_some (to_come new.source) z (told e) f;
   count = rw source (omega (arith, r.count, r.within));
   quiet = λ e. (source ∙ (r.quiet e).0, at_end ∙ (r.quiet e).1);
@@ -151,7 +160,7 @@ failed {to_come = to_come} {old = old} {mid = mid} {new = new} (r, open_run) non
   used = used ∙ r.used;
   input = λ t e. let w = r.input t e in read_on (to_come mid.source) (to_come new.source) t r.fed mid.held w.0 new.held w.1 w.2 none bytes;
   read = (r.read.0 ++ new.held, held_on r.fed mid.held old.held r.read.0 new.held r.read.1 none, λ e. absurd (let g = (r.quiet e).1 in cc));
-  waited = inr (r.fed, new.held, refl, open_run, r.within);
+  waited = inr (r.fed, new.held, refl, open_run, r.within, used_up r.fed mid.held old.held r.read.0 r.read.1 none, omega arith);
   told = λ e. absurd (let g = ends.0 in cc);
   count = omega (arith, r.no_block none open', count, r.within);
   quiet = λ e. absurd (let g = (r.quiet e).1 in cc);

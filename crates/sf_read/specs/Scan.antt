@@ -21,10 +21,12 @@ MayFollow now z ending = now.at_end ≡ true → (z ≡ []) × (ending ≡ End)
 abbrev pub IsHeldAndRead : {S : Type 0} → Ahead S → List ℕ → Ahead S → Type 0
 IsHeldAndRead old bytes now = (read : List ℕ) × (bytes ++ now.held ≡ old.held ++ read) × (old.at_end ≡ true → read ≡ [])
 
--- the source was not read, or the run waited for what was read last: it was open after the bytes before that
+-- the source was not read, or the run waited for what was read last: it was open after the bytes before that, which are all
+-- that was held and more, and what is held now is of the last block
 abbrev pub WaitedFor : {S : Type 0} → List Directive → ℕ → Ahead S → List ℕ → Ahead S → Type 0
 WaitedFor ds m old bytes now =
-    (now.source ≡ old.source) ⊎ ((x : List ℕ) × (block : List ℕ) × (bytes ++ now.held ≡ x ++ block) × IsOpen ds x × (length x ≤ m))
+    (now.source ≡ old.source) ⊎ ((x : List ℕ) × (block : List ℕ) × (bytes ++ now.held ≡ x ++ block) × IsOpen ds x × (length x ≤ m)
+    × (length old.held ≤ length x) × (length now.held ≤ length block))
 
 -- A scan of the input t: its report, and what is then held and to come. old and new are the lookahead before and after it.
 pub record Scan {S : Type 0} (to_come : S → Option (List ℕ)) (ds : List Directive) (m : ℕ) (t : List ℕ) (old new : Ahead S) (report : RunReport) : Type 0 where
