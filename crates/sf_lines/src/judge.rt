@@ -67,7 +67,7 @@ fn pick<'f>(
     formats: &'f [ScanFormat],
     options: LinesOptions,
 ) -> Option<Picked<'f>>
-    ensures { IfSome result (λ p. Picks options formats.now line.now p.format.now p.scanned) }
+    ensures { IfSome result (λ p. Picks options formats.now line.now p.format.now p.scanned.report) }
 {
     for (before, format) in formats.iter().enumerate() {
         let Ok(scanned) = sscan_over(alloc, store, line, format, options.limit) else {

@@ -1,5 +1,5 @@
 //! Pairs of formats.
-ghost use Rattle.std.specs.Prelude.{◌≡◌, ◌≤◌, ◌<◌, ◌+◌, ◌++◌, ◌⊎◌, ◌↔◌, ℕ, List, length, map, true, false, Some, None, Ok, Err, IfOk, IfErr, IsOk, IsTrue, IsErrOf, IsSome, IsSomeAnd, MatchResult, if◌then◌else◌};
+ghost use Rattle.std.specs.Prelude.{◌≡◌, ◌≤◌, ◌<◌, ◌+◌, ◌++◌, ◌⊎◌, ◌↔◌, ℕ, List, length, map, true, false, Some, None, Ok, Err, IfOk, IfErr, IsOk, IsTrue, IsErrOf, IsSome, IsSomeAnd, MatchResult, unwrap_or, if◌then◌else◌};
 ghost use Rattle.sf_base.specs.Data.{Datum, datum_of};
 ghost use Rattle.sf_base.specs.Kept.{texts_in};
 ghost use Rattle.sf_format.specs.Proper.{destinations_of};
@@ -10,6 +10,7 @@ ghost use Rattle.sf_print.specs.Sinks as sinks;
 ghost use Rattle.sf_run.specs.declared.outcome.Ending.{Ending};
 ghost use Rattle.sf_run.specs.declared.outcome.Ending.TheVariants.{End};
 ghost use Rattle.sf_run.specs.Limits.{RunTold};
+ghost use Rattle.sf_run.specs.Memory.{capacity_of};
 ghost use Rattle.sf_run.specs.Stopping.{is_memory_status};
 ghost use Rattle.sf_read.specs.Ahead.{input_of};
 ghost use Rattle.sf_read.specs.Counts.{counted_on};
@@ -123,20 +124,21 @@ impl<'f> Pair<'f> {
         from: &mut Lookahead<S, N>,
         limit: u32,
     ) -> Result<Scanned<HeapStore>, StartFault>
-        ensures scan { (t : List ℕ) → input_of S.to_come from.old ≡ Some t → IfOk result (Scan S.to_come self.now.scan limit t from.old from.new) }
-        ensures told { IfOk result (λ s. (x : List ℕ) × (ending : Ending) × RunTold self.now.scan limit x ending s) }
-        ensures stored { IfOk result (λ s. is_memory_status s.status ≡ false) }
-        ensures held { IfOk result (λ s. (n : ℕ) → width_sum self.now.scan ≡ Some n → length (texts_in s.values) ≤ n) }
+        ensures scan { (t : List ℕ) → input_of S.to_come from.old ≡ Some t → IfOk result (λ s. Scan S.to_come self.now.scan limit t from.old from.new s.report) }
+        ensures told { IfOk result (λ s. (x : List ℕ) × (ending : Ending) × RunTold self.now.scan limit x ending s.report) }
+        ensures stored { IfOk result (λ s. is_memory_status s.report.status ≡ false) }
+        ensures held { IfOk result (λ s. (n : ℕ) → width_sum self.now.scan ≡ Some n → length (texts_in s.report.values) ≤ n) }
         ensures back { (values : List Datum) → Fit self.now.print self.now.scan values → (z : List ℕ)
             → input_of S.to_come from.old ≡ Some (printed self.now.print values ++ z) → length (printed self.now.print values) ≤ limit
-            → IfOk result (ReadsBackWhole S.to_come self.now.print self.now.scan values z from.old from.new) }
-        ensures failures { IfOk result (λ s. S.failures from.new.source ≡ (if is_fault s.met then counted_on (S.failures from.old.source) else S.failures from.old.source)) }
+            → IfOk result (λ s. ReadsBackWhole S.to_come self.now.print self.now.scan values z from.old from.new s.report) }
+        ensures failures { IfOk result (λ s. S.failures from.new.source ≡ (if is_fault s.report.met then counted_on (S.failures from.old.source) else S.failures from.old.source)) }
         ensures reads { S.reads from.new.source ≤ S.reads from.old.source + limit + 1 }
-        ensures end { IfOk result (λ s. s.met ≡ Some End → from.new.at_end ≡ true) }
+        ensures end { IfOk result (λ s. s.report.met ≡ Some End → from.new.at_end ≡ true) }
         ensures no_read { from.old.at_end ≡ true → from.new.source ≡ from.old.source }
         ensures stays { from.old.at_end ≡ true → from.new.at_end ≡ true }
         ensures limit { IsErrOf result StartFault.BadLimit ↔ (2147483647 < limit) }
         ensures memory { IfErr result (λ fault. (fault ≡ StartFault.BadLimit) ⊎ (fault ≡ StartFault.NoMemory)) }
+        ensures room { IfOk result (λ s. unwrap_or (width_sum self.now.scan) 0 ≤ capacity_of s.kept) }
         ensures unread { IfErr result (λ _. from.new ≡ from.old) }
     {
         laws_below();
@@ -149,16 +151,16 @@ impl<'f> Pair<'f> {
         from: &mut Lookahead<S, N>,
         limit: u32,
     ) -> Result<Scanned<FixedStore<CAP, SLOTS>>, StartFault>
-        ensures scan { (t : List ℕ) → input_of S.to_come from.old ≡ Some t → IfOk result (Scan S.to_come self.now.scan limit t from.old from.new) }
-        ensures told { IfOk result (λ s. (x : List ℕ) × (ending : Ending) × RunTold self.now.scan limit x ending s) }
-        ensures stored { IfOk result (λ s. is_memory_status s.status ≡ false) }
-        ensures held { IfOk result (λ s. (n : ℕ) → width_sum self.now.scan ≡ Some n → length (texts_in s.values) ≤ n) }
+        ensures scan { (t : List ℕ) → input_of S.to_come from.old ≡ Some t → IfOk result (λ s. Scan S.to_come self.now.scan limit t from.old from.new s.report) }
+        ensures told { IfOk result (λ s. (x : List ℕ) × (ending : Ending) × RunTold self.now.scan limit x ending s.report) }
+        ensures stored { IfOk result (λ s. is_memory_status s.report.status ≡ false) }
+        ensures held { IfOk result (λ s. (n : ℕ) → width_sum self.now.scan ≡ Some n → length (texts_in s.report.values) ≤ n) }
         ensures back { (values : List Datum) → Fit self.now.print self.now.scan values → (z : List ℕ)
             → input_of S.to_come from.old ≡ Some (printed self.now.print values ++ z) → length (printed self.now.print values) ≤ limit
-            → IfOk result (ReadsBackWhole S.to_come self.now.print self.now.scan values z from.old from.new) }
-        ensures failures { IfOk result (λ s. S.failures from.new.source ≡ (if is_fault s.met then counted_on (S.failures from.old.source) else S.failures from.old.source)) }
+            → IfOk result (λ s. ReadsBackWhole S.to_come self.now.print self.now.scan values z from.old from.new s.report) }
+        ensures failures { IfOk result (λ s. S.failures from.new.source ≡ (if is_fault s.report.met then counted_on (S.failures from.old.source) else S.failures from.old.source)) }
         ensures reads { S.reads from.new.source ≤ S.reads from.old.source + limit + 1 }
-        ensures end { IfOk result (λ s. s.met ≡ Some End → from.new.at_end ≡ true) }
+        ensures end { IfOk result (λ s. s.report.met ≡ Some End → from.new.at_end ≡ true) }
         ensures no_read { from.old.at_end ≡ true → from.new.source ≡ from.old.source }
         ensures stays { from.old.at_end ≡ true → from.new.at_end ≡ true }
         ensures limit { IsErrOf result StartFault.BadLimit ↔ (2147483647 < limit) }

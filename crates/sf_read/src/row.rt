@@ -43,8 +43,8 @@ fn has_shape<T: Row>(format: &ScanFormat) -> bool
 
 /// The row of a report, where that is Done.
 fn row_of<T: Row, K: Store>(alloc: Global, scanned: &Scanned<K>) -> Result<T, ScanRowFault>
-    requires { scanned.now.status ≡ Done → AreGiven T.kinds scanned.now.values }
-    ensures { Answers T.kinds T.listed scanned.now result }
+    requires { scanned.now.report.status ≡ Done → AreGiven T.kinds scanned.now.report.values }
+    ensures { Answers T.kinds T.listed scanned.now.report result }
 {
     let report = scanned.report();
     let outcome = report.outcome();

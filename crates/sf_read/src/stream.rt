@@ -7,7 +7,7 @@ ghost use Rattle.sf_format.specs.Widths.{width_sum};
 ghost use Rattle.sf_run.specs.declared.outcome.Status.TheVariants as status;
 ghost use Rattle.sf_run.specs.Limits.{RunTold};
 ghost use Rattle.sf_run.specs.Memory.{HoldsValues, capacity_of};
-ghost use Rattle.sf_run.specs.Scanner.{standing};
+ghost use Rattle.sf_run.specs.Scanner.{kept_by, standing};
 ghost use Rattle.sf_run.specs.Standing.{After};
 ghost use Rattle.sf_run.specs.Stopping.{is_memory_status};
 ghost use Rattle.sf_run.specs.Views.{report_by};
@@ -28,7 +28,8 @@ fn drive<S: Source, T: Store, const N: usize>(
     from: &mut Lookahead<S, N>,
 )
     requires { After scanner.old.directives.now scanner.old.limit (standing scanner.old) [] }
-    ensures { Driven S.to_come S.reads S.failures scanner.old.directives.now scanner.old.limit from.old from.new (standing scanner.new) }
+    ensures driven { Driven S.to_come S.reads S.failures scanner.old.directives.now scanner.old.limit from.old from.new (standing scanner.new) }
+    ensures room { capacity_of (kept_by scanner.old) ≤ capacity_of (kept_by scanner.new) }
 {
     'refills: loop {
         let fed = scanner.feed(from.held());
@@ -58,14 +59,15 @@ fn run<S: Source, T: Store, const N: usize>(
 ) -> Scanned<T>
     requires { After scanner.directives.now scanner.limit (standing scanner) [] }
     ensures scan { (ds : List Directive) (m : ℕ) (t : List ℕ) → After ds m (standing scanner.entry) [] → input_of S.to_come from.old ≡ Some t
-        → Scan S.to_come ds m t from.old from.new result }
-    ensures told { (ds : List Directive) (m : ℕ) → After ds m (standing scanner.entry) [] → (x : List ℕ) × (ending : Ending) × RunTold ds m x ending result }
-    ensures bounded { (ds : List Directive) (m : ℕ) → After ds m (standing scanner.entry) [] → IsSome (width_sum ds) → is_memory_status result.status ≡ false }
-    ensures failures { S.failures from.new.source ≡ (if is_fault result.met then counted_on (S.failures from.old.source) else S.failures from.old.source) }
+        → Scan S.to_come ds m t from.old from.new result.report }
+    ensures told { (ds : List Directive) (m : ℕ) → After ds m (standing scanner.entry) [] → (x : List ℕ) × (ending : Ending) × RunTold ds m x ending result.report }
+    ensures bounded { (ds : List Directive) (m : ℕ) → After ds m (standing scanner.entry) [] → IsSome (width_sum ds) → is_memory_status result.report.status ≡ false }
+    ensures failures { S.failures from.new.source ≡ (if is_fault result.report.met then counted_on (S.failures from.old.source) else S.failures from.old.source) }
     ensures reads { (ds : List Directive) (m : ℕ) → After ds m (standing scanner.entry) [] → S.reads from.new.source ≤ S.reads from.old.source + m + 1 }
-    ensures end { result.met ≡ Some Ending.End → from.new.at_end ≡ true }
+    ensures end { result.report.met ≡ Some Ending.End → from.new.at_end ≡ true }
     ensures no_read { from.old.at_end ≡ true → from.new.source ≡ from.old.source }
     ensures stays { from.old.at_end ≡ true → from.new.at_end ≡ true }
+    ensures room { capacity_of (kept_by scanner.entry) ≤ capacity_of result.kept }
 {
     drive(&mut scanner, from);
     match scanner.into_scanned() {
@@ -87,16 +89,17 @@ pub fn fscan<S: Source, const N: usize>(
     format: &ScanFormat,
     limit: u32,
 ) -> Result<Scanned<HeapStore>, StartFault>
-    ensures scan { (t : List ℕ) → input_of S.to_come from.old ≡ Some t → IfOk result (Scan S.to_come format.now limit t from.old from.new) }
-    ensures told { IfOk result (λ s. (x : List ℕ) × (ending : Ending) × RunTold format.now limit x ending s) }
-    ensures bounded { IsSome (width_sum format.now) → IfOk result (λ s. is_memory_status s.status ≡ false) }
-    ensures failures { IfOk result (λ s. S.failures from.new.source ≡ (if is_fault s.met then counted_on (S.failures from.old.source) else S.failures from.old.source)) }
+    ensures scan { (t : List ℕ) → input_of S.to_come from.old ≡ Some t → IfOk result (λ s. Scan S.to_come format.now limit t from.old from.new s.report) }
+    ensures told { IfOk result (λ s. (x : List ℕ) × (ending : Ending) × RunTold format.now limit x ending s.report) }
+    ensures bounded { IsSome (width_sum format.now) → IfOk result (λ s. is_memory_status s.report.status ≡ false) }
+    ensures failures { IfOk result (λ s. S.failures from.new.source ≡ (if is_fault s.report.met then counted_on (S.failures from.old.source) else S.failures from.old.source)) }
     ensures reads { S.reads from.new.source ≤ S.reads from.old.source + limit + 1 }
-    ensures end { IfOk result (λ s. s.met ≡ Some Ending.End → from.new.at_end ≡ true) }
+    ensures end { IfOk result (λ s. s.report.met ≡ Some Ending.End → from.new.at_end ≡ true) }
     ensures no_read { from.old.at_end ≡ true → from.new.source ≡ from.old.source }
     ensures stays { from.old.at_end ≡ true → from.new.at_end ≡ true }
     ensures limit { IsErrOf result StartFault.BadLimit ↔ (2147483647 < limit) }
     ensures memory { IfErr result (λ fault. (fault ≡ StartFault.BadLimit) ⊎ (fault ≡ StartFault.NoMemory)) }
+    ensures room { IfOk result (λ s. unwrap_or (width_sum format.now) 0 ≤ capacity_of s.kept) }
     ensures unread { IfErr result (λ _. from.new ≡ from.old) }
 {
     let store = Scanner::new(alloc, format, limit)?.into_store();
@@ -113,17 +116,19 @@ pub fn fscan_over<S: Source, const N: usize>(
     format: &ScanFormat,
     limit: u32,
 ) -> Result<Scanned<HeapStore>, StartFault>
-    ensures scan { (t : List ℕ) → input_of S.to_come from.old ≡ Some t → IfOk result (Scan S.to_come format.now limit t from.old from.new) }
-    ensures told { IfOk result (λ s. (x : List ℕ) × (ending : Ending) × RunTold format.now limit x ending s) }
-    ensures bounded { IsSome (width_sum format.now) → IfOk result (λ s. is_memory_status s.status ≡ false) }
-    ensures failures { IfOk result (λ s. S.failures from.new.source ≡ (if is_fault s.met then counted_on (S.failures from.old.source) else S.failures from.old.source)) }
+    ensures scan { (t : List ℕ) → input_of S.to_come from.old ≡ Some t → IfOk result (λ s. Scan S.to_come format.now limit t from.old from.new s.report) }
+    ensures told { IfOk result (λ s. (x : List ℕ) × (ending : Ending) × RunTold format.now limit x ending s.report) }
+    ensures bounded { IsSome (width_sum format.now) → IfOk result (λ s. is_memory_status s.report.status ≡ false) }
+    ensures failures { IfOk result (λ s. S.failures from.new.source ≡ (if is_fault s.report.met then counted_on (S.failures from.old.source) else S.failures from.old.source)) }
     ensures reads { S.reads from.new.source ≤ S.reads from.old.source + limit + 1 }
-    ensures end { IfOk result (λ s. s.met ≡ Some Ending.End → from.new.at_end ≡ true) }
+    ensures end { IfOk result (λ s. s.report.met ≡ Some Ending.End → from.new.at_end ≡ true) }
     ensures no_read { from.old.at_end ≡ true → from.new.source ≡ from.old.source }
     ensures stays { from.old.at_end ≡ true → from.new.at_end ≡ true }
     ensures limit { IsErrOf result StartFault.BadLimit ↔ (2147483647 < limit) }
     ensures memory { IfErr result (λ fault. (fault ≡ StartFault.BadLimit) ⊎ (fault ≡ StartFault.NoMemory)) }
     ensures enough { limit ≤ 2147483647 → unwrap_or (width_sum format.now) 0 ≤ store.room + length (buffer_of store) → IsOk result }
+    ensures room { IfOk result (λ s. unwrap_or (width_sum format.now) 0 ≤ capacity_of s.kept) }
+    ensures as_much { IfOk result (λ s. capacity_of store ≤ capacity_of s.kept) }
     ensures unread { IfErr result (λ _. from.new ≡ from.old) }
 {
     store.clear();
@@ -174,12 +179,12 @@ pub fn fscan_fixed<const CAP: usize, const SLOTS: usize, S: Source, const N: usi
     format: &ScanFormat,
     limit: u32,
 ) -> Result<Scanned<FixedStore<CAP, SLOTS>>, StartFault>
-    ensures scan { (t : List ℕ) → input_of S.to_come from.old ≡ Some t → IfOk result (Scan S.to_come format.now limit t from.old from.new) }
-    ensures told { IfOk result (λ s. (x : List ℕ) × (ending : Ending) × RunTold format.now limit x ending s) }
-    ensures bounded { IfOk result (λ s. is_memory_status s.status ≡ false) }
-    ensures failures { IfOk result (λ s. S.failures from.new.source ≡ (if is_fault s.met then counted_on (S.failures from.old.source) else S.failures from.old.source)) }
+    ensures scan { (t : List ℕ) → input_of S.to_come from.old ≡ Some t → IfOk result (λ s. Scan S.to_come format.now limit t from.old from.new s.report) }
+    ensures told { IfOk result (λ s. (x : List ℕ) × (ending : Ending) × RunTold format.now limit x ending s.report) }
+    ensures bounded { IfOk result (λ s. is_memory_status s.report.status ≡ false) }
+    ensures failures { IfOk result (λ s. S.failures from.new.source ≡ (if is_fault s.report.met then counted_on (S.failures from.old.source) else S.failures from.old.source)) }
     ensures reads { S.reads from.new.source ≤ S.reads from.old.source + limit + 1 }
-    ensures end { IfOk result (λ s. s.met ≡ Some Ending.End → from.new.at_end ≡ true) }
+    ensures end { IfOk result (λ s. s.report.met ≡ Some Ending.End → from.new.at_end ≡ true) }
     ensures no_read { from.old.at_end ≡ true → from.new.source ≡ from.old.source }
     ensures stays { from.old.at_end ≡ true → from.new.at_end ≡ true }
     ensures limit { IsErrOf result StartFault.BadLimit ↔ (2147483647 < limit) }

@@ -4,7 +4,8 @@ ghost use Rattle.sf_base.specs.Kept.{buffer_of};
 ghost use Rattle.sf_format.specs.declared.directive.Directive.{Directive};
 ghost use Rattle.sf_format.specs.Widths.{width_sum};
 ghost use Rattle.sf_run.specs.Limits.{RunTold, RunWithin};
-ghost use Rattle.sf_run.specs.Scanner.{standing};
+ghost use Rattle.sf_run.specs.Memory.{capacity_of};
+ghost use Rattle.sf_run.specs.Scanner.{kept_by, standing};
 ghost use Rattle.sf_run.specs.Standing.{After};
 
 use sf_base::{HeapStore, Store};
@@ -15,8 +16,9 @@ use std::alloc::Global;
 /// What the run of the scanner comes to, over a whole text.
 fn run_over<S: Store>(mut scanner: Scanner<'_, S>, text: &[u8]) -> Scanned<S>
     requires { After scanner.directives.now scanner.limit (standing scanner) [] }
-    ensures told { (ds : List Directive) (m : ℕ) → After ds m (standing scanner.entry) [] → RunTold ds m text.now Ending.End result }
-    ensures bounded { (ds : List Directive) (m : ℕ) → After ds m (standing scanner.entry) [] → IsSome (width_sum ds) → RunWithin ds m text.now Ending.End result }
+    ensures told { (ds : List Directive) (m : ℕ) → After ds m (standing scanner.entry) [] → RunTold ds m text.now Ending.End result.report }
+    ensures bounded { (ds : List Directive) (m : ℕ) → After ds m (standing scanner.entry) [] → IsSome (width_sum ds) → RunWithin ds m text.now Ending.End result.report }
+    ensures room { capacity_of (kept_by scanner.entry) ≤ capacity_of result.kept }
 {
     scanner.feed(text);
     scanner.end(Ending::End);
@@ -36,10 +38,11 @@ pub fn sscan(
     format: &ScanFormat,
     limit: u32,
 ) -> Result<Scanned<HeapStore>, StartFault>
-    ensures report { IfOk result (RunTold format.now limit text.now Ending.End) }
-    ensures bounded { IsSome (width_sum format.now) → IfOk result (RunWithin format.now limit text.now Ending.End) }
+    ensures report { IfOk result (λ s. RunTold format.now limit text.now Ending.End s.report) }
+    ensures bounded { IsSome (width_sum format.now) → IfOk result (λ s. RunWithin format.now limit text.now Ending.End s.report) }
     ensures limit { IsErrOf result StartFault.BadLimit ↔ (2147483647 < limit) }
     ensures memory { IfErr result (λ fault. (fault ≡ StartFault.BadLimit) ⊎ (fault ≡ StartFault.NoMemory)) }
+    ensures room { IfOk result (λ s. unwrap_or (width_sum format.now) 0 ≤ capacity_of s.kept) }
 {
     let scanner = Scanner::new(alloc, format, limit)?;
     Ok(run_over(scanner, text))
@@ -54,11 +57,13 @@ pub fn sscan_over(
     format: &ScanFormat,
     limit: u32,
 ) -> Result<Scanned<HeapStore>, StartFault>
-    ensures report { IfOk result (RunTold format.now limit text.now Ending.End) }
-    ensures bounded { IsSome (width_sum format.now) → IfOk result (RunWithin format.now limit text.now Ending.End) }
+    ensures report { IfOk result (λ s. RunTold format.now limit text.now Ending.End s.report) }
+    ensures bounded { IsSome (width_sum format.now) → IfOk result (λ s. RunWithin format.now limit text.now Ending.End s.report) }
     ensures limit { IsErrOf result StartFault.BadLimit ↔ (2147483647 < limit) }
     ensures memory { IfErr result (λ fault. (fault ≡ StartFault.BadLimit) ⊎ (fault ≡ StartFault.NoMemory)) }
     ensures enough { limit ≤ 2147483647 → unwrap_or (width_sum format.now) 0 ≤ store.room + length (buffer_of store) → IsOk result }
+    ensures room { IfOk result (λ s. unwrap_or (width_sum format.now) 0 ≤ capacity_of s.kept) }
+    ensures as_much { IfOk result (λ s. capacity_of store ≤ capacity_of s.kept) }
 {
     let scanner = Scanner::over(alloc, store, format, limit)?;
     Ok(run_over(scanner, text))

@@ -16,13 +16,11 @@ pub struct Scanned<S: Store> {
 }
 
 impl<S: Store> Model for Scanned<S> {
-    ghost use Rattle.sf_run.specs.Runs.{RunReport};
+    ghost use Rattle.sf_run.specs.Views.{StoredReport, report_by};
 
-    ghost Value = { RunReport };
+    ghost Value = { StoredReport };
 
-    ghost use Rattle.sf_run.specs.Views.{report_by};
-
-    ghost view = { λ s. report_by s.outcome (S.kept s.store).values };
+    ghost view = { λ s. record { report = report_by s.outcome (S.kept s.store).values; kept = S.kept s.store } };
 
     ghost use Rattle.sf_run.specs.Memory.{HoldsValues};
 
@@ -36,14 +34,15 @@ impl<S: Store> Scanned<S> {
     /// The outcome with the store of its values, as `quick_run` leaves both.
     pub fn new(outcome: Outcome, store: S) -> Self
         requires { HoldsValues (S.kept store) }
-        ensures { result ≡ report_by outcome (S.kept store).values }
+        ensures report { result.report ≡ report_by outcome (S.kept store).values }
+        ensures kept { result.kept ≡ S.kept store }
     {
         Scanned { outcome, store }
     }
 
     /// The report of the run.
     pub fn report(&self) -> Report<'_, S>
-        ensures { result ≡ self.now }
+        ensures { result ≡ self.now.report }
     {
         Report {
             outcome: self.outcome,
@@ -53,7 +52,8 @@ impl<S: Store> Scanned<S> {
 
     /// The store, with the values of the run and the bytes of their texts, to be used again.
     pub fn into_store(self) -> S
-        ensures values { (S.kept result).values ≡ self.values }
+        ensures kept { S.kept result ≡ self.kept }
+        ensures values { (S.kept result).values ≡ self.report.values }
         ensures texts { HoldsValues (S.kept result) }
     {
         let Scanned { store, .. } = self;

@@ -1,6 +1,7 @@
 //! A scanner that is handed its input piece by piece.
 ghost use Rattle.std.specs.Prelude.{◌≡◌, ℕ, ◌+◌, ◌<◌, ◌≤◌, ◌∷◌, ◌++◌, [], List, length, take, true, false, slice_get, is_some, IsSome, IsNone, IfNone, IfSome, IsOk, IfOk, IfErr, IsErr, IsErrOf, IsOkAnd, IsSomeAnd, ◌↔◌, ◌⊎◌, ◌^◌, drop, if◌then◌else◌, Some, None, unwrap_or};
 ghost use Rattle.std.specs.Bool.{OnTrue, OnFalse};
+ghost use Rattle.std.specs.Option.{option_map};
 ghost use Rattle.std.specs.Result.{result_ok};
 ghost use Rattle.sf_base.specs.Data.{Assigned, Bytes, datum_of, is_number};
 ghost use Rattle.sf_base.specs.Kept.{buffer_of, longer, with_bytes, nothing_kept, text_of, texts_in};
@@ -518,13 +519,14 @@ impl<'f, S: Store> Scanner<'f, S> {
 
     /// What a run that has ended gave. A scanner whose run hasn't is given back.
     pub fn into_scanned(self) -> Result<Scanned<S>, Self>
-        ensures gives { (ds : List Directive) (m : ℕ) (x : List ℕ) (ending : Ending) → Gives ds m (standing self.entry) x ending → IsOkAnd result (RunTold ds m x ending) }
-        ensures after { (ds : List Directive) (m : ℕ) (x : List ℕ) (ending : Ending) → After ds m (standing self.entry) x → IfOk result (RunWithin ds m x ending) }
+        ensures gives { (ds : List Directive) (m : ℕ) (x : List ℕ) (ending : Ending) → Gives ds m (standing self.entry) x ending → IsOkAnd result (λ s. RunTold ds m x ending s.report) }
+        ensures after { (ds : List Directive) (m : ℕ) (x : List ℕ) (ending : Ending) → After ds m (standing self.entry) x → IfOk result (λ s. RunWithin ds m x ending s.report) }
         ensures waits { (ds : List Directive) (m : ℕ) (x : List ℕ) → After ds m (standing self.entry) x → IsErr result → IsOpen ds x × (length x ≤ m) }
-        ensures used { IfOk result (λ s. s.used ≡ used_by (standing self.entry)) }
-        ensures memory { IfOk result (λ s. is_memory_status s.status ≡ ran_out (standing self.entry)) }
+        ensures used { IfOk result (λ s. s.report.used ≡ used_by (standing self.entry)) }
+        ensures memory { IfOk result (λ s. is_memory_status s.report.status ≡ ran_out (standing self.entry)) }
+        ensures kept { IfOk result (λ s. s.kept ≡ kept_by self.entry) }
         ensures back { IfErr result (λ s. s ≡ self.entry) }
-        ensures exactly { result_ok result ≡ report_of (standing self.entry) }
+        ensures exactly { option_map (λ s. s.report) (result_ok result) ≡ report_of (standing self.entry) }
     {
         match self.ended {
             None => Err(self),

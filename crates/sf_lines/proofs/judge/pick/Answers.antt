@@ -8,7 +8,7 @@ use Rattle.sf_lines.proofs.judge.pick.Goals.{then-not-missed-via-then-not-missed
 
 pub returns-then-not-missed : goal.returns-then-not-missed
 returns-then-not-missed c =
-    let r = c.in-Ok.scanned in
+    let r = c.in-Ok.scanned.report in
     let fine : is_memory_status r.status ≡ false = ap (λ x. is_memory_status x.status) (sym c.report-report.ensures) ∙ sym c.ran_out.ensures ∙ c.if-ran_out.false in
     let fault : c.line_fault.result ≡ fault_of c.args.options c.args.line.now r = c.line_fault.ensures ∙ ap (fault_of c.args.options c.args.line.now) c.report-report.ensures in
     let why : (fault_of c.args.options c.args.line.now r ≡ None) ⊎ (c.loop-before.before + 1 ≡ length c.args.formats.now) =
@@ -20,7 +20,7 @@ returns-then-not-missed c =
 
 pub loop-before-preserved : goal.loop-before-preserved
 loop-before-preserved c =
-    let r = c.in-Ok.scanned in
+    let r = c.in-Ok.scanned.report in
     let fine : is_memory_status r.status ≡ false = ap (λ x. is_memory_status x.status) (sym c.report-report.ensures) ∙ sym c.ran_out.ensures ∙ c.if-ran_out.false in
     let fault : c.line_fault.result ≡ fault_of c.args.options c.args.line.now r = c.line_fault.ensures ∙ ap (fault_of c.args.options c.args.line.now) c.report-report.ensures in
     all_more (Misses c.args.options c.args.line.now) c.args.formats.now c.loop-before.before c.index-formats-before.result c.loop-before-test.true c.index-formats-before.is c.loop-before.invariant

@@ -7,35 +7,35 @@ use Rattle.sf_read.specs.Reading.{Reading}
 use Rattle.sf_read.proofs.Reading.{fed_more, refilled, ended, ended_at_end, failed, falls}
 use Rattle.sf_read.proofs.stream.drive.Goals as goal
 
-pub returns-in-Ended : goal.returns-in-Ended
-returns-in-Ended g c =
+pub returns-in-Ended-clause-driven : goal.returns-in-Ended-clause-driven
+returns-in-Ended-clause-driven g c =
     let ds = c.args.scanner.now.directives.now in
     let m : ℕ = c.args.scanner.now.limit in
-    ended c.held.result.now c.feed-fed.result.taken c.refills.invariant c.held.ensures.held c.feed-fed.ensures.within c.feed-fed.ensures.used
+    ended c.held.result.now c.feed-fed.result.taken c.refills.invariant.0 c.held.ensures.held c.feed-fed.ensures.within c.feed-fed.ensures.used
     (λ x z ending h. c.feed-fed.ensures.gives ds m x z ending h c.in-Ended.is) (λ x sum h. c.feed-fed.ensures.bounded ds m x sum h)
     c.consume.ensures.held c.consume.ensures.source c.consume.ensures.at_end c.consume.ensures.told
 
-pub returns-then-is_at_end : goal.returns-then-is_at_end
-returns-then-is_at_end g c =
+pub returns-then-is_at_end-clause-driven : goal.returns-then-is_at_end-clause-driven
+returns-then-is_at_end-clause-driven g c =
     let ds = c.args.scanner.now.directives.now in
     let m : ℕ = c.args.scanner.now.limit in
     let stored : ran_out (standing c.feed-fed.new.self) ≡ false = c.feed-fed.ensures.stopped c.in-Wait.is in
     let none : c.consume.new.self.held ≡ [] = c.is_at_end.ensures.held c.if-is_at_end.true in
     let now : (r : Reading g.S.Source.to_come g.S.Source.reads g.S.Source.failures ds m c.args.from.now c.consume.new.self (standing c.feed-fed.new.self)) × IsOpen ds r.fed
-    = fed_more c.held.result.now c.refills.invariant c.held.ensures.held
+    = fed_more c.held.result.now c.refills.invariant.0 c.held.ensures.held
     (λ x h. c.feed-fed.ensures.after ds m x stored h) (λ x h. c.feed-fed.ensures.waits ds m x h c.in-Wait.is) (λ x h. (c.feed-fed.ensures.state ds m x stored h).0 c.in-Wait.is)
     none c.consume.ensures.source c.consume.ensures.at_end in
     ended_at_end now.0 none (sym c.is_at_end.ensures.is ∙ c.if-is_at_end.true) (c.is_at_end.ensures.told c.if-is_at_end.true) c.end.ensures.used (c.end.ensures.memory ∙ stored) (λ x h. c.end.ensures.gives ds m x h)
 
-pub returns-in-Err : goal.returns-in-Err
-returns-in-Err g c =
+pub returns-in-Err-clause-driven : goal.returns-in-Err-clause-driven
+returns-in-Err-clause-driven g c =
     let ds = c.args.scanner.now.directives.now in
     let m : ℕ = c.args.scanner.now.limit in
     let stored : ran_out (standing c.feed-fed.new.self) ≡ false = c.feed-fed.ensures.stopped c.in-Wait.is in
     let none : c.consume.new.self.held ≡ [] = rw (c.consume.ensures.held, c.feed-fed.ensures.all c.in-Wait.is, ← c.held.ensures.held) (drop_all _ c.held.result.now (omega arith)) in
     let open' : c.consume.new.self.at_end ≡ false = sym c.is_at_end.ensures.is ∙ c.if-is_at_end.false in
     let now : (r : Reading g.S.Source.to_come g.S.Source.reads g.S.Source.failures ds m c.args.from.now c.consume.new.self (standing c.feed-fed.new.self)) × IsOpen ds r.fed
-    = fed_more c.held.result.now c.refills.invariant c.held.ensures.held
+    = fed_more c.held.result.now c.refills.invariant.0 c.held.ensures.held
     (λ x h. c.feed-fed.ensures.after ds m x stored h) (λ x h. c.feed-fed.ensures.waits ds m x h c.in-Wait.is) (λ x h. (c.feed-fed.ensures.state ds m x stored h).0 c.in-Wait.is)
     none c.consume.ensures.source c.consume.ensures.at_end in
     failed now none open' c.refill.ensures.reads c.in-Err.ensures.failures c.refill.ensures.bytes c.in-Err.ensures.failed c.end-in-Err.ensures.used (c.end-in-Err.ensures.memory ∙ stored)
@@ -46,7 +46,7 @@ refills-smaller g c =
     let ds = c.args.scanner.now.directives.now in
     let m : ℕ = c.args.scanner.now.limit in
     let stored : ran_out (standing c.feed-fed.new.self) ≡ false = c.feed-fed.ensures.stopped c.in-Wait.is in
-    let r = c.refills.invariant in
+    let r = c.refills.invariant.0 in
     let open' : c.refills.from.at_end ≡ false = sym c.consume.ensures.at_end ∙ sym c.is_at_end.ensures.is ∙ c.if-is_at_end.false in
     let used : used_by (standing c.feed-fed.new.self) ≡ used_by (standing c.refills.scanner) + length c.refills.from.held = c.feed-fed.ensures.used ∙ ap (λ n. used_by (standing c.refills.scanner) + n) (c.feed-fed.ensures.all c.in-Wait.is ∙ ap length c.held.ensures.held) in
     let few : used_by (standing c.feed-fed.new.self) ≤ m = rw (c.feed-fed.ensures.waits ds m r.fed r.after c.in-Wait.is) (((c.feed-fed.ensures.state ds m r.fed stored r.after).0 c.in-Wait.is).1) in
@@ -60,7 +60,7 @@ refills-preserved g c =
     let none : c.consume.new.self.held ≡ [] = rw (c.consume.ensures.held, c.feed-fed.ensures.all c.in-Wait.is, ← c.held.ensures.held) (drop_all _ c.held.result.now (omega arith)) in
     let open' : c.consume.new.self.at_end ≡ false = sym c.is_at_end.ensures.is ∙ c.if-is_at_end.false in
     let now : (r : Reading g.S.Source.to_come g.S.Source.reads g.S.Source.failures ds m c.args.from.now c.consume.new.self (standing c.feed-fed.new.self)) × IsOpen ds r.fed
-    = fed_more c.held.result.now c.refills.invariant c.held.ensures.held
+    = fed_more c.held.result.now c.refills.invariant.0 c.held.ensures.held
     (λ x h. c.feed-fed.ensures.after ds m x stored h) (λ x h. c.feed-fed.ensures.waits ds m x h c.in-Wait.is) (λ x h. (c.feed-fed.ensures.state ds m x stored h).0 c.in-Wait.is)
     none c.consume.ensures.source c.consume.ensures.at_end in
-    refilled now none open' c.refill.ensures.reads c.in-Ok.ensures.failures c.refill.ensures.bytes c.in-Ok.ensures.read
+    (refilled now none open' c.refill.ensures.reads c.in-Ok.ensures.failures c.refill.ensures.bytes c.in-Ok.ensures.read, omega (arith, c.refills.invariant.1, c.feed-fed.ensures.room))

@@ -1,11 +1,14 @@
-use Rattle.std.proofs.Common.{◌+◌, ◌-◌, length, cond}
+use Rattle.std.proofs.Common.{◌+◌, ◌-◌, ◌≤◌, length, cond}
 use Rattle.sf_run.specs.Standing.{used_by}
-use Rattle.sf_run.specs.Scanner.{standing}
+use Rattle.sf_run.specs.Memory.{capacity_of}
+use Rattle.sf_run.specs.Scanner.{kept_by, standing}
 use Rattle.sf_read.specs.Reading.{Reading}
 use Rattle.sf_read.proofs.stream.drive.Given as goal
 
 abbrev pub invariant-refills : goal.invariant-refills
-invariant-refills g l = Reading g.S.Source.to_come g.S.Source.reads g.S.Source.failures l.fn.scanner.directives.now l.fn.scanner.limit l.fn.from l.from (standing l.scanner)
+invariant-refills g l =
+    Reading g.S.Source.to_come g.S.Source.reads g.S.Source.failures l.fn.scanner.directives.now l.fn.scanner.limit l.fn.from l.from (standing l.scanner)
+    × (capacity_of (kept_by l.fn.scanner) ≤ capacity_of (kept_by l.scanner))
 
 -- the bytes that may still be used and are not held yet, and one where the source has not told its end
 abbrev pub decreases-refills : goal.decreases-refills

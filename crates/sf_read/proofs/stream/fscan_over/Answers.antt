@@ -6,17 +6,17 @@ use Rattle.sf_read.proofs.stream.fscan_over.Goals as goal
 
 pub returns-clause-scan : goal.returns-clause-scan
 returns-clause-scan g c t e =
-    subst (λ report. Scan g.S.Source.to_come c.args.format.now c.args.limit t c.args.from.now c.fscan_held.new.from report) (sym c.new.ensures) (c.in-Some.ensures.scan t e)
+    subst (λ report. Scan g.S.Source.to_come c.args.format.now c.args.limit t c.args.from.now c.fscan_held.new.from report) (sym c.new.ensures.report) (c.in-Some.ensures.scan t e)
 
 pub returns-clause-told : goal.returns-clause-told
 returns-clause-told g c =
     let told = c.in-Some.ensures.told in
-    (told.0, told.1, subst (λ report. RunTold c.args.format.now c.args.limit told.0 told.1 report) (sym c.new.ensures) told.2)
+    (told.0, told.1, subst (λ report. RunTold c.args.format.now c.args.limit told.0 told.1 report) (sym c.new.ensures.report) told.2)
 
 pub returns-2-clause-scan : goal.returns-2-clause-scan
 returns-2-clause-scan g c t e =
     let stood : c.else-limit-le-MOST_BYTES.from ≡ c.args.from.now = search rules in
-    subst (λ old. Scan g.S.Source.to_come c.args.format.now c.args.limit t old c.run.new.from c.run.result) stood
+    subst (λ old. Scan g.S.Source.to_come c.args.format.now c.args.limit t old c.run.new.from c.run.result.report) stood
     (c.run.ensures.scan c.args.format.now c.args.limit t c.in_ok-over.ensures.after (ap (input_of g.S.Source.to_come) stood ∙ e))
 
 pub returns-2-clause-bounded : goal.returns-2-clause-bounded

@@ -25,4 +25,4 @@ returns-clause-told g c ds m after =
 pub returns-clause-bounded : goal.returns-clause-bounded
 returns-clause-bounded g c ds m after sum =
     let fine : ran_out (standing c.end.new.self) ≡ false = c.end.ensures.memory ∙ c.feed.ensures.bounded _ _ [] sum after in
-    told_within _ _ _ End c.in-Ok.scanned (returns-clause-told g c ds m after) (c.in-Ok.ensures.memory ∙ fine)
+    told_within _ _ _ End c.in-Ok.scanned.report (returns-clause-told g c ds m after) (c.in-Ok.ensures.memory ∙ fine)

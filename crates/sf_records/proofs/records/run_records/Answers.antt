@@ -52,7 +52,7 @@ pub returns-in-Some-judge-2-clause-loops : goal.returns-in-Some-judge-2-clause-l
 returns-in-Some-judge-2-clause-loops g c t e =
     let going = same_ahead g.S.Source.failures (c.in_default-fscan_held.ensures.none refl) (c.loop-records.invariant.going t e) in
     let judged = c.in-Some-judge-2.ensures.judged in
-    ends_at told.one_report c.requires.proper going c.in-Ok-fscan_over.scanned (c.in-Ok-fscan_over.ensures.scan going.left going.input) c.in-Ok-fscan_over.ensures.stays c.in-Ok-fscan_over.ensures.failures c.loop-records-test.true c.in-Some-judge-2.end _
+    ends_at told.one_report c.requires.proper going c.in-Ok-fscan_over.scanned.report (c.in-Ok-fscan_over.ensures.scan going.left going.input) c.in-Ok-fscan_over.ensures.stays c.in-Ok-fscan_over.ensures.failures c.loop-records-test.true c.in-Some-judge-2.end _
     (rw (← c.report.ensures, ← c.loop-records.invariant.same) judged)
 
 pub loop-records-preserved : goal.loop-records-preserved
@@ -60,7 +60,7 @@ loop-records-preserved g c = record {
   going = λ t e.
       let going = same_ahead g.S.Source.failures (c.in_default-fscan_held.ensures.none refl) (c.loop-records.invariant.going t e) in
       let judged = c.in_default-judge-2.ensures.judged in
-      next told.one_report c.requires.proper going c.in-Ok-fscan_over.scanned (c.in-Ok-fscan_over.ensures.scan going.left going.input) c.in-Ok-fscan_over.ensures.stays c.in-Ok-fscan_over.ensures.failures _
+      next told.one_report c.requires.proper going c.in-Ok-fscan_over.scanned.report (c.in-Ok-fscan_over.ensures.scan going.left going.input) c.in-Ok-fscan_over.ensures.stays c.in-Ok-fscan_over.ensures.failures _
       (rw (← c.report.ensures, ← c.loop-records.invariant.same) judged.0) (rw (← c.report.ensures, ← c.loop-records.invariant.same) judged.1);
   same = c.in_default-judge-2.ensures.same ∙ c.loop-records.invariant.same;
   sound = c.in_default-judge-2.ensures.failures ∙ c.loop-records.invariant.sound;

@@ -14,7 +14,7 @@ use Rattle.sf_pair.proofs.pair.Pair.read.Goals as goal
 
 pub returns-clause-told : goal.returns-clause-told
 returns-clause-told g c =
-    subst (λ (ds : List Directive). IfOk c.fscan.result (λ s. (x : List ℕ) × (ending : Ending) × RunTold ds c.args.limit x ending s))
+    subst (λ (ds : List Directive). IfOk c.fscan.result (λ s. (x : List ℕ) × (ending : Ending) × RunTold ds c.args.limit x ending s.report))
     (same_scan c.self.inside.print.now c.self.inside.scan.now c.args.self.now c.self.view_is) c.fscan.ensures.told
 
 pub returns-clause-stored : goal.returns-clause-stored
@@ -22,7 +22,7 @@ returns-clause-stored g c = c.fscan.ensures.bounded (aligned_is_bounded c.self.i
 
 pub returns-clause-held : goal.returns-clause-held
 returns-clause-held g c =
-    subst (λ (ds : List Directive). IfOk c.fscan.result (λ s. (n : ℕ) → width_sum ds ≡ Some n → length (texts_in s.values) ≤ n))
+    subst (λ (ds : List Directive). IfOk c.fscan.result (λ s. (n : ℕ) → width_sum ds ≡ Some n → length (texts_in s.report.values) ≤ n))
     (same_scan c.self.inside.print.now c.self.inside.scan.now c.args.self.now c.self.view_is) (told_held c.fscan.result c.self.inside.scan.now c.args.limit c.fscan.ensures.told)
 
 pub returns-clause-back : goal.returns-clause-back
@@ -31,6 +31,6 @@ returns-clause-back g c = λ values fit z input fits.
     let ds = c.self.inside.scan.now in
     let f = c.args.self.now in
     both_ok c.fscan.result
-    (subst (λ (ds : List Directive). IfOk c.fscan.result (Scan g.S.Source.to_come ds c.args.limit (printed f.print values ++ z) c.args.from.now c.fscan.new.from)) (same_scan us ds f c.self.view_is) (c.fscan.ensures.scan _ input))
+    (subst (λ (ds : List Directive). IfOk c.fscan.result (λ s. Scan g.S.Source.to_come ds c.args.limit (printed f.print values ++ z) c.args.from.now c.fscan.new.from s.report)) (same_scan us ds f c.self.view_is) (c.fscan.ensures.scan _ input))
     (c.fscan.ensures.bounded (aligned_is_bounded c.self.inside.print.now c.self.inside.scan.now c.self.invariant.scanned (aligned_of c.self.inside.print.now c.self.inside.scan.now c.self.invariant)))
-    (λ report scan stored. reads_whole c.laws_below.ensures g.S.Source.to_come f.print f.scan (checked_of us ds f c.self.view_is c.self.invariant) values fit c.args.limit fits z c.args.from.now c.fscan.new.from report scan stored)
+    (λ s scan stored. reads_whole c.laws_below.ensures g.S.Source.to_come f.print f.scan (checked_of us ds f c.self.view_is c.self.invariant) values fit c.args.limit fits z c.args.from.now c.fscan.new.from s.report scan stored)

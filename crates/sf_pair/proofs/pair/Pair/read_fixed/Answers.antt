@@ -14,7 +14,7 @@ use Rattle.sf_pair.proofs.pair.Pair.read_fixed.Goals as goal
 
 pub returns-clause-told : goal.returns-clause-told
 returns-clause-told g c =
-    subst (λ (ds : List Directive). IfOk c.fscan_fixed.result (λ s. (x : List ℕ) × (ending : Ending) × RunTold ds c.args.limit x ending s))
+    subst (λ (ds : List Directive). IfOk c.fscan_fixed.result (λ s. (x : List ℕ) × (ending : Ending) × RunTold ds c.args.limit x ending s.report))
     (same_scan c.self.inside.print.now c.self.inside.scan.now c.args.self.now c.self.view_is) c.fscan_fixed.ensures.told
 
 pub returns-clause-bounded : goal.returns-clause-bounded
@@ -24,7 +24,7 @@ returns-clause-bounded g c =
 
 pub returns-clause-held : goal.returns-clause-held
 returns-clause-held g c =
-    subst (λ (ds : List Directive). IfOk c.fscan_fixed.result (λ s. (n : ℕ) → width_sum ds ≡ Some n → length (texts_in s.values) ≤ n))
+    subst (λ (ds : List Directive). IfOk c.fscan_fixed.result (λ s. (n : ℕ) → width_sum ds ≡ Some n → length (texts_in s.report.values) ≤ n))
     (same_scan c.self.inside.print.now c.self.inside.scan.now c.args.self.now c.self.view_is) (told_held c.fscan_fixed.result c.self.inside.scan.now c.args.limit c.fscan_fixed.ensures.told)
 
 pub returns-clause-back : goal.returns-clause-back
@@ -33,6 +33,6 @@ returns-clause-back g c = λ values fit z input fits.
     let ds = c.self.inside.scan.now in
     let f = c.args.self.now in
     both_ok c.fscan_fixed.result
-    (subst (λ (ds : List Directive). IfOk c.fscan_fixed.result (Scan g.S.Source.to_come ds c.args.limit (printed f.print values ++ z) c.args.from.now c.fscan_fixed.new.from)) (same_scan us ds f c.self.view_is) (c.fscan_fixed.ensures.scan _ input))
+    (subst (λ (ds : List Directive). IfOk c.fscan_fixed.result (λ s. Scan g.S.Source.to_come ds c.args.limit (printed f.print values ++ z) c.args.from.now c.fscan_fixed.new.from s.report)) (same_scan us ds f c.self.view_is) (c.fscan_fixed.ensures.scan _ input))
     c.fscan_fixed.ensures.bounded
-    (λ report scan stored. reads_whole c.laws_below.ensures g.S.Source.to_come f.print f.scan (checked_of us ds f c.self.view_is c.self.invariant) values fit c.args.limit fits z c.args.from.now c.fscan_fixed.new.from report scan stored)
+    (λ s scan stored. reads_whole c.laws_below.ensures g.S.Source.to_come f.print f.scan (checked_of us ds f c.self.view_is c.self.invariant) values fit c.args.limit fits z c.args.from.now c.fscan_fixed.new.from s.report scan stored)
