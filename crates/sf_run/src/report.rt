@@ -1,11 +1,11 @@
 //! What a run came to, with its values.
 ghost use Rattle.std.specs.Prelude.{◌≡◌};
 ghost use Rattle.std.specs.Option.{option_map};
-ghost use Rattle.sf_base.specs.Data.{datum_of, datum_at};
+ghost use Rattle.sf_base.specs.Data.{datum_of, datum_of_shown, datum_at};
 ghost use Rattle.sf_run.specs.Runs.{c_return};
 
 use crate::outcome::{Outcome, Status};
-use sf_base::{Store, Value};
+use sf_base::{Shown, Store, Value};
 use std::marker::Model;
 
 /// What a run that has ended came to, with the store of its values.
@@ -48,6 +48,18 @@ impl<S: Store> Scanned<S> {
             outcome: self.outcome,
             store: &self.store,
         }
+    }
+
+    /// What the run came to, but for its values.
+    pub fn outcome(&self) -> Outcome
+        ensures status { result.status ≡ self.now.report.status }
+        ensures at { result.at ≡ self.now.report.at }
+        ensures assigned { result.assigned ≡ self.now.report.assigned }
+        ensures converted { result.converted ≡ self.now.report.converted }
+        ensures used { result.used ≡ self.now.report.used }
+        ensures met { result.met ≡ self.now.report.met }
+    {
+        self.report().outcome()
     }
 
     /// The store, with the values of the run and the bytes of their texts, to be used again.
@@ -106,6 +118,13 @@ impl<'r, S: Store> Report<'r, S> {
         ensures { option_map datum_of result ≡ datum_at slot self.now.values }
     {
         self.store.value(slot)
+    }
+
+    /// What the slot was given, where it was: a number by its kind, sign and magnitude, or a text.
+    pub fn shown(&self, slot: u8) -> Option<Shown<'r>>
+        ensures { option_map datum_of_shown result ≡ datum_at slot self.now.values }
+    {
+        self.store.shown(slot)
     }
 
     /// What fscanf returns (C11 7.21.6.2p16): -1 for an input failure before the first conversion has
