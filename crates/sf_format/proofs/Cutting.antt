@@ -6,6 +6,7 @@ use Rattle.sf_format.specs.Lists.{front, behind, begins, mark_at}
 use Rattle.sf_format.specs.declared.letter.Length.{Length}
 use Rattle.sf_format.specs.declared.letter.Length.TheVariants.{NoLength, HH, H, LL, L, J, Z, T}
 use Rattle.sf_format.specs.Letters.{length_text}
+use Rattle.sf_format.specs.PrintLetters.{is_flag}
 use Rattle.sf_format.specs.Pieces.{Opening, number_text, star_text, opening_text}
 use Rattle.sf_format.specs.Cut.{Cut, number_before, number_at, first_length, length_at, cut_length, cut}
 use Rattle.sf_format.proofs.Outcomes.{by_test, and_left, and_right}
@@ -64,12 +65,25 @@ number_none [] after x h = refl
 number_none (d ∷ ds) [] x h = refl
 number_none (d ∷ ds) (b ∷ after) x h = ap (λ v. pick v (d ∷ ds, after) ([], x)) h
 
--- a byte that no part before a length begins with
+-- a byte that no part before a length begins with, in either language
 pub record IsPlain (b : ℕ) : Type 0 where
   pub decimal : is_decimal b ≡ false
   pub dollar : nat_eq b 36 ≡ false
   pub percent : nat_eq b 37 ≡ false
   pub star : nat_eq b 42 ≡ false
+  pub flag : is_flag b ≡ false
+  pub point : nat_eq b 46 ≡ false
+
+pub plain_byte : (b : ℕ) → is_decimal b ≡ false → nat_eq b 36 ≡ false → nat_eq b 37 ≡ false → nat_eq b 42 ≡ false → is_flag b ≡ false
+    → nat_eq b 46 ≡ false → IsPlain b
+plain_byte b decimal dollar percent star flag point =
+    record { decimal = decimal; dollar = dollar; percent = percent; star = star; flag = flag; point = point }
+
+h_plain : IsPlain 104
+h_plain = plain_byte 104 refl refl refl refl refl refl
+
+l_plain : IsPlain 108
+l_plain = plain_byte 108 refl refl refl refl refl refl
 
 -- a byte that no part before a letter begins with
 pub record IsLast (b : ℕ) : Type 0 where
@@ -160,16 +174,16 @@ length_dropped Z y = refl
 length_dropped T y = refl
 
 -- a length, or the letter, begins with such a byte
-sized_head : (size : Length) (letter : ℕ) (x : List ℕ) → IsLast letter
+pub sized_head : (size : Length) (letter : ℕ) (x : List ℕ) → IsLast letter
     → (b : ℕ) × (y : List ℕ) × (length_text size ++ letter ∷ x ≡ b ∷ y) × IsPlain b
 sized_head NoLength letter x last = (letter, x, refl, last.plain)
-sized_head HH letter x last = (104, 104 ∷ letter ∷ x, refl, record { decimal = refl; dollar = refl; percent = refl; star = refl })
-sized_head H letter x last = (104, letter ∷ x, refl, record { decimal = refl; dollar = refl; percent = refl; star = refl })
-sized_head LL letter x last = (108, 108 ∷ letter ∷ x, refl, record { decimal = refl; dollar = refl; percent = refl; star = refl })
-sized_head L letter x last = (108, letter ∷ x, refl, record { decimal = refl; dollar = refl; percent = refl; star = refl })
-sized_head J letter x last = (106, letter ∷ x, refl, record { decimal = refl; dollar = refl; percent = refl; star = refl })
-sized_head Z letter x last = (122, letter ∷ x, refl, record { decimal = refl; dollar = refl; percent = refl; star = refl })
-sized_head T letter x last = (116, letter ∷ x, refl, record { decimal = refl; dollar = refl; percent = refl; star = refl })
+sized_head HH letter x last = (104, 104 ∷ letter ∷ x, refl, h_plain)
+sized_head H letter x last = (104, letter ∷ x, refl, h_plain)
+sized_head LL letter x last = (108, 108 ∷ letter ∷ x, refl, l_plain)
+sized_head L letter x last = (108, letter ∷ x, refl, l_plain)
+sized_head J letter x last = (106, letter ∷ x, refl, plain_byte 106 refl refl refl refl refl refl)
+sized_head Z letter x last = (122, letter ∷ x, refl, plain_byte 122 refl refl refl refl refl refl)
+sized_head T letter x last = (116, letter ∷ x, refl, plain_byte 116 refl refl refl refl refl refl)
 
 -- ---- the whole cut
 

@@ -2,7 +2,6 @@
 use Rattle.std.proofs.Common.{◌≡◌, ◌≢◌, ℕ, zero, suc, ◌+◌, ◌<◌, Bool, true, false, cond, List, [], ◌∷◌, length, get_or, Option, Some, None, refl, sym, ap, ◌∙◌, subst, arith}
 use Rattle.std.proofs.lemmas.List.{ext_get_or}
 use Rattle.std.specs.Prelude.{IsSome}
-use Rattle.std.specs.List.{AllByRecursion}
 use Rattle.sf_base.specs.declared.values.Kind.{Kind}
 use Rattle.sf_format.specs.declared.directive.Profile.{Profile}
 use Rattle.sf_format.specs.declared.directive.Profile.TheVariants.{One, Two}
@@ -21,7 +20,7 @@ use Rattle.sf_format.specs.Language.{Scan}
 use Rattle.sf_format.specs.Digits.{optional_number}
 use Rattle.sf_format.specs.Passing.{slot_in, slot_at}
 use Rattle.sf_format.proofs.WholeMeanings.{IsMeaning}
-use Rattle.sf_format.proofs.Suits.{found}
+use Rattle.sf_format.proofs.Suits.{ForRows, found}
 
 -- ---- sets
 
@@ -108,12 +107,12 @@ NoOtherSet b letter = IsSetLetter letter → b ≡ 91
 set_letter : (profile : Profile) (b : ℕ) → letter_of profile b ≡ Some Set → b ≡ 91
 set_letter profile b e = found NoOtherSet (letters profile) each b Set e tt
   where
-    added : (p : Profile) → AllByRecursion (λ entry. NoOtherSet entry.0 entry.1) (added_letters p)
+    added : (p : Profile) → ForRows NoOtherSet (added_letters p)
     added One = tt
-    added Two = (λ h. absurd h, tt)
+    added Two = ((λ h. absurd h, tt), tt)
 
-    each : AllByRecursion (λ entry. NoOtherSet entry.0 entry.1) (letters profile)
-    each = (λ h. absurd h, (λ h. absurd h, (λ h. absurd h, (λ h. absurd h, (λ h. absurd h, (λ h. absurd h, (λ h. absurd h, (λ h. absurd h, (λ h. refl, (λ h. absurd h, added profile))))))))))
+    each : ForRows NoOtherSet (letters profile)
+    each = ((λ h. absurd h, tt), ((λ h. absurd h, tt), ((λ h. absurd h, tt), ((λ h. absurd h, tt), ((λ h. absurd h, (λ h. absurd h, tt)), ((λ h. absurd h, tt), ((λ h. refl, tt), ((λ h. absurd h, tt), ((λ h. absurd h, tt), added profile)))))))))
 
 some_kind : (o : Option Kind) → IsSome o → (kind : Kind) × (o ≡ Some kind)
 some_kind None h = absurd (cc)

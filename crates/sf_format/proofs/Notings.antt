@@ -11,12 +11,12 @@ use Rattle.sf_format.specs.declared.fault.FormatWhy.{FormatWhy}
 use Rattle.sf_format.specs.declared.fault.FormatWhy.TheVariants.{NumberTwice, NumberGap}
 use Rattle.sf_format.specs.declared.noted.Noted.{Noted}
 use Rattle.sf_format.specs.declared.slots.Slots.{Slots}
-use Rattle.sf_format.specs.Lists.{is_written}
+use Rattle.sf_format.specs.Lists.{is_any_of, is_written}
 use Rattle.sf_format.specs.Pieces.{Opening, Piece, WhiteSpace, Ordinary, Percents, Plain, Bracket, Printed, piece_text, text_of}
 use Rattle.sf_format.specs.Cut.{part_at}
 use Rattle.sf_format.specs.Digits.{optional_number}
 use Rattle.sf_format.specs.Grammar.{destinations, value_opening}
-use Rattle.sf_format.specs.Rules.{Rule, first_of, is_any_of}
+use Rattle.sf_format.specs.Rules.{Rule, first_of}
 use Rattle.sf_format.specs.Faults.{numbered, repeated, beyond, number_rules}
 use Rattle.sf_format.specs.Reading.{read}
 use Rattle.sf_format.specs.Passing.{with_place, slot_at, first_place, told, Notes, Holds, Walked}

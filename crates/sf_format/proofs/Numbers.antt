@@ -4,11 +4,11 @@ use Rattle.std.proofs.lemmas.List.{map-append}
 use Rattle.std.proofs.lemmas.Bool.Decides.{nat_tests}
 use Rattle.std.specs.List.{AllByRecursion, list_all}
 use Rattle.sf_base.specs.Bytes.{magnitude}
-use Rattle.sf_format.specs.Lists.{is_written}
+use Rattle.sf_format.specs.Lists.{is_any_of, is_written}
 use Rattle.sf_format.specs.Pieces.{Opening, Piece, piece_text}
 use Rattle.sf_format.specs.Slots.{AreDistinct}
 use Rattle.sf_format.specs.Grammar.{destinations, ArePlaced, AreAlike, AreNumbered}
-use Rattle.sf_format.specs.Rules.{Rule, is_any_of, first_of}
+use Rattle.sf_format.specs.Rules.{Rule, first_of}
 use Rattle.sf_format.specs.Faults.{numbered, repeated, beyond, number_rules}
 use Rattle.sf_format.proofs.Outcomes.{by_test, and_left, or_left, or_right}
 use Rattle.sf_format.proofs.Rules.{Quiet, quiet_is, quiet_from, all_append, all_front, all_back}

@@ -1,7 +1,6 @@
 -- What follows a part that no rule refuses.
 use Rattle.std.proofs.Common.{◌≡◌, ℕ, suc, ◌+◌, ◌-◌, ◌<◌, ◌≤◌, Bool, true, false, cond, not, ◌&&◌, ◌||◌, nat_eq, nat_lt, List, [], ◌∷◌, ◌++◌, length, get_or, take, drop, Some, None, Result, Ok, Err, refl, sym, ap, ◌∙◌, subst, arith}
 use Rattle.std.proofs.lemmas.Bool.Decides.{nat_tests}
-use Rattle.std.specs.List.{AllByRecursion}
 use Rattle.sf_base.specs.Bytes.{magnitude}
 use Rattle.sf_format.specs.declared.directive.Profile.{Profile}
 use Rattle.sf_format.specs.declared.directive.Profile.TheVariants.{One, Two}
@@ -25,7 +24,7 @@ use Rattle.sf_format.specs.Language.{Language}
 use Rattle.sf_format.specs.Language.{Scan}
 use Rattle.sf_format.proofs.Outcomes.{by_test}
 use Rattle.sf_format.proofs.Rules.{quiet_is}
-use Rattle.sf_format.proofs.Suits.{found}
+use Rattle.sf_format.proofs.Suits.{ForRows, found}
 
 pub first_left : (a b : List Rule) (f : FormatWhy × ℕ) → first_of a ≡ Some f → first_of (a ++ b) ≡ Some f
 first_left [] b f e = absurd (cc)
@@ -77,11 +76,14 @@ abbrev IsBracket : ℕ → Letter → Type 0
 IsBracket b letter = is_set letter ≡ nat_eq b 91
 
 set_is : (profile : Profile) (b : ℕ) (letter : Letter) → letter_of profile b ≡ Some letter → is_set letter ≡ nat_eq b 91
-set_is profile b letter e = found IsBracket (letters profile) (refl, (refl, (refl, (refl, (refl, (refl, (refl, (refl, (refl, (refl, added profile)))))))))) b letter e
+set_is profile b letter e = found IsBracket (letters profile) each b letter e
   where
-    added : (p : Profile) → AllByRecursion (λ entry. IsBracket entry.0 entry.1) (added_letters p)
+    added : (p : Profile) → ForRows IsBracket (added_letters p)
     added One = tt
-    added Two = (refl, tt)
+    added Two = ((refl, tt), tt)
+
+    each : ForRows IsBracket (letters profile)
+    each = ((refl, tt), ((refl, tt), ((refl, tt), ((refl, tt), ((refl, (refl, tt)), ((refl, tt), ((refl, tt), ((refl, tt), ((refl, tt), added profile)))))))))
 
 only_set : (letter : Letter) → is_set letter ≡ true → letter ≡ Set
 only_set (Signed base) e = absurd (cc)

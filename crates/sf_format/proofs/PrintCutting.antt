@@ -6,7 +6,6 @@ use Rattle.std.specs.List.{AllByRecursion}
 use Rattle.sf_format.specs.Digits.{is_decimal}
 use Rattle.sf_format.specs.Lists.{front, behind, begins, mark_at}
 use Rattle.sf_format.specs.declared.letter.Length.{Length}
-use Rattle.sf_format.specs.declared.letter.Length.TheVariants.{NoLength, HH, H, LL, L, J, Z, T}
 use Rattle.sf_format.specs.Letters.{length_text}
 use Rattle.sf_format.specs.PrintLetters.{is_flag}
 use Rattle.sf_format.specs.Pieces.{PrintOpening, number_text, precision_text, print_opening_text}
@@ -14,44 +13,7 @@ use Rattle.sf_format.specs.PrintGrammar.{StartsAboveZero}
 use Rattle.sf_format.specs.Cut.{PrintCut, number_at, precision_behind, precision_at, print_cut_length, print_cut}
 use Rattle.sf_format.proofs.Outcomes.{by_test}
 use Rattle.sf_format.proofs.Prefixes.{Stops, AllPass, front_behind, front_passes, front_of, behind_of, behind_stops}
-use Rattle.sf_format.proofs.Cutting.{IsLast, mark_none, mark_text, mark_joined, number_whole, number_passing, number_absent, number_written, length_whole, length_of, length_dropped}
-
--- a byte that no part before a length begins with
-pub record IsPrintPlain (b : ℕ) : Type 0 where
-  pub decimal : is_decimal b ≡ false
-  pub dollar : nat_eq b 36 ≡ false
-  pub percent : nat_eq b 37 ≡ false
-  pub flag : is_flag b ≡ false
-  pub point : nat_eq b 46 ≡ false
-
--- a byte that no part before a letter begins with
-pub record IsPrintLast (b : ℕ) : Type 0 where
-  pub last : IsLast b
-  pub flag : is_flag b ≡ false
-  pub point : nat_eq b 46 ≡ false
-
--- a length, or the letter, begins with such a byte
-sized_start : (size : Length) (letter : ℕ) (x : List ℕ) → IsPrintLast letter
-    → (b : ℕ) × (y : List ℕ) × (length_text size ++ letter ∷ x ≡ b ∷ y) × IsPrintPlain b
-sized_start NoLength letter x last = (
-  letter,
-  x,
-  refl,
-  record {
-    decimal = last.last.plain.decimal;
-    dollar = last.last.plain.dollar;
-    percent = last.last.plain.percent;
-    flag = last.flag;
-    point = last.point;
-  },
-)
-sized_start HH letter x last = (104, 104 ∷ letter ∷ x, refl, record { decimal = refl; dollar = refl; percent = refl; flag = refl; point = refl })
-sized_start H letter x last = (104, letter ∷ x, refl, record { decimal = refl; dollar = refl; percent = refl; flag = refl; point = refl })
-sized_start LL letter x last = (108, 108 ∷ letter ∷ x, refl, record { decimal = refl; dollar = refl; percent = refl; flag = refl; point = refl })
-sized_start L letter x last = (108, letter ∷ x, refl, record { decimal = refl; dollar = refl; percent = refl; flag = refl; point = refl })
-sized_start J letter x last = (106, letter ∷ x, refl, record { decimal = refl; dollar = refl; percent = refl; flag = refl; point = refl })
-sized_start Z letter x last = (122, letter ∷ x, refl, record { decimal = refl; dollar = refl; percent = refl; flag = refl; point = refl })
-sized_start T letter x last = (116, letter ∷ x, refl, record { decimal = refl; dollar = refl; percent = refl; flag = refl; point = refl })
+use Rattle.sf_format.proofs.Cutting.{IsPlain, IsLast, sized_head, mark_none, mark_text, mark_joined, number_whole, number_passing, number_absent, number_written, length_whole, length_of, length_dropped}
 
 -- ---- digits and flags
 
@@ -134,7 +96,7 @@ precision_is (Some ds) b y digits other point =
     ∙ ap (λ f. (Some ds, f)) (behind_of is_decimal ds (b ∷ y) digits other)
 
 -- what begins with the precision, or behind it, begins with neither digit nor $ nor flag
-precision_start : (precision : Option (List ℕ)) (b : ℕ) (y : List ℕ) → IsPrintPlain b
+precision_start : (precision : Option (List ℕ)) (b : ℕ) (y : List ℕ) → IsPlain b
     → (c : ℕ) × (z : List ℕ) × (precision_text precision ++ b ∷ y ≡ c ∷ z) × (is_decimal c ≡ false) × (nat_eq c 36 ≡ false) × (is_flag c ≡ false)
     × (nat_eq c 37 ≡ false)
 precision_start None b y plain = (b, y, refl, plain.decimal, plain.dollar, plain.flag, plain.percent)
@@ -155,7 +117,7 @@ cut_wide number flags = cut_precision number flags.0 (front is_decimal flags.1, 
 abbrev cut_number : List ℕ × List ℕ → PrintCut
 cut_number number = cut_wide number.0 (front is_flag number.1, behind is_flag number.1)
 
-cut_parts : (o : PrintOpening) (b : ℕ) (y : List ℕ) → HasPrintDigits o → IsPrintPlain b
+cut_parts : (o : PrintOpening) (b : ℕ) (y : List ℕ) → HasPrintDigits o → IsPlain b
     → print_cut (number_text o.number ++ (o.flags ++ (o.width ++ (precision_text o.precision ++ b ∷ y))))
     ≡ print_cut_length o.number o.flags o.width (o.precision, b ∷ y)
 cut_parts o b y digits plain =
@@ -173,7 +135,7 @@ cut_parts o b y digits plain =
     ∙ ap (λ t. print_cut_length o.number o.flags o.width (precision_at t)) (sym s.2)
     ∙ ap (print_cut_length o.number o.flags o.width) (precision_is o.precision b y digits.4 plain.decimal plain.point)
 
-cut_size : (o : PrintOpening) (letter : ℕ) (x : List ℕ) → IsPrintLast letter
+cut_size : (o : PrintOpening) (letter : ℕ) (x : List ℕ) → IsLast letter
     → print_cut_length o.number o.flags o.width (o.precision, length_text o.size ++ letter ∷ x) ≡ record { opening = o; rest = letter ∷ x }
 cut_size o letter x last =
     let y = length_text o.size ++ letter ∷ x in
@@ -182,12 +144,12 @@ cut_size o letter x last =
       rest = drop (length (length_text size)) y;
     } in
     let with_rest : List ℕ → PrintCut = λ rest. record { opening = o; rest = rest } in
-    ap at (length_of o.size letter x last.last) ∙ ap with_rest (length_dropped o.size (letter ∷ x))
+    ap at (length_of o.size letter x last) ∙ ap with_rest (length_dropped o.size (letter ∷ x))
 
-pub print_cut_of : (o : PrintOpening) (letter : ℕ) (x : List ℕ) → HasPrintDigits o → IsPrintLast letter
+pub print_cut_of : (o : PrintOpening) (letter : ℕ) (x : List ℕ) → HasPrintDigits o → IsLast letter
     → print_cut (print_inside o (letter ∷ x)) ≡ record { opening = o; rest = letter ∷ x }
 print_cut_of o letter x digits last =
-    let h = sized_start o.size letter x last in
+    let h = sized_head o.size letter x last in
     ap (λ t. print_cut (number_text o.number ++ (o.flags ++ (o.width ++ (precision_text o.precision ++ t))))) h.2
     ∙ cut_parts o h.0 h.1 digits h.3
     ∙ ap (λ t. print_cut_length o.number o.flags o.width (o.precision, t)) (sym h.2)
@@ -242,10 +204,10 @@ print_cut_digits x =
     )
 
 -- what stands behind the % of a specification is no %
-pub no_print_percent : (o : PrintOpening) (letter : ℕ) (x : List ℕ) → HasPrintDigits o → IsPrintLast letter
+pub no_print_percent : (o : PrintOpening) (letter : ℕ) (x : List ℕ) → HasPrintDigits o → IsLast letter
     → begins (37 ∷ []) (print_inside o (letter ∷ x)) ≡ false
 no_print_percent o letter x digits last =
-    let h = sized_start o.size letter x last in
+    let h = sized_head o.size letter x last in
     let s = precision_start o.precision h.0 h.1 h.3 in
     ap (λ t. begins (37 ∷ []) (number_text o.number ++ (o.flags ++ (o.width ++ (precision_text o.precision ++ t))))) h.2
     ∙ ap (λ t. begins (37 ∷ []) (number_text o.number ++ (o.flags ++ (o.width ++ t)))) s.2

@@ -16,8 +16,8 @@ use Rattle.sf_format.specs.PrintRules.{print_opening_rules, print_letter_rules, 
 use Rattle.sf_format.specs.Faults.{percent_rules, part_rules}
 use Rattle.sf_format.proofs.Outcomes.{by_test}
 use Rattle.sf_format.proofs.Rules.{Quiet, all_append, all_front, all_back}
-use Rattle.sf_format.proofs.Cutting.{begins_joined}
-use Rattle.sf_format.proofs.PrintCutting.{IsPrintLast, HasPrintDigits, print_inside, print_cut_of, print_cut_joined, print_cut_digits, no_print_percent, print_opening_regroup}
+use Rattle.sf_format.proofs.Cutting.{IsLast, begins_joined}
+use Rattle.sf_format.proofs.PrintCutting.{HasPrintDigits, print_inside, print_cut_of, print_cut_joined, print_cut_digits, no_print_percent, print_opening_regroup}
 use Rattle.sf_format.proofs.Scanlists.{other_byte, byte_differs}
 use Rattle.sf_format.proofs.PrintSuits.{print_letter_is, suits_print_from, print_opening_quiet, print_letter_quiet, flags_quiet, suits_print_digits}
 use Rattle.sf_format.proofs.Destinations.{assigned_alike, slot_quiet}
@@ -109,7 +109,7 @@ abbrev cut_rules : Profile → List Opening → ℕ → Bool → PrintCut → Li
 cut_rules profile earlier p v c = byte_rules 37 p (not v) (by_cut profile earlier p c)
 
 specification_quiet : (profile : Profile) (earlier : List Opening) (p : ℕ) (o : PrintOpening) (letter : ℕ) (y : List ℕ) → HasPrintDigits o
-    → IsPrintLast letter → Quiet (print_opening_rules p o) → ((q : ℕ) → Quiet (print_rest_rules profile earlier p o q (letter ∷ y)))
+    → IsLast letter → Quiet (print_opening_rules p o) → ((q : ℕ) → Quiet (print_rest_rules profile earlier p o q (letter ∷ y)))
     → Quiet (part_rules (Print profile) earlier p (37 ∷ print_inside o (letter ∷ y)))
 specification_quiet profile earlier p o letter y digits last opening rest =
     let x = print_inside o (letter ∷ y) in

@@ -1,5 +1,5 @@
 -- An opening and a letter of a print format that no rule refuses suit each other.
-use Rattle.std.proofs.Common.{◌≡◌, ◌≢◌, ℕ, zero, suc, ◌+◌, ◌^◌, ◌<◌, Bool, true, false, cond, not, ◌&&◌, nat_eq, nat_lt, List, [], ◌∷◌, length, Option, Some, None, is_some, is_none, refl, ap, ◌∙◌, arith}
+use Rattle.std.proofs.Common.{◌≡◌, ◌≢◌, ℕ, zero, suc, ◌+◌, ◌^◌, ◌<◌, Bool, true, false, cond, not, ◌&&◌, nat_eq, nat_lt, List, [], ◌∷◌, length, Option, Some, None, is_some, is_none, find, refl, ap, ◌∙◌, subst, arith}
 use Rattle.std.specs.Prelude.{IsSome, IfSome}
 use Rattle.std.specs.Char.{digit_value}
 use Rattle.std.specs.List.{AllByRecursion}
@@ -13,9 +13,9 @@ use Rattle.sf_format.specs.declared.directive.Profile.TheVariants as profile
 use Rattle.sf_format.specs.declared.unit.PrintLetter.{PrintLetter}
 use Rattle.sf_format.specs.declared.unit.PrintLetter.TheVariants.{Signed, Unsigned, Octal, HexLower, HexUpper, Binary, Text, One}
 use Rattle.sf_format.specs.Digits.{is_decimal}
-use Rattle.sf_format.specs.Lists.{is_written}
+use Rattle.sf_format.specs.Lists.{is_any_of, is_written}
 use Rattle.sf_format.specs.Letters.{text_kind}
-use Rattle.sf_format.specs.PrintLetters.{added_print_letters, print_letters, print_letter_of, print_kind_of}
+use Rattle.sf_format.specs.PrintLetters.{print_row, added_print_letters, print_letters, print_letter_of, print_kind_of}
 use Rattle.sf_format.specs.Units.{has_flag, HasPrecision}
 use Rattle.sf_format.specs.Pieces.{PrintOpening}
 use Rattle.sf_format.specs.PrintGrammar.{IsPrecision, StartsAboveZero, SuitsPrint}
@@ -24,62 +24,49 @@ use Rattle.sf_format.specs.PrintRules.{flags_place, precision_number, foreign_fl
 use Rattle.sf_format.proofs.Outcomes.{by_test, not_false}
 use Rattle.sf_format.proofs.Prefixes.{AllPass}
 use Rattle.sf_format.proofs.Rules.{Quiet, quiet_is}
-use Rattle.sf_format.proofs.Suits.{found, last_byte, text_allowed, text_quiet, slot_from, slot_test, number_from, number_high, number_digits, within, not_above}
-use Rattle.sf_format.proofs.PrintCutting.{IsPrintLast, HasPrintDigits}
+use Rattle.sf_format.proofs.Suits.{any_of, last_byte, text_allowed, text_quiet, slot_from, slot_test, number_from, number_high, number_digits, within, not_above}
+use Rattle.sf_format.proofs.Cutting.{IsLast}
+use Rattle.sf_format.proofs.PrintCutting.{HasPrintDigits}
 
 -- ---- letters
 
 -- what is known of a letter's byte
 pub record IsPrintLetterOf (p : Profile) (b : ℕ) (letter : PrintLetter) : Type 0 where
-  pub last : IsPrintLast b
+  pub last : IsLast b
   pub allowed : (o : PrintOpening) (q : ℕ) → Quiet (print_letter_rules p o b q) → IsSome (print_kind_of letter o.size)
   pub quiet : (o : PrintOpening) (q : ℕ) → IsSome (print_kind_of letter o.size) → Quiet (print_letter_rules p o b q)
 
 abbrev five_quiet : (false ≡ false) × ((false ≡ false) × ((false ≡ false) × ((false ≡ false) × ((false ≡ false) × Unit {0}))))
 five_quiet = (refl, (refl, (refl, (refl, (refl, tt)))))
 
-each_added : (p : Profile) → AllByRecursion (λ entry. IsPrintLetterOf p entry.0 entry.1) (added_print_letters p)
-each_added profile.One = tt
-each_added profile.Two = (
-  record { last = record { last = last_byte 98 refl refl refl refl refl refl refl refl refl; flag = refl; point = refl }; allowed = λ o q h. refl; quiet = λ o q s. five_quiet },
-  tt,
-)
+-- a fact for each byte of each letter
+abbrev pub ForLetters : (ℕ → PrintLetter → Type 0) → List PrintLetter → Type 0
+ForLetters P letters = AllByRecursion (λ l. AllByRecursion (λ b. P b l) (print_row l).bytes) letters
 
-each_letter : (p : Profile) → AllByRecursion (λ entry. IsPrintLetterOf p entry.0 entry.1) (print_letters p)
-each_letter p = (
-  record { last = record { last = last_byte 100 refl refl refl refl refl refl refl refl refl; flag = refl; point = refl }; allowed = λ o q h. refl; quiet = λ o q s. five_quiet },
-  (
-    record { last = record { last = last_byte 105 refl refl refl refl refl refl refl refl refl; flag = refl; point = refl }; allowed = λ o q h. refl; quiet = λ o q s. five_quiet },
-    (
-      record { last = record { last = last_byte 117 refl refl refl refl refl refl refl refl refl; flag = refl; point = refl }; allowed = λ o q h. refl; quiet = λ o q s. five_quiet },
-      (
-        record { last = record { last = last_byte 111 refl refl refl refl refl refl refl refl refl; flag = refl; point = refl }; allowed = λ o q h. refl; quiet = λ o q s. five_quiet },
-        (
-          record { last = record { last = last_byte 120 refl refl refl refl refl refl refl refl refl; flag = refl; point = refl }; allowed = λ o q h. refl; quiet = λ o q s. five_quiet },
-          (
-            record { last = record { last = last_byte 88 refl refl refl refl refl refl refl refl refl; flag = refl; point = refl }; allowed = λ o q h. refl; quiet = λ o q s. five_quiet },
-            (
-              record { last = record { last = last_byte 115 refl refl refl refl refl refl refl refl refl; flag = refl; point = refl }; allowed = of_text; quiet = quiet_text },
-              (
-                record { last = record { last = last_byte 99 refl refl refl refl refl refl refl refl refl; flag = refl; point = refl }; allowed = of_text; quiet = quiet_text },
-                each_added p,
-              ),
-            ),
-          ),
-        ),
-      ),
-    ),
-  ),
-)
+each_added : (p : Profile) → ForLetters (IsPrintLetterOf p) (added_print_letters p)
+each_added profile.One = tt
+each_added profile.Two = ((record { last = last_byte 98 refl refl refl refl refl refl refl refl refl refl refl; allowed = λ o q h. refl; quiet = λ o q s. five_quiet }, tt), tt)
+
+each_letter : (p : Profile) → ForLetters (IsPrintLetterOf p) (print_letters p)
+each_letter p = ((record { last = last_byte 100 refl refl refl refl refl refl refl refl refl refl refl; allowed = λ o q h. refl; quiet = λ o q s. five_quiet }, (record { last = last_byte 105 refl refl refl refl refl refl refl refl refl refl refl; allowed = λ o q h. refl; quiet = λ o q s. five_quiet }, tt)), ((record { last = last_byte 117 refl refl refl refl refl refl refl refl refl refl refl; allowed = λ o q h. refl; quiet = λ o q s. five_quiet }, tt), ((record { last = last_byte 111 refl refl refl refl refl refl refl refl refl refl refl; allowed = λ o q h. refl; quiet = λ o q s. five_quiet }, tt), ((record { last = last_byte 120 refl refl refl refl refl refl refl refl refl refl refl; allowed = λ o q h. refl; quiet = λ o q s. five_quiet }, tt), ((record { last = last_byte 88 refl refl refl refl refl refl refl refl refl refl refl; allowed = λ o q h. refl; quiet = λ o q s. five_quiet }, tt), ((record { last = last_byte 115 refl refl refl refl refl refl refl refl refl refl refl; allowed = of_text; quiet = quiet_text }, tt), ((record { last = last_byte 99 refl refl refl refl refl refl refl refl refl refl refl; allowed = of_text; quiet = quiet_text }, tt), each_added p)))))))
   where
-    of_text : (o : PrintOpening) (q : ℕ) → Quiet (print_letter_rules p o 99 q) → IsSome (text_kind o.size)
+    of_text : (o : PrintOpening) (q : ℕ) → Quiet (print_letter_rules p o 115 q) → IsSome (text_kind o.size)
     of_text o q h = text_allowed o.size h.1.1.1.1.0
 
-    quiet_text : (o : PrintOpening) (q : ℕ) → IsSome (text_kind o.size) → Quiet (print_letter_rules p o 99 q)
+    quiet_text : (o : PrintOpening) (q : ℕ) → IsSome (text_kind o.size) → Quiet (print_letter_rules p o 115 q)
     quiet_text o q s = let t = text_quiet o.size s in (refl, (refl, (refl, (t.0, (t.1, tt)))))
 
+pub printed : (P : ℕ → PrintLetter → Type 0) (letters : List PrintLetter) → ForLetters P letters → (b : ℕ) (letter : PrintLetter)
+    → find (λ l. is_any_of (print_row l).bytes b) letters ≡ Some letter → P b letter
+printed P [] all b letter e = absurd (cc)
+printed P (l ∷ letters) all b letter e =
+    by_test (is_any_of (print_row l).bytes b)
+    (λ v. cond v (Some l) (find (λ a. is_any_of (print_row a).bytes b) letters) ≡ Some letter → P b letter)
+    (λ t h. let same : l ≡ letter = cc in subst (P b) same (any_of (λ a. P a l) (print_row l).bytes b all.0 t))
+    (λ f h. printed P letters all.1 b letter h) e
+
 pub print_letter_is : (p : Profile) (b : ℕ) (letter : PrintLetter) → print_letter_of p b ≡ Some letter → IsPrintLetterOf p b letter
-print_letter_is p b letter e = found (IsPrintLetterOf p) (print_letters p) (each_letter p) b letter e
+print_letter_is p b letter e = printed (IsPrintLetterOf p) (print_letters p) (each_letter p) b letter e
 
 -- ---- widths
 

@@ -20,6 +20,7 @@ use Rattle.sf_format.specs.Grammar.{Suits, IsScanPiece, IsPiece, IsConversion, s
 use Rattle.sf_format.specs.Profiles.{shape_with, directive_with, base_in_two, base_in_one, in_two, in_one, ShapeHas, DirectiveHas, HaveBases, IsNotBin, IsOfOne, IsNotBinary, UnitIsNotBinary, AreNotBinary}
 use Rattle.sf_format.specs.Laws.{TwoSpellsOne, OneSpellsTwo, OneHasOldBases, TwoPrintsOne, OnePrintsTwo}
 use Rattle.sf_format.proofs.Suits.{found}
+use Rattle.sf_format.proofs.PrintSuits.{printed}
 
 -- ---- letters
 
@@ -38,16 +39,18 @@ LetterHas P _ = Unit {0}
 
 letter_in_two : (b : ℕ) (letter : Letter) → letter_of One b ≡ Some letter → letter_of Two b ≡ Some (letter_with base_in_two letter)
 letter_in_two b letter e =
-    found (λ b letter. letter_of Two b ≡ Some (letter_with base_in_two letter)) (letters One) (refl, (refl, (refl, (refl, (refl, (refl, (refl, (refl, (refl, (refl, tt)))))))))) b letter e
+    found (λ b letter. letter_of Two b ≡ Some (letter_with base_in_two letter)) (letters One)
+    ((refl, tt), ((refl, tt), ((refl, tt), ((refl, tt), ((refl, (refl, tt)), ((refl, tt), ((refl, tt), ((refl, tt), ((refl, tt), tt))))))))) b letter e
 
 letter_in_one : (b : ℕ) (letter : Letter) → letter_of Two b ≡ Some letter → LetterHas IsNotBin letter → letter_of One b ≡ Some (letter_with base_in_one letter)
 letter_in_one b letter e =
     found (λ b letter. LetterHas IsNotBin letter → letter_of One b ≡ Some (letter_with base_in_one letter)) (letters Two)
-    (λ h. refl, (λ h. refl, (λ h. refl, (λ h. refl, (λ h. refl, (λ h. refl, (λ h. refl, (λ h. refl, (λ h. refl, (λ h. refl, (λ h. absurd h, tt))))))))))) b letter e
+    ((λ h. refl, tt), ((λ h. refl, tt), ((λ h. refl, tt), ((λ h. refl, tt), ((λ h. refl, (λ h. refl, tt)), ((λ h. refl, tt), ((λ h. refl, tt), ((λ h. refl, tt), ((λ h. refl, tt), ((λ h. absurd h, tt), tt)))))))))) b letter e
 
 letter_of_one : (b : ℕ) (letter : Letter) → letter_of One b ≡ Some letter → LetterHas IsOfOne letter
 letter_of_one b letter e =
-    found (λ b letter. LetterHas IsOfOne letter) (letters One) (tt, (tt, (tt, (tt, (tt, (tt, (tt, (tt, (tt, (tt, tt)))))))))) b letter e
+    found (λ b letter. LetterHas IsOfOne letter) (letters One)
+    ((tt, tt), ((tt, tt), ((tt, tt), ((tt, tt), ((tt, (tt, tt)), ((tt, tt), ((tt, tt), ((tt, tt), ((tt, tt), tt))))))))) b letter e
 
 -- ---- conversions
 
@@ -213,13 +216,13 @@ one_has_old_bases text ds (pieces, is, e, mean) = mean_old 1 pieces ds mean
 
 print_letter_in_two : (b : ℕ) (letter : PrintLetter) → print_letter_of One b ≡ Some letter → (print_letter_of Two b ≡ Some letter) × IsNotBinary letter
 print_letter_in_two b letter e =
-    found (λ b letter. (print_letter_of Two b ≡ Some letter) × IsNotBinary letter) (print_letters One)
-    ((refl, tt), ((refl, tt), ((refl, tt), ((refl, tt), ((refl, tt), ((refl, tt), ((refl, tt), ((refl, tt), tt)))))))) b letter e
+    printed (λ b letter. (print_letter_of Two b ≡ Some letter) × IsNotBinary letter) (print_letters One)
+    (((refl, tt), ((refl, tt), tt)), (((refl, tt), tt), (((refl, tt), tt), (((refl, tt), tt), (((refl, tt), tt), (((refl, tt), tt), (((refl, tt), tt), tt))))))) b letter e
 
 print_letter_in_one : (b : ℕ) (letter : PrintLetter) → print_letter_of Two b ≡ Some letter → IsNotBinary letter → print_letter_of One b ≡ Some letter
 print_letter_in_one b letter e =
-    found (λ b letter. IsNotBinary letter → print_letter_of One b ≡ Some letter) (print_letters Two)
-    (λ h. refl, (λ h. refl, (λ h. refl, (λ h. refl, (λ h. refl, (λ h. refl, (λ h. refl, (λ h. refl, (λ h. absurd h, tt))))))))) b letter e
+    printed (λ b letter. IsNotBinary letter → print_letter_of One b ≡ Some letter) (print_letters Two)
+    ((λ h. refl, (λ h. refl, tt)), ((λ h. refl, tt), ((λ h. refl, tt), ((λ h. refl, tt), ((λ h. refl, tt), ((λ h. refl, tt), ((λ h. refl, tt), ((λ h. absurd h, tt), tt)))))))) b letter e
 
 print_in_two : (place : ℕ) (pieces : List Piece) (us : List PrintUnit) → AllByRecursion (IsPiece (Print One)) pieces → MeanAll (Prints One) place pieces us
     → AllByRecursion (IsPiece (Print Two)) pieces × MeanAll (Prints Two) place pieces us × AreNotBinary us

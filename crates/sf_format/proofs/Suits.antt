@@ -5,7 +5,8 @@ use Rattle.std.proofs.lemmas.Bool.Decides.{nat_tests}
 use Rattle.std.specs.List.{AllByRecursion}
 use Rattle.sf_base.specs.Bytes.{magnitude}
 use Rattle.sf_format.specs.Digits.{is_decimal, IsOptionalNumber}
-use Rattle.sf_format.specs.Lists.{is_written}
+use Rattle.sf_format.specs.Lists.{is_any_of, is_written}
+use Rattle.sf_format.specs.PrintLetters.{is_flag}
 use Rattle.sf_format.specs.Letters.{added_letters, letters, find_letter, letter_of, kind_of, text_kind}
 use Rattle.sf_format.specs.Pieces.{Opening}
 use Rattle.sf_format.specs.Grammar.{SuitsCount, Suits}
@@ -19,7 +20,7 @@ use Rattle.sf_format.specs.declared.letter.Length.{Length}
 use Rattle.sf_format.specs.declared.letter.Length.TheVariants.{NoLength, HH, H, LL, L, J, Z, T}
 use Rattle.sf_format.proofs.Outcomes.{by_test, or_left, or_right}
 use Rattle.sf_format.proofs.Prefixes.{AllPass}
-use Rattle.sf_format.proofs.Cutting.{IsLast, HasDigits}
+use Rattle.sf_format.proofs.Cutting.{IsLast, plain_byte, HasDigits}
 use Rattle.sf_format.proofs.Rules.{Quiet, quiet_is}
 
 -- ---- letters
@@ -55,63 +56,28 @@ nothing_written [] e = refl
 nothing_written (b ∷ x) e = absurd (cc)
 
 pub last_byte : (b : ℕ) → nat_eq b 104 ≡ false → nat_eq b 106 ≡ false → nat_eq b 108 ≡ false → nat_eq b 116 ≡ false → nat_eq b 122 ≡ false
-    → is_decimal b ≡ false → nat_eq b 36 ≡ false → nat_eq b 37 ≡ false → nat_eq b 42 ≡ false → IsLast b
-last_byte b h j l t z decimal dollar percent star = record {
-  plain = record { decimal = decimal; dollar = dollar; percent = percent; star = star };
-  h = h;
-  j = j;
-  l = l;
-  t = t;
-  z = z;
-}
+    → is_decimal b ≡ false → nat_eq b 36 ≡ false → nat_eq b 37 ≡ false → nat_eq b 42 ≡ false → is_flag b ≡ false → nat_eq b 46 ≡ false → IsLast b
+last_byte b h j l t z decimal dollar percent star flag point =
+    record { plain = plain_byte b decimal dollar percent star flag point; h = h; j = j; l = l; t = t; z = z }
 
 abbrev all_quiet : (false ≡ false) × ((false ≡ false) × ((false ≡ false) × ((false ≡ false) × ((false ≡ false) × ((false ≡ false) × Unit {0})))))
 all_quiet = (refl, (refl, (refl, (refl, (refl, (refl, tt))))))
 
-each_added : (profile : Profile) → AllByRecursion (λ entry. IsLetterOf profile entry.0 entry.1) (added_letters profile)
-each_added One = tt
-each_added Two = (
-  record { last = last_byte 98 refl refl refl refl refl refl refl refl refl; allowed = λ o q h. (refl, tt); quiet = λ o q s c. all_quiet },
-  tt,
-)
+-- a fact for each byte of each row
+abbrev pub ForRows : {L : Type 0} → (ℕ → L → Type 0) → List (List ℕ × L) → Type 0
+ForRows P rows = AllByRecursion (λ row. AllByRecursion (λ b. P b row.1) row.0) rows
 
-pub each_letter : (profile : Profile) → AllByRecursion (λ entry. IsLetterOf profile entry.0 entry.1) (letters profile)
-each_letter profile = (
-  record { last = last_byte 100 refl refl refl refl refl refl refl refl refl; allowed = λ o q h. (refl, tt); quiet = λ o q s c. all_quiet },
-  (
-    record { last = last_byte 105 refl refl refl refl refl refl refl refl refl; allowed = λ o q h. (refl, tt); quiet = λ o q s c. all_quiet },
-    (
-      record { last = last_byte 117 refl refl refl refl refl refl refl refl refl; allowed = λ o q h. (refl, tt); quiet = λ o q s c. all_quiet },
-      (
-        record { last = last_byte 111 refl refl refl refl refl refl refl refl refl; allowed = λ o q h. (refl, tt); quiet = λ o q s c. all_quiet },
-        (
-          record { last = last_byte 120 refl refl refl refl refl refl refl refl refl; allowed = λ o q h. (refl, tt); quiet = λ o q s c. all_quiet },
-          (
-            record { last = last_byte 88 refl refl refl refl refl refl refl refl refl; allowed = λ o q h. (refl, tt); quiet = λ o q s c. all_quiet },
-            (
-              record { last = last_byte 99 refl refl refl refl refl refl refl refl refl; allowed = of_text; quiet = quiet_text },
-              (
-                record { last = last_byte 115 refl refl refl refl refl refl refl refl refl; allowed = of_text; quiet = quiet_text },
-                (
-                  record { last = last_byte 91 refl refl refl refl refl refl refl refl refl; allowed = of_text; quiet = quiet_text },
-                  (
-                    record { last = last_byte 110 refl refl refl refl refl refl refl refl refl; allowed = of_count; quiet = quiet_count },
-                    each_added profile,
-                  ),
-                ),
-              ),
-            ),
-          ),
-        ),
-      ),
-    ),
-  ),
-)
+each_added : (profile : Profile) → ForRows (IsLetterOf profile) (added_letters profile)
+each_added One = tt
+each_added Two = ((record { last = last_byte 98 refl refl refl refl refl refl refl refl refl refl refl; allowed = λ o q h. (refl, tt); quiet = λ o q s c. all_quiet }, tt), tt)
+
+pub each_letter : (profile : Profile) → ForRows (IsLetterOf profile) (letters profile)
+each_letter profile = ((record { last = last_byte 100 refl refl refl refl refl refl refl refl refl refl refl; allowed = λ o q h. (refl, tt); quiet = λ o q s c. all_quiet }, tt), ((record { last = last_byte 105 refl refl refl refl refl refl refl refl refl refl refl; allowed = λ o q h. (refl, tt); quiet = λ o q s c. all_quiet }, tt), ((record { last = last_byte 117 refl refl refl refl refl refl refl refl refl refl refl; allowed = λ o q h. (refl, tt); quiet = λ o q s c. all_quiet }, tt), ((record { last = last_byte 111 refl refl refl refl refl refl refl refl refl refl refl; allowed = λ o q h. (refl, tt); quiet = λ o q s c. all_quiet }, tt), ((record { last = last_byte 120 refl refl refl refl refl refl refl refl refl refl refl; allowed = λ o q h. (refl, tt); quiet = λ o q s c. all_quiet }, (record { last = last_byte 88 refl refl refl refl refl refl refl refl refl refl refl; allowed = λ o q h. (refl, tt); quiet = λ o q s c. all_quiet }, tt)), ((record { last = last_byte 115 refl refl refl refl refl refl refl refl refl refl refl; allowed = of_text; quiet = quiet_text }, tt), ((record { last = last_byte 91 refl refl refl refl refl refl refl refl refl refl refl; allowed = of_text; quiet = quiet_text }, tt), ((record { last = last_byte 99 refl refl refl refl refl refl refl refl refl refl refl; allowed = of_text; quiet = quiet_text }, tt), ((record { last = last_byte 110 refl refl refl refl refl refl refl refl refl refl refl; allowed = of_count; quiet = quiet_count }, tt), each_added profile)))))))))
   where
-    of_text : (o : Opening) (q : ℕ) → Quiet (letter_rules profile o 99 q) → IsSome (text_kind o.size) × Unit {0}
+    of_text : (o : Opening) (q : ℕ) → Quiet (letter_rules profile o 115 q) → IsSome (text_kind o.size) × Unit {0}
     of_text o q h = (text_allowed o.size h.1.1.1.1.0, tt)
 
-    quiet_text : (o : Opening) (q : ℕ) → IsSome (text_kind o.size) → Unit {0} → Quiet (letter_rules profile o 99 q)
+    quiet_text : (o : Opening) (q : ℕ) → IsSome (text_kind o.size) → Unit {0} → Quiet (letter_rules profile o 115 q)
     quiet_text o q s c = let t = text_quiet o.size s in (refl, (refl, (refl, (t.0, (t.1, (refl, tt))))))
 
     of_count : (o : Opening) (q : ℕ) → Quiet (letter_rules profile o 110 q) → IsSome (kind_of Count o.size) × SuitsCount Count o
@@ -124,13 +90,19 @@ each_letter profile = (
 pub same_byte : (a b : ℕ) → nat_eq a b ≡ true → a ≡ b
 same_byte a b e = grind (arith, nat_tests)
 
-pub found : {L : Type 0} (P : ℕ → L → Type 0) (entries : List (ℕ × L)) → AllByRecursion (λ entry. P entry.0 entry.1) entries
-    → (b : ℕ) (letter : L) → find_letter entries b ≡ Some letter → P b letter
+pub any_of : (P : ℕ → Type 0) (bytes : List ℕ) (b : ℕ) → AllByRecursion P bytes → is_any_of bytes b ≡ true → P b
+any_of P [] b all e = absurd (cc)
+any_of P (a ∷ bytes) b all e =
+    by_test (nat_eq a b) (λ v. (v || is_any_of bytes b) ≡ true → P b) (λ same h. subst P (same_byte a b same) all.0)
+    (λ other h. any_of P bytes b all.1 h) e
+
+pub found : {L : Type 0} (P : ℕ → L → Type 0) (rows : List (List ℕ × L)) → ForRows P rows → (b : ℕ) (letter : L) → find_letter rows b ≡ Some letter
+    → P b letter
 found P [] all b letter e = absurd (cc)
-found P (entry ∷ entries) all b letter e =
-    by_test (nat_eq entry.0 b) (λ v. cond v (Some entry.1) (find_letter entries b) ≡ Some letter → P b letter)
-    (λ same h. let l : entry.1 ≡ letter = cc in subst (λ a. P a letter) (same_byte entry.0 b same) (subst (P entry.0) l all.0))
-    (λ other h. found P entries all.1 b letter h) e
+found P (row ∷ rows) all b letter e =
+    by_test (is_any_of row.0 b) (λ v. cond v (Some row.1) (find_letter rows b) ≡ Some letter → P b letter)
+    (λ t h. let same : row.1 ≡ letter = cc in subst (P b) same (any_of (λ a. P a row.1) row.0 b all.0 t))
+    (λ f h. found P rows all.1 b letter h) e
 
 pub letter_is : (profile : Profile) (b : ℕ) (letter : Letter) → letter_of profile b ≡ Some letter → IsLetterOf profile b letter
 letter_is profile b letter e = found (IsLetterOf profile) (letters profile) (each_letter profile) b letter e

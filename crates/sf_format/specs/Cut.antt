@@ -1,5 +1,6 @@
 -- How a text is cut where a part of a format begins.
-use Rattle.std.specs.Prelude.{ℕ, Bool, false, List, [], ◌∷◌, length, drop, nat_eq, if◌then◌else◌, Option, Some, None}
+use Rattle.std.specs.Prelude.{ℕ, Bool, false, List, [], ◌∷◌, length, drop, nat_eq, if◌then◌else◌, Option, Some, None, codes}
+use Prim.Native.Char.{code}
 use Rattle.sf_base.specs.Bytes.{is_white}
 use Rattle.sf_format.specs.Digits.{is_decimal}
 use Rattle.sf_format.specs.Lists.{front, behind, begins, mark_at}
@@ -18,7 +19,7 @@ use Rattle.sf_format.specs.Pieces.{Opening, PrintOpening, Piece, WhiteSpace, Ord
 abbrev pub number_before : List ℕ → List ℕ → List ℕ → List ℕ × List ℕ
 number_before [] after x = ([], x)
 number_before (d ∷ ds) [] x = ([], x)
-number_before (d ∷ ds) (b ∷ after) x = if nat_eq b 36 then (d ∷ ds, after) else ([], x)
+number_before (d ∷ ds) (b ∷ after) x = if nat_eq b (code "$") then (d ∷ ds, after) else ([], x)
 
 -- the number that the text begins with, and what follows its $
 abbrev pub number_at : List ℕ → List ℕ × List ℕ
@@ -48,7 +49,7 @@ cut_length number star width x = record {
 abbrev pub cut : List ℕ → Cut
 cut x =
     let number = number_at x in
-    let star = mark_at 42 number.1 in
+    let star = mark_at (code "*") number.1 in
     cut_length number.0 star.0 (front is_decimal star.1) (behind is_decimal star.1)
 
 -- ---- a conversion specification of a print format up to its letter
@@ -62,7 +63,7 @@ abbrev pub precision_behind : Bool × List ℕ → Option (List ℕ) × List ℕ
 precision_behind point = if point.0 then (Some (front is_decimal point.1), behind is_decimal point.1) else (None, point.1)
 
 abbrev pub precision_at : List ℕ → Option (List ℕ) × List ℕ
-precision_at x = precision_behind (mark_at 46 x)
+precision_at x = precision_behind (mark_at (code ".") x)
 
 -- what follows the precision, with the parts before it
 abbrev pub print_cut_length : List ℕ → List ℕ → List ℕ → Option (List ℕ) × List ℕ → PrintCut
@@ -107,7 +108,7 @@ bracket_at o x = record { piece = Bracket o (list_of x.0 x.1); rest = drop 1 (cl
 abbrev pub letter_at : Opening → List ℕ → Part
 letter_at o [] = record { piece = Percents; rest = [] }
 letter_at o (letter ∷ x) =
-    if nat_eq letter 91 then bracket_at o (mark_at 94 x) else record { piece = Plain o letter; rest = x }
+    if nat_eq letter (code "[") then bracket_at o (mark_at (code "^") x) else record { piece = Plain o letter; rest = x }
 
 -- the part of a print format from the letter on
 abbrev pub print_letter_at : PrintOpening → List ℕ → Part
@@ -122,7 +123,7 @@ conversion_at (Print profile) x = print_letter_at (print_cut x).opening (print_c
 -- behind a %
 abbrev pub specification_at : Language → List ℕ → Part
 specification_at language x =
-    if begins (37 ∷ []) x then record { piece = Percents; rest = drop 1 x } else conversion_at language x
+    if begins (codes "%") x then record { piece = Percents; rest = drop 1 x } else conversion_at language x
 
 -- white space runs together in scan formats alone
 abbrev pub joins_run : Language → ℕ → Bool
@@ -134,5 +135,5 @@ abbrev pub part_at : Language → List ℕ → Part
 part_at language [] = record { piece = Percents; rest = [] }
 part_at language (b ∷ x) =
     if joins_run language b then record { piece = WhiteSpace (front is_white (b ∷ x)); rest = behind is_white (b ∷ x) }
-    else if nat_eq b 37 then specification_at language x
+    else if nat_eq b (code "%") then specification_at language x
     else record { piece = Ordinary b; rest = x }

@@ -1,5 +1,6 @@
 -- The first fault of a text that is no format. C11 7.21.6.1p9 and 7.21.6.2p13 leave such a text undefined; here it is refused.
-use Rattle.std.specs.Prelude.{◌≡◌, ℕ, ◌+◌, ◌<◌, ◌≤◌, ◌⊎◌, Bool, true, not, ◌&&◌, ◌||◌, List, [], ◌∷◌, ◌++◌, length, map, Some, is_some, is_none, nat_eq, nat_lt, if◌then◌else◌}
+use Rattle.std.specs.Prelude.{◌≡◌, ℕ, ◌+◌, ◌<◌, ◌≤◌, ◌⊎◌, Bool, true, not, ◌&&◌, ◌||◌, List, [], ◌∷◌, ◌++◌, length, map, Some, is_some, is_none, nat_eq, nat_lt, if◌then◌else◌, codes}
+use Prim.Native.Char.{code}
 use Rattle.std.specs.List.{AllByRecursion, list_all}
 use Rattle.sf_base.specs.Bytes.{magnitude}
 use Rattle.sf_format.specs.declared.directive.Profile.{Profile}
@@ -10,17 +11,17 @@ use Rattle.sf_format.specs.declared.fault.FormatWhy.{FormatWhy}
 use Rattle.sf_format.specs.declared.fault.FormatWhy.TheVariants.{Truncated, ZeroWidth, TooWide, UnknownLetter, LeftOut, BadLength, OpenSet, BackwardRange, BadCount, BadNumber, NumberTwice, NumberGap, Nul, FormatTooLong, NoMemory}
 use Rattle.sf_format.specs.Letters.{letter_of}
 use Rattle.sf_format.specs.Scanlist.{backward_range, caret_text}
-use Rattle.sf_format.specs.Lists.{begins, mark_at, is_written}
+use Rattle.sf_format.specs.Lists.{is_any_of, begins, mark_at, is_written}
 use Rattle.sf_format.specs.Cut.{cut, print_cut, members_at, close_at}
 use Rattle.sf_format.specs.Pieces.{Opening, Piece, number_text, star_text, opening_text, print_opening_text, piece_text, text_of}
 use Rattle.sf_format.specs.PrintGrammar.{Prints}
 use Rattle.sf_format.specs.Grammar.{IsPiece, RunsApart, AreAlike, destinations, Means, SpellsAs}
-use Rattle.sf_format.specs.Rules.{Rule, first_of, is_any_of, takes_text, has_length, is_l, place_of, or_zero, slot_rules}
+use Rattle.sf_format.specs.Rules.{Rule, first_of, takes_text, has_length, is_l, place_of, or_zero, slot_rules}
 use Rattle.sf_format.specs.PrintRules.{print_opening_rules, print_rest_rules}
 
--- m L a A e E f F g G p C S
+-- a letter or a length that C or POSIX has
 abbrev pub is_left_out : ℕ → Bool
-is_left_out b = is_any_of (109 ∷ 76 ∷ 97 ∷ 65 ∷ 101 ∷ 69 ∷ 102 ∷ 70 ∷ 103 ∷ 71 ∷ 112 ∷ 67 ∷ 83 ∷ []) b
+is_left_out b = is_any_of (codes "mLaAeEfFgGpCS") b
 
 -- ---- the faults inside one specification
 
@@ -45,7 +46,7 @@ letter_rules profile o letter q =
     ∷ record { why = UnknownLetter; applies = is_none (letter_of profile letter); at = q }
     ∷ record { why = LeftOut; applies = takes_text letter && is_l o.size; at = q }
     ∷ record { why = BadLength; applies = takes_text letter && has_length o.size; at = q }
-    ∷ record { why = BadCount; applies = nat_eq letter 110 && (o.star || is_written o.width); at = q }
+    ∷ record { why = BadCount; applies = nat_eq letter (code "n") && (o.star || is_written o.width); at = q }
     ∷ []
 
 -- the members of a scanlist; q is the place of the [, m that of the first member
@@ -65,10 +66,10 @@ after_caret q x = list_rules q (q + 1 + length (caret_text x.0)) x.1
 
 -- what stands behind the letter, which is a [ or isn't
 abbrev pub bracket_rules : Bool → ℕ → List ℕ → List Rule
-bracket_rules bracket q x = if bracket then after_caret q (mark_at 94 x) else []
+bracket_rules bracket q x = if bracket then after_caret q (mark_at (code "^") x) else []
 
 abbrev pub scanlist_rules : ℕ → ℕ → List ℕ → List Rule
-scanlist_rules letter q x = bracket_rules (nat_eq letter 91) q x
+scanlist_rules letter q x = bracket_rules (nat_eq letter (code "[")) q x
 
 -- from where the letter of the specification is due, at q
 abbrev pub rest_rules : Profile → List Opening → ℕ → Opening → ℕ → List ℕ → List Rule
@@ -87,7 +88,7 @@ conversion_rules (Print profile) earlier p x =
 
 -- what stands behind a %
 abbrev pub percent_rules : Language → List Opening → ℕ → List ℕ → List Rule
-percent_rules language earlier p x = if not (begins (37 ∷ []) x) then conversion_rules language earlier p x else []
+percent_rules language earlier p x = if not (begins (codes "%") x) then conversion_rules language earlier p x else []
 
 -- ---- the faults of a text
 
@@ -96,7 +97,7 @@ abbrev pub part_rules : Language → List Opening → ℕ → List ℕ → List 
 part_rules language earlier p [] = []
 part_rules language earlier p (b ∷ x) =
     record { why = Nul; applies = nat_eq b 0; at = p }
-    ∷ (if nat_eq b 37 then percent_rules language earlier p x else [])
+    ∷ (if nat_eq b (code "%") then percent_rules language earlier p x else [])
 
 -- the numbers of the destinations, each with the place of its %
 abbrev pub numbered : ℕ → List Piece → List (ℕ × ℕ)

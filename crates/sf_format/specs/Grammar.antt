@@ -1,5 +1,6 @@
 -- The grammar of formats (C11 7.21.6.2p3 to p12, POSIX fscanf for the numbers).
 use Rattle.std.specs.Prelude.{◌≡◌, ◌≢◌, ℕ, ◌+◌, ◌<◌, ◌≤◌, ◌⊎◌, Bool, true, false, List, [], ◌∷◌, length, map, Option, Some, None, IsSome, if◌then◌else◌}
+use Prim.Native.Char.{code}
 use Rattle.std.specs.List.{AllByRecursion}
 use Rattle.sf_base.specs.Bytes.{is_white, AreWhite, magnitude}
 use Rattle.sf_format.specs.Digits.{IsOptionalNumber, optional_number}
@@ -36,9 +37,9 @@ pub record Suits (letter : Letter) (o : Opening) : Type 0 where
 -- a part of a scan format, seen alone
 abbrev pub IsScanPiece : Profile → Piece → Type 0
 IsScanPiece profile (WhiteSpace bs) = (0 < length bs) × AreWhite bs
-IsScanPiece profile (Ordinary b) = (b < 256) × (b ≢ 0) × (b ≢ 37) × (is_white b ≡ false)
+IsScanPiece profile (Ordinary b) = (b < 256) × (b ≢ 0) × (b ≢ code "%") × (is_white b ≡ false)
 IsScanPiece profile Percents = Unit {0}
-IsScanPiece profile (Plain o b) = (b ≢ 91) × ((letter : Letter) × (letter_of profile b ≡ Some letter) × Suits letter o)
+IsScanPiece profile (Plain o b) = (b ≢ code "[") × ((letter : Letter) × (letter_of profile b ≡ Some letter) × Suits letter o)
 IsScanPiece profile (Bracket o list) = Suits Set o × IsScanlist list
 IsScanPiece profile (Printed o b) = ⊥
 

@@ -1,5 +1,5 @@
 -- The letters and lengths of conversion specifications (C11 7.21.6.2p11, p12).
-use Rattle.std.specs.Prelude.{ℕ, List, [], ◌∷◌, Option, Some, None, nat_eq, if◌then◌else◌}
+use Rattle.std.specs.Prelude.{ℕ, List, [], ◌∷◌, Option, Some, None, if◌then◌else◌, codes}
 use Rattle.sf_base.specs.declared.values.Kind.{Kind}
 use Rattle.sf_base.specs.declared.values.Kind.TheVariants as kind
 use Rattle.sf_format.specs.declared.directive.Profile.{Profile}
@@ -8,8 +8,11 @@ use Rattle.sf_format.specs.declared.directive.Base.{Base}
 use Rattle.sf_format.specs.declared.directive.Base.TheVariants.{Dec, Oct, Hex, Bin, Auto, AutoBin}
 use Rattle.sf_format.specs.declared.letter.Letter.{Letter}
 use Rattle.sf_format.specs.declared.letter.Letter.TheVariants.{Signed, Unsigned, Chars, Text, Set, Count}
+use Rattle.sf_format.specs.declared.letter.Values.{Values}
+use Rattle.sf_format.specs.declared.letter.Values.TheVariants as values
 use Rattle.sf_format.specs.declared.letter.Length.{Length}
 use Rattle.sf_format.specs.declared.letter.Length.TheVariants.{NoLength, HH, H, LL, L, J, Z, T}
+use Rattle.sf_format.specs.Lists.{is_any_of}
 
 -- how i reads the digits
 abbrev pub auto_base : Profile → Base
@@ -17,19 +20,28 @@ auto_base One = Auto
 auto_base Two = AutoBin
 
 -- b, of profile 2
-abbrev pub added_letters : Profile → List (ℕ × Letter)
+abbrev pub added_letters : Profile → List (List ℕ × Letter)
 added_letters One = []
-added_letters Two = (98, Unsigned Bin) ∷ []
+added_letters Two = (codes "b", Unsigned Bin) ∷ []
 
--- d i u o x X c s [ n
-abbrev pub letters : Profile → List (ℕ × Letter)
+-- the table of the letters of scan formats: a row each, as in docs/FORMATS.md
+abbrev pub letters : Profile → List (List ℕ × Letter)
 letters profile =
-    (100, Signed Dec) ∷ (105, Signed (auto_base profile)) ∷ (117, Unsigned Dec) ∷ (111, Unsigned Oct) ∷ (120, Unsigned Hex) ∷ (88, Unsigned Hex)
-    ∷ (99, Chars) ∷ (115, Text) ∷ (91, Set) ∷ (110, Count) ∷ added_letters profile
+    (codes "d", Signed Dec)
+    ∷ (codes "i", Signed (auto_base profile))
+    ∷ (codes "u", Unsigned Dec)
+    ∷ (codes "o", Unsigned Oct)
+    ∷ (codes "xX", Unsigned Hex)
+    ∷ (codes "s", Text)
+    ∷ (codes "[", Set)
+    ∷ (codes "c", Chars)
+    ∷ (codes "n", Count)
+    ∷ added_letters profile
 
-abbrev pub find_letter : {L : Type 0} → List (ℕ × L) → ℕ → Option L
+-- the row of the byte
+abbrev pub find_letter : {L : Type 0} → List (List ℕ × L) → ℕ → Option L
 find_letter [] b = None
-find_letter (entry ∷ entries) b = if nat_eq entry.0 b then Some entry.1 else find_letter entries b
+find_letter (row ∷ rows) b = if is_any_of row.0 b then Some row.1 else find_letter rows b
 
 -- what the byte converts as a letter
 abbrev pub letter_of : Profile → ℕ → Option Letter
@@ -38,13 +50,13 @@ letter_of profile b = find_letter (letters profile) b
 -- how a length is written
 abbrev pub length_text : Length → List ℕ
 length_text NoLength = []
-length_text HH = 104 ∷ 104 ∷ []
-length_text H = 104 ∷ []
-length_text LL = 108 ∷ 108 ∷ []
-length_text L = 108 ∷ []
-length_text J = 106 ∷ []
-length_text Z = 122 ∷ []
-length_text T = 116 ∷ []
+length_text HH = codes "hh"
+length_text H = codes "h"
+length_text LL = codes "ll"
+length_text L = codes "l"
+length_text J = codes "j"
+length_text Z = codes "z"
+length_text T = codes "t"
 
 -- the kinds of LP64
 abbrev pub signed_kind : Length → Kind
@@ -64,11 +76,19 @@ abbrev pub text_kind : Length → Option Kind
 text_kind NoLength = Some kind.Text
 text_kind _ = None
 
+-- the kind of such values with a length, where they have it
+abbrev pub sized_kind : Values → Length → Option Kind
+sized_kind values.Signed size = Some (signed_kind size)
+sized_kind values.Unsigned size = Some (unsigned_kind size)
+sized_kind values.Text size = text_kind size
+
+-- what a letter stores
+abbrev pub stored_values : Letter → Values
+stored_values (Signed base) = values.Signed
+stored_values (Unsigned base) = values.Unsigned
+stored_values Count = values.Signed
+stored_values _ = values.Text
+
 -- the kind of a letter with a length, where the letter has it
 abbrev pub kind_of : Letter → Length → Option Kind
-kind_of (Signed base) size = Some (signed_kind size)
-kind_of (Unsigned base) size = Some (unsigned_kind size)
-kind_of Count size = Some (signed_kind size)
-kind_of Chars size = text_kind size
-kind_of Text size = text_kind size
-kind_of Set size = text_kind size
+kind_of letter size = sized_kind (stored_values letter) size

@@ -1,5 +1,6 @@
 -- What the parser's values stand for.
 use Rattle.std.specs.Prelude.{◌≡◌, ℕ, ◌+◌, Bool, true, false, List, [], ◌∷◌, ◌++◌, ◌<◌, length, map, drop, ◌⊎◌, Result, Ok, Err, Option, Some, None}
+use Prim.Native.Char.{code}
 use Rattle.std.specs.List.{AllByRecursion}
 use Rattle.sf_base.specs.declared.values.Kind.{Kind}
 use Rattle.sf_base.specs.declared.rules.Rule.{Rule as CodeRule}
@@ -25,14 +26,14 @@ use Rattle.sf_format.specs.declared.unit.Unit.TheVariants as unit
 use Rattle.sf_format.specs.declared.print.opening.PrintWritten.{PrintWritten}
 use Rattle.sf_format.specs.declared.grammar.Passed.{Passed}
 use Rattle.sf_format.specs.declared.noted.Noted.{Noted}
-use Rattle.sf_format.specs.Lists.{is_written, mark_at}
+use Rattle.sf_format.specs.Lists.{is_any_of, is_written, mark_at}
 use Rattle.sf_format.specs.Letters.{letter_of, kind_of}
 use Rattle.sf_format.specs.Scanlist.{IsSetOf}
 use Rattle.sf_format.specs.Pieces.{Opening, PrintOpening, Piece}
 use Rattle.sf_format.specs.Cut.{Part, list_of, close_at}
 use Rattle.sf_format.specs.PrintLetters.{print_letter_of, print_kind_of}
 use Rattle.sf_format.specs.Grammar.{destinations, slot_of, shape_of, MeanAll}
-use Rattle.sf_format.specs.Rules.{Rule, first_of, is_any_of}
+use Rattle.sf_format.specs.Rules.{Rule, first_of}
 use Rattle.sf_format.specs.Faults.{bracket_rules, repeated, beyond, no_memory}
 use Rattle.sf_format.specs.Reading.{read, judged}
 
@@ -92,12 +93,12 @@ is_set _ = false
 -- what a letter takes, by its scanlist x if it is a [
 abbrev pub IsShape : Bool → Letter → List ℕ → Shape → Type 0
 IsShape true letter x s =
-    (members : List Bool) × IsSetOf (list_of (mark_at 94 x).0 (mark_at 94 x).1) members × (s ≡ shape.Set members)
+    (members : List Bool) × IsSetOf (list_of (mark_at (code "^") x).0 (mark_at (code "^") x).1) members × (s ≡ shape.Set members)
 IsShape false letter x s = shape_of letter s
 
 -- what follows the scanlist behind a letter, if it has one
 abbrev pub rest_behind : Bool → List ℕ → List ℕ
-rest_behind true x = drop 1 (close_at (mark_at 94 x).1)
+rest_behind true x = drop 1 (close_at (mark_at (code "^") x).1)
 rest_behind false x = x
 
 -- the first fault of the scanlist, or else what the letter takes and what follows

@@ -1,5 +1,6 @@
 -- The grammar of print formats (C11 7.21.6.1p3 to p8, POSIX fprintf for the numbers).
 use Rattle.std.specs.Prelude.{◌≡◌, ◌≢◌, ℕ, ◌<◌, ◌≤◌, Bool, true, List, [], ◌∷◌, Option, Some, None, IsSome, IfSome, nat_eq}
+use Prim.Native.Char.{code}
 use Rattle.std.specs.List.{AllByRecursion, list_any}
 use Rattle.std.specs.Option.{option_map}
 use Rattle.sf_base.specs.Bytes.{magnitude}
@@ -20,7 +21,7 @@ IsPrecision ds = AllByRecursion (λ b. is_decimal b ≡ true) ds × (magnitude 1
 -- digits, the first of which is no 0
 abbrev pub StartsAboveZero : List ℕ → Type 0
 StartsAboveZero [] = Unit {0}
-StartsAboveZero (d ∷ ds) = d ≢ 48
+StartsAboveZero (d ∷ ds) = d ≢ code "0"
 
 -- the letter may end a conversion specification that opens so
 pub record SuitsPrint (letter : PrintLetter) (o : PrintOpening) : Type 0 where
@@ -37,7 +38,7 @@ pub record SuitsPrint (letter : PrintLetter) (o : PrintOpening) : Type 0 where
 -- a part of a print format, seen alone
 abbrev pub IsPrintPiece : Profile → Piece → Type 0
 IsPrintPiece profile (WhiteSpace bs) = ⊥
-IsPrintPiece profile (Ordinary b) = (b < 256) × (b ≢ 0) × (b ≢ 37)
+IsPrintPiece profile (Ordinary b) = (b < 256) × (b ≢ 0) × (b ≢ code "%")
 IsPrintPiece profile Percents = Unit {0}
 IsPrintPiece profile (Plain o b) = ⊥
 IsPrintPiece profile (Bracket o list) = ⊥
@@ -57,11 +58,11 @@ pub record IsPrintConv (place : ℕ) (o : PrintOpening) (letter : PrintLetter) (
   pub prints : c.letter ≡ letter
   pub kind : print_kind_of letter o.size ≡ Some c.kind
   pub slot : c.slot ≡ or_place place (optional_number o.number)
-  pub minus : c.minus ≡ is_set_flag 45 o.flags
-  pub plus : c.plus ≡ is_set_flag 43 o.flags
-  pub blank : c.blank ≡ is_set_flag 32 o.flags
-  pub alt : c.alt ≡ is_set_flag 35 o.flags
-  pub zero : c.zero ≡ is_set_flag 48 o.flags
+  pub minus : c.minus ≡ is_set_flag (code "-") o.flags
+  pub plus : c.plus ≡ is_set_flag (code "+") o.flags
+  pub blank : c.blank ≡ is_set_flag (code " ") o.flags
+  pub alt : c.alt ≡ is_set_flag (code "#") o.flags
+  pub zero : c.zero ≡ is_set_flag (code "0") o.flags
   pub width : c.width ≡ magnitude 10 o.width
   pub precision : c.precision ≡ option_map (λ ds. magnitude 10 ds) o.precision
 
@@ -69,7 +70,7 @@ pub record IsPrintConv (place : ℕ) (o : PrintOpening) (letter : PrintLetter) (
 abbrev pub Prints : Profile → ℕ → Piece → PrintUnit → Type 0
 Prints profile place (WhiteSpace bs) u = ⊥
 Prints profile place (Ordinary b) u = u ≡ unit.Byte b
-Prints profile place Percents u = u ≡ unit.Byte 37
+Prints profile place Percents u = u ≡ unit.Byte (code "%")
 Prints profile place (Plain o b) u = ⊥
 Prints profile place (Bracket o list) u = ⊥
 Prints profile place (Printed o b) u =

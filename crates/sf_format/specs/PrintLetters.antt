@@ -1,40 +1,53 @@
 -- The flags and letters of conversion specifications of print formats (C11 7.21.6.1p6 to p8).
-use Rattle.std.specs.Prelude.{ℕ, Bool, List, [], ◌∷◌, Option, Some, nat_eq}
-use Rattle.std.specs.List.{list_any}
+use Rattle.std.specs.Prelude.{ℕ, Bool, List, [], ◌∷◌, Option, find, codes}
 use Rattle.sf_base.specs.declared.values.Kind.{Kind}
 use Rattle.sf_format.specs.declared.directive.Profile.{Profile}
 use Rattle.sf_format.specs.declared.directive.Profile.TheVariants.{One, Two}
+use Rattle.sf_format.specs.declared.letter.Values.{Values}
+use Rattle.sf_format.specs.declared.letter.Values.TheVariants as values
 use Rattle.sf_format.specs.declared.letter.Length.{Length}
 use Rattle.sf_format.specs.declared.unit.PrintLetter.{PrintLetter}
 use Rattle.sf_format.specs.declared.unit.PrintLetter.TheVariants as letter
-use Rattle.sf_format.specs.Letters.{find_letter, signed_kind, unsigned_kind, text_kind}
+use Rattle.sf_format.specs.Lists.{is_any_of}
+use Rattle.sf_format.specs.Letters.{sized_kind}
 
--- - + space # 0
+-- a flag
 abbrev pub is_flag : ℕ → Bool
-is_flag b = list_any (λ a. nat_eq a b) (45 ∷ 43 ∷ 32 ∷ 35 ∷ 48 ∷ [])
+is_flag b = is_any_of (codes "-+ #0") b
 
--- b, of profile 2
-abbrev pub added_print_letters : Profile → List (ℕ × PrintLetter)
+-- a row of the table of letters: the bytes of the letter, what it prints, and the flags that it has (C11 7.21.6.1p6)
+pub record PrintRow : Type 0 where
+  pub bytes : List ℕ
+  pub prints : Values
+  pub flags : List ℕ
+
+abbrev row : List ℕ → Values → List ℕ → PrintRow
+row bytes prints flags = record { bytes = bytes; prints = prints; flags = flags }
+
+-- the table of the letters of print formats: a row each, as in docs/FORMATS.md; b is of profile 2
+abbrev pub print_row : PrintLetter → PrintRow
+print_row letter.Signed = row (codes "di") values.Signed (codes "-+ 0")
+print_row letter.Unsigned = row (codes "u") values.Unsigned (codes "-0")
+print_row letter.Octal = row (codes "o") values.Unsigned (codes "-#0")
+print_row letter.HexLower = row (codes "x") values.Unsigned (codes "-#0")
+print_row letter.HexUpper = row (codes "X") values.Unsigned (codes "-#0")
+print_row letter.Text = row (codes "s") values.Text (codes "-")
+print_row letter.One = row (codes "c") values.Text (codes "-")
+print_row letter.Binary = row (codes "b") values.Unsigned (codes "-#0")
+
+-- the letters of a profile
+abbrev pub added_print_letters : Profile → List PrintLetter
 added_print_letters One = []
-added_print_letters Two = (98, letter.Binary) ∷ []
+added_print_letters Two = letter.Binary ∷ []
 
--- d i u o x X s c
-abbrev pub print_letters : Profile → List (ℕ × PrintLetter)
+abbrev pub print_letters : Profile → List PrintLetter
 print_letters profile =
-    (100, letter.Signed) ∷ (105, letter.Signed) ∷ (117, letter.Unsigned) ∷ (111, letter.Octal) ∷ (120, letter.HexLower)
-    ∷ (88, letter.HexUpper) ∷ (115, letter.Text) ∷ (99, letter.One) ∷ added_print_letters profile
+    letter.Signed ∷ letter.Unsigned ∷ letter.Octal ∷ letter.HexLower ∷ letter.HexUpper ∷ letter.Text ∷ letter.One ∷ added_print_letters profile
 
 -- what the byte prints as a letter
 abbrev pub print_letter_of : Profile → ℕ → Option PrintLetter
-print_letter_of profile b = find_letter (print_letters profile) b
+print_letter_of profile b = find (λ l. is_any_of (print_row l).bytes b) (print_letters profile)
 
 -- the kind of a letter with a length, where the letter has it
 abbrev pub print_kind_of : PrintLetter → Length → Option Kind
-print_kind_of letter.Signed size = Some (signed_kind size)
-print_kind_of letter.Unsigned size = Some (unsigned_kind size)
-print_kind_of letter.Octal size = Some (unsigned_kind size)
-print_kind_of letter.HexLower size = Some (unsigned_kind size)
-print_kind_of letter.HexUpper size = Some (unsigned_kind size)
-print_kind_of letter.Binary size = Some (unsigned_kind size)
-print_kind_of letter.Text size = text_kind size
-print_kind_of letter.One size = text_kind size
+print_kind_of l size = sized_kind (print_row l).prints size

@@ -1,22 +1,21 @@
 -- The rules that conversion specifications of print formats have to keep, in order.
-use Rattle.std.specs.Prelude.{ℕ, ◌+◌, Bool, true, false, not, ◌&&◌, ◌||◌, List, [], ◌∷◌, ◌++◌, length, Option, Some, None, is_some, is_none, nat_eq, nat_lt}
+use Rattle.std.specs.Prelude.{ℕ, ◌+◌, Bool, true, false, not, ◌&&◌, ◌||◌, List, [], ◌∷◌, ◌++◌, length, Option, Some, None, is_some, is_none, nat_eq, nat_lt, codes}
 use Rattle.std.specs.List.{position_from}
 use Rattle.sf_base.specs.Bytes.{magnitude}
 use Rattle.sf_format.specs.declared.directive.Profile.{Profile}
 use Rattle.sf_format.specs.declared.fault.FormatWhy.TheVariants.{Truncated, TooWide, UnknownLetter, LeftOut, BadLength, BadNumber, Nul, BadFlag, PrecisionTooLarge}
 use Rattle.sf_format.specs.declared.unit.PrintLetter.{PrintLetter}
 use Rattle.sf_format.specs.declared.unit.PrintLetter.TheVariants.{One}
-use Rattle.sf_format.specs.Lists.{is_written}
+use Rattle.sf_format.specs.Lists.{is_any_of, is_written}
 use Rattle.sf_format.specs.PrintLetters.{print_letter_of}
 use Rattle.sf_format.specs.Units.{has_flag}
 use Rattle.sf_format.specs.Pieces.{Opening, PrintOpening, number_text}
 use Rattle.sf_format.specs.Grammar.{value_opening}
-use Rattle.sf_format.specs.Rules.{Rule, is_any_of, takes_text, has_length, is_l, or_zero, slot_rules}
+use Rattle.sf_format.specs.Rules.{Rule, takes_text, has_length, is_l, or_zero, slot_rules}
 
--- * ' n L a A e E f F g G p C S
+-- a letter, a length or a mark that C or POSIX has
 abbrev pub is_print_left_out : ℕ → Bool
-is_print_left_out b =
-    is_any_of (42 ∷ 39 ∷ 110 ∷ 76 ∷ 97 ∷ 65 ∷ 101 ∷ 69 ∷ 102 ∷ 70 ∷ 103 ∷ 71 ∷ 112 ∷ 67 ∷ 83 ∷ []) b
+is_print_left_out b = is_any_of (codes "*'nLaAeEfFgGpCS") b
 
 -- where the flags begin, the width, and the point; p is the place of the %
 abbrev pub flags_place : ℕ → PrintOpening → ℕ

@@ -1,11 +1,11 @@
 -- Rules that formats have to keep, each with the place where it is told that one doesn't.
-use Rattle.std.specs.Prelude.{ℕ, Bool, true, false, not, ◌&&◌, List, [], ◌∷◌, length, Option, Some, None, nat_eq, nat_lt, if◌then◌else◌}
+use Rattle.std.specs.Prelude.{ℕ, Bool, true, false, not, ◌&&◌, List, [], ◌∷◌, length, Option, Some, None, nat_eq, nat_lt, if◌then◌else◌, codes}
 use Rattle.std.specs.List.{position_from, list_any}
 use Rattle.sf_format.specs.declared.fault.FormatWhy.{FormatWhy}
 use Rattle.sf_format.specs.declared.fault.FormatWhy.TheVariants.{MixedNumbering, TooManyDestinations}
 use Rattle.sf_format.specs.declared.letter.Length.{Length}
 use Rattle.sf_format.specs.declared.letter.Length.TheVariants.{NoLength, L}
-use Rattle.sf_format.specs.Lists.{is_written}
+use Rattle.sf_format.specs.Lists.{is_any_of, is_written}
 use Rattle.sf_format.specs.Pieces.{Opening}
 
 -- a reason, the test whether it applies, and the place where it is told
@@ -19,12 +19,9 @@ abbrev pub first_of : List Rule → Option (FormatWhy × ℕ)
 first_of [] = None
 first_of (rule ∷ rules) = if rule.applies then Some (rule.why, rule.at) else first_of rules
 
-abbrev pub is_any_of : List ℕ → ℕ → Bool
-is_any_of bytes b = list_any (λ a. nat_eq a b) bytes
-
 -- c, s and [
 abbrev pub takes_text : ℕ → Bool
-takes_text b = is_any_of (99 ∷ 115 ∷ 91 ∷ []) b
+takes_text b = is_any_of (codes "cs[") b
 
 abbrev pub has_length : Length → Bool
 has_length NoLength = false

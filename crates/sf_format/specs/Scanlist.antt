@@ -1,5 +1,6 @@
 -- Scanlists (C11 7.21.6.2p12, the case of `[`).
-use Rattle.std.specs.Prelude.{◌≡◌, ◌≢◌, ℕ, ◌+◌, ◌<◌, Bool, true, false, not, ◌&&◌, ◌||◌, List, [], ◌∷◌, ◌++◌, length, Option, Some, None, nat_eq, nat_le, nat_lt, if◌then◌else◌}
+use Rattle.std.specs.Prelude.{◌≡◌, ◌≢◌, ℕ, ◌+◌, ◌<◌, Bool, true, false, not, ◌&&◌, ◌||◌, List, [], ◌∷◌, ◌++◌, length, Option, Some, None, nat_eq, nat_le, nat_lt, if◌then◌else◌, codes}
+use Prim.Native.Char.{code}
 use Rattle.std.specs.List.{AllByRecursion}
 use Rattle.sf_base.specs.Bytes.{AreBytes}
 use Rattle.sf_base.specs.Sets.{has_byte}
@@ -10,7 +11,7 @@ is_listed [] b = false
 is_listed (low ∷ []) b = nat_eq low b
 is_listed (low ∷ dash ∷ []) b = nat_eq low b || nat_eq dash b
 is_listed (low ∷ dash ∷ high ∷ rest) b =
-    if nat_eq dash 45 then (nat_le low b && nat_le b high) || is_listed rest b
+    if nat_eq dash (code "-") then (nat_le low b && nat_le b high) || is_listed rest b
     else nat_eq low b || is_listed (dash ∷ high ∷ rest) b
 
 -- where the leftmost range begins whose low end is above its high end; the list begins at n
@@ -19,12 +20,12 @@ backward_range n [] = None
 backward_range n (low ∷ []) = None
 backward_range n (low ∷ dash ∷ []) = None
 backward_range n (low ∷ dash ∷ high ∷ rest) =
-    if nat_eq dash 45 then (if nat_lt high low then Some n else backward_range (n + 3) rest)
+    if nat_eq dash (code "-") then (if nat_lt high low then Some n else backward_range (n + 3) rest)
     else backward_range (n + 1) (dash ∷ high ∷ rest)
 
 -- a byte that doesn't close a scanlist
 abbrev pub is_inner : ℕ → Bool
-is_inner b = not (nat_eq b 93)
+is_inner b = not (nat_eq b (code "]"))
 
 -- what stands between `[` and the closing `]`: perhaps ^, a first member, and bytes that aren't ]
 pub record Scanlist : Type 0 where
@@ -33,16 +34,16 @@ pub record Scanlist : Type 0 where
   pub others : List ℕ
 
 abbrev pub caret_text : Bool → List ℕ
-caret_text true = 94 ∷ []
+caret_text true = codes "^"
 caret_text false = []
 
 -- the scanlist's text, with the ] that closes it
 abbrev pub scanlist_text : Scanlist → List ℕ
-scanlist_text list = caret_text list.complemented ++ (list.first ∷ (list.others ++ 93 ∷ []))
+scanlist_text list = caret_text list.complemented ++ (list.first ∷ (list.others ++ codes "]"))
 
 pub record IsScanlist (list : Scanlist) : Type 0 where
   -- a ^ in first place complements
-  pub first : list.complemented ≡ false → list.first ≢ 94
+  pub first : list.complemented ≡ false → list.first ≢ code "^"
   pub others : AllByRecursion (λ b. is_inner b ≡ true) list.others
   pub bytes : AreBytes (list.first ∷ list.others)
   pub no_nul : AllByRecursion (λ b. b ≢ 0) (list.first ∷ list.others)

@@ -1,10 +1,15 @@
 -- What holds of the units of each accepted print format.
-use Rattle.std.specs.Prelude.{◌≡◌, ℕ, ◌<◌, ◌≤◌, Bool, true, false, nat_eq, List, [], ◌∷◌, length, map, Option, Some, None, IfSome}
-use Rattle.std.specs.List.{AllByRecursion, filter_map, list_any}
+use Rattle.std.specs.Prelude.{◌≡◌, ℕ, ◌<◌, ◌≤◌, Bool, true, false, List, length, map, Option, Some, None, IfSome}
+use Prim.Native.Char.{code}
+use Rattle.std.specs.List.{AllByRecursion, filter_map}
 use Rattle.sf_base.specs.declared.values.Kind.{Kind}
 use Rattle.sf_base.specs.declared.values.Kind.TheVariants as kind
 use Rattle.sf_format.specs.declared.unit.PrintLetter.{PrintLetter}
-use Rattle.sf_format.specs.declared.unit.PrintLetter.TheVariants.{Signed, Unsigned, Octal, HexLower, HexUpper, Binary, Text, One}
+use Rattle.sf_format.specs.declared.unit.PrintLetter.TheVariants.{One}
+use Rattle.sf_format.specs.declared.letter.Values.{Values}
+use Rattle.sf_format.specs.declared.letter.Values.TheVariants as values
+use Rattle.sf_format.specs.Lists.{is_any_of}
+use Rattle.sf_format.specs.PrintLetters.{print_row}
 use Rattle.sf_format.specs.declared.unit.PrintConv.{PrintConv}
 use Rattle.sf_format.specs.declared.unit.Unit.{Unit as PrintUnit}
 use Rattle.sf_format.specs.declared.unit.Unit.TheVariants as unit
@@ -30,30 +35,19 @@ abbrev pub is_text : Kind → Bool
 is_text kind.Text = true
 is_text _ = false
 
+-- such values have the kind
+abbrev pub holds_kind : Values → Kind → Bool
+holds_kind values.Signed = is_signed
+holds_kind values.Unsigned = is_unsigned
+holds_kind values.Text = is_text
+
 -- the letter prints values of the kind
 abbrev pub prints_kind : PrintLetter → Kind → Bool
-prints_kind Signed = is_signed
-prints_kind Unsigned = is_unsigned
-prints_kind Octal = is_unsigned
-prints_kind HexLower = is_unsigned
-prints_kind HexUpper = is_unsigned
-prints_kind Binary = is_unsigned
-prints_kind Text = is_text
-prints_kind One = is_text
+prints_kind letter = holds_kind (print_row letter).prints
 
--- the flags of a letter (C11 7.21.6.1p6): - + blank 0, - 0, - # 0, or - alone
-abbrev pub flags_of : PrintLetter → List ℕ
-flags_of Signed = 45 ∷ 43 ∷ 32 ∷ 48 ∷ []
-flags_of Unsigned = 45 ∷ 48 ∷ []
-flags_of Octal = 45 ∷ 35 ∷ 48 ∷ []
-flags_of HexLower = 45 ∷ 35 ∷ 48 ∷ []
-flags_of HexUpper = 45 ∷ 35 ∷ 48 ∷ []
-flags_of Binary = 45 ∷ 35 ∷ 48 ∷ []
-flags_of Text = 45 ∷ []
-flags_of One = 45 ∷ []
-
+-- the letter has the flag
 abbrev pub has_flag : PrintLetter → ℕ → Bool
-has_flag letter flag = list_any (λ a. nat_eq a flag) (flags_of letter)
+has_flag letter flag = is_any_of (print_row letter).flags flag
 
 -- c has no precision
 abbrev pub HasPrecision : PrintLetter → Option ℕ → Type 0
@@ -65,10 +59,10 @@ HasPrecision _ precision = Unit {0}
 -- a flag that the letter doesn't have isn't set
 pub record IsProperConv (c : PrintConv) : Type 0 where
   pub kind : prints_kind c.letter c.kind ≡ true
-  pub plus : has_flag c.letter 43 ≡ false → c.plus ≡ false
-  pub blank : has_flag c.letter 32 ≡ false → c.blank ≡ false
-  pub alt : has_flag c.letter 35 ≡ false → c.alt ≡ false
-  pub zero : has_flag c.letter 48 ≡ false → c.zero ≡ false
+  pub plus : has_flag c.letter (code "+") ≡ false → c.plus ≡ false
+  pub blank : has_flag c.letter (code " ") ≡ false → c.blank ≡ false
+  pub alt : has_flag c.letter (code "#") ≡ false → c.alt ≡ false
+  pub zero : has_flag c.letter (code "0") ≡ false → c.zero ≡ false
   pub width : c.width ≤ 65535
   pub precision : IfSome c.precision (λ p. p ≤ 255)
   pub one : HasPrecision c.letter c.precision

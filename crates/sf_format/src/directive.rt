@@ -25,7 +25,7 @@ pub enum Base {
 }
 
 /// What a conversion takes.
-#[derive(Drop)]
+#[derive(Debug, Drop)]
 pub enum Shape {
     Int(Base),
     Text,
@@ -36,7 +36,7 @@ pub enum Shape {
 }
 
 /// A conversion. One without a slot is suppressed.
-#[derive(Drop)]
+#[derive(Debug, Drop)]
 pub struct Conversion {
     pub shape: Shape,
     pub kind: Kind,
@@ -45,7 +45,7 @@ pub struct Conversion {
 }
 
 /// A directive of a scan format (C11 7.21.6.2p3).
-#[derive(Drop)]
+#[derive(Debug, Drop)]
 pub enum Directive {
     /// A run of white space.
     Space,

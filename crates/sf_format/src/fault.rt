@@ -72,7 +72,7 @@ impl FormatWhy {
     ghost use Rattle.sf_format.specs.Texts.{why_text};
 
     /// Its code and its name, as `F8 BackwardRange`.
-    fn text(self) -> &'static str
+    pub fn text(self) -> &'static str
         ensures { result.now ≡ why_text self }
     {
         match self {

@@ -1,6 +1,6 @@
 //! Letters and lengths of conversion specifications.
 ghost use Rattle.std.specs.Prelude.{◌≡◌};
-ghost use Rattle.sf_format.specs.Letters.{auto_base, letter_of, kind_of, signed_kind, unsigned_kind};
+ghost use Rattle.sf_format.specs.Letters.{auto_base, letter_of, stored_values, sized_kind};
 ghost use Rattle.sf_format.specs.Faults.{is_left_out};
 ghost use Rattle.sf_format.specs.Rules.{takes_text, has_length, is_l};
 
@@ -16,6 +16,14 @@ pub enum Letter {
     Text,
     Set,
     Count,
+}
+
+/// What a letter stores or prints: numbers with a sign, numbers without one, or texts.
+#[derive(Clone, Copy)]
+pub enum Values {
+    Signed,
+    Unsigned,
+    Text,
 }
 
 /// The length between the width and the letter.
@@ -41,7 +49,7 @@ fn auto_base(profile: Profile) -> Base
     }
 }
 
-/// What the byte converts as a letter.
+/// What the byte converts as a letter: the table of the letters of scan formats.
 pub fn letter_of(profile: Profile, b: u8) -> Option<Letter>
     ensures { result ≡ letter_of profile b }
 {
@@ -51,9 +59,9 @@ pub fn letter_of(profile: Profile, b: u8) -> Option<Letter>
         b'u' => Some(Letter::Unsigned(Base::Dec)),
         b'o' => Some(Letter::Unsigned(Base::Oct)),
         b'x' | b'X' => Some(Letter::Unsigned(Base::Hex)),
-        b'c' => Some(Letter::Chars),
         b's' => Some(Letter::Text),
         b'[' => Some(Letter::Set),
+        b'c' => Some(Letter::Chars),
         b'n' => Some(Letter::Count),
         b'b' => match profile {
             Profile::One => None,
@@ -99,40 +107,35 @@ impl Length {
     }
 }
 
-pub fn signed_kind(size: Length) -> Kind
-    ensures { result ≡ signed_kind size }
-{
-    match size {
-        Length::NoLength => Kind::I32,
-        Length::HH => Kind::I8,
-        Length::H => Kind::I16,
-        _ => Kind::I64,
-    }
-}
-
-pub fn unsigned_kind(size: Length) -> Kind
-    ensures { result ≡ unsigned_kind size }
-{
-    match size {
-        Length::NoLength => Kind::U32,
-        Length::HH => Kind::U8,
-        Length::H => Kind::U16,
-        _ => Kind::U64,
+impl Values {
+    /// The kind of such a value with the length, if it has that length. The sizes are those of LP64.
+    pub fn kind(self, size: Length) -> Option<Kind>
+        ensures { result ≡ sized_kind self size }
+    {
+        match (self, size) {
+            (Values::Signed, Length::NoLength) => Some(Kind::I32),
+            (Values::Signed, Length::HH) => Some(Kind::I8),
+            (Values::Signed, Length::H) => Some(Kind::I16),
+            (Values::Signed, _) => Some(Kind::I64),
+            (Values::Unsigned, Length::NoLength) => Some(Kind::U32),
+            (Values::Unsigned, Length::HH) => Some(Kind::U8),
+            (Values::Unsigned, Length::H) => Some(Kind::U16),
+            (Values::Unsigned, _) => Some(Kind::U64),
+            (Values::Text, Length::NoLength) => Some(Kind::Text),
+            (Values::Text, _) => None,
+        }
     }
 }
 
 impl Letter {
-    /// The kind of a destination by the letter and its length, if the letter has that length.
-    pub fn kind(self, size: Length) -> Option<Kind>
-        ensures { result ≡ kind_of self size }
+    /// What a conversion by the letter stores.
+    pub fn values(self) -> Values
+        ensures { result ≡ stored_values self }
     {
         match self {
-            Letter::Signed(_) | Letter::Count => Some(signed_kind(size)),
-            Letter::Unsigned(_) => Some(unsigned_kind(size)),
-            Letter::Chars | Letter::Text | Letter::Set => match size {
-                Length::NoLength => Some(Kind::Text),
-                _ => None,
-            },
+            Letter::Signed(_) | Letter::Count => Values::Signed,
+            Letter::Unsigned(_) => Values::Unsigned,
+            Letter::Text | Letter::Set | Letter::Chars => Values::Text,
         }
     }
 }

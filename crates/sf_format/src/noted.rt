@@ -22,17 +22,6 @@ pub struct Noted {
     pub gap: Option<u16>,
 }
 
-/// Nothing, before the first destination.
-fn nothing_noted() -> Noted
-    ensures { (count : ℕ) → Notes count [] result }
-{
-    Noted {
-        used: ByteSet::empty(),
-        twice: None,
-        gap: None,
-    }
-}
-
 /// The place that was found before, or else this one if it applies.
 fn first_place(before: Option<u16>, applies: bool, at: u16) -> Option<u16>
     ensures { result ≡ first_place before applies at }
@@ -82,7 +71,11 @@ pub fn number_fault<G: Grammar>(grammar: G, text: &[u8], slots: Slots) -> Option
     if !slots.numbered {
         return None;
     }
-    let mut noted = nothing_noted();
+    let mut noted = Noted {
+        used: ByteSet::empty(),
+        twice: None,
+        gap: None,
+    };
     let mut rest = text;
     let mut at: u16 = 0;
     let mut earlier = no_slots();

@@ -102,14 +102,6 @@ fn is_zero(digits: &[u8], value: u32) -> bool
     !digits.is_empty() && value == 0
 }
 
-/// Whether digits stand for more than any width: those are at most 65535.
-pub fn is_too_wide(digits: &[u8]) -> bool
-    requires { AllByRecursion (λ b. is_decimal b ≡ true) digits.now }
-    ensures { result ≡ nat_lt 65535 (magnitude 10 digits.now) }
-{
-    capped(digits) > 65535
-}
-
 /// The length of a number with its `$`.
 pub fn number_len(number: &[u8]) -> u16
     requires { length number.now ≤ 4096 }
@@ -125,7 +117,7 @@ pub fn number_len(number: &[u8]) -> u16
 fn star_len(star: bool) -> u16
     ensures { result ≡ length (star_text star) }
 {
-    if star { 1 } else { 0 }
+    star as u16
 }
 
 /// The first fault of an opening whose `%` stands at the place.

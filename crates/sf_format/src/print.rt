@@ -22,7 +22,7 @@ use std::alloc::Global;
 use std::marker::Model;
 
 /// A print format: its units, and the count of its values.
-#[derive(Drop)]
+#[derive(Debug, Drop)]
 pub struct PrintFormat {
     units: Vec<Unit>,
     values: u8,

@@ -22,7 +22,7 @@ use std::alloc::Global;
 use std::marker::Model;
 
 /// A scan format: its directives, the count of its destinations, and the sum of their widths.
-#[derive(Drop)]
+#[derive(Debug, Drop)]
 pub struct ScanFormat {
     directives: Vec<Directive>,
     destinations: u8,

@@ -5,7 +5,7 @@ ghost use Rattle.sf_base.specs.Bytes.{magnitude};
 ghost use Rattle.std.specs.Option.{option_map};
 ghost use Rattle.sf_format.specs.Digits.{is_decimal, optional_number};
 ghost use Rattle.sf_format.specs.Units.{has_flag};
-ghost use Rattle.sf_format.specs.PrintLetters.{print_letter_of, print_kind_of};
+ghost use Rattle.sf_format.specs.PrintLetters.{print_row, print_letter_of, print_kind_of};
 ghost use Rattle.sf_format.specs.PrintGrammar.{is_set_flag, or_place, IsPrintConv};
 ghost use Rattle.sf_format.specs.Rules.{first_of};
 ghost use Rattle.sf_format.specs.PrintRules.{is_print_left_out, print_letter_rules, flag_rules, foreign_flag, precision_number};
@@ -13,7 +13,7 @@ ghost use Rattle.sf_format.specs.Passing.{print_opening_of, fault_in, ConvertsPr
 
 use crate::directive::Profile;
 use crate::fault::{FormatFault, FormatWhy};
-use crate::letter::{Length, of_text, signed_kind, unsigned_kind};
+use crate::letter::{Values, of_text};
 use crate::opening::capped;
 use crate::print::opening::PrintWritten;
 use crate::rule_table::{fault_by, rule};
@@ -63,22 +63,29 @@ fn print_left_out(b: u8) -> bool
     )
 }
 
-/// The kind of a value by the letter and its length, if the letter has that length.
-fn printed_kind(letter: PrintLetter, size: Length) -> Option<Kind>
-    ensures { result ≡ print_kind_of letter size }
+/// A row of the table of letters: what the letter prints, and the flags that it has.
+#[derive(Clone, Copy)]
+pub struct PrintRow {
+    pub prints: Values,
+    pub flags: &'static [u8],
+}
+
+/// The table of the letters of print formats.
+fn print_row(letter: PrintLetter) -> PrintRow
+    ensures prints { result.prints ≡ (print_row letter).prints }
+    ensures flags { result.flags.now ≡ (print_row letter).flags }
 {
-    match letter {
-        PrintLetter::Signed => Some(signed_kind(size)),
-        PrintLetter::Unsigned
-        | PrintLetter::Octal
-        | PrintLetter::HexLower
-        | PrintLetter::HexUpper
-        | PrintLetter::Binary => Some(unsigned_kind(size)),
-        PrintLetter::Text | PrintLetter::One => match size {
-            Length::NoLength => Some(Kind::Text),
-            _ => None,
-        },
-    }
+    let (prints, flags): (Values, &'static [u8]) = match letter {
+        PrintLetter::Signed => (Values::Signed, b"-+ 0"),
+        PrintLetter::Unsigned => (Values::Unsigned, b"-0"),
+        PrintLetter::Octal => (Values::Unsigned, b"-#0"),
+        PrintLetter::HexLower => (Values::Unsigned, b"-#0"),
+        PrintLetter::HexUpper => (Values::Unsigned, b"-#0"),
+        PrintLetter::Text => (Values::Text, b"-"),
+        PrintLetter::One => (Values::Text, b"-"),
+        PrintLetter::Binary => (Values::Unsigned, b"-#0"),
+    };
+    PrintRow { prints, flags }
 }
 
 /// The first fault of the letter at the place.
@@ -117,7 +124,7 @@ pub fn print_converted(
     let Some(found) = print_letter_of(profile, letter) else {
         unreachable!()
     };
-    let Some(kind) = printed_kind(found, written.size) else {
+    let Some(kind) = print_row(found).prints.kind(written.size) else {
         unreachable!()
     };
     Ok((found, kind))
@@ -127,13 +134,7 @@ pub fn print_converted(
 fn has_flag(letter: PrintLetter, flag: u8) -> bool
     ensures { result ≡ has_flag letter flag }
 {
-    match letter {
-        PrintLetter::Signed => matches!(flag, b'-' | b'+' | b' ' | b'0'),
-        PrintLetter::Unsigned => matches!(flag, b'-' | b'0'),
-        PrintLetter::Octal | PrintLetter::HexLower | PrintLetter::HexUpper | PrintLetter::Binary =>
-            matches!(flag, b'-' | b'#' | b'0'),
-        PrintLetter::Text | PrintLetter::One => flag == b'-',
-    }
+    print_row(letter).flags.contains(&flag)
 }
 
 /// The place of the first flag that the letter does not have, where the flags begin at a place.

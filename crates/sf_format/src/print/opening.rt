@@ -12,7 +12,7 @@ ghost use Rattle.sf_format.specs.Passing.{opening_of, precision_of, print_openin
 use crate::fault::{FormatFault, FormatWhy};
 use crate::fronts::{Class, mark, number, size, split_front};
 use crate::letter::Length;
-use crate::opening::{Written, capped, is_no_slot, is_too_wide, number_len};
+use crate::opening::{Written, capped, is_no_slot, number_len};
 use crate::rule_table::{fault_by, rule};
 
 /// A conversion specification of a print format up to its letter, as it is written.
@@ -128,7 +128,11 @@ pub fn print_opening_fault(at: u16, written: &PrintWritten) -> Option<FormatFaul
     let is_long = written.point && capped(written.precision) > 255;
     fault_by(&[
         rule(FormatWhy::BadNumber, at + 1, is_no_slot(written.number)),
-        rule(FormatWhy::TooWide, places.width, is_too_wide(written.width)),
+        rule(
+            FormatWhy::TooWide,
+            places.width,
+            capped(written.width) > 65535,
+        ),
         rule(FormatWhy::PrecisionTooLarge, digits_at, is_long),
     ])
 }

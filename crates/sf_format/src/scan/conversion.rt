@@ -59,16 +59,10 @@ pub fn converted(
     let Some(found) = letter_of(profile, letter) else {
         unreachable!()
     };
-    let Some(kind) = found.kind(written.size) else {
+    let Some(kind) = found.values().kind(written.size) else {
         unreachable!()
     };
     Ok((found, kind))
-}
-
-fn caret_len(caret: bool) -> u16
-    ensures { result ≡ length (caret_text caret) }
-{
-    if caret { 1 } else { 0 }
 }
 
 /// The set behind the `[` at the place.
@@ -77,7 +71,7 @@ fn bracket(at: u16, text: &[u8]) -> Result<Shaped<'_>, FormatFault>
     ensures { Shapes true letter.Set at text.now result }
 {
     let (caret, text) = mark(b'^', text);
-    let list = scanlist(caret, at, at + 1 + caret_len(caret), text)?;
+    let list = scanlist(caret, at, at + 1 + caret as u16, text)?;
     Ok(Shaped {
         shape: Shape::Set(list.set),
         rest: list.rest,

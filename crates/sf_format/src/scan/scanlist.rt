@@ -2,7 +2,7 @@
 ghost use Rattle.std.specs.Prelude.{◌≡◌, ◌≤◌, ◌+◌, false, None, length};
 ghost use Rattle.sf_format.specs.Scanlist.{backward_range, IsSetBy};
 ghost use Rattle.sf_format.specs.Rules.{first_of, place_of};
-ghost use Rattle.sf_format.specs.Faults.{list_rules, member_rules};
+ghost use Rattle.sf_format.specs.Faults.{list_rules};
 ghost use Rattle.sf_format.specs.Cut.{close_at, members_at};
 ghost use Rattle.sf_format.specs.Passing.{fault_in, ReadsList};
 
@@ -52,24 +52,6 @@ fn backward(from: u16, bytes: &[u8]) -> Option<u16>
     None
 }
 
-/// The first fault of these members of a scanlist. Its `[` stands at the first place and its first member at the second.
-fn member_fault(at: u16, from: u16, members: &[u8], closed: bool) -> Option<FormatFault>
-    requires { from + length members.now ≤ 4096 }
-    ensures { fault_in result ≡ first_of (member_rules at from members.now closed) }
-{
-    let nul = place(0, from, members);
-    let range = backward(from, members);
-    fault_by(&[
-        rule(FormatWhy::Nul, nul.unwrap_or(0), nul.is_some()),
-        rule(FormatWhy::OpenSet, at, !closed),
-        rule(
-            FormatWhy::BackwardRange,
-            range.unwrap_or(0),
-            range.is_some(),
-        ),
-    ])
-}
-
 /// The members of a scanlist, and what follows them.
 fn members(text: &[u8]) -> (&[u8], &[u8])
     ensures members { result.0.now ≡ members_at text.now }
@@ -91,7 +73,17 @@ fn list_fault(at: u16, from: u16, text: &[u8]) -> Option<FormatFault>
     ensures { fault_in result ≡ first_of (list_rules at from text.now) }
 {
     let (members, close) = members(text);
-    member_fault(at, from, members, !close.is_empty())
+    let nul = place(0, from, members);
+    let range = backward(from, members);
+    fault_by(&[
+        rule(FormatWhy::Nul, nul.unwrap_or(0), nul.is_some()),
+        rule(FormatWhy::OpenSet, at, close.is_empty()),
+        rule(
+            FormatWhy::BackwardRange,
+            range.unwrap_or(0),
+            range.is_some(),
+        ),
+    ])
 }
 
 /// The set of a list of ranges and single members.

@@ -1,4 +1,4 @@
-use Rattle.std.proofs.Common.{sym, ◌∙◌, arith}
+use Rattle.std.proofs.Common.{sym, ◌∙◌, arith, rules}
 use Rattle.sf_format.specs.Grammar.{destinations}
 use Rattle.sf_format.proofs.Outcomes.{not_false, not_true}
 use Rattle.sf_format.proofs.Walks.{bytes_of, some_left, none_left, passes_on, passing_fault, rest_shorter}
@@ -10,9 +10,9 @@ returns-then-not-slots g c = λ pieces e. unnumbered_none (g.G.Grammar.language 
 
 pub loop-rest-init : goal.loop-rest-init
 loop-rest-init g c =
-    noting_none (g.G.Grammar.language c.args.grammar) c.args.text.now c.no_slots-earlier.result c.args.slots.count c.nothing_noted-noted.result
+    noting_none (g.G.Grammar.language c.args.grammar) c.args.text.now c.no_slots-earlier.result c.args.slots.count _
     (bytes_of c.args.text.now (λ i. omega (arith, c.type_inv.text i))) c.no_slots-earlier.ensures
-    (c.nothing_noted-noted.ensures c.args.slots.count)
+    (search rules)
 
 pub unreachable-requires : goal.unreachable-requires
 unreachable-requires g c =
