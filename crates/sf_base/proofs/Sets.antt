@@ -1,7 +1,9 @@
 -- What follows for sets of bytes: how many members there are, and which bytes the bits of the words stand for.
-use Rattle.std.specs.Prelude.{◌≡◌, ◌+◌, ◌<◌, ℕ, zero, suc, Bool, false, List, length, get_or, if◌then◌else◌, refl}
-use Rattle.std.proofs.Common.{arith, add-one, ap, ◌∙◌}
-use Rattle.sf_base.specs.Sets.{has_byte, count_below, word_has, marks_from, marks_of}
+use Rattle.std.specs.Prelude.{◌≡◌, ◌+◌, ◌<◌, ◌≤◌, ◌==◌, ℕ, zero, suc, Bool, true, false, not, Option, Some, None, IfSome, List, length, get_or, if◌then◌else◌, refl}
+use Rattle.std.proofs.Common.{arith, add-one, ap, sym, ◌∙◌, Fits, w8}
+use Rattle.std.proofs.lemmas.List.Sums.{prefix_len_is}
+use Rattle.std.specs.List.{prefix_len}
+use Rattle.sf_base.specs.Sets.{has_byte, count_below, word_has, marks_from, marks_of, LacksOnly}
 
 pub count_below-zero : (test : ℕ → Bool) → count_below test 0 ≡ 0
 unfolding count_below
@@ -37,3 +39,29 @@ has_byte-marks_of words k below = let e : 0 + k ≡ k = omega arith in marks_fro
 -- the same of the set that they stand for
 pub has_byte-held : (words : List ℕ) (set : List Bool) (k : ℕ) → marks_of words ≡ set → k < 256 → has_byte set k ≡ word_has words k
 has_byte-held words set k held below = rw (← held) (has_byte-marks_of words k below)
+
+-- ---- sets with one member, and those that lack one byte
+
+-- the only number below n that passes the test; None where there is none
+abbrev pub IsOnly : Option ℕ → ℕ → (ℕ → Bool) → Type 0
+IsOnly None n test = (k : ℕ) → k < n → test k ≡ false
+IsOnly (Some b) n test = (b < n) × ((k : ℕ) → k < n → test k ≡ (k == b))
+
+-- the members of a set with one member turned round
+pub LacksOnly-not : (only : Option ℕ) (had has : ℕ → Bool) → IfSome only (λ b. (k : ℕ) → k < 256 → had k ≡ (k == b)) → ((k : ℕ) → k < 256 → has k ≡ not (had k)) → LacksOnly only has
+LacksOnly-not None had has is turned = tt
+LacksOnly-not (Some b) had has is turned = λ k below. turned k below ∙ ap not (is k below)
+
+-- the same of the set that the words stand for
+pub lacking : (words : List ℕ) (set : List Bool) (lacks : Option ℕ) (end : ℕ) → marks_of words ≡ set → lacks ≡ Some end → LacksOnly lacks (word_has words) → (k : ℕ) → k < 256 → has_byte set k ≡ not (k == end)
+lacking words set lacks end held is h k below = let only = rw is at h in has_byte-held words set k held below ∙ only k below
+
+-- the longest front of such a set's members ends before that byte
+pub run_to : (test : ℕ → Bool) (end : ℕ) (x : List ℕ) → ((k : ℕ) → k < 256 → test k ≡ not (k == end)) → ((k : ℕ) → Fits w8 (get_or x k 0)) → (n : ℕ) → n ≤ length x
+    → ((k : ℕ) → k < n → (get_or x k 0 == end) ≡ true → ⊥) → (n < length x → (get_or x n 0 == end) ≡ true) → n ≡ prefix_len test x
+run_to test end x lacks fits n within before at =
+    sym (prefix_len_is test x n 0 within (λ k below. lacks (get_or x k 0) (fits k).fits ∙ other (get_or x k 0 == end) (before k below)) (λ below. lacks (get_or x n 0) (fits n).fits ∙ ap not (at below)))
+  where
+    other : (b : Bool) → (b ≡ true → ⊥) → not b ≡ true
+    other true f = absurd (f refl)
+    other false f = refl

@@ -1,5 +1,5 @@
 -- Sets of bytes, each seen as the list of its 256 truth values.
-use Rattle.std.specs.Prelude.{ℕ, zero, suc, ◌+◌, ◌/◌, ◌%◌, ◌==◌, Bool, false, List, [], ◌∷◌, slice_index, slice_index_or, if◌then◌else◌}
+use Rattle.std.specs.Prelude.{◌≡◌, ℕ, zero, suc, ◌+◌, ◌/◌, ◌%◌, ◌<◌, ◌==◌, Bool, false, not, Option, Some, None, List, [], ◌∷◌, slice_index, slice_index_or, if◌then◌else◌}
 use Rattle.std.specs.Int.{bit_at}
 
 -- the byte is a member
@@ -25,3 +25,8 @@ marks_from (suc n) b test = test b ∷ marks_from n (b + 1) test
 -- the truth values that the bits of the words are
 unfoldable pub marks_of : List ℕ → List Bool
 marks_of words = marks_from 256 0 (word_has words)
+
+-- where a byte is given, it alone does not pass the test
+abbrev pub LacksOnly : Option ℕ → (ℕ → Bool) → Type 0
+LacksOnly None test = Unit {0}
+LacksOnly (Some b) test = (k : ℕ) → k < 256 → test k ≡ not (k == b)

@@ -1,9 +1,10 @@
 //! Sets of bytes.
-ghost use Rattle.std.specs.Prelude.{◌≡◌, ◌↔◌, ◌||◌, ◌&&◌, ◌==◌, ◌<◌, ◌≤◌, nat_le, not, ℕ, List, Bool, true, false, IsTrue, length};
+ghost use Rattle.std.specs.Prelude.{◌≡◌, ◌↔◌, ◌||◌, ◌&&◌, ◌==◌, ◌<◌, ◌≤◌, nat_le, not, ℕ, List, Bool, true, false, IsTrue, length, IfSome};
 ghost use Rattle.std.specs.List.{prefix_len};
 ghost use Rattle.sf_base.specs.Bytes.{IsLongestFront};
-ghost use Rattle.sf_base.specs.Sets.{has_byte, marks_of, count_below};
+ghost use Rattle.sf_base.specs.Sets.{has_byte, word_has, marks_of, count_below, LacksOnly};
 
+use memchr::memchr;
 use std::marker::Model;
 
 /// A set of bytes, as the scanlist of a format has one (C11 7.21.6.2p12).
@@ -11,6 +12,8 @@ use std::marker::Model;
 pub struct ByteSet {
     // byte b is bit b % 64 of word b / 64
     words: [u64; 4],
+    // the byte that alone is no member, where the set is known to lack just one
+    lacks: Option<u8>,
 }
 
 impl Model for ByteSet {
@@ -18,7 +21,7 @@ impl Model for ByteSet {
 
     ghost view = { λ s. marks_of s.words };
 
-    ghost invariant = { λ s. length s.words ≡ 4 };
+    ghost invariant = { λ s. (length s.words ≡ 4) × LacksOnly s.lacks (word_has s.words) };
 }
 
 impl ByteSet {
@@ -27,7 +30,10 @@ impl ByteSet {
         ensures members { (k : ℕ) → k < 256 → has_byte result k ≡ false }
         ensures sized { length result ≡ 256 }
     {
-        ByteSet { words: [0; 4] }
+        ByteSet {
+            words: [0; 4],
+            lacks: None,
+        }
     }
 
     /// Makes the byte a member, if it is none yet.
@@ -37,6 +43,7 @@ impl ByteSet {
     {
         let i = (b / 64) as usize;
         self.words[i] = self.words[i] | (1u64 << (b % 64));
+        self.lacks = None;
     }
 
     /// Makes each byte from `lo` to `hi` a member, both among them.
@@ -51,15 +58,33 @@ impl ByteSet {
         self.insert(hi);
     }
 
+    /// The member, where there is just one.
+    fn only_member(&self) -> Option<u8>
+        ensures { IfSome result (λ b. (k : ℕ) → k < 256 → has_byte self.now k ≡ (k == b)) }
+    {
+        let mut found = None;
+        for b in 0..256u16 {
+            if self.contains(b as u8) {
+                if found.is_some() {
+                    return None;
+                }
+                found = Some(b as u8);
+            }
+        }
+        found
+    }
+
     /// Makes each byte that is no member one, and takes the others away.
     pub fn complement(&mut self)
         ensures members { (k : ℕ) → k < 256 → has_byte self.new k ≡ not (has_byte self.old k) }
         ensures sized { length self.new ≡ 256 }
     {
+        let lacks = self.only_member();
         for i in 0..4usize {
             let word = self.words[i];
             self.words[i] = !word;
         }
+        self.lacks = lacks;
     }
 
     /// Whether the byte is a member.
@@ -75,6 +100,12 @@ impl ByteSet {
         ensures longest { IsLongestFront (has_byte self.now) bytes.now result }
         ensures count { result ≡ prefix_len (has_byte self.now) bytes.now }
     {
+        if let Some(end) = self.lacks {
+            return match memchr(end, bytes) {
+                Some(at) => at,
+                None => bytes.len(),
+            };
+        }
         for i in 0..bytes.len() {
             if !self.contains(bytes[i]) {
                 return i;

@@ -7,7 +7,7 @@ pub returns-clause-members : goal.returns-clause-members
 returns-clause-members c k below =
     let words = c.self.inside.words in
     let b = c.args.b in
-    let inside : b / 64 < length words = rw c.self.invariant (omega (arith, c.ranges.b.fits)) in
+    let inside : b / 64 < length words = rw c.self.invariant.0 (omega (arith, c.ranges.b.fits)) in
     has_byte-marks_of _ k below
     ∙ word_has-with_bit words b k inside
     ∙ ap (λ (had : Bool). k == b || had) (sym (has_byte-held words _ k c.self.view_is below))
