@@ -25,6 +25,7 @@ use Rattle.sf_item.specs.Taking.{CanTake, HasTaken, conversion_of}
 use Rattle.sf_item.specs.Tests.{is_ink, is_within, shape_begins, can_take}
 use Rattle.sf_item.proofs.Deciding.{integer_at_is, tests_can_take, tests_same}
 use Rattle.sf_item.specs.Wholes.{ItemWithin}
+use Rattle.sf_run.specs.declared.directive.Ended.{Ended}
 use Rattle.sf_run.specs.declared.directive.Finished.{Finished}
 use Rattle.sf_run.specs.declared.directive.Finished.TheVariants as finish
 use Rattle.sf_run.specs.declared.directive.Phase.{Phase}
@@ -34,8 +35,8 @@ use Rattle.sf_run.specs.declared.outcome.Status.TheVariants.{MatchingFailure}
 use Rattle.sf_run.specs.Steps.{StepEnd}
 use Rattle.sf_run.specs.Holding.{LeftAfterAll, left_before}
 use Rattle.sf_run.specs.Machine.{Stage, Skipping, Taken, Item, shape_skips, count_end, item_stepped, item_end, stepped, finished, is_full}
-use Rattle.sf_run.specs.Phases.{CanAll, GrowsBy, Shows, ShowsItem, end_of, passed_number, slot_in}
-use Rattle.sf_run.specs.Pieces.{Answers, AnswersBy, EndsAt, EndsIn, IsEnd, IsWhole, StaysAt, Suits, item_of}
+use Rattle.sf_run.specs.Phases.{CanAll, GrowsBy, Shows, ShowsItem, end_of, passed_number, slot_closed, slot_in}
+use Rattle.sf_run.specs.Pieces.{Answers, AnswersBy, EndsAt, EndsAtOnce, EndsIn, IsEnd, IsEndIn, IsEndOf, IsWhole, StaysAt, Suits, item_of, run_of}
 use Rattle.sf_run.specs.Residual.{Part, choose, one_from, stepped_all}
 use Rattle.sf_run.specs.Texts.{IsInText, StoresByte, counts_bytes, is_count, text_slot, slot_of_text}
 use Rattle.sf_run.proofs.Brought.{all-append, can_all, first_all, item_all, one_from-all, skips_all, take-take}
@@ -529,3 +530,51 @@ suits_plain d (phase.Item scan) piece run none own s = record { within = s.withi
 
 pub end_is : (d : Directive) (current : Phase) (o : Option Finished) (end : Finished) → o ≡ Some end → IfSome o (IsEnd d current) → IsEnd d current end
 end_is d current o end e own = subst (λ (o : Option Finished). IfSome o (IsEnd d current)) e own
+
+-- ---- directives that end within the piece
+
+pub end_fits : (d : Directive) (piece : List ℕ) (run : Run) (e : Ended) → IsEndOf e run → Suits d phase.Skipping piece run → IsEndIn d piece e
+end_fits d piece run e is suits =
+    let own : IsEnd d run.phase e.finished = end_is d run.phase run.ends e.finished is.finished suits.end in
+    let fits = suits.within in
+    let before = is.before in
+    let item = is.item in
+    record { within = omega (arith, fits, before, item); given = own.given; number = own.number; memory = own.memory }
+
+-- the end of an answer that fits the directive
+pub ended_by : (d : Directive) (n : ℕ) (piece : List ℕ) (run : Run) (o : Option Ended) → IfSome o (λ e. IsEndOf e run) → (IsProper d → Answers d Skipping n piece run)
+    → Suits d phase.Skipping piece run → IfSome o (EndsAtOnce d n piece)
+ended_by d n piece run None is answers suits = tt
+ended_by d n piece run (Some e) is answers suits = record {
+  answers = λ proper. record {
+    goes =
+        subst (λ k. EndsIn d Skipping n piece (e.before + k) (end_of (take k (drop e.before piece)) e.finished)) (sym is.item)
+        (subst (λ b. EndsIn d Skipping n piece (b + run.item) (end_of (take run.item (drop b piece)) e.finished)) (sym is.before)
+        (subst (λ (o : Option Finished). AnswersBy o d Skipping n piece run) is.finished (let a = answers proper in a.goes)));
+    stores = λ slot j none below. absurd cc;
+  };
+  fits = end_fits d piece run e is suits;
+}
+
+-- behind bytes that are skipped
+pub ended_behind : (d : Directive) (n w : ℕ) (piece : List ℕ) (e : Ended) → w ≤ length piece → e.before ≡ 0 → (IsProper d → stepped_all d Skipping (take w piece) ≡ Some Skipping)
+    → (IsProper d → Answers d Skipping (n + w) (drop w piece) (run_of e)) → IsEndIn d (drop w piece) e → EndsAtOnce d n piece (record e { before = w })
+ended_behind d n w piece e within front skips answers is =
+    let all : length (drop w piece) + w ≡ length piece = (let l = length-drop w piece in omega (arith, l, within)) in
+    let fits = is.within in
+    let same : w + e.before ≡ w = omega (arith, front) in
+    record {
+      answers = λ proper. subst (λ b. Answers d Skipping n piece (run_of (record e { before = b }))) same (answers_behind d n w piece (run_of e) within fits (skips proper) (answers proper));
+      fits = record { within = omega (arith, all, fits, front); given = is.given; number = is.number; memory = is.memory };
+    }
+
+-- one that closes no text fits the directive as an answer
+pub suits_ended : (d : Directive) (piece : List ℕ) (e : Ended) → slot_closed e.finished ≡ None → IsEndIn d piece e → Suits d phase.Skipping piece (run_of e)
+suits_ended d piece e none is = record {
+  within = is.within;
+  all = λ e. cc;
+  more = λ e. cc;
+  slot = tt;
+  left = tt;
+  end = record { text = λ ok. sym none; given = is.given; number = is.number; memory = is.memory };
+}

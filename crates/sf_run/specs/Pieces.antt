@@ -7,8 +7,10 @@ use Rattle.sf_format.specs.declared.directive.Directive.{Directive}
 use Rattle.sf_format.specs.Proper.{IsProper}
 use Rattle.sf_item.specs.declared.whole.WholeInteger.{WholeInteger}
 use Rattle.sf_item.specs.Wholes.{EndsWithin}
+use Rattle.sf_run.specs.declared.directive.Ended.{Ended}
 use Rattle.sf_run.specs.declared.directive.Finished.{Finished}
 use Rattle.sf_run.specs.declared.directive.Phase.{Phase}
+use Rattle.sf_run.specs.declared.directive.Phase.TheVariants as phase
 use Rattle.sf_run.specs.declared.directive.Run.{Run}
 use Rattle.sf_run.specs.Holding.{LeftAfterAll}
 use Rattle.sf_run.specs.Machine.{Stage, Skipping, Taken, Item, finished, is_full}
@@ -67,3 +69,27 @@ pub record IsWhole (shape : Shape) (width : Option ℕ) (piece : List ℕ) (whol
   pub base : Base
   pub is : shape ≡ Int base
   pub ends : EndsWithin base width piece whole
+
+-- ---- directives that end within the piece
+
+-- the answer says that the directive ends so
+pub record IsEndOf (e : Ended) (run : Run) : Type 0 where
+  pub before : e.before ≡ run.before
+  pub item : e.item ≡ run.item
+  pub finished : run.ends ≡ Some e.finished
+
+-- as an answer
+abbrev pub run_of : Ended → Run
+run_of e = record { before = e.before; item = e.item; phase = phase.Skipping; ends = Some e.finished }
+
+-- Such an end fits the directive: it stays within the piece, and gives the directive's own slot something.
+pub record IsEndIn (d : Directive) (piece : List ℕ) (e : Ended) : Type 0 where
+  pub within : e.before + e.item ≤ length piece
+  pub given : is_failing e.finished ≡ false → slot_given e.finished ≡ slot_of d
+  pub number : IsNumberGiven e.finished
+  pub memory : is_memory_failure e.finished ≡ false
+
+-- The directive, which took nothing yet, n bytes into the run, ends so within the piece, whatever follows that.
+pub record EndsAtOnce (d : Directive) (n : ℕ) (piece : List ℕ) (e : Ended) : Type 0 where
+  pub answers : IsProper d → Answers d Skipping n piece (run_of e)
+  pub fits : IsEndIn d piece e

@@ -14,10 +14,10 @@ ghost use Rattle.sf_run.specs.Steps.{StepEnd};
 ghost use Rattle.sf_run.specs.declared.directive.Phase.TheVariants as phase;
 ghost use Rattle.sf_run.specs.declared.directive.Finished.TheVariants as finish;
 ghost use Rattle.sf_run.specs.Machine.{Stage, Skipping, Item, shape_skips, is_full, item_end, item_finished, count_end, finished};
-ghost use Rattle.sf_run.specs.Texts.{text_slot, opened_for, slot_of, slot_of_text, is_count};
+ghost use Rattle.sf_run.specs.Texts.{text_slot, opened_for, slot_of_text, is_count};
 ghost use Rattle.sf_run.specs.Holding.{FallsBy};
 ghost use Rattle.sf_run.specs.Phases.{ShowsItem, Shows, CanAll, IsNumberGiven, end_of, is_failing, is_memory_failure, passed_number, slot_closed, slot_given, slot_in};
-ghost use Rattle.sf_run.specs.Pieces.{Answers, EndsAt, IsEnd, IsWhole, StaysAt, Suits};
+ghost use Rattle.sf_run.specs.Pieces.{Answers, EndsAt, EndsAtOnce, IsEnd, IsEndIn, IsEndOf, IsWhole, StaysAt, Suits, run_of};
 
 use crate::number::number_of;
 use crate::outcome::Status;
@@ -58,6 +58,16 @@ pub(crate) struct Run<'f> {
     pub(crate) phase: Phase<'f>,
     /// How it ends there, whatever follows. None: it has used the piece up, and waits for more.
     pub(crate) ends: Option<Finished>,
+}
+
+/// How a directive that took nothing yet ends within a piece, whatever follows that.
+#[derive(Clone, Copy)]
+pub(crate) struct Ended {
+    /// The bytes before those of an item.
+    pub(crate) before: usize,
+    /// The bytes of an item.
+    pub(crate) item: usize,
+    pub(crate) finished: Finished,
 }
 
 /// The slot that is given the item of the conversion as it stands, if there is one.
@@ -378,6 +388,24 @@ fn whole_integer(shape: &Shape, width: Option<u16>, piece: &[u8]) -> Option<Whol
     }
 }
 
+/// An integer that the piece begins with and ends, where it is read as a whole.
+#[inline(always)]
+fn whole_number(conversion: &Conversion, piece: &[u8]) -> Option<Ended>
+    ensures answers { IsProper (directive.Conv conversion.now) → (0 < length piece.now → (shape_skips conversion.now.shape && is_white (get_or piece.now 0 0)) ≡ false) → (n : ℕ)
+        → IfSome result (λ e. Answers (directive.Conv conversion.now) Skipping n piece.now (run_of e)) }
+    ensures fits { IfSome result (IsEndIn (directive.Conv conversion.now) piece.now) }
+    ensures before { IfSome result (λ e. e.before ≡ 0) }
+    ensures closes { IfSome result (λ e. slot_closed e.finished ≡ None) }
+{
+    let whole = whole_integer(&conversion.shape, conversion.width, piece)?;
+    let number = number_of(conversion.kind, whole.negative, whole.magnitude, false);
+    Some(Ended {
+        before: 0,
+        item: whole.bytes,
+        finished: finish_number(conversion, number),
+    })
+}
+
 /// The item of a conversion, whose first byte is that of the piece.
 #[inline(always)]
 fn begin_item<'f>(conversion: &'f Conversion, piece: &[u8]) -> Run<'f>
@@ -389,9 +417,8 @@ fn begin_item<'f>(conversion: &'f Conversion, piece: &[u8]) -> Run<'f>
     if piece.is_empty() {
         return waits(0);
     }
-    if let Some(whole) = whole_integer(&conversion.shape, conversion.width, piece) {
-        let number = number_of(conversion.kind, whole.negative, whole.magnitude, false);
-        return ends(0, whole.bytes, finish_number(conversion, number));
+    if let Some(ended) = whole_number(conversion, piece) {
+        return ends(ended.before, ended.item, ended.finished);
     }
     let run = go_on(
         conversion,
@@ -500,6 +527,7 @@ fn finish_bytes(slot: Option<u8>) -> Finished
     ensures some { (n : ℕ) → slot ≡ Some n → result ≡ finish.Closes n }
     ensures given { slot_given result ≡ slot }
     ensures number { IsNumberGiven result }
+    ensures memory { is_memory_failure result ≡ false }
 {
     match slot {
         None => Finished::Passes,
@@ -507,36 +535,104 @@ fn finish_bytes(slot: Option<u8>) -> Finished
     }
 }
 
-/// As `begin`, of an item that is stored as it stands: it is looked at once where a byte of the piece follows it.
+/// An item that is stored as it stands, where it is looked at as a whole and a byte of the piece follows it.
 #[inline(always)]
-fn begin_text<'f>(conversion: &'f Conversion, piece: &[u8], used: u32) -> Run<'f>
+fn whole_text(conversion: &Conversion, piece: &[u8]) -> Option<Ended>
     requires slot { (slot : Option ℕ) → slot_of_text conversion.now.shape slot ≡ slot }
     requires item { is_count conversion.now.shape ≡ false }
-    ensures answers { IsProper (directive.Conv conversion.now) → Answers (directive.Conv conversion.now) Skipping used piece.now result }
-    ensures within { result.before + result.item ≤ length piece.now }
-    ensures given { IfSome result.ends (λ f. is_failing f ≡ false → slot_given f ≡ conversion.now.slot) }
-    ensures number { IfSome result.ends (λ f. IsNumberGiven f) }
+    ensures answers { IsProper (directive.Conv conversion.now) → (0 < length piece.now → (shape_skips conversion.now.shape && is_white (get_or piece.now 0 0)) ≡ false) → (n : ℕ)
+        → IfSome result (λ e. Answers (directive.Conv conversion.now) Skipping n piece.now (run_of e)) }
+    ensures fits { IfSome result (IsEndIn (directive.Conv conversion.now) piece.now) }
+    ensures before { IfSome result (λ e. e.before ≡ 0) }
 {
-    let before = skipped(&conversion.shape, piece);
-    let (_, rest) = piece.split_at(before);
-    let Some(item) = whole_bytes(&conversion.shape, conversion.width, rest) else {
-        return begin(conversion, piece, used);
-    };
-    ends(before, item, finish_bytes(conversion.slot))
+    let item = whole_bytes(&conversion.shape, conversion.width, piece)?;
+    Some(Ended {
+        before: 0,
+        item,
+        finished: finish_bytes(conversion.slot),
+    })
 }
 
-/// Hands the directive, which took nothing yet, the piece, for a run that keeps nothing where it doesn't end within the piece.
+/// How the item of a conversion ends, whose first byte is that of the piece, where it is looked at as a whole.
 #[inline(always)]
-pub(crate) fn run_at_once<'f>(directive: &'f Directive, piece: &[u8], used: u32) -> Run<'f>
-    ensures answers { IsProper directive.now → Answers directive.now Skipping used piece.now result }
-    ensures within { result.before + result.item ≤ length piece.now }
-    ensures given { IfSome result.ends (λ f. is_failing f ≡ false → slot_given f ≡ slot_of directive.now) }
-    ensures number { IfSome result.ends (λ f. IsNumberGiven f) }
+fn whole_item(conversion: &Conversion, piece: &[u8]) -> Option<Ended>
+    ensures answers { IsProper (directive.Conv conversion.now) → (0 < length piece.now → (shape_skips conversion.now.shape && is_white (get_or piece.now 0 0)) ≡ false) → (n : ℕ)
+        → IfSome result (λ e. Answers (directive.Conv conversion.now) Skipping n piece.now (run_of e)) }
+    ensures fits { IfSome result (IsEndIn (directive.Conv conversion.now) piece.now) }
+    ensures before { IfSome result (λ e. e.before ≡ 0) }
+{
+    if is_text(&conversion.shape) {
+        return whole_text(conversion, piece);
+    }
+    whole_number(conversion, piece)
+}
+
+/// As `whole_item`, of a conversion that took nothing yet, with the piece so many bytes into the run.
+#[inline(always)]
+fn whole_conversion(conversion: &Conversion, piece: &[u8], used: u32) -> Option<Ended>
+    ensures { IfSome result (EndsAtOnce (directive.Conv conversion.now) used piece.now) }
+{
+    if is_count(&conversion.shape) {
+        return Some(Ended {
+            before: 0,
+            item: 0,
+            finished: finish_count(conversion, used),
+        });
+    }
+    let before = skipped(&conversion.shape, piece);
+    let (_, rest) = piece.split_at(before);
+    let ended = whole_item(conversion, rest)?;
+    Some(Ended {
+        before,
+        item: ended.item,
+        finished: ended.finished,
+    })
+}
+
+/// How a directive ends that took nothing yet, where it does so within the piece.
+#[inline(always)]
+fn as_ended(run: Run<'_>) -> Option<Ended>
+    ensures { IfSome result (λ e. IsEndOf e run.entry) }
+{
+    let finished = run.ends?;
+    Some(Ended {
+        before: run.before,
+        item: run.item,
+        finished,
+    })
+}
+
+/// How the directive ends, which took nothing yet, where it does so within the piece, which comes so many bytes into the run,
+/// and where that is told by a look at its bytes.
+#[inline(always)]
+fn ended_at_once(directive: &Directive, piece: &[u8], used: u32) -> Option<Ended>
+    ensures { IfSome result (EndsAtOnce directive.now used piece.now) }
 {
     match directive {
-        Directive::Conv(conversion) if is_text(&conversion.shape) => {
-            begin_text(conversion, piece, used)
-        }
-        _ => run_on(directive, Phase::Skipping, piece, used),
+        Directive::Space => as_ended(run_space(piece)),
+        Directive::Byte(due) => as_ended(run_byte(*due, piece)),
+        Directive::Percent => as_ended(run_percent(piece)),
+        Directive::Conv(conversion) => whole_conversion(conversion, piece, used),
     }
+}
+
+/// As `ended_at_once`, where a directive has come to its end byte by byte.
+#[cold]
+#[inline(never)]
+fn ended_later(directive: &Directive, piece: &[u8], used: u32) -> Option<Ended>
+    ensures { IfSome result (EndsAtOnce directive.now used piece.now) }
+{
+    as_ended(run_on(directive, Phase::Skipping, piece, used))
+}
+
+/// How the directive ends, which took nothing yet, where it does so within the piece, which comes so many bytes into the run.
+#[inline(always)]
+pub(crate) fn ended_in(directive: &Directive, piece: &[u8], used: u32) -> Option<Ended>
+    ensures { IfSome result (EndsAtOnce directive.now used piece.now) }
+{
+    let at_once = ended_at_once(directive, piece, used);
+    if at_once.is_some() {
+        return at_once;
+    }
+    ended_later(directive, piece, used)
 }

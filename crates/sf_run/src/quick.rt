@@ -11,7 +11,7 @@ ghost use Rattle.sf_run.specs.Quick.{GivesTo, MayBeGiven, PassesWithin};
 ghost use Rattle.sf_run.specs.Texts.{slot_of};
 ghost use Rattle.sf_run.specs.Views.{report_by};
 
-use crate::directive::{Finished, run_at_once};
+use crate::directive::{Finished, ended_in};
 use crate::outcome::{Outcome, Status};
 use crate::tally::Tally;
 use sf_base::{HeapStore, Store};
@@ -28,6 +28,7 @@ struct Passed {
 
 /// Gives a store without an opened text what a directive gives that ends so, and says whether that is something. None
 /// where the directive fails, or the storing is refused.
+#[inline(always)]
 fn give(store: &mut HeapStore, finished: Finished, item: &[u8]) -> Option<bool>
     requires opened { store.old.opened ≡ None }
     requires free { MayBeGiven (slot_given finished) store.old.values }
@@ -55,6 +56,7 @@ fn give(store: &mut HeapStore, finished: Finished, item: &[u8]) -> Option<bool>
 
 /// Passes a directive that ends within the piece, which comes so many bytes into the run. None where it may go on behind the
 /// piece, or fails.
+#[inline(always)]
 fn pass(store: &mut HeapStore, directive: &Directive, piece: &[u8], used: u32) -> Option<Passed>
     requires opened { store.old.opened ≡ None }
     requires free { MayBeGiven (slot_of directive.now) store.old.values }
@@ -62,13 +64,12 @@ fn pass(store: &mut HeapStore, directive: &Directive, piece: &[u8], used: u32) -
     ensures within { IfSome result (λ p. p.taken ≤ length piece.now) }
     ensures room { capacity_of store.old ≤ capacity_of store.new }
 {
-    let run = run_at_once(directive, piece, used);
-    let finished = run.ends?;
-    let (_, rest) = piece.split_at(run.before);
-    let (item, _) = rest.split_at(run.item);
-    let stores = give(store, finished, item)?;
+    let ended = ended_in(directive, piece, used)?;
+    let (_, rest) = piece.split_at(ended.before);
+    let (item, _) = rest.split_at(ended.item);
+    let stores = give(store, ended.finished, item)?;
     Some(Passed {
-        taken: run.before + run.item,
+        taken: ended.before + ended.item,
         stores,
     })
 }

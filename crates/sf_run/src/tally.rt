@@ -17,6 +17,7 @@ pub(crate) struct Tally {
 }
 
 // Whether the directive counts as a conversion: `%%` and `%n` don't.
+#[inline(always)]
 fn is_conversion(directive: &Directive) -> bool
     ensures { result ≡ is_conversion directive.now }
 {
@@ -41,6 +42,7 @@ impl Tally {
     }
 
     /// With a directive that has passed, and stored something or not.
+    #[inline(always)]
     pub(crate) fn counted(self, directive: &Directive, stores: bool) -> Tally
         requires assigned { stores ≡ true → self.assigned < 2 ^ 8 - 1 }
         requires converted { self.converted < 2 ^ 16 - 1 }

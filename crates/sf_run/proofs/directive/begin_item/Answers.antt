@@ -1,5 +1,4 @@
 use Rattle.std.proofs.Common.{rules, ◌≡◌, ◌<◌, ◌+◌, ℕ, List, [], length, take, sym, subst, ap, arith, ◌∙◌}
-use Rattle.sf_base.specs.Data.{value_of}
 use Rattle.sf_format.specs.declared.directive.Conversion.{Conversion}
 use Rattle.sf_format.specs.declared.directive.Directive.TheVariants.{Conv}
 use Rattle.sf_item.specs.Taking.{CanTake, conversion_of}
@@ -9,7 +8,7 @@ use Rattle.sf_run.specs.Machine.{Skipping}
 use Rattle.sf_format.specs.Proper.{IsProperShape}
 use Rattle.sf_run.specs.Phases.{CanAll}
 use Rattle.sf_run.specs.Pieces.{Answers, Suits}
-use Rattle.sf_run.proofs.Pieces.{integer_read, item_begins, nothing_taken, suits_waits}
+use Rattle.sf_run.proofs.Pieces.{item_begins, nothing_taken, suits_ended, suits_waits}
 use Rattle.sf_run.proofs.directive.begin_item.Goals as goal
 
 pub returns-then-is_empty-clause-suits : goal.returns-then-is_empty-clause-suits
@@ -19,13 +18,13 @@ returns-then-is_empty-clause-suits c =
 
 pub returns-in-Some-clause-answers : goal.returns-in-Some-clause-answers
 returns-in-Some-clause-answers c proper ink n =
-    let k : Conversion = c.args.conversion.now in
-    let w = c.in-Some.whole in
-    let is = c.in-Some.ensures in
-    let below = is.ends.behind in
-    subst (λ (r : Run). Answers (Conv k) Skipping n c.args.piece.now r) (sym c.ends.ensures)
-    (integer_read k n c.args.piece.now w c.finish_number.result is (ink (omega (arith, below)))
-    (λ text. c.finish_number.ensures.end text (value_of k.kind w.negative w.magnitude) c.number_of-number.ensures.value))
+    subst (λ (r : Run). Answers (Conv c.args.conversion.now) Skipping n c.args.piece.now r) (sym c.ends.ensures) (c.in-Some.ensures.answers proper ink n)
+
+pub returns-in-Some-clause-suits : goal.returns-in-Some-clause-suits
+returns-in-Some-clause-suits c =
+    let e = c.in-Some.ensures in
+    subst (λ (r : Run). Suits (Conv c.args.conversion.now) phase.Skipping c.args.piece.now r) (sym c.ends.ensures)
+    (suits_ended (Conv c.args.conversion.now) c.args.piece.now c.in-Some.ended e.closes e.fits)
 
 pub returns-then-run-eq0-clause-answers : goal.returns-then-run-eq0-clause-answers
 returns-then-run-eq0-clause-answers c proper ink n =
