@@ -5,10 +5,10 @@ use Rattle.std.proofs.lemmas.List.{append-nil, append_assoc, drop-drop, length-a
 use Rattle.sf_base.specs.Data.{Assigned}
 use Rattle.sf_base.specs.Kept.{Kept, texts_in}
 use Rattle.sf_format.specs.declared.directive.Directive.{Directive}
-use Rattle.sf_format.specs.Proper.{AreProper, slots_of}
+use Rattle.sf_format.specs.Proper.{AreProper, IsProper, slots_of}
 use Rattle.sf_run.specs.declared.directive.Finished.{Finished}
 use Rattle.sf_run.specs.declared.directive.Finished.TheVariants as finish
-use Rattle.sf_run.specs.declared.directive.Run.{Run}
+use Rattle.sf_run.specs.declared.directive.Ended.{Ended}
 use Rattle.sf_run.specs.declared.outcome.Ending.{Ending}
 use Rattle.sf_run.specs.declared.outcome.Status.{Status}
 use Rattle.sf_run.specs.declared.outcome.Status.TheVariants.{Done}
@@ -17,9 +17,9 @@ use Rattle.sf_run.specs.Holding.{are_apart, are_placed}
 use Rattle.sf_run.specs.Limits.{RunWithin, TellsWithin}
 use Rattle.sf_run.specs.Machine.{Skipping}
 use Rattle.sf_run.specs.Phases.{end_of, is_failing, slot_given}
-use Rattle.sf_run.specs.Pieces.{EndsIn}
+use Rattle.sf_run.specs.Pieces.{EndsAtOnce}
 use Rattle.sf_run.specs.Places.{is_destination, places_left}
-use Rattle.sf_run.specs.Quick.{GivesTo, MayBeGiven, PassesWithin, slot_stored}
+use Rattle.sf_run.specs.Quick.{Advances, GivesTo, MayBeGiven, PassesWithin, slot_stored}
 use Rattle.sf_run.specs.Residual.{Part, Tally, by_end, counted, nothing_yet, one_from, out_of, run_of, then_on, with_used}
 use Rattle.sf_run.specs.Runs.{IsOpen, RunReport, passed, stored}
 use Rattle.sf_run.specs.Steps.{StepEnd, Passes, Stores, Fails}
@@ -46,14 +46,13 @@ own_slot (finish.Stores n value) text slot ok own = own refl
 own_slot (finish.Closes n) text slot ok own = own refl
 own_slot (finish.Fails status) text slot ok own = absurd (true≢false (sym ok))
 
-pub passes_within : (d : Directive) (n : ℕ) (piece item : List ℕ) (run : Run) (end : Finished) (stores : Bool) (old new : Kept) → EndsIn d Skipping n piece (run.before + run.item) (end_of (take run.item (drop run.before piece)) end)
-    → item ≡ take run.item (drop run.before piece) → (is_failing end ≡ false → slot_given end ≡ slot_of d) → GivesTo (end_of item end) stores old new
-    → PassesWithin d n piece (run.before + run.item) stores old new
-passes_within d n piece item run end stores old new e is own gives = record {
-  end = end_of item end;
-  takes = subst (λ y. EndsIn d Skipping n piece (run.before + run.item) (end_of y end)) (sym is) e;
+pub passes_within : (d : Directive) (n : ℕ) (piece : List ℕ) (e : Ended) (stores : Bool) (old new : Kept) → IsProper d → EndsAtOnce d n piece e
+    → GivesTo (end_of (take e.item (drop e.before piece)) e.finished) stores old new → PassesWithin d n piece (e.before + e.item) stores old new
+passes_within d n piece e stores old new proper is gives = record {
+  end = end_of (take e.item (drop e.before piece)) e.finished;
+  takes = (let a = is.answers proper in a.goes);
   gives = gives;
-  own = own_slot end item (slot_of d) gives.passes.passes own;
+  own = own_slot e.finished (take e.item (drop e.before piece)) (slot_of d) gives.passes.passes is.fits.given;
 }
 
 -- ---- directive after directive
@@ -93,11 +92,15 @@ stores_own d (Stores slot v) stores own is some = is_destination_of d slot (sym 
 stores_own d (Fails status) stores own is some = absurd (true≢false (sym (is ∙ some)))
 
 -- the next directive has passed
-pub going_on : (ds : List Directive) (front : List ℕ) (p : ℕ) (d : Directive) (t u : code.Tally) (old new : Kept) (piece : List ℕ) (taken : ℕ) (stores : Bool) → slice_get ds p ≡ Some d
-    → Going ds front p t old → piece ≡ drop t.used front → PassesWithin d t.used piece taken stores old new
-    → ((end : StepEnd) (values : List Assigned) → PassesSo end stores → tally_of u (values_with end values) ≡ counted d end (with_used (t.used + taken) (tally_of t values)))
-    → u.used ≡ t.used + taken → u.assigned ≤ t.assigned + cond stores 1 0 → u.converted ≤ t.converted + 1 → Going ds front (p + 1) u new
-going_on ds front p d t u old new piece taken stores at h is w tally used assigned' converted' =
+pub going_on : (ds : List Directive) (front : List ℕ) (p : ℕ) (d : Directive) (t u : code.Tally) (old new : Kept) (piece : List ℕ) → slice_get ds p ≡ Some d
+    → Going ds front p t old → piece ≡ drop t.used front → Advances d piece t u old new → Going ds front (p + 1) u new
+going_on ds front p d t u old new piece at h is a =
+    let taken : ℕ = a.taken in
+    let stores : Bool = a.stores in
+    let w : PassesWithin d t.used piece taken stores old new = a.passes in
+    let used = a.used in
+    let assigned' = a.assigned in
+    let converted' = a.converted in
     let end : StepEnd = w.end in
     let ok : passed end ≡ true = w.gives.passes.passes in
     let rest : List ℕ = drop t.used front in
@@ -112,7 +115,7 @@ going_on ds front p d t u old new piece taken stores at h is w tally used assign
           ap (λ y. one_from d Skipping t.used (y ++ z)) (sym is) ∙ w.takes.takes z ∙ ap (λ (y : List ℕ). record { used = t.used + taken; left = y ++ z; end = end }) place in
           h.same z ∙ ap (λ l. run_of None l (p + 1) (tally_of t old.values) (rest ++ z)) (drop_at ds p d at)
           ∙ passes_on d (drop (p + 1) ds) (p + 1) (tally_of t old.values) (rest ++ z) (next ++ z) taken end ok step
-          ∙ ap (λ v. run_of None (drop (p + 1) ds) (p + 1 + 1) v (next ++ z)) (sym (tally end old.values w.gives.passes) ∙ ap (tally_of u) (sym w.gives.values));
+          ∙ ap (λ v. run_of None (drop (p + 1) ds) (p + 1 + 1) v (next ++ z)) (sym (a.tally end old.values w.gives.passes) ∙ ap (tally_of u) (sym w.gives.values));
       within = omega (arith, used, behind, left, low);
       given = ap slots_in w.gives.values ∙ some_slot ds p d old.values end at w.own ok h.given;
       opened = w.gives.opened;

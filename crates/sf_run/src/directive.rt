@@ -110,6 +110,21 @@ fn item_phase<'f>(slot: Option<u8>, scan: ItemScan<'f>) -> Phase<'f>
     }
 }
 
+/// How many bytes of white space the piece begins with, the first of which is some.
+#[inline(always)]
+fn spaces(piece: &[u8]) -> usize
+    requires some { 0 < length piece.now }
+    requires first { is_white (get_or piece.now 0 0) ≡ true }
+    ensures within { result ≤ length piece.now }
+    ensures white { (k : ℕ) → k < result → is_white (get_or piece.now k 0) ≡ true }
+    ensures next { result < length piece.now → is_white (get_or piece.now result 0) ≡ false }
+{
+    match piece.get(1) {
+        Some(b) if !is_space(*b) => 1,
+        _ => space_run(piece),
+    }
+}
+
 /// How many bytes of white space the piece begins with.
 #[inline(always)]
 pub(crate) fn space_before(piece: &[u8]) -> usize
@@ -118,7 +133,7 @@ pub(crate) fn space_before(piece: &[u8]) -> usize
     ensures next { result < length piece.now → is_white (get_or piece.now result 0) ≡ false }
 {
     match piece.first() {
-        Some(b) if is_space(*b) => space_run(piece),
+        Some(b) if is_space(*b) => spaces(piece),
         _ => 0,
     }
 }
@@ -569,7 +584,7 @@ fn whole_item(conversion: &Conversion, piece: &[u8]) -> Option<Ended>
 
 /// As `whole_item`, of a conversion that took nothing yet, with the piece so many bytes into the run.
 #[inline(always)]
-fn whole_conversion(conversion: &Conversion, piece: &[u8], used: u32) -> Option<Ended>
+pub(crate) fn whole_conversion(conversion: &Conversion, piece: &[u8], used: u32) -> Option<Ended>
     ensures { IfSome result (EndsAtOnce (directive.Conv conversion.now) used piece.now) }
 {
     if is_count(&conversion.shape) {
@@ -602,37 +617,33 @@ fn as_ended(run: Run<'_>) -> Option<Ended>
     })
 }
 
-/// How the directive ends, which took nothing yet, where it does so within the piece, which comes so many bytes into the run,
-/// and where that is told by a look at its bytes.
+/// White space that ends within the piece.
 #[inline(always)]
-fn ended_at_once(directive: &Directive, piece: &[u8], used: u32) -> Option<Ended>
-    ensures { IfSome result (EndsAtOnce directive.now used piece.now) }
+pub(crate) fn ended_space(piece: &[u8]) -> Option<Ended>
+    ensures { (n : ℕ) → IfSome result (EndsAtOnce directive.Space n piece.now) }
 {
-    match directive {
-        Directive::Space => as_ended(run_space(piece)),
-        Directive::Byte(due) => as_ended(run_byte(*due, piece)),
-        Directive::Percent => as_ended(run_percent(piece)),
-        Directive::Conv(conversion) => whole_conversion(conversion, piece, used),
-    }
+    as_ended(run_space(piece))
 }
 
-/// As `ended_at_once`, where a directive has come to its end byte by byte.
-#[cold]
-#[inline(never)]
-fn ended_later(directive: &Directive, piece: &[u8], used: u32) -> Option<Ended>
-    ensures { IfSome result (EndsAtOnce directive.now used piece.now) }
+/// The byte that is due, or another one.
+#[inline(always)]
+pub(crate) fn ended_byte(due: u8, piece: &[u8]) -> Option<Ended>
+    ensures { (n : ℕ) → IfSome result (EndsAtOnce (directive.Byte due) n piece.now) }
 {
-    as_ended(run_on(directive, Phase::Skipping, piece, used))
+    as_ended(run_byte(due, piece))
+}
+
+/// `%%` that ends within the piece.
+#[inline(always)]
+pub(crate) fn ended_percent(piece: &[u8]) -> Option<Ended>
+    ensures { (n : ℕ) → IfSome result (EndsAtOnce directive.Percent n piece.now) }
+{
+    as_ended(run_percent(piece))
 }
 
 /// How the directive ends, which took nothing yet, where it does so within the piece, which comes so many bytes into the run.
-#[inline(always)]
-pub(crate) fn ended_in(directive: &Directive, piece: &[u8], used: u32) -> Option<Ended>
+pub(crate) fn ended_within(directive: &Directive, piece: &[u8], used: u32) -> Option<Ended>
     ensures { IfSome result (EndsAtOnce directive.now used piece.now) }
 {
-    let at_once = ended_at_once(directive, piece, used);
-    if at_once.is_some() {
-        return at_once;
-    }
-    ended_later(directive, piece, used)
+    as_ended(run_on(directive, Phase::Skipping, piece, used))
 }

@@ -1,6 +1,7 @@
 //! What a run has counted so far.
 ghost use Rattle.std.specs.Prelude.{◌≡◌, ◌+◌, ◌-◌, ◌<◌, ◌≤◌, ◌^◌, List, if◌then◌else◌, true};
 ghost use Rattle.sf_base.specs.Data.{Assigned};
+ghost use Rattle.sf_format.specs.declared.directive.Directive.{Directive};
 ghost use Rattle.sf_run.specs.Residual.{counted};
 ghost use Rattle.sf_run.specs.Runs.{is_conversion, stored};
 ghost use Rattle.sf_run.specs.Steps.{StepEnd};
@@ -16,9 +17,9 @@ pub(crate) struct Tally {
     pub(crate) converted: u16,
 }
 
-// Whether the directive counts as a conversion: `%%` and `%n` don't.
+/// Whether the directive counts as a conversion: `%%` and `%n` don't.
 #[inline(always)]
-fn is_conversion(directive: &Directive) -> bool
+pub(crate) fn is_conversion(directive: &Directive) -> bool
     ensures { result ≡ is_conversion directive.now }
 {
     match directive {
@@ -41,18 +42,18 @@ impl Tally {
         }
     }
 
-    /// With a directive that has passed, and stored something or not.
+    /// With a directive that has passed, and stored something or not; `counts` says whether it counts as a conversion.
     #[inline(always)]
-    pub(crate) fn counted(self, directive: &Directive, stores: bool) -> Tally
+    pub(crate) fn counted_as(self, counts: bool, stores: bool) -> Tally
         requires assigned { stores ≡ true → self.assigned < 2 ^ 8 - 1 }
         requires converted { self.converted < 2 ^ 16 - 1 }
-        ensures tally { (end : StepEnd) (values : List Assigned) → PassesSo end stores
-            → tally_of result (values_with end values) ≡ counted directive.now end (tally_of self values) }
+        ensures tally { (d : Directive) (end : StepEnd) (values : List Assigned) → counts ≡ is_conversion d → PassesSo end stores
+            → tally_of result (values_with end values) ≡ counted d end (tally_of self values) }
         ensures used { result.used ≡ self.used }
         ensures assigned { result.assigned ≤ self.assigned + (if stores then 1 else 0) }
         ensures converted { result.converted ≤ self.converted + 1 }
     {
-        if !is_conversion(directive) {
+        if !counts {
             return self;
         }
         Tally {
@@ -64,5 +65,18 @@ impl Tally {
             },
             converted: self.converted + 1,
         }
+    }
+
+    /// With a directive that has passed, and stored something or not.
+    pub(crate) fn counted(self, directive: &Directive, stores: bool) -> Tally
+        requires assigned { stores ≡ true → self.assigned < 2 ^ 8 - 1 }
+        requires converted { self.converted < 2 ^ 16 - 1 }
+        ensures tally { (end : StepEnd) (values : List Assigned) → PassesSo end stores
+            → tally_of result (values_with end values) ≡ counted directive.now end (tally_of self values) }
+        ensures used { result.used ≡ self.used }
+        ensures assigned { result.assigned ≤ self.assigned + (if stores then 1 else 0) }
+        ensures converted { result.converted ≤ self.converted + 1 }
+    {
+        self.counted_as(is_conversion(directive), stores)
     }
 }

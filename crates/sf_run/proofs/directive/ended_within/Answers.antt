@@ -1,7 +1,7 @@
 use Rattle.std.proofs.Common.{refl}
 use Rattle.sf_run.specs.Machine.{Skipping}
 use Rattle.sf_run.proofs.Pieces.{ended_by}
-use Rattle.sf_run.proofs.directive.ended_later.Goals as goal
+use Rattle.sf_run.proofs.directive.ended_within.Goals as goal
 
 pub returns : goal.returns
 returns c =
