@@ -2,8 +2,8 @@
 use Rattle.std.proofs.Common.{◌≡◌, ℕ, zero, suc, ◌+◌, ◌-◌, ◌≤◌, Bool, true, false, cond, List, [], ◌∷◌, ◌++◌, length, take, drop, Option, Some, None, refl, sym, ap, subst, ◌∙◌, arith, true≢false, length-drop}
 use Rattle.std.specs.Prelude.{slice_get}
 use Rattle.std.proofs.lemmas.List.{append-nil, append_assoc, drop-drop, length-append, take-append-drop}
-use Rattle.sf_base.specs.Data.{Assigned}
-use Rattle.sf_base.specs.Kept.{Kept, texts_in}
+use Rattle.sf_base.specs.Data.{Assigned, Bytes}
+use Rattle.sf_base.specs.Kept.{Kept, texts_in, with_text}
 use Rattle.sf_format.specs.declared.directive.Directive.{Directive}
 use Rattle.sf_format.specs.Proper.{AreProper, IsProper, slots_of}
 use Rattle.sf_run.specs.declared.directive.Finished.{Finished}
@@ -19,7 +19,7 @@ use Rattle.sf_run.specs.Machine.{Skipping}
 use Rattle.sf_run.specs.Phases.{end_of, is_failing, slot_given}
 use Rattle.sf_run.specs.Pieces.{EndsAtOnce}
 use Rattle.sf_run.specs.Places.{is_destination, places_left}
-use Rattle.sf_run.specs.Quick.{Advances, GivesTo, MayBeGiven, PassesWithin, slot_stored}
+use Rattle.sf_run.specs.Quick.{GivesTo, MayBeGiven, PassesWithin, slot_stored}
 use Rattle.sf_run.specs.Residual.{Part, Tally, by_end, counted, nothing_yet, one_from, out_of, run_of, then_on, with_used}
 use Rattle.sf_run.specs.Runs.{IsOpen, RunReport, passed, stored}
 use Rattle.sf_run.specs.Steps.{StepEnd, Passes, Stores, Fails}
@@ -27,7 +27,7 @@ use Rattle.sf_run.specs.Tallies.{PassesSo, tally_of, values_with}
 use Rattle.sf_run.specs.Texts.{slot_of, slots_in}
 use Rattle.sf_run.proofs.Moves.{drop_at, place_taken}
 use Rattle.sf_run.proofs.Openness.{within_limit}
-use Rattle.sf_run.proofs.Slots.{is_destination_of, slot_free, slot_placed, slots_more, slots_none}
+use Rattle.sf_run.proofs.Slots.{is_destination_of, joined_text, slot_free, slot_placed, slots_more, slots_none}
 use Rattle.sf_run.proofs.Told.{told_exists, uses_is, within_met}
 use Rattle.sf_run.proofs.Waits.{open_all}
 
@@ -54,6 +54,15 @@ passes_within d n piece e stores old new proper is gives = record {
   gives = gives;
   own = own_slot e.finished (take e.item (drop e.before piece)) (slot_of d) gives.passes.passes is.fits.given;
 }
+
+-- a text that the store was given is what the directive gives
+pub text_given : (slot : ℕ) (text : List ℕ) (room : ℕ) (old new : Kept) → new ≡ with_text slot text room old → GivesTo (Stores slot (Bytes text)) true old new
+text_given slot text room old new is = subst (λ (k : Kept). GivesTo (Stores slot (Bytes text)) true old k) (sym is) (record {
+  passes = record { passes = refl; stored = refl };
+  values = refl;
+  opened = refl;
+  joined = λ joined. joined_text old.closed old.values slot text joined;
+})
 
 -- ---- directive after directive
 
@@ -92,15 +101,11 @@ stores_own d (Stores slot v) stores own is some = is_destination_of d slot (sym 
 stores_own d (Fails status) stores own is some = absurd (true≢false (sym (is ∙ some)))
 
 -- the next directive has passed
-pub going_on : (ds : List Directive) (front : List ℕ) (p : ℕ) (d : Directive) (t u : code.Tally) (old new : Kept) (piece : List ℕ) → slice_get ds p ≡ Some d
-    → Going ds front p t old → piece ≡ drop t.used front → Advances d piece t u old new → Going ds front (p + 1) u new
-going_on ds front p d t u old new piece at h is a =
-    let taken : ℕ = a.taken in
-    let stores : Bool = a.stores in
-    let w : PassesWithin d t.used piece taken stores old new = a.passes in
-    let used = a.used in
-    let assigned' = a.assigned in
-    let converted' = a.converted in
+pub going_on : (ds : List Directive) (front : List ℕ) (p : ℕ) (d : Directive) (t u : code.Tally) (old new : Kept) (piece : List ℕ) (taken : ℕ) (stores : Bool) → slice_get ds p ≡ Some d
+    → Going ds front p t old → piece ≡ drop t.used front → PassesWithin d t.used piece taken stores old new
+    → ((end : StepEnd) (values : List Assigned) → PassesSo end stores → tally_of u (values_with end values) ≡ counted d end (with_used (t.used + taken) (tally_of t values)))
+    → u.used ≡ t.used + taken → u.assigned ≤ t.assigned + cond stores 1 0 → u.converted ≤ t.converted + 1 → Going ds front (p + 1) u new
+going_on ds front p d t u old new piece taken stores at h is w tally used assigned' converted' =
     let end : StepEnd = w.end in
     let ok : passed end ≡ true = w.gives.passes.passes in
     let rest : List ℕ = drop t.used front in
@@ -115,7 +120,7 @@ going_on ds front p d t u old new piece at h is a =
           ap (λ y. one_from d Skipping t.used (y ++ z)) (sym is) ∙ w.takes.takes z ∙ ap (λ (y : List ℕ). record { used = t.used + taken; left = y ++ z; end = end }) place in
           h.same z ∙ ap (λ l. run_of None l (p + 1) (tally_of t old.values) (rest ++ z)) (drop_at ds p d at)
           ∙ passes_on d (drop (p + 1) ds) (p + 1) (tally_of t old.values) (rest ++ z) (next ++ z) taken end ok step
-          ∙ ap (λ v. run_of None (drop (p + 1) ds) (p + 1 + 1) v (next ++ z)) (sym (a.tally end old.values w.gives.passes) ∙ ap (tally_of u) (sym w.gives.values));
+          ∙ ap (λ v. run_of None (drop (p + 1) ds) (p + 1 + 1) v (next ++ z)) (sym (tally end old.values w.gives.passes) ∙ ap (tally_of u) (sym w.gives.values));
       within = omega (arith, used, behind, left, low);
       given = ap slots_in w.gives.values ∙ some_slot ds p d old.values end at w.own ok h.given;
       opened = w.gives.opened;

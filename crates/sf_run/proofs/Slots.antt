@@ -7,11 +7,10 @@ use Rattle.std.proofs.lemmas.Bool.{eqb-false, ne_eqb}
 use Rattle.std.proofs.lemmas.Bool.Decides.{nat_tests}
 use Rattle.std.proofs.lemmas.List.{map-append}
 use Rattle.std.proofs.lemmas.List.Sums.{sum_by-cons}
-use Rattle.sf_base.specs.Data.{Datum, Bytes, Assigned, datum_at, datum_of, is_number}
+use Rattle.sf_base.specs.Data.{Datum, Bytes, Assigned, datum_at, datum_of_number}
 use Rattle.sf_base.specs.Kept.{Kept, assigned, with_closed, buffer_of, Opened, text_of, text_in, texts_in, values_closed}
 use Rattle.sf_run.specs.Memory.{HoldsTexts, capacity_of}
-use Rattle.sf_base.specs.declared.values.Value.{Value}
-use Rattle.sf_base.specs.declared.values.Value.TheVariants as value
+use Rattle.sf_base.specs.declared.number.Number.{Number}
 use Rattle.sf_format.specs.declared.directive.Conversion.{Conversion}
 use Rattle.sf_format.specs.declared.directive.Directive.{Directive}
 use Rattle.sf_format.specs.declared.directive.Directive.TheVariants.{Space, Byte, Percent, Conv}
@@ -189,21 +188,8 @@ texts-push : (values : List Assigned) (a : Assigned) → texts_in (values ++ a �
 texts-push [] a = append-nil (text_in a.datum)
 texts-push (x ∷ values) a = ap (λ l. text_in x.datum ++ l) (texts-push values a) ∙ sym (append_assoc (text_in x.datum) (texts_in values) (text_in a.datum))
 
-number_text : (v : Value) → is_number v ≡ true → text_in (datum_of v) ≡ []
-number_text (value.I8 n) e = refl
-number_text (value.I16 n) e = refl
-number_text (value.I32 n) e = refl
-number_text (value.I64 n) e = refl
-number_text (value.U8 n) e = refl
-number_text (value.U16 n) e = refl
-number_text (value.U32 n) e = refl
-number_text (value.U64 n) e = refl
-number_text (value.Text t) e = absurd (true≢false (sym e))
-
-pub joined_number : (closed : List ℕ) (values : List Assigned) (slot : ℕ) (v : Value) → is_number v ≡ true → closed ≡ texts_in values
-    → closed ≡ texts_in (values ++ assigned slot (datum_of v) ∷ [])
-joined_number closed values slot v number is =
-    is ∙ sym (append-nil (texts_in values)) ∙ ap (λ l. texts_in values ++ l) (sym (number_text v number)) ∙ sym (texts-push values (assigned slot (datum_of v)))
+pub joined_number : (closed : List ℕ) (values : List Assigned) (slot : ℕ) (n : Number) → closed ≡ texts_in values → closed ≡ texts_in (values ++ assigned slot (datum_of_number n) ∷ [])
+joined_number closed values slot n is = is ∙ sym (append-nil (texts_in values)) ∙ sym (texts-push values (assigned slot (datum_of_number n)))
 
 pub joined_text : (closed : List ℕ) (values : List Assigned) (slot : ℕ) (text : List ℕ) → closed ≡ texts_in values
     → closed ++ text ≡ texts_in (values ++ assigned slot (Bytes text) ∷ [])

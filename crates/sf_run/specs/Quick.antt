@@ -1,14 +1,12 @@
 -- Directives that begin and pass within a piece of the input, and give a store what they give.
-use Rattle.std.specs.Prelude.{◌≡◌, ℕ, ◌+◌, ◌≤◌, Bool, if◌then◌else◌, List, Option, Some, None}
+use Rattle.std.specs.Prelude.{◌≡◌, ℕ, ◌≤◌, Bool, List, Option, Some, None}
 use Rattle.sf_base.specs.Data.{Assigned, datum_at}
 use Rattle.sf_base.specs.Kept.{Kept, texts_in}
 use Rattle.sf_format.specs.declared.directive.Directive.{Directive}
-use Rattle.sf_run.specs.declared.tally.Tally as code
 use Rattle.sf_run.specs.Machine.{Skipping}
 use Rattle.sf_run.specs.Pieces.{EndsIn}
-use Rattle.sf_run.specs.Residual.{counted, with_used}
 use Rattle.sf_run.specs.Steps.{StepEnd, Stores}
-use Rattle.sf_run.specs.Tallies.{PassesSo, tally_of, values_with}
+use Rattle.sf_run.specs.Tallies.{PassesSo, values_with}
 use Rattle.sf_run.specs.Texts.{slot_of}
 
 -- the slot, where there is one, is a slot of a store with these values that may be given something
@@ -34,13 +32,3 @@ pub record PassesWithin (d : Directive) (n : ℕ) (piece : List ℕ) (taken : �
   pub takes : EndsIn d Skipping n piece taken end
   pub gives : GivesTo end stores old new
   pub own : slot_stored end ≡ slot_of d
-
--- the directive has passed within the piece, and this is the tally after it
-pub record Advances (d : Directive) (piece : List ℕ) (t u : code.Tally) (old new : Kept) : Type 0 where
-  pub taken : ℕ
-  pub stores : Bool
-  pub passes : PassesWithin d t.used piece taken stores old new
-  pub used : u.used ≡ t.used + taken
-  pub tally : (end : StepEnd) (values : List Assigned) → PassesSo end stores → tally_of u (values_with end values) ≡ counted d end (with_used (t.used + taken) (tally_of t values))
-  pub assigned : u.assigned ≤ t.assigned + (if stores then 1 else 0)
-  pub converted : u.converted ≤ t.converted + 1

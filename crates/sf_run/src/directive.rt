@@ -2,7 +2,7 @@
 ghost use Rattle.std.specs.Prelude.{◌≡◌, ◌≢◌, ◌+◌, ◌<◌, ◌≤◌, ◌&&◌, ◌^◌, true, false, ℕ, ℤ, List, [], ◌++◌, length, take, drop, get_or, Option, Some, None, IfSome};
 ghost use Rattle.sf_base.specs.Bytes.{is_white};
 ghost use Rattle.std.specs.Option.{option_map};
-ghost use Rattle.sf_base.specs.Data.{Number, datum_of, is_number};
+ghost use Rattle.sf_base.specs.Data.{Number as NumberOf, datum_of_number};
 ghost use Rattle.sf_base.specs.Kept.{Opened, text_of};
 ghost use Rattle.sf_format.specs.declared.directive.Conversion.{Conversion};
 ghost use Rattle.sf_format.specs.declared.directive.Directive.{Directive};
@@ -16,12 +16,12 @@ ghost use Rattle.sf_run.specs.declared.directive.Finished.TheVariants as finish;
 ghost use Rattle.sf_run.specs.Machine.{Stage, Skipping, Item, shape_skips, is_full, item_end, item_finished, count_end, finished};
 ghost use Rattle.sf_run.specs.Texts.{text_slot, opened_for, slot_of_text, is_count};
 ghost use Rattle.sf_run.specs.Holding.{FallsBy};
-ghost use Rattle.sf_run.specs.Phases.{ShowsItem, Shows, CanAll, IsNumberGiven, end_of, is_failing, is_memory_failure, passed_number, slot_closed, slot_given, slot_in};
+ghost use Rattle.sf_run.specs.Phases.{ShowsItem, Shows, CanAll, end_of, is_failing, is_memory_failure, passed_number, slot_closed, slot_given, slot_in};
 ghost use Rattle.sf_run.specs.Pieces.{Answers, EndsAt, EndsAtOnce, IsEnd, IsEndIn, IsEndOf, IsWhole, StaysAt, Suits, run_of};
 
 use crate::number::number_of;
 use crate::outcome::Status;
-use sf_base::{Value, is_space, space_run};
+use sf_base::{Number, is_space, space_run};
 use sf_format::{Base, Conversion, Directive, Shape};
 use sf_item::{ItemEnd, ItemScan, WholeInteger, whole_bytes, whole_decimal, whole_hex};
 
@@ -41,7 +41,7 @@ pub(crate) enum Phase<'f> {
 pub(crate) enum Finished {
     Passes,
     /// The slot is given a number.
-    Stores { slot: u8, value: Value<'static> },
+    Stores { slot: u8, number: Number },
     /// The slot is given the opened text.
     Closes { slot: u8 },
     Fails(Status),
@@ -154,19 +154,17 @@ pub(crate) fn skipped(shape: &Shape, piece: &[u8]) -> usize
 
 /// A conversion that matched a number; None where its kind doesn't hold it.
 #[inline(always)]
-pub(crate) fn finish_number(conversion: &Conversion, value: Option<Value<'static>>) -> Finished
-    requires { IfSome value (λ v. is_number v ≡ true) }
-    ensures end { (text : List ℕ) (n : Option ℤ) → option_map datum_of value.entry ≡ option_map (Number conversion.now.kind) n
+pub(crate) fn finish_number(conversion: &Conversion, number: Option<Number>) -> Finished
+    ensures end { (text : List ℕ) (n : Option ℤ) → option_map datum_of_number number ≡ option_map (NumberOf conversion.now.kind) n
         → end_of text result ≡ passed_number conversion.now conversion.now.slot n }
     ensures closes { slot_closed result ≡ None }
     ensures given { is_failing result ≡ false → slot_given result ≡ conversion.now.slot }
-    ensures number { IsNumberGiven result }
     ensures memory { is_memory_failure result ≡ false }
 {
-    match (conversion.slot, value) {
+    match (conversion.slot, number) {
         (None, _) => Finished::Passes,
         (Some(_), None) => Finished::Fails(Status::OutOfRange),
-        (Some(slot), Some(value)) => Finished::Stores { slot, value },
+        (Some(slot), Some(number)) => Finished::Stores { slot, number },
     }
 }
 
@@ -175,7 +173,6 @@ fn finish_matched(slot: Option<u8>) -> Finished
     ensures end { (text : List ℕ) → slot ≡ None → end_of text result ≡ StepEnd.Passes }
     ensures closes { slot_closed result ≡ None }
     ensures given { is_failing result ≡ false → slot_given result ≡ slot }
-    ensures number { IsNumberGiven result }
     ensures memory { is_memory_failure result ≡ false }
 {
     match slot {
@@ -190,7 +187,6 @@ pub(crate) fn finish_item(conversion: &Conversion, scan: ItemScan<'_>) -> Finish
         → end_of text result ≡ item_end conversion.now f }
     ensures closes { slot_closed result ≡ None }
     ensures given { is_failing result ≡ false → slot_given result ≡ conversion.now.slot }
-    ensures number { IsNumberGiven result }
     ensures memory { is_memory_failure result ≡ false }
 {
     match scan.finish() {
@@ -213,7 +209,6 @@ pub(crate) fn finish_text(slot: u8, scan: ItemScan<'_>) -> Finished
         → end_of f result ≡ item_end (conversion_of scan.entry) f }
     ensures text { is_failing result ≡ false → Some slot ≡ slot_closed result }
     ensures given { is_failing result ≡ false → slot_given result ≡ Some slot }
-    ensures number { IsNumberGiven result }
     ensures memory { is_memory_failure result ≡ false }
 {
     match scan.finish() {
@@ -227,7 +222,6 @@ fn finish_count(conversion: &Conversion, used: u32) -> Finished
     ensures end { (text : List ℕ) → end_of text result ≡ count_end conversion.now conversion.now.slot used }
     ensures closes { slot_closed result ≡ None }
     ensures given { is_failing result ≡ false → slot_given result ≡ conversion.now.slot }
-    ensures number { IsNumberGiven result }
     ensures memory { is_memory_failure result ≡ false }
 {
     finish_number(
@@ -243,7 +237,6 @@ fn finish_taken(conversion: &Conversion, slot: Option<u8>, scan: ItemScan<'_>) -
         → end_of f result ≡ item_end conversion.now f }
     ensures text { is_failing result ≡ false → slot ≡ slot_closed result }
     ensures given { is_failing result ≡ false → slot_given result ≡ conversion.now.slot }
-    ensures number { IsNumberGiven result }
     ensures memory { is_memory_failure result ≡ false }
 {
     match slot {
@@ -541,7 +534,6 @@ fn finish_bytes(slot: Option<u8>) -> Finished
     ensures none { slot ≡ None → result ≡ finish.Passes }
     ensures some { (n : ℕ) → slot ≡ Some n → result ≡ finish.Closes n }
     ensures given { slot_given result ≡ slot }
-    ensures number { IsNumberGiven result }
     ensures memory { is_memory_failure result ≡ false }
 {
     match slot {
@@ -625,12 +617,19 @@ pub(crate) fn ended_space(piece: &[u8]) -> Option<Ended>
     as_ended(run_space(piece))
 }
 
-/// The byte that is due, or another one.
+/// The byte that is due, where it is the first of the piece.
 #[inline(always)]
-pub(crate) fn ended_byte(due: u8, piece: &[u8]) -> Option<Ended>
+pub(crate) fn whole_byte(due: u8, piece: &[u8]) -> Option<Ended>
     ensures { (n : ℕ) → IfSome result (EndsAtOnce (directive.Byte due) n piece.now) }
 {
-    as_ended(run_byte(due, piece))
+    match piece.first() {
+        Some(b) if *b == due => Some(Ended {
+            before: 1,
+            item: 0,
+            finished: Finished::Passes,
+        }),
+        _ => None,
+    }
 }
 
 /// `%%` that ends within the piece.

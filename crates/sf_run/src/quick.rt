@@ -1,42 +1,32 @@
 //! Runs that begin and pass within a piece of the input, read at once.
-ghost use Rattle.std.specs.Prelude.{◌≡◌, ◌<◌, ◌≤◌, ◌+◌, ◌^◌, ◌++◌, ℕ, List, length, take, drop, true, Some, None, IfSome};
-ghost use Rattle.std.specs.Bool.{OnTrue};
-ghost use Rattle.sf_base.specs.Data.{Bytes};
+ghost use Rattle.std.specs.Prelude.{◌≡◌, ◌<◌, ◌≤◌, ◌+◌, ◌++◌, ℕ, List, length, take, drop, None, IfSome};
 ghost use Rattle.sf_base.specs.Kept.{buffer_of};
 ghost use Rattle.sf_format.specs.Proper.{IsProper};
 ghost use Rattle.sf_run.specs.declared.outcome.Ending.{Ending};
 ghost use Rattle.sf_run.specs.declared.outcome.Status.TheVariants as status;
 ghost use Rattle.sf_run.specs.Limits.{RunWithin};
 ghost use Rattle.sf_run.specs.Memory.{HoldsValues, capacity_of};
-ghost use Rattle.sf_run.specs.Phases.{IsNumberGiven, end_of, slot_given};
+ghost use Rattle.sf_run.specs.Phases.{end_of, slot_given};
 ghost use Rattle.sf_run.specs.Pieces.{EndsAtOnce};
-ghost use Rattle.sf_run.specs.Quick.{Advances, GivesTo, MayBeGiven};
-ghost use Rattle.sf_run.specs.Steps.{Stores};
+ghost use Rattle.sf_run.specs.Quick.{GivesTo, MayBeGiven, PassesWithin};
 ghost use Rattle.sf_run.specs.Texts.{slot_of};
 ghost use Rattle.sf_run.specs.Views.{report_by};
 
 use crate::directive::{
-    Ended, Finished, ended_byte, ended_percent, ended_space, ended_within, whole_conversion,
+    Ended, Finished, ended_percent, ended_space, ended_within, whole_byte, whole_conversion,
 };
 use crate::outcome::{Outcome, Status};
 use crate::tally::{Tally, is_conversion};
 use sf_base::{HeapStore, Store};
 use sf_format::{Directive, ScanFormat};
 
-/// Gives the slot of a store without an opened text these bytes, and says whether they were stored.
-#[inline(always)]
-fn give_text(store: &mut HeapStore, slot: u8, bytes: &[u8]) -> bool
-    requires opened { store.old.opened ≡ None }
-    requires free { MayBeGiven (Some slot) store.old.values }
-    ensures gives { OnTrue result (GivesTo (Stores slot (Bytes bytes.now)) true store.old store.new) }
-    ensures room { capacity_of store.old ≤ capacity_of store.new }
-{
-    store.open_text(slot);
-    if store.push_all(bytes).is_err() {
-        return false;
-    }
-    store.close_text();
-    true
+/// How a directive has passed.
+#[derive(Clone, Copy)]
+struct Passed {
+    /// How many bytes it took.
+    taken: usize,
+    /// Whether it stored something.
+    stores: bool,
 }
 
 /// Gives a store without an opened text what a directive gives that ends so within the piece, and says whether that is
@@ -45,24 +35,23 @@ fn give_text(store: &mut HeapStore, slot: u8, bytes: &[u8]) -> bool
 fn give(store: &mut HeapStore, ended: Ended, piece: &[u8]) -> Option<bool>
     requires opened { store.old.opened ≡ None }
     requires free { MayBeGiven (slot_given ended.finished) store.old.values }
-    requires number { IsNumberGiven ended.finished }
     requires within { ended.before + ended.item ≤ length piece.now }
     ensures gives { IfSome result (λ stores. GivesTo (end_of (take ended.item (drop ended.before piece.now)) ended.finished) stores store.old store.new) }
     ensures room { capacity_of store.old ≤ capacity_of store.new }
 {
     match ended.finished {
         Finished::Passes => Some(false),
-        Finished::Stores { slot, value } => {
-            store.set(slot, value);
+        Finished::Stores { slot, number } => {
+            store.set_number(slot, number);
             Some(true)
         }
         Finished::Closes { slot } => {
             let (_, rest) = piece.split_at(ended.before);
             let (item, _) = rest.split_at(ended.item);
-            if !give_text(store, slot, item) {
-                return None;
+            match store.put_text(slot, item) {
+                Ok(()) => Some(true),
+                Err(_) => None,
             }
-            Some(true)
         }
         Finished::Fails(_) => None,
     }
@@ -76,26 +65,22 @@ fn pass_so(
     directive: &Directive,
     ended: Option<Ended>,
     piece: &[u8],
-    tally: Tally,
-) -> Option<Tally>
+    used: u32,
+) -> Option<Passed>
     requires opened { store.old.opened ≡ None }
     requires free { MayBeGiven (slot_of directive.now) store.old.values }
-    requires ends { IfSome ended (EndsAtOnce directive.now tally.used piece.now) }
-    requires used { tally.used + length piece.now < 2 ^ 32 }
-    requires assigned { tally.assigned ≤ 32 }
-    requires converted { tally.converted ≤ 4096 }
-    ensures passes { IsProper directive.now → IfSome result (λ t. Advances directive.now piece.now tally t store.old store.new) }
+    requires ends { IfSome ended (EndsAtOnce directive.now used piece.now) }
+    ensures passes { IsProper directive.now → IfSome result (λ p. PassesWithin directive.now used piece.now p.taken p.stores store.old store.new) }
+    ensures within { IfSome result (λ p. p.taken ≤ length piece.now) }
     ensures room { capacity_of store.old ≤ capacity_of store.new }
 {
+    let _directive = directive;
     let ended = ended?;
-    let counts = is_conversion(directive);
     let stores = give(store, ended, piece)?;
-    let taken = Tally {
-        used: tally.used + (ended.before + ended.item) as u32,
-        assigned: tally.assigned,
-        converted: tally.converted,
-    };
-    Some(taken.counted_as(counts, stores))
+    Some(Passed {
+        taken: ended.before + ended.item,
+        stores,
+    })
 }
 
 /// As `pass`, of a directive that is read byte by byte.
@@ -105,41 +90,38 @@ fn pass_later(
     store: &mut HeapStore,
     directive: &Directive,
     piece: &[u8],
-    tally: Tally,
-) -> Option<Tally>
+    used: u32,
+) -> Option<Passed>
     requires opened { store.old.opened ≡ None }
     requires free { MayBeGiven (slot_of directive.now) store.old.values }
-    requires used { tally.used + length piece.now < 2 ^ 32 }
-    requires assigned { tally.assigned ≤ 32 }
-    requires converted { tally.converted ≤ 4096 }
-    ensures passes { IsProper directive.now → IfSome result (λ t. Advances directive.now piece.now tally t store.old store.new) }
+    ensures passes { IsProper directive.now → IfSome result (λ p. PassesWithin directive.now used piece.now p.taken p.stores store.old store.new) }
+    ensures within { IfSome result (λ p. p.taken ≤ length piece.now) }
     ensures room { capacity_of store.old ≤ capacity_of store.new }
 {
-    let ended = ended_within(directive, piece, tally.used);
-    pass_so(store, directive, ended, piece, tally)
+    let ended = ended_within(directive, piece, used);
+    pass_so(store, directive, ended, piece, used)
 }
 
-/// Passes a directive that ends within the piece. None where it may go on behind the piece, or fails.
+/// Passes a directive that ends within the piece, which comes so many bytes into the run. None where it may go on behind the
+/// piece, or fails.
 #[inline(always)]
-fn pass(store: &mut HeapStore, directive: &Directive, piece: &[u8], tally: Tally) -> Option<Tally>
+fn pass(store: &mut HeapStore, directive: &Directive, piece: &[u8], used: u32) -> Option<Passed>
     requires opened { store.old.opened ≡ None }
     requires free { MayBeGiven (slot_of directive.now) store.old.values }
-    requires used { tally.used + length piece.now < 2 ^ 32 }
-    requires assigned { tally.assigned ≤ 32 }
-    requires converted { tally.converted ≤ 4096 }
-    ensures passes { IsProper directive.now → IfSome result (λ t. Advances directive.now piece.now tally t store.old store.new) }
+    ensures passes { IsProper directive.now → IfSome result (λ p. PassesWithin directive.now used piece.now p.taken p.stores store.old store.new) }
+    ensures within { IfSome result (λ p. p.taken ≤ length piece.now) }
     ensures room { capacity_of store.old ≤ capacity_of store.new }
 {
     match directive {
-        Directive::Space => pass_so(store, directive, ended_space(piece), piece, tally),
-        Directive::Byte(due) => pass_so(store, directive, ended_byte(*due, piece), piece, tally),
-        Directive::Percent => pass_so(store, directive, ended_percent(piece), piece, tally),
+        Directive::Space => pass_so(store, directive, ended_space(piece), piece, used),
+        Directive::Byte(due) => pass_so(store, directive, whole_byte(*due, piece), piece, used),
+        Directive::Percent => pass_so(store, directive, ended_percent(piece), piece, used),
         Directive::Conv(conversion) => {
-            let ended = whole_conversion(conversion, piece, tally.used);
+            let ended = whole_conversion(conversion, piece, used);
             if ended.is_none() {
-                return pass_later(store, directive, piece, tally);
+                return pass_later(store, directive, piece, used);
             }
-            pass_so(store, directive, ended, piece, tally)
+            pass_so(store, directive, ended, piece, used)
         }
     }
 }
@@ -170,7 +152,10 @@ pub fn quick_run(
     let mut tally = Tally::new();
     for directive in directives {
         let (_, rest) = front.split_at(tally.used as usize);
-        tally = pass(store, directive, rest, tally)?;
+        let counts = is_conversion(directive);
+        let passed = pass(store, directive, rest, tally.used)?;
+        tally.used += passed.taken as u32;
+        tally = tally.counted_as(counts, passed.stores);
     }
     Some(Outcome {
         status: Status::Done,

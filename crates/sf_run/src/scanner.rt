@@ -3,7 +3,7 @@ ghost use Rattle.std.specs.Prelude.{◌≡◌, ℕ, ◌+◌, ◌<◌, ◌≤◌,
 ghost use Rattle.std.specs.Bool.{OnTrue, OnFalse};
 ghost use Rattle.std.specs.Option.{option_map};
 ghost use Rattle.std.specs.Result.{result_ok};
-ghost use Rattle.sf_base.specs.Data.{Assigned, Bytes, datum_of, is_number};
+ghost use Rattle.sf_base.specs.Data.{Assigned, Bytes, datum_of_number};
 ghost use Rattle.sf_base.specs.Kept.{buffer_of, longer, with_bytes, nothing_kept, text_of, texts_in};
 ghost use Rattle.sf_format.specs.declared.directive.Directive.{Directive};
 ghost use Rattle.sf_format.specs.Proper.{AreProper, IsProper, destinations_of, slots_of};
@@ -23,7 +23,7 @@ use crate::directive::{Finished, Phase, Run, finish, run_on};
 use crate::outcome::{Ending, Fed, FeedState, Outcome, StartFault, Status};
 use crate::report::{Report, Scanned};
 use crate::tally::Tally;
-use sf_base::{FixedStore, HeapStore, Store, Value, push_each};
+use sf_base::{FixedStore, HeapStore, Number, Store, push_each};
 use sf_format::{Directive, ScanFormat};
 use sf_item::ItemScan;
 use std::alloc::Global;
@@ -150,15 +150,14 @@ impl<'f, S: Store> Scanner<'f, S> {
     }
 
     /// The directive under way has passed, and gives its slot a number.
-    fn set(&mut self, directive: &Directive, slot: u8, value: Value<'_>)
+    fn set(&mut self, directive: &Directive, slot: u8, number: Number)
         requires current { slice_get self.old.directives.now self.old.passed ≡ Some directive.now }
         requires no_text { slot_in self.old.phase ≡ None }
         requires own { slot_of directive.now ≡ Some slot }
-        requires number { is_number value ≡ true }
-        ensures { Passes (standing self.new) (standing self.old) directive.now (StepEnd.Stores slot (datum_of value.entry)) }
+        ensures { Passes (standing self.new) (standing self.old) directive.now (StepEnd.Stores slot (datum_of_number number)) }
     {
         let tally = self.tally.counted(directive, true);
-        self.store.set(slot, value);
+        self.store.set_number(slot, number);
         self.tally = tally;
         self.passed += 1;
         self.phase = Phase::Skipping;
@@ -192,7 +191,7 @@ impl<'f, S: Store> Scanner<'f, S> {
         match finished {
             Finished::Fails(status) => self.fail(status),
             Finished::Passes => self.pass(directive),
-            Finished::Stores { slot, value } => self.set(directive, slot, value),
+            Finished::Stores { slot, number } => self.set(directive, slot, number),
             Finished::Closes { slot } => self.close_text(directive, slot),
         }
     }

@@ -14,7 +14,7 @@ returns-in-Integer-clause-end c text f some same h none =
     let ends : Ends d f (Integer i.negative i.magnitude i.overflowed) =
     subst (λ (e : Conversion). Ends e f (Integer i.negative i.magnitude i.overflowed)) (sym same) (i.ensures f h) in
     c.finish_number.ensures.end text (value_of d.kind i.negative ends.1)
-    (c.number_of.ensures.value ∙ ap (option_map (Number d.kind)) (held_value d.kind i.negative i.magnitude ends.1 i.overflowed ends.4))
+    (c.number_of.ensures ∙ ap (option_map (Number d.kind)) (held_value d.kind i.negative i.magnitude ends.1 i.overflowed ends.4))
     ∙ integer_ends d f i.negative i.magnitude i.overflowed ends
 
 pub returns-in-Matched-clause-end : goal.returns-in-Matched-clause-end

@@ -11,11 +11,11 @@ returns-clause-answers c proper ink n =
     let is = c.in_ok-whole.ensures in
     let below = is.ends.behind in
     integer_read k n c.args.piece.now w c.finish_number.result is (ink (omega (arith, below)))
-    (λ text. c.finish_number.ensures.end text (value_of k.kind w.negative w.magnitude) c.number_of-number.ensures.value)
+    (λ text. c.finish_number.ensures.end text (value_of k.kind w.negative w.magnitude) c.number_of-number.ensures)
 
 pub returns-clause-fits : goal.returns-clause-fits
 returns-clause-fits c =
     let e = c.finish_number.ensures in
     let is = c.in_ok-whole.ensures in
     let below = is.ends.behind in
-    record { within = omega (arith, below); given = e.given; number = e.number; memory = e.memory }
+    record { within = omega (arith, below); given = e.given; memory = e.memory }

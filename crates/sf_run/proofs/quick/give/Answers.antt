@@ -4,11 +4,15 @@ use Rattle.sf_run.specs.declared.directive.Finished.{Finished}
 use Rattle.sf_run.specs.Phases.{end_of}
 use Rattle.sf_run.specs.Quick.{GivesTo}
 use Rattle.sf_run.specs.Steps.{Stores}
+use Rattle.sf_run.proofs.AtOnce.{text_given}
 use Rattle.sf_run.proofs.quick.give.Goals as goal
 
-pub returns-else-not-give_text-clause-gives : goal.returns-else-not-give_text-clause-gives
-returns-else-not-give_text-clause-gives c =
+pub returns-in-Ok-clause-gives : goal.returns-in-Ok-clause-gives
+returns-in-Ok-clause-gives c =
     let e = c.args.ended in
-    subst (λ (f : Finished). GivesTo (end_of (take e.item (drop e.before c.args.piece.now)) f) true c.args.store.now c.give_text.new.store) (sym c.in-Closes.is)
-    (subst (λ (y : List ℕ). GivesTo (Stores c.in-Closes.slot (Bytes y)) true c.args.store.now c.give_text.new.store)
-    (c.split_at-in-Closes.ensures.front ∙ ap (take e.item) c.split_at.ensures.back) c.if-not-give_text.ensures.gives)
+    let slot : ℕ = c.in-Closes.slot in
+    let old = c.args.store.now in
+    let new = c.put_text.new.self in
+    subst (λ (f : Finished). GivesTo (end_of (take e.item (drop e.before c.args.piece.now)) f) true old new) (sym c.in-Closes.is)
+    (subst (λ (y : List ℕ). GivesTo (Stores slot (Bytes y)) true old new) (c.split_at-in-Closes.ensures.front ∙ ap (take e.item) c.split_at.ensures.back)
+    (text_given slot c.split_at-in-Closes.result.0.now new.room old new c.in-Ok.ensures.ok))

@@ -1,4 +1,4 @@
-use Rattle.std.proofs.Common.{Option, subst, ◌+◌}
+use Rattle.std.proofs.Common.{Option, subst}
 use Rattle.std.specs.Prelude.{IfSome}
 use Rattle.sf_run.specs.declared.directive.Ended.{Ended}
 use Rattle.sf_run.specs.Pieces.{EndsAtOnce}
@@ -9,21 +9,12 @@ pub give-requires-clause-free : goal.give-requires-clause-free
 give-requires-clause-free c =
     let e : Ended = c.in_ok-ended.ended in
     let d = c.args.directive.now in
-    let own : EndsAtOnce d c.args.tally.used c.args.piece.now e = subst (λ (o : Option Ended). IfSome o (EndsAtOnce d c.args.tally.used c.args.piece.now)) c.in_ok-ended.was c.requires.ends in
+    let own : EndsAtOnce d c.args.used c.args.piece.now e = subst (λ (o : Option Ended). IfSome o (EndsAtOnce d c.args.used c.args.piece.now)) c.in_ok-ended.was c.requires.ends in
     free_of e.finished d c.args.store.now.values own.fits.given c.requires.free
 
 pub returns-clause-passes : goal.returns-clause-passes
 returns-clause-passes c = λ proper.
     let e : Ended = c.in_ok-ended.ended in
     let d = c.args.directive.now in
-    let own : EndsAtOnce d c.args.tally.used c.args.piece.now e = subst (λ (o : Option Ended). IfSome o (EndsAtOnce d c.args.tally.used c.args.piece.now)) c.in_ok-ended.was c.requires.ends in
-    let so = c.counted_as.ensures in
-    record {
-      taken = e.before + e.item;
-      stores = c.in_ok-stores.stores;
-      passes = passes_within d c.args.tally.used c.args.piece.now e c.in_ok-stores.stores c.args.store.now c.give.new.store proper own c.in_ok-stores.ensures.gives;
-      used = so.used;
-      tally = λ end values passes. so.tally d end values c.is_conversion-counts.ensures passes;
-      assigned = so.assigned;
-      converted = so.converted;
-    }
+    let own : EndsAtOnce d c.args.used c.args.piece.now e = subst (λ (o : Option Ended). IfSome o (EndsAtOnce d c.args.used c.args.piece.now)) c.in_ok-ended.was c.requires.ends in
+    passes_within d c.args.used c.args.piece.now e c.in_ok-stores.stores c.args.store.now c.give.new.store proper own c.in_ok-stores.ensures.gives

@@ -25,9 +25,11 @@ loop-directive-preserved c =
     let i : ℕ = c.loop-directive.directive-index in
     let at : slice_get ds.result.now i ≡ Some c.directive-item.result = slice_get_read ds.result.now (length ds.result.now) i c.directive-item.result refl c.loop-directive-test.true c.directive-item.is in
     let proper = proper_at ds.result.now i c.directive-item.result ds.ensures.proper at in
+    let own = c.counted_as-tally.ensures in
     record {
-      going = going_on ds.result.now c.split_at.result.0.now i c.directive-item.result c.loop-directive.tally c.in_ok-tally.tally c.loop-directive.store c.pass.new.store
-          c.split_at-in-loop-directive.result.1.now at c.loop-directive.invariant.going c.split_at-in-loop-directive.ensures.back (c.in_ok-tally.ensures.passes proper);
+      going = going_on ds.result.now c.split_at.result.0.now i c.directive-item.result c.loop-directive.tally c.counted_as-tally.result c.loop-directive.store c.pass.new.store
+          c.split_at-in-loop-directive.result.1.now c.in_ok-passed.passed.taken c.in_ok-passed.passed.stores at c.loop-directive.invariant.going c.split_at-in-loop-directive.ensures.back
+          (c.in_ok-passed.ensures.passes proper) (λ end values so. own.tally c.directive-item.result end values c.is_conversion-counts.ensures so) own.used own.assigned own.converted;
       room = (let before = c.loop-directive.invariant.room in let after = c.pass.ensures.room in omega (arith, before, after));
     }
 

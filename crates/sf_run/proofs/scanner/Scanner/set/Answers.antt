@@ -1,4 +1,4 @@
-use Rattle.sf_base.specs.Data.{datum_of}
+use Rattle.sf_base.specs.Data.{datum_of_number}
 use Rattle.sf_run.specs.Steps.{Stores}
 use Rattle.std.proofs.Common.{◌<◌, length, arith, true, refl, ◌∙◌}
 use Rattle.std.proofs.lemmas.Option.{slice_get_within}
@@ -19,16 +19,16 @@ counted-tally-requires g c =
       converted = omega (arith, s.few, s.converted, inside);
     }
 
-pub set-requires-clause-at_least_one : goal.set-requires-clause-at_least_one
-set-requires-clause-at_least_one g c =
+pub set_number-requires-clause-at_least_one : goal.set_number-requires-clause-at_least_one
+set_number-requires-clause-at_least_one g c =
     let s = c.args.self.now in let h = slot_placed g.S.Store.slots s.directives.now s.passed c.args.directive.now c.args.slot s.placed c.requires.current c.requires.own in h.0
 
-pub set-requires-clause-in_range : goal.set-requires-clause-in_range
-set-requires-clause-in_range g c =
+pub set_number-requires-clause-in_range : goal.set_number-requires-clause-in_range
+set_number-requires-clause-in_range g c =
     let s = c.args.self.now in let h = slot_placed g.S.Store.slots s.directives.now s.passed c.args.directive.now c.args.slot s.placed c.requires.current c.requires.own in h.1
 
-pub set-requires-clause-absent : goal.set-requires-clause-absent
-set-requires-clause-absent g c =
+pub set_number-requires-clause-absent : goal.set_number-requires-clause-absent
+set_number-requires-clause-absent g c =
     let s = c.args.self.now in slot_free s.directives.now s.passed c.args.directive.now c.args.slot (kept_by s).values s.apart s.given c.requires.current c.requires.own
 
 pub invariant_of-self-clause-in_list : goal.invariant_of-self-clause-in_list
@@ -52,31 +52,31 @@ invariant_of-self-clause-bounded g c = let s = c.args.self.now in let e = c.coun
 pub invariant_of-self-clause-given : goal.invariant_of-self-clause-given
 invariant_of-self-clause-given g c =
     let s = c.args.self.now in
-    rw c.set.ensures (slots_more s.directives.now s.passed c.args.directive.now (kept_by s).values c.args.slot _ c.requires.current c.requires.own s.given)
+    rw c.set_number.ensures (slots_more s.directives.now s.passed c.args.directive.now (kept_by s).values c.args.slot _ c.requires.current c.requires.own s.given)
 
 pub invariant_of-self-clause-joined : goal.invariant_of-self-clause-joined
 invariant_of-self-clause-joined g c =
     let s = c.args.self.now in
-    rw c.set.ensures (joined_number (kept_by s).closed (kept_by s).values c.args.slot c.args.value c.requires.number s.joined)
+    rw c.set_number.ensures (joined_number (kept_by s).closed (kept_by s).values c.args.slot c.args.number s.joined)
 
 pub invariant_of-self-clause-roomy : goal.invariant_of-self-clause-roomy
 invariant_of-self-clause-roomy g c bounded =
     let s = c.args.self.now in
-    rw c.set.ensures (room_passed s.ended s.directives.now s.passed c.args.directive.now s.phase (kept_by s).room c.requires.current (s.roomy bounded))
+    rw c.set_number.ensures (room_passed s.ended s.directives.now s.passed c.args.directive.now s.phase (kept_by s).room c.requires.current (s.roomy bounded))
 
 pub returns : goal.returns
 returns g c =
     let s = c.args.self.now in
-    rw c.set.ensures (record {
+    rw c.set_number.ensures (record {
       keeps = record { directives = refl; limit = refl; met = refl; capacity = omega arith };
       ended = refl;
       passed = refl;
       phase = refl;
       opened = opened_none (kept_by s).opened (s.under_way ∙ c.requires.no_text);
-      tally = c.counted-tally.ensures.tally (Stores c.args.slot (datum_of c.args.value)) (kept_by s).values (record { passes = refl; stored = refl });
+      tally = c.counted-tally.ensures.tally (Stores c.args.slot (datum_of_number c.args.number)) (kept_by s).values (record { passes = refl; stored = refl });
     })
 
 pub invariant_of-self-clause-sized : goal.invariant_of-self-clause-sized
 invariant_of-self-clause-sized g c bounded =
     let s = c.args.self.now in
-    rw c.set.ensures (size_passed s.ended s.directives.now s.passed c.args.directive.now s.phase (length (buffer_of (kept_by s))) _ c.requires.current (s.sized bounded))
+    rw c.set_number.ensures (size_passed s.ended s.directives.now s.passed c.args.directive.now s.phase (length (buffer_of (kept_by s))) _ c.requires.current (s.sized bounded))
