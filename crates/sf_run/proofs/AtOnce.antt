@@ -36,13 +36,13 @@ use Rattle.sf_run.proofs.Waits.{open_all}
 -- the slot of what it gives is its own
 pub free_of : (f : Finished) (d : Directive) (values : List Assigned) → (is_failing f ≡ false → slot_given f ≡ slot_of d) → MayBeGiven (slot_of d) values → MayBeGiven (slot_given f) values
 free_of finish.Passes d values own free = tt
-free_of (finish.Stores slot value) d values own free = subst (λ o. MayBeGiven o values) (sym (own refl)) free
+free_of (finish.Stores slot kind negative magnitude) d values own free = subst (λ o. MayBeGiven o values) (sym (own refl)) free
 free_of (finish.Closes slot) d values own free = subst (λ o. MayBeGiven o values) (sym (own refl)) free
 free_of (finish.Fails status) d values own free = tt
 
 own_slot : (f : Finished) (text : List ℕ) (slot : Option ℕ) → passed (end_of text f) ≡ true → (is_failing f ≡ false → slot_given f ≡ slot) → slot_stored (end_of text f) ≡ slot
 own_slot finish.Passes text slot ok own = own refl
-own_slot (finish.Stores n value) text slot ok own = own refl
+own_slot (finish.Stores n kind negative magnitude) text slot ok own = own refl
 own_slot (finish.Closes n) text slot ok own = own refl
 own_slot (finish.Fails status) text slot ok own = absurd (true≢false (sym ok))
 

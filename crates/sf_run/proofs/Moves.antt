@@ -280,7 +280,7 @@ last_follows new old d f at waits ends is =
 closing_text : (d : Directive) (current new : Phase) (q : Stage) (opened : Option Opened) (g : List ℕ) (end : Finished) → Shows d current q → opened ≡ opened_for (text_slot d) q
     → IsNextSlot (text_slot d) (slot_in current) (slot_in new) → IsEnd d new end → end_of (text_of (opened_with (slot_in new) g opened)) end ≡ end_of (item_of q ++ g) end
 closing_text d current new q opened g finish.Passes shows is next own = refl
-closing_text d current new q opened g (finish.Stores slot v) shows is next own = refl
+closing_text d current new q opened g (finish.Stores slot kind negative magnitude) shows is next own = refl
 closing_text d current new q opened g (finish.Fails status) shows is next own = refl
 closing_text d current new q opened g (finish.Closes slot) shows is next own = ap (λ (text : List ℕ). Stores slot (Bytes text)) (by_phase current shows (subst (IsNextSlot (text_slot d) (slot_in current)) (own.text refl) next))
   where

@@ -539,7 +539,7 @@ end_fits d piece run e is suits =
     let fits = suits.within in
     let before = is.before in
     let item = is.item in
-    record { within = omega (arith, fits, before, item); given = own.given; memory = own.memory }
+    record { within = omega (arith, fits, before, item); given = own.given; number = own.number; memory = own.memory }
 
 -- the end of an answer that fits the directive
 pub ended_by : (d : Directive) (n : ℕ) (piece : List ℕ) (run : Run) (o : Option Ended) → IfSome o (λ e. IsEndOf e run) → (IsProper d → Answers d Skipping n piece run)
@@ -565,7 +565,7 @@ ended_behind d n w piece e within front skips answers is =
     let same : w + e.before ≡ w = omega (arith, front) in
     record {
       answers = λ proper. subst (λ b. Answers d Skipping n piece (run_of (record e { before = b }))) same (answers_behind d n w piece (run_of e) within fits (skips proper) (answers proper));
-      fits = record { within = omega (arith, all, fits, front); given = is.given; memory = is.memory };
+      fits = record { within = omega (arith, all, fits, front); given = is.given; number = is.number; memory = is.memory };
     }
 
 -- one that closes no text fits the directive as an answer
@@ -576,5 +576,5 @@ suits_ended d piece e none is = record {
   more = λ e. cc;
   slot = tt;
   left = tt;
-  end = record { text = λ ok. sym none; given = is.given; memory = is.memory };
+  end = record { text = λ ok. sym none; given = is.given; number = is.number; memory = is.memory };
 }

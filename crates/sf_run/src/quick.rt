@@ -6,7 +6,7 @@ ghost use Rattle.sf_run.specs.declared.outcome.Ending.{Ending};
 ghost use Rattle.sf_run.specs.declared.outcome.Status.TheVariants as status;
 ghost use Rattle.sf_run.specs.Limits.{RunWithin};
 ghost use Rattle.sf_run.specs.Memory.{HoldsValues, capacity_of};
-ghost use Rattle.sf_run.specs.Phases.{end_of, slot_given};
+ghost use Rattle.sf_run.specs.Phases.{IsNumberGiven, end_of, slot_given};
 ghost use Rattle.sf_run.specs.Pieces.{EndsAtOnce};
 ghost use Rattle.sf_run.specs.Quick.{GivesTo, MayBeGiven, PassesWithin};
 ghost use Rattle.sf_run.specs.Texts.{slot_of};
@@ -17,7 +17,7 @@ use crate::directive::{
 };
 use crate::outcome::{Outcome, Status};
 use crate::tally::{Tally, is_conversion};
-use sf_base::{HeapStore, Store};
+use sf_base::{HeapStore, Number, Store};
 use sf_format::{Directive, ScanFormat};
 
 /// How a directive has passed.
@@ -35,13 +35,24 @@ struct Passed {
 fn give(store: &mut HeapStore, ended: Ended, piece: &[u8]) -> Option<bool>
     requires opened { store.old.opened ≡ None }
     requires free { MayBeGiven (slot_given ended.finished) store.old.values }
+    requires number { IsNumberGiven ended.finished }
     requires within { ended.before + ended.item ≤ length piece.now }
     ensures gives { IfSome result (λ stores. GivesTo (end_of (take ended.item (drop ended.before piece.now)) ended.finished) stores store.old store.new) }
     ensures room { capacity_of store.old ≤ capacity_of store.new }
 {
     match ended.finished {
         Finished::Passes => Some(false),
-        Finished::Stores { slot, number } => {
+        Finished::Stores {
+            slot,
+            kind,
+            negative,
+            magnitude,
+        } => {
+            let number = Number {
+                kind,
+                negative,
+                magnitude,
+            };
             store.set_number(slot, number);
             Some(true)
         }

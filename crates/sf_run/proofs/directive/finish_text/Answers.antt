@@ -8,6 +8,7 @@ returns-in_default c = record {
   end = λ f some h text. text_fails (conversion_of c.args.scan) f c.args.slot c.finish.result text some (c.finish.ensures f h) c.in_default.not-Matched;
   text = λ e. cc;
   given = λ e. cc;
+  number = tt;
   memory = refl;
 }
 

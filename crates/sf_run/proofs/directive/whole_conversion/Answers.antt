@@ -13,7 +13,7 @@ returns-then-is_count c =
     let e = c.finish_count.ensures in
     record {
       answers = λ proper. count_answers c.args.conversion.now c.args.used c.args.piece.now c.finish_count.result proper (sym c.is_count.ensures ∙ c.if-is_count.true) (e.end []);
-      fits = record { within = omega arith; given = e.given; memory = e.memory };
+      fits = record { within = omega arith; given = e.given; number = e.number; memory = e.memory };
     }
 
 pub returns : goal.returns

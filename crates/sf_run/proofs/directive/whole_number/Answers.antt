@@ -18,4 +18,4 @@ returns-clause-fits c =
     let e = c.finish_number.ensures in
     let is = c.in_ok-whole.ensures in
     let below = is.ends.behind in
-    record { within = omega (arith, below); given = e.given; memory = e.memory }
+    record { within = omega (arith, below); given = e.given; number = e.number; memory = e.memory }

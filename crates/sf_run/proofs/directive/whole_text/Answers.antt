@@ -15,4 +15,4 @@ returns-clause-fits c =
     let e = c.finish_bytes.ensures in
     let is = c.in_ok-item.ensures in
     let below = is.behind in
-    record { within = omega (arith, below); given = λ ok. e.given; memory = e.memory }
+    record { within = omega (arith, below); given = λ ok. e.given; number = e.number; memory = e.memory }
