@@ -1,5 +1,5 @@
 -- Texts one after the other, and the line of two or four numbers.
-use Rattle.std.proofs.Common.{◌≡◌, ◌∙◌, ℕ, zero, suc, ◌+◌, ◌<◌, ◌≤◌, List, [], ◌∷◌, ◌++◌, length, take, get_or, length-append, append_assoc, append-nil, arith, refl, ap}
+use Rattle.std.proofs.Common.{◌≡◌, ◌∙◌, ℕ, zero, suc, ◌+◌, ◌<◌, ◌≤◌, List, [], ◌∷◌, ◌++◌, length, take, get_or, length-append, append_assoc, append-nil, arith, refl}
 use Rattle.std.specs.Borrow.{Bor}
 use Rattle.sf_messages.specs.Joined.{joined}
 
@@ -15,7 +15,7 @@ pub two_numbers : (bytes a b c m n x y : List ℕ) → bytes ≡ a ++ (x ++ (b +
 two_numbers bytes a b c m n x y is first second =
     let same : bytes ≡ a ++ (m ++ (b ++ (n ++ (c ++ [])))) = cc in same ∙ simp (append_assoc, append-nil) refl
 
-pub four_numbers : (bytes a b status c d e f k l m n v w x y z : List ℕ) → bytes ≡ a ++ (w ++ (b ++ (v ++ (c ++ (x ++ (d ++ (y ++ (e ++ (z ++ (f ++ []))))))))))
-    → v ≡ status → w ≡ k → x ≡ l → y ≡ m → z ≡ n → bytes ≡ (a ++ (k ++ (b ++ (status ++ (c ++ (l ++ (d ++ (m ++ (e ++ n))))))))) ++ f
-four_numbers bytes a b status c d e f k l m n v w x y z is told first second third fourth =
-    let same : bytes ≡ a ++ (k ++ (b ++ (status ++ (c ++ (l ++ (d ++ (m ++ (e ++ (n ++ (f ++ [])))))))))) = cc in same ∙ simp (append_assoc, append-nil) refl
+pub four_numbers : (bytes a of b status c d e f k l m n v w x y z : List ℕ) → bytes ≡ a ++ (of ++ (w ++ (b ++ (v ++ (c ++ (x ++ (d ++ (y ++ (e ++ (z ++ (f ++ [])))))))))))
+    → v ≡ status → w ≡ k → x ≡ l → y ≡ m → z ≡ n → bytes ≡ (a ++ (of ++ (k ++ (b ++ (status ++ (c ++ (l ++ (d ++ (m ++ (e ++ n)))))))))) ++ f
+four_numbers bytes a of b status c d e f k l m n v w x y z is told first second third fourth =
+    let same : bytes ≡ a ++ (of ++ (k ++ (b ++ (status ++ (c ++ (l ++ (d ++ (m ++ (e ++ (n ++ (f ++ []))))))))))) = cc in same ∙ simp (append_assoc, append-nil) refl

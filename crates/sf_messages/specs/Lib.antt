@@ -1,7 +1,9 @@
+pub mod Facing
 pub mod Faults
 pub mod Joined
 pub mod LineTexts
 pub mod Names
 pub mod Notes
 pub mod Sentences
+pub mod Shown
 pub mod Texts

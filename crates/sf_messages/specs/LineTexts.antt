@@ -6,12 +6,16 @@ use Rattle.sf_lines.specs.declared.end.LineFault.TheVariants.{Failed, LeftOver, 
 use Rattle.sf_lines.specs.declared.end.LinesFault.{LinesFault}
 use Rattle.sf_lines.specs.declared.end.LinesFault.TheVariants.{Read, Write, Memory, TooMany}
 use Rattle.sf_records.specs.Texts.{status_text}
+use Rattle.sf_run.specs.declared.outcome.Outcome.{Outcome}
+
+-- what a run came to that is no match
+abbrev pub outcome_text : Outcome → List ℕ
+outcome_text outcome =
+    codes ": " ++ (status_text outcome.status ++ (codes " at " ++ (decimal outcome.at ++ (codes ", used " ++ (decimal outcome.used ++ (codes ", assigned " ++ decimal outcome.assigned))))))
 
 -- a line that is no match, by its number
 abbrev pub line_fault_text : ℕ → LineFault → List ℕ
-line_fault_text number (Failed outcome) =
-    codes "sf: line " ++ (decimal number ++ (codes ": " ++ (status_text outcome.status ++ (codes " at " ++ (decimal outcome.at
-    ++ (codes ", used " ++ (decimal outcome.used ++ (codes ", assigned " ++ decimal outcome.assigned))))))))
+line_fault_text number (Failed outcome) = codes "sf: line " ++ (decimal number ++ outcome_text outcome)
 line_fault_text number (LeftOver at) = codes "sf: line " ++ (decimal number ++ (codes ": left over at " ++ decimal at))
 line_fault_text number TooLong = codes "sf: line " ++ (decimal number ++ codes ": too long")
 

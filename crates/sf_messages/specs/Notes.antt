@@ -1,14 +1,20 @@
 -- What is said behind the line of a fault, where more is asked for: lines, each behind two blanks.
-use Rattle.std.specs.Prelude.{ℕ, ◌&&◌, nat_eq, nat_lt, Bool, false, if◌then◌else◌, List, [], ◌∷◌, ◌++◌, length, map, min, take, Option, Some, None, slice_get, unwrap_or, codes}
+use Rattle.std.specs.Prelude.{ℕ, ◌-◌, ◌&&◌, nat_eq, nat_lt, Bool, false, if◌then◌else◌, List, [], ◌∷◌, ◌++◌, length, map, min, take, Option, Some, None, slice_get, unwrap_or, codes}
 use Rattle.std.specs.Fmt.{decimal}
 use Rattle.sf_base.specs.Bytes.{is_white}
 use Rattle.sf_format.specs.declared.fault.FormatFault.{FormatFault}
-use Rattle.sf_pair.specs.declared.fault.PairWhy.{PairWhy}
+use Rattle.sf_format.specs.declared.directive.Directive.{Directive}
+use Rattle.sf_format.specs.declared.unit.Unit.{Unit as PrintUnit}
+use Rattle.sf_pair.specs.declared.fault.PairFault.{PairFault}
 use Rattle.sf_run.specs.declared.outcome.Ending.{Ending}
 use Rattle.sf_run.specs.declared.outcome.Ending.TheVariants.{End}
 use Rattle.sf_run.specs.declared.outcome.Outcome.{Outcome}
 use Rattle.sf_places.specs.declared.place.Place.{Place}
 use Rattle.sf_records.specs.Quotes.{quoted}
+use Rattle.sf_messages.specs.declared.fault.FormatName.{FormatName}
+use Rattle.sf_messages.specs.declared.fault.FormatName.TheVariants as name
+use Rattle.sf_messages.specs.Facing.{faced, unit_text}
+use Rattle.sf_messages.specs.Names.{name_text}
 use Rattle.sf_messages.specs.Sentences.{escape_sentence, left_white_sentence, pair_sentence, why_sentence}
 
 -- a line of its own
@@ -34,8 +40,31 @@ escape_notes word at = note escape_sentence ++ place_notes word at
 abbrev pub format_notes : List ℕ → FormatFault → List ℕ
 format_notes text fault = note (why_sentence fault.why (unwrap_or (slice_get text fault.at) 0)) ++ place_notes text fault.at
 
-abbrev pub pair_notes : PairWhy → List ℕ
-pair_notes why = note (pair_sentence why)
+-- ---- pairs
+
+-- a part of a format, with its number
+abbrev pub part_note : FormatName → ℕ → List ℕ → List ℕ
+part_note name number shown = note (name_text name ++ (codes ", directive " ++ (decimal number ++ (codes ": " ++ shown))))
+
+-- a format has no part there
+abbrev pub end_note : FormatName → List ℕ
+end_note name = note (codes "the " ++ (name_text name ++ codes " ends there"))
+
+-- the directive with this number, which is told so, if there is one
+abbrev pub scan_side : List Directive → ℕ → List ℕ → List ℕ
+scan_side ds number told = if nat_lt (length ds) number then end_note name.Scan else part_note name.Scan number told
+
+-- the first of the units that are left, with its number among all
+abbrev pub print_side : List PrintUnit → List PrintUnit → List ℕ
+print_side us [] = end_note name.Print
+print_side us (u ∷ rest) = part_note name.Print (length us - length rest) (unit_text u)
+
+-- why a pair is refused, and the directive at the fault, which is told so, with the unit that faces it; a pair without a value
+-- is at fault nowhere
+abbrev pub pair_notes : List PrintUnit → List Directive → List ℕ → PairFault → List ℕ
+pair_notes us ds told fault =
+    note (pair_sentence fault.why)
+    ++ (if nat_eq fault.at 0 then [] else scan_side ds fault.at told ++ print_side us (faced ds us fault.at))
 
 -- ---- records
 

@@ -64,7 +64,7 @@ pub(crate) fn name_text(name: FormatName) -> &'static str
 }
 
 /// The name of a kind.
-pub fn kind_text(kind: Kind) -> &'static str
+pub(crate) fn kind_text(kind: Kind) -> &'static str
     ensures { result.now ≡ kind_text kind }
 {
     match kind {

@@ -1,11 +1,14 @@
 //! What is said behind the line of a fault, where more is asked for.
 ghost use Rattle.std.specs.Prelude.{◌≡◌, ◌++◌, OnOk, IfOk};
-ghost use Rattle.sf_messages.specs.Notes.{begins_white, blanks, directive_note, escape_notes, failed_notes, format_notes, input_notes, is_left_white, note, pair_notes, place_notes, rest_notes, stood_notes};
+ghost use Rattle.sf_messages.specs.Notes.{begins_white, blanks, directive_note, end_note, escape_notes, failed_notes, format_notes, input_notes, is_left_white, note, pair_notes, part_note, place_notes, print_side, rest_notes, scan_side, stood_notes};
 
+use crate::facing::{faced, push_unit};
+use crate::fault::FormatName;
+use crate::names::name_text;
 use crate::sentences::{escape_sentence, left_white_sentence, pair_sentence, why_sentence};
 use sf_base::is_space;
-use sf_format::FormatFault;
-use sf_pair::PairWhy;
+use sf_format::{Directive, FormatFault, Unit};
+use sf_pair::PairFault;
 use sf_places::Place;
 use sf_records::push_quoted;
 use sf_run::{Ending, Outcome};
@@ -69,12 +72,86 @@ pub fn format_notes(alloc: Global, text: &[u8], fault: FormatFault) -> Result<Ve
     Ok(notes)
 }
 
-/// What is said of why a pair is refused.
-pub fn pair_notes(alloc: Global, why: PairWhy) -> Result<Vec<u8>, AllocError>
-    ensures { IfOk result (λ notes. notes.items ≡ pair_notes why) }
+/// Appends the line of a part of a format, by its number.
+fn push_part(
+    alloc: Global,
+    output: &mut Vec<u8>,
+    name: FormatName,
+    number: usize,
+    shown: &[u8],
+) -> Result<(), AllocError>
+    ensures { OnOk result (output.new.items ≡ output.old.items ++ part_note name number shown.now) }
+{
+    let mut text = Vec::new(alloc);
+    text.extend_from_slice(name_text(name).as_bytes())?;
+    write!(text, ", directive {number}: ").map_err(|_| AllocError)?;
+    text.extend_from_slice(shown)?;
+    push_note(output, &text)
+}
+
+/// Appends that a format has no part there.
+fn push_end(alloc: Global, output: &mut Vec<u8>, name: FormatName) -> Result<(), AllocError>
+    ensures { OnOk result (output.new.items ≡ output.old.items ++ end_note name) }
+{
+    let mut text = Vec::new(alloc);
+    text.extend_from_slice(b"the ")?;
+    text.extend_from_slice(name_text(name).as_bytes())?;
+    text.extend_from_slice(b" ends there")?;
+    push_note(output, &text)
+}
+
+/// Appends the line of the directive at a pair's fault.
+fn push_scan_side(
+    alloc: Global,
+    output: &mut Vec<u8>,
+    directives: &[Directive],
+    number: u16,
+    told: &[u8],
+) -> Result<(), AllocError>
+    ensures { OnOk result (output.new.items ≡ output.old.items ++ scan_side directives.now number told.now) }
+{
+    if directives.len() < usize::from(number) {
+        return push_end(alloc, output, FormatName::Scan);
+    }
+    push_part(alloc, output, FormatName::Scan, usize::from(number), told)
+}
+
+/// Appends the line of the unit that faces that directive.
+fn push_print_side(
+    alloc: Global,
+    output: &mut Vec<u8>,
+    units: &[Unit],
+    left: &[Unit],
+) -> Result<(), AllocError>
+    ensures { OnOk result (output.new.items ≡ output.old.items ++ print_side units.now left.now) }
+{
+    let Some((unit, rest)) = left.split_first() else {
+        return push_end(alloc, output, FormatName::Print);
+    };
+    let mut shown = Vec::new(alloc);
+    push_unit(alloc, &mut shown, unit)?;
+    let number = units.len().saturating_sub(rest.len());
+    push_part(alloc, output, FormatName::Print, number, &shown)
+}
+
+/// What is said of why a pair is refused, by the units of the print format and the directives of the scan format; `told` is how
+/// the directive at the fault is told.
+pub fn pair_notes(
+    alloc: Global,
+    units: &[Unit],
+    directives: &[Directive],
+    told: &[u8],
+    fault: PairFault,
+) -> Result<Vec<u8>, AllocError>
+    ensures { IfOk result (λ notes. notes.items ≡ pair_notes units.now directives.now told.now fault) }
 {
     let mut notes = Vec::new(alloc);
-    push_note(&mut notes, pair_sentence(why).as_bytes())?;
+    push_note(&mut notes, pair_sentence(fault.why).as_bytes())?;
+    if fault.at == 0 {
+        return Ok(notes);
+    }
+    push_scan_side(alloc, &mut notes, directives, fault.at, told)?;
+    push_print_side(alloc, &mut notes, units, faced(directives, units, fault.at))?;
     Ok(notes)
 }
 

@@ -1,9 +1,10 @@
 //! The line on the error output. It is made without memory, so that want of memory can be told.
-ghost use Rattle.std.specs.Prelude.{◌≡◌, ◌≤◌, ◌++◌, ◌∷◌, [], length};
+ghost use Rattle.std.specs.Prelude.{◌≡◌, ◌≤◌, ◌++◌, ◌∷◌, [], codes, length};
+ghost use Rattle.std.specs.Fmt.{decimal};
 ghost use Rattle.sf_records.specs.Texts.{status_text};
 ghost use Rattle.sf_messages.specs.Texts.{argument_fault_text, command_fault_text, error_line, expected_text, format_fault_text, record_text};
 ghost use Rattle.sf_messages.specs.Joined.{joined};
-ghost use Rattle.sf_messages.specs.LineTexts.{line_fault_text};
+ghost use Rattle.sf_messages.specs.LineTexts.{line_fault_text, outcome_text};
 
 use crate::argument_fault::ArgumentFault;
 use crate::fault::{CommandFault, FormatName};
@@ -107,22 +108,24 @@ fn argument_line(fault: ArgumentFault) -> ErrorLine
     }
 }
 
-/// The line of a record that is no match.
-fn failed_line(place: u32, outcome: Outcome) -> ErrorLine
-    ensures { result.bytes ≡ command_fault_text (CommandFault.Record (ToolFault.Failed place outcome)) ++ 10 ∷ [] }
+/// The line of a run that is no match: what it is a run of, its number, and what it came to.
+fn outcome_line(of: &'static str, number: u64, outcome: Outcome) -> ErrorLine
+    requires { length of.now ≤ 8 }
+    ensures { result.bytes ≡ codes "sf: " ++ (of.now ++ (decimal number ++ outcome_text outcome)) ++ 10 ∷ [] }
 {
-    let mut number = Buffer::new();
+    let mut place = Buffer::new();
     let mut at = Buffer::new();
     let mut used = Buffer::new();
     let mut assigned = Buffer::new();
-    let number = number.format(place);
+    let place = place.format(number);
     let at = at.format(outcome.at);
     let used = used.format(outcome.used);
     let assigned = assigned.format(outcome.assigned);
     let status = status_text(outcome.status);
     joined(&[
-        "sf: record ",
-        number,
+        "sf: ",
+        of,
+        place,
         ": ",
         status,
         " at ",
@@ -133,6 +136,13 @@ fn failed_line(place: u32, outcome: Outcome) -> ErrorLine
         assigned,
         "\n",
     ])
+}
+
+/// The line of a record that is no match.
+fn failed_line(number: u32, outcome: Outcome) -> ErrorLine
+    ensures { result.bytes ≡ command_fault_text (CommandFault.Record (ToolFault.Failed number outcome)) ++ 10 ∷ [] }
+{
+    outcome_line("record ", u64::from(number), outcome)
 }
 
 /// The line of a record at which the records stop.
@@ -185,28 +195,7 @@ fn lines_line(fault: LinesFault) -> ErrorLine
 fn missed_line(number: u64, outcome: Outcome) -> ErrorLine
     ensures { result.bytes ≡ line_fault_text number (LineFault.Failed outcome) ++ 10 ∷ [] }
 {
-    let mut place = Buffer::new();
-    let mut at = Buffer::new();
-    let mut used = Buffer::new();
-    let mut assigned = Buffer::new();
-    let place = place.format(number);
-    let at = at.format(outcome.at);
-    let used = used.format(outcome.used);
-    let assigned = assigned.format(outcome.assigned);
-    let status = status_text(outcome.status);
-    joined(&[
-        "sf: line ",
-        place,
-        ": ",
-        status,
-        " at ",
-        at,
-        ", used ",
-        used,
-        ", assigned ",
-        assigned,
-        "\n",
-    ])
+    outcome_line("line ", number, outcome)
 }
 
 /// The line of a line of the input of which something is left.

@@ -42,7 +42,7 @@ use Rattle.sf_tool.specs.Answers.{Answer}
 use Rattle.sf_tool.specs.Checks.{ChecksWords, IsFaultOf, IsNoPrintWord, IsNoScanWord, IsPrintWord, IsScanWord}
 use Rattle.sf_tool.specs.Escapes.{IsBadEscape, Unescapes}
 use Rattle.sf_tool.specs.Prints.{Answers, IsUnwritten}
-use Rattle.sf_tool.specs.Show.{show_text}
+use Rattle.sf_messages.specs.Shown.{show_text}
 
 -- ---- faults
 

@@ -1,5 +1,5 @@
 -- What one run of the command writes, says and answers.
-use Rattle.std.specs.Prelude.{◌≡◌, ◌++◌, ℕ, List, [], false, Option, Some, None, Result, Ok, Err, IfErr, IfOk, IfSome, map, string_bytes}
+use Rattle.std.specs.Prelude.{◌≡◌, ◌++◌, ℕ, List, [], ◌∷◌, false, Option, Some, None, Result, Ok, Err, IfErr, IfOk, IfSome, map, string_bytes}
 use Rattle.std.specs.Io.KnownBytes.{Appends}
 use Rattle.sf_places.specs.Behind.{IsBehind}
 use Rattle.sf_places.specs.declared.place.Place.{Place}
@@ -18,9 +18,14 @@ use Rattle.sf_tool.specs.Lines.{ScansLines}
 use Rattle.sf_tool.specs.Saying.{Says}
 use Rattle.sf_messages.specs.Texts.{error_line, status_of}
 
--- nothing is said where there is an exit status; else the line of the fault, whose status it is, and the notes behind it
+-- the notes are said, if there are any
+abbrev pub SaysNotes : {E : Type 0} → (E → Option (List ℕ)) → (E → ℕ) → List ℕ → E → E → Type 0
+SaysNotes contents failures [] err err' = err' ≡ err
+SaysNotes contents failures (b ∷ notes) err err' = Says contents failures (b ∷ notes) err err'
+
+-- the notes alone are said where there is an exit status; else the line of the fault, whose status it is, and the notes behind it
 abbrev pub Ends : {E : Type 0} → (E → Option (List ℕ)) → (E → ℕ) → List ℕ → Answer → E → E → ℕ → Type 0
-Ends contents failures notes (Ok n) err err' status = (err' ≡ err) × (status ≡ n)
+Ends contents failures notes (Ok n) err err' status = SaysNotes contents failures notes err err' × (status ≡ n)
 Ends contents failures notes (Err fault) err err' status = Says contents failures (error_line fault ++ notes) err err' × (status ≡ status_of fault)
 
 -- help is written to the output

@@ -1,10 +1,11 @@
 -- What is said behind the line of a fault, where the words ask for more.
-use Rattle.std.specs.Prelude.{◌≡◌, ◌⊎◌, ◌-◌, ◌++◌, ℕ, Bool, true, List, [], Option, Some, None, Err, codes, slice_get, unwrap_or}
+use Rattle.std.specs.Prelude.{◌≡◌, ◌⊎◌, ◌-◌, ◌++◌, ℕ, Bool, true, false, List, [], ◌∷◌, Option, Some, None, Ok, Err, codes, slice_get, unwrap_or}
 use Rattle.std.specs.Option.{option_map_or}
 use Rattle.sf_format.specs.declared.directive.Directive.{Directive}
 use Rattle.sf_format.specs.declared.directive.Profile.{Profile}
 use Rattle.sf_format.specs.declared.fault.FormatFault.{FormatFault}
 use Rattle.sf_format.specs.declared.fault.FormatWhy.{FormatWhy}
+use Rattle.sf_format.specs.declared.unit.Unit.{Unit as PrintUnit}
 use Rattle.sf_format.specs.Language.{Scan}
 use Rattle.sf_format.specs.Faults.{Fault}
 use Rattle.sf_format.specs.Grammar.{IsFormat, MeanAll, Means}
@@ -14,6 +15,7 @@ use Rattle.sf_messages.specs.declared.fault.CommandFault.TheVariants.{BadEscape,
 use Rattle.sf_messages.specs.declared.fault.FormatName.{FormatName}
 use Rattle.sf_messages.specs.declared.fault.FormatName.TheVariants as name
 use Rattle.sf_messages.specs.Notes.{escape_notes, failed_notes, format_notes, input_notes, pair_notes}
+use Rattle.sf_pair.specs.declared.fault.PairFault.{PairFault}
 use Rattle.sf_places.specs.declared.place.Place.{Place}
 use Rattle.sf_records.specs.declared.end.ToolFault.TheVariants.{Failed, Stalled, Unfit, Read}
 use Rattle.sf_records.specs.Quotes.{quoted}
@@ -21,8 +23,9 @@ use Rattle.sf_run.specs.declared.outcome.Outcome.{Outcome}
 use Rattle.sf_words.specs.declared.order.Verb.{Verb}
 use Rattle.sf_words.specs.declared.order.Verb.TheVariants as verb
 use Rattle.sf_tool.specs.Answers.{Answer}
+use Rattle.sf_tool.specs.Checks.{IsPrintWord, IsVerdict}
 use Rattle.sf_tool.specs.Escapes.{IsBadEscape, Unescapes}
-use Rattle.sf_tool.specs.Show.{directive_text}
+use Rattle.sf_messages.specs.Shown.{directive_text}
 
 -- ---- the words of formats
 
@@ -74,6 +77,36 @@ SaysFailed profile number outcome place rest word notes =
     ((text : List ℕ) × Unescapes word text × SaysFailedText profile number outcome place rest text notes)
     ⊎ ((at : ℕ) × IsBadEscape word at × (notes ≡ []))
 
+-- ---- pairs
+
+-- the verdict on both formats, the parts of the scan format being these: why they are no pair, and the parts that face each other
+abbrev pub verdict_notes : List PrintUnit → List Piece → List Directive → Option PairFault → List ℕ
+verdict_notes us pieces ds None = []
+verdict_notes us pieces ds (Some fault) = pair_notes us ds (told_at pieces ds fault.at) fault
+
+abbrev pub SaysVerdict : List PrintUnit → List Piece → List Directive → List ℕ → Type 0
+SaysVerdict us pieces ds notes = (verdict : Option PairFault) × IsVerdict us ds verdict × (notes ≡ verdict_notes us pieces ds verdict)
+
+-- the same of the formats that two words spell
+pub record SaysPair (profile : Profile) (print scan notes : List ℕ) : Type 0 where
+  pub us : List PrintUnit
+  pub prints : IsPrintWord profile print us
+  pub text : List ℕ
+  pub stands : Unescapes scan text
+  pub pieces : List Piece
+  pub ds : List Directive
+  pub format : IsFormat (Scan profile) pieces
+  pub text_is : text ≡ text_of pieces
+  pub mean : MeanAll (Means profile) 1 pieces ds
+  pub says : SaysVerdict us pieces ds notes
+
+-- what is said of two words, if there are two
+abbrev pub OfBoth : (List ℕ → List ℕ → List ℕ → Type 0) → List (List ℕ) → List ℕ → Type 0
+OfBoth says (print ∷ scan ∷ []) notes = says print scan notes
+OfBoth says _ notes = notes ≡ []
+
+-- ---- orders
+
 abbrev pub Explains : Profile → Verb → List (List ℕ) → Option Place → List ℕ → CommandFault → List ℕ → Type 0
 Explains profile verb texts place rest (BadEscape name at) notes = OfWord (λ word said. said ≡ escape_notes word at) (slice_get texts (word_place verb name)) notes
 Explains profile verb texts place rest (Format fault) notes = OfWord (SaysFormat fault) (slice_get texts (word_place verb name.Scan)) notes
@@ -83,10 +116,19 @@ Explains profile verb texts place rest (Record (Failed number outcome)) notes =
 Explains profile verb texts place rest (Record (Stalled number)) notes = notes ≡ input_notes place
 Explains profile verb texts place rest (Record (Unfit number)) notes = notes ≡ input_notes place
 Explains profile verb texts place rest (Record (Read number)) notes = notes ≡ input_notes place
-Explains profile verb texts place rest (Pair fault) notes = notes ≡ pair_notes fault.why
+Explains profile verb texts place rest (Pair fault) notes = OfBoth (SaysPair profile) texts notes
 Explains profile verb texts place rest _ notes = notes ≡ []
+
+-- where there is an exit status: of a check, why the formats are no pair
+abbrev pub SaysClean : Profile → Verb → List (List ℕ) → List ℕ → Type 0
+SaysClean profile verb.Check texts notes = OfBoth (SaysPair profile) texts notes
+SaysClean profile _ texts notes = notes ≡ []
+
+abbrev pub SaysOf : Profile → Verb → List (List ℕ) → Option Place → List ℕ → Answer → List ℕ → Type 0
+SaysOf profile verb texts place rest (Ok status) notes = SaysClean profile verb texts notes
+SaysOf profile verb texts place rest (Err fault) notes = Explains profile verb texts place rest fault notes
 
 -- nothing more is said where the words don't ask for it, or where memory for it was refused
 abbrev pub SaysMore : Bool → Profile → Verb → List (List ℕ) → Option Place → List ℕ → Answer → List ℕ → Type 0
-SaysMore true profile verb texts place rest (Err fault) notes = Explains profile verb texts place rest fault notes ⊎ (notes ≡ [])
-SaysMore _ profile verb texts place rest _ notes = notes ≡ []
+SaysMore true profile verb texts place rest answer notes = SaysOf profile verb texts place rest answer notes ⊎ (notes ≡ [])
+SaysMore false profile verb texts place rest answer notes = notes ≡ []

@@ -9,5 +9,4 @@ pub mod Laws
 pub mod Lines
 pub mod Prints
 pub mod Saying
-pub mod Show
 pub mod Words

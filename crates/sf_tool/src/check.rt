@@ -42,7 +42,7 @@ fn verdict_status(verdict: Option<PairFault>) -> u8
 }
 
 /// Why the formats are no pair; None where they are one.
-fn verdict_of(print: &PrintFormat, scan: &ScanFormat) -> Option<PairFault>
+pub(crate) fn verdict_of(print: &PrintFormat, scan: &ScanFormat) -> Option<PairFault>
     ensures { IsVerdict print.now scan.now result }
 {
     match Pair::check(print, scan) {

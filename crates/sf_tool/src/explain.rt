@@ -5,14 +5,16 @@ ghost use Rattle.sf_format.specs.Grammar.{IsFormat};
 ghost use Rattle.sf_format.specs.Pieces.{Piece, text_of};
 ghost use Rattle.sf_messages.specs.Notes.{escape_notes};
 ghost use Rattle.sf_tool.specs.Commands.{grammar_of};
-ghost use Rattle.sf_tool.specs.Explains.{Explains, OfWord, SaysFailed, SaysFailedText, SaysFormat, SaysMore, shown_at, told_at, word_place};
+ghost use Rattle.sf_tool.specs.Explains.{Explains, OfBoth, OfWord, SaysClean, SaysFailed, SaysFailedText, SaysFormat, SaysMore, SaysPair, SaysVerdict, shown_at, told_at, word_place};
 
+use crate::check::verdict_of;
 use crate::command::grammar_of;
 use crate::escape::{EscapeFault, unescape};
-use crate::show::push_directive;
-use sf_format::{FormatFault, FormatWhy, Profile, ScanFormat, directive_text};
+use crate::formats::read_print;
+use sf_format::{FormatFault, FormatWhy, PrintFormat, Profile, ScanFormat, directive_text};
 use sf_messages::{
     CommandFault, FormatName, escape_notes, failed_notes, format_notes, input_notes, pair_notes,
+    push_directive,
 };
 use sf_places::Place;
 use sf_records::{ToolFault, push_quoted};
@@ -166,6 +168,65 @@ fn of_failed(
     }
 }
 
+/// What is said of both formats where they are no pair, by the bytes of the scan format.
+fn of_formats(
+    alloc: Global,
+    profile: Profile,
+    text: &[u8],
+    print: &PrintFormat,
+    scan: &ScanFormat,
+) -> Result<Vec<u8>, AllocError>
+    ensures { IfOk result (λ notes. (pieces : List Piece) → IsFormat (Scan profile) pieces → text.now ≡ text_of pieces → SaysVerdict print.now pieces scan.now notes.items) }
+{
+    let Some(fault) = verdict_of(print, scan) else {
+        return Ok(Vec::new(alloc));
+    };
+    let told = told_at(alloc, profile, text, scan, fault.at)?;
+    pair_notes(alloc, print.directives(), scan.directives(), &told, fault)
+}
+
+/// What is said of the formats of both words where they are no pair. Both are formats where this is asked for, so that what
+/// is refused is memory alone.
+fn of_pair(alloc: Global, profile: Profile, print: &str, scan: &str) -> Result<Vec<u8>, AllocError>
+    ensures { IfOk result (λ notes. SaysPair profile print.now scan.now notes.items) }
+{
+    let Ok(print) = read_print(alloc, profile, print) else {
+        return Err(AllocError);
+    };
+    let Ok(text) = unescape(alloc, scan.as_bytes()) else {
+        return Err(AllocError);
+    };
+    match ScanFormat::parse(alloc, profile, &text) {
+        Ok(scan) => of_formats(alloc, profile, &text, &print, &scan),
+        Err(_) => Err(AllocError),
+    }
+}
+
+/// What is said of an order with two formats where they are no pair.
+fn of_both(alloc: Global, profile: Profile, texts: &[String]) -> Result<Vec<u8>, AllocError>
+    ensures { IfOk result (λ notes. OfBoth (SaysPair profile) (map string_bytes texts.now) notes.items) }
+{
+    match texts {
+        [print, scan] => of_pair(alloc, profile, print.as_str(), scan.as_str()),
+        _ => Ok(Vec::new(alloc)),
+    }
+}
+
+/// What is said of an order that was carried out: of a check, why the formats are no pair.
+fn of_clean_end(
+    alloc: Global,
+    profile: Profile,
+    verb: Verb,
+    texts: &[String],
+) -> Result<Vec<u8>, AllocError>
+    ensures { IfOk result (λ notes. SaysClean profile verb (map string_bytes texts.now) notes.items) }
+{
+    match verb {
+        Verb::Check => of_both(alloc, profile, texts),
+        _ => Ok(Vec::new(alloc)),
+    }
+}
+
 /// What is said of the fault of an order, by what the run left.
 fn of_fault(
     alloc: Global,
@@ -189,7 +250,7 @@ fn of_fault(
         CommandFault::Record(
             ToolFault::Stalled { .. } | ToolFault::Unfit { .. } | ToolFault::Read { .. },
         ) => input_notes(alloc, left.place),
-        CommandFault::Pair(fault) => pair_notes(alloc, fault.why),
+        CommandFault::Pair(_) => of_both(alloc, profile, &order.texts),
         _ => Ok(Vec::new(alloc)),
     }
 }
@@ -203,13 +264,15 @@ pub(crate) fn notes_of(
 ) -> Vec<u8>
     ensures { SaysMore order.now.explain (grammar_of order.now.profile) order.now.verb (map string_bytes order.now.texts.items) left.entry.place left.entry.held.now answer result.items }
 {
-    let Err(fault) = answer else {
-        return Vec::new(alloc);
-    };
     if !order.explain {
         return Vec::new(alloc);
     }
-    match of_fault(alloc, grammar_of(order.profile), order, left, fault) {
+    let profile = grammar_of(order.profile);
+    let said = match answer {
+        Ok(_) => of_clean_end(alloc, profile, order.verb, &order.texts),
+        Err(fault) => of_fault(alloc, profile, order, left, fault),
+    };
+    match said {
         Ok(notes) => notes,
         Err(_) => Vec::new(alloc),
     }

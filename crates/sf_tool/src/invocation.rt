@@ -1,6 +1,6 @@
 //! One run of the command, from its words to its exit status.
 ghost use Rattle.std.specs.Prelude.{◌≡◌, ◌≤◌, ◌<◌, ◌++◌, None, length, map, string_bytes};
-ghost use Rattle.sf_tool.specs.Exits.{Declines, Ends, EndsLines, Exits, ExitsOn, Helps};
+ghost use Rattle.sf_tool.specs.Exits.{Declines, Ends, EndsLines, Exits, ExitsOn, Helps, SaysNotes};
 ghost use Rattle.sf_tool.specs.Saying.{Says};
 
 use crate::command::carry_out;
@@ -26,13 +26,26 @@ fn tell<E: Sink>(err: &mut E, line: &[u8], notes: &[u8])
     }
 }
 
-/// Ends with this exit status, or says why not in a line on the error output, with the notes behind it, and ends with the
-/// fault's status.
+/// Hands the error output the notes, if there are any. A fault of it is ignored.
+fn tell_notes<E: Sink>(err: &mut E, notes: &[u8])
+    ensures { SaysNotes E.contents E.failures notes.now err.old err.new }
+{
+    match notes {
+        [] => {}
+        _ => say(err, notes),
+    }
+}
+
+/// Ends with this exit status, or says why not in a line on the error output, and ends with the fault's status. The notes are
+/// said behind that.
 fn end<E: Sink>(err: &mut E, answer: Result<u8, CommandFault>, notes: &[u8]) -> u8
     ensures { Ends E.contents E.failures notes.now answer err.old err.new result }
 {
     match answer {
-        Ok(status) => status,
+        Ok(status) => {
+            tell_notes(err, notes);
+            status
+        }
         Err(fault) => {
             tell(err, error_line(fault).as_str().as_bytes(), notes);
             fault.status()

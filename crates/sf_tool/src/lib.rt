@@ -13,7 +13,6 @@ mod invocation;
 pub mod laws;
 mod lines;
 mod print;
-mod show;
 
 pub use command::carry_out;
 pub use invocation::{run_words, tool};

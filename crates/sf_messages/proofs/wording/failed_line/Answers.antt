@@ -1,13 +1,7 @@
-use Rattle.std.proofs.Common.{codes}
+use Rattle.std.proofs.Common.{◌∙◌, ◌++◌, ◌∷◌, [], ℕ, ap, codes}
 use Rattle.std.specs.Fmt.{decimal}
-use Rattle.sf_records.specs.Texts.{status_text}
-use Rattle.sf_messages.proofs.Lines.{four_numbers}
+use Rattle.sf_messages.specs.LineTexts.{outcome_text}
 use Rattle.sf_messages.proofs.wording.failed_line.Goals as goal
 
 pub returns : goal.returns
-returns c =
-    let outcome = c.args.outcome in
-    four_numbers c.joined.result.bytes (codes "sf: record ") (codes ": ") (status_text outcome.status) (codes " at ") (codes ", used ") (codes ", assigned ") (codes "\n")
-    (decimal c.args.place) (decimal outcome.at) (decimal outcome.used) (decimal outcome.assigned)
-    c.status_text-status.result.now c.format-number.result.now c.format-at.result.now c.format-used.result.now c.format-assigned.result.now
-    c.joined.ensures c.status_text-status.ensures c.format-number.ensures.text c.format-at.ensures.text c.format-used.ensures.text c.format-assigned.ensures.text
+returns c = c.outcome_line.ensures ∙ ap (λ (n : ℕ). codes "sf: record " ++ (decimal n ++ outcome_text c.args.outcome) ++ 10 ∷ []) c.from.ensures

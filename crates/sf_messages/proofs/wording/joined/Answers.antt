@@ -1,4 +1,4 @@
-use Rattle.std.proofs.Common.{◌≡◌, ◌≤◌, ◌+◌, [], arith, ap, length, lit<}
+use Rattle.std.proofs.Common.{[], arith, ap, length, lit<}
 use Rattle.sf_messages.proofs.Lines.{room_for}
 use Rattle.sf_messages.proofs.wording.joined.Goals as goal
 

@@ -2,7 +2,7 @@ use Rattle.std.proofs.Common.{◌≡◌, Err, ap, ◌∙◌, sym}
 use Rattle.sf_format.specs.Faults.{Fault, IsRefused}
 use Rattle.sf_format.specs.Grammar.{Spells}
 use Rattle.sf_format.specs.Widths.{width_sum}
-use Rattle.sf_tool.specs.Show.{show_text}
+use Rattle.sf_messages.specs.Shown.{show_text}
 use Rattle.sf_messages.specs.declared.fault.CommandFault.{CommandFault}
 use Rattle.sf_messages.specs.Faults.{format_fault}
 use Rattle.sf_tool.proofs.Answering.{refused_shows, counts_is}
