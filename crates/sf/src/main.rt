@@ -1,26 +1,24 @@
 //! The program `sf`.
 #![tactic(auto)]
 
+mod telling;
+
+use crate::telling::{Behind, Shared};
 use sf_print::StdSink;
 use sf_read::StdSource;
 use sf_tool::{CommandFault, read_words, tool};
 use std::alloc::Global;
+use std::cell::RefCell;
 use std::env;
-use std::io::{self, BufWriter, ErrorKind, IsTerminal, Write};
+use std::io::{self, BufWriter, ErrorKind, IsTerminal};
 use std::process::ExitCode;
 
 /// How many bytes of output are written at once where nobody waits for them. A writer without room hands each write on
 /// at once.
 const OUTPUT_BYTES: usize = 8192;
 
-/// The room for the error text, which is asked for before it is needed.
-const ERROR_BYTES: usize = 4096;
-
 /// The exit status of words that are refused.
 const USAGE: u8 = 2;
-
-/// The line of a failed write, which is told once.
-const WRITE_FAULT: &[u8] = b"sf: write fault\n";
 
 fn stopped(rt: &impl Eprint, fault: CommandFault) -> ExitCode {
     let _ = rt.eprintln(fault);
@@ -62,21 +60,16 @@ fn main(rt: HostRuntime) -> ExitCode {
     } else {
         OUTPUT_BYTES
     };
-    let Ok(mut writer) = BufWriter::with_capacity(alloc, room, rt.stdout()) else {
+    let Ok(writer) = BufWriter::with_capacity(alloc, room, rt.stdout()) else {
         return stopped(&rt, CommandFault::Memory);
     };
-    let Ok(mut errors) = Vec::with_capacity(alloc, ERROR_BYTES) else {
-        return stopped(&rt, CommandFault::Memory);
-    };
-    let mut out = StdSink::new(&mut writer);
-    let mut err = StdSink::new(&mut errors);
+    let output = RefCell::new(writer);
+    let mut out = StdSink::new(Shared::new(&output));
+    let mut err = StdSink::new(Behind::new(&output, rt.stderr()));
     let from = StdSource::new(rt.stdin());
     let status = tool(alloc, &words, from, &mut out, &mut err);
-    // the lines go out before the error line that follows them
-    let flushed = writer.flush();
-    let _ = rt.stderr().write_all(&errors);
-    if flushed.is_ok() || errors.ends_with(WRITE_FAULT) {
+    if err.into_writer().is_flushed() {
         return ExitCode::from(status);
     }
-    stopped(&rt, CommandFault::Write)
+    ExitCode::from(CommandFault::Write.status())
 }

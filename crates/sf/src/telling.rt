@@ -1,0 +1,86 @@
+//! The output, and the error output, whose texts come behind what was written to the output before.
+
+use std::cell::RefCell;
+use std::io::{self, BufWriter, ErrorKind, Write};
+
+/// The line of a failed write, which is told once.
+const WRITE_FAULT: &[u8] = b"sf: write fault\n";
+
+/// The output, whose buffer the error output flushes.
+#[derive(Drop)]
+pub(crate) struct Shared<'a, W: Write + Drop> {
+    output: &'a RefCell<BufWriter<W>>,
+}
+
+impl<'a, W: Write + Drop> Shared<'a, W> {
+    pub(crate) fn new(output: &'a RefCell<BufWriter<W>>) -> Shared<'a, W> {
+        Shared { output }
+    }
+}
+
+impl<W: Write + Drop> Write for Shared<'_, W> {
+    fn write(&mut self, bytes: &[u8]) -> io::Result<usize> {
+        match self.output.try_borrow_mut() {
+            Ok(mut output) => output.write(bytes),
+            Err(_) => Err(io::Error::from(ErrorKind::Other)),
+        }
+    }
+
+    fn flush(&mut self) -> io::Result<()> {
+        flush(self.output)
+    }
+}
+
+/// Writes what the output holds back.
+pub(crate) fn flush<W: Write + Drop>(output: &RefCell<BufWriter<W>>) -> io::Result<()> {
+    match output.try_borrow_mut() {
+        Ok(mut output) => output.flush(),
+        Err(_) => Err(io::Error::from(ErrorKind::Other)),
+    }
+}
+
+/// The error output. Each text that it is handed is written at once and whole, behind what the output holds back.
+#[derive(Drop)]
+pub(crate) struct Behind<'a, W: Write + Drop, E: Write + Drop> {
+    output: &'a RefCell<BufWriter<W>>,
+    errors: E,
+    /// Whether a flush of the output failed.
+    unflushed: bool,
+    /// Whether what was told last was a failed write.
+    told_fault: bool,
+}
+
+impl<'a, W: Write + Drop, E: Write + Drop> Behind<'a, W, E> {
+    pub(crate) fn new(output: &'a RefCell<BufWriter<W>>, errors: E) -> Behind<'a, W, E> {
+        Behind {
+            output,
+            errors,
+            unflushed: false,
+            told_fault: false,
+        }
+    }
+
+    /// Flushes the output, and tells a write that failed unless that was told.
+    pub(crate) fn is_flushed(mut self) -> bool {
+        let flushed = flush(self.output).is_ok() && !self.unflushed;
+        if !flushed && !self.told_fault {
+            let _ = self.errors.write_all(WRITE_FAULT);
+        }
+        flushed
+    }
+}
+
+impl<W: Write + Drop, E: Write + Drop> Write for Behind<'_, W, E> {
+    fn write(&mut self, bytes: &[u8]) -> io::Result<usize> {
+        if flush(self.output).is_err() {
+            self.unflushed = true;
+        }
+        self.told_fault = bytes.ends_with(WRITE_FAULT);
+        self.errors.write_all(bytes)?;
+        Ok(bytes.len())
+    }
+
+    fn flush(&mut self) -> io::Result<()> {
+        self.errors.flush()
+    }
+}
