@@ -1,7 +1,12 @@
 -- The text of a plain conversion is a minus and digits alone.
-use Rattle.std.proofs.Common.{◌≡◌, ℕ, zero, suc, ◌+◌, ◌-◌, ◌≤◌, ◌<◌, ◌^◌, Bool, true, false, cond, not, ◌&&◌, ◌==◌, is_none, List, [], ◌∷◌, ◌++◌, length, unsigned_abs, unwrap_or, Option, Some, None, refl, ap, ◌∙◌, arith, append-nil}
+use Rattle.std.proofs.Common.{◌≡◌, ℕ, zero, suc, ◌+◌, ◌-◌, ◌≤◌, ◌<◌, ◌^◌, Bool, true, false, cond, not, ◌&&◌, ◌==◌, is_none, List, [], ◌∷◌, ◌++◌, length, unsigned_abs, unwrap_or, Option, Some, None, eqb, subst, refl, ap, ◌∙◌, arith, append-nil}
 use Rattle.std.proofs.lemmas.Bool.{eqb-true}
+use Rattle.std.proofs.lemmas.Fmt.{decimal_is_IsNumeral}
+use Rattle.std.specs.Char.{digit_value}
 use Rattle.std.specs.Fmt.{decimal, digits}
+use Rattle.std.specs.Str.Parse.{AllDigits}
+use mir.Val.{bool_byte}
+use Rattle.sf_print.specs.Visible.{without_blanks}
 use Rattle.sf_base.specs.Data.{Datum}
 use Rattle.sf_base.specs.Data.Datum.{Number, Bytes}
 use Rattle.sf_format.specs.declared.unit.PrintLetter.{PrintLetter}
@@ -110,3 +115,28 @@ plain_value c negative m (Bytes bytes) plain is = absurd is
 pub plain_length : (negative : Bool) (m : ℕ) (value : Datum) → IsOf (printable.Number negative m) value → length (decimal m) ≤ 20
 plain_length negative m (Number k z) (is, proper, small) = length_at_most m small
 plain_length negative m (Bytes bytes) is = absurd is
+
+pub plain_fits : (negative : Bool) (m : ℕ) (value : Datum) → IsOf (printable.Number negative m) value → m < 2 ^ 64
+plain_fits negative m (Number k z) (is, proper, small) = small
+plain_fits negative m (Bytes bytes) is = absurd is
+
+-- ---- what is seen of it
+
+digits_seen : (ds : List ℕ) → AllDigits 10 ds → without_blanks ds ≡ ds
+digits_seen [] all = refl
+digits_seen (d ∷ ds) all = by (eqb d 32) refl
+  where
+    by : (t : Bool) → eqb d 32 ≡ t → cond t (without_blanks ds) (d ∷ ds) ≡ d ∷ ds
+    by true e = let low : digit_value 32 < 10 = subst (λ (x : ℕ). digit_value x < 10) (eqb-true d 32 e) all.0 in absurd (omega (arith, low))
+    by false e = refl
+
+number_seen : (negative : Bool) (m : ℕ) → m < 2 ^ 64 → without_blanks (minus negative ++ decimal m) ≡ minus negative ++ decimal m
+number_seen true m small = refl
+number_seen false m small = digits_seen (decimal m) (decimal_is_IsNumeral m small).0.1
+
+number_length : (negative : Bool) (m : ℕ) → length (minus negative ++ decimal m) ≡ bool_byte negative + length (decimal m)
+number_length true m = omega arith
+number_length false m = omega arith
+
+pub length_seen : (negative : Bool) (m : ℕ) (text : List ℕ) → m < 2 ^ 64 → text ≡ minus negative ++ decimal m → length (without_blanks text) ≡ bool_byte negative + length (decimal m)
+length_seen negative m text small is = ap (λ (t : List ℕ). length (without_blanks t)) is ∙ ap length (number_seen negative m small) ∙ number_length negative m

@@ -1,6 +1,6 @@
 //! Values whose text is not padded: numbers that are a minus and decimal digits alone, and bytes that are printed as they
 //! are.
-ghost use Rattle.std.specs.Prelude.{◌≡◌, ◌≤◌, ◌++◌, length, IfSome};
+ghost use Rattle.std.specs.Prelude.{◌≡◌, ◌≤◌, ◌<◌, ◌^◌, ◌++◌, length, IfSome};
 ghost use Rattle.std.specs.Fmt.{decimal};
 ghost use Rattle.sf_base.specs.Data.{datum_of};
 ghost use Rattle.sf_print.specs.Plain.{is_decimal, is_plain, minus};
@@ -36,6 +36,7 @@ fn is_plain_conv(conv: &PrintConv) -> bool
 pub(crate) fn plain_number(conv: &PrintConv, value: &Value<'_>) -> Option<(bool, u64)>
     ensures text { IfSome result (λ p. value_text conv.now (datum_of value.now) ≡ minus p.0 ++ decimal p.1) }
     ensures short { IfSome result (λ p. length (decimal p.1) ≤ 20) }
+    ensures fits { IfSome result (λ p. p.1 < 2 ^ 64) }
 {
     if !is_plain_conv(conv) {
         return None;

@@ -6,8 +6,10 @@ ghost use Rattle.sf_print.specs.Runs.{piece_bytes};
 ghost use Rattle.sf_print.specs.Text.{value_text};
 ghost use Rattle.sf_print.specs.Visible.{without_blanks, least};
 
+use crate::decimal::decimal_len;
 use crate::integer::{DIGIT_BYTES, integer_pieces, least};
 use crate::piece::Piece;
+use crate::plain::plain_number;
 use crate::text::value_pieces;
 use sf_base::Value;
 use sf_format::PrintConv;
@@ -58,6 +60,9 @@ pub fn core_len(conv: &PrintConv, value: Value<'_>) -> u32
     requires { is_number value ≡ true }
     ensures { result ≡ length (without_blanks (value_text conv.now (datum_of value.entry))) }
 {
+    if let Some((negative, magnitude)) = plain_number(conv, &value) {
+        return negative as u32 + decimal_len(magnitude) as u32;
+    }
     // read for the ranges of their types, which bound the length
     let (_width, _digits) = (conv.width, least(conv));
     let mut buf = [0; DIGIT_BYTES];
