@@ -6,10 +6,12 @@ pub mod JsonReading
 pub mod JsonUtf8
 pub mod JsonWriting
 pub mod Looping
+pub mod Numerals
 pub mod OneEnd
 pub mod Passing
 pub mod Quoting
 pub mod ReadingRows
 pub mod RecordRows
 pub mod RowSlots
+pub mod Short
 pub mod TableReading

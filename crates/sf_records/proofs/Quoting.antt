@@ -16,7 +16,7 @@ of_tests false true r w x y z e = absurd (true≢false (sym e))
 of_tests false false true w x y z e = refl
 of_tests false false false w x y z e = absurd (true≢false (sym e))
 
-plain_escaped : (b : ℕ) → is_plain b ≡ true → escaped b ≡ b ∷ []
+pub plain_escaped : (b : ℕ) → is_plain b ≡ true → escaped b ≡ b ∷ []
 plain_escaped b e = of_tests (nat_eq b 92) (nat_eq b 34) (nat_le 32 b && nat_le b 126) _ _ _ _ e
 
 -- the plain bytes in front stand as they are

@@ -1,6 +1,6 @@
 //! The text of a record.
 ghost use Rattle.std.specs.Prelude.{◌≡◌, ◌++◌, OnOk};
-ghost use Rattle.sf_base.specs.Data.{datum_of, Bytes};
+ghost use Rattle.sf_base.specs.Data.{Bytes};
 ghost use Rattle.sf_records.specs.Forms.{closing, opening, record_text, slot_text, value_text};
 
 use crate::form::OutputForm;
@@ -8,7 +8,8 @@ use crate::json::push_json_string;
 use crate::quote::push_quoted;
 use crate::tables::push_tsv_text;
 use itoa::Buffer;
-use sf_base::{Store, Value};
+use sf_base::{Shown, Store};
+use sf_print::push_number;
 use sf_run::Report;
 use std::alloc::AllocError;
 
@@ -22,39 +23,18 @@ fn push_text(output: &mut Vec<u8>, form: OutputForm, text: &[u8]) -> Result<(), 
     }
 }
 
-fn push_value(
-    output: &mut Vec<u8>,
-    digits: &mut Buffer,
-    form: OutputForm,
-    value: Value<'_>,
-) -> Result<(), AllocError>
-    ensures { OnOk result (output.new.items ≡ output.old.items ++ value_text form (datum_of value.entry)) }
-{
-    let number = match value {
-        Value::I8(number) => i64::from(number),
-        Value::I16(number) => i64::from(number),
-        Value::I32(number) => i64::from(number),
-        Value::I64(number) => number,
-        Value::U8(number) => i64::from(number),
-        Value::U16(number) => i64::from(number),
-        Value::U32(number) => i64::from(number),
-        Value::U64(number) => return output.extend_from_slice(digits.format(number).as_bytes()),
-        Value::Text(text) => return push_text(output, form, text),
-    };
-    output.extend_from_slice(digits.format(number).as_bytes())
-}
-
+/// Appends what a slot was given.
 fn push_slot<S: Store>(
     output: &mut Vec<u8>,
-    digits: &mut Buffer,
     form: OutputForm,
     report: &Report<'_, S>,
     slot: u8,
 ) -> Result<(), AllocError>
     ensures { OnOk result (output.new.items ≡ output.old.items ++ slot_text form report.now slot) }
 {
-    match report.value(slot) {
-        Some(value) => push_value(output, digits, form, value),
+    match report.shown(slot) {
+        Some(Shown::Number(number)) => push_number(output, number.negative, number.magnitude),
+        Some(Shown::Text(text)) => push_text(output, form, text),
         None => output.extend_from_slice(form.absent()),
     }
 }
@@ -82,11 +62,9 @@ fn push_closing(output: &mut Vec<u8>, form: OutputForm) -> Result<(), AllocError
     Ok(())
 }
 
-/// Appends, in this form, the record of a format that has so many destinations, by the report of a run. Where memory is
-/// refused, a part of it may have been appended.
-pub fn push_record<S: Store>(
+/// Appends, in this form, the record of a format that has so many destinations.
+pub(crate) fn push_values<S: Store>(
     output: &mut Vec<u8>,
-    digits: &mut Buffer,
     form: OutputForm,
     report: &Report<'_, S>,
     destinations: u8,
@@ -98,7 +76,21 @@ pub fn push_record<S: Store>(
         if before > 0 {
             output.push(form.separator())?;
         }
-        push_slot(output, digits, form, report, before + 1)?;
+        push_slot(output, form, report, before + 1)?;
     }
     push_closing(output, form)
+}
+
+/// Appends, in this form, the record of a format that has so many destinations, by the report of a run. Where memory is
+/// refused, a part of it may have been appended. The digits are written in place, and the buffer stays as it is.
+pub fn push_record<S: Store>(
+    output: &mut Vec<u8>,
+    _digits: &mut Buffer,
+    form: OutputForm,
+    report: &Report<'_, S>,
+    destinations: u8,
+) -> Result<(), AllocError>
+    ensures { OnOk result (output.new.items ≡ output.old.items ++ record_text form destinations report.now) }
+{
+    push_values(output, form, report, destinations)
 }

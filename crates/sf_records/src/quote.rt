@@ -1,5 +1,5 @@
 //! Bytes between quotes.
-ghost use Rattle.std.specs.Prelude.{◌≡◌, ◌++◌, ◌+◌, ◌<◌, ◌≤◌, length, map, not, OnOk};
+ghost use Rattle.std.specs.Prelude.{◌≡◌, ◌++◌, ◌+◌, ◌<◌, ◌≤◌, [], ◌∷◌, length, map, take, drop, true, not, OnOk};
 ghost use Rattle.std.specs.List.{flat_map, prefix_len};
 ghost use Rattle.sf_records.specs.Quotes.{hex_digit, escaped, is_plain, quoted};
 ghost use lib.Lanes.{mask_l, chunk};
@@ -8,6 +8,9 @@ use std::alloc::AllocError;
 use std::simd::prelude::*;
 
 const LANES: usize = 16;
+
+/// A quote, and behind it room for sixteen bytes and a quote.
+const QUOTES_AND_ROOM: [u8; 24] = [b'"'; 24];
 
 pub(crate) fn hex_digit(n: u8) -> u8
     requires { n < 16 }
@@ -89,9 +92,9 @@ fn push_mixed(output: &mut Vec<u8>, bytes: &[u8]) -> Result<(), AllocError>
     Ok(())
 }
 
-/// Appends the bytes between quotes: printable ones as they are, a quote and a backslash behind a backslash, and every
-/// other by its two digits of base 16.
-pub fn push_quoted(output: &mut Vec<u8>, bytes: &[u8]) -> Result<(), AllocError>
+/// Appends the bytes between quotes.
+#[inline(never)]
+fn push_long(output: &mut Vec<u8>, bytes: &[u8]) -> Result<(), AllocError>
     ensures { OnOk result (output.new.items ≡ output.old.items ++ quoted bytes.now) }
 {
     output.push(b'"')?;
@@ -102,4 +105,84 @@ pub fn push_quoted(output: &mut Vec<u8>, bytes: &[u8]) -> Result<(), AllocError>
     }
     output.push(b'"')?;
     Ok(())
+}
+
+/// Copies the first and the last bytes, so many each, over a part of a buffer: all bytes, where there are at most twice as
+/// many. By a constant it takes no call.
+#[inline(always)]
+fn copy_ends(bytes: &[u8], width: usize, buf: &mut [u8], at: usize)
+    requires width { (width ≤ length bytes.now) × (length bytes.now ≤ width + width) }
+    requires room { at + length bytes.now ≤ length buf.old }
+    ensures { buf.new ≡ take at buf.old ++ (bytes.now ++ drop (at + length bytes.now) buf.old) }
+{
+    let (len, end) = (bytes.len(), at + bytes.len());
+    buf[at..at + width].copy_from_slice(&bytes[..width]);
+    buf[end - width..end].copy_from_slice(&bytes[len - width..]);
+}
+
+/// Copies at most sixteen bytes over a part of a buffer.
+#[inline(always)]
+fn copy_short(bytes: &[u8], buf: &mut [u8], at: usize)
+    requires short { length bytes.now ≤ 16 }
+    requires room { at + length bytes.now ≤ length buf.old }
+    ensures { buf.new ≡ take at buf.old ++ (bytes.now ++ drop (at + length bytes.now) buf.old) }
+{
+    match bytes.len() {
+        0 => {}
+        1 => copy_ends(bytes, 1, buf, at),
+        2..=3 => copy_ends(bytes, 2, buf, at),
+        4..=7 => copy_ends(bytes, 4, buf, at),
+        _ => copy_ends(bytes, 8, buf, at),
+    }
+}
+
+/// Whether the first and the last bytes, so many each, are plain.
+#[inline(always)]
+fn are_ends_plain(bytes: &[u8], width: usize) -> bool
+    requires width { (width ≤ length bytes.now) × (length bytes.now ≤ width + width) × (width ≤ 8) }
+    ensures { result ≡ true → flat_map escaped bytes.now ≡ bytes.now }
+{
+    let mut lanes = [b' '; LANES];
+    lanes[..width].copy_from_slice(&bytes[..width]);
+    lanes[width..width + width].copy_from_slice(&bytes[bytes.len() - width..]);
+    odd_mask(&lanes, 0) == 0
+}
+
+/// Whether at most sixteen bytes are plain.
+#[inline(always)]
+fn is_short_plain(bytes: &[u8]) -> bool
+    requires { length bytes.now ≤ 16 }
+    ensures { result ≡ true → flat_map escaped bytes.now ≡ bytes.now }
+{
+    match bytes.len() {
+        0 => true,
+        1 => are_ends_plain(bytes, 1),
+        2..=3 => are_ends_plain(bytes, 2),
+        4..=7 => are_ends_plain(bytes, 4),
+        _ => are_ends_plain(bytes, 8),
+    }
+}
+
+/// Appends at most sixteen bytes between quotes.
+#[inline(always)]
+fn push_short(output: &mut Vec<u8>, bytes: &[u8]) -> Result<(), AllocError>
+    requires { length bytes.now ≤ 16 }
+    ensures { OnOk result (output.new.items ≡ output.old.items ++ (34 ∷ (bytes.now ++ 34 ∷ []))) }
+{
+    let start = output.len() + 1;
+    output.extend_from_slice(&QUOTES_AND_ROOM)?;
+    copy_short(bytes, output, start);
+    output.truncate(start + bytes.len() + 1);
+    Ok(())
+}
+
+/// Appends the bytes between quotes: printable ones as they are, a quote and a backslash behind a backslash, and every
+/// other by its two digits of base 16.
+pub fn push_quoted(output: &mut Vec<u8>, bytes: &[u8]) -> Result<(), AllocError>
+    ensures { OnOk result (output.new.items ≡ output.old.items ++ quoted bytes.now) }
+{
+    if bytes.len() <= LANES && is_short_plain(bytes) {
+        return push_short(output, bytes);
+    }
+    push_long(output, bytes)
 }

@@ -3,10 +3,9 @@ ghost use Rattle.std.specs.Prelude.{◌≡◌};
 ghost use Rattle.sf_records.specs.Forms.{writer_work, writing_of};
 
 use crate::form::OutputForm;
-use crate::line::push_record;
+use crate::line::push_values;
 use crate::output::write_whole;
 use crate::recorder::{Recorder, Unwritten};
-use itoa::Buffer;
 use sf_base::Store;
 use sf_print::Sink;
 use sf_run::Report;
@@ -20,8 +19,6 @@ pub(crate) struct RecordWriter {
     destinations: u8,
     /// The last record.
     text: Vec<u8>,
-    /// Where digits are made.
-    digits: Buffer,
 }
 
 impl RecordWriter {
@@ -33,7 +30,6 @@ impl RecordWriter {
             form,
             destinations,
             text: Vec::new(alloc),
-            digits: Buffer::new(),
         }
     }
 }
@@ -47,8 +43,7 @@ impl Recorder for RecordWriter {
         report: &Report<'_, T>,
     ) -> Result<(), Unwritten> {
         self.text.clear();
-        let (text, digits) = (&mut self.text, &mut self.digits);
-        if push_record(text, digits, self.form, report, self.destinations).is_err() {
+        if push_values(&mut self.text, self.form, report, self.destinations).is_err() {
             return Err(Unwritten::Memory);
         }
         match write_whole(to, &self.text) {

@@ -1,7 +1,7 @@
 use Rattle.std.proofs.Common.{◌∙◌, ap, refl, sym}
 use Rattle.sf_records.proofs.Quoting.{quoted_is, whole_front}
-use Rattle.sf_records.proofs.quote.push_quoted.Goals.{then-plain_run-bytes+in_ok-extend_from_slice, else-plain_run-bytes+in_ok-push_mixed}
-use Rattle.sf_records.proofs.quote.push_quoted.Goals as goal
+use Rattle.sf_records.proofs.quote.push_long.Goals.{then-plain_run-bytes+in_ok-extend_from_slice, else-plain_run-bytes+in_ok-push_mixed}
+use Rattle.sf_records.proofs.quote.push_long.Goals as goal
 
 pub returns : goal.returns
 returns c =

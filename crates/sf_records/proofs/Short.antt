@@ -1,0 +1,107 @@
+-- Short texts: copied by their ends, looked at by their ends, and put between quotes.
+use Rattle.std.proofs.Common.{◌≡◌, ℕ, suc, ◌+◌, ◌-◌, ◌<◌, ◌≤◌, Bool, true, false, ◌&&◌, not, cond, List, [], ◌∷◌, ◌++◌, map, min, length, take, drop, get_or, drop-cons, replicate, append_assoc, refl, sym, ap, ◌∙◌, arith, true≢false}
+use Rattle.std.proofs.lemmas.List.{take-take, take_all, take_at, take-append-drop, length-take, length-take-le, length-drop, length-append, drop-replicate}
+use Rattle.std.proofs.lemmas.List.Folds.{list_all-append}
+use Rattle.std.proofs.lemmas.Simd.{leading_from_mask_l}
+use Rattle.std.proofs.lemmas.Slice.{take-put_mid, drop-put_mid}
+use Rattle.std.proofs.Math.Seq.{take-append-add, drop-append-add, take-append_seam}
+use Rattle.std.specs.List.{flat_map, list_all, prefix_len}
+use Rattle.sf_base.proofs.Lanes.{not_not}
+use borrow.Rule.Slice.PartMut.{mid_of, post_of, put_mid, same_len_mid}
+use lib.Lanes.{chunk, mask_l}
+use Rattle.sf_records.specs.Quotes.{escaped, is_plain}
+use Rattle.sf_records.proofs.Quoting.{plain_escaped}
+
+-- ---- a text copied by its ends
+
+pub ends_copied : (b xs p q : List ℕ) (at w k l : ℕ) → w ≤ length xs → length xs ≤ w + w → at + length xs ≤ length b → k ≡ w → l ≡ w → p ≡ take w xs → q ≡ drop (length xs - w) xs
+    → put_mid (at + length xs - w) l (put_mid at k b p) q ≡ take at b ++ (xs ++ drop (at + length xs) b)
+ends_copied b xs p q at w k l low high room k_is l_is p_is q_is =
+    let n : ℕ = length xs in
+    let long_p : length p ≡ w = ap length p_is ∙ length-take-le w xs low in
+    let long_q : length q ≡ w = omega (arith, ap length q_is, length-drop (n - w) xs) in
+    let once : List ℕ = put_mid at k b p in
+    let whole : List ℕ = put_mid (at + n - w) l once q in
+    let front : take (at + w) once ≡ take at b ++ p = take-put_mid at k b p (at + w) (omega arith) (omega arith) in
+    let at_long : length (take at b) ≡ at = length-take-le at b (omega arith) in
+    let long : at + w ≤ length once = omega (arith, ap length front, length-take (at + w) once, length-append (take at b) p, at_long, long_p) in
+    let place : at + n - w ≡ length (take at b) + (n - w) = omega arith in
+    let begun : take (at + n - w) once ≡ take at b ++ take (n - w) xs =
+    sym (take-take (at + n - w) (at + w) once (omega arith)) ∙ ap (take (at + n - w)) front ∙ ap (λ (i : ℕ). take i (take at b ++ p)) place
+    ∙ take-append-add (take at b) p (n - w) ∙ ap (λ (t : List ℕ). take at b ++ take (n - w) t) p_is ∙ ap (λ (t : List ℕ). take at b ++ t) (take-take (n - w) w xs (omega arith)) in
+    let written : take (at + n) whole ≡ (take at b ++ take (n - w) xs) ++ drop (n - w) xs =
+    take-put_mid (at + n - w) l once q (at + n) (omega arith) (omega arith) ∙ (λ i. begun i ++ q_is i) in
+    let rest : drop (at + n) whole ≡ drop (at + n) b =
+    drop-put_mid (at + n - w) l once q (at + n) (omega arith) (omega arith) (omega arith) ∙ drop-put_mid at k b p (at + n) (omega arith) (omega arith) (omega arith) in
+    sym (take-append-drop (at + n) whole) ∙ (λ i. written i ++ rest i)
+    ∙ ap (λ (t : List ℕ). t ++ drop (at + n) b) (append_assoc (take at b) (take (n - w) xs) (drop (n - w) xs) ∙ ap (λ (t : List ℕ). take at b ++ t) (take-append-drop (n - w) xs))
+    ∙ append_assoc (take at b) xs (drop (at + n) b)
+
+-- ---- plain bytes
+
+both : (a b : Bool) → a && b ≡ true → (a ≡ true) × (b ≡ true)
+both true b e = (refl, e)
+both false b e = absurd (true≢false (sym e))
+
+pub plain_all : (xs : List ℕ) → list_all is_plain xs ≡ true → flat_map escaped xs ≡ xs
+plain_all [] e = refl
+plain_all (x ∷ xs) e =
+    let w = both (is_plain x) (list_all is_plain xs) e in
+    (λ i. plain_escaped x w.0 i ++ plain_all xs w.1 i)
+
+all_of_front : (p : ℕ → Bool) (xs : List ℕ) → prefix_len p xs ≡ length xs → list_all p xs ≡ true
+all_of_front p [] e = refl
+all_of_front p (x ∷ xs) e = go (p x) e (all_of_front p xs)
+  where
+    go : (t : Bool) → cond t (1 + prefix_len p xs) 0 ≡ suc (length xs) → (prefix_len p xs ≡ length xs → list_all p xs ≡ true) → t && list_all p xs ≡ true
+    go true e h = h (omega (arith, e))
+    go false e h = absurd (omega (arith, e))
+
+parts_pass : (p : ℕ → Bool) (xs ys : List ℕ) → list_all p (xs ++ ys) ≡ true → (list_all p xs ≡ true) × (list_all p ys ≡ true)
+parts_pass p xs ys e = both (list_all p xs) (list_all p ys) (sym (list_all-append p xs ys) ∙ e)
+
+-- a text passes whose ends do, where they meet
+ends_pass : (p : ℕ → Bool) (xs : List ℕ) (w m : ℕ) → m ≤ w → list_all p (take w xs) ≡ true → list_all p (drop m xs) ≡ true → list_all p xs ≡ true
+ends_pass p xs w m few front back =
+    let begun : list_all p (take m xs) ≡ true = ap (list_all p) (sym (take-take m w xs few)) ∙ (parts_pass p (take m (take w xs)) (drop m (take w xs)) (ap (list_all p) (take-append-drop m (take w xs)) ∙ front)).0 in
+    ap (list_all p) (sym (take-append-drop m xs)) ∙ list_all-append p (take m xs) (drop m xs) ∙ (λ i. begun i && back i)
+
+-- no bit of the mask of both ends, with blanks behind, is set
+pub plain_by_ends : (xs front back blanks : List ℕ) (w k m : ℕ) → w ≤ length xs → length xs ≤ w + w → w ≤ 8 → length blanks ≡ 16 → k ≡ w → front ≡ take w xs → back ≡ drop (length xs - w) xs
+    → m ≡ mask_l (map (λ b. not (is_plain b)) (chunk 0 16 (put_mid w k (front ++ drop w blanks) back))) → m ≡ 0 → flat_map escaped xs ≡ xs
+plain_by_ends xs front back blanks w k m low high few long k_is front_is back_is mask none =
+    let begun : List ℕ = front ++ drop w blanks in
+    let lanes : List ℕ = put_mid w k begun back in
+    let front_long : length front ≡ w = ap length front_is ∙ length-take-le w xs low in
+    let back_long : length back ≡ w = omega (arith, ap length back_is, length-drop (length xs - w) xs) in
+    let begun_long : length begun ≡ 16 = omega (arith, length-append front (drop w blanks), length-drop w blanks, front_long, long) in
+    let mid_long : length (mid_of w k begun) ≡ w = omega (arith, length-take k (drop w begun), length-drop w begun, begun_long, k_is, few) in
+    let whole : chunk 0 16 lanes ≡ lanes = take_all 16 lanes (omega (arith, same_len_mid w k begun back (back_long ∙ sym mid_long), begun_long)) in
+    let no_bit : mask_l (map (λ b. not (is_plain b)) lanes) ≡ 0 = ap (λ (ts : List ℕ). mask_l (map (λ b. not (is_plain b)) ts)) (sym whole) ∙ sym mask ∙ none in
+    let all : list_all is_plain lanes ≡ true = all_of_front is_plain lanes (sym (not_not is_plain lanes) ∙ leading_from_mask_l (λ b. not (is_plain b)) lanes no_bit) in
+    let parts = parts_pass is_plain (take w begun) (back ++ post_of w k begun) all in
+    let last = parts_pass is_plain back (post_of w k begun) parts.1 in
+    let first : list_all is_plain (take w xs) ≡ true = ap (list_all is_plain) (sym front_is ∙ sym (take_at front (drop w blanks) w front_long)) ∙ parts.0 in
+    plain_all xs (ends_pass is_plain xs w (length xs - w) (omega arith) first (ap (list_all is_plain) (sym back_is) ∙ last.0))
+
+-- ---- between quotes
+
+pub short_quoted : (out xs before new : List ℕ) (start end : ℕ) → start ≡ length out + 1 → end ≡ start + length xs + 1 → length xs ≤ 16 → before ≡ out ++ replicate 24 34
+    → new ≡ take start before ++ (xs ++ drop (start + length xs) before) → take end new ≡ out ++ (34 ∷ (xs ++ 34 ∷ []))
+short_quoted out xs before new start end start_is end_is short room is =
+    let n : ℕ = length xs in
+    let rest : List ℕ = replicate (22 - n) 34 in
+    let first : take start before ≡ out ++ 34 ∷ [] = (λ i. take (start_is i) (room i)) ∙ take-append-add out (replicate 24 34) 1 in
+    let place : start + n ≡ length out + (1 + n) = omega arith in
+    let more : 24 - (1 + n) ≡ suc (22 - n) = omega arith in
+    let behind : drop (start + n) before ≡ 34 ∷ rest =
+    (λ i. drop (place i) (room i)) ∙ drop-append-add out (replicate 24 34) (1 + n) ∙ drop-replicate (1 + n) 24 34 ∙ ap (λ (k : ℕ). replicate k 34) more in
+    let all : new ≡ ((out ++ 34 ∷ []) ++ (xs ++ 34 ∷ [])) ++ rest =
+    is ∙ (λ i. first i ++ (xs ++ behind i)) ∙ ap (λ (t : List ℕ). (out ++ 34 ∷ []) ++ t) (sym (append_assoc xs (34 ∷ []) rest)) ∙ sym (append_assoc (out ++ 34 ∷ []) (xs ++ 34 ∷ []) rest) in
+    let long : length ((out ++ 34 ∷ []) ++ (xs ++ 34 ∷ [])) ≡ end =
+    omega (arith, length-append (out ++ 34 ∷ []) (xs ++ 34 ∷ []), length-append out (34 ∷ []), length-append xs (34 ∷ []), start_is, end_is) in
+    ap (take end) all ∙ take_at ((out ++ 34 ∷ []) ++ (xs ++ 34 ∷ [])) rest end long ∙ append_assoc out (34 ∷ []) (xs ++ 34 ∷ [])
+
+-- what was written through a slice of all elements is what the list holds
+pub written_back : (n end : ℕ) (buf rest : List ℕ) → n ≡ length buf → take end (take n (buf ++ rest)) ≡ take end buf
+written_back n end buf rest e = ap (take end) (ap (λ (k : ℕ). take k (buf ++ rest)) e ∙ take-append_seam buf rest)
