@@ -86,6 +86,7 @@ fn one_less(left: Option<u16>) -> Option<u16>
 }
 
 // As many of the bytes as the item may still have.
+#[inline(always)]
 pub fn cut(piece: &[u8], left: Option<u16>) -> &[u8]
     ensures front { result.now ≡ take (length result.now) piece.now }
     ensures room { (k : ℕ) → k ≤ length result.now → FitsLeft left k }

@@ -31,6 +31,7 @@ pub struct WholeInteger {
 }
 
 /// How many bytes of a sign the bytes begin with, and whether it is a minus.
+#[inline(always)]
 fn sign(bytes: &[u8]) -> (usize, bool)
     ensures within { result.0 ≤ length bytes.now }
     ensures plain { result.0 ≡ 0 → result.1 ≡ false }
@@ -44,6 +45,7 @@ fn sign(bytes: &[u8]) -> (usize, bool)
 }
 
 /// Whether there is a digit of the radix at the place.
+#[inline(always)]
 fn is_digit_at(bytes: &[u8], at: usize, radix: u8) -> bool
     requires small { radix ≤ 16 }
     ensures { result ≡ false → at < length bytes.now → radix ≤ digit_value (slice_index bytes.now at) }
@@ -123,6 +125,7 @@ fn hex_digits(piece: &[u8]) -> (u64, usize)
 ///
 /// None where the piece begins with no integer, where it may go on behind the piece, and where it has more digits than
 /// surely fit in 64 bits.
+#[inline(always)]
 pub fn whole_decimal(width: Option<u16>, piece: &[u8]) -> Option<WholeInteger>
     ensures { IfSome result (EndsWithin Dec width piece.now) }
 {
@@ -170,6 +173,7 @@ pub fn whole_hex(width: Option<u16>, piece: &[u8]) -> Option<WholeInteger>
 /// before a byte of the piece, so that what follows the piece does not matter. It is a matching sequence.
 ///
 /// None where the piece begins with no such item, where it may go on behind the piece, and for an integer.
+#[inline(always)]
 pub fn whole_bytes(shape: &Shape, width: Option<u16>, piece: &[u8]) -> Option<usize>
     ensures { IfSome result (ItemWithin shape.now width piece.now) }
 {
