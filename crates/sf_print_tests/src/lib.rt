@@ -2,6 +2,8 @@
 #![tactic(auto)]
 
 #[cfg(test)]
+mod numbers;
+#[cfg(test)]
 mod print_formats;
 #[cfg(test)]
 mod prints;
