@@ -11,6 +11,7 @@ mod number;
 mod rules;
 mod runs;
 mod store;
+mod taken;
 mod values;
 
 pub use byte_set::ByteSet;
@@ -22,4 +23,5 @@ pub use number::Number;
 pub use rules::{Rule, first_fault};
 pub use runs::{space_run, text_run};
 pub use store::{Store, StoreFull, push_each};
+pub use taken::Taken;
 pub use values::{Kind, Shown, Value};

@@ -8,6 +8,8 @@ mod devices;
 #[cfg(test)]
 mod held;
 #[cfg(test)]
+mod room;
+#[cfg(test)]
 mod rows;
 #[cfg(test)]
 mod stores;

@@ -1,11 +1,11 @@
 //! What a run came to, with its values.
-ghost use Rattle.std.specs.Prelude.{◌≡◌};
+ghost use Rattle.std.specs.Prelude.{◌≡◌, ◌↔◌, IsSome, IfSome, Some};
 ghost use Rattle.std.specs.Option.{option_map};
-ghost use Rattle.sf_base.specs.Data.{datum_of, datum_of_shown, datum_at};
+ghost use Rattle.sf_base.specs.Data.{datum_of, datum_of_shown, datum_at, kind_of};
 ghost use Rattle.sf_run.specs.Runs.{c_return};
 
 use crate::outcome::{Outcome, Status};
-use sf_base::{Shown, Store, Value};
+use sf_base::{Shown, Store, Taken, Value};
 use std::marker::Model;
 
 /// What a run that has ended came to, with the store of its values.
@@ -125,6 +125,14 @@ impl<'r, S: Store> Report<'r, S> {
         ensures { option_map datum_of_shown result ≡ datum_at slot self.now.values }
     {
         self.store.shown(slot)
+    }
+
+    /// What the slot was given as `T`, where that is something of its kind: `report.get::<i32>(1)`.
+    pub fn get<T: Taken<'r>>(&self, slot: u8) -> Option<T>
+        ensures exactly { IsSome result ↔ (option_map kind_of (datum_at slot self.now.values) ≡ Some T.kind) }
+        ensures value { IfSome result (λ taken. datum_at slot self.now.values ≡ Some (T.datum taken)) }
+    {
+        T::taken(self.value(slot)?)
     }
 
     /// What fscanf returns (C11 7.21.6.2p16): -1 for an input failure before the first conversion has
