@@ -78,11 +78,6 @@ module _ {S : Type 0} {to_come : S → Option (List ℕ)} {now new : Ahead S} (i
         came = subst (Came w number items is after) (sym verdict_is) (subst (λ (a : Option (List ℕ)). Came w number items is a judgement) (sym same) one);
       }
 
--- a flag that stays
-pub not_before : (a b : Bool) → (a ≡ true → b ≡ true) → b ≡ false → a ≡ false
-not_before true b stays e = absurd (true≢false (sym (stays refl) ∙ e))
-not_before false b stays e = refl
-
 pub denied : (b : Bool) → not b ≡ true → b ≡ false
 denied true e = absurd (true≢false (sym e))
 denied false e = refl

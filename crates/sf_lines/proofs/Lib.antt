@@ -5,4 +5,5 @@ pub mod Gathering
 pub mod Looping
 pub mod OneTurn
 pub mod Reading
+pub mod Telling
 pub mod Turning

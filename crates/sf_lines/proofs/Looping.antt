@@ -16,36 +16,38 @@ use Rattle.sf_lines.specs.declared.line.LineRead.{LineRead}
 use Rattle.sf_lines.specs.declared.line.LineRead.TheVariants as reads
 use Rattle.sf_lines.specs.Reading.{Loses, Took, TookPart, Reads, endless, is_failed}
 use Rattle.sf_lines.specs.Turns.{LineWork, Turn, Comes}
-use Rattle.sf_lines.specs.Loops.{AreLines, AreTurns, IsBegun, IsCutShort, Loops, goes_on, tellings, telling_of, texts, text_of, is_written, fault_after, ended, status_by, most_lines}
+use Rattle.sf_lines.specs.Loops.{AreLines, AreTurns, IsBegun, IsCutShort, TellsLines, goes_on, tellings, telling_of, texts, text_of, is_written, fault_after, ended, status_by, most_lines}
 use Rattle.sf_lines.specs.Loops as turns
 use Rattle.sf_lines.specs.Judging.{TakesPart}
+use Rattle.sf_lines.specs.Telling.{Tells}
+use Rattle.sf_lines.proofs.Telling.{all_said, tells_nothing, tells_then}
 use Rattle.sf_lines.proofs.Reading.{Lined, begins, took, gone_all, are_lines, consumed, failed_in, at_end}
 use Rattle.sf_lines.proofs.Turning.{Passed, passed_length, passed_then, passed_more, tellings_append, texts_more, count_more, turns_behind, if_stopped}
 
 -- what the loop wrote, told and counted after these turns. The sink held the bytes `was`, and now `is`.
-pub record Did (w : LineWork) (done : List Turn) (was is : Option (List ℕ)) (silent : Bool) (told told' : Option (List ℕ)) (written failed : ℕ) : Type 0 where
+pub record Did (w : LineWork) (done : List Turn) (was is : Option (List ℕ)) (dumb silent : Bool) (told told' : Option (List ℕ)) (written failed : ℕ) : Type 0 where
   pub appends : Appends was is (texts done)
-  pub tells : silent ≡ false → Appends told told' (tellings w 0 done)
+  pub tells : Tells dumb silent told told' (tellings w 0 done)
   pub written_are : written ≡ count_by is_written done
   pub failed_are : failed ≡ count_by turns.is_failed done
 
 -- after the first n lines of the input t
-pub record Going {S : Type 0} (w : LineWork) (to_come : S → Option (List ℕ)) (t : List ℕ) (now : Ahead S) (was is : Option (List ℕ)) (silent : Bool) (told told' : Option (List ℕ)) (written failed n : ℕ) : Type 0 where
+pub record Going {S : Type 0} (w : LineWork) (to_come : S → Option (List ℕ)) (t : List ℕ) (now : Ahead S) (was is : Option (List ℕ)) (dumb silent : Bool) (told told' : Option (List ℕ)) (written failed n : ℕ) : Type 0 where
   pub front : List (List ℕ)
   pub done : List Turn
   pub lined : Lined to_come t now front
   pub passed : Passed w 0 front done
   pub count : length done ≡ n
-  pub did : Did w done was is silent told told' written failed
+  pub did : Did w done was is dumb silent told told' written failed
 
-pub starts : {S : Type 0} (w : LineWork) (to_come : S → Option (List ℕ)) (t : List ℕ) (now : Ahead S) (was : Option (List ℕ)) (silent : Bool) (told : Option (List ℕ)) → input_of to_come now ≡ Some t → Going w to_come t now was was silent told told 0 0 0
-starts w to_come t now was silent told e = record {
+pub starts : {S : Type 0} (w : LineWork) (to_come : S → Option (List ℕ)) (t : List ℕ) (now : Ahead S) (was : Option (List ℕ)) (dumb : Bool) (told : Option (List ℕ)) → input_of to_come now ≡ Some t → Going w to_come t now was was dumb dumb told told 0 0 0
+starts w to_come t now was dumb told e = record {
   front = [];
   done = [];
   lined = begins to_come t now e;
   passed = refl;
   count = refl;
-  did = record { appends = Appends-none was; tells = λ _. Appends-none told; written_are = refl; failed_are = refl };
+  did = record { appends = Appends-none was; tells = tells_nothing dumb told; written_are = refl; failed_are = refl };
 }
 
 -- the end after these
@@ -53,34 +55,37 @@ end_is : (answer : LinesEnd) (written failed : ℕ) (fault : Option LinesFault) 
     → written ≡ count_by is_written done → failed ≡ count_by turns.is_failed done → answer ≡ ended done fault
 end_is answer written failed fault done is p q = is ∙ rw (p, q) refl
 
-module _ {S : Type 0} {w : LineWork} {to_come : S → Option (List ℕ)} {t : List ℕ} {now : Ahead S} {was is : Option (List ℕ)} {silent : Bool} {told told' : Option (List ℕ)} {written failed n : ℕ}
-    (one : EachHasOneReport) (proper : AllByRecursion AreProper w.formats) (some : 0 < length w.formats) (g : Going w to_come t now was is silent told told' written failed n) where
+module _ {S : Type 0} {w : LineWork} {to_come : S → Option (List ℕ)} {t : List ℕ} {now : Ahead S} {was is : Option (List ℕ)} {dumb silent : Bool} {told told' : Option (List ℕ)} {written failed n : ℕ}
+    (one : EachHasOneReport) (proper : AllByRecursion AreProper w.formats) (some : 0 < length w.formats) (g : Going w to_come t now was is dumb silent told told' written failed n) where
   lines_count : length g.front ≡ n
   lines_count = sym (passed_length w 0 g.front g.done g.passed) ∙ g.count
 
   -- the loop is ended before: what it did is the front of what comes of all lines
   cut_short : {new : Ahead S} (consumed : ℕ) → input_of to_come new ≡ Some (drop consumed t) → (more : List (List ℕ)) → lines_of t ≡ g.front ++ more → (later : List Turn) → AreTurns w (length g.front) more later
       → (part : List ℕ) (after : Option (List ℕ)) → Appends is after part → (failures mid : ℕ) → mid ≡ failures → (answer : LinesEnd) → IsCutShort g.done part later t answer
-      → Loops w to_come t new failures mid was after silent told told' answer
-  cut_short consumed rest more all later are part after wrote failures mid same answer why = record {
-    failed = false;
-    failures_are = same;
-    consumed = consumed;
-    rest = rest;
-    turns = g.done ++ later;
-    are = subst (λ (lines : List (List ℕ)). AreTurns w 0 lines (g.done ++ later)) (sym all) (passed_then w 0 g.front more g.done later g.passed (subst (λ (k : ℕ). AreTurns w k more later) {x = length g.front} {y = 0 + length g.front} (omega arith) are));
-    done = g.done;
-    later = later;
-    parts = refl;
-    part = part;
-    appends = Appends-then _ _ _ _ _ g.did.appends wrote;
-    tells = g.did.tells;
-    ends = inr (refl, why);
-  }
+      → TellsLines w to_come t new failures mid was after dumb silent told told' answer
+  cut_short consumed rest more all later are part after wrote failures mid same answer why = (
+    record {
+      failed = false;
+      failures_are = same;
+      consumed = consumed;
+      rest = rest;
+      turns = g.done ++ later;
+      are = subst (λ (lines : List (List ℕ)). AreTurns w 0 lines (g.done ++ later)) (sym all) (passed_then w 0 g.front more g.done later g.passed (subst (λ (k : ℕ). AreTurns w k more later) {x = length g.front} {y = 0 + length g.front} (omega arith) are));
+      done = g.done;
+      later = later;
+      parts = refl;
+      part = part;
+      appends = Appends-then _ _ _ _ _ g.did.appends wrote;
+      tells = all_said dumb silent told told' (tellings w 0 g.done) g.did.tells;
+      ends = inr (refl, why);
+    },
+    g.did.tells,
+  )
 
   -- no line was read, for want of memory or since there are too many
   pub unread : {new : Ahead S} (bytes : List ℕ) → Loses to_come now new bytes → (failures mid : ℕ) → mid ≡ failures → (fault : LinesFault) (answer : LinesEnd) → answer ≡ record { status = status_by failed (Some fault); written = written; failed = failed; fault = Some fault }
-      → (fault ≡ Memory) ⊎ (fault ≡ TooMany) × ((n ≡ most_lines) ⊎ (endless ≤ length bytes)) → Loops w to_come t new failures mid was is silent told told' answer
+      → (fault ≡ Memory) ⊎ (fault ≡ TooMany) × ((n ≡ most_lines) ⊎ (endless ≤ length bytes)) → TellsLines w to_come t new failures mid was is dumb silent told told' answer
   unread {new} bytes loses failures mid same fault answer answer_is why =
       let (k, _, rest, _, few) = consumed g.lined new bytes loses in
       let more = turns_behind one w proper some (length g.front) (lines_of g.lined.left) in
@@ -100,49 +105,53 @@ module _ {S : Type 0} {w : LineWork} {to_come : S → Option (List ℕ)} {t : Li
 
   -- the input has no further line
   pub at_last : {new : Ahead S} → TookPart to_come now new [] → IsAtEnd (input_of to_come new) → (failures mid : ℕ) → mid ≡ failures → (answer : LinesEnd) → answer ≡ record { status = status_by failed None; written = written; failed = failed; fault = None }
-      → Loops w to_come t new failures mid was is silent told told' answer
+      → TellsLines w to_come t new failures mid was is dumb silent told told' answer
   at_last {new} nothing known failures mid same answer answer_is =
-      let (rest, all) = at_end g.lined new nothing.bytes known in
-      record {
-        failed = false;
-        failures_are = same;
-        consumed = length g.lined.gone;
-        rest = rest;
-        turns = g.done;
-        are = all_passed (lines_of t) all;
-        done = g.done;
-        later = [];
-        parts = sym (append-nil g.done);
-        part = [];
-        appends = Appends-same _ _ _ _ (sym (append-nil (texts g.done))) g.did.appends;
-        tells = g.did.tells;
-        ends = inl (refl, refl, end_is answer written failed None g.done answer_is g.did.written_are g.did.failed_are, λ _. subst (AreLines t (length g.lined.gone)) (sym (passed_length w 0 g.front g.done g.passed)) (are_lines g.lined));
-      }
+      let (rest, all) = at_end g.lined new nothing.bytes known in (
+        record {
+          failed = false;
+          failures_are = same;
+          consumed = length g.lined.gone;
+          rest = rest;
+          turns = g.done;
+          are = all_passed (lines_of t) all;
+          done = g.done;
+          later = [];
+          parts = sym (append-nil g.done);
+          part = [];
+          appends = Appends-same _ _ _ _ (sym (append-nil (texts g.done))) g.did.appends;
+          tells = all_said dumb silent told told' (tellings w 0 g.done) g.did.tells;
+          ends = inl (refl, refl, end_is answer written failed None g.done answer_is g.did.written_are g.did.failed_are, λ _. subst (AreLines t (length g.lined.gone)) (sym (passed_length w 0 g.front g.done g.passed)) (are_lines g.lined));
+        },
+        g.did.tells,
+      )
 
   -- the source failed in the next line
   pub read_failed : {new : Ahead S} (part : List ℕ) → TookPart to_come now new part → now.at_end ≡ false → (failures mid before : ℕ) → before ≡ failures → mid ≡ counted_on before → (answer : LinesEnd)
-      → answer ≡ record { status = status_by failed (Some (Read (n + 1))); written = written; failed = failed; fault = Some (Read (n + 1)) } → Loops w to_come t new failures mid was is silent told told' answer
+      → answer ≡ record { status = status_by failed (Some (Read (n + 1))); written = written; failed = failed; fault = Some (Read (n + 1)) } → TellsLines w to_come t new failures mid was is dumb silent told told' answer
   read_failed {new} part lost open' failures mid before same counts answer answer_is =
-      let (k, _, rest, gone, _) = consumed g.lined new part lost.bytes in
-      record {
-        failed = true;
-        failures_are = counts ∙ ap counted_on same;
-        consumed = k;
-        rest = rest;
-        turns = g.done;
-        are = all_passed (lines_by Fault (take k t)) (ap (lines_by Fault) gone ∙ failed_in g.lined part lost.is_line open');
-        done = g.done;
-        later = [];
-        parts = sym (append-nil g.done);
-        part = [];
-        appends = Appends-same _ _ _ _ (sym (append-nil (texts g.done))) g.did.appends;
-        tells = g.did.tells;
-        ends = inl (refl, refl, end_is answer written failed (Some (Read (n + 1))) g.done answer_is g.did.written_are g.did.failed_are ∙ ap (λ (k : ℕ). ended g.done (Some (Read (k + 1)))) (sym g.count), λ e. absurd (true≢false e));
-      }
+      let (k, _, rest, gone, _) = consumed g.lined new part lost.bytes in (
+        record {
+          failed = true;
+          failures_are = counts ∙ ap counted_on same;
+          consumed = k;
+          rest = rest;
+          turns = g.done;
+          are = all_passed (lines_by Fault (take k t)) (ap (lines_by Fault) gone ∙ failed_in g.lined part lost.is_line open');
+          done = g.done;
+          later = [];
+          parts = sym (append-nil g.done);
+          part = [];
+          appends = Appends-same _ _ _ _ (sym (append-nil (texts g.done))) g.did.appends;
+          tells = all_said dumb silent told told' (tellings w 0 g.done) g.did.tells;
+          ends = inl (refl, refl, end_is answer written failed (Some (Read (n + 1))) g.done answer_is g.did.written_are g.did.failed_are ∙ ap (λ (k : ℕ). ended g.done (Some (Read (k + 1)))) (sym g.count), λ e. absurd (true≢false e));
+        },
+        g.did.tells,
+      )
 
   -- no line was read
   pub no_line : {new : Ahead S} (r : LineRead) → (r ≡ reads.Line → ⊥) → (r ≡ reads.TooLong → ⊥) → (limit : ℕ) (items : List ℕ) → Reads to_come now new limit items r → (failures before mid : ℕ) → before ≡ failures → mid ≡ cond (is_failed r) (counted_on before) before
-      → (answer : LinesEnd) → answer ≡ record { status = status_by failed (fault_after (n + 1) r); written = written; failed = failed; fault = fault_after (n + 1) r } → Loops w to_come t new failures mid was is silent told told' answer
+      → (answer : LinesEnd) → answer ≡ record { status = status_by failed (fault_after (n + 1) r); written = written; failed = failed; fault = fault_after (n + 1) r } → TellsLines w to_come t new failures mid was is dumb silent told told' answer
   no_line reads.Line not_line not_long limit items h failures before mid same counts answer answer_is = absurd (not_line refl)
   no_line reads.TooLong not_line not_long limit items h failures before mid same counts answer answer_is = absurd (not_long refl)
   no_line reads.End not_line not_long limit items h failures before mid same counts answer answer_is = at_last h.0 h.2 failures mid (counts ∙ same) answer answer_is
@@ -161,11 +170,11 @@ module _ {S : Type 0} {w : LineWork} {to_come : S → Option (List ℕ)} {t : Li
     rest_is = lined.input ∙ ap Some (sym (gone_all lined))
 
     module _ (turn : Turn) (comes : Comes w (n + 1) line turn) (after : Option (List ℕ)) (silent' : Bool) (told'' : Option (List ℕ)) (written' failed' : ℕ) (wrote : Appends is after (text_of turn))
-        (quiet : silent' ≡ false → silent ≡ false) (tells : silent' ≡ false → Appends told' told'' (telling_of w (n + 1) turn)) (more_written : written' ≡ written + cond (is_written turn) 1 0) (more_failed : failed' ≡ failed + cond (turns.is_failed turn) 1 0) where
-      did_more : Did w (g.done ++ turn ∷ []) was after silent' told told'' written' failed'
+        (tells : Tells silent silent' told' told'' (telling_of w (n + 1) turn)) (more_written : written' ≡ written + cond (is_written turn) 1 0) (more_failed : failed' ≡ failed + cond (turns.is_failed turn) 1 0) where
+      did_more : Did w (g.done ++ turn ∷ []) was after dumb silent' told told'' written' failed'
       did_more = record {
         appends = Appends-same _ _ _ _ (sym (texts_more g.done turn)) (Appends-then _ _ _ _ _ g.did.appends wrote);
-        tells = λ q. Appends-same _ _ _ _ (sym telling) (Appends-then _ _ _ _ _ (g.did.tells (quiet q)) (tells q));
+        tells = subst (Tells dumb silent' told told'') (sym telling) (tells_then dumb silent silent' told told' told'' (tellings w 0 g.done) (telling_of w (n + 1) turn) g.did.tells tells);
         written_are = count_more is_written g.done turn written' written more_written g.did.written_are;
         failed_are = count_more turns.is_failed g.done turn failed' failed more_failed g.did.failed_are;
       }
@@ -176,7 +185,7 @@ module _ {S : Type 0} {w : LineWork} {to_come : S → Option (List ℕ)} {t : Li
               ∙ ap (λ (k : ℕ). tellings w 0 g.done ++ telling_of w k turn) {x = 0 + length g.done + 1} {y = n + 1} (omega (arith, g.count))
 
       -- the loop goes on
-      pub next : goes_on w turn ≡ true → Going w to_come t new was after silent' told told'' written' failed' (n + 1)
+      pub next : goes_on w turn ≡ true → Going w to_come t new was after dumb silent' told told'' written' failed' (n + 1)
       next goes = record {
         front = g.front ++ line ∷ [];
         done = g.done ++ turn ∷ [];
@@ -188,34 +197,37 @@ module _ {S : Type 0} {w : LineWork} {to_come : S → Option (List ℕ)} {t : Li
 
       -- the loop stops there
       pub stops : goes_on w turn ≡ false → (failures mid : ℕ) → mid ≡ failures → (answer : LinesEnd) → answer ≡ record { status = status_by failed' None; written = written'; failed = failed'; fault = None }
-          → Loops w to_come t new failures mid was after silent' told told'' answer
-      stops goes failures mid same answer answer_is = record {
-        failed = false;
-        failures_are = same;
-        consumed = length lined.gone;
-        rest = rest_is;
-        turns = g.done ++ turn ∷ [];
-        are = subst (λ (ls : List (List ℕ)). AreTurns w 0 ls (g.done ++ turn ∷ [])) (sym all_lines) (passed_then w 0 g.front (line ∷ lines_of lined.left) g.done (turn ∷ []) g.passed (
-          subst (λ (k : ℕ). Comes w k line turn) {x = n + 1} {y = 0 + length g.front + 1} (omega (arith, lines_count)) comes,
-          if_stopped (goes_on w turn) (AreTurns w (0 + length g.front + 1) (lines_of lined.left) []) [] goes refl,
-        ));
-        done = g.done ++ turn ∷ [];
-        later = [];
-        parts = sym (append-nil (g.done ++ turn ∷ []));
-        part = [];
-        appends = Appends-same _ _ _ _ (sym (append-nil (texts (g.done ++ turn ∷ [])))) did_more.appends;
-        tells = did_more.tells;
-        ends = inl (
-          refl,
-          refl,
-          end_is answer written' failed' None (g.done ++ turn ∷ []) answer_is did_more.written_are did_more.failed_are,
-          λ _. subst (AreLines t (length lined.gone)) {x = length (g.front ++ line ∷ [])} {y = length (g.done ++ turn ∷ [])} (omega (arith, length-append g.front (line ∷ []), length-append g.done (turn ∷ []), lines_count, g.count)) (are_lines lined),
-        );
-      }
+          → TellsLines w to_come t new failures mid was after dumb silent' told told'' answer
+      stops goes failures mid same answer answer_is = (
+        record {
+          failed = false;
+          failures_are = same;
+          consumed = length lined.gone;
+          rest = rest_is;
+          turns = g.done ++ turn ∷ [];
+          are = subst (λ (ls : List (List ℕ)). AreTurns w 0 ls (g.done ++ turn ∷ [])) (sym all_lines) (passed_then w 0 g.front (line ∷ lines_of lined.left) g.done (turn ∷ []) g.passed (
+            subst (λ (k : ℕ). Comes w k line turn) {x = n + 1} {y = 0 + length g.front + 1} (omega (arith, lines_count)) comes,
+            if_stopped (goes_on w turn) (AreTurns w (0 + length g.front + 1) (lines_of lined.left) []) [] goes refl,
+          ));
+          done = g.done ++ turn ∷ [];
+          later = [];
+          parts = sym (append-nil (g.done ++ turn ∷ []));
+          part = [];
+          appends = Appends-same _ _ _ _ (sym (append-nil (texts (g.done ++ turn ∷ [])))) did_more.appends;
+          tells = all_said dumb silent' told told'' (tellings w 0 (g.done ++ turn ∷ [])) did_more.tells;
+          ends = inl (
+            refl,
+            refl,
+            end_is answer written' failed' None (g.done ++ turn ∷ []) answer_is did_more.written_are did_more.failed_are,
+            λ _. subst (AreLines t (length lined.gone)) {x = length (g.front ++ line ∷ [])} {y = length (g.done ++ turn ∷ [])} (omega (arith, length-append g.front (line ∷ []), length-append g.done (turn ∷ []), lines_count, g.count)) (are_lines lined),
+          );
+        },
+        did_more.tells,
+      )
 
     -- memory was refused, and nothing was written
     pub no_memory : (after : Option (List ℕ)) → Appends is after [] → (failures mid : ℕ) → mid ≡ failures → (answer : LinesEnd) → answer ≡ record { status = status_by failed (Some Memory); written = written; failed = failed; fault = Some Memory }
-        → Loops w to_come t new failures mid was after silent told told' answer
+        → TellsLines w to_come t new failures mid was after dumb silent told told' answer
     no_memory after nothing failures mid same answer answer_is =
         let later = turns_behind one w proper some (length g.front) (line ∷ lines_of lined.left) in
         cut_short (length lined.gone) rest_is (line ∷ lines_of lined.left) all_lines later.0 later.1 [] after nothing failures mid same answer
@@ -223,7 +235,7 @@ module _ {S : Type 0} {w : LineWork} {to_come : S → Option (List ℕ)} {t : Li
 
     -- the sink failed within the text
     pub unwritten : (after : Option (List ℕ)) (text : List ℕ) → Comes w (n + 1) line (Some (Ok text)) → TakesPart is after text → (failures mid : ℕ) → mid ≡ failures → (answer : LinesEnd)
-        → answer ≡ record { status = status_by failed (Some Write); written = written; failed = failed; fault = Some Write } → Loops w to_come t new failures mid was after silent told told' answer
+        → answer ≡ record { status = status_by failed (Some Write); written = written; failed = failed; fault = Some Write } → TellsLines w to_come t new failures mid was after dumb silent told told' answer
     unwritten after text comes (part, missing, rest, begun, took) failures mid same answer answer_is =
         let later = turns_behind one w proper some (length g.front + 1) (lines_of lined.left) in
         let here : Comes w (length g.front + 1) line (Some (Ok text)) = subst (λ (k : ℕ). Comes w k line (Some (Ok text))) {x = n + 1} {y = length g.front + 1} (omega (arith, lines_count)) comes in
@@ -232,7 +244,7 @@ module _ {S : Type 0} {w : LineWork} {to_come : S → Option (List ℕ)} {t : Li
 
     -- either of these
     pub interrupted : (after : Option (List ℕ)) (fault : LinesFault) → (fault ≡ Memory) × Appends is after [] ⊎ (fault ≡ Write) × ((text : List ℕ) × Comes w (n + 1) line (Some (Ok text)) × TakesPart is after text)
-        → (failures mid : ℕ) → mid ≡ failures → (answer : LinesEnd) → answer ≡ record { status = status_by failed (Some fault); written = written; failed = failed; fault = Some fault } → Loops w to_come t new failures mid was after silent told told' answer
+        → (failures mid : ℕ) → mid ≡ failures → (answer : LinesEnd) → answer ≡ record { status = status_by failed (Some fault); written = written; failed = failed; fault = Some fault } → TellsLines w to_come t new failures mid was after dumb silent told told' answer
     interrupted after fault (inl (memory, nothing)) failures mid same answer answer_is =
         no_memory after nothing failures mid same answer (answer_is ∙ ap (λ (f : LinesFault). record { status = status_by failed (Some f); written = written; failed = failed; fault = Some f }) memory)
     interrupted after fault (inr (write, (text, comes, part))) failures mid same answer answer_is =

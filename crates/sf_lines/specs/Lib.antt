@@ -3,4 +3,5 @@ pub mod Judging
 pub mod Laws
 pub mod Loops
 pub mod Reading
+pub mod Telling
 pub mod Turns

@@ -13,6 +13,7 @@ use Rattle.sf_lines.specs.declared.end.LinesFault.{LinesFault}
 use Rattle.sf_lines.specs.declared.end.LinesFault.TheVariants.{Read, Write, Memory, TooMany}
 use Rattle.sf_lines.specs.Cut.{lines_by, lines_of}
 use Rattle.sf_lines.specs.Reading.{endless}
+use Rattle.sf_lines.specs.Telling.{Tells}
 use Rattle.sf_lines.specs.Turns.{LineWork, Turn, Comes}
 
 -- ---- what comes of the lines
@@ -145,3 +146,9 @@ pub record Loops {S : Type 0} (w : LineWork) (to_come : S → Option (List ℕ))
   pub tells : silent ≡ false → Appends told told' (tellings w 0 done)
   pub ends : (later ≡ []) × (part ≡ []) × Concludes w failed done answer × (failed ≡ false → AreLines t consumed (length done))
       ⊎ (failed ≡ false) × IsCutShort done part later t answer
+
+-- the same, with what was told of these lines: all of it, or a part where the teller failed within it. `dumb`: whether it had
+-- failed before.
+abbrev pub TellsLines : {S : Type 0} → LineWork → (S → Option (List ℕ)) → List ℕ → Ahead S → ℕ → ℕ → Option (List ℕ) → Option (List ℕ) → Bool → Bool → Option (List ℕ) → Option (List ℕ) → LinesEnd → Type 0
+TellsLines w to_come t now failures failures' before after dumb silent told told' answer =
+    (all : Loops w to_come t now failures failures' before after silent told told' answer) × Tells dumb silent told told' (tellings w 0 all.done)

@@ -4,7 +4,8 @@ ghost use Rattle.std.specs.List.{AllByRecursion};
 ghost use Rattle.sf_format.specs.Proper.{AreProper};
 ghost use Rattle.sf_print.specs.Sinks.{counted_on};
 ghost use Rattle.sf_read.specs.Ahead.{input_of};
-ghost use Rattle.sf_lines.specs.Loops.{Loops, is_write, status_by};
+ghost use Rattle.sf_lines.specs.Loops.{Loops, TellsLines, is_write, status_by};
+ghost use Rattle.sf_lines.specs.Telling.{faults_by};
 ghost use Rattle.sf_lines.specs.Turns.{LineWork, work_of};
 
 use crate::end::{Counts, LineFault, LinesEnd, LinesFault, read_fault};
@@ -56,6 +57,10 @@ pub fn run_lines<R: RecordWriter, E: Teller, S: Source, K: Sink, const N: usize>
     requires some { 0 < length formats.now }
     ensures loops { (t : List ℕ) → input_of S.to_come from.old ≡ Some t
         → Loops (work_of options formats.now (R.text writer.old) (E.telling teller.old)) S.to_come t from.new (S.failures from.old.source) (S.failures from.new.source) (K.contents to.old) (K.contents to.new) (E.failed teller.new) (E.told teller.old) (E.told teller.new) result }
+    ensures tells { (t : List ℕ) → input_of S.to_come from.old ≡ Some t
+        → TellsLines (work_of options formats.now (R.text writer.old) (E.telling teller.old)) S.to_come t from.new (S.failures from.old.source) (S.failures from.new.source) (K.contents to.old) (K.contents to.new) (E.failed teller.old) (E.failed teller.new) (E.told teller.old) (E.told teller.new) result }
+    ensures kept { E.kept teller.new ≡ E.kept teller.old }
+    ensures faults { E.faults teller.new ≡ faults_by (E.failed teller.old) (E.failed teller.new) (E.faults teller.old) }
     ensures status { result.status ≡ status_by result.failed result.fault }
     ensures sink { K.failures to.new
         ≡ (if is_write result.fault then counted_on (K.failures to.old) else K.failures to.old) }

@@ -1,10 +1,10 @@
 //! What is written of the lines of an input, and who is told of those that are no match.
-ghost use Rattle.std.specs.Prelude.{◌≡◌, ℕ, List, Option, Bool, true, false, if◌then◌else◌};
-ghost use Rattle.std.specs.Io.KnownBytes.{Appends};
+ghost use Rattle.std.specs.Prelude.{◌≡◌, ℕ, List, Option, Bool, if◌then◌else◌};
 ghost use Rattle.sf_format.specs.declared.directive.Directive.{Directive};
 ghost use Rattle.sf_print.specs.Sinks.{counted_on};
 ghost use Rattle.sf_run.specs.Runs.{RunReport};
 ghost use Rattle.sf_lines.specs.Judging.{WritesRecord, is_sink_fault};
+ghost use Rattle.sf_lines.specs.Telling.{Tells, faults_by};
 ghost use Rattle.sf_lines.specs.declared.end.LineFault.{LineFault};
 
 use crate::end::LineFault;
@@ -40,7 +40,7 @@ pub trait RecordWriter {
             ≡ (if is_sink_fault result then counted_on (K.failures to.old) else K.failures to.old) };
 }
 
-/// Is told of the lines that are no match.
+/// Is told of the lines that are no match. Once it has failed it says nothing more.
 pub trait Teller {
     // What it says of a line, by its number, counted from 1.
     ghost telling: { Self → ℕ → LineFault → List ℕ };
@@ -51,9 +51,18 @@ pub trait Teller {
     // Whether something was not said in full, or not said.
     ghost failed: { Self → Bool };
 
+    // The faults of what it says it to, as a sink counts its own.
+    ghost faults: { Self → ℕ };
+
+    // What of it stays as it is, such as the name of a reference that it holds.
+    ghost Kept: { Type 0 } = { Unit {0} };
+
+    ghost kept: { Self → Self.Kept };
+
     /// Says that the line with this number, counted from 1, is no match.
     fn tell(&mut self, number: u64, fault: LineFault)
         ensures same { telling self.new ≡ telling self.old }
-        ensures stays { failed self.old ≡ true → failed self.new ≡ true }
-        ensures told { failed self.new ≡ false → Appends (told self.old) (told self.new) (telling self.old number fault) };
+        ensures kept { kept self.new ≡ kept self.old }
+        ensures told { Tells (failed self.old) (failed self.new) (told self.old) (told self.new) (telling self.old number fault) }
+        ensures faults { faults self.new ≡ faults_by (failed self.old) (failed self.new) (faults self.old) };
 }

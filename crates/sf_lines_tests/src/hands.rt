@@ -1,5 +1,5 @@
 //! A writer and a teller for tests.
-ghost use Rattle.std.specs.Prelude.{◌≡◌, Some};
+ghost use Rattle.std.specs.Prelude.{◌≡◌, Some, if◌then◌else◌};
 ghost use Rattle.sf_base.specs.Data.{datum_at};
 ghost use Rattle.sf_lines_tests.specs.Hands.{bytes_in, first_line, letter_of, note_of};
 
@@ -72,7 +72,14 @@ impl Teller for Notes {
 
     ghost failed = { λ notes. notes.failed };
 
+    ghost faults = { λ notes. if notes.failed then 1 else 0 };
+
+    ghost kept = { λ notes. tt };
+
     fn tell(&mut self, number: u64, fault: LineFault) {
+        if self.failed {
+            return;
+        }
         let note = [b'0' + (number % 10) as u8, letter(fault)];
         if self.said.extend_from_slice(&note).is_err() {
             self.failed = true;

@@ -1,5 +1,5 @@
 //! The lines of an input, each scanned by the formats of an order.
-ghost use Rattle.std.specs.Prelude.{◌≡◌, ◌≤◌, ◌<◌, IfOk, IfErr, Some, length, map, string_bytes};
+ghost use Rattle.std.specs.Prelude.{◌≡◌, ◌≤◌, ◌<◌, IfOk, IfErr, Some, if◌then◌else◌, length, map, string_bytes};
 ghost use Rattle.sf_tool.specs.Commands.{form_of, grammar_of};
 ghost use Rattle.sf_tool.specs.Lines.{AreNoScanWords, AreScanWords, RunsLines, ScansLines, answer_by, line_telling, line_text};
 
@@ -63,8 +63,12 @@ impl Teller for LineNotes {
 
     ghost failed = { λ notes. notes.lost };
 
+    ghost faults = { λ notes. if notes.lost then 1 else 0 };
+
+    ghost kept = { λ notes. tt };
+
     fn tell(&mut self, number: u64, fault: LineFault) {
-        if self.quiet {
+        if self.quiet || self.lost {
             return;
         }
         let line = line_fault_line(number, fault);
