@@ -3,58 +3,10 @@ use arrayvec::ArrayVec;
 use sf_base::{Kind, Store, Value};
 use sf_format::{Profile, ScanFormat};
 use sf_read::{Lookahead, ReadStep, ScanRowFault, ScriptSource, Source, scan_row};
-use sf_rows::{LIMIT, is};
+use sf_rows::{LIMIT, Named, is};
 use sf_run::{Ending, Outcome, Report, Row, RowFault, StartFault, Status};
 use std::alloc::Global;
 use std::test::Fail;
-
-/// A name with its number.
-#[derive(Debug, Drop)]
-struct Named {
-    number: i32,
-    name: Vec<u8>,
-}
-
-impl Row for Named {
-    ghost use Rattle.std.specs.Prelude.{[], ◌∷◌};
-    ghost use Rattle.sf_base.specs.declared.values.Kind.TheVariants.{I32, Text};
-    ghost use Rattle.sf_base.specs.Data.{Number, Bytes};
-
-    ghost kinds = { I32 ∷ Text ∷ [] };
-
-    ghost listed = { λ r. Number I32 r.number ∷ Bytes r.name.items ∷ [] };
-
-    fn slots() -> u8 {
-        2
-    }
-
-    fn shape(slot: u8) -> Option<Kind> {
-        match slot {
-            1 => Some(Kind::I32),
-            2 => Some(Kind::Text),
-            _ => None,
-        }
-    }
-
-    fn from_report<S: Store>(alloc: Global, report: &Report<'_, S>) -> Result<Self, RowFault> {
-        let (Some(Value::I32(number)), Some(Value::Text(text))) = (report.value(1), report.value(2))
-        else {
-            unreachable!();
-        };
-        let mut name = Vec::new(alloc);
-        match name.extend_from_slice(text) {
-            Ok(()) => Ok(Named { number, name }),
-            Err(_) => Err(RowFault::NoMemory),
-        }
-    }
-
-    fn with_values(&self) -> ArrayVec<Value<'_>, 32> {
-        let mut values = ArrayVec::new();
-        values.push(Value::I32(self.number));
-        values.push(Value::Text(&self.name));
-        values
-    }
-}
 
 /// A row of one number, which is always refused.
 #[derive(Debug, Drop)]

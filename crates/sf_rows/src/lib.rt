@@ -7,6 +7,7 @@ mod compare;
 mod fault_rows;
 mod item_rows;
 mod limited_scans;
+mod named;
 mod number_scans;
 mod pair_rows;
 mod piece_rows;
@@ -19,6 +20,7 @@ mod told;
 pub use compare::{has_values, is};
 pub use fault_rows::{FaultRow, print_faults, scan_faults};
 pub use item_rows::{DecimalRow, Found, ItemRow, Reader, decimals, items};
+pub use named::Named;
 pub use pair_rows::{
     BoundRow, PairRow, RunIntoRow, TripRow, UnfitRow, bounds, pairs, run_into, trips, unfit,
 };
