@@ -2,6 +2,12 @@
 #![tactic(auto)]
 
 #[cfg(test)]
+mod bounds;
+#[cfg(test)]
+mod errors;
+#[cfg(test)]
+mod lengths;
+#[cfg(test)]
 mod numbers;
 #[cfg(test)]
 mod print_formats;

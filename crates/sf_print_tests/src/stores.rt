@@ -123,6 +123,57 @@ fn a_text_grows_by_pieces(rt: HostRuntime) -> Result<(), Fail> {
     Ok(())
 }
 
+/// Slots that are given in no order: numbers and texts by turns, one text taken away again.
+fn scattered<S: Store>(store: &mut S) -> Result<(), Fail>
+    requires slots { 5 ≤ S.slots }
+    requires empty { S.kept store.old ≡ nothing_kept (S.kept store.old).room }
+{
+    store.open_text(4);
+    store.push_all(b"four")?;
+    store.close_text();
+    store.set(5, Value::I8(-5));
+    store.open_text(3);
+    store.push_all(b"gone")?;
+    store.drop_text();
+    store.set(2, Value::U64(2));
+    store.open_text(1);
+    store.push_all(b"o")?;
+    store.push(b'n')?;
+    store.push(b'e')?;
+    store.close_text();
+    store.open_text(3);
+    store.push_all(b"33")?;
+    store.close_text();
+    Ok(())
+}
+
+/// What the slots then have.
+const SCATTERED: [(u8, Option<Value<'static>>); 7] = [
+    (0, None),
+    (1, Some(Value::Text(b"one"))),
+    (2, Some(Value::U64(2))),
+    (3, Some(Value::Text(b"33"))),
+    (4, Some(Value::Text(b"four"))),
+    (5, Some(Value::I8(-5))),
+    (6, None),
+];
+
+#[test]
+fn slots_in_no_order(rt: HostRuntime) -> Result<(), Fail> {
+    let mut heap = HeapStore::new(rt.alloc(), 0)?;
+    scattered(&mut heap)?;
+    let mut fixed = FixedStore::<11, 5>::new();
+    scattered(&mut fixed)?;
+    let mut seven = SevenCalls(FixedStore::new());
+    scattered(&mut seven)?;
+    for (slot, value) in SCATTERED {
+        is(&heap.value(slot), &value, &slot)?;
+        is(&fixed.value(slot), &value, &slot)?;
+        is(&seven.value(slot), &value, &slot)?;
+    }
+    Ok(())
+}
+
 /// A store that has the seven calls of a store, and no more.
 #[derive(Drop)]
 struct SevenCalls(FixedStore<9, 5>);
