@@ -1,10 +1,8 @@
 -- What holds of the directives of each spelled text.
 use Rattle.std.proofs.Common.{◌≡◌, ℕ, ◌+◌, List, [], ◌∷◌, ◌++◌, length, Option, Some, None, refl, sym, ap, ◌∙◌, subst, arith}
 use Rattle.std.proofs.lemmas.List.{length-map}
-use Rattle.std.proofs.lemmas.Option.{same_Some}
 use Rattle.std.specs.List.{AllByRecursion}
 use Rattle.sf_base.specs.declared.values.Kind.{Kind}
-use Rattle.sf_base.specs.declared.values.Kind.TheVariants as kinds
 use Rattle.sf_format.specs.declared.directive.Profile.{Profile}
 use Rattle.sf_format.specs.declared.directive.Shape.{Shape}
 use Rattle.sf_format.specs.declared.directive.Directive.{Directive}
@@ -13,15 +11,15 @@ use Rattle.sf_format.specs.Language.{Scan}
 use Rattle.sf_format.specs.declared.letter.Letter.{Letter}
 use Rattle.sf_format.specs.declared.letter.Letter.TheVariants.{Signed, Unsigned, Chars, Text, Set, Count}
 use Rattle.sf_format.specs.declared.letter.Length.{Length}
-use Rattle.sf_format.specs.declared.letter.Length.TheVariants.{NoLength, HH, H, LL, L, J, Z, T}
-use Rattle.sf_format.specs.Letters.{kind_of, text_kind}
+use Rattle.sf_format.specs.Letters.{kind_of}
 use Rattle.sf_format.specs.Digits.{IsOptionalNumber, optional_number}
 use Rattle.sf_format.specs.Slots.{Slotted, slots_from}
 use Rattle.sf_format.specs.Pieces.{Piece, WhiteSpace, Ordinary, Percents, Plain, Bracket, Printed}
-use Rattle.sf_format.specs.Grammar.{IsScanPiece, IsFormat, ArePlaced, destinations, shape_of, width_of, Means, MeanAll}
+use Rattle.sf_format.specs.Grammar.{IsScanPiece, IsFormat, ArePlaced, destinations, shape_of, width_of, Means, MeanAll, Spells}
 use Rattle.sf_format.specs.Proper.{HasItsKind, IsKinded, AreKinded, HasItsWidth, IsSized, AreSized, IsProperShape, IsProperWidth, IsProper, AreProper, destinations_of, slots_of, AreInOrder, IsAccepted}
 use Rattle.sf_format.specs.Passing.{slot_in}
 use Rattle.sf_format.proofs.Members.{some_member}
+use Rattle.sf_format.proofs.Suits.{text_kinded}
 use Rattle.sf_format.proofs.Meanings.{made, scan_meaning}
 use Rattle.sf_format.proofs.PartSlots.{ListsSlots, listed_slot, AreGood, all_short, format_few, slots_good, slots_count, slots_in_order}
 
@@ -99,16 +97,6 @@ all_sized profile place (piece ∷ pieces) (d ∷ ds) h =
 
 -- ---- kinds
 
-text_kinded : (size : Length) (k : Kind) → text_kind size ≡ Some k → k ≡ kinds.Text
-text_kinded NoLength k h = same_Some _ _ (sym h)
-text_kinded HH k h = absurd cc
-text_kinded H k h = absurd cc
-text_kinded LL k h = absurd cc
-text_kinded L k h = absurd cc
-text_kinded J k h = absurd cc
-text_kinded Z k h = absurd cc
-text_kinded T k h = absurd cc
-
 plain_kinded : (letter : Letter) (s : Shape) (size : Length) (k : Kind) → shape_of letter s → kind_of letter size ≡ Some k → HasItsKind s k
 plain_kinded (Signed base) s size k h is = subst (λ t. HasItsKind t k) (sym h) tt
 plain_kinded (Unsigned base) s size k h is = subst (λ t. HasItsKind t k) (sym h) tt
@@ -178,3 +166,6 @@ format_accepted profile pieces ds is h =
       few = omega (arith, count, format_few (Scan profile) pieces is);
       slots = record { each = good.within; distinct = good.distinct };
     }
+
+pub proper : (profile : Profile) (text : List ℕ) (ds : List Directive) → Spells profile text ds → IsAccepted ds
+proper profile text ds h = format_accepted profile h.0 ds h.1 h.3

@@ -1,5 +1,5 @@
 -- What it is for a text to begin with a part.
-use Rattle.std.proofs.Common.{◌≡◌, ℕ, ◌<◌, ◌⊎◌, inl, inr, Bool, true, false, cond, nat_eq, List, [], ◌∷◌, ◌++◌, refl, sym, subst, append-nil, arith}
+use Rattle.std.proofs.Common.{ap, drop, is_none, None, Some, Option, ◌≡◌, ℕ, ◌<◌, ◌⊎◌, inl, inr, Bool, true, false, cond, nat_eq, List, [], ◌∷◌, ◌++◌, refl, sym, subst, append-nil, arith}
 use Rattle.std.proofs.lemmas.Bool.Decides.{nat_tests}
 use Rattle.sf_base.specs.Bytes.{is_white}
 use Rattle.sf_format.specs.Language.{Language}
@@ -9,7 +9,9 @@ use Rattle.sf_format.specs.Cut.{Part}
 use Rattle.sf_format.specs.Grammar.{IsPiece, AreAlike, destinations}
 use Rattle.sf_format.specs.Rules.{Rule}
 use Rattle.sf_format.specs.Faults.{percent_rules, part_rules}
+use Rattle.sf_format.specs.Lists.{begins}
 use Rattle.sf_format.proofs.Prefixes.{Stops}
+use Rattle.sf_format.proofs.Cutting.{begins_joined}
 use Rattle.sf_format.proofs.Rules.{Quiet}
 
 -- what follows a run of white space begins with none
@@ -43,3 +45,12 @@ pub white_quiet : (language : Language) (earlier : List Opening) (p b : ℕ) (x 
     → Quiet (part_rules language earlier p (b ∷ x))
 white_quiet language earlier p b x white =
     byte_quiet language earlier p b x (white_not b 0 white (inl refl)) (white_not b 37 white (inr (omega arith)))
+
+-- ---- behind a %
+
+pub letter_some : {L : Type 0} (found : Option L) → is_none found ≡ false → (letter : L) × (found ≡ Some letter)
+letter_some None e = absurd (cc)
+letter_some (Some letter) e = (letter, refl)
+
+pub percents_text : (x : List ℕ) → begins (37 ∷ []) x ≡ true → 37 ∷ x ≡ 37 ∷ 37 ∷ drop 1 x
+percents_text x e = ap (λ t. 37 ∷ t) (sym (begins_joined (37 ∷ []) x e))

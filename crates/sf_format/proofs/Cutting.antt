@@ -12,8 +12,8 @@ use Rattle.sf_format.specs.Cut.{Cut, number_before, number_at, first_length, len
 use Rattle.sf_format.proofs.Outcomes.{by_test, and_left, and_right}
 use Rattle.sf_format.proofs.Prefixes.{Stops, AllPass, front_behind, front_passes, front_of, behind_of}
 
-same_true : (a b : ℕ) → nat_eq a b ≡ true → a ≡ b
-same_true a b e = grind (arith, nat_tests)
+pub same_byte : (a b : ℕ) → nat_eq a b ≡ true → a ≡ b
+same_byte a b e = grind (arith, nat_tests)
 
 pub digit_is_not : (d mark : ℕ) → is_decimal d ≡ true → mark < 48 → nat_eq d mark ≡ false
 digit_is_not d mark e low = grind (arith, nat_tests)
@@ -37,7 +37,7 @@ mark_joined mark [] = refl
 mark_joined mark (b ∷ x) =
     by_test (nat_eq b mark)
     (λ v. mark_text mark (pick v (true, x) (false, b ∷ x)).0 ++ (pick v (true, x) (false, b ∷ x)).1 ≡ b ∷ x)
-    (λ e. ap (λ a. a ∷ x) (sym (same_true b mark e))) (λ e. refl)
+    (λ e. ap (λ a. a ∷ x) (sym (same_byte b mark e))) (λ e. refl)
 
 star_is : (star : Bool) → mark_text 42 star ≡ star_text star
 star_is true = refl
@@ -51,7 +51,7 @@ number_joined (d ∷ ds) [] x e = refl
 number_joined (d ∷ ds) (b ∷ after) x e =
     by_test (nat_eq b 36)
     (λ v. number_text (pick v (d ∷ ds, after) ([], x)).0 ++ (pick v (d ∷ ds, after) ([], x)).1 ≡ x)
-    (λ same. append_assoc (d ∷ ds) (36 ∷ []) after ∙ ap (λ a. d ∷ (ds ++ a ∷ after)) (sym (same_true b 36 same)) ∙ e)
+    (λ same. append_assoc (d ∷ ds) (36 ∷ []) after ∙ ap (λ a. d ∷ (ds ++ a ∷ after)) (sym (same_byte b 36 same)) ∙ e)
     (λ other. refl)
 
 number_passes : (ds after x : List ℕ) → AllPass is_decimal ds → AllPass is_decimal (number_before ds after x).0
@@ -149,7 +149,7 @@ pub begins_joined : (word x : List ℕ) → begins word x ≡ true → word ++ d
 begins_joined [] x e = refl
 begins_joined (a ∷ word) [] e = cc
 begins_joined (a ∷ word) (b ∷ x) e =
-    ap (λ c. c ∷ (word ++ drop (length word) x)) (sym (same_true b a (and_left _ _ e)))
+    ap (λ c. c ∷ (word ++ drop (length word) x)) (sym (same_byte b a (and_left _ _ e)))
     ∙ ap (λ y. b ∷ y) (begins_joined word x (and_right (nat_eq b a) _ e))
 
 length_joined : (sizes : List Length) (x : List ℕ)
@@ -265,6 +265,10 @@ opening_regroup o y = simp append_assoc
 
 -- ---- lengths
 
+pub number_text_longer : (number : List ℕ) → length number ≤ length (number_text number)
+number_text_longer [] = omega arith
+number_text_longer (d ∷ ds) = omega (arith, length-append ds (36 ∷ []))
+
 pub length-cut : (x : List ℕ) → length (opening_text (cut x).opening) + length (cut x).rest ≡ 1 + length x
 length-cut x =
     let e = opening_regroup (cut x).opening (cut x).rest ∙ ap (λ t. 37 ∷ t) (cut_joined x) in
@@ -276,7 +280,3 @@ number_shorter x =
     let o = (cut x).opening in
     let behind = star_text o.star ++ (o.width ++ (length_text o.size ++ (cut x).rest)) in
     omega (arith, ap length (cut_joined x), length-append (number_text o.number) behind, number_text_longer o.number)
-  where
-    number_text_longer : (number : List ℕ) → length number ≤ length (number_text number)
-    number_text_longer [] = omega arith
-    number_text_longer (d ∷ ds) = omega (arith, length-append ds (36 ∷ []))

@@ -1,10 +1,12 @@
 -- Destinations without a fault so far, and one more.
-use Rattle.std.proofs.Common.{◌≡◌, ◌≢◌, ℕ, ◌≤◌, inl, inr, Bool, true, false, cond, not, ◌&&◌, ◌||◌, nat_lt, List, [], ◌∷◌, ◌++◌, length, refl, sym, ap, ◌∙◌, subst, arith, length-append, append_assoc, append-nil}
+use Rattle.std.proofs.Common.{◌≡◌, ◌≢◌, ℕ, ◌≤◌, inl, inr, Bool, true, false, cond, not, ◌&&◌, ◌||◌, nat_lt, List, [], ◌∷◌, None, Some, ◌++◌, length, refl, sym, ap, ◌∙◌, subst, arith, length-append, append_assoc, append-nil}
 use Rattle.std.proofs.lemmas.Bool.Decides.{nat_tests}
 use Rattle.std.specs.List.{AllByRecursion, list_any}
 use Rattle.sf_format.specs.Lists.{is_written}
 use Rattle.sf_format.specs.Pieces.{Opening, Piece, WhiteSpace, Ordinary, Percents, Plain, Bracket, Printed}
-use Rattle.sf_format.specs.Grammar.{AreAlike, assigned_opening, destinations}
+use Rattle.sf_format.specs.Grammar.{AreAlike, assigned_opening, destinations, slot_of}
+use Rattle.sf_format.specs.Digits.{optional_number}
+use Rattle.sf_format.specs.Passing.{slot_at}
 use Rattle.sf_format.specs.Rules.{slot_rules}
 use Rattle.sf_format.proofs.Outcomes.{or_left, or_right}
 use Rattle.sf_format.proofs.Rules.{Quiet, all_append, all_front, all_back}
@@ -158,3 +160,11 @@ at_most_one Percents = omega arith
 at_most_one (Plain o letter) = one_at_most o
 at_most_one (Bracket o list) = one_at_most o
 at_most_one (Printed o letter) = omega arith
+
+-- the slot of a part with one destination, or with a suppressed one
+pub slot_there : (place : ℕ) (o : Opening) → slot_of place o ≡ slot_at place (assigned_opening o [])
+slot_there place o = by_star o.star refl
+  where
+    by_star : (star : Bool) → o.star ≡ star → slot_of place o ≡ slot_at place (cond star [] (o ∷ []))
+    by_star true h = ap (λ v. cond v None (elim (optional_number o.number) [ None ↦ Some place | Some n ↦ Some n ])) h
+    by_star false h = refl

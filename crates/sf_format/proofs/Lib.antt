@@ -23,7 +23,6 @@ pub mod Ranges
 pub mod Holding
 pub mod Pigeonholes
 pub mod SlotLookups
-pub mod PrintedKinds
 pub mod Passages
 pub mod PrintPassages
 pub mod Walks
@@ -32,8 +31,6 @@ pub mod PartSlots
 pub mod Accepted
 pub mod PrintAccepted
 pub mod FormatLaws
-pub mod ScanLaws
-pub mod PrintLaws
 pub mod Profiles
 pub mod Answers
 pub mod PartTexts

@@ -1,5 +1,5 @@
 -- A part of a scan format means one directive.
-use Rattle.std.proofs.Common.{◌≡◌, ◌≢◌, ℕ, zero, suc, ◌+◌, ◌<◌, Bool, true, false, cond, List, [], ◌∷◌, length, get_or, Option, Some, None, refl, sym, ap, ◌∙◌, subst, arith}
+use Rattle.std.proofs.Common.{◌≡◌, ◌≢◌, ℕ, zero, suc, ◌+◌, ◌<◌, Bool, false, cond, List, [], ◌∷◌, length, get_or, Option, Some, None, refl, sym, ap, ◌∙◌, subst, arith}
 use Rattle.std.proofs.lemmas.List.{ext_get_or}
 use Rattle.std.specs.Prelude.{IsSome}
 use Rattle.sf_base.specs.declared.values.Kind.{Kind}
@@ -17,9 +17,9 @@ use Rattle.sf_format.specs.Scanlist.{Scanlist, is_member, IsSetOf}
 use Rattle.sf_format.specs.Pieces.{Opening, Piece, WhiteSpace, Ordinary, Percents, Plain, Bracket, Printed}
 use Rattle.sf_format.specs.Grammar.{IsScanPiece, IsConversion, Means, shape_of, width_of, slot_of, destinations}
 use Rattle.sf_format.specs.Language.{Scan}
-use Rattle.sf_format.specs.Digits.{optional_number}
 use Rattle.sf_format.specs.Passing.{slot_in, slot_at}
 use Rattle.sf_format.proofs.WholeMeanings.{IsMeaning}
+use Rattle.sf_format.proofs.Destinations.{slot_there}
 use Rattle.sf_format.proofs.Suits.{ForRows, found}
 
 -- ---- sets
@@ -145,11 +145,7 @@ some_meaning profile place (Printed o b) is = absurd is
 -- ---- slots
 
 conversion_slot : (place : ℕ) (o : Opening) (c : Conversion) → c.slot ≡ slot_of place o → c.slot ≡ slot_at place (cond o.star [] (o ∷ []))
-conversion_slot place o c e = e ∙ by_star o.star refl
-  where
-    by_star : (star : Bool) → o.star ≡ star → slot_of place o ≡ slot_at place (cond star [] (o ∷ []))
-    by_star true h = ap (λ v. cond v None (elim (optional_number o.number) [ None ↦ Some place | Some n ↦ Some n ])) h
-    by_star false h = refl
+conversion_slot place o c e = e ∙ slot_there place o
 
 -- the slot of a directive is that of its part
 pub means_slot : (profile : Profile) (place : ℕ) (piece : Piece) (d : Directive) → Means profile place piece d

@@ -1,29 +1,37 @@
 -- What follows a part that no rule refuses.
-use Rattle.std.proofs.Common.{◌≡◌, ℕ, suc, ◌+◌, ◌-◌, ◌<◌, ◌≤◌, Bool, true, false, cond, not, ◌&&◌, ◌||◌, nat_eq, nat_lt, List, [], ◌∷◌, ◌++◌, length, get_or, take, drop, Some, None, Result, Ok, Err, refl, sym, ap, ◌∙◌, subst, arith}
+use Rattle.std.proofs.Common.{◌≡◌, ℕ, suc, ◌+◌, ◌-◌, ◌<◌, ◌≤◌, Bool, true, false, cond, not, ◌&&◌, ◌||◌, nat_eq, nat_lt, List, [], ◌∷◌, ◌++◌, length, get_or, take, drop, Option, Some, None, Result, Ok, Err, refl, sym, ap, ◌∙◌, subst, arith}
 use Rattle.std.proofs.lemmas.Bool.Decides.{nat_tests}
+use Rattle.std.specs.Prelude.{MatchOption}
 use Rattle.sf_base.specs.Bytes.{magnitude}
 use Rattle.sf_format.specs.declared.directive.Profile.{Profile}
 use Rattle.sf_format.specs.declared.directive.Profile.TheVariants.{One, Two}
 use Rattle.sf_format.specs.declared.directive.Conversion.{Conversion}
+use Rattle.sf_format.specs.declared.directive.Directive.{Directive}
 use Rattle.sf_format.specs.declared.directive.Directive.TheVariants as directive
+use Rattle.sf_format.specs.declared.directive.Shape.{Shape}
+use Rattle.sf_format.specs.declared.scan.scanlist.Listed.{Listed}
+use Rattle.sf_base.specs.declared.values.Kind.{Kind}
+use Rattle.sf_format.specs.Scanlist.{IsSetBy, backward_range}
 use Rattle.sf_format.specs.declared.fault.FormatFault.{FormatFault}
 use Rattle.sf_format.specs.declared.fault.FormatWhy.{FormatWhy}
 use Rattle.sf_format.specs.declared.letter.Letter.{Letter}
 use Rattle.sf_format.specs.declared.letter.Letter.TheVariants.{Signed, Unsigned, Chars, Text, Set, Count}
 use Rattle.sf_format.specs.declared.slots.Slots.{Slots}
 use Rattle.sf_format.specs.declared.grammar.Passed.{Passed}
-use Rattle.sf_format.specs.Letters.{added_letters, letters, letter_of}
+use Rattle.sf_format.specs.Letters.{added_letters, letters, letter_of, kind_of}
 use Rattle.sf_format.specs.Lists.{is_written, mark_at, begins}
 use Rattle.sf_format.specs.Pieces.{Opening, Piece, Percents, Plain, opening_text}
 use Rattle.sf_format.specs.Cut.{Part, cut, letter_at, bracket_at, conversion_at, specification_at}
-use Rattle.sf_format.specs.Grammar.{destinations, assigned_opening, IsConversion, Means}
+use Rattle.sf_format.specs.Grammar.{destinations, assigned_opening, slot_of, IsConversion, Means}
 use Rattle.sf_format.specs.Rules.{Rule, first_of, slot_rules}
 use Rattle.sf_format.specs.Faults.{letter_rules, bracket_rules, scanlist_rules, rest_rules, opening_rules, conversion_rules, percent_rules}
-use Rattle.sf_format.specs.Passing.{Holds, rest_behind, is_set, IsShape, PassesAs, PassesBy}
+use Rattle.sf_format.specs.Passing.{Holds, rest_behind, is_set, slot_at, IsShape, IsListed, ShapeBy, IsMade, PassesAs, PassesBy}
 use Rattle.sf_format.specs.Language.{Language}
 use Rattle.sf_format.specs.Language.{Scan}
 use Rattle.sf_format.proofs.Outcomes.{by_test}
 use Rattle.sf_format.proofs.Rules.{quiet_is}
+use Rattle.sf_format.proofs.Destinations.{slot_there}
+use Rattle.sf_format.proofs.Scanlists.{list_forward, list_set}
 use Rattle.sf_format.proofs.Suits.{ForRows, found}
 
 pub first_left : (a b : List Rule) (f : FormatWhy × ℕ) → first_of a ≡ Some f → first_of (a ++ b) ≡ Some f
@@ -100,19 +108,52 @@ means_by profile place b x o letter c true set found is shape =
     (c, shape.0, subst (λ l. IsConversion place o l c) (only_set letter set) is, shape.1, shape.2, refl)
 means_by profile place b x o letter c false set found is shape = (letter, c, found, is, shape, refl)
 
-pub passes_letter : (profile : Profile) (earlier : List Opening) (p q b : ℕ) (x : List ℕ) (o : Opening) (letter : Letter) (c : Conversion)
-    (rest : List ℕ) (slots : Slots) → first_of (letter_rules profile o b q) ≡ None → letter_of profile b ≡ Some letter
-    → IsConversion (1 + length earlier) o letter c → first_of (bracket_rules (is_set letter) q x) ≡ None → IsShape (is_set letter) letter x c.shape
-    → rest ≡ rest_behind (is_set letter) x → first_of (slot_rules earlier p o) ≡ None
+-- what a letter takes, by the scanlist that was read behind it
+shape_listed : (bracket : Bool) (q : ℕ) (x : List ℕ) (letter : Letter) (listed : Listed) (s : Shape)
+    → first_of (bracket_rules bracket q x) ≡ None → IsListed bracket x listed → ShapeBy bracket letter listed s → IsShape bracket letter x s
+shape_listed true q x letter listed s none is (set, by, same) =
+    (set, list_set q _ (mark_at 94 x).0 (mark_at 94 x).1 listed.members.now set is.1 none (subst (λ c. IsSetBy c listed.members.now set) is.0 by), same)
+shape_listed false q x letter listed s none is h = h
+
+pub listed_forward : (bracket : Bool) (q : ℕ) (x : List ℕ) (listed : Listed) → bracket ≡ true → first_of (bracket_rules bracket q x) ≡ None
+    → IsListed bracket x listed → backward_range 0 listed.members.now ≡ None
+listed_forward true q x listed e none is = list_forward q _ (mark_at 94 x).1 listed.members.now is.1 none
+listed_forward false q x listed e none is = absurd (cc)
+
+-- the conversion that was made is what the part stands for
+made_means : (profile : Profile) (place q b : ℕ) (x : List ℕ) (o : Opening) (letter : Letter) (kind : Kind) (slot : Option ℕ) (listed : Listed)
+    (d : Directive) → letter_of profile b ≡ Some letter → kind_of letter o.size ≡ Some kind → first_of (bracket_rules (is_set letter) q x) ≡ None
+    → IsListed (is_set letter) x listed → slot ≡ slot_of place o → IsMade letter kind o.width slot listed d
+    → Means profile place (letter_at o (b ∷ x)).piece d
+made_means profile place q b x o letter kind slot listed directive.Space found known none is placed h = absurd h
+made_means profile place q b x o letter kind slot listed (directive.Byte a) found known none is placed h = absurd h
+made_means profile place q b x o letter kind slot listed directive.Percent found known none is placed h = absurd h
+made_means profile place q b x o letter kind slot listed (directive.Conv c) found known none is placed h =
+    let v = set_is profile b letter found in
+    means_by profile place b x o letter c (nat_eq b 91) v found
+    (record { kind = known ∙ ap Some (sym h.0); width = h.1; slot = h.2 ∙ placed })
+    (subst (λ a. IsShape a letter x c.shape) v (shape_listed (is_set letter) q x letter listed c.shape none is h.3))
+
+pub passes_letter : (profile : Profile) (wanted : Bool) (earlier : List Opening) (p q b : ℕ) (x : List ℕ) (o : Opening) (letter : Letter) (kind : Kind)
+    (slot : Option ℕ) (listed : Listed) (d : Option Directive) (slots : Slots) → first_of (letter_rules profile o b q) ≡ None
+    → letter_of profile b ≡ Some letter → kind_of letter o.size ≡ Some kind → first_of (bracket_rules (is_set letter) q x) ≡ None
+    → IsListed (is_set letter) x listed → listed.rest.now ≡ rest_behind (is_set letter) x → slot ≡ slot_of (1 + length earlier) o
+    → MatchOption d (wanted ≡ false) (IsMade letter kind o.width slot listed) → first_of (slot_rules earlier p o) ≡ None
     → Holds slots (earlier ++ assigned_opening o [])
-    → PassesAs (Means profile) (rest_rules profile earlier p o q (b ∷ x)) earlier (letter_at o (b ∷ x)) (directive.Conv c) rest slots
-passes_letter profile earlier p q b x o letter c rest slots rules found is list shape after slot holds =
+    → PassesAs wanted (Means profile) (rest_rules profile earlier p o q (b ∷ x)) earlier (letter_at o (b ∷ x)) d slot listed.rest.now slots
+passes_letter profile wanted earlier p q b x o letter kind slot listed d slots rules found known list is after placed made none holds =
     let v = set_is profile b letter found in (
-      slot_fault_first profile earlier p o q b x rules (ap (λ a. first_of (bracket_rules a q x)) (sym v) ∙ list) ∙ slot,
+      slot_fault_first profile earlier p o q b x rules (ap (λ a. first_of (bracket_rules a q x)) (sym v) ∙ list) ∙ none,
       after ∙ ap (λ a. rest_behind a x) v ∙ sym (letter_rest o b x),
-      means_by profile (1 + length earlier) b x o letter c (nat_eq b 91) v found is (subst (λ a. IsShape a letter x c.shape) v shape),
+      stands d made,
       held_there slots earlier o b x holds,
+      placed ∙ slot_there (1 + length earlier) o ∙ ap (slot_at (1 + length earlier)) (sym (letter_destination o b x)),
     )
+  where
+    stands : (d : Option Directive) → MatchOption d (wanted ≡ false) (IsMade letter kind o.width slot listed)
+        → MatchOption d (wanted ≡ false) (Means profile (1 + length earlier) (letter_at o (b ∷ x)).piece)
+    stands None h = h
+    stands (Some made) h = made_means profile (1 + length earlier) q b x o letter kind slot listed made found known list is placed h
 
 -- the first fault of the scanlist
 pub passes_list : (profile : Profile) (earlier : List Opening) (p q b : ℕ) (x : List ℕ) (o : Opening) (letter : Letter) (f : FormatWhy × ℕ)
@@ -142,12 +183,12 @@ number_bound p o none = number_low o.number (quiet_is (opening_rules p o) none).
 
 -- ---- one contract from another
 
-pub passes_by : {D : Type 0} (means : ℕ → Piece → D → Type 0) (a b : List Rule) (s t : Part) (earlier : List Opening)
-    (r : Result (Passed D) FormatFault) → first_of a ≡ first_of b → s ≡ t → PassesBy means b earlier t r → PassesBy means a earlier s r
-passes_by {D} means a b s t earlier r e f h = by_rules r (subst (λ u. PassesBy means b earlier u r) (sym f) h)
+pub passes_by : {D : Type 0} (wanted : Bool) (means : ℕ → Piece → D → Type 0) (a b : List Rule) (s t : Part) (earlier : List Opening)
+    (r : Result (Passed D) FormatFault) → first_of a ≡ first_of b → s ≡ t → PassesBy wanted means b earlier t r → PassesBy wanted means a earlier s r
+passes_by {D} wanted means a b s t earlier r e f h = by_rules r (subst (λ u. PassesBy wanted means b earlier u r) (sym f) h)
   where
-    by_rules : (r : Result (Passed D) FormatFault) → PassesBy means b earlier s r → PassesBy means a earlier s r
-    by_rules (Ok passed) k = (e ∙ k.0, k.1, k.2, k.3)
+    by_rules : (r : Result (Passed D) FormatFault) → PassesBy wanted means b earlier s r → PassesBy wanted means a earlier s r
+    by_rules (Ok passed) k = (e ∙ k.0, k.1, k.2, k.3, k.4)
     by_rules (Err fault) k = e ∙ k
 
 -- ---- behind a %, in both languages
@@ -159,12 +200,12 @@ abbrev part_choice : List ℕ → Part → Bool → Part
 part_choice x part v = cond v (record { piece = Percents; rest = drop 1 x }) part
 
 -- what follows a % that no other follows
-pub passes_specification : {D : Type 0} (means : ℕ → Piece → D → Type 0) (language : Language) (earlier : List Opening) (p : ℕ) (x : List ℕ)
+pub passes_specification : {D : Type 0} (wanted : Bool) (means : ℕ → Piece → D → Type 0) (language : Language) (earlier : List Opening) (p : ℕ) (x : List ℕ)
     (r : Result (Passed D) FormatFault) → begins (37 ∷ []) x ≡ false
-    → PassesBy means (conversion_rules language earlier p x) earlier (conversion_at language x) r
-    → PassesBy means (percent_rules language earlier p x) earlier (specification_at language x) r
-passes_specification means language earlier p x r other passes =
-    passes_by means (percent_rules language earlier p x) (conversion_rules language earlier p x) (specification_at language x)
+    → PassesBy wanted means (conversion_rules language earlier p x) earlier (conversion_at language x) r
+    → PassesBy wanted means (percent_rules language earlier p x) earlier (specification_at language x) r
+passes_specification wanted means language earlier p x r other passes =
+    passes_by wanted means (percent_rules language earlier p x) (conversion_rules language earlier p x) (specification_at language x)
     (conversion_at language x) earlier r (ap (λ v. first_of (percent_choice (conversion_rules language earlier p x) v)) other)
     (ap (part_choice x (conversion_at language x)) other) passes
 
@@ -175,12 +216,12 @@ pub opening_fault : (language : Language) (earlier : List Opening) (p : ℕ) (x 
 opening_fault language earlier p x opening rest f rules first = ap first_of rules ∙ first_left opening rest f first
 
 -- what passes from where the letter is due
-pub passes_opening : {D : Type 0} (means : ℕ → Piece → D → Type 0) (language : Language) (earlier : List Opening) (p : ℕ) (x : List ℕ)
+pub passes_opening : {D : Type 0} (wanted : Bool) (means : ℕ → Piece → D → Type 0) (language : Language) (earlier : List Opening) (p : ℕ) (x : List ℕ)
     (opening rest : List Rule) (part : Part) (r : Result (Passed D) FormatFault) → conversion_rules language earlier p x ≡ opening ++ rest
-    → conversion_at language x ≡ part → first_of opening ≡ None → PassesBy means rest earlier part r
-    → PassesBy means (conversion_rules language earlier p x) earlier (conversion_at language x) r
-passes_opening means language earlier p x opening rest part r rules is quiet passes =
-    passes_by means (conversion_rules language earlier p x) rest (conversion_at language x) part earlier r
+    → conversion_at language x ≡ part → first_of opening ≡ None → PassesBy wanted means rest earlier part r
+    → PassesBy wanted means (conversion_rules language earlier p x) earlier (conversion_at language x) r
+passes_opening wanted means language earlier p x opening rest part r rules is quiet passes =
+    passes_by wanted means (conversion_rules language earlier p x) rest (conversion_at language x) part earlier r
     (ap first_of rules ∙ first_right opening rest quiet) is passes
 
 pub nothing_left : (x : List ℕ) → length x < 1 → x ≡ []

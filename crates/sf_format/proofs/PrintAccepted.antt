@@ -2,31 +2,32 @@
 use Rattle.std.proofs.Common.{◌≡◌, ℕ, ◌+◌, ◌≤◌, Bool, true, false, ◌||◌, nat_eq, List, [], ◌∷◌, ◌++◌, length, map, Option, Some, None, refl, sym, ap, ◌∙◌, subst, arith}
 use Rattle.std.specs.Prelude.{IfSome}
 use Rattle.std.proofs.lemmas.List.{length-map}
-use Rattle.std.proofs.lemmas.Bool.Decides.{nat_tests}
 use Rattle.std.specs.List.{AllByRecursion}
 use Rattle.std.specs.Option.{option_map}
 use Rattle.sf_base.specs.declared.values.Kind.{Kind}
-use Rattle.sf_base.specs.declared.values.Kind.TheVariants as kind
 use Rattle.sf_base.specs.Bytes.{magnitude}
 use Rattle.sf_format.specs.declared.directive.Profile.{Profile}
 use Rattle.sf_format.specs.Language.{Print}
 use Rattle.sf_format.specs.declared.letter.Length.{Length}
 use Rattle.sf_format.specs.declared.letter.Length.TheVariants.{NoLength, HH, H, LL, L, J, Z, T}
 use Rattle.sf_format.specs.declared.unit.PrintLetter.{PrintLetter}
-use Rattle.sf_format.specs.declared.unit.PrintLetter.TheVariants.{Signed, Unsigned, Octal, HexLower, HexUpper, Binary, Text, One}
+use Rattle.sf_format.specs.declared.letter.Values.{Values}
+use Rattle.sf_format.specs.declared.letter.Values.TheVariants as values
 use Rattle.sf_format.specs.declared.unit.PrintConv.{PrintConv}
 use Rattle.sf_format.specs.declared.unit.Unit.{Unit as PrintUnit}
 use Rattle.sf_format.specs.declared.unit.Unit.TheVariants as unit
 use Rattle.sf_format.specs.Digits.{IsOptionalNumber}
-use Rattle.sf_format.specs.Letters.{signed_kind, unsigned_kind, text_kind}
-use Rattle.sf_format.specs.PrintLetters.{print_kind_of}
+use Rattle.sf_format.specs.Letters.{signed_kind, unsigned_kind, text_kind, sized_kind}
+use Rattle.sf_format.specs.PrintLetters.{print_row, print_kind_of}
 use Rattle.sf_format.specs.Slots.{Slotted, slots_from}
-use Rattle.sf_format.specs.Units.{is_signed, is_unsigned, is_text, prints_kind, has_flag, HasPrecision, IsProperConv, IsProperUnit, AreProperUnits, values_of, ArePrintedInOrder, AreAccepted}
+use Rattle.sf_format.specs.Units.{is_signed, is_unsigned, is_text, holds_kind, prints_kind, has_flag, HasPrecision, IsProperConv, IsProperUnit, AreProperUnits, values_of, ArePrintedInOrder, AreAccepted}
 use Rattle.sf_format.specs.Pieces.{PrintOpening, Piece, WhiteSpace, Ordinary, Percents, Plain, Bracket, Printed}
 use Rattle.sf_format.specs.PrintGrammar.{IsPrecision, SuitsPrint, IsPrintPiece, is_set_flag, IsPrintConv, Prints}
-use Rattle.sf_format.specs.Grammar.{IsFormat, ArePlaced, destinations, MeanAll}
+use Rattle.sf_format.specs.Grammar.{IsFormat, ArePlaced, destinations, MeanAll, SpellsPrint}
 use Rattle.sf_format.specs.Passing.{printed_slot}
 use Rattle.sf_format.proofs.Outcomes.{by_test}
+use Rattle.sf_format.proofs.Cutting.{same_byte}
+use Rattle.sf_format.proofs.Suits.{text_kinded}
 use Rattle.sf_format.proofs.PrintMeanings.{print_meaning}
 use Rattle.sf_format.proofs.PartSlots.{ListsSlots, listed_slot, AreGood, all_short, format_few, slots_good, slots_count, slots_in_order}
 
@@ -59,29 +60,17 @@ is_unsigned_kind : (size : Length) (k : Kind) → Some (unsigned_kind size) ≡ 
 is_unsigned_kind size k e = let same : unsigned_kind size ≡ k = cc in subst (λ a. is_unsigned a ≡ true) same (unsigned_fits size)
 
 is_text_kind : (size : Length) (k : Kind) → text_kind size ≡ Some k → is_text k ≡ true
-is_text_kind NoLength k e = let same : kind.Text ≡ k = cc in subst (λ a. is_text a ≡ true) same refl
-is_text_kind HH k e = absurd (cc)
-is_text_kind H k e = absurd (cc)
-is_text_kind LL k e = absurd (cc)
-is_text_kind L k e = absurd (cc)
-is_text_kind J k e = absurd (cc)
-is_text_kind Z k e = absurd (cc)
-is_text_kind T k e = absurd (cc)
+is_text_kind size k e = ap is_text (text_kinded size k e)
+
+values_fit : (v : Values) (size : Length) (k : Kind) → sized_kind v size ≡ Some k → holds_kind v k ≡ true
+values_fit values.Signed size k e = is_signed_kind size k e
+values_fit values.Unsigned size k e = is_unsigned_kind size k e
+values_fit values.Text size k e = is_text_kind size k e
 
 kind_fits : (letter : PrintLetter) (size : Length) (k : Kind) → print_kind_of letter size ≡ Some k → prints_kind letter k ≡ true
-kind_fits Signed size k e = is_signed_kind size k e
-kind_fits Unsigned size k e = is_unsigned_kind size k e
-kind_fits Octal size k e = is_unsigned_kind size k e
-kind_fits HexLower size k e = is_unsigned_kind size k e
-kind_fits HexUpper size k e = is_unsigned_kind size k e
-kind_fits Binary size k e = is_unsigned_kind size k e
-kind_fits Text size k e = is_text_kind size k e
-kind_fits One size k e = is_text_kind size k e
+kind_fits letter size k e = values_fit (print_row letter).prints size k e
 
 -- ---- flags
-
-same_flag : (a b : ℕ) → nat_eq a b ≡ true → a ≡ b
-same_flag a b e = grind (arith, nat_tests)
 
 -- a flag that the letter doesn't have is none of those that it has
 unset : (letter : PrintLetter) (flag : ℕ) (flags : List ℕ) → AllByRecursion (λ b. has_flag letter b ≡ true) flags → has_flag letter flag ≡ false
@@ -89,7 +78,7 @@ unset : (letter : PrintLetter) (flag : ℕ) (flags : List ℕ) → AllByRecursio
 unset letter flag [] had e = refl
 unset letter flag (b ∷ flags) had e =
     by_test (nat_eq b flag) (λ v. (v || is_set_flag flag flags) ≡ false)
-    (λ same. absurd (let h : has_flag letter flag ≡ true = ap (has_flag letter) (sym (same_flag b flag same)) ∙ had.0 in cc))
+    (λ same. absurd (let h : has_flag letter flag ≡ true = ap (has_flag letter) (sym (same_byte b flag same)) ∙ had.0 in cc))
     (λ other. unset letter flag flags had.1 e)
 
 -- ---- widths and precisions
@@ -183,3 +172,6 @@ print_accepted profile pieces us is h =
       few = omega (arith, count, format_few (Print profile) pieces is);
       slots = record { each = good.within; distinct = good.distinct };
     }
+
+pub proper : (profile : Profile) (text : List ℕ) (us : List PrintUnit) → SpellsPrint profile text us → AreAccepted us
+proper profile text us h = print_accepted profile h.0 us h.1 h.3

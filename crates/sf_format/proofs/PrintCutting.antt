@@ -13,7 +13,7 @@ use Rattle.sf_format.specs.PrintGrammar.{StartsAboveZero}
 use Rattle.sf_format.specs.Cut.{PrintCut, number_at, precision_behind, precision_at, print_cut_length, print_cut}
 use Rattle.sf_format.proofs.Outcomes.{by_test}
 use Rattle.sf_format.proofs.Prefixes.{Stops, AllPass, front_behind, front_passes, front_of, behind_of, behind_stops}
-use Rattle.sf_format.proofs.Cutting.{IsPlain, IsLast, sized_head, mark_none, mark_text, mark_joined, number_whole, number_passing, number_absent, number_written, length_whole, length_of, length_dropped}
+use Rattle.sf_format.proofs.Cutting.{IsPlain, IsLast, sized_head, number_text_longer, mark_none, mark_text, mark_joined, number_whole, number_passing, number_absent, number_written, length_whole, length_of, length_dropped}
 
 -- ---- digits and flags
 
@@ -244,7 +244,3 @@ parts_shorter x =
       length-append o.width sized,
       number_text_longer o.number,
     )
-  where
-    number_text_longer : (number : List ℕ) → length number ≤ length (number_text number)
-    number_text_longer [] = omega arith
-    number_text_longer (d ∷ ds) = omega (arith, length-append ds (36 ∷ []))

@@ -1,10 +1,8 @@
 -- The part that a print format without a fault there begins with, and the text of a part.
-use Rattle.std.proofs.Common.{◌≡◌, ℕ, ◌+◌, ◌<◌, Bool, true, false, cond, not, nat_eq, List, [], ◌∷◌, ◌++◌, length, drop, Option, Some, None, is_none, refl, sym, ap, ◌∙◌, subst, arith, append_assoc}
-use Rattle.std.proofs.lemmas.Bool.Decides.{nat_tests}
+use Rattle.std.proofs.Common.{◌≡◌, ℕ, ◌+◌, ◌<◌, Bool, false, cond, not, nat_eq, List, [], ◌∷◌, ◌++◌, length, drop, refl, sym, ap, ◌∙◌, subst, arith, append_assoc}
 use Rattle.sf_base.specs.Bytes.{AreBytes}
 use Rattle.sf_format.specs.declared.directive.Profile.{Profile}
 use Rattle.sf_format.specs.Language.{Print}
-use Rattle.sf_format.specs.declared.unit.PrintLetter.{PrintLetter}
 use Rattle.sf_format.specs.Lists.{begins}
 use Rattle.sf_format.specs.PrintLetters.{print_letter_of}
 use Rattle.sf_format.specs.Pieces.{Opening, PrintOpening, Piece, WhiteSpace, Ordinary, Percents, Plain, Bracket, Printed, print_opening_text, piece_text}
@@ -16,21 +14,17 @@ use Rattle.sf_format.specs.PrintRules.{print_opening_rules, print_letter_rules, 
 use Rattle.sf_format.specs.Faults.{percent_rules, part_rules}
 use Rattle.sf_format.proofs.Outcomes.{by_test}
 use Rattle.sf_format.proofs.Rules.{Quiet, all_append, all_front, all_back}
-use Rattle.sf_format.proofs.Cutting.{IsLast, begins_joined}
+use Rattle.sf_format.proofs.Cutting.{IsLast, same_byte}
 use Rattle.sf_format.proofs.PrintCutting.{HasPrintDigits, print_inside, print_cut_of, print_cut_joined, print_cut_digits, no_print_percent, print_opening_regroup}
 use Rattle.sf_format.proofs.Scanlists.{other_byte, byte_differs}
 use Rattle.sf_format.proofs.PrintSuits.{print_letter_is, suits_print_from, print_opening_quiet, print_letter_quiet, flags_quiet, suits_print_digits}
 use Rattle.sf_format.proofs.Destinations.{assigned_alike, slot_quiet}
-use Rattle.sf_format.proofs.Beginnings.{BeginsWith, nothing_more, byte_rules, byte_quiet}
+use Rattle.sf_format.proofs.Beginnings.{BeginsWith, nothing_more, byte_rules, byte_quiet, letter_some, percents_text}
 
 printed_text : (o : PrintOpening) (letter : ℕ) (y : List ℕ) → piece_text (Printed o letter) ++ y ≡ 37 ∷ print_inside o (letter ∷ y)
 printed_text o letter y = append_assoc (print_opening_text o) (letter ∷ []) y ∙ print_opening_regroup o (letter ∷ y)
 
 -- ---- from the text to the part
-
-letter_some : (found : Option PrintLetter) → is_none found ≡ false → (letter : PrintLetter) × (found ≡ Some letter)
-letter_some None e = absurd (cc)
-letter_some (Some letter) e = (letter, refl)
 
 rest_begins : (profile : Profile) (earlier : List Opening) (p : ℕ) (o : PrintOpening) (q : ℕ) (rest x : List ℕ) → print_inside o rest ≡ x
     → HasPrintDigits o → Quiet (print_opening_rules p o) → Quiet (print_rest_rules profile earlier p o q rest)
@@ -60,9 +54,6 @@ abbrev by_cut : Profile → List Opening → ℕ → PrintCut → List Rule
 by_cut profile earlier p c =
     print_opening_rules p c.opening ++ print_rest_rules profile earlier p c.opening (p + length (print_opening_text c.opening)) c.rest
 
-percents_text : (x : List ℕ) → begins (37 ∷ []) x ≡ true → 37 ∷ x ≡ 37 ∷ 37 ∷ drop 1 x
-percents_text x e = ap (λ t. 37 ∷ t) (sym (begins_joined (37 ∷ []) x e))
-
 specification_begins : (profile : Profile) (earlier : List Opening) (p : ℕ) (x : List ℕ) → Quiet (percent_rules (Print profile) earlier p x)
     → BeginsWith (Print profile) earlier (37 ∷ x) (specification_at (Print profile) x)
 specification_begins profile earlier p x quiet =
@@ -80,9 +71,6 @@ specification_begins profile earlier p x quiet =
   where
     chosen : Bool → Part
     chosen v = cond v (record { piece = Percents; rest = drop 1 x }) (print_letter_at (print_cut x).opening (print_cut x).rest)
-
-same_byte : (a b : ℕ) → nat_eq a b ≡ true → a ≡ b
-same_byte a b e = grind (arith, nat_tests)
 
 pub print_begins_with : (profile : Profile) (earlier : List Opening) (p b : ℕ) (x : List ℕ) → AreBytes (b ∷ x)
     → Quiet (part_rules (Print profile) earlier p (b ∷ x)) → BeginsWith (Print profile) earlier (b ∷ x) (part_at (Print profile) (b ∷ x))

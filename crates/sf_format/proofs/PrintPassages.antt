@@ -75,13 +75,13 @@ slot_first profile earlier p o q b x letter rules found flags =
     behind_letter profile earlier p o q b x letter rules found
     ∙ first_right (flag_rules p o (Some letter)) (slot_rules earlier p (value_opening o)) flags
 
-pub passes_print : (profile : Profile) (earlier : List Opening) (p : ℕ) (o : PrintOpening) (q b : ℕ) (x : List ℕ) (letter : PrintLetter)
-    (c : PrintConv) (slots : Slots) → first_of (print_letter_rules profile o b q) ≡ None → print_letter_of profile b ≡ Some letter
+pub passes_print : (profile : Profile) (wanted : Bool) (earlier : List Opening) (p : ℕ) (o : PrintOpening) (q b : ℕ) (x : List ℕ) (letter : PrintLetter)
+    (c : PrintConv) (n : ℕ) (slots : Slots) → first_of (print_letter_rules profile o b q) ≡ None → print_letter_of profile b ≡ Some letter
     → first_of (flag_rules p o (Some letter)) ≡ None → first_of (slot_rules earlier p (value_opening o)) ≡ None
-    → IsPrintConv (1 + length earlier) o letter c → Holds slots (earlier ++ value_opening o ∷ [])
-    → PassesAs (Prints profile) (print_rest_rules profile earlier p o q (b ∷ x)) earlier (print_letter_at o (b ∷ x)) (unit.Conv c) x slots
-passes_print profile earlier p o q b x letter c slots rules found flags slot is holds =
-    (slot_first profile earlier p o q b x letter rules found flags ∙ slot, refl, (letter, c, found, is, refl), holds)
+    → IsPrintConv (1 + length earlier) o letter c → Some n ≡ slot_of (1 + length earlier) (value_opening o) → Holds slots (earlier ++ value_opening o ∷ [])
+    → PassesAs wanted (Prints profile) (print_rest_rules profile earlier p o q (b ∷ x)) earlier (print_letter_at o (b ∷ x)) (Some (unit.Conv c)) (Some n) x slots
+passes_print profile wanted earlier p o q b x letter c n slots rules found flags slot is placed holds =
+    (slot_first profile earlier p o q b x letter rules found flags ∙ slot, refl, (letter, c, found, is, refl), holds, placed)
 
 -- ---- behind a %
 

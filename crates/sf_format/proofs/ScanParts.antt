@@ -1,6 +1,5 @@
 -- The part that a scan format without a fault there begins with, and the text of a part.
-use Rattle.std.proofs.Common.{◌≡◌, ℕ, ◌+◌, ◌<◌, Bool, true, false, cond, not, nat_eq, List, [], ◌∷◌, ◌++◌, length, drop, Option, Some, None, is_none, refl, sym, ap, ◌∙◌, subst, arith, append_assoc}
-use Rattle.std.proofs.lemmas.Bool.Decides.{nat_tests}
+use Rattle.std.proofs.Common.{◌≡◌, ℕ, ◌+◌, ◌<◌, Bool, false, cond, not, nat_eq, List, [], ◌∷◌, ◌++◌, length, drop, Some, refl, sym, ap, ◌∙◌, subst, arith, append_assoc}
 use Rattle.sf_base.specs.Bytes.{AreBytes, is_white}
 use Rattle.sf_format.specs.declared.directive.Profile.{Profile}
 use Rattle.sf_format.specs.Lists.{front, behind, begins, mark_at}
@@ -11,13 +10,12 @@ use Rattle.sf_format.specs.Cut.{Cut, Part, cut, letter_at, specification_at, bra
 use Rattle.sf_format.specs.Grammar.{IsScanPiece, AreAlike, destinations}
 use Rattle.sf_format.specs.Rules.{Rule, slot_rules}
 use Rattle.sf_format.specs.Faults.{opening_rules, letter_rules, scanlist_rules, after_caret, rest_rules, percent_rules, part_rules}
-use Rattle.sf_format.specs.declared.letter.Letter.{Letter}
 use Rattle.sf_format.specs.declared.letter.Letter.TheVariants.{Set}
 use Rattle.sf_format.specs.Language.{Scan}
 use Rattle.sf_format.proofs.Outcomes.{by_test}
-use Rattle.sf_format.proofs.Beginnings.{StopsAfter, BeginsWith, nothing_more, byte_rules, byte_quiet, white_quiet}
+use Rattle.sf_format.proofs.Beginnings.{StopsAfter, BeginsWith, nothing_more, byte_rules, byte_quiet, white_quiet, letter_some, percents_text}
 use Rattle.sf_format.proofs.Prefixes.{front_behind, front_passes, behind_stops, front_of, behind_of}
-use Rattle.sf_format.proofs.Cutting.{IsLast, HasDigits, inside, cut_of, cut_joined, cut_digits, no_percent, begins_joined, opening_regroup}
+use Rattle.sf_format.proofs.Cutting.{IsLast, HasDigits, inside, cut_of, cut_joined, cut_digits, no_percent, opening_regroup, same_byte}
 use Rattle.sf_format.proofs.Rules.{Quiet, all_append, all_front, all_back}
 use Rattle.sf_format.proofs.Scanlists.{listed, marked, bracket_of, quiet_list, other_byte, byte_differs}
 use Rattle.sf_format.proofs.Suits.{letter_is, suits_from, suits_digits, opening_quiet, letter_quiet}
@@ -40,10 +38,6 @@ inside_bytes o y h =
     (all_back (λ b. b < 256) (star_text o.star) wide (all_back (λ b. b < 256) (number_text o.number) starred h)))
 
 -- ---- from the text to the part
-
-letter_some : (found : Option Letter) → is_none found ≡ false → (letter : Letter) × (found ≡ Some letter)
-letter_some None e = absurd (cc)
-letter_some (Some letter) e = (letter, refl)
 
 -- of the bracket's letter there is one
 bracket_letter : (profile : Profile) → letter_of profile 91 ≡ Some Set
@@ -76,9 +70,6 @@ bracket_begins profile earlier p o q y x e bytes digits opening rules list slot 
       apart = tt;
     }
 
-same_byte : (a b : ℕ) → nat_eq a b ≡ true → a ≡ b
-same_byte a b e = grind (arith, nat_tests)
-
 letter_begins : (profile : Profile) (earlier : List Opening) (p : ℕ) (o : Opening) (q letter : ℕ) (y x : List ℕ) → inside o (letter ∷ y) ≡ x
     → AreBytes x → HasDigits o → Quiet (opening_rules p o) → Quiet (letter_rules profile o letter q) → Quiet (scanlist_rules letter q y)
     → Quiet (slot_rules earlier p o) → BeginsWith (Scan profile) earlier (37 ∷ x) (letter_at o (letter ∷ y))
@@ -110,9 +101,6 @@ rest_begins profile earlier p o q (letter ∷ y) x e bytes digits quiet =
 abbrev specification_rules : Profile → List Opening → ℕ → Cut → List Rule
 specification_rules profile earlier p c =
     opening_rules p c.opening ++ rest_rules profile earlier p c.opening (p + length (opening_text c.opening)) c.rest
-
-percents_text : (x : List ℕ) → begins (37 ∷ []) x ≡ true → 37 ∷ x ≡ 37 ∷ 37 ∷ drop 1 x
-percents_text x e = ap (λ t. 37 ∷ t) (sym (begins_joined (37 ∷ []) x e))
 
 specification_begins : (profile : Profile) (earlier : List Opening) (p : ℕ) (x : List ℕ) → AreBytes x
     → Quiet (cond (not (begins (37 ∷ []) x)) (specification_rules profile earlier p (cut x)) [])

@@ -1,5 +1,5 @@
 -- An opening and a letter that no rule refuses suit each other.
-use Rattle.std.proofs.Common.{◌≡◌, ℕ, ◌<◌, ◌≤◌, Bool, true, false, cond, ◌&&◌, ◌||◌, nat_eq, nat_lt, List, [], ◌∷◌, Some, None, is_some, is_none, refl, ap, ◌∙◌, subst, arith}
+use Rattle.std.proofs.Common.{◌≡◌, ℕ, ◌<◌, ◌≤◌, Bool, true, false, cond, ◌&&◌, ◌||◌, nat_eq, nat_lt, List, [], ◌∷◌, Some, None, is_some, is_none, refl, sym, ap, ◌∙◌, subst, arith}
 use Rattle.std.specs.Prelude.{IsSome}
 use Rattle.std.proofs.lemmas.Bool.Decides.{nat_tests}
 use Rattle.std.specs.List.{AllByRecursion}
@@ -16,11 +16,14 @@ use Rattle.sf_format.specs.declared.directive.Profile.{Profile}
 use Rattle.sf_format.specs.declared.directive.Profile.TheVariants.{One, Two}
 use Rattle.sf_format.specs.declared.letter.Letter.{Letter}
 use Rattle.sf_format.specs.declared.letter.Letter.TheVariants.{Count}
+use Rattle.sf_base.specs.declared.values.Kind.{Kind}
+use Rattle.sf_base.specs.declared.values.Kind.TheVariants as kinds
+use Rattle.std.proofs.lemmas.Option.{same_Some}
 use Rattle.sf_format.specs.declared.letter.Length.{Length}
 use Rattle.sf_format.specs.declared.letter.Length.TheVariants.{NoLength, HH, H, LL, L, J, Z, T}
 use Rattle.sf_format.proofs.Outcomes.{by_test, or_left, or_right}
 use Rattle.sf_format.proofs.Prefixes.{AllPass}
-use Rattle.sf_format.proofs.Cutting.{IsLast, plain_byte, HasDigits}
+use Rattle.sf_format.proofs.Cutting.{IsLast, plain_byte, same_byte, HasDigits}
 use Rattle.sf_format.proofs.Rules.{Quiet, quiet_is}
 
 -- ---- letters
@@ -50,6 +53,17 @@ text_quiet L e = absurd (cc)
 text_quiet J e = absurd (cc)
 text_quiet Z e = absurd (cc)
 text_quiet T e = absurd (cc)
+
+-- a text has the kind of texts
+pub text_kinded : (size : Length) (k : Kind) → text_kind size ≡ Some k → k ≡ kinds.Text
+text_kinded NoLength k h = same_Some _ _ (sym h)
+text_kinded HH k h = absurd cc
+text_kinded H k h = absurd cc
+text_kinded LL k h = absurd cc
+text_kinded L k h = absurd cc
+text_kinded J k h = absurd cc
+text_kinded Z k h = absurd cc
+text_kinded T k h = absurd cc
 
 nothing_written : (x : List ℕ) → is_written x ≡ false → x ≡ []
 nothing_written [] e = refl
@@ -86,9 +100,6 @@ each_letter profile = ((record { last = last_byte 100 refl refl refl refl refl r
     quiet_count : (o : Opening) (q : ℕ) → IsSome (kind_of Count o.size) → SuitsCount Count o → Quiet (letter_rules profile o 110 q)
     quiet_count o q s c =
         (refl, (refl, (refl, (refl, (refl, (ap (λ v. v || is_written o.width) c.0 ∙ ap is_written c.1, tt))))))
-
-pub same_byte : (a b : ℕ) → nat_eq a b ≡ true → a ≡ b
-same_byte a b e = grind (arith, nat_tests)
 
 pub any_of : (P : ℕ → Type 0) (bytes : List ℕ) (b : ℕ) → AllByRecursion P bytes → is_any_of bytes b ≡ true → P b
 any_of P [] b all e = absurd (cc)

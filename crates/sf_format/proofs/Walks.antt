@@ -98,9 +98,9 @@ pub record PassesFirst (language : Language) (done : List Piece) (at : ℕ) (res
   pub holds : Holds slots (destinations done ++ destinations ((part_at language rest).piece ∷ []))
 
 -- whatever the part stands for
-pub passes_on : {language : Language} {done : List Piece} {at : ℕ} {rest after : List ℕ} {slots : Slots} {M : Type 0}
+pub passes_on : {language : Language} {done : List Piece} {at : ℕ} {rest after : List ℕ} {slots : Slots} {M S : Type 0}
     → (first_of (part_rules language (destinations done) at rest) ≡ None) × (after ≡ (part_at language rest).rest) × M
-    × Holds slots (destinations done ++ destinations ((part_at language rest).piece ∷ []))
+    × Holds slots (destinations done ++ destinations ((part_at language rest).piece ∷ [])) × S
     → PassesFirst language done at rest after slots
 passes_on h = record { none = h.0; behind = h.1; holds = h.3 }
 

@@ -10,7 +10,6 @@ use Rattle.sf_format.specs.declared.fault.FormatWhy.{FormatWhy}
 use Rattle.sf_format.specs.Pieces.{Piece}
 use Rattle.sf_format.specs.PrintGrammar.{Prints}
 use Rattle.sf_format.specs.Grammar.{Spells, SpellsPrint, IsFormat, ArePlaced, destinations, Means, MeanAll}
-use Rattle.sf_format.specs.Faults.{Fault, PrintFault}
 use Rattle.sf_format.specs.Proper.{IsAccepted, AreInOrder}
 use Rattle.sf_format.specs.Units.{AreAccepted, ArePrintedInOrder}
 use Rattle.sf_format.specs.Slots.{Slotted, kind_with, AreSlots}
@@ -39,18 +38,6 @@ AreEither {D} spells faults =
 
 -- ---- scan formats
 
-abbrev pub EachSpellsOne : Type 0
-EachSpellsOne = SpellOne Spells
-
-abbrev pub EachHasOneFault : Type 0
-EachHasOneFault = HaveOneFault Fault
-
-abbrev pub NoneIsBoth : Type 0
-NoneIsBoth = AreNeverBoth Spells Fault
-
-abbrev pub EachIsEither : Type 0
-EachIsEither = AreEither Spells Fault
-
 -- what is spelled is proper
 abbrev pub EachIsProper : Type 0
 EachIsProper = (profile : Profile) (text : List ℕ) (ds : List Directive) → Spells profile text ds → IsAccepted ds
@@ -62,18 +49,6 @@ EachUnnumberedIsInOrder =
     → MeanAll (Means profile) 1 pieces ds → AreInOrder ds
 
 -- ---- print formats
-
-abbrev pub EachPrintSpellsOne : Type 0
-EachPrintSpellsOne = SpellOne SpellsPrint
-
-abbrev pub EachPrintHasOneFault : Type 0
-EachPrintHasOneFault = HaveOneFault PrintFault
-
-abbrev pub NoPrintIsBoth : Type 0
-NoPrintIsBoth = AreNeverBoth SpellsPrint PrintFault
-
-abbrev pub EachPrintIsEither : Type 0
-EachPrintIsEither = AreEither SpellsPrint PrintFault
 
 abbrev pub EachPrintIsProper : Type 0
 EachPrintIsProper = (profile : Profile) (text : List ℕ) (us : List PrintUnit) → SpellsPrint profile text us → AreAccepted us

@@ -1,5 +1,5 @@
 -- What the parser's values stand for.
-use Rattle.std.specs.Prelude.{◌≡◌, ℕ, ◌+◌, Bool, true, false, List, [], ◌∷◌, ◌++◌, ◌<◌, length, map, drop, ◌⊎◌, Result, Ok, Err, Option, Some, None}
+use Rattle.std.specs.Prelude.{◌≡◌, ℕ, ◌+◌, Bool, true, false, List, [], ◌∷◌, ◌++◌, ◌<◌, length, map, drop, ◌⊎◌, Result, Ok, Err, Option, Some, None, MatchOption}
 use Prim.Native.Char.{code}
 use Rattle.std.specs.List.{AllByRecursion}
 use Rattle.sf_base.specs.declared.values.Kind.{Kind}
@@ -18,21 +18,22 @@ use Rattle.sf_format.specs.declared.letter.Letter.TheVariants.{Set}
 use Rattle.sf_format.specs.declared.opening.Written.{Written}
 use Rattle.sf_format.specs.declared.slots.Slots.{Slots}
 use Rattle.sf_format.specs.declared.scan.scanlist.Listed.{Listed}
-use Rattle.sf_format.specs.declared.scan.conversion.Shaped.{Shaped}
 use Rattle.sf_format.specs.Language.{Language}
 use Rattle.sf_format.specs.declared.unit.PrintLetter.{PrintLetter}
 use Rattle.sf_format.specs.declared.unit.Unit.{Unit as PrintUnit}
 use Rattle.sf_format.specs.declared.unit.Unit.TheVariants as unit
 use Rattle.sf_format.specs.declared.print.opening.PrintWritten.{PrintWritten}
 use Rattle.sf_format.specs.declared.grammar.Passed.{Passed}
+use Rattle.sf_format.specs.declared.grammar.Literal.{Literal}
+use Rattle.sf_format.specs.declared.grammar.Literal.TheVariants as literal
 use Rattle.sf_format.specs.declared.noted.Noted.{Noted}
 use Rattle.sf_format.specs.Lists.{is_any_of, is_written, mark_at}
 use Rattle.sf_format.specs.Letters.{letter_of, kind_of}
-use Rattle.sf_format.specs.Scanlist.{IsSetOf}
-use Rattle.sf_format.specs.Pieces.{Opening, PrintOpening, Piece}
-use Rattle.sf_format.specs.Cut.{Part, list_of, close_at}
+use Rattle.sf_format.specs.Scanlist.{IsSetBy, IsSetOf}
+use Rattle.sf_format.specs.Pieces.{Opening, PrintOpening, Piece, Ordinary, Percents}
+use Rattle.sf_format.specs.Cut.{Part, list_of, members_at, close_at}
 use Rattle.sf_format.specs.PrintLetters.{print_letter_of, print_kind_of}
-use Rattle.sf_format.specs.Grammar.{destinations, slot_of, shape_of, MeanAll}
+use Rattle.sf_format.specs.Grammar.{destinations, slot_of, width_of, shape_of, MeanAll}
 use Rattle.sf_format.specs.Rules.{Rule, first_of}
 use Rattle.sf_format.specs.Faults.{bracket_rules, repeated, beyond, no_memory}
 use Rattle.sf_format.specs.Reading.{read, judged}
@@ -80,10 +81,10 @@ Converts profile o b rules (Ok found) =
     (first_of rules ≡ None) × (letter_of profile b ≡ Some found.0) × (kind_of found.0 o.size ≡ Some found.1)
 Converts profile o b rules (Err fault) = first_of rules ≡ Some (fault_of fault)
 
--- the scanlist behind the ^, or none: its set and what follows it
+-- the scanlist behind the ^: whether it is complemented, its members, and what follows it
 abbrev pub ReadsList : List Rule → Bool × List ℕ → Result Listed FormatFault → Type 0
 ReadsList rules x (Ok listed) =
-    (first_of rules ≡ None) × IsSetOf (list_of x.0 x.1) listed.set × (listed.rest.now ≡ drop 1 (close_at x.1))
+    (first_of rules ≡ None) × (listed.complemented ≡ x.0) × (listed.members.now ≡ members_at x.1) × (listed.rest.now ≡ drop 1 (close_at x.1))
 ReadsList rules x (Err fault) = first_of rules ≡ Some (fault_of fault)
 
 abbrev pub is_set : Letter → Bool
@@ -101,11 +102,27 @@ abbrev pub rest_behind : Bool → List ℕ → List ℕ
 rest_behind true x = drop 1 (close_at (mark_at (code "^") x).1)
 rest_behind false x = x
 
--- the first fault of the scanlist, or else what the letter takes and what follows
-abbrev pub Shapes : Bool → Letter → ℕ → List ℕ → Result Shaped FormatFault → Type 0
-Shapes bracket letter q x (Ok shaped) =
-    (first_of (bracket_rules bracket q x) ≡ None) × IsShape bracket letter x shaped.shape × (shaped.rest.now ≡ rest_behind bracket x)
-Shapes bracket letter q x (Err fault) = first_of (bracket_rules bracket q x) ≡ Some (fault_of fault)
+-- the scanlist behind a letter, which is a [ or isn't
+abbrev pub IsListed : Bool → List ℕ → Listed → Type 0
+IsListed true x listed = (listed.complemented ≡ (mark_at (code "^") x).0) × (listed.members.now ≡ members_at (mark_at (code "^") x).1)
+IsListed false x listed = Unit {0}
+
+-- the first fault of the scanlist, or else what it is and what follows
+abbrev pub ListsBehind : Bool → ℕ → List ℕ → Result Listed FormatFault → Type 0
+ListsBehind bracket q x (Ok listed) =
+    (first_of (bracket_rules bracket q x) ≡ None) × IsListed bracket x listed × (listed.rest.now ≡ rest_behind bracket x)
+ListsBehind bracket q x (Err fault) = first_of (bracket_rules bracket q x) ≡ Some (fault_of fault)
+
+-- what a letter takes, by its members if it is a [
+abbrev pub ShapeBy : Bool → Letter → Listed → Shape → Type 0
+ShapeBy true letter listed s = (set : List Bool) × IsSetBy listed.complemented listed.members.now set × (s ≡ shape.Set set)
+ShapeBy false letter listed s = shape_of letter s
+
+-- the conversion of a letter with this kind, these digits of a width and this slot
+abbrev pub IsMade : Letter → Kind → List ℕ → Option ℕ → Listed → Directive → Type 0
+IsMade letter kind width slot listed (directive.Conv c) =
+    (c.kind ≡ kind) × (c.width ≡ width_of letter width) × (c.slot ≡ slot) × ShapeBy (is_set letter) letter listed c.shape
+IsMade letter kind width slot listed _ = ⊥
 
 -- ---- parts
 
@@ -114,21 +131,27 @@ pub record Holds (slots : Slots) (earlier : List Opening) : Type 0 where
   pub count : slots.count ≡ length earlier
   pub same : AllByRecursion (λ e. is_written e.number ≡ slots.numbered) earlier
 
--- no fault by the rules, and what the part stands for, what follows it, and the destinations with it
-abbrev pub PassesAs : {D : Type 0} → (ℕ → Piece → D → Type 0) → List Rule → List Opening → Part → D → List ℕ → Slots → Type 0
-PassesAs means rules earlier part d rest slots =
-    (first_of rules ≡ None) × (rest ≡ part.rest) × means (1 + length earlier) part.piece d
-    × Holds slots (earlier ++ destinations (part.piece ∷ []))
-
--- that, or the first fault by the rules
-abbrev pub PassesBy : {D : Type 0} → (ℕ → Piece → D → Type 0) → List Rule → List Opening → Part → Result (Passed D) FormatFault → Type 0
-PassesBy means rules earlier part (Ok passed) = PassesAs means rules earlier part passed.part passed.rest.now passed.slots
-PassesBy means rules earlier part (Err fault) = first_of rules ≡ Some (fault_of fault)
-
 -- the slot of the first of the destinations, where place is that of one without a number
 abbrev pub slot_at : ℕ → List Opening → Option ℕ
 slot_at place [] = None
 slot_at place (o ∷ os) = slot_of place o
+
+-- the part that is one byte or %%
+abbrev pub literal_piece : Literal → Piece
+literal_piece (literal.Byte b) = Ordinary b
+literal_piece literal.Percent = Percents
+
+-- no fault by the rules, and what the part stands for, which was made if it is wanted, its slot, what follows it, and the destinations with it
+abbrev pub PassesAs : {D : Type 0} → Bool → (ℕ → Piece → D → Type 0) → List Rule → List Opening → Part → Option D → Option ℕ → List ℕ → Slots → Type 0
+PassesAs wanted means rules earlier part d slot rest slots =
+    (first_of rules ≡ None) × (rest ≡ part.rest) × MatchOption d (wanted ≡ false) (λ made. means (1 + length earlier) part.piece made)
+    × Holds slots (earlier ++ destinations (part.piece ∷ [])) × (slot ≡ slot_at (1 + length earlier) (destinations (part.piece ∷ [])))
+
+-- that, or the first fault by the rules
+abbrev pub PassesBy : {D : Type 0} → Bool → (ℕ → Piece → D → Type 0) → List Rule → List Opening → Part → Result (Passed D) FormatFault → Type 0
+PassesBy wanted means rules earlier part (Ok passed) =
+    PassesAs wanted means rules earlier part passed.part passed.slot passed.rest.now passed.slots
+PassesBy wanted means rules earlier part (Err fault) = first_of rules ≡ Some (fault_of fault)
 
 -- ---- whole texts
 

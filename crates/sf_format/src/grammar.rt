@@ -1,24 +1,34 @@
 //! What the grammars of scan formats and of print formats have in common.
-ghost use Rattle.std.specs.Prelude.{◌≡◌, ◌≤◌, ◌<◌, ◌+◌, true, false, ℕ, List, [], ◌∷◌, length, IfOk, IfErr, MatchOption};
+ghost use Rattle.std.specs.Prelude.{◌≡◌, ◌≤◌, ◌<◌, ◌+◌, true, false, ℕ, List, length, codes, IfOk, IfErr, MatchOption};
 ghost use Rattle.sf_format.specs.Language.{Language};
-ghost use Rattle.sf_format.specs.Pieces.{Opening, Piece, WhiteSpace, Ordinary, Percents};
+ghost use Rattle.sf_format.specs.Pieces.{Opening, Piece, WhiteSpace};
 ghost use Rattle.sf_format.specs.Lists.{begins};
 ghost use Rattle.sf_format.specs.Cut.{joins_run, conversion_at, specification_at, part_at};
-ghost use Rattle.sf_format.specs.Grammar.{destinations};
 ghost use Rattle.sf_format.specs.Faults.{conversion_rules, percent_rules, part_rules};
-ghost use Rattle.sf_format.specs.Passing.{slot_at, Holds, PassesBy, Walked, Gathers, IsHindered};
+ghost use Rattle.sf_format.specs.Passing.{literal_piece, Holds, PassesBy, Walked, Gathers, IsHindered};
 
 use crate::fault::{FormatFault, FormatWhy};
 use crate::fronts::{Class, split_front};
 use crate::slots::{Slots, no_slots};
 use std::alloc::Global;
 
-/// What a part stands for, what follows the part, and the destinations or values with it.
+/// A part that was passed: what it stands for, where that is wanted, its slot, if it has one, what follows the part, and the
+/// destinations or values with it.
 #[derive(Drop)]
 pub struct Passed<'a, P> {
-    pub part: P,
+    pub part: Option<P>,
+    pub slot: Option<u8>,
     pub rest: &'a [u8],
     pub slots: Slots,
+}
+
+/// A part that is one byte of the text that it stands for.
+#[derive(Clone, Copy)]
+pub enum Literal {
+    /// An ordinary byte.
+    Byte(u8),
+    /// `%%`.
+    Percent,
 }
 
 /// A grammar of formats: what its parts stand for.
@@ -34,34 +44,27 @@ pub trait Grammar: Copy {
         ensures { MatchOption result (joins_run (language self) first ≡ false)
             (λ part. (joins_run (language self) first ≡ true) × ((place : ℕ) (bs : List ℕ) → means self place (WhiteSpace bs) part)) };
 
-    /// What an ordinary byte stands for.
-    fn byte(self, b: u8) -> Self::Part
-        ensures { (place : ℕ) → means self place (Ordinary b) result };
-
-    /// What `%%` stands for.
-    fn percent(self) -> Self::Part
-        ensures { (place : ℕ) → means self place Percents result };
+    /// What an ordinary byte or `%%` stands for.
+    fn literal(self, literal: Literal) -> Self::Part
+        ensures { (place : ℕ) → means self place (literal_piece literal) result };
 
     /// Passes the conversion specification whose `%` stands at the place, after these destinations or values. The text is what
-    /// follows the `%`.
+    /// follows the `%`. What the specification stands for is made only where it is wanted.
     fn pass_conversion<'a>(
         self,
         text: &'a [u8],
         at: u16,
         slots: Slots,
+        wanted: bool,
     ) -> Result<Passed<'a, Self::Part>, FormatFault>
         requires place { at + 1 + length text.now ≤ 4096 }
         requires count { slots.count ≤ 4096 }
         ensures { (earlier : List Opening) → Holds slots earlier
-            → PassesBy (means self) (conversion_rules (language self) earlier at text.now) earlier (conversion_at (language self) text.now) result };
-
-    /// The slot of the destination or value that the part has, if it has one.
-    fn slot(self, part: &Self::Part) -> Option<u8>
-        ensures { (place : ℕ) (piece : Piece) → means self place piece part.now → result ≡ slot_at place (destinations (piece ∷ [])) };
+            → PassesBy wanted (means self) (conversion_rules (language self) earlier at text.now) earlier (conversion_at (language self) text.now) result };
 }
 
 fn percent_follows(text: &[u8]) -> bool
-    ensures begins { result ≡ begins (37 ∷ []) text.now }
+    ensures begins { result ≡ begins (codes "%") text.now }
     ensures some { result ≡ true → 1 ≤ length text.now }
 {
     match text {
@@ -76,20 +79,22 @@ fn pass_specification<'a, G: Grammar>(
     text: &'a [u8],
     at: u16,
     slots: Slots,
+    wanted: bool,
 ) -> Result<Passed<'a, G::Part>, FormatFault>
     requires place { at + 1 + length text.now ≤ 4096 }
     requires count { slots.count ≤ 4096 }
     ensures { (earlier : List Opening) → Holds slots earlier
-        → PassesBy (G.means grammar) (percent_rules (G.language grammar) earlier at text.now) earlier (specification_at (G.language grammar) text.now) result }
+        → PassesBy wanted (G.means grammar) (percent_rules (G.language grammar) earlier at text.now) earlier (specification_at (G.language grammar) text.now) result }
 {
     if percent_follows(text) {
         return Ok(Passed {
-            part: grammar.percent(),
+            part: Some(grammar.literal(Literal::Percent)),
+            slot: None,
             rest: &text[1..],
             slots,
         });
     }
-    grammar.pass_conversion(text, at, slots)
+    grammar.pass_conversion(text, at, slots, wanted)
 }
 
 /// Passes the part that begins with the byte at the place, after these destinations or values.
@@ -98,12 +103,13 @@ pub fn pass<'a, G: Grammar>(
     text: &'a [u8],
     at: u16,
     slots: Slots,
+    wanted: bool,
 ) -> Result<Passed<'a, G::Part>, FormatFault>
     requires some { 0 < length text.now }
     requires place { at + length text.now ≤ 4096 }
     requires count { slots.count ≤ 4096 }
     ensures { (earlier : List Opening) → Holds slots earlier
-        → PassesBy (G.means grammar) (part_rules (G.language grammar) earlier at text.now) earlier (part_at (G.language grammar) text.now) result }
+        → PassesBy wanted (G.means grammar) (part_rules (G.language grammar) earlier at text.now) earlier (part_at (G.language grammar) text.now) result }
 {
     let first = text[0];
     if first == 0 {
@@ -114,20 +120,27 @@ pub fn pass<'a, G: Grammar>(
     }
     if let Some(part) = grammar.run(first) {
         let (_run, rest) = split_front(text, Class::White);
-        return Ok(Passed { part, rest, slots });
+        return Ok(Passed {
+            part: Some(part),
+            slot: None,
+            rest,
+            slots,
+        });
     }
     let rest = &text[1..];
     if first == b'%' {
-        return pass_specification(grammar, rest, at, slots);
+        return pass_specification(grammar, rest, at, slots, wanted);
     }
     Ok(Passed {
-        part: grammar.byte(first),
+        part: Some(grammar.literal(Literal::Byte(first))),
+        slot: None,
         rest,
         slots,
     })
 }
 
-/// The destinations or values of a text without a fault in its parts, or the first such fault. It takes no memory.
+/// The destinations or values of a text without a fault in its parts, or the first such fault. It takes no memory, and makes nothing
+/// of the conversion specifications.
 pub fn walk<G: Grammar>(grammar: G, text: &[u8]) -> Result<Slots, FormatFault>
     requires { length text.now ≤ 4096 }
     ensures { Walked (G.language grammar) text.now result }
@@ -136,7 +149,7 @@ pub fn walk<G: Grammar>(grammar: G, text: &[u8]) -> Result<Slots, FormatFault>
     let mut at: u16 = 0;
     let mut slots = no_slots();
     while !rest.is_empty() {
-        let passed = pass(grammar, rest, at, slots)?;
+        let passed = pass(grammar, rest, at, slots, false)?;
         rest = passed.rest;
         at = (text.len() - rest.len()) as u16;
         slots = passed.slots;
@@ -159,11 +172,14 @@ pub fn gather<G: Grammar>(
     let mut at: u16 = 0;
     let mut slots = no_slots();
     while !rest.is_empty() {
-        let passed = pass(grammar, rest, at, slots)?;
+        let passed = pass(grammar, rest, at, slots, true)?;
         rest = passed.rest;
         at = (text.len() - rest.len()) as u16;
         slots = passed.slots;
-        parts.push(passed.part)?;
+        let Some(part) = passed.part else {
+            unreachable!()
+        };
+        parts.push(part)?;
     }
     Ok(parts)
 }

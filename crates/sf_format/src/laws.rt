@@ -1,34 +1,34 @@
 //! Laws of the definitions that the contracts cite, of scan formats and of print formats.
 //! None of these functions does anything: its contract is the law.
-ghost use Rattle.sf_format.specs.Laws.{EachSpellsOne, EachHasOneFault, NoneIsBoth};
-ghost use Rattle.sf_format.specs.Laws.{EachIsEither, EachIsProper, EachUnnumberedIsInOrder};
-ghost use Rattle.sf_format.specs.Laws.{EachPrintSpellsOne, EachPrintHasOneFault, NoPrintIsBoth};
-ghost use Rattle.sf_format.specs.Laws.{EachPrintIsEither, EachPrintIsProper, EachUnnumberedPrintIsInOrder};
+ghost use Rattle.sf_format.specs.Grammar.{Spells, SpellsPrint};
+ghost use Rattle.sf_format.specs.Faults.{Fault, PrintFault};
+ghost use Rattle.sf_format.specs.Laws.{SpellOne, HaveOneFault, AreNeverBoth, AreEither};
+ghost use Rattle.sf_format.specs.Laws.{EachIsProper, EachUnnumberedIsInOrder, EachPrintIsProper, EachUnnumberedPrintIsInOrder};
 ghost use Rattle.sf_format.specs.Laws.{JustSlotsHaveKinds};
 ghost use Rattle.sf_format.specs.Laws.{TwoSpellsOne, OneSpellsTwo, OneHasOldBases, TwoPrintsOne, OnePrintsTwo};
 
 /// A text spells at most one list of directives, and at most one of units.
 pub fn one_list()
-    ensures scan { EachSpellsOne }
-    ensures print { EachPrintSpellsOne }
+    ensures scan { SpellOne Spells }
+    ensures print { SpellOne SpellsPrint }
 {}
 
 /// A text has at most one fault.
 pub fn one_fault()
-    ensures scan { EachHasOneFault }
-    ensures print { EachPrintHasOneFault }
+    ensures scan { HaveOneFault Fault }
+    ensures print { HaveOneFault PrintFault }
 {}
 
 /// No spelled text has a fault.
 pub fn not_both()
-    ensures scan { NoneIsBoth }
-    ensures print { NoPrintIsBoth }
+    ensures scan { AreNeverBoth Spells Fault }
+    ensures print { AreNeverBoth SpellsPrint PrintFault }
 {}
 
 /// A text of bytes is spelled, or has a fault.
 pub fn either()
-    ensures scan { EachIsEither }
-    ensures print { EachPrintIsEither }
+    ensures scan { AreEither Spells Fault }
+    ensures print { AreEither SpellsPrint PrintFault }
 {}
 
 /// What is spelled is proper, with the slots from 1 to their count, each once.

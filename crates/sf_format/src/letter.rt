@@ -1,6 +1,6 @@
 //! Letters and lengths of conversion specifications.
 ghost use Rattle.std.specs.Prelude.{◌≡◌};
-ghost use Rattle.sf_format.specs.Letters.{auto_base, letter_of, stored_values, sized_kind};
+ghost use Rattle.sf_format.specs.Letters.{letter_of, stored_values, sized_kind};
 ghost use Rattle.sf_format.specs.Faults.{is_left_out};
 ghost use Rattle.sf_format.specs.Rules.{takes_text, has_length, is_l};
 
@@ -39,23 +39,16 @@ pub enum Length {
     T,
 }
 
-/// How `i` reads the digits.
-fn auto_base(profile: Profile) -> Base
-    ensures { result ≡ auto_base profile }
-{
-    match profile {
-        Profile::One => Base::Auto,
-        Profile::Two => Base::AutoBin,
-    }
-}
-
 /// What the byte converts as a letter: the table of the letters of scan formats.
 pub fn letter_of(profile: Profile, b: u8) -> Option<Letter>
     ensures { result ≡ letter_of profile b }
 {
     match b {
         b'd' => Some(Letter::Signed(Base::Dec)),
-        b'i' => Some(Letter::Signed(auto_base(profile))),
+        b'i' => match profile {
+            Profile::One => Some(Letter::Signed(Base::Auto)),
+            Profile::Two => Some(Letter::Signed(Base::AutoBin)),
+        },
         b'u' => Some(Letter::Unsigned(Base::Dec)),
         b'o' => Some(Letter::Unsigned(Base::Oct)),
         b'x' | b'X' => Some(Letter::Unsigned(Base::Hex)),

@@ -80,10 +80,10 @@ pub fn number_fault<G: Grammar>(grammar: G, text: &[u8], slots: Slots) -> Option
     let mut at: u16 = 0;
     let mut earlier = no_slots();
     while !rest.is_empty() {
-        let Ok(passed) = pass(grammar, rest, at, earlier) else {
+        let Ok(passed) = pass(grammar, rest, at, earlier, false) else {
             unreachable!()
         };
-        note(&mut noted, grammar.slot(&passed.part), at, slots.count);
+        note(&mut noted, passed.slot, at, slots.count);
         rest = passed.rest;
         at = (text.len() - rest.len()) as u16;
         earlier = passed.slots;

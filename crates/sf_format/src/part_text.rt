@@ -28,7 +28,7 @@ fn part_text<G: Grammar>(grammar: G, text: &[u8], number: u16) -> Option<&[u8]>
     let mut at: u16 = 0;
     let mut slots = no_slots();
     while !rest.is_empty() {
-        let Ok(passed) = pass(grammar, rest, at, slots) else {
+        let Ok(passed) = pass(grammar, rest, at, slots, false) else {
             return None;
         };
         if left == 1 {

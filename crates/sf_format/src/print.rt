@@ -43,24 +43,16 @@ impl Model for PrintFormat {
     } };
 }
 
-/// The kind of the value that the unit prints, if it prints the one with the slot.
-fn printed_kind(unit: &Unit, slot: u8) -> Option<Kind>
-    ensures { result ≡ kind_with slot (values_of (unit.now ∷ [])) }
-{
-    match unit {
-        Unit::Conv(conversion) if conversion.slot == slot => Some(conversion.kind),
-        _ => None,
-    }
-}
-
 /// The kind of the value with the slot.
 fn find_printed_kind(units: &[Unit], slot: u8) -> Option<Kind>
     ensures { result ≡ kind_with slot (values_of units.now) }
 {
     for unit in units {
-        let kind = printed_kind(unit, slot);
-        if kind.is_some() {
-            return kind;
+        match unit {
+            Unit::Conv(conversion) if conversion.slot == slot => {
+                return Some(conversion.kind);
+            }
+            _ => {}
         }
     }
     None

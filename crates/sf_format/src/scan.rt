@@ -1,5 +1,5 @@
 //! Scan formats.
-ghost use Rattle.std.specs.Prelude.{◌≡◌, ◌≤◌, ◌↔◌, IsSome, ℕ, List, [], ◌∷◌, true, length, Err, IfOk, IfErr, MatchResult, IfSome};
+ghost use Rattle.std.specs.Prelude.{◌≡◌, ◌≤◌, ◌↔◌, IsSome, ℕ, List, length, Err, IfOk, IfErr, MatchResult, IfSome};
 ghost use Rattle.sf_format.specs.declared.fault.FormatWhy.{FormatWhy};
 ghost use Rattle.sf_format.specs.declared.directive.Directive.{Directive};
 ghost use Rattle.sf_format.specs.Slots.{AreSlots};
@@ -46,24 +46,16 @@ impl Model for ScanFormat {
     } };
 }
 
-/// The kind of the destination, if the directive has one with the slot.
-fn kind_with(directive: &Directive, slot: u8) -> Option<Kind>
-    ensures { result ≡ kind_at slot (directive.now ∷ []) }
-{
-    match directive {
-        Directive::Conv(conversion) if conversion.slot == Some(slot) => Some(conversion.kind),
-        _ => None,
-    }
-}
-
 /// The kind of the first destination with the slot.
 fn find_kind(directives: &[Directive], slot: u8) -> Option<Kind>
     ensures { result ≡ kind_at slot directives.now }
 {
     for directive in directives {
-        let kind = kind_with(directive, slot);
-        if kind.is_some() {
-            return kind;
+        match directive {
+            Directive::Conv(conversion) if conversion.slot == Some(slot) => {
+                return Some(conversion.kind);
+            }
+            _ => {}
         }
     }
     None

@@ -12,7 +12,7 @@ ghost use Rattle.sf_format.specs.Passing.{print_opening_of, Holds, PassesBy};
 
 use crate::directive::Profile;
 use crate::fault::{FormatFault, FormatWhy};
-use crate::grammar::{Grammar, Passed};
+use crate::grammar::{Grammar, Literal, Passed};
 use crate::print::letter::{conversion, flag_fault, print_converted};
 use crate::print::opening::{PrintWritten, print_opening, print_opening_fault};
 use crate::slots::{Slots, pushed, slot_fault, slot_of};
@@ -33,6 +33,7 @@ fn pass_print_letter<'a>(
     percent: u16,
     at: u16,
     slots: Slots,
+    wanted: bool,
 ) -> Result<Passed<'a, Unit>, FormatFault>
     requires place { percent ≤ 4096 }
     requires count { slots.count ≤ 4096 }
@@ -42,7 +43,7 @@ fn pass_print_letter<'a>(
     requires precision { written.now.point ≡ true → AllByRecursion (λ b. is_decimal b ≡ true) written.now.precision.now }
     requires opening { first_of (print_opening_rules percent (print_opening_of written.now)) ≡ None }
     ensures { (earlier : List Opening) → Holds slots earlier
-        → PassesBy (Prints profile) (print_rest_rules profile earlier percent (print_opening_of written.now) at (letter ∷ text.now)) earlier
+        → PassesBy wanted (Prints profile) (print_rest_rules profile earlier percent (print_opening_of written.now) at (letter ∷ text.now)) earlier
         (print_letter_at (print_opening_of written.now) (letter ∷ text.now)) result }
 {
     let (found, kind) = print_converted(profile, written, letter, at)?;
@@ -57,7 +58,8 @@ fn pass_print_letter<'a>(
         unreachable!()
     };
     Ok(Passed {
-        part: Unit::Conv(conversion(written, found, kind, slot)),
+        part: Some(Unit::Conv(conversion(written, found, kind, slot))),
+        slot: Some(slot),
         rest: text,
         slots: pushed(slots, &value),
     })
@@ -75,12 +77,11 @@ impl Grammar for PrintGrammar {
         None
     }
 
-    fn byte(self, b: u8) -> Unit {
-        Unit::Byte(b)
-    }
-
-    fn percent(self) -> Unit {
-        Unit::Byte(b'%')
+    fn literal(self, literal: Literal) -> Unit {
+        match literal {
+            Literal::Byte(b) => Unit::Byte(b),
+            Literal::Percent => Unit::Byte(b'%'),
+        }
     }
 
     fn pass_conversion<'a>(
@@ -88,6 +89,7 @@ impl Grammar for PrintGrammar {
         text: &'a [u8],
         at: u16,
         slots: Slots,
+        wanted: bool,
     ) -> Result<Passed<'a, Unit>, FormatFault> {
         let (written, rest) = print_opening(text);
         if let Some(fault) = print_opening_fault(at, &written) {
@@ -100,15 +102,17 @@ impl Grammar for PrintGrammar {
                 why: FormatWhy::Truncated,
             }),
             [letter, rest @ ..] => {
-                pass_print_letter(self.profile, &written, *letter, rest, at, letter_at, slots)
+                pass_print_letter(
+                    self.profile,
+                    &written,
+                    *letter,
+                    rest,
+                    at,
+                    letter_at,
+                    slots,
+                    wanted,
+                )
             }
-        }
-    }
-
-    fn slot(self, unit: &Unit) -> Option<u8> {
-        match unit {
-            Unit::Conv(conversion) => Some(conversion.slot),
-            Unit::Byte(_) => None,
         }
     }
 }

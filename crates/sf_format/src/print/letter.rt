@@ -6,7 +6,7 @@ ghost use Rattle.std.specs.Option.{option_map};
 ghost use Rattle.sf_format.specs.Digits.{is_decimal, optional_number};
 ghost use Rattle.sf_format.specs.Units.{has_flag};
 ghost use Rattle.sf_format.specs.PrintLetters.{print_row, print_letter_of, print_kind_of};
-ghost use Rattle.sf_format.specs.PrintGrammar.{is_set_flag, or_place, IsPrintConv};
+ghost use Rattle.sf_format.specs.PrintGrammar.{or_place, IsPrintConv};
 ghost use Rattle.sf_format.specs.Rules.{first_of};
 ghost use Rattle.sf_format.specs.PrintRules.{is_print_left_out, print_letter_rules, flag_rules, foreign_flag, precision_number};
 ghost use Rattle.sf_format.specs.Passing.{print_opening_of, fault_in, ConvertsPrint};
@@ -165,12 +165,6 @@ pub fn flag_fault(percent: u16, written: &PrintWritten, letter: PrintLetter) -> 
     ])
 }
 
-fn is_set(flag: u8, flags: &[u8]) -> bool
-    ensures { result ≡ is_set_flag flag flags.now }
-{
-    flags.contains(&flag)
-}
-
 fn precision_of(written: &PrintWritten) -> Option<u8>
     requires digits { written.now.point ≡ true → AllByRecursion (λ b. is_decimal b ≡ true) written.now.precision.now }
     requires bound { precision_number (print_opening_of written.now).precision ≤ 255 }
@@ -196,11 +190,11 @@ pub fn conversion(written: &PrintWritten, letter: PrintLetter, kind: Kind, slot:
         letter,
         kind,
         slot,
-        minus: is_set(b'-', written.flags),
-        plus: is_set(b'+', written.flags),
-        blank: is_set(b' ', written.flags),
-        alt: is_set(b'#', written.flags),
-        zero: is_set(b'0', written.flags),
+        minus: written.flags.contains(&b'-'),
+        plus: written.flags.contains(&b'+'),
+        blank: written.flags.contains(&b' '),
+        alt: written.flags.contains(&b'#'),
+        zero: written.flags.contains(&b'0'),
         width: capped(written.width) as u16,
         precision: precision_of(written),
     }

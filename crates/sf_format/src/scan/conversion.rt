@@ -1,30 +1,21 @@
 //! The letters of conversion specifications, and what stands behind them.
-ghost use Rattle.std.specs.Prelude.{◌≡◌, ◌≤◌, ◌+◌, true, length};
+ghost use Rattle.std.specs.Prelude.{◌≡◌, ◌≤◌, ◌+◌, true, false, None, length, MatchOption};
 ghost use Rattle.std.specs.List.{AllByRecursion};
 ghost use Rattle.sf_base.specs.Bytes.{magnitude};
 ghost use Rattle.sf_format.specs.Digits.{is_decimal};
-ghost use Rattle.sf_format.specs.Scanlist.{caret_text};
+ghost use Rattle.sf_format.specs.Scanlist.{backward_range};
 ghost use Rattle.sf_format.specs.Grammar.{width_of};
 ghost use Rattle.sf_format.specs.Rules.{first_of};
 ghost use Rattle.sf_format.specs.Faults.{letter_rules};
-ghost use Rattle.sf_format.specs.Passing.{opening_of, fault_in, Converts, Shapes, is_set};
-ghost use Rattle.sf_format.specs.declared.letter.Letter.TheVariants as letter;
+ghost use Rattle.sf_format.specs.Passing.{opening_of, fault_in, Converts, ListsBehind, ShapeBy, IsMade, is_set};
 
-use crate::directive::{Profile, Shape};
+use crate::directive::{Conversion, Directive, Profile, Shape};
 use crate::fault::{FormatFault, FormatWhy};
-use crate::fronts::mark;
 use crate::letter::{Letter, left_out, letter_of, of_text};
 use crate::opening::{Written, capped};
 use crate::rule_table::{fault_by, rule};
-use crate::scan::scanlist::scanlist;
+use crate::scan::scanlist::{Listed, scanlist, set_of};
 use sf_base::Kind;
-
-/// What a letter takes, and what follows it.
-#[derive(Drop)]
-pub struct Shaped<'a> {
-    pub shape: Shape,
-    pub rest: &'a [u8],
-}
 
 /// The first fault of the letter at the place.
 fn letter_fault(profile: Profile, written: &Written, letter: u8, at: u16) -> Option<FormatFault>
@@ -65,36 +56,37 @@ pub fn converted(
     Ok((found, kind))
 }
 
-/// The set behind the `[` at the place.
-fn bracket(at: u16, text: &[u8]) -> Result<Shaped<'_>, FormatFault>
+/// The scanlist behind the letter at the place, if it is a `[`, or else nothing, and what follows.
+pub fn list_behind(letter: Letter, at: u16, text: &[u8]) -> Result<Listed<'_>, FormatFault>
     requires { at + 1 + length text.now ≤ 4096 }
-    ensures { Shapes true letter.Set at text.now result }
+    ensures { ListsBehind (is_set letter) at text.now result }
 {
-    let (caret, text) = mark(b'^', text);
-    let list = scanlist(caret, at, at + 1 + caret as u16, text)?;
-    Ok(Shaped {
-        shape: Shape::Set(list.set),
-        rest: list.rest,
-    })
+    match letter {
+        Letter::Set => scanlist(at, text),
+        _ => Ok(Listed {
+            complemented: false,
+            members: &text[..0],
+            rest: text,
+        }),
+    }
 }
 
-/// What the letter at the place takes, with its scanlist if it has one.
-pub fn shape_behind(letter: Letter, at: u16, text: &[u8]) -> Result<Shaped<'_>, FormatFault>
-    requires { at + 1 + length text.now ≤ 4096 }
-    ensures { Shapes (is_set letter) letter at text.now result }
+/// What the letter takes, by its scanlist if it has one.
+fn shape(letter: Letter, list: &Listed) -> Shape
+    requires { is_set letter ≡ true → backward_range 0 list.now.members.now ≡ None }
+    ensures { ShapeBy (is_set letter) letter list.now result }
 {
-    let shape = match letter {
-        Letter::Set => return bracket(at, text),
+    match letter {
+        Letter::Set => Shape::Set(set_of(list.complemented, list.members)),
         Letter::Signed(base) | Letter::Unsigned(base) => Shape::Int(base),
         Letter::Chars => Shape::Chars,
         Letter::Text => Shape::Text,
         Letter::Count => Shape::Count,
-    };
-    Ok(Shaped { shape, rest: text })
+    }
 }
 
 /// The width of a conversion by the letter.
-pub fn width_of(letter: Letter, width: &[u8]) -> Option<u16>
+fn width_of(letter: Letter, width: &[u8]) -> Option<u16>
     requires digits { AllByRecursion (λ b. is_decimal b ≡ true) width.now }
     requires bound { magnitude 10 width.now ≤ 65535 }
     ensures { result ≡ width_of letter width.now }
@@ -106,4 +98,29 @@ pub fn width_of(letter: Letter, width: &[u8]) -> Option<u16>
         Letter::Chars => Some(1),
         _ => None,
     }
+}
+
+/// The conversion of a specification without a fault, where it is wanted.
+pub fn conversion(
+    wanted: bool,
+    letter: Letter,
+    kind: Kind,
+    written: &Written,
+    slot: Option<u8>,
+    list: &Listed,
+) -> Option<Directive>
+    requires digits { AllByRecursion (λ b. is_decimal b ≡ true) written.now.width.now }
+    requires bound { magnitude 10 written.now.width.now ≤ 65535 }
+    requires forward { is_set letter ≡ true → backward_range 0 list.now.members.now ≡ None }
+    ensures { MatchOption result (wanted ≡ false) (λ d. IsMade letter kind written.now.width.now slot list.now d) }
+{
+    if !wanted {
+        return None;
+    }
+    Some(Directive::Conv(Conversion {
+        shape: shape(letter, list),
+        kind,
+        width: width_of(letter, written.width),
+        slot,
+    }))
 }

@@ -10,11 +10,11 @@ ghost use Rattle.sf_format.specs.Rules.{first_of};
 ghost use Rattle.sf_format.specs.Faults.{opening_rules, rest_rules};
 ghost use Rattle.sf_format.specs.Passing.{opening_of, Holds, PassesBy};
 
-use crate::directive::{Conversion, Directive, Profile};
+use crate::directive::{Directive, Profile};
 use crate::fault::{FormatFault, FormatWhy};
-use crate::grammar::{Grammar, Passed};
+use crate::grammar::{Grammar, Literal, Passed};
 use crate::opening::{Written, opening, opening_fault};
-use crate::scan::conversion::{converted, shape_behind, width_of};
+use crate::scan::conversion::{conversion, converted, list_behind};
 use crate::slots::{Slots, pushed, slot_fault, slot_of};
 use sf_base::is_space;
 
@@ -33,6 +33,7 @@ fn pass_letter<'a>(
     percent: u16,
     at: u16,
     slots: Slots,
+    wanted: bool,
 ) -> Result<Passed<'a, Directive>, FormatFault>
     requires place { at + 1 + length text.now ≤ 4096 }
     requires count { slots.count ≤ 4096 }
@@ -40,23 +41,19 @@ fn pass_letter<'a>(
     requires width { AllByRecursion (λ b. is_decimal b ≡ true) written.now.width.now }
     requires opening { first_of (opening_rules percent (opening_of written.now)) ≡ None }
     ensures { (earlier : List Opening) → Holds slots earlier
-        → PassesBy (Means profile) (rest_rules profile earlier percent (opening_of written.now) at (letter ∷ text.now)) earlier
+        → PassesBy wanted (Means profile) (rest_rules profile earlier percent (opening_of written.now) at (letter ∷ text.now)) earlier
         (letter_at (opening_of written.now) (letter ∷ text.now)) result }
 {
     let (found, kind) = converted(profile, written, letter, at)?;
-    let shaped = shape_behind(found, at, text)?;
+    let list = list_behind(found, at, text)?;
     if let Some(fault) = slot_fault(slots, written, percent) {
         return Err(fault);
     }
-    let conversion = Conversion {
-        shape: shaped.shape,
-        kind,
-        width: width_of(found, written.width),
-        slot: slot_of(slots, written),
-    };
+    let slot = slot_of(slots, written);
     Ok(Passed {
-        part: Directive::Conv(conversion),
-        rest: shaped.rest,
+        part: conversion(wanted, found, kind, written, slot, &list),
+        slot,
+        rest: list.rest,
         slots: pushed(slots, written),
     })
 }
@@ -76,12 +73,11 @@ impl Grammar for ScanGrammar {
         }
     }
 
-    fn byte(self, b: u8) -> Directive {
-        Directive::Byte(b)
-    }
-
-    fn percent(self) -> Directive {
-        Directive::Percent
+    fn literal(self, literal: Literal) -> Directive {
+        match literal {
+            Literal::Byte(b) => Directive::Byte(b),
+            Literal::Percent => Directive::Percent,
+        }
     }
 
     fn pass_conversion<'a>(
@@ -89,6 +85,7 @@ impl Grammar for ScanGrammar {
         text: &'a [u8],
         at: u16,
         slots: Slots,
+        wanted: bool,
     ) -> Result<Passed<'a, Directive>, FormatFault> {
         let (written, rest) = opening(text);
         if let Some(fault) = opening_fault(at, &written) {
@@ -101,15 +98,17 @@ impl Grammar for ScanGrammar {
                 why: FormatWhy::Truncated,
             }),
             [letter, rest @ ..] => {
-                pass_letter(self.profile, &written, *letter, rest, at, letter_at, slots)
+                pass_letter(
+                    self.profile,
+                    &written,
+                    *letter,
+                    rest,
+                    at,
+                    letter_at,
+                    slots,
+                    wanted,
+                )
             }
-        }
-    }
-
-    fn slot(self, directive: &Directive) -> Option<u8> {
-        match directive {
-            Directive::Conv(conversion) => conversion.slot,
-            _ => None,
         }
     }
 }

@@ -1,20 +1,21 @@
 //! Scanlists.
-ghost use Rattle.std.specs.Prelude.{◌≡◌, ◌≤◌, ◌+◌, false, None, length};
+ghost use Rattle.std.specs.Prelude.{◌≡◌, ◌≤◌, ◌+◌, true, false, None, length};
 ghost use Rattle.sf_format.specs.Scanlist.{backward_range, IsSetBy};
 ghost use Rattle.sf_format.specs.Rules.{first_of, place_of};
 ghost use Rattle.sf_format.specs.Faults.{list_rules};
 ghost use Rattle.sf_format.specs.Cut.{close_at, members_at};
-ghost use Rattle.sf_format.specs.Passing.{fault_in, ReadsList};
+ghost use Rattle.sf_format.specs.Passing.{fault_in, ReadsList, ListsBehind};
 
 use crate::fault::{FormatFault, FormatWhy};
-use crate::fronts::{Class, split_front};
+use crate::fronts::{Class, mark, split_front};
 use crate::rule_table::{fault_by, rule};
 use sf_base::ByteSet;
 
-/// The set of a scanlist, and what follows its `]`.
-#[derive(Drop)]
+/// A scanlist that closes, and what follows its `]`.
+#[derive(Clone, Copy)]
 pub struct Listed<'a> {
-    pub set: ByteSet,
+    pub complemented: bool,
+    pub members: &'a [u8],
     pub rest: &'a [u8],
 }
 
@@ -114,7 +115,7 @@ fn members_set(members: &[u8]) -> ByteSet
 }
 
 /// The set of a list of ranges and single members, or its complement.
-fn set_of(complemented: bool, members: &[u8]) -> ByteSet
+pub fn set_of(complemented: bool, members: &[u8]) -> ByteSet
     requires { backward_range 0 members.now ≡ None }
     ensures { IsSetBy complemented members.now result }
 {
@@ -126,7 +127,7 @@ fn set_of(complemented: bool, members: &[u8]) -> ByteSet
 }
 
 /// The scanlist whose `[` stands at the first place and whose first member at the second.
-pub fn scanlist(
+fn closed_list(
     complemented: bool,
     at: u16,
     from: u16,
@@ -139,9 +140,22 @@ pub fn scanlist(
         return Err(fault);
     }
     let (members, close) = members(text);
-    let set = set_of(complemented, members);
-    match close {
-        [_bracket, rest @ ..] => Ok(Listed { set, rest }),
-        [] => Ok(Listed { set, rest: close }),
-    }
+    let rest = match close {
+        [_bracket, rest @ ..] => rest,
+        [] => close,
+    };
+    Ok(Listed {
+        complemented,
+        members,
+        rest,
+    })
+}
+
+/// The scanlist behind the `[` at the place.
+pub fn scanlist(at: u16, text: &[u8]) -> Result<Listed<'_>, FormatFault>
+    requires { at + 1 + length text.now ≤ 4096 }
+    ensures { ListsBehind true at text.now result }
+{
+    let (complemented, text) = mark(b'^', text);
+    closed_list(complemented, at, at + 1 + complemented as u16, text)
 }

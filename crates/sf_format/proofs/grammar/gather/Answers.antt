@@ -33,9 +33,9 @@ loop-rest-preserved g c =
     let h = c.loop-rest.invariant in
     let some = some_left c.loop-rest.rest.now c.is_empty.result c.is_empty.ensures c.loop-rest-test.true in
     let passes = c.in_ok-passed.ensures (destinations h.passing.done) h.passing.holds in
-    rw c.in_ok-push.ensures.items
-    (gathering_more (g.G.Grammar.means c.args.grammar) c.in_ok-passed.passed.part c.in_ok-passed.passed.rest.now c.in_ok-passed.passed.slots h some
-    (passes_on passes) passes.2)
+    rw (c.in_ok-push.ensures.items, c.in-Some.is)
+    (gathering_more (g.G.Grammar.means c.args.grammar) c.in-Some.part c.in_ok-passed.passed.rest.now c.in_ok-passed.passed.slots h some
+    (passes_on passes) (rw c.in-Some.is at passes.2))
 
 pub returns-clause-gathered : goal.returns-clause-gathered
 returns-clause-gathered g c =

@@ -27,8 +27,20 @@ loop-rest-smaller g c =
     let some = some_left c.loop-rest.rest.now c.is_empty.result c.is_empty.ensures c.loop-rest-test.true in
     (rest_shorter c.in_ok-passed.passed.rest.now c.in_ok-passed.passed.slots h some (passes_on (c.in_ok-passed.ensures (destinations h.done) h.holds))).0
 
+pub loop-rest-smaller-in_ok-passed : goal.loop-rest-smaller-in_ok-passed
+loop-rest-smaller-in_ok-passed g c =
+    let h = c.loop-rest.invariant in
+    let some = some_left c.loop-rest.rest.now c.is_empty.result c.is_empty.ensures c.loop-rest-test.true in
+    (rest_shorter c.in_ok-passed.passed.rest.now c.in_ok-passed.passed.slots h some (passes_on (c.in_ok-passed.ensures (destinations h.done) h.holds))).0
+
 pub loop-rest-preserved : goal.loop-rest-preserved
 loop-rest-preserved g c =
+    let h = c.loop-rest.invariant in
+    let some = some_left c.loop-rest.rest.now c.is_empty.result c.is_empty.ensures c.loop-rest-test.true in
+    passing_more c.in_ok-passed.passed.rest.now c.in_ok-passed.passed.slots h some (passes_on (c.in_ok-passed.ensures (destinations h.done) h.holds))
+
+pub loop-rest-preserved-in_ok-passed : goal.loop-rest-preserved-in_ok-passed
+loop-rest-preserved-in_ok-passed g c =
     let h = c.loop-rest.invariant in
     let some = some_left c.loop-rest.rest.now c.is_empty.result c.is_empty.ensures c.loop-rest-test.true in
     passing_more c.in_ok-passed.passed.rest.now c.in_ok-passed.passed.slots h some (passes_on (c.in_ok-passed.ensures (destinations h.done) h.holds))

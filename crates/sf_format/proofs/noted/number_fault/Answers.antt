@@ -32,13 +32,27 @@ loop-rest-smaller g c =
     let some = some_left c.loop-rest.rest.now c.is_empty.result c.is_empty.ensures c.loop-rest-test.true in
     (rest_shorter c.in-Ok.passed.rest.now c.in-Ok.passed.slots h some (passes_on (c.in-Ok.ensures (destinations h.done) h.holds))).0
 
+pub loop-rest-smaller-in-Ok : goal.loop-rest-smaller-in-Ok
+loop-rest-smaller-in-Ok g c =
+    let h = c.loop-rest.invariant.passing in
+    let some = some_left c.loop-rest.rest.now c.is_empty.result c.is_empty.ensures c.loop-rest-test.true in
+    (rest_shorter c.in-Ok.passed.rest.now c.in-Ok.passed.slots h some (passes_on (c.in-Ok.ensures (destinations h.done) h.holds))).0
+
 pub loop-rest-preserved : goal.loop-rest-preserved
 loop-rest-preserved g c =
     let h = c.loop-rest.invariant in
     let some = some_left c.loop-rest.rest.now c.is_empty.result c.is_empty.ensures c.loop-rest-test.true in
     let passes = c.in-Ok.ensures (destinations h.passing.done) h.passing.holds in
-    noting_more c.note.new.noted c.in-Ok.passed.rest.now c.in-Ok.passed.slots c.slot.result h some (passes_on passes)
-    (c.slot.ensures _ _ passes.2) (c.note.ensures h.ns h.notes)
+    noting_more c.note.new.noted c.in-Ok.passed.rest.now c.in-Ok.passed.slots c.in-Ok.passed.slot h some (passes_on passes)
+    passes.4 (c.note.ensures h.ns h.notes)
+
+pub loop-rest-preserved-in-Ok : goal.loop-rest-preserved-in-Ok
+loop-rest-preserved-in-Ok g c =
+    let h = c.loop-rest.invariant in
+    let some = some_left c.loop-rest.rest.now c.is_empty.result c.is_empty.ensures c.loop-rest-test.true in
+    let passes = c.in-Ok.ensures (destinations h.passing.done) h.passing.holds in
+    noting_more c.note.new.noted c.in-Ok.passed.rest.now c.in-Ok.passed.slots c.in-Ok.passed.slot h some (passes_on passes)
+    passes.4 (c.note.ensures h.ns h.notes)
 
 pub returns : goal.returns
 returns g c =

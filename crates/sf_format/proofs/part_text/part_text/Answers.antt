@@ -43,8 +43,20 @@ loop-rest-smaller g c =
     let some = some_left c.loop-rest.rest.now c.is_empty.result c.is_empty.ensures c.loop-rest-test.true in
     (rest_shorter c.in-Ok.passed.rest.now c.in-Ok.passed.slots h some (passes_on (c.in-Ok.ensures (destinations h.done) h.holds))).0
 
+pub loop-rest-smaller-else-left-eq1 : goal.loop-rest-smaller-else-left-eq1
+loop-rest-smaller-else-left-eq1 g c =
+    let h = c.loop-rest.invariant.passing in
+    let some = some_left c.loop-rest.rest.now c.is_empty.result c.is_empty.ensures c.loop-rest-test.true in
+    (rest_shorter c.in-Ok.passed.rest.now c.in-Ok.passed.slots h some (passes_on (c.in-Ok.ensures (destinations h.done) h.holds))).0
+
 pub loop-rest-preserved : goal.loop-rest-preserved
 loop-rest-preserved g c =
+    let h = c.loop-rest.invariant in
+    let some = some_left c.loop-rest.rest.now c.is_empty.result c.is_empty.ensures c.loop-rest-test.true in
+    counting_more c.in-Ok.passed.rest.now c.in-Ok.passed.slots h some (passes_on (c.in-Ok.ensures (destinations h.passing.done) h.passing.holds)) (let more = h.some in omega arith)
+
+pub loop-rest-preserved-else-left-eq1 : goal.loop-rest-preserved-else-left-eq1
+loop-rest-preserved-else-left-eq1 g c =
     let h = c.loop-rest.invariant in
     let some = some_left c.loop-rest.rest.now c.is_empty.result c.is_empty.ensures c.loop-rest-test.true in
     counting_more c.in-Ok.passed.rest.now c.in-Ok.passed.slots h some (passes_on (c.in-Ok.ensures (destinations h.passing.done) h.passing.holds)) (let more = h.some in omega arith)

@@ -5,8 +5,7 @@ use Rattle.sf_format.specs.Language.{Print}
 use Rattle.sf_format.specs.PrintGrammar.{Prints}
 use Rattle.sf_format.proofs.Walks.{bytes_of}
 use Rattle.sf_format.proofs.PrintMeanings.{print_meaning}
-use Rattle.sf_format.proofs.PrintAccepted.{values_count}
-use Rattle.sf_format.proofs.PrintLaws as laws
+use Rattle.sf_format.proofs.PrintAccepted.{proper, values_count}
 use Rattle.sf_format.proofs.print.PrintFormat.parse.Goals as goal
 
 pub returns-in_err-values-clause-refused : goal.returns-in_err-values-clause-refused
@@ -41,7 +40,7 @@ pub invariant_of-result : goal.invariant_of-result
 invariant_of-result c =
     let gathered = c.in_ok-units.ensures.gathered in record {
       accepted =
-          laws.proper c.args.profile c.args.text.now c.in_ok-units.units.items
+          proper c.args.profile c.args.text.now c.in_ok-units.units.items
           (gathers_spells (Print c.args.profile) (Prints c.args.profile) c.args.text.now c.in_ok-values.values
           c.in_ok-units.units.items (bytes_of c.args.text.now (λ i. omega (arith, c.type_inv.text i))) c.in_ok-values.ensures
           gathered);

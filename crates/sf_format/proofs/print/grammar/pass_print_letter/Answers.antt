@@ -40,8 +40,8 @@ returns c =
     let value = c.value-value.ensures in
     let none = sym (c.in_default-slot_fault.ensures.first earlier holds) in
     let slot = sym c.in-Some-slot_of.is ∙ c.slot_of.ensures ∙ ap (λ n. slot_of (1 + n) (opening_of c.value-value.result)) holds.count ∙ ap (slot_of (1 + length earlier)) value in
-    passes_print c.args.profile earlier c.args.percent o c.args.at c.args.letter c.args.text.now c.in_ok-found.found c.conversion.result
-    c.pushed.result c.in_ok-found.ensures.0 c.in_ok-found.ensures.1 (sym c.in_default.ensures)
+    passes_print c.args.profile c.args.wanted earlier c.args.percent o c.args.at c.args.letter c.args.text.now c.in_ok-found.found c.conversion.result
+    c.in-Some-slot_of.slot c.pushed.result c.in_ok-found.ensures.0 c.in_ok-found.ensures.1 (sym c.in_default.ensures)
     (ap (λ v. first_of (slot_rules earlier c.args.percent v)) (sym value) ∙ none)
-    (c.conversion.ensures (1 + length earlier) (value_slot (1 + length earlier) c.in-Some-slot_of.slot o slot) c.in_ok-found.ensures.2)
+    (c.conversion.ensures (1 + length earlier) (value_slot (1 + length earlier) c.in-Some-slot_of.slot o slot) c.in_ok-found.ensures.2) slot
     (subst (λ v. Holds c.pushed.result (earlier ++ assigned_opening v [])) value (c.pushed.ensures earlier c.args.percent holds none))

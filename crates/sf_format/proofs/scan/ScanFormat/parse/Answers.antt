@@ -6,8 +6,7 @@ use Rattle.sf_format.specs.Grammar.{Means}
 use Rattle.sf_format.specs.Widths.{width_sum}
 use Rattle.sf_format.proofs.Walks.{bytes_of}
 use Rattle.sf_format.proofs.Meanings.{scan_meaning}
-use Rattle.sf_format.proofs.Accepted.{destinations_count}
-use Rattle.sf_format.proofs.ScanLaws as laws
+use Rattle.sf_format.proofs.Accepted.{proper, destinations_count}
 use Rattle.sf_format.proofs.scan.ScanFormat.parse.Goals as goal
 
 pub returns-in_err-destinations-clause-refused : goal.returns-in_err-destinations-clause-refused
@@ -41,7 +40,7 @@ returns-in_err-directives-clause-fault c = λ at why fault.
 pub sum_of_widths-widths-requires : goal.sum_of_widths-widths-requires
 sum_of_widths-widths-requires c =
     rw c.deref.ensures.value
-    (laws.proper c.args.profile c.args.text.now c.in_ok-directives.directives.items
+    (proper c.args.profile c.args.text.now c.in_ok-directives.directives.items
     (gathers_spells (Scan c.args.profile) (Means c.args.profile) c.args.text.now c.in_ok-destinations.destinations
     c.in_ok-directives.directives.items (bytes_of c.args.text.now (λ i. omega (arith, c.type_inv.text i))) c.in_ok-destinations.ensures
     c.in_ok-directives.ensures.gathered)).short
@@ -50,7 +49,7 @@ pub invariant_of-result : goal.invariant_of-result
 invariant_of-result c =
     let gathered = c.in_ok-directives.ensures.gathered in record {
       accepted =
-          laws.proper c.args.profile c.args.text.now c.in_ok-directives.directives.items
+          proper c.args.profile c.args.text.now c.in_ok-directives.directives.items
           (gathers_spells (Scan c.args.profile) (Means c.args.profile) c.args.text.now c.in_ok-destinations.destinations
           c.in_ok-directives.directives.items (bytes_of c.args.text.now (λ i. omega (arith, c.type_inv.text i))) c.in_ok-destinations.ensures
           gathered);

@@ -3,8 +3,8 @@ use Rattle.std.proofs.lemmas.Result.{err_from_is_err_and}
 use Rattle.sf_format.specs.Grammar.{slot_of}
 use Rattle.sf_format.specs.Faults.{letter_rules, scanlist_rules}
 use Rattle.sf_format.specs.Rules.{slot_rules}
-use Rattle.sf_format.specs.Passing.{opening_of, fault_of}
-use Rattle.sf_format.proofs.Passages.{first_left, number_bound, passes_letter, passes_list, passes_slot}
+use Rattle.sf_format.specs.Passing.{opening_of, fault_of, is_set}
+use Rattle.sf_format.proofs.Passages.{first_left, number_bound, listed_forward, passes_letter, passes_list, passes_slot}
 use Rattle.sf_format.proofs.scan.grammar.pass_letter.Goals as goal
 
 pub returns-in_err-found : goal.returns-in_err-found
@@ -17,33 +17,33 @@ returns-in_err-found c =
     (scanlist_rules c.args.letter c.args.at c.args.text.now ++ slot_rules earlier c.args.percent o) (fault_of c.in_err-found.field-0.0)
     c.in_err-found.ensures)
 
-pub returns-in_err-shaped : goal.returns-in_err-shaped
-returns-in_err-shaped c =
+pub returns-in_err-list : goal.returns-in_err-list
+returns-in_err-list c =
     λ earlier holds.
-    let p = err_from_is_err_and c.from_residual-in_err-shaped.result c.from_residual-in_err-shaped.ensures.1 in
+    let p = err_from_is_err_and c.from_residual-in_err-list.result c.from_residual-in_err-list.ensures.1 in
     rw (p.1, p.2)
     (passes_list c.args.profile earlier c.args.percent c.args.at c.args.letter c.args.text.now (opening_of c.args.written.now) c.in_ok-found.found
-    (fault_of c.in_err-shaped.field-0.0) c.in_ok-found.ensures.0 c.in_ok-found.ensures.1 c.in_err-shaped.ensures)
+    (fault_of c.in_err-list.field-0.0) c.in_ok-found.ensures.0 c.in_ok-found.ensures.1 c.in_err-list.ensures)
 
 pub returns-in-Some : goal.returns-in-Some
 returns-in-Some c =
     λ earlier holds.
     passes_slot c.args.profile earlier c.args.percent c.args.at c.args.letter c.args.text.now (opening_of c.args.written.now) c.in_ok-found.found
-    (fault_of c.in-Some.fault) c.in_ok-found.ensures.0 c.in_ok-found.ensures.1 c.in_ok-shaped.ensures.0 (sym (c.in-Some.ensures.first earlier holds))
+    (fault_of c.in-Some.fault) c.in_ok-found.ensures.0 c.in_ok-found.ensures.1 c.in_ok-list.ensures.0 (sym (c.in-Some.ensures.first earlier holds))
 
-pub slot_of-requires-clause-bound : goal.slot_of-requires-clause-bound
-slot_of-requires-clause-bound c = number_bound c.args.percent (opening_of c.args.written.now) c.requires.opening
+pub slot_of-slot-requires-clause-bound : goal.slot_of-slot-requires-clause-bound
+slot_of-slot-requires-clause-bound c = number_bound c.args.percent (opening_of c.args.written.now) c.requires.opening
+
+pub conversion-requires-clause-forward : goal.conversion-requires-clause-forward
+conversion-requires-clause-forward c = λ e.
+    listed_forward (is_set c.in_ok-found.found) c.args.at c.args.text.now c.in_ok-list.list e c.in_ok-list.ensures.0 c.in_ok-list.ensures.1
 
 pub returns : goal.returns
 returns c =
     λ earlier holds.
-    let o = opening_of c.args.written.now in
     let none = sym (c.in_default.ensures.first earlier holds) in
-    passes_letter c.args.profile earlier c.args.percent c.args.at c.args.letter c.args.text.now o c.in_ok-found.found _ c.in_ok-shaped.shaped.rest.now c.pushed.result
-    c.in_ok-found.ensures.0 c.in_ok-found.ensures.1
-    (record {
-      kind = c.in_ok-found.ensures.2;
-      width = c.width_of.ensures;
-      slot = c.slot_of.ensures ∙ ap (λ n. slot_of (1 + n) o) holds.count;
-    })
-    c.in_ok-shaped.ensures.0 c.in_ok-shaped.ensures.1 c.in_ok-shaped.ensures.2 none (c.pushed.ensures earlier c.args.percent holds none)
+    let placed = c.slot_of-slot.ensures ∙ ap (λ n. slot_of (1 + n) (opening_of c.args.written.now)) holds.count in
+    passes_letter c.args.profile c.args.wanted earlier c.args.percent c.args.at c.args.letter c.args.text.now (opening_of c.args.written.now)
+    c.in_ok-found.found _ c.slot_of-slot.result c.in_ok-list.list c.conversion.result c.pushed.result c.in_ok-found.ensures.0
+    c.in_ok-found.ensures.1 c.in_ok-found.ensures.2 c.in_ok-list.ensures.0 c.in_ok-list.ensures.1 c.in_ok-list.ensures.2 placed c.conversion.ensures
+    none (c.pushed.ensures earlier c.args.percent holds none)

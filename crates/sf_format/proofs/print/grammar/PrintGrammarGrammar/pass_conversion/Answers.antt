@@ -27,7 +27,7 @@ returns-in-empty c =
     let o = print_opening_of c.print_opening.result.0 in
     let none = sym (nothing_left c.print_opening.result.1.now c.in-empty.len_below) in
     let place = c.args.at + 1 + (length c.args.text.now - length c.print_opening.result.1.now) in
-    passes_opening (Prints c.args.self.profile) (Print c.args.self.profile) earlier c.args.at c.args.text.now (print_opening_rules c.args.at o)
+    passes_opening c.args.wanted (Prints c.args.self.profile) (Print c.args.self.profile) earlier c.args.at c.args.text.now (print_opening_rules c.args.at o)
     (print_rest_rules c.args.self.profile earlier c.args.at o place []) (print_letter_at o []) (Err (record { at = place; why = Truncated }))
     (print_cut_rules c.args.self.profile earlier c.args.at place c.args.text.now [] o c.print_opening.ensures.opening (none ∙ c.print_opening.ensures.rest)
     (omega (arith, c.print_opening.ensures.length)))
@@ -40,7 +40,7 @@ returns-in-len1-up c =
     let rest = c.print_opening.result.1.now in
     let all = first_and_rest rest c.in-len1-up.len_at_least in
     let place = c.args.at + 1 + (length c.args.text.now - length c.print_opening.result.1.now) in
-    passes_opening (Prints c.args.self.profile) (Print c.args.self.profile) earlier c.args.at c.args.text.now (print_opening_rules c.args.at o)
+    passes_opening c.args.wanted (Prints c.args.self.profile) (Print c.args.self.profile) earlier c.args.at c.args.text.now (print_opening_rules c.args.at o)
     (print_rest_rules c.args.self.profile earlier c.args.at o place (split_first rest)) (print_letter_at o (split_first rest)) c.pass_print_letter.result
     (print_cut_rules c.args.self.profile earlier c.args.at place c.args.text.now (split_first rest) o c.print_opening.ensures.opening (all ∙ c.print_opening.ensures.rest)
     (omega (arith, c.print_opening.ensures.length)))

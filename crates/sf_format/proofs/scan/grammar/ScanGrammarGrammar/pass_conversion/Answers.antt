@@ -26,7 +26,7 @@ returns-in-empty c =
     let o = opening_of c.opening.result.0 in
     let none = sym (nothing_left c.opening.result.1.now c.in-empty.len_below) in
     let place = c.args.at + 1 + (length c.args.text.now - length c.opening.result.1.now) in
-    passes_opening (Means c.args.self.profile) (Scan c.args.self.profile) earlier c.args.at c.args.text.now (opening_rules c.args.at o)
+    passes_opening c.args.wanted (Means c.args.self.profile) (Scan c.args.self.profile) earlier c.args.at c.args.text.now (opening_rules c.args.at o)
     (rest_rules c.args.self.profile earlier c.args.at o place []) (letter_at o []) (Err (record { at = place; why = Truncated }))
     (cut_rules c.args.self.profile earlier c.args.at place c.args.text.now [] o c.opening.ensures.opening (none ∙ c.opening.ensures.rest)
     (omega (arith, c.opening.ensures.length)))
@@ -39,7 +39,7 @@ returns-in-len1-up c =
     let rest = c.opening.result.1.now in
     let all = first_and_rest rest c.in-len1-up.len_at_least in
     let place = c.args.at + 1 + (length c.args.text.now - length c.opening.result.1.now) in
-    passes_opening (Means c.args.self.profile) (Scan c.args.self.profile) earlier c.args.at c.args.text.now (opening_rules c.args.at o)
+    passes_opening c.args.wanted (Means c.args.self.profile) (Scan c.args.self.profile) earlier c.args.at c.args.text.now (opening_rules c.args.at o)
     (rest_rules c.args.self.profile earlier c.args.at o place (split_first rest)) (letter_at o (split_first rest)) c.pass_letter.result
     (cut_rules c.args.self.profile earlier c.args.at place c.args.text.now (split_first rest) o c.opening.ensures.opening (all ∙ c.opening.ensures.rest)
     (omega (arith, c.opening.ensures.length)))
