@@ -6,8 +6,8 @@ use arrayvec::ArrayVec;
 use sf_base::{Kind, Store, Value};
 use sf_format::{PrintFormat, Profile, ScanFormat};
 use sf_print::{StdSink, fprint};
-use sf_read::{Lookahead, ScanRowFault, StdSource, scan_row};
-use sf_run::{Ending, Outcome, Report, Row, RowFault, Status};
+use sf_read::{Lookahead, Row, RowFault, ScanRowFault, StdSource, scan_row};
+use sf_run::{Ending, Outcome, Report, Status};
 use std::alloc::Global;
 
 /// The most bytes that one row may have.

@@ -1,17 +1,22 @@
 //! Sources, bytes read ahead of them, and whole scans.
 #![tactic(auto)]
 
+mod field;
 mod lookahead;
 mod row;
+mod rows;
 mod script_source;
 mod slice_source;
 mod source;
 mod std_source;
 mod stream;
+mod tuples;
 mod whole;
 
+pub use field::Field;
 pub use lookahead::Lookahead;
 pub use row::{ScanRowFault, scan_row};
+pub use rows::{Row, RowFault};
 pub use script_source::{ReadStep, ScriptSource};
 pub use slice_source::SliceSource;
 pub use source::{Source, SourceFault};

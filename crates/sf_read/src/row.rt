@@ -5,10 +5,10 @@ ghost use Rattle.sf_run.specs.declared.outcome.Status.TheVariants.{Done};
 ghost use Rattle.sf_run.specs.Rows.{AreGiven};
 ghost use Rattle.sf_read.specs.RowScans.{Answers, HasShape, RowScan, is_run};
 
-use crate::{Lookahead, Source, fscan};
+use crate::{Lookahead, Row, RowFault, Source, fscan};
 use sf_base::Store;
 use sf_format::ScanFormat;
-use sf_run::{Outcome, Row, RowFault, Scanned, StartFault, Status};
+use sf_run::{Outcome, Scanned, StartFault, Status};
 use std::alloc::Global;
 
 /// Why there is no row.

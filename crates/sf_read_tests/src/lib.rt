@@ -17,3 +17,5 @@ mod stores;
 mod streams;
 #[cfg(test)]
 mod texts;
+#[cfg(test)]
+mod tuples;

@@ -2,9 +2,9 @@
 use arrayvec::ArrayVec;
 use sf_base::{Kind, Store, Value};
 use sf_format::{Profile, ScanFormat};
-use sf_read::{Lookahead, ReadStep, ScanRowFault, ScriptSource, Source, scan_row};
+use sf_read::{Lookahead, ReadStep, Row, RowFault, ScanRowFault, ScriptSource, Source, scan_row};
 use sf_rows::{LIMIT, Named, is};
-use sf_run::{Ending, Outcome, Report, Row, RowFault, StartFault, Status};
+use sf_run::{Ending, Outcome, Report, StartFault, Status};
 use std::alloc::Global;
 use std::test::Fail;
 

@@ -1,7 +1,8 @@
 //! A number with a name.
 use arrayvec::ArrayVec;
 use sf_base::{Kind, Store, Value};
-use sf_run::{Report, Row, RowFault};
+use sf_read::{Row, RowFault};
+use sf_run::Report;
 use std::alloc::Global;
 
 #[derive(Drop)]

@@ -1,7 +1,8 @@
 //! A row of values, as a program would write it: a name with its number.
 use arrayvec::ArrayVec;
 use sf_base::{Kind, Store, Value};
-use sf_run::{Report, Row, RowFault};
+use sf_read::{Row, RowFault};
+use sf_run::Report;
 use std::alloc::Global;
 
 /// A name with its number.

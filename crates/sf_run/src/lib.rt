@@ -7,12 +7,10 @@ mod number;
 mod outcome;
 mod quick;
 mod report;
-mod row;
 mod scanner;
 mod tally;
 
 pub use outcome::{Ending, Fed, FeedState, Outcome, StartFault, Status};
 pub use quick::quick_run;
 pub use report::{Report, Scanned};
-pub use row::{Row, RowFault};
 pub use scanner::{MOST_BYTES, Scanner};

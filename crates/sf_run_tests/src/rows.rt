@@ -1,7 +1,7 @@
 //! A row of a number and a text.
 use sf_base::{Kind, Value};
+use sf_read::Row;
 use sf_rows::Named;
-use sf_run::Row;
 use std::test::Fail;
 
 /// The count of slots, and the kinds of the slots 0 to 3, by the trait's own calls.

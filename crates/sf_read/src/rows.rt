@@ -5,9 +5,9 @@ ghost use Rattle.sf_base.specs.Data.{Datum, datum_of};
 ghost use Rattle.sf_run.specs.declared.outcome.Status.TheVariants.{Done};
 ghost use Rattle.sf_run.specs.Rows.{at_slot, AreGiven, AreRowOf};
 
-use crate::report::Report;
 use arrayvec::ArrayVec;
 use sf_base::{Kind, Store, Value};
+use sf_run::Report;
 use std::alloc::Global;
 
 /// Why a row was not made.
