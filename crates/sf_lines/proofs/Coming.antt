@@ -1,6 +1,7 @@
 -- A line that was read, and what came of it.
-use Rattle.std.proofs.Common.{◌≡◌, ℕ, ◌<◌, ◌≤◌, Bool, true, false, not, cond, List, [], length, Option, Some, Ok, Err, ◌⊎◌, inl, inr, refl, sym, ap, subst, ◌∙◌, true≢false}
+use Rattle.std.proofs.Common.{◌≡◌, ℕ, ◌<◌, ◌≤◌, Bool, true, false, not, cond, List, [], length, Option, Some, Result, Ok, Err, ◌⊎◌, inl, inr, refl, sym, ap, subst, ◌∙◌, true≢false}
 use Rattle.std.specs.Io.KnownBytes.{Appends}
+use Rattle.sf_base.specs.Kept.{Kept}
 use Rattle.sf_format.specs.declared.directive.Directive.{Directive}
 use Rattle.sf_run.specs.Runs.{RunReport}
 use Rattle.sf_print.proofs.Appending.{Appends-none}
@@ -9,30 +10,29 @@ use Rattle.sf_read.specs.Counts.{counted_on}
 use Rattle.sf_lines.specs.declared.end.LineFault.TheVariants.{TooLong}
 use Rattle.sf_lines.specs.declared.end.LinesFault.TheVariants as faults
 use Rattle.sf_lines.specs.declared.judge.Judged.{Judged}
-use Rattle.sf_lines.specs.declared.judge.Judged.TheVariants.{Written, Failed, Stopped}
+use Rattle.sf_lines.specs.declared.judge.Judged.TheVariants.{Skipped, Written, Failed, Stopped, Unread}
 use Rattle.sf_lines.specs.declared.line.LineRead.{LineRead}
+use Rattle.sf_lines.specs.declared.options.LinesOptions.{LinesOptions}
+use Rattle.sf_lines.specs.declared.writer.RecordFault.{RecordFault}
+use Rattle.sf_lines.specs.declared.writer.RecordFault.TheVariants as unwritten
 use Rattle.sf_lines.specs.declared.line.LineRead.TheVariants as reads
 use Rattle.sf_lines.specs.Reading.{Took, Reads, is_failed}
 use Rattle.sf_lines.specs.Turns.{LineWork, Comes, judged}
-use Rattle.sf_lines.specs.Judging.{Judges, TakesPart}
+use Rattle.sf_lines.specs.Judging.{Came, Judges, TakesPart, Turns, WritesMatch, is_read_fault, is_sink_fault, is_write_fault, judged_by}
 
 -- no read failed
 pub quiet : (r : LineRead) → (r ≡ reads.Line) ⊎ (r ≡ reads.TooLong) → (before after : ℕ) → after ≡ cond (is_failed r) (counted_on before) before → after ≡ before
 quiet r (inl e) before after is = is ∙ rw e refl
 quiet r (inr e) before after is = is ∙ rw e refl
 
--- what is made of the line with this number
-abbrev pub Came : LineWork → ℕ → List ℕ → Option (List ℕ) → Option (List ℕ) → Judged → Type 0
-Came w number line is after (Written kept) = (text : List ℕ) × Comes w number line (Some (Ok text)) × Appends is after text
-Came w number line is after (Failed kept fault) = Comes w number line (Some (Err fault)) × Appends is after []
-Came w number line is after (Stopped fault) =
-    (fault ≡ faults.Memory) × Appends is after [] ⊎ (fault ≡ faults.Write) × ((text : List ℕ) × Comes w number line (Some (Ok text)) × TakesPart is after text)
-
--- the line was read, and this came of it
-pub record Seen {S : Type 0} (to_come : S → Option (List ℕ)) (now new : Ahead S) (w : LineWork) (number : ℕ) (is after : Option (List ℕ)) (verdict : Judged) : Type 0 where
-  pub line : List ℕ
-  pub read : Took to_come now new line
-  pub came : Came w number line is after verdict
+-- what comes of a line that was taken
+pub turned : {S : Type 0} (to_come : S → Option (List ℕ)) (now new : Ahead S) (w : LineWork) (number : ℕ) (is after : Option (List ℕ)) (line : List ℕ) → Took to_come now new line
+    → (verdict : Judged) → Came w number line is after verdict → Turns to_come now new w number is after verdict
+turned to_come now new w number is after line took (Skipped kept) h = (line, took, h)
+turned to_come now new w number is after line took (Written kept) h = (line, took, h)
+turned to_come now new w number is after line took (Failed kept fault) h = (line, took, h)
+turned to_come now new w number is after line took (Stopped fault) h = (line, took, h)
+turned to_come now new w number is after line took (Unread read) h = absurd h
 
 -- a line that was read, or passed over
 pub line_read : {S : Type 0} (to_come : S → Option (List ℕ)) (now new : Ahead S) (limit : ℕ) (items : List ℕ) (r : LineRead) → (r ≡ reads.Line) ⊎ (r ≡ reads.TooLong) → Reads to_come now new limit items r
@@ -50,33 +50,51 @@ module _ (w : LineWork) (number : ℕ) (line : List ℕ) (is after : Option (Lis
   came (Stopped faults.Memory) nothing = inl (refl, nothing)
   came (Stopped faults.TooMany) h = absurd h
   came (Stopped (faults.Read at)) h = absurd h
+  came (Skipped kept) h = absurd h
+  came (Unread read) h = absurd h
 
--- ---- what was seen of a line
+-- what comes of a match
+pub judges_match : (o : LinesOptions) (formats : List (List Directive)) (text : List Directive → RunReport → List ℕ) (line : List ℕ) (old new : Option (List ℕ)) (kept : Kept) (wrote : Result (Unit {0}) RecordFault)
+    → WritesMatch o formats text line old new wrote → Judges o formats text line old new (judged_by kept wrote)
+judges_match o formats text line old new kept (Ok done) h = h
+judges_match o formats text line old new kept (Err unwritten.Write) h = h
+judges_match o formats text line old new kept (Err unwritten.Memory) (ds, r, picks, none, nothing) = nothing
 
-module _ {S : Type 0} {to_come : S → Option (List ℕ)} {now new : Ahead S} (items : List ℕ) (r : LineRead) (w : LineWork) (number : ℕ) (is after : Option (List ℕ)) (verdict : Judged)
-    (h : Reads to_come now new w.options.limit items r) (counts : w.options.skip < number) where
-  pub seen_long : (kept : _) → r ≡ reads.TooLong → verdict ≡ Failed kept TooLong → after ≡ is → Seen to_come now new w number is after verdict
-  seen_long kept e verdict_is same =
+pub sink_fault : (kept : Kept) (wrote : Result (Unit {0}) RecordFault) → is_write_fault (judged_by kept wrote) ≡ is_sink_fault wrote
+sink_fault kept (Ok done) = refl
+sink_fault kept (Err unwritten.Write) = refl
+sink_fault kept (Err unwritten.Memory) = refl
+
+pub no_read_fault : (kept : Kept) (wrote : Result (Unit {0}) RecordFault) → is_read_fault (judged_by kept wrote) ≡ false
+no_read_fault kept (Ok done) = refl
+no_read_fault kept (Err unwritten.Write) = refl
+no_read_fault kept (Err unwritten.Memory) = refl
+
+-- what comes of a line that was taken at once
+pub turned_match : {S : Type 0} (to_come : S → Option (List ℕ)) (now new : Ahead S) (w : LineWork) (number : ℕ) (is after : Option (List ℕ)) (line : List ℕ) → Took to_come now new line → w.options.skip < number → length line ≤ w.options.limit
+    → (kept : Kept) (wrote : Result (Unit {0}) RecordFault) → WritesMatch w.options w.formats w.text line is after wrote → Turns to_come now new w number is after (judged_by kept wrote)
+turned_match to_come now new w number is after line took counts short kept wrote h =
+    turned to_come now new w number is after line took (judged_by kept wrote) (came w number line is after counts short (judged_by kept wrote) (judges_match w.options w.formats w.text line is after kept wrote h))
+
+-- ---- what comes of a line that was read
+
+module _ {S : Type 0} (to_come : S → Option (List ℕ)) (now new : Ahead S) (items : List ℕ) (r : LineRead) (w : LineWork) (number : ℕ) (is after : Option (List ℕ))
+    (h : Reads to_come now new w.options.limit items r) where
+  pub turned_skipped : (kept : _) → (r ≡ reads.Line) ⊎ (r ≡ reads.TooLong) → number ≤ w.options.skip → after ≡ is → Turns to_come now new w number is after (Skipped kept)
+  turned_skipped kept e few same = let k = line_read to_come now new w.options.limit items r e h in (k.0, k.1, (few, same))
+
+  pub turned_long : (kept : _) → r ≡ reads.TooLong → w.options.skip < number → after ≡ is → Turns to_come now new w number is after (Failed kept TooLong)
+  turned_long kept e counts same =
       let k : Reads to_come now new w.options.limit items reads.TooLong = subst (Reads to_come now new w.options.limit items) e h in
-      record {
-        line = k.0;
-        read = k.1;
-        came = subst (Came w number k.0 is after) (sym verdict_is) ((counts, inl (k.2, refl)), subst (λ (a : Option (List ℕ)). Appends is a []) (sym same) (Appends-none is));
-      }
+      (k.0, k.1, ((counts, inl (k.2, refl)), subst (λ (a : Option (List ℕ)). Appends is a []) (sym same) (Appends-none is)))
 
-  pub seen_short : (r ≡ reads.Line) ⊎ (r ≡ reads.TooLong) → (r ≡ reads.TooLong → ⊥) → (line : List ℕ) → line ≡ items → (text : List Directive → RunReport → List ℕ) → text ≡ w.text → (judgement : Judged) (after' : Option (List ℕ))
-      → Judges w.options w.formats text line is after' judgement → verdict ≡ judgement → after ≡ after' → Seen to_come now new w number is after verdict
-  seen_short (inr e) not_long line line_is text text_is judgement after' judges verdict_is same = absurd (not_long e)
-  seen_short (inl e) not_long line line_is text text_is judgement after' judges verdict_is same =
+  pub turned_short : (r ≡ reads.Line) ⊎ (r ≡ reads.TooLong) → (r ≡ reads.TooLong → ⊥) → w.options.skip < number → (line : List ℕ) → line ≡ items → (verdict : Judged) → Judges w.options w.formats w.text line is after verdict
+      → Turns to_come now new w number is after verdict
+  turned_short (inr e) not_long counts line line_is verdict judges = absurd (not_long e)
+  turned_short (inl e) not_long counts line line_is verdict judges =
       let k : Reads to_come now new w.options.limit items reads.Line = subst (Reads to_come now new w.options.limit items) e h in
-      let own : Judges w.options w.formats w.text line is after' judgement = subst (λ (f : List Directive → RunReport → List ℕ). Judges w.options w.formats f line is after' judgement) text_is judges in
-      let here : Judges w.options w.formats w.text items is after' judgement = subst (λ (y : List ℕ). Judges w.options w.formats w.text y is after' judgement) line_is own in
-      let one : Came w number items is after' judgement = came w number items is after' counts k.1 judgement here in
-      record {
-        line = items;
-        read = k.0;
-        came = subst (Came w number items is after) (sym verdict_is) (subst (λ (a : Option (List ℕ)). Came w number items is a judgement) (sym same) one);
-      }
+      let here : Judges w.options w.formats w.text items is after verdict = subst (λ (y : List ℕ). Judges w.options w.formats w.text y is after verdict) line_is judges in
+      turned to_come now new w number is after items k.0 verdict (came w number items is after counts k.1 verdict here)
 
 pub denied : (b : Bool) → not b ≡ true → b ≡ false
 denied true e = absurd (true≢false (sym e))

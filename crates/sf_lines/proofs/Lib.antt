@@ -2,6 +2,7 @@ pub mod Choosing
 pub mod Coming
 pub mod Cutting
 pub mod Gathering
+pub mod Holding
 pub mod Looping
 pub mod OneTurn
 pub mod Reading

@@ -2,6 +2,7 @@
 use Rattle.std.specs.Prelude.{◌≡◌, ◌≤◌, ◌<◌, ◌⊎◌, ◌++◌, ◌∷◌, ◌&&◌, ℕ, nat_lt, Bool, if◌then◌else◌, List, [], length, Option, Some, None, IsSome, Result, Ok, Err}
 use Rattle.std.specs.List.{AllByRecursion}
 use Rattle.sf_format.specs.declared.directive.Directive.{Directive}
+use Rattle.sf_run.specs.declared.outcome.Ending.{Ending}
 use Rattle.sf_run.specs.declared.outcome.Ending.TheVariants.{End}
 use Rattle.sf_run.specs.declared.outcome.Status.{Status}
 use Rattle.sf_run.specs.declared.outcome.Status.TheVariants.{Done}
@@ -35,6 +36,10 @@ outcome_of r = record {
   used = r.used;
   met = r.met;
 }
+
+-- the same report, but for what the run met
+abbrev pub with_met : RunReport → Option Ending → RunReport
+with_met r met = record r { met = met }
 
 abbrev pub fault_from : Bool → ℕ → Status → Outcome → Option LineFault
 fault_from whole size Done o = if whole && nat_lt o.used size then Some (LeftOver o.used) else None

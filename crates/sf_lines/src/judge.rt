@@ -2,10 +2,11 @@
 ghost use Rattle.std.specs.Prelude.{◌≡◌, ◌≤◌, IfSome, true, false, if◌then◌else◌, length};
 ghost use Rattle.sf_print.specs.Sinks.{counted_on};
 ghost use Rattle.sf_run.specs.Stopping.{is_memory_status};
-ghost use Rattle.sf_lines.specs.Judging.{Judges, is_write_fault};
+ghost use Rattle.sf_lines.specs.Judging.{Judges, is_write_fault, judged_by};
 ghost use Rattle.sf_lines.specs.Turns.{Picks, fault_of};
 
 use crate::end::{LineFault, LinesFault};
+use crate::line::LineRead;
 use crate::options::LinesOptions;
 use crate::writer::{RecordFault, RecordWriter};
 use sf_base::{HeapStore, Store};
@@ -22,15 +23,30 @@ pub(crate) struct Picked<'f> {
     scanned: Scanned<HeapStore>,
 }
 
-/// What came of a line. The store is to be used again.
+/// What came of the next line. The store is to be used again.
 #[derive(Drop)]
 pub(crate) enum Judged {
+    /// It was passed over.
+    Skipped(HeapStore),
     /// It is a match, and was written.
     Written(HeapStore),
     /// It is no match.
     Failed(HeapStore, LineFault),
     /// It was not written, and the loop stops.
     Stopped(LinesFault),
+    /// No line was read.
+    Unread(LineRead),
+}
+
+/// What comes of a match, as the writer answered.
+pub(crate) fn after_write(store: HeapStore, wrote: Result<(), RecordFault>) -> Judged
+    ensures { result ≡ judged_by store wrote }
+{
+    match wrote {
+        Ok(()) => Judged::Written(store),
+        Err(RecordFault::Write) => Judged::Stopped(LinesFault::Write),
+        Err(RecordFault::Memory) => Judged::Stopped(LinesFault::Memory),
+    }
 }
 
 /// Why the line is no match by a run with this report.
@@ -110,9 +126,6 @@ pub(crate) fn judge<R: RecordWriter, K: Sink>(
         Some(fault) => return Judged::Failed(picked.scanned.into_store(), fault),
         None => {}
     }
-    match writer.write(to, picked.format, &report) {
-        Ok(()) => Judged::Written(picked.scanned.into_store()),
-        Err(RecordFault::Write) => Judged::Stopped(LinesFault::Write),
-        Err(RecordFault::Memory) => Judged::Stopped(LinesFault::Memory),
-    }
+    let wrote = writer.write(to, picked.format, &report);
+    after_write(picked.scanned.into_store(), wrote)
 }

@@ -2,11 +2,13 @@
 #![tactic(auto)]
 
 mod end;
+mod held;
 mod judge;
 pub mod laws;
 mod line;
 mod lines;
 mod options;
+mod turn;
 mod writer;
 
 pub use end::{LineFault, LinesEnd, LinesFault};

@@ -27,11 +27,11 @@ pub enum LineRead {
 
 /// The front of what is held, up to a line end.
 #[derive(Clone, Copy)]
-struct Piece {
+pub(crate) struct Piece {
     /// How many bytes it has.
-    len: usize,
+    pub(crate) len: usize,
     /// Whether a line end follows.
-    ended: bool,
+    pub(crate) ended: bool,
 }
 
 /// Appends the first bytes of what is held to a line that was gathered so far, if the line is then within the limit, and
@@ -71,7 +71,7 @@ fn last_read(long: bool, is_empty: bool) -> LineRead
 }
 
 /// The bytes of the present line that are held.
-fn piece_of(held: &[u8]) -> Piece
+pub(crate) fn piece_of(held: &[u8]) -> Piece
     ensures within { result.len ≤ length held.now }
     ensures line { IsLine (take result.len held.now) }
     ensures ended { result.ended ≡ true → held.now ≡ take result.len held.now ++ 10 ∷ drop (result.len + 1) held.now }

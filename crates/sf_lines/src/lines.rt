@@ -8,10 +8,10 @@ ghost use Rattle.sf_lines.specs.Loops.{Loops, TellsLines, is_write, status_by};
 ghost use Rattle.sf_lines.specs.Telling.{faults_by};
 ghost use Rattle.sf_lines.specs.Turns.{LineWork, work_of};
 
-use crate::end::{Counts, LineFault, LinesEnd, LinesFault, read_fault};
-use crate::judge::{Judged, judge};
-use crate::line::{LineRead, next_line};
+use crate::end::{Counts, LinesEnd, LinesFault, read_fault};
+use crate::judge::Judged;
 use crate::options::LinesOptions;
+use crate::turn::turn;
 use crate::writer::{RecordWriter, Teller};
 use sf_base::HeapStore;
 use sf_format::ScanFormat;
@@ -74,33 +74,25 @@ pub fn run_lines<R: RecordWriter, E: Teller, S: Source, K: Sink, const N: usize>
     };
     let mut line = Vec::new(alloc);
     for before in 0..MOST_LINES {
-        let number = before + 1;
-        let read = next_line(from, &mut line, options.limit as usize);
-        match read {
-            LineRead::Line | LineRead::TooLong => {}
-            _ => return counts.ended(read_fault(read, number)),
-        }
-        if before < options.skip {
-            continue;
-        }
-        let judged = match read {
-            LineRead::TooLong => Judged::Failed(store, LineFault::TooLong),
-            _ => judge(alloc, store, &line, to, writer, formats, options),
-        };
+        let judged = turn(
+            alloc, from, &mut line, store, to, writer, formats, options, before,
+        );
         match judged {
+            Judged::Skipped(kept) => store = kept,
             Judged::Written(kept) => {
                 counts.written += 1;
                 store = kept;
             }
             Judged::Failed(kept, fault) => {
                 counts.failed += 1;
-                teller.tell(number, fault);
+                teller.tell(before + 1, fault);
                 if !options.keep_going {
                     return counts.ended(None);
                 }
                 store = kept;
             }
             Judged::Stopped(fault) => return counts.ended(Some(fault)),
+            Judged::Unread(read) => return counts.ended(read_fault(read, before + 1)),
         }
     }
     counts.ended(Some(LinesFault::TooMany))

@@ -3,7 +3,9 @@ ghost use Rattle.std.specs.Prelude.{◌≡◌, ℕ, List, Option, Bool, if◌the
 ghost use Rattle.sf_format.specs.declared.directive.Directive.{Directive};
 ghost use Rattle.sf_print.specs.Sinks.{counted_on};
 ghost use Rattle.sf_run.specs.Runs.{RunReport};
+ghost use Rattle.sf_run.specs.declared.outcome.Ending.{Ending};
 ghost use Rattle.sf_lines.specs.Judging.{WritesRecord, is_sink_fault};
+ghost use Rattle.sf_lines.specs.Turns.{with_met};
 ghost use Rattle.sf_lines.specs.Telling.{Tells, faults_by};
 ghost use Rattle.sf_lines.specs.declared.end.LineFault.{LineFault};
 
@@ -38,6 +40,9 @@ pub trait RecordWriter {
         ensures written { WritesRecord (text self.old format.now report.now) (K.contents to.old) (K.contents to.new) result }
         ensures failures { K.failures to.new
             ≡ (if is_sink_fault result then counted_on (K.failures to.old) else K.failures to.old) };
+
+    // What the run met isn't written.
+    ghost unmet: { (writer : Self) (format : List Directive) (report : RunReport) (met : Option Ending) → text writer format (with_met report met) ≡ text writer format report };
 }
 
 /// Is told of the lines that are no match. Once it has failed it says nothing more.

@@ -1,5 +1,5 @@
 //! A writer and a teller for tests.
-ghost use Rattle.std.specs.Prelude.{◌≡◌, Some, if◌then◌else◌};
+ghost use Rattle.std.specs.Prelude.{◌≡◌, Some, if◌then◌else◌, refl};
 ghost use Rattle.sf_base.specs.Data.{datum_at};
 ghost use Rattle.sf_lines_tests.specs.Hands.{bytes_in, first_line, letter_of, note_of};
 
@@ -46,6 +46,8 @@ impl RecordWriter for FirstText {
             Err(_) => Err(RecordFault::Write),
         }
     }
+
+    ghost unmet = { λ writer format report met. refl };
 }
 
 fn letter(fault: LineFault) -> u8

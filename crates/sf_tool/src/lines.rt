@@ -1,5 +1,5 @@
 //! The lines of an input, each scanned by the formats of an order.
-ghost use Rattle.std.specs.Prelude.{◌≡◌, ◌≤◌, ◌<◌, IfOk, IfErr, Some, if◌then◌else◌, length, map, string_bytes};
+ghost use Rattle.std.specs.Prelude.{◌≡◌, ◌≤◌, ◌<◌, IfOk, IfErr, Some, if◌then◌else◌, length, map, refl, string_bytes};
 ghost use Rattle.sf_tool.specs.Commands.{form_of, grammar_of};
 ghost use Rattle.sf_tool.specs.Lines.{AreNoScanWords, AreScanWords, RunsLines, ScansLines, answer_by, line_telling, line_text};
 
@@ -45,6 +45,8 @@ impl RecordWriter for LineRecords {
             Err(_) => Err(RecordFault::Write),
         }
     }
+
+    ghost unmet = { λ records ds report met. refl };
 }
 
 /// Keeps what is to be said of the lines that are no match, unless nothing is.
