@@ -4,6 +4,8 @@
 #[cfg(test)]
 mod cuttings;
 #[cfg(test)]
+mod digits;
+#[cfg(test)]
 mod items;
 #[cfg(test)]
 mod quick;
