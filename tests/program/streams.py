@@ -127,21 +127,37 @@ class Order(Streams):
 
 
 class LinesThatAreTold(Streams):
-    """With --keep-going what is told of lines comes behind all records."""
+    """With --keep-going each line that is no match is told when it is read, behind the records before it."""
     WORDS = ("scan", "--lines", "--keep-going", "%d")
     TOLD = b"sf: line %d: matching failure at 1, used 0, assigned 0\n"
 
-    def test_records_come_before_what_is_told(self):
-        expected = (1, b"1\n3\n" + self.TOLD % 2 + self.TOLD % 4, None)
+    def test_what_is_told_stands_between_the_records(self):
+        expected = (1, b"1\n" + self.TOLD % 2 + b"3\n" + self.TOLD % 4, None)
         self.assertEqual(program.run(*self.WORDS, stdin=b"1\nx\n3\ny\n", stderr=subprocess.STDOUT), expected)
+
+    def test_a_line_is_told_while_the_input_is_open(self):
+        running = self.watched(*self.WORDS)
+        for number in range(1, 4):
+            self.feed(b"x\n")
+            self.assertEqual(read_within(running.stderr, program.SECONDS), self.TOLD % number)
+        # what was written before it goes out too
+        self.feed(b"1\nx\n")
+        self.assertEqual(read_within(running.stderr, program.SECONDS), self.TOLD % 5)
+        self.assertEqual(read_within(running.stdout, program.SECONDS), b"1\n")
+        running.stdin.close()
+        running.stdin = None
+        self.assertEqual(running.wait(program.SECONDS), 1)
 
     def test_all_lines_are_told(self):
         told = b"".join(self.TOLD % number for number in range(1, 20001))
         self.expect(1, b"", told, *self.WORDS, stdin=b"x\n" * 20000)
 
-    def test_memory_stays_flat_where_nothing_is_told(self):
+    def test_memory_stays_flat(self):
         quiet = (*self.WORDS[:-1], "--quiet", "%d")
         self.assertEqual(self.bounded(*quiet, megabytes=16, stdin=b"1\nx\n" * 200000), (1, b"1\n" * 200000, b""))
+        status, out, err = self.bounded(*self.WORDS, megabytes=16, stdin=b"x\n" * 1000000)
+        self.assertEqual((status, out, err.count(b"\n")), (1, b"", 1000000))
+        self.assertTrue(err.endswith(self.TOLD % 1000000))
 
     def test_a_write_fault_is_told_once(self):
         with full() as disk:

@@ -204,13 +204,15 @@ module _ {T S K E : Type 0} (f : T → S) (to_come : S → Option (List ℕ)) (f
   runs_lines : (form : OutputForm) (options : LineOptions) (limit : ℕ) (formats : List (List Directive)) (from from' : Ahead T) (out out' : K) (err err' : E) (answer : Answer)
       → RunsLines (λ s. to_come (f s)) (λ s. faults (f s)) contents write_faults said unsaid form options limit formats from from' out out' err err' answer
       → RunsLines to_come faults contents write_faults said unsaid form options limit formats (over f from) (over f from') out out' err err' answer
+  unfolding line_loops
   runs_lines form options limit formats from from' out out' err err' answer r = record {
     end = r.end;
-    lost = r.lost;
-    told = r.told;
-    loops = λ t is. line_loops (scanning form options limit formats) t from' (faults (f from.source)) (faults (f from'.source)) (contents out) (contents out') r.lost (Some []) (Some r.told) r.end (r.loops t is);
+    mute = r.mute;
+    tells = λ t is.
+        let told = r.tells t is in
+        (line_loops (scanning form options limit formats) t from' (faults (f from.source)) (faults (f from'.source)) (contents out) (contents out') r.mute (said err) (said err') r.end told.0, told.1);
+    faults = r.faults;
     status = r.status;
-    says = r.says;
     answers = r.answers;
     failures = r.failures;
   }

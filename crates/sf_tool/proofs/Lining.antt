@@ -5,18 +5,14 @@ use Rattle.sf_format.specs.declared.directive.Directive.{Directive}
 use Rattle.sf_format.specs.declared.directive.Profile.{Profile}
 use Rattle.sf_lines.specs.declared.end.LinesFault.{LinesFault}
 use Rattle.sf_lines.specs.declared.end.LinesFault.TheVariants as lines_fault
-use Rattle.sf_lines.specs.declared.end.LinesEnd.{LinesEnd}
-use Rattle.sf_lines.specs.Loops.{Loops, is_write}
-use Rattle.sf_lines.specs.Turns.{LineWork}
+use Rattle.sf_lines.specs.Loops.{is_write}
 use Rattle.sf_messages.specs.declared.fault.CommandFault.{CommandFault}
 use Rattle.sf_messages.specs.declared.fault.CommandFault.TheVariants.{Memory}
 use Rattle.sf_print.specs.Sinks.{counted_on}
-use Rattle.sf_read.specs.Ahead.{Ahead}
 use Rattle.sf_tool.specs.Checks.{IsNoScanWord, IsScanWord}
 use Rattle.sf_tool.specs.Answers.{Answer}
 use Rattle.sf_tool.specs.Commands.{Counts, is_write_fault}
-use Rattle.sf_tool.specs.Lines.{AreNoScanWords, AreScanWords, SaysKept, answer_by}
-use Rattle.sf_tool.specs.Saying.{Says}
+use Rattle.sf_tool.specs.Lines.{AreNoScanWords, AreScanWords, answer_by}
 
 -- ---- words
 
@@ -72,29 +68,12 @@ as_many profile (word ∷ words) (ds ∷ formats) (stands, h) = ap suc (as_many 
 -- ---- answers
 
 -- the answer tells that the sink failed, just where the loop ended for that
-write_is : (lost : Bool) (status : ℕ) (fault : Option LinesFault) → is_write fault ≡ is_write_fault (answer_by lost status fault)
-write_is true status None = refl
-write_is false status None = refl
-write_is lost status (Some (lines_fault.Read line)) = refl
-write_is lost status (Some lines_fault.Write) = refl
-write_is lost status (Some lines_fault.Memory) = refl
-write_is lost status (Some lines_fault.TooMany) = refl
+write_is : (status : ℕ) (fault : Option LinesFault) → is_write fault ≡ is_write_fault (answer_by status fault)
+write_is status None = refl
+write_is status (Some (lines_fault.Read line)) = refl
+write_is status (Some lines_fault.Write) = refl
+write_is status (Some lines_fault.Memory) = refl
+write_is status (Some lines_fault.TooMany) = refl
 
-pub counts_by : (lost : Bool) (status : ℕ) (fault : Option LinesFault) (answer : Answer) (n k : ℕ) → k ≡ (if is_write fault then counted_on n else n) → answer ≡ answer_by lost status fault → Counts n k answer
-counts_by lost status fault answer n k counted is = counted ∙ ap (λ (v : Bool). if v then counted_on n else n) (write_is lost status fault ∙ ap is_write_fault (sym is))
-
--- ---- what is said
-
--- nothing was told before
-pub told_from : {S : Type 0} (w : LineWork) (to_come : S → Option (List ℕ)) (t : List ℕ) (now : Ahead S) (n k : ℕ) (before after : Option (List ℕ)) (lost : Bool) (told : List ℕ) (told' : Option (List ℕ)) (end : LinesEnd)
-    → told ≡ [] → Loops w to_come t now n k before after lost (Some told) told' end → Loops w to_come t now n k before after lost (Some []) told' end
-told_from w to_come t now n k before after lost told told' end none h = subst (λ (xs : List ℕ). Loops w to_come t now n k before after lost (Some xs) told' end) none h
-
-pub says_kept : {E : Type 0} (said : E → Option (List ℕ)) (unsaid : E → ℕ) (lost : Bool) (told text : List ℕ) (err err' new : E)
-    → lost ≡ false → text ≡ told → Says said unsaid text err new → err' ≡ new → SaysKept said unsaid lost told err err'
-says_kept said unsaid true told text err err' new kept is h same = absurd (true≢false kept)
-says_kept said unsaid false told text err err' new kept is h same = subst (λ e. Says said unsaid told err e) (sym same) (subst (λ x. Says said unsaid x err new) is h)
-
-pub says_lost : {E : Type 0} (said : E → Option (List ℕ)) (unsaid : E → ℕ) (lost : Bool) (told : List ℕ) (err err' : E) → lost ≡ true → err' ≡ err → SaysKept said unsaid lost told err err'
-says_lost said unsaid true told err err' is same = same
-says_lost said unsaid false told err err' is same = absurd (true≢false (sym is))
+pub counts_by : (status : ℕ) (fault : Option LinesFault) (answer : Answer) (n k : ℕ) → k ≡ (if is_write fault then counted_on n else n) → answer ≡ answer_by status fault → Counts n k answer
+counts_by status fault answer n k counted is = counted ∙ ap (λ (v : Bool). if v then counted_on n else n) (write_is status fault ∙ ap is_write_fault (sym is))

@@ -1,10 +1,10 @@
 //! The lines of an input, each scanned by the formats of an order.
-ghost use Rattle.std.specs.Prelude.{◌≡◌, ◌≤◌, ◌<◌, IfOk, IfErr, Some, if◌then◌else◌, length, map, refl, string_bytes};
+ghost use Rattle.std.specs.Borrow.{GName};
+ghost use Rattle.std.specs.Prelude.{◌≡◌, ◌≤◌, ◌<◌, false, IfOk, IfErr, length, map, string_bytes};
 ghost use Rattle.sf_tool.specs.Commands.{form_of, grammar_of};
 ghost use Rattle.sf_tool.specs.Lines.{AreNoScanWords, AreScanWords, RunsLines, ScansLines, answer_by, line_telling, line_text};
 
 use crate::command::{form_of, grammar_of};
-use crate::error_output::say;
 use crate::formats::read_scan;
 use itoa::Buffer;
 use sf_base::Store;
@@ -45,41 +45,38 @@ impl RecordWriter for LineRecords {
             Err(_) => Err(RecordFault::Write),
         }
     }
-
-    ghost unmet = { λ records ds report met. refl };
 }
 
-/// Keeps what is to be said of the lines that are no match, unless nothing is.
+/// Says of each line that is no match what is to be said, as it comes, unless nothing is. Where the error output has failed,
+/// nothing more is said.
 #[derive(Drop)]
-struct LineNotes {
+struct LineNotes<'e, E: Sink> {
+    err: &'e mut E,
     quiet: bool,
-    text: Vec<u8>,
-    /// Whether memory for some of it was refused.
-    lost: bool,
+    failed: bool,
 }
 
-impl Teller for LineNotes {
+impl<E: Sink> Teller for LineNotes<'_, E> {
     ghost telling = { λ notes number fault. line_telling notes.quiet number fault };
 
-    ghost told = { λ notes. Some notes.text.items };
+    ghost told = { λ notes. E.contents notes.err.now };
 
-    ghost failed = { λ notes. notes.lost };
+    ghost failed = { λ notes. notes.failed };
 
-    ghost faults = { λ notes. if notes.lost then 1 else 0 };
+    ghost faults = { λ notes. E.failures notes.err.now };
 
-    ghost kept = { λ notes. tt };
+    ghost Kept = { GName };
+
+    ghost kept = { λ notes. notes.err.ghost_name };
 
     fn tell(&mut self, number: u64, fault: LineFault) {
-        if self.quiet || self.lost {
+        if self.quiet || self.failed {
             return;
         }
         let line = line_fault_line(number, fault);
-        if self
-            .text
-            .extend_from_slice(line.as_str().as_bytes())
-            .is_err()
-        {
-            self.lost = true;
+        match write_whole(self.err, line.as_str().as_bytes()) {
+            Ok(()) => {}
+            Err(_) => self.failed = true,
         }
     }
 }
@@ -104,14 +101,46 @@ fn formats_of(
 }
 
 /// What the command answers where the loop over the lines has ended.
-fn answer_by(lost: bool, end: LinesEnd) -> Result<u8, CommandFault>
-    ensures { result ≡ answer_by lost end.status end.fault }
+fn answer_by(end: LinesEnd) -> Result<u8, CommandFault>
+    ensures { result ≡ answer_by end.status end.fault }
 {
     match end.fault {
         Some(fault) => Err(CommandFault::Lines(fault)),
-        None if lost => Err(CommandFault::Memory),
         None => Ok(end.status),
     }
+}
+
+/// Scans the lines by the formats; the notes say what is said of them.
+fn loop_lines<S: Source, K: Sink, E: Sink, const N: usize>(
+    alloc: Global,
+    formats: &[ScanFormat],
+    form: OutputForm,
+    options: LineOptions,
+    limit: u32,
+    from: &mut Lookahead<S, N>,
+    out: &mut K,
+    notes: &mut LineNotes<'_, E>,
+) -> Result<u8, CommandFault>
+    requires limit { limit ≤ 2147483647 }
+    requires some { 0 < length formats.now }
+    requires quiet { notes.old.quiet ≡ options.quiet }
+    requires fresh { notes.old.failed ≡ false }
+    ensures runs { RunsLines S.to_come S.failures K.contents K.failures E.contents E.failures form options limit formats.now from.old from.new out.old out.new notes.old.err.now notes.new.err.now result }
+    ensures kept { notes.new.err.ghost_name ≡ notes.old.err.ghost_name }
+{
+    let mut records = LineRecords {
+        form,
+        text: Vec::new(alloc),
+        digits: Buffer::new(),
+    };
+    let how = LinesOptions {
+        limit,
+        skip: options.skip,
+        whole: options.whole,
+        keep_going: options.keep_going,
+    };
+    let end = run_lines(alloc, from, out, &mut records, notes, formats, how);
+    answer_by(end)
 }
 
 /// Scans the lines by the formats.
@@ -129,32 +158,16 @@ fn lines_by<S: Source, K: Sink, E: Sink, const N: usize>(
     requires some { 0 < length formats.now }
     ensures { RunsLines S.to_come S.failures K.contents K.failures E.contents E.failures form options limit formats.now from.old from.new out.old out.new err.old err.new result }
 {
-    let mut records = LineRecords {
-        form,
-        text: Vec::new(alloc),
-        digits: Buffer::new(),
-    };
     let mut notes = LineNotes {
+        err,
         quiet: options.quiet,
-        text: Vec::new(alloc),
-        lost: false,
+        failed: false,
     };
-    let how = LinesOptions {
-        limit,
-        skip: options.skip,
-        whole: options.whole,
-        keep_going: options.keep_going,
-    };
-    let end = run_lines(alloc, from, out, &mut records, &mut notes, formats, how);
-    if !notes.lost {
-        say(err, &notes.text);
-    }
-    answer_by(notes.lost, end)
+    loop_lines(alloc, formats, form, options, limit, from, out, &mut notes)
 }
 
 /// Scans the lines of what the lookahead holds and its source gives, by the formats of an order, and answers the exit status.
-/// What is to be said of lines that are no match is kept, and said behind the last of them; where memory for it is refused,
-/// nothing of it is. Err says why a format is refused, or why the lines stopped before the end of the input.
+/// What is to be said of lines that are no match is said as they come; where that fails, nothing more is said of lines. Err says why a format is refused, or why the lines stopped before the end of the input.
 pub(crate) fn scan_lines<S: Source, K: Sink, E: Sink, const N: usize>(
     alloc: Global,
     order: &Order,
