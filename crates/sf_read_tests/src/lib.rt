@@ -6,6 +6,8 @@ mod calls;
 #[cfg(test)]
 mod devices;
 #[cfg(test)]
+mod gets;
+#[cfg(test)]
 mod held;
 #[cfg(test)]
 mod room;
