@@ -7,7 +7,6 @@ use crate::form::OutputForm;
 use crate::json::push_json_string;
 use crate::quote::push_quoted;
 use crate::tables::push_tsv_text;
-use itoa::Buffer;
 use sf_base::{Shown, Store};
 use sf_print::push_number;
 use sf_run::Report;
@@ -62,8 +61,9 @@ fn push_closing(output: &mut Vec<u8>, form: OutputForm) -> Result<(), AllocError
     Ok(())
 }
 
-/// Appends, in this form, the record of a format that has so many destinations.
-pub(crate) fn push_values<S: Store>(
+/// Appends, in this form, the record of a format that has so many destinations, by the report of a run. Where memory is
+/// refused, a part of it may have been appended.
+pub fn push_record<S: Store>(
     output: &mut Vec<u8>,
     form: OutputForm,
     report: &Report<'_, S>,
@@ -79,18 +79,4 @@ pub(crate) fn push_values<S: Store>(
         push_slot(output, form, report, before + 1)?;
     }
     push_closing(output, form)
-}
-
-/// Appends, in this form, the record of a format that has so many destinations, by the report of a run. Where memory is
-/// refused, a part of it may have been appended. The digits are written in place, and the buffer stays as it is.
-pub fn push_record<S: Store>(
-    output: &mut Vec<u8>,
-    _digits: &mut Buffer,
-    form: OutputForm,
-    report: &Report<'_, S>,
-    destinations: u8,
-) -> Result<(), AllocError>
-    ensures { OnOk result (output.new.items ≡ output.old.items ++ record_text form destinations report.now) }
-{
-    push_values(output, form, report, destinations)
 }

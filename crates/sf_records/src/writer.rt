@@ -3,7 +3,7 @@ ghost use Rattle.std.specs.Prelude.{◌≡◌};
 ghost use Rattle.sf_records.specs.Forms.{writer_work, writing_of};
 
 use crate::form::OutputForm;
-use crate::line::push_values;
+use crate::line::push_record;
 use crate::output::write_whole;
 use crate::recorder::{Recorder, Unwritten};
 use sf_base::Store;
@@ -43,7 +43,7 @@ impl Recorder for RecordWriter {
         report: &Report<'_, T>,
     ) -> Result<(), Unwritten> {
         self.text.clear();
-        if push_values(&mut self.text, self.form, report, self.destinations).is_err() {
+        if push_record(&mut self.text, self.form, report, self.destinations).is_err() {
             return Err(Unwritten::Memory);
         }
         match write_whole(to, &self.text) {

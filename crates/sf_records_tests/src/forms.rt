@@ -2,7 +2,6 @@
 ghost use Rattle.std.specs.Prelude.{◌≤◌};
 
 use crate::copies::{LIMIT, is};
-use itoa::Buffer;
 use sf_format::{Profile, ScanFormat};
 use sf_print::ListSink;
 use sf_read::{Lookahead, SliceSource, sscan};
@@ -170,15 +169,8 @@ fn one_record(rt: HostRuntime) -> Result<(), Fail> {
     let no_scan = |_| Fail::from(io::ErrorKind::InvalidInput);
     let scanned = sscan(alloc, b"-12,abcd", &format, LIMIT).map_err(no_scan)?;
     let mut text = Vec::<u8>::new(alloc);
-    let mut digits = Buffer::new();
     for form in [OutputForm::Plain, OutputForm::Tsv, OutputForm::Json] {
-        push_record(
-            &mut text,
-            &mut digits,
-            form,
-            &scanned.report(),
-            format.destinations(),
-        )?;
+        push_record(&mut text, form, &scanned.report(), format.destinations())?;
     }
     is(
         &rt,

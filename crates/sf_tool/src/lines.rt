@@ -6,7 +6,6 @@ ghost use Rattle.sf_tool.specs.Lines.{AreNoScanWords, AreScanWords, RunsLines, S
 
 use crate::command::{form_of, grammar_of};
 use crate::formats::read_scan;
-use itoa::Buffer;
 use sf_base::Store;
 use sf_format::{Profile, ScanFormat};
 use sf_lines::{LineFault, LinesEnd, LinesOptions, RecordFault, RecordWriter, Teller, run_lines};
@@ -23,7 +22,6 @@ use std::alloc::Global;
 struct LineRecords {
     form: OutputForm,
     text: Vec<u8>,
-    digits: Buffer,
 }
 
 impl RecordWriter for LineRecords {
@@ -37,7 +35,7 @@ impl RecordWriter for LineRecords {
     ) -> Result<(), RecordFault> {
         self.text.clear();
         let count = format.destinations();
-        if push_record(&mut self.text, &mut self.digits, self.form, report, count).is_err() {
+        if push_record(&mut self.text, self.form, report, count).is_err() {
             return Err(RecordFault::Memory);
         }
         match write_whole(to, &self.text) {
@@ -131,7 +129,6 @@ fn loop_lines<S: Source, K: Sink, E: Sink, const N: usize>(
     let mut records = LineRecords {
         form,
         text: Vec::new(alloc),
-        digits: Buffer::new(),
     };
     let how = LinesOptions {
         limit,

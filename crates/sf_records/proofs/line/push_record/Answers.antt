@@ -2,8 +2,8 @@ use Rattle.std.proofs.Common.{ℕ, [], ◌∷◌, ◌++◌, ◌∙◌, ap, arith
 use Rattle.std.proofs.lemmas.Grind.{common_steps}
 use Rattle.sf_records.specs.Forms.{opening, separator, slot_text}
 use Rattle.sf_records.proofs.Joining.{first_written, next_written}
-use Rattle.sf_records.proofs.line.push_values.Goals.{then-before-gt0+in_ok-push, else-before-gt0}
-use Rattle.sf_records.proofs.line.push_values.Goals as goal
+use Rattle.sf_records.proofs.line.push_record.Goals.{then-before-gt0+in_ok-push, else-before-gt0}
+use Rattle.sf_records.proofs.line.push_record.Goals as goal
 
 pub loop-before-preserved : goal.loop-before-preserved
 loop-before-preserved g c =
