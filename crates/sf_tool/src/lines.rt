@@ -1,6 +1,6 @@
 //! The lines of an input, each scanned by the formats of an order.
 ghost use Rattle.std.specs.Borrow.{GName};
-ghost use Rattle.std.specs.Prelude.{◌≡◌, ◌≤◌, ◌<◌, false, IfOk, IfErr, length, map, string_bytes};
+ghost use Rattle.std.specs.Prelude.{◌≡◌, ◌≤◌, ◌<◌, false, IfOk, IfErr, length, map, refl, string_bytes};
 ghost use Rattle.sf_tool.specs.Commands.{form_of, grammar_of};
 ghost use Rattle.sf_tool.specs.Lines.{AreNoScanWords, AreScanWords, RunsLines, ScansLines, answer_by, line_telling, line_text};
 
@@ -43,6 +43,8 @@ impl RecordWriter for LineRecords {
             Err(_) => Err(RecordFault::Write),
         }
     }
+
+    ghost unmet = { λ records ds report met. refl };
 }
 
 /// Says of each line that is no match what is to be said, as it comes, unless nothing is. Where the error output has failed,
