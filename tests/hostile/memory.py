@@ -27,6 +27,7 @@ CALLS = [
     ("lines, texts of any length", ["scan", "--lines", "%s"], b"\n".join(b"b" * (1 << size) for size in range(20))),
     ("lines, two formats", ["scan", "--lines", "--output", "json", "-e", "%d%3s", "-e", "%s"], b"1ab\n22\nc\n" * 3000),
     ("lines, some of them told", ["scan", "--lines", "--keep-going", "%d"], b"1\nx\n" * 30),
+    ("lines, many of them told", ["scan", "--lines", "--keep-going", "%d"], b"1\nx\n" * 40000),
     ("lines, many passed over", ["scan", "--lines", "--keep-going", "--quiet", "%d"], b"1\nx\n" * 40000),
     ("print", ["print", "%d %s|", "1", "abc"], b""),
     ("print, 2 MB", ["print", "%65535d" * 32, *["7"] * 32], b""),
