@@ -18,3 +18,4 @@ pub mod Standing
 pub mod Scanner
 pub mod Laws
 pub mod Quick
+pub mod Wording

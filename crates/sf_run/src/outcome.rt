@@ -1,4 +1,7 @@
 //! How a run ended.
+use std::error::Error;
+use std::fmt;
+
 /// How an input ends.
 #[derive(Clone, Copy, Debug, PartialEq, Eq)]
 pub enum Ending {
@@ -23,6 +26,25 @@ pub enum Status {
     TooLong,
     /// Memory for a text was refused.
     NoMemory,
+}
+
+impl Status {
+    ghost use Rattle.std.specs.Prelude.{◌≡◌};
+    ghost use Rattle.sf_run.specs.Wording.{status_text};
+
+    /// The words for it, as `input failure`.
+    pub fn text(self) -> &'static str
+        ensures { result.now ≡ status_text self }
+    {
+        match self {
+            Status::Done => "done",
+            Status::InputFailure => "input failure",
+            Status::MatchingFailure => "matching failure",
+            Status::OutOfRange => "out of range",
+            Status::TooLong => "too long",
+            Status::NoMemory => "out of memory",
+        }
+    }
 }
 
 /// What a run came to, but for its values.
@@ -53,6 +75,24 @@ pub enum StartFault {
     /// The store is too small for the width sum or the destinations.
     TooSmall,
 }
+
+impl fmt::Display for StartFault {
+    ghost use Rattle.std.specs.Prelude.{Some};
+    ghost use Rattle.sf_run.specs.Wording.{start_fault_text};
+
+    ghost output = { λ fault. Some (start_fault_text fault) };
+
+    fn fmt<W: fmt::Write>(&self, f: &mut fmt::Formatter<W>) -> fmt::Result {
+        match *self {
+            StartFault::NoMemory => write!(f, "out of memory"),
+            StartFault::BadLimit => write!(f, "limit above 2147483647"),
+            StartFault::Unbounded => write!(f, "the format has no width sum"),
+            StartFault::TooSmall => write!(f, "the store is too small"),
+        }
+    }
+}
+
+impl Error for StartFault {}
 
 /// Whether a scanner may take another byte.
 #[derive(Clone, Copy, Debug, PartialEq, Eq)]

@@ -1,0 +1,21 @@
+-- What is said of how a run ended, and of why none was started.
+use Rattle.std.specs.Prelude.{ℕ, List, codes}
+use Rattle.sf_run.specs.declared.outcome.StartFault.{StartFault}
+use Rattle.sf_run.specs.declared.outcome.StartFault.TheVariants as fault
+use Rattle.sf_run.specs.declared.outcome.Status.{Status}
+use Rattle.sf_run.specs.declared.outcome.Status.TheVariants as run
+
+-- the words for a status
+abbrev pub status_text : Status → List ℕ
+status_text run.Done = codes "done"
+status_text run.InputFailure = codes "input failure"
+status_text run.MatchingFailure = codes "matching failure"
+status_text run.OutOfRange = codes "out of range"
+status_text run.TooLong = codes "too long"
+status_text run.NoMemory = codes "out of memory"
+
+abbrev pub start_fault_text : StartFault → List ℕ
+start_fault_text fault.NoMemory = codes "out of memory"
+start_fault_text fault.BadLimit = codes "limit above 2147483647"
+start_fault_text fault.Unbounded = codes "the format has no width sum"
+start_fault_text fault.TooSmall = codes "the store is too small"
