@@ -7,3 +7,4 @@ pub mod Fits
 pub mod Writing
 pub mod Laws
 pub mod Reading
+pub mod Texts

@@ -6,6 +6,8 @@ mod bounds;
 #[cfg(test)]
 mod checks;
 #[cfg(test)]
+mod errors;
+#[cfg(test)]
 mod failures;
 #[cfg(test)]
 mod refusals;

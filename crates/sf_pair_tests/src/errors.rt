@@ -1,0 +1,96 @@
+//! Faults as errors: `?` makes an `anyhow::Error` of each, with its text.
+use sf_base::Value;
+use sf_format::{PrintFormat, Profile, ScanFormat};
+use sf_pair::{Pair, PairFault, PairWhy, WriteFault};
+use sf_print::{ListSink, PrintFault};
+use sf_rows::is;
+use std::alloc::Global;
+use std::error::Error;
+use std::test::Fail;
+
+/// The fault, handed on.
+fn handed_on<E: Error>(fault: E) -> anyhow::Result<()> {
+    Err::<(), E>(fault)?;
+    Ok(())
+}
+
+/// The fault is an error with this text.
+fn is_error<E: Error>(alloc: Global, fault: E, wanted: &str) -> Result<(), Fail> {
+    let Err(error) = handed_on(fault) else {
+        return Err(Fail::new(wanted));
+    };
+    let text = format!(in alloc; "{error}")?;
+    is(&text.as_str(), &wanted, &wanted)
+}
+
+/// What a pair check finds, and its code and name.
+const WHYS: [(PairWhy, &str); 11] = [
+    (PairWhy::NotAligned, "Q1 NotAligned"),
+    (PairWhy::KindDiffers, "Q2 KindDiffers"),
+    (PairWhy::NumberDiffers, "Q3 NumberDiffers"),
+    (PairWhy::NoWidth, "Q4 NoWidth"),
+    (PairWhy::TooNarrow, "Q5 TooNarrow"),
+    (PairWhy::RunsOn, "Q6 RunsOn"),
+    (PairWhy::OpenEnd, "Q7 OpenEnd"),
+    (PairWhy::LeadingZero, "Q8 LeadingZero"),
+    (PairWhy::NotWritten, "Q9 NotWritten"),
+    (PairWhy::BadFlagHere, "Q10 BadFlagHere"),
+    (PairWhy::NoValues, "Q11 NoValues"),
+];
+
+#[test]
+fn what_checks_find(rt: HostRuntime) -> Result<(), Fail> {
+    for (why, wanted) in WHYS {
+        is(&why.text(), &wanted, &wanted)?;
+        is_error(rt.alloc(), why, wanted)?;
+    }
+    Ok(())
+}
+
+#[test]
+fn faults_of_pairs(rt: HostRuntime) -> Result<(), Fail> {
+    let fault = PairFault {
+        at: 65535,
+        why: PairWhy::OpenEnd,
+    };
+    is_error(rt.alloc(), fault, "Q7 OpenEnd at 65535")
+}
+
+#[test]
+fn faults_of_writes(rt: HostRuntime) -> Result<(), Fail> {
+    let alloc = rt.alloc();
+    is_error(alloc, WriteFault::NotFitting, "values do not fit")?;
+    let fault = WriteFault::Print(PrintFault::TooLong);
+    is_error(alloc, fault, "text too long")?;
+    let fault = WriteFault::Print(PrintFault::Sink { written: 7 });
+    is_error(alloc, fault, "write fault after 7 bytes")
+}
+
+/// Writes a number by a pair of these texts, as a program does that only hands faults on.
+fn written(alloc: Global, print: &[u8], scan: &[u8], number: i32) -> anyhow::Result<u32> {
+    let print = PrintFormat::parse(alloc, Profile::One, print)?;
+    let scan = ScanFormat::parse(alloc, Profile::One, scan)?;
+    let pair = Pair::check(&print, &scan)?;
+    let mut to = ListSink::new(alloc);
+    Ok(pair.write(&mut to, &[Value::I32(number)])?)
+}
+
+/// A print format, a scan format, a number, and the text of the fault.
+const REFUSED: [(&[u8], &[u8], i32, &str); 4] = [
+    (b"%f", b"%11d;", 0, "F5 LeftOut at 1"),
+    (b"%d", b"%11d", 0, "Q7 OpenEnd at 1"),
+    (b"%d,", b"%11d;", 0, "Q1 NotAligned at 2"),
+    (b"%d;", b"%3d;", 1000, "values do not fit"),
+];
+
+#[test]
+fn faults_are_handed_on(rt: HostRuntime) -> Result<(), Fail> {
+    for (print, scan, number, wanted) in REFUSED {
+        let Err(error) = written(rt.alloc(), print, scan, number) else {
+            return Err(Fail::new(wanted));
+        };
+        let text = format!(in rt.alloc(); "{error}")?;
+        is(&text.as_str(), &wanted, &wanted)?;
+    }
+    Ok(())
+}
