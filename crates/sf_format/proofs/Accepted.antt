@@ -1,125 +1,70 @@
 -- What holds of the directives of each spelled text.
-use Rattle.std.proofs.Common.{◌≡◌, ℕ, ◌+◌, List, [], ◌∷◌, ◌++◌, length, Option, Some, None, refl, sym, ap, ◌∙◌, subst, arith}
+use Rattle.std.proofs.Common.{◌≡◌, ℕ, List, [], ◌∷◌, ◌++◌, length, Option, Some, None, refl, sym, ap, ◌∙◌, subst, arith}
 use Rattle.std.proofs.lemmas.List.{length-map}
-use Rattle.std.specs.List.{AllByRecursion}
 use Rattle.sf_base.specs.declared.values.Kind.{Kind}
 use Rattle.sf_format.specs.declared.directive.Profile.{Profile}
 use Rattle.sf_format.specs.declared.directive.Shape.{Shape}
+use Rattle.sf_format.specs.declared.directive.Shape.TheVariants as shape
 use Rattle.sf_format.specs.declared.directive.Directive.{Directive}
 use Rattle.sf_format.specs.declared.directive.Directive.TheVariants as directive
 use Rattle.sf_format.specs.Language.{Scan}
 use Rattle.sf_format.specs.declared.letter.Letter.{Letter}
-use Rattle.sf_format.specs.declared.letter.Letter.TheVariants.{Signed, Unsigned, Chars, Text, Set, Count}
+use Rattle.sf_format.specs.declared.letter.Letter.TheVariants.{Chars, Text, Set}
 use Rattle.sf_format.specs.declared.letter.Length.{Length}
 use Rattle.sf_format.specs.Letters.{kind_of}
 use Rattle.sf_format.specs.Digits.{IsOptionalNumber, optional_number}
 use Rattle.sf_format.specs.Slots.{Slotted, slots_from}
-use Rattle.sf_format.specs.Pieces.{Piece, WhiteSpace, Ordinary, Percents, Plain, Bracket, Printed}
+use Rattle.sf_format.specs.Pieces.{Piece, Ordinary, Plain, Bracket, Printed}
 use Rattle.sf_format.specs.Grammar.{IsScanPiece, IsFormat, ArePlaced, destinations, shape_of, width_of, Means, MeanAll, Spells}
-use Rattle.sf_format.specs.Proper.{HasItsKind, IsKinded, AreKinded, HasItsWidth, IsSized, AreSized, IsProperShape, IsProperWidth, IsProper, AreProper, destinations_of, slots_of, AreInOrder, IsAccepted}
+use Rattle.sf_format.specs.Proper.{HasItsKind, IsKinded, HasItsWidth, IsSized, IsProperShape, IsProperWidth, IsProper, destinations_of, slots_of, AreInOrder, IsAccepted}
 use Rattle.sf_format.specs.Passing.{slot_in}
 use Rattle.sf_format.proofs.Members.{some_member}
 use Rattle.sf_format.proofs.Suits.{text_kinded}
 use Rattle.sf_format.proofs.Meanings.{made, scan_meaning}
 use Rattle.sf_format.proofs.PartSlots.{ListsSlots, listed_slot, AreGood, all_short, format_few, slots_good, slots_count, slots_in_order}
+use Rattle.sf_format.proofs.Numbers.{all_map}
+use Rattle.sf_format.proofs.WholeMeanings.{mean_each}
 
--- ---- shapes and widths
+-- ---- each directive
 
-plain_shape : (letter : Letter) (s : Shape) → shape_of letter s → IsProperShape s
-plain_shape (Signed base) s h = subst IsProperShape (sym h) tt
-plain_shape (Unsigned base) s h = subst IsProperShape (sym h) tt
-plain_shape Chars s h = subst IsProperShape (sym h) tt
-plain_shape Text s h = subst IsProperShape (sym h) tt
-plain_shape Count s h = subst IsProperShape (sym h) tt
-plain_shape Set s h = absurd h
+-- of the shape, the width and the kind of a conversion
+abbrev IsGood : Shape → Option ℕ → Kind → Type 0
+IsGood s width kind = IsProperShape s × HasItsWidth s width × HasItsKind s kind
+
+plain_good : (letter : Letter) (s : Shape) (ds : List ℕ) (size : Length) (k : Kind) → shape_of letter s → kind_of letter size ≡ Some k
+    → IsGood s (width_of letter ds) k
+plain_good Chars s [] size k h is = subst (λ t. IsGood t (width_of Chars []) k) (sym h) (tt, refl, text_kinded size k is)
+plain_good Chars s (d ∷ ds) size k h is = subst (λ t. IsGood t (width_of Chars (d ∷ ds)) k) (sym h) (tt, refl, text_kinded size k is)
+plain_good Text s ds size k h is = subst (λ t. IsGood t (width_of Text ds) k) (sym h) (tt, tt, text_kinded size k is)
+plain_good Set s ds size k h is = absurd h
+plain_good letter s ds size k h is = subst (λ t. IsGood t (width_of letter ds) k) (sym h) (tt, tt, tt)
 
 number_proper : (ds : List ℕ) → IsOptionalNumber 65535 ds → IsProperWidth (optional_number ds)
 number_proper [] h = tt
 number_proper (d ∷ ds) h = omega (arith, h.1)
 
 width_proper : (letter : Letter) (ds : List ℕ) → IsOptionalNumber 65535 ds → IsProperWidth (width_of letter ds)
-width_proper (Signed base) ds h = number_proper ds h
-width_proper (Unsigned base) ds h = number_proper ds h
 width_proper Chars [] h = omega arith
-width_proper Chars (d ∷ ds) h = number_proper (d ∷ ds) h
-width_proper Text ds h = number_proper ds h
-width_proper Count ds h = number_proper ds h
-width_proper Set ds h = number_proper ds h
+width_proper _ ds h = number_proper ds h
 
-proper_one : (profile : Profile) (place : ℕ) (piece : Piece) (d : Directive) → IsScanPiece profile piece → Means profile place piece d → IsProper d
-proper_one profile place (WhiteSpace bs) d is h = subst IsProper (sym h) tt
-proper_one profile place (Ordinary b) d is h = subst IsProper (sym h) is.0
-proper_one profile place Percents d is h = subst IsProper (sym h) tt
-proper_one profile place (Plain o b) d is h =
-    let same : h.0 ≡ is.1.0 = let e = sym h.2 ∙ is.1.1 in cc in
-    subst IsProper (sym h.5)
-    (plain_shape h.0 h.1.shape h.4, subst IsProperWidth (sym h.3.width) (width_proper h.0 o.width is.1.2.width))
-proper_one profile place (Printed o b) d is h = absurd is
-proper_one profile place (Bracket o list) d is h =
+abbrev IsGoodDirective : Directive → Type 0
+IsGoodDirective d = IsProper d × IsSized d × IsKinded d
+
+good_one : (profile : Profile) (place : ℕ) (piece : Piece) (d : Directive) → IsScanPiece profile piece → Means profile place piece d → IsGoodDirective d
+good_one profile place (Ordinary b) d is h = subst IsGoodDirective (sym h) (is.0, tt, tt)
+good_one profile place (Plain o b) d is h =
+    let good = plain_good h.0 h.1.shape o.width o.size h.1.kind h.4 h.3.kind in
+    let width = width_proper h.0 o.width is.1.2.width in
+    subst IsGoodDirective (sym h.5)
+    ((good.0, subst IsProperWidth (sym h.3.width) width), subst (HasItsWidth h.1.shape) (sym h.3.width) good.1, good.2)
+good_one profile place (Bracket o list) d is h =
     let m = some_member list is.1 is.1.bytes.0 in
-    subst IsProper (sym h.5)
-    (subst IsProperShape (sym h.4) (m.0, m.1, h.3.1 m.0 m.1 ∙ m.2), subst IsProperWidth (sym h.2.width) (width_proper Set o.width is.0.width))
-
-all_proper : (profile : Profile) (place : ℕ) (pieces : List Piece) (ds : List Directive) → AllByRecursion (IsScanPiece profile) pieces
-    → MeanAll (Means profile) place pieces ds → AreProper ds
-all_proper profile place [] [] each h = tt
-all_proper profile place [] (d ∷ ds) each h = absurd h
-all_proper profile place (piece ∷ pieces) [] each h = absurd h
-all_proper profile place (piece ∷ pieces) (d ∷ ds) each h = (
-  proper_one profile place piece d each.0 h.0,
-  all_proper profile (place + length (destinations (piece ∷ []))) pieces ds each.1 h.1,
-)
-
-plain_sized : (letter : Letter) (s : Shape) (ds : List ℕ) → shape_of letter s → HasItsWidth s (width_of letter ds)
-plain_sized (Signed base) s ds h = subst (λ t. HasItsWidth t (width_of (Signed base) ds)) (sym h) tt
-plain_sized (Unsigned base) s ds h = subst (λ t. HasItsWidth t (width_of (Unsigned base) ds)) (sym h) tt
-plain_sized Chars s [] h = subst (λ t. HasItsWidth t (width_of Chars [])) (sym h) refl
-plain_sized Chars s (d ∷ ds) h = subst (λ t. HasItsWidth t (width_of Chars (d ∷ ds))) (sym h) refl
-plain_sized Text s ds h = subst (λ t. HasItsWidth t (width_of Text ds)) (sym h) tt
-plain_sized Count s ds h = subst (λ t. HasItsWidth t (width_of Count ds)) (sym h) tt
-plain_sized Set s ds h = absurd h
-
-sized_one : (profile : Profile) (place : ℕ) (piece : Piece) (d : Directive) → Means profile place piece d → IsSized d
-sized_one profile place (WhiteSpace bs) d h = subst IsSized (sym h) tt
-sized_one profile place (Ordinary b) d h = subst IsSized (sym h) tt
-sized_one profile place Percents d h = subst IsSized (sym h) tt
-sized_one profile place (Plain o b) d h =
-    subst IsSized (sym h.5) (subst (HasItsWidth h.1.shape) (sym h.3.width) (plain_sized h.0 h.1.shape o.width h.4))
-sized_one profile place (Printed o b) d h = absurd h
-sized_one profile place (Bracket o list) d h = subst IsSized (sym h.5) (subst (λ s. HasItsWidth s h.0.width) (sym h.4) tt)
-
-all_sized : (profile : Profile) (place : ℕ) (pieces : List Piece) (ds : List Directive) → MeanAll (Means profile) place pieces ds → AreSized ds
-all_sized profile place [] [] h = tt
-all_sized profile place [] (d ∷ ds) h = absurd h
-all_sized profile place (piece ∷ pieces) [] h = absurd h
-all_sized profile place (piece ∷ pieces) (d ∷ ds) h =
-    (sized_one profile place piece d h.0, all_sized profile (place + length (destinations (piece ∷ []))) pieces ds h.1)
-
--- ---- kinds
-
-plain_kinded : (letter : Letter) (s : Shape) (size : Length) (k : Kind) → shape_of letter s → kind_of letter size ≡ Some k → HasItsKind s k
-plain_kinded (Signed base) s size k h is = subst (λ t. HasItsKind t k) (sym h) tt
-plain_kinded (Unsigned base) s size k h is = subst (λ t. HasItsKind t k) (sym h) tt
-plain_kinded Chars s size k h is = subst (λ t. HasItsKind t k) (sym h) (text_kinded size k is)
-plain_kinded Text s size k h is = subst (λ t. HasItsKind t k) (sym h) (text_kinded size k is)
-plain_kinded Count s size k h is = subst (λ t. HasItsKind t k) (sym h) tt
-plain_kinded Set s size k h is = absurd h
-
-kinded_one : (profile : Profile) (place : ℕ) (piece : Piece) (d : Directive) → Means profile place piece d → IsKinded d
-kinded_one profile place (WhiteSpace bs) d h = subst IsKinded (sym h) tt
-kinded_one profile place (Ordinary b) d h = subst IsKinded (sym h) tt
-kinded_one profile place Percents d h = subst IsKinded (sym h) tt
-kinded_one profile place (Plain o b) d h = subst IsKinded (sym h.5) (plain_kinded h.0 h.1.shape o.size h.1.kind h.4 h.3.kind)
-kinded_one profile place (Printed o b) d h = absurd h
-kinded_one profile place (Bracket o list) d h =
-    subst IsKinded (sym h.5) (subst (λ s. HasItsKind s h.0.kind) (sym h.4) (text_kinded o.size h.0.kind h.2.kind))
-
-all_kinded : (profile : Profile) (place : ℕ) (pieces : List Piece) (ds : List Directive) → MeanAll (Means profile) place pieces ds → AreKinded ds
-all_kinded profile place [] [] h = tt
-all_kinded profile place [] (d ∷ ds) h = absurd h
-all_kinded profile place (piece ∷ pieces) [] h = absurd h
-all_kinded profile place (piece ∷ pieces) (d ∷ ds) h =
-    (kinded_one profile place piece d h.0, all_kinded profile (place + length (destinations (piece ∷ []))) pieces ds h.1)
+    let good : IsGood (shape.Set h.1) h.0.width h.0.kind = ((m.0, m.1, h.3.1 m.0 m.1 ∙ m.2), tt, text_kinded o.size h.0.kind h.2.kind) in
+    let there = subst (λ s. IsGood s h.0.width h.0.kind) (sym h.4) good in
+    subst IsGoodDirective (sym h.5)
+    ((there.0, subst IsProperWidth (sym h.2.width) (width_proper Set o.width is.0.width)), there.1, there.2)
+good_one profile place (Printed o b) d is h = absurd is
+good_one profile place _ d is h = subst IsGoodDirective (sym h) (tt, tt, tt)
 
 -- ---- slots
 
@@ -129,10 +74,8 @@ made_slots s k w None ds = refl
 made_slots s k w (Some n) ds = refl
 
 one_slot : (d : Directive) (ds : List Directive) → slots_of (d ∷ ds) ≡ listed_slot (slot_in d) ++ slots_of ds
-one_slot directive.Space ds = refl
-one_slot (directive.Byte b) ds = refl
-one_slot directive.Percent ds = refl
 one_slot (directive.Conv c) ds = made_slots c.shape c.kind c.width c.slot ds
+one_slot _ ds = refl
 
 lists_slots : ListsSlots Directive slot_in slots_of
 lists_slots = record { none = refl; more = one_slot }
@@ -156,12 +99,13 @@ pub format_accepted : (profile : Profile) (pieces : List Piece) (ds : List Direc
     → MeanAll (Means profile) 1 pieces ds → IsAccepted ds
 format_accepted profile pieces ds is h =
     let count = destinations_count profile pieces ds h in
+    let each = mean_each IsGoodDirective (good_one profile) 1 pieces ds is.each h in
     let good = subst (λ n. AreGood n (slots_of ds)) (sym count)
     (slots_good (Scan profile) (Means profile) slots_of (scan_meaning profile) lists_slots pieces ds is h) in
     record {
-      proper = all_proper profile 1 pieces ds is.each h;
-      sized = all_sized profile 1 pieces ds h;
-      kinded = all_kinded profile 1 pieces ds h;
+      proper = all_map IsGoodDirective IsProper (λ d one. one.0) ds each;
+      sized = all_map IsGoodDirective IsSized (λ d one. one.1) ds each;
+      kinded = all_map IsGoodDirective IsKinded (λ d one. one.2) ds each;
       short = omega (arith, all_short (Scan profile) (Means profile) 1 pieces ds is.each h, is.short);
       few = omega (arith, count, format_few (Scan profile) pieces is);
       slots = record { each = good.within; distinct = good.distinct };

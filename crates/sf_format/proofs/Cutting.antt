@@ -9,11 +9,8 @@ use Rattle.sf_format.specs.Letters.{length_text}
 use Rattle.sf_format.specs.PrintLetters.{is_flag}
 use Rattle.sf_format.specs.Pieces.{Opening, number_text, star_text, opening_text}
 use Rattle.sf_format.specs.Cut.{Cut, number_before, number_at, first_length, length_at, cut_length, cut}
-use Rattle.sf_format.proofs.Outcomes.{by_test, and_left, and_right}
+use Rattle.sf_format.proofs.Outcomes.{by_test, and_left, and_right, same_byte}
 use Rattle.sf_format.proofs.Prefixes.{Stops, AllPass, front_behind, front_passes, front_of, behind_of}
-
-pub same_byte : (a b : ℕ) → nat_eq a b ≡ true → a ≡ b
-same_byte a b e = grind (arith, nat_tests)
 
 pub digit_is_not : (d mark : ℕ) → is_decimal d ≡ true → mark < 48 → nat_eq d mark ≡ false
 digit_is_not d mark e low = grind (arith, nat_tests)
@@ -137,13 +134,9 @@ star_of false (d ∷ ds) b x passes plain =
 
 pub length_of : (size : Length) (letter : ℕ) (x : List ℕ) → IsLast letter → length_at (length_text size ++ letter ∷ x) ≡ size
 length_of NoLength letter x last = simp (last.h, last.l, last.j, last.z, last.t)
-length_of HH letter x last = refl
 length_of H letter x last = simp last.h
-length_of LL letter x last = refl
 length_of L letter x last = simp last.l
-length_of J letter x last = refl
-length_of Z letter x last = refl
-length_of T letter x last = refl
+length_of _ letter x last = refl
 
 pub begins_joined : (word x : List ℕ) → begins word x ≡ true → word ++ drop (length word) x ≡ x
 begins_joined [] x e = refl
@@ -165,13 +158,7 @@ length_whole x = length_joined (HH ∷ H ∷ LL ∷ L ∷ J ∷ Z ∷ T ∷ []) 
 
 pub length_dropped : (size : Length) (y : List ℕ) → drop (length (length_text size)) (length_text size ++ y) ≡ y
 length_dropped NoLength y = refl
-length_dropped HH y = refl
-length_dropped H y = refl
-length_dropped LL y = refl
-length_dropped L y = refl
-length_dropped J y = refl
-length_dropped Z y = refl
-length_dropped T y = refl
+length_dropped _ y = refl
 
 -- a length, or the letter, begins with such a byte
 pub sized_head : (size : Length) (letter : ℕ) (x : List ℕ) → IsLast letter

@@ -1,14 +1,13 @@
 -- Destinations without a fault so far, and one more.
 use Rattle.std.proofs.Common.{◌≡◌, ◌≢◌, ℕ, ◌≤◌, inl, inr, Bool, true, false, cond, not, ◌&&◌, ◌||◌, nat_lt, List, [], ◌∷◌, None, Some, ◌++◌, length, refl, sym, ap, ◌∙◌, subst, arith, length-append, append_assoc, append-nil}
-use Rattle.std.proofs.lemmas.Bool.Decides.{nat_tests}
 use Rattle.std.specs.List.{AllByRecursion, list_any}
 use Rattle.sf_format.specs.Lists.{is_written}
-use Rattle.sf_format.specs.Pieces.{Opening, Piece, WhiteSpace, Ordinary, Percents, Plain, Bracket, Printed}
-use Rattle.sf_format.specs.Grammar.{AreAlike, assigned_opening, destinations, slot_of}
+use Rattle.sf_format.specs.Pieces.{Opening, Piece, Plain, Bracket, Printed}
+use Rattle.sf_format.specs.Grammar.{AreAlike, assigned_opening, destinations, slot_of, value_opening}
 use Rattle.sf_format.specs.Digits.{optional_number}
 use Rattle.sf_format.specs.Passing.{slot_at}
 use Rattle.sf_format.specs.Rules.{slot_rules}
-use Rattle.sf_format.proofs.Outcomes.{or_left, or_right}
+use Rattle.sf_format.proofs.Outcomes.{or_left, or_right, by_test, within, not_above}
 use Rattle.sf_format.proofs.Rules.{Quiet, all_append, all_front, all_back}
 
 -- ---- alike
@@ -47,12 +46,6 @@ test_numbered d ds [] h = refl
 test_numbered d ds (e ∷ es) h =
     ap (λ v. v || list_any (differs (d ∷ ds)) es) (test_one d ds e.number h.0) ∙ test_numbered d ds es h.1
 
-few : (n : ℕ) → nat_lt 31 n ≡ false → n ≤ 31
-few n e = grind (arith, nat_tests)
-
-is_few : (n : ℕ) → n ≤ 31 → nat_lt 31 n ≡ false
-is_few n h = grind (arith, nat_tests)
-
 -- what the rules say of one more assigned destination with this number
 pub record SlotTests (earlier : List Opening) (number : List ℕ) : Type 0 where
   pub same : list_any (differs number) earlier ≡ false
@@ -63,7 +56,7 @@ one_more earlier o h = omega (arith, length-append earlier (o ∷ []))
 
 alike_after : (earlier : List Opening) (o : Opening) (number : List ℕ) → o.number ≡ number → SlotTests earlier number → AreAlike (earlier ++ o ∷ [])
 alike_after earlier o [] e h =
-    inl (all_append (λ a. a.number ≡ []) earlier (o ∷ []) (unnumbered earlier h.same) (e, tt), one_more earlier o (few _ h.room))
+    inl (all_append (λ a. a.number ≡ []) earlier (o ∷ []) (unnumbered earlier h.same) (e, tt), one_more earlier o (within 31 _ h.room))
 alike_after earlier o (d ∷ ds) e h =
     inr (all_append (λ a. a.number ≢ []) earlier (o ∷ []) (all_numbered d ds earlier h.same) ((λ same. absurd (cc)), tt))
 
@@ -75,7 +68,7 @@ slot_tests earlier o [] e h =
     elim h [
       | inl placed ↦ record {
         same = test_unnumbered earlier (all_front (λ a. a.number ≡ []) earlier (o ∷ []) placed.0);
-        room = is_few _ (room_from earlier o placed.1);
+        room = not_above 31 _ (room_from earlier o placed.1);
       }
       | inr numbered ↦ absurd ((all_back (λ a. a.number ≢ []) earlier (o ∷ []) numbered).0 e)
     ]
@@ -116,21 +109,13 @@ alike_front earlier later h =
 
 -- ---- destinations of parts
 
+assigned_cons : (o : Opening) (rest : List Opening) → assigned_opening o rest ≡ assigned_opening o [] ++ rest
+assigned_cons o rest = by_test o.star (λ v. cond v rest (o ∷ rest) ≡ cond v [] (o ∷ []) ++ rest) (λ t. refl) (λ f. refl)
+
 pub destinations_cons : (piece : Piece) (pieces : List Piece) → destinations (piece ∷ pieces) ≡ destinations (piece ∷ []) ++ destinations pieces
-destinations_cons (WhiteSpace bs) pieces = refl
-destinations_cons (Ordinary b) pieces = refl
-destinations_cons Percents pieces = refl
-destinations_cons (Plain o letter) pieces = assigned_cons o.star o (destinations pieces)
-  where
-    assigned_cons : (star : Bool) (o : Opening) (rest : List Opening) → cond star rest (o ∷ rest) ≡ cond star [] (o ∷ []) ++ rest
-    assigned_cons true o rest = refl
-    assigned_cons false o rest = refl
-destinations_cons (Bracket o list) pieces = assigned_cons o.star o (destinations pieces)
-  where
-    assigned_cons : (star : Bool) (o : Opening) (rest : List Opening) → cond star rest (o ∷ rest) ≡ cond star [] (o ∷ []) ++ rest
-    assigned_cons true o rest = refl
-    assigned_cons false o rest = refl
-destinations_cons (Printed o letter) pieces = refl
+destinations_cons (Plain o letter) pieces = assigned_cons o (destinations pieces)
+destinations_cons (Bracket o list) pieces = assigned_cons o (destinations pieces)
+destinations_cons _ pieces = refl
 
 pub regroup : (earlier : List Opening) (piece : Piece) (pieces : List Piece)
     → earlier ++ destinations (piece ∷ pieces) ≡ (earlier ++ destinations (piece ∷ [])) ++ destinations pieces
@@ -146,25 +131,22 @@ destinations_push (first ∷ done) piece =
     ∙ sym (append_assoc (destinations (first ∷ [])) (destinations done) (destinations (piece ∷ [])))
     ∙ ap (λ os. os ++ destinations (piece ∷ [])) (sym (destinations_cons first done))
 
-one_at_most : (o : Opening) → length (assigned_opening o []) ≤ 1
-one_at_most o = by_star o.star
-  where
-    by_star : (star : Bool) → length (cond star [] (o ∷ [])) ≤ 1
-    by_star true = omega arith
-    by_star false = omega arith
+-- what holds of no destination, and of each that is assigned, holds of those of a part
+pub by_destination : (P : List Opening → Type 0) (piece : Piece) → P [] → ((o : Opening) → o.star ≡ false → P (o ∷ []))
+    → P (destinations (piece ∷ []))
+by_destination P (Plain o letter) none one = by_test o.star (λ v. P (cond v [] (o ∷ []))) (λ t. none) (one o)
+by_destination P (Bracket o list) none one = by_test o.star (λ v. P (cond v [] (o ∷ []))) (λ t. none) (one o)
+by_destination P (Printed o letter) none one = one (value_opening o) refl
+by_destination P _ none one = none
+
+pub assigned_all : (P : Opening → Type 0) (o : Opening) → P o → AllByRecursion P (assigned_opening o [])
+assigned_all P o h = by_test o.star (λ v. AllByRecursion P (cond v [] (o ∷ []))) (λ t. tt) (λ f. (h, tt))
 
 pub at_most_one : (piece : Piece) → length (destinations (piece ∷ [])) ≤ 1
-at_most_one (WhiteSpace bs) = omega arith
-at_most_one (Ordinary b) = omega arith
-at_most_one Percents = omega arith
-at_most_one (Plain o letter) = one_at_most o
-at_most_one (Bracket o list) = one_at_most o
-at_most_one (Printed o letter) = omega arith
+at_most_one piece = by_destination (λ os. length os ≤ 1) piece (omega arith) (λ o plain. omega arith)
 
 -- the slot of a part with one destination, or with a suppressed one
 pub slot_there : (place : ℕ) (o : Opening) → slot_of place o ≡ slot_at place (assigned_opening o [])
-slot_there place o = by_star o.star refl
-  where
-    by_star : (star : Bool) → o.star ≡ star → slot_of place o ≡ slot_at place (cond star [] (o ∷ []))
-    by_star true h = ap (λ v. cond v None (elim (optional_number o.number) [ None ↦ Some place | Some n ↦ Some n ])) h
-    by_star false h = refl
+slot_there place o =
+    by_test o.star (λ v. slot_of place o ≡ slot_at place (cond v [] (o ∷ [])))
+    (λ t. ap (λ v. cond v None (elim (optional_number o.number) [ None ↦ Some place | Some n ↦ Some n ])) t) (λ f. refl)

@@ -10,7 +10,7 @@ use Rattle.sf_format.specs.Pieces.{Opening}
 use Rattle.sf_format.specs.Grammar.{assigned_opening}
 use Rattle.sf_format.specs.Rules.{first_of, alike, slot_rules}
 use Rattle.sf_format.specs.Passing.{Holds}
-use Rattle.sf_format.proofs.Outcomes.{or_left, or_right}
+use Rattle.sf_format.proofs.Outcomes.{or_left, or_right, is_above, not_above, or_false}
 use Rattle.sf_format.proofs.Rules.{quiet_is, all_append}
 
 abbrev differ : Bool → Bool → Bool
@@ -23,17 +23,10 @@ or_same : (v : Bool) → (v || v) ≡ v
 or_same true = refl
 or_same false = refl
 
-some : (n : ℕ) → n ≡ 0 → nat_lt 0 n ≡ false
-some n e = grind (arith, nat_tests)
-
 -- one destination tells for all of them
 any_differs : (v w : Bool) (e : Opening) (es : List Opening) → AllAre v (e ∷ es) → list_any (λ a. differ (is_written a.number) w) (e ∷ es) ≡ differ v w
 any_differs v w e [] h =
     ap (λ a. differ a w || false) h.0 ∙ or_false (differ v w)
-  where
-    or_false : (b : Bool) → (b || false) ≡ b
-    or_false true = refl
-    or_false false = refl
 any_differs v w e (a ∷ es) h =
     ap (λ b. differ b w || list_any (λ c. differ (is_written c.number) w) (a ∷ es)) h.0
     ∙ ap (λ b. differ v w || b) (any_differs v w a es h.1)
@@ -41,13 +34,10 @@ any_differs v w e (a ∷ es) h =
 
 pub mixed : (slots : Slots) (o : Opening) (earlier : List Opening) → Holds slots earlier
     → list_any (λ e. not (alike e o)) earlier ≡ (nat_lt 0 slots.count && differ slots.numbered (is_written o.number))
-mixed slots o [] h = ap (λ v. v && differ slots.numbered (is_written o.number)) (sym (some slots.count h.count))
+mixed slots o [] h = ap (λ v. v && differ slots.numbered (is_written o.number)) (sym (not_above 0 slots.count (omega (arith, h.count))))
 mixed slots o (e ∷ es) h =
     any_differs slots.numbered (is_written o.number) e es h.same
-    ∙ ap (λ v. v && differ slots.numbered (is_written o.number)) (sym (positive slots.count (omega (arith, h.count))))
-  where
-    positive : (n : ℕ) → 0 < n → nat_lt 0 n ≡ true
-    positive n below = grind (arith, nat_tests)
+    ∙ ap (λ v. v && differ slots.numbered (is_written o.number)) (sym (is_above 0 slots.count (omega (arith, h.count))))
 
 differ_none : (v w : Bool) → differ v w ≡ false → v ≡ w
 differ_none true true e = refl
@@ -94,13 +84,10 @@ pub mixed_result : (slots : Slots) (o : Opening) (empty : Bool) (earlier : List 
 mixed_result slots o empty earlier plain some_earlier e holds =
     ap (beq slots.numbered) (e ∙ empty_is o.number)
     ∙ same_as_differ slots.numbered (is_written o.number)
-    ∙ ap (λ v. v && differ slots.numbered (is_written o.number)) (sym (positive slots.count some_earlier))
+    ∙ ap (λ v. v && differ slots.numbered (is_written o.number)) (sym (is_above 0 slots.count some_earlier))
     ∙ sym (mixed slots o earlier holds)
     ∙ ap (λ v. not v && list_any (λ a. not (alike a o)) earlier) (sym plain)
   where
-    positive : (n : ℕ) → 0 < n → nat_lt 0 n ≡ true
-    positive n below = grind (arith, nat_tests)
-
     same_as_differ : (v w : Bool) → beq v (not w) ≡ differ v w
     same_as_differ true true = refl
     same_as_differ true false = refl

@@ -1,5 +1,5 @@
 -- What is judged of a text is its parts or its fault.
-use Rattle.std.proofs.Common.{◌≡◌, ℕ, ◌+◌, ◌<◌, ◌≤◌, inl, inr, Bool, true, false, cond, nat_lt, List, [], length, Option, Some, None, Result, Ok, Err, refl, sym, ap, ◌∙◌, subst, arith, lit≤, append-nil}
+use Rattle.std.proofs.Common.{◌≡◌, ℕ, ◌+◌, ◌<◌, ◌≤◌, inl, inr, Bool, true, cond, nat_lt, List, [], length, Option, Some, None, Result, Ok, Err, refl, sym, ap, ◌∙◌, subst, arith, lit≤, append-nil}
 use Rattle.std.proofs.lemmas.Bool.Decides.{nat_tests}
 use Rattle.sf_base.specs.Bytes.{AreBytes}
 use Rattle.sf_format.specs.Language.{Language}
@@ -10,7 +10,7 @@ use Rattle.sf_format.specs.Grammar.{AreAlike, IsFormat, destinations}
 use Rattle.sf_format.specs.Rules.{first_of}
 use Rattle.sf_format.specs.Faults.{part_rules, number_rules, AreFaultless, NumberFault, FaultIn}
 use Rattle.sf_format.specs.Reading.{unless, read, numbers_judged, judged}
-use Rattle.sf_format.proofs.Outcomes.{by_test}
+use Rattle.sf_format.proofs.Outcomes.{by_test, within, not_above, is_above}
 use Rattle.sf_format.proofs.Numbers.{slots_from, slots_alike, slots_quiet}
 use Rattle.sf_format.proofs.WholeTexts.{Divides, Refuses, read_tells, parts_read, fault_read}
 
@@ -24,15 +24,6 @@ Judges language text (Err fault) = FaultIn language text fault.1 fault.0
 
 long : (n : ℕ) → nat_lt 4096 n ≡ true → 4096 < n
 long n e = grind (arith, nat_tests)
-
-short : (n : ℕ) → nat_lt 4096 n ≡ false → n ≤ 4096
-short n e = grind (arith, nat_tests)
-
-is_short : (n : ℕ) → n ≤ 4096 → nat_lt 4096 n ≡ false
-is_short n h = grind (arith, nat_tests)
-
-is_long : (n : ℕ) → 4096 < n → nat_lt 4096 n ≡ true
-is_long n h = grind (arith, nat_tests)
 
 abbrev judged_as : Language → List ℕ → Bool → Judgement
 judged_as language text v = cond v (Err (FormatTooLong, 4096)) (numbers_judged (read (length text) language [] 0 text))
@@ -84,13 +75,13 @@ pub judged_tells : (language : Language) (text : List ℕ) → AreBytes text →
 judged_tells language text bytes =
     by_test (nat_lt 4096 (length text)) (λ v. Judges language text (judged_as language text v))
     (λ e. inl (long (length text) e, refl, refl))
-    (λ e. numbers_tell language text (read (length text) language [] 0 text) (short (length text) e)
+    (λ e. numbers_tell language text (read (length text) language [] 0 text) (within 4096 (length text) e)
     (read_tells (length text) language [] 0 text (omega arith) bytes none_before))
 
 -- the parts of a format are judged so
 pub format_judged : (language : Language) (pieces : List Piece) → IsFormat language pieces → judged language (text_of pieces) ≡ Ok pieces
 format_judged language pieces is =
-    ap (judged_as language (text_of pieces)) (is_short _ is.short)
+    ap (judged_as language (text_of pieces)) (not_above 4096 _ is.short)
     ∙ ap numbers_judged (parts_read language pieces is.each is.apart (slots_alike pieces is.slots))
     ∙ ap (λ first. unless first (Ok pieces)) (slots_quiet pieces is.slots)
 
@@ -106,10 +97,10 @@ pub fault_judged : (language : Language) (text : List ℕ) (at : ℕ) (why : For
 fault_judged language text at why h =
     elim h [
       | inl much ↦
-          ap (judged_as language text) (is_long _ much.0)
+          ap (judged_as language text) (is_above 4096 _ much.0)
           ∙ ap (λ w. fault w 4096) (sym much.2) ∙ ap (fault why) (sym much.1)
       | inr few ↦
-          ap (judged_as language text) (is_short _ few.0)
+          ap (judged_as language text) (not_above 4096 _ few.0)
           ∙ elim few.1 [
             | inl part ↦ ap numbers_judged (fault_read language text (why, at) part)
             | inr number ↦ number_fault_judged language text (why, at) number
@@ -120,9 +111,9 @@ fault_judged language text at why h =
     fault w place = Err (w, place)
 
 pub short_judged : (language : Language) (text : List ℕ) → length text ≤ 4096 → judged language text ≡ numbers_judged (read (length text) language [] 0 text)
-short_judged language text few = ap (judged_as language text) (is_short (length text) few)
+short_judged language text few = ap (judged_as language text) (not_above 4096 (length text) few)
 
 pub judged_short : (language : Language) (text : List ℕ) (pieces : List Piece) → judged language text ≡ Ok pieces → length text ≤ 4096
 judged_short language text pieces e =
     by_test (nat_lt 4096 (length text)) (λ v. judged_as language text v ≡ Ok pieces → length text ≤ 4096)
-    (λ t h. absurd (cc)) (λ f h. short (length text) f) e
+    (λ t h. absurd (cc)) (λ f h. within 4096 (length text) f) e

@@ -35,4 +35,3 @@ pub mod Profiles
 pub mod Answers
 pub mod PartTexts
 pub mod Rows
-pub mod PrintRows

@@ -1,10 +1,8 @@
 -- A part of a scan format means one directive.
-use Rattle.std.proofs.Common.{◌≡◌, ◌≢◌, ℕ, zero, suc, ◌+◌, ◌<◌, Bool, false, cond, List, [], ◌∷◌, length, get_or, Option, Some, None, refl, sym, ap, ◌∙◌, subst, arith}
+use Rattle.std.proofs.Common.{◌≡◌, ◌≢◌, ℕ, zero, suc, ◌+◌, ◌<◌, Bool, false, cond, List, [], ◌∷◌, length, get_or, Option, Some, refl, sym, ap, ◌∙◌, subst, arith}
 use Rattle.std.proofs.lemmas.List.{ext_get_or}
-use Rattle.std.specs.Prelude.{IsSome}
 use Rattle.sf_base.specs.declared.values.Kind.{Kind}
 use Rattle.sf_format.specs.declared.directive.Profile.{Profile}
-use Rattle.sf_format.specs.declared.directive.Profile.TheVariants.{One, Two}
 use Rattle.sf_format.specs.declared.directive.Shape.{Shape}
 use Rattle.sf_format.specs.declared.directive.Shape.TheVariants as shape
 use Rattle.sf_format.specs.declared.directive.Conversion.{Conversion}
@@ -12,15 +10,16 @@ use Rattle.sf_format.specs.declared.directive.Directive.{Directive}
 use Rattle.sf_format.specs.declared.directive.Directive.TheVariants as directive
 use Rattle.sf_format.specs.declared.letter.Letter.{Letter}
 use Rattle.sf_format.specs.declared.letter.Letter.TheVariants.{Signed, Unsigned, Chars, Text, Set, Count}
-use Rattle.sf_format.specs.Letters.{added_letters, letters, letter_of, kind_of}
+use Rattle.sf_format.specs.Letters.{letter_of, kind_of}
 use Rattle.sf_format.specs.Scanlist.{Scanlist, is_member, IsSetOf}
 use Rattle.sf_format.specs.Pieces.{Opening, Piece, WhiteSpace, Ordinary, Percents, Plain, Bracket, Printed}
 use Rattle.sf_format.specs.Grammar.{IsScanPiece, IsConversion, Means, shape_of, width_of, slot_of, destinations}
 use Rattle.sf_format.specs.Language.{Scan}
 use Rattle.sf_format.specs.Passing.{slot_in, slot_at}
-use Rattle.sf_format.proofs.WholeMeanings.{IsMeaning}
+use Rattle.sf_format.proofs.WholeMeanings.{IsMeaning, some_of}
 use Rattle.sf_format.proofs.Destinations.{slot_there}
-use Rattle.sf_format.proofs.Suits.{ForRows, found}
+use Rattle.sf_format.proofs.Suits.{bracket_is}
+use Rattle.sf_format.proofs.Outcomes.{same_byte}
 
 -- ---- sets
 
@@ -59,12 +58,8 @@ set_same list a b h k =
 -- ---- conversions
 
 shape_same : (letter : Letter) (s t : Shape) → shape_of letter s → shape_of letter t → s ≡ t
-shape_same (Signed base) s t h k = h ∙ sym k
-shape_same (Unsigned base) s t h k = h ∙ sym k
-shape_same Chars s t h k = h ∙ sym k
-shape_same Text s t h k = h ∙ sym k
-shape_same Count s t h k = h ∙ sym k
 shape_same Set s t h k = absurd h
+shape_same _ s t h k = h ∙ sym k
 
 abbrev pub made : Shape → Kind → Option ℕ → Option ℕ → Conversion
 made s k w n = record { shape = s; kind = k; width = w; slot = n }
@@ -84,9 +79,6 @@ plain_same place o l m c d e h k s t =
     conversion_same place o m c d (subst (λ a. IsConversion place o a c) e h) k (shape_same m c.shape d.shape (subst (λ a. shape_of a c.shape) e s) t)
 
 pub means_one : (profile : Profile) (place : ℕ) (piece : Piece) (d e : Directive) → Means profile place piece d → Means profile place piece e → d ≡ e
-means_one profile place (WhiteSpace bs) d e h k = h ∙ sym k
-means_one profile place (Ordinary b) d e h k = h ∙ sym k
-means_one profile place Percents d e h k = h ∙ sym k
 means_one profile place (Printed o b) d e h k = absurd h
 means_one profile place (Plain o b) d e h k =
     let same : h.0 ≡ k.0 = let f = sym h.2 ∙ k.2 in cc in
@@ -94,29 +86,12 @@ means_one profile place (Plain o b) d e h k =
 means_one profile place (Bracket o list) d e h k =
     let shapes = h.4 ∙ ap shape.Set (set_same list h.1 k.1 h.3 k.3) ∙ sym k.4 in
     h.5 ∙ ap directive.Conv (conversion_same place o Set h.0 k.0 h.2 k.2 shapes) ∙ sym k.5
+means_one profile place _ d e h k = h ∙ sym k
 
 -- ---- each part means a directive
 
-abbrev IsSetLetter : Letter → Type 0
-IsSetLetter Set = Unit {0}
-IsSetLetter _ = ⊥
-
-abbrev NoOtherSet : ℕ → Letter → Type 0
-NoOtherSet b letter = IsSetLetter letter → b ≡ 91
-
 set_letter : (profile : Profile) (b : ℕ) → letter_of profile b ≡ Some Set → b ≡ 91
-set_letter profile b e = found NoOtherSet (letters profile) each b Set e tt
-  where
-    added : (p : Profile) → ForRows NoOtherSet (added_letters p)
-    added One = tt
-    added Two = ((λ h. absurd h, tt), tt)
-
-    each : ForRows NoOtherSet (letters profile)
-    each = ((λ h. absurd h, tt), ((λ h. absurd h, tt), ((λ h. absurd h, tt), ((λ h. absurd h, tt), ((λ h. absurd h, (λ h. absurd h, tt)), ((λ h. absurd h, tt), ((λ h. refl, tt), ((λ h. absurd h, tt), ((λ h. absurd h, tt), added profile)))))))))
-
-some_kind : (o : Option Kind) → IsSome o → (kind : Kind) × (o ≡ Some kind)
-some_kind None h = absurd (cc)
-some_kind (Some kind) h = (kind, refl)
+set_letter profile b e = same_byte b 91 (sym (bracket_is profile b Set e))
 
 pub some_shape : (profile : Profile) (b : ℕ) (letter : Letter) → b ≢ 91 → letter_of profile b ≡ Some letter → (s : Shape) × shape_of letter s
 some_shape profile b (Signed base) other e = (shape.Int base, refl)
@@ -133,11 +108,11 @@ some_meaning profile place Percents is = (directive.Percent, refl)
 some_meaning profile place (Plain o b) is =
     let letter = is.1.0 in
     let s = some_shape profile b letter is.0 is.1.1 in
-    let k = some_kind (kind_of letter o.size) is.1.2.size in
+    let k = some_of (kind_of letter o.size) is.1.2.size in
     let c = made s.0 k.0 (width_of letter o.width) (slot_of place o) in
     (directive.Conv c, (letter, c, is.1.1, record { kind = k.1; width = refl; slot = refl }, s.1, refl))
 some_meaning profile place (Bracket o list) is =
-    let k = some_kind (kind_of Set o.size) is.0.size in
+    let k = some_of (kind_of Set o.size) is.0.size in
     let c = made (shape.Set (set_of list)) k.0 (width_of Set o.width) (slot_of place o) in
     (directive.Conv c, (c, set_of list, record { kind = k.1; width = refl; slot = refl }, set_is list, refl, refl))
 some_meaning profile place (Printed o b) is = absurd is
@@ -150,12 +125,10 @@ conversion_slot place o c e = e ∙ slot_there place o
 -- the slot of a directive is that of its part
 pub means_slot : (profile : Profile) (place : ℕ) (piece : Piece) (d : Directive) → Means profile place piece d
     → slot_in d ≡ slot_at place (destinations (piece ∷ []))
-means_slot profile place (WhiteSpace bs) d h = ap slot_in h
-means_slot profile place (Ordinary b) d h = ap slot_in h
-means_slot profile place Percents d h = ap slot_in h
 means_slot profile place (Plain o b) d h = ap slot_in h.5 ∙ conversion_slot place o h.1 h.3.slot
 means_slot profile place (Bracket o list) d h = ap slot_in h.5 ∙ conversion_slot place o h.0 h.2.slot
 means_slot profile place (Printed o b) d h = absurd h
+means_slot profile place _ d h = ap slot_in h
 
 pub scan_meaning : (profile : Profile) → IsMeaning Directive (Scan profile) (Means profile) slot_in
 scan_meaning profile = record {

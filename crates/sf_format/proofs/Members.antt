@@ -3,7 +3,7 @@ use Rattle.std.proofs.Common.{◌≡◌, ◌≢◌, ℕ, ◌+◌, ◌<◌, Bool,
 use Rattle.std.proofs.lemmas.Bool.Decides.{nat_tests}
 use Rattle.std.specs.List.{AllByRecursion}
 use Rattle.sf_format.specs.Scanlist.{Scanlist, IsScanlist, is_listed, is_member, backward_range}
-use Rattle.sf_format.proofs.Outcomes.{by_test}
+use Rattle.sf_format.proofs.Outcomes.{by_test, byte_differs}
 
 or_true : (a b : Bool) → a ≡ true → (a || b) ≡ true
 or_true true b e = refl
@@ -31,10 +31,6 @@ first_listed n first (dash ∷ high ∷ rest) e =
     listed : Bool → Bool
     listed v = cond v ((nat_le first first && nat_le first high) || is_listed rest first) (nat_eq first first || is_listed (dash ∷ high ∷ rest) first)
 
--- a list without NUL doesn't list it
-other : (a : ℕ) → a ≢ 0 → nat_eq a 0 ≡ false
-other a h = grind (arith, nat_tests)
-
 not_in_range : (low high : ℕ) → low ≢ 0 → (nat_le low 0 && nat_le 0 high) ≡ false
 not_in_range low high h = grind (arith, nat_tests)
 
@@ -44,12 +40,12 @@ neither false b e f = f
 
 nul_not_listed : (xs : List ℕ) → AllByRecursion (λ x. x ≢ 0) xs → is_listed xs 0 ≡ false
 nul_not_listed [] h = refl
-nul_not_listed (a ∷ []) h = other a h.0
-nul_not_listed (a ∷ b ∷ []) h = neither _ _ (other a h.0) (other b h.1.0)
+nul_not_listed (a ∷ []) h = byte_differs a 0 h.0
+nul_not_listed (a ∷ b ∷ []) h = neither _ _ (byte_differs a 0 h.0) (byte_differs b 0 h.1.0)
 nul_not_listed (a ∷ b ∷ c ∷ xs) h =
     by_test (nat_eq b 45) (λ v. listed v ≡ false)
     (λ t. neither _ _ (not_in_range a c h.0) (nul_not_listed xs h.1.1.1))
-    (λ f. neither _ _ (other a h.0) (nul_not_listed (b ∷ c ∷ xs) h.1))
+    (λ f. neither _ _ (byte_differs a 0 h.0) (nul_not_listed (b ∷ c ∷ xs) h.1))
   where
     listed : Bool → Bool
     listed v = cond v ((nat_le a 0 && nat_le 0 c) || is_listed xs 0) (nat_eq a 0 || is_listed (b ∷ c ∷ xs) 0)

@@ -1,7 +1,6 @@
 -- What is noted of the numbers of destinations, one after the other.
 use Rattle.std.proofs.Common.{◌≡◌, ◌≢◌, ℕ, ◌+◌, ◌-◌, ◌<◌, ◌≤◌, Bool, true, false, cond, ◌||◌, nat_eq, nat_lt, List, [], ◌∷◌, ◌++◌, length, map, Option, Some, None, Ok, refl, sym, ap, ◌∙◌, subst, arith, append_assoc, append-nil, length-append}
 use Rattle.std.proofs.lemmas.List.{map-append}
-use Rattle.std.proofs.lemmas.Bool.Decides.{nat_tests}
 use Rattle.std.specs.Prelude.{◌==◌}
 use Rattle.std.specs.List.{AllByRecursion}
 use Rattle.sf_base.specs.Bytes.{AreBytes, magnitude}
@@ -12,17 +11,17 @@ use Rattle.sf_format.specs.declared.fault.FormatWhy.TheVariants.{NumberTwice, Nu
 use Rattle.sf_format.specs.declared.noted.Noted.{Noted}
 use Rattle.sf_format.specs.declared.slots.Slots.{Slots}
 use Rattle.sf_format.specs.Lists.{is_any_of, is_written}
-use Rattle.sf_format.specs.Pieces.{Opening, Piece, WhiteSpace, Ordinary, Percents, Plain, Bracket, Printed, piece_text, text_of}
+use Rattle.sf_format.specs.Pieces.{Opening, Piece, piece_text, text_of}
 use Rattle.sf_format.specs.Cut.{part_at}
 use Rattle.sf_format.specs.Digits.{optional_number}
-use Rattle.sf_format.specs.Grammar.{destinations, value_opening}
+use Rattle.sf_format.specs.Grammar.{destinations}
 use Rattle.sf_format.specs.Rules.{Rule, first_of}
 use Rattle.sf_format.specs.Faults.{numbered, repeated, beyond, number_rules}
 use Rattle.sf_format.specs.Reading.{read}
 use Rattle.sf_format.specs.Passing.{with_place, slot_at, first_place, told, Notes, Holds, Walked}
-use Rattle.sf_format.proofs.Outcomes.{by_test, or_regroup, or_swap}
+use Rattle.sf_format.proofs.Outcomes.{by_test, or_regroup, or_swap, same_test, or_false}
 use Rattle.sf_format.proofs.Rules.{all_front, all_back}
-use Rattle.sf_format.proofs.Destinations.{destinations_push}
+use Rattle.sf_format.proofs.Destinations.{destinations_push, by_destination}
 use Rattle.sf_format.proofs.Numbers.{all_map, written_from, all_written, unnumbered_rules}
 use Rattle.sf_format.proofs.Passages.{first_left, first_right}
 use Rattle.sf_format.proofs.Walks.{Passing, PassesFirst, passing_none, done_none, passing_more, done_more, passing_all}
@@ -43,11 +42,7 @@ known earlier [] = earlier
 known earlier (n ∷ ns) = known (n.0 ∷ earlier) ns
 
 any_known : (earlier : List ℕ) (ns : List (ℕ × ℕ)) (m : ℕ) → is_any_of (known earlier ns) m ≡ (is_any_of earlier m || is_any_of (numbers ns) m)
-any_known earlier [] m = or_false (is_any_of earlier m)
-  where
-    or_false : (v : Bool) → v ≡ (v || false)
-    or_false true = refl
-    or_false false = refl
+any_known earlier [] m = sym (or_false (is_any_of earlier m))
 any_known earlier (n ∷ ns) m =
     any_known (n.0 ∷ earlier) ns m ∙ or_regroup (nat_eq n.0 m) (is_any_of earlier m) (is_any_of (numbers ns) m)
 
@@ -70,9 +65,6 @@ told_push why (Some place) rules applies at e =
 told_push why None rules applies at e =
     by_test applies (λ v. told why (first_place None v at) ≡ cond v (Some (why, at)) None) (λ t. refl) (λ f. refl)
     ∙ sym (first_right rules (record { why = why; applies = applies; at = at } ∷ []) (sym e))
-
-same_test : (k b : ℕ) → (k == b) ≡ nat_eq b k
-same_test k b = grind (arith, nat_tests)
 
 pub notes_more : (count : ℕ) (ns : List (ℕ × ℕ)) (old new : Noted) (n at : ℕ) (used high : Bool) → Notes count ns old → n < 256
     → used ≡ has_byte old.used n → high ≡ nat_lt count n → new.twice ≡ first_place old.twice used at → new.gap ≡ first_place old.gap high at
@@ -118,31 +110,19 @@ at_place p os = map (λ o. (magnitude 10 o.number, p)) os
 abbrev AreWritten : List Opening → Type 0
 AreWritten os = AllByRecursion (λ o. o.number ≢ []) os
 
-slot_placed : (place at : ℕ) (o : Opening) → AreWritten (cond o.star [] (o ∷ []))
-    → with_place (slot_at place (cond o.star [] (o ∷ []))) at ≡ at_place at (cond o.star [] (o ∷ []))
-slot_placed place at o = by_star o.star refl
-  where
-    by_number : (ds : List ℕ) → ds ≢ [] → with_place (elim (optional_number ds) [ None ↦ Some place | Some n ↦ Some n ]) at ≡ (magnitude 10 ds, at) ∷ []
-    by_number [] h = absurd (h refl)
-    by_number (d ∷ ds) h = refl
-
-    unsuppressed : Bool → Option ℕ
-    unsuppressed v = cond v None (elim (optional_number o.number) [ None ↦ Some place | Some n ↦ Some n ])
-
-    by_star : (star : Bool) → o.star ≡ star → AreWritten (cond star [] (o ∷ []))
-        → with_place (slot_at place (cond star [] (o ∷ []))) at ≡ at_place at (cond star [] (o ∷ []))
-    by_star true e h = refl
-    by_star false e h = ap (λ v. with_place (unsuppressed v) at) e ∙ by_number o.number h.0
-
 -- the slot of a part is its number, where it has one
 part_placed : (place at : ℕ) (piece : Piece) → AreWritten (destinations (piece ∷ []))
     → with_place (slot_at place (destinations (piece ∷ []))) at ≡ at_place at (destinations (piece ∷ []))
-part_placed place at (WhiteSpace bs) written = refl
-part_placed place at (Ordinary b) written = refl
-part_placed place at Percents written = refl
-part_placed place at (Plain o b) written = slot_placed place at o written
-part_placed place at (Bracket o list) written = slot_placed place at o written
-part_placed place at (Printed o b) written = slot_placed place at (value_opening o) written
+part_placed place at piece =
+    by_destination (λ os. AreWritten os → with_place (slot_at place os) at ≡ at_place at os) piece (λ h. refl)
+    (λ o plain h. ap (λ v. with_place (unsuppressed o v) at) plain ∙ by_number o.number h.0)
+  where
+    unsuppressed : Opening → Bool → Option ℕ
+    unsuppressed o v = cond v None (elim (optional_number o.number) [ None ↦ Some place | Some n ↦ Some n ])
+
+    by_number : (ds : List ℕ) → ds ≢ [] → with_place (elim (optional_number ds) [ None ↦ Some place | Some n ↦ Some n ]) at ≡ (magnitude 10 ds, at) ∷ []
+    by_number [] h = absurd (h refl)
+    by_number (d ∷ ds) h = refl
 
 numbered_push : (p : ℕ) (done : List Piece) (piece : Piece)
     → numbered p (done ++ piece ∷ []) ≡ numbered p done ++ at_place (p + length (text_of done)) (destinations (piece ∷ []))

@@ -1,7 +1,6 @@
 -- The numbers of the destinations of a whole format.
-use Rattle.std.proofs.Common.{◌≡◌, ◌≢◌, ℕ, ◌+◌, ◌≤◌, ◌⊎◌, inl, inr, true, false, cond, ◌&&◌, ◌||◌, nat_eq, nat_lt, List, [], ◌∷◌, ◌++◌, length, map, None, refl, sym, ap, ◌∙◌, subst, arith}
+use Rattle.std.proofs.Common.{◌≡◌, ◌≢◌, ℕ, ◌+◌, ◌≤◌, ◌⊎◌, inl, inr, true, false, cond, ◌&&◌, ◌||◌, nat_eq, List, [], ◌∷◌, ◌++◌, length, map, None, refl, sym, ap, ◌∙◌, subst}
 use Rattle.std.proofs.lemmas.List.{map-append}
-use Rattle.std.proofs.lemmas.Bool.Decides.{nat_tests}
 use Rattle.std.specs.List.{AllByRecursion, list_all}
 use Rattle.sf_base.specs.Bytes.{magnitude}
 use Rattle.sf_format.specs.Lists.{is_any_of, is_written}
@@ -10,7 +9,7 @@ use Rattle.sf_format.specs.Slots.{AreDistinct}
 use Rattle.sf_format.specs.Grammar.{destinations, ArePlaced, AreAlike, AreNumbered}
 use Rattle.sf_format.specs.Rules.{Rule, first_of}
 use Rattle.sf_format.specs.Faults.{numbered, repeated, beyond, number_rules}
-use Rattle.sf_format.proofs.Outcomes.{by_test, and_left, or_left, or_right}
+use Rattle.sf_format.proofs.Outcomes.{by_test, and_left, or_left, or_right, other_byte, byte_differs, within, not_above}
 use Rattle.sf_format.proofs.Rules.{Quiet, quiet_is, quiet_from, all_append, all_front, all_back}
 use Rattle.sf_format.proofs.Destinations.{destinations_cons}
 
@@ -45,12 +44,6 @@ pub all_map : {A : Type 0} (P Q : A → Type 0) → ((a : A) → P a → Q a) �
 all_map P Q f [] h = tt
 all_map P Q f (x ∷ xs) h = (f x h.0, all_map P Q f xs h.1)
 
-differ : (n m : ℕ) → nat_eq n m ≡ false → m ≢ n
-differ n m e same = absurd (grind (arith, nat_tests))
-
-same_not : (n m : ℕ) → m ≢ n → nat_eq n m ≡ false
-same_not n m other = grind (arith, nat_tests)
-
 pub both_all : {A : Type 0} (P Q : A → Type 0) (xs : List A) → AllByRecursion P xs → AllByRecursion Q xs → AllByRecursion (λ x. P x × Q x) xs
 both_all P Q [] h k = tt
 both_all P Q (x ∷ xs) h k = ((h.0, k.0), both_all P Q xs h.1 k.1)
@@ -59,7 +52,7 @@ distinct_is : (earlier : List ℕ) (ns : List (ℕ × ℕ)) → Quiet (repeated 
 distinct_is earlier [] h = (tt, tt)
 distinct_is earlier (n ∷ ns) h =
     let rest = distinct_is (n.0 ∷ earlier) ns h.1 in (
-      (all_map (λ m. is_any_of (n.0 ∷ earlier) m ≡ false) (λ m. m ≢ n.0) (λ m e. differ n.0 m (or_left _ _ e)) (numbers ns) rest.1, rest.0),
+      (all_map (λ m. is_any_of (n.0 ∷ earlier) m ≡ false) (λ m. m ≢ n.0) (λ m e same. other_byte n.0 m (or_left _ _ e) (sym same)) (numbers ns) rest.1, rest.0),
       (
         h.0,
         all_map (λ m. is_any_of (n.0 ∷ earlier) m ≡ false) (λ m. is_any_of earlier m ≡ false)
@@ -73,7 +66,7 @@ distinct_quiet earlier (n ∷ ns) distinct fresh = (
   fresh.0,
   distinct_quiet (n.0 ∷ earlier) ns distinct.1
       (all_map (λ m. (m ≢ n.0) × (is_any_of earlier m ≡ false)) (λ m. is_any_of (n.0 ∷ earlier) m ≡ false)
-      (λ m h. ap (λ v. v || is_any_of earlier m) (same_not n.0 m h.0) ∙ h.1) (numbers ns)
+      (λ m h. ap (λ v. v || is_any_of earlier m) (byte_differs n.0 m (λ same. h.0 (sym same))) ∙ h.1) (numbers ns)
       (both_all (λ m. m ≢ n.0) (λ m. is_any_of earlier m ≡ false) (numbers ns) distinct.0 fresh.1)),
 )
 
@@ -83,19 +76,13 @@ all_new (n ∷ ns) = (refl, all_new ns)
 
 -- ---- numbers above the count
 
-low : (count n : ℕ) → nat_lt count n ≡ false → n ≤ count
-low count n e = grind (arith, nat_tests)
-
-is_low : (count n : ℕ) → n ≤ count → nat_lt count n ≡ false
-is_low count n h = grind (arith, nat_tests)
-
 low_is : (count : ℕ) (ns : List (ℕ × ℕ)) → Quiet (beyond count ns) → AllByRecursion (λ m. m ≤ count) (numbers ns)
 low_is count [] h = tt
-low_is count (n ∷ ns) h = (low count n.0 h.0, low_is count ns h.1)
+low_is count (n ∷ ns) h = (within count n.0 h.0, low_is count ns h.1)
 
 low_quiet : (count : ℕ) (ns : List (ℕ × ℕ)) → AllByRecursion (λ m. m ≤ count) (numbers ns) → Quiet (beyond count ns)
 low_quiet count [] h = tt
-low_quiet count (n ∷ ns) h = (is_low count n.0 h.0, low_quiet count ns h.1)
+low_quiet count (n ∷ ns) h = (not_above count n.0 h.0, low_quiet count ns h.1)
 
 -- ---- all written, or none
 

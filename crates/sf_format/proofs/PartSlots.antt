@@ -1,5 +1,5 @@
 -- The slots of the destinations of a whole format.
-use Rattle.std.proofs.Common.{◌≡◌, ◌≢◌, ℕ, zero, suc, ◌+◌, ◌<◌, ◌≤◌, inl, inr, Bool, true, false, cond, List, [], ◌∷◌, ◌++◌, length, map, Option, Some, None, refl, sym, ap, ◌∙◌, subst, arith, length-append}
+use Rattle.std.proofs.Common.{◌≡◌, ◌≢◌, ℕ, zero, suc, ◌+◌, ◌<◌, ◌≤◌, inl, inr, Bool, cond, List, [], ◌∷◌, ◌++◌, length, map, Option, Some, None, refl, sym, ap, ◌∙◌, subst, arith, length-append}
 use Rattle.std.proofs.lemmas.List.{length-map, map-append}
 use Rattle.std.specs.List.{AllByRecursion}
 use Rattle.sf_base.specs.Bytes.{magnitude}
@@ -8,13 +8,13 @@ use Rattle.sf_format.specs.Language.{Language}
 use Rattle.sf_format.specs.Language.{Scan, Print}
 use Rattle.sf_format.specs.Digits.{IsOptionalNumber, optional_number}
 use Rattle.sf_format.specs.Slots.{slots_from, AreDistinct}
-use Rattle.sf_format.specs.Pieces.{Opening, Piece, WhiteSpace, Ordinary, Percents, Plain, Bracket, Printed, piece_text, text_of}
+use Rattle.sf_format.specs.Pieces.{Opening, Piece, Ordinary, Percents, Plain, Bracket, Printed, piece_text, text_of}
 use Rattle.sf_format.specs.PrintGrammar.{IsPrintPiece}
-use Rattle.sf_format.specs.Grammar.{IsScanPiece, IsPiece, IsFormat, ArePlaced, AreNumbered, destinations, value_opening, MeanAll}
+use Rattle.sf_format.specs.Grammar.{IsScanPiece, IsPiece, IsFormat, ArePlaced, AreNumbered, destinations, MeanAll}
 use Rattle.sf_format.specs.Passing.{slot_at}
 use Rattle.sf_format.proofs.Rules.{all_append, all_front, all_back}
 use Rattle.sf_format.proofs.Numbers.{number_of, all_map, both_all, all_to_map}
-use Rattle.sf_format.proofs.Destinations.{destinations_cons, at_most_one}
+use Rattle.sf_format.proofs.Destinations.{destinations_cons, at_most_one, by_destination, assigned_all}
 use Rattle.sf_format.proofs.Pigeonholes.{AreWithin, pigeonhole}
 use Rattle.sf_format.proofs.LanguageParts.{empty_text}
 use Rattle.sf_format.proofs.WholeMeanings.{IsMeaning}
@@ -39,30 +39,18 @@ pub record ListsSlots (D : Type 0) (slot_in : D → Option ℕ) (slots : List D 
   pub none : slots [] ≡ []
   pub more : (d : D) (ds : List D) → slots (d ∷ ds) ≡ listed_slot (slot_in d) ++ slots ds
 
-slot_is : (place : ℕ) (o : Opening)
-    → listed_slot (slot_at place (cond o.star [] (o ∷ []))) ≡ map (opening_slot place) (cond o.star [] (o ∷ []))
-slot_is place o = by_star o.star refl
+part_slot : (place : ℕ) (piece : Piece)
+    → listed_slot (slot_at place (destinations (piece ∷ []))) ≡ map (opening_slot place) (destinations (piece ∷ []))
+part_slot place piece =
+    by_destination (λ os. listed_slot (slot_at place os) ≡ map (opening_slot place) os) piece refl
+    (λ o plain. ap (λ v. listed_slot (unsuppressed o v)) plain ∙ by_number (optional_number o.number))
   where
+    unsuppressed : Opening → Bool → Option ℕ
+    unsuppressed o v = cond v None (elim (optional_number o.number) [ None ↦ Some place | Some n ↦ Some n ])
+
     by_number : (n : Option ℕ) → listed_slot (elim n [ None ↦ Some place | Some m ↦ Some m ]) ≡ (elim n [ None ↦ place | Some m ↦ m ]) ∷ []
     by_number None = refl
     by_number (Some n) = refl
-
-    unsuppressed : Bool → Option ℕ
-    unsuppressed v = cond v None (elim (optional_number o.number) [ None ↦ Some place | Some n ↦ Some n ])
-
-    by_star : (star : Bool) → o.star ≡ star
-        → listed_slot (slot_at place (cond star [] (o ∷ []))) ≡ map (opening_slot place) (cond star [] (o ∷ []))
-    by_star true e = refl
-    by_star false e = ap (λ v. listed_slot (unsuppressed v)) e ∙ by_number (optional_number o.number)
-
-part_slot : (place : ℕ) (piece : Piece)
-    → listed_slot (slot_at place (destinations (piece ∷ []))) ≡ map (opening_slot place) (destinations (piece ∷ []))
-part_slot place (WhiteSpace bs) = refl
-part_slot place (Ordinary b) = refl
-part_slot place Percents = refl
-part_slot place (Plain o b) = slot_is place o
-part_slot place (Bracket o list) = slot_is place o
-part_slot place (Printed o b) = slot_is place (value_opening o)
 
 pub slots_all : {D : Type 0} {language : Language} {means : ℕ → Piece → D → Type 0} {slot_in : D → Option ℕ}
     (slots : List D → List ℕ) → IsMeaning D language means slot_in → ListsSlots D slot_in slots → (place : ℕ) (pieces : List Piece) (ds : List D)
@@ -123,28 +111,16 @@ abbrev HasNumber : Opening → Type 0
 HasNumber o = IsOptionalNumber 32 o.number
 
 scan_number : (profile : Profile) (piece : Piece) → IsScanPiece profile piece → AllByRecursion HasNumber (destinations (piece ∷ []))
-scan_number profile (WhiteSpace bs) is = tt
-scan_number profile (Ordinary b) is = tt
-scan_number profile Percents is = tt
-scan_number profile (Plain o b) is = by_star o.star
-  where
-    by_star : (star : Bool) → AllByRecursion HasNumber (cond star [] (o ∷ []))
-    by_star true = tt
-    by_star false = (is.1.2.number, tt)
-scan_number profile (Bracket o list) is = by_star o.star
-  where
-    by_star : (star : Bool) → AllByRecursion HasNumber (cond star [] (o ∷ []))
-    by_star true = tt
-    by_star false = (is.0.number, tt)
+scan_number profile (Plain o b) is = assigned_all HasNumber o is.1.2.number
+scan_number profile (Bracket o list) is = assigned_all HasNumber o is.0.number
 scan_number profile (Printed o b) is = absurd is
+scan_number profile _ is = tt
 
 print_number : (profile : Profile) (piece : Piece) → IsPrintPiece profile piece → AllByRecursion HasNumber (destinations (piece ∷ []))
-print_number profile (WhiteSpace bs) is = absurd is
 print_number profile (Ordinary b) is = tt
 print_number profile Percents is = tt
-print_number profile (Plain o b) is = absurd is
-print_number profile (Bracket o list) is = absurd is
 print_number profile (Printed o b) is = (is.2.number, tt)
+print_number profile _ is = absurd is
 
 destination_number : (language : Language) (piece : Piece) → IsPiece language piece → AllByRecursion HasNumber (destinations (piece ∷ []))
 destination_number (Scan profile) piece is = scan_number profile piece is

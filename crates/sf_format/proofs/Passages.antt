@@ -4,7 +4,6 @@ use Rattle.std.proofs.lemmas.Bool.Decides.{nat_tests}
 use Rattle.std.specs.Prelude.{MatchOption}
 use Rattle.sf_base.specs.Bytes.{magnitude}
 use Rattle.sf_format.specs.declared.directive.Profile.{Profile}
-use Rattle.sf_format.specs.declared.directive.Profile.TheVariants.{One, Two}
 use Rattle.sf_format.specs.declared.directive.Conversion.{Conversion}
 use Rattle.sf_format.specs.declared.directive.Directive.{Directive}
 use Rattle.sf_format.specs.declared.directive.Directive.TheVariants as directive
@@ -15,12 +14,12 @@ use Rattle.sf_format.specs.Scanlist.{IsSetBy, backward_range}
 use Rattle.sf_format.specs.declared.fault.FormatFault.{FormatFault}
 use Rattle.sf_format.specs.declared.fault.FormatWhy.{FormatWhy}
 use Rattle.sf_format.specs.declared.letter.Letter.{Letter}
-use Rattle.sf_format.specs.declared.letter.Letter.TheVariants.{Signed, Unsigned, Chars, Text, Set, Count}
+use Rattle.sf_format.specs.declared.letter.Letter.TheVariants.{Set}
 use Rattle.sf_format.specs.declared.slots.Slots.{Slots}
 use Rattle.sf_format.specs.declared.grammar.Passed.{Passed}
-use Rattle.sf_format.specs.Letters.{added_letters, letters, letter_of, kind_of}
+use Rattle.sf_format.specs.Letters.{letter_of, kind_of}
 use Rattle.sf_format.specs.Lists.{is_written, mark_at, begins}
-use Rattle.sf_format.specs.Pieces.{Opening, Piece, Percents, Plain, opening_text}
+use Rattle.sf_format.specs.Pieces.{Opening, Piece, Plain, opening_text}
 use Rattle.sf_format.specs.Cut.{Part, cut, letter_at, bracket_at, conversion_at, specification_at}
 use Rattle.sf_format.specs.Grammar.{destinations, assigned_opening, slot_of, IsConversion, Means}
 use Rattle.sf_format.specs.Rules.{Rule, first_of, slot_rules}
@@ -32,7 +31,8 @@ use Rattle.sf_format.proofs.Outcomes.{by_test}
 use Rattle.sf_format.proofs.Rules.{quiet_is}
 use Rattle.sf_format.proofs.Destinations.{slot_there}
 use Rattle.sf_format.proofs.Scanlists.{list_forward, list_set}
-use Rattle.sf_format.proofs.Suits.{ForRows, found}
+use Rattle.sf_format.proofs.Suits.{bracket_is}
+use Rattle.sf_format.proofs.Beginnings.{no_percents}
 
 pub first_left : (a b : List Rule) (f : FormatWhy × ℕ) → first_of a ≡ Some f → first_of (a ++ b) ≡ Some f
 first_left [] b f e = absurd (cc)
@@ -80,26 +80,9 @@ held_there slots earlier o letter x h = subst (λ os. Holds slots (earlier ++ os
 
 -- ---- the conversion by a letter
 
-abbrev IsBracket : ℕ → Letter → Type 0
-IsBracket b letter = is_set letter ≡ nat_eq b 91
-
-set_is : (profile : Profile) (b : ℕ) (letter : Letter) → letter_of profile b ≡ Some letter → is_set letter ≡ nat_eq b 91
-set_is profile b letter e = found IsBracket (letters profile) each b letter e
-  where
-    added : (p : Profile) → ForRows IsBracket (added_letters p)
-    added One = tt
-    added Two = ((refl, tt), tt)
-
-    each : ForRows IsBracket (letters profile)
-    each = ((refl, tt), ((refl, tt), ((refl, tt), ((refl, tt), ((refl, (refl, tt)), ((refl, tt), ((refl, tt), ((refl, tt), ((refl, tt), added profile)))))))))
-
 only_set : (letter : Letter) → is_set letter ≡ true → letter ≡ Set
-only_set (Signed base) e = absurd (cc)
-only_set (Unsigned base) e = absurd (cc)
-only_set Chars e = absurd (cc)
-only_set Text e = absurd (cc)
 only_set Set e = refl
-only_set Count e = absurd (cc)
+only_set _ e = absurd (cc)
 
 means_by : (profile : Profile) (place b : ℕ) (x : List ℕ) (o : Opening) (letter : Letter) (c : Conversion) (v : Bool) → is_set letter ≡ v
     → letter_of profile b ≡ Some letter → IsConversion place o letter c → IsShape v letter x c.shape
@@ -125,14 +108,12 @@ made_means : (profile : Profile) (place q b : ℕ) (x : List ℕ) (o : Opening) 
     (d : Directive) → letter_of profile b ≡ Some letter → kind_of letter o.size ≡ Some kind → first_of (bracket_rules (is_set letter) q x) ≡ None
     → IsListed (is_set letter) x listed → slot ≡ slot_of place o → IsMade letter kind o.width slot listed d
     → Means profile place (letter_at o (b ∷ x)).piece d
-made_means profile place q b x o letter kind slot listed directive.Space found known none is placed h = absurd h
-made_means profile place q b x o letter kind slot listed (directive.Byte a) found known none is placed h = absurd h
-made_means profile place q b x o letter kind slot listed directive.Percent found known none is placed h = absurd h
 made_means profile place q b x o letter kind slot listed (directive.Conv c) found known none is placed h =
-    let v = set_is profile b letter found in
+    let v = bracket_is profile b letter found in
     means_by profile place b x o letter c (nat_eq b 91) v found
     (record { kind = known ∙ ap Some (sym h.0); width = h.1; slot = h.2 ∙ placed })
     (subst (λ a. IsShape a letter x c.shape) v (shape_listed (is_set letter) q x letter listed c.shape none is h.3))
+made_means profile place q b x o letter kind slot listed _ found known none is placed h = absurd h
 
 pub passes_letter : (profile : Profile) (wanted : Bool) (earlier : List Opening) (p q b : ℕ) (x : List ℕ) (o : Opening) (letter : Letter) (kind : Kind)
     (slot : Option ℕ) (listed : Listed) (d : Option Directive) (slots : Slots) → first_of (letter_rules profile o b q) ≡ None
@@ -142,7 +123,7 @@ pub passes_letter : (profile : Profile) (wanted : Bool) (earlier : List Opening)
     → Holds slots (earlier ++ assigned_opening o [])
     → PassesAs wanted (Means profile) (rest_rules profile earlier p o q (b ∷ x)) earlier (letter_at o (b ∷ x)) d slot listed.rest.now slots
 passes_letter profile wanted earlier p q b x o letter kind slot listed d slots rules found known list is after placed made none holds =
-    let v = set_is profile b letter found in (
+    let v = bracket_is profile b letter found in (
       slot_fault_first profile earlier p o q b x rules (ap (λ a. first_of (bracket_rules a q x)) (sym v) ∙ list) ∙ none,
       after ∙ ap (λ a. rest_behind a x) v ∙ sym (letter_rest o b x),
       stands d made,
@@ -160,7 +141,7 @@ pub passes_list : (profile : Profile) (earlier : List Opening) (p q b : ℕ) (x 
     → first_of (letter_rules profile o b q) ≡ None → letter_of profile b ≡ Some letter
     → first_of (bracket_rules (is_set letter) q x) ≡ Some f → first_of (rest_rules profile earlier p o q (b ∷ x)) ≡ Some f
 passes_list profile earlier p q b x o letter f rules found list =
-    list_fault_first profile earlier p o q b x f rules (ap (λ a. first_of (bracket_rules a q x)) (sym (set_is profile b letter found)) ∙ list)
+    list_fault_first profile earlier p o q b x f rules (ap (λ a. first_of (bracket_rules a q x)) (sym (bracket_is profile b letter found)) ∙ list)
 
 -- the first fault of the destination
 pub passes_slot : (profile : Profile) (earlier : List Opening) (p q b : ℕ) (x : List ℕ) (o : Opening) (letter : Letter) (f : FormatWhy × ℕ)
@@ -168,7 +149,7 @@ pub passes_slot : (profile : Profile) (earlier : List Opening) (p q b : ℕ) (x 
     → first_of (bracket_rules (is_set letter) q x) ≡ None → first_of (slot_rules earlier p o) ≡ Some f
     → first_of (rest_rules profile earlier p o q (b ∷ x)) ≡ Some f
 passes_slot profile earlier p q b x o letter f rules found list slot =
-    slot_fault_first profile earlier p o q b x rules (ap (λ a. first_of (bracket_rules a q x)) (sym (set_is profile b letter found)) ∙ list) ∙ slot
+    slot_fault_first profile earlier p o q b x rules (ap (λ a. first_of (bracket_rules a q x)) (sym (bracket_is profile b letter found)) ∙ list) ∙ slot
 
 above : (n : ℕ) → (nat_eq n 0 || nat_lt 32 n) ≡ false → n ≤ 32
 above n e = grind (arith, nat_tests)
@@ -196,9 +177,6 @@ passes_by {D} wanted means a b s t earlier r e f h = by_rules r (subst (λ u. Pa
 abbrev percent_choice : List Rule → Bool → List Rule
 percent_choice rules v = cond (not v) rules []
 
-abbrev part_choice : List ℕ → Part → Bool → Part
-part_choice x part v = cond v (record { piece = Percents; rest = drop 1 x }) part
-
 -- what follows a % that no other follows
 pub passes_specification : {D : Type 0} (wanted : Bool) (means : ℕ → Piece → D → Type 0) (language : Language) (earlier : List Opening) (p : ℕ) (x : List ℕ)
     (r : Result (Passed D) FormatFault) → begins (37 ∷ []) x ≡ false
@@ -207,7 +185,7 @@ pub passes_specification : {D : Type 0} (wanted : Bool) (means : ℕ → Piece �
 passes_specification wanted means language earlier p x r other passes =
     passes_by wanted means (percent_rules language earlier p x) (conversion_rules language earlier p x) (specification_at language x)
     (conversion_at language x) earlier r (ap (λ v. first_of (percent_choice (conversion_rules language earlier p x) v)) other)
-    (ap (part_choice x (conversion_at language x)) other) passes
+    (no_percents language x other) passes
 
 -- the first fault of the opening
 pub opening_fault : (language : Language) (earlier : List Opening) (p : ℕ) (x : List ℕ) (opening rest : List Rule) (f : FormatWhy × ℕ)

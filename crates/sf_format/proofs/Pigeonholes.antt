@@ -1,9 +1,9 @@
 -- Distinct numbers from 1 to n are at most n.
-use Rattle.std.proofs.Common.{◌≡◌, ◌≢◌, ℕ, zero, suc, ◌+◌, ◌≤◌, true, false, cond, nat_eq, List, [], ◌∷◌, length, refl, ap, ◌∙◌, subst, arith}
+use Rattle.std.proofs.Common.{◌≡◌, ◌≢◌, ℕ, zero, suc, ◌+◌, ◌≤◌, false, cond, nat_eq, List, [], ◌∷◌, length, refl, ap, ◌∙◌, subst, arith}
 use Rattle.std.proofs.lemmas.Bool.Decides.{nat_tests}
 use Rattle.std.specs.List.{AllByRecursion}
 use Rattle.sf_format.specs.Slots.{AreDistinct}
-use Rattle.sf_format.proofs.Outcomes.{by_test}
+use Rattle.sf_format.proofs.Outcomes.{by_test, same_byte, byte_differs}
 
 abbrev pub AreWithin : ℕ → List ℕ → Type 0
 AreWithin n xs = AllByRecursion (λ x. (1 ≤ x) × (x ≤ n)) xs
@@ -13,16 +13,10 @@ abbrev without : ℕ → List ℕ → List ℕ
 without k [] = []
 without k (x ∷ xs) = cond (nat_eq x k) (without k xs) (x ∷ without k xs)
 
-is_same : (a b : ℕ) → nat_eq a b ≡ true → a ≡ b
-is_same a b e = grind (arith, nat_tests)
-
-is_other : (a b : ℕ) → a ≢ b → nat_eq a b ≡ false
-is_other a b h = grind (arith, nat_tests)
-
 none_without : (k : ℕ) (xs : List ℕ) → AllByRecursion (λ m. m ≢ k) xs → without k xs ≡ xs
 none_without k [] h = refl
 none_without k (x ∷ xs) h =
-    ap (λ v. cond v (without k xs) (x ∷ without k xs)) (is_other x k h.0) ∙ ap (λ ys. x ∷ ys) (none_without k xs h.1)
+    ap (λ v. cond v (without k xs) (x ∷ without k xs)) (byte_differs x k h.0) ∙ ap (λ ys. x ∷ ys) (none_without k xs h.1)
 
 all_without : (P Q : ℕ → Type 0) (k : ℕ) → ((x : ℕ) → nat_eq x k ≡ false → P x → Q x) → (xs : List ℕ) → AllByRecursion P xs
     → AllByRecursion Q (without k xs)
@@ -43,7 +37,7 @@ length_without k [] h = omega arith
 length_without k (x ∷ xs) h =
     by_test (nat_eq x k) (λ v. length (x ∷ xs) ≤ 1 + length (cond v (without k xs) (x ∷ without k xs)))
     (λ same.
-    let all : AllByRecursion (λ m. m ≢ k) xs = subst (λ a. AllByRecursion (λ m. m ≢ a) xs) (is_same x k same) h.0 in
+    let all : AllByRecursion (λ m. m ≢ k) xs = subst (λ a. AllByRecursion (λ m. m ≢ a) xs) (same_byte x k same) h.0 in
     omega (arith, ap length (none_without k xs all)))
     (λ other. omega (arith, length_without k xs h.1))
 

@@ -1,5 +1,5 @@
 -- What holds of the units of each spelled text.
-use Rattle.std.proofs.Common.{◌≡◌, ℕ, ◌+◌, ◌≤◌, Bool, true, false, ◌||◌, nat_eq, List, [], ◌∷◌, ◌++◌, length, map, Option, Some, None, refl, sym, ap, ◌∙◌, subst, arith}
+use Rattle.std.proofs.Common.{◌≡◌, ℕ, ◌≤◌, Bool, true, false, ◌||◌, nat_eq, List, [], ◌∷◌, ◌++◌, length, map, Option, Some, None, refl, sym, ap, ◌∙◌, subst, arith}
 use Rattle.std.specs.Prelude.{IfSome}
 use Rattle.std.proofs.lemmas.List.{length-map}
 use Rattle.std.specs.List.{AllByRecursion}
@@ -9,7 +9,7 @@ use Rattle.sf_base.specs.Bytes.{magnitude}
 use Rattle.sf_format.specs.declared.directive.Profile.{Profile}
 use Rattle.sf_format.specs.Language.{Print}
 use Rattle.sf_format.specs.declared.letter.Length.{Length}
-use Rattle.sf_format.specs.declared.letter.Length.TheVariants.{NoLength, HH, H, LL, L, J, Z, T}
+use Rattle.sf_format.specs.declared.letter.Length.TheVariants.{NoLength}
 use Rattle.sf_format.specs.declared.unit.PrintLetter.{PrintLetter}
 use Rattle.sf_format.specs.declared.letter.Values.{Values}
 use Rattle.sf_format.specs.declared.letter.Values.TheVariants as values
@@ -20,38 +20,26 @@ use Rattle.sf_format.specs.Digits.{IsOptionalNumber}
 use Rattle.sf_format.specs.Letters.{signed_kind, unsigned_kind, text_kind, sized_kind}
 use Rattle.sf_format.specs.PrintLetters.{print_row, print_kind_of}
 use Rattle.sf_format.specs.Slots.{Slotted, slots_from}
-use Rattle.sf_format.specs.Units.{is_signed, is_unsigned, is_text, holds_kind, prints_kind, has_flag, HasPrecision, IsProperConv, IsProperUnit, AreProperUnits, values_of, ArePrintedInOrder, AreAccepted}
-use Rattle.sf_format.specs.Pieces.{PrintOpening, Piece, WhiteSpace, Ordinary, Percents, Plain, Bracket, Printed}
+use Rattle.sf_format.specs.Units.{is_signed, is_unsigned, is_text, holds_kind, prints_kind, has_flag, HasPrecision, IsProperConv, IsProperUnit, values_of, ArePrintedInOrder, AreAccepted}
+use Rattle.sf_format.specs.Pieces.{PrintOpening, Piece, Ordinary, Percents, Printed}
 use Rattle.sf_format.specs.PrintGrammar.{IsPrecision, SuitsPrint, IsPrintPiece, is_set_flag, IsPrintConv, Prints}
 use Rattle.sf_format.specs.Grammar.{IsFormat, ArePlaced, destinations, MeanAll, SpellsPrint}
 use Rattle.sf_format.specs.Passing.{printed_slot}
-use Rattle.sf_format.proofs.Outcomes.{by_test}
-use Rattle.sf_format.proofs.Cutting.{same_byte}
+use Rattle.sf_format.proofs.Outcomes.{by_test, same_byte}
 use Rattle.sf_format.proofs.Suits.{text_kinded}
 use Rattle.sf_format.proofs.PrintMeanings.{print_meaning}
 use Rattle.sf_format.proofs.PartSlots.{ListsSlots, listed_slot, AreGood, all_short, format_few, slots_good, slots_count, slots_in_order}
+use Rattle.sf_format.proofs.WholeMeanings.{mean_each}
 
 -- ---- kinds
 
 signed_fits : (size : Length) → is_signed (signed_kind size) ≡ true
 signed_fits NoLength = refl
-signed_fits HH = refl
-signed_fits H = refl
-signed_fits LL = refl
-signed_fits L = refl
-signed_fits J = refl
-signed_fits Z = refl
-signed_fits T = refl
+signed_fits _ = refl
 
 unsigned_fits : (size : Length) → is_unsigned (unsigned_kind size) ≡ true
 unsigned_fits NoLength = refl
-unsigned_fits HH = refl
-unsigned_fits H = refl
-unsigned_fits LL = refl
-unsigned_fits L = refl
-unsigned_fits J = refl
-unsigned_fits Z = refl
-unsigned_fits T = refl
+unsigned_fits _ = refl
 
 is_signed_kind : (size : Length) (k : Kind) → Some (signed_kind size) ≡ Some k → is_signed k ≡ true
 is_signed_kind size k e = let same : signed_kind size ≡ k = cc in subst (λ a. is_signed a ≡ true) same (signed_fits size)
@@ -114,24 +102,12 @@ proper_conversion place o letter c suits h = record {
 
 proper_unit : (profile : Profile) (place : ℕ) (piece : Piece) (u : PrintUnit) → IsPrintPiece profile piece → Prints profile place piece u
     → IsProperUnit u
-proper_unit profile place (WhiteSpace bs) u is h = absurd is
 proper_unit profile place (Ordinary b) u is h = subst IsProperUnit (sym h) is.0
 proper_unit profile place Percents u is h = subst IsProperUnit (sym h) (omega arith)
-proper_unit profile place (Plain o b) u is h = absurd is
-proper_unit profile place (Bracket o list) u is h = absurd is
 proper_unit profile place (Printed o b) u is h =
     let same : is.0 ≡ h.0 = let e = sym is.1 ∙ h.2 in cc in
     subst IsProperUnit (sym h.4) (proper_conversion place o h.0 h.1 (subst (λ l. SuitsPrint l o) same is.2) h.3)
-
-all_proper : (profile : Profile) (place : ℕ) (pieces : List Piece) (us : List PrintUnit) → AllByRecursion (IsPrintPiece profile) pieces
-    → MeanAll (Prints profile) place pieces us → AreProperUnits us
-all_proper profile place [] [] each h = tt
-all_proper profile place [] (u ∷ us) each h = absurd h
-all_proper profile place (piece ∷ pieces) [] each h = absurd h
-all_proper profile place (piece ∷ pieces) (u ∷ us) each h = (
-  proper_unit profile place piece u each.0 h.0,
-  all_proper profile (place + length (destinations (piece ∷ []))) pieces us each.1 h.1,
-)
+proper_unit profile place _ u is h = absurd is
 
 -- ---- slots
 
@@ -167,7 +143,7 @@ print_accepted profile pieces us is h =
     let good = subst (λ n. AreGood n (printed_slots us)) (sym count)
     (slots_good (Print profile) (Prints profile) printed_slots (print_meaning profile) lists_slots pieces us is h) in
     record {
-      proper = all_proper profile 1 pieces us is.each h;
+      proper = mean_each IsProperUnit (proper_unit profile) 1 pieces us is.each h;
       short = omega (arith, all_short (Print profile) (Prints profile) 1 pieces us is.each h, is.short);
       few = omega (arith, count, format_few (Print profile) pieces is);
       slots = record { each = good.within; distinct = good.distinct };

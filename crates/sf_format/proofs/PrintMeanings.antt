@@ -1,6 +1,5 @@
 -- A part of a print format means one unit.
 use Rattle.std.proofs.Common.{◌≡◌, ℕ, Bool, [], ◌∷◌, Option, Some, None, refl, sym, ap, ◌∙◌, subst}
-use Rattle.std.specs.Prelude.{IsSome}
 use Rattle.std.specs.Option.{option_map}
 use Rattle.sf_base.specs.declared.values.Kind.{Kind}
 use Rattle.sf_base.specs.Bytes.{magnitude}
@@ -12,11 +11,11 @@ use Rattle.sf_format.specs.declared.unit.Unit.{Unit as PrintUnit}
 use Rattle.sf_format.specs.declared.unit.Unit.TheVariants as unit
 use Rattle.sf_format.specs.Digits.{optional_number}
 use Rattle.sf_format.specs.PrintLetters.{print_kind_of}
-use Rattle.sf_format.specs.Pieces.{PrintOpening, Piece, WhiteSpace, Ordinary, Percents, Plain, Bracket, Printed}
+use Rattle.sf_format.specs.Pieces.{PrintOpening, Piece, Ordinary, Percents, Printed}
 use Rattle.sf_format.specs.PrintGrammar.{IsPrintPiece, IsPrintConv, Prints, or_place, is_set_flag}
 use Rattle.sf_format.specs.Grammar.{destinations}
 use Rattle.sf_format.specs.Passing.{slot_at, printed_slot}
-use Rattle.sf_format.proofs.WholeMeanings.{IsMeaning}
+use Rattle.sf_format.proofs.WholeMeanings.{IsMeaning, some_of}
 
 abbrev made : PrintLetter → Kind → ℕ → Bool → Bool → Bool → Bool → Bool → ℕ → Option ℕ → PrintConv
 made l k n minus plus blank alt zero w p = record {
@@ -40,15 +39,7 @@ told_by place o letter k =
 
 is_told : (place : ℕ) (o : PrintOpening) (letter : PrintLetter) (c : PrintConv) → IsPrintConv place o letter c → c ≡ told_by place o letter c.kind
 is_told place o letter c h =
-    ap (λ a. made a c.kind c.slot c.minus c.plus c.blank c.alt c.zero c.width c.precision) h.prints
-    ∙ ap (λ a. made letter c.kind a c.minus c.plus c.blank c.alt c.zero c.width c.precision) h.slot
-    ∙ ap (λ a. made letter c.kind (or_place place (optional_number o.number)) a c.plus c.blank c.alt c.zero c.width c.precision) h.minus
-    ∙ ap (λ a. made letter c.kind (or_place place (optional_number o.number)) (is_set_flag 45 o.flags) a c.blank c.alt c.zero c.width c.precision) h.plus
-    ∙ ap (λ a. made letter c.kind (or_place place (optional_number o.number)) (is_set_flag 45 o.flags) (is_set_flag 43 o.flags) a c.alt c.zero c.width c.precision) h.blank
-    ∙ ap (λ a. made letter c.kind (or_place place (optional_number o.number)) (is_set_flag 45 o.flags) (is_set_flag 43 o.flags) (is_set_flag 32 o.flags) a c.zero c.width c.precision) h.alt
-    ∙ ap (λ a. made letter c.kind (or_place place (optional_number o.number)) (is_set_flag 45 o.flags) (is_set_flag 43 o.flags) (is_set_flag 32 o.flags) (is_set_flag 35 o.flags) a c.width c.precision) h.zero
-    ∙ ap (λ a. made letter c.kind (or_place place (optional_number o.number)) (is_set_flag 45 o.flags) (is_set_flag 43 o.flags) (is_set_flag 32 o.flags) (is_set_flag 35 o.flags) (is_set_flag 48 o.flags) a c.precision) h.width
-    ∙ ap (λ a. made letter c.kind (or_place place (optional_number o.number)) (is_set_flag 45 o.flags) (is_set_flag 43 o.flags) (is_set_flag 32 o.flags) (is_set_flag 35 o.flags) (is_set_flag 48 o.flags) (magnitude 10 o.width) a) h.precision
+    rw (← h.prints, ← h.slot, ← h.minus, ← h.plus, ← h.blank, ← h.alt, ← h.zero, ← h.width, ← h.precision) refl
 
 conversion_same : (place : ℕ) (o : PrintOpening) (letter : PrintLetter) (c d : PrintConv) → IsPrintConv place o letter c
     → IsPrintConv place o letter d → c ≡ d
@@ -57,28 +48,19 @@ conversion_same place o letter c d h k =
     is_told place o letter c h ∙ ap (told_by place o letter) kinds ∙ sym (is_told place o letter d k)
 
 prints_one : (profile : Profile) (place : ℕ) (piece : Piece) (u v : PrintUnit) → Prints profile place piece u → Prints profile place piece v → u ≡ v
-prints_one profile place (WhiteSpace bs) u v h k = absurd h
 prints_one profile place (Ordinary b) u v h k = h ∙ sym k
 prints_one profile place Percents u v h k = h ∙ sym k
-prints_one profile place (Plain o b) u v h k = absurd h
-prints_one profile place (Bracket o list) u v h k = absurd h
 prints_one profile place (Printed o b) u v h k =
     let same : h.0 ≡ k.0 = let e = sym h.2 ∙ k.2 in cc in
     h.4 ∙ ap unit.Conv (conversion_same place o k.0 h.1 k.1 (subst (λ l. IsPrintConv place o l h.1) same h.3) k.3) ∙ sym k.4
-
-some_kind : (o : Option Kind) → IsSome o → (kind : Kind) × (o ≡ Some kind)
-some_kind None h = absurd (cc)
-some_kind (Some kind) h = (kind, refl)
+prints_one profile place _ u v h k = absurd h
 
 some_unit : (profile : Profile) (place : ℕ) (piece : Piece) → IsPrintPiece profile piece → (u : PrintUnit) × Prints profile place piece u
-some_unit profile place (WhiteSpace bs) is = absurd is
 some_unit profile place (Ordinary b) is = (unit.Byte b, refl)
 some_unit profile place Percents is = (unit.Byte 37, refl)
-some_unit profile place (Plain o b) is = absurd is
-some_unit profile place (Bracket o list) is = absurd is
 some_unit profile place (Printed o b) is =
     let letter = is.0 in
-    let k = some_kind (print_kind_of letter o.size) is.2.size in
+    let k = some_of (print_kind_of letter o.size) is.2.size in
     let c = told_by place o letter k.0 in (
       unit.Conv c,
       (
@@ -100,6 +82,7 @@ some_unit profile place (Printed o b) is =
         refl,
       ),
     )
+some_unit profile place _ is = absurd is
 
 placed : (place : ℕ) (n : Option ℕ) → Some (or_place place n) ≡ elim n [ None ↦ Some place | Some m ↦ Some m ]
 placed place None = refl
@@ -108,12 +91,10 @@ placed place (Some n) = refl
 -- the slot of a unit is that of its part
 prints_slot : (profile : Profile) (place : ℕ) (piece : Piece) (u : PrintUnit) → Prints profile place piece u
     → printed_slot u ≡ slot_at place (destinations (piece ∷ []))
-prints_slot profile place (WhiteSpace bs) u h = absurd h
 prints_slot profile place (Ordinary b) u h = ap printed_slot h
 prints_slot profile place Percents u h = ap printed_slot h
-prints_slot profile place (Plain o b) u h = absurd h
-prints_slot profile place (Bracket o list) u h = absurd h
 prints_slot profile place (Printed o b) u h = ap printed_slot h.4 ∙ ap Some h.3.slot ∙ placed place (optional_number o.number)
+prints_slot profile place _ u h = absurd h
 
 pub print_meaning : (profile : Profile) → IsMeaning PrintUnit (Print profile) (Prints profile) printed_slot
 print_meaning profile = record { one = prints_one profile; some = some_unit profile; slot = prints_slot profile }

@@ -20,8 +20,8 @@ use Rattle.sf_format.specs.PrintRules.{precision_number, print_opening_rules, pr
 use Rattle.sf_format.specs.Faults.{conversion_rules}
 use Rattle.sf_format.specs.Passing.{Holds, precision_of, PassesAs}
 use Rattle.sf_format.proofs.Rules.{quiet_is}
-use Rattle.sf_format.proofs.Suits.{within}
 use Rattle.sf_format.proofs.Passages.{first_left, first_right, number_low}
+use Rattle.sf_format.proofs.Outcomes.{within}
 
 -- what holds of a precision that is there
 pub if_point : (P : List ℕ → Type 0) (point : Bool) (ds : List ℕ) → IfSome (precision_of point ds) P → point ≡ true → P ds

@@ -11,7 +11,7 @@ use Rattle.sf_base.specs.Bytes.{magnitude}
 use Rattle.sf_format.specs.declared.directive.Profile.{Profile}
 use Rattle.sf_format.specs.declared.directive.Profile.TheVariants as profile
 use Rattle.sf_format.specs.declared.unit.PrintLetter.{PrintLetter}
-use Rattle.sf_format.specs.declared.unit.PrintLetter.TheVariants.{Signed, Unsigned, Octal, HexLower, HexUpper, Binary, Text, One}
+use Rattle.sf_format.specs.declared.unit.PrintLetter.TheVariants.{One}
 use Rattle.sf_format.specs.Digits.{is_decimal}
 use Rattle.sf_format.specs.Lists.{is_any_of, is_written}
 use Rattle.sf_format.specs.Letters.{text_kind}
@@ -21,10 +21,10 @@ use Rattle.sf_format.specs.Pieces.{PrintOpening}
 use Rattle.sf_format.specs.PrintGrammar.{IsPrecision, StartsAboveZero, SuitsPrint}
 use Rattle.sf_format.specs.Rules.{first_of}
 use Rattle.sf_format.specs.PrintRules.{flags_place, precision_number, foreign_flag, takes_one, print_opening_rules, print_letter_rules, flag_rules}
-use Rattle.sf_format.proofs.Outcomes.{by_test, not_false}
+use Rattle.sf_format.proofs.Outcomes.{by_test, not_false, within, not_above}
 use Rattle.sf_format.proofs.Prefixes.{AllPass}
 use Rattle.sf_format.proofs.Rules.{Quiet, quiet_is}
-use Rattle.sf_format.proofs.Suits.{any_of, last_byte, text_allowed, text_quiet, slot_from, slot_test, number_from, number_high, number_digits, within, not_above}
+use Rattle.sf_format.proofs.Suits.{any_of, last_byte, text_allowed, text_quiet, slot_from, slot_test, number_from, number_high, number_digits, not_zero}
 use Rattle.sf_format.proofs.Cutting.{IsLast}
 use Rattle.sf_format.proofs.PrintCutting.{HasPrintDigits}
 
@@ -79,9 +79,6 @@ value_pos d e other = grind (arith, nat_tests)
 
 magnitude_pos : (d : ℕ) (ds : List ℕ) → is_decimal d ≡ true → d ≢ 48 → nat_eq (magnitude 10 (d ∷ ds)) 0 ≡ false
 magnitude_pos d ds e other = not_zero (magnitude 10 (d ∷ ds)) (omega (arith, mul-pos (value_pos d e other) (ten_pos (length ds))))
-  where
-    not_zero : (n : ℕ) → 0 < n → nat_eq n 0 ≡ false
-    not_zero n h = grind (arith, nat_tests)
 
 width_low : (ds : List ℕ) → AllPass is_decimal ds → StartsAboveZero ds → (is_written ds && nat_eq (magnitude 10 ds) 0) ≡ false
 width_low [] digits first = refl
@@ -104,27 +101,15 @@ precision_digits (Some ds) h = h.0
 
 one_from : (letter : PrintLetter) (precision : Option (List ℕ)) → (takes_one letter && is_some precision) ≡ false
     → HasPrecision letter (option_map (λ ds. magnitude 10 ds) precision)
-one_from Signed precision e = tt
-one_from Unsigned precision e = tt
-one_from Octal precision e = tt
-one_from HexLower precision e = tt
-one_from HexUpper precision e = tt
-one_from Binary precision e = tt
-one_from Text precision e = tt
 one_from One None e = refl
 one_from One (Some ds) e = absurd (cc)
+one_from _ precision e = tt
 
 one_test : (letter : PrintLetter) (precision : Option (List ℕ)) → HasPrecision letter (option_map (λ ds. magnitude 10 ds) precision)
     → (takes_one letter && is_some precision) ≡ false
-one_test Signed precision h = refl
-one_test Unsigned precision h = refl
-one_test Octal precision h = refl
-one_test HexLower precision h = refl
-one_test HexUpper precision h = refl
-one_test Binary precision h = refl
-one_test Text precision h = refl
 one_test One None h = refl
 one_test One (Some ds) h = absurd (cc)
+one_test _ precision h = refl
 
 -- ---- flags
 

@@ -14,13 +14,14 @@ use Rattle.sf_format.specs.declared.unit.PrintLetter.{PrintLetter}
 use Rattle.sf_format.specs.declared.unit.Unit.{Unit as PrintUnit}
 use Rattle.sf_format.specs.Letters.{letters, letter_of}
 use Rattle.sf_format.specs.PrintLetters.{print_letters, print_letter_of}
-use Rattle.sf_format.specs.Pieces.{Opening, Piece, WhiteSpace, Ordinary, Percents, Plain, Bracket, Printed}
+use Rattle.sf_format.specs.Pieces.{Opening, Piece, Ordinary, Percents, Plain, Bracket, Printed}
 use Rattle.sf_format.specs.PrintGrammar.{SuitsPrint, Prints}
 use Rattle.sf_format.specs.Grammar.{Suits, IsScanPiece, IsPiece, IsConversion, shape_of, destinations, Means, MeanAll}
 use Rattle.sf_format.specs.Profiles.{shape_with, directive_with, base_in_two, base_in_one, in_two, in_one, ShapeHas, DirectiveHas, HaveBases, IsNotBin, IsOfOne, IsNotBinary, UnitIsNotBinary, AreNotBinary}
 use Rattle.sf_format.specs.Laws.{TwoSpellsOne, OneSpellsTwo, OneHasOldBases, TwoPrintsOne, OnePrintsTwo}
 use Rattle.sf_format.proofs.Suits.{found}
 use Rattle.sf_format.proofs.PrintSuits.{printed}
+use Rattle.sf_format.proofs.WholeMeanings.{mean_each}
 
 -- ---- letters
 
@@ -60,61 +61,38 @@ conversion_with other c = record c { shape = shape_with other c.shape }
 suits_with : (other : Base → Base) (letter : Letter) (o : Opening) → Suits letter o → Suits (letter_with other letter) o
 suits_with other (Signed base) o s = record { number = s.number; suppressed = s.suppressed; width = s.width; size = s.size; count = s.count }
 suits_with other (Unsigned base) o s = record { number = s.number; suppressed = s.suppressed; width = s.width; size = s.size; count = s.count }
-suits_with other Chars o s = s
-suits_with other Text o s = s
-suits_with other Set o s = s
-suits_with other Count o s = s
+suits_with other _ o s = s
 
 is_with : (other : Base → Base) (place : ℕ) (o : Opening) (letter : Letter) (c : Conversion) → IsConversion place o letter c
     → IsConversion place o (letter_with other letter) (conversion_with other c)
 is_with other place o (Signed base) c h = record { kind = h.kind; width = h.width; slot = h.slot }
-is_with other place o (Unsigned base) c h = record { kind = h.kind; width = h.width; slot = h.slot }
-is_with other place o Chars c h = record { kind = h.kind; width = h.width; slot = h.slot }
-is_with other place o Text c h = record { kind = h.kind; width = h.width; slot = h.slot }
-is_with other place o Set c h = record { kind = h.kind; width = h.width; slot = h.slot }
-is_with other place o Count c h = record { kind = h.kind; width = h.width; slot = h.slot }
+is_with other place o _ c h = record { kind = h.kind; width = h.width; slot = h.slot }
 
 takes_with : (other : Base → Base) (letter : Letter) (s : Shape) → shape_of letter s → shape_of (letter_with other letter) (shape_with other s)
-takes_with other (Signed base) s h = ap (shape_with other) h
-takes_with other (Unsigned base) s h = ap (shape_with other) h
-takes_with other Chars s h = ap (shape_with other) h
-takes_with other Text s h = ap (shape_with other) h
 takes_with other Set s h = absurd h
-takes_with other Count s h = ap (shape_with other) h
+takes_with other _ s h = ap (shape_with other) h
 
 -- a letter's base is that of its directive
 letter_has : (P : Base → Type 0) (letter : Letter) (s : Shape) → shape_of letter s → ShapeHas P s → LetterHas P letter
 letter_has P (Signed base) s h has = subst (ShapeHas P) h has
 letter_has P (Unsigned base) s h has = subst (ShapeHas P) h has
-letter_has P Chars s h has = tt
-letter_has P Text s h has = tt
-letter_has P Set s h has = tt
-letter_has P Count s h has = tt
+letter_has P _ s h has = tt
 
 shape_has : (P : Base → Type 0) (letter : Letter) (s : Shape) → shape_of letter s → LetterHas P letter → ShapeHas P s
 shape_has P (Signed base) s h has = subst (ShapeHas P) (sym h) has
 shape_has P (Unsigned base) s h has = subst (ShapeHas P) (sym h) has
-shape_has P Chars s h has = subst (ShapeHas P) (sym h) tt
-shape_has P Text s h has = subst (ShapeHas P) (sym h) tt
 shape_has P Set s h has = absurd h
-shape_has P Count s h has = subst (ShapeHas P) (sym h) tt
+shape_has P _ s h has = subst (ShapeHas P) (sym h) tt
 
 -- ---- parts
 
 piece_in_two : (piece : Piece) → IsScanPiece One piece → IsScanPiece Two piece
-piece_in_two (WhiteSpace bs) is = is
-piece_in_two (Ordinary b) is = is
-piece_in_two Percents is = is
 piece_in_two (Plain o b) is =
     let letter = is.1.0 in
     (is.0, (letter_with base_in_two letter, letter_in_two b letter is.1.1, suits_with base_in_two letter o is.1.2))
-piece_in_two (Bracket o list) is = is
-piece_in_two (Printed o b) is = is
+piece_in_two _ is = is
 
 means_in_two : (place : ℕ) (piece : Piece) (d : Directive) → Means One place piece d → Means Two place piece (directive_with base_in_two d)
-means_in_two place (WhiteSpace bs) d h = ap (directive_with base_in_two) h
-means_in_two place (Ordinary b) d h = ap (directive_with base_in_two) h
-means_in_two place Percents d h = ap (directive_with base_in_two) h
 means_in_two place (Plain o b) d (letter, c, e, is, takes, told) = (
   letter_with base_in_two letter,
   conversion_with base_in_two c,
@@ -126,6 +104,7 @@ means_in_two place (Plain o b) d (letter, c, e, is, takes, told) = (
 means_in_two place (Bracket o list) d (c, members, is, set, takes, told) =
     (conversion_with base_in_two c, members, record { kind = is.kind; width = is.width; slot = is.slot }, set, ap (shape_with base_in_two) takes, ap (directive_with base_in_two) told)
 means_in_two place (Printed o b) d h = h
+means_in_two place _ d h = ap (directive_with base_in_two) h
 
 -- without Bin
 plain_in_one : (place : ℕ) (o : Opening) (b : ℕ) (d : Directive) → Means Two place (Plain o b) d → DirectiveHas IsNotBin d
@@ -135,20 +114,13 @@ plain_in_one place o b d (letter, c, e, is, takes, told) has =
     (letter, c, e, letter_in_one b letter e (letter_has IsNotBin letter c.shape takes here), is, takes, told)
 
 piece_in_one : (place : ℕ) (piece : Piece) (d : Directive) → IsScanPiece Two piece → Means Two place piece d → DirectiveHas IsNotBin d → IsScanPiece One piece
-piece_in_one place (WhiteSpace bs) d is h has = is
-piece_in_one place (Ordinary b) d is h has = is
-piece_in_one place Percents d is h has = is
 piece_in_one place (Plain o b) d (other, (letter, e, suits)) h has =
     let (l, c, f, found_one, is, takes, told) = plain_in_one place o b d h has in
     let same : letter ≡ l = let k : Some letter ≡ Some l = sym e ∙ f in cc in
     (other, (letter_with base_in_one l, found_one, suits_with base_in_one l o (subst (λ a. Suits a o) same suits)))
-piece_in_one place (Bracket o list) d is h has = is
-piece_in_one place (Printed o b) d is h has = is
+piece_in_one place _ d is h has = is
 
 means_in_one : (place : ℕ) (piece : Piece) (d : Directive) → Means Two place piece d → DirectiveHas IsNotBin d → Means One place piece (directive_with base_in_one d)
-means_in_one place (WhiteSpace bs) d h has = ap (directive_with base_in_one) h
-means_in_one place (Ordinary b) d h has = ap (directive_with base_in_one) h
-means_in_one place Percents d h has = ap (directive_with base_in_one) h
 means_in_one place (Plain o b) d h has =
     let (letter, c, e, f, is, takes, told) = plain_in_one place o b d h has in (
       letter_with base_in_one letter,
@@ -161,16 +133,15 @@ means_in_one place (Plain o b) d h has =
 means_in_one place (Bracket o list) d (c, members, is, set, takes, told) has =
     (conversion_with base_in_one c, members, record { kind = is.kind; width = is.width; slot = is.slot }, set, ap (shape_with base_in_one) takes, ap (directive_with base_in_one) told)
 means_in_one place (Printed o b) d h has = h
+means_in_one place _ d h has = ap (directive_with base_in_one) h
 
 means_old : (place : ℕ) (piece : Piece) (d : Directive) → Means One place piece d → DirectiveHas IsOfOne d
-means_old place (WhiteSpace bs) d h = subst (DirectiveHas IsOfOne) (sym h) tt
-means_old place (Ordinary b) d h = subst (DirectiveHas IsOfOne) (sym h) tt
-means_old place Percents d h = subst (DirectiveHas IsOfOne) (sym h) tt
 means_old place (Plain o b) d (letter, c, e, is, takes, told) =
     subst (DirectiveHas IsOfOne) (sym told) (shape_has IsOfOne letter c.shape takes (letter_of_one b letter e))
 means_old place (Bracket o list) d (c, members, is, set, takes, told) =
     subst (DirectiveHas IsOfOne) (sym told) (subst (ShapeHas IsOfOne) (sym takes) tt)
 means_old place (Printed o b) d h = absurd h
+means_old place _ d h = subst (DirectiveHas IsOfOne) (sym h) tt
 
 -- ---- whole texts
 
@@ -203,14 +174,9 @@ one_spells_two text ds (pieces, is, e, mean) has =
     let all = all_in_one 1 pieces ds is.each mean has in
     (pieces, record { short = is.short; each = all.0; apart = is.apart; slots = is.slots }, e, all.1)
 
-mean_old : (place : ℕ) (pieces : List Piece) (ds : List Directive) → MeanAll (Means One) place pieces ds → HaveBases IsOfOne ds
-mean_old place [] [] h = tt
-mean_old place [] (d ∷ ds) h = absurd h
-mean_old place (piece ∷ pieces) [] h = absurd h
-mean_old place (piece ∷ pieces) (d ∷ ds) h = (means_old place piece d h.0, mean_old (place + length (destinations (piece ∷ []))) pieces ds h.1)
-
 pub one_has_old_bases : OneHasOldBases
-one_has_old_bases text ds (pieces, is, e, mean) = mean_old 1 pieces ds mean
+one_has_old_bases text ds (pieces, is, e, mean) =
+    mean_each (DirectiveHas IsOfOne) (λ place piece d each h. means_old place piece d h) 1 pieces ds is.each mean
 
 -- ---- print formats
 
@@ -235,15 +201,13 @@ print_in_two place (piece ∷ pieces) (u ∷ us) each h =
     ((here.0, rest.0), (here.1, rest.1), (here.2, rest.2))
   where
     one : (piece : Piece) → IsPiece (Print One) piece → Prints One place piece u → IsPiece (Print Two) piece × Prints Two place piece u × UnitIsNotBinary u
-    one (WhiteSpace bs) is h = absurd is
     one (Ordinary b) is h = (is, h, subst UnitIsNotBinary (sym h) tt)
     one Percents is h = (is, h, subst UnitIsNotBinary (sym h) tt)
-    one (Plain o b) is h = absurd is
-    one (Bracket o list) is h = absurd is
     one (Printed o b) (letter, e, suits) (l, c, f, is, told) =
         let here = print_letter_in_two b letter e in
         let there = print_letter_in_two b l f in
         ((letter, here.0, suits), (l, c, there.0, is, told), subst UnitIsNotBinary (sym told) (subst IsNotBinary (sym is.prints) there.1))
+    one _ is h = absurd is
 
 pub two_prints_one : TwoPrintsOne
 two_prints_one text us (pieces, is, e, mean) =
@@ -261,15 +225,13 @@ print_in_one place (piece ∷ pieces) (u ∷ us) each h has =
     ((here.0, rest.0), (here.1, rest.1))
   where
     one : (piece : Piece) → IsPiece (Print Two) piece → Prints Two place piece u → IsPiece (Print One) piece × Prints One place piece u
-    one (WhiteSpace bs) is h = absurd is
     one (Ordinary b) is h = (is, h)
     one Percents is h = (is, h)
-    one (Plain o b) is h = absurd is
-    one (Bracket o list) is h = absurd is
     one (Printed o b) (letter, e, suits) (l, c, f, is, told) =
         let same : letter ≡ l = let k : Some letter ≡ Some l = sym e ∙ f in cc in
         let old : IsNotBinary l = subst IsNotBinary is.prints (subst UnitIsNotBinary told has.0) in
         ((l, print_letter_in_one b l f old, subst (λ a. SuitsPrint a o) same suits), (l, c, print_letter_in_one b l f old, is, told))
+    one _ is h = absurd is
 
 pub one_prints_two : OnePrintsTwo
 one_prints_two text us (pieces, is, e, mean) has =

@@ -3,7 +3,7 @@ use Rattle.std.proofs.Common.{◌≡◌, ◌≢◌, ℕ, ◌+◌, ◌-◌, ◌<�
 use Rattle.std.proofs.lemmas.List.{take_rest, take_at, drop_at}
 use Rattle.std.specs.Prelude.{◌==◌}
 use Rattle.sf_base.specs.Sets.{has_byte}
-use Rattle.sf_format.proofs.Outcomes.{by_test, or_regroup}
+use Rattle.sf_format.proofs.Outcomes.{by_test, or_regroup, byte_differs, not_above, within, same_test, or_false}
 use Rattle.std.proofs.lemmas.Bool.Decides.{nat_tests}
 use Rattle.sf_format.specs.Lists.{front, behind}
 use Rattle.sf_format.specs.Scanlist.{backward_range, is_listed, is_inner, IsSetBy}
@@ -13,39 +13,27 @@ use Rattle.sf_format.proofs.Prefixes.{front_behind}
 equal : (a b : ℕ) → a ≡ b → nat_eq a b ≡ true
 equal a b e = grind (arith, nat_tests)
 
-unequal : (a b : ℕ) → a ≢ b → nat_eq a b ≡ false
-unequal a b e = grind (arith, nat_tests)
-
-not_below : (a b : ℕ) → b ≤ a → nat_lt a b ≡ false
-not_below a b h = grind (arith, nat_tests)
-
 abbrev ranged : ℕ → ℕ → ℕ → List ℕ → Bool → Bool → Option ℕ
 ranged m dash high rest is_range is_backward =
     cond is_range (cond is_backward (Some m) (backward_range (m + 3) rest)) (backward_range (m + 1) (dash ∷ high ∷ rest))
 
 pub backward_single : (m : ℕ) (xs : List ℕ) → 3 ≤ length xs → get_or xs 1 0 ≢ 45
     → backward_range (m + 1) (take (length xs - 1) (drop 1 xs)) ≡ backward_range m xs
-backward_single m [] long other = absurd (omega (arith, long))
-backward_single m (a ∷ []) long other = absurd (omega (arith, long))
-backward_single m (a ∷ b ∷ []) long other = absurd (omega (arith, long))
 backward_single m (a ∷ b ∷ c ∷ xs) long other =
     ap (backward_range (m + 1)) (take_rest (a ∷ b ∷ c ∷ xs) 1)
-    ∙ sym (ap (λ v. ranged m b c xs v (nat_lt c a)) (unequal b 45 other))
+    ∙ sym (ap (λ v. ranged m b c xs v (nat_lt c a)) (byte_differs b 45 other))
+backward_single m _ long other = absurd (omega (arith, long))
 
 pub backward_short : (m : ℕ) (xs : List ℕ) → length xs < 3 → backward_range m xs ≡ None
-backward_short m [] short = refl
-backward_short m (a ∷ []) short = refl
-backward_short m (a ∷ b ∷ []) short = refl
 backward_short m (a ∷ b ∷ c ∷ xs) short = absurd (omega (arith, short))
+backward_short m _ short = refl
 
 pub backward_range_passed : (m : ℕ) (xs : List ℕ) → 3 ≤ length xs → get_or xs 1 0 ≡ 45 → get_or xs 0 0 ≤ get_or xs 2 0
     → backward_range (m + 3) (take (length xs - 3) (drop 3 xs)) ≡ backward_range m xs
-backward_range_passed m [] long dash up = absurd (omega (arith, long))
-backward_range_passed m (a ∷ []) long dash up = absurd (omega (arith, long))
-backward_range_passed m (a ∷ b ∷ []) long dash up = absurd (omega (arith, long))
 backward_range_passed m (a ∷ b ∷ c ∷ xs) long dash up =
     ap (backward_range (m + 3)) (take_rest (a ∷ b ∷ c ∷ xs) 3)
-    ∙ sym (ap (λ v. ranged m b c xs v (nat_lt c a)) (equal b 45 dash) ∙ ap (ranged m b c xs true) (not_below c a up))
+    ∙ sym (ap (λ v. ranged m b c xs v (nat_lt c a)) (equal b 45 dash) ∙ ap (ranged m b c xs true) (not_above c a up))
+backward_range_passed m _ long dash up = absurd (omega (arith, long))
 
 -- what follows the first bytes, as long as the rest of them
 abbrev pub after : ℕ → List ℕ → List ℕ
@@ -60,14 +48,12 @@ IsSingle xs = 3 ≤ length xs → get_or xs 1 0 ≢ 45
 
 -- where a list begins doesn't matter for whether its ranges are backward
 pub no_backward : (m n : ℕ) (xs : List ℕ) → backward_range m xs ≡ None → backward_range n xs ≡ None
-no_backward m n [] e = refl
-no_backward m n (low ∷ []) e = refl
-no_backward m n (low ∷ dash ∷ []) e = refl
 no_backward m n (low ∷ dash ∷ high ∷ rest) e =
     by_test (nat_eq dash 45) (λ v. ranged m dash high rest v (nat_lt high low) ≡ None → ranged n dash high rest v (nat_lt high low) ≡ None)
     (λ t. by_test (nat_lt high low) (λ v. ranged m dash high rest true v ≡ None → ranged n dash high rest true v ≡ None)
     (λ b h. absurd (cc)) (λ f h. no_backward (m + 3) (n + 3) rest h))
     (λ f h. no_backward (m + 1) (n + 1) (dash ∷ high ∷ rest) h) e
+no_backward m n _ e = refl
 
 pub forward_single : (xs : List ℕ) → 1 ≤ length xs → IsSingle xs → backward_range 0 xs ≡ None → backward_range 0 (after 1 xs) ≡ None
 forward_single [] some single e = absurd (omega (arith, some))
@@ -79,15 +65,10 @@ forward_single (a ∷ b ∷ c ∷ xs) some single e =
 
 -- the ends of the first range, and what follows it
 pub range_forward : (xs : List ℕ) → 3 ≤ length xs → get_or xs 1 0 ≡ 45 → backward_range 0 xs ≡ None → get_or xs 0 0 ≤ get_or xs 2 0
-range_forward [] long dash e = absurd (omega (arith, long))
-range_forward (a ∷ []) long dash e = absurd (omega (arith, long))
-range_forward (a ∷ b ∷ []) long dash e = absurd (omega (arith, long))
 range_forward (a ∷ b ∷ c ∷ xs) long dash e =
-    by_test (nat_lt c a) (λ v. ranged 0 b c xs true v ≡ None → a ≤ c) (λ t h. absurd (cc)) (λ f h. at_least a c f)
+    by_test (nat_lt c a) (λ v. ranged 0 b c xs true v ≡ None → a ≤ c) (λ t h. absurd (cc)) (λ f h. within c a f)
     (ap (λ v. ranged 0 b c xs v (nat_lt c a)) (sym (equal b 45 dash)) ∙ e)
-  where
-    at_least : (low high : ℕ) → nat_lt high low ≡ false → low ≤ high
-    at_least low high f = grind (arith, nat_tests)
+range_forward _ long dash e = absurd (omega (arith, long))
 
 pub forward_range : (xs : List ℕ) → 3 ≤ length xs → get_or xs 1 0 ≡ 45 → backward_range 0 xs ≡ None → backward_range 0 (after 3 xs) ≡ None
 forward_range xs long dash e =
@@ -102,30 +83,21 @@ listing low dash high rest b is_range =
 listed_single : (k : ℕ) (xs : List ℕ) → 1 ≤ length xs → IsSingle xs → is_listed xs k ≡ (nat_eq (get_or xs 0 0) k || is_listed (after 1 xs) k)
 listed_single k [] some single = absurd (omega (arith, some))
 listed_single k (a ∷ []) some single = sym (ap (λ t. nat_eq a k || is_listed t k) (take_rest (a ∷ []) 1) ∙ or_false (nat_eq a k))
-  where
-    or_false : (v : Bool) → (v || false) ≡ v
-    or_false true = refl
-    or_false false = refl
 listed_single k (a ∷ b ∷ []) some single = sym (ap (λ t. nat_eq a k || is_listed t k) (take_rest (a ∷ b ∷ []) 1))
 listed_single k (a ∷ b ∷ c ∷ xs) some single =
     let long : 3 ≤ length (a ∷ b ∷ c ∷ xs) = omega arith in
-    ap (listing a b c xs k) (unequal b 45 (single long)) ∙ sym (ap (λ t. nat_eq a k || is_listed t k) (take_rest (a ∷ b ∷ c ∷ xs) 1))
+    ap (listing a b c xs k) (byte_differs b 45 (single long)) ∙ sym (ap (λ t. nat_eq a k || is_listed t k) (take_rest (a ∷ b ∷ c ∷ xs) 1))
 
 listed_range : (k : ℕ) (xs : List ℕ) → 3 ≤ length xs → get_or xs 1 0 ≡ 45
     → is_listed xs k ≡ ((nat_le (get_or xs 0 0) k && nat_le k (get_or xs 2 0)) || is_listed (after 3 xs) k)
-listed_range k [] long dash = absurd (omega (arith, long))
-listed_range k (a ∷ []) long dash = absurd (omega (arith, long))
-listed_range k (a ∷ b ∷ []) long dash = absurd (omega (arith, long))
 listed_range k (a ∷ b ∷ c ∷ xs) long dash =
     ap (listing a b c xs k) (equal b 45 dash)
     ∙ sym (ap (λ t. (nat_le a k && nat_le k c) || is_listed t k) (take_rest (a ∷ b ∷ c ∷ xs) 3))
+listed_range k _ long dash = absurd (omega (arith, long))
 
 -- the set has what the members before the rest list
 abbrev pub HasMembers : List Bool → List ℕ → List ℕ → Type 0
 HasMembers set rest members = (k : ℕ) → k < 256 → (has_byte set k || is_listed rest k) ≡ is_listed members k
-
-same_test : (k b : ℕ) → (k == b) ≡ nat_eq b k
-same_test k b = grind (arith, nat_tests)
 
 pub one_more : (old new : List Bool) (xs members : List ℕ) → 1 ≤ length xs → IsSingle xs → HasMembers old xs members
     → ((k : ℕ) → k < 256 → has_byte new k ≡ (k == get_or xs 0 0 || has_byte old k)) → HasMembers new (after 1 xs) members
@@ -143,11 +115,7 @@ range_more old new xs members long dash has put = λ k byte.
     ∙ ap (λ v. has_byte old k || v) (sym (listed_range k xs long dash)) ∙ has k byte
 
 pub all_in : (set : List Bool) (rest members : List ℕ) → length rest ≤ 0 → length set ≡ 256 → HasMembers set rest members → IsSetBy false members set
-all_in set [] members none sized has = (sized, λ k byte. or_false (has_byte set k) ∙ has k byte)
-  where
-    or_false : (v : Bool) → v ≡ (v || false)
-    or_false true = refl
-    or_false false = refl
+all_in set [] members none sized has = (sized, λ k byte. sym (or_false (has_byte set k)) ∙ has k byte)
 all_in set (b ∷ rest) members none sized has = absurd (omega (arith, none))
 
 -- the split of a scanlist behind its members

@@ -1,23 +1,23 @@
 -- The part that a scan format without a fault there begins with, and the text of a part.
-use Rattle.std.proofs.Common.{◌≡◌, ℕ, ◌+◌, ◌<◌, Bool, false, cond, not, nat_eq, List, [], ◌∷◌, ◌++◌, length, drop, Some, refl, sym, ap, ◌∙◌, subst, arith, append_assoc}
+use Rattle.std.proofs.Common.{◌≡◌, ℕ, ◌+◌, ◌<◌, Bool, false, cond, nat_eq, List, [], ◌∷◌, ◌++◌, length, Some, refl, sym, ap, ◌∙◌, subst, arith, append_assoc}
 use Rattle.sf_base.specs.Bytes.{AreBytes, is_white}
 use Rattle.sf_format.specs.declared.directive.Profile.{Profile}
-use Rattle.sf_format.specs.Lists.{front, behind, begins, mark_at}
+use Rattle.sf_format.specs.Lists.{front, behind, mark_at}
 use Rattle.sf_format.specs.Letters.{letter_of, length_text}
 use Rattle.sf_format.specs.Scanlist.{Scanlist, scanlist_text}
 use Rattle.sf_format.specs.Pieces.{Opening, Piece, WhiteSpace, Ordinary, Percents, Plain, Bracket, Printed, number_text, star_text, opening_text, piece_text}
 use Rattle.sf_format.specs.Cut.{Cut, Part, cut, letter_at, specification_at, bracket_at, part_at}
 use Rattle.sf_format.specs.Grammar.{IsScanPiece, AreAlike, destinations}
 use Rattle.sf_format.specs.Rules.{Rule, slot_rules}
-use Rattle.sf_format.specs.Faults.{opening_rules, letter_rules, scanlist_rules, after_caret, rest_rules, percent_rules, part_rules}
+use Rattle.sf_format.specs.Faults.{opening_rules, letter_rules, scanlist_rules, after_caret, rest_rules, part_rules}
 use Rattle.sf_format.specs.declared.letter.Letter.TheVariants.{Set}
 use Rattle.sf_format.specs.Language.{Scan}
-use Rattle.sf_format.proofs.Outcomes.{by_test}
-use Rattle.sf_format.proofs.Beginnings.{StopsAfter, BeginsWith, nothing_more, byte_rules, byte_quiet, white_quiet, letter_some, percents_text}
+use Rattle.sf_format.proofs.Outcomes.{by_test, same_byte, other_byte, byte_differs}
+use Rattle.sf_format.proofs.Beginnings.{StopsAfter, BeginsWith, nothing_more, byte_quiet, white_quiet, letter_some, chosen_part, byte_part, byte_begins, percent_quiet, no_percents}
 use Rattle.sf_format.proofs.Prefixes.{front_behind, front_passes, behind_stops, front_of, behind_of}
-use Rattle.sf_format.proofs.Cutting.{IsLast, HasDigits, inside, cut_of, cut_joined, cut_digits, no_percent, opening_regroup, same_byte}
+use Rattle.sf_format.proofs.Cutting.{IsLast, HasDigits, inside, cut_of, cut_joined, cut_digits, no_percent, opening_regroup}
 use Rattle.sf_format.proofs.Rules.{Quiet, all_append, all_front, all_back}
-use Rattle.sf_format.proofs.Scanlists.{listed, marked, bracket_of, quiet_list, other_byte, byte_differs}
+use Rattle.sf_format.proofs.Scanlists.{listed, marked, bracket_of, quiet_list}
 use Rattle.sf_format.proofs.Suits.{letter_is, suits_from, suits_digits, opening_quiet, letter_quiet}
 use Rattle.sf_format.proofs.Destinations.{assigned_alike, slot_quiet}
 
@@ -102,69 +102,43 @@ abbrev specification_rules : Profile → List Opening → ℕ → Cut → List R
 specification_rules profile earlier p c =
     opening_rules p c.opening ++ rest_rules profile earlier p c.opening (p + length (opening_text c.opening)) c.rest
 
-specification_begins : (profile : Profile) (earlier : List Opening) (p : ℕ) (x : List ℕ) → AreBytes x
-    → Quiet (cond (not (begins (37 ∷ []) x)) (specification_rules profile earlier p (cut x)) [])
-    → BeginsWith (Scan profile) earlier (37 ∷ x) (specification_at (Scan profile) x)
-specification_begins profile earlier p x bytes quiet =
-    by_test (begins (37 ∷ []) x)
-    (λ v. Quiet (cond (not v) (specification_rules profile earlier p (cut x)) []) → BeginsWith (Scan profile) earlier (37 ∷ x) (chosen v))
-    (λ e h. record { text = percents_text x e; is = tt; alike = nothing_more earlier; apart = tt })
-    (λ e h.
+conversion_begins : (profile : Profile) (earlier : List Opening) (p : ℕ) (x : List ℕ) → AreBytes x → Quiet (specification_rules profile earlier p (cut x))
+    → BeginsWith (Scan profile) earlier (37 ∷ x) (letter_at (cut x).opening (cut x).rest)
+conversion_begins profile earlier p x bytes quiet =
     let none = λ (r : Rule). r.applies ≡ false in
     let q = p + length (opening_text (cut x).opening) in
     let rest = rest_rules profile earlier p (cut x).opening q (cut x).rest in
     rest_begins profile earlier p (cut x).opening q (cut x).rest x (cut_joined x) bytes (cut_digits x)
-    (all_front none (opening_rules p (cut x).opening) rest h, all_back none (opening_rules p (cut x).opening) rest h))
-    quiet
-  where
-    chosen : Bool → Part
-    chosen v = cond v (record { piece = Percents; rest = drop 1 x }) (letter_at (cut x).opening (cut x).rest)
+    (all_front none (opening_rules p (cut x).opening) rest quiet, all_back none (opening_rules p (cut x).opening) rest quiet)
+
+abbrev white_part : List ℕ → Part
+white_part x = record { piece = WhiteSpace (front is_white x); rest = behind is_white x }
 
 -- a text of bytes that no rule refuses begins with its part
 pub scan_begins_with : (profile : Profile) (earlier : List Opening) (p b : ℕ) (x : List ℕ) → AreBytes (b ∷ x) → Quiet (part_rules (Scan profile) earlier p (b ∷ x))
     → BeginsWith (Scan profile) earlier (b ∷ x) (part_at (Scan profile) (b ∷ x))
 scan_begins_with profile earlier p b x bytes quiet =
-    by_test (is_white b) (λ v. BeginsWith (Scan profile) earlier (b ∷ x) (spaced v))
+    by_test (is_white b)
+    (λ v. BeginsWith (Scan profile) earlier (b ∷ x) (chosen_part v (white_part (b ∷ x))
+    (chosen_part (nat_eq b 37) (specification_at (Scan profile) x) (byte_part b x))))
     (λ white. record {
       text = sym (front_behind is_white (b ∷ x));
       is = (subst (λ t. 0 < length t) (ap (λ v. cond v (b ∷ front is_white x) []) (sym white)) (omega arith), front_passes is_white (b ∷ x));
       alike = nothing_more earlier;
       apart = behind_stops is_white (b ∷ x);
     })
-    (λ black. by_test (nat_eq b 37)
-    (λ v. Quiet (cond v (percent_rules (Scan profile) earlier p x) [])
-    → BeginsWith (Scan profile) earlier (b ∷ x) (other v))
-    (λ same h. subst (λ c. BeginsWith (Scan profile) earlier (c ∷ x) (specification_at (Scan profile) x)) (sym (same_byte b 37 same))
-    (specification_begins profile earlier p x bytes.1 h))
-    (λ differs h. record {
-      text = refl;
-      is = (bytes.0, other_byte b 0 quiet.0, other_byte b 37 differs, black);
-      alike = nothing_more earlier;
-      apart = tt;
-    })
-    quiet.1)
-  where
-    other : Bool → Part
-    other v = cond v (specification_at (Scan profile) x) (record { piece = Ordinary b; rest = x })
-
-    spaced : Bool → Part
-    spaced v =
-        cond v (record { piece = WhiteSpace (front is_white (b ∷ x)); rest = behind is_white (b ∷ x) }) (other (nat_eq b 37))
+    (λ black. byte_begins (Scan profile) earlier p b x (λ other percent. (bytes.0, other, percent, black))
+    (conversion_begins profile earlier p x bytes.1) quiet)
 
 -- ---- from the part to the text
-
--- a specification by its cut
-abbrev cut_rules : Profile → List Opening → ℕ → Bool → Cut → List Rule
-cut_rules profile earlier p v c = byte_rules 37 p (not v) (specification_rules profile earlier p c)
 
 specification_quiet : (profile : Profile) (earlier : List Opening) (p : ℕ) (o : Opening) (letter : ℕ) (y : List ℕ) → HasDigits o → IsLast letter
     → Quiet (opening_rules p o) → ((q : ℕ) → Quiet (rest_rules profile earlier p o q (letter ∷ y)))
     → Quiet (part_rules (Scan profile) earlier p (37 ∷ inside o (letter ∷ y)))
 specification_quiet profile earlier p o letter y digits last opening rest =
-    let x = inside o (letter ∷ y) in
-    subst (λ v. Quiet (cut_rules profile earlier p v (cut x))) (sym (no_percent o letter y digits last))
-    (subst (λ c. Quiet (cut_rules profile earlier p false c)) (sym (cut_of o letter y digits last))
-    (refl, all_append (λ r. r.applies ≡ false) (opening_rules p o) (rest_rules profile earlier p o _ (letter ∷ y)) opening (rest _)))
+    percent_quiet (Scan profile) earlier p (inside o (letter ∷ y)) (no_percent o letter y digits last)
+    (subst (λ c. Quiet (specification_rules profile earlier p c)) (sym (cut_of o letter y digits last))
+    (all_append (λ r. r.applies ≡ false) (opening_rules p o) (rest_rules profile earlier p o _ (letter ∷ y)) opening (rest _)))
 
 quiet_behind : (profile : Profile) (earlier : List Opening) (p : ℕ) (o : Opening) (q letter : ℕ) (y : List ℕ)
     → Quiet (letter_rules profile o letter q) → Quiet (scanlist_rules letter q y) → Quiet (slot_rules earlier p o)
@@ -204,16 +178,11 @@ scan_quiet profile earlier p (Bracket o list) rest is alike =
     (slot_quiet earlier p o alike)))
 
 -- the part that its text begins with
-abbrev chosen_part : Bool → Part → Part → Part
-chosen_part v a b = cond v a b
-
 specification_of : (profile : Profile) (o : Opening) (letter : ℕ) (y : List ℕ) → HasDigits o → IsLast letter
     → part_at (Scan profile) (37 ∷ inside o (letter ∷ y)) ≡ letter_at o (letter ∷ y)
 specification_of profile o letter y digits last =
-    let x = inside o (letter ∷ y) in
-    let by_cut : Cut → Part = λ c. letter_at c.opening c.rest in
-    ap (λ v. chosen_part v (record { piece = Percents; rest = drop 1 x }) (by_cut (cut x))) (no_percent o letter y digits last)
-    ∙ ap by_cut (cut_of o letter y digits last)
+    no_percents (Scan profile) (inside o (letter ∷ y)) (no_percent o letter y digits last)
+    ∙ ap (λ (c : Cut). letter_at c.opening c.rest) (cut_of o letter y digits last)
 
 pub scan_part_of : (profile : Profile) (piece : Piece) (rest : List ℕ) → IsScanPiece profile piece → StopsAfter piece rest
     → part_at (Scan profile) (piece_text piece ++ rest) ≡ record { piece = piece; rest = rest }
@@ -222,7 +191,7 @@ scan_part_of profile (WhiteSpace (b ∷ bs)) rest is stops =
     let x = b ∷ (bs ++ rest) in
     let run : List ℕ → List ℕ → Part = λ bytes after. record { piece = WhiteSpace bytes; rest = after } in
     ap (λ v. chosen_part v (run (front is_white x) (behind is_white x))
-    (chosen_part (nat_eq b 37) (specification_at (Scan profile) (bs ++ rest)) (record { piece = Ordinary b; rest = bs ++ rest }))) is.1.0
+    (chosen_part (nat_eq b 37) (specification_at (Scan profile) (bs ++ rest)) (byte_part b (bs ++ rest)))) is.1.0
     ∙ ap (λ f. run f (behind is_white x)) (front_of is_white (b ∷ bs) rest is.1 stops)
     ∙ ap (run (b ∷ bs)) (behind_of is_white (b ∷ bs) rest is.1 stops)
 scan_part_of profile (Ordinary b) rest is stops =
@@ -246,8 +215,5 @@ scan_part_of profile (Bracket o list) rest is stops =
 
 pub scan_some : (profile : Profile) (piece : Piece) → IsScanPiece profile piece → 0 < length (piece_text piece)
 scan_some profile (WhiteSpace bs) is = is.0
-scan_some profile (Ordinary b) is = omega arith
-scan_some profile Percents is = omega arith
-scan_some profile (Plain o letter) is = omega arith
-scan_some profile (Bracket o list) is = omega arith
 scan_some profile (Printed o letter) is = absurd is
+scan_some profile _ is = omega arith

@@ -9,19 +9,13 @@ use Rattle.sf_format.specs.Pieces.{Opening, Bracket}
 use Rattle.sf_format.specs.Cut.{Part, members_at, close_at, list_of, bracket_at}
 use Rattle.sf_format.specs.Rules.{first_of, place_of}
 use Rattle.sf_format.specs.Faults.{list_rules}
-use Rattle.sf_format.proofs.Outcomes.{by_test, not_false}
+use Rattle.sf_format.proofs.Outcomes.{by_test, not_false, other_byte, byte_differs}
 use Rattle.sf_format.proofs.Prefixes.{Stops, front_behind, front_passes, behind_stops, front_of, behind_of}
 use Rattle.sf_format.proofs.Cutting.{mark_text, mark_joined, mark_none}
 use Rattle.sf_format.proofs.Ranges.{no_backward}
 use Rattle.sf_format.proofs.Rules.{Quiet, quiet_is, none_from, all_front, all_back}
 
 -- ---- NUL
-
-pub other_byte : (a b : ℕ) → nat_eq a b ≡ false → a ≢ b
-other_byte a b e same = absurd (grind (arith, nat_tests))
-
-pub byte_differs : (a b : ℕ) → a ≢ b → nat_eq a b ≡ false
-byte_differs a b other = grind (arith, nat_tests)
 
 place_none : (b n : ℕ) (xs : List ℕ) → place_of b n xs ≡ None → AllByRecursion (λ x. x ≢ b) xs
 place_none b n [] e = tt

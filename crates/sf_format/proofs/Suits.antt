@@ -1,5 +1,5 @@
 -- An opening and a letter that no rule refuses suit each other.
-use Rattle.std.proofs.Common.{◌≡◌, ℕ, ◌<◌, ◌≤◌, Bool, true, false, cond, ◌&&◌, ◌||◌, nat_eq, nat_lt, List, [], ◌∷◌, Some, None, is_some, is_none, refl, sym, ap, ◌∙◌, subst, arith}
+use Rattle.std.proofs.Common.{◌≡◌, ℕ, ◌<◌, Bool, true, false, cond, ◌&&◌, ◌||◌, nat_eq, nat_lt, List, [], ◌∷◌, Some, None, is_some, is_none, refl, sym, ap, ◌∙◌, subst, arith}
 use Rattle.std.specs.Prelude.{IsSome}
 use Rattle.std.proofs.lemmas.Bool.Decides.{nat_tests}
 use Rattle.std.specs.List.{AllByRecursion}
@@ -20,11 +20,12 @@ use Rattle.sf_base.specs.declared.values.Kind.{Kind}
 use Rattle.sf_base.specs.declared.values.Kind.TheVariants as kinds
 use Rattle.std.proofs.lemmas.Option.{same_Some}
 use Rattle.sf_format.specs.declared.letter.Length.{Length}
-use Rattle.sf_format.specs.declared.letter.Length.TheVariants.{NoLength, HH, H, LL, L, J, Z, T}
-use Rattle.sf_format.proofs.Outcomes.{by_test, or_left, or_right}
+use Rattle.sf_format.specs.declared.letter.Length.TheVariants.{NoLength}
+use Rattle.sf_format.proofs.Outcomes.{by_test, or_left, or_right, same_byte, within, not_above}
 use Rattle.sf_format.proofs.Prefixes.{AllPass}
-use Rattle.sf_format.proofs.Cutting.{IsLast, plain_byte, same_byte, HasDigits}
+use Rattle.sf_format.proofs.Cutting.{IsLast, plain_byte, HasDigits}
 use Rattle.sf_format.proofs.Rules.{Quiet, quiet_is}
+use Rattle.sf_format.specs.Passing.{is_set}
 
 -- ---- letters
 
@@ -36,34 +37,16 @@ pub record IsLetterOf (profile : Profile) (b : ℕ) (letter : Letter) : Type 0 w
 
 pub text_allowed : (size : Length) → has_length size ≡ false → IsSome (text_kind size)
 text_allowed NoLength e = refl
-text_allowed HH e = absurd (cc)
-text_allowed H e = absurd (cc)
-text_allowed LL e = absurd (cc)
-text_allowed L e = absurd (cc)
-text_allowed J e = absurd (cc)
-text_allowed Z e = absurd (cc)
-text_allowed T e = absurd (cc)
+text_allowed _ e = absurd (cc)
 
 pub text_quiet : (size : Length) → IsSome (text_kind size) → (is_l size ≡ false) × (has_length size ≡ false)
 text_quiet NoLength e = (refl, refl)
-text_quiet HH e = absurd (cc)
-text_quiet H e = absurd (cc)
-text_quiet LL e = absurd (cc)
-text_quiet L e = absurd (cc)
-text_quiet J e = absurd (cc)
-text_quiet Z e = absurd (cc)
-text_quiet T e = absurd (cc)
+text_quiet _ e = absurd (cc)
 
 -- a text has the kind of texts
 pub text_kinded : (size : Length) (k : Kind) → text_kind size ≡ Some k → k ≡ kinds.Text
 text_kinded NoLength k h = same_Some _ _ (sym h)
-text_kinded HH k h = absurd cc
-text_kinded H k h = absurd cc
-text_kinded LL k h = absurd cc
-text_kinded L k h = absurd cc
-text_kinded J k h = absurd cc
-text_kinded Z k h = absurd cc
-text_kinded T k h = absurd cc
+text_kinded _ k h = absurd cc
 
 nothing_written : (x : List ℕ) → is_written x ≡ false → x ≡ []
 nothing_written [] e = refl
@@ -118,19 +101,27 @@ found P (row ∷ rows) all b letter e =
 pub letter_is : (profile : Profile) (b : ℕ) (letter : Letter) → letter_of profile b ≡ Some letter → IsLetterOf profile b letter
 letter_is profile b letter e = found (IsLetterOf profile) (letters profile) (each_letter profile) b letter e
 
+-- [ alone is the letter of a set
+abbrev IsBracket : ℕ → Letter → Type 0
+IsBracket b letter = is_set letter ≡ nat_eq b 91
+
+pub bracket_is : (profile : Profile) (b : ℕ) (letter : Letter) → letter_of profile b ≡ Some letter → is_set letter ≡ nat_eq b 91
+bracket_is profile b letter e = found IsBracket (letters profile) each b letter e
+  where
+    added : (p : Profile) → ForRows IsBracket (added_letters p)
+    added One = tt
+    added Two = ((refl, tt), tt)
+
+    each : ForRows IsBracket (letters profile)
+    each = ((refl, tt), ((refl, tt), ((refl, tt), ((refl, tt), ((refl, (refl, tt)), ((refl, tt), ((refl, tt), ((refl, tt), ((refl, tt), added profile)))))))))
+
 -- ---- numbers
 
 above_zero : (n : ℕ) → nat_eq n 0 ≡ false → 0 < n
 above_zero n e = grind (arith, nat_tests)
 
-not_zero : (n : ℕ) → 0 < n → nat_eq n 0 ≡ false
+pub not_zero : (n : ℕ) → 0 < n → nat_eq n 0 ≡ false
 not_zero n h = grind (arith, nat_tests)
-
-pub within : (limit n : ℕ) → nat_lt limit n ≡ false → n ≤ limit
-within limit n e = grind (arith, nat_tests)
-
-pub not_above : (limit n : ℕ) → n ≤ limit → nat_lt limit n ≡ false
-not_above limit n h = grind (arith, nat_tests)
 
 pub number_from : (limit : ℕ) (ds : List ℕ) → AllPass is_decimal ds → (is_written ds && nat_eq (magnitude 10 ds) 0) ≡ false
     → nat_lt limit (magnitude 10 ds) ≡ false → IsOptionalNumber limit ds

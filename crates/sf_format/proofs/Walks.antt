@@ -18,7 +18,7 @@ use Rattle.sf_format.proofs.Destinations.{destinations_push, at_most_one}
 use Rattle.sf_format.proofs.WholeMeanings.{mean_push}
 use Rattle.sf_format.proofs.LanguageParts.{begins_with, empty_text}
 use Rattle.sf_format.proofs.Judgements.{Judgement}
-use Rattle.sf_format.proofs.WholeTexts.{Reading, read_on, put_all, read_step, all_put, fault_put, reading_refused, nothing_read}
+use Rattle.sf_format.proofs.WholeTexts.{Reading, read_on, put_all, read_step, all_put, fault_put, reading_refused, nothing_read, no_bytes}
 
 pub bytes_of : (xs : List ℕ) → ((i : ℕ) → get_or xs i 0 < 256) → AreBytes xs
 bytes_of [] h = tt
@@ -174,16 +174,12 @@ passing_fault {language} {text} {at} {rest} fault h first =
     (h.decides (Err (fault_of fault)) (reading_refused language (destinations h.done) at rest (fault_of fault) first))
     (length text) (omega arith)
 
-no_bytes_left : (rest : List ℕ) → length rest ≤ 0 → rest ≡ []
-no_bytes_left [] none = refl
-no_bytes_left (b ∷ x) none = absurd (omega (arith, none))
-
 pub passing_all : {language : Language} {text : List ℕ} {at : ℕ} {rest : List ℕ} {slots : Slots} (h : Passing language text at rest slots)
     → length rest ≤ 0 → read (length text) language [] 0 text ≡ Ok h.done
 passing_all {language} {text} {at} {rest} h none =
     let nothing : Reading language (destinations h.done) at [] (Ok []) = λ n enough. nothing_read n language (destinations h.done) at in
     subst (Reading language [] 0 text) (all_put h.done)
-    (h.decides (Ok []) (subst (λ x. Reading language (destinations h.done) at x (Ok [])) (sym (no_bytes_left rest none)) nothing))
+    (h.decides (Ok []) (subst (λ x. Reading language (destinations h.done) at x (Ok [])) (sym (no_bytes rest none)) nothing))
     (length text) (omega arith)
 
 pub walked_all : {language : Language} {text : List ℕ} {at : ℕ} {rest : List ℕ} {slots : Slots} → Passing language text at rest slots

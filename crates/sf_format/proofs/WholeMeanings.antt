@@ -1,11 +1,12 @@
 -- What the parts of a format stand for.
-use Rattle.std.proofs.Common.{◌≡◌, ℕ, ◌+◌, List, [], ◌∷◌, ◌++◌, length, Option, refl, ap, ◌∙◌, subst, arith, length-append}
+use Rattle.std.proofs.Common.{◌≡◌, ℕ, ◌+◌, List, [], ◌∷◌, ◌++◌, length, Option, refl, ap, ◌∙◌, subst, arith, length-append, Some, None}
 use Rattle.std.specs.List.{AllByRecursion}
 use Rattle.sf_format.specs.Language.{Language}
 use Rattle.sf_format.specs.Pieces.{Piece}
 use Rattle.sf_format.specs.Grammar.{IsPiece, MeanAll, destinations}
 use Rattle.sf_format.specs.Passing.{slot_at}
 use Rattle.sf_format.proofs.Destinations.{destinations_cons}
+use Rattle.std.specs.Prelude.{IsSome}
 
 -- each part stands for exactly one of these, which has the part's slot
 pub record IsMeaning (D : Type 0) (language : Language) (means : ℕ → Piece → D → Type 0) (slot_in : D → Option ℕ) : Type 0 where
@@ -48,3 +49,17 @@ mean_push means place (first ∷ done) (e ∷ ds) piece d all one =
     let same : place + length (destinations (first ∷ done)) ≡ (place + here) + length (destinations done)
     = omega (arith, ap length (destinations_cons first done), length-append (destinations (first ∷ [])) (destinations done)) in
     (all.0, mean_push means (place + here) done ds piece d all.1 (subst (λ n. means n piece d) same one))
+
+-- what holds of what each part stands for
+pub mean_each : {D : Type 0} {means : ℕ → Piece → D → Type 0} {Q : Piece → Type 0} (P : D → Type 0)
+    → ((place : ℕ) (piece : Piece) (d : D) → Q piece → means place piece d → P d) → (place : ℕ) (pieces : List Piece) (ds : List D)
+    → AllByRecursion Q pieces → MeanAll means place pieces ds → AllByRecursion P ds
+mean_each P one place [] [] each h = tt
+mean_each P one place [] (d ∷ ds) each h = absurd h
+mean_each P one place (piece ∷ pieces) [] each h = absurd h
+mean_each P one place (piece ∷ pieces) (d ∷ ds) each h =
+    (one place piece d each.0 h.0, mean_each P one (place + length (destinations (piece ∷ []))) pieces ds each.1 h.1)
+
+pub some_of : {A : Type 0} (o : Option A) → IsSome o → (a : A) × (o ≡ Some a)
+some_of None h = absurd (cc)
+some_of (Some a) h = (a, refl)

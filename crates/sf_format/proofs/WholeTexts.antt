@@ -27,11 +27,7 @@ run_apart : (profile : Profile) (a : List ℕ) (pieces : List Piece) (rest : Lis
 run_apart profile a [] rest each stops apart = tt
 run_apart profile a (WhiteSpace [] ∷ pieces) rest each stops apart = absurd (omega (arith, each.0.0))
 run_apart profile a (WhiteSpace (b ∷ bs) ∷ pieces) rest each stops apart = absurd (let white = each.0.1.0 in cc)
-run_apart profile a (Ordinary b ∷ pieces) rest each stops apart = apart
-run_apart profile a (Percents ∷ pieces) rest each stops apart = apart
-run_apart profile a (Plain o letter ∷ pieces) rest each stops apart = apart
-run_apart profile a (Bracket o list ∷ pieces) rest each stops apart = apart
-run_apart profile a (Printed o letter ∷ pieces) rest each stops apart = apart
+run_apart profile a (_ ∷ pieces) rest each stops apart = apart
 
 white_apart : (language : Language) (a : List ℕ) (pieces : List Piece) (rest : List ℕ) → IsPiece language (WhiteSpace a)
     → AllByRecursion (IsPiece language) pieces → Stops is_white (text_of pieces ++ rest) → RunsApart pieces → RunsApart (WhiteSpace a ∷ pieces)
@@ -41,21 +37,14 @@ white_apart (Print profile) a pieces rest is each stops apart = absurd is
 apart_more : (language : Language) (piece : Piece) (pieces : List Piece) (rest : List ℕ) → IsPiece language piece
     → AllByRecursion (IsPiece language) pieces → StopsAfter piece (text_of pieces ++ rest) → RunsApart pieces → RunsApart (piece ∷ pieces)
 apart_more language (WhiteSpace a) pieces rest is each stops apart = white_apart language a pieces rest is each stops apart
-apart_more language (Ordinary b) pieces rest is each stops apart = apart
-apart_more language Percents pieces rest is each stops apart = apart
-apart_more language (Plain o letter) pieces rest is each stops apart = apart
-apart_more language (Bracket o list) pieces rest is each stops apart = apart
-apart_more language (Printed o letter) pieces rest is each stops apart = apart
+apart_more language _ pieces rest is each stops apart = apart
 
 run_stops : (profile : Profile) (a : List ℕ) (pieces : List Piece) (rest : List ℕ) → AllByRecursion (IsScanPiece profile) pieces
     → RunsApart (WhiteSpace a ∷ pieces) → Stops is_white rest → Stops is_white (text_of pieces ++ rest)
 run_stops profile a [] rest each apart stops = stops
 run_stops profile a (WhiteSpace b ∷ pieces) rest each apart stops = absurd apart
 run_stops profile a (Ordinary b ∷ pieces) rest each apart stops = each.0.3
-run_stops profile a (Percents ∷ pieces) rest each apart stops = refl
-run_stops profile a (Plain o letter ∷ pieces) rest each apart stops = refl
-run_stops profile a (Bracket o list ∷ pieces) rest each apart stops = refl
-run_stops profile a (Printed o letter ∷ pieces) rest each apart stops = refl
+run_stops profile a (_ ∷ pieces) rest each apart stops = refl
 
 white_stops : (language : Language) (a : List ℕ) (pieces : List Piece) (rest : List ℕ) → IsPiece language (WhiteSpace a)
     → AllByRecursion (IsPiece language) pieces → RunsApart (WhiteSpace a ∷ pieces) → Stops is_white rest
@@ -66,11 +55,7 @@ white_stops (Print profile) a pieces rest is each apart stops = absurd is
 stops_after : (language : Language) (piece : Piece) (pieces : List Piece) (rest : List ℕ) → IsPiece language piece
     → AllByRecursion (IsPiece language) pieces → RunsApart (piece ∷ pieces) → Stops is_white rest → StopsAfter piece (text_of pieces ++ rest)
 stops_after language (WhiteSpace a) pieces rest is each apart stops = white_stops language a pieces rest is each apart stops
-stops_after language (Ordinary b) pieces rest is each apart stops = tt
-stops_after language Percents pieces rest is each apart stops = tt
-stops_after language (Plain o letter) pieces rest is each apart stops = tt
-stops_after language (Bracket o list) pieces rest is each apart stops = tt
-stops_after language (Printed o letter) pieces rest is each apart stops = tt
+stops_after language _ pieces rest is each apart stops = tt
 
 apart_tail : (piece : Piece) (pieces : List Piece) → RunsApart (piece ∷ pieces) → RunsApart pieces
 apart_tail (WhiteSpace a) [] apart = tt
@@ -80,11 +65,7 @@ apart_tail (WhiteSpace a) (Percents ∷ pieces) apart = apart
 apart_tail (WhiteSpace a) (Plain o letter ∷ pieces) apart = apart
 apart_tail (WhiteSpace a) (Bracket o list ∷ pieces) apart = apart
 apart_tail (WhiteSpace a) (Printed o letter ∷ pieces) apart = apart
-apart_tail (Ordinary b) pieces apart = apart
-apart_tail Percents pieces apart = apart
-apart_tail (Plain o letter) pieces apart = apart
-apart_tail (Bracket o list) pieces apart = apart
-apart_tail (Printed o letter) pieces apart = apart
+apart_tail _ pieces apart = apart
 
 -- ---- from what is read
 
@@ -153,7 +134,7 @@ refuses_later language earlier p x part fault begins later = record {
       ∙ later.first;
 }
 
-no_bytes : (x : List ℕ) → length x ≤ 0 → x ≡ []
+pub no_bytes : (x : List ℕ) → length x ≤ 0 → x ≡ []
 no_bytes [] h = refl
 no_bytes (b ∷ x) h = absurd (omega (arith, h))
 
