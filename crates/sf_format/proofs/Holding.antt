@@ -62,6 +62,10 @@ held_more slots o earlier p plain holds e =
       same = all_append (λ a. is_written a.number ≡ is_written o.number) earlier (o ∷ []) (are_now (is_written o.number) earlier same) (refl, tt);
     })
 
+-- before the first part
+pub none_held : Holds (record { count = 0; numbered = false }) []
+none_held = record { count = refl; same = tt }
+
 -- ---- what the code computes
 
 empty_is : (number : List ℕ) → (length number == 0) ≡ not (is_written number)

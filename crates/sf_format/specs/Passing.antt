@@ -81,12 +81,6 @@ Converts profile o b rules (Ok found) =
     (first_of rules ≡ None) × (letter_of profile b ≡ Some found.0) × (kind_of found.0 o.size ≡ Some found.1)
 Converts profile o b rules (Err fault) = first_of rules ≡ Some (fault_of fault)
 
--- the scanlist behind the ^: whether it is complemented, its members, and what follows it
-abbrev pub ReadsList : List Rule → Bool × List ℕ → Result Listed FormatFault → Type 0
-ReadsList rules x (Ok listed) =
-    (first_of rules ≡ None) × (listed.complemented ≡ x.0) × (listed.members.now ≡ members_at x.1) × (listed.rest.now ≡ drop 1 (close_at x.1))
-ReadsList rules x (Err fault) = first_of rules ≡ Some (fault_of fault)
-
 abbrev pub is_set : Letter → Bool
 is_set Set = true
 is_set _ = false

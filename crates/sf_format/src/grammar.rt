@@ -9,7 +9,7 @@ ghost use Rattle.sf_format.specs.Passing.{literal_piece, Holds, PassesBy, Walked
 
 use crate::fault::{FormatFault, FormatWhy};
 use crate::fronts::{Class, split_front};
-use crate::slots::{Slots, no_slots};
+use crate::slots::{NO_SLOTS, Slots};
 use std::alloc::Global;
 
 /// A part that was passed: what it stands for, where that is wanted, its slot, if it has one, what follows the part, and the
@@ -147,7 +147,7 @@ pub fn walk<G: Grammar>(grammar: G, text: &[u8]) -> Result<Slots, FormatFault>
 {
     let mut rest = text;
     let mut at: u16 = 0;
-    let mut slots = no_slots();
+    let mut slots = NO_SLOTS;
     while !rest.is_empty() {
         let passed = pass(grammar, rest, at, slots, false)?;
         rest = passed.rest;
@@ -170,7 +170,7 @@ pub fn gather<G: Grammar>(
     let mut parts = Vec::new(alloc);
     let mut rest = text;
     let mut at: u16 = 0;
-    let mut slots = no_slots();
+    let mut slots = NO_SLOTS;
     while !rest.is_empty() {
         let passed = pass(grammar, rest, at, slots, true)?;
         rest = passed.rest;

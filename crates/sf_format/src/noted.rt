@@ -8,7 +8,7 @@ ghost use Rattle.sf_format.specs.Passing.{fault_in, with_place, first_place, Not
 
 use crate::fault::{FormatFault, FormatWhy};
 use crate::grammar::{Grammar, pass};
-use crate::slots::{Slots, no_slots};
+use crate::slots::{NO_SLOTS, Slots};
 use sf_base::ByteSet;
 
 /// What was noted of the numbers so far.
@@ -78,7 +78,7 @@ pub fn number_fault<G: Grammar>(grammar: G, text: &[u8], slots: Slots) -> Option
     };
     let mut rest = text;
     let mut at: u16 = 0;
-    let mut earlier = no_slots();
+    let mut earlier = NO_SLOTS;
     while !rest.is_empty() {
         let Ok(passed) = pass(grammar, rest, at, earlier, false) else {
             unreachable!()

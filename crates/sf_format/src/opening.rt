@@ -1,12 +1,11 @@
 //! Conversion specifications up to their letter.
-ghost use Rattle.std.specs.Prelude.{◌≡◌, ◌≤◌, ◌+◌, ◌*◌, ◌&&◌, ◌||◌, true, length, min, nat_eq, nat_lt};
+ghost use Rattle.std.specs.Prelude.{◌≡◌, ◌≤◌, ◌+◌, ◌&&◌, ◌||◌, true, length, min, nat_eq, nat_lt};
 ghost use Rattle.std.specs.List.{AllByRecursion};
-ghost use Rattle.std.specs.Char.{digit_value};
 ghost use Rattle.sf_base.specs.Bytes.{magnitude};
 ghost use Rattle.sf_format.specs.Digits.{is_decimal};
 ghost use Rattle.sf_format.specs.Lists.{is_written};
 ghost use Rattle.sf_format.specs.Cut.{cut};
-ghost use Rattle.sf_format.specs.Pieces.{number_text, opening_text, star_text};
+ghost use Rattle.sf_format.specs.Pieces.{number_text, opening_text};
 ghost use Rattle.sf_format.specs.Rules.{first_of};
 ghost use Rattle.sf_format.specs.Faults.{opening_rules};
 ghost use Rattle.sf_format.specs.Passing.{opening_of, fault_in};
@@ -63,16 +62,6 @@ pub fn opening(text: &[u8]) -> (Written, &[u8])
     cut_opening(text)
 }
 
-/// One more digit behind a magnitude below the limit, or the limit.
-fn capped_push(value: u32, digit: u8) -> u32
-    requires value { value ≤ 65536 }
-    requires digit { is_decimal digit ≡ true }
-    ensures { result ≡ min (value * 10 + digit_value digit) 65536 }
-{
-    let next = value * 10 + (digit - b'0') as u32;
-    if next < 65536 { next } else { 65536 }
-}
-
 /// The magnitude of the digits, or the limit where it is above that.
 pub fn capped(digits: &[u8]) -> u32
     requires { AllByRecursion (λ b. is_decimal b ≡ true) digits.now }
@@ -80,7 +69,8 @@ pub fn capped(digits: &[u8]) -> u32
 {
     let mut value: u32 = 0;
     for b in digits {
-        value = capped_push(value, *b);
+        let next = value * 10 + (*b - b'0') as u32;
+        value = next.min(65536);
     }
     value
 }
@@ -114,12 +104,6 @@ pub fn number_len(number: &[u8]) -> u16
     }
 }
 
-fn star_len(star: bool) -> u16
-    ensures { result ≡ length (star_text star) }
-{
-    star as u16
-}
-
 /// The first fault of an opening whose `%` stands at the place.
 pub fn opening_fault(at: u16, written: &Written) -> Option<FormatFault>
     requires place { at ≤ 4096 }
@@ -129,7 +113,7 @@ pub fn opening_fault(at: u16, written: &Written) -> Option<FormatFault>
     ensures { fault_in result ≡ first_of (opening_rules at (opening_of written.now)) }
 {
     let star_at = at + 1 + number_len(written.number);
-    let width_at = star_at + star_len(written.star);
+    let width_at = star_at + written.star as u16;
     let width = capped(written.width);
     fault_by(&[
         rule(FormatWhy::BadNumber, at + 1, is_no_slot(written.number)),

@@ -12,7 +12,7 @@ use crate::directive::Profile;
 use crate::grammar::{Grammar, pass};
 use crate::judgement::judge;
 use crate::scan::grammar::ScanGrammar;
-use crate::slots::no_slots;
+use crate::slots::NO_SLOTS;
 
 /// The text of the part with the number, counted from 1, of a text without a fault in its parts.
 fn part_text<G: Grammar>(grammar: G, text: &[u8], number: u16) -> Option<&[u8]>
@@ -26,7 +26,7 @@ fn part_text<G: Grammar>(grammar: G, text: &[u8], number: u16) -> Option<&[u8]>
     let mut left = number;
     let mut rest = text;
     let mut at: u16 = 0;
-    let mut slots = no_slots();
+    let mut slots = NO_SLOTS;
     while !rest.is_empty() {
         let Ok(passed) = pass(grammar, rest, at, slots, false) else {
             return None;

@@ -21,14 +21,10 @@ pub struct Slots {
 }
 
 /// No destination, before the first part.
-pub fn no_slots() -> Slots
-    ensures { Holds result [] }
-{
-    Slots {
-        count: 0,
-        numbered: false,
-    }
-}
+pub const NO_SLOTS: Slots = Slots {
+    count: 0,
+    numbered: false,
+};
 
 /// Whether one destination of the two has a number and the other has none.
 fn mixes(slots: Slots, written: &Written) -> bool

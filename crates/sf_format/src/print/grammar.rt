@@ -13,6 +13,7 @@ ghost use Rattle.sf_format.specs.Passing.{print_opening_of, Holds, PassesBy};
 use crate::directive::Profile;
 use crate::fault::{FormatFault, FormatWhy};
 use crate::grammar::{Grammar, Literal, Passed};
+use crate::opening::Written;
 use crate::print::letter::{conversion, flag_fault, print_converted};
 use crate::print::opening::{PrintWritten, print_opening, print_opening_fault};
 use crate::slots::{Slots, pushed, slot_fault, slot_of};
@@ -50,7 +51,12 @@ fn pass_print_letter<'a>(
     if let Some(fault) = flag_fault(percent, written, found) {
         return Err(fault);
     }
-    let value = written.value();
+    let value = Written {
+        number: written.number,
+        star: false,
+        width: written.width,
+        size: written.size,
+    };
     if let Some(fault) = slot_fault(slots, &value, percent) {
         return Err(fault);
     }

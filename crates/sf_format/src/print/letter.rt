@@ -4,7 +4,6 @@ ghost use Rattle.std.specs.List.{AllByRecursion};
 ghost use Rattle.sf_base.specs.Bytes.{magnitude};
 ghost use Rattle.std.specs.Option.{option_map};
 ghost use Rattle.sf_format.specs.Digits.{is_decimal, optional_number};
-ghost use Rattle.sf_format.specs.Units.{has_flag};
 ghost use Rattle.sf_format.specs.PrintLetters.{print_row, print_letter_of, print_kind_of};
 ghost use Rattle.sf_format.specs.PrintGrammar.{or_place, IsPrintConv};
 ghost use Rattle.sf_format.specs.Rules.{first_of};
@@ -130,20 +129,13 @@ pub fn print_converted(
     Ok((found, kind))
 }
 
-/// Whether the letter has the flag.
-fn has_flag(letter: PrintLetter, flag: u8) -> bool
-    ensures { result ≡ has_flag letter flag }
-{
-    print_row(letter).flags.contains(&flag)
-}
-
 /// The place of the first flag that the letter does not have, where the flags begin at a place.
 fn foreign_flag(letter: PrintLetter, from: u16, flags: &[u8]) -> Option<u16>
     requires { from + length flags.now ≤ 65535 }
     ensures { result ≡ foreign_flag letter from flags.now }
 {
     for (i, b) in flags.iter().enumerate() {
-        if !has_flag(letter, *b) {
+        if !print_row(letter).flags.contains(b) {
             return Some(from + i as u16);
         }
     }

@@ -4,15 +4,14 @@ ghost use Rattle.std.specs.List.{AllByRecursion};
 ghost use Rattle.sf_format.specs.Digits.{is_decimal};
 ghost use Rattle.sf_format.specs.Cut.{print_cut, precision_behind};
 ghost use Rattle.sf_format.specs.Pieces.{print_opening_text};
-ghost use Rattle.sf_format.specs.Grammar.{value_opening};
 ghost use Rattle.sf_format.specs.Rules.{first_of};
 ghost use Rattle.sf_format.specs.PrintRules.{flags_place, width_place, point_place, print_opening_rules};
-ghost use Rattle.sf_format.specs.Passing.{opening_of, precision_of, print_opening_of, fault_in};
+ghost use Rattle.sf_format.specs.Passing.{precision_of, print_opening_of, fault_in};
 
 use crate::fault::{FormatFault, FormatWhy};
 use crate::fronts::{Class, mark, number, size, split_front};
 use crate::letter::Length;
-use crate::opening::{Written, capped, is_no_slot, number_len};
+use crate::opening::{capped, is_no_slot, number_len};
 use crate::rule_table::{fault_by, rule};
 
 /// A conversion specification of a print format up to its letter, as it is written.
@@ -82,18 +81,6 @@ pub fn print_opening(text: &[u8]) -> (PrintWritten, &[u8])
 }
 
 impl PrintWritten<'_> {
-    /// The value, as the rules on numbers see it.
-    pub fn value(&self) -> Written<'_>
-        ensures { opening_of result ≡ value_opening (print_opening_of self.now) }
-    {
-        Written {
-            number: self.number,
-            star: false,
-            width: self.width,
-            size: self.size,
-        }
-    }
-
     /// Where its parts begin, behind the `%` at the place.
     pub fn places(&self, percent: u16) -> Places
         requires place { percent ≤ 4096 }

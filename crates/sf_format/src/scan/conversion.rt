@@ -14,7 +14,7 @@ use crate::fault::{FormatFault, FormatWhy};
 use crate::letter::{Letter, left_out, letter_of, of_text};
 use crate::opening::{Written, capped};
 use crate::rule_table::{fault_by, rule};
-use crate::scan::scanlist::{Listed, scanlist, set_of};
+use crate::scan::scanlist::{Listed, members_set, scanlist};
 use sf_base::Kind;
 
 /// The first fault of the letter at the place.
@@ -77,7 +77,13 @@ fn shape(letter: Letter, list: &Listed) -> Shape
     ensures { ShapeBy (is_set letter) letter list.now result }
 {
     match letter {
-        Letter::Set => Shape::Set(set_of(list.complemented, list.members)),
+        Letter::Set => {
+            let mut set = members_set(list.members);
+            if list.complemented {
+                set.complement();
+            }
+            Shape::Set(set)
+        }
         Letter::Signed(base) | Letter::Unsigned(base) => Shape::Int(base),
         Letter::Chars => Shape::Chars,
         Letter::Text => Shape::Text,

@@ -4,7 +4,7 @@ ghost use Rattle.sf_format.specs.Scanlist.{backward_range, IsSetBy};
 ghost use Rattle.sf_format.specs.Rules.{first_of, place_of};
 ghost use Rattle.sf_format.specs.Faults.{list_rules};
 ghost use Rattle.sf_format.specs.Cut.{close_at, members_at};
-ghost use Rattle.sf_format.specs.Passing.{fault_in, ReadsList, ListsBehind};
+ghost use Rattle.sf_format.specs.Passing.{fault_in, ListsBehind};
 
 use crate::fault::{FormatFault, FormatWhy};
 use crate::fronts::{Class, mark, split_front};
@@ -88,7 +88,7 @@ fn list_fault(at: u16, from: u16, text: &[u8]) -> Option<FormatFault>
 }
 
 /// The set of a list of ranges and single members.
-fn members_set(members: &[u8]) -> ByteSet
+pub fn members_set(members: &[u8]) -> ByteSet
     requires { backward_range 0 members.now ≡ None }
     ensures { IsSetBy false members.now result }
 {
@@ -114,29 +114,13 @@ fn members_set(members: &[u8]) -> ByteSet
     }
 }
 
-/// The set of a list of ranges and single members, or its complement.
-pub fn set_of(complemented: bool, members: &[u8]) -> ByteSet
-    requires { backward_range 0 members.now ≡ None }
-    ensures { IsSetBy complemented members.now result }
+/// The scanlist behind the `[` at the place.
+pub fn scanlist(at: u16, text: &[u8]) -> Result<Listed<'_>, FormatFault>
+    requires { at + 1 + length text.now ≤ 4096 }
+    ensures { ListsBehind true at text.now result }
 {
-    let mut set = members_set(members);
-    if complemented {
-        set.complement();
-    }
-    set
-}
-
-/// The scanlist whose `[` stands at the first place and whose first member at the second.
-fn closed_list(
-    complemented: bool,
-    at: u16,
-    from: u16,
-    text: &[u8],
-) -> Result<Listed<'_>, FormatFault>
-    requires { from + length text.now ≤ 4096 }
-    ensures { ReadsList (list_rules at from text.now) (complemented, text.now) result }
-{
-    if let Some(fault) = list_fault(at, from, text) {
+    let (complemented, text) = mark(b'^', text);
+    if let Some(fault) = list_fault(at, at + 1 + complemented as u16, text) {
         return Err(fault);
     }
     let (members, close) = members(text);
@@ -149,13 +133,4 @@ fn closed_list(
         members,
         rest,
     })
-}
-
-/// The scanlist behind the `[` at the place.
-pub fn scanlist(at: u16, text: &[u8]) -> Result<Listed<'_>, FormatFault>
-    requires { at + 1 + length text.now ≤ 4096 }
-    ensures { ListsBehind true at text.now result }
-{
-    let (complemented, text) = mark(b'^', text);
-    closed_list(complemented, at, at + 1 + complemented as u16, text)
 }

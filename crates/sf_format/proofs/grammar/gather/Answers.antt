@@ -1,14 +1,15 @@
 use Rattle.std.proofs.Common.{inl, arith}
 use Rattle.std.proofs.lemmas.Result.{err_from_is_err_and}
 use Rattle.sf_format.specs.Grammar.{destinations}
+use Rattle.sf_format.proofs.Holding.{none_held}
 use Rattle.sf_format.proofs.Walks.{bytes_of, some_left, none_left, passes_on, gathering_none, gathering_more, passing_fault, gathering_all, rest_shorter}
 use Rattle.sf_format.proofs.grammar.gather.Goals as goal
 
 pub loop-rest-init : goal.loop-rest-init
 loop-rest-init g c =
     rw c.new-parts.ensures.items
-    (gathering_none (g.G.Grammar.language c.args.grammar) (g.G.Grammar.means c.args.grammar) c.args.text.now c.no_slots-slots.result (bytes_of c.args.text.now (λ i. omega (arith, c.type_inv.text i)))
-    c.no_slots-slots.ensures)
+    (gathering_none (g.G.Grammar.language c.args.grammar) (g.G.Grammar.means c.args.grammar) c.args.text.now _ (bytes_of c.args.text.now (λ i. omega (arith, c.type_inv.text i)))
+    none_held)
 
 pub returns-in_err-passed-clause-hindered : goal.returns-in_err-passed-clause-hindered
 returns-in_err-passed-clause-hindered g c =

@@ -1,13 +1,14 @@
 use Rattle.std.proofs.Common.{arith}
 use Rattle.std.proofs.lemmas.Result.{err_from_is_err_and}
 use Rattle.sf_format.specs.Grammar.{destinations}
+use Rattle.sf_format.proofs.Holding.{none_held}
 use Rattle.sf_format.proofs.Walks.{bytes_of, passing_none, some_left, none_left, passes_on, passing_more, passing_fault, walked_all, rest_shorter}
 use Rattle.sf_format.proofs.grammar.walk.Goals as goal
 
 pub loop-rest-init : goal.loop-rest-init
 loop-rest-init g c =
-    passing_none (g.G.Grammar.language c.args.grammar) c.args.text.now c.no_slots-slots.result (bytes_of c.args.text.now (λ i. omega (arith, c.type_inv.text i)))
-    c.no_slots-slots.ensures
+    passing_none (g.G.Grammar.language c.args.grammar) c.args.text.now _ (bytes_of c.args.text.now (λ i. omega (arith, c.type_inv.text i)))
+    none_held
 
 pub returns-in_err-passed : goal.returns-in_err-passed
 returns-in_err-passed g c =

@@ -1,13 +1,14 @@
 use Rattle.std.proofs.Common.{refl, sym, ◌∙◌, arith}
 use Rattle.sf_format.specs.Grammar.{destinations}
+use Rattle.sf_format.proofs.Holding.{none_held}
 use Rattle.sf_format.proofs.Walks.{bytes_of, some_left, none_left, passes_on, passing_fault, rest_shorter}
 use Rattle.sf_format.proofs.PartTexts.{counting_none, counting_more, text_found, text_none}
 use Rattle.sf_format.proofs.part_text.part_text.Goals as goal
 
 pub loop-rest-init : goal.loop-rest-init
 loop-rest-init g c =
-    counting_none (g.G.Grammar.language c.args.grammar) c.args.text.now c.no_slots-slots.result c.args.number
-    (bytes_of c.args.text.now (λ i. omega (arith, c.type_inv.text i))) c.no_slots-slots.ensures (omega arith)
+    counting_none (g.G.Grammar.language c.args.grammar) c.args.text.now _ c.args.number
+    (bytes_of c.args.text.now (λ i. omega (arith, c.type_inv.text i))) none_held (omega arith)
 
 pub returns-in_default : goal.returns-in_default
 returns-in_default g c =

@@ -1,10 +1,10 @@
-use Rattle.std.proofs.Common.{◌+◌, ◌++◌, [], length, sym, ap, ◌∙◌, subst}
+use Rattle.std.proofs.Common.{◌+◌, ◌++◌, length, sym, ap, ◌∙◌}
 use Rattle.std.proofs.lemmas.Result.{err_from_is_err_and}
 use Rattle.sf_format.specs.PrintLetters.{print_letter_of}
-use Rattle.sf_format.specs.Grammar.{value_opening, assigned_opening, slot_of}
-use Rattle.sf_format.specs.Rules.{first_of, slot_rules}
+use Rattle.sf_format.specs.Grammar.{value_opening, slot_of}
+use Rattle.sf_format.specs.Rules.{slot_rules}
 use Rattle.sf_format.specs.PrintRules.{print_letter_rules, flag_rules}
-use Rattle.sf_format.specs.Passing.{opening_of, print_opening_of, fault_of, Holds}
+use Rattle.sf_format.specs.Passing.{print_opening_of, fault_of}
 use Rattle.sf_format.proofs.Passages.{first_left}
 use Rattle.sf_format.proofs.PrintPassages.{value_slot, flag_fault_first, slot_first, passes_print}
 use Rattle.sf_format.proofs.print.grammar.pass_print_letter.Goals as goal
@@ -30,18 +30,16 @@ returns-in-Some-slot_fault c =
     λ earlier holds.
     slot_first c.args.profile earlier c.args.percent (print_opening_of c.args.written.now) c.args.at c.args.letter c.args.text.now
     c.in_ok-found.found c.in_ok-found.ensures.0 c.in_ok-found.ensures.1 (sym c.in_default.ensures)
-    ∙ ap (λ v. first_of (slot_rules earlier c.args.percent v)) (sym c.value-value.ensures)
     ∙ sym (c.in-Some-slot_fault.ensures.first earlier holds)
 
 pub returns : goal.returns
 returns c =
     λ earlier holds.
     let o = print_opening_of c.args.written.now in
-    let value = c.value-value.ensures in
     let none = sym (c.in_default-slot_fault.ensures.first earlier holds) in
-    let slot = sym c.in-Some-slot_of.is ∙ c.slot_of.ensures ∙ ap (λ n. slot_of (1 + n) (opening_of c.value-value.result)) holds.count ∙ ap (slot_of (1 + length earlier)) value in
+    let slot = sym c.in-Some-slot_of.is ∙ c.slot_of.ensures ∙ ap (λ n. slot_of (1 + n) (value_opening o)) holds.count in
     passes_print c.args.profile c.args.wanted earlier c.args.percent o c.args.at c.args.letter c.args.text.now c.in_ok-found.found c.conversion.result
     c.in-Some-slot_of.slot c.pushed.result c.in_ok-found.ensures.0 c.in_ok-found.ensures.1 (sym c.in_default.ensures)
-    (ap (λ v. first_of (slot_rules earlier c.args.percent v)) (sym value) ∙ none)
+    none
     (c.conversion.ensures (1 + length earlier) (value_slot (1 + length earlier) c.in-Some-slot_of.slot o slot) c.in_ok-found.ensures.2) slot
-    (subst (λ v. Holds c.pushed.result (earlier ++ assigned_opening v [])) value (c.pushed.ensures earlier c.args.percent holds none))
+    (c.pushed.ensures earlier c.args.percent holds none)
