@@ -1,17 +1,19 @@
 -- Runs that begin and pass within a piece.
-use Rattle.std.proofs.Common.{◌≡◌, ℕ, zero, suc, ◌+◌, ◌-◌, ◌≤◌, Bool, true, false, cond, List, [], ◌∷◌, ◌++◌, length, take, drop, Option, Some, None, refl, sym, ap, subst, ◌∙◌, arith, true≢false, length-drop}
+use Rattle.std.proofs.Common.{◌≡◌, ℕ, zero, suc, ◌+◌, ◌-◌, ◌<◌, ◌≤◌, Bool, true, false, cond, List, [], ◌∷◌, ◌++◌, length, take, drop, Option, Some, None, refl, sym, ap, subst, ◌∙◌, arith, true≢false, length-drop}
 use Rattle.std.specs.Prelude.{slice_get}
-use Rattle.std.proofs.lemmas.List.{append-nil, append_assoc, drop-drop, length-append, take-append-drop}
+use Rattle.std.proofs.lemmas.List.{append-nil, append_assoc, drop-drop, length-append, length-map, take_all, take-append-drop}
 use Rattle.sf_base.specs.Data.{Assigned, Bytes}
-use Rattle.sf_base.specs.Kept.{Kept, texts_in, with_text}
+use Rattle.sf_base.specs.Kept.{Kept, nothing_kept, texts_in, with_text}
 use Rattle.sf_format.specs.declared.directive.Directive.{Directive}
-use Rattle.sf_format.specs.Proper.{AreProper, IsProper, slots_of}
+use Rattle.sf_format.specs.Proper.{AreProper, IsProper, destinations_of, slots_of}
+use Rattle.sf_format.specs.Slots.{Slotted}
 use Rattle.sf_run.specs.declared.directive.Finished.{Finished}
 use Rattle.sf_run.specs.declared.directive.Finished.TheVariants as finish
 use Rattle.sf_run.specs.declared.directive.Ended.{Ended}
 use Rattle.sf_run.specs.declared.outcome.Ending.{Ending}
 use Rattle.sf_run.specs.declared.outcome.Status.{Status}
 use Rattle.sf_run.specs.declared.outcome.Status.TheVariants.{Done}
+use Rattle.sf_run.specs.declared.quick.Strays.{Strays}
 use Rattle.sf_run.specs.declared.tally.Tally as code
 use Rattle.sf_run.specs.Holding.{are_apart, are_placed}
 use Rattle.sf_run.specs.Limits.{RunWithin, TellsWithin}
@@ -19,9 +21,9 @@ use Rattle.sf_run.specs.Machine.{Skipping}
 use Rattle.sf_run.specs.Phases.{end_of, is_failing, slot_given}
 use Rattle.sf_run.specs.Pieces.{EndsAtOnce}
 use Rattle.sf_run.specs.Places.{is_destination, places_left}
-use Rattle.sf_run.specs.Quick.{GivesTo, MayBeGiven, PassesWithin, slot_stored}
-use Rattle.sf_run.specs.Residual.{Part, Tally, by_end, counted, nothing_yet, one_from, out_of, run_of, then_on, with_used}
-use Rattle.sf_run.specs.Runs.{IsOpen, RunReport, passed, stored}
+use Rattle.sf_run.specs.Quick.{GivesTo, IsSure, MayBeGiven, PassesBy, PassesWithin, slot_stored, strayed, text_stored}
+use Rattle.sf_run.specs.Residual.{Part, Tally, by_end, count_on, counted, nothing_yet, one_from, out_of, run_of, then_on, with_used}
+use Rattle.sf_run.specs.Runs.{IsOpen, RunReport, is_conversion, passed, stored}
 use Rattle.sf_run.specs.Steps.{StepEnd, Passes, Stores, Fails}
 use Rattle.sf_run.specs.Tallies.{PassesSo, tally_of, values_with}
 use Rattle.sf_run.specs.Texts.{slot_of, slots_in}
@@ -54,6 +56,18 @@ passes_within d n piece e stores old new proper is gives = record {
   gives = gives;
   own = own_slot e.finished (take e.item (drop e.before piece)) (slot_of d) gives.passes.passes is.fits.given;
 }
+
+-- one that passes surely, and ends so, is given to a store with so much room
+pub sure_given : (d : Directive) (n : ℕ) (piece : List ℕ) (room : ℕ) (e : Ended) → IsProper d → EndsAtOnce d n piece e → IsSure d n piece room
+    → (passed (end_of (take e.item (drop e.before piece)) e.finished) ≡ true → room < length (text_stored (end_of (take e.item (drop e.before piece)) e.finished))) → ⊥
+sure_given d n piece room e proper is sure full =
+    let a = is.answers proper in
+    let same = a.goes.takes sure.after in
+    let ok = sym (ap (λ (p : Part). passed p.end) same) ∙ sure.passes in
+    let long = ap (λ (p : Part). length (text_stored p.end)) same in
+    let fits = sure.fits in
+    let over = full ok in
+    omega (arith, long, fits, over)
 
 -- a text that the store was given is what the directive gives
 pub text_given : (slot : ℕ) (text : List ℕ) (room : ℕ) (old new : Kept) → new ≡ with_text slot text room old → GivesTo (Stores slot (Bytes text)) true old new
@@ -129,6 +143,88 @@ going_on ds front p d t u old new piece taken stores at h is w tally used assign
       converted = (let few = h.converted in omega (arith, few, converted'));
     }
 
+-- the totals with a directive that has passed, which counts as a conversion or not, and stores or not
+abbrev totals : Bool → Bool → ℕ → code.Tally → code.Tally
+totals v stores taken t = record { used = t.used + taken; assigned = cond stores (cond v (t.assigned + 1) t.assigned) t.assigned; converted = cond v (t.converted + 1) t.converted }
+
+totals_counted : (d : Directive) (end : StepEnd) (stores : Bool) (taken : ℕ) (t : code.Tally) (values : List Assigned) → PassesSo end stores
+    → tally_of (totals (is_conversion d) stores taken t) (values_with end values) ≡ counted d end (with_used (t.used + taken) (tally_of t values))
+totals_counted d Passes stores taken t values so = ap (λ b. tally_of (totals (is_conversion d) b taken t) values) (sym so.stored)
+totals_counted d (Stores slot v) stores taken t values so = ap (λ b. tally_of (totals (is_conversion d) b taken t) (values_with (Stores slot v) values)) (sym so.stored)
+totals_counted d (Fails status) stores taken t values so = absurd (true≢false (sym so.passes))
+
+values_more : (end : StepEnd) (stores : Bool) (values : List Assigned) → PassesSo end stores → length (values_with end values) ≡ length values + cond stores 1 0
+values_more Passes stores values so = let e : ◌≡◌ {A = ℕ} 0 (cond stores 1 0) = ap (λ v. cond v 1 0) so.stored in omega (arith, e)
+values_more (Stores slot v) stores values so =
+    let e : ◌≡◌ {A = ℕ} 1 (cond stores 1 0) = ap (λ v. cond v 1 0) so.stored in
+    let long = length-append values (record { slot = slot; datum = v } ∷ []) in
+    omega (arith, e, long)
+values_more (Fails status) stores values so = absurd (true≢false (sym so.passes))
+
+-- The directives before this place have passed within the front; behind the bytes that they took is the rest, and the strays are those that they make.
+pub record Counted (ds : List Directive) (front tail : List ℕ) (p : ℕ) (s : Strays) (kept : Kept) : Type 0 where
+  pub tally : code.Tally
+  pub going : Going ds front p tally kept
+  pub rest : tail ≡ drop tally.used front
+  pub short : length tail ≤ length front
+  pub assigned : tally.assigned + s.uncounted ≡ length kept.values
+  pub converted : tally.converted ≡ tally.assigned + s.suppressed
+  pub few : s.uncounted ≤ p
+  pub low : s.suppressed ≤ p
+
+-- what a directive adds to the counts
+record Adds (v stores : Bool) (t : code.Tally) (s : Strays) : Type 0 where
+  pub assigned : cond stores (cond v (t.assigned + 1) t.assigned) t.assigned + (strayed v stores s).uncounted ≡ t.assigned + s.uncounted + cond stores 1 0
+  pub converted : t.converted ≡ t.assigned + s.suppressed
+      → cond v (t.converted + 1) t.converted ≡ cond stores (cond v (t.assigned + 1) t.assigned) t.assigned + (strayed v stores s).suppressed
+  pub few : (strayed v stores s).uncounted ≤ s.uncounted + 1
+  pub most : cond stores (cond v (t.assigned + 1) t.assigned) t.assigned ≤ t.assigned + cond stores 1 0
+  pub less : cond v (t.converted + 1) t.converted ≤ t.converted + 1
+
+adds : (v stores : Bool) (t : code.Tally) (s : Strays) → Adds v stores t s
+adds true true t s = record { assigned = omega arith; converted = λ e. omega (arith, e); few = omega arith; most = omega arith; less = omega arith }
+adds true false t s = record { assigned = omega arith; converted = λ e. omega (arith, e); few = omega arith; most = omega arith; less = omega arith }
+adds false true t s = record { assigned = omega arith; converted = λ e. omega (arith, e); few = omega arith; most = omega arith; less = omega arith }
+adds false false t s = record { assigned = omega arith; converted = λ e. omega (arith, e); few = omega arith; most = omega arith; less = omega arith }
+
+-- the next directive has passed
+pub counting_on : (ds : List Directive) (front rest left : List ℕ) (p : ℕ) (d : Directive) (n : ℕ) (s after : Strays) (old new : Kept) (taken : ℕ) → slice_get ds p ≡ Some d
+    → (h : Counted ds front rest p s old) → n ≡ length front - length rest → PassesBy d n rest taken old new s after → left ≡ drop taken rest → Counted ds front left (p + 1) after new
+counting_on ds front rest left p d n s after old new taken at h begins w on =
+    let t : code.Tally = h.tally in
+    let v : Bool = is_conversion d in
+    let u : code.Tally = totals v w.stores taken t in
+    let low = h.going.within in
+    let short = ap length h.rest ∙ length-drop t.used front in
+    let here : n ≡ t.used = omega (arith, begins, short, low) in
+    let is : PassesWithin d t.used rest taken w.stores old new = subst (λ m. PassesWithin d m rest taken w.stores old new) here w.is in
+    let more : Adds v w.stores t s = adds v w.stores t s in
+    let same = w.counted in
+    let values = ap length is.gives.values ∙ values_more is.end w.stores old.values is.gives.passes in
+    let before = h.assigned in
+    let sums = more.assigned in
+    let most = more.most in
+    let less = more.less in
+    let few = h.few in
+    let one = more.few in
+    record {
+      tally = u;
+      going = going_on ds front p d t u old new rest taken w.stores at h.going h.rest is (λ end values so. totals_counted d end w.stores taken t values so) refl most less;
+      rest = on ∙ ap (drop taken) h.rest ∙ drop-drop taken t.used front;
+      short = (let fewer = ap length on ∙ length-drop taken rest in let was = h.short in omega (arith, fewer, was));
+      assigned = (let e = ap (λ (r : Strays). r.uncounted) same in omega (arith, e, sums, before, values));
+      converted = more.converted h.converted ∙ ap (λ (r : Strays). u.assigned + r.suppressed) (sym same);
+      few = (let e = ap (λ (r : Strays). r.uncounted) same in omega (arith, e, one, few));
+      low = (let e = ap (λ (r : Strays). r.suppressed) same in let sum = more.converted h.converted in let before = h.going.converted in omega (arith, e, sum, before, less));
+    }
+
+-- past the last directive the destinations are the slots that have a value
+pub all_counted : (ds : List Directive) (front rest : List ℕ) (p : ℕ) (s : Strays) (kept : Kept) → length ds ≤ p → (h : Counted ds front rest p s kept)
+    → h.tally.assigned + s.uncounted ≡ length (destinations_of ds)
+all_counted ds front rest p s kept all h =
+    h.assigned ∙ sym (length-map kept.values (λ (a : Assigned). a.slot)) ∙ ap length h.going.given ∙ ap (λ l. length (slots_of l)) (take_all p ds all)
+    ∙ length-map (destinations_of ds) (λ (d : Slotted). d.0)
+
 -- the slot of the next directive is free
 pub free_at : (ds : List Directive) (p : ℕ) (d : Directive) (values : List Assigned) → slice_get ds p ≡ Some d → are_placed 32 ds ≡ true → are_apart (slots_of ds) ≡ true
     → slots_in values ≡ slots_of (take p ds) → MayBeGiven (slot_of d) values
@@ -184,3 +280,59 @@ quick_is ds proper m most piece front t kept p all is fits h z ending =
     (done_is ds proper m (front ++ rest) ending (tally_of t kept.values)
     (λ y. ap (run_of None ds 1 nothing_yet) (append_assoc front rest y) ∙ h.same (rest ++ y) ∙ all_passed ds p _ (tally_of t kept.values) all)
     (omega (arith, low, fits)) (omega (arith, low, long)))
+
+-- ---- what is counted
+
+-- the same of what is the same
+pub passes_as : (d : Directive) (n : ℕ) (rest : List ℕ) (t u : ℕ) (old before new after : Kept) (s r a b : Strays) → u ≡ t → before ≡ old → after ≡ new → r ≡ s → b ≡ a
+    → PassesBy d n rest t old new s a → PassesBy d n rest u before after r b
+passes_as d n rest t u old before new after s r a b e f g i j h =
+    subst (λ x. PassesBy d n rest x before after r b) (sym e) (subst (λ x. PassesBy d n rest t x after r b) (sym f)
+    (subst (λ x. PassesBy d n rest t old x r b) (sym g) (subst (λ x. PassesBy d n rest t old new x b) (sym i) (subst (λ x. PassesBy d n rest t old new s x) (sym j) h))))
+
+-- before the first directive
+pub nothing_counted : (ds : List Directive) (front : List ℕ) (kept : Kept) (room : ℕ) → kept ≡ nothing_kept room → length (destinations_of ds) ≤ 32
+    → Counted ds front front 0 (record { suppressed = 0; uncounted = 0 }) kept
+nothing_counted ds front kept room is few = subst (λ k. Counted ds front front 0 (record { suppressed = 0; uncounted = 0 }) k) (sym is) (record {
+  tally = record { used = 0; assigned = 0; converted = 0 };
+  going = record {
+    same = λ z. refl;
+    within = omega arith;
+    given = refl;
+    opened = refl;
+    joined = refl;
+    assigned = omega (arith, few);
+    converted = omega arith;
+  };
+  rest = refl;
+  short = omega arith;
+  assigned = refl;
+  converted = refl;
+  few = omega arith;
+  low = omega arith;
+})
+
+abbrev pub told : ℕ → ℕ → ℕ → List Assigned → RunReport
+told used assigned converted values = out_of Done 0 (record { used = used; assigned = assigned; converted = converted; values = values })
+
+-- past the last directive the run is the report with the counts that the strays leave
+pub counted_run : (ds : List Directive) → AreProper ds → (m most : ℕ) (piece front rest : List ℕ) (s : Strays) (kept : Kept) (p count : ℕ) → length ds ≤ p → front ≡ take most piece → length front ≤ m
+    → Counted ds front rest p s kept → count ≡ length (destinations_of ds) → (z : List ℕ) (ending : Ending)
+    → RunWithin ds m (piece ++ z) ending (told (length front - length rest) (count - s.uncounted) (count - s.uncounted + s.suppressed) kept.values)
+counted_run ds proper m most piece front rest s kept p count all is fits h counts z ending =
+    let t : code.Tally = h.tally in
+    let values : List Assigned = kept.values in
+    let sum = all_counted ds front rest p s kept all h in
+    let more = h.converted in
+    let low = h.going.within in
+    let short = ap length h.rest ∙ length-drop t.used front in
+    let used : t.used ≡ length front - length rest = omega (arith, short, low) in
+    let assigned : t.assigned ≡ count - s.uncounted = omega (arith, sum, counts) in
+    let converted : t.converted ≡ count - s.uncounted + s.suppressed = omega (arith, more, assigned) in
+    subst (λ r. RunWithin ds m (piece ++ z) ending r)
+    (ap (λ n. told n t.assigned t.converted values) used ∙ ap (λ n. told (length front - length rest) n t.converted values) assigned
+    ∙ ap (λ n. told (length front - length rest) (count - s.uncounted) n values) converted)
+    (quick_is ds proper m most piece front t kept p all is fits h.going z ending)
+
+pub counted_used : (ds : List Directive) (front rest : List ℕ) (p : ℕ) (s : Strays) (kept : Kept) → length ds ≤ p → Counted ds front rest p s kept → s.uncounted ≤ length (destinations_of ds)
+counted_used ds front rest p s kept all h = let sum = all_counted ds front rest p s kept all h in omega (arith, sum)

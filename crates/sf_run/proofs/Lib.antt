@@ -19,3 +19,4 @@ pub mod Inputs
 pub mod Fronts
 pub mod TwoStores
 pub mod AtOnce
+pub mod Surely

@@ -37,6 +37,7 @@ use Rattle.sf_run.specs.Holding.{LeftAfterAll, left_before}
 use Rattle.sf_run.specs.Machine.{Stage, Skipping, Taken, Item, shape_skips, count_end, item_stepped, item_end, stepped, finished, is_full}
 use Rattle.sf_run.specs.Phases.{CanAll, GrowsBy, Shows, ShowsItem, end_of, passed_number, slot_closed, slot_in}
 use Rattle.sf_run.specs.Pieces.{Answers, AnswersBy, EndsAt, EndsAtOnce, EndsIn, IsEnd, IsEndIn, IsEndOf, IsWhole, StaysAt, Suits, item_of, run_of}
+use Rattle.sf_run.specs.Quick.{IsSure}
 use Rattle.sf_run.specs.Residual.{Part, choose, one_from, stepped_all}
 use Rattle.sf_run.specs.Texts.{IsInText, StoresByte, counts_bytes, is_count, text_slot, slot_of_text}
 use Rattle.sf_run.proofs.Brought.{all-append, can_all, first_all, item_all, one_from-all, skips_all, take-take}
@@ -578,3 +579,12 @@ suits_ended d piece e none is = record {
   left = tt;
   end = record { text = λ ok. sym none; given = is.given; number = is.number; memory = is.memory };
 }
+
+-- a directive that waits at the end of the piece doesn't pass before
+pub waits_late : (d : Directive) (n : ℕ) (piece : List ℕ) (room : ℕ) (run : Run) → run.ends ≡ None → Answers d Skipping n piece run → Suits d phase.Skipping piece run → IsSure d n piece room → ⊥
+waits_late d n piece room run none answers suits sure =
+    let all = suits.all none in
+    let within = suits.within in
+    let most = answers_use d Skipping n piece run within answers sure.after in
+    let early = sure.early in
+    omega (arith, all, most, early)

@@ -12,7 +12,7 @@ use Rattle.sf_format.specs.Proper.{AreProper}
 use Rattle.sf_item.specs.Tests.{integer_at, matches}
 use Rattle.sf_run.specs.declared.outcome.Ending.{Ending}
 use Rattle.sf_run.specs.declared.outcome.Status.{Status}
-use Rattle.sf_run.specs.declared.outcome.Status.TheVariants.{MatchingFailure, TooLong, NoMemory}
+use Rattle.sf_run.specs.declared.outcome.Status.TheVariants.{Done, InputFailure, MatchingFailure, OutOfRange, TooLong, NoMemory}
 use Rattle.sf_run.specs.declared.scanner.Stop.{Stop}
 use Rattle.sf_run.specs.Steps.{StepEnd, Passes, Stores, Fails}
 use Rattle.sf_run.specs.Runs.{Ran, GoesOn, Steps, RunReport, report_of, used}
@@ -30,30 +30,35 @@ use Rattle.sf_run.proofs.Openness.{run_not_too_long}
 use Rattle.sf_run.proofs.Told.{run_told}
 use Rattle.sf_run.proofs.Waits.{cut_here}
 
--- ---- no run by the definitions stops for want of memory
+-- ---- no run by the definitions stops for want of memory, and no directive fails as Done
+
+is_own : Status → Bool
+is_own Done = false
+is_own NoMemory = false
+is_own _ = true
 
 own_end : StepEnd → Bool
 own_end Passes = true
 own_end (Stores slot v) = true
-own_end (Fails status) = cond (is_memory_status status) false true
+own_end (Fails status) = is_own status
 
 number_own : (c : Conversion) (slot : ℕ) (v : Option ℤ) → own_end (number_end c slot v) ≡ true
-unfolding own_end
+unfolding own_end is_own
 number_own c slot None = refl
 number_own c slot (Some v) = refl
 
 count_own : (c : Conversion) (slot : Option ℕ) (n : ℕ) → own_end (count_end c slot n) ≡ true
-unfolding own_end
+unfolding own_end is_own
 count_own c None n = refl
 count_own c (Some slot) n = number_own c slot (value_of c.kind false n)
 
 integer_own : (c : Conversion) (slot : ℕ) (i : Option (Bool × ℕ)) → own_end (integer_end c slot i) ≡ true
-unfolding own_end
+unfolding own_end is_own
 integer_own c slot None = refl
 integer_own c slot (Some i) = number_own c slot (value_of c.kind i.0 i.1)
 
 stored_own : (c : Conversion) (slot : ℕ) (shape : Shape) (item : List ℕ) → own_end (stored_end c slot shape item) ≡ true
-unfolding own_end
+unfolding own_end is_own
 stored_own c slot (Int base) item = integer_own c slot (integer_at base item)
 stored_own c slot Text item = refl
 stored_own c slot (Set members) item = refl
@@ -61,12 +66,12 @@ stored_own c slot Chars item = refl
 stored_own c slot Count item = refl
 
 passed_own : (c : Conversion) (slot : Option ℕ) (item : List ℕ) → own_end (passed_end c slot item) ≡ true
-unfolding own_end
+unfolding own_end is_own
 passed_own c None item = refl
 passed_own c (Some slot) item = stored_own c slot c.shape item
 
 item_own : (c : Conversion) (item : List ℕ) → own_end (item_end c item) ≡ true
-unfolding own_end
+unfolding own_end is_own
 item_own c item = by_case (matches c item)
   where
     by_case : (v : Bool) → own_end (cond v (passed_end c c.slot item) (Fails MatchingFailure)) ≡ true
@@ -74,12 +79,12 @@ item_own c item = by_case (matches c item)
     by_case false = refl
 
 nothing_own : (more : Bool) → own_end (nothing_end more) ≡ true
-unfolding own_end
+unfolding own_end is_own
 nothing_own true = refl
 nothing_own false = refl
 
 item_finish_own : (c : Conversion) (q : Stage) (more : Bool) → own_end (item_finished c q more) ≡ true
-unfolding own_end
+unfolding own_end is_own
 item_finish_own c Skipping more = nothing_own more
 item_finish_own c Taken more = refl
 item_finish_own c (Item f) more = item_own c f
@@ -92,13 +97,13 @@ conversion_own c (Set members) q n more = item_finish_own c q more
 conversion_own c Chars q n more = item_finish_own c q more
 
 byte_own : (q : Stage) (more : Bool) → own_end (byte_finished q more) ≡ true
-unfolding own_end
+unfolding own_end is_own
 byte_own Skipping more = nothing_own more
 byte_own Taken more = refl
 byte_own (Item f) more = refl
 
 finish_own : (d : Directive) (q : Stage) (n : ℕ) (more : Bool) → own_end (finished d q n more) ≡ true
-unfolding own_end
+unfolding own_end is_own
 finish_own Space q n more = refl
 finish_own (Byte a) q n more = byte_own q more
 finish_own Percent q n more = byte_own q more
@@ -109,12 +114,20 @@ one_own d q n [] = finish_own d q n false
 one_own d q n (b ∷ x) = by_option (λ p. own_end p.end ≡ true) (stepped d q b) _ _ (finish_own d q n true) (λ r. one_own d r (n + 1) x)
 
 own_status : (status : Status) → own_end (Fails status) ≡ true → is_memory_status status ≡ false
-unfolding own_end
-own_status status e = by_case (is_memory_status status) e
-  where
-    by_case : (v : Bool) → cond v false true ≡ true → v ≡ false
-    by_case true e = absurd (true≢false (sym e))
-    by_case false e = refl
+unfolding own_end is_own
+own_status Done e = refl
+own_status InputFailure e = refl
+own_status MatchingFailure e = refl
+own_status OutOfRange e = refl
+own_status TooLong e = refl
+own_status NoMemory e = absurd (true≢false (sym e))
+
+own_not_done : (end : StepEnd) (status : Status) → own_end end ≡ true → end ≡ Fails status → status ≡ Done → ⊥
+unfolding own_end is_own
+own_not_done end status own is done = true≢false (sym own ∙ ap own_end is ∙ ap is_own done)
+
+pub never_done : (d : Directive) (q : Stage) (n : ℕ) (x : List ℕ) (status : Status) → (one_from d q n x).end ≡ Fails status → status ≡ Done → ⊥
+never_done d q n x status is done = own_not_done (one_from d q n x).end status (one_own d q n x) is done
 
 end_fine : (end : StepEnd) (y : RunReport) (f : Status → RunReport) → own_end end ≡ true → is_memory_status y.status ≡ false → ((status : Status) → (f status).status ≡ status)
     → is_memory_status (by_end end y f).status ≡ false

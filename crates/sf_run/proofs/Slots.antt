@@ -184,7 +184,7 @@ slot_of_own (Conv c) slot e = by_shape c.shape e
 
 -- ---- texts
 
-texts-push : (values : List Assigned) (a : Assigned) → texts_in (values ++ a ∷ []) ≡ texts_in values ++ text_in a.datum
+pub texts-push : (values : List Assigned) (a : Assigned) → texts_in (values ++ a ∷ []) ≡ texts_in values ++ text_in a.datum
 texts-push [] a = append-nil (text_in a.datum)
 texts-push (x ∷ values) a = ap (λ l. text_in x.datum ++ l) (texts-push values a) ∙ sym (append_assoc (text_in x.datum) (texts_in values) (text_in a.datum))
 

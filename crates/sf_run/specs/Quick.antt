@@ -1,10 +1,16 @@
 -- Directives that begin and pass within a piece of the input, and give a store what they give.
-use Rattle.std.specs.Prelude.{◌≡◌, ℕ, ◌≤◌, Bool, List, Option, Some, None}
+use Rattle.std.specs.Prelude.{◌≡◌, ℕ, ◌+◌, ◌<◌, ◌≤◌, Bool, true, false, List, [], ◌++◌, length, Option, Some, None}
 use Rattle.sf_base.specs.Data.{Assigned, datum_at}
-use Rattle.sf_base.specs.Kept.{Kept, texts_in}
+use Rattle.sf_base.specs.Kept.{Kept, text_in, texts_in}
 use Rattle.sf_format.specs.declared.directive.Directive.{Directive}
+use Rattle.sf_run.specs.declared.outcome.Ending.{Ending}
+use Rattle.sf_run.specs.declared.outcome.Status.TheVariants.{Done}
+use Rattle.sf_run.specs.declared.quick.Strays.{Strays}
+use Rattle.sf_run.specs.Limits.{RunWithin}
 use Rattle.sf_run.specs.Machine.{Skipping}
 use Rattle.sf_run.specs.Pieces.{EndsIn}
+use Rattle.sf_run.specs.Residual.{one_from}
+use Rattle.sf_run.specs.Runs.{RunReport, is_conversion, passed}
 use Rattle.sf_run.specs.Steps.{StepEnd, Stores}
 use Rattle.sf_run.specs.Tallies.{PassesSo, values_with}
 use Rattle.sf_run.specs.Texts.{slot_of}
@@ -26,9 +32,44 @@ abbrev pub slot_stored : StepEnd → Option ℕ
 slot_stored (Stores slot v) = Some slot
 slot_stored _ = None
 
+-- the text that is stored
+abbrev pub text_stored : StepEnd → List ℕ
+text_stored (Stores slot v) = text_in v
+text_stored _ = []
+
+-- On the piece and what follows it, the directive passes before a byte of the piece is lacking, and its text has room.
+pub record IsSure (d : Directive) (n : ℕ) (piece : List ℕ) (room : ℕ) : Type 0 where
+  pub after : List ℕ
+  pub passes : passed (one_from d Skipping n (piece ++ after)).end ≡ true
+  pub early : (one_from d Skipping n (piece ++ after)).used < n + length piece
+  pub fits : length (text_stored (one_from d Skipping n (piece ++ after)).end) ≤ room
+
+-- The run on the piece is Done before a byte of it, or one that the limit allows, is lacking, and a store of this capacity
+-- has room for its texts.
+pub record IsDoneWithin (ds : List Directive) (limit : ℕ) (piece : List ℕ) (capacity : ℕ) : Type 0 where
+  pub ending : Ending
+  pub report : RunReport
+  pub is : RunWithin ds limit piece ending report
+  pub done : report.status ≡ Done
+  pub early : report.used < length piece
+  pub low : report.used < limit
+  pub fits : length (texts_in report.values) ≤ capacity
+
 -- the directive has passed within the piece
 pub record PassesWithin (d : Directive) (n : ℕ) (piece : List ℕ) (taken : ℕ) (stores : Bool) (old new : Kept) : Type 0 where
   pub end : StepEnd
   pub takes : EndsIn d Skipping n piece taken end
   pub gives : GivesTo end stores old new
   pub own : slot_stored end ≡ slot_of d
+
+-- the counts of the directives that have passed otherwise than as a conversion that stores, with one more that counts as a conversion or not, and stores or not
+abbrev pub strayed : Bool → Bool → Strays → Strays
+strayed true false s = record s { suppressed = s.suppressed + 1 }
+strayed false true s = record s { uncounted = s.uncounted + 1 }
+strayed _ _ s = s
+
+-- the directive has passed within the piece, and is counted
+pub record PassesBy (d : Directive) (n : ℕ) (piece : List ℕ) (taken : ℕ) (old new : Kept) (before after : Strays) : Type 0 where
+  pub stores : Bool
+  pub is : PassesWithin d n piece taken stores old new
+  pub counted : after ≡ strayed (is_conversion d) stores before

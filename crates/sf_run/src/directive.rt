@@ -1,5 +1,5 @@
 //! What one directive makes of a piece of the input, and how it ends (C11 7.21.6.2p4 to p10).
-ghost use Rattle.std.specs.Prelude.{◌≡◌, ◌≢◌, ◌+◌, ◌<◌, ◌≤◌, ◌&&◌, ◌^◌, true, false, ℕ, ℤ, List, [], ◌++◌, length, take, drop, get_or, Option, Some, None, IfSome};
+ghost use Rattle.std.specs.Prelude.{◌≡◌, ◌≢◌, ◌+◌, ◌<◌, ◌≤◌, ◌&&◌, ◌^◌, true, false, ℕ, ℤ, List, [], ◌++◌, length, take, drop, get_or, Option, Some, None, IfSome, IsNone};
 ghost use Rattle.sf_base.specs.Bytes.{is_white};
 ghost use Rattle.std.specs.Option.{option_map};
 ghost use Rattle.sf_base.specs.Data.{Number as NumberOf, datum_of_number};
@@ -18,6 +18,7 @@ ghost use Rattle.sf_run.specs.Texts.{text_slot, opened_for, slot_of_text, is_cou
 ghost use Rattle.sf_run.specs.Holding.{FallsBy};
 ghost use Rattle.sf_run.specs.Phases.{ShowsItem, Shows, CanAll, IsNumberGiven, end_of, is_failing, is_memory_failure, passed_number, slot_closed, slot_given, slot_in};
 ghost use Rattle.sf_run.specs.Pieces.{Answers, EndsAt, EndsAtOnce, IsEnd, IsEndIn, IsEndOf, IsWhole, StaysAt, Suits, run_of};
+ghost use Rattle.sf_run.specs.Quick.{IsSure};
 
 use crate::number::number_of;
 use crate::outcome::Status;
@@ -593,18 +594,11 @@ fn whole_item(conversion: &Conversion, piece: &[u8]) -> Option<Ended>
     whole_number(conversion, piece)
 }
 
-/// As `whole_item`, of a conversion that took nothing yet, with the piece so many bytes into the run.
+/// As `whole_item`, of a conversion that took nothing yet.
 #[inline(always)]
-pub(crate) fn whole_conversion(conversion: &Conversion, piece: &[u8], used: u32) -> Option<Ended>
-    ensures { IfSome result (EndsAtOnce (directive.Conv conversion.now) used piece.now) }
+pub(crate) fn whole_conversion(conversion: &Conversion, piece: &[u8]) -> Option<Ended>
+    ensures { (n : ℕ) → IfSome result (EndsAtOnce (directive.Conv conversion.now) n piece.now) }
 {
-    if is_count(&conversion.shape) {
-        return Some(Ended {
-            before: 0,
-            item: 0,
-            finished: finish_count(conversion, used),
-        });
-    }
     let before = skipped(&conversion.shape, piece);
     let (_, rest) = piece.split_at(before);
     let ended = whole_item(conversion, rest)?;
@@ -618,7 +612,8 @@ pub(crate) fn whole_conversion(conversion: &Conversion, piece: &[u8], used: u32)
 /// How a directive ends that took nothing yet, where it does so within the piece.
 #[inline(always)]
 fn as_ended(run: Run<'_>) -> Option<Ended>
-    ensures { IfSome result (λ e. IsEndOf e run.entry) }
+    ensures is { IfSome result (λ e. IsEndOf e run.entry) }
+    ensures none { IsNone result → run.entry.ends ≡ None }
 {
     let finished = run.ends?;
     Some(Ended {
@@ -651,17 +646,10 @@ pub(crate) fn whole_byte(due: u8, piece: &[u8]) -> Option<Ended>
     }
 }
 
-/// `%%` that ends within the piece.
-#[inline(always)]
-pub(crate) fn ended_percent(piece: &[u8]) -> Option<Ended>
-    ensures { (n : ℕ) → IfSome result (EndsAtOnce directive.Percent n piece.now) }
-{
-    as_ended(run_percent(piece))
-}
-
 /// How the directive ends, which took nothing yet, where it does so within the piece, which comes so many bytes into the run.
 pub(crate) fn ended_within(directive: &Directive, piece: &[u8], used: u32) -> Option<Ended>
-    ensures { IfSome result (EndsAtOnce directive.now used piece.now) }
+    ensures ends { IfSome result (EndsAtOnce directive.now used piece.now) }
+    ensures waits { IsNone result → IsProper directive.now → (room : ℕ) → IsSure directive.now used piece.now room → ⊥ }
 {
     as_ended(run_on(directive, Phase::Skipping, piece, used))
 }

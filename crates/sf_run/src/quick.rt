@@ -1,5 +1,5 @@
 //! Runs that begin and pass within a piece of the input, read at once.
-ghost use Rattle.std.specs.Prelude.{◌≡◌, ◌<◌, ◌≤◌, ◌+◌, ◌++◌, ℕ, List, length, take, drop, None, IfSome};
+ghost use Rattle.std.specs.Prelude.{◌≡◌, ◌<◌, ◌≤◌, ◌+◌, ◌-◌, ◌^◌, ◌++◌, ℕ, List, length, take, drop, true, None, IfSome, IsNone, IsSome};
 ghost use Rattle.sf_base.specs.Kept.{buffer_of};
 ghost use Rattle.sf_format.specs.Proper.{IsProper};
 ghost use Rattle.sf_run.specs.declared.outcome.Ending.{Ending};
@@ -8,25 +8,53 @@ ghost use Rattle.sf_run.specs.Limits.{RunWithin};
 ghost use Rattle.sf_run.specs.Memory.{HoldsValues, capacity_of};
 ghost use Rattle.sf_run.specs.Phases.{IsNumberGiven, end_of, slot_given};
 ghost use Rattle.sf_run.specs.Pieces.{EndsAtOnce};
-ghost use Rattle.sf_run.specs.Quick.{GivesTo, MayBeGiven, PassesWithin};
+ghost use Rattle.sf_run.specs.Quick.{GivesTo, IsDoneWithin, IsSure, MayBeGiven, PassesBy, text_stored};
+ghost use Rattle.sf_run.specs.Runs.{passed};
 ghost use Rattle.sf_run.specs.Texts.{slot_of};
 ghost use Rattle.sf_run.specs.Views.{report_by};
 
-use crate::directive::{
-    Ended, Finished, ended_percent, ended_space, ended_within, whole_byte, whole_conversion,
-};
+use crate::directive::{Ended, Finished, ended_space, ended_within, whole_byte, whole_conversion};
 use crate::outcome::{Outcome, Status};
-use crate::tally::{Tally, is_conversion};
+use crate::tally::is_conversion;
 use sf_base::{HeapStore, Number, Store};
 use sf_format::{Directive, ScanFormat};
 
-/// How a directive has passed.
+/// The directives that have passed and are counted otherwise than as a conversion that stored something.
 #[derive(Clone, Copy)]
-struct Passed {
-    /// How many bytes it took.
-    taken: usize,
-    /// Whether it stored something.
-    stores: bool,
+struct Strays {
+    /// The conversions that stored nothing.
+    suppressed: u16,
+    /// The directives that stored something and are no conversions, as `%n`.
+    uncounted: u16,
+}
+
+impl Strays {
+    ghost use Rattle.sf_run.specs.Quick.{strayed};
+
+    /// With a directive that has passed; `counts` says whether it counts as a conversion.
+    #[inline(always)]
+    fn with(self, counts: bool, stores: bool) -> Strays
+        requires suppressed { self.suppressed < 2 ^ 16 - 1 }
+        requires uncounted { self.uncounted < 2 ^ 16 - 1 }
+        ensures { result ≡ strayed counts stores self }
+    {
+        if counts {
+            if stores {
+                return self;
+            }
+            return Strays {
+                suppressed: self.suppressed + 1,
+                uncounted: self.uncounted,
+            };
+        }
+        if stores {
+            return Strays {
+                suppressed: self.suppressed,
+                uncounted: self.uncounted + 1,
+            };
+        }
+        self
+    }
 }
 
 /// Gives a store without an opened text what a directive gives that ends so within the piece, and says whether that is
@@ -38,6 +66,9 @@ fn give(store: &mut HeapStore, ended: Ended, piece: &[u8]) -> Option<bool>
     requires number { IsNumberGiven ended.finished }
     requires within { ended.before + ended.item ≤ length piece.now }
     ensures gives { IfSome result (λ stores. GivesTo (end_of (take ended.item (drop ended.before piece.now)) ended.finished) stores store.old store.new) }
+    ensures none { IsNone result → passed (end_of (take ended.item (drop ended.before piece.now)) ended.finished) ≡ true
+        → store.old.room < length (text_stored (end_of (take ended.item (drop ended.before piece.now)) ended.finished)) }
+    ensures same { IsNone result → store.new ≡ store.old }
     ensures room { capacity_of store.old ≤ capacity_of store.new }
 {
     match ended.finished {
@@ -68,78 +99,96 @@ fn give(store: &mut HeapStore, ended: Ended, piece: &[u8]) -> Option<bool>
     }
 }
 
-/// Passes a directive that ends so within the piece. None where it isn't said to end, where it fails, or where the storing is
-/// refused.
+/// Passes a directive that ends so within the piece, and says how many bytes it took. None where it isn't said to end, where it
+/// fails, or where the storing is refused: then nothing has changed.
 #[inline(always)]
 fn pass_so(
     store: &mut HeapStore,
+    strays: &mut Strays,
     directive: &Directive,
     ended: Option<Ended>,
     piece: &[u8],
     used: u32,
-) -> Option<Passed>
+) -> Option<usize>
     requires opened { store.old.opened ≡ None }
     requires free { MayBeGiven (slot_of directive.now) store.old.values }
     requires ends { IfSome ended (EndsAtOnce directive.now used piece.now) }
-    ensures passes { IsProper directive.now → IfSome result (λ p. PassesWithin directive.now used piece.now p.taken p.stores store.old store.new) }
-    ensures within { IfSome result (λ p. p.taken ≤ length piece.now) }
+    requires suppressed { strays.old.suppressed < 2 ^ 16 - 1 }
+    requires uncounted { strays.old.uncounted < 2 ^ 16 - 1 }
+    ensures passes { IsProper directive.now → IfSome result (λ taken. PassesBy directive.now used piece.now taken store.old store.new strays.old strays.new) }
+    ensures within { IfSome result (λ taken. taken ≤ length piece.now) }
+    ensures sure { IsSome ended → IsProper directive.now → IsSure directive.now used piece.now store.old.room → IsSome result }
+    ensures same { IsNone result → store.new ≡ store.old }
+    ensures strays { IsNone result → strays.new ≡ strays.old }
     ensures room { capacity_of store.old ≤ capacity_of store.new }
 {
-    let _directive = directive;
     let ended = ended?;
     let stores = give(store, ended, piece)?;
-    Some(Passed {
-        taken: ended.before + ended.item,
-        stores,
-    })
+    *strays = strays.with(is_conversion(directive), stores);
+    Some(ended.before + ended.item)
 }
 
-/// As `pass`, of a directive that is read byte by byte.
+/// As `pass`, of each directive. None only where it may go on behind the piece, where it fails, or where the storing is refused.
 #[cold]
 #[inline(never)]
 fn pass_later(
     store: &mut HeapStore,
+    strays: &mut Strays,
     directive: &Directive,
     piece: &[u8],
     used: u32,
-) -> Option<Passed>
+) -> Option<usize>
     requires opened { store.old.opened ≡ None }
     requires free { MayBeGiven (slot_of directive.now) store.old.values }
-    ensures passes { IsProper directive.now → IfSome result (λ p. PassesWithin directive.now used piece.now p.taken p.stores store.old store.new) }
-    ensures within { IfSome result (λ p. p.taken ≤ length piece.now) }
+    requires suppressed { strays.old.suppressed < 2 ^ 16 - 1 }
+    requires uncounted { strays.old.uncounted < 2 ^ 16 - 1 }
+    ensures passes { IsProper directive.now → IfSome result (λ taken. PassesBy directive.now used piece.now taken store.old store.new strays.old strays.new) }
+    ensures within { IfSome result (λ taken. taken ≤ length piece.now) }
+    ensures sure { IsProper directive.now → IsSure directive.now used piece.now store.old.room → IsSome result }
     ensures room { capacity_of store.old ≤ capacity_of store.new }
 {
     let ended = ended_within(directive, piece, used);
-    pass_so(store, directive, ended, piece, used)
+    pass_so(store, strays, directive, ended, piece, used)
 }
 
-/// Passes a directive that ends within the piece, which comes so many bytes into the run. None where it may go on behind the
-/// piece, or fails.
+/// Passes a directive that is seen at once to end within the piece, which comes so many bytes into the run: how many bytes it took. None
+/// where that isn't seen, where it fails, or where the storing is refused: then nothing has changed.
 #[inline(always)]
-fn pass(store: &mut HeapStore, directive: &Directive, piece: &[u8], used: u32) -> Option<Passed>
+fn pass(
+    store: &mut HeapStore,
+    strays: &mut Strays,
+    directive: &Directive,
+    piece: &[u8],
+    used: u32,
+) -> Option<usize>
     requires opened { store.old.opened ≡ None }
     requires free { MayBeGiven (slot_of directive.now) store.old.values }
-    ensures passes { IsProper directive.now → IfSome result (λ p. PassesWithin directive.now used piece.now p.taken p.stores store.old store.new) }
-    ensures within { IfSome result (λ p. p.taken ≤ length piece.now) }
+    requires suppressed { strays.old.suppressed < 2 ^ 16 - 1 }
+    requires uncounted { strays.old.uncounted < 2 ^ 16 - 1 }
+    ensures passes { IsProper directive.now → IfSome result (λ taken. PassesBy directive.now used piece.now taken store.old store.new strays.old strays.new) }
+    ensures within { IfSome result (λ taken. taken ≤ length piece.now) }
+    ensures same { IsNone result → store.new ≡ store.old }
+    ensures strays { IsNone result → strays.new ≡ strays.old }
     ensures room { capacity_of store.old ≤ capacity_of store.new }
 {
     match directive {
-        Directive::Space => pass_so(store, directive, ended_space(piece), piece, used),
-        Directive::Byte(due) => pass_so(store, directive, whole_byte(*due, piece), piece, used),
-        Directive::Percent => pass_so(store, directive, ended_percent(piece), piece, used),
+        Directive::Space => pass_so(store, strays, directive, ended_space(piece), piece, used),
+        Directive::Byte(due) => {
+            let ended = whole_byte(*due, piece);
+            pass_so(store, strays, directive, ended, piece, used)
+        }
+        Directive::Percent => None,
         Directive::Conv(conversion) => {
-            let ended = whole_conversion(conversion, piece, used);
-            if ended.is_none() {
-                return pass_later(store, directive, piece, used);
-            }
-            pass_so(store, directive, ended, piece, used)
+            let ended = whole_conversion(conversion, piece);
+            pass_so(store, strays, directive, ended, piece, used)
         }
     }
 }
 
-/// Reads a record at once that begins and passes within the piece: empties the store, which keeps its memory, and gives it
+/// Reads a record at once that begins and passes within a piece of the input: empties the store, which keeps its memory, and gives it
 /// the values. What it answers is what the run comes to on every input that begins with the piece, with every ending; the
-/// run consumes at most `limit` bytes.
+/// run consumes at most `limit` bytes. It answers wherever the run is Done before a byte of the piece or of the limit is
+/// lacking, and the store has room for its texts.
 ///
 /// None where the record isn't Done whatever follows the piece, where the limit may be passed or the storing of a text was
 /// refused: then nothing is said of the run, and the store may keep something.
@@ -153,27 +202,34 @@ pub fn quick_run(
     ensures done { IfSome result (λ outcome. outcome.status ≡ status.Done) }
     ensures met { IfSome result (λ outcome. outcome.met ≡ None) }
     ensures used { IfSome result (λ outcome. outcome.used ≤ length piece.now) }
+    ensures answers { IsDoneWithin format.now limit piece.now (capacity_of store.old) → IsSome result }
     ensures texts { IfSome result (λ _. HoldsValues store.new) }
     ensures room { capacity_of store.old ≤ capacity_of store.new }
 {
     store.clear();
     let most = (limit as usize).min(piece.len());
     let (front, _) = piece.split_at(most);
-    let directives = format.directives();
-    let mut tally = Tally::new();
-    for directive in directives {
-        let (_, rest) = front.split_at(tally.used as usize);
-        let counts = is_conversion(directive);
-        let passed = pass(store, directive, rest, tally.used)?;
-        tally.used += passed.taken as u32;
-        tally = tally.counted_as(counts, passed.stores);
+    let mut strays = Strays {
+        suppressed: 0,
+        uncounted: 0,
+    };
+    let mut rest = front;
+    for directive in format.directives() {
+        let used = (front.len() - rest.len()) as u32;
+        let taken = match pass(store, &mut strays, directive, rest, used) {
+            Some(taken) => taken,
+            None => pass_later(store, &mut strays, directive, rest, used)?,
+        };
+        let (_, left) = rest.split_at(taken);
+        rest = left;
     }
+    let assigned = format.destinations() as u16 - strays.uncounted;
     Some(Outcome {
         status: Status::Done,
         at: 0,
-        assigned: tally.assigned,
-        converted: tally.converted,
-        used: tally.used,
+        assigned: assigned as u8,
+        converted: assigned + strays.suppressed,
+        used: (front.len() - rest.len()) as u32,
         met: None,
     })
 }

@@ -1,7 +1,6 @@
 //! What a run has counted so far.
 ghost use Rattle.std.specs.Prelude.{◌≡◌, ◌+◌, ◌-◌, ◌<◌, ◌≤◌, ◌^◌, List, if◌then◌else◌, true};
 ghost use Rattle.sf_base.specs.Data.{Assigned};
-ghost use Rattle.sf_format.specs.declared.directive.Directive.{Directive};
 ghost use Rattle.sf_run.specs.Residual.{counted};
 ghost use Rattle.sf_run.specs.Runs.{is_conversion, stored};
 ghost use Rattle.sf_run.specs.Steps.{StepEnd};
@@ -42,18 +41,17 @@ impl Tally {
         }
     }
 
-    /// With a directive that has passed, and stored something or not; `counts` says whether it counts as a conversion.
-    #[inline(always)]
-    pub(crate) fn counted_as(self, counts: bool, stores: bool) -> Tally
+    /// With a directive that has passed, and stored something or not.
+    pub(crate) fn counted(self, directive: &Directive, stores: bool) -> Tally
         requires assigned { stores ≡ true → self.assigned < 2 ^ 8 - 1 }
         requires converted { self.converted < 2 ^ 16 - 1 }
-        ensures tally { (d : Directive) (end : StepEnd) (values : List Assigned) → counts ≡ is_conversion d → PassesSo end stores
-            → tally_of result (values_with end values) ≡ counted d end (tally_of self values) }
+        ensures tally { (end : StepEnd) (values : List Assigned) → PassesSo end stores
+            → tally_of result (values_with end values) ≡ counted directive.now end (tally_of self values) }
         ensures used { result.used ≡ self.used }
         ensures assigned { result.assigned ≤ self.assigned + (if stores then 1 else 0) }
         ensures converted { result.converted ≤ self.converted + 1 }
     {
-        if !counts {
+        if !is_conversion(directive) {
             return self;
         }
         Tally {
@@ -65,18 +63,5 @@ impl Tally {
             },
             converted: self.converted + 1,
         }
-    }
-
-    /// With a directive that has passed, and stored something or not.
-    pub(crate) fn counted(self, directive: &Directive, stores: bool) -> Tally
-        requires assigned { stores ≡ true → self.assigned < 2 ^ 8 - 1 }
-        requires converted { self.converted < 2 ^ 16 - 1 }
-        ensures tally { (end : StepEnd) (values : List Assigned) → PassesSo end stores
-            → tally_of result (values_with end values) ≡ counted directive.now end (tally_of self values) }
-        ensures used { result.used ≡ self.used }
-        ensures assigned { result.assigned ≤ self.assigned + (if stores then 1 else 0) }
-        ensures converted { result.converted ≤ self.converted + 1 }
-    {
-        self.counted_as(is_conversion(directive), stores)
     }
 }

@@ -1,8 +1,12 @@
 use Rattle.std.proofs.Common.{refl}
 use Rattle.sf_run.specs.Machine.{Skipping}
-use Rattle.sf_run.proofs.Pieces.{ended_by}
+use Rattle.sf_run.proofs.Pieces.{ended_by, waits_late}
 use Rattle.sf_run.proofs.directive.ended_within.Goals as goal
 
-pub returns : goal.returns
-returns c =
-    ended_by c.args.directive.now c.args.used c.args.piece.now c.run_on.result c.as_ended.result c.as_ended.ensures (λ proper. c.run_on.ensures.answers Skipping proper refl) c.run_on.ensures.suits
+pub returns-clause-ends : goal.returns-clause-ends
+returns-clause-ends c =
+    ended_by c.args.directive.now c.args.used c.args.piece.now c.run_on.result c.as_ended.result c.as_ended.ensures.is (λ proper. c.run_on.ensures.answers Skipping proper refl) c.run_on.ensures.suits
+
+pub returns-clause-waits : goal.returns-clause-waits
+returns-clause-waits c none proper room sure =
+    waits_late c.args.directive.now c.args.used c.args.piece.now room c.run_on.result (c.as_ended.ensures.none none) (c.run_on.ensures.answers Skipping proper refl) c.run_on.ensures.suits sure

@@ -1,0 +1,144 @@
+-- When a run that begins and passes within a piece is told.
+use Rattle.std.proofs.Common.{◌≡◌, ℕ, ◌+◌, ◌-◌, ◌<◌, ◌≤◌, min, ◌⊎◌, inl, inr, Bool, true, false, List, [], ◌∷◌, ◌++◌, length, take, drop, Option, Some, None, refl, sym, ap, subst, ◌∙◌, arith, true≢false, length-append, length-drop}
+use Rattle.std.specs.Prelude.{slice_get, IsSome}
+use Rattle.std.proofs.lemmas.List.{append-nil, append_assoc, take-append-drop}
+use Rattle.sf_base.specs.Data.{Assigned}
+use Rattle.sf_base.specs.Kept.{Kept, texts_in, text_of, Opened, buffer_of}
+use Rattle.sf_format.specs.declared.directive.Directive.{Directive}
+use Rattle.sf_format.specs.Proper.{AreProper, IsProper}
+use Rattle.sf_run.specs.declared.directive.Finished.{Finished}
+use Rattle.sf_run.specs.declared.directive.Ended.{Ended}
+use Rattle.sf_run.specs.declared.outcome.Ending.{Ending}
+use Rattle.sf_run.specs.declared.outcome.Status.{Status}
+use Rattle.sf_run.specs.declared.outcome.Status.TheVariants.{Done, TooLong}
+use Rattle.sf_run.specs.declared.quick.Strays.{Strays}
+use Rattle.sf_run.specs.declared.tally.Tally as code
+use Rattle.sf_run.specs.Limits.{RunWithin, IsCut, cut_report}
+use Rattle.sf_run.specs.Machine.{Skipping}
+use Rattle.sf_run.specs.Memory.{capacity_of}
+use Rattle.sf_run.specs.Pieces.{Answers, EndsAtOnce, Suits, IsEndOf}
+use Rattle.sf_run.specs.Quick.{IsDoneWithin, IsSure, text_stored}
+use Rattle.sf_run.specs.Residual.{Part, Tally, by_end, counted, nothing_yet, one_from, out_of, run_of, then_on, with_used}
+use Rattle.sf_run.specs.Runs.{Ran, RunReport, Steps, passed, report_of, used}
+use Rattle.sf_run.specs.Steps.{StepEnd, Passes, Stores, Fails}
+use Rattle.sf_run.specs.Tallies.{tally_of}
+use Rattle.sf_run.proofs.AtOnce.{Counted, Going}
+use Rattle.sf_run.proofs.Machines.{grows}
+use Rattle.sf_run.proofs.Moves.{drop_at}
+use Rattle.sf_run.proofs.Openness.{counted-used, holds_by, uses_more}
+use Rattle.sf_run.proofs.Refusals.{never_done}
+use Rattle.sf_run.proofs.Slots.{texts-push}
+use Rattle.sf_run.proofs.Told.{run_told}
+
+-- ---- the texts of a run
+
+texts_counted : (d : Directive) (end : StepEnd) (t : Tally) → texts_in (counted d end t).values ≡ texts_in t.values ++ text_stored end
+texts_counted d Passes t = sym (append-nil (texts_in t.values))
+texts_counted d (Stores slot v) t = texts-push t.values (record { slot = slot; datum = v })
+texts_counted d (Fails status) t = sym (append-nil (texts_in t.values))
+
+texts_more : (ds : List Directive) (at : ℕ) (t : Tally) (x : List ℕ) → length (texts_in t.values) ≤ length (texts_in (run_of None ds at t x).values)
+texts_more [] at t x = omega arith
+texts_more (d ∷ ds) at t x =
+    let p : Part = one_from d Skipping t.used x in
+    let u : Tally = counted d p.end (with_used p.used t) in
+    let same = ap length (texts_counted d p.end (with_used p.used t)) in
+    let long = length-append (texts_in t.values) (text_stored p.end) in
+    holds_by (λ r. length (texts_in t.values) ≤ length (texts_in r.values)) p.end _ _ (omega (arith, same, long, texts_more ds (at + 1) u p.left)) (λ status. omega arith)
+
+-- ---- the next directive of a run that is Done
+
+-- what is known of the first directive of a run that is Done
+record FirstOf (d : Directive) (t : Tally) (x : List ℕ) (r : RunReport) : Type 0 where
+  pub passes : passed (one_from d Skipping t.used x).end ≡ true
+  pub early : (one_from d Skipping t.used x).used ≤ r.used
+  pub texts : length (texts_in t.values) + length (text_stored (one_from d Skipping t.used x).end) ≤ length (texts_in r.values)
+
+-- the rest of a run behind its first directive, which ends so
+abbrev behind : Directive → List Directive → ℕ → Tally → Part → StepEnd → RunReport
+behind d ds at t p end = by_end end (run_of None ds (at + 1) (counted d end (with_used p.used t)) p.left) (λ status. out_of status at (with_used p.used t))
+
+first_of : (d : Directive) (ds : List Directive) (at : ℕ) (t : Tally) (x : List ℕ) → (run_of None (d ∷ ds) at t x).status ≡ Done → FirstOf d t x (run_of None (d ∷ ds) at t x)
+first_of d ds at t x done = by_case (one_from d Skipping t.used x).end refl
+  where
+    more : (end : StepEnd) → passed end ≡ true → (one_from d Skipping t.used x).end ≡ end
+        → behind d ds at t (one_from d Skipping t.used x) end ≡ run_of None ds (at + 1) (counted d end (with_used (one_from d Skipping t.used x).used t)) (one_from d Skipping t.used x).left
+        → FirstOf d t x (run_of None (d ∷ ds) at t x)
+    more end ok is same =
+        let p : Part = one_from d Skipping t.used x in
+        let u : Tally = counted d end (with_used p.used t) in
+        let whole : run_of None (d ∷ ds) at t x ≡ run_of None ds (at + 1) u p.left = ap (behind d ds at t p) is ∙ same in
+        let used' : (run_of None (d ∷ ds) at t x).used ≡ (run_of None ds (at + 1) u p.left).used = ap (λ (r : RunReport). r.used) whole in
+        let texts' : length (texts_in (run_of None (d ∷ ds) at t x).values) ≡ length (texts_in (run_of None ds (at + 1) u p.left).values) = ap (λ (r : RunReport). length (texts_in r.values)) whole in
+        let same' : length (texts_in u.values) ≡ length (texts_in t.values ++ text_stored end) = ap length (texts_counted d end (with_used p.used t)) in
+        let long = length-append (texts_in t.values) (text_stored end) in
+        let own : length (text_stored p.end) ≡ length (text_stored end) = ap (λ (e : StepEnd). length (text_stored e)) is in
+        let on = counted-used d end (with_used p.used t) in
+        let later = uses_more ds (at + 1) u p.left in
+        let longer = texts_more ds (at + 1) u p.left in
+        record {
+          passes = ap passed is ∙ ok;
+          early = omega (arith, used', on, later);
+          texts = omega (arith, texts', same', long, own, longer);
+        }
+
+    by_case : (end : StepEnd) → (one_from d Skipping t.used x).end ≡ end → FirstOf d t x (run_of None (d ∷ ds) at t x)
+    by_case Passes is = more Passes refl is refl
+    by_case (Stores slot v) is = more (Stores slot v) refl is refl
+    by_case (Fails status) is =
+        absurd (never_done d Skipping t.used x status is (sym (ap (λ e. (behind d ds at t (one_from d Skipping t.used x) e).status) is) ∙ done))
+
+-- where the run on the front and what follows is Done within the front, the next directive passes within it
+pub sure_at : (ds : List Directive) (front rest : List ℕ) (p : ℕ) (d : Directive) (t : code.Tally) (kept : Kept) (capacity : ℕ) → slice_get ds p ≡ Some d → Going ds front p t kept
+    → (run_of None ds 1 nothing_yet (front ++ rest)).status ≡ Done → (run_of None ds 1 nothing_yet (front ++ rest)).used < length front
+    → length (texts_in (run_of None ds 1 nothing_yet (front ++ rest)).values) ≤ capacity → capacity ≤ capacity_of kept → IsSure d t.used (drop t.used front) kept.room
+sure_at ds front rest p d t kept capacity at h done early fits roomy =
+    let x : List ℕ = drop t.used front ++ rest in
+    let u : Tally = tally_of t kept.values in
+    let whole : run_of None ds 1 nothing_yet (front ++ rest) ≡ run_of None (d ∷ drop (p + 1) ds) (p + 1) u x =
+    h.same rest ∙ ap (λ l. run_of None l (p + 1) u x) (drop_at ds p d at) in
+    let first : FirstOf d u x (run_of None (d ∷ drop (p + 1) ds) (p + 1) u x) =
+    first_of d (drop (p + 1) ds) (p + 1) u x (sym (ap (λ (r : RunReport). r.status) whole) ∙ done) in
+    let used' = ap (λ (r : RunReport). r.used) whole in
+    let texts' = ap (λ (r : RunReport). length (texts_in r.values)) whole in
+    let left = length-drop t.used front in
+    let low = h.within in
+    let soon = first.early in
+    let text = first.texts in
+    let closed = ap length h.joined in
+    let held : length (buffer_of kept) ≡ length kept.closed = ap (λ (o : Option Opened). length (kept.closed ++ text_of o)) h.opened ∙ ap length (append-nil kept.closed) in
+    record {
+      after = rest;
+      passes = first.passes;
+      early = omega (arith, used', left, low, soon, early);
+      fits = omega (arith, texts', text, closed, held, fits, roomy);
+    }
+
+-- the run on the front of a piece that is Done before a byte of it is lacking
+pub done_on : (ds : List Directive) → AreProper ds → (limit : ℕ) (piece : List ℕ) (capacity : ℕ) → (h : IsDoneWithin ds limit piece capacity) → run_of None ds 1 nothing_yet piece ≡ record h.report { met = None }
+done_on ds proper limit piece capacity h = by_case h.is
+  where
+    by_case : RunWithin ds limit piece h.ending h.report → run_of None ds 1 nothing_yet piece ≡ record h.report { met = None }
+    by_case (inl fits) =
+        run_told ds proper piece fits.1.0 fits.1.1 ∙ sym (ap (λ (r : RunReport). record r { met = None }) fits.1.4)
+    by_case (inr cut) = absurd (let e = ap (λ (r : RunReport). r.status) cut.2 in cc)
+
+-- the next directive of a run on a piece that is Done before a byte of it is lacking
+pub sure_next : (ds : List Directive) → AreProper ds → (limit most n : ℕ) (piece front rest : List ℕ) (p : ℕ) (d : Directive) (s : Strays) (kept : Kept) (capacity : ℕ) → slice_get ds p ≡ Some d
+    → front ≡ take most piece → length front ≡ most → most ≡ min limit (length piece) → Counted ds front rest p s kept → n ≡ length front - length rest → capacity ≤ capacity_of kept
+    → IsDoneWithin ds limit piece capacity → IsSure d n rest kept.room
+sure_next ds proper limit most n piece front rest p d s kept capacity at is long least h begins roomy done =
+    let r : RunReport = record done.report { met = None } in
+    let whole : front ++ drop most piece ≡ piece = ap (λ (y : List ℕ). y ++ drop most piece) is ∙ take-append-drop most piece in
+    let same : run_of None ds 1 nothing_yet (front ++ drop most piece) ≡ r = ap (run_of None ds 1 nothing_yet) whole ∙ done_on ds proper limit piece capacity done in
+    let used' : (run_of None ds 1 nothing_yet (front ++ drop most piece)).used ≡ r.used = ap (λ (r : RunReport). r.used) same in
+    let texts' : length (texts_in (run_of None ds 1 nothing_yet (front ++ drop most piece)).values) ≡ length (texts_in r.values) = ap (λ (r : RunReport). length (texts_in r.values)) same in
+    let early = done.early in
+    let low = done.low in
+    let fits = done.fits in
+    let within = h.going.within in
+    let short = ap length h.rest ∙ length-drop h.tally.used front in
+    let here : h.tally.used ≡ n = omega (arith, begins, short, within) in
+    let sure : IsSure d h.tally.used (drop h.tally.used front) kept.room =
+    sure_at ds front (drop most piece) p d h.tally kept capacity at h.going (ap (λ (r : RunReport). r.status) same ∙ done.done) (omega (arith, used', early, low, long, least)) (omega (arith, texts', fits)) roomy in
+    subst (λ m. IsSure d m rest kept.room) here (subst (λ y. IsSure d h.tally.used y kept.room) (sym h.rest) sure)
