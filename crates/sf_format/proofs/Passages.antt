@@ -1,5 +1,5 @@
 -- What follows a part that no rule refuses.
-use Rattle.std.proofs.Common.{◌≡◌, ℕ, suc, ◌+◌, ◌-◌, ◌<◌, ◌≤◌, Bool, true, false, cond, not, ◌&&◌, ◌||◌, nat_eq, nat_lt, List, [], ◌∷◌, ◌++◌, length, get_or, take, drop, Option, Some, None, Result, Ok, Err, refl, sym, ap, ◌∙◌, subst, arith}
+use Rattle.std.proofs.Common.{◌≡◌, ℕ, suc, ◌+◌, ◌-◌, ◌<◌, ◌≤◌, Bool, true, false, cond, not, ◌&&◌, ◌||◌, nat_eq, nat_lt, List, [], ◌∷◌, ◌++◌, length, get_or, take, drop, Option, Some, None, Result, Ok, Err, refl, sym, ap, ◌∙◌, subst, arith, append-nil}
 use Rattle.std.proofs.lemmas.Bool.Decides.{nat_tests}
 use Rattle.std.specs.Prelude.{MatchOption}
 use Rattle.sf_base.specs.Bytes.{magnitude}
@@ -19,7 +19,7 @@ use Rattle.sf_format.specs.declared.slots.Slots.{Slots}
 use Rattle.sf_format.specs.declared.grammar.Passed.{Passed}
 use Rattle.sf_format.specs.Letters.{letter_of, kind_of}
 use Rattle.sf_format.specs.Lists.{is_written, mark_at, begins}
-use Rattle.sf_format.specs.Pieces.{Opening, Piece, Plain, opening_text}
+use Rattle.sf_format.specs.Pieces.{Opening, Piece, Plain, opening_text, Percents}
 use Rattle.sf_format.specs.Cut.{Part, cut, letter_at, bracket_at, conversion_at, specification_at}
 use Rattle.sf_format.specs.Grammar.{destinations, assigned_opening, slot_of, IsConversion, Means}
 use Rattle.sf_format.specs.Rules.{Rule, first_of, slot_rules}
@@ -32,7 +32,7 @@ use Rattle.sf_format.proofs.Rules.{quiet_is}
 use Rattle.sf_format.proofs.Destinations.{slot_there}
 use Rattle.sf_format.proofs.Scanlists.{list_forward, list_set}
 use Rattle.sf_format.proofs.Suits.{bracket_is}
-use Rattle.sf_format.proofs.Beginnings.{no_percents}
+use Rattle.sf_format.proofs.Beginnings.{no_percents, chosen_part, percents_part}
 
 pub first_left : (a b : List Rule) (f : FormatWhy × ℕ) → first_of a ≡ Some f → first_of (a ++ b) ≡ Some f
 first_left [] b f e = absurd (cc)
@@ -186,6 +186,38 @@ passes_specification wanted means language earlier p x r other passes =
     passes_by wanted means (percent_rules language earlier p x) (conversion_rules language earlier p x) (specification_at language x)
     (conversion_at language x) earlier r (ap (λ v. first_of (percent_choice (conversion_rules language earlier p x) v)) other)
     (no_percents language x other) passes
+
+begins_mark : (x : List ℕ) → begins (37 ∷ []) x ≡ (mark_at 37 x).0
+begins_mark [] = refl
+begins_mark (b ∷ x) =
+    by_test (nat_eq b 37) (λ v. (v && true) ≡ (picked v).0) (λ t. refl) (λ f. refl)
+  where
+    picked : Bool → Bool × List ℕ
+    picked v = cond v (true, x) (false, b ∷ x)
+
+behind_mark : (x : List ℕ) → (mark_at 37 x).0 ≡ true → (mark_at 37 x).1 ≡ drop 1 x
+behind_mark [] found = absurd (cc)
+behind_mark (b ∷ x) found =
+    by_test (nat_eq b 37) (λ v. (picked v).0 ≡ true → (picked v).1 ≡ x) (λ t h. refl) (λ f h. absurd (cc)) found
+  where
+    picked : Bool → Bool × List ℕ
+    picked v = cond v (true, x) (false, b ∷ x)
+
+-- what follows a % that no other follows, by what stands in front
+pub no_mark : (x : List ℕ) (found : Bool) → found ≡ (mark_at 37 x).0 → found ≡ false → begins (37 ∷ []) x ≡ false
+no_mark x found is none = begins_mark x ∙ sym is ∙ none
+
+-- %%
+pub passes_percents : {D : Type 0} (wanted : Bool) (means : ℕ → Piece → D → Type 0) (language : Language) (earlier : List Opening) (p : ℕ)
+    (x rest : List ℕ) (found : Bool) (made : D) (slots : Slots) → found ≡ (mark_at 37 x).0 → rest ≡ (mark_at 37 x).1 → found ≡ true
+    → means (1 + length earlier) Percents made → Holds slots earlier
+    → PassesAs wanted means (percent_rules language earlier p x) earlier (specification_at language x) (Some made) None rest slots
+passes_percents wanted means language earlier p x rest found made slots is behind there stands holds =
+    let marked = sym is ∙ there in
+    subst (λ v. PassesAs wanted means (percent_choice (conversion_rules language earlier p x) v) earlier
+    (chosen_part v (percents_part x) (conversion_at language x)) (Some made) None rest slots)
+    (sym (begins_mark x ∙ marked))
+    (refl, behind ∙ behind_mark x marked, stands, subst (Holds slots) (sym (append-nil earlier)) holds, refl)
 
 -- the first fault of the opening
 pub opening_fault : (language : Language) (earlier : List Opening) (p : ℕ) (x : List ℕ) (opening rest : List Rule) (f : FormatWhy × ℕ)

@@ -1,14 +1,13 @@
 //! What the grammars of scan formats and of print formats have in common.
-ghost use Rattle.std.specs.Prelude.{◌≡◌, ◌≤◌, ◌<◌, ◌+◌, true, false, ℕ, List, length, codes, IfOk, IfErr, MatchOption};
+ghost use Rattle.std.specs.Prelude.{◌≡◌, ◌≤◌, ◌<◌, ◌+◌, true, false, ℕ, List, length, IfOk, IfErr, MatchOption};
 ghost use Rattle.sf_format.specs.Language.{Language};
 ghost use Rattle.sf_format.specs.Pieces.{Opening, Piece, WhiteSpace};
-ghost use Rattle.sf_format.specs.Lists.{begins};
 ghost use Rattle.sf_format.specs.Cut.{joins_run, conversion_at, specification_at, part_at};
 ghost use Rattle.sf_format.specs.Faults.{conversion_rules, percent_rules, part_rules};
 ghost use Rattle.sf_format.specs.Passing.{literal_piece, Holds, PassesBy, Walked, Gathers, IsHindered};
 
 use crate::fault::{FormatFault, FormatWhy};
-use crate::fronts::{Class, split_front};
+use crate::fronts::{Class, mark, split_front};
 use crate::slots::{NO_SLOTS, Slots};
 use std::alloc::Global;
 
@@ -63,16 +62,6 @@ pub trait Grammar: Copy {
             → PassesBy wanted (means self) (conversion_rules (language self) earlier at text.now) earlier (conversion_at (language self) text.now) result };
 }
 
-fn percent_follows(text: &[u8]) -> bool
-    ensures begins { result ≡ begins (codes "%") text.now }
-    ensures some { result ≡ true → 1 ≤ length text.now }
-{
-    match text {
-        [b'%', ..] => true,
-        _ => false,
-    }
-}
-
 /// Passes what stands behind the `%` at the place.
 fn pass_specification<'a, G: Grammar>(
     grammar: G,
@@ -86,11 +75,12 @@ fn pass_specification<'a, G: Grammar>(
     ensures { (earlier : List Opening) → Holds slots earlier
         → PassesBy wanted (G.means grammar) (percent_rules (G.language grammar) earlier at text.now) earlier (specification_at (G.language grammar) text.now) result }
 {
-    if percent_follows(text) {
+    let (found, rest) = mark(b'%', text);
+    if found {
         return Ok(Passed {
             part: Some(grammar.literal(Literal::Percent)),
             slot: None,
-            rest: &text[1..],
+            rest,
             slots,
         });
     }
