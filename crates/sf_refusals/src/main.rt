@@ -5,7 +5,6 @@
 mod answer;
 mod printing;
 mod records;
-mod row;
 mod scanning;
 
 fn main(rt: HostRuntime) -> anyhow::Result<()> {

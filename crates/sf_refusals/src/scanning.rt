@@ -1,9 +1,9 @@
 //! Formats, scanners and scans.
 use crate::answer::{Answer, told};
-use crate::row::Named;
 use sf_base::HeapStore;
 use sf_format::{PrintFormat, Profile, ScanFormat};
 use sf_read::{Lookahead, SliceSource, fscan, fscan_over, scan_row, sscan};
+use sf_rows::Named;
 use sf_run::{Ending, Scanner};
 use std::alloc::Global;
 
