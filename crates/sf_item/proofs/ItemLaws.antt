@@ -57,6 +57,16 @@ item_ends c proper x k inside can cannot =
         let taken = (tests_can_take c proper (take (k + 1) x)).to (subst (IsWithin c) (sym (length-take-le (k + 1) x (omega (arith, inside)))) fits, begins) in
         true≢false (sym taken ∙ cannot)
 
+-- the item of an input all of which can be taken
+pub item_whole : (c : Conversion) → IsProperShape c.shape → (x : List ℕ) (k : ℕ) → k ≡ length x → can_take c (take k x) ≡ true → IsItem c x k
+item_whole c proper x k all can =
+    let front = (tests_can_take c proper (take k x)).from can in
+    let fits : k ≤ length x = omega (arith, all) in
+    record {
+      holds = (fits, subst (IsWithin c) (length-take-le k x fits) front.0, front.1);
+      above = λ j m. let inside = m.0 in omega (arith, all, inside);
+    }
+
 -- ---- a longer input
 
 pub item_stays : (c : Conversion) → IsProperShape c.shape → (x z : List ℕ) (k : ℕ) → IsItem c x k → k < length x → IsItem c (x ++ z) k
@@ -141,3 +151,6 @@ one_item c takes proper x =
           holds = (most.holds.0, subst (IsWithin c) (length-take-le k x most.holds.0) front.0, front.1);
           above = λ j h. most.above j (h.0, (tests_can_take c proper (take j x)).to (subst (IsWithin c) (sym (length-take-le j x h.0)) h.1, h.2));
         }
+
+pub same_item : (c : Conversion) → has_item c.shape ≡ true → IsProperShape c.shape → (x : List ℕ) (j k : ℕ) → IsItem c x j → IsItem c x k → j ≡ k
+same_item c takes proper x j k first second = let one = one_item c takes proper x in one.only j first ∙ sym (one.only k second)

@@ -1,29 +1,35 @@
 -- Items that end within a piece.
-use Rattle.std.proofs.Common.{◌^◌, ◌≡◌, ℕ, zero, suc, ◌+◌, ◌-◌, ◌*◌, ◌<◌, ◌≤◌, ◌⊎◌, inl, inr, Bool, true, false, ◌&&◌, append_assoc, cond, List, [], ◌∷◌, ◌++◌, length, take, get_or, slice_index_or, nat_lt, nat_le, Option, Some, None, is_some, unwrap_or, refl, sym, ap, ◌∙◌, subst, arith}
+use Rattle.std.proofs.Common.{◌^◌, ◌≡◌, ◌≢◌, ℕ, zero, suc, ◌+◌, ◌-◌, ◌*◌, ◌<◌, ◌≤◌, ◌⊎◌, inl, inr, Bool, true, false, ◌&&◌, append_assoc, append-nil, cond, eq-zero-or-pos, List, [], ◌∷◌, ◌++◌, length, take, get_or, slice_index_or, nat_lt, nat_le, Option, Some, None, is_some, unwrap_or, refl, sym, ap, ◌∙◌, subst, arith}
 use Rattle.std.proofs.lemmas.Bool.Decides.{nat_tests}
 use Rattle.std.proofs.Math.Nat.{pow-succ'}
-use Rattle.std.proofs.Math.Seq.{take-add, take-length}
-use Rattle.std.proofs.lemmas.List.{get_or-drop, length-take, length-take-le, take-take}
+use Rattle.std.proofs.Math.Seq.{take-add}
+use Rattle.std.proofs.lemmas.List.{get_or-drop, get_or-take, length-take, length-take-le, take-take}
 use Rattle.std.specs.Char.{digit_value}
 use Rattle.std.specs.List.{list_all, prefix_len}
+use Rattle.sf_base.specs.declared.values.Kind.TheVariants.{I32}
 use Rattle.sf_format.specs.declared.directive.Base.{Base}
 use Rattle.sf_format.specs.declared.directive.Base.TheVariants.{Dec, Hex}
 use Rattle.sf_format.specs.declared.directive.Shape.{Shape}
-use Rattle.sf_format.specs.declared.directive.Shape.TheVariants.{Int, Chars}
+use Rattle.sf_format.specs.declared.directive.Shape.TheVariants.{Int, Set, Chars, Count}
 use Rattle.sf_format.specs.declared.directive.Conversion.{Conversion}
 use Rattle.sf_format.specs.Proper.{IsProperShape}
+use Rattle.sf_item.specs.declared.reached.Digits.{Digits as Taken}
+use Rattle.sf_item.specs.declared.reached.Reached.TheVariants as reached
+use Rattle.sf_item.specs.declared.whole.WholeInteger.{WholeInteger}
 use Rattle.sf_item.specs.Matching.{IsItem, Matches}
 use Rattle.sf_item.specs.Progress.{Progress, Start, Zero, Prefix, Digits, integer_of, advance, with_digit, with_first_digit, after_zero}
-use Rattle.sf_item.specs.Scan.{FitsLeft}
-use Rattle.sf_item.specs.Tests.{read, integer_in, is_within, shape_begins, shape_matches, can_take}
-use Rattle.sf_item.specs.Wholes.{EndsWithin, ItemWithin, OpensHex, signed_as, ReadsHex}
+use Rattle.sf_item.specs.Radices.{first_radix}
+use Rattle.sf_item.specs.Scan.{FitsLeft, HoldsNumber, Shows, ShowsNext}
+use Rattle.sf_item.specs.Taking.{IsInt}
+use Rattle.sf_item.specs.Tests.{read, integer_in, integer_at, is_within, shape_begins, shape_matches, can_take, has_item}
+use Rattle.sf_item.specs.Wholes.{EndsWithin, NoneEndsWithin, ItemWithin, NoItemWithin, ReadsIn, DigitsOf, LongDigits, signed_as, SignOf, HasPrefixAt, HexOpening}
 use Rattle.sf_item.proofs.Integers.{by_lt, by_eq, by_sign, by_prefix, plain_zero}
-use Rattle.sf_item.proofs.Deciding.{integer_from_at, tests_matches}
+use Rattle.sf_item.proofs.Deciding.{integer_at_is, integer_from_at, tests_matches}
 use Rattle.sf_item.proofs.Fronts.{read_more, one_more}
-use Rattle.sf_item.proofs.ItemLaws.{item_ends, item_stays}
+use Rattle.sf_item.proofs.ItemLaws.{item_ends, item_stays, item_whole, same_item}
 use Rattle.sf_item.proofs.Runs.{run_passes, run_stops, run_within}
 use Rattle.sf_item.proofs.Readings.{rest, rest_is, length_rest}
-use Rattle.sf_item.proofs.Scanning.{read_push, read_nothing}
+use Rattle.sf_item.proofs.Scanning.{read_push, read_nothing, shows_none, shows_some}
 
 -- decimal digits were read whose number is m: so it is told, and so it goes on
 pub record IsDecimal (sign : Bool) (m : ℕ) (p : Progress) : Type 0 where
@@ -68,18 +74,31 @@ begins_low base sign radix m n b t reads =
     nothing : ◌≡◌ {A = Option Progress} None (Some (Digits sign radix n)) → ⊥
     nothing h = cc
 
+-- a first byte that is no sign
+bare_first : (base : Base) (b : ℕ) → b ≢ 43 → b ≢ 45 → advance base Start b ≡ with_first_digit base false b
+bare_first base b no_plus no_minus = by_sign base b (λ o. o ≡ with_first_digit base false b) (λ is. absurd (no_plus is)) (λ is. absurd (no_minus is)) (λ _ _. refl)
+
 plain_first : (base : Base) (b : ℕ) → digit_value b < 16 → advance base Start b ≡ with_first_digit base false b
-plain_first base b low =
-    by_sign base b (λ o. o ≡ with_first_digit base false b)
-    (λ is. absurd (no_plus is))
-    (λ is. absurd (no_minus is))
-    (λ _ _. refl)
+plain_first base b low = bare_first base b no_plus no_minus
   where
     no_plus : b ≡ 43 → ⊥
     no_plus is = let high : digit_value 43 < 16 = subst (λ c. digit_value c < 16) is low in omega (arith, high)
 
     no_minus : b ≡ 45 → ⊥
     no_minus is = let high : digit_value 45 < 16 = subst (λ c. digit_value c < 16) is low in omega (arith, high)
+
+-- a byte that is no digit is no first digit
+first_ends : (base : Base) (sign : Bool) (b : ℕ) → 0 < first_radix base → first_radix base ≤ digit_value b → with_first_digit base sign b ≡ None
+first_ends base sign b some high =
+    by_eq b 48 (λ v. ◌≡◌ {A = Option Progress} (cond v (Some (Zero sign)) (with_digit sign (first_radix base) 0 b)) None)
+    (λ is. absurd (let none : first_radix base ≤ digit_value 48 = subst (λ c. first_radix base ≤ digit_value c) is high in omega (arith, none, some)))
+    (λ other. digit_ends sign (first_radix base) 0 b high)
+
+-- nor does it follow a sign
+sign_ends : (base : Base) (count : ℕ) (sign : Bool) (b : ℕ) → 0 < first_radix base → first_radix base ≤ digit_value b → (count ≡ 0 → (b ≢ 43) × (b ≢ 45))
+    → advance base (signed_as count sign) b ≡ None
+sign_ends base zero sign b some high bare = let (no_plus, no_minus) = bare refl in bare_first base b no_plus no_minus ∙ first_ends base false b some high
+sign_ends base (suc k) sign b some high bare = first_ends base sign b some high
 
 -- ---- digits behind what was read
 
@@ -110,6 +129,57 @@ digits_go zero sign (b ∷ t) n plain some reads =
     (q, ap (λ o. read Dec o t) (plain_first Dec b (omega (arith, low)) ∙ ap (λ s. with_first_digit Dec s b) (sym (plain refl))) ∙ goes, ends)
 digits_go (suc k) sign (b ∷ t) n plain some reads = signed_goes sign n b t reads
 
+-- ---- the opening
+
+-- digits were read whose number is n, behind how far the integer was read
+pub record Goes (base : Base) (radix : ℕ) (front : List ℕ) (state : Progress) (start count n : ℕ) (sign : Bool) : Type 0 where
+  pub p : Progress
+  pub reads : read base (Some state) (take count (rest front start)) ≡ Some p
+  pub told : integer_of p ≡ Some (sign, n)
+  pub ends : start + count < length front → radix ≤ digit_value (get_or front (start + count) 0) → advance base p (get_or front (start + count) 0) ≡ None
+
+-- so many bytes were read, which are no integer, and what follows them goes on with digits of the radix or not at all
+pub record Opened (base : Base) (radix : ℕ) (front : List ℕ) (start : ℕ) (sign : Bool) : Type 0 where
+  pub inside : start ≤ length front
+  pub state : Progress
+  pub taken : read base (Some Start) (take start front) ≡ Some state
+  pub untold : integer_of state ≡ None
+  pub empty : start < length front → radix ≤ digit_value (get_or front start 0) → advance base state (get_or front start 0) ≡ None
+  pub goes : (count n : ℕ) → 0 < count → count ≤ length (rest front start) → ReadsIn radix 0 (take count (rest front start)) n → Goes base radix front state start count n sign
+
+sign_untold : (count : ℕ) (sign : Bool) → integer_of (signed_as count sign) ≡ None
+sign_untold zero sign = refl
+sign_untold (suc k) sign = refl
+
+-- a sign or none, before a byte that is no digit
+signed_ends : (base : Base) (front : List ℕ) (start : ℕ) (sign : Bool) → SignOf front start sign → 0 < first_radix base
+    → start < length front → first_radix base ≤ digit_value (get_or front start 0) → advance base (signed_as start sign) (get_or front start 0) ≡ None
+signed_ends base front start sign s some below high = sign_ends base start sign (get_or front start 0) some high bare
+  where
+    bare : start ≡ 0 → (get_or front start 0 ≢ 43) × (get_or front start 0 ≢ 45)
+    bare none = subst (λ n. (get_or front n 0 ≢ 43) × (get_or front n 0 ≢ 45)) (sym none) (s.bare none (omega (arith, below)))
+
+pub decimal_opened : (front : List ℕ) (start : ℕ) (sign : Bool) → SignOf front start sign → Opened Dec 10 front start sign
+decimal_opened front start sign s = record {
+  inside = s.within;
+  state = signed_as start sign;
+  taken = s.read Dec;
+  untold = sign_untold start sign;
+  empty = signed_ends Dec front start sign s (omega arith);
+  goes = goes;
+}
+  where
+    goes : (count n : ℕ) → 0 < count → count ≤ length (rest front start) → ReadsIn 10 0 (take count (rest front start)) n → Goes Dec 10 front (signed_as start sign) start count n sign
+    goes count n some most reads =
+        let t = take count (rest front start) in
+        let (q, is, decimal) = digits_go start sign t n s.plain (rw (length-take-le count (rest front start) most) some) (reads Dec sign) in
+        record {
+          p = q;
+          reads = is;
+          told = decimal.integer;
+          ends = λ below high. decimal.goes (get_or front (start + count) 0) ∙ digit_ends sign 10 n (get_or front (start + count) 0) high;
+        }
+
 -- ---- the width
 
 fits_within : (width : Option ℕ) (k : ℕ) → FitsLeft width k → is_within width k ≡ true
@@ -118,6 +188,13 @@ fits_within (Some w) k fits = grind (arith, nat_tests, fits)
 
 beyond : (width : Option ℕ) (k : ℕ) → width ≡ Some k → is_within width (k + 1) ≡ false
 beyond width k is = subst (λ v. is_within v (k + 1) ≡ false) (sym is) (grind (arith, nat_tests))
+
+abbrev a_conversion : Shape → Option ℕ → Conversion
+a_conversion shape width = record { shape = shape; kind = I32; width = width; slot = None }
+
+abbrev magnitude_in : Option (Bool × ℕ) → ℕ
+magnitude_in None = 0
+magnitude_in (Some i) = i.1
 
 -- ---- the item
 
@@ -128,13 +205,13 @@ module _ (piece front : List ℕ) (width : Option ℕ) (cut : front ≡ take (le
   same_front k fits = ap (take k) cut ∙ take-take k (length front) piece fits
 
   -- the first k bytes begin a matching sequence, and those with the next one are too long or begin none
-  module _ (shape : Shape) (k : ℕ) (fits : k ≤ length front) (behind : k < length piece) (begins : shape_begins shape width (take k front) ≡ true)
+  module _ (shape : Shape) (k : ℕ) (fits : k ≤ length front) (begins : shape_begins shape width (take k front) ≡ true)
       (stops : k < length front → shape_begins shape width (take (k + 1) front) ≡ false) where
     within : is_within width k ≡ true
     within = fits_within width k (room k fits)
 
-    no_more : (is_within width (k + 1) && shape_begins shape width (take (k + 1) piece)) ≡ false
-    no_more =
+    no_more : k < length piece → (is_within width (k + 1) && shape_begins shape width (take (k + 1) piece)) ≡ false
+    no_more behind =
         by_lt k (length front) (λ v. (is_within width (k + 1) && shape_begins shape width (take (k + 1) piece)) ≡ false)
         (λ below. by_second (is_within width (k + 1)) (ap (shape_begins shape width) (sym (same_front (k + 1) (omega (arith, below)))) ∙ stops below))
         (λ above.
@@ -148,117 +225,263 @@ module _ (piece front : List ℕ) (width : Option ℕ) (cut : front ≡ take (le
     can_take_is : (c : Conversion) → c.shape ≡ shape → c.width ≡ width → (g : List ℕ) → can_take c g ≡ (is_within width (length g) && shape_begins shape width g)
     can_take_is c same same_width g = rw (same, same_width) refl
 
-    pub item_within : (c : Conversion) → c.shape ≡ shape → c.width ≡ width → IsProperShape shape → (z : List ℕ) → IsItem c (piece ++ z) k
-    item_within c same same_width proper z = item_stays c own piece z k (item_ends c own piece k behind can cannot) behind
+    can : (c : Conversion) → c.shape ≡ shape → c.width ≡ width → can_take c (take k piece) ≡ true
+    can c same same_width =
+        can_take_is c same same_width (take k piece) ∙ rw (length-take-le k piece (omega (arith, fits, short)), within) (ap (shape_begins shape width) (sym (same_front k fits)) ∙ begins)
+
+    cannot : (c : Conversion) → c.shape ≡ shape → c.width ≡ width → k < length piece → can_take c (take (k + 1) piece) ≡ false
+    cannot c same same_width behind =
+        can_take_is c same same_width (take (k + 1) piece) ∙ rw (length-take-le (k + 1) piece (omega (arith, behind))) (no_more behind)
+
+    -- they are the item of the piece
+    item_is : (c : Conversion) → c.shape ≡ shape → c.width ≡ width → IsProperShape c.shape → IsItem c piece k
+    item_is c same same_width proper =
+        by_lt k (length piece) (λ _. IsItem c piece k)
+        (λ behind. item_ends c proper piece k behind (can c same same_width) (cannot c same same_width behind))
+        (λ above. item_whole c proper piece k (omega (arith, above, fits, short)) (can c same same_width))
+
+    pub item_within : k < length piece → (c : Conversion) → c.shape ≡ shape → c.width ≡ width → IsProperShape shape → (z : List ℕ) → IsItem c (piece ++ z) k
+    item_within behind c same same_width proper z = item_stays c own piece z k (item_is c same same_width own) behind
       where
         own : IsProperShape c.shape
         own = subst IsProperShape (sym same) proper
 
-        can : can_take c (take k piece) ≡ true
-        can = can_take_is c same same_width (take k piece) ∙ rw (length-take-le k piece (omega (arith, behind)), within) (ap (shape_begins shape width) (sym (same_front k fits)) ∙ begins)
-
-        cannot : can_take c (take (k + 1) piece) ≡ false
-        cannot = can_take_is c same same_width (take (k + 1) piece) ∙ rw (length-take-le (k + 1) piece (omega (arith, behind))) no_more
+    -- and no other item is
+    pub only_item : has_item shape ≡ true → IsProperShape shape → (n : ℕ) → ((c : Conversion) → c.shape ≡ shape → c.width ≡ width → (z : List ℕ) → IsItem c (piece ++ z) n) → n ≡ k
+    only_item takes proper n item =
+        let c : Conversion = a_conversion shape width in
+        same_item c takes proper piece n k (subst (λ x. IsItem c x n) (append-nil piece) (item c refl refl [])) (item_is c refl refl proper)
 
   -- an integer was read up to a byte with which it doesn't go on
-  module _ (base : Base) (k : ℕ) (fits : k ≤ length front) (q : Progress) (taken : read base (Some Start) (take k front) ≡ Some q) (sign : Bool) (m : ℕ)
-      (told : integer_of q ≡ Some (sign, m)) (behind : k < length piece) (ends : k < length front → advance base q (get_or front k 0) ≡ None) where
+  module _ (base : Base) (k : ℕ) (fits : k ≤ length front) (q : Progress) (taken : read base (Some Start) (take k front) ≡ Some q)
+      (ends : k < length front → advance base q (get_or front k 0) ≡ None) where
     stops : k < length front → shape_begins (Int base) width (take (k + 1) front) ≡ false
     stops below =
         ap is_some (ap (read base (Some Start)) (sym (one_more [] front k 0 below)) ∙ read_push base (take k front) (get_or front k 0) q taken ∙ ends below)
 
-    pub ends_within : EndsWithin base width piece (record { bytes = k; negative = sign; magnitude = m })
-    ends_within = record {
+    told_is : integer_at base (take k piece) ≡ integer_of q
+    told_is = ap (integer_at base) (sym (same_front k fits)) ∙ ap integer_in taken
+
+    pub ends_within : (sign : Bool) (m : ℕ) → integer_of q ≡ Some (sign, m) → k < length piece → EndsWithin base width piece (record { bytes = k; negative = sign; magnitude = m })
+    ends_within sign m told behind = record {
       behind = behind;
-      item = λ c shape same_width. item_within (Int base) k fits behind (ap is_some taken) stops c shape same_width tt;
-      integer = integer_from_at base (take k piece) sign m (ap (λ f. integer_in (read base (Some Start) f)) (sym (same_front k fits)) ∙ ap integer_in taken ∙ told);
+      item = λ c shape same_width. item_within (Int base) k fits (ap is_some taken) stops behind c shape same_width tt;
+      integer = integer_from_at base (take k piece) sign m (told_is ∙ told);
     }
 
+    -- no other integer ends within the piece
+    pub only_end : (w : WholeInteger) → EndsWithin base width piece w → (w.bytes ≡ k) × (integer_of q ≡ Some (w.negative, w.magnitude))
+    only_end w is =
+        let same = only_item (Int base) k fits (ap is_some taken) stops refl tt w.bytes is.item in
+        (same, sym told_is ∙ ap (λ n. integer_at base (take n piece)) (sym same) ∙ integer_at_is base (take w.bytes piece) w.negative w.magnitude is.integer)
+
   -- digits behind an opening
-  module _ (start count : ℕ) (inside : start ≤ length front) (most : count ≤ length (rest front start)) where
+  module _ (base : Base) (radix start count number : ℕ) (sign : Bool) (opened : Opened base radix front start sign) (digits : DigitsOf radix (rest front start) count number) where
     far : start + count ≤ length front
-    far = let long = length_rest front start in omega (arith, most, long, inside)
+    far = let long = length_rest front start in let most = digits.within in let inside = opened.inside in omega (arith, most, long, inside)
 
     parts : take (start + count) front ≡ take start front ++ take count (rest front start)
     parts = take-add start count front ∙ ap (λ d. take start front ++ take count d) (sym (rest_is front start))
 
-    next : (radix : ℕ) → (count < length (rest front start) → radix ≤ digit_value (get_or (rest front start) count 0)) → start + count < length front → radix ≤ digit_value (get_or front (start + count) 0)
-    next radix high below =
-        subst (λ b. radix ≤ digit_value b) (ap (λ d. get_or d count 0) (rest_is front start) ∙ get_or-drop start front count 0)
-        (high (let long = length_rest front start in omega (arith, below, long, inside)))
+    next_is : get_or (rest front start) count 0 ≡ get_or front (start + count) 0
+    next_is = ap (λ d. get_or d count 0) (rest_is front start) ∙ get_or-drop start front count 0
 
-    pub decimal_within : (sign : Bool) (m : ℕ) → (start ≡ 0 → sign ≡ false) → read Dec (Some Start) (take start front) ≡ Some (signed_as start sign) → 0 < count
-        → read Dec (Some (Digits sign 10 0)) (take count (rest front start)) ≡ Some (Digits sign 10 m) → start + count < length piece
-        → (count < length (rest front start) → 10 ≤ digit_value (get_or (rest front start) count 0))
-        → EndsWithin Dec width piece (record { bytes = start + count; negative = sign; magnitude = m })
-    decimal_within sign m plain signed some reads behind high =
-        let digits = take count (rest front start) in
-        let (q, is, decimal) = digits_go start sign digits m plain (rw (length-take-le count (rest front start) most) some) reads in
-        ends_within Dec (start + count) far q (ap (read Dec (Some Start)) parts ∙ read_more Dec (Some Start) (take start front) digits ∙ ap (λ o. read Dec o digits) signed ∙ is) sign m decimal.integer behind
-        (λ below. decimal.goes (get_or front (start + count) 0) ∙ digit_ends sign 10 m (get_or front (start + count) 0) (next 10 high below))
+    next : start + count < length front → radix ≤ digit_value (get_or front (start + count) 0)
+    next below =
+        subst (λ b. radix ≤ digit_value b) next_is
+        (digits.stops (let long = length_rest front start in let inside = opened.inside in omega (arith, below, long, inside)))
 
-    pub hex_within : (sign : Bool) (m : ℕ) → OpensHex (take start front) sign → 0 < m → ReadsHex 0 (take count (rest front start)) m → start + count < length piece
-        → (count < length (rest front start) → 16 ≤ digit_value (get_or (rest front start) count 0))
-        → EndsWithin Hex width piece (record { bytes = start + count; negative = sign; magnitude = m })
-    hex_within sign m opens some reads behind high =
-        ends_within Hex (start + count) far (Digits sign 16 m) (ap (read Hex (Some Start)) parts ∙ opens (take count (rest front start)) m some reads) sign m refl behind
-        (λ below. digit_ends sign 16 m (get_or front (start + count) 0) (next 16 high below))
+    -- how far the integer is read with them
+    record IsRead : Type 0 where
+      pub q : Progress
+      pub taken : read base (Some Start) (take (start + count) front) ≡ Some q
+      pub told : 0 < count → integer_of q ≡ Some (sign, number)
+      pub untold : count ≡ 0 → integer_of q ≡ None
+      pub ends : start + count < length front → advance base q (get_or front (start + count) 0) ≡ None
+
+    no_digits : count ≡ 0 → IsRead
+    no_digits none =
+        let all : start + count ≡ start = omega (arith, none) in
+        record {
+          q = opened.state;
+          taken = ap (λ n. read base (Some Start) (take n front)) all ∙ opened.taken;
+          told = λ some. absurd (omega (arith, none, some));
+          untold = λ _. opened.untold;
+          ends = λ below. subst (λ n. advance base opened.state (get_or front n 0) ≡ None) (sym all)
+              (opened.empty (omega (arith, below, none)) (subst (λ n. radix ≤ digit_value (get_or front n 0)) all (next below)));
+        }
+
+    some_digits : 0 < count → IsRead
+    some_digits some =
+        let g = opened.goes count number some digits.within digits.read in
+        record {
+          q = g.p;
+          taken = ap (read base (Some Start)) parts ∙ read_more base (Some Start) (take start front) (take count (rest front start)) ∙ ap (λ o. read base o (take count (rest front start))) opened.taken ∙ g.reads;
+          told = λ _. g.told;
+          untold = λ none. absurd (omega (arith, none, some));
+          ends = λ below. g.ends below (next below);
+        }
+
+    is_read : IsRead
+    is_read = elim (eq-zero-or-pos count) [ inl none ↦ no_digits none | inr some ↦ some_digits some ]
+
+    pub whole_integer : 0 < count → start + count < length piece → EndsWithin base width piece (record { bytes = start + count; negative = sign; magnitude = number })
+    whole_integer some behind = ends_within base (start + count) far is_read.q is_read.taken is_read.ends sign number (is_read.told some) behind
+
+    pub only_integer : (w : WholeInteger) → EndsWithin base width piece w → (start + count < length piece) × (0 < count) × (w.magnitude ≡ number)
+    only_integer w is = by_count (eq-zero-or-pos count)
+      where
+        end : (w.bytes ≡ start + count) × (integer_of is_read.q ≡ Some (w.negative, w.magnitude))
+        end = only_end base (start + count) far is_read.q is_read.taken is_read.ends w is
+
+        nothing : ◌≡◌ {A = Option (Bool × ℕ)} None (Some (w.negative, w.magnitude)) → ⊥
+        nothing h = cc
+
+        same : ◌≡◌ {A = Option (Bool × ℕ)} (Some (w.negative, w.magnitude)) (Some (sign, number)) → w.magnitude ≡ number
+        same h = ap magnitude_in h
+
+        by_count : (count ≡ 0) ⊎ (0 < count) → (start + count < length piece) × (0 < count) × (w.magnitude ≡ number)
+        by_count (inl none) = absurd (nothing (sym (is_read.untold none) ∙ end.1))
+        by_count (inr some) = (subst (λ n. n < length piece) end.0 is.behind, some, same (sym end.1 ∙ is_read.told some))
+
+    -- none ends within the piece where it has no digits, or they end with the piece
+    pub no_integer : (0 < count → start + count < length piece → ⊥) → NoneEndsWithin base width piece
+    no_integer none w is = let (behind, some, _) = only_integer w is in absurd (none some behind)
+
+    -- nor a small one, where their number is large
+    pub large_integer : 2 ^ 64 ≤ number → NoneEndsWithin base width piece
+    large_integer large w is = let (_, _, same) = only_integer w is in omega (arith, large, same)
 
 -- ---- the opening of a hexadecimal integer
 
-zero_goes : (sign : Bool) (t : List ℕ) (n : ℕ) → 0 < n → read Hex (Some (Digits sign 16 0)) t ≡ Some (Digits sign 16 n) → read Hex (Some (Zero sign)) t ≡ Some (Digits sign 16 n)
-zero_goes sign [] n some reads = absurd (nothing some reads)
-  where
-    nothing : 0 < n → ◌≡◌ {A = Option Progress} (Some (Digits sign 16 0)) (Some (Digits sign 16 n)) → ⊥
-    nothing some h = let same = same_number sign 16 0 n h in omega (arith, same, some)
-zero_goes sign (b ∷ t) n some reads =
-    by_prefix Hex b (λ o. read Hex (after_zero sign 16 b o) t ≡ Some (Digits sign 16 n))
-    (λ x. absurd (no_letter x))
-    (λ other. reads)
-    reads
-  where
-    low : digit_value b < 16
-    low = begins_low Hex sign 16 0 n b t reads
+-- digits were read: a 0 that may be that of a prefix, or others
+abbrev HexRead : Bool → List ℕ → ℕ → Progress → Type 0
+HexRead sign t n p = (p ≡ Digits sign 16 n) ⊎ (t ≡ 48 ∷ []) × (p ≡ Zero sign) × (n ≡ 0)
 
-    no_letter : (b ≡ 120) ⊎ (b ≡ 88) → ⊥
-    no_letter (inl is) = let high : digit_value 120 < 16 = subst (λ c. digit_value c < 16) is low in omega (arith, high)
-    no_letter (inr is) = let high : digit_value 88 < 16 = subst (λ c. digit_value c < 16) is low in omega (arith, high)
+no_letter : (b : ℕ) → digit_value b < 16 → (b ≡ 120) ⊎ (b ≡ 88) → ⊥
+no_letter b low (inl is) = let high : digit_value 120 < 16 = subst (λ c. digit_value c < 16) is low in omega (arith, high)
+no_letter b low (inr is) = let high : digit_value 88 < 16 = subst (λ c. digit_value c < 16) is low in omega (arith, high)
 
-first_goes : (sign : Bool) (b : ℕ) (t : List ℕ) (n : ℕ) → 0 < n → read Hex (Some (Digits sign 16 0)) (b ∷ t) ≡ Some (Digits sign 16 n)
-    → read Hex (with_first_digit Hex sign b) t ≡ Some (Digits sign 16 n)
-first_goes sign b t n some reads =
-    by_eq b 48 (λ v. read Hex (cond v (Some (Zero sign)) (with_digit sign 16 0 b)) t ≡ Some (Digits sign 16 n))
-    (λ is. zero_goes sign t n some (subst (λ c. read Hex (Some (Digits sign 16 0)) (c ∷ t) ≡ Some (Digits sign 16 n)) is reads))
-    (λ other. reads)
+zero_goes : (sign : Bool) (t : List ℕ) (n : ℕ) → read Hex (Some (Digits sign 16 0)) (48 ∷ t) ≡ Some (Digits sign 16 n)
+    → (p : Progress) × (read Hex (Some (Zero sign)) t ≡ Some p) × HexRead sign (48 ∷ t) n p
+zero_goes sign [] n reads = (Zero sign, refl, inr (refl, refl, sym (same_number sign 16 0 n reads)))
+zero_goes sign (b ∷ t) n reads =
+    let low = begins_low Hex sign 16 0 n b t reads in (
+      Digits sign 16 n,
+      by_prefix Hex b (λ o. read Hex (after_zero sign 16 b o) t ≡ Some (Digits sign 16 n)) (λ x. absurd (no_letter b low x)) (λ other. reads) reads,
+      inl refl,
+    )
+
+first_goes : (sign : Bool) (b : ℕ) (t : List ℕ) (n : ℕ) → read Hex (Some (Digits sign 16 0)) (b ∷ t) ≡ Some (Digits sign 16 n)
+    → (p : Progress) × (read Hex (with_first_digit Hex sign b) t ≡ Some p) × HexRead sign (b ∷ t) n p
+first_goes sign b t n reads =
+    by_eq b 48 (λ v. (p : Progress) × (read Hex (cond v (Some (Zero sign)) (with_digit sign 16 0 b)) t ≡ Some p) × HexRead sign (b ∷ t) n p)
+    (λ is.
+    subst (λ c. (p : Progress) × (read Hex (Some (Zero sign)) t ≡ Some p) × HexRead sign (c ∷ t) n p) (sym is)
+    (zero_goes sign t n (subst (λ c. read Hex (Some (Digits sign 16 0)) (c ∷ t) ≡ Some (Digits sign 16 n)) is reads)))
+    (λ other. (Digits sign 16 n, reads, inl refl))
 
 -- behind a sign or none
-pub opens_plain : (f : List ℕ) (start : ℕ) (sign : Bool) → (start ≡ 0 → sign ≡ false) → read Hex (Some Start) f ≡ Some (signed_as start sign) → OpensHex f sign
-opens_plain f start sign plain signed t n some reads = read_more Hex (Some Start) f t ∙ ap (λ o. read Hex o t) signed ∙ go start t plain (reads Hex sign)
-  where
-    go : (start : ℕ) (t : List ℕ) → (start ≡ 0 → sign ≡ false) → read Hex (Some (Digits sign 16 0)) t ≡ Some (Digits sign 16 n) → read Hex (Some (signed_as start sign)) t ≡ Some (Digits sign 16 n)
-    go start [] plain is = let same = same_number sign 16 0 n is in absurd (omega (arith, same, some))
-    go zero (b ∷ t) plain is =
-        ap (λ o. read Hex o t) (plain_first Hex b (begins_low Hex sign 16 0 n b t is) ∙ ap (λ s. with_first_digit Hex s b) (sym (plain refl))) ∙ first_goes sign b t n some is
-    go (suc k) (b ∷ t) plain is = first_goes sign b t n some is
+hex_digits_go : (start : ℕ) (sign : Bool) (t : List ℕ) (n : ℕ) → (start ≡ 0 → sign ≡ false) → 0 < length t → read Hex (Some (Digits sign 16 0)) t ≡ Some (Digits sign 16 n)
+    → (p : Progress) × (read Hex (Some (signed_as start sign)) t ≡ Some p) × HexRead sign t n p
+hex_digits_go start sign [] n plain some reads = absurd (omega (arith, some))
+hex_digits_go zero sign (b ∷ t) n plain some reads =
+    let low = begins_low Hex sign 16 0 n b t reads in
+    let (p, goes, is) = first_goes sign b t n reads in
+    (p, ap (λ o. read Hex o t) (plain_first Hex b low ∙ ap (λ s. with_first_digit Hex s b) (sym (plain refl))) ∙ goes, is)
+hex_digits_go (suc k) sign (b ∷ t) n plain some reads = first_goes sign b t n reads
 
--- behind a prefix
-pub opens_prefixed : (f : List ℕ) (start letter : ℕ) (sign : Bool) → (start ≡ 0 → sign ≡ false) → read Hex (Some Start) f ≡ Some (signed_as start sign) → (letter ≡ 120) ⊎ (letter ≡ 88)
-    → OpensHex (f ++ 48 ∷ letter ∷ []) sign
-opens_prefixed f start letter sign plain signed is t n some reads =
-    ap (read Hex (Some Start)) (append_assoc f (48 ∷ letter ∷ []) t) ∙ read_more Hex (Some Start) f (48 ∷ letter ∷ t) ∙ ap (λ o. read Hex o (48 ∷ letter ∷ t)) signed
-    ∙ zero_read start plain ∙ ap (λ o. read Hex o t) (prefix is) ∙ go t (reads Hex sign)
-  where
-    zero_read : (start : ℕ) → (start ≡ 0 → sign ≡ false) → read Hex (Some (signed_as start sign)) (48 ∷ letter ∷ t) ≡ read Hex (Some (Zero sign)) (letter ∷ t)
-    zero_read zero plain = ap (λ s. read Hex (Some (Zero s)) (letter ∷ t)) (sym (plain refl))
-    zero_read (suc k) plain = refl
+-- what ends them
+hex_read_ends : (sign : Bool) (t : List ℕ) (n : ℕ) (p : Progress) (b : ℕ) → HexRead sign t n p → 16 ≤ digit_value b → (t ≡ 48 ∷ [] → (b ≡ 120) ⊎ (b ≡ 88) → ⊥) → advance Hex p b ≡ None
+hex_read_ends sign t n p b (inl is) high plain = ap (λ q. advance Hex q b) is ∙ digit_ends sign 16 n b high
+hex_read_ends sign t n p b (inr zero_digit) high plain =
+    ap (λ q. advance Hex q b) zero_digit.1
+    ∙ by_prefix Hex b (λ o. after_zero sign 16 b o ≡ None) (λ x. absurd (plain zero_digit.0 x)) (λ other. digit_ends sign 16 0 b high) (digit_ends sign 16 0 b high)
 
-    prefix : (letter ≡ 120) ⊎ (letter ≡ 88) → advance Hex (Zero sign) letter ≡ Some (Prefix sign 16)
-    prefix (inl e) = ap (advance Hex (Zero sign)) e
-    prefix (inr e) = ap (advance Hex (Zero sign)) e
+hex_told : (sign : Bool) (t : List ℕ) (n : ℕ) (p : Progress) → HexRead sign t n p → integer_of p ≡ Some (sign, n)
+hex_told sign t n p (inl is) = ap integer_of is
+hex_told sign t n p (inr zero_digit) = ap integer_of zero_digit.1 ∙ ap (λ m. Some (sign, m)) (sym zero_digit.2)
 
-    go : (t : List ℕ) → read Hex (Some (Digits sign 16 0)) t ≡ Some (Digits sign 16 n) → read Hex (Some (Prefix sign 16)) t ≡ Some (Digits sign 16 n)
-    go [] is = let same = same_number sign 16 0 n is in absurd (omega (arith, same, some))
-    go (b ∷ t) is = is
+module _ (front : List ℕ) (start : ℕ) (sign : Bool) where
+  -- no prefix stands behind the sign
+  plain_opened : SignOf front start sign → (HasPrefixAt front start → ⊥) → Opened Hex 16 front start sign
+  plain_opened s plain = record {
+    inside = s.within;
+    state = signed_as start sign;
+    taken = s.read Hex;
+    untold = sign_untold start sign;
+    empty = signed_ends Hex front start sign s (omega arith);
+    goes = goes;
+  }
+    where
+      zero_at : (count : ℕ) → 0 < count → take count (rest front start) ≡ 48 ∷ [] → get_or front start 0 ≡ 48
+      zero_at count some one =
+          let same : start + 0 ≡ start = omega arith in
+          ap (λ n. get_or front n 0) (sym same) ∙ sym (get_or-drop start front 0 0) ∙ ap (λ d. get_or d 0 0) (sym (rest_is front start))
+          ∙ sym (get_or-take count (rest front start) 0 0 some) ∙ ap (λ f. get_or f 0 0) one
+
+      goes : (count n : ℕ) → 0 < count → count ≤ length (rest front start) → ReadsIn 16 0 (take count (rest front start)) n → Goes Hex 16 front (signed_as start sign) start count n sign
+      goes count n some most reads =
+          let t = take count (rest front start) in
+          let long : length t ≡ count = length-take-le count (rest front start) most in
+          let (p, is, read) = hex_digits_go start sign t n s.plain (rw long some) (reads Hex sign) in
+          record {
+            p = p;
+            reads = is;
+            told = hex_told sign t n p read;
+            ends = λ below high. hex_read_ends sign t n p (get_or front (start + count) 0) read high
+                (λ one letter.
+                let single : count ≡ 1 = sym long ∙ ap length one in
+                plain (omega (arith, below, single), zero_at count some one, subst (λ n. (get_or front (start + n) 0 ≡ 120) ⊎ (get_or front (start + n) 0 ≡ 88)) single letter));
+          }
+
+  behind_prefix : (t : List ℕ) (n : ℕ) → 0 < length t → read Hex (Some (Digits sign 16 0)) t ≡ Some (Digits sign 16 n) → read Hex (Some (Prefix sign 16)) t ≡ Some (Digits sign 16 n)
+  behind_prefix [] n some is = absurd (omega (arith, some))
+  behind_prefix (b ∷ t) n some is = is
+
+  -- a prefix does
+  prefixed_opened : start ≤ length front → read Hex (Some Start) (take start front) ≡ Some (Prefix sign 16) → Opened Hex 16 front start sign
+  prefixed_opened inside taken = record {
+    inside = inside;
+    state = Prefix sign 16;
+    taken = taken;
+    untold = refl;
+    empty = λ below high. digit_ends sign 16 0 (get_or front start 0) high;
+    goes = λ count n some most reads. record {
+      p = Digits sign 16 n;
+      reads = behind_prefix (take count (rest front start)) n (rw (length-take-le count (rest front start) most) some) (reads Hex sign);
+      told = refl;
+      ends = λ below high. digit_ends sign 16 n (get_or front (start + count) 0) high;
+    };
+  }
+
+  pub hex_opened : HexOpening front start sign → Opened Hex 16 front start sign
+  hex_opened (inl h) = prefixed_opened h.0 h.1
+  hex_opened (inr h) = plain_opened h.0 h.1
+
+-- the prefix behind a sign or none
+prefix_read : (start letter : ℕ) (sign : Bool) → (start ≡ 0 → sign ≡ false) → (letter ≡ 120) ⊎ (letter ≡ 88) → read Hex (Some (signed_as start sign)) (48 ∷ letter ∷ []) ≡ Some (Prefix sign 16)
+prefix_read zero letter sign plain (inl is) = ap (λ s. read Hex (Some (Zero s)) (letter ∷ [])) (sym (plain refl)) ∙ ap (λ b. read Hex (Some (Zero sign)) (b ∷ [])) is
+prefix_read zero letter sign plain (inr is) = ap (λ s. read Hex (Some (Zero s)) (letter ∷ [])) (sym (plain refl)) ∙ ap (λ b. read Hex (Some (Zero sign)) (b ∷ [])) is
+prefix_read (suc k) letter sign plain (inl is) = ap (λ b. read Hex (Some (Zero sign)) (b ∷ [])) is
+prefix_read (suc k) letter sign plain (inr is) = ap (λ b. read Hex (Some (Zero sign)) (b ∷ [])) is
+
+pub opens_prefixed : (bytes : List ℕ) (start : ℕ) (sign : Bool) → SignOf bytes start sign → HasPrefixAt bytes start → HexOpening bytes (start + 2) sign
+opens_prefixed bytes start sign s at =
+    let below = at.0 in
+    let letter = get_or bytes (start + 1) 0 in
+    let first : take start bytes ++ get_or bytes start 0 ∷ [] ≡ take (start + 1) bytes = one_more [] bytes start 0 (omega (arith, below)) in
+    let second : take (start + 1) bytes ++ letter ∷ [] ≡ take (start + 1 + 1) bytes = one_more [] bytes (start + 1) 0 below in
+    let two : start + 2 ≡ start + 1 + 1 = omega arith in
+    let parts : take start bytes ++ 48 ∷ letter ∷ [] ≡ take (start + 2) bytes =
+    ap (λ b. take start bytes ++ b ∷ letter ∷ []) (sym at.1)
+    ∙ sym (append_assoc (take start bytes) (get_or bytes start 0 ∷ []) (letter ∷ []))
+    ∙ ap (λ f. f ++ letter ∷ []) first ∙ second ∙ ap (λ n. take n bytes) (sym two) in
+    inl (
+      omega (arith, below),
+      ap (read Hex (Some Start)) (sym parts) ∙ read_more Hex (Some Start) (take start bytes) (48 ∷ letter ∷ []) ∙ ap (λ o. read Hex o (48 ∷ letter ∷ [])) (s.read Hex)
+          ∙ prefix_read start letter sign s.plain at.2,
+    )
 
 -- with one hexadecimal digit more
 pub hex_read : (base : Base) (sign : Bool) (piece : List ℕ) (i before value digit : ℕ) → i < length piece
@@ -277,29 +500,49 @@ hex_read base sign piece i before value digit below is_digit same is =
 
 -- ---- items of bytes
 
-module _ (shape : Shape) (width : Option ℕ) (piece : List ℕ) (n : ℕ) (some : 0 < n) (behind : n < length piece) where
-  matched : shape_matches shape width (take n piece) ≡ true → (c : Conversion) → c.shape ≡ shape → c.width ≡ width → Matches c (take n piece)
-  matched is c same same_width = (tests_matches c (take n piece)).from (rw (same, same_width) is)
+matched : (shape : Shape) (width : Option ℕ) (piece : List ℕ) (n : ℕ) → shape_matches shape width (take n piece) ≡ true → (c : Conversion) → c.shape ≡ shape → c.width ≡ width → Matches c (take n piece)
+matched shape width piece n is c same same_width = (tests_matches c (take n piece)).from (rw (same, same_width) is)
 
-  -- a run of bytes that pass the test of the shape
-  pub run_item : (front : List ℕ) → front ≡ take (length front) piece → ((k : ℕ) → k ≤ length front → FitsLeft width k) → (length front < length piece → width ≡ Some (length front))
-      → (test : ℕ → Bool) → ((f : List ℕ) → shape_begins shape width f ≡ list_all test f) → ((f : List ℕ) → shape_matches shape width f ≡ (nat_lt 0 (length f) && list_all test f))
-      → n ≡ prefix_len test front → ItemWithin shape width piece n
-  run_item front cut room whole test begins matches is =
-      let long = ap length cut in
-      let short : length front ≤ length piece = omega (arith, long, length-take (length front) piece) in
-      let fits : n ≤ length front = run_within test front n is in
-      let passes : list_all test (take n front) ≡ true = run_passes test front n is [] refl in
-      record {
-        some = some;
-        behind = behind;
-        item =
-            item_within piece front width cut short room whole shape n fits behind (begins (take n front) ∙ passes)
-            (λ below. begins (take (n + 1) front) ∙ run_stops test front n is [] refl below);
-        matches =
-            matched (matches (take n piece)
-            ∙ rw (length-take-le n piece (omega (arith, behind)), sym (same_front piece front width cut short room whole n fits), passes) (grind (arith, nat_tests, some)));
-      }
+-- a run of bytes that pass the test of the shape
+module _ (shape : Shape) (width : Option ℕ) (piece front : List ℕ) (cut : front ≡ take (length front) piece) (room : (k : ℕ) → k ≤ length front → FitsLeft width k)
+    (whole : length front < length piece → width ≡ Some (length front)) (test : ℕ → Bool) (begins : (f : List ℕ) → shape_begins shape width f ≡ list_all test f)
+    (n : ℕ) (is : n ≡ prefix_len test front) where
+  short : length front ≤ length piece
+  short = let long = ap length cut in omega (arith, long, length-take (length front) piece)
+
+  fits : n ≤ length front
+  fits = run_within test front n is
+
+  passes : list_all test (take n front) ≡ true
+  passes = run_passes test front n is [] refl
+
+  run_ends : n < length front → shape_begins shape width (take (n + 1) front) ≡ false
+  run_ends below = begins (take (n + 1) front) ∙ run_stops test front n is [] refl below
+
+  pub run_item : ((f : List ℕ) → shape_matches shape width f ≡ (nat_lt 0 (length f) && list_all test f)) → 0 < n → n < length piece → ItemWithin shape width piece n
+  run_item matches some behind = record {
+    some = some;
+    behind = behind;
+    item = item_within piece front width cut short room whole shape n fits (begins (take n front) ∙ passes) run_ends behind;
+    matches =
+        matched shape width piece n (matches (take n piece)
+        ∙ rw (length-take-le n piece (omega (arith, behind)), sym (same_front piece front width cut short room whole n fits), passes) (grind (arith, nat_tests, some)));
+  }
+
+  -- the item is none that ends within the piece, where no byte passes or all do
+  pub no_run : has_item shape ≡ true → ((k : ℕ) → ItemWithin shape width piece k → IsProperShape shape) → (0 < n → n < length piece → ⊥) → NoItemWithin shape width piece
+  no_run takes proper none k h =
+      let is_proper = proper k h in
+      let same = only_item piece front width cut short room whole shape n fits (begins (take n front) ∙ passes) run_ends takes is_proper k (λ c shape_is width_is z. h.item c shape_is width_is is_proper z) in
+      let some = h.some in
+      let behind = h.behind in
+      absurd (none (omega (arith, same, some)) (omega (arith, same, behind)))
+
+-- a set with such an item has a member
+pub set_proper : (members : List Bool) (width : Option ℕ) (piece : List ℕ) → ((i : ℕ) → get_or piece i 0 < 256) → (k : ℕ) → ItemWithin (Set members) width piece k → IsProperShape (Set members)
+set_proper members width [] bytes k h = let behind = h.behind in absurd (omega (arith, behind))
+set_proper members width (b ∷ piece) bytes zero h = let some = h.some in absurd (omega (arith, some))
+set_proper members width (b ∷ piece) bytes (suc k) h = (b, bytes 0, (h.matches (a_conversion (Set members) width) refl refl).1.0)
 
 -- as many bytes as the width says
 pub chars_item : (width : Option ℕ) (piece : List ℕ) (n : ℕ) → 0 < n → n < length piece → n ≡ unwrap_or width 1 → ItemWithin Chars width piece n
@@ -307,7 +550,7 @@ chars_item width piece n some behind is = record {
   some = some;
   behind = behind;
   item = λ c same same_width proper z. item_stays c (subst IsProperShape (sym same) proper) piece z n (item c same same_width (subst IsProperShape (sym same) proper)) behind;
-  matches = matched Chars width piece n some behind (rw (length-take-le n piece (omega (arith, behind))) (grind (arith, nat_tests, is)));
+  matches = matched Chars width piece n (rw (length-take-le n piece (omega (arith, behind))) (grind (arith, nat_tests, is)));
 }
   where
     within : (w : Option ℕ) → n ≡ unwrap_or w 1 → is_within w n ≡ true
@@ -324,18 +567,90 @@ chars_item width piece n some behind is = record {
         (rw (same, same_width, length-take-le n piece (omega (arith, behind)), within width is) (grind (arith, nat_tests, is)))
         (rw (same, same_width, length-take-le (n + 1) piece (omega (arith, behind))) (by_first (is_within width (n + 1)) (nat_le (n + 1) (unwrap_or width 1)) (grind (arith, nat_tests, is))))
 
--- behind the prefix that stands at the place
-pub opens_at : (bytes : List ℕ) (start : ℕ) (sign : Bool) → (start ≡ 0 → sign ≡ false) → read Hex (Some Start) (take start bytes) ≡ Some (signed_as start sign)
-    → start + 1 < length bytes → get_or bytes start 0 ≡ 48 → (get_or bytes (start + 1) 0 ≡ 120) ⊎ (get_or bytes (start + 1) 0 ≡ 88) → OpensHex (take (start + 2) bytes) sign
-opens_at bytes start sign plain signed below zero_digit letter =
-    let first : take start bytes ++ get_or bytes start 0 ∷ [] ≡ take (start + 1) bytes = one_more [] bytes start 0 (omega (arith, below)) in
-    let second : take (start + 1) bytes ++ get_or bytes (start + 1) 0 ∷ [] ≡ take (start + 1 + 1) bytes = one_more [] bytes (start + 1) 0 below in
-    let two : start + 2 ≡ start + 1 + 1 = omega arith in
-    let parts : take start bytes ++ 48 ∷ get_or bytes (start + 1) 0 ∷ [] ≡ take (start + 2) bytes =
-    ap (λ b. take start bytes ++ b ∷ get_or bytes (start + 1) 0 ∷ []) (sym zero_digit)
-    ∙ sym (append_assoc (take start bytes) (get_or bytes start 0 ∷ []) (get_or bytes (start + 1) 0 ∷ []))
-    ∙ ap (λ f. f ++ get_or bytes (start + 1) 0 ∷ []) first ∙ second ∙ ap (λ n. take n bytes) (sym two) in
-    subst (λ f. OpensHex f sign) parts (opens_prefixed (take start bytes) start (get_or bytes (start + 1) 0) sign plain signed letter)
+pub no_chars : (width : Option ℕ) (piece : List ℕ) (n : ℕ) → n ≡ unwrap_or width 1 → (0 < n → n < length piece → ⊥) → NoItemWithin Chars width piece
+no_chars width piece n is none k h =
+    let some = h.some in
+    let behind = h.behind in
+    let long = h.matches (a_conversion Chars width) refl refl in
+    let same : k ≡ n = sym (length-take-le k piece (omega (arith, behind))) ∙ long ∙ sym is in
+    absurd (none (omega (arith, same, some)) (omega (arith, same, behind)))
+
+pub no_bytes : (shape : Shape) (width : Option ℕ) (piece : List ℕ) → IsInt shape ⊎ (shape ≡ Count) → NoItemWithin shape width piece
+no_bytes shape width piece (inl int) k h = int
+no_bytes shape width piece (inr is) k h = absurd (subst (λ s. ItemWithin s width piece k → ⊥) (sym is) (λ none. none.matches (a_conversion Count width) refl refl) h)
+
+-- ---- digits, of whichever number
+
+digits_stay : (base : Base) (s : Bool) (radix v : ℕ) (t : List ℕ) (q : Progress) → read base (Some (Digits s radix v)) t ≡ Some q
+    → (n : ℕ) × (q ≡ Digits s radix n) × ReadsIn radix v t n
+digits_stay base s radix v [] q is = (v, same is, λ b sign. refl)
+  where
+    same : ◌≡◌ {A = Option Progress} (Some (Digits s radix v)) (Some q) → q ≡ Digits s radix v
+    same h = cc
+digits_stay base s radix v (b ∷ t) q reads =
+    by_lt (digit_value b) radix
+    (λ o. read base (cond o (Some (Digits s radix (v * radix + digit_value b))) None) t ≡ Some q
+    → (n : ℕ) × (q ≡ Digits s radix n) × ((other : Base) (sign : Bool) → read other (cond o (Some (Digits sign radix (v * radix + digit_value b))) None) t ≡ Some (Digits sign radix n)))
+    (λ below is. digits_stay base s radix (v * radix + digit_value b) t q is)
+    (λ above is. absurd (nothing is))
+    reads
+  where
+    nothing : ◌≡◌ {A = Option Progress} None (Some q) → ⊥
+    nothing h = cc
+
+digits_stop : (s : Bool) (radix v b : ℕ) → with_digit s radix v b ≡ None → radix ≤ digit_value b
+digits_stop s radix v b =
+    by_lt (digit_value b) radix (λ o. ◌≡◌ {A = Option Progress} (cond o (Some (Digits s radix (v * radix + digit_value b))) None) None → radix ≤ digit_value b)
+    (λ below h. absurd (something h))
+    (λ above h. above)
+  where
+    something : ◌≡◌ {A = Option Progress} (Some (Digits s radix (v * radix + digit_value b))) None → ⊥
+    something h = cc
+
+-- digits that were read one by one, with a number that may be large
+module _ (bytes : List ℕ) (radix count : ℕ) (after : Taken) (within : count ≤ length bytes)
+    (reads : ShowsNext (Some (reached.Digits after)) (read Dec (Some (Digits false radix 0)) (take count bytes)))
+    (stops : count < length bytes → ShowsNext None (read Dec (Some (Digits false radix 0)) (take (count + 1) bytes))) where
+  shown : (q : Progress) × (read Dec (Some (Digits false radix 0)) (take count bytes) ≡ Some q) × Shows (reached.Digits after) q
+  shown = shows_some (reached.Digits after) (read Dec (Some (Digits false radix 0)) (take count bytes)) reads
+
+  stayed : (n : ℕ) × (shown.0 ≡ Digits false radix n) × ReadsIn radix 0 (take count bytes) n
+  stayed = digits_stay Dec false radix 0 (take count bytes) shown.0 shown.1
+
+  number_is : shown.2.0 ≡ stayed.0
+  number_is = same (sym shown.2.1 ∙ stayed.1)
+    where
+      same : Digits after.negative after.radix shown.2.0 ≡ Digits false radix stayed.0 → shown.2.0 ≡ stayed.0
+      same h = cc
+
+  digits_read : DigitsOf radix bytes count stayed.0
+  digits_read = record {
+    within = within;
+    read = stayed.2;
+    stops = λ below.
+        let b = get_or bytes count 0 in
+        digits_stop false radix stayed.0 b
+        (sym (read_nothing Dec (with_digit false radix stayed.0 b)) ∙ ap (λ o. read Dec o (b ∷ [])) (sym (stayed.2 Dec false))
+        ∙ sym (read_more Dec (Some (Digits false radix 0)) (take count bytes) (b ∷ []))
+        ∙ ap (read Dec (Some (Digits false radix 0))) (one_more [] bytes count 0 below)
+        ∙ shows_none (read Dec (Some (Digits false radix 0)) (take (count + 1) bytes)) (stops below));
+  }
+
+  holds : HoldsNumber after.magnitude after.overflowed stayed.0
+  holds = subst (HoldsNumber after.magnitude after.overflowed) number_is shown.2.2
+
+  pub long_digits : after.overflowed ≡ true → LongDigits radix bytes
+  long_digits over = record {
+    count = count;
+    number = stayed.0;
+    digits = digits_read;
+    large = (subst (λ v. HoldsNumber after.magnitude v stayed.0) over holds).1;
+  }
+
+  pub short_digits : after.overflowed ≡ false → DigitsOf radix bytes count after.magnitude
+  short_digits fits =
+      let is : stayed.0 ≡ after.magnitude = subst (λ v. HoldsNumber after.magnitude v stayed.0) fits holds in
+      subst (DigitsOf radix bytes count) is digits_read
 
 -- ---- how great a number of so many digits is
 
@@ -358,9 +673,3 @@ sixteens i below = let all : 15 - i + i ≡ 15 = omega (arith, below) in subst (
 
 pub sixteen_more : (i n d : ℕ) → n < 16 ^ i → d < 16 → n * 16 + d < 16 ^ (i + 1)
 sixteen_more i n d small low = let one : i + 1 ≡ suc i = omega arith in subst (λ k. n * 16 + d < 16 ^ k) (sym one) (let more : 16 ^ suc i ≡ 16 * 16 ^ i = pow-succ' 16 i in omega (arith, more, small, low))
-
--- the whole of the first bytes of a piece
-pub whole_front : (P : List ℕ → Type 0) (piece few : List ℕ) (n i : ℕ) → few ≡ take n piece → length few ≡ n → length few ≤ i → i ≤ length few → P (take i few) → P (take (length few) piece)
-whole_front P piece few n i front long past most h =
-    let all : i ≡ length few = omega (arith, past, most) in
-    subst P (ap (λ k. take k few) all ∙ take-length few ∙ front ∙ ap (λ k. take k piece) (sym long)) h

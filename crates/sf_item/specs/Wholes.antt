@@ -1,5 +1,6 @@
 -- Items that end within a piece of the input.
-use Rattle.std.specs.Prelude.{◌≡◌, ℕ, zero, suc, ◌<◌, Bool, List, ◌++◌, length, take, Option, Some}
+use Rattle.std.specs.Prelude.{◌≡◌, ◌≢◌, ℕ, zero, suc, ◌+◌, ◌^◌, ◌<◌, ◌≤◌, ◌⊎◌, Bool, false, List, ◌++◌, length, take, get_or, Option, Some}
+use Rattle.std.specs.Char.{digit_value}
 use Rattle.sf_format.specs.declared.directive.Base.{Base}
 use Rattle.sf_format.specs.declared.directive.Base.TheVariants.{Hex}
 use Rattle.sf_format.specs.declared.directive.Shape.{Shape}
@@ -8,7 +9,8 @@ use Rattle.sf_format.specs.declared.directive.Conversion.{Conversion}
 use Rattle.sf_format.specs.Proper.{IsProperShape}
 use Rattle.sf_item.specs.declared.whole.WholeInteger.{WholeInteger}
 use Rattle.sf_item.specs.Matching.{IsInteger, IsItem, Matches}
-use Rattle.sf_item.specs.Progress.{Progress, Start, Signed, Digits}
+use Rattle.sf_item.specs.Progress.{Progress, Start, Signed, Prefix, Digits}
+use Rattle.sf_item.specs.Taking.{IsInt}
 use Rattle.sf_item.specs.Tests.{read}
 
 -- The input item of each conversion with the base and the width ends before a byte of the piece, whatever follows the piece, and it is an integer
@@ -18,6 +20,10 @@ pub record EndsWithin (base : Base) (width : Option ℕ) (piece : List ℕ) (w :
   pub item : (c : Conversion) → c.shape ≡ Int base → c.width ≡ width → (z : List ℕ) → IsItem c (piece ++ z) w.bytes
   pub integer : IsInteger base (take w.bytes piece) w.negative w.magnitude
 
+-- no integer ends within the piece whose number is below 2^64
+abbrev pub NoneEndsWithin : Base → Option ℕ → List ℕ → Type 0
+NoneEndsWithin base width piece = (w : WholeInteger) → EndsWithin base width piece w → 2 ^ 64 ≤ w.magnitude
+
 -- The input item of each conversion with the shape and the width has n bytes, whatever follows the piece, ends before a byte of the piece, and is a
 -- matching sequence.
 pub record ItemWithin (shape : Shape) (width : Option ℕ) (piece : List ℕ) (n : ℕ) : Type 0 where
@@ -26,15 +32,47 @@ pub record ItemWithin (shape : Shape) (width : Option ℕ) (piece : List ℕ) (n
   pub item : (c : Conversion) → c.shape ≡ shape → c.width ≡ width → IsProperShape shape → (z : List ℕ) → IsItem c (piece ++ z) n
   pub matches : (c : Conversion) → c.shape ≡ shape → c.width ≡ width → Matches c (take n piece)
 
--- with the digits t, a hexadecimal number becomes another
-abbrev pub ReadsHex : ℕ → List ℕ → ℕ → Type 0
-ReadsHex before t after = (base : Base) (sign : Bool) → read base (Some (Digits sign 16 before)) t ≡ Some (Digits sign 16 after)
+-- no item ends so within the piece, but perhaps an integer
+abbrev pub NoItemWithin : Shape → Option ℕ → List ℕ → Type 0
+NoItemWithin shape width piece = (n : ℕ) → ItemWithin shape width piece n → IsInt shape
 
--- behind the bytes f, the digits of a hexadecimal number other than 0 are those of an integer with this sign
-abbrev pub OpensHex : List ℕ → Bool → Type 0
-OpensHex f sign = (t : List ℕ) (n : ℕ) → 0 < n → ReadsHex 0 t n → read Hex (Some Start) (f ++ t) ≡ Some (Digits sign 16 n)
+-- ---- the parts of an integer
+
+-- with the digits t of the radix, a number becomes another
+abbrev pub ReadsIn : ℕ → ℕ → List ℕ → ℕ → Type 0
+ReadsIn radix before t after = (base : Base) (sign : Bool) → read base (Some (Digits sign radix before)) t ≡ Some (Digits sign radix after)
+
+-- the bytes begin with so many digits of the radix, and no more, and this is their number
+pub record DigitsOf (radix : ℕ) (bytes : List ℕ) (count number : ℕ) : Type 0 where
+  pub within : count ≤ length bytes
+  pub read : ReadsIn radix 0 (take count bytes) number
+  pub stops : count < length bytes → radix ≤ digit_value (get_or bytes count 0)
+
+-- the number of the digits that the bytes begin with is not below 2^64
+pub record LongDigits (radix : ℕ) (bytes : List ℕ) : Type 0 where
+  pub count : ℕ
+  pub number : ℕ
+  pub digits : DigitsOf radix bytes count number
+  pub large : 2 ^ 64 ≤ number
 
 -- how far an integer is read with so many bytes of a sign
 abbrev pub signed_as : ℕ → Bool → Progress
 signed_as zero negative = Start
 signed_as (suc n) negative = Signed negative
+
+-- the bytes begin with so many of a sign
+pub record SignOf (bytes : List ℕ) (count : ℕ) (negative : Bool) : Type 0 where
+  pub within : count ≤ length bytes
+  pub plain : count ≡ 0 → negative ≡ false
+  pub read : (base : Base) → read base (Some Start) (take count bytes) ≡ Some (signed_as count negative)
+  pub bare : count ≡ 0 → 0 < length bytes → (get_or bytes 0 0 ≢ 43) × (get_or bytes 0 0 ≢ 45)
+
+-- 0 and the letter of the prefix of a hexadecimal integer stand at the place
+abbrev pub HasPrefixAt : List ℕ → ℕ → Type 0
+HasPrefixAt bytes at = (at + 1 < length bytes) × (get_or bytes at 0 ≡ 48) × ((get_or bytes (at + 1) 0 ≡ 120) ⊎ (get_or bytes (at + 1) 0 ≡ 88))
+
+-- so many bytes are a sign and a prefix, or a sign behind which no prefix stands
+abbrev pub HexOpening : List ℕ → ℕ → Bool → Type 0
+HexOpening bytes count negative =
+    (count ≤ length bytes) × (read Hex (Some Start) (take count bytes) ≡ Some (Prefix negative 16))
+    ⊎ SignOf bytes count negative × (HasPrefixAt bytes count → ⊥)

@@ -72,6 +72,7 @@ pub(crate) fn first_digits(piece: &[u8]) -> (u64, usize)
     ensures within { result.1 ≤ length piece.now }
     ensures read { ReadsDecimal 0 (take result.1 piece.now) result.0 }
     ensures small { result.0 < 10 ^ result.1 }
+    ensures few { result.1 ≤ LANES }
     ensures stops { 0 < result.1 → result.1 < 8 → 10 ≤ digit_value (slice_index piece.now result.1) }
 {
     if piece.len() < LANES {

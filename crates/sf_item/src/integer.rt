@@ -154,7 +154,7 @@ fn quick_front(digits: &mut Digits, piece: &[u8]) -> usize
 }
 
 // Takes the digits of the piece, one after the other, and answers how many.
-fn digit_front(digits: &mut Digits, piece: &[u8]) -> usize
+pub fn digit_front(digits: &mut Digits, piece: &[u8]) -> usize
     ensures within { result ≤ length piece.now }
     ensures read { (base : Base) (p : Progress) → Shows (Reached.Digits digits.old) p
         → ShowsNext (Some (Reached.Digits digits.new)) (read base (Some p) (take result piece.now)) }

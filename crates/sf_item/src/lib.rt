@@ -1,6 +1,7 @@
 //! The input item of one conversion, byte by byte: which bytes it takes, and what they are.
 #![tactic(auto)]
 
+mod digits;
 mod eight;
 mod integer;
 mod item;

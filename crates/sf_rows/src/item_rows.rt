@@ -295,7 +295,7 @@ pub fn items() -> &'static [ItemRow] {
 /// stands there, and the number. None is told where none ends within the text, or where it has more digits than surely fit.
 pub type DecimalRow = (Option<u16>, &'static [u8], Option<(usize, bool, u64)>);
 
-static DECIMALS: [DecimalRow; 18] = [
+static DECIMALS: [DecimalRow; 20] = [
     (None, b"12,", Some((2, false, 12))),
     (None, b"-7 ", Some((2, true, 7))),
     (None, b"+0;", Some((2, false, 0))),
@@ -307,7 +307,9 @@ static DECIMALS: [DecimalRow; 18] = [
         Some((19, false, 1844674407370955160)),
     ),
     (None, b"0000000000000000042\n", Some((19, false, 42))),
-    (None, b"00000000000000000000042\n", None),
+    (None, b"00000000000000000000042\n", Some((23, false, 42))),
+    (None, b"-18446744073709551615,", Some((21, true, u64::MAX))),
+    (None, b"18446744073709551616,", None),
     (Some(2), b"123", Some((2, false, 12))),
     (Some(2), b"-12", Some((2, true, 1))),
     (Some(1), b"-1,", None),

@@ -5,7 +5,8 @@ ghost use Rattle.sf_item.specs.Tests.{has_item};
 use sf_base::{ByteSet, Kind};
 use sf_format::{Base, Conversion, Shape};
 use sf_item::{
-    ItemEnd, ItemScan, Radices, Step, WholeInteger, prefix_radix, radices_of, whole_decimal,
+    ItemEnd, ItemScan, Radices, Step, WholeInteger, prefix_radix, radices_of, whole_bytes,
+    whole_decimal, whole_hex,
 };
 use sf_rows::{Found, ItemRow, Reader, decimals, is, items};
 use std::test::Fail;
@@ -143,6 +144,62 @@ fn whole_decimals_end_within(rt: HostRuntime) -> Result<(), Fail> {
         is(&whole_decimal(*width, text), &wanted, &text)?;
     }
     Ok(())
+}
+
+/// A width, a text, and its first bytes as a hexadecimal integer.
+type HexRow = (Option<u16>, &'static [u8], Option<(usize, bool, u64)>);
+
+static HEXES: [HexRow; 14] = [
+    (None, b"1f,", Some((2, false, 31))),
+    (None, b"-0X1F ", Some((5, true, 31))),
+    (None, b"0,", Some((1, false, 0))),
+    (None, b"+00,", Some((3, false, 0))),
+    (None, b"0x0,", Some((3, false, 0))),
+    (None, b"0x,", None),
+    (None, b"0xg", None),
+    (Some(1), b"0x1,", Some((1, false, 0))),
+    (Some(2), b"0x1,", None),
+    (None, b"ffffffffffffffff,", Some((16, false, u64::MAX))),
+    (None, b"0x0000000000000000000001f,", Some((25, false, 31))),
+    (None, b"10000000000000000,", None),
+    (None, b"1f", None),
+    (None, b"-,", None),
+];
+
+#[test]
+fn whole_hexes_end_within(rt: HostRuntime) -> Result<(), Fail> {
+    for (width, text, wanted) in &HEXES {
+        let wanted = wanted.map(|(bytes, negative, magnitude)| WholeInteger {
+            bytes,
+            negative,
+            magnitude,
+        });
+        is(&whole_hex(*width, text), &wanted, &text)?;
+    }
+    Ok(())
+}
+
+#[test]
+fn whole_bytes_end_within(rt: HostRuntime) -> Result<(), Fail> {
+    let digits = shape_of(Reader::Digits);
+    is(&whole_bytes(&Shape::Text, None, b"ab c"), &Some(2), &"text")?;
+    is(
+        &whole_bytes(&Shape::Text, Some(1), b"ab c"),
+        &Some(1),
+        &"text",
+    )?;
+    is(&whole_bytes(&Shape::Text, None, b"abc"), &None, &"text")?;
+    is(&whole_bytes(&Shape::Text, None, b" ab "), &None, &"text")?;
+    is(&whole_bytes(&digits, None, b"12,"), &Some(2), &"digits")?;
+    is(&whole_bytes(&digits, None, b",12"), &None, &"digits")?;
+    is(&whole_bytes(&Shape::Chars, None, b" a"), &Some(1), &"chars")?;
+    is(&whole_bytes(&Shape::Chars, Some(2), b" a"), &None, &"chars")?;
+    is(
+        &whole_bytes(&Shape::Int(Base::Dec), None, b"1,"),
+        &None,
+        &"integer",
+    )?;
+    is(&whole_bytes(&Shape::Count, None, b"1,"), &None, &"count")
 }
 
 /// Where a whole integer is told of a text, stepping takes the same bytes and tells the same.

@@ -1,15 +1,13 @@
-use Rattle.std.proofs.Common.{◌≡◌, ◌<◌, ◌≤◌, length, arith, Some}
-use Rattle.sf_item.specs.Progress.{Digits}
-use Rattle.sf_item.specs.Tests.{read}
-use Rattle.sf_item.proofs.Wholes.{hex_read, sixteen_more, sixteens, whole_front}
+use Rattle.std.proofs.Common.{◌≡◌, ◌<◌, ◌≤◌, take, subst, arith}
+use Rattle.sf_item.specs.Wholes.{ReadsIn}
+use Rattle.sf_item.proofs.Wholes.{hex_read, sixteen_more, sixteens}
 use Rattle.sf_item.proofs.whole.hex_digits.Goals as goal
 
-module _ (c : goal.In-Some) where
+module _ (c : goal.Else-digit-ge16) where
   at_most : c.loop-i.number < 1152921504606846976
   at_most =
-      let few : length c.split_at.result.0.now ≤ 16 = (let long = c.split_at.ensures.front_len in let least = c.min.ensures in omega (arith, long, least)) in
       let below = c.loop-i-test.true in
-      let most = sixteens c.loop-i.i (omega (arith, few, below)) in
+      let most = sixteens c.loop-i.i (let least = c.min-most.ensures in omega (arith, below, least)) in
       let small = c.loop-i.invariant.small in
       omega (arith, most, small)
 
@@ -17,17 +15,26 @@ pub overflow_mul-number : goal.overflow_mul-number
 overflow_mul-number c = let small = at_most c in omega (arith, small)
 
 pub overflow_add-number : goal.overflow_add-number
-overflow_add-number c = let small = at_most c in let low = c.in-Some.ensures.0 in let is = c.in-Some.ensures.1 in omega (arith, small, low, is)
+overflow_add-number c = let small = at_most c in omega (arith, small, c.if-digit-ge16.false)
 
 pub loop-i-preserved : goal.loop-i-preserved
-loop-i-preserved c = record {
-  read = λ base sign.
-      hex_read base sign c.split_at.result.0.now c.loop-i.i 0 c.loop-i.number c.in-Some.digit c.loop-i-test.true
-      c.in-Some.ensures.0 c.in-Some.ensures.1 (c.loop-i.invariant.read base sign);
-  small = sixteen_more c.loop-i.i c.loop-i.number c.in-Some.digit c.loop-i.invariant.small (let low = c.in-Some.ensures.0 in let is = c.in-Some.ensures.1 in omega (arith, low, is));
-}
+loop-i-preserved c =
+    let value = c.value_of-digit.ensures in
+    let low = c.if-digit-ge16.false in
+    let below = c.loop-i-test.true in
+    let least = c.min-most.ensures in
+    record {
+      read = λ base sign.
+          hex_read base sign c.args.piece.now c.loop-i.i 0 c.loop-i.number c.value_of-digit.result (omega (arith, below, least))
+          (omega (arith, value, low)) value (c.loop-i.invariant.read base sign);
+      small = sixteen_more c.loop-i.i c.loop-i.number c.value_of-digit.result c.loop-i.invariant.small (omega (arith, low));
+    }
 
 pub returns-clause-read : goal.returns-clause-read
-returns-clause-read c = λ base sign.
-    whole_front (λ f. read base (Some (Digits sign 16 0)) f ≡ Some (Digits sign 16 c.loop-i.number)) c.args.piece.now c.split_at.result.0.now c.min.result c.loop-i.i
-    c.split_at.ensures.front c.split_at.ensures.front_len c.loop-i-test.false c.loop-i.auto.i-end (c.loop-i.invariant.read base sign)
+returns-clause-read c =
+    let within = c.first_hex_digits-number.ensures.within in
+    let few = c.first_hex_digits-number.ensures.few in
+    let least = c.min-most.ensures in
+    let end : c.loop-i.i ≤ c.min-most.result = c.loop-i.auto.i-end (omega (arith, within, few, least)) in
+    let all : c.loop-i.i ≡ c.min-most.result = omega (arith, c.loop-i-test.false, end) in
+    subst (λ n. ReadsIn 16 0 (take n c.args.piece.now) c.loop-i.number) all c.loop-i.invariant.read

@@ -1,10 +1,38 @@
-use Rattle.std.proofs.Common.{◌+◌, ◌<◌, ◌≤◌, length, ap, arith, slice_index}
-use Rattle.std.specs.Char.{digit_value}
+use Rattle.std.proofs.Common.{◌+◌, ◌<◌, ◌≤◌, length, ap, arith}
 use Rattle.std.proofs.lemmas.List.{length-take}
-use Rattle.sf_item.proofs.Readings.{length_rest, rest}
-use Rattle.sf_item.proofs.Wholes.{hex_within}
-use Rattle.sf_item.proofs.whole.whole_hex.Goals.{else-count-eq-SURE_HEX-via-then-count-eq-SURE_HEX+else-is_digit_at, else-count-eq-SURE_HEX-via-else-count-eq-SURE_HEX}
+use Rattle.sf_format.specs.declared.directive.Base.TheVariants.{Hex}
+use Rattle.sf_item.proofs.Readings.{length_rest}
+use Rattle.sf_item.proofs.Wholes.{hex_opened, large_integer, no_integer, whole_integer}
+use Rattle.sf_item.proofs.whole.whole_hex.Goals.{then-count-eq0-via-then-count-eq0, then-count-eq0-via-else-count-eq0+then-end-piece}
 use Rattle.sf_item.proofs.whole.whole_hex.Goals as goal
+
+pub returns-in_default : goal.returns-in_default
+returns-in_default c =
+    let piece = c.args.piece.now in
+    let front = c.cut-front.result.now in
+    let long = ap length c.cut-front.ensures.front in
+    let short : length front ≤ length piece = omega (arith, long, length-take (length front) piece) in
+    let start = c.hex_opening-start.result.0 in
+    let sign = c.hex_opening-start.result.1 in
+    let more = c.in_default.ensures in
+    large_integer piece front c.args.width c.cut-front.ensures.front short c.cut-front.ensures.room c.cut-front.ensures.whole Hex 16 start more.count more.number sign
+    (hex_opened front start sign c.hex_opening-start.ensures) more.digits more.large
+
+pub returns-then-count-eq0 : goal.returns-then-count-eq0
+returns-then-count-eq0 c =
+    let piece = c.args.piece.now in
+    let front = c.cut-front.result.now in
+    let long = ap length c.cut-front.ensures.front in
+    let short : length front ≤ length piece = omega (arith, long, length-take (length front) piece) in
+    let start = c.hex_opening-start.result.0 in
+    let sign = c.hex_opening-start.result.1 in
+    let count = c.in-Some.count in
+    no_integer piece front c.args.width c.cut-front.ensures.front short c.cut-front.ensures.room c.cut-front.ensures.whole Hex 16 start count c.in-Some.magnitude sign
+    (hex_opened front start sign c.hex_opening-start.ensures) c.in-Some.ensures
+    (λ some behind. elim c.then-count-eq0.branch [
+      | then-count-eq0-via-then-count-eq0 w ↦ let none = w.if-count-eq0.true in omega (arith, none, some)
+      | then-count-eq0-via-else-count-eq0+then-end-piece w ↦ let all = w.if-end-piece.true in omega (arith, all, behind)
+    ])
 
 pub returns : goal.returns
 returns c =
@@ -13,15 +41,13 @@ returns c =
     let long = ap length c.cut-front.ensures.front in
     let short : length front ≤ length piece = omega (arith, long, length-take (length front) piece) in
     let start = c.hex_opening-start.result.0 in
-    let count = c.hex_digits-magnitude.result.1 in
-    let most = c.hex_digits-magnitude.ensures.within in
-    let within = c.hex_opening-start.ensures.within in
-    let behind : start + count < length piece = omega (arith, most, short, length_rest front start, within, c.if-bytes-piece.false) in
-    let ends : count < length (rest front start) → 16 ≤ digit_value (slice_index (rest front start) count) =
-    λ below. elim c.else-count-eq-SURE_HEX.branch [
-      | else-count-eq-SURE_HEX-via-then-count-eq-SURE_HEX+else-is_digit_at w ↦ w.is_digit_at.ensures w.if-is_digit_at.false below
-      | else-count-eq-SURE_HEX-via-else-count-eq-SURE_HEX w ↦ c.hex_digits-magnitude.ensures.stops (let few = c.hex_digits-magnitude.ensures.few in let less = w.if-count-eq-SURE_HEX.false in omega (arith, few, less)) below
-    ] in
-    hex_within piece front c.args.width c.cut-front.ensures.front short c.cut-front.ensures.room c.cut-front.ensures.whole start count within most
-    c.hex_opening-start.result.1 c.hex_digits-magnitude.result.0 c.hex_opening-start.ensures.opens (omega (arith, c.if-magnitude-eq0.false))
-    c.hex_digits-magnitude.ensures.read behind ends
+    let sign = c.hex_opening-start.result.1 in
+    let count = c.in-Some.count in
+    let opened = hex_opened front start sign c.hex_opening-start.ensures in
+    let digits = c.in-Some.ensures in
+    let most = digits.within in
+    let inside = opened.inside in
+    let some : 0 < count = omega (arith, c.if-count-eq0.false) in
+    let behind : start + count < length piece = omega (arith, most, short, length_rest front start, inside, c.if-end-piece.false) in
+    whole_integer piece front c.args.width c.cut-front.ensures.front short c.cut-front.ensures.room c.cut-front.ensures.whole Hex 16 start count c.in-Some.magnitude sign
+    opened digits some behind

@@ -1,0 +1,10 @@
+use Rattle.std.proofs.Common.{◌<◌, ◌^◌, take}
+use Rattle.sf_item.specs.Wholes.{ReadsIn}
+use Rattle.sf_item.proofs.digits.first_hex_digits.Given as goal
+
+-- the digits so far were taken, and any so many have such a number
+abbrev pub invariant-loop-i : goal.invariant-loop-i
+invariant-loop-i l = record {
+  read : ReadsIn 16 0 (take l.i l.piece) l.number;
+  small : l.number < 16 ^ l.i;
+}
