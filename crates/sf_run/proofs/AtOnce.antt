@@ -22,7 +22,7 @@ use Rattle.sf_run.specs.Phases.{end_of, is_failing, slot_given}
 use Rattle.sf_run.specs.Pieces.{EndsAtOnce}
 use Rattle.sf_run.specs.Places.{is_destination, places_left}
 use Rattle.sf_run.specs.Quick.{GivesTo, IsSure, MayBeGiven, PassesBy, PassesWithin, slot_stored, strayed, text_stored}
-use Rattle.sf_run.specs.Residual.{Part, Tally, by_end, count_on, counted, nothing_yet, one_from, out_of, run_of, then_on, with_used}
+use Rattle.sf_run.specs.Residual.{Part, Tally, by_end, counted, nothing_yet, one_from, out_of, run_of, then_on, with_used}
 use Rattle.sf_run.specs.Runs.{IsOpen, RunReport, is_conversion, passed, stored}
 use Rattle.sf_run.specs.Steps.{StepEnd, Passes, Stores, Fails}
 use Rattle.sf_run.specs.Tallies.{PassesSo, tally_of, values_with}

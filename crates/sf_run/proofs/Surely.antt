@@ -1,29 +1,22 @@
 -- When a run that begins and passes within a piece is told.
-use Rattle.std.proofs.Common.{◌≡◌, ℕ, ◌+◌, ◌-◌, ◌<◌, ◌≤◌, min, ◌⊎◌, inl, inr, Bool, true, false, List, [], ◌∷◌, ◌++◌, length, take, drop, Option, Some, None, refl, sym, ap, subst, ◌∙◌, arith, true≢false, length-append, length-drop}
-use Rattle.std.specs.Prelude.{slice_get, IsSome}
-use Rattle.std.proofs.lemmas.List.{append-nil, append_assoc, take-append-drop}
-use Rattle.sf_base.specs.Data.{Assigned}
+use Rattle.std.proofs.Common.{◌≡◌, ℕ, ◌+◌, ◌-◌, ◌<◌, ◌≤◌, min, inl, inr, true, List, [], ◌∷◌, ◌++◌, length, take, drop, Option, Some, None, refl, sym, ap, subst, ◌∙◌, arith, length-append, length-drop}
+use Rattle.std.specs.Prelude.{slice_get}
+use Rattle.std.proofs.lemmas.List.{append-nil, take-append-drop}
 use Rattle.sf_base.specs.Kept.{Kept, texts_in, text_of, Opened, buffer_of}
 use Rattle.sf_format.specs.declared.directive.Directive.{Directive}
-use Rattle.sf_format.specs.Proper.{AreProper, IsProper}
-use Rattle.sf_run.specs.declared.directive.Finished.{Finished}
-use Rattle.sf_run.specs.declared.directive.Ended.{Ended}
-use Rattle.sf_run.specs.declared.outcome.Ending.{Ending}
-use Rattle.sf_run.specs.declared.outcome.Status.{Status}
-use Rattle.sf_run.specs.declared.outcome.Status.TheVariants.{Done, TooLong}
+use Rattle.sf_format.specs.Proper.{AreProper}
+use Rattle.sf_run.specs.declared.outcome.Status.TheVariants.{Done}
 use Rattle.sf_run.specs.declared.quick.Strays.{Strays}
 use Rattle.sf_run.specs.declared.tally.Tally as code
-use Rattle.sf_run.specs.Limits.{RunWithin, IsCut, cut_report}
+use Rattle.sf_run.specs.Limits.{RunWithin}
 use Rattle.sf_run.specs.Machine.{Skipping}
 use Rattle.sf_run.specs.Memory.{capacity_of}
-use Rattle.sf_run.specs.Pieces.{Answers, EndsAtOnce, Suits, IsEndOf}
 use Rattle.sf_run.specs.Quick.{IsDoneWithin, IsSure, text_stored}
-use Rattle.sf_run.specs.Residual.{Part, Tally, by_end, counted, nothing_yet, one_from, out_of, run_of, then_on, with_used}
-use Rattle.sf_run.specs.Runs.{Ran, RunReport, Steps, passed, report_of, used}
+use Rattle.sf_run.specs.Residual.{Part, Tally, by_end, counted, nothing_yet, one_from, out_of, run_of, with_used}
+use Rattle.sf_run.specs.Runs.{RunReport, passed}
 use Rattle.sf_run.specs.Steps.{StepEnd, Passes, Stores, Fails}
 use Rattle.sf_run.specs.Tallies.{tally_of}
 use Rattle.sf_run.proofs.AtOnce.{Counted, Going}
-use Rattle.sf_run.proofs.Machines.{grows}
 use Rattle.sf_run.proofs.Moves.{drop_at}
 use Rattle.sf_run.proofs.Openness.{counted-used, holds_by, uses_more}
 use Rattle.sf_run.proofs.Refusals.{never_done}

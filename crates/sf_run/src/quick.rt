@@ -9,11 +9,13 @@ ghost use Rattle.sf_run.specs.Memory.{HoldsValues, capacity_of};
 ghost use Rattle.sf_run.specs.Phases.{IsNumberGiven, end_of, slot_given};
 ghost use Rattle.sf_run.specs.Pieces.{EndsAtOnce};
 ghost use Rattle.sf_run.specs.Quick.{GivesTo, IsDoneWithin, IsSure, MayBeGiven, PassesBy, text_stored};
-ghost use Rattle.sf_run.specs.Runs.{passed};
+ghost use Rattle.sf_run.specs.Runs.{is_conversion, passed};
 ghost use Rattle.sf_run.specs.Texts.{slot_of};
 ghost use Rattle.sf_run.specs.Views.{report_by};
 
-use crate::directive::{Ended, Finished, ended_space, ended_within, whole_byte, whole_conversion};
+use crate::directive::{
+    Ended, Finished, ended_space, ended_within, is_count, whole_byte, whole_conversion,
+};
 use crate::outcome::{Outcome, Status};
 use crate::tally::is_conversion;
 use sf_base::{HeapStore, Number, Store};
@@ -99,19 +101,21 @@ fn give(store: &mut HeapStore, ended: Ended, piece: &[u8]) -> Option<bool>
     }
 }
 
-/// Passes a directive that ends so within the piece, and says how many bytes it took. None where it isn't said to end, where it
-/// fails, or where the storing is refused: then nothing has changed.
+/// Passes a directive that ends so within the piece, and says how many bytes it took; `counts` says whether it counts as a
+/// conversion. None where it isn't said to end, where it fails, or where the storing is refused: then nothing has changed.
 #[inline(always)]
 fn pass_so(
     store: &mut HeapStore,
     strays: &mut Strays,
     directive: &Directive,
+    counts: bool,
     ended: Option<Ended>,
     piece: &[u8],
     used: u32,
 ) -> Option<usize>
     requires opened { store.old.opened ≡ None }
     requires free { MayBeGiven (slot_of directive.now) store.old.values }
+    requires counts { counts ≡ is_conversion directive.now }
     requires ends { IfSome ended (EndsAtOnce directive.now used piece.now) }
     requires suppressed { strays.old.suppressed < 2 ^ 16 - 1 }
     requires uncounted { strays.old.uncounted < 2 ^ 16 - 1 }
@@ -122,9 +126,10 @@ fn pass_so(
     ensures strays { IsNone result → strays.new ≡ strays.old }
     ensures room { capacity_of store.old ≤ capacity_of store.new }
 {
+    let _directive = directive;
     let ended = ended?;
     let stores = give(store, ended, piece)?;
-    *strays = strays.with(is_conversion(directive), stores);
+    *strays = strays.with(counts, stores);
     Some(ended.before + ended.item)
 }
 
@@ -148,11 +153,12 @@ fn pass_later(
     ensures room { capacity_of store.old ≤ capacity_of store.new }
 {
     let ended = ended_within(directive, piece, used);
-    pass_so(store, strays, directive, ended, piece, used)
+    let counts = is_conversion(directive);
+    pass_so(store, strays, directive, counts, ended, piece, used)
 }
 
-/// Passes a directive that is seen at once to end within the piece, which comes so many bytes into the run: how many bytes it took. None
-/// where that isn't seen, where it fails, or where the storing is refused: then nothing has changed.
+/// Passes a directive that is seen at once to end within the piece, which comes so many bytes into the run: how many bytes it
+/// took. None where that isn't seen, where it fails, or where the storing is refused: then nothing has changed.
 #[inline(always)]
 fn pass(
     store: &mut HeapStore,
@@ -172,21 +178,27 @@ fn pass(
     ensures room { capacity_of store.old ≤ capacity_of store.new }
 {
     match directive {
-        Directive::Space => pass_so(store, strays, directive, ended_space(piece), piece, used),
+        Directive::Space => {
+            let ended = ended_space(piece);
+            pass_so(store, strays, directive, false, ended, piece, used)
+        }
         Directive::Byte(due) => {
             let ended = whole_byte(*due, piece);
-            pass_so(store, strays, directive, ended, piece, used)
+            pass_so(store, strays, directive, false, ended, piece, used)
         }
         Directive::Percent => None,
         Directive::Conv(conversion) => {
+            if is_count(&conversion.shape) {
+                return None;
+            }
             let ended = whole_conversion(conversion, piece);
-            pass_so(store, strays, directive, ended, piece, used)
+            pass_so(store, strays, directive, true, ended, piece, used)
         }
     }
 }
 
-/// Reads a record at once that begins and passes within a piece of the input: empties the store, which keeps its memory, and gives it
-/// the values. What it answers is what the run comes to on every input that begins with the piece, with every ending; the
+/// Reads a record at once that begins and passes within a piece of the input: empties the store, which keeps its memory, and gives
+/// it the values. What it answers is what the run comes to on every input that begins with the piece, with every ending; the
 /// run consumes at most `limit` bytes. It answers wherever the run is Done before a byte of the piece or of the limit is
 /// lacking, and the store has room for its texts.
 ///

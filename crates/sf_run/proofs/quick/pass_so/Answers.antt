@@ -28,5 +28,5 @@ returns-clause-passes c = λ proper.
     record {
       stores = c.in_ok-stores.stores;
       is = passes_within d c.args.used c.args.piece.now e c.in_ok-stores.stores c.args.store.now c.give.new.store proper own c.in_ok-stores.ensures.gives;
-      counted = c.with.ensures ∙ ap (λ v. strayed v c.in_ok-stores.stores c.args.strays.now) c.is_conversion.ensures;
+      counted = c.with.ensures ∙ ap (λ v. strayed v c.in_ok-stores.stores c.args.strays.now) c.requires.counts;
     }
