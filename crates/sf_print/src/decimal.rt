@@ -103,7 +103,7 @@ fn put_high(number: u64, buf: &mut [u8], at: usize) -> usize
 }
 
 /// Writes the decimal digits of a number from a place on, and answers where they end.
-#[inline]
+#[inline(always)]
 pub(crate) fn write_decimal(number: u64, buf: &mut [u8], at: usize) -> usize
     requires { at + length (decimal number) ≤ length buf.old }
     ensures end { result ≡ at + length (decimal number) }
@@ -115,6 +115,18 @@ pub(crate) fn write_decimal(number: u64, buf: &mut [u8], at: usize) -> usize
     let end = put_high(number / 100_000_000, buf, at);
     put_eight(number % 100_000_000, buf, end);
     end + 8
+}
+
+/// Writes a minus, if there is one, and the decimal digits of a number from a place on, and answers where they end.
+#[inline(always)]
+pub fn write_number(negative: bool, magnitude: u64, buf: &mut [u8], at: usize) -> usize
+    requires { at + 21 ≤ length buf.old }
+    ensures end { result ≡ at + length (minus negative ++ decimal magnitude) }
+    ensures most { result ≤ at + 21 }
+    ensures written { take result buf.new ≡ take at buf.old ++ (minus negative ++ decimal magnitude) }
+{
+    buf[at] = b'-';
+    write_decimal(magnitude, buf, at + negative as usize)
 }
 
 /// Appends a minus, if there is one, and the decimal digits of a number. Where memory is refused, nothing is appended.

@@ -7,6 +7,7 @@ use crate::fault::PrintFault;
 use sf_base::{Kind, Value};
 use sf_format::{PrintConv, PrintLetter, Unit};
 
+#[inline(always)]
 fn are_same(a: Kind, b: Kind) -> bool
     ensures { result ≡ same_kind a b }
 {
@@ -14,6 +15,7 @@ fn are_same(a: Kind, b: Kind) -> bool
 }
 
 /// Whether `c` prints one byte; other letters print every value.
+#[inline(always)]
 fn suits_letter(letter: PrintLetter, value: &Value<'_>) -> bool
     ensures { result ≡ suits letter (datum_of value.now) }
 {
@@ -24,6 +26,7 @@ fn suits_letter(letter: PrintLetter, value: &Value<'_>) -> bool
 }
 
 /// What is wrong with a value.
+#[inline(always)]
 fn fault_of(conv: &PrintConv, value: &Value<'_>) -> Option<PrintFault>
     ensures { result ≡ value_fault conv.now (datum_of value.now) }
 {
@@ -48,6 +51,7 @@ pub fn value_of_slot<'a, 'b>(values: &'b [Value<'a>], slot: u8) -> Option<&'b Va
 }
 
 /// What is wrong with the value of a unit.
+#[inline(always)]
 fn fault_of_unit(unit: &Unit, values: &[Value<'_>]) -> Option<PrintFault>
     ensures { result ≡ unit_fault (map datum_of values.now) unit.now }
 {
@@ -92,7 +96,9 @@ pub(crate) fn find_lowest_fault(units: &[Unit], values: &[Value<'_>]) -> Option<
 {
     let mut found = None;
     for unit in units {
-        found = lower_of(found, fault_of_unit(unit, values));
+        if let Some(fault) = fault_of_unit(unit, values) {
+            found = lower_of(found, Some(fault));
+        }
     }
     found
 }

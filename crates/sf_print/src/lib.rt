@@ -19,7 +19,7 @@ mod std_sink;
 mod text;
 mod visible;
 
-pub use decimal::push_number;
+pub use decimal::{push_number, write_number};
 pub use fault::PrintFault;
 pub use judging::value_of_slot;
 pub use list_sink::ListSink;

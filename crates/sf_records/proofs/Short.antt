@@ -1,6 +1,6 @@
 -- Short texts: copied by their ends, looked at by their ends, and put between quotes.
-use Rattle.std.proofs.Common.{◌≡◌, ℕ, suc, ◌+◌, ◌-◌, ◌<◌, ◌≤◌, Bool, true, false, ◌&&◌, not, cond, List, [], ◌∷◌, ◌++◌, map, min, length, take, drop, get_or, drop-cons, replicate, append_assoc, refl, sym, ap, ◌∙◌, arith, true≢false}
-use Rattle.std.proofs.lemmas.List.{take-take, take_all, take_at, take-append-drop, length-take, length-take-le, length-drop, length-append, drop-replicate}
+use Rattle.std.proofs.Common.{◌≡◌, ℕ, suc, ◌+◌, ◌-◌, ◌<◌, ◌≤◌, Bool, true, false, ◌&&◌, not, cond, List, [], ◌∷◌, ◌++◌, map, min, length, take, drop, get_or, drop-cons, replicate, set, length-set, append_assoc, refl, sym, ap, ◌∙◌, arith, true≢false}
+use Rattle.std.proofs.lemmas.List.{take-take, take_all, take_at, take_more_set, take-append-drop, length-take, length-take-le, length-drop, length-append, drop-replicate}
 use Rattle.std.proofs.lemmas.List.Folds.{list_all-append}
 use Rattle.std.proofs.lemmas.Simd.{leading_from_mask_l}
 use Rattle.std.proofs.lemmas.Slice.{take-put_mid, drop-put_mid}
@@ -9,7 +9,7 @@ use Rattle.std.specs.List.{flat_map, list_all, prefix_len}
 use Rattle.sf_base.proofs.Lanes.{not_not}
 use borrow.Rule.Slice.PartMut.{mid_of, post_of, put_mid, same_len_mid}
 use lib.Lanes.{chunk, mask_l}
-use Rattle.sf_records.specs.Quotes.{escaped, is_plain}
+use Rattle.sf_records.specs.Quotes.{escaped, is_plain, quoted}
 use Rattle.sf_records.proofs.Quoting.{plain_escaped}
 
 -- ---- a text copied by its ends
@@ -105,3 +105,19 @@ short_quoted out xs before new start end start_is end_is short room is =
 -- what was written through a slice of all elements is what the list holds
 pub written_back : (n end : ℕ) (buf rest : List ℕ) → n ≡ length buf → take end (take n (buf ++ rest)) ≡ take end buf
 written_back n end buf rest e = ap (take end) (ap (λ (k : ℕ). take k (buf ++ rest)) e ∙ take-append_seam buf rest)
+
+-- plain bytes between quotes, in place
+pub quoted_in_place : (buf begun copied xs : List ℕ) (at end : ℕ) → end ≡ at + 1 + length xs → at + length xs + 2 ≤ length buf → begun ≡ set buf at 34
+    → copied ≡ take (at + 1) begun ++ (xs ++ drop (at + 1 + length xs) begun) → flat_map escaped xs ≡ xs → take (end + 1) (set copied end 34) ≡ take at buf ++ quoted xs
+quoted_in_place buf begun copied xs at end end_is room begun_is copied_is plain =
+    let rest : List ℕ = drop (at + 1 + length xs) begun in
+    let first : take (at + 1) begun ≡ take at buf ++ 34 ∷ [] = ap (take (at + 1)) begun_is ∙ take_more_set buf at 34 (omega arith) in
+    let begun_long : length begun ≡ length buf = ap length begun_is ∙ length-set buf at 34 in
+    let first_long : length (take (at + 1) begun) ≡ at + 1 = length-take-le (at + 1) begun (omega arith) in
+    let front_long : length (take (at + 1) begun ++ xs) ≡ end = omega (arith, length-append (take (at + 1) begun) xs) in
+    let front : take end copied ≡ take (at + 1) begun ++ xs =
+    ap (take end) (copied_is ∙ sym (append_assoc (take (at + 1) begun) xs rest)) ∙ take_at (take (at + 1) begun ++ xs) rest end front_long in
+    let copied_long : end < length copied = omega (arith, ap length copied_is, length-append (take (at + 1) begun) (xs ++ rest), length-append xs rest, length-drop (at + 1 + length xs) begun) in
+    take_more_set copied end 34 copied_long ∙ ap (λ (t : List ℕ). t ++ 34 ∷ []) (front ∙ ap (λ (t : List ℕ). t ++ xs) first)
+    ∙ append_assoc (take at buf ++ 34 ∷ []) xs (34 ∷ []) ∙ append_assoc (take at buf) (34 ∷ []) (xs ++ 34 ∷ [])
+    ∙ ap (λ (t : List ℕ). take at buf ++ (34 ∷ (t ++ 34 ∷ []))) (sym plain)

@@ -4,6 +4,7 @@ ghost use Rattle.sf_records.specs.Records.{ended, status_by};
 ghost use Rattle.sf_records.specs.Texts.{status_text, tool_fault_text};
 
 use sf_run::{Outcome, Status};
+use std::error::Error;
 use std::fmt;
 
 /// Why the records of an input stopped before its end.
@@ -101,3 +102,5 @@ impl fmt::Display for ToolFault {
         }
     }
 }
+
+impl Error for ToolFault {}

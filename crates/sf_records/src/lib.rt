@@ -12,6 +12,7 @@ mod quote;
 mod recorder;
 mod records;
 mod scan;
+mod short_line;
 mod tables;
 mod turn;
 mod writer;

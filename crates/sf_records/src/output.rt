@@ -6,6 +6,7 @@ ghost use Rattle.sf_print.specs.Sinks.{counted_on};
 use sf_print::{Sink, SinkFault};
 
 /// Hands the sink all bytes of a text. Where it fails, it has taken a front of them, and some are missing.
+#[inline(always)]
 pub fn write_whole<K: Sink>(to: &mut K, bytes: &[u8]) -> Result<(), SinkFault>
     ensures took { IfOk result (λ _. Appends (K.contents to.old) (K.contents to.new) bytes.now) }
     ensures failed { IfErr result (λ _. (front : List ℕ) × (missing : ℕ) × (rest : List ℕ) × (bytes.now ≡ front ++ missing ∷ rest) × Appends (K.contents to.old) (K.contents to.new) front) }

@@ -1,5 +1,5 @@
 //! Bytes between quotes.
-ghost use Rattle.std.specs.Prelude.{◌≡◌, ◌++◌, ◌+◌, ◌<◌, ◌≤◌, [], ◌∷◌, length, map, take, drop, true, not, OnOk};
+ghost use Rattle.std.specs.Prelude.{◌≡◌, ◌++◌, ◌+◌, ◌<◌, ◌≤◌, [], ◌∷◌, length, map, take, drop, true, not, IfSome, OnOk};
 ghost use Rattle.std.specs.List.{flat_map, prefix_len};
 ghost use Rattle.sf_records.specs.Quotes.{hex_digit, escaped, is_plain, quoted};
 ghost use lib.Lanes.{mask_l, chunk};
@@ -161,6 +161,58 @@ fn is_short_plain(bytes: &[u8]) -> bool
         4..=7 => are_ends_plain(bytes, 4),
         _ => are_ends_plain(bytes, 8),
     }
+}
+
+/// Whether more than sixteen bytes are plain. It is a call of its own, so that short texts don't pay for it.
+#[inline(never)]
+fn is_long_plain(bytes: &[u8]) -> bool
+    ensures { result ≡ true → flat_map escaped bytes.now ≡ bytes.now }
+{
+    plain_run(bytes) == bytes.len()
+}
+
+/// Whether the bytes are plain.
+#[inline(always)]
+fn are_plain(bytes: &[u8]) -> bool
+    ensures { result ≡ true → flat_map escaped bytes.now ≡ bytes.now }
+{
+    if bytes.len() <= LANES {
+        return is_short_plain(bytes);
+    }
+    is_long_plain(bytes)
+}
+
+/// Copies bytes over a part of a buffer.
+#[inline(always)]
+fn copy_over(bytes: &[u8], buf: &mut [u8], at: usize)
+    requires { at + length bytes.now ≤ length buf.old }
+    ensures { buf.new ≡ take at buf.old ++ (bytes.now ++ drop (at + length bytes.now) buf.old) }
+{
+    if bytes.len() <= LANES {
+        return copy_short(bytes, buf, at);
+    }
+    buf[at..at + bytes.len()].copy_from_slice(bytes);
+}
+
+/// Writes the bytes between quotes from a place on, and answers where they end. None where there is no room, or they
+/// aren't all plain.
+#[inline(always)]
+pub(crate) fn write_quoted(bytes: &[u8], buf: &mut [u8], at: usize) -> Option<usize>
+    requires { at ≤ length buf.old }
+    ensures within { IfSome result (λ end. end ≤ length buf.new) }
+    ensures written { IfSome result (λ end. take end buf.new ≡ take at buf.old ++ quoted bytes.now) }
+{
+    if buf.len() - at < bytes.len() + 2 {
+        return None;
+    }
+    if !are_plain(bytes) {
+        return None;
+    }
+    let end = at + 1 + bytes.len();
+    buf[at] = b'"';
+    copy_over(bytes, buf, at + 1);
+    buf[end] = b'"';
+    Some(end + 1)
 }
 
 /// Appends at most sixteen bytes between quotes.

@@ -9,7 +9,7 @@ ghost use Rattle.sf_records.specs.Works.{turn_in};
 
 use crate::end::{ToolEnd, ToolFault, ended_by};
 use crate::recorder::{Recorder, Unwritten};
-use crate::turn::{Turn, turn_after};
+use crate::turn::{Turn, next_turn};
 use sf_base::{HeapStore, Store};
 use sf_format::ScanFormat;
 use sf_print::Sink;
@@ -58,6 +58,7 @@ fn end_after<T: Store>(turn: Turn, report: &Report<'_, T>, records: u32) -> Opti
 }
 
 /// Writes the record of a run where one is due, and answers the loop's end where it stops. `records` were written before.
+#[inline(always)]
 fn judge<R: Recorder, K: Sink, T: Store>(
     recorder: &mut R,
     to: &mut K,
@@ -71,7 +72,7 @@ fn judge<R: Recorder, K: Sink, T: Store>(
     ensures failures { K.failures to.new
         ≡ (if is_write (fault_of result) then counted_on (K.failures to.old) else K.failures to.old) }
 {
-    let turn = turn_after(report.outcome());
+    let turn = next_turn(report.outcome());
     if turn.writes()
         && let Err(why) = recorder.write(to, report)
     {

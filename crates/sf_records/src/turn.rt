@@ -25,6 +25,7 @@ pub(crate) enum Turn {
 
 impl Turn {
     /// Whether the record's line is written.
+    #[inline(always)]
     pub(crate) fn writes(self) -> bool
         ensures { result ≡ writes self }
     {
@@ -32,7 +33,21 @@ impl Turn {
     }
 }
 
-pub(crate) fn turn_after(outcome: Outcome) -> Turn
+/// What the record loop does after a run. After most it goes on, which is told first.
+#[inline(always)]
+pub(crate) fn next_turn(outcome: Outcome) -> Turn
+    ensures { result ≡ turn_by outcome.status outcome.met outcome.used outcome.converted }
+{
+    if let (Status::Done, None) = (outcome.status, outcome.met)
+        && outcome.used > 0
+    {
+        return Turn::Goes;
+    }
+    turn_after(outcome)
+}
+
+#[inline(never)]
+fn turn_after(outcome: Outcome) -> Turn
     ensures { result ≡ turn_by outcome.status outcome.met outcome.used outcome.converted }
 {
     match (outcome.status, outcome.met) {

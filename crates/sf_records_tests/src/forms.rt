@@ -9,6 +9,7 @@ use sf_records::{OutputForm, ToolEnd, push_record, run_scan_as, status_text};
 use sf_run::Status;
 use std::alloc::Global;
 use std::io::{self, Write};
+use std::process::Abort;
 use std::test::Fail;
 
 fn parsed(alloc: Global, format: &str) -> Result<ScanFormat, Fail> {
@@ -158,6 +159,50 @@ fn each_byte(rt: HostRuntime) -> Result<(), Fail> {
         let (end, out) = listed::<4096>(alloc, &text, "%256c", form)?;
         is(&rt, &(end.status, end.records), &(0, 1), &form);
         assert!(rt; out.bytes() == wanted.as_slice());
+    }
+    Ok(())
+}
+
+/// A text of so many letters.
+fn lettered(alloc: Global, letters: usize) -> Result<Vec<u8>, Fail> {
+    let mut text = Vec::<u8>::new(alloc);
+    for place in 0..letters {
+        text.push(b'a' + (place % 26) as u8)?;
+    }
+    Ok(text)
+}
+
+/// Of letters and a last byte, which is shown so, the text is between quotes.
+fn is_quoted(
+    rt: &impl Abort,
+    alloc: Global,
+    letters: &[u8],
+    last: u8,
+    shown: &str,
+) -> Result<(), Fail> {
+    let mut text = Vec::<u8>::new(alloc);
+    text.extend_from_slice(letters)?;
+    text.push(last)?;
+    text.extend_from_slice(b"\n0")?;
+    let mut wanted = Vec::<u8>::new(alloc);
+    wanted.push(b'"')?;
+    wanted.extend_from_slice(letters)?;
+    wanted.extend_from_slice(shown.as_bytes())?;
+    wanted.extend_from_slice(b"\" 0\n")?;
+    let (end, out) = listed::<4096>(alloc, &text, "%[^\n]%d", OutputForm::Plain)?;
+    is(rt, &(end.status, end.records), &(0, 1), &shown);
+    assert!(rt; out.bytes() == wanted.as_slice());
+    Ok(())
+}
+
+#[test]
+fn texts_of_each_length(rt: HostRuntime) -> Result<(), Fail> {
+    let alloc = rt.alloc();
+    for letters in (0..70).chain(1000..1050) {
+        let text = lettered(alloc, letters)?;
+        is_quoted(&rt, alloc, &text, b'z', "z")?;
+        is_quoted(&rt, alloc, &text, b'"', "\\\"")?;
+        is_quoted(&rt, alloc, &text, b'\t', "\\x09")?;
     }
     Ok(())
 }
