@@ -64,7 +64,7 @@ fn main(rt: HostRuntime) -> ExitCode {
         return stopped(&rt, CommandFault::Memory);
     };
     let output = RefCell::new(writer);
-    let mut out = StdSink::new(Shared::new(&output));
+    let mut out = Shared::new(&output);
     let mut err = StdSink::new(Behind::new(&output, rt.stderr()));
     let from = StdSource::new(rt.stdin());
     let status = tool(alloc, &words, from, &mut out, &mut err);
