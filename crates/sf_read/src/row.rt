@@ -10,6 +10,8 @@ use sf_base::Store;
 use sf_format::ScanFormat;
 use sf_run::{Outcome, Scanned, StartFault, Status};
 use std::alloc::Global;
+use std::error::Error;
+use std::fmt;
 
 /// Why there is no row.
 #[derive(Clone, Copy, Debug, PartialEq, Eq)]
@@ -23,6 +25,36 @@ pub enum ScanRowFault {
     /// Memory for the row was refused.
     NoMemory,
 }
+
+/// Of a run that failed what it came to, as `matching failure at 2, used 5, assigned 1`.
+impl fmt::Display for ScanRowFault {
+    ghost use Rattle.std.specs.Prelude.{Some};
+    ghost use Rattle.sf_read.specs.Texts.{scan_row_fault_text};
+
+    ghost output = { λ fault. Some (scan_row_fault_text fault) };
+
+    fn fmt<W: fmt::Write>(&self, f: &mut fmt::Formatter<W>) -> fmt::Result {
+        match *self {
+            ScanRowFault::ShapeDiffers => {
+                write!(
+                    f,
+                    "the kinds of the row aren't those of the format's destinations"
+                )
+            }
+            ScanRowFault::Start(fault) => write!(f, "{fault}"),
+            ScanRowFault::Failed(outcome) => {
+                let status = outcome.status.text();
+                let at = outcome.at;
+                let used = outcome.used;
+                let assigned = outcome.assigned;
+                write!(f, "{status} at {at}, used {used}, assigned {assigned}")
+            }
+            ScanRowFault::NoMemory => write!(f, "out of memory"),
+        }
+    }
+}
+
+impl Error for ScanRowFault {}
 
 /// Whether the slots of the row and their kinds are the destinations of the format and theirs.
 fn has_shape<T: Row>(format: &ScanFormat) -> bool

@@ -9,11 +9,13 @@ use arrayvec::ArrayVec;
 use sf_base::{Kind, Store, Value};
 use sf_run::Report;
 use std::alloc::Global;
+use thiserror::Error;
 
 /// Why a row was not made.
-#[derive(Clone, Copy, Debug, PartialEq, Eq)]
+#[derive(Clone, Copy, Debug, Error, PartialEq, Eq)]
 pub enum RowFault {
     /// Memory was refused.
+    #[error("out of memory")]
     NoMemory,
 }
 

@@ -4,8 +4,11 @@ ghost use Rattle.std.specs.Io.{ReadsAtMost};
 ghost use Rattle.std.specs.Io.KnownBytes.{ReadConsumes};
 ghost use Rattle.sf_read.specs.Counts.{counted_on};
 
+use thiserror::Error;
+
 /// A read failed.
-#[derive(Clone, Copy, Debug, PartialEq, Eq)]
+#[derive(Clone, Copy, Debug, Error, PartialEq, Eq)]
+#[error("read fault")]
 pub struct SourceFault;
 
 /// Gives bytes, some at each read.

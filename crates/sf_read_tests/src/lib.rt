@@ -6,6 +6,8 @@ mod calls;
 #[cfg(test)]
 mod devices;
 #[cfg(test)]
+mod errors;
+#[cfg(test)]
 mod gets;
 #[cfg(test)]
 mod held;
