@@ -7,6 +7,7 @@ ghost use Rattle.sf_format.specs.Widths.{width_sum};
 ghost use Rattle.sf_run.specs.declared.outcome.Status.TheVariants as status;
 ghost use Rattle.sf_run.specs.Limits.{RunTold};
 ghost use Rattle.sf_run.specs.Memory.{HoldsValues, capacity_of};
+ghost use Rattle.sf_run.specs.Quick.{IsDoneWithin};
 ghost use Rattle.sf_run.specs.Scanner.{kept_by, standing};
 ghost use Rattle.sf_run.specs.Standing.{After};
 ghost use Rattle.sf_run.specs.Stopping.{is_memory_status};
@@ -146,8 +147,9 @@ pub fn fscan_over<S: Source, const N: usize>(
 /// lacking, it is consumed, and the store, which is emptied first, has its values; `Report::new` of both is the report of the
 /// scan. The run consumes at most `limit` bytes, and the source isn't read.
 ///
-/// None where that isn't so, or isn't known here: then nothing was consumed, and the store may keep something. `fscan_over`
-/// with that store tells what the record comes to.
+/// It answers wherever the record is Done before a byte of what is held, or of the limit, is lacking, and the store has room for
+/// its texts. Where it answers None nothing was consumed, and the store may keep something; `fscan_over` with that store tells
+/// what the record comes to.
 pub fn fscan_held<S: Source, const N: usize>(
     store: &mut HeapStore,
     from: &mut Lookahead<S, N>,
@@ -159,6 +161,7 @@ pub fn fscan_held<S: Source, const N: usize>(
     ensures told { IfSome result (λ outcome. (x : List ℕ) × (ending : Ending) × RunTold format.now limit x ending (report_by outcome store.new.values)) }
     ensures done { IfSome result (λ outcome. outcome.status ≡ status.Done) }
     ensures met { IfSome result (λ outcome. outcome.met ≡ None) }
+    ensures answers { IsDoneWithin format.now limit from.old.held (capacity_of store.old) → IsSome result }
     ensures texts { IfSome result (λ _. HoldsValues store.new) }
     ensures room { capacity_of store.old ≤ capacity_of store.new }
     ensures no_read { from.new.source ≡ from.old.source }
