@@ -1,6 +1,6 @@
 -- What follows for sets of bytes: how many members there are, and which bytes the bits of the words stand for.
-use Rattle.std.specs.Prelude.{◌≡◌, ◌+◌, ◌<◌, ◌≤◌, ◌==◌, ℕ, zero, suc, Bool, true, false, not, Option, Some, None, IfSome, List, length, get_or, if◌then◌else◌, refl}
-use Rattle.std.proofs.Common.{arith, add-one, ap, sym, ◌∙◌, Fits, w8}
+use Rattle.std.specs.Prelude.{◌≡◌, ◌+◌, ◌<◌, ◌≤◌, ◌==◌, ℕ, zero, suc, Bool, true, false, not, Option, Some, None, IfSome, List, [], ◌∷◌, length, get_or, if◌then◌else◌, refl}
+use Rattle.std.proofs.Common.{arith, add-one, ap, ap₂, cond, sym, ◌∙◌, Fits, w8}
 use Rattle.std.proofs.lemmas.List.Sums.{prefix_len_is}
 use Rattle.std.specs.List.{prefix_len}
 use Rattle.sf_base.specs.Sets.{has_byte, count_below, word_has, marks_from, marks_of, LacksOnly}
@@ -65,3 +65,8 @@ run_to test end x lacks fits n within before at =
     other : (b : Bool) → (b ≡ true → ⊥) → not b ≡ true
     other true f = absurd (f refl)
     other false f = refl
+
+-- tests that agree on the bytes have the same longest front
+pub same_front : (p q : ℕ → Bool) → ((k : ℕ) → k < 256 → p k ≡ q k) → (x : List ℕ) → ((k : ℕ) → Fits w8 (get_or x k 0)) → prefix_len p x ≡ prefix_len q x
+same_front p q same [] fits = refl
+same_front p q same (b ∷ x) fits = ap₂ (λ t n. cond t (1 + n) 0) (same b (fits 0).fits) (same_front p q same x (λ k. fits (suc k)))

@@ -1,5 +1,5 @@
 -- Bytes and their classes in the C locale.
-use Rattle.std.specs.Prelude.{◌≡◌, ℕ, ◌+◌, ◌*◌, ◌^◌, ◌≤◌, ◌<◌, Bool, true, not, ◌&&◌, ◌||◌, nat_eq, nat_le, List, [], ◌∷◌, length, take}
+use Rattle.std.specs.Prelude.{◌≡◌, ℕ, ◌+◌, ◌*◌, ◌^◌, ◌≤◌, ◌<◌, Bool, true, not, ◌&&◌, ◌||◌, ◌==◌, nat_eq, nat_le, List, [], ◌∷◌, length, take}
 use Rattle.std.specs.List.{AllByRecursion}
 use Rattle.std.specs.Char.{digit_value}
 use Rattle.sf_base.specs.Greatest.{IsGreatest}
@@ -14,6 +14,10 @@ is_white b = nat_eq b 32 || (nat_le 9 b && nat_le b 13)
 
 abbrev pub AreWhite : List ℕ → Type 0
 AreWhite bs = AllByRecursion (λ b. is_white b ≡ true) bs
+
+-- another byte than this one
+abbrev pub is_other : ℕ → ℕ → Bool
+is_other end b = not (b == end)
 
 -- no white space
 abbrev pub is_ink : ℕ → Bool

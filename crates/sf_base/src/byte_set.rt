@@ -4,7 +4,7 @@ ghost use Rattle.std.specs.List.{prefix_len};
 ghost use Rattle.sf_base.specs.Bytes.{IsLongestFront};
 ghost use Rattle.sf_base.specs.Sets.{has_byte, word_has, marks_of, count_below, LacksOnly};
 
-use memchr::memchr;
+use crate::runs::run_before;
 use std::marker::Model;
 
 /// A set of bytes, as the scanlist of a format has one (C11 7.21.6.2p12).
@@ -101,10 +101,7 @@ impl ByteSet {
         ensures count { result ≡ prefix_len (has_byte self.now) bytes.now }
     {
         if let Some(end) = self.lacks {
-            return match memchr(end, bytes) {
-                Some(at) => at,
-                None => bytes.len(),
-            };
+            return run_before(end, bytes);
         }
         for i in 0..bytes.len() {
             if !self.contains(bytes[i]) {

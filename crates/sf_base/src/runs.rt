@@ -1,10 +1,11 @@
-//! Runs of white space, and of bytes that are none, sixteen bytes at once.
-ghost use Rattle.std.specs.Prelude.{◌≡◌, ◌+◌, ◌≤◌, length, map};
+//! Runs of white space, of bytes that are none, and of bytes before a given one, sixteen bytes at once.
+ghost use Rattle.std.specs.Prelude.{◌≡◌, ◌+◌, ◌==◌, ◌≤◌, length, map};
 ghost use Rattle.std.specs.List.{prefix_len};
-ghost use Rattle.sf_base.specs.Bytes.{is_white, is_ink, IsSkip, IsLongestFront};
+ghost use Rattle.sf_base.specs.Bytes.{is_white, is_ink, is_other, IsSkip, IsLongestFront};
 ghost use lib.Lanes.{mask_l, chunk};
 
 use crate::bytes::is_space;
+use memchr::memchr;
 use std::simd::prelude::*;
 
 const LANES: usize = 16;
@@ -74,4 +75,33 @@ pub fn text_run(piece: &[u8]) -> usize
         at += 1;
     }
     at
+}
+
+/// Which of the first sixteen bytes are this one: a bit each, the first byte's the lowest.
+#[inline(always)]
+fn end_mask(end: u8, bytes: &[u8]) -> u64
+    requires { 16 ≤ length bytes.now }
+    ensures { result ≡ mask_l (map (λ b. b == end) (chunk 0 16 bytes.now)) }
+{
+    u8x16::from_slice(bytes)
+        .simd_eq(u8x16::splat(end))
+        .to_bitmask()
+}
+
+/// How many bytes stand before the first that is this one; all, where none is. Most fields are short, so the first bytes are
+/// looked at without a call.
+#[inline(always)]
+pub(crate) fn run_before(end: u8, bytes: &[u8]) -> usize
+    ensures { result ≡ prefix_len (is_other end) bytes.now }
+{
+    if bytes.len() >= LANES {
+        let ends = end_mask(end, bytes);
+        if ends != 0 {
+            return ends.trailing_zeros() as usize;
+        }
+    }
+    match memchr(end, bytes) {
+        Some(at) => at,
+        None => bytes.len(),
+    }
 }
