@@ -625,10 +625,18 @@ fn as_ended(run: Run<'_>) -> Option<Ended>
 
 /// White space that ends within the piece.
 #[inline(always)]
-pub(crate) fn ended_space(piece: &[u8]) -> Option<Ended>
+pub(crate) fn whole_space(piece: &[u8]) -> Option<Ended>
     ensures { (n : ℕ) → IfSome result (EndsAtOnce directive.Space n piece.now) }
 {
-    as_ended(run_space(piece))
+    let before = space_before(piece);
+    if before == piece.len() {
+        return None;
+    }
+    Some(Ended {
+        before,
+        item: 0,
+        finished: Finished::Passes,
+    })
 }
 
 /// The byte that is due, where it is the first of the piece.

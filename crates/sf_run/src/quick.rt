@@ -14,7 +14,7 @@ ghost use Rattle.sf_run.specs.Texts.{slot_of};
 ghost use Rattle.sf_run.specs.Views.{report_by};
 
 use crate::directive::{
-    Ended, Finished, ended_space, ended_within, is_count, whole_byte, whole_conversion,
+    Ended, Finished, ended_within, is_count, whole_byte, whole_conversion, whole_space,
 };
 use crate::outcome::{Outcome, Status};
 use crate::tally::is_conversion;
@@ -179,7 +179,7 @@ fn pass(
 {
     match directive {
         Directive::Space => {
-            let ended = ended_space(piece);
+            let ended = whole_space(piece);
             pass_so(store, strays, directive, false, ended, piece, used)
         }
         Directive::Byte(due) => {
