@@ -82,4 +82,4 @@ writing form ds = writing_of form (length (destinations_of ds))
 
 -- what a writer of records makes of each
 abbrev pub writer_work : RecordWriter → Work
-writer_work writer = writing_of writer.form writer.destinations
+writer_work writer = writing_of writer.writer writer.destinations

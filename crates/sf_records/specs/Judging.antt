@@ -4,6 +4,8 @@ use Rattle.std.specs.Io.KnownBytes.{Appends}
 use Rattle.sf_run.specs.Runs.{RunReport}
 use Rattle.sf_records.specs.declared.turn.Turn.{Turn}
 use Rattle.sf_records.specs.declared.turn.Turn.TheVariants.{Goes}
+use Rattle.sf_records.specs.declared.form_writer.RecordFault.{RecordFault}
+use Rattle.sf_records.specs.declared.form_writer.RecordFault.TheVariants as unwritten_record
 use Rattle.sf_records.specs.declared.recorder.Unwritten.{Unwritten}
 use Rattle.sf_records.specs.declared.recorder.Unwritten.TheVariants as unwritten
 use Rattle.sf_records.specs.declared.end.ToolEnd.{ToolEnd}
@@ -23,6 +25,16 @@ Writes fits text old new (Ok _) = (fits ≡ true) × Appends old new text
 Writes fits text old new (Err unwritten.Unfit) = (fits ≡ false) × Appends old new []
 Writes fits text old new (Err unwritten.Write) = (fits ≡ true) × TakesPart old new text
 Writes fits text old new (Err unwritten.Memory) = (fits ≡ true) × Appends old new []
+
+-- a record was written; or the sink failed within it; or memory was refused, and nothing was written
+abbrev pub WritesText : List ℕ → Option (List ℕ) → Option (List ℕ) → Result (Unit {0}) RecordFault → Type 0
+WritesText text old new (Ok _) = Appends old new text
+WritesText text old new (Err unwritten_record.Write) = TakesPart old new text
+WritesText text old new (Err unwritten_record.Memory) = Appends old new []
+
+abbrev pub is_sink_fault : Result (Unit {0}) RecordFault → Bool
+is_sink_fault (Err unwritten_record.Write) = true
+is_sink_fault _ = false
 
 -- the fault of the loop where the record of this run was not written in full
 abbrev pub fault_by : ℕ → Unwritten → ToolFault

@@ -4,6 +4,7 @@
 mod copy;
 mod end;
 mod form;
+mod form_writer;
 mod json;
 pub mod laws;
 mod line;
@@ -20,6 +21,7 @@ mod writer;
 pub use copy::run_copy;
 pub use end::{ToolEnd, ToolFault, status_text};
 pub use form::OutputForm;
+pub use form_writer::{FormWriter, RecordFault};
 pub use line::push_record;
 pub use output::write_whole;
 pub use quote::push_quoted;

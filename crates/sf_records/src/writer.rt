@@ -1,27 +1,21 @@
-//! Writes records, each in one form.
+//! Writes the records of a format, each in one form.
 ghost use Rattle.std.specs.Prelude.{◌≡◌};
 ghost use Rattle.sf_records.specs.Forms.{writer_work, writing_of};
 
 use crate::form::OutputForm;
-use crate::line::push_record;
-use crate::output::write_whole;
+use crate::form_writer::{FormWriter, RecordFault};
 use crate::recorder::{Recorder, Unwritten};
-use crate::short_line::{LINE_BYTES, write_line};
 use sf_base::Store;
 use sf_print::Sink;
 use sf_run::Report;
 use std::alloc::Global;
 
-/// Writes records, each in one form.
+/// Writes the records of a format, each in one form.
 #[derive(Drop)]
 pub(crate) struct RecordWriter {
-    form: OutputForm,
+    writer: FormWriter,
     /// How many values a record has.
     destinations: u8,
-    /// The last record, where it is a short line.
-    line: [u8; LINE_BYTES],
-    /// The last record that is none.
-    text: Vec<u8>,
 }
 
 impl RecordWriter {
@@ -30,10 +24,8 @@ impl RecordWriter {
         ensures { writer_work result ≡ writing_of form destinations }
     {
         RecordWriter {
-            form,
+            writer: FormWriter::new(alloc, form),
             destinations,
-            line: [0; LINE_BYTES],
-            text: Vec::new(alloc),
         }
     }
 }
@@ -47,19 +39,10 @@ impl Recorder for RecordWriter {
         to: &mut K,
         report: &Report<'_, T>,
     ) -> Result<(), Unwritten> {
-        if let Some(end) = write_line(self.form, report, self.destinations, &mut self.line) {
-            return match write_whole(to, &self.line[..end]) {
-                Ok(()) => Ok(()),
-                Err(_) => Err(Unwritten::Write),
-            };
-        }
-        self.text.clear();
-        if push_record(&mut self.text, self.form, report, self.destinations).is_err() {
-            return Err(Unwritten::Memory);
-        }
-        match write_whole(to, &self.text) {
+        match self.writer.write(to, report, self.destinations) {
             Ok(()) => Ok(()),
-            Err(_) => Err(Unwritten::Write),
+            Err(RecordFault::Write) => Err(Unwritten::Write),
+            Err(RecordFault::Memory) => Err(Unwritten::Memory),
         }
     }
 }

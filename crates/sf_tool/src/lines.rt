@@ -12,7 +12,7 @@ use sf_lines::{LineFault, LinesEnd, LinesOptions, RecordFault, RecordWriter, Tel
 use sf_messages::{CommandFault, line_fault_line};
 use sf_print::Sink;
 use sf_read::{Lookahead, Source};
-use sf_records::{OutputForm, push_record, write_whole};
+use sf_records::{FormWriter, OutputForm, write_whole};
 use sf_run::Report;
 use sf_words::{LineOptions, Order};
 use std::alloc::Global;
@@ -20,12 +20,11 @@ use std::alloc::Global;
 /// Writes the record of each line, in a form.
 #[derive(Drop)]
 struct LineRecords {
-    form: OutputForm,
-    text: Vec<u8>,
+    writer: FormWriter,
 }
 
 impl RecordWriter for LineRecords {
-    ghost text = { λ records ds report. line_text records.form ds report };
+    ghost text = { λ records ds report. line_text records.writer ds report };
 
     fn write<K: Sink, T: Store>(
         &mut self,
@@ -33,14 +32,10 @@ impl RecordWriter for LineRecords {
         format: &ScanFormat,
         report: &Report<'_, T>,
     ) -> Result<(), RecordFault> {
-        self.text.clear();
-        let count = format.destinations();
-        if push_record(&mut self.text, self.form, report, count).is_err() {
-            return Err(RecordFault::Memory);
-        }
-        match write_whole(to, &self.text) {
+        match self.writer.write(to, report, format.destinations()) {
             Ok(()) => Ok(()),
-            Err(_) => Err(RecordFault::Write),
+            Err(sf_records::RecordFault::Write) => Err(RecordFault::Write),
+            Err(sf_records::RecordFault::Memory) => Err(RecordFault::Memory),
         }
     }
 
@@ -128,10 +123,8 @@ fn loop_lines<S: Source, K: Sink, E: Sink, const N: usize>(
     ensures runs { RunsLines S.to_come S.failures K.contents K.failures E.contents E.failures form options limit formats.now from.old from.new out.old out.new notes.old.err.now notes.new.err.now result }
     ensures kept { notes.new.err.ghost_name ≡ notes.old.err.ghost_name }
 {
-    let mut records = LineRecords {
-        form,
-        text: Vec::new(alloc),
-    };
+    let writer = FormWriter::new(alloc, form);
+    let mut records = LineRecords { writer };
     let how = LinesOptions {
         limit,
         skip: options.skip,
