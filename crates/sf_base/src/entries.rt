@@ -44,14 +44,19 @@ pub(crate) fn number_of(value: Value<'_>) -> Number
     }
 }
 
+/// The value of a cell. A number is read field by field, as it was written: reads of other sizes would wait for the writes.
 #[inline(always)]
-fn shown_in<'a>(cell: Cell, closed: &'a [u8]) -> Shown<'a>
-    requires { IsWithin (length closed.now) cell }
-    ensures { datum_of_shown result ≡ datum_in closed.now cell }
+fn shown_in<'a>(cell: &Cell, closed: &'a [u8]) -> Shown<'a>
+    requires { IsWithin (length closed.now) cell.now }
+    ensures { datum_of_shown result ≡ datum_in closed.now cell.now }
 {
     match cell {
-        Cell::Number(number) => Shown::Number(number),
-        Cell::Text { from, to } => Shown::Text(&closed[from..to]),
+        Cell::Number(number) => Shown::Number(Number {
+            kind: number.kind,
+            negative: number.negative,
+            magnitude: number.magnitude,
+        }),
+        Cell::Text { from, to } => Shown::Text(&closed[*from..*to]),
     }
 }
 
@@ -64,12 +69,12 @@ pub(crate) fn find_shown<'a>(entries: &[Entry], slot: u8, closed: &'a [u8]) -> O
 {
     if let Some(entry) = entries.get((slot as usize).wrapping_sub(1)) {
         if entry.slot == slot {
-            return Some(shown_in(entry.cell, closed));
+            return Some(shown_in(&entry.cell, closed));
         }
     }
     for entry in entries {
         if slot == entry.slot {
-            return Some(shown_in(entry.cell, closed));
+            return Some(shown_in(&entry.cell, closed));
         }
     }
     None

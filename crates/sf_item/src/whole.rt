@@ -29,15 +29,18 @@ pub struct WholeInteger {
     pub magnitude: u64,
 }
 
-/// How many bytes of a sign the bytes begin with, and whether it is a minus.
+/// How many bytes of a sign the bytes begin with, and whether it is a minus. Signs come unforeseen, so that a branch on them
+/// would cost more than both tests.
 #[inline(always)]
 fn sign(bytes: &[u8]) -> (usize, bool)
     ensures { SignOf bytes.now result.0 result.1 }
 {
     match bytes.first() {
-        Some(b'-') => (1, true),
-        Some(b'+') => (1, false),
-        _ => (0, false),
+        Some(b) => {
+            let negative = *b == b'-';
+            (usize::from(negative | (*b == b'+')), negative)
+        }
+        None => (0, false),
     }
 }
 
