@@ -98,7 +98,7 @@ INLINE int nibble(byte b) {
     return (byte)(b - 'a') < 6 ? b - 'a' + 10 : -1;
 }
 
-/* %x: blanks, a sign, 0x, and digits. Where no digit follows 0x, nothing matches. */
+/* %x: blanks, a sign, 0x, and digits. Where no digit follows 0x, nothing matches, as in C and musl; glibc makes it 0. */
 INLINE const byte *hexadecimal(const byte *q, unsigned long *n) {
     q = blanks(q);
     int minus = *q == '-', d;
