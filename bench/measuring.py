@@ -1,7 +1,9 @@
 """What the timing scripts share: the program, C programs beside it, and their seconds of processor time."""
 import os
 import random
+import shutil
 import subprocess
+import sys
 
 HERE = os.path.dirname(os.path.abspath(__file__))
 LAUNCHER = os.path.join(HERE, "..", "sf")
@@ -24,11 +26,31 @@ def write_input(path, seed, size, record):
             written += len(block)
 
 
-def build(work, name):
-    """A C program of this folder, built."""
-    target = os.path.join(work, name)
-    subprocess.run(["gcc", "-O2", "-o", target, os.path.join(HERE, name + ".c")], check=True)
+def build(work, name, compiler="gcc"):
+    """A C program of this folder, built. None where there is no such compiler."""
+    target = os.path.join(work, f"{name}.{compiler}")
+    if not shutil.which(compiler):
+        return None
+    subprocess.run([compiler, "-O2", "-o", target, os.path.join(HERE, name + ".c")], check=True)
     return target
+
+
+def build_rattle(work, name, libraries, words):
+    """A .rattle program of this folder, proved and built over the libraries in a copy of the crates, and run once with the words."""
+    top, crate = os.path.join(HERE, ".."), f"bench_{name}"
+    shutil.copytree(os.path.join(top, "crates"), os.path.join(work, "crates"), symlinks=True)
+    shutil.copy(os.path.join(top, "HANDLES"), work)
+    folder = os.path.join(work, "crates", crate)
+    os.makedirs(os.path.join(folder, "src"))
+    shutil.copy(os.path.join(HERE, name + ".rattle"), os.path.join(folder, "src", "main.rt"))
+    with open(os.path.join(top, "crates.txt")) as listed, open(os.path.join(work, "crates.txt"), "w") as out:
+        out.write(f"{listed.read()}{crate}: {' '.join(libraries)}\n")
+    done = subprocess.run(
+        ["rt", "run", "--", *words], cwd=folder, stdin=subprocess.DEVNULL, stdout=subprocess.PIPE, stderr=subprocess.STDOUT, text=True
+    )
+    if done.returncode:
+        sys.exit(done.stdout)
+    return os.path.join(folder, "out", crate)
 
 
 def measure(runner, words, path, out):
