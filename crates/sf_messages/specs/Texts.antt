@@ -2,12 +2,14 @@
 use Rattle.std.specs.Prelude.{ℕ, List, [], ◌∷◌, ◌++◌, codes, Some}
 use Rattle.std.specs.Fmt.{decimal}
 use Rattle.sf_format.specs.declared.fault.FormatWhy.{FormatWhy}
+use Rattle.sf_format.specs.Texts.{why_text}
 use Rattle.sf_lines.specs.Loops as lines
 use Rattle.sf_records.specs.Records.{status_by}
 use Rattle.sf_records.specs.Texts.{tool_fault_text}
 use Rattle.sf_pair.specs.declared.fault.PairFault.{PairFault}
+use Rattle.sf_pair.specs.Texts.{fault_text}
 use Rattle.sf_messages.specs.LineTexts.{lines_fault_text}
-use Rattle.sf_messages.specs.Names.{kind_text, name_text, pair_why_text, why_text}
+use Rattle.sf_messages.specs.Names.{kind_text, name_text}
 use Rattle.sf_messages.specs.declared.argument_fault.ArgumentFault.{ArgumentFault}
 use Rattle.sf_messages.specs.declared.argument_fault.ArgumentFault.TheVariants as argument
 use Rattle.sf_messages.specs.declared.fault.FormatName.{FormatName}
@@ -35,7 +37,7 @@ argument_status argument.Memory = 4
 argument_status _ = 2
 
 abbrev pub pair_fault_text : PairFault → List ℕ
-pair_fault_text fault = pair_why_text fault.why ++ (codes " at " ++ decimal fault.at)
+pair_fault_text fault = fault_text fault
 
 -- a value that isn't what is expected of it
 abbrev pub expected_text : ℕ → List ℕ → List ℕ

@@ -6,7 +6,7 @@ ghost use Rattle.sf_messages.specs.Faults.{format_fault, print_format_fault};
 ghost use Rattle.sf_messages.specs.declared.fault.CommandFault.TheVariants.{Memory};
 
 use crate::argument_fault::ArgumentFault;
-use crate::names::{name_text, pair_why_text, why_text};
+use crate::names::name_text;
 use sf_format::{FormatFault, FormatWhy};
 use sf_lines::LinesFault;
 use sf_pair::PairFault;
@@ -115,13 +115,13 @@ impl fmt::Display for CommandFault {
             }
             CommandFault::Format(fault) => {
                 let name = name_text(FormatName::Scan);
-                let why = why_text(fault.why);
+                let why = fault.why.text();
                 let at = fault.at;
                 write!(f, "sf: {name}: {why} at {at}")
             }
             CommandFault::PrintFormat(fault) => {
                 let name = name_text(FormatName::Print);
-                let why = why_text(fault.why);
+                let why = fault.why.text();
                 let at = fault.at;
                 write!(f, "sf: {name}: {why} at {at}")
             }
@@ -137,7 +137,7 @@ impl fmt::Display for CommandFault {
             CommandFault::Write => write!(f, "sf: write fault"),
             CommandFault::Memory => write!(f, "sf: out of memory"),
             CommandFault::Pair(fault) => {
-                let why = pair_why_text(fault.why);
+                let why = fault.why.text();
                 let at = fault.at;
                 write!(f, "sf: pair: {why} at {at}")
             }

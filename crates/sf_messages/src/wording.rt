@@ -8,7 +8,7 @@ ghost use Rattle.sf_messages.specs.LineTexts.{line_fault_text, outcome_text};
 
 use crate::argument_fault::ArgumentFault;
 use crate::fault::{CommandFault, FormatName};
-use crate::names::{kind_text, name_text, pair_why_text, why_text};
+use crate::names::{kind_text, name_text};
 use arrayvec::ArrayString;
 use itoa::Buffer;
 use sf_format::FormatWhy;
@@ -54,7 +54,7 @@ fn format_line(name: FormatName, why: FormatWhy, at: u16) -> ErrorLine
         "sf: ",
         name_text(name),
         ": ",
-        why_text(why),
+        why.text(),
         " at ",
         number,
         "\n",
@@ -235,7 +235,7 @@ fn pair_line(why: PairWhy, at: u16) -> ErrorLine
 {
     let mut number = Buffer::new();
     let number = number.format(at);
-    joined(&["sf: pair: ", pair_why_text(why), " at ", number, "\n"])
+    joined(&["sf: pair: ", why.text(), " at ", number, "\n"])
 }
 
 /// The line on the error output, with its line end.

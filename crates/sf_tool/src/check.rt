@@ -6,7 +6,7 @@ ghost use Rattle.sf_tool.specs.Commands.{Counts, IsUnwrittenBy};
 use crate::formats::{read_print, read_scan};
 use itoa::Buffer;
 use sf_format::{PrintFormat, Profile, ScanFormat};
-use sf_messages::{CommandFault, ErrorLine, joined, pair_why_text};
+use sf_messages::{CommandFault, ErrorLine, joined};
 use sf_pair::{Pair, PairFault, PairWhy};
 use sf_print::Sink;
 use sf_records::write_whole;
@@ -18,7 +18,7 @@ fn refusal_line(why: PairWhy, at: u16) -> ErrorLine
 {
     let mut number = Buffer::new();
     let number = number.format(at);
-    joined(&["refused: ", pair_why_text(why), " at ", number, "\n"])
+    joined(&["refused: ", why.text(), " at ", number, "\n"])
 }
 
 /// The line that tells a verdict.
