@@ -15,7 +15,7 @@ use sf_read::{Lookahead, Source};
 use sf_records::{OutputForm, push_record, write_whole};
 use sf_run::Report;
 use sf_words::{LineOptions, Order};
-use std::alloc::Global;
+use std::alloc::{AllocError, Global};
 
 /// Writes the record of each line, in a form.
 #[derive(Drop)]
@@ -57,7 +57,7 @@ struct LineNotes<'e, E: Sink> {
 }
 
 impl<E: Sink> Teller for LineNotes<'_, E> {
-    ghost telling = { λ notes number fault. line_telling notes.quiet number fault };
+    ghost telling = { λ notes. line_telling notes.quiet };
 
     ghost told = { λ notes. E.contents notes.err.now };
 
@@ -69,15 +69,16 @@ impl<E: Sink> Teller for LineNotes<'_, E> {
 
     ghost kept = { λ notes. notes.err.ghost_name };
 
-    fn tell(&mut self, number: u64, fault: LineFault) {
+    fn tell(&mut self, number: u64, _line: &[u8], fault: LineFault) -> Result<(), AllocError> {
         if self.quiet || self.failed {
-            return;
+            return Ok(());
         }
         let line = line_fault_line(number, fault);
         match write_whole(self.err, line.as_str().as_bytes()) {
             Ok(()) => {}
             Err(_) => self.failed = true,
         }
+        Ok(())
     }
 }
 
