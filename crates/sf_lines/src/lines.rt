@@ -7,6 +7,7 @@ ghost use Rattle.sf_read.specs.Ahead.{input_of};
 ghost use Rattle.sf_lines.specs.Loops.{Loops, TellsLines, is_write, status_by};
 ghost use Rattle.sf_lines.specs.Telling.{faults_by};
 ghost use Rattle.sf_lines.specs.Turns.{LineWork, work_of};
+ghost use Rattle.sf_lines.specs.declared.end.LineFault.{LineFault};
 
 use crate::end::{Counts, LinesEnd, LinesFault, read_fault};
 use crate::judge::Judged;
@@ -55,10 +56,10 @@ pub fn run_lines<R: RecordWriter, E: Teller, S: Source, K: Sink, const N: usize>
 ) -> LinesEnd
     requires limit { options.limit ≤ 2147483647 }
     requires some { 0 < length formats.now }
-    ensures loops { (t : List ℕ) → input_of S.to_come from.old ≡ Some t
-        → Loops (work_of options formats.now (R.text writer.old) (E.telling teller.old)) S.to_come t from.new (S.failures from.old.source) (S.failures from.new.source) (K.contents to.old) (K.contents to.new) (E.failed teller.new) (E.told teller.old) (E.told teller.new) result }
-    ensures tells { (t : List ℕ) → input_of S.to_come from.old ≡ Some t
-        → TellsLines (work_of options formats.now (R.text writer.old) (E.telling teller.old)) S.to_come t from.new (S.failures from.old.source) (S.failures from.new.source) (K.contents to.old) (K.contents to.new) (E.failed teller.old) (E.failed teller.new) (E.told teller.old) (E.told teller.new) result }
+    ensures loops { (telling : ℕ → List ℕ → LineFault → List ℕ) (t : List ℕ) → E.says teller.old telling → input_of S.to_come from.old ≡ Some t
+        → Loops (work_of options formats.now (R.text writer.old) telling) S.to_come t from.new (S.failures from.old.source) (S.failures from.new.source) (K.contents to.old) (K.contents to.new) (E.failed teller.new) (E.told teller.old) (E.told teller.new) result }
+    ensures tells { (telling : ℕ → List ℕ → LineFault → List ℕ) (t : List ℕ) → E.says teller.old telling → input_of S.to_come from.old ≡ Some t
+        → TellsLines (work_of options formats.now (R.text writer.old) telling) S.to_come t from.new (S.failures from.old.source) (S.failures from.new.source) (K.contents to.old) (K.contents to.new) (E.failed teller.old) (E.failed teller.new) (E.told teller.old) (E.told teller.new) result }
     ensures kept { E.kept teller.new ≡ E.kept teller.old }
     ensures faults { E.faults teller.new ≡ faults_by (E.failed teller.old) (E.failed teller.new) (E.faults teller.old) }
     ensures status { result.status ≡ status_by result.failed result.fault }

@@ -80,7 +80,7 @@ pub(crate) struct Notes {
 }
 
 impl Teller for Notes {
-    ghost telling = { λ notes number line fault. note_of number line fault };
+    ghost says = { λ notes telling. telling ≡ note_of };
 
     ghost told = { λ notes. Some notes.said.items };
 
