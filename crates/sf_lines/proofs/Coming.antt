@@ -26,13 +26,13 @@ quiet r (inl e) before after is = is ∙ rw e refl
 quiet r (inr e) before after is = is ∙ rw e refl
 
 -- what comes of a line that was taken
-pub turned : {S : Type 0} (to_come : S → Option (List ℕ)) (now new : Ahead S) (w : LineWork) (number : ℕ) (is after : Option (List ℕ)) (line : List ℕ) → Took to_come now new line
-    → (verdict : Judged) → Came w number line is after verdict → Turns to_come now new w number is after verdict
-turned to_come now new w number is after line took (Skipped kept) h = (line, took, h)
-turned to_come now new w number is after line took (Written kept) h = (line, took, h)
-turned to_come now new w number is after line took (Failed kept fault) h = (line, took, h)
-turned to_come now new w number is after line took (Stopped fault) h = (line, took, h)
-turned to_come now new w number is after line took (Unread read) h = absurd h
+pub turned : {S : Type 0} (to_come : S → Option (List ℕ)) (now new : Ahead S) (w : LineWork) (number : ℕ) (is after : Option (List ℕ)) (line read : List ℕ) → Took to_come now new line
+    → (verdict : Judged) → Came w number line read is after verdict → Turns to_come now new w number read is after verdict
+turned to_come now new w number is after line read took (Skipped kept) h = (line, took, h)
+turned to_come now new w number is after line read took (Written kept) h = (line, took, h)
+turned to_come now new w number is after line read took (Failed kept fault) h = (line, took, h)
+turned to_come now new w number is after line read took (Stopped fault) h = (line, took, h)
+turned to_come now new w number is after line read took (Unread why) h = absurd h
 
 -- a line that was read, or passed over
 pub line_read : {S : Type 0} (to_come : S → Option (List ℕ)) (now new : Ahead S) (limit : ℕ) (items : List ℕ) (r : LineRead) → (r ≡ reads.Line) ⊎ (r ≡ reads.TooLong) → Reads to_come now new limit items r
@@ -42,11 +42,11 @@ line_read to_come now new limit items r (inr e) h = let k : Reads to_come now ne
 
 -- a line that is judged
 module _ (w : LineWork) (number : ℕ) (line : List ℕ) (is after : Option (List ℕ)) (counts : w.options.skip < number) (short : length line ≤ w.options.limit) where
-  pub came : (verdict : Judged) → Judges w.options w.formats w.text line is after verdict → Came w number line is after verdict
-  came (Written kept) (ds, r, picks, none, wrote) = (w.text ds r, (counts, inr (short, (ds, r, picks, sym (ap (judged (w.text ds r)) none)))), wrote)
+  pub came : (verdict : Judged) → Judges w.options w.formats w.text line is after verdict → Came w number line line is after verdict
+  came (Written kept) (ds, r, picks, none, wrote) = (w.text ds r, (counts, inr (short, (ds, r, picks, sym (ap (judged (w.text ds r) line) none)))), wrote)
   came (Failed kept fault) ((ds, r, picks, some), same) =
-      ((counts, inr (short, (ds, r, picks, sym (ap (judged (w.text ds r)) some)))), subst (λ (a : Option (List ℕ)). Appends is a []) (sym same) (Appends-none is))
-  came (Stopped faults.Write) (ds, r, picks, none, part) = inr (refl, (w.text ds r, (counts, inr (short, (ds, r, picks, sym (ap (judged (w.text ds r)) none)))), part))
+      ((counts, inr (short, (ds, r, picks, sym (ap (judged (w.text ds r) line) some)))), subst (λ (a : Option (List ℕ)). Appends is a []) (sym same) (Appends-none is))
+  came (Stopped faults.Write) (ds, r, picks, none, part) = inr (refl, (w.text ds r, (counts, inr (short, (ds, r, picks, sym (ap (judged (w.text ds r) line) none)))), part))
   came (Stopped faults.Memory) nothing = inl (refl, nothing)
   came (Stopped faults.TooMany) h = absurd h
   came (Stopped (faults.Read at)) h = absurd h
@@ -70,31 +70,38 @@ no_read_fault kept (Ok done) = refl
 no_read_fault kept (Err unwritten.Write) = refl
 no_read_fault kept (Err unwritten.Memory) = refl
 
+-- whatever was read of it, since nothing is told of a match
+came_match : (w : LineWork) (number : ℕ) (line read : List ℕ) (is after : Option (List ℕ)) → w.options.skip < number → length line ≤ w.options.limit
+    → (kept : Kept) (wrote : Result (Unit {0}) RecordFault) → WritesMatch w.options w.formats w.text line is after wrote → Came w number line read is after (judged_by kept wrote)
+came_match w number line read is after counts short kept (Ok done) h = came w number line is after counts short (Written kept) h
+came_match w number line read is after counts short kept (Err unwritten.Write) h = came w number line is after counts short (Stopped faults.Write) h
+came_match w number line read is after counts short kept (Err unwritten.Memory) (ds, r, picks, none, nothing) = came w number line is after counts short (Stopped faults.Memory) nothing
+
 -- what comes of a line that was taken at once
-pub turned_match : {S : Type 0} (to_come : S → Option (List ℕ)) (now new : Ahead S) (w : LineWork) (number : ℕ) (is after : Option (List ℕ)) (line : List ℕ) → Took to_come now new line → w.options.skip < number → length line ≤ w.options.limit
-    → (kept : Kept) (wrote : Result (Unit {0}) RecordFault) → WritesMatch w.options w.formats w.text line is after wrote → Turns to_come now new w number is after (judged_by kept wrote)
-turned_match to_come now new w number is after line took counts short kept wrote h =
-    turned to_come now new w number is after line took (judged_by kept wrote) (came w number line is after counts short (judged_by kept wrote) (judges_match w.options w.formats w.text line is after kept wrote h))
+pub turned_match : {S : Type 0} (to_come : S → Option (List ℕ)) (now new : Ahead S) (w : LineWork) (number : ℕ) (is after : Option (List ℕ)) (line read : List ℕ) → Took to_come now new line → w.options.skip < number → length line ≤ w.options.limit
+    → (kept : Kept) (wrote : Result (Unit {0}) RecordFault) → WritesMatch w.options w.formats w.text line is after wrote → Turns to_come now new w number read is after (judged_by kept wrote)
+turned_match to_come now new w number is after line read took counts short kept wrote h =
+    turned to_come now new w number is after line read took (judged_by kept wrote) (came_match w number line read is after counts short kept wrote h)
 
 -- ---- what comes of a line that was read
 
 module _ {S : Type 0} (to_come : S → Option (List ℕ)) (now new : Ahead S) (items : List ℕ) (r : LineRead) (w : LineWork) (number : ℕ) (is after : Option (List ℕ))
     (h : Reads to_come now new w.options.limit items r) where
-  pub turned_skipped : (kept : _) → (r ≡ reads.Line) ⊎ (r ≡ reads.TooLong) → number ≤ w.options.skip → after ≡ is → Turns to_come now new w number is after (Skipped kept)
-  turned_skipped kept e few same = let k = line_read to_come now new w.options.limit items r e h in (k.0, k.1, (few, same))
+  pub turned_skipped : (kept : _) → (r ≡ reads.Line) ⊎ (r ≡ reads.TooLong) → number ≤ w.options.skip → after ≡ is → Turns to_come now new w number items is after (Skipped kept)
+  turned_skipped kept e few same = let k = line_read to_come now new w.options.limit items r e h in turned to_come now new w number is after k.0 items k.1 (Skipped kept) (few, same)
 
-  pub turned_long : (kept : _) → r ≡ reads.TooLong → w.options.skip < number → after ≡ is → Turns to_come now new w number is after (Failed kept TooLong)
+  pub turned_long : (kept : _) → r ≡ reads.TooLong → w.options.skip < number → after ≡ is → Turns to_come now new w number items is after (Failed kept TooLong)
   turned_long kept e counts same =
       let k : Reads to_come now new w.options.limit items reads.TooLong = subst (Reads to_come now new w.options.limit items) e h in
-      (k.0, k.1, ((counts, inl (k.2, refl)), subst (λ (a : Option (List ℕ)). Appends is a []) (sym same) (Appends-none is)))
+      (k.0, k.1, ((counts, inl (k.2, ap (λ (y : List ℕ). Err (y, TooLong)) k.3)), subst (λ (a : Option (List ℕ)). Appends is a []) (sym same) (Appends-none is)))
 
   pub turned_short : (r ≡ reads.Line) ⊎ (r ≡ reads.TooLong) → (r ≡ reads.TooLong → ⊥) → w.options.skip < number → (line : List ℕ) → line ≡ items → (verdict : Judged) → Judges w.options w.formats w.text line is after verdict
-      → Turns to_come now new w number is after verdict
+      → Turns to_come now new w number items is after verdict
   turned_short (inr e) not_long counts line line_is verdict judges = absurd (not_long e)
   turned_short (inl e) not_long counts line line_is verdict judges =
       let k : Reads to_come now new w.options.limit items reads.Line = subst (Reads to_come now new w.options.limit items) e h in
       let here : Judges w.options w.formats w.text items is after verdict = subst (λ (y : List ℕ). Judges w.options w.formats w.text y is after verdict) line_is judges in
-      turned to_come now new w number is after items k.0 verdict (came w number items is after counts k.1 verdict here)
+      turned to_come now new w number is after items items k.0 verdict (came w number items is after counts k.1 verdict here)
 
 pub denied : (b : Bool) → not b ≡ true → b ≡ false
 denied true e = absurd (true≢false (sym e))

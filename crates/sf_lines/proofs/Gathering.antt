@@ -1,7 +1,10 @@
 -- A line that is read block by block.
-use Rattle.std.proofs.Common.{◌≡◌, ℕ, zero, suc, ◌+◌, ◌-◌, ◌<◌, ◌≤◌, Bool, true, false, cond, List, [], ◌∷◌, ◌++◌, length, take, drop, Option, Some, None, Result, Ok, Err, IfOk, IfErr, is_err, ◌==◌, ◌⊎◌, inl, inr, refl, sym, ap, subst, ◌∙◌, arith, append_assoc, length-append, true≢false}
+use Rattle.std.proofs.Common.{◌≡◌, ℕ, zero, suc, ◌+◌, ◌-◌, ◌<◌, ◌≤◌, Bool, true, false, cond, List, [], ◌∷◌, ◌++◌, length, min, take, drop, Option, Some, None, Result, Ok, Err, IfOk, IfErr, is_err, ◌==◌, ◌⊎◌, inl, inr, refl, sym, ap, subst, ◌∙◌, arith, append_assoc, length-append, true≢false}
+use Rattle.std.proofs.lemmas.Bool.{cases_order}
 use Rattle.std.proofs.lemmas.Bool.Decides.{nat_tests}
-use Rattle.std.proofs.lemmas.List.{take_all, length-take-le}
+use Rattle.std.proofs.lemmas.List.{take_all, take-append-drop, take-append-le, length-take, length-take-le}
+use Rattle.std.proofs.Math.Nat.{min-eq_left, min-eq_right, min-le_left}
+use Rattle.std.proofs.Math.Seq.{take-append-add}
 use Rattle.std.proofs.KnownBytes.{Consumes-trans, Consumes-nil}
 use Rattle.std.specs.Io.KnownBytes.{Consumes, IsAtEnd, prepend_known}
 use Rattle.sf_read.specs.Ahead.{Ahead, input_of}
@@ -10,12 +13,54 @@ use Rattle.sf_lines.specs.Cut.{IsLine}
 use Rattle.sf_lines.specs.Reading.{Loses, Took, TookPart, Reads, endless}
 use Rattle.sf_lines.proofs.Cutting.{line_append}
 
+-- ---- the first bytes of a line
+
+-- a front of a front
+front_of_front : (m n : ℕ) (xs : List ℕ) → n ≤ length xs → take m (take n xs) ≡ take (min n m) xs
+front_of_front m n xs within = by (cases_order n m)
+  where
+    all : n ≤ m → take m (take n xs) ≡ take (min n m) xs
+    all le = take_all m (take n xs) (omega (arith, le, length-take-le n xs within)) ∙ ap (λ (k : ℕ). take k xs) (sym (min-eq_left le))
+
+    part : m ≤ n → take m (take n xs) ≡ take (min n m) xs
+    part le =
+        sym (take-append-le m (take n xs) (drop n xs) (omega (arith, le, length-take-le n xs within))) ∙ ap (take m) (take-append-drop n xs)
+        ∙ ap (λ (k : ℕ). take k xs) (sym (min-eq_right le))
+
+    by : (n ≡ m) ⊎ ((n < m) ⊎ (m < n)) → take m (take n xs) ≡ take (min n m) xs
+    by (inl e) = all (omega (arith, e))
+    by (inr (inl less)) = all (omega (arith, less))
+    by (inr (inr more)) = part (omega (arith, more))
+
+-- a line, and bytes behind it as far as there is room
+pub filled : (limit room len : ℕ) (line held : List ℕ) → len ≤ length held → room + length line ≡ limit → line ++ take (min len room) held ≡ take limit (line ++ take len held)
+filled limit room len line held within fits =
+    ap (λ (y : List ℕ). line ++ y) (sym (front_of_front room len held within)) ∙ sym (take-append-add line (take len held) room)
+    ∙ ap (λ (n : ℕ). take n (line ++ take len held)) {x = length line + room} {y = limit} (omega (arith, fits))
+
+-- bytes behind the first ones of a line
+front_more : (limit : ℕ) (seen more : List ℕ) → take limit (take limit seen ++ more) ≡ take limit (seen ++ more)
+front_more limit seen more = by (cases_order limit (length seen))
+  where
+    long : limit ≤ length seen → take limit (take limit seen ++ more) ≡ take limit (seen ++ more)
+    long le =
+        let full : length (take limit seen) ≡ limit = length-take-le limit seen le in
+        take-append-le limit (take limit seen) more (omega (arith, full)) ∙ take_all limit (take limit seen) (omega (arith, full)) ∙ sym (take-append-le limit seen more le)
+
+    by : (limit ≡ length seen) ⊎ ((limit < length seen) ⊎ (length seen < limit)) → take limit (take limit seen ++ more) ≡ take limit (seen ++ more)
+    by (inl e) = long (omega (arith, e))
+    by (inr (inl less)) = long (omega (arith, less))
+    by (inr (inr more')) = ap (λ (y : List ℕ). take limit (y ++ more)) (take_all limit seen (omega (arith, more')))
+
+-- ---- blocks
+
 -- after n blocks of a line
 pub record Gathering {S : Type 0} (to_come : S → Option (List ℕ)) (old now : Ahead S) (limit : ℕ) (line : List ℕ) (long : Bool) (n : ℕ) : Type 0 where
   pub seen : List ℕ
   pub is_line : IsLine seen
   pub bytes : Loses to_come old now seen
-  pub kept : long ≡ false → (line ≡ seen) × (length line ≤ limit)
+  pub kept : line ≡ take limit seen
+  pub short : long ≡ false → length seen ≤ limit
   pub longer : long ≡ true → limit < length seen
   pub count : n ≤ length seen + 1
   pub some : 0 < n → now.at_end ≡ false → 0 < length now.held
@@ -26,7 +71,8 @@ begins to_come old limit line none = record {
   seen = [];
   is_line = tt;
   bytes = Consumes-nil (input_of to_come old);
-  kept = λ _. (none, omega (arith, ap length none));
+  kept = none ∙ sym (take_all limit [] (omega arith));
+  short = λ _. omega arith;
   longer = λ e. absurd (true≢false (sym e));
   count = omega arith;
   some = λ h. absurd (omega arith);
@@ -83,6 +129,13 @@ not_true false h = refl
 
 module _ {S : Type 0} {to_come : S → Option (List ℕ)} {old now : Ahead S} {limit : ℕ} {line : List ℕ} {long : Bool} {n : ℕ}
     (g : Gathering to_come old now limit line long n) where
+  -- the line is gathered whole
+  whole : long ≡ false → line ≡ g.seen
+  whole e = g.kept ∙ take_all limit g.seen (g.short e)
+
+  pub within : length line ≤ limit
+  within = omega (arith, ap length g.kept, length-take limit g.seen, min-le_left limit (length g.seen))
+
   not_before : now.at_end ≡ false → old.at_end ≡ false
   not_before e = not_true old.at_end (λ h. true≢false (sym ((g.ends h).0) ∙ e))
 
@@ -94,12 +147,12 @@ module _ {S : Type 0} {to_come : S → Option (List ℕ)} {old now : Ahead S} {l
       by : (l : Bool) → long ≡ l → (e : Bool) → empty ≡ e → Reads to_come old now limit line (cond l TooLong (cond e End Line))
       by true long_is e empty_is =
           let lengthy : limit < length g.seen = g.longer long_is in
-          (g.seen, record { is_line = g.is_line; before = not_true old.at_end (λ h. absurd (omega (arith, ap length ((g.ends h).1)))); bytes = inr (g.bytes, omega (arith, lengthy), ended, known_end to_come now held told) }, lengthy)
+          (g.seen, record { is_line = g.is_line; before = not_true old.at_end (λ h. absurd (omega (arith, ap length ((g.ends h).1)))); bytes = inr (g.bytes, omega (arith, lengthy), ended, known_end to_come now held told) }, lengthy, g.kept)
       by false long_is true empty_is =
-          let nothing : g.seen ≡ [] = sym ((g.kept long_is).0) ∙ none empty_is in
+          let nothing : g.seen ≡ [] = sym (whole long_is) ∙ none empty_is in
           (record { is_line = tt; bytes = subst (λ (y : List ℕ). Loses to_come old now y) nothing g.bytes }, ended, known_end to_come now held told)
       by false long_is false empty_is =
-          let k = g.kept long_is in
+          let k : (line ≡ g.seen) × (length line ≤ limit) = (whole long_is, within) in
           let lengthy : 0 < length line = some empty_is in (
             record {
               is_line = subst IsLine (sym k.0) g.is_line;
@@ -117,7 +170,7 @@ module _ {S : Type 0} {to_come : S → Option (List ℕ)} {old now : Ahead S} {l
       where
         by : (b : Bool) → long ≡ b → limit < length (g.seen ++ take len now.held)
         by true e = omega (arith, g.longer e, length-append g.seen (take len now.held))
-        by false e = omega (arith, h, sized, ap length ((g.kept e).0), length-append g.seen (take len now.held), length-take-le len now.held within)
+        by false e = omega (arith, h, sized, ap length (whole e), length-append g.seen (take len now.held), length-take-le len now.held within)
 
     -- the rest of the line is held, with its line end
     pub ended : (new : Ahead S) → now.held ≡ take len now.held ++ 10 ∷ drop (len + 1) now.held → new.held ≡ drop (len + 1) now.held → new.source ≡ now.source
@@ -130,17 +183,23 @@ module _ {S : Type 0} {to_come : S → Option (List ℕ)} {old now : Ahead S} {l
           bytes = inl (subst (λ (y : List ℕ). Loses to_come old new y) (sym (append_assoc g.seen (take len now.held) (10 ∷ []))) (Consumes-trans _ _ _ g.seen (take len now.held ++ 10 ∷ []) g.bytes taken));
         }
 
+    -- what is gathered by then
+    front_now : (gathered : List ℕ) → gathered ≡ take limit (line ++ take len now.held) → gathered ≡ take limit (g.seen ++ take len now.held)
+    front_now gathered is = is ∙ ap (λ (y : List ℕ). take limit (y ++ take len now.held)) g.kept ∙ front_more limit g.seen (take len now.held)
+
     -- that line is longer than the limit
-    pub ended_long : (new : Ahead S) (size : ℕ) → now.held ≡ take len now.held ++ 10 ∷ drop (len + 1) now.held → new.held ≡ drop (len + 1) now.held → new.source ≡ now.source
-        → size ≡ length line → len ≤ length now.held → (long ≡ true) ⊎ (limit < size + len) → (x : List ℕ) × Took to_come old new x × (limit < length x)
-    ended_long new size held rest source sized within why = (g.seen ++ take len now.held, ended new held rest source, longer_now size sized within why)
+    pub ended_long : (new : Ahead S) (gathered : List ℕ) (size : ℕ) → now.held ≡ take len now.held ++ 10 ∷ drop (len + 1) now.held → new.held ≡ drop (len + 1) now.held → new.source ≡ now.source
+        → size ≡ length line → len ≤ length now.held → (long ≡ true) ⊎ (limit < size + len) → gathered ≡ take limit (line ++ take len now.held)
+        → (x : List ℕ) × Took to_come old new x × (limit < length x) × (gathered ≡ take limit x)
+    ended_long new gathered size held rest source sized within why is = (g.seen ++ take len now.held, ended new held rest source, longer_now size sized within why, front_now gathered is)
 
     -- it is not
     pub ended_short : (new : Ahead S) (gathered : List ℕ) (size : ℕ) → now.held ≡ take len now.held ++ 10 ∷ drop (len + 1) now.held → new.held ≡ drop (len + 1) now.held → new.source ≡ now.source
-        → size ≡ length gathered → (long ≡ false) × (gathered ≡ line ++ take len now.held) × (size ≤ limit) → Took to_come old new gathered × (length gathered ≤ limit)
-    ended_short new gathered size held rest source sized (short, is, within) =
-        let all : g.seen ++ take len now.held ≡ gathered = ap (λ (y : List ℕ). y ++ take len now.held) (sym ((g.kept short).0)) ∙ sym is in
-        (subst (λ (y : List ℕ). Took to_come old new y) all (ended new held rest source), omega (arith, sized, within))
+        → size ≡ length line → len ≤ length now.held → (long ≡ false) × (size + len ≤ limit) → gathered ≡ take limit (line ++ take len now.held) → Took to_come old new gathered × (length gathered ≤ limit)
+    ended_short new gathered size held rest source sized inside (short, fits) is =
+        let few : length (g.seen ++ take len now.held) ≤ limit = omega (arith, fits, sized, ap length (whole short), length-append g.seen (take len now.held), length-take-le len now.held inside) in
+        let all : gathered ≡ g.seen ++ take len now.held = front_now gathered is ∙ take_all limit (g.seen ++ take len now.held) few in
+        (subst (λ (y : List ℕ). Took to_come old new y) (sym all) (ended new held rest source), omega (arith, ap length all, few))
 
   module _ (len : ℕ) (is_piece : IsLine (take len now.held)) (open' : now.at_end ≡ false) (all : len ≡ length now.held) (mid new : Ahead S)
       (rest : mid.held ≡ drop len now.held) (same : mid.source ≡ now.source) (read : Consumes (to_come mid.source) (to_come new.source) new.held) where
@@ -158,16 +217,17 @@ module _ {S : Type 0} {to_come : S → Option (List ℕ)} {old now : Ahead S} {l
     failed at_end = (g.seen ++ now.held, record { is_line = line_now; bytes = seen_now }, not_before open', at_end)
 
     -- a block was read
-    pub more : (gathered : List ℕ) (size new_size : ℕ) (longer : Bool) → size ≡ length line → new_size ≡ length gathered
+    pub more : (gathered : List ℕ) (size : ℕ) (longer : Bool) → size ≡ length line
         → (longer ≡ true → (long ≡ true) ⊎ (limit < size + len))
-        → (longer ≡ false → (long ≡ false) × (gathered ≡ line ++ take len now.held) × (new_size ≤ limit))
+        → (longer ≡ false → (long ≡ false) × (size + len ≤ limit)) → gathered ≡ take limit (line ++ take len now.held)
         → ((new.at_end ≡ false) × (0 < length new.held)) ⊎ ((new.at_end ≡ true) × (new.held ≡ []))
         → Gathering to_come old new limit gathered longer (n + 1)
-    more gathered size new_size longer sized new_sized grows fits held = record {
+    more gathered size longer sized grows fits is held = record {
       seen = g.seen ++ now.held;
       is_line = line_now;
       bytes = seen_now;
-      kept = λ e. (let f = fits e in f.1 ∙ ap (λ (y : List ℕ). y ++ take len now.held) ((g.kept f.0).0) ∙ ap (λ (y : List ℕ). g.seen ++ y) piece_is, omega (arith, new_sized, (fits e).2));
+      kept = front_now len is_piece open' gathered is ∙ ap (λ (y : List ℕ). take limit (g.seen ++ y)) piece_is;
+      short = λ e. (let f = fits e in omega (arith, f.1, sized, ap length (whole f.0), all, length-append g.seen now.held));
       longer = λ e. subst (λ (y : List ℕ). limit < length (g.seen ++ y)) piece_is (longer_now len is_piece open' size sized (omega (arith, all)) (grows e));
       count = counted n g.count g.some;
       some = λ positive e. still held e;

@@ -9,7 +9,7 @@ use Rattle.sf_run.specs.Runs.{RunReport}
 use Rattle.sf_run.specs.Limits.{RunWithin}
 use Rattle.sf_run.specs.Laws.{EachHasOneReport}
 use Rattle.sf_lines.specs.declared.end.LineFault.{LineFault}
-use Rattle.sf_lines.specs.Turns.{LineWork, Misses, Turn, IsJudged, Comes, judged, fault_of}
+use Rattle.sf_lines.specs.Turns.{LineWork, Miss, Misses, Turn, IsJudged, Comes, judged, fault_of}
 use Rattle.sf_lines.specs.Loops.{IfGoing, AreTurns, goes_on}
 
 none_is_some : (fault : Option LineFault) → fault ≡ None → IsSome fault → ⊥
@@ -55,19 +55,19 @@ module _ (one : EachHasOneReport) (w : LineWork) where
       same_pick line formats before before' after after' ds ds' r r' proper.1 rest rest' m.1 m'.1 ran ran' c c'
 
   module _ (proper : AllByRecursion AreProper w.formats) where
-    same_judged : (line : List ℕ) (v u : Result (List ℕ) LineFault) → IsJudged w line v → IsJudged w line u → v ≡ u
+    same_judged : (line : List ℕ) (v u : Result (List ℕ) Miss) → IsJudged w line v → IsJudged w line u → v ≡ u
     same_judged line v u (inl p) (inl q) = p.1 ∙ sym q.1
     same_judged line v u (inl p) (inr q) = absurd (omega (arith, p.0, q.0))
     same_judged line v u (inr p) (inl q) = absurd (omega (arith, p.0, q.0))
     same_judged line v u (inr (short, (ds, r, p, is))) (inr (short', (ds', r', q, is'))) =
         let same = same_pick line w.formats p.before q.before p.after q.after ds ds' r r' proper p.among q.among p.missed q.missed p.ran q.ran p.counts q.counts in
-        is ∙ ap (λ (d : List Directive). judged (w.text d r) (fault_of w.options line r)) same.0 ∙ ap (λ (x : RunReport). judged (w.text ds' x) (fault_of w.options line x)) same.1 ∙ sym is'
+        is ∙ ap (λ (d : List Directive). judged (w.text d r) line (fault_of w.options line r)) same.0 ∙ ap (λ (x : RunReport). judged (w.text ds' x) line (fault_of w.options line x)) same.1 ∙ sym is'
 
     same_turn : (number : ℕ) (line : List ℕ) (t u : Turn) → Comes w number line t → Comes w number line u → t ≡ u
     same_turn number line None None p q = refl
     same_turn number line None (Some u) p q = absurd (omega (arith, p, q.0))
     same_turn number line (Some t) None p q = absurd (omega (arith, p.0, q))
-    same_turn number line (Some t) (Some u) p q = ap (λ (v : Result (List ℕ) LineFault). Some v) (same_judged line t u p.1 q.1)
+    same_turn number line (Some t) (Some u) p q = ap (λ (v : Result (List ℕ) Miss). Some v) (same_judged line t u p.1 q.1)
 
     pub same_turns : (n : ℕ) (lines : List (List ℕ)) (ts us : List Turn) → AreTurns w n lines ts → AreTurns w n lines us → ts ≡ us
     same_turns n [] ts us p q = p ∙ sym q

@@ -1,8 +1,17 @@
 -- Texts that a teller is to say one after the other.
-use Rattle.std.proofs.Common.{◌≡◌, ◌∙◌, ℕ, Bool, true, false, List, [], ◌∷◌, ◌++◌, Option, ◌⊎◌, inl, inr, refl, sym, ap, subst, append_assoc, append-nil, true≢false}
+use Rattle.std.proofs.Common.{◌≡◌, ◌∙◌, ℕ, Bool, true, false, List, [], ◌∷◌, ◌++◌, Option, Result, Ok, Err, OnOk, OnErr, is_err, ◌⊎◌, inl, inr, refl, sym, ap, subst, append_assoc, append-nil, true≢false}
 use Rattle.std.specs.Io.KnownBytes.{Appends}
 use Rattle.sf_print.proofs.Appending.{Appends-none, Appends-then, Appends-same}
 use Rattle.sf_lines.specs.Telling.{Tells, faults_by}
+
+-- what holds where it answers Ok, and where it answers Err
+pub on_ok : {A E P : Type 0} (r : Result A E) → is_err r ≡ false → OnOk r P → P
+on_ok (Ok x) e h = h
+on_ok (Err x) e h = absurd (true≢false e)
+
+pub on_err : {A E P : Type 0} (r : Result A E) → is_err r ≡ true → OnErr r P → P
+on_err (Ok x) e h = absurd (true≢false (sym e))
+on_err (Err x) e h = h
 
 pub tells_nothing : (failed : Bool) (told : Option (List ℕ)) → Tells failed failed told told []
 tells_nothing false told = inl (refl, refl, Appends-none told)

@@ -1,5 +1,5 @@
 -- What comes of lines: that it is told of each, and joined.
-use Rattle.std.proofs.Common.{◌≡◌, ℕ, zero, suc, ◌+◌, ◌<◌, ◌≤◌, Bool, true, false, cond, List, [], ◌∷◌, ◌++◌, length, Option, Some, None, Result, Err, ◌⊎◌, inl, inr, refl, sym, ap, subst, ◌∙◌, arith, append_assoc, append-nil}
+use Rattle.std.proofs.Common.{◌≡◌, ℕ, zero, suc, ◌+◌, ◌<◌, ◌≤◌, Bool, true, false, cond, List, [], ◌∷◌, ◌++◌, length, take, Option, Some, None, Result, Err, ◌⊎◌, inl, inr, refl, sym, ap, subst, ◌∙◌, arith, append_assoc, append-nil}
 use Rattle.std.specs.Prelude.{IsSome}
 use Rattle.std.specs.List.{AllByRecursion, count_by}
 use Rattle.std.proofs.lemmas.Grind.{flat_map-append}
@@ -11,7 +11,7 @@ use Rattle.sf_run.specs.Runs.{RunReport}
 use Rattle.sf_run.specs.Laws.{EachHasOneReport}
 use Rattle.sf_lines.specs.declared.end.LineFault.{LineFault}
 use Rattle.sf_lines.specs.declared.end.LineFault.TheVariants.{TooLong}
-use Rattle.sf_lines.specs.Turns.{LineWork, Misses, Picks, Turn, IsJudged, Comes, judged, fault_of}
+use Rattle.sf_lines.specs.Turns.{LineWork, Miss, Misses, Picks, Turn, IsJudged, Comes, judged, fault_of}
 use Rattle.sf_lines.proofs.Choosing.{all_append}
 use Rattle.sf_lines.specs.Loops.{IfGoing, AreTurns, goes_on, tellings, telling_of, texts, text_of}
 
@@ -103,10 +103,10 @@ module _ (one : EachHasOneReport) (w : LineWork) where
         by [] e = absurd (omega (arith, some, ap length e))
         by (ds ∷ rest) e = picked line [] ds rest e (subst (AllByRecursion AreProper) e proper) tt
 
-    is_judged : (line : List ℕ) → (verdict : Result (List ℕ) LineFault) × IsJudged w line verdict
+    is_judged : (line : List ℕ) → (verdict : Result (List ℕ) Miss) × IsJudged w line verdict
     is_judged line = elim (le_or_lt (length line) w.options.limit) [
-      | inl short ↦ (let p = has_pick line in (judged (w.text p.0 p.1) (fault_of w.options line p.1), inr (short, (p.0, p.1, p.2, refl))))
-      | inr long ↦ (Err TooLong, inl (long, refl))
+      | inl short ↦ (let p = has_pick line in (judged (w.text p.0 p.1) line (fault_of w.options line p.1), inr (short, (p.0, p.1, p.2, refl))))
+      | inr long ↦ (Err (take w.options.limit line, TooLong), inl (long, refl))
     ]
 
     comes : (number : ℕ) (line : List ℕ) → (turn : Turn) × Comes w number line turn

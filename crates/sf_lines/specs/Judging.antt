@@ -63,14 +63,14 @@ judged_by kept (Err unwritten.Memory) = Stopped faults.Memory
 
 -- ---- the next line of an input
 
--- what comes of the line with this number, that was read
-abbrev pub Came : LineWork → ℕ → List ℕ → Option (List ℕ) → Option (List ℕ) → Judged → Type 0
-Came w number line is after (Skipped kept) = (number ≤ w.options.skip) × (after ≡ is)
-Came w number line is after (Written kept) = (text : List ℕ) × Comes w number line (Some (Ok text)) × Appends is after text
-Came w number line is after (Failed kept fault) = Comes w number line (Some (Err fault)) × Appends is after []
-Came w number line is after (Stopped fault) =
+-- what comes of the line with this number, of which this was read, if it is no match
+abbrev pub Came : LineWork → ℕ → List ℕ → List ℕ → Option (List ℕ) → Option (List ℕ) → Judged → Type 0
+Came w number line read is after (Skipped kept) = (number ≤ w.options.skip) × (after ≡ is)
+Came w number line read is after (Written kept) = (text : List ℕ) × Comes w number line (Some (Ok text)) × Appends is after text
+Came w number line read is after (Failed kept fault) = Comes w number line (Some (Err (read, fault))) × Appends is after []
+Came w number line read is after (Stopped fault) =
     (fault ≡ faults.Memory) × Appends is after [] ⊎ (fault ≡ faults.Write) × ((text : List ℕ) × Comes w number line (Some (Ok text)) × TakesPart is after text)
-Came w number line is after (Unread read) = ⊥
+Came w number line read is after (Unread why) = ⊥
 
 -- no line was read
 pub record IsUnread {S : Type 0} (to_come : S → Option (List ℕ)) (old new : Ahead S) (limit : ℕ) (read : LineRead) : Type 0 where
@@ -80,6 +80,6 @@ pub record IsUnread {S : Type 0} (to_come : S → Option (List ℕ)) (old new : 
   pub no_long : read ≡ reads.TooLong → ⊥
 
 -- the line with this number was taken from the input, and this came of it; or no line was read
-abbrev pub Turns : {S : Type 0} → (S → Option (List ℕ)) → Ahead S → Ahead S → LineWork → ℕ → Option (List ℕ) → Option (List ℕ) → Judged → Type 0
-Turns to_come old new w number is after (Unread read) = IsUnread to_come old new w.options.limit read × (after ≡ is)
-Turns to_come old new w number is after judged = (line : List ℕ) × Took to_come old new line × Came w number line is after judged
+abbrev pub Turns : {S : Type 0} → (S → Option (List ℕ)) → Ahead S → Ahead S → LineWork → ℕ → List ℕ → Option (List ℕ) → Option (List ℕ) → Judged → Type 0
+Turns to_come old new w number read is after (Unread why) = IsUnread to_come old new w.options.limit why × (after ≡ is)
+Turns to_come old new w number read is after judged = (line : List ℕ) × Took to_come old new line × Came w number line read is after judged

@@ -20,7 +20,7 @@ use Rattle.sf_lines.specs.Turns.{LineWork, Turn, Comes}
 
 -- a line that is no match stops the loop, unless it is to keep going
 abbrev pub goes_on : LineWork → Turn → Bool
-goes_on w (Some (Err fault)) = w.options.keep_going
+goes_on w (Some (Err miss)) = w.options.keep_going
 goes_on w _ = true
 
 abbrev pub IfGoing : Bool → Type 0 → List Turn → Type 0
@@ -43,7 +43,7 @@ abbrev pub texts : List Turn → List ℕ
 texts turns = flat_map text_of turns
 
 abbrev pub telling_of : LineWork → ℕ → Turn → List ℕ
-telling_of w number (Some (Err fault)) = w.telling number fault
+telling_of w number (Some (Err (line, fault))) = w.telling number line fault
 telling_of w number _ = []
 
 -- of the lines behind the first n
@@ -56,7 +56,7 @@ is_written (Some (Ok text)) = true
 is_written _ = false
 
 abbrev pub is_failed : Turn → Bool
-is_failed (Some (Err fault)) = true
+is_failed (Some (Err miss)) = true
 is_failed _ = false
 
 -- ---- how the loop ends

@@ -1,5 +1,5 @@
 -- What the reading of a line takes from an input.
-use Rattle.std.specs.Prelude.{◌≡◌, ◌≤◌, ◌<◌, ◌^◌, ◌⊎◌, ℕ, List, [], ◌∷◌, ◌++◌, length, Bool, true, false, Option}
+use Rattle.std.specs.Prelude.{◌≡◌, ◌≤◌, ◌<◌, ◌^◌, ◌⊎◌, ℕ, List, [], ◌∷◌, ◌++◌, length, take, Bool, true, false, Option}
 use Rattle.std.specs.Io.KnownBytes.{Consumes, IsAtEnd}
 use Rattle.sf_read.specs.Ahead.{Ahead, input_of}
 use Rattle.sf_lines.specs.declared.line.LineRead.{LineRead}
@@ -26,10 +26,10 @@ pub record TookPart {S : Type 0} (to_come : S → Option (List ℕ)) (old new : 
 abbrev pub endless : ℕ
 endless = 2 ^ 63
 
--- What a reading tells by what it answers, and what it gathered.
+-- What a reading tells by what it answers, and what it gathered: a line, or the first bytes of one that is longer than the limit.
 abbrev pub Reads : {S : Type 0} → (S → Option (List ℕ)) → Ahead S → Ahead S → ℕ → List ℕ → LineRead → Type 0
 Reads to_come old new limit line Line = Took to_come old new line × (length line ≤ limit)
-Reads to_come old new limit line TooLong = (long : List ℕ) × Took to_come old new long × (limit < length long)
+Reads to_come old new limit line TooLong = (long : List ℕ) × Took to_come old new long × (limit < length long) × (line ≡ take limit long)
 Reads to_come old new limit line End = TookPart to_come old new [] × (new.at_end ≡ true) × IsAtEnd (input_of to_come new)
 Reads to_come old new limit line Fault = (part : List ℕ) × TookPart to_come old new part × (old.at_end ≡ false) × (new.at_end ≡ false)
 Reads to_come old new limit line Endless = (part : List ℕ) × TookPart to_come old new part × (endless ≤ length part)

@@ -1,5 +1,5 @@
 -- What comes of one line.
-use Rattle.std.specs.Prelude.{◌≡◌, ◌≤◌, ◌<◌, ◌⊎◌, ◌++◌, ◌∷◌, ◌&&◌, ℕ, nat_lt, Bool, if◌then◌else◌, List, [], length, Option, Some, None, IsSome, Result, Ok, Err}
+use Rattle.std.specs.Prelude.{◌≡◌, ◌≤◌, ◌<◌, ◌⊎◌, ◌++◌, ◌∷◌, ◌&&◌, ℕ, nat_lt, Bool, if◌then◌else◌, List, [], length, take, Option, Some, None, IsSome, Result, Ok, Err}
 use Rattle.std.specs.List.{AllByRecursion}
 use Rattle.sf_format.specs.declared.directive.Directive.{Directive}
 use Rattle.sf_run.specs.declared.outcome.Ending.{Ending}
@@ -14,14 +14,14 @@ use Rattle.sf_lines.specs.declared.end.LineFault.{LineFault}
 use Rattle.sf_lines.specs.declared.end.LineFault.TheVariants.{Failed, LeftOver, TooLong}
 
 -- how lines are scanned, by which formats; what is written of a line that is a match, by its format and report; and what is
--- told of one that is none, by its number
+-- told of one that is none, by its number, what was read of it, and why it is none
 pub record LineWork : Type 0 where
   pub options : LinesOptions
   pub formats : List (List Directive)
   pub text : List Directive → RunReport → List ℕ
-  pub telling : ℕ → LineFault → List ℕ
+  pub telling : ℕ → List ℕ → LineFault → List ℕ
 
-abbrev pub work_of : LinesOptions → List (List Directive) → (List Directive → RunReport → List ℕ) → (ℕ → LineFault → List ℕ) → LineWork
+abbrev pub work_of : LinesOptions → List (List Directive) → (List Directive → RunReport → List ℕ) → (ℕ → List ℕ → LineFault → List ℕ) → LineWork
 work_of options formats text telling = record { options = options; formats = formats; text = text; telling = telling }
 
 -- ---- a line and a format
@@ -67,19 +67,23 @@ pub record Picks (o : LinesOptions) (formats : List (List Directive)) (line : Li
 
 -- ---- a line
 
--- what comes of a line: nothing where it is passed over; else the text that is written, or why it is no match
+-- a line that is no match: what was read of it, and why it is none
+abbrev pub Miss : Type 0
+Miss = List ℕ × LineFault
+
+-- what comes of a line: nothing where it is passed over; else the text that is written, or the line as one that is no match
 abbrev pub Turn : Type 0
-Turn = Option (Result (List ℕ) LineFault)
+Turn = Option (Result (List ℕ) Miss)
 
-abbrev pub judged : List ℕ → Option LineFault → Result (List ℕ) LineFault
-judged text None = Ok text
-judged text (Some fault) = Err fault
+abbrev pub judged : List ℕ → List ℕ → Option LineFault → Result (List ℕ) Miss
+judged text line None = Ok text
+judged text line (Some fault) = Err (line, fault)
 
--- a line within the limit is judged by the format that counts
-abbrev pub IsJudged : LineWork → List ℕ → Result (List ℕ) LineFault → Type 0
+-- a line within the limit is judged by the format that counts; of a longer one so many bytes are read as the limit has
+abbrev pub IsJudged : LineWork → List ℕ → Result (List ℕ) Miss → Type 0
 IsJudged w line verdict =
-    (w.options.limit < length line) × (verdict ≡ Err TooLong)
-    ⊎ (length line ≤ w.options.limit) × ((ds : List Directive) × (r : RunReport) × Picks w.options w.formats line ds r × (verdict ≡ judged (w.text ds r) (fault_of w.options line r)))
+    (w.options.limit < length line) × (verdict ≡ Err (take w.options.limit line, TooLong))
+    ⊎ (length line ≤ w.options.limit) × ((ds : List Directive) × (r : RunReport) × Picks w.options w.formats line ds r × (verdict ≡ judged (w.text ds r) line (fault_of w.options line r)))
 
 -- the line with this number, counted from 1
 abbrev pub Comes : LineWork → ℕ → List ℕ → Turn → Type 0

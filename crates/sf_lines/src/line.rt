@@ -13,7 +13,7 @@ use std::alloc::AllocError;
 pub enum LineRead {
     /// A line was read.
     Line,
-    /// A line was passed over that is longer than the limit.
+    /// A line was passed over that is longer than the limit, but for its first bytes.
     TooLong,
     /// The input has no further line.
     End,
@@ -34,8 +34,8 @@ pub(crate) struct Piece {
     pub(crate) ended: bool,
 }
 
-/// Appends the first bytes of what is held to a line that was gathered so far, if the line is then within the limit, and
-/// says whether it is longer. A longer line is not gathered any more.
+/// Appends the first bytes of what is held to a line that was gathered so far, up to the limit, and says whether the line is
+/// longer.
 fn gather(
     line: &mut Vec<u8>,
     held: &[u8],
@@ -44,16 +44,15 @@ fn gather(
     long: bool,
 ) -> Result<bool, AllocError>
     requires within { len ≤ length held.now }
-    requires kept { long ≡ false → vec_len line.old ≤ limit }
+    requires kept { vec_len line.old ≤ limit }
     ensures longer { IfOk result (λ l. l ≡ true → (long ≡ true) ⊎ (limit < vec_len line.old + len)) }
-    ensures within { IfOk result (λ l. l ≡ false → (long ≡ false) × (line.new.items ≡ line.old.items ++ take len held.now) × (vec_len line.new ≤ limit)) }
+    ensures short { IfOk result (λ l. l ≡ false → (long ≡ false) × (vec_len line.old + len ≤ limit)) }
+    ensures front { IfOk result (λ _. line.new.items ≡ take limit (line.old.items ++ take len held.now)) }
 {
-    if long || len > limit - line.len() {
-        return Ok(true);
-    }
-    let (piece, _) = held.split_at(len);
+    let room = limit - line.len();
+    let (piece, _) = held.split_at(len.min(room));
     line.extend_from_slice(piece)?;
-    Ok(false)
+    Ok(long || len > room)
 }
 
 /// What was read where the input ended within a line, or behind the last one.
@@ -87,7 +86,7 @@ pub(crate) fn piece_of(held: &[u8]) -> Piece
 }
 
 /// Reads the next line of what the lookahead holds and its source gives, without its line end, in place of what was read
-/// last. A line of more than `limit` bytes is passed over.
+/// last. Of a line of more than `limit` bytes these first ones are read, and the others passed over.
 pub fn next_line<S: Source, const N: usize>(
     from: &mut Lookahead<S, N>,
     line: &mut Vec<u8>,

@@ -32,7 +32,7 @@ fn read_line<R: RecordWriter, S: Source, K: Sink, const N: usize>(
     before: u64,
 ) -> Judged
     ensures same { R.text writer.new ≡ R.text writer.old }
-    ensures turns { (telling : ℕ → LineFault → List ℕ) → Turns S.to_come from.old from.new (work_of options formats.now (R.text writer.old) telling) (before + 1) (K.contents to.old) (K.contents to.new) result }
+    ensures turns { (telling : ℕ → List ℕ → LineFault → List ℕ) → Turns S.to_come from.old from.new (work_of options formats.now (R.text writer.old) telling) (before + 1) line.new.items (K.contents to.old) (K.contents to.new) result }
     ensures source { S.failures from.new.source
         ≡ (if is_read_fault result then counted_on (S.failures from.old.source) else S.failures from.old.source) }
     ensures sink { K.failures to.new
@@ -67,7 +67,7 @@ pub(crate) fn turn<R: RecordWriter, S: Source, K: Sink, const N: usize>(
 ) -> Judged
     requires proper { AllByRecursion AreProper formats.now }
     ensures same { R.text writer.new ≡ R.text writer.old }
-    ensures turns { (telling : ℕ → LineFault → List ℕ) → Turns S.to_come from.old from.new (work_of options formats.now (R.text writer.old) telling) (before + 1) (K.contents to.old) (K.contents to.new) result }
+    ensures turns { (telling : ℕ → List ℕ → LineFault → List ℕ) → Turns S.to_come from.old from.new (work_of options formats.now (R.text writer.old) telling) (before + 1) line.new.items (K.contents to.old) (K.contents to.new) result }
     ensures source { S.failures from.new.source
         ≡ (if is_read_fault result then counted_on (S.failures from.old.source) else S.failures from.old.source) }
     ensures sink { K.failures to.new

@@ -1,5 +1,5 @@
 //! What is written of the lines of an input, and who is told of those that are no match.
-ghost use Rattle.std.specs.Prelude.{◌≡◌, ℕ, List, Option, Bool, if◌then◌else◌};
+ghost use Rattle.std.specs.Prelude.{◌≡◌, ℕ, List, Option, Bool, true, OnOk, OnErr, if◌then◌else◌};
 ghost use Rattle.sf_format.specs.declared.directive.Directive.{Directive};
 ghost use Rattle.sf_print.specs.Sinks.{counted_on};
 ghost use Rattle.sf_run.specs.Runs.{RunReport};
@@ -14,6 +14,7 @@ use sf_base::Store;
 use sf_format::ScanFormat;
 use sf_print::Sink;
 use sf_run::Report;
+use std::alloc::AllocError;
 
 /// Why the record of a line was not written in full.
 #[derive(Clone, Copy, Debug, PartialEq, Eq)]
@@ -47,8 +48,8 @@ pub trait RecordWriter {
 
 /// Is told of the lines that are no match. Once it has failed it says nothing more.
 pub trait Teller {
-    // What it says of a line, by its number, counted from 1.
-    ghost telling: { Self → ℕ → LineFault → List ℕ };
+    // Whether this is what it says of each line, by its number, counted from 1, what was read of it, and why it is no match.
+    ghost says: { Self → (ℕ → List ℕ → LineFault → List ℕ) → Type 0 };
 
     // All that it said, where that is known.
     ghost told: { Self → Option (List ℕ) };
@@ -64,10 +65,15 @@ pub trait Teller {
 
     ghost kept: { Self → Self.Kept };
 
-    /// Says that the line with this number, counted from 1, is no match.
-    fn tell(&mut self, number: u64, fault: LineFault)
-        ensures same { telling self.new ≡ telling self.old }
+    /// Says that the line with this number, counted from 1, is no match. It is handed what was read of the line, without its
+    /// line end: all of it, or, where it is too long, as many bytes as the limit has. Err where memory for what is to be said
+    /// was refused; then nothing was said.
+    fn tell(&mut self, number: u64, line: &[u8], fault: LineFault) -> Result<(), AllocError>
+        ensures same { (telling : ℕ → List ℕ → LineFault → List ℕ) → says self.old telling → says self.new telling }
         ensures kept { kept self.new ≡ kept self.old }
-        ensures told { Tells (failed self.old) (failed self.new) (told self.old) (told self.new) (telling self.old number fault) }
+        ensures told { (telling : ℕ → List ℕ → LineFault → List ℕ) → says self.old telling
+            → OnOk result (Tells (failed self.old) (failed self.new) (told self.old) (told self.new) (telling number line.now fault)) }
+        ensures untold { OnErr result (self.new ≡ self.old) }
+        ensures stays { failed self.old ≡ true → failed self.new ≡ true }
         ensures faults { faults self.new ≡ faults_by (failed self.old) (failed self.new) (faults self.old) };
 }

@@ -18,6 +18,11 @@ letter_of (Failed outcome) = 109
 letter_of (LeftOver at) = 108
 letter_of TooLong = 116
 
--- the last digit of the line's number, and a letter for why it is no match
-abbrev pub note_of : ℕ → LineFault → List ℕ
-note_of number fault = (48 + number % 10) ∷ letter_of fault ∷ []
+-- the first byte, or a hyphen
+abbrev pub first_of : List ℕ → ℕ
+first_of [] = 45
+first_of (b ∷ rest) = b
+
+-- the last digit of the line's number, a letter for why it is no match, and its first byte
+abbrev pub note_of : ℕ → List ℕ → LineFault → List ℕ
+note_of number line fault = (48 + number % 10) ∷ letter_of fault ∷ first_of line ∷ []

@@ -1,7 +1,7 @@
 //! A writer and a teller for tests.
 ghost use Rattle.std.specs.Prelude.{◌≡◌, Some, if◌then◌else◌, refl};
 ghost use Rattle.sf_base.specs.Data.{datum_at};
-ghost use Rattle.sf_lines_tests.specs.Hands.{bytes_in, first_line, letter_of, note_of};
+ghost use Rattle.sf_lines_tests.specs.Hands.{bytes_in, first_line, first_of, letter_of, note_of};
 
 use sf_base::{Store, Value};
 use sf_format::ScanFormat;
@@ -9,6 +9,7 @@ use sf_lines::{LineFault, RecordFault, RecordWriter, Teller};
 use sf_print::Sink;
 use sf_records::write_whole;
 use sf_run::Report;
+use std::alloc::AllocError;
 
 /// What slot 1 was given, if that is a text.
 fn first_text<'r, T: Store>(report: &Report<'r, T>) -> &'r [u8]
@@ -60,15 +61,26 @@ fn letter(fault: LineFault) -> u8
     }
 }
 
-/// Notes the last digit of each line's number, and a letter for why it is no match.
+/// The first byte, or a hyphen.
+fn first_byte(line: &[u8]) -> u8
+    ensures { result ≡ first_of line.now }
+{
+    match line {
+        [] => b'-',
+        [b, ..] => *b,
+    }
+}
+
+/// Notes the last digit of each line's number, a letter for why it is no match, and its first byte; or it is refused memory.
 #[derive(Drop)]
 pub(crate) struct Notes {
     pub(crate) said: Vec<u8>,
     pub(crate) failed: bool,
+    pub(crate) refuses: bool,
 }
 
 impl Teller for Notes {
-    ghost telling = { λ notes number fault. note_of number fault };
+    ghost says = { λ notes telling. telling ≡ note_of };
 
     ghost told = { λ notes. Some notes.said.items };
 
@@ -78,13 +90,21 @@ impl Teller for Notes {
 
     ghost kept = { λ notes. tt };
 
-    fn tell(&mut self, number: u64, fault: LineFault) {
+    fn tell(&mut self, number: u64, line: &[u8], fault: LineFault) -> Result<(), AllocError> {
         if self.failed {
-            return;
+            return Ok(());
         }
-        let note = [b'0' + (number % 10) as u8, letter(fault)];
+        if self.refuses {
+            return Err(AllocError);
+        }
+        let note = [
+            b'0' + (number % 10) as u8,
+            letter(fault),
+            first_byte(line),
+        ];
         if self.said.extend_from_slice(&note).is_err() {
             self.failed = true;
         }
+        Ok(())
     }
 }

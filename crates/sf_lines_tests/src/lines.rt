@@ -20,7 +20,7 @@ const ROWS: [(&str, &str); 8] = [
 ];
 
 /// The lines of at most `limit` bytes that a reader gives, with a bar behind each, and an exclamation
-/// mark for each that is longer; and what stood behind them.
+/// mark behind the first bytes of each that is longer; and what stood behind them.
 fn listed<S: Source, const N: usize>(
     alloc: Global,
     from: &mut Lookahead<S, N>,
@@ -31,7 +31,10 @@ fn listed<S: Source, const N: usize>(
     for _ in 0..MOST {
         match next_line(from, &mut line, limit) {
             LineRead::Line => out.extend_from_slice(&line)?,
-            LineRead::TooLong => out.push(b'!')?,
+            LineRead::TooLong => {
+                out.extend_from_slice(&line)?;
+                out.push(b'!')?;
+            }
             last => return Ok((out, last)),
         }
         out.push(b'|')?;
@@ -56,10 +59,10 @@ fn texts_are_cut_into_lines(rt: HostRuntime) -> Result<(), Fail> {
 
 /// Texts, and their lines of at most two bytes.
 const LONG: [(&str, &str); 4] = [
-    ("ab\nabc\nd", "ab|!|d|"),
-    ("abcdefgh\n\nab", "!||ab|"),
-    ("ab\nabcd", "ab|!|"),
-    ("abc\n", "!|"),
+    ("ab\nabc\nd", "ab|ab!|d|"),
+    ("abcdefgh\n\nab", "ab!||ab|"),
+    ("ab\nabcd", "ab|ab!|"),
+    ("abc\n", "ab!|"),
 ];
 
 #[test]

@@ -87,6 +87,7 @@ fn run<S: Source, K: Sink, const N: usize>(
     let mut teller = Notes {
         said: Vec::new(alloc),
         failed: false,
+        refuses: false,
     };
     let end = run_lines(
         alloc,
@@ -147,23 +148,23 @@ fn plain_rows() -> [Row; 9] {
         // What the format leaves of a line is no record of its own.
         row_of(ONE, How::Plain, "ab cd\nef gh", "ab\nef\n", "", (2, 0)),
         // An empty line is no match, and ends the loop.
-        row_of(ONE, How::Plain, "\nab\n", "", "1m", (0, 1)),
+        row_of(ONE, How::Plain, "\nab\n", "", "1m-", (0, 1)),
         row_of(
             ONE,
             How::KeepGoing,
             "\nab\n\ncd\n",
             "ab\ncd\n",
-            "1m3m",
+            "1m-3m-",
             (2, 2),
         ),
-        row_of(ONE, How::KeepGoing, "\n\n", "", "1m2m", (0, 2)),
+        row_of(ONE, How::KeepGoing, "\n\n", "", "1m-2m-", (0, 2)),
         // A conversion doesn't go on behind the line end.
         row_of(
             ("%*d %s", ""),
             How::KeepGoing,
             "1\nab\n2 cd\n",
             "cd\n",
-            "1m2m",
+            "1m12ma",
             (1, 2),
         ),
         row_of(
@@ -171,7 +172,7 @@ fn plain_rows() -> [Row; 9] {
             How::Plain,
             "1 ab\nx\n2 cd\n",
             "ab\n",
-            "2m",
+            "2mx",
             (1, 1),
         ),
     ]
@@ -195,7 +196,7 @@ fn skipping_rows() -> [Row; 4] {
             How::Skip(1),
             "x\ny\n1 ab\n",
             "",
-            "2m",
+            "2my",
             (0, 1),
         ),
         row_of(ONE, How::Skip(9), "ab\ncd\n", "", "", (0, 0)),
@@ -206,8 +207,8 @@ fn skipping_rows() -> [Row; 4] {
 fn other_rows() -> [Row; 9] {
     [
         // Formats that have to use a line to its end.
-        row_of(ONE, How::Whole, "ab cd\nef\n", "ef\n", "1l", (1, 1)),
-        row_of(ONE, How::Whole, "ab\r\ncd\n", "cd\n", "1l", (1, 1)),
+        row_of(ONE, How::Whole, "ab cd\nef\n", "ef\n", "1la", (1, 1)),
+        row_of(ONE, How::Whole, "ab\r\ncd\n", "cd\n", "1la", (1, 1)),
         row_of(("%[^\n]", ""), How::Whole, "ab\r\n", "ab\r\n", "", (1, 0)),
         // The first format that the line matches counts.
         row_of(
@@ -231,7 +232,7 @@ fn other_rows() -> [Row; 9] {
             How::Whole,
             "ab cd\nef\nab cd ef\n",
             "ab\nef\n",
-            "3l",
+            "3la",
             (2, 1),
         ),
         row_of(
@@ -239,7 +240,7 @@ fn other_rows() -> [Row; 9] {
             How::KeepGoing,
             "ab\nxcd\n",
             "cd\n",
-            "1m",
+            "1ma",
             (1, 1),
         ),
         // Lines of more bytes than the limit.
@@ -248,10 +249,10 @@ fn other_rows() -> [Row; 9] {
             How::Short,
             "abc\nabcd\nef\nabcdefghi",
             "abc\nef\n",
-            "2t4t",
+            "2ta4ta",
             (2, 2),
         ),
-        row_of(("%3s", ""), How::Short, "abcd\nab", "ab\n", "1t", (1, 1)),
+        row_of(("%3s", ""), How::Short, "abcd\nab", "ab\n", "1ta", (1, 1)),
     ]
 }
 
@@ -347,6 +348,41 @@ fn the_sink_fails_within_a_line(rt: HostRuntime) -> Result<(), Fail> {
         fault: Some(LinesFault::Write),
     };
     assert_eq!(rt; ran.end, wanted);
-    assert_eq!(rt; ran.told.as_slice(), b"2m".as_slice());
+    assert_eq!(rt; ran.told.as_slice(), b"2m-".as_slice());
+    Ok(())
+}
+
+#[test]
+fn memory_is_refused_for_what_is_told(rt: HostRuntime) -> Result<(), Fail> {
+    let mut from = Lookahead::<SliceSource<'_>, 64>::new(SliceSource::new(b"ab\n\ncd\n"));
+    let mut out = ListSink::new(rt.alloc());
+    let format = ScanFormat::parse(rt.alloc(), Profile::One, b"%s");
+    let mut formats = Vec::new(rt.alloc());
+    formats.push(format.map_err(|_| no_format())?)?;
+    let mut writer = FirstText {
+        line: Vec::new(rt.alloc()),
+    };
+    let mut teller = Notes {
+        said: Vec::new(rt.alloc()),
+        failed: false,
+        refuses: true,
+    };
+    let end = run_lines(
+        rt.alloc(),
+        &mut from,
+        &mut out,
+        &mut writer,
+        &mut teller,
+        &formats,
+        options(How::KeepGoing),
+    );
+    let wanted = LinesEnd {
+        status: 4,
+        written: 1,
+        failed: 0,
+        fault: Some(LinesFault::Memory),
+    };
+    assert_eq!(rt; end, wanted);
+    assert_eq!(rt; teller.said.as_slice(), b"".as_slice());
     Ok(())
 }

@@ -1,10 +1,12 @@
 -- What is said behind the line of a fault, where more is asked for: lines, each behind two blanks.
-use Rattle.std.specs.Prelude.{ℕ, ◌-◌, ◌&&◌, nat_eq, nat_lt, Bool, false, if◌then◌else◌, List, [], ◌∷◌, ◌++◌, length, map, min, take, Option, Some, None, slice_get, unwrap_or, codes}
+use Rattle.std.specs.Prelude.{ℕ, ◌-◌, ◌&&◌, nat_eq, nat_lt, Bool, false, if◌then◌else◌, List, [], ◌∷◌, ◌++◌, drop, length, map, min, take, Option, Some, None, slice_get, unwrap_or, codes}
 use Rattle.std.specs.Fmt.{decimal}
 use Rattle.sf_base.specs.Bytes.{is_white}
 use Rattle.sf_format.specs.declared.fault.FormatFault.{FormatFault}
 use Rattle.sf_format.specs.declared.directive.Directive.{Directive}
 use Rattle.sf_format.specs.declared.unit.Unit.{Unit as PrintUnit}
+use Rattle.sf_lines.specs.declared.end.LineFault.{LineFault}
+use Rattle.sf_lines.specs.declared.end.LineFault.TheVariants.{Failed, LeftOver, TooLong}
 use Rattle.sf_pair.specs.declared.fault.PairFault.{PairFault}
 use Rattle.sf_run.specs.declared.outcome.Ending.{Ending}
 use Rattle.sf_run.specs.declared.outcome.Ending.TheVariants.{End}
@@ -74,9 +76,13 @@ input_notes None = []
 input_notes (Some place) =
     note (codes "at line " ++ (decimal place.line ++ (codes ", column " ++ (decimal place.column ++ codes " of the input"))))
 
--- the first bytes that the run left, at most 24
+-- the first of some bytes, at most 24, behind these words
+abbrev pub byte_notes : List ℕ → List ℕ → List ℕ
+byte_notes words bytes = if nat_eq (length bytes) 0 then [] else note (words ++ quoted (take (min (length bytes) 24) bytes))
+
+-- the bytes that the run left
 abbrev pub rest_notes : List ℕ → List ℕ
-rest_notes rest = if nat_eq (length rest) 0 then [] else note (codes "there stood " ++ quoted (take (min (length rest) 24) rest))
+rest_notes rest = byte_notes (codes "there stood ") rest
 
 -- where the run stopped, by the bytes that it left
 abbrev pub stood_notes : Option Ending → List ℕ → List ℕ
@@ -101,3 +107,17 @@ abbrev pub failed_notes : List ℕ → ℕ → Outcome → Option Place → List
 failed_notes shown number outcome place rest =
     directive_note outcome.at shown
     ++ (input_notes place ++ (stood_notes outcome.met rest ++ (if is_left_white number outcome rest then note left_white_sentence else [])))
+
+-- ---- lines
+
+-- the bytes of a line behind so many
+abbrev pub line_rest : List ℕ → ℕ → List ℕ
+line_rest line used = drop (min used (length line)) line
+
+-- A line of an input that is no match, by what was read of it, where its directive is shown so: what is said of a run that had
+-- the line alone for its input, but for the place; the bytes that the run left; or what the line begins with, where it is
+-- longer than the limit.
+abbrev pub line_notes : List ℕ → List ℕ → LineFault → List ℕ
+line_notes shown line (Failed outcome) = failed_notes shown 1 outcome None (line_rest line outcome.used)
+line_notes shown line (LeftOver at) = rest_notes (line_rest line at)
+line_notes shown line TooLong = byte_notes (codes "it begins with ") line

@@ -1,6 +1,6 @@
 //! What is said behind the line of a fault, where more is asked for.
 ghost use Rattle.std.specs.Prelude.{◌≡◌, ◌++◌, OnOk, IfOk};
-ghost use Rattle.sf_messages.specs.Notes.{begins_white, blanks, directive_note, end_note, escape_notes, failed_notes, format_notes, input_notes, is_left_white, note, pair_notes, part_note, place_notes, print_side, rest_notes, scan_side, stood_notes};
+ghost use Rattle.sf_messages.specs.Notes.{begins_white, blanks, byte_notes, directive_note, end_note, escape_notes, failed_notes, format_notes, input_notes, is_left_white, line_notes, line_rest, note, pair_notes, part_note, place_notes, print_side, rest_notes, scan_side, stood_notes};
 
 use crate::facing::{faced, push_unit};
 use crate::fault::FormatName;
@@ -8,6 +8,7 @@ use crate::names::name_text;
 use crate::sentences::{escape_sentence, left_white_sentence, pair_sentence, why_sentence};
 use sf_base::is_space;
 use sf_format::{Directive, FormatFault, Unit};
+use sf_lines::LineFault;
 use sf_pair::PairFault;
 use sf_places::Place;
 use sf_records::push_quoted;
@@ -177,17 +178,29 @@ pub fn input_notes(alloc: Global, place: Option<Place>) -> Result<Vec<u8>, Alloc
     Ok(said)
 }
 
+/// Appends the line of the first of some bytes, behind these words.
+fn push_bytes(
+    alloc: Global,
+    output: &mut Vec<u8>,
+    words: &[u8],
+    bytes: &[u8],
+) -> Result<(), AllocError>
+    ensures { OnOk result (output.new.items ≡ output.old.items ++ byte_notes words.now bytes.now) }
+{
+    if bytes.is_empty() {
+        return Ok(());
+    }
+    let mut text = Vec::new(alloc);
+    text.extend_from_slice(words)?;
+    push_quoted(&mut text, &bytes[..bytes.len().min(SHOWN_BYTES)])?;
+    push_note(output, &text)
+}
+
 /// Appends the line of the bytes that a run left.
 fn push_rest(alloc: Global, output: &mut Vec<u8>, rest: &[u8]) -> Result<(), AllocError>
     ensures { OnOk result (output.new.items ≡ output.old.items ++ rest_notes rest.now) }
 {
-    if rest.is_empty() {
-        return Ok(());
-    }
-    let mut text = Vec::new(alloc);
-    text.extend_from_slice(b"there stood ")?;
-    push_quoted(&mut text, &rest[..rest.len().min(SHOWN_BYTES)])?;
-    push_note(output, &text)
+    push_bytes(alloc, output, b"there stood ", rest)
 }
 
 /// Appends where a run stopped, by what it met and the bytes that it left.
@@ -257,4 +270,33 @@ pub fn failed_notes(
         push_note(&mut notes, left_white_sentence().as_bytes())?;
     }
     Ok(notes)
+}
+
+/// The bytes of a line behind so many.
+fn line_rest(line: &[u8], used: u32) -> &[u8]
+    ensures { result.now ≡ line_rest line.entry.now used }
+{
+    &line[(used as usize).min(line.len())..]
+}
+
+/// What is said of a line of an input that is no match, by what was read of it, and why it is none: what is said of a run that
+/// had the line alone for its input, but for the place. `shown` is how the directive is shown at which the run failed.
+pub fn line_notes(
+    alloc: Global,
+    shown: &[u8],
+    line: &[u8],
+    fault: LineFault,
+) -> Result<Vec<u8>, AllocError>
+    ensures { IfOk result (λ notes. notes.items ≡ line_notes shown.now line.now fault) }
+{
+    let mut said = Vec::new(alloc);
+    match fault {
+        LineFault::Failed { outcome } => {
+            let rest = line_rest(line, outcome.used);
+            return failed_notes(alloc, shown, 1, outcome, None, rest);
+        }
+        LineFault::LeftOver { at } => push_rest(alloc, &mut said, line_rest(line, at))?,
+        LineFault::TooLong => push_bytes(alloc, &mut said, b"it begins with ", line)?,
+    }
+    Ok(said)
 }

@@ -4,6 +4,7 @@ use Rattle.std.specs.Prelude.{IfErr}
 use Rattle.sf_format.specs.declared.directive.Directive.{Directive}
 use Rattle.sf_format.specs.declared.directive.Profile.{Profile}
 use Rattle.sf_format.specs.declared.unit.Unit.{Unit as PrintUnit}
+use Rattle.sf_lines.specs.declared.end.LineFault.{LineFault}
 use Rattle.sf_lines.specs.declared.end.LinesEnd.{LinesEnd}
 use Rattle.sf_lines.specs.Loops.{Loops as LineLoops}
 use Rattle.sf_lines.specs.Turns.{LineWork}
@@ -201,33 +202,33 @@ module _ {T S K E : Type 0} (f : T → S) (to_come : S → Option (List ℕ)) (f
     ends = l.ends;
   }
 
-  runs_lines : (form : OutputForm) (options : LineOptions) (limit : ℕ) (formats : List (List Directive)) (from from' : Ahead T) (out out' : K) (err err' : E) (answer : Answer)
-      → RunsLines (λ s. to_come (f s)) (λ s. faults (f s)) contents write_faults said unsaid form options limit formats from from' out out' err err' answer
-      → RunsLines to_come faults contents write_faults said unsaid form options limit formats (over f from) (over f from') out out' err err' answer
+  runs_lines : (form : OutputForm) (options : LineOptions) (limit : ℕ) (formats : List (List Directive)) (telling : ℕ → List ℕ → LineFault → List ℕ) (from from' : Ahead T) (out out' : K) (err err' : E) (answer : Answer)
+      → RunsLines (λ s. to_come (f s)) (λ s. faults (f s)) contents write_faults said unsaid form options limit formats telling from from' out out' err err' answer
+      → RunsLines to_come faults contents write_faults said unsaid form options limit formats telling (over f from) (over f from') out out' err err' answer
   unfolding line_loops
-  runs_lines form options limit formats from from' out out' err err' answer r = record {
+  runs_lines form options limit formats telling from from' out out' err err' answer r = record {
     end = r.end;
     mute = r.mute;
     tells = λ t is.
         let told = r.tells t is in
-        (line_loops (scanning form options limit formats) t from' (faults (f from.source)) (faults (f from'.source)) (contents out) (contents out') r.mute (said err) (said err') r.end told.0, told.1);
+        (line_loops (scanning form options limit formats telling) t from' (faults (f from.source)) (faults (f from'.source)) (contents out) (contents out') r.mute (said err) (said err') r.end told.0, told.1);
     faults = r.faults;
     status = r.status;
     answers = r.answers;
     failures = r.failures;
   }
 
-  scans_lines : (profile : Profile) (form : OutputForm) (options : LineOptions) (limit : ℕ) (words : List (List ℕ)) (from from' : Ahead T) (out out' : K) (err err' : E) (answer : Answer)
-      → ScansLines (λ s. to_come (f s)) (λ s. faults (f s)) contents write_faults said unsaid profile form options limit words from from' out out' err err' answer
-      → ScansLines to_come faults contents write_faults said unsaid profile form options limit words (over f from) (over f from') out out' err err' answer
-  scans_lines profile form options limit words from from' out out' err err' answer (inl (bad, same, written, silent)) = inl (bad, ap (over f) same, written, silent)
-  scans_lines profile form options limit words from from' out out' err err' answer (inr (formats, are, r)) = inr (formats, are, runs_lines form options limit formats from from' out out' err err' answer r)
+  scans_lines : (profile : Profile) (form : OutputForm) (options : LineOptions) (explain : Bool) (limit : ℕ) (words : List (List ℕ)) (from from' : Ahead T) (out out' : K) (err err' : E) (answer : Answer)
+      → ScansLines (λ s. to_come (f s)) (λ s. faults (f s)) contents write_faults said unsaid profile form options explain limit words from from' out out' err err' answer
+      → ScansLines to_come faults contents write_faults said unsaid profile form options explain limit words (over f from) (over f from') out out' err err' answer
+  scans_lines profile form options explain limit words from from' out out' err err' answer (inl (bad, same, written, silent)) = inl (bad, ap (over f) same, written, silent)
+  scans_lines profile form options explain limit words from from' out out' err err' answer (inr (formats, telling, are, is, r)) = inr (formats, telling, are, is, runs_lines form options limit formats telling from from' out out' err err' answer r)
 
   pub ends_lines : (options : LineOptions) (order : Order) (from from' : Ahead T) (out out' : K) (err err' : E) (status : ℕ)
       → EndsLines (λ s. to_come (f s)) (λ s. faults (f s)) contents write_faults said unsaid options order from from' out out' err err' status
       → EndsLines to_come faults contents write_faults said unsaid options order (over f from) (over f from') out out' err err' status
   ends_lines options order from from' out out' err err' status (answer, (between, done, ends)) =
-      (answer, (between, scans_lines _ _ options order.limit _ from from' out out' err between answer done, ends))
+      (answer, (between, scans_lines _ _ options order.explain order.limit _ from from' out out' err between answer done, ends))
 
 -- ---- the command
 

@@ -1,18 +1,26 @@
 -- The formats of lines, read from their words in turn, and what is said and answered of the lines.
 use Rattle.std.proofs.Common.{◌≡◌, ◌∙◌, if◌then◌else◌, ℕ, suc, ◌+◌, ◌<◌, ◌≤◌, true, false, Bool, zero, List, [], ◌∷◌, ◌++◌, length, map, drop, get_or, Option, Some, None, inl, inr, refl, sym, ap, subst, append_assoc, append-nil, arith, true≢false}
+use Rattle.std.specs.Prelude.{slice_get, ◌-◌}
 use Rattle.std.proofs.Math.Seq.{drop-cons}
 use Rattle.sf_format.specs.declared.directive.Directive.{Directive}
 use Rattle.sf_format.specs.declared.directive.Profile.{Profile}
+use Rattle.sf_format.specs.Grammar.{Spells}
+use Rattle.sf_format.specs.Pieces.{text_of}
+use Rattle.sf_lines.specs.declared.end.LineFault.{LineFault}
 use Rattle.sf_lines.specs.declared.end.LinesFault.{LinesFault}
 use Rattle.sf_lines.specs.declared.end.LinesFault.TheVariants as lines_fault
 use Rattle.sf_lines.specs.Loops.{is_write}
 use Rattle.sf_messages.specs.declared.fault.CommandFault.{CommandFault}
 use Rattle.sf_messages.specs.declared.fault.CommandFault.TheVariants.{Memory}
+use Rattle.sf_messages.specs.LineTexts.{line_fault_text}
 use Rattle.sf_print.specs.Sinks.{counted_on}
 use Rattle.sf_tool.specs.Checks.{IsNoScanWord, IsScanWord}
 use Rattle.sf_tool.specs.Answers.{Answer}
 use Rattle.sf_tool.specs.Commands.{Counts, is_write_fault}
-use Rattle.sf_tool.specs.Lines.{AreNoScanWords, AreScanWords, answer_by}
+use Rattle.sf_tool.specs.Escapes.{Unescapes}
+use Rattle.sf_tool.specs.Explains.{IsMoreOfLine, OfWord, more_of_line}
+use Rattle.sf_tool.specs.Lines.{AreNoScanWords, AreScanWords, IsTelling, SaysLines, answer_by, line_telling}
+use Rattle.sf_tool.proofs.Escaping.{one_reading}
 
 -- ---- words
 
@@ -77,3 +85,56 @@ write_is status (Some lines_fault.TooMany) = refl
 
 pub counts_by : (status : ℕ) (fault : Option LinesFault) (answer : Answer) (n k : ℕ) → k ≡ (if is_write fault then counted_on n else n) → answer ≡ answer_by status fault → Counts n k answer
 counts_by status fault answer n k counted is = counted ∙ ap (λ (v : Bool). if v then counted_on n else n) (write_is status fault ∙ ap is_write_fault (sym is))
+
+-- ---- what is told of lines
+
+module _ (profile : Profile) (quiet : Bool) (text : List ℕ) (ds : List Directive) (telling : ℕ → List ℕ → LineFault → List ℕ) (number : ℕ) (line : List ℕ) (fault : LineFault) where
+  pub says_nothing : (explain : Bool) → SaysLines profile quiet explain text ds telling → quiet ≡ true → telling number line fault ≡ []
+  says_nothing false is e = ap (λ f. f number line fault) is ∙ rw e refl
+  says_nothing true (pieces, format, text_is, is) e = ap (λ f. f number line fault) is ∙ rw e refl
+
+  pub says_more : (explain : Bool) → SaysLines profile quiet explain text ds telling → quiet ≡ false → (notes : List ℕ) → IsMoreOfLine profile explain text ds line fault notes
+      → telling number line fault ≡ (line_fault_text number fault ++ 10 ∷ []) ++ notes
+  says_more false is e notes more = ap (λ f. f number line fault) is ∙ rw (e, more) refl
+  says_more true (pieces, format, text_is, is) e notes more = ap (λ f. f number line fault) is ∙ rw (e, more pieces format text_is) refl
+
+-- want of memory is told of words that all spell formats
+pub refused_memory : (profile : Profile) (words : List (List ℕ)) (formats : List (List Directive)) → AreScanWords profile words formats → 0 < length words → AreNoScanWords profile words Memory
+refused_memory profile [] formats are some = absurd (omega (arith, some))
+refused_memory profile (word ∷ words) [] are some = absurd are
+refused_memory profile (word ∷ words) (ds ∷ formats) ((text, stands, spells), are) some = inl (text, stands)
+
+last_behind : {A : Type 0} (x y : A) (xs : List A) (last : A) → slice_get (y ∷ xs) (length (y ∷ xs) - 1) ≡ Some last → slice_get (x ∷ y ∷ xs) (length (x ∷ y ∷ xs) - 1) ≡ Some last
+last_behind x y xs last e =
+    ap (slice_get (x ∷ y ∷ xs)) {x = length (x ∷ y ∷ xs) - 1} {y = suc (length xs)} (omega arith) ∙ ap (slice_get (y ∷ xs)) {x = length xs} {y = length (y ∷ xs) - 1} (omega arith) ∙ e
+
+-- the last of the words spells the last of the formats
+pub lasts : (profile : Profile) (words : List (List ℕ)) (formats : List (List Directive)) → AreScanWords profile words formats → 0 < length words
+    → (word : List ℕ) × (ds : List Directive) × (slice_get words (length words - 1) ≡ Some word) × (slice_get formats (length formats - 1) ≡ Some ds) × IsScanWord profile word ds
+lasts profile [] formats are some = absurd (omega (arith, some))
+lasts profile (word ∷ words) [] are some = absurd are
+lasts profile (word ∷ []) (ds ∷ []) (stands, are) some = (word, ds, refl, refl, stands)
+lasts profile (word ∷ []) (ds ∷ other ∷ formats) (stands, are) some = absurd (cc)
+lasts profile (word ∷ next ∷ words) (ds ∷ []) (stands, are) some = absurd are
+lasts profile (word ∷ next ∷ words) (ds ∷ other ∷ formats) (stands, are) some =
+    let (last, format, word_is, format_is, spells) = lasts profile (next ∷ words) (other ∷ formats) are (omega arith) in
+    (last, format, last_behind word next words last word_is, last_behind ds other formats format format_is, spells)
+
+-- so that something is told of lines by them
+pub telling_of : (profile : Profile) (quiet explain : Bool) (words : List (List ℕ)) (formats : List (List Directive)) → AreScanWords profile words formats → 0 < length words
+    → (text : List ℕ) → (explain ≡ true → OfWord Unescapes (slice_get words (length words - 1)) text)
+    → (ds : List Directive) × (telling : ℕ → List ℕ → LineFault → List ℕ) × (slice_get formats (length formats - 1) ≡ Some ds) × SaysLines profile quiet explain text ds telling × IsTelling profile quiet explain words formats telling
+telling_of profile quiet explain words formats are some text reads =
+    let (word, ds, word_is, format_is, (own, stands, spells)) = lasts profile words formats are some in
+    by explain reads word ds word_is format_is own stands spells
+  where
+    by : (e : Bool) → (e ≡ true → OfWord Unescapes (slice_get words (length words - 1)) text) → (word : List ℕ) (ds : List Directive) → slice_get words (length words - 1) ≡ Some word → slice_get formats (length formats - 1) ≡ Some ds
+        → (own : List ℕ) → Unescapes word own → Spells profile own ds
+        → (ds : List Directive) × (telling : ℕ → List ℕ → LineFault → List ℕ) × (slice_get formats (length formats - 1) ≡ Some ds) × SaysLines profile quiet e text ds telling × IsTelling profile quiet e words formats telling
+    by false h word ds word_is format_is own stands spells =
+        (ds, line_telling quiet (λ line fault. []), format_is, refl, record { word = word; text = own; ds = ds; last_word = word_is; last_format = format_is; stands = stands; says = refl })
+    by true h word ds word_is format_is own stands (pieces, format, own_is, mean) =
+        let same : own ≡ text = one_reading word own text stands (subst (λ w. OfWord Unescapes w text) word_is (h refl)) in
+        let text_is : text ≡ text_of pieces = sym same ∙ own_is in
+        let telling : ℕ → List ℕ → LineFault → List ℕ = line_telling quiet (more_of_line pieces ds) in
+        (ds, telling, format_is, (pieces, format, text_is, refl), record { word = word; text = own; ds = ds; last_word = word_is; last_format = format_is; stands = stands; says = (pieces, format, own_is, refl) })

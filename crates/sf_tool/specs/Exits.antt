@@ -50,7 +50,7 @@ abbrev pub EndsLines : {S K E : Type 0} → (S → Option (List ℕ)) → (S →
     → Ahead S → Ahead S → K → K → E → E → ℕ → Type 0
 EndsLines {S} {K} {E} to_come read_faults contents write_faults said unsaid options order from from' out out' err err' status =
     (answer : Answer) × ((between : E)
-    × ScansLines to_come read_faults contents write_faults said unsaid (grammar_of order.profile) (form_of order.output) options order.limit (map string_bytes order.texts.items) from from' out out' err between answer
+    × ScansLines to_come read_faults contents write_faults said unsaid (grammar_of order.profile) (form_of order.output) options order.explain order.limit (map string_bytes order.texts.items) from from' out out' err between answer
     × Ends said unsaid [] answer between err' status)
 
 -- what an order of records does, or one of lines

@@ -10,11 +10,13 @@ use Rattle.sf_format.specs.Language.{Scan}
 use Rattle.sf_format.specs.Faults.{Fault}
 use Rattle.sf_format.specs.Grammar.{IsFormat, MeanAll, Means}
 use Rattle.sf_format.specs.Pieces.{Piece, text_at, text_of}
+use Rattle.sf_lines.specs.declared.end.LineFault.{LineFault}
+use Rattle.sf_lines.specs.declared.end.LineFault.TheVariants as line
 use Rattle.sf_messages.specs.declared.fault.CommandFault.{CommandFault}
 use Rattle.sf_messages.specs.declared.fault.CommandFault.TheVariants.{BadEscape, Format, PrintFormat, Record, Pair}
 use Rattle.sf_messages.specs.declared.fault.FormatName.{FormatName}
 use Rattle.sf_messages.specs.declared.fault.FormatName.TheVariants as name
-use Rattle.sf_messages.specs.Notes.{escape_notes, failed_notes, format_notes, input_notes, pair_notes}
+use Rattle.sf_messages.specs.Notes.{escape_notes, failed_notes, format_notes, input_notes, line_notes, pair_notes}
 use Rattle.sf_pair.specs.declared.fault.PairFault.{PairFault}
 use Rattle.sf_places.specs.declared.place.Place.{Place}
 use Rattle.sf_records.specs.declared.end.ToolFault.TheVariants.{Failed, Stalled, Unfit, Read}
@@ -55,6 +57,21 @@ shown_at ds number = option_map_or directive_text (slice_get ds (number - 1)) []
 -- how it is told: its own text, as it stands in the format, between quotes, and how it is shown
 abbrev pub told_at : List Piece → List Directive → ℕ → List ℕ
 told_at pieces ds number = quoted (unwrap_or (text_at number pieces) []) ++ (codes ", " ++ shown_at ds number)
+
+-- how the directive is told at which a line failed
+abbrev pub told_of_line : List Piece → List Directive → LineFault → List ℕ
+told_of_line pieces ds (line.Failed outcome) = told_at pieces ds outcome.at
+told_of_line pieces ds _ = []
+
+-- what is said behind the line of one that is no match, by the parts of the format that counts on it, and its directives
+abbrev pub more_of_line : List Piece → List Directive → List ℕ → LineFault → List ℕ
+more_of_line pieces ds line fault = line_notes (told_of_line pieces ds fault) line fault
+
+-- the same by its bytes, where that is asked for
+abbrev pub IsMoreOfLine : Profile → Bool → List ℕ → List Directive → List ℕ → LineFault → List ℕ → Type 0
+IsMoreOfLine profile false text ds line fault notes = notes ≡ []
+IsMoreOfLine profile true text ds line fault notes =
+    (pieces : List Piece) → IsFormat (Scan profile) pieces → text ≡ text_of pieces → notes ≡ more_of_line pieces ds line fault
 
 -- The bytes are those of these parts of a format, which stand for these directives: the notes of a record that is no match, by
 -- the place where the run stopped, if that is known, and the bytes that the run left.

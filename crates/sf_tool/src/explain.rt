@@ -5,16 +5,17 @@ ghost use Rattle.sf_format.specs.Grammar.{IsFormat};
 ghost use Rattle.sf_format.specs.Pieces.{Piece, text_of};
 ghost use Rattle.sf_messages.specs.Notes.{escape_notes};
 ghost use Rattle.sf_tool.specs.Commands.{grammar_of};
-ghost use Rattle.sf_tool.specs.Explains.{Explains, OfBoth, OfWord, SaysClean, SaysFailed, SaysFailedText, SaysFormat, SaysMore, SaysPair, SaysVerdict, shown_at, told_at, word_place};
+ghost use Rattle.sf_tool.specs.Explains.{Explains, OfBoth, OfWord, SaysClean, SaysFailed, SaysFailedText, SaysFormat, SaysMore, SaysPair, SaysVerdict, IsMoreOfLine, shown_at, told_at, told_of_line, word_place};
 
 use crate::check::verdict_of;
 use crate::command::grammar_of;
 use crate::escape::{EscapeFault, unescape};
 use crate::formats::read_print;
 use sf_format::{FormatFault, FormatWhy, PrintFormat, Profile, ScanFormat, directive_text};
+use sf_lines::LineFault;
 use sf_messages::{
-    CommandFault, FormatName, escape_notes, failed_notes, format_notes, input_notes, pair_notes,
-    push_directive,
+    CommandFault, FormatName, escape_notes, failed_notes, format_notes, input_notes, line_notes,
+    pair_notes, push_directive,
 };
 use sf_places::Place;
 use sf_records::{ToolFault, push_quoted};
@@ -109,6 +110,41 @@ fn told_at(
     told.extend_from_slice(b", ")?;
     told.extend_from_slice(&shown_at(alloc, format, number)?)?;
     Ok(told)
+}
+
+/// How the directive is told at which a line failed, by the format and its bytes.
+fn told_of_line(
+    alloc: Global,
+    profile: Profile,
+    text: &[u8],
+    format: &ScanFormat,
+    fault: LineFault,
+) -> Result<Vec<u8>, AllocError>
+    ensures { IfOk result (λ told. (pieces : List Piece) → IsFormat (Scan profile) pieces → text.now ≡ text_of pieces → told.items ≡ told_of_line pieces format.now fault) }
+{
+    match fault {
+        LineFault::Failed { outcome } => told_at(alloc, profile, text, format, outcome.at),
+        LineFault::LeftOver { .. } | LineFault::TooLong => Ok(Vec::new(alloc)),
+    }
+}
+
+/// What is said behind the line of one that is no match, where that is asked for, by the format that counts on it and its bytes.
+pub(crate) fn more_of_line(
+    alloc: Global,
+    explain: bool,
+    profile: Profile,
+    text: &[u8],
+    format: &ScanFormat,
+    line: &[u8],
+    fault: LineFault,
+) -> Result<Vec<u8>, AllocError>
+    ensures { IfOk result (λ notes. IsMoreOfLine profile explain text.now format.now line.now fault notes.items) }
+{
+    if !explain {
+        return Ok(Vec::new(alloc));
+    }
+    let told = told_of_line(alloc, profile, text, format, fault)?;
+    line_notes(alloc, &told, line, fault)
 }
 
 /// What is said of a record that is no match, by the bytes of its format and what the run left.

@@ -1,10 +1,17 @@
 //! The lines of an input, each scanned by the formats of an order.
 ghost use Rattle.std.specs.Borrow.{GName};
-ghost use Rattle.std.specs.Prelude.{◌≡◌, ◌≤◌, ◌<◌, false, IfOk, IfErr, length, map, refl, string_bytes};
+ghost use Rattle.std.specs.Prelude.{◌≡◌, ◌≤◌, ◌<◌, ◌-◌, ℕ, List, Some, true, false, IfOk, IfErr, length, map, option_map, refl, slice_get, string_bytes};
+ghost use Rattle.sf_format.specs.declared.directive.Directive.{Directive};
+ghost use Rattle.sf_lines.specs.declared.end.LineFault.{LineFault};
 ghost use Rattle.sf_tool.specs.Commands.{form_of, grammar_of};
-ghost use Rattle.sf_tool.specs.Lines.{AreNoScanWords, AreScanWords, RunsLines, ScansLines, answer_by, line_telling, line_text};
+ghost use Rattle.sf_tool.specs.Escapes.{Unescapes};
+ghost use Rattle.sf_tool.specs.Explains.{OfWord};
+ghost use Rattle.sf_tool.specs.Lines.{AreNoScanWords, AreScanWords, RunsLines, SaysLines, ScansLines, answer_by, line_text};
 
 use crate::command::{form_of, grammar_of};
+use crate::error_output::write_told;
+use crate::escape::unescape;
+use crate::explain::more_of_line;
 use crate::formats::read_scan;
 use sf_base::Store;
 use sf_format::{Profile, ScanFormat};
@@ -12,10 +19,10 @@ use sf_lines::{LineFault, LinesEnd, LinesOptions, RecordFault, RecordWriter, Tel
 use sf_messages::{CommandFault, line_fault_line};
 use sf_print::Sink;
 use sf_read::{Lookahead, Source};
-use sf_records::{FormWriter, OutputForm, write_whole};
+use sf_records::{FormWriter, OutputForm};
 use sf_run::Report;
 use sf_words::{LineOptions, Order};
-use std::alloc::Global;
+use std::alloc::{AllocError, Global};
 
 /// Writes the record of each line, in a form.
 #[derive(Drop)]
@@ -46,13 +53,19 @@ impl RecordWriter for LineRecords {
 /// nothing more is said.
 #[derive(Drop)]
 struct LineNotes<'e, E: Sink> {
+    alloc: Global,
     err: &'e mut E,
     quiet: bool,
     failed: bool,
+    /// Whether more is said of a line, by the last format and its bytes.
+    explain: bool,
+    profile: Profile,
+    text: &'e [u8],
+    format: &'e ScanFormat,
 }
 
 impl<E: Sink> Teller for LineNotes<'_, E> {
-    ghost telling = { λ notes number fault. line_telling notes.quiet number fault };
+    ghost says = { λ notes telling. SaysLines notes.profile notes.quiet notes.explain notes.text.now notes.format.now telling };
 
     ghost told = { λ notes. E.contents notes.err.now };
 
@@ -64,15 +77,22 @@ impl<E: Sink> Teller for LineNotes<'_, E> {
 
     ghost kept = { λ notes. notes.err.ghost_name };
 
-    fn tell(&mut self, number: u64, fault: LineFault) {
+    fn tell(&mut self, number: u64, line: &[u8], fault: LineFault) -> Result<(), AllocError> {
         if self.quiet || self.failed {
-            return;
+            return Ok(());
         }
-        let line = line_fault_line(number, fault);
-        match write_whole(self.err, line.as_str().as_bytes()) {
-            Ok(()) => {}
-            Err(_) => self.failed = true,
-        }
+        let more = more_of_line(
+            self.alloc,
+            self.explain,
+            self.profile,
+            self.text,
+            self.format,
+            line,
+            fault,
+        )?;
+        let told = line_fault_line(number, fault);
+        self.failed = write_told(self.err, told.as_str().as_bytes(), &more);
+        Ok(())
     }
 }
 
@@ -118,9 +138,9 @@ fn loop_lines<S: Source, K: Sink, E: Sink, const N: usize>(
 ) -> Result<u8, CommandFault>
     requires limit { limit ≤ 2147483647 }
     requires some { 0 < length formats.now }
-    requires quiet { notes.old.quiet ≡ options.quiet }
     requires fresh { notes.old.failed ≡ false }
-    ensures runs { RunsLines S.to_come S.failures K.contents K.failures E.contents E.failures form options limit formats.now from.old from.new out.old out.new notes.old.err.now notes.new.err.now result }
+    ensures runs { (telling : ℕ → List ℕ → LineFault → List ℕ) → SaysLines notes.old.profile notes.old.quiet notes.old.explain notes.old.text.now notes.old.format.now telling
+        → RunsLines S.to_come S.failures K.contents K.failures E.contents E.failures form options limit formats.now telling from.old from.new out.old out.new notes.old.err.now notes.new.err.now result }
     ensures kept { notes.new.err.ghost_name ≡ notes.old.err.ghost_name }
 {
     let writer = FormWriter::new(alloc, form);
@@ -135,27 +155,71 @@ fn loop_lines<S: Source, K: Sink, E: Sink, const N: usize>(
     answer_by(end)
 }
 
-/// Scans the lines by the formats.
+/// The last of the words.
+fn last_word(words: &[String]) -> Option<&str>
+    ensures { option_map (λ given. given.now) result ≡ slice_get (map string_bytes words.entry.now) (length words.entry.now - 1) }
+{
+    match words.get(words.len().saturating_sub(1)) {
+        Some(text) => Some(text.as_str()),
+        None => None,
+    }
+}
+
+/// The bytes of a format's word, where they are asked for. The word spells a format, so that what is refused is memory alone.
+fn text_of_last(alloc: Global, explain: bool, word: Option<&str>) -> Result<Vec<u8>, CommandFault>
+    ensures ok { IfOk result (λ text. explain ≡ true → OfWord Unescapes (option_map (λ given. given.now) word.entry) text.items) }
+    ensures err { IfErr result (λ fault. fault ≡ CommandFault.Memory) }
+{
+    if !explain {
+        return Ok(Vec::new(alloc));
+    }
+    let Some(word) = word else {
+        return Ok(Vec::new(alloc));
+    };
+    match unescape(alloc, word.as_bytes()) {
+        Ok(text) => Ok(text),
+        Err(_) => Err(CommandFault::Memory),
+    }
+}
+
+/// Scans the lines by the formats; `text` has the bytes of the last one where more is said of lines.
 fn lines_by<S: Source, K: Sink, E: Sink, const N: usize>(
     alloc: Global,
     formats: &[ScanFormat],
-    form: OutputForm,
+    text: &[u8],
+    order: &Order,
     options: LineOptions,
-    limit: u32,
     from: &mut Lookahead<S, N>,
     out: &mut K,
     err: &mut E,
 ) -> Result<u8, CommandFault>
-    requires limit { limit ≤ 2147483647 }
+    requires limit { order.now.limit ≤ 2147483647 }
     requires some { 0 < length formats.now }
-    ensures { RunsLines S.to_come S.failures K.contents K.failures E.contents E.failures form options limit formats.now from.old from.new out.old out.new err.old err.new result }
+    ensures { (ds : List Directive) (telling : ℕ → List ℕ → LineFault → List ℕ) → slice_get formats.now (length formats.now - 1) ≡ Some ds
+        → SaysLines (grammar_of order.now.profile) options.quiet order.now.explain text.now ds telling
+        → RunsLines S.to_come S.failures K.contents K.failures E.contents E.failures (form_of order.now.output) options order.now.limit formats.now telling from.old from.new out.old out.new err.old err.new result }
 {
     let mut notes = LineNotes {
+        alloc,
         err,
         quiet: options.quiet,
         failed: false,
+        explain: order.explain,
+        profile: grammar_of(order.profile),
+        text,
+        format: &formats[formats.len() - 1],
     };
-    loop_lines(alloc, formats, form, options, limit, from, out, &mut notes)
+    let form = form_of(order.output);
+    loop_lines(
+        alloc,
+        formats,
+        form,
+        options,
+        order.limit,
+        from,
+        out,
+        &mut notes,
+    )
 }
 
 /// Scans the lines of what the lookahead holds and its source gives, by the formats of an order, and answers the exit status.
@@ -170,10 +234,10 @@ pub(crate) fn scan_lines<S: Source, K: Sink, E: Sink, const N: usize>(
 ) -> Result<u8, CommandFault>
     requires limit { order.now.limit ≤ 2147483647 }
     requires some { 0 < length order.now.texts.items }
-    ensures { ScansLines S.to_come S.failures K.contents K.failures E.contents E.failures (grammar_of order.now.profile) (form_of order.now.output) options order.now.limit
+    ensures { ScansLines S.to_come S.failures K.contents K.failures E.contents E.failures (grammar_of order.now.profile) (form_of order.now.output) options order.now.explain order.now.limit
         (map string_bytes order.now.texts.items) from.old from.new out.old out.new err.old err.new result }
 {
     let formats = formats_of(alloc, grammar_of(order.profile), &order.texts)?;
-    let form = form_of(order.output);
-    lines_by(alloc, &formats, form, options, order.limit, from, out, err)
+    let text = text_of_last(alloc, order.explain, last_word(&order.texts))?;
+    lines_by(alloc, &formats, &text, order, options, from, out, err)
 }

@@ -15,7 +15,7 @@ type Row = (
     u8,
 );
 
-const ROWS: [Row; 16] = [
+const ROWS: [Row; 20] = [
     (&["%d,%d"], b"1,2\n3,4", "1 2\n3 4\n", "", 0),
     (&["%d"], b"", "", "", 0),
     // the formats are tried in their order
@@ -87,12 +87,40 @@ const ROWS: [Row; 16] = [
         "",
         0,
     ),
-    // nothing more is said where more is asked for
+    // more is said where more is asked for: what the last format came to, and what it left
     (
         &["--explain", "%d"],
         b"x\n",
         "",
-        "sf: line 1: matching failure at 1, used 0, assigned 0\n",
+        "sf: line 1: matching failure at 1, used 0, assigned 0\n  directive 1: \"%d\", d i32 width - slot 1\n  there stood \"x\"\n",
+        1,
+    ),
+    (
+        &["--explain", "--keep-going", "-e", "%d", "-e", "a\\x3b%s"],
+        b"1\na,b\na;\n",
+        "1\n",
+        "sf: line 2: matching failure at 2, used 1, assigned 0\n  directive 2: \";\", byte \";\"\n  there stood \",b\"\nsf: line 3: input failure at 3, used 2, assigned 0\n  directive 3: \"%s\", s text width - slot 1\n  the input ended there\n",
+        1,
+    ),
+    (
+        &["--explain", "--whole", "%d"],
+        b"1 2\n",
+        "",
+        "sf: line 1: left over at 1\n  there stood \" 2\"\n",
+        1,
+    ),
+    (
+        &["--explain", "--limit", "3", "%d"],
+        b"1234\n",
+        "",
+        "sf: line 1: too long\n  it begins with \"123\"\n",
+        1,
+    ),
+    (
+        &["--explain", "--quiet", "--keep-going", "%d"],
+        b"x\n1\n",
+        "1\n",
+        "",
         1,
     ),
     (&["--profile", "2", "%b"], b"0b101\n", "5\n", "", 0),

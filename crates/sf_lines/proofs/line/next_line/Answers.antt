@@ -1,6 +1,6 @@
 use Rattle.std.proofs.Common.{◌∙◌, Bool, cond, length, refl, sym, ap, arith}
 use Rattle.sf_read.specs.Counts.{counted_on}
-use Rattle.sf_lines.proofs.Gathering.{begins, at_end, ended_long, ended_short, failed, more, too_many, empty_list, tested_zero, tested_some, if_ok, if_err}
+use Rattle.sf_lines.proofs.Gathering.{begins, within, at_end, ended_long, ended_short, failed, more, too_many, empty_list, tested_zero, tested_some, if_ok, if_err}
 use Rattle.sf_lines.proofs.line.next_line.Goals as goal
 
 pub loop-block-init : goal.loop-block-init
@@ -23,7 +23,7 @@ returns-then-is_at_end-clause-failures g c = rw (c.last_read.ensures.sound) c.lo
 pub gather-requires : goal.gather-requires
 gather-requires g c = record {
   within = omega (arith, c.piece_of-piece.ensures.within, ap length c.held-held.ensures.held);
-  kept = λ e. omega (arith, c.loop-block.line.ok.0, (c.loop-block.invariant.going.kept e).1);
+  kept = omega (arith, c.loop-block.line.ok.0, within c.loop-block.invariant.going);
 }
 
 pub returns-in-Err-clause-reads : goal.returns-in-Err-clause-reads
@@ -35,8 +35,9 @@ returns-in-Err-clause-failures g c = c.loop-block.invariant.sound
 pub returns-then-long-clause-reads : goal.returns-then-long-clause-reads
 returns-then-long-clause-reads g c =
     let going = c.loop-block.invariant.going in
-    ended_long going c.piece_of-piece.result.len (rw c.held-held.ensures.held at c.piece_of-piece.ensures.line) (sym c.is_at_end.ensures.is ∙ c.if-is_at_end.false) c.consume.new.self _
+    ended_long going c.piece_of-piece.result.len (rw c.held-held.ensures.held at c.piece_of-piece.ensures.line) (sym c.is_at_end.ensures.is ∙ c.if-is_at_end.false) c.consume.new.self c.gather.new.line.items _
     (rw c.held-held.ensures.held at (c.piece_of-piece.ensures.ended c.if-piece.true)) c.consume.ensures.held c.consume.ensures.source c.loop-block.line.ok.0 (rw c.held-held.ensures.held at c.piece_of-piece.ensures.within) (c.in-Ok.ensures.longer c.if-long.true)
+    (rw (← c.held-held.ensures.held) c.in-Ok.ensures.front)
 
 pub returns-then-long-clause-failures : goal.returns-then-long-clause-failures
 returns-then-long-clause-failures g c = ap g.S.Source.failures c.consume.ensures.source ∙ c.loop-block.invariant.sound
@@ -45,7 +46,8 @@ pub returns-else-long-clause-reads : goal.returns-else-long-clause-reads
 returns-else-long-clause-reads g c =
     let going = c.loop-block.invariant.going in
     ended_short going c.piece_of-piece.result.len (rw c.held-held.ensures.held at c.piece_of-piece.ensures.line) (sym c.is_at_end.ensures.is ∙ c.if-is_at_end.false) c.consume.new.self c.gather.new.line.items _
-    (rw c.held-held.ensures.held at (c.piece_of-piece.ensures.ended c.if-piece.true)) c.consume.ensures.held c.consume.ensures.source c.gather.new.line.ok.0 (rw (← c.held-held.ensures.held) (c.in-Ok.ensures.within c.if-long.false))
+    (rw c.held-held.ensures.held at (c.piece_of-piece.ensures.ended c.if-piece.true)) c.consume.ensures.held c.consume.ensures.source c.loop-block.line.ok.0 (rw c.held-held.ensures.held at c.piece_of-piece.ensures.within) (c.in-Ok.ensures.short c.if-long.false)
+    (rw (← c.held-held.ensures.held) c.in-Ok.ensures.front)
 
 pub returns-else-long-clause-failures : goal.returns-else-long-clause-failures
 returns-else-long-clause-failures g c = ap g.S.Source.failures c.consume.ensures.source ∙ c.loop-block.invariant.sound
@@ -66,8 +68,8 @@ loop-block-preserved g c = record {
   going =
       let going = c.loop-block.invariant.going in
       more going c.piece_of-piece.result.len (rw c.held-held.ensures.held at c.piece_of-piece.ensures.line) (sym c.is_at_end.ensures.is ∙ c.if-is_at_end.false) (rw c.held-held.ensures.held at (c.piece_of-piece.ensures.all c.if-piece.false)) c.consume-in-loop-block.new.self c.refill.new.self
-      c.consume-in-loop-block.ensures.held c.consume-in-loop-block.ensures.source c.refill.ensures.bytes c.gather.new.line.items _ _ c.in-Ok.longer c.loop-block.line.ok.0 c.gather.new.line.ok.0
-      c.in-Ok.ensures.longer (rw (← c.held-held.ensures.held) c.in-Ok.ensures.within) (if_ok c.refill.result (sym c.is_err.ensures.value ∙ c.if-is_err.false) c.refill.ensures.read);
+      c.consume-in-loop-block.ensures.held c.consume-in-loop-block.ensures.source c.refill.ensures.bytes c.gather.new.line.items _ c.in-Ok.longer c.loop-block.line.ok.0
+      c.in-Ok.ensures.longer c.in-Ok.ensures.short (rw (← c.held-held.ensures.held) c.in-Ok.ensures.front) (if_ok c.refill.result (sym c.is_err.ensures.value ∙ c.if-is_err.false) c.refill.ensures.read);
   sound =
       c.refill.ensures.failures ∙ ap (λ (b : Bool). cond b (counted_on (g.S.Source.failures c.consume-in-loop-block.new.self.source)) (g.S.Source.failures c.consume-in-loop-block.new.self.source)) (sym c.is_err.ensures.value ∙ c.if-is_err.false)
       ∙ ap g.S.Source.failures c.consume-in-loop-block.ensures.source ∙ c.loop-block.invariant.sound;

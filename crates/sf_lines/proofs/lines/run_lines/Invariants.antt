@@ -1,5 +1,6 @@
 use Rattle.std.proofs.Common.{◌≡◌, ◌≤◌, true, ℕ, List, Some}
 use Rattle.sf_read.specs.Ahead.{input_of}
+use Rattle.sf_lines.specs.declared.end.LineFault.{LineFault}
 use Rattle.sf_lines.specs.Telling.{faults_by}
 use Rattle.sf_lines.specs.Turns.{work_of}
 use Rattle.sf_lines.proofs.Looping.{Going}
@@ -8,10 +9,10 @@ use Rattle.sf_lines.proofs.lines.run_lines.Given as goal
 -- the lines so far; what is written and told of each stays the same, and neither the source nor the sink has failed
 abbrev pub invariant-loop-before : goal.invariant-loop-before
 invariant-loop-before g l = record {
-  going : (t : List ℕ) → input_of g.S.Source.to_come l.fn.from ≡ Some t
-      → Going (work_of l.options l.formats (g.R.RecordWriter.text l.fn.writer) (g.E.Teller.telling l.fn.teller)) g.S.Source.to_come t l.from (g.K.Sink.contents l.fn.to) (g.K.Sink.contents l.to) (g.E.Teller.failed l.fn.teller) (g.E.Teller.failed l.teller) (g.E.Teller.told l.fn.teller) (g.E.Teller.told l.teller) l.counts.written l.counts.failed l.before;
+  going : (telling : ℕ → List ℕ → LineFault → List ℕ) (t : List ℕ) → g.E.Teller.says l.fn.teller telling → input_of g.S.Source.to_come l.fn.from ≡ Some t
+      → Going (work_of l.options l.formats (g.R.RecordWriter.text l.fn.writer) telling) g.S.Source.to_come t l.from (g.K.Sink.contents l.fn.to) (g.K.Sink.contents l.to) (g.E.Teller.failed l.fn.teller) (g.E.Teller.failed l.teller) (g.E.Teller.told l.fn.teller) (g.E.Teller.told l.teller) l.counts.written l.counts.failed l.before;
   text : g.R.RecordWriter.text l.writer ≡ g.R.RecordWriter.text l.fn.writer;
-  telling : g.E.Teller.telling l.teller ≡ g.E.Teller.telling l.fn.teller;
+  says : (telling : ℕ → List ℕ → LineFault → List ℕ) → g.E.Teller.says l.fn.teller telling → g.E.Teller.says l.teller telling;
   kept : g.E.Teller.kept l.teller ≡ g.E.Teller.kept l.fn.teller;
   stays : g.E.Teller.failed l.fn.teller ≡ true → g.E.Teller.failed l.teller ≡ true;
   faults : g.E.Teller.faults l.teller ≡ faults_by (g.E.Teller.failed l.fn.teller) (g.E.Teller.failed l.teller) (g.E.Teller.faults l.fn.teller);

@@ -12,8 +12,8 @@ pub returns-in-Some-clause-turns : goal.returns-in-Some-clause-turns
 returns-in-Some-clause-turns g c telling =
     let w = work_of c.args.options c.args.formats.now (g.R.RecordWriter.text c.args.writer.now) telling in
     let (line, took, short, made) = c.in-Some.ensures.took in
-    subst (Turns g.S.Source.to_come c.args.from.now c.take_at_once.new.from w (c.args.before + 1) (g.K.Sink.contents c.args.to.now) (g.K.Sink.contents c.take_at_once.new.to)) (sym c.after_write.ensures)
-    (turned_match g.S.Source.to_come c.args.from.now c.take_at_once.new.from w (c.args.before + 1) (g.K.Sink.contents c.args.to.now) (g.K.Sink.contents c.take_at_once.new.to) line took (omega (arith, c.if-options-before.false)) short _ c.in-Some.wrote made)
+    subst (Turns g.S.Source.to_come c.args.from.now c.take_at_once.new.from w (c.args.before + 1) c.args.line.now.items (g.K.Sink.contents c.args.to.now) (g.K.Sink.contents c.take_at_once.new.to)) (sym c.after_write.ensures)
+    (turned_match g.S.Source.to_come c.args.from.now c.take_at_once.new.from w (c.args.before + 1) (g.K.Sink.contents c.args.to.now) (g.K.Sink.contents c.take_at_once.new.to) line c.args.line.now.items took (omega (arith, c.if-options-before.false)) short _ c.in-Some.wrote made)
 
 pub returns-in-Some-clause-source : goal.returns-in-Some-clause-source
 returns-in-Some-clause-source g c =
@@ -27,7 +27,7 @@ returns-in-Some-clause-sink g c =
 
 pub returns-in-None-clause-turns : goal.returns-in-None-clause-turns
 returns-in-None-clause-turns g c telling =
-    subst (λ (now : Ahead g.row.S.Denot). Turns g.S.Source.to_come now c.read_line-in-None.new.from (work_of c.args.options c.args.formats.now (g.R.RecordWriter.text c.args.writer.now) telling) (c.args.before + 1) (g.K.Sink.contents c.args.to.now) (g.K.Sink.contents c.read_line-in-None.new.to) c.read_line-in-None.result) (c.in-None.ensures.untaken refl)
-    (subst (λ (is : Option (List ℕ)). Turns g.S.Source.to_come c.take_at_once.new.from c.read_line-in-None.new.from (work_of c.args.options c.args.formats.now (g.R.RecordWriter.text c.args.writer.now) telling) (c.args.before + 1) is (g.K.Sink.contents c.read_line-in-None.new.to) c.read_line-in-None.result) (ap g.K.Sink.contents (c.in-None.ensures.unwritten refl))
-    (subst (λ (text : List Directive → RunReport → List ℕ). Turns g.S.Source.to_come c.take_at_once.new.from c.read_line-in-None.new.from (work_of c.args.options c.args.formats.now text telling) (c.args.before + 1) (g.K.Sink.contents c.take_at_once.new.to) (g.K.Sink.contents c.read_line-in-None.new.to) c.read_line-in-None.result) c.in-None.ensures.same
+    subst (λ (now : Ahead g.row.S.Denot). Turns g.S.Source.to_come now c.read_line-in-None.new.from (work_of c.args.options c.args.formats.now (g.R.RecordWriter.text c.args.writer.now) telling) (c.args.before + 1) c.read_line-in-None.new.line.items (g.K.Sink.contents c.args.to.now) (g.K.Sink.contents c.read_line-in-None.new.to) c.read_line-in-None.result) (c.in-None.ensures.untaken refl)
+    (subst (λ (is : Option (List ℕ)). Turns g.S.Source.to_come c.take_at_once.new.from c.read_line-in-None.new.from (work_of c.args.options c.args.formats.now (g.R.RecordWriter.text c.args.writer.now) telling) (c.args.before + 1) c.read_line-in-None.new.line.items is (g.K.Sink.contents c.read_line-in-None.new.to) c.read_line-in-None.result) (ap g.K.Sink.contents (c.in-None.ensures.unwritten refl))
+    (subst (λ (text : List Directive → RunReport → List ℕ). Turns g.S.Source.to_come c.take_at_once.new.from c.read_line-in-None.new.from (work_of c.args.options c.args.formats.now text telling) (c.args.before + 1) c.read_line-in-None.new.line.items (g.K.Sink.contents c.take_at_once.new.to) (g.K.Sink.contents c.read_line-in-None.new.to) c.read_line-in-None.result) c.in-None.ensures.same
     (c.read_line-in-None.ensures.turns telling)))

@@ -2,33 +2,27 @@ use Rattle.std.proofs.Common.{◌≡◌, Bool, false, subst}
 use Rattle.sf_lines.specs.Loops.{TellsLines}
 use Rattle.sf_records.specs.declared.form.OutputForm.{OutputForm}
 use Rattle.sf_lines.specs.Telling.{faults_by}
-use Rattle.sf_lines.specs.Turns.{work_of}
-use Rattle.sf_tool.specs.Lines.{line_telling, line_text, options_of}
+use Rattle.sf_tool.specs.Lines.{scanning}
 use Rattle.sf_tool.proofs.Lining.{counts_by}
 use Rattle.sf_tool.proofs.lines.loop_lines.Goals as goal
 
 pub returns-clause-runs : goal.returns-clause-runs
-returns-clause-runs g c =
+returns-clause-runs g c telling says =
     let end = c.run_lines-end.result in
     let before = c.args.notes.now in
     let after = c.run_lines-end.new.teller in
-    let o = options_of c.args.options c.args.limit in
     record {
       end = end;
       mute = after.failed;
       tells = λ t is.
           subst (λ (form : OutputForm).
-          TellsLines (work_of o c.args.formats.now (line_text form) (line_telling c.args.options.quiet)) g.S.Source.to_come t c.run_lines-end.new.from (g.S.Source.failures c.args.from.now.source)
+          TellsLines (scanning form c.args.options c.args.limit c.args.formats.now telling) g.S.Source.to_come t c.run_lines-end.new.from (g.S.Source.failures c.args.from.now.source)
           (g.S.Source.failures c.run_lines-end.new.from.source) (g.K.Sink.contents c.args.out.now) (g.K.Sink.contents c.run_lines-end.new.to) false after.failed
           (g.E.Sink.contents before.err.now) (g.E.Sink.contents after.err.now) end) c.new-writer.ensures
-          (subst (λ (quiet : Bool).
-          TellsLines (work_of o c.args.formats.now (line_text c.new-writer.result) (line_telling quiet)) g.S.Source.to_come t c.run_lines-end.new.from (g.S.Source.failures c.args.from.now.source)
-          (g.S.Source.failures c.run_lines-end.new.from.source) (g.K.Sink.contents c.args.out.now) (g.K.Sink.contents c.run_lines-end.new.to) false after.failed
-          (g.E.Sink.contents before.err.now) (g.E.Sink.contents after.err.now) end) c.requires.quiet
           (subst (λ (failed : Bool).
-          TellsLines (work_of o c.args.formats.now (line_text c.new-writer.result) (line_telling before.quiet)) g.S.Source.to_come t c.run_lines-end.new.from (g.S.Source.failures c.args.from.now.source)
+          TellsLines (scanning c.new-writer.result c.args.options c.args.limit c.args.formats.now telling) g.S.Source.to_come t c.run_lines-end.new.from (g.S.Source.failures c.args.from.now.source)
           (g.S.Source.failures c.run_lines-end.new.from.source) (g.K.Sink.contents c.args.out.now) (g.K.Sink.contents c.run_lines-end.new.to) failed after.failed
-          (g.E.Sink.contents before.err.now) (g.E.Sink.contents after.err.now) end) c.requires.fresh (c.run_lines-end.ensures.tells t is)));
+          (g.E.Sink.contents before.err.now) (g.E.Sink.contents after.err.now) end) c.requires.fresh (c.run_lines-end.ensures.tells telling t says is));
       faults = subst (λ (failed : Bool). g.E.Sink.failures after.err.now ≡ faults_by failed after.failed (g.E.Sink.failures before.err.now)) c.requires.fresh c.run_lines-end.ensures.faults;
       status = c.run_lines-end.ensures.status;
       answers = c.answer_by.ensures;
