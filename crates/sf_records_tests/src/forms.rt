@@ -3,9 +3,11 @@ ghost use Rattle.std.specs.Prelude.{◌≤◌};
 
 use crate::copies::{LIMIT, is};
 use sf_format::{Profile, ScanFormat};
-use sf_print::ListSink;
+use sf_print::{ListSink, ScriptSink, WriteStep};
 use sf_read::{Lookahead, SliceSource, sscan};
-use sf_records::{OutputForm, ToolEnd, push_record, run_scan_as, status_text};
+use sf_records::{
+    FormWriter, OutputForm, RecordFault, ToolEnd, push_record, run_scan_as, status_text,
+};
 use sf_run::Status;
 use std::alloc::Global;
 use std::io::{self, Write};
@@ -223,6 +225,40 @@ fn one_record(rt: HostRuntime) -> Result<(), Fail> {
         &"-12 \"abc\"\n-12\tabc\n[-12,\"abc\"]\n".as_bytes(),
         &"one record",
     );
+    Ok(())
+}
+
+#[test]
+fn records_written_one_by_one(rt: HostRuntime) -> Result<(), Fail> {
+    let alloc = rt.alloc();
+    let format = parsed(alloc, "%d,%3[a-z]")?;
+    let no_scan = |_| Fail::from(io::ErrorKind::InvalidInput);
+    let scanned = sscan(alloc, b"-12,abcd", &format, LIMIT).map_err(no_scan)?;
+    let (report, count) = (scanned.report(), format.destinations());
+    let mut out = ListSink::new(alloc);
+    for form in [OutputForm::Plain, OutputForm::Tsv, OutputForm::Json] {
+        let mut writer = FormWriter::new(alloc, form);
+        for _ in 0..2 {
+            assert!(rt; writer.write(&mut out, &report, count).is_ok());
+        }
+    }
+    let wanted = "-12 \"abc\"\n-12 \"abc\"\n-12\tabc\n-12\tabc\n[-12,\"abc\"]\n[-12,\"abc\"]\n";
+    is(&rt, &out.bytes(), &wanted.as_bytes(), &"records");
+    Ok(())
+}
+
+#[test]
+fn record_for_a_full_sink(rt: HostRuntime) -> Result<(), Fail> {
+    let alloc = rt.alloc();
+    let format = parsed(alloc, "%d,%3[a-z]")?;
+    let no_scan = |_| Fail::from(io::ErrorKind::InvalidInput);
+    let scanned = sscan(alloc, b"-12,abcd", &format, LIMIT).map_err(no_scan)?;
+    let mut writer = FormWriter::new(alloc, OutputForm::Tsv);
+    let steps = [WriteStep::Accept(5), WriteStep::Fail];
+    let mut out = ScriptSink::new(alloc, &steps);
+    let wrote = writer.write(&mut out, &scanned.report(), format.destinations());
+    assert!(rt; wrote == Err(RecordFault::Write));
+    is(&rt, &out.bytes(), &b"-12\ta".as_slice(), &"front");
     Ok(())
 }
 
