@@ -97,11 +97,7 @@ impl Teller for Notes {
         if self.refuses {
             return Err(AllocError);
         }
-        let note = [
-            b'0' + (number % 10) as u8,
-            letter(fault),
-            first_byte(line),
-        ];
+        let note = [b'0' + (number % 10) as u8, letter(fault), first_byte(line)];
         if self.said.extend_from_slice(&note).is_err() {
             self.failed = true;
         }
