@@ -51,6 +51,9 @@ pub trait Teller {
     // Whether this is what it says of each line, by its number, counted from 1, what was read of it, and why it is no match.
     ghost says: { Self → (ℕ → List ℕ → LineFault → List ℕ) → Type 0 };
 
+    // There is something that it says of lines.
+    ghost some: { (teller : Self) → ∥ ((telling : ℕ → List ℕ → LineFault → List ℕ) × says teller telling) ∥₁ };
+
     // All that it said, where that is known.
     ghost told: { Self → Option (List ℕ) };
 

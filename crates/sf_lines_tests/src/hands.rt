@@ -82,6 +82,8 @@ pub(crate) struct Notes {
 impl Teller for Notes {
     ghost says = { λ notes telling. telling ≡ note_of };
 
+    ghost some = { λ notes. ∣ (note_of, refl) ∣₁ };
+
     ghost told = { λ notes. Some notes.said.items };
 
     ghost failed = { λ notes. notes.failed };

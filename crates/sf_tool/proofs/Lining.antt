@@ -2,6 +2,7 @@
 use Rattle.std.proofs.Common.{◌≡◌, ◌∙◌, if◌then◌else◌, ℕ, suc, ◌+◌, ◌<◌, ◌≤◌, true, false, Bool, zero, List, [], ◌∷◌, ◌++◌, length, map, drop, get_or, Option, Some, None, inl, inr, refl, sym, ap, subst, append_assoc, append-nil, arith, true≢false}
 use Rattle.std.specs.Prelude.{slice_get, ◌-◌}
 use Rattle.std.proofs.Math.Seq.{drop-cons}
+use Rattle.std.proofs.lemmas.Option.{same_Some}
 use Rattle.sf_format.specs.declared.directive.Directive.{Directive}
 use Rattle.sf_format.specs.declared.directive.Profile.{Profile}
 use Rattle.sf_format.specs.Grammar.{Spells}
@@ -19,7 +20,7 @@ use Rattle.sf_tool.specs.Answers.{Answer}
 use Rattle.sf_tool.specs.Commands.{Counts, is_write_fault}
 use Rattle.sf_tool.specs.Escapes.{Unescapes}
 use Rattle.sf_tool.specs.Explains.{IsMoreOfLine, OfWord, more_of_line}
-use Rattle.sf_tool.specs.Lines.{AreNoScanWords, AreScanWords, IsTelling, SaysLines, answer_by, line_telling}
+use Rattle.sf_tool.specs.Lines.{AreNoScanWords, AreScanWords, IsTelling, SaysLines, SomeIsSaid, answer_by, line_telling}
 use Rattle.sf_tool.proofs.Escaping.{one_reading}
 
 -- ---- words
@@ -138,3 +139,12 @@ telling_of profile quiet explain words formats are some text reads =
         let text_is : text ≡ text_of pieces = sym same ∙ own_is in
         let telling : ℕ → List ℕ → LineFault → List ℕ = line_telling quiet (more_of_line pieces ds) in
         (ds, telling, format_is, (pieces, format, text_is, refl), record { word = word; text = own; ds = ds; last_word = word_is; last_format = format_is; stands = stands; says = (pieces, format, own_is, refl) })
+
+-- so that there is something that is said by the last of them
+pub some_said : (profile : Profile) (quiet explain : Bool) (words : List (List ℕ)) (formats : List (List Directive)) → AreScanWords profile words formats → 0 < length words
+    → (text : List ℕ) → (explain ≡ true → OfWord Unescapes (slice_get words (length words - 1)) text)
+    → (ds : List Directive) → slice_get formats (length formats - 1) ≡ Some ds → SomeIsSaid profile quiet explain text ds
+some_said profile quiet explain words formats are some text reads ds is =
+    let (own, telling, last, says, told) = telling_of profile quiet explain words formats are some text reads in
+    let same : own ≡ ds = same_Some own ds (sym last ∙ is) in
+    ∣ (telling, subst (λ (d : List Directive). SaysLines profile quiet explain text d telling) same says) ∣₁

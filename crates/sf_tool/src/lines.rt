@@ -6,7 +6,7 @@ ghost use Rattle.sf_lines.specs.declared.end.LineFault.{LineFault};
 ghost use Rattle.sf_tool.specs.Commands.{form_of, grammar_of};
 ghost use Rattle.sf_tool.specs.Escapes.{Unescapes};
 ghost use Rattle.sf_tool.specs.Explains.{OfWord};
-ghost use Rattle.sf_tool.specs.Lines.{AreNoScanWords, AreScanWords, RunsLines, SaysLines, ScansLines, answer_by, line_text};
+ghost use Rattle.sf_tool.specs.Lines.{AreNoScanWords, AreScanWords, RunsLines, SaysLines, ScansLines, SomeIsSaid, answer_by, line_text};
 
 use crate::command::{form_of, grammar_of};
 use crate::error_output::write_told;
@@ -62,10 +62,13 @@ struct LineNotes<'e, E: Sink> {
     profile: Profile,
     text: &'e [u8],
     format: &'e ScanFormat,
+    ghost some: { SomeIsSaid profile quiet explain text.now format.now },
 }
 
 impl<E: Sink> Teller for LineNotes<'_, E> {
     ghost says = { λ notes telling. SaysLines notes.profile notes.quiet notes.explain notes.text.now notes.format.now telling };
+
+    ghost some = { λ notes. notes.some };
 
     ghost told = { λ notes. E.contents notes.err.now };
 
@@ -195,6 +198,7 @@ fn lines_by<S: Source, K: Sink, E: Sink, const N: usize>(
 ) -> Result<u8, CommandFault>
     requires limit { order.now.limit ≤ 2147483647 }
     requires some { 0 < length formats.now }
+    requires said { (ds : List Directive) → slice_get formats.now (length formats.now - 1) ≡ Some ds → SomeIsSaid (grammar_of order.now.profile) options.quiet order.now.explain text.now ds }
     ensures { (ds : List Directive) (telling : ℕ → List ℕ → LineFault → List ℕ) → slice_get formats.now (length formats.now - 1) ≡ Some ds
         → SaysLines (grammar_of order.now.profile) options.quiet order.now.explain text.now ds telling
         → RunsLines S.to_come S.failures K.contents K.failures E.contents E.failures (form_of order.now.output) options order.now.limit formats.now telling from.old from.new out.old out.new err.old err.new result }

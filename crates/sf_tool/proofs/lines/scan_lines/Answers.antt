@@ -1,4 +1,4 @@
-use Rattle.std.proofs.Common.{◌≡◌, ◌<◌, ◌-◌, ◌∙◌, ap, arith, length, map, refl, rules, string_bytes, subst, sym, inl, inr, true, List, ℕ}
+use Rattle.std.proofs.Common.{◌≡◌, ◌<◌, ◌-◌, ◌∙◌, ap, arith, length, map, refl, rules, string_bytes, subst, sym, inl, inr, true, List, Some, ℕ}
 use Rattle.std.specs.Prelude.{slice_get}
 use Rattle.std.proofs.lemmas.List.{length-map}
 use Rattle.sf_format.specs.declared.directive.Directive.{Directive}
@@ -7,8 +7,8 @@ use Rattle.sf_messages.specs.declared.fault.CommandFault.TheVariants.{Memory}
 use Rattle.sf_tool.specs.Commands.{form_of, grammar_of}
 use Rattle.sf_tool.specs.Escapes.{Unescapes}
 use Rattle.sf_tool.specs.Explains.{OfWord}
-use Rattle.sf_tool.specs.Lines.{AreNoScanWords, AreScanWords, RunsLines, SaysLines}
-use Rattle.sf_tool.proofs.Lining.{as_many, refused_memory, telling_of}
+use Rattle.sf_tool.specs.Lines.{AreNoScanWords, AreScanWords, RunsLines, SaysLines, SomeIsSaid}
+use Rattle.sf_tool.proofs.Lining.{as_many, refused_memory, some_said, telling_of}
 use Rattle.sf_tool.proofs.lines.scan_lines.Goals as goal
 
 pub returns-in_err-text : goal.returns-in_err-text
@@ -26,9 +26,24 @@ returns-in_err-text g c =
 
 pub lines_by-requires : goal.lines_by-requires
 lines_by-requires g c =
-    let many = as_many c.grammar_of.result (map string_bytes c.deref.result.now) c.in_ok-formats.formats.items c.in_ok-formats.ensures.ok in
-    let some : 0 < length c.deref-3.result.now = omega (arith, ap (length {A = List Directive}) c.deref-3.ensures.value, many, length-map c.deref.result.now string_bytes, ap length c.deref.ensures.value, c.requires.some) in
-    (search rules, (c.requires.limit, some))
+    let order = c.args.order.now in
+    let texts = order.texts.items in
+    let words : List (List ℕ) = map string_bytes texts in
+    let profile = grammar_of order.profile in
+    let formats : List (List Directive) = c.in_ok-formats.formats.items in
+    let are : AreScanWords profile words formats =
+    subst (λ p. AreScanWords p words formats) c.grammar_of.ensures
+    (subst (λ ts. AreScanWords c.grammar_of.result (map string_bytes ts) formats) c.deref.ensures.value c.in_ok-formats.ensures.ok) in
+    let size : length words ≡ length texts = length-map texts string_bytes in
+    let reads : order.explain ≡ true → OfWord Unescapes (slice_get words (length words - 1)) c.in_ok-text.text.items =
+    λ e. subst (λ w. OfWord Unescapes w c.in_ok-text.text.items)
+    (c.last_word.ensures ∙ ap (λ ts. slice_get (map string_bytes ts) (length ts - 1)) c.deref-2.ensures.value ∙ ap (λ n. slice_get words (n - 1)) (sym size)) (c.in_ok-text.ensures.ok e) in
+    let some : 0 < length c.deref-3.result.now = omega (arith, ap (length {A = List Directive}) c.deref-3.ensures.value, as_many profile words formats are, size, c.requires.some) in
+    let said : (ds : List Directive) → slice_get c.deref-3.result.now (length c.deref-3.result.now - 1) ≡ Some ds → SomeIsSaid profile c.args.options.quiet order.explain c.deref-4.result.now ds =
+    λ ds is. subst (λ t. SomeIsSaid profile c.args.options.quiet order.explain t ds) (sym c.deref-4.ensures.value)
+    (some_said profile c.args.options.quiet order.explain words formats are (omega (arith, size, c.requires.some)) c.in_ok-text.text.items reads ds
+    (ap (λ (fs : List (List Directive)). slice_get fs (length fs - 1)) (sym c.deref-3.ensures.value) ∙ is)) in
+    (search rules, (c.requires.limit, some, said))
 
 pub returns : goal.returns
 returns g c =
