@@ -52,7 +52,7 @@ impl RecordWriter for LineRecords {
 /// Says of each line that is no match what is to be said, as it comes, unless nothing is. Where the error output has failed,
 /// nothing more is said.
 #[derive(Drop)]
-struct LineNotes<'e, E: Sink> {
+struct LineNotes<'e, 't, 'f, E: Sink> {
     alloc: Global,
     err: &'e mut E,
     quiet: bool,
@@ -60,12 +60,12 @@ struct LineNotes<'e, E: Sink> {
     /// Whether more is said of a line, by the last format and its bytes.
     explain: bool,
     profile: Profile,
-    text: &'e [u8],
-    format: &'e ScanFormat,
+    text: &'t [u8],
+    format: &'f ScanFormat,
     ghost some: { SomeIsSaid profile quiet explain text.now format.now },
 }
 
-impl<E: Sink> Teller for LineNotes<'_, E> {
+impl<E: Sink> Teller for LineNotes<'_, '_, '_, E> {
     ghost says = { λ notes telling. SaysLines notes.profile notes.quiet notes.explain notes.text.now notes.format.now telling };
 
     ghost some = { λ notes. notes.some };
@@ -137,7 +137,7 @@ fn loop_lines<S: Source, K: Sink, E: Sink, const N: usize>(
     limit: u32,
     from: &mut Lookahead<S, N>,
     out: &mut K,
-    notes: &mut LineNotes<'_, E>,
+    notes: &mut LineNotes<'_, '_, '_, E>,
 ) -> Result<u8, CommandFault>
     requires limit { limit ≤ 2147483647 }
     requires some { 0 < length formats.now }
