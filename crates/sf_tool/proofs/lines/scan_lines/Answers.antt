@@ -43,7 +43,8 @@ lines_by-requires g c =
     λ ds is. subst (λ t. SomeIsSaid profile c.args.options.quiet order.explain t ds) (sym c.deref-4.ensures.value)
     (some_said profile c.args.options.quiet order.explain words formats are (omega (arith, size, c.requires.some)) c.in_ok-text.text.items reads ds
     (ap (λ (fs : List (List Directive)). slice_get fs (length fs - 1)) (sym c.deref-3.ensures.value) ∙ is)) in
-    (search rules, (c.requires.limit, some, said))
+    let both : (0 < length c.deref-3.result.now) × ((ds : List Directive) → slice_get c.deref-3.result.now (length c.deref-3.result.now - 1) ≡ Some ds → SomeIsSaid profile c.args.options.quiet order.explain c.deref-4.result.now ds) = (some, said) in
+    (search rules, (c.requires.limit, both))
 
 pub returns : goal.returns
 returns g c =
