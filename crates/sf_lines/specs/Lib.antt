@@ -4,4 +4,5 @@ pub mod Laws
 pub mod Loops
 pub mod Reading
 pub mod Telling
+pub mod Texts
 pub mod Turns

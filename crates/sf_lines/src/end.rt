@@ -1,9 +1,12 @@
 //! Why a line is no match, and how the loop over the lines of an input ends.
-ghost use Rattle.std.specs.Prelude.{◌≡◌};
+ghost use Rattle.std.specs.Prelude.{◌≡◌, Some};
 ghost use Rattle.sf_lines.specs.Loops.{fault_after, status_by};
+ghost use Rattle.sf_lines.specs.Texts.{line_fault_text, lines_fault_text};
 
 use crate::line::LineRead;
 use sf_run::Outcome;
+use std::error::Error;
+use std::fmt;
 
 /// Why a line is no match.
 #[derive(Clone, Copy, Debug, PartialEq, Eq)]
@@ -49,15 +52,56 @@ pub(crate) struct Counts {
     pub(crate) failed: u64,
 }
 
+/// Without the number of the line.
+impl fmt::Display for LineFault {
+    ghost output = { λ fault. Some (line_fault_text fault) };
+
+    fn fmt<W: fmt::Write>(&self, f: &mut fmt::Formatter<W>) -> fmt::Result {
+        match *self {
+            LineFault::Failed { outcome } => write!(f, "{outcome}"),
+            LineFault::LeftOver { at } => write!(f, "left over at {at}"),
+            LineFault::TooLong => write!(f, "too long"),
+        }
+    }
+}
+
+impl Error for LineFault {}
+
+impl fmt::Display for LinesFault {
+    ghost output = { λ fault. Some (lines_fault_text fault) };
+
+    fn fmt<W: fmt::Write>(&self, f: &mut fmt::Formatter<W>) -> fmt::Result {
+        match *self {
+            LinesFault::Read { line } => write!(f, "line {line}: read fault"),
+            LinesFault::Write => write!(f, "write fault"),
+            LinesFault::Memory => write!(f, "out of memory"),
+            LinesFault::TooMany => write!(f, "too many lines"),
+        }
+    }
+}
+
+impl Error for LinesFault {}
+
+impl LinesFault {
+    /// The exit status where this is the fault, whatever the lines before it came to.
+    pub fn status(self) -> u8
+        ensures { result ≡ status_by 0 (Some self) }
+    {
+        match self {
+            LinesFault::TooMany => 1,
+            LinesFault::Read { .. } | LinesFault::Write => 3,
+            LinesFault::Memory => 4,
+        }
+    }
+}
+
 /// The exit status after so many lines that were no match.
 pub(crate) fn status(failed: u64, fault: Option<LinesFault>) -> u8
     ensures { result ≡ status_by failed fault }
 {
     match fault {
         None => u8::from(failed > 0),
-        Some(LinesFault::TooMany) => 1,
-        Some(LinesFault::Read { .. } | LinesFault::Write) => 3,
-        Some(LinesFault::Memory) => 4,
+        Some(fault) => fault.status(),
     }
 }
 

@@ -15,13 +15,16 @@ use sf_format::ScanFormat;
 use sf_print::Sink;
 use sf_run::Report;
 use std::alloc::AllocError;
+use thiserror::Error;
 
 /// Why the record of a line was not written in full.
-#[derive(Clone, Copy, Debug, PartialEq, Eq)]
+#[derive(Clone, Copy, Debug, PartialEq, Eq, Error)]
 pub enum RecordFault {
     /// The sink failed.
+    #[error("a record was not written in full")]
     Write,
     /// Memory was refused.
+    #[error("no memory for the text of a record")]
     Memory,
 }
 

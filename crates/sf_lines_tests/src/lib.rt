@@ -2,6 +2,8 @@
 #![tactic(auto)]
 
 #[cfg(test)]
+mod errors;
+#[cfg(test)]
 mod hands;
 #[cfg(test)]
 mod lines;

@@ -4,11 +4,11 @@ use Rattle.std.specs.Fmt.{decimal}
 use Rattle.sf_format.specs.declared.fault.FormatWhy.{FormatWhy}
 use Rattle.sf_format.specs.Texts.{why_text}
 use Rattle.sf_lines.specs.Loops as lines
+use Rattle.sf_lines.specs.Texts.{lines_fault_text}
 use Rattle.sf_records.specs.Records.{status_by}
 use Rattle.sf_records.specs.Texts.{tool_fault_text}
 use Rattle.sf_pair.specs.declared.fault.PairFault.{PairFault}
 use Rattle.sf_pair.specs.Texts.{fault_text}
-use Rattle.sf_messages.specs.LineTexts.{lines_fault_text}
 use Rattle.sf_messages.specs.Names.{kind_text, name_text}
 use Rattle.sf_messages.specs.declared.argument_fault.ArgumentFault.{ArgumentFault}
 use Rattle.sf_messages.specs.declared.argument_fault.ArgumentFault.TheVariants as argument

@@ -1,6 +1,5 @@
 //! Why the command ends, and what it says then.
 ghost use Rattle.std.specs.Prelude.{◌≡◌, Some};
-ghost use Rattle.sf_lines.specs.Loops.{status_by};
 ghost use Rattle.sf_messages.specs.Texts.{command_fault_text, status_of};
 ghost use Rattle.sf_messages.specs.Faults.{format_fault, print_format_fault};
 ghost use Rattle.sf_messages.specs.declared.fault.CommandFault.TheVariants.{Memory};
@@ -73,17 +72,6 @@ impl From<AllocError> for CommandFault {
     }
 }
 
-/// The exit status where the lines of an input stopped before its end.
-fn lines_status(fault: LinesFault) -> u8
-    ensures { result ≡ status_by 0 (Some fault) }
-{
-    match fault {
-        LinesFault::TooMany => 1,
-        LinesFault::Read { .. } | LinesFault::Write => 3,
-        LinesFault::Memory => 4,
-    }
-}
-
 impl CommandFault {
     /// The exit status of the command.
     pub fn status(self) -> u8
@@ -91,7 +79,7 @@ impl CommandFault {
     {
         match self {
             CommandFault::Record(fault) => fault.status(),
-            CommandFault::Lines(fault) => lines_status(fault),
+            CommandFault::Lines(fault) => fault.status(),
             CommandFault::Values(fault) => fault.status(),
             CommandFault::BadEscape { .. }
             | CommandFault::Format(_)
@@ -127,13 +115,7 @@ impl fmt::Display for CommandFault {
             }
             CommandFault::Values(fault) => write!(f, "{fault}"),
             CommandFault::Record(fault) => write!(f, "sf: {fault}"),
-            CommandFault::Lines(LinesFault::Read { line }) => write!(
-                f,
-                "sf: line {line}: read fault"
-            ),
-            CommandFault::Lines(LinesFault::Write) => write!(f, "sf: write fault"),
-            CommandFault::Lines(LinesFault::Memory) => write!(f, "sf: out of memory"),
-            CommandFault::Lines(LinesFault::TooMany) => write!(f, "sf: too many lines"),
+            CommandFault::Lines(fault) => write!(f, "sf: {fault}"),
             CommandFault::Write => write!(f, "sf: write fault"),
             CommandFault::Memory => write!(f, "sf: out of memory"),
             CommandFault::Pair(fault) => {

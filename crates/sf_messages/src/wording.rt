@@ -1,10 +1,10 @@
 //! The line on the error output. It is made without memory, so that want of memory can be told.
 ghost use Rattle.std.specs.Prelude.{◌≡◌, ◌≤◌, ◌++◌, ◌∷◌, [], codes, length};
 ghost use Rattle.std.specs.Fmt.{decimal};
-ghost use Rattle.sf_records.specs.Texts.{status_text};
+ghost use Rattle.sf_run.specs.Wording.{outcome_text};
 ghost use Rattle.sf_messages.specs.Texts.{argument_fault_text, command_fault_text, error_line, expected_text, format_fault_text, record_text};
 ghost use Rattle.sf_messages.specs.Joined.{joined};
-ghost use Rattle.sf_messages.specs.LineTexts.{line_fault_text, outcome_text};
+ghost use Rattle.sf_messages.specs.LineTexts.{line_fault_text};
 
 use crate::argument_fault::ArgumentFault;
 use crate::fault::{CommandFault, FormatName};
@@ -14,7 +14,7 @@ use itoa::Buffer;
 use sf_format::FormatWhy;
 use sf_lines::{LineFault, LinesFault};
 use sf_pair::PairWhy;
-use sf_records::{ToolFault, status_text};
+use sf_records::ToolFault;
 use sf_run::Outcome;
 
 /// The most bytes of a line, with its line end.
@@ -111,7 +111,7 @@ fn argument_line(fault: ArgumentFault) -> ErrorLine
 /// The line of a run that is no match: what it is a run of, its number, and what it came to.
 fn outcome_line(of: &'static str, number: u64, outcome: Outcome) -> ErrorLine
     requires { length of.now ≤ 8 }
-    ensures { result.bytes ≡ codes "sf: " ++ (of.now ++ (decimal number ++ outcome_text outcome)) ++ 10 ∷ [] }
+    ensures { result.bytes ≡ codes "sf: " ++ (of.now ++ (decimal number ++ (codes ": " ++ outcome_text outcome))) ++ 10 ∷ [] }
 {
     let mut place = Buffer::new();
     let mut at = Buffer::new();
@@ -121,7 +121,7 @@ fn outcome_line(of: &'static str, number: u64, outcome: Outcome) -> ErrorLine
     let at = at.format(outcome.at);
     let used = used.format(outcome.used);
     let assigned = assigned.format(outcome.assigned);
-    let status = status_text(outcome.status);
+    let status = outcome.status.text();
     joined(&[
         "sf: ",
         of,

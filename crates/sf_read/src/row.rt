@@ -42,13 +42,7 @@ impl fmt::Display for ScanRowFault {
                 )
             }
             ScanRowFault::Start(fault) => write!(f, "{fault}"),
-            ScanRowFault::Failed(outcome) => {
-                let status = outcome.status.text();
-                let at = outcome.at;
-                let used = outcome.used;
-                let assigned = outcome.assigned;
-                write!(f, "{status} at {at}, used {used}, assigned {assigned}")
-            }
+            ScanRowFault::Failed(outcome) => write!(f, "{outcome}"),
             ScanRowFault::NoMemory => write!(f, "out of memory"),
         }
     }

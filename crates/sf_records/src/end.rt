@@ -1,9 +1,9 @@
 //! How the loop over the records of an input ends.
 ghost use Rattle.std.specs.Prelude.{◌≡◌, Some};
 ghost use Rattle.sf_records.specs.Records.{ended, status_by};
-ghost use Rattle.sf_records.specs.Texts.{status_text, tool_fault_text};
+ghost use Rattle.sf_records.specs.Texts.{tool_fault_text};
 
-use sf_run::{Outcome, Status};
+use sf_run::Outcome;
 use std::error::Error;
 use std::fmt;
 
@@ -64,35 +64,12 @@ pub(crate) fn ended_by(records: u32, fault: ToolFault) -> ToolEnd
     }
 }
 
-/// The words for a status.
-pub fn status_text(status: Status) -> &'static str
-    ensures { result.now ≡ status_text status }
-{
-    match status {
-        Status::Done => "done",
-        Status::InputFailure => "input failure",
-        Status::MatchingFailure => "matching failure",
-        Status::OutOfRange => "out of range",
-        Status::TooLong => "too long",
-        Status::NoMemory => "out of memory",
-    }
-}
-
 impl fmt::Display for ToolFault {
     ghost output = { λ fault. Some (tool_fault_text fault) };
 
     fn fmt<W: fmt::Write>(&self, f: &mut fmt::Formatter<W>) -> fmt::Result {
         match *self {
-            ToolFault::Failed { number, outcome } => {
-                let status = status_text(outcome.status);
-                let at = outcome.at;
-                let used = outcome.used;
-                let assigned = outcome.assigned;
-                write!(
-                    f,
-                    "record {number}: {status} at {at}, used {used}, assigned {assigned}"
-                )
-            }
+            ToolFault::Failed { number, outcome } => write!(f, "record {number}: {outcome}"),
             ToolFault::Stalled { number } => write!(f, "record {number}: stalled"),
             ToolFault::Unfit { number } => write!(f, "record {number}: values do not fit"),
             ToolFault::TooMany => write!(f, "too many records"),

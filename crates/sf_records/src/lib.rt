@@ -19,7 +19,7 @@ mod turn;
 mod writer;
 
 pub use copy::run_copy;
-pub use end::{ToolEnd, ToolFault, status_text};
+pub use end::{ToolEnd, ToolFault};
 pub use form::OutputForm;
 pub use form_writer::{FormWriter, RecordFault};
 pub use line::push_record;

@@ -1,11 +1,25 @@
 //! Faults as errors: `?` makes an `anyhow::Error` of each, with its text.
-use sf_records::ToolFault;
+use sf_records::{RecordFault, ToolFault};
 use sf_run::{Outcome, Status};
+use std::alloc::Global;
+use std::error::Error;
 use std::test::Fail;
 
 /// The fault, handed on.
-fn handed_on(fault: ToolFault) -> anyhow::Result<()> {
-    Err::<(), ToolFault>(fault)?;
+fn handed_on<E: Error>(fault: E) -> anyhow::Result<()> {
+    Err::<(), E>(fault)?;
+    Ok(())
+}
+
+/// The fault is an error with this text.
+fn is_error<E: Error>(alloc: Global, fault: E, wanted: &str) -> Result<(), Fail> {
+    let Err(error) = handed_on(fault) else {
+        return Err(Fail::new(wanted));
+    };
+    let text = format!(in alloc; "{error}")?;
+    if text.as_str() != wanted {
+        return Err(Fail::new(wanted));
+    }
     Ok(())
 }
 
@@ -42,11 +56,22 @@ const FAULTS: [(ToolFault, &str); 7] = [
 #[test]
 fn faults_of_record_loops(rt: HostRuntime) -> Result<(), Fail> {
     for (fault, wanted) in FAULTS {
-        let Err(error) = handed_on(fault) else {
-            return Err(Fail::new(wanted));
-        };
-        let text = format!(in rt.alloc(); "{error}")?;
-        assert!(rt; text.as_str() == wanted);
+        is_error(rt.alloc(), fault, wanted)?;
     }
     Ok(())
+}
+
+#[test]
+fn faults_of_records(rt: HostRuntime) -> Result<(), Fail> {
+    let alloc = rt.alloc();
+    is_error(
+        alloc,
+        RecordFault::Write,
+        "a record was not written in full",
+    )?;
+    is_error(
+        alloc,
+        RecordFault::Memory,
+        "no memory for the text of a record",
+    )
 }

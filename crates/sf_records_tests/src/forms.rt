@@ -5,9 +5,7 @@ use crate::copies::{LIMIT, is};
 use sf_format::{Profile, ScanFormat};
 use sf_print::{ListSink, ScriptSink, WriteStep};
 use sf_read::{Lookahead, SliceSource, sscan};
-use sf_records::{
-    FormWriter, OutputForm, RecordFault, ToolEnd, push_record, run_scan_as, status_text,
-};
+use sf_records::{FormWriter, OutputForm, RecordFault, ToolEnd, push_record, run_scan_as};
 use sf_run::Status;
 use std::alloc::Global;
 use std::io::{self, Write};
@@ -266,7 +264,7 @@ fn record_for_a_full_sink(rt: HostRuntime) -> Result<(), Fail> {
 fn names(rt: HostRuntime) -> Result<(), Fail> {
     is(
         &rt,
-        &status_text(Status::MatchingFailure),
+        &Status::MatchingFailure.text(),
         &"matching failure",
         &"status",
     );

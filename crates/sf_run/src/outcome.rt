@@ -63,6 +63,22 @@ pub struct Outcome {
     pub met: Option<Ending>,
 }
 
+/// As `matching failure at 2, used 5, assigned 1`.
+impl fmt::Display for Outcome {
+    ghost use Rattle.std.specs.Prelude.{Some};
+    ghost use Rattle.sf_run.specs.Wording.{outcome_text};
+
+    ghost output = { λ outcome. Some (outcome_text outcome) };
+
+    fn fmt<W: fmt::Write>(&self, f: &mut fmt::Formatter<W>) -> fmt::Result {
+        let status = self.status.text();
+        let at = self.at;
+        let used = self.used;
+        let assigned = self.assigned;
+        write!(f, "{status} at {at}, used {used}, assigned {assigned}")
+    }
+}
+
 /// Why a run was not started.
 #[derive(Clone, Copy, Debug, PartialEq, Eq)]
 pub enum StartFault {
