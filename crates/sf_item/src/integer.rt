@@ -1,5 +1,6 @@
 //! Integers, read byte by byte: sign, prefix, digits (C11 7.21.6.2p12, 7.22.1.4p3).
-ghost use Rattle.std.specs.Prelude.{◌≡◌, false, ◌+◌, ◌*◌, ◌<◌, ◌≤◌, ◌↔◌, ◌⊎◌, if◌then◌else◌, ℕ, List, [], ◌∷◌, ◌++◌, length, take, Some, None};
+ghost use Rattle.std.specs.Char.{digit_value};
+ghost use Rattle.std.specs.Prelude.{◌≡◌, false, ◌+◌, ◌*◌, ◌<◌, ◌≤◌, ◌↔◌, ◌⊎◌, if◌then◌else◌, ℕ, List, [], ◌∷◌, ◌++◌, length, slice_index, take, Some, None};
 ghost use Rattle.sf_item.specs.Progress.{Progress, Start, Zero, advance, with_digit, with_first_digit};
 ghost use Rattle.sf_item.specs.Tests.{read};
 ghost use Rattle.sf_item.specs.Scan.{HoldsNumber, Shows, ShowsNext, HasDigits, ReadsDecimal};
@@ -125,6 +126,7 @@ pub fn advance(base: Base, reached: &mut Reached, b: u8) -> bool
 pub fn decimal_front(number: &mut u64, piece: &[u8]) -> usize
     ensures within { result ≤ length piece.now }
     ensures read { ReadsDecimal number.old (take result piece.now) number.new }
+    ensures stops { result < length piece.now → (10 ≤ digit_value (slice_index piece.now result)) ⊎ (1844674407370955161 ≤ number.new) }
     ensures nothing { result ≡ 0 → number.new ≡ number.old }
 {
     let mut value = *number;

@@ -1,5 +1,5 @@
 //! Items that begin and end within a piece of the input, read in one go.
-ghost use Rattle.std.specs.Prelude.{◌≡◌, ◌<◌, ◌≤◌, ◌↔◌, false, length, slice_index, take, IsTrue, MatchOption};
+ghost use Rattle.std.specs.Prelude.{◌≡◌, ◌≢◌, ◌<◌, ◌≤◌, ◌↔◌, false, ℕ, get_or, length, slice_index, take, IsTrue, MatchOption};
 ghost use Rattle.std.specs.Char.{digit_value};
 ghost use Rattle.sf_format.specs.declared.directive.Base.TheVariants.{Dec, Hex};
 ghost use Rattle.sf_item.specs.Wholes.{DigitsOf, EndsWithin, HasPrefixAt, HexOpening, ItemWithin, LongDigits, NoItemWithin, NoneEndsWithin, ReadsIn, SignOf};
@@ -99,6 +99,20 @@ fn long_number(digits: &[u8], radix: u8) -> Option<(u64, usize)>
     }
 }
 
+/// How many zeros the digits begin with.
+fn zeros_before(digits: &[u8]) -> usize
+    ensures within { result ≤ length digits.now }
+    ensures zeros { (k : ℕ) → k < result → get_or digits.now k 0 ≡ 48 }
+    ensures next { result < length digits.now → get_or digits.now result 0 ≢ 48 }
+{
+    for i in 0..digits.len() {
+        if digits[i] != b'0' {
+            return i;
+        }
+    }
+    digits.len()
+}
+
 /// Takes the decimal digits that the piece begins with, as many as surely fit in 64 bits: their number, and how many.
 #[inline(always)]
 fn decimal_digits(piece: &[u8]) -> (u64, usize)
@@ -122,6 +136,21 @@ fn decimal_digits(piece: &[u8]) -> (u64, usize)
     (number, most)
 }
 
+/// As `long_number`, of decimal digits, the first of which may be zeros.
+#[cold]
+#[inline(never)]
+fn long_decimal(digits: &[u8]) -> Option<(u64, usize)>
+    ensures { MatchOption result (LongDigits 10 digits.now) (λ r. DigitsOf 10 digits.now r.1 r.0) }
+{
+    let zeros = zeros_before(digits);
+    let (_, rest) = digits.split_at(zeros);
+    let (number, count) = decimal_digits(rest);
+    if count == SURE_DECIMAL && is_digit_at(rest, count, 10) {
+        return long_number(digits, 10);
+    }
+    Some((number, zeros + count))
+}
+
 /// As `long_number`, of decimal digits.
 #[inline(always)]
 fn decimal_number(digits: &[u8]) -> Option<(u64, usize)>
@@ -129,7 +158,7 @@ fn decimal_number(digits: &[u8]) -> Option<(u64, usize)>
 {
     let (number, count) = decimal_digits(digits);
     if count == SURE_DECIMAL && is_digit_at(digits, count, 10) {
-        return long_number(digits, 10);
+        return long_decimal(digits);
     }
     Some((number, count))
 }

@@ -1,4 +1,4 @@
-use Rattle.std.proofs.Common.{◌-◌, slice_index_or, sym, take, subst, arith}
+use Rattle.std.proofs.Common.{◌-◌, rules, slice_index_or, sym, take, subst, arith}
 use Rattle.sf_item.specs.Scan.{ReadsDecimal}
 use Rattle.sf_item.proofs.Readings.{decimal_value, decimal_read}
 use Rattle.sf_item.proofs.integer.decimal_front.Goals as goal
@@ -16,3 +16,6 @@ loop-i-preserved c =
 
 pub returns-clause-read : goal.returns-clause-read
 returns-clause-read c = subst (λ n. ReadsDecimal c.args.number.now (take n c.args.piece.now) c.loop-i.value) (omega (arith, c.loop-i-test.false, c.loop-i.auto.i-end)) (c.loop-i.invariant.read)
+
+pub returns-then-b-lt48-clause-stops : goal.returns-then-b-lt48-clause-stops
+returns-then-b-lt48-clause-stops c = search rules

@@ -1,0 +1,32 @@
+-- Integers whose digits begin with zeros.
+use Rattle.std.proofs.Common.{◌≡◌, ◌∙◌, ℕ, zero, suc, ◌+◌, ◌<◌, ◌≤◌, List, [], ◌∷◌, ◌++◌, length, take, drop, get_or, Some, refl, sym, ap, subst, arith}
+use Rattle.std.proofs.Math.Seq.{take-add}
+use Rattle.std.proofs.lemmas.List.{get_or-drop, length-drop}
+use Rattle.std.specs.Char.{digit_value}
+use Rattle.sf_item.specs.Progress.{Digits, with_digit}
+use Rattle.sf_item.specs.Tests.{read}
+use Rattle.sf_item.specs.Wholes.{DigitsOf, ReadsIn}
+use Rattle.sf_item.proofs.Fronts.{read_more}
+
+-- zeros leave a number as it is that is nothing
+pub zeros_read : (bytes : List ℕ) (z : ℕ) → z ≤ length bytes → ((k : ℕ) → k < z → get_or bytes k 0 ≡ 48) → ReadsIn 10 0 (take z bytes) 0
+zeros_read bytes zero le are base sign = refl
+zeros_read [] (suc z) le are base sign = absurd (omega (arith, le))
+zeros_read (b ∷ bytes) (suc z) le are base sign =
+    subst (λ c. read base (with_digit sign 10 0 c) (take z bytes) ≡ Some (Digits sign 10 0)) (sym (are 0 (omega arith)))
+    (zeros_read bytes z (omega (arith, le)) (λ k below. are (suc k) (omega (arith, below))) base sign)
+
+-- the digits behind zeros have their number
+pub behind_zeros : (bytes : List ℕ) (z n number : ℕ) → z ≤ length bytes → ((k : ℕ) → k < z → get_or bytes k 0 ≡ 48) → DigitsOf 10 (drop z bytes) n number → DigitsOf 10 bytes (z + n) number
+behind_zeros bytes z n number le are own =
+    let left : length (drop z bytes) + z ≡ length bytes = omega (arith, length-drop z bytes, le) in
+    let within = own.within in
+    record {
+      within = omega (arith, left, within);
+      read = λ base sign.
+          ap (read base (Some (Digits sign 10 0))) (take-add z n bytes)
+          ∙ read_more base (Some (Digits sign 10 0)) (take z bytes) (take n (drop z bytes))
+          ∙ ap (λ o. read base o (take n (drop z bytes))) (zeros_read bytes z le are base sign)
+          ∙ own.read base sign;
+      stops = λ below. subst (λ d. 10 ≤ digit_value d) (get_or-drop z bytes n 0) (own.stops (omega (arith, left, below)));
+    }
