@@ -18,6 +18,19 @@ pub enum Kind {
     Text,
 }
 
+/// The greatest number of each kind in turn; a text has none.
+static GREATEST: [u64; 9] = [
+    127,
+    32_767,
+    2_147_483_647,
+    9_223_372_036_854_775_807,
+    255,
+    65_535,
+    4_294_967_295,
+    18_446_744_073_709_551_615,
+    0,
+];
+
 impl Kind {
     ghost use Rattle.std.specs.Prelude.{IfSome, IfNone};
     ghost use Rattle.std.specs.Option.{option_map};
@@ -29,17 +42,11 @@ impl Kind {
     fn bounds(self) -> Option<(bool, u64)>
         ensures { result ≡ bounds_of self }
     {
-        match self {
-            Kind::I8 => Some((true, 127)),
-            Kind::I16 => Some((true, 32_767)),
-            Kind::I32 => Some((true, 2_147_483_647)),
-            Kind::I64 => Some((true, 9_223_372_036_854_775_807)),
-            Kind::U8 => Some((false, 255)),
-            Kind::U16 => Some((false, 65_535)),
-            Kind::U32 => Some((false, 4_294_967_295)),
-            Kind::U64 => Some((false, 18_446_744_073_709_551_615)),
-            Kind::Text => None,
+        if self == Kind::Text {
+            return None;
         }
+        let signed = matches!(self, Kind::I8 | Kind::I16 | Kind::I32 | Kind::I64);
+        Some((signed, GREATEST[self as usize]))
     }
 
     /// The number that the kind gives a sign (true: a minus) and a magnitude. None if the kind does not hold it, where C leaves

@@ -7,9 +7,11 @@ ghost use Rattle.sf_base.specs.Kept.{Opened, text_of};
 ghost use Rattle.sf_format.specs.declared.directive.Conversion.{Conversion};
 ghost use Rattle.sf_format.specs.declared.directive.Directive.{Directive};
 ghost use Rattle.sf_format.specs.declared.directive.Directive.TheVariants as directive;
+ghost use Rattle.sf_format.specs.declared.directive.Shape.TheVariants.{Int};
 ghost use Rattle.sf_format.specs.Proper.{IsProper, IsProperShape};
 ghost use Rattle.sf_item.specs.Scan.{HasLeft};
 ghost use Rattle.sf_item.specs.Taking.{CanTake, HasTaken, conversion_of, left_of};
+ghost use Rattle.sf_item.specs.Wholes.{EndsWithin};
 ghost use Rattle.sf_run.specs.Steps.{StepEnd};
 ghost use Rattle.sf_run.specs.declared.directive.Phase.TheVariants as phase;
 ghost use Rattle.sf_run.specs.declared.directive.Finished.TheVariants as finish;
@@ -17,7 +19,7 @@ ghost use Rattle.sf_run.specs.Machine.{Stage, Skipping, Item, shape_skips, is_fu
 ghost use Rattle.sf_run.specs.Texts.{text_slot, opened_for, slot_of_text, is_count};
 ghost use Rattle.sf_run.specs.Holding.{FallsBy};
 ghost use Rattle.sf_run.specs.Phases.{ShowsItem, Shows, CanAll, IsNumberGiven, end_of, is_failing, is_memory_failure, passed_number, slot_closed, slot_given, slot_in};
-ghost use Rattle.sf_run.specs.Pieces.{Answers, EndsAt, EndsAtOnce, IsEnd, IsEndIn, IsEndOf, IsWhole, StaysAt, Suits, run_of};
+ghost use Rattle.sf_run.specs.Pieces.{Answers, EndsAt, EndsAtOnce, IsEnd, IsEndIn, IsEndOf, StaysAt, Suits, run_of};
 ghost use Rattle.sf_run.specs.Quick.{IsSure};
 
 use crate::number::number_of;
@@ -403,34 +405,50 @@ fn go_on<'f>(
     }
 }
 
-/// The integer that the piece begins with, where there is a quick way to read it and a byte of the piece follows.
+/// The integer of the base that the piece begins with, where there is a quick way to read it and a byte of the piece follows.
 #[inline(always)]
-fn whole_integer(shape: &Shape, width: Option<u16>, piece: &[u8]) -> Option<WholeInteger>
-    ensures { IfSome result (IsWhole shape.now width piece.now) }
+fn whole_integer(base: Base, width: Option<u16>, piece: &[u8]) -> Option<WholeInteger>
+    ensures { IfSome result (EndsWithin base width piece.now) }
 {
-    match shape {
-        Shape::Int(Base::Dec) => whole_decimal(width, piece),
-        Shape::Int(Base::Hex) => whole_hex(width, piece),
-        _ => None,
+    match base {
+        Base::Dec => whole_decimal(width, piece),
+        Base::Hex => whole_hex(width, piece),
+        Base::Oct | Base::Bin | Base::Auto | Base::AutoBin => None,
     }
 }
 
-/// An integer that the piece begins with and ends, where it is read as a whole.
+/// How the item of a conversion of this base ends, whose first byte is that of the piece, where it is read as a whole.
 #[inline(always)]
-fn whole_number(conversion: &Conversion, piece: &[u8]) -> Option<Ended>
+fn whole_number(conversion: &Conversion, base: Base, piece: &[u8]) -> Option<Ended>
+    requires { conversion.now.shape ≡ Int base }
     ensures answers { IsProper (directive.Conv conversion.now) → (0 < length piece.now → (shape_skips conversion.now.shape && is_white (get_or piece.now 0 0)) ≡ false) → (n : ℕ)
         → IfSome result (λ e. Answers (directive.Conv conversion.now) Skipping n piece.now (run_of e)) }
     ensures fits { IfSome result (IsEndIn (directive.Conv conversion.now) piece.now) }
     ensures before { IfSome result (λ e. e.before ≡ 0) }
     ensures closes { IfSome result (λ e. slot_closed e.finished ≡ None) }
 {
-    let whole = whole_integer(&conversion.shape, conversion.width, piece)?;
+    let whole = whole_integer(base, conversion.width, piece)?;
     let number = number_of(conversion.kind, whole.negative, whole.magnitude, false);
     Some(Ended {
         before: 0,
         item: whole.bytes,
         finished: finish_number(conversion, number),
     })
+}
+
+/// As `whole_number`, of a conversion of any shape: an item of no integer isn't read so.
+#[inline(always)]
+fn number_within(conversion: &Conversion, piece: &[u8]) -> Option<Ended>
+    ensures answers { IsProper (directive.Conv conversion.now) → (0 < length piece.now → (shape_skips conversion.now.shape && is_white (get_or piece.now 0 0)) ≡ false) → (n : ℕ)
+        → IfSome result (λ e. Answers (directive.Conv conversion.now) Skipping n piece.now (run_of e)) }
+    ensures fits { IfSome result (IsEndIn (directive.Conv conversion.now) piece.now) }
+    ensures before { IfSome result (λ e. e.before ≡ 0) }
+    ensures closes { IfSome result (λ e. slot_closed e.finished ≡ None) }
+{
+    match &conversion.shape {
+        Shape::Int(base) => whole_number(conversion, *base, piece),
+        _ => None,
+    }
 }
 
 /// The item of a conversion, whose first byte is that of the piece.
@@ -444,7 +462,7 @@ fn begin_item<'f>(conversion: &'f Conversion, piece: &[u8]) -> Run<'f>
     if piece.is_empty() {
         return waits(0);
     }
-    if let Some(ended) = whole_number(conversion, piece) {
+    if let Some(ended) = number_within(conversion, piece) {
         return ends(ended.before, ended.item, ended.finished);
     }
     let run = go_on(
@@ -538,15 +556,6 @@ pub(crate) fn run_on<'f>(
     }
 }
 
-/// Whether an item of the shape is stored as it stands.
-#[inline(always)]
-fn is_text(shape: &Shape) -> bool
-    ensures slot { result ≡ true → (slot : Option ℕ) → slot_of_text shape.now slot ≡ slot }
-    ensures item { result ≡ true → is_count shape.now ≡ false }
-{
-    matches!(shape, Shape::Text | Shape::Set(_) | Shape::Chars)
-}
-
 /// How an item ends that is stored as it stands.
 #[inline(always)]
 fn finish_bytes(slot: Option<u8>) -> Finished
@@ -580,33 +589,53 @@ fn whole_text(conversion: &Conversion, piece: &[u8]) -> Option<Ended>
     })
 }
 
-/// How the item of a conversion ends, whose first byte is that of the piece, where it is looked at as a whole.
+/// As `whole_number`, of a conversion that took nothing yet.
 #[inline(always)]
-fn whole_item(conversion: &Conversion, piece: &[u8]) -> Option<Ended>
-    ensures answers { IsProper (directive.Conv conversion.now) → (0 < length piece.now → (shape_skips conversion.now.shape && is_white (get_or piece.now 0 0)) ≡ false) → (n : ℕ)
-        → IfSome result (λ e. Answers (directive.Conv conversion.now) Skipping n piece.now (run_of e)) }
-    ensures fits { IfSome result (IsEndIn (directive.Conv conversion.now) piece.now) }
-    ensures before { IfSome result (λ e. e.before ≡ 0) }
-{
-    if is_text(&conversion.shape) {
-        return whole_text(conversion, piece);
-    }
-    whole_number(conversion, piece)
-}
-
-/// As `whole_item`, of a conversion that took nothing yet.
-#[inline(always)]
-pub(crate) fn whole_conversion(conversion: &Conversion, piece: &[u8]) -> Option<Ended>
+fn number_behind_space(conversion: &Conversion, base: Base, piece: &[u8]) -> Option<Ended>
+    requires { conversion.now.shape ≡ Int base }
     ensures { (n : ℕ) → IfSome result (EndsAtOnce (directive.Conv conversion.now) n piece.now) }
 {
     let before = skipped(&conversion.shape, piece);
     let (_, rest) = piece.split_at(before);
-    let ended = whole_item(conversion, rest)?;
+    let ended = whole_number(conversion, base, rest)?;
     Some(Ended {
         before,
         item: ended.item,
         finished: ended.finished,
     })
+}
+
+/// As `whole_text`, of a conversion that took nothing yet.
+#[inline(always)]
+fn text_behind_space(conversion: &Conversion, piece: &[u8]) -> Option<Ended>
+    requires slot { (slot : Option ℕ) → slot_of_text conversion.now.shape slot ≡ slot }
+    requires item { is_count conversion.now.shape ≡ false }
+    ensures { (n : ℕ) → IfSome result (EndsAtOnce (directive.Conv conversion.now) n piece.now) }
+{
+    let before = skipped(&conversion.shape, piece);
+    let (_, rest) = piece.split_at(before);
+    let ended = whole_text(conversion, rest)?;
+    Some(Ended {
+        before,
+        item: ended.item,
+        finished: ended.finished,
+    })
+}
+
+/// How a conversion ends that took nothing yet, where its item is looked at as a whole. It is compiled for each shape by
+/// itself, so that a run asks for the shape once.
+#[inline(always)]
+pub(crate) fn whole_conversion(conversion: &Conversion, piece: &[u8]) -> Option<Ended>
+    ensures { (n : ℕ) → IfSome result (EndsAtOnce (directive.Conv conversion.now) n piece.now) }
+{
+    match &conversion.shape {
+        Shape::Int(Base::Dec) => number_behind_space(conversion, Base::Dec, piece),
+        Shape::Int(Base::Hex) => number_behind_space(conversion, Base::Hex, piece),
+        Shape::Text => text_behind_space(conversion, piece),
+        Shape::Set(_) => text_behind_space(conversion, piece),
+        Shape::Chars => text_behind_space(conversion, piece),
+        Shape::Int(_) | Shape::Count => None,
+    }
 }
 
 /// How a directive ends that took nothing yet, where it does so within the piece.

@@ -1,6 +1,7 @@
 use Rattle.std.proofs.Common.{arith}
 use Rattle.sf_base.specs.Data.{value_of}
 use Rattle.sf_format.specs.declared.directive.Conversion.{Conversion}
+use Rattle.sf_run.specs.Pieces.{IsWhole}
 use Rattle.sf_run.proofs.Pieces.{integer_read}
 use Rattle.sf_run.proofs.directive.whole_number.Goals as goal
 
@@ -8,7 +9,7 @@ pub returns-clause-answers : goal.returns-clause-answers
 returns-clause-answers c proper ink n =
     let k : Conversion = c.args.conversion.now in
     let w = c.in_ok-whole.whole in
-    let is = c.in_ok-whole.ensures in
+    let is : IsWhole k.shape k.width c.args.piece.now w = record { base = c.args.base; is = c.requires; ends = c.in_ok-whole.ensures } in
     let below = is.ends.behind in
     integer_read k n c.args.piece.now w c.finish_number.result is (ink (omega (arith, below)))
     (λ text. c.finish_number.ensures.end text (value_of k.kind w.negative w.magnitude) c.number_of-number.ensures)
@@ -16,6 +17,5 @@ returns-clause-answers c proper ink n =
 pub returns-clause-fits : goal.returns-clause-fits
 returns-clause-fits c =
     let e = c.finish_number.ensures in
-    let is = c.in_ok-whole.ensures in
-    let below = is.ends.behind in
+    let below = c.in_ok-whole.ensures.behind in
     record { within = omega (arith, below); given = e.given; number = e.number; memory = e.memory }

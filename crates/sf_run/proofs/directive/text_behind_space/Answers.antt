@@ -6,7 +6,7 @@ use Rattle.sf_run.specs.Machine.{Skipping, shape_skips}
 use Rattle.sf_run.specs.Pieces.{Answers, IsEndIn, run_of}
 use Rattle.sf_run.proofs.Brought.{item_skips}
 use Rattle.sf_run.proofs.Pieces.{ended_behind, next_behind}
-use Rattle.sf_run.proofs.directive.whole_conversion.Goals as goal
+use Rattle.sf_run.proofs.directive.text_behind_space.Goals as goal
 
 pub returns : goal.returns
 returns c n =
