@@ -71,10 +71,10 @@ weighed_none piece count = record { front = 0; taken = 0; least = omega arith; r
 digit_left : (b : ℕ) → is_ascii_digit b ≡ true → (48 ≤ b) × (b ≤ 57)
 digit_left b h = (grind (arith, nat_tests, h), grind (arith, nat_tests, h))
 
-pub at_most_eight : (piece : List ℕ) (count : ℕ) → 8 ≤ length piece → count ≡ prefix_len is_ascii_digit (take 8 piece) → count ≤ 8
+pub at_most_eight : (piece : List ℕ) (count : ℕ) → 8 ≤ length piece → count ≤ prefix_len is_ascii_digit (take 8 piece) → count ≤ 8
 at_most_eight piece count room digits = let le = prefix_len-le-length is_ascii_digit (take 8 piece) in let long = length-take-le 8 piece room in omega (arith, digits, le, long)
 
-module _ (piece : List ℕ) (count i number weight digit : ℕ) (room : 8 ≤ length piece) (digits : count ≡ prefix_len is_ascii_digit (take 8 piece)) (at : i < 8)
+module _ (piece : List ℕ) (count i number weight digit : ℕ) (room : 8 ≤ length piece) (digits : count ≤ prefix_len is_ascii_digit (take 8 piece)) (at : i < 8)
     (worth : weight ≡ get_or WORTHS (8 - count + i) 0) (left : digit ≡ (get_or piece i 0 + 208) % 256) (before : Weighed piece count i number) where
   most : count ≤ 8
   most = at_most_eight piece count room digits

@@ -1,7 +1,7 @@
--- Integers whose digits begin with zeros.
-use Rattle.std.proofs.Common.{◌≡◌, ◌∙◌, ℕ, zero, suc, ◌+◌, ◌<◌, ◌≤◌, List, [], ◌∷◌, ◌++◌, length, take, drop, get_or, Some, refl, sym, ap, subst, arith}
+-- Digits behind zeros, and digits that are the front of a piece.
+use Rattle.std.proofs.Common.{◌≡◌, ◌∙◌, ℕ, zero, suc, ◌+◌, ◌<◌, ◌≤◌, List, [], ◌∷◌, length, take, drop, get_or, Some, refl, sym, ap, subst, arith}
 use Rattle.std.proofs.Math.Seq.{take-add}
-use Rattle.std.proofs.lemmas.List.{get_or-drop, length-drop}
+use Rattle.std.proofs.lemmas.List.{get_or-drop, get_or-take, length-drop, take-take}
 use Rattle.std.specs.Char.{digit_value}
 use Rattle.sf_item.specs.Progress.{Digits, with_digit}
 use Rattle.sf_item.specs.Tests.{read}
@@ -30,3 +30,14 @@ behind_zeros bytes z n number le are own =
           ∙ own.read base sign;
       stops = λ below. subst (λ d. 10 ≤ digit_value d) (get_or-drop z bytes n 0) (own.stops (omega (arith, left, below)));
     }
+
+-- the digits that are the front of a piece stand in the piece
+pub front_at : (digits piece : List ℕ) (n : ℕ) → digits ≡ take (length digits) piece → n < length digits → get_or digits n 0 ≡ get_or piece n 0
+front_at digits piece n front below = ap (λ l. get_or l n 0) front ∙ get_or-take (length digits) piece n 0 below
+
+-- and are read from it
+pub front_digits : (digits piece : List ℕ) (n number : ℕ) → digits ≡ take (length digits) piece → n ≤ length digits → ReadsIn 10 0 (take n piece) number
+    → (n < length digits → 10 ≤ digit_value (get_or digits n 0)) → DigitsOf 10 digits n number
+front_digits digits piece n number front within reads stops =
+    let same : take n digits ≡ take n piece = ap (take n) front ∙ take-take n (length digits) piece within in
+    record { within = within; read = λ base sign. ap (read base (Some (Digits sign 10 0))) same ∙ reads base sign; stops = stops }

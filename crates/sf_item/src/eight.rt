@@ -49,11 +49,11 @@ fn values_of(piece: &[u8]) -> [u8; LANES]
     (u8x8::from_slice(piece) - u8x8::splat(b'0')).to_array()
 }
 
-/// The number of so many digits: each of the eight bytes is weighed, those behind the digits with 0.
+/// The number of so many digits: each of the eight bytes is weighed, those behind them with 0.
 #[inline(always)]
 fn weighed(piece: &[u8], count: usize) -> u32
     requires room { 8 ≤ length piece.now }
-    requires digits { count ≡ prefix_len is_ascii_digit (take 8 piece.now) }
+    requires digits { count ≤ prefix_len is_ascii_digit (take 8 piece.now) }
     ensures read { ReadsDecimal 0 (take count piece.now) result }
     ensures small { result < 10 ^ count }
 {
@@ -65,19 +65,20 @@ fn weighed(piece: &[u8], count: usize) -> u32
     number
 }
 
-/// The decimal digits that the piece begins with, eight at most: their number, and how many. Of fewer than eight bytes none
-/// are taken.
+/// The decimal digits that the piece begins with, eight and so many at most: their number, and how many. Of fewer than eight
+/// bytes none are taken.
 #[inline(always)]
-pub(crate) fn first_digits(piece: &[u8]) -> (u64, usize)
+pub(crate) fn first_digits(piece: &[u8], most: usize) -> (u64, usize)
     ensures within { result.1 ≤ length piece.now }
+    ensures most { result.1 ≤ most }
     ensures read { ReadsDecimal 0 (take result.1 piece.now) result.0 }
     ensures small { result.0 < 10 ^ result.1 }
     ensures few { result.1 ≤ LANES }
-    ensures stops { 0 < result.1 → result.1 < 8 → 10 ≤ digit_value (slice_index piece.now result.1) }
+    ensures stops { 0 < result.1 → result.1 < 8 → result.1 < most → 10 ≤ digit_value (slice_index piece.now result.1) }
 {
     if piece.len() < LANES {
         return (0, 0);
     }
-    let count = digit_run(piece);
+    let count = digit_run(piece).min(most);
     (weighed(piece, count) as u64, count)
 }

@@ -1,6 +1,8 @@
 //! Items that begin and end within a piece of the input, read in one go.
 ghost use Rattle.std.specs.Prelude.{◌≡◌, ◌≢◌, ◌<◌, ◌≤◌, ◌↔◌, false, ℕ, get_or, length, slice_index, take, IsTrue, MatchOption};
 ghost use Rattle.std.specs.Char.{digit_value};
+ghost use Rattle.std.specs.List.{prefix_len};
+ghost use Rattle.sf_base.specs.Bytes.{is_ink};
 ghost use Rattle.sf_format.specs.declared.directive.Base.TheVariants.{Dec, Hex};
 ghost use Rattle.sf_item.specs.Wholes.{DigitsOf, EndsWithin, HasPrefixAt, HexOpening, ItemWithin, LongDigits, NoItemWithin, NoneEndsWithin, ReadsIn, SignOf};
 
@@ -17,6 +19,9 @@ const SURE_DECIMAL: usize = 19;
 
 /// The most hexadecimal ones.
 const SURE_HEX: usize = 16;
+
+/// How many bytes of a text are looked at at once.
+const SIGHT: u16 = 16;
 
 /// An integer that was read whole.
 #[derive(Clone, Copy, Debug, PartialEq, Eq)]
@@ -113,27 +118,29 @@ fn zeros_before(digits: &[u8]) -> usize
     digits.len()
 }
 
-/// Takes the decimal digits that the piece begins with, as many as surely fit in 64 bits: their number, and how many.
+/// Takes the decimal digits that the piece begins with, so many at most, and as many as surely fit in 64 bits: their number,
+/// and how many.
 #[inline(always)]
-fn decimal_digits(piece: &[u8]) -> (u64, usize)
-    ensures within { result.1 ≤ length piece.now }
+fn decimal_digits(piece: &[u8], most: usize) -> (u64, usize)
+    requires { most ≤ length piece.now }
+    ensures most { result.1 ≤ most }
     ensures read { ReadsIn 10 0 (take result.1 piece.now) result.0 }
     ensures few { result.1 ≤ SURE_DECIMAL }
-    ensures stops { result.1 < SURE_DECIMAL → result.1 < length piece.now → 10 ≤ digit_value (slice_index piece.now result.1) }
+    ensures stops { result.1 < SURE_DECIMAL → result.1 < most → 10 ≤ digit_value (slice_index piece.now result.1) }
 {
-    let (mut number, first) = first_digits(piece);
+    let (mut number, first) = first_digits(piece, most);
     if 0 < first && first < LANES {
         return (number, first);
     }
-    let most = piece.len().min(SURE_DECIMAL);
-    for i in first..most {
+    let end = most.min(SURE_DECIMAL);
+    for i in first..end {
         let b = piece[i];
         if b < b'0' || b > b'9' {
             return (number, i);
         }
         number = number * 10 + (b - b'0') as u64;
     }
-    (number, most)
+    (number, end)
 }
 
 /// As `long_number`, of decimal digits, the first of which may be zeros.
@@ -144,26 +151,27 @@ fn long_decimal(digits: &[u8]) -> Option<(u64, usize)>
 {
     let zeros = zeros_before(digits);
     let (_, rest) = digits.split_at(zeros);
-    let (number, count) = decimal_digits(rest);
+    let (number, count) = decimal_digits(rest, rest.len());
     if count == SURE_DECIMAL && is_digit_at(rest, count, 10) {
         return long_number(digits, 10);
     }
     Some((number, zeros + count))
 }
 
-/// As `long_number`, of decimal digits.
+/// As `long_number`, of decimal digits, which the piece begins with, and behind which it may go on.
 #[inline(always)]
-fn decimal_number(digits: &[u8]) -> Option<(u64, usize)>
+fn decimal_number(digits: &[u8], piece: &[u8]) -> Option<(u64, usize)>
+    requires { digits.now ≡ take (length digits.now) piece.now }
     ensures { MatchOption result (LongDigits 10 digits.now) (λ r. DigitsOf 10 digits.now r.1 r.0) }
 {
-    let (number, count) = decimal_digits(digits);
+    let (number, count) = decimal_digits(piece, digits.len());
     if count == SURE_DECIMAL && is_digit_at(digits, count, 10) {
         return long_decimal(digits);
     }
     Some((number, count))
 }
 
-/// As `decimal_digits`, of hexadecimal digits.
+/// Takes the hexadecimal digits that the piece begins with, as many as surely fit in 64 bits: their number, and how many.
 #[inline(always)]
 fn hex_digits(piece: &[u8]) -> (u64, usize)
     ensures within { result.1 ≤ length piece.now }
@@ -209,7 +217,7 @@ pub fn whole_decimal(width: Option<u16>, piece: &[u8]) -> Option<WholeInteger>
 {
     let front = cut(piece, width);
     let (start, negative) = sign(front);
-    let Some((magnitude, count)) = decimal_number(&front[start..]) else {
+    let Some((magnitude, count)) = decimal_number(&front[start..], &piece[start..]) else {
         return None;
     };
     let bytes = start + count;
@@ -244,6 +252,19 @@ pub fn whole_hex(width: Option<u16>, piece: &[u8]) -> Option<WholeInteger>
     })
 }
 
+/// How many bytes of the front of the piece stand before its first white space. Of a short front sixteen bytes of the piece
+/// are looked at, at once.
+#[inline(always)]
+fn text_within(front: &[u8], piece: &[u8]) -> usize
+    requires { front.now ≡ take (length front.now) piece.now }
+    ensures { result ≡ prefix_len is_ink front.now }
+{
+    if front.len() >= SIGHT as usize {
+        return text_run(front);
+    }
+    text_run(cut(piece, Some(SIGHT))).min(front.len())
+}
+
 /// How many bytes the item of a text, of members of a set or of characters has with which the piece begins, where it ends
 /// before a byte of the piece, so that what follows the piece does not matter. It is a matching sequence.
 ///
@@ -253,7 +274,7 @@ pub fn whole_bytes(shape: &Shape, width: Option<u16>, piece: &[u8]) -> Option<us
     ensures { MatchOption result (NoItemWithin shape.now width piece.now) (ItemWithin shape.now width piece.now) }
 {
     let count = match shape {
-        Shape::Text => text_run(cut(piece, width)),
+        Shape::Text => text_within(cut(piece, width), piece),
         Shape::Set(members) => members.run(cut(piece, width)),
         Shape::Chars => width.unwrap_or(1) as usize,
         Shape::Int(_) | Shape::Count => 0,

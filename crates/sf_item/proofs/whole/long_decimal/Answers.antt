@@ -1,5 +1,4 @@
-use Rattle.std.proofs.Common.{◌≡◌, ◌<◌, ◌≤◌, ◌+◌, ℕ, List, drop, get_or, length, subst, arith, rules}
-use Rattle.std.specs.Char.{digit_value}
+use Rattle.std.proofs.Common.{ℕ, List, subst, rules}
 use Rattle.sf_item.specs.Wholes.{DigitsOf}
 use Rattle.sf_item.proofs.Zeros.{behind_zeros}
 use Rattle.sf_item.proofs.whole.long_decimal.Goals.{else-count-eq-SURE_DECIMAL-via-then-count-eq-SURE_DECIMAL+else-is_digit_at, else-count-eq-SURE_DECIMAL-via-else-count-eq-SURE_DECIMAL}
@@ -13,7 +12,7 @@ returns c =
     let e = c.decimal_digits-number.ensures in
     let n : ℕ = c.decimal_digits-number.result.1 in
     let own : DigitsOf 10 behind n c.decimal_digits-number.result.0 = record {
-      within = e.within;
+      within = e.most;
       read = e.read;
       stops = λ below. elim c.else-count-eq-SURE_DECIMAL.branch [
         | else-count-eq-SURE_DECIMAL-via-then-count-eq-SURE_DECIMAL+else-is_digit_at w ↦ search (rules, below)

@@ -19,7 +19,7 @@ returns-then-count-piece c =
       | in-Text w ↦
           subst (λ (s : Shape). ItemWithin s width piece n) (sym w.in-Text.is)
           (run_item shapes.Text width piece w.cut.result.now w.cut.ensures.front w.cut.ensures.room w.cut.ensures.whole is_ink (λ f. refl) n
-          (w.count-is ∙ w.text_run-count.ensures.count) (λ f. refl) some behind)
+          (w.count-is ∙ w.text_within-count.ensures) (λ f. refl) some behind)
       | in-Set w ↦
           subst (λ (s : Shape). ItemWithin s width piece n) (sym w.in-Set.is)
           (run_item (shapes.Set w.in-Set.members) width piece w.cut-in-Set.result.now w.cut-in-Set.ensures.front w.cut-in-Set.ensures.room w.cut-in-Set.ensures.whole
@@ -43,7 +43,7 @@ returns-else-count-gt0 c =
       | in-Text w ↦
           subst (λ (s : Shape). NoItemWithin s width piece) (sym w.in-Text.is)
           (no_run shapes.Text width piece w.cut.result.now w.cut.ensures.front w.cut.ensures.room w.cut.ensures.whole is_ink (λ f. refl) n
-          (w.count-is ∙ w.text_run-count.ensures.count) refl (λ k h. tt) none)
+          (w.count-is ∙ w.text_within-count.ensures) refl (λ k h. tt) none)
       | in-Set w ↦
           subst (λ (s : Shape). NoItemWithin s width piece) (sym w.in-Set.is)
           (no_run (shapes.Set w.in-Set.members) width piece w.cut-in-Set.result.now w.cut-in-Set.ensures.front w.cut-in-Set.ensures.room w.cut-in-Set.ensures.whole
