@@ -1,5 +1,5 @@
 -- A line that was read, and what came of it.
-use Rattle.std.proofs.Common.{◌≡◌, ℕ, ◌<◌, ◌≤◌, Bool, true, false, not, cond, List, [], length, Option, Some, Result, Ok, Err, ◌⊎◌, inl, inr, refl, sym, ap, subst, ◌∙◌, true≢false}
+use Rattle.std.proofs.Common.{◌≡◌, ℕ, ◌<◌, ◌≤◌, Bool, true, false, not, cond, List, [], length, Option, Result, Ok, Err, ◌⊎◌, inl, inr, refl, sym, ap, subst, ◌∙◌, true≢false}
 use Rattle.std.specs.Io.KnownBytes.{Appends}
 use Rattle.sf_base.specs.Kept.{Kept}
 use Rattle.sf_format.specs.declared.directive.Directive.{Directive}
@@ -17,8 +17,8 @@ use Rattle.sf_lines.specs.declared.writer.RecordFault.{RecordFault}
 use Rattle.sf_lines.specs.declared.writer.RecordFault.TheVariants as unwritten
 use Rattle.sf_lines.specs.declared.line.LineRead.TheVariants as reads
 use Rattle.sf_lines.specs.Reading.{Took, Reads, is_failed}
-use Rattle.sf_lines.specs.Turns.{LineWork, Comes, judged}
-use Rattle.sf_lines.specs.Judging.{Came, Judges, TakesPart, Turns, WritesMatch, is_read_fault, is_sink_fault, is_write_fault, judged_by}
+use Rattle.sf_lines.specs.Turns.{LineWork, judged}
+use Rattle.sf_lines.specs.Judging.{Came, Judges, Turns, WritesMatch, is_read_fault, is_sink_fault, is_write_fault, judged_by}
 
 -- no read failed
 pub quiet : (r : LineRead) → (r ≡ reads.Line) ⊎ (r ≡ reads.TooLong) → (before after : ℕ) → after ≡ cond (is_failed r) (counted_on before) before → after ≡ before

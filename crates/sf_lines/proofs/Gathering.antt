@@ -1,10 +1,9 @@
 -- A line that is read block by block.
-use Rattle.std.proofs.Common.{◌≡◌, ℕ, zero, suc, ◌+◌, ◌-◌, ◌<◌, ◌≤◌, Bool, true, false, cond, List, [], ◌∷◌, ◌++◌, length, min, take, drop, Option, Some, None, Result, Ok, Err, IfOk, IfErr, is_err, ◌==◌, ◌⊎◌, inl, inr, refl, sym, ap, subst, ◌∙◌, arith, append_assoc, length-append, true≢false}
+use Rattle.std.proofs.Common.{◌≡◌, ℕ, zero, suc, ◌+◌, ◌-◌, ◌<◌, ◌≤◌, Bool, true, false, cond, List, [], ◌∷◌, ◌++◌, length, take, drop, Option, Some, None, Result, Ok, Err, IfOk, IfErr, is_err, ◌==◌, ◌⊎◌, inl, inr, refl, sym, ap, subst, ◌∙◌, arith, append_assoc, length-append, true≢false}
 use Rattle.std.proofs.lemmas.Bool.{cases_order}
 use Rattle.std.proofs.lemmas.Bool.Decides.{nat_tests}
-use Rattle.std.proofs.lemmas.List.{take_all, take-append-drop, take-append-le, length-take, length-take-le}
-use Rattle.std.proofs.Math.Nat.{min-eq_left, min-eq_right, min-le_left}
-use Rattle.std.proofs.Math.Seq.{take-append-add}
+use Rattle.std.proofs.lemmas.List.{take_all, take-append-le, length-take, length-take-le}
+use Rattle.std.proofs.Math.Nat.{min-le_left}
 use Rattle.std.proofs.KnownBytes.{Consumes-trans, Consumes-nil}
 use Rattle.std.specs.Io.KnownBytes.{Consumes, IsAtEnd, prepend_known}
 use Rattle.sf_read.specs.Ahead.{Ahead, input_of}
@@ -14,29 +13,6 @@ use Rattle.sf_lines.specs.Reading.{Loses, Took, TookPart, Reads, endless}
 use Rattle.sf_lines.proofs.Cutting.{line_append}
 
 -- ---- the first bytes of a line
-
--- a front of a front
-front_of_front : (m n : ℕ) (xs : List ℕ) → n ≤ length xs → take m (take n xs) ≡ take (min n m) xs
-front_of_front m n xs within = by (cases_order n m)
-  where
-    all : n ≤ m → take m (take n xs) ≡ take (min n m) xs
-    all le = take_all m (take n xs) (omega (arith, le, length-take-le n xs within)) ∙ ap (λ (k : ℕ). take k xs) (sym (min-eq_left le))
-
-    part : m ≤ n → take m (take n xs) ≡ take (min n m) xs
-    part le =
-        sym (take-append-le m (take n xs) (drop n xs) (omega (arith, le, length-take-le n xs within))) ∙ ap (take m) (take-append-drop n xs)
-        ∙ ap (λ (k : ℕ). take k xs) (sym (min-eq_right le))
-
-    by : (n ≡ m) ⊎ ((n < m) ⊎ (m < n)) → take m (take n xs) ≡ take (min n m) xs
-    by (inl e) = all (omega (arith, e))
-    by (inr (inl less)) = all (omega (arith, less))
-    by (inr (inr more)) = part (omega (arith, more))
-
--- a line, and bytes behind it as far as there is room
-pub filled : (limit room len : ℕ) (line held : List ℕ) → len ≤ length held → room + length line ≡ limit → line ++ take (min len room) held ≡ take limit (line ++ take len held)
-filled limit room len line held within fits =
-    ap (λ (y : List ℕ). line ++ y) (sym (front_of_front room len held within)) ∙ sym (take-append-add line (take len held) room)
-    ∙ ap (λ (n : ℕ). take n (line ++ take len held)) {x = length line + room} {y = limit} (omega (arith, fits))
 
 -- bytes behind the first ones of a line
 front_more : (limit : ℕ) (seen more : List ℕ) → take limit (take limit seen ++ more) ≡ take limit (seen ++ more)

@@ -1,5 +1,5 @@
 -- Texts that a teller is to say one after the other.
-use Rattle.std.proofs.Common.{◌≡◌, ◌∙◌, ℕ, Bool, true, false, List, [], ◌∷◌, ◌++◌, Option, Result, Ok, Err, OnOk, OnErr, is_err, ◌⊎◌, inl, inr, refl, sym, ap, subst, append_assoc, append-nil, true≢false}
+use Rattle.std.proofs.Common.{◌≡◌, ◌∙◌, ℕ, Bool, true, false, List, [], ◌∷◌, ◌++◌, Option, Result, Ok, Err, OnOk, OnErr, is_err, inl, inr, refl, sym, ap, append_assoc, append-nil, true≢false}
 use Rattle.std.specs.Io.KnownBytes.{Appends}
 use Rattle.sf_print.proofs.Appending.{Appends-none, Appends-then, Appends-same}
 use Rattle.sf_lines.specs.Telling.{Tells, faults_by}

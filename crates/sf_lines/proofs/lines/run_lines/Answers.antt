@@ -1,4 +1,4 @@
-use Rattle.std.proofs.Common.{false, ◌≡◌, ◌+◌, ◌∙◌, ℕ, List, [], Some, None, Ok, Err, cond, inl, inr, refl, sym, ap, subst, arith}
+use Rattle.std.proofs.Common.{◌≡◌, ◌+◌, ◌∙◌, ℕ, List, [], Some, None, Ok, Err, cond, inl, inr, refl, sym, ap, subst, arith}
 use Rattle.std.specs.Io.KnownBytes.{Appends}
 use Rattle.std.proofs.KnownBytes.{Consumes-nil}
 use Rattle.sf_format.specs.declared.directive.Directive.{Directive}
