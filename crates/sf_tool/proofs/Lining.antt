@@ -1,5 +1,5 @@
 -- The formats of lines, read from their words in turn, and what is said and answered of the lines.
-use Rattle.std.proofs.Common.{◌≡◌, ◌∙◌, if◌then◌else◌, ℕ, suc, ◌+◌, ◌<◌, ◌≤◌, true, false, Bool, zero, List, [], ◌∷◌, ◌++◌, length, map, drop, get_or, Option, Some, None, inl, inr, refl, sym, ap, subst, append_assoc, append-nil, arith, true≢false}
+use Rattle.std.proofs.Common.{◌≡◌, ◌∙◌, if◌then◌else◌, ℕ, suc, ◌+◌, ◌<◌, ◌≤◌, true, false, Bool, zero, List, [], ◌∷◌, ◌++◌, length, map, drop, get_or, Option, Some, None, inl, inr, refl, sym, ap, subst, append_assoc, append-nil, arith}
 use Rattle.std.specs.Prelude.{slice_get, ◌-◌}
 use Rattle.std.proofs.Math.Seq.{drop-cons}
 use Rattle.std.proofs.lemmas.Option.{same_Some}

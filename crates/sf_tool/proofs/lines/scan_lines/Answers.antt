@@ -1,9 +1,7 @@
-use Rattle.std.proofs.Common.{◌≡◌, ◌<◌, ◌-◌, ◌∙◌, ap, arith, length, map, refl, rules, string_bytes, subst, sym, inl, inr, true, List, Some, ℕ}
+use Rattle.std.proofs.Common.{◌≡◌, ◌<◌, ◌-◌, ◌∙◌, ap, arith, length, map, rules, string_bytes, subst, sym, inr, true, List, Some, ℕ}
 use Rattle.std.specs.Prelude.{slice_get}
 use Rattle.std.proofs.lemmas.List.{length-map}
 use Rattle.sf_format.specs.declared.directive.Directive.{Directive}
-use Rattle.sf_messages.specs.declared.fault.CommandFault.{CommandFault}
-use Rattle.sf_messages.specs.declared.fault.CommandFault.TheVariants.{Memory}
 use Rattle.sf_tool.specs.Commands.{form_of, grammar_of}
 use Rattle.sf_tool.specs.Escapes.{Unescapes}
 use Rattle.sf_tool.specs.Explains.{OfWord}
