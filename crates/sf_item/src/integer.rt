@@ -126,7 +126,7 @@ pub fn advance(base: Base, reached: &mut Reached, b: u8) -> bool
 pub fn decimal_front(number: &mut u64, piece: &[u8]) -> usize
     ensures within { result ≤ length piece.now }
     ensures read { ReadsDecimal number.old (take result piece.now) number.new }
-    ensures stops { result < length piece.now → (10 ≤ digit_value (slice_index piece.now result)) ⊎ (1844674407370955161 ≤ number.new) }
+    ensures stops { result < length piece.now → (10 ≤ digit_value (slice_index piece.now result)) ⊎ (QUICK ≤ number.new) }
     ensures nothing { result ≡ 0 → number.new ≡ number.old }
 {
     let mut value = *number;
