@@ -1,9 +1,10 @@
 -- Bits of the words of a set.
-use Rattle.std.proofs.Common.{◌≡◌, ◌<◌, ◌/◌, ◌%◌, ◌*◌, ◌^◌, ◌+◌, ◌-◌, ◌==◌, ◌||◌, ℕ, true, false, List, replicate, length, get_or, set, refl, ap, sym, ◌∙◌, arith, inl, inr, bit_or, bit_and, not, min, eq-eqb, zero, suc}
-use Rattle.std.proofs.lemmas.Bool.{cases_eq, ne_eqb, eqb-true}
+use Rattle.std.proofs.Common.{◌≡◌, ◌<◌, ◌≤◌, ◌/◌, ◌%◌, ◌*◌, ◌^◌, ◌+◌, ◌-◌, ◌==◌, ◌||◌, ◌&&◌, ℕ, true, false, List, replicate, length, get_or, set, refl, ap, sym, ◌∙◌, arith, inl, inr, bit_or, bit_and, not, min, max, nat_le, eq-eqb, zero, suc}
+use Rattle.std.proofs.lemmas.Bool.{cases_eq, cases_lt, ne_eqb, eqb-true}
+use Rattle.std.proofs.lemmas.Bool.Decides.{nat_tests}
 use Rattle.std.proofs.lemmas.Nat.{and_le_l}
 use Rattle.std.proofs.lemmas.List.{get_or-set_same, get_or-set_other, get_or-replicate}
-use Rattle.std.proofs.lemmas.Nat.Bits.{bit_at_set_same, bit_at_set_other, bit_at_not, bit_at-lt, bit_at_and, bit_at-zero, bit_at-trailing_zeros}
+use Rattle.std.proofs.lemmas.Nat.Bits.{bit_at_set_same, bit_at_set_other, bit_at_not, bit_at-lt, bit_at_and, bit_at_or, bit_at_ones, bit_at_ones_above, bit_at-zero, bit_at-trailing_zeros}
 use Rattle.std.specs.Int.{bit_at, bit_not, w64, trailing_zeros}
 use Rattle.sf_base.specs.Sets.{word_has}
 
@@ -103,3 +104,56 @@ pub word_has-zeros : (k : ℕ) → k < 256 → word_has (replicate 4 0) k ≡ fa
 word_has-zeros k below =
     let zero_word = get_or-replicate 4 (k / 64) zero zero (omega (arith, below)) in
     rw (zero_word, bit_at-zero (k % 64)) refl
+
+-- ---- the bits of a range
+
+-- the bits of word i that stand for bytes from lo to hi
+abbrev pub range_bits : ℕ → ℕ → ℕ → ℕ
+range_bits lo hi i = bit_and (2 ^ min (hi + 1 - 64 * i) 64 - 1) (bit_not w64 (2 ^ min (lo - 64 * i) 64 - 1))
+
+in_range : (b x y lo hi k : ℕ) → b < 2 → (k ≤ hi → x ≡ 1) → (hi < k → x ≡ 0) → (k < lo → y ≡ 1) → (lo ≤ k → y ≡ 0)
+    → (max b (min x (1 - y)) == 1) ≡ ((nat_le lo k && nat_le k hi) || (b == 1))
+in_range b x y lo hi k few upto above below from =
+    elim (cases_lt hi k) [
+      | inl behind ↦ let none = above behind in grind (arith, nat_tests)
+      | inr within ↦ elim (cases_lt k lo) [
+        | inl before ↦ let one = below before in grind (arith, nat_tests)
+        | inr here ↦ let one = upto within in let none = from here in grind (arith, nat_tests)
+      ]
+    ]
+
+range_has : (w lo hi i j : ℕ) → 2 ^ min (lo - 64 * i) 64 - 1 < 2 ^ 64 → j < 64
+    → (bit_at (bit_or w (range_bits lo hi i)) j == 1) ≡ ((nat_le lo (64 * i + j) && nat_le (64 * i + j) hi) || (bit_at w j == 1))
+range_has w lo hi i j fits small =
+    let upto = min (hi + 1 - 64 * i) 64 in
+    let below = min (lo - 64 * i) 64 in
+    rw (bit_at_or w (range_bits lo hi i) j, bit_at_and (2 ^ upto - 1) (bit_not w64 (2 ^ below - 1)) j, bit_at_not w64 (2 ^ below - 1) j fits small)
+    (in_range (bit_at w j) (bit_at (2 ^ upto - 1) j) (bit_at (2 ^ below - 1) j) lo hi (64 * i + j) (bit_at-lt w j)
+    (λ h. bit_at_ones upto j (omega (arith, h, small)))
+    (λ h. bit_at_ones_above upto j (omega (arith, h)))
+    (λ h. bit_at_ones below j (omega (arith, h, small)))
+    (λ h. bit_at_ones_above below j (omega (arith, h))))
+
+-- word i with the bits of a range, of words of which that is so before it
+pub word_has-range : (ws vs : List ℕ) (lo hi i k : ℕ) → i < length vs → 2 ^ min (lo - 64 * i) 64 - 1 < 2 ^ 64
+    → (k < 64 * i → word_has vs k ≡ ((nat_le lo k && nat_le k hi) || word_has ws k)) → (64 * i ≤ k → word_has vs k ≡ word_has ws k) → k < 64 * (i + 1)
+    → word_has (set vs i (bit_or (get_or vs i 0) (range_bits lo hi i))) k ≡ ((nat_le lo k && nat_le k hi) || word_has ws k)
+word_has-range ws vs lo hi i k inside fits before behind below =
+    let word = bit_or (get_or vs i 0) (range_bits lo hi i) in
+    elim (cases_lt k (64 * i)) [
+      | inl early ↦
+          let apart : k / 64 ≡ i → ⊥ = λ e. omega (arith, early, e) in
+          rw (get_or-set_other vs i (k / 64) word 0 apart) (before early)
+      | inr late ↦
+          let here : k / 64 ≡ i = omega (arith, late, below) in
+          let place : 64 * i + k % 64 ≡ k = omega (arith, late, below) in
+          let had = range_has (get_or vs i 0) lo hi i (k % 64) fits (within k) in
+          let same = behind late in
+          rw (here, get_or-set_same vs i word 0 inside) (had ∙ rw place (rw here at (ap (λ b. (nat_le lo k && nat_le k hi) || b) same)))
+    ]
+
+-- the words behind it stay
+pub word_has-others : (ws vs : List ℕ) (i k word : ℕ) → word_has vs k ≡ word_has ws k → 64 * (i + 1) ≤ k → word_has (set vs i word) k ≡ word_has ws k
+word_has-others ws vs i k word same behind =
+    let apart : k / 64 ≡ i → ⊥ = λ e. omega (arith, behind, e) in
+    rw (get_or-set_other vs i (k / 64) word 0 apart) same

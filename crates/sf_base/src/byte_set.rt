@@ -1,5 +1,5 @@
 //! Sets of bytes.
-ghost use Rattle.std.specs.Prelude.{◌≡◌, ◌↔◌, ◌||◌, ◌&&◌, ◌==◌, ◌<◌, ◌≤◌, nat_le, not, ℕ, List, Bool, true, false, IsTrue, length, IfSome};
+ghost use Rattle.std.specs.Prelude.{◌≡◌, ◌↔◌, ◌||◌, ◌&&◌, ◌==◌, ◌<◌, ◌≤◌, ◌^◌, ◌-◌, nat_le, not, ℕ, List, Bool, true, false, IsTrue, length, IfSome};
 ghost use Rattle.std.specs.List.{prefix_len};
 ghost use Rattle.sf_base.specs.Bytes.{IsLongestFront};
 ghost use Rattle.sf_base.specs.Sets.{has_byte, word_has, marks_of, count_below, LacksOnly};
@@ -22,6 +22,15 @@ impl Model for ByteSet {
     ghost view = { λ s. marks_of s.words };
 
     ghost invariant = { λ s. (length s.words ≡ 4) × LacksOnly s.lacks (word_has s.words) };
+}
+
+/// The word whose lowest bits are set, so many.
+#[inline(always)]
+fn ones(count: usize) -> u64
+    requires { count ≤ 64 }
+    ensures { result ≡ 2 ^ count - 1 }
+{
+    ((1u128 << count) - 1) as u64
 }
 
 impl ByteSet {
@@ -52,10 +61,14 @@ impl ByteSet {
         ensures members { (k : ℕ) → k < 256 → has_byte self.new k ≡ ((nat_le lo k && nat_le k hi) || has_byte self.old k) }
         ensures sized { length self.new ≡ 256 }
     {
-        for b in lo..hi {
-            self.insert(b);
+        let mut words = self.words;
+        for i in 0..4usize {
+            // how many bits of the word stand for bytes below `lo`, and for bytes up to `hi`
+            let below = (lo as usize).saturating_sub(64 * i).min(64);
+            let upto = (hi as usize + 1).saturating_sub(64 * i).min(64);
+            words[i] = words[i] | (ones(upto) & !ones(below));
         }
-        self.insert(hi);
+        *self = ByteSet { words, lacks: None };
     }
 
     /// The member, where there is just one.
