@@ -1,5 +1,6 @@
 -- Bits of the words of a set.
-use Rattle.std.proofs.Common.{◌≡◌, ◌<◌, ◌≤◌, ◌/◌, ◌%◌, ◌*◌, ◌^◌, ◌+◌, ◌-◌, ◌==◌, ◌||◌, ◌&&◌, ℕ, true, false, List, replicate, length, get_or, set, refl, ap, sym, ◌∙◌, arith, inl, inr, bit_or, bit_and, not, min, max, nat_le, eq-eqb, zero, suc}
+use Rattle.std.proofs.Common.{◌≡◌, ◌<◌, ◌≤◌, ◌/◌, ◌%◌, ◌*◌, ◌^◌, ◌+◌, ◌-◌, ◌==◌, ◌||◌, ◌&&◌, ℕ, true, false, List, replicate, length, get_or, set, refl, ap, sym, ◌∙◌, arith, inl, inr, bit_or, bit_and, not, min, max, nat_le, eq-eqb, lit<, zero, suc}
+use Rattle.std.proofs.Math.Nat.{mod-eq_of_lt, pow-le-pow_right}
 use Rattle.std.proofs.lemmas.Bool.{cases_eq, cases_lt, ne_eqb, eqb-true}
 use Rattle.std.proofs.lemmas.Bool.Decides.{nat_tests}
 use Rattle.std.proofs.lemmas.Nat.{and_le_l}
@@ -111,6 +112,20 @@ word_has-zeros k below =
 abbrev pub range_bits : ℕ → ℕ → ℕ → ℕ
 range_bits lo hi i = bit_and (2 ^ min (hi + 1 - 64 * i) 64 - 1) (bit_not w64 (2 ^ min (lo - 64 * i) 64 - 1))
 
+-- so many bits at most are those of a word
+below_word : (n : ℕ) → n ≤ 64 → 2 ^ n - 1 < 2 ^ 64
+below_word n few =
+    let most : 2 ^ n ≤ 2 ^ 64 = pow-le-pow_right (lit< tt) few in
+    omega (arith, most)
+
+-- a shift that keeps all of them
+pub low_bits : (n m : ℕ) → n ≡ min m 64 → 1 * 2 ^ n % 2 ^ 128 - 1 ≡ 2 ^ min m 64 - 1
+low_bits n m e =
+    let few : n ≤ 64 = omega (arith, e) in
+    let most : 2 ^ n ≤ 2 ^ 64 = pow-le-pow_right (lit< tt) few in
+    let same : 1 * 2 ^ n ≡ 2 ^ n = omega arith in
+    rw (same, mod-eq_of_lt {n = 2 ^ n} {m = 2 ^ 128} (omega (arith, most)), e) refl
+
 in_range : (b x y lo hi k : ℕ) → b < 2 → (k ≤ hi → x ≡ 1) → (hi < k → x ≡ 0) → (k < lo → y ≡ 1) → (lo ≤ k → y ≡ 0)
     → (max b (min x (1 - y)) == 1) ≡ ((nat_le lo k && nat_le k hi) || (b == 1))
 in_range b x y lo hi k few upto above below from =
@@ -122,12 +137,12 @@ in_range b x y lo hi k few upto above below from =
       ]
     ]
 
-range_has : (w lo hi i j : ℕ) → 2 ^ min (lo - 64 * i) 64 - 1 < 2 ^ 64 → j < 64
+range_has : (w lo hi i j : ℕ) → j < 64
     → (bit_at (bit_or w (range_bits lo hi i)) j == 1) ≡ ((nat_le lo (64 * i + j) && nat_le (64 * i + j) hi) || (bit_at w j == 1))
-range_has w lo hi i j fits small =
+range_has w lo hi i j small =
     let upto = min (hi + 1 - 64 * i) 64 in
     let below = min (lo - 64 * i) 64 in
-    rw (bit_at_or w (range_bits lo hi i) j, bit_at_and (2 ^ upto - 1) (bit_not w64 (2 ^ below - 1)) j, bit_at_not w64 (2 ^ below - 1) j fits small)
+    rw (bit_at_or w (range_bits lo hi i) j, bit_at_and (2 ^ upto - 1) (bit_not w64 (2 ^ below - 1)) j, bit_at_not w64 (2 ^ below - 1) j (below_word below (omega arith)) small)
     (in_range (bit_at w j) (bit_at (2 ^ upto - 1) j) (bit_at (2 ^ below - 1) j) lo hi (64 * i + j) (bit_at-lt w j)
     (λ h. bit_at_ones upto j (omega (arith, h, small)))
     (λ h. bit_at_ones_above upto j (omega (arith, h)))
@@ -135,10 +150,10 @@ range_has w lo hi i j fits small =
     (λ h. bit_at_ones_above below j (omega (arith, h))))
 
 -- word i with the bits of a range, of words of which that is so before it
-pub word_has-range : (ws vs : List ℕ) (lo hi i k : ℕ) → i < length vs → 2 ^ min (lo - 64 * i) 64 - 1 < 2 ^ 64
+pub word_has-range : (ws vs : List ℕ) (lo hi i k : ℕ) → i < length vs
     → (k < 64 * i → word_has vs k ≡ ((nat_le lo k && nat_le k hi) || word_has ws k)) → (64 * i ≤ k → word_has vs k ≡ word_has ws k) → k < 64 * (i + 1)
     → word_has (set vs i (bit_or (get_or vs i 0) (range_bits lo hi i))) k ≡ ((nat_le lo k && nat_le k hi) || word_has ws k)
-word_has-range ws vs lo hi i k inside fits before behind below =
+word_has-range ws vs lo hi i k inside before behind below =
     let word = bit_or (get_or vs i 0) (range_bits lo hi i) in
     elim (cases_lt k (64 * i)) [
       | inl early ↦
@@ -147,7 +162,7 @@ word_has-range ws vs lo hi i k inside fits before behind below =
       | inr late ↦
           let here : k / 64 ≡ i = omega (arith, late, below) in
           let place : 64 * i + k % 64 ≡ k = omega (arith, late, below) in
-          let had = range_has (get_or vs i 0) lo hi i (k % 64) fits (within k) in
+          let had = range_has (get_or vs i 0) lo hi i (k % 64) (within k) in
           let same = behind late in
           rw (here, get_or-set_same vs i word 0 inside) (had ∙ rw place (rw here at (ap (λ b. (nat_le lo k && nat_le k hi) || b) same)))
     ]

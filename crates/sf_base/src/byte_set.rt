@@ -24,15 +24,6 @@ impl Model for ByteSet {
     ghost invariant = { λ s. (length s.words ≡ 4) × LacksOnly s.lacks (word_has s.words) };
 }
 
-/// The word whose lowest bits are set, so many.
-#[inline(always)]
-fn ones(count: usize) -> u64
-    requires { count ≤ 64 }
-    ensures { result ≡ 2 ^ count - 1 }
-{
-    ((1u128 << count) - 1) as u64
-}
-
 impl ByteSet {
     /// The set with no member.
     pub fn empty() -> ByteSet
@@ -63,10 +54,10 @@ impl ByteSet {
     {
         let mut words = self.words;
         for i in 0..4usize {
-            // how many bits of the word stand for bytes below `lo`, and for bytes up to `hi`
-            let below = (lo as usize).saturating_sub(64 * i).min(64);
-            let upto = (hi as usize + 1).saturating_sub(64 * i).min(64);
-            words[i] = words[i] | (ones(upto) & !ones(below));
+            // of the word, the bits of bytes below `lo`, and those of bytes up to `hi`
+            let below = (1u128 << (lo as usize).saturating_sub(64 * i).min(64)) - 1;
+            let upto = (1u128 << (hi as usize + 1).saturating_sub(64 * i).min(64)) - 1;
+            words[i] = words[i] | (upto as u64 & !(below as u64));
         }
         *self = ByteSet { words, lacks: None };
     }

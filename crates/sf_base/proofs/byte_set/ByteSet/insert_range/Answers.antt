@@ -1,6 +1,6 @@
-use Rattle.std.proofs.Common.{◌-◌, ◌^◌, ◌||◌, ◌&&◌, ◌∙◌, Bool, ℕ, min, nat_le, ap, refl, sym, arith}
+use Rattle.std.proofs.Common.{◌||◌, ◌&&◌, ◌∙◌, Bool, min, nat_le, ap, refl, sym, arith}
 use Rattle.std.proofs.lemmas.List.{length-set}
-use Rattle.sf_base.proofs.Bits.{word_has-range, word_has-others}
+use Rattle.sf_base.proofs.Bits.{low_bits, word_has-range, word_has-others}
 use Rattle.sf_base.proofs.Sets.{has_byte-marks_of, has_byte-held, length-marks_of}
 use Rattle.sf_base.proofs.byte_set.ByteSet.insert_range.Goals as goal
 
@@ -12,20 +12,16 @@ loop-i-init c = record {
 }
 
 pub loop-i-preserved : goal.loop-i-preserved
-loop-i-preserved c =
-    let i : ℕ = c.loop-i.i in
-    let had = c.loop-i.invariant in
-    let first = c.self.inside.words in
-    let upto = c.ones.ensures ∙ ap (λ n. 2 ^ n - 1) (c.min-upto.ensures ∙ ap (λ n. min n 64) c.saturating_sub-in-loop-i.ensures) in
-    let under = c.ones-in-loop-i.ensures ∙ ap (λ n. 2 ^ n - 1) (c.min-below.ensures ∙ ap (λ n. min n 64) c.saturating_sub.ensures) in
-    let fits = c.ones-in-loop-i.type_inv in
-    record {
-      four = length-set c.loop-i.words i _ ∙ had.four;
-      filled = λ k below.
-          rw (upto, under)
-          (word_has-range first c.loop-i.words c.args.lo c.args.hi i k (omega (arith, had.four, c.loop-i-test.true)) (omega (arith, fits, under)) (had.filled k) (had.others k) below);
-      others = λ k behind. word_has-others first c.loop-i.words i k _ (had.others k (omega (arith, behind))) behind;
-    }
+loop-i-preserved c = record {
+  four = length-set c.loop-i.words c.loop-i.i _ ∙ c.loop-i.invariant.four;
+  filled = λ k below.
+      (let upto = low_bits c.min-in-loop-i.result _ (c.min-in-loop-i.ensures ∙ ap (λ n. min n 64) c.saturating_sub-in-loop-i.ensures) in
+      let under = low_bits c.min.result _ (c.min.ensures ∙ ap (λ n. min n 64) c.saturating_sub.ensures) in
+      rw (upto, under)
+      (word_has-range c.self.inside.words c.loop-i.words c.args.lo c.args.hi c.loop-i.i k (omega (arith, c.loop-i.invariant.four, c.loop-i-test.true))
+      (c.loop-i.invariant.filled k) (c.loop-i.invariant.others k) below));
+  others = λ k behind. word_has-others c.self.inside.words c.loop-i.words c.loop-i.i k _ (c.loop-i.invariant.others k (omega (arith, behind))) behind;
+}
 
 pub invariant_of-self : goal.invariant_of-self
 invariant_of-self c = (c.loop-i.invariant.four, tt)
