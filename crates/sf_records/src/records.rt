@@ -1,10 +1,12 @@
 //! The loop over the records of an input.
-ghost use Rattle.std.specs.Prelude.{◌≡◌, ◌≢◌, ◌<◌, ◌≤◌, ℕ, List, Some, if◌then◌else◌, IfSome, MatchOption};
+ghost use Rattle.std.specs.Prelude.{◌≡◌, ◌≢◌, ◌<◌, ◌≤◌, ℕ, List, Some, None, if◌then◌else◌, IfOk, IfErr, IfSome, MatchOption};
+ghost use Rattle.std.specs.Result.{result_err};
 ghost use Rattle.sf_format.specs.Proper.{AreProper};
 ghost use Rattle.sf_print.specs.Sinks.{counted_on};
 ghost use Rattle.sf_read.specs.Ahead.{input_of};
 ghost use Rattle.sf_records.specs.Judging.{Judges, fault_by, fault_of, is_write};
-ghost use Rattle.sf_records.specs.Records.{Loops, end_by, status_by};
+ghost use Rattle.sf_run.specs.declared.outcome.Status.TheVariants as Status;
+ghost use Rattle.sf_records.specs.Records.{Loops, end_by, ended, status_by};
 ghost use Rattle.sf_records.specs.Works.{turn_in};
 
 use crate::end::{ToolEnd, ToolFault, ended_by};
@@ -84,6 +86,31 @@ fn judge<R: Recorder, K: Sink, T: Store>(
     }
 }
 
+/// Writes the record of a run that is Done, met nothing and used a byte: as `judge`, where the loop goes on behind the record
+/// unless that can't be written in full.
+#[inline(always)]
+fn write_held<R: Recorder, K: Sink, T: Store>(
+    recorder: &mut R,
+    to: &mut K,
+    report: &Report<'_, T>,
+    records: u32,
+) -> Result<(), ToolFault>
+    requires records { records < 2147483647 }
+    requires done { report.now.status ≡ Status.Done }
+    requires met { report.now.met ≡ None }
+    requires used { 0 < report.now.used }
+    ensures same { R.work recorder.new ≡ R.work recorder.old }
+    ensures written { IfOk result (λ _. Judges records ((R.work recorder.old).text report.now) (turn_in (R.work recorder.old) report.now) report.now (K.contents to.old) (K.contents to.new) None) }
+    ensures unwritten { IfErr result (λ fault. Judges records ((R.work recorder.old).text report.now) (turn_in (R.work recorder.old) report.now) report.now (K.contents to.old) (K.contents to.new) (Some (ended records (Some fault)))) }
+    ensures failures { K.failures to.new
+        ≡ (if is_write (result_err result) then counted_on (K.failures to.old) else K.failures to.old) }
+{
+    match recorder.write(to, report) {
+        Ok(()) => Ok(()),
+        Err(why) => Err(fault_by(why, records + 1)),
+    }
+}
+
 /// Scans record after record of what the lookahead holds and its source gives, by runs of at most `limit` bytes, and has
 /// each written. It ends cleanly where fscanf would return EOF at the end of the input (C11 7.21.6.2p16); else it says
 /// why, and the records before stand. What the runs did not use stays held or unread.
@@ -108,7 +135,14 @@ pub(crate) fn run_records<R: Recorder, S: Source, K: Sink, const N: usize>(
     };
     for records in 0..MOST_RECORDS {
         if let Some(outcome) = fscan_held(&mut store, from, format, limit) {
-            if let Some(end) = judge(recorder, to, &Report::new(outcome, &store), records) {
+            let report = Report::new(outcome, &store);
+            if outcome.used > 0 {
+                match write_held(recorder, to, &report, records) {
+                    Ok(()) => continue,
+                    Err(fault) => return ended_by(records, fault),
+                }
+            }
+            if let Some(end) = judge(recorder, to, &report, records) {
                 return end;
             }
             continue;

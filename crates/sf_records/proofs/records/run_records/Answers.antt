@@ -22,12 +22,31 @@ returns-in_default-clause-loops g c t e =
     let start = begins (g.R.Recorder.work c.args.recorder.now) g.S.Source.to_come c.args.format.now c.args.limit t c.args.from.now (g.K.Sink.contents c.args.to.now) (g.S.Source.failures c.args.from.now.source) e in
     no_memory told.one_report c.requires.proper start (omega arith) c.ended_by.result c.ended_by.ensures
 
+pub loop-records-preserved-in-Ok-write_held : goal.loop-records-preserved-in-Ok-write_held
+loop-records-preserved-in-Ok-write_held g c = record {
+  going = λ t e.
+      let going = c.loop-records.invariant.going t e in
+      let judged = c.in-Ok-write_held.ensures.written in
+      next told.one_report c.requires.proper going c.new-report.result (scan_as c.new-report.ensures (c.in-Some.ensures.scan going.left going.input)) (λ at_end. c.fscan_held.ensures.stays ∙ at_end)
+      (quiet _ (ap (λ r. r.met) c.new-report.ensures ∙ c.in-Some.ensures.met) (ap g.S.Source.failures c.fscan_held.ensures.no_read)) _
+      (rw (← c.loop-records.invariant.same) judged.0) (rw (← c.loop-records.invariant.same) judged.1);
+  same = c.write_held.ensures.same ∙ c.loop-records.invariant.same;
+  sound = c.in-Ok-write_held.ensures.failures ∙ c.loop-records.invariant.sound;
+}
+
+pub returns-in-Err-clause-loops : goal.returns-in-Err-clause-loops
+returns-in-Err-clause-loops g c t e =
+    let going = c.loop-records.invariant.going t e in
+    ends_at told.one_report c.requires.proper going c.new-report.result (scan_as c.new-report.ensures (c.in-Some.ensures.scan going.left going.input)) (λ at_end. c.fscan_held.ensures.stays ∙ at_end)
+    (quiet _ (ap (λ r. r.met) c.new-report.ensures ∙ c.in-Some.ensures.met) (ap g.S.Source.failures c.fscan_held.ensures.no_read)) c.loop-records-test.true c.ended_by-in-Err.result _
+    (rw (← c.loop-records.invariant.same, c.ended_by-in-Err.ensures) c.in-Err.ensures.unwritten)
+
 pub returns-in-Some-judge-clause-loops : goal.returns-in-Some-judge-clause-loops
 returns-in-Some-judge-clause-loops g c t e =
     let going = c.loop-records.invariant.going t e in
     let judged = c.in-Some-judge.ensures.judged in
-    ends_at told.one_report c.requires.proper going c.new-in-Some.result (scan_as c.new-in-Some.ensures (c.in-Some.ensures.scan going.left going.input)) (λ at_end. c.fscan_held.ensures.stays ∙ at_end)
-    (quiet _ (ap (λ r. r.met) c.new-in-Some.ensures ∙ c.in-Some.ensures.met) (ap g.S.Source.failures c.fscan_held.ensures.no_read)) c.loop-records-test.true c.in-Some-judge.end _
+    ends_at told.one_report c.requires.proper going c.new-report.result (scan_as c.new-report.ensures (c.in-Some.ensures.scan going.left going.input)) (λ at_end. c.fscan_held.ensures.stays ∙ at_end)
+    (quiet _ (ap (λ r. r.met) c.new-report.ensures ∙ c.in-Some.ensures.met) (ap g.S.Source.failures c.fscan_held.ensures.no_read)) c.loop-records-test.true c.in-Some-judge.end _
     (rw (← c.loop-records.invariant.same) judged)
 
 pub loop-records-preserved-in-Some : goal.loop-records-preserved-in-Some
@@ -35,8 +54,8 @@ loop-records-preserved-in-Some g c = record {
   going = λ t e.
       let going = c.loop-records.invariant.going t e in
       let judged = c.in_default-judge.ensures.judged in
-      next told.one_report c.requires.proper going c.new-in-Some.result (scan_as c.new-in-Some.ensures (c.in-Some.ensures.scan going.left going.input)) (λ at_end. c.fscan_held.ensures.stays ∙ at_end)
-      (quiet _ (ap (λ r. r.met) c.new-in-Some.ensures ∙ c.in-Some.ensures.met) (ap g.S.Source.failures c.fscan_held.ensures.no_read)) _
+      next told.one_report c.requires.proper going c.new-report.result (scan_as c.new-report.ensures (c.in-Some.ensures.scan going.left going.input)) (λ at_end. c.fscan_held.ensures.stays ∙ at_end)
+      (quiet _ (ap (λ r. r.met) c.new-report.ensures ∙ c.in-Some.ensures.met) (ap g.S.Source.failures c.fscan_held.ensures.no_read)) _
       (rw (← c.loop-records.invariant.same) judged.0) (rw (← c.loop-records.invariant.same) judged.1);
   same = c.in_default-judge.ensures.same ∙ c.loop-records.invariant.same;
   sound = c.in_default-judge.ensures.failures ∙ c.loop-records.invariant.sound;
