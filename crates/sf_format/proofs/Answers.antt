@@ -67,7 +67,7 @@ pub gathers_count : {D : Type 0} (language : Language) (means : ℕ → Piece �
 gathers_count language means text count ds judges h =
     judges.2 ∙ ap (λ ps. length (destinations ps)) (sym (read_same language text judges.0 h.0 judges.1 h.1))
 
-pub gathers_one : {D : Type 0} {slot_in : D → Option ℕ} (language : Language) (means : ℕ → Piece → D → Type 0) → IsMeaning D language means slot_in
+pub gathers_one : {D : Type 0} (language : Language) (means : ℕ → Piece → D → Type 0) → IsMeaning D language means
     → (text : List ℕ) (count : ℕ) (ds es : List D) → AreBytes text → Judged language text (Ok count)
     → Gathers language means text ds → SpellsAs language means text es → ds ≡ es
 gathers_one language means m text count ds es bytes judges h spelled =
@@ -79,7 +79,7 @@ pub judged_fault : {D : Type 0} (language : Language) (means : ℕ → Piece →
     → judged language text ≡ Err (fault_of fault) → IsRefusedAs language means text fault
 judged_fault language means text fault bytes e = inl (tells language text (Err (fault_of fault)) bytes e)
 
-pub hindered : {D : Type 0} {slot_in : D → Option ℕ} (language : Language) (means : ℕ → Piece → D → Type 0) → IsMeaning D language means slot_in
+pub hindered : {D : Type 0} (language : Language) (means : ℕ → Piece → D → Type 0) → IsMeaning D language means
     → (text : List ℕ) (count : ℕ) (fault : FormatFault) → AreBytes text → Judged language text (Ok count)
     → IsHindered language text fault → IsRefusedAs language means text fault
 hindered language means m text count fault bytes judges h =

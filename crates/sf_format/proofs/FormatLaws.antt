@@ -15,7 +15,7 @@ pub spelled_judged : {D : Type 0} (language : Language) (means : ℕ → Piece �
     (h : SpellsAs language means text ds) → judged language text ≡ Ok h.0
 spelled_judged language means text ds h = ap (judged language) h.2 ∙ format_judged language h.0 h.1
 
-pub one_list : {D : Type 0} {slot_in : D → Option ℕ} (language : Language) (means : ℕ → Piece → D → Type 0) → IsMeaning D language means slot_in
+pub one_list : {D : Type 0} (language : Language) (means : ℕ → Piece → D → Type 0) → IsMeaning D language means
     → (text : List ℕ) (ds es : List D) → SpellsAs language means text ds → SpellsAs language means text es → ds ≡ es
 one_list language means m text ds es h k =
     let same : h.0 ≡ k.0 = let e = sym (spelled_judged language means text ds h) ∙ spelled_judged language means text es k in cc in
@@ -34,12 +34,12 @@ not_both language means text ds at why h k =
     let e = sym (spelled_judged language means text ds h) ∙ fault_judged language text at why k in absurd (cc)
 
 -- a format whose parts are judged spells some list
-pub some_spelled : {D : Type 0} {slot_in : D → Option ℕ} (language : Language) (means : ℕ → Piece → D → Type 0)
-    → IsMeaning D language means slot_in → (text : List ℕ) (pieces : List Piece) → Judges language text (Ok pieces)
+pub some_spelled : {D : Type 0} (language : Language) (means : ℕ → Piece → D → Type 0)
+    → IsMeaning D language means → (text : List ℕ) (pieces : List Piece) → Judges language text (Ok pieces)
     → (ds : List D) × SpellsAs language means text ds
 some_spelled language means m text pieces h = let ds = some_meanings m 1 pieces h.0.each in (ds.0, (pieces, h.0, h.1, ds.1))
 
-pub either : {D : Type 0} {slot_in : D → Option ℕ} (language : Language) (means : ℕ → Piece → D → Type 0) → IsMeaning D language means slot_in
+pub either : {D : Type 0} (language : Language) (means : ℕ → Piece → D → Type 0) → IsMeaning D language means
     → (text : List ℕ) → AreBytes text
     → ((ds : List D) × SpellsAs language means text ds) ⊎ ((at : ℕ) × (why : FormatWhy) × FaultIn language text at why)
 either {D} language means m text bytes = by_judgement (judged language text) (judged_tells language text bytes)

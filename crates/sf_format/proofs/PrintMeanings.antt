@@ -11,11 +11,12 @@ use Rattle.sf_format.specs.declared.unit.Unit.{Unit as PrintUnit}
 use Rattle.sf_format.specs.declared.unit.Unit.TheVariants as unit
 use Rattle.sf_format.specs.Digits.{optional_number}
 use Rattle.sf_format.specs.PrintLetters.{print_kind_of}
+use Rattle.sf_format.specs.Units.{printed_of}
 use Rattle.sf_format.specs.Pieces.{PrintOpening, Piece, Ordinary, Percents, Printed}
 use Rattle.sf_format.specs.PrintGrammar.{IsPrintPiece, IsPrintConv, Prints, or_place, is_set_flag}
 use Rattle.sf_format.specs.Grammar.{destinations}
-use Rattle.sf_format.specs.Passing.{slot_at, printed_slot}
-use Rattle.sf_format.proofs.WholeMeanings.{IsMeaning, some_of}
+use Rattle.sf_format.specs.Passing.{slot_at}
+use Rattle.sf_format.proofs.WholeMeanings.{IsMeaning, HasSlots, some_of}
 
 abbrev made : PrintLetter → Kind → ℕ → Bool → Bool → Bool → Bool → Bool → ℕ → Option ℕ → PrintConv
 made l k n minus plus blank alt zero w p = record {
@@ -52,37 +53,21 @@ prints_one profile place (Ordinary b) u v h k = h ∙ sym k
 prints_one profile place Percents u v h k = h ∙ sym k
 prints_one profile place (Printed o b) u v h k =
     let same : h.0 ≡ k.0 = let e = sym h.2 ∙ k.2 in cc in
-    h.4 ∙ ap unit.Conv (conversion_same place o k.0 h.1 k.1 (subst (λ l. IsPrintConv place o l h.1) same h.3) k.3) ∙ sym k.4
+    rw (h.4, k.4, conversion_same place o k.0 h.1 k.1 (rw same at h.3) k.3)
 prints_one profile place _ u v h k = absurd h
 
 some_unit : (profile : Profile) (place : ℕ) (piece : Piece) → IsPrintPiece profile piece → (u : PrintUnit) × Prints profile place piece u
 some_unit profile place (Ordinary b) is = (unit.Byte b, refl)
 some_unit profile place Percents is = (unit.Byte 37, refl)
 some_unit profile place (Printed o b) is =
-    let letter = is.0 in
-    let k = some_of (print_kind_of letter o.size) is.2.size in
-    let c = told_by place o letter k.0 in (
-      unit.Conv c,
-      (
-        letter,
-        c,
-        is.1,
-        record {
-          prints = refl;
-          kind = k.1;
-          slot = refl;
-          minus = refl;
-          plus = refl;
-          blank = refl;
-          alt = refl;
-          zero = refl;
-          width = refl;
-          precision = refl;
-        },
-        refl,
-      ),
-    )
+    let k = some_of (print_kind_of is.0 o.size) is.2.size in
+    let c = told_by place o is.0 k.0 in
+    let told : IsPrintConv place o is.0 c = assumption k.1 in
+    (unit.Conv c, (is.0, c, is.1, told, refl))
 some_unit profile place _ is = absurd is
+
+pub print_meaning : (profile : Profile) → IsMeaning PrintUnit (Print profile) (Prints profile)
+print_meaning profile = record { one = prints_one profile; some = some_unit profile }
 
 placed : (place : ℕ) (n : Option ℕ) → Some (or_place place n) ≡ elim n [ None ↦ Some place | Some m ↦ Some m ]
 placed place None = refl
@@ -90,11 +75,11 @@ placed place (Some n) = refl
 
 -- the slot of a unit is that of its part
 prints_slot : (profile : Profile) (place : ℕ) (piece : Piece) (u : PrintUnit) → Prints profile place piece u
-    → printed_slot u ≡ slot_at place (destinations (piece ∷ []))
-prints_slot profile place (Ordinary b) u h = ap printed_slot h
-prints_slot profile place Percents u h = ap printed_slot h
-prints_slot profile place (Printed o b) u h = ap printed_slot h.4 ∙ ap Some h.3.slot ∙ placed place (optional_number o.number)
+    → option_map (λ e. e.0) (printed_of u) ≡ slot_at place (destinations (piece ∷ []))
+prints_slot profile place (Ordinary b) u h = rw h
+prints_slot profile place Percents u h = rw h
+prints_slot profile place (Printed o b) u h = rw (h.4, h.3.slot) (placed place (optional_number o.number))
 prints_slot profile place _ u h = absurd h
 
-pub print_meaning : (profile : Profile) → IsMeaning PrintUnit (Print profile) (Prints profile) printed_slot
-print_meaning profile = record { one = prints_one profile; some = some_unit profile; slot = prints_slot profile }
+pub print_slots : (profile : Profile) → HasSlots PrintUnit (Prints profile) printed_of
+print_slots profile = record { slot = prints_slot profile }

@@ -19,6 +19,14 @@ pub quiet_from : (rules : List Rule) → Quiet rules → first_of rules ≡ None
 quiet_from [] h = refl
 quiet_from (rule ∷ rules) h = rw h.0 (quiet_from rules h.1)
 
+abbrev pub or_else : {A : Type 0} → Option A → Option A → Option A
+or_else None other = other
+or_else (Some a) other = Some a
+
+pub first_append : (a b : List Rule) → first_of (a ++ b) ≡ or_else (first_of a) (first_of b)
+first_append [] b = refl
+first_append (rule ∷ a) b = grind (arith, first_append a b)
+
 pub all_append : {A : Type 0} (P : A → Type 0) (xs ys : List A) → AllByRecursion P xs → AllByRecursion P ys → AllByRecursion P (xs ++ ys)
 all_append P [] ys h k = k
 all_append P (x ∷ xs) ys h k = (h.0, all_append P xs ys h.1 k)

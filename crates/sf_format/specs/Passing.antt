@@ -20,8 +20,6 @@ use Rattle.sf_format.specs.declared.slots.Slots.{Slots}
 use Rattle.sf_format.specs.declared.scan.scanlist.Listed.{Listed}
 use Rattle.sf_format.specs.Language.{Language}
 use Rattle.sf_format.specs.declared.unit.PrintLetter.{PrintLetter}
-use Rattle.sf_format.specs.declared.unit.Unit.{Unit as PrintUnit}
-use Rattle.sf_format.specs.declared.unit.Unit.TheVariants as unit
 use Rattle.sf_format.specs.declared.print.opening.PrintWritten.{PrintWritten}
 use Rattle.sf_format.specs.declared.grammar.Passed.{Passed}
 use Rattle.sf_format.specs.declared.grammar.Literal.{Literal}
@@ -154,16 +152,6 @@ abbrev pub Walked : Language → List ℕ → Result Slots FormatFault → Type 
 Walked language text (Ok slots) =
     (pieces : List Piece) × (read (length text) language [] 0 text ≡ Ok pieces) × Holds slots (destinations pieces)
 Walked language text (Err fault) = read (length text) language [] 0 text ≡ Err (fault_of fault)
-
--- the slot that a directive assigns
-abbrev pub slot_in : Directive → Option ℕ
-slot_in (directive.Conv c) = c.slot
-slot_in _ = None
-
--- the slot of the value that a unit prints
-abbrev pub printed_slot : PrintUnit → Option ℕ
-printed_slot (unit.Byte b) = None
-printed_slot (unit.Conv c) = Some c.slot
 
 -- a slot with a place
 abbrev pub with_place : Option ℕ → ℕ → List (ℕ × ℕ)

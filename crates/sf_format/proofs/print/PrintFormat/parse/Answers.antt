@@ -4,8 +4,9 @@ use Rattle.sf_format.proofs.Answers.{gathers_spells, gathers_count, judged_fault
 use Rattle.sf_format.specs.Language.{Print}
 use Rattle.sf_format.specs.PrintGrammar.{Prints}
 use Rattle.sf_format.proofs.Walks.{bytes_of}
-use Rattle.sf_format.proofs.PrintMeanings.{print_meaning}
-use Rattle.sf_format.proofs.PrintAccepted.{proper, values_count}
+use Rattle.sf_format.proofs.PrintMeanings.{print_meaning, print_slots}
+use Rattle.sf_format.proofs.PrintAccepted.{proper}
+use Rattle.sf_format.proofs.PartSlots.{slots_count}
 use Rattle.sf_format.proofs.print.PrintFormat.parse.Goals as goal
 
 pub returns-in_err-values-clause-refused : goal.returns-in_err-values-clause-refused
@@ -47,7 +48,7 @@ invariant_of-result c =
       counted =
           gathers_count (Print c.args.profile) (Prints c.args.profile) c.args.text.now c.in_ok-values.values
           c.in_ok-units.units.items c.in_ok-values.ensures gathered
-          ∙ sym (values_count c.args.profile gathered.0 c.in_ok-units.units.items gathered.2);
+          ∙ sym (slots_count (print_slots c.args.profile) gathered.0 c.in_ok-units.units.items gathered.2);
     }
 
 pub returns-clause-spelled : goal.returns-clause-spelled

@@ -5,8 +5,9 @@ use Rattle.sf_format.specs.Language.{Scan}
 use Rattle.sf_format.specs.Grammar.{Means}
 use Rattle.sf_format.specs.Widths.{width_sum}
 use Rattle.sf_format.proofs.Walks.{bytes_of}
-use Rattle.sf_format.proofs.Meanings.{scan_meaning}
-use Rattle.sf_format.proofs.Accepted.{proper, destinations_count}
+use Rattle.sf_format.proofs.Meanings.{scan_meaning, scan_slots}
+use Rattle.sf_format.proofs.Accepted.{proper}
+use Rattle.sf_format.proofs.PartSlots.{slots_count}
 use Rattle.sf_format.proofs.scan.ScanFormat.parse.Goals as goal
 
 pub returns-in_err-destinations-clause-refused : goal.returns-in_err-destinations-clause-refused
@@ -56,7 +57,7 @@ invariant_of-result c =
       counted =
           gathers_count (Scan c.args.profile) (Means c.args.profile) c.args.text.now c.in_ok-destinations.destinations
           c.in_ok-directives.directives.items c.in_ok-destinations.ensures gathered
-          ∙ sym (destinations_count c.args.profile gathered.0 c.in_ok-directives.directives.items gathered.2);
+          ∙ sym (slots_count (scan_slots c.args.profile) gathered.0 c.in_ok-directives.directives.items gathered.2);
       summed = c.sum_of_widths-widths.ensures ∙ ap width_sum c.deref.ensures.value;
     }
 
