@@ -1,8 +1,7 @@
 -- The part that a format without a fault there begins with, in both languages.
 use Rattle.std.proofs.Common.{◌≡◌, ℕ, ◌<◌, List, [], ◌∷◌, ◌++◌, length}
 use Rattle.sf_base.specs.Bytes.{AreBytes}
-use Rattle.sf_format.specs.Language.{Language}
-use Rattle.sf_format.specs.Language.{Scan, Print}
+use Rattle.sf_format.specs.Language.{Language, Scan, Print}
 use Rattle.sf_format.specs.Pieces.{Opening, Piece, piece_text}
 use Rattle.sf_format.specs.Cut.{part_at}
 use Rattle.sf_format.specs.Grammar.{IsPiece, AreAlike, destinations}
@@ -18,17 +17,13 @@ pub begins_with : (language : Language) (earlier : List Opening) (p b : ℕ) (x 
 begins_with (Scan profile) earlier p b x bytes quiet = scan.scan_begins_with profile earlier p b x bytes quiet
 begins_with (Print profile) earlier p b x bytes quiet = print.print_begins_with profile earlier p b x bytes quiet
 
--- no rule refuses a part
-pub piece_quiet : (language : Language) (earlier : List Opening) (p : ℕ) (piece : Piece) (rest : List ℕ) → IsPiece language piece
-    → AreAlike (earlier ++ destinations (piece ∷ [])) → Quiet (part_rules language earlier p (piece_text piece ++ rest))
-piece_quiet (Scan profile) earlier p piece rest is alike = scan.scan_quiet profile earlier p piece rest is alike
-piece_quiet (Print profile) earlier p piece rest is alike = print.print_quiet profile earlier p piece rest is alike
-
--- the part that its text begins with
-pub part_of : (language : Language) (piece : Piece) (rest : List ℕ) → IsPiece language piece → StopsAfter piece rest
-    → part_at language (piece_text piece ++ rest) ≡ record { piece = piece; rest = rest }
-part_of (Scan profile) piece rest is stops = scan.scan_part_of profile piece rest is stops
-part_of (Print profile) piece rest is stops = print.print_part_of profile piece rest is
+-- no rule refuses a part, and it is what its text begins with
+pub part_of : (language : Language) (earlier : List Opening) (p : ℕ) (piece : Piece) (rest : List ℕ) → IsPiece language piece → StopsAfter piece rest
+    → AreAlike (earlier ++ destinations (piece ∷ []))
+    → Quiet (part_rules language earlier p (piece_text piece ++ rest))
+    × (part_at language (piece_text piece ++ rest) ≡ record { piece = piece; rest = rest })
+part_of (Scan profile) earlier p piece rest is stops alike = scan.scan_part_of profile earlier p piece rest is stops alike
+part_of (Print profile) earlier p piece rest is stops alike = print.print_part_of profile earlier p piece rest is alike
 
 -- no part is empty
 pub empty_text : (language : Language) (piece : Piece) → IsPiece language piece → 0 < length (piece_text piece)

@@ -21,10 +21,10 @@ use Rattle.sf_format.specs.Pieces.{PrintOpening}
 use Rattle.sf_format.specs.PrintGrammar.{IsPrecision, StartsAboveZero, SuitsPrint}
 use Rattle.sf_format.specs.Rules.{first_of}
 use Rattle.sf_format.specs.PrintRules.{flags_place, precision_number, foreign_flag, takes_one, print_opening_rules, print_letter_rules, flag_rules}
-use Rattle.sf_format.proofs.Outcomes.{by_test, not_false, within, not_above}
+use Rattle.sf_format.proofs.Outcomes.{by_test, not_false, within, not_above, not_zero}
 use Rattle.sf_format.proofs.Prefixes.{AllPass}
 use Rattle.sf_format.proofs.Rules.{Quiet, quiet_is}
-use Rattle.sf_format.proofs.Suits.{any_of, last_byte, text_allowed, text_quiet, slot_from, slot_test, number_from, number_high, number_digits, not_zero}
+use Rattle.sf_format.proofs.Suits.{any_of, text_allowed, text_quiet, slot_from, number_from, number_tests}
 use Rattle.sf_format.proofs.Cutting.{IsLast}
 use Rattle.sf_format.proofs.PrintCutting.{HasPrintDigits}
 
@@ -36,19 +36,16 @@ pub record IsPrintLetterOf (p : Profile) (b : ℕ) (letter : PrintLetter) : Type
   pub allowed : (o : PrintOpening) (q : ℕ) → Quiet (print_letter_rules p o b q) → IsSome (print_kind_of letter o.size)
   pub quiet : (o : PrintOpening) (q : ℕ) → IsSome (print_kind_of letter o.size) → Quiet (print_letter_rules p o b q)
 
-abbrev five_quiet : (false ≡ false) × ((false ≡ false) × ((false ≡ false) × ((false ≡ false) × ((false ≡ false) × Unit {0}))))
-five_quiet = (refl, (refl, (refl, (refl, (refl, tt)))))
-
 -- a fact for each byte of each letter
 abbrev pub ForLetters : (ℕ → PrintLetter → Type 0) → List PrintLetter → Type 0
 ForLetters P letters = AllByRecursion (λ l. AllByRecursion (λ b. P b l) (print_row l).bytes) letters
 
 each_added : (p : Profile) → ForLetters (IsPrintLetterOf p) (added_print_letters p)
 each_added profile.One = tt
-each_added profile.Two = ((record { last = last_byte 98 refl refl refl refl refl refl refl refl refl refl refl; allowed = λ o q h. refl; quiet = λ o q s. five_quiet }, tt), tt)
+each_added profile.Two = assumption
 
 each_letter : (p : Profile) → ForLetters (IsPrintLetterOf p) (print_letters p)
-each_letter p = ((record { last = last_byte 100 refl refl refl refl refl refl refl refl refl refl refl; allowed = λ o q h. refl; quiet = λ o q s. five_quiet }, (record { last = last_byte 105 refl refl refl refl refl refl refl refl refl refl refl; allowed = λ o q h. refl; quiet = λ o q s. five_quiet }, tt)), ((record { last = last_byte 117 refl refl refl refl refl refl refl refl refl refl refl; allowed = λ o q h. refl; quiet = λ o q s. five_quiet }, tt), ((record { last = last_byte 111 refl refl refl refl refl refl refl refl refl refl refl; allowed = λ o q h. refl; quiet = λ o q s. five_quiet }, tt), ((record { last = last_byte 120 refl refl refl refl refl refl refl refl refl refl refl; allowed = λ o q h. refl; quiet = λ o q s. five_quiet }, tt), ((record { last = last_byte 88 refl refl refl refl refl refl refl refl refl refl refl; allowed = λ o q h. refl; quiet = λ o q s. five_quiet }, tt), ((record { last = last_byte 115 refl refl refl refl refl refl refl refl refl refl refl; allowed = of_text; quiet = quiet_text }, tt), ((record { last = last_byte 99 refl refl refl refl refl refl refl refl refl refl refl; allowed = of_text; quiet = quiet_text }, tt), each_added p)))))))
+each_letter p = assumption (of_text, quiet_text, each_added p)
   where
     of_text : (o : PrintOpening) (q : ℕ) → Quiet (print_letter_rules p o 115 q) → IsSome (text_kind o.size)
     of_text o q h = text_allowed o.size h.1.1.1.1.0
@@ -77,12 +74,10 @@ ten_pos (suc n) = omega (arith, pow-suc 10 n, ten_pos n)
 value_pos : (d : ℕ) → is_decimal d ≡ true → d ≢ 48 → 0 < digit_value d
 value_pos d e other = grind (arith, nat_tests)
 
-magnitude_pos : (d : ℕ) (ds : List ℕ) → is_decimal d ≡ true → d ≢ 48 → nat_eq (magnitude 10 (d ∷ ds)) 0 ≡ false
-magnitude_pos d ds e other = not_zero (magnitude 10 (d ∷ ds)) (omega (arith, mul-pos (value_pos d e other) (ten_pos (length ds))))
-
 width_low : (ds : List ℕ) → AllPass is_decimal ds → StartsAboveZero ds → (is_written ds && nat_eq (magnitude 10 ds) 0) ≡ false
 width_low [] digits first = refl
-width_low (d ∷ ds) digits first = magnitude_pos d ds digits.0 first
+width_low (d ∷ ds) digits first =
+    not_zero (magnitude 10 (d ∷ ds)) (omega (arith, mul-pos (value_pos d digits.0 first) (ten_pos (length ds))))
 
 -- ---- the precision
 
@@ -91,13 +86,10 @@ precision_from : (precision : Option (List ℕ)) → IfSome precision (AllPass i
 precision_from None digits e = tt
 precision_from (Some ds) digits e = (digits, within 255 (magnitude 10 ds) e)
 
-precision_test : (precision : Option (List ℕ)) → IfSome precision IsPrecision → nat_lt 255 (precision_number precision) ≡ false
-precision_test None h = not_above 255 0 (omega arith)
-precision_test (Some ds) h = not_above 255 (magnitude 10 ds) h.1
-
-precision_digits : (precision : Option (List ℕ)) → IfSome precision IsPrecision → IfSome precision (AllPass is_decimal)
-precision_digits None h = tt
-precision_digits (Some ds) h = h.0
+precision_test : (precision : Option (List ℕ)) → IfSome precision IsPrecision
+    → (nat_lt 255 (precision_number precision) ≡ false) × IfSome precision (AllPass is_decimal)
+precision_test None h = (not_above 255 0 (omega arith), tt)
+precision_test (Some ds) h = (not_above 255 (magnitude 10 ds) h.1, h.0)
 
 one_from : (letter : PrintLetter) (precision : Option (List ℕ)) → (takes_one letter && is_some precision) ≡ false
     → HasPrecision letter (option_map (λ ds. magnitude 10 ds) precision)
@@ -113,22 +105,18 @@ one_test _ precision h = refl
 
 -- ---- flags
 
-abbrev found_at : Bool → ℕ → Option ℕ → Option ℕ
-found_at v n rest = cond v (Some n) rest
-
 none_foreign : (letter : PrintLetter) (n : ℕ) (flags : List ℕ) → is_some (foreign_flag letter n flags) ≡ false
     → AllByRecursion (λ b. has_flag letter b ≡ true) flags
 none_foreign letter n [] e = tt
 none_foreign letter n (b ∷ flags) e =
     by_test (not (has_flag letter b))
-    (λ v. is_some (found_at v n (foreign_flag letter (n + 1) flags)) ≡ false → AllByRecursion (λ a. has_flag letter a ≡ true) (b ∷ flags))
+    (λ v. is_some (cond v (Some n) (foreign_flag letter (n + 1) flags)) ≡ false → AllByRecursion (λ a. has_flag letter a ≡ true) (b ∷ flags))
     (λ t h. absurd (cc)) (λ f h. (not_false (has_flag letter b) f, none_foreign letter (n + 1) flags h)) e
 
 had_quiet : (letter : PrintLetter) (n : ℕ) (flags : List ℕ) → AllByRecursion (λ b. has_flag letter b ≡ true) flags
     → is_some (foreign_flag letter n flags) ≡ false
 had_quiet letter n [] h = refl
-had_quiet letter n (b ∷ flags) h =
-    ap (λ v. is_some (found_at (not v) n (foreign_flag letter (n + 1) flags))) h.0 ∙ had_quiet letter (n + 1) flags h.1
+had_quiet letter n (b ∷ flags) h = rw h.0 (had_quiet letter (n + 1) flags h.1)
 
 -- ---- both
 
@@ -146,25 +134,25 @@ suits_print_from p letter o b place q e digits opening rules flags = record {
 }
 
 pub print_opening_quiet : (letter : PrintLetter) (o : PrintOpening) (place : ℕ) → SuitsPrint letter o → Quiet (print_opening_rules place o)
-print_opening_quiet letter o place suits =
-    (slot_test o.number suits.number, (number_high 65535 o.width suits.width, (precision_test o.precision suits.precision, tt)))
+print_opening_quiet letter o place suits = (
+  (number_tests 32 o.number suits.number).slot,
+  ((number_tests 65535 o.width suits.width).high, ((precision_test o.precision suits.precision).0, tt)),
+)
 
 pub print_letter_quiet : (p : Profile) (letter : PrintLetter) (o : PrintOpening) (b q : ℕ) → print_letter_of p b ≡ Some letter
     → SuitsPrint letter o → Quiet (print_letter_rules p o b q)
-print_letter_quiet p letter o b q e suits =
-    (print_letter_is p b letter e).quiet o q suits.size
+print_letter_quiet p letter o b q e suits = (print_letter_is p b letter e).quiet o q suits.size
 
 pub flags_quiet : (letter : PrintLetter) (o : PrintOpening) (place : ℕ) → SuitsPrint letter o → Quiet (flag_rules place o (Some letter))
-flags_quiet letter o place suits =
-    (had_quiet letter (flags_place place o) o.flags suits.had, (one_test letter o.precision suits.one, tt))
+flags_quiet letter o place suits = (had_quiet letter (flags_place place o) o.flags suits.had, (one_test letter o.precision suits.one, tt))
 
 pub suits_print_digits : (letter : PrintLetter) (o : PrintOpening) → SuitsPrint letter o → HasPrintDigits o
 suits_print_digits letter o suits = (
-  number_digits 32 o.number suits.number,
+  (number_tests 32 o.number suits.number).digits,
   suits.flags,
-  number_digits 65535 o.width suits.width,
+  (number_tests 65535 o.width suits.width).digits,
   suits.first,
-  precision_digits o.precision suits.precision,
+  (precision_test o.precision suits.precision).1,
 )
 
 -- ---- what a letter that no rule refuses prints
@@ -173,11 +161,10 @@ pub some_print_letter : {A : Type 0} (p : Profile) (o : PrintOpening) (b q : ℕ
     → print_letter_of p b ≡ None → A
 some_print_letter p o b q none e =
     let known = (quiet_is (print_letter_rules p o b q) none).1.1.0 in
-    let unknown : is_none (print_letter_of p b) ≡ true = ap is_none e in absurd (cc)
+    let unknown : is_none (print_letter_of p b) ≡ true = rw e in absurd (cc)
 
 pub some_print_kind : {A : Type 0} (p : Profile) (o : PrintOpening) (b q : ℕ) (letter : PrintLetter) → first_of (print_letter_rules p o b q) ≡ None
     → print_letter_of p b ≡ Some letter → print_kind_of letter o.size ≡ None → A
 some_print_kind p o b q letter none found e =
-    let quiet = quiet_is (print_letter_rules p o b q) none in
-    let some = (print_letter_is p b letter found).allowed o q quiet in
-    let nothing : is_some (print_kind_of letter o.size) ≡ false = ap is_some e in absurd (cc)
+    let some = (print_letter_is p b letter found).allowed o q (quiet_is (print_letter_rules p o b q) none) in
+    let nothing : is_some (print_kind_of letter o.size) ≡ false = rw e in absurd (cc)

@@ -39,8 +39,18 @@ pub all_back : {A : Type 0} (P : A → Type 0) (xs ys : List A) → AllByRecursi
 all_back P [] ys h = h
 all_back P (x ∷ xs) ys h = all_back P xs ys h.1
 
+pub all_map : {A : Type 0} (P Q : A → Type 0) → ((a : A) → P a → Q a) → (xs : List A) → AllByRecursion P xs → AllByRecursion Q xs
+all_map P Q f [] h = tt
+all_map P Q f (x ∷ xs) h = (f x h.0, all_map P Q f xs h.1)
+
 pub none_from : {A : Type 0} (o : Option A) → is_some o ≡ false → o ≡ None
 none_from o e = grind arith
+
+pub quiet_join : (a b : List Rule) → Quiet a → Quiet b → Quiet (a ++ b)
+quiet_join a b h k = all_append (λ r. r.applies ≡ false) a b h k
+
+pub quiet_split : (a b : List Rule) → Quiet (a ++ b) → Quiet a × Quiet b
+quiet_split a b h = (all_front (λ r. r.applies ≡ false) a b h, all_back (λ r. r.applies ≡ false) a b h)
 
 -- the first rule of a table in the code
 pub table_fault : (rules : List (CodeRule FormatFault)) → fault_in (first_reason rules) ≡ first_of (map row_of rules)

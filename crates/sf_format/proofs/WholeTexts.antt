@@ -14,7 +14,7 @@ use Rattle.sf_format.proofs.Prefixes.{Stops}
 use Rattle.sf_format.proofs.Rules.{quiet_is, quiet_from, all_back}
 use Rattle.sf_format.proofs.Destinations.{alike_front, regroup}
 use Rattle.sf_format.proofs.Beginnings.{StopsAfter, BeginsWith, white_quiet}
-use Rattle.sf_format.proofs.LanguageParts.{begins_with, piece_quiet, part_of, empty_text}
+use Rattle.sf_format.proofs.LanguageParts.{begins_with, part_of, empty_text}
 
 -- ---- runs of white space
 
@@ -193,12 +193,11 @@ read_done n language earlier p (piece ∷ done) rest each apart stops alike enou
     let text = piece_text piece in
     let x = text_of done ++ rest in
     let whole = append_assoc text (text_of done) rest in
-    let part = part_of language piece x each.0 (stops_after language piece done rest each apart stops) in
     let before = rw (regroup earlier piece done) at alike in
-    let quiet = quiet_from _ (piece_quiet language earlier p piece x each.0 (alike_front _ (destinations done) before)) in
+    let part = part_of language earlier p piece x each.0 (stops_after language piece done rest each apart stops) (alike_front _ (destinations done) before) in
     let lengths : length (text ++ x) ≡ length text + length x = length-append text x in
     let long : length (text ++ x) ≤ n = rw (← whole) enough in
-    let first = read_part n language earlier p (text ++ x) (omega (arith, lengths, empty_text language piece each.0)) long quiet in
+    let first = read_part n language earlier p (text ++ x) (omega (arith, lengths, empty_text language piece each.0)) long (quiet_from _ part.0) in
     let later = read_done first.0 language (earlier ++ destinations (piece ∷ [])) (p + length text) done rest each.1 (apart_tail piece done apart) stops before
     (omega (arith, long, lengths, empty_text language piece each.0, first.1)) in
     (
@@ -206,7 +205,7 @@ read_done n language earlier p (piece ∷ done) rest each apart stops alike enou
       later.1,
       ap (read n language earlier p) whole
           ∙ first.2
-          ∙ ap (λ t. put t.piece (read_behind first.0 language earlier p t)) part
+          ∙ ap (λ t. put t.piece (read_behind first.0 language earlier p t)) part.1
           ∙ ap (put piece) later.2
           ∙ put_first language earlier p piece done rest later.0,
     )

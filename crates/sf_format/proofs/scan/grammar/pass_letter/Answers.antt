@@ -4,7 +4,7 @@ use Rattle.sf_format.specs.Grammar.{slot_of}
 use Rattle.sf_format.specs.Faults.{letter_rules, scanlist_rules}
 use Rattle.sf_format.specs.Rules.{slot_rules}
 use Rattle.sf_format.specs.Passing.{opening_of, fault_of, is_set}
-use Rattle.sf_format.proofs.Passages.{first_left, number_bound, listed_forward, passes_letter, passes_list, passes_slot}
+use Rattle.sf_format.proofs.Passages.{first_left, rest_first, number_bound, listed_forward, passes_letter}
 use Rattle.sf_format.proofs.scan.grammar.pass_letter.Goals as goal
 
 pub returns-in_err-found : goal.returns-in_err-found
@@ -21,15 +21,16 @@ pub returns-in_err-list : goal.returns-in_err-list
 returns-in_err-list c =
     λ earlier holds.
     let p = err_from_is_err_and c.from_residual-in_err-list.result c.from_residual-in_err-list.ensures.1 in
-    rw (p.1, p.2)
-    (passes_list c.args.profile earlier c.args.percent c.args.at c.args.letter c.args.text.now (opening_of c.args.written.now) c.in_ok-found.found
-    (fault_of c.in_err-list.field-0.0) c.in_ok-found.ensures.0 c.in_ok-found.ensures.1 c.in_err-list.ensures)
+    let first = rest_first c.args.profile earlier c.args.percent (opening_of c.args.written.now) c.args.at c.args.letter c.args.text.now
+    c.in_ok-found.found c.in_ok-found.ensures.0 c.in_ok-found.ensures.1 in
+    rw (p.1, p.2) (first ∙ rw c.in_err-list.ensures)
 
 pub returns-in-Some : goal.returns-in-Some
 returns-in-Some c =
     λ earlier holds.
-    passes_slot c.args.profile earlier c.args.percent c.args.at c.args.letter c.args.text.now (opening_of c.args.written.now) c.in_ok-found.found
-    (fault_of c.in-Some.fault) c.in_ok-found.ensures.0 c.in_ok-found.ensures.1 c.in_ok-list.ensures.0 (sym (c.in-Some.ensures.first earlier holds))
+    rest_first c.args.profile earlier c.args.percent (opening_of c.args.written.now) c.args.at c.args.letter c.args.text.now
+    c.in_ok-found.found c.in_ok-found.ensures.0 c.in_ok-found.ensures.1
+    ∙ rw (c.in_ok-list.ensures.0, ← c.in-Some.ensures.first earlier holds)
 
 pub slot_of-slot-requires-clause-bound : goal.slot_of-slot-requires-clause-bound
 slot_of-slot-requires-clause-bound c = number_bound c.args.percent (opening_of c.args.written.now) c.requires.opening
