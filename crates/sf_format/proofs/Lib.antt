@@ -32,6 +32,5 @@ pub mod Accepted
 pub mod PrintAccepted
 pub mod FormatLaws
 pub mod Profiles
-pub mod Answers
 pub mod PartTexts
 pub mod Rows
