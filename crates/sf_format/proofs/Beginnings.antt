@@ -1,5 +1,5 @@
 -- What it is for a text to begin with a part.
-use Rattle.std.proofs.Common.{drop, is_none, None, Some, Option, ◌≡◌, ◌≢◌, ℕ, Bool, true, false, cond, nat_eq, List, [], ◌∷◌, ◌++◌, refl, append-nil, arith}
+use Rattle.std.proofs.Common.{is_none, None, Some, Option, ◌≡◌, ◌≢◌, ℕ, Bool, true, false, cond, nat_eq, List, [], ◌∷◌, ◌++◌, refl, append-nil, arith}
 use Rattle.std.proofs.lemmas.Bool.Decides.{nat_tests}
 use Rattle.sf_base.specs.Bytes.{is_white}
 use Rattle.sf_format.specs.Language.{Language, Scan, Print}

@@ -11,7 +11,7 @@ use Rattle.sf_format.specs.PrintLetters.{is_flag}
 use Rattle.sf_format.specs.Pieces.{Opening, number_text, star_text, opening_text}
 use Rattle.sf_format.specs.Cut.{number_before, number_at, first_length, length_at, cut}
 use Rattle.sf_format.proofs.Prefixes.{Stops, AllPass, front_behind, front_passes, front_of, behind_of}
-use Rattle.sf_format.proofs.Rules.{all_append, all_map}
+use Rattle.sf_format.proofs.Rules.{all_map}
 
 -- ---- a byte in front
 
@@ -175,8 +175,14 @@ cut_of o letter x digits last =
     let number : number_at (inside o (letter ∷ x)) ≡ (o.number, star_text o.star ++ (o.width ++ z))
     = rw whole (number_of o.number (star_text o.star ++ o.width) z digits.0 (star_inside o.star o.width digits.1) head) in
     let stops = digit_stops z head in
-    rw (number, star_of o.star o.width z digits.1 head, front_of is_decimal o.width z digits.1 stops, behind_of is_decimal o.width z digits.1 stops,
-    length_of o.size letter x last, length_dropped o.size (letter ∷ x))
+    rw (
+      number,
+      star_of o.star o.width z digits.1 head,
+      front_of is_decimal o.width z digits.1 stops,
+      behind_of is_decimal o.width z digits.1 stops,
+      length_of o.size letter x last,
+      length_dropped o.size (letter ∷ x),
+    )
 
 pub no_percent : (o : Opening) (letter : ℕ) (x : List ℕ) → HasDigits o → IsLast letter → begins (37 ∷ []) (inside o (letter ∷ x)) ≡ false
 no_percent o letter x digits last =

@@ -1,14 +1,13 @@
 -- What is judged of a text is its parts or its fault.
-use Rattle.std.proofs.Common.{◌≡◌, ℕ, ◌+◌, ◌<◌, ◌≤◌, inl, inr, Bool, true, false, nat_lt, List, [], length, Option, Some, None, Result, Ok, Err, refl, sym, ap, ◌∙◌, subst, arith, lit≤, append-nil}
+use Rattle.std.proofs.Common.{◌≡◌, ℕ, ◌+◌, ◌≤◌, inl, inr, Bool, true, false, nat_lt, List, [], length, Option, Some, None, Result, Ok, Err, refl, ◌∙◌, arith, lit≤, append-nil}
 use Rattle.std.proofs.lemmas.Bool.Decides.{nat_tests}
 use Rattle.sf_base.specs.Bytes.{AreBytes}
 use Rattle.sf_format.specs.Language.{Language}
 use Rattle.sf_format.specs.declared.fault.FormatWhy.{FormatWhy}
-use Rattle.sf_format.specs.declared.fault.FormatWhy.TheVariants.{FormatTooLong}
 use Rattle.sf_format.specs.Pieces.{Piece, text_of}
-use Rattle.sf_format.specs.Grammar.{AreAlike, IsFormat, destinations}
+use Rattle.sf_format.specs.Grammar.{AreAlike, IsFormat}
 use Rattle.sf_format.specs.Rules.{first_of}
-use Rattle.sf_format.specs.Faults.{part_rules, number_rules, AreFaultless, FaultIn}
+use Rattle.sf_format.specs.Faults.{number_rules, AreFaultless, FaultIn}
 use Rattle.sf_format.specs.Reading.{unless, read, numbers_judged, judged}
 use Rattle.sf_format.proofs.Outcomes.{within, not_above, is_above}
 use Rattle.sf_format.proofs.Numbers.{slots_from, slots_alike, slots_quiet}

@@ -7,8 +7,8 @@ use Rattle.sf_base.specs.Bytes.{magnitude}
 use Rattle.sf_format.specs.Language.{Language, Scan, Print}
 use Rattle.sf_format.specs.Digits.{IsOptionalNumber, optional_number}
 use Rattle.sf_format.specs.Slots.{Slotted, slots_from, AreDistinct, AreSlots}
-use Rattle.sf_format.specs.Pieces.{Opening, Piece, WhiteSpace, Plain, Bracket, Printed, piece_text, text_of}
-use Rattle.sf_format.specs.Grammar.{IsPiece, IsFormat, ArePlaced, AreNumbered, assigned_opening, destinations, MeanAll}
+use Rattle.sf_format.specs.Pieces.{Opening, Piece, Plain, Bracket, Printed, piece_text, text_of}
+use Rattle.sf_format.specs.Grammar.{IsPiece, IsFormat, ArePlaced, assigned_opening, destinations, MeanAll}
 use Rattle.sf_format.specs.Passing.{slot_at}
 use Rattle.sf_format.proofs.Numbers.{number_of, numbered_low, AreWritten}
 use Rattle.sf_format.proofs.Destinations.{destinations_cons, by_destination}

@@ -1,5 +1,5 @@
 -- The text of the part with a number.
-use Rattle.std.proofs.Common.{◌≡◌, ℕ, zero, suc, ◌+◌, ◌-◌, ◌<◌, ◌≤◌, Bool, true, List, [], ◌∷◌, ◌++◌, length, map, take, Option, Some, None, Ok, Err, refl, sym, ap, ◌∙◌, arith, slice_get, length-append}
+use Rattle.std.proofs.Common.{◌≡◌, ℕ, zero, suc, ◌+◌, ◌-◌, ◌<◌, ◌≤◌, Bool, true, List, [], ◌∷◌, ◌++◌, length, map, take, Some, None, Ok, Err, refl, sym, ap, ◌∙◌, arith, slice_get, length-append}
 use Rattle.std.specs.Prelude.{◌==◌}
 use Rattle.std.proofs.lemmas.List.{take_at}
 use Rattle.sf_base.specs.Bytes.{AreBytes}
@@ -7,7 +7,7 @@ use Rattle.sf_format.specs.Language.{Language}
 use Rattle.sf_format.specs.declared.slots.Slots.{Slots}
 use Rattle.sf_format.specs.Pieces.{Piece, piece_text, text_of, text_at}
 use Rattle.sf_format.specs.Cut.{part_at}
-use Rattle.sf_format.specs.Grammar.{IsFormat, destinations}
+use Rattle.sf_format.specs.Grammar.{IsFormat}
 use Rattle.sf_format.specs.Reading.{read, judged}
 use Rattle.sf_format.specs.declared.fault.FormatFault.{FormatFault}
 use Rattle.sf_format.specs.Passing.{Holds, fault_of}

@@ -1,7 +1,6 @@
 -- What holds of the units of each spelled text.
-use Rattle.std.proofs.Common.{◌≡◌, ℕ, ◌≤◌, Bool, true, false, ◌||◌, nat_eq, List, [], ◌∷◌, ◌++◌, length, map, Option, Some, None, refl, sym, ap, ◌∙◌, subst, arith}
+use Rattle.std.proofs.Common.{◌≡◌, ℕ, ◌≤◌, true, false, ◌||◌, nat_eq, List, [], ◌∷◌, Option, Some, None, refl, sym, ◌∙◌, arith}
 use Rattle.std.specs.Prelude.{IfSome}
-use Rattle.std.proofs.lemmas.List.{length-map}
 use Rattle.std.specs.List.{AllByRecursion}
 use Rattle.std.specs.Option.{option_map}
 use Rattle.sf_base.specs.declared.values.Kind.{Kind}
@@ -15,15 +14,13 @@ use Rattle.sf_format.specs.declared.letter.Values.{Values}
 use Rattle.sf_format.specs.declared.letter.Values.TheVariants as values
 use Rattle.sf_format.specs.declared.unit.PrintConv.{PrintConv}
 use Rattle.sf_format.specs.declared.unit.Unit.{Unit as PrintUnit}
-use Rattle.sf_format.specs.declared.unit.Unit.TheVariants as unit
 use Rattle.sf_format.specs.Digits.{IsOptionalNumber}
-use Rattle.sf_format.specs.Letters.{signed_kind, unsigned_kind, text_kind, sized_kind}
-use Rattle.sf_format.specs.PrintLetters.{print_row, print_kind_of}
-use Rattle.sf_format.specs.Slots.{Slotted, slots_from}
-use Rattle.sf_format.specs.Units.{is_signed, is_unsigned, is_text, holds_kind, prints_kind, has_flag, HasPrecision, IsProperConv, IsProperUnit, values_of, ArePrintedInOrder, AreAccepted}
+use Rattle.sf_format.specs.Letters.{sized_kind}
+use Rattle.sf_format.specs.PrintLetters.{print_row}
+use Rattle.sf_format.specs.Units.{holds_kind, has_flag, IsProperConv, IsProperUnit, AreAccepted}
 use Rattle.sf_format.specs.Pieces.{PrintOpening, Piece, Ordinary, Percents, Printed}
 use Rattle.sf_format.specs.PrintGrammar.{IsPrecision, SuitsPrint, IsPrintPiece, is_set_flag, IsPrintConv, Prints}
-use Rattle.sf_format.specs.Grammar.{IsFormat, ArePlaced, destinations, MeanAll, SpellsPrint}
+use Rattle.sf_format.specs.Grammar.{SpellsPrint}
 use Rattle.sf_format.proofs.Outcomes.{by_test, same_byte}
 use Rattle.sf_format.proofs.Suits.{text_kinded}
 use Rattle.sf_format.proofs.PrintMeanings.{print_slots}

@@ -56,9 +56,16 @@ print_cut_of o letter x digits last =
     = rw whole (number_of o.number (o.flags ++ o.width) z digits.0 (flags_inside o.flags o.width digits.1 digits.2) head) in
     let wide = width_stops o.width z digits.2 digits.3 head in
     let stops = digit_stops z head in
-    rw (number, front_of is_flag o.flags (o.width ++ z) digits.1 wide, behind_of is_flag o.flags (o.width ++ z) digits.1 wide,
-    front_of is_decimal o.width z digits.2 stops, behind_of is_decimal o.width z digits.2 stops, precision_is o.precision sized digits.4 part,
-    length_of o.size letter x last, length_dropped o.size (letter ∷ x))
+    rw (
+      number,
+      front_of is_flag o.flags (o.width ++ z) digits.1 wide,
+      behind_of is_flag o.flags (o.width ++ z) digits.1 wide,
+      front_of is_decimal o.width z digits.2 stops,
+      behind_of is_decimal o.width z digits.2 stops,
+      precision_is o.precision sized digits.4 part,
+      length_of o.size letter x last,
+      length_dropped o.size (letter ∷ x),
+    )
 
 pub no_print_percent : (o : PrintOpening) (letter : ℕ) (x : List ℕ) → HasPrintDigits o → IsLast letter
     → begins (37 ∷ []) (print_inside o (letter ∷ x)) ≡ false
@@ -85,8 +92,13 @@ print_cut_joined x =
     let wide = behind is_flag number.1 in
     let pointed = behind is_decimal wide in
     let point = mark_at 46 pointed in
-    rw (length_whole (precision_at pointed).1, precision_joined point.0 point.1, mark_joined point_text 46 pointed refl refl,
-    front_behind is_decimal wide, front_behind is_flag number.1)
+    rw (
+      length_whole (precision_at pointed).1,
+      precision_joined point.0 point.1,
+      mark_joined point_text 46 pointed refl refl,
+      front_behind is_decimal wide,
+      front_behind is_flag number.1,
+    )
     (number_whole x)
 
 precision_passes : (point : Bool) (x : List ℕ) → IfSome (precision_behind (point, x)).0 (AllPass is_decimal)

@@ -1,5 +1,5 @@
 -- The part that a print format without a fault there begins with, and the text of a part.
-use Rattle.std.proofs.Common.{◌≡◌, ℕ, ◌+◌, ◌<◌, false, List, [], ◌∷◌, ◌++◌, length, refl, sym, ap, ◌∙◌, subst, arith, append_assoc}
+use Rattle.std.proofs.Common.{◌≡◌, ℕ, ◌+◌, ◌<◌, List, [], ◌∷◌, ◌++◌, length, refl, sym, ap, ◌∙◌, subst, arith, append_assoc}
 use Rattle.sf_base.specs.Bytes.{AreBytes}
 use Rattle.sf_format.specs.declared.directive.Profile.{Profile}
 use Rattle.sf_format.specs.Language.{Print}
@@ -13,7 +13,6 @@ use Rattle.sf_format.specs.PrintRules.{print_opening_rules, print_letter_rules, 
 use Rattle.sf_format.specs.Faults.{conversion_rules, part_rules}
 use Rattle.sf_format.proofs.Outcomes.{byte_differs}
 use Rattle.sf_format.proofs.Rules.{Quiet, quiet_join, quiet_split}
-use Rattle.sf_format.proofs.Cutting.{IsLast}
 use Rattle.sf_format.proofs.PrintCutting.{HasPrintDigits, print_inside, print_cut_of, print_cut_joined, print_cut_digits, no_print_percent, print_opening_regroup}
 use Rattle.sf_format.proofs.PrintSuits.{print_letter_is, suits_print_from, print_opening_quiet, print_letter_quiet, flags_quiet, suits_print_digits}
 use Rattle.sf_format.proofs.Destinations.{assigned_alike, slot_quiet}
@@ -75,8 +74,7 @@ print_part_of profile earlier p (Printed o b) rest (letter, found, suits) alike 
     let other = no_print_percent o b rest digits last in
     let is_cut = print_cut_of o b rest digits last in
     subst (λ x. Quiet (part_rules (Print profile) earlier p x) × (part_at (Print profile) x ≡ record { piece = Printed o b; rest = rest }))
-    (sym (printed_text o b rest))
-    (
+    (sym (printed_text o b rest)) (
       percent_quiet (Print profile) earlier p (print_inside o (b ∷ rest)) other
           (subst
           (λ (c : PrintCut). Quiet (print_opening_rules p c.opening

@@ -1,11 +1,11 @@
 -- Lists of ranges and single members, by their first three bytes.
-use Rattle.std.proofs.Common.{◌≡◌, ◌≢◌, ℕ, ◌+◌, ◌-◌, ◌<◌, ◌≤◌, Bool, true, false, ◌&&◌, ◌||◌, nat_eq, nat_le, List, [], ◌∷◌, ◌++◌, get_or, take, drop, length, None, refl, sym, ap, ◌∙◌, arith, length-append, length-drop}
+use Rattle.std.proofs.Common.{◌≡◌, ◌≢◌, ℕ, ◌+◌, ◌-◌, ◌<◌, ◌≤◌, Bool, ◌&&◌, ◌||◌, nat_eq, nat_le, List, [], ◌∷◌, ◌++◌, get_or, take, drop, length, None, refl, sym, ap, ◌∙◌, arith, length-append, length-drop}
 use Rattle.std.proofs.lemmas.List.{take_rest, take_at, drop_at}
 use Rattle.std.proofs.lemmas.Bool.Decides.{nat_tests}
 use Rattle.std.specs.Prelude.{◌==◌}
 use Rattle.sf_base.specs.Sets.{has_byte}
 use Rattle.sf_format.specs.Lists.{front, behind}
-use Rattle.sf_format.specs.Scanlist.{backward_range, is_listed, is_inner, IsSetBy}
+use Rattle.sf_format.specs.Scanlist.{backward_range, is_listed, is_inner}
 use Rattle.sf_format.specs.Cut.{members_at, close_at}
 use Rattle.sf_format.proofs.Outcomes.{same_test}
 use Rattle.sf_format.proofs.Prefixes.{front_behind}
@@ -79,16 +79,23 @@ either_side here before later = grind arith
 pub one_more : (old new : List Bool) (xs members : List ℕ) → 1 ≤ length xs → IsSingle xs → HasMembers old xs members
     → ((k : ℕ) → k < 256 → has_byte new k ≡ (k == get_or xs 0 0 || has_byte old k)) → HasMembers new (after 1 xs) members
 one_more old new xs members some single has put = λ k byte.
-    rw (put k byte, same_test k (get_or xs 0 0), either_side (nat_eq (get_or xs 0 0) k) (has_byte old k) (is_listed (after 1 xs) k),
-    ← listed_single k xs some single)
+    rw (
+      put k byte,
+      same_test k (get_or xs 0 0),
+      either_side (nat_eq (get_or xs 0 0) k) (has_byte old k) (is_listed (after 1 xs) k),
+      ← listed_single k xs some single,
+    )
     (has k byte)
 
 pub range_more : (old new : List Bool) (xs members : List ℕ) → 3 ≤ length xs → get_or xs 1 0 ≡ 45 → HasMembers old xs members
     → ((k : ℕ) → k < 256 → has_byte new k ≡ ((nat_le (get_or xs 0 0) k && nat_le k (get_or xs 2 0)) || has_byte old k))
     → HasMembers new (after 3 xs) members
 range_more old new xs members long dash has put = λ k byte.
-    rw (put k byte, either_side (nat_le (get_or xs 0 0) k && nat_le k (get_or xs 2 0)) (has_byte old k) (is_listed (after 3 xs) k),
-    ← listed_range k xs long dash)
+    rw (
+      put k byte,
+      either_side (nat_le (get_or xs 0 0) k && nat_le k (get_or xs 2 0)) (has_byte old k) (is_listed (after 3 xs) k),
+      ← listed_range k xs long dash,
+    )
     (has k byte)
 
 -- the split of a scanlist behind its members

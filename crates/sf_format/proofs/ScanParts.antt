@@ -1,8 +1,8 @@
 -- The part that a scan format without a fault there begins with, and the text of a part.
-use Rattle.std.proofs.Common.{◌≡◌, ℕ, ◌+◌, ◌<◌, Bool, true, false, nat_eq, List, [], ◌∷◌, ◌++◌, length, Some, refl, sym, ap, ◌∙◌, subst, arith, append_assoc}
+use Rattle.std.proofs.Common.{◌≡◌, ℕ, ◌+◌, ◌<◌, Bool, true, false, nat_eq, List, [], ◌∷◌, ◌++◌, length, refl, sym, ap, ◌∙◌, subst, arith, append_assoc}
 use Rattle.sf_base.specs.Bytes.{AreBytes, is_white}
 use Rattle.sf_format.specs.declared.directive.Profile.{Profile}
-use Rattle.sf_format.specs.Lists.{front, behind, mark_at}
+use Rattle.sf_format.specs.Lists.{front, behind}
 use Rattle.sf_format.specs.Letters.{letter_of, length_text}
 use Rattle.sf_format.specs.Scanlist.{Scanlist, scanlist_text}
 use Rattle.sf_format.specs.Pieces.{Opening, Piece, WhiteSpace, Ordinary, Percents, Plain, Bracket, Printed, number_text, star_text, opening_text, piece_text}

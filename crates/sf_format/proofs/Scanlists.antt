@@ -1,16 +1,16 @@
 -- A scanlist without a fault, and its text.
-use Rattle.std.proofs.Common.{◌≡◌, ◌≢◌, ℕ, ◌+◌, ◌<◌, Bool, true, false, cond, not, nat_eq, List, [], ◌∷◌, ◌++◌, drop, Some, None, is_some, refl, sym, ap, ◌∙◌, subst, append_assoc, arith}
+use Rattle.std.proofs.Common.{◌≡◌, ◌≢◌, ℕ, ◌+◌, ◌<◌, Bool, true, false, nat_eq, List, [], ◌∷◌, ◌++◌, drop, None, refl, sym, ◌∙◌, subst, append_assoc, arith}
 use Rattle.std.proofs.lemmas.Bool.Decides.{nat_tests}
 use Rattle.std.specs.List.{AllByRecursion}
 use Rattle.sf_base.specs.Bytes.{AreBytes}
 use Rattle.sf_format.specs.Lists.{front, behind, mark_at, is_written}
 use Rattle.sf_format.specs.Scanlist.{Scanlist, IsScanlist, IsSetBy, IsSetOf, is_inner, caret_text, scanlist_text, backward_range}
 use Rattle.sf_format.specs.Pieces.{Opening, Bracket}
-use Rattle.sf_format.specs.Cut.{Part, members_at, close_at, list_of, bracket_at}
+use Rattle.sf_format.specs.Cut.{members_at, close_at, list_of, bracket_at}
 use Rattle.sf_format.specs.Rules.{first_of, place_of}
 use Rattle.sf_format.specs.Faults.{list_rules}
 use Rattle.sf_format.proofs.Outcomes.{not_false, other_byte, byte_differs}
-use Rattle.sf_format.proofs.Prefixes.{Stops, front_behind, front_passes, behind_stops, front_of, behind_of}
+use Rattle.sf_format.proofs.Prefixes.{Stops, front_behind, front_passes, front_of, behind_of}
 use Rattle.sf_format.proofs.Cutting.{mark_joined, mark_none}
 use Rattle.sf_format.proofs.Ranges.{no_backward}
 use Rattle.sf_format.proofs.Rules.{Quiet, quiet_is, none_from, all_front, all_back}

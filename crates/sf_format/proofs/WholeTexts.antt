@@ -1,5 +1,5 @@
 -- What is read of a text is its parts or its first fault, and no others are.
-use Rattle.std.proofs.Common.{◌≡◌, ℕ, zero, suc, ◌+◌, ◌<◌, ◌≤◌, Bool, true, false, List, [], ◌∷◌, ◌++◌, length, Option, Some, None, Result, Ok, Err, refl, sym, ap, ◌∙◌, subst, arith, append_assoc, append-nil, length-append}
+use Rattle.std.proofs.Common.{◌≡◌, ℕ, zero, suc, ◌+◌, ◌<◌, ◌≤◌, Bool, true, false, List, [], ◌∷◌, ◌++◌, length, Option, Some, None, Result, Ok, Err, refl, ap, ◌∙◌, subst, arith, append_assoc, append-nil, length-append}
 use Rattle.std.specs.List.{AllByRecursion}
 use Rattle.sf_base.specs.Bytes.{AreBytes, is_white}
 use Rattle.sf_format.specs.Language.{Language, Scan, Print}
@@ -199,8 +199,7 @@ read_done n language earlier p (piece ∷ done) rest each apart stops alike enou
     let long : length (text ++ x) ≤ n = rw (← whole) enough in
     let first = read_part n language earlier p (text ++ x) (omega (arith, lengths, empty_text language piece each.0)) long (quiet_from _ part.0) in
     let later = read_done first.0 language (earlier ++ destinations (piece ∷ [])) (p + length text) done rest each.1 (apart_tail piece done apart) stops before
-    (omega (arith, long, lengths, empty_text language piece each.0, first.1)) in
-    (
+    (omega (arith, long, lengths, empty_text language piece each.0, first.1)) in (
       later.0,
       later.1,
       ap (read n language earlier p) whole

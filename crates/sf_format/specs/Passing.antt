@@ -27,9 +27,9 @@ use Rattle.sf_format.specs.declared.grammar.Literal.TheVariants as literal
 use Rattle.sf_format.specs.declared.noted.Noted.{Noted}
 use Rattle.sf_format.specs.Lists.{is_any_of, is_written, mark_at}
 use Rattle.sf_format.specs.Letters.{letter_of, kind_of}
-use Rattle.sf_format.specs.Scanlist.{IsSetBy, IsSetOf}
+use Rattle.sf_format.specs.Scanlist.{IsSetBy}
 use Rattle.sf_format.specs.Pieces.{Opening, PrintOpening, Piece, Ordinary, Percents}
-use Rattle.sf_format.specs.Cut.{Part, list_of, members_at, close_at}
+use Rattle.sf_format.specs.Cut.{Part, members_at, close_at}
 use Rattle.sf_format.specs.PrintLetters.{print_letter_of, print_kind_of}
 use Rattle.sf_format.specs.Grammar.{destinations, slot_of, width_of, shape_of, MeanAll}
 use Rattle.sf_format.specs.Rules.{Rule, first_of}
@@ -82,12 +82,6 @@ Converts profile o b rules (Err fault) = first_of rules ≡ Some (fault_of fault
 abbrev pub is_set : Letter → Bool
 is_set Set = true
 is_set _ = false
-
--- what a letter takes, by its scanlist x if it is a [
-abbrev pub IsShape : Bool → Letter → List ℕ → Shape → Type 0
-IsShape true letter x s =
-    (members : List Bool) × IsSetOf (list_of (mark_at (code "^") x).0 (mark_at (code "^") x).1) members × (s ≡ shape.Set members)
-IsShape false letter x s = shape_of letter s
 
 -- what follows the scanlist behind a letter, if it has one
 abbrev pub rest_behind : Bool → List ℕ → List ℕ
