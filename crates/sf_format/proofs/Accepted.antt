@@ -1,24 +1,58 @@
--- What holds of the directives of each spelled text.
-use Rattle.std.proofs.Common.{◌≡◌, ℕ, List, [], ◌∷◌, Option, Some, refl, arith}
+-- What holds of the directives of each spelled scan format, and of the units of each print format.
+use Rattle.std.proofs.Common.{◌≡◌, ◌≢◌, ℕ, ◌<◌, Bool, true, false, List, [], ◌∷◌, None, refl, lit<, arith, Option, Some, ◌≤◌, ◌||◌, nat_eq, sym, ◌∙◌}
+use Rattle.std.proofs.lemmas.Bool.Decides.{nat_tests}
 use Rattle.std.specs.List.{AllByRecursion}
+use Rattle.sf_format.specs.Scanlist.{Scanlist, IsScanlist, is_listed, is_chosen, is_member, backward_range}
 use Rattle.sf_base.specs.declared.values.Kind.{Kind}
 use Rattle.sf_format.specs.declared.directive.Profile.{Profile}
 use Rattle.sf_format.specs.declared.directive.Shape.{Shape}
 use Rattle.sf_format.specs.declared.directive.Directive.{Directive}
-use Rattle.sf_format.specs.Language.{Scan}
+use Rattle.sf_format.specs.Language.{Scan, Print}
 use Rattle.sf_format.specs.declared.letter.Letter.{Letter}
 use Rattle.sf_format.specs.declared.letter.Letter.TheVariants.{Chars, Text, Set}
 use Rattle.sf_format.specs.declared.letter.Length.{Length}
-use Rattle.sf_format.specs.Letters.{kind_of}
+use Rattle.sf_format.specs.Letters.{kind_of, sized_kind}
 use Rattle.sf_format.specs.Digits.{IsOptionalNumber}
-use Rattle.sf_format.specs.Pieces.{Piece, Ordinary, Plain, Bracket, Printed}
-use Rattle.sf_format.specs.Grammar.{IsScanPiece, shape_of, width_of, Means, Spells}
+use Rattle.sf_format.specs.Pieces.{Piece, Ordinary, Plain, Bracket, Printed, PrintOpening, Percents}
+use Rattle.sf_format.specs.Grammar.{IsScanPiece, shape_of, width_of, Means, Spells, SpellsPrint}
 use Rattle.sf_format.specs.Proper.{HasItsKind, IsKinded, HasItsWidth, IsSized, IsProperShape, IsProperWidth, IsProper, AreProper, AreSized, AreKinded, IsAccepted}
-use Rattle.sf_format.proofs.Members.{some_member}
 use Rattle.sf_format.proofs.Suits.{text_kinded}
-use Rattle.sf_format.proofs.Meanings.{scan_slots}
+use Rattle.sf_format.proofs.Meanings.{scan_slots, mean_each, print_slots}
 use Rattle.sf_format.proofs.PartSlots.{all_short, format_few, slots_good, slots_count}
-use Rattle.sf_format.proofs.WholeMeanings.{mean_each}
+use Rattle.std.specs.Prelude.{IfSome}
+use Rattle.std.specs.Option.{option_map}
+use Rattle.sf_base.specs.Bytes.{magnitude}
+use Rattle.sf_format.specs.declared.letter.Length.TheVariants.{NoLength}
+use Rattle.sf_format.specs.declared.unit.PrintLetter.{PrintLetter}
+use Rattle.sf_format.specs.declared.letter.Values.{Values}
+use Rattle.sf_format.specs.declared.letter.Values.TheVariants as values
+use Rattle.sf_format.specs.declared.unit.PrintConv.{PrintConv}
+use Rattle.sf_format.specs.declared.unit.Unit.{Unit as PrintUnit}
+use Rattle.sf_format.specs.PrintLetters.{print_row}
+use Rattle.sf_format.specs.Units.{holds_kind, has_flag, IsProperConv, IsProperUnit, AreAccepted}
+use Rattle.sf_format.specs.PrintGrammar.{IsPrecision, SuitsPrint, IsPrintPiece, is_set_flag, IsPrintConv, Prints}
+use Rattle.sf_format.proofs.Outcomes.{by_test, same_byte}
+
+-- the first member is listed
+first_listed : (n : ℕ) (first : ℕ) (others : List ℕ) → backward_range n (first ∷ others) ≡ None → is_listed (first ∷ others) first ≡ true
+first_listed n first [] e = grind (arith, nat_tests)
+first_listed n first (dash ∷ []) e = grind (arith, nat_tests)
+first_listed n first (dash ∷ high ∷ rest) e = grind (arith, nat_tests)
+
+nul_not_listed : (xs : List ℕ) → AllByRecursion (λ x. x ≢ 0) xs → is_listed xs 0 ≡ false
+nul_not_listed [] h = refl
+nul_not_listed (a ∷ []) h = grind (arith, nat_tests)
+nul_not_listed (a ∷ b ∷ []) h = grind (arith, nat_tests)
+nul_not_listed (a ∷ b ∷ c ∷ xs) h = grind (arith, nat_tests, nul_not_listed xs h.1.1.1, nul_not_listed (b ∷ c ∷ xs) h.1)
+
+pub some_member : (list : Scanlist) → IsScanlist list → list.first < 256 → (b : ℕ) × (b < 256) × (is_member list b ≡ true)
+some_member list is byte =
+    by_caret list.complemented (nul_not_listed (list.first ∷ list.others) is.no_nul) (first_listed 0 list.first list.others is.forward)
+  where
+    by_caret : (v : Bool) → is_listed (list.first ∷ list.others) 0 ≡ false → is_listed (list.first ∷ list.others) list.first ≡ true
+        → (b : ℕ) × (b < 256) × (is_chosen v (list.first ∷ list.others) b ≡ true)
+    by_caret true none some = (0, lit< tt, rw none)
+    by_caret false none some = (list.first, byte, some)
 
 -- ---- each directive
 
@@ -70,3 +104,61 @@ proper profile text ds (pieces, is, e, means) =
       few = omega (arith, slots_count (scan_slots profile) pieces ds means, format_few (Scan profile) pieces is);
       slots = slots_good (scan_slots profile) pieces ds is means;
     }
+
+-- ---- letters
+
+values_fit : (v : Values) (size : Length) (k : Kind) → sized_kind v size ≡ Some k → holds_kind v k ≡ true
+values_fit values.Signed NoLength k e = grind arith
+values_fit values.Signed _ k e = grind arith
+values_fit values.Unsigned NoLength k e = grind arith
+values_fit values.Unsigned _ k e = grind arith
+values_fit values.Text size k e = rw (text_kinded size k e)
+
+-- a flag that the letter doesn't have is none of those that it has
+unset : (letter : PrintLetter) (flag : ℕ) (flags : List ℕ) → AllByRecursion (λ b. has_flag letter b ≡ true) flags → has_flag letter flag ≡ false
+    → is_set_flag flag flags ≡ false
+unset letter flag [] had e = refl
+unset letter flag (b ∷ flags) had e =
+    by_test (nat_eq b flag) (λ v. (v || is_set_flag flag flags) ≡ false)
+    (λ same. absurd (let h : has_flag letter flag ≡ true = rw (same_byte b flag same) at had.0 in cc))
+    (λ other. unset letter flag flags had.1 e)
+
+-- ---- units
+
+width_within : (ds : List ℕ) → IsOptionalNumber 65535 ds → magnitude 10 ds ≤ 65535
+width_within [] h = omega arith
+width_within (d ∷ ds) h = h.2
+
+precision_within : (precision : Option (List ℕ)) → IfSome precision IsPrecision → IfSome (option_map (λ ds. magnitude 10 ds) precision) (λ p. p ≤ 255)
+precision_within None h = tt
+precision_within (Some ds) h = h.1
+
+proper_conversion : (place : ℕ) (o : PrintOpening) (letter : PrintLetter) (c : PrintConv) → SuitsPrint letter o → IsPrintConv place o letter c
+    → IsProperConv c
+proper_conversion place o letter c suits h = record {
+  kind = rw h.prints (values_fit (print_row letter).prints o.size c.kind h.kind);
+  plus = λ e. h.plus ∙ unset letter 43 o.flags suits.had (rw h.prints at e);
+  blank = λ e. h.blank ∙ unset letter 32 o.flags suits.had (rw h.prints at e);
+  alt = λ e. h.alt ∙ unset letter 35 o.flags suits.had (rw h.prints at e);
+  zero = λ e. h.zero ∙ unset letter 48 o.flags suits.had (rw h.prints at e);
+  width = rw h.width (width_within o.width suits.width);
+  precision = rw h.precision (precision_within o.precision suits.precision);
+  one = rw (h.prints, h.precision) suits.one;
+}
+
+proper_unit : (profile : Profile) (place : ℕ) (piece : Piece) (u : PrintUnit) → IsPrintPiece profile piece → Prints profile place piece u
+    → IsProperUnit u
+proper_unit profile place (Ordinary b) u is h = rw h is.0
+proper_unit profile place Percents u is h = rw h (omega arith)
+proper_unit profile place (Printed o b) u is h =
+    let same : is.0 ≡ h.0 = let e = sym is.1 ∙ h.2 in cc in
+    rw h.4 (proper_conversion place o h.0 h.1 (rw same at is.2) h.3)
+proper_unit profile place _ u is h = absurd is
+
+pub print_proper : (profile : Profile) (text : List ℕ) (us : List PrintUnit) → SpellsPrint profile text us → AreAccepted us
+print_proper profile text us (pieces, is, e, means) = record {
+  proper = mean_each IsProperUnit (proper_unit profile) 1 pieces us is.each means;
+  short = omega (arith, all_short (Print profile) (Prints profile) 1 pieces us is.each means, is.short);
+  few = omega (arith, slots_count (print_slots profile) pieces us means, format_few (Print profile) pieces is);
+  slots = slots_good (print_slots profile) pieces us is means;
+}

@@ -12,9 +12,9 @@ use Rattle.sf_format.specs.Grammar.{IsPiece, IsFormat, ArePlaced, assigned_openi
 use Rattle.sf_format.specs.Passing.{slot_at}
 use Rattle.sf_format.proofs.Numbers.{number_of, numbered_low, AreWritten}
 use Rattle.sf_format.proofs.Destinations.{destinations_cons, by_destination}
-use Rattle.sf_format.proofs.Pigeonholes.{AreWithin, pigeonhole}
-use Rattle.sf_format.proofs.LanguageParts.{empty_text}
-use Rattle.sf_format.proofs.WholeMeanings.{HasSlots}
+use Rattle.sf_format.proofs.SlotLookups.{AreWithin, pigeonhole}
+use Rattle.sf_format.proofs.Parts.{empty_text}
+use Rattle.sf_format.proofs.Meanings.{HasSlots}
 
 -- ---- slots
 

@@ -22,9 +22,8 @@ use Rattle.sf_format.specs.PrintGrammar.{IsPrintPiece, Prints}
 use Rattle.sf_format.specs.Grammar.{Suits, IsScanPiece, IsPiece, IsConversion, shape_of, destinations, Means, MeanAll, SpellsAs}
 use Rattle.sf_format.specs.Profiles.{shape_with, directive_with, base_in_two, base_in_one, ShapeHas, DirectiveHas, IsNotBin, IsOfOne, IsNotBinary, UnitIsNotBinary}
 use Rattle.sf_format.specs.Laws.{TwoSpellsOne, OneSpellsTwo, OneHasOldBases, TwoPrintsOne, OnePrintsTwo}
-use Rattle.sf_format.proofs.Suits.{found}
-use Rattle.sf_format.proofs.PrintSuits.{printed}
-use Rattle.sf_format.proofs.WholeMeanings.{mean_each}
+use Rattle.sf_format.proofs.Suits.{found, printed}
+use Rattle.sf_format.proofs.Meanings.{mean_each}
 
 -- ---- whole texts
 

@@ -15,8 +15,8 @@ use Rattle.sf_format.specs.Reading.{put, read}
 use Rattle.sf_format.specs.Passing.{Holds, Walked, Gathers, fault_of}
 use Rattle.sf_format.proofs.Rules.{quiet_is, all_back}
 use Rattle.sf_format.proofs.Destinations.{destinations_push, at_most_one}
-use Rattle.sf_format.proofs.WholeMeanings.{mean_push}
-use Rattle.sf_format.proofs.LanguageParts.{begins_with, empty_text}
+use Rattle.sf_format.proofs.Meanings.{mean_push}
+use Rattle.sf_format.proofs.Parts.{begins_with, empty_text}
 use Rattle.sf_format.proofs.Judgements.{Judgement}
 use Rattle.sf_format.proofs.WholeTexts.{put_all, read_part, read_fault, nothing_read, no_bytes}
 

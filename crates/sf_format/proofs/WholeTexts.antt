@@ -13,8 +13,7 @@ use Rattle.sf_format.specs.Reading.{unless, put, read}
 use Rattle.sf_format.proofs.Prefixes.{Stops}
 use Rattle.sf_format.proofs.Rules.{quiet_is, quiet_from, all_back}
 use Rattle.sf_format.proofs.Destinations.{alike_front, regroup}
-use Rattle.sf_format.proofs.Beginnings.{StopsAfter, BeginsWith, white_quiet}
-use Rattle.sf_format.proofs.LanguageParts.{begins_with, part_of, empty_text}
+use Rattle.sf_format.proofs.Parts.{StopsAfter, BeginsWith, white_quiet, begins_with, part_of, empty_text}
 
 -- ---- runs of white space
 

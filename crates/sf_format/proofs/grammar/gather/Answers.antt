@@ -1,7 +1,7 @@
 use Rattle.std.proofs.Common.{inl, arith}
 use Rattle.std.proofs.lemmas.Result.{err_from_is_err_and}
 use Rattle.sf_format.specs.Grammar.{destinations}
-use Rattle.sf_format.proofs.Holding.{none_held}
+use Rattle.sf_format.proofs.Destinations.{none_held}
 use Rattle.sf_format.proofs.Walks.{bytes_of, passes_on, gathering_none, gathering_more, passing_fault, gathering_all, rest_shorter}
 use Rattle.sf_format.proofs.grammar.gather.Goals as goal
 

@@ -1,7 +1,7 @@
 use Rattle.std.proofs.Common.{arith}
 use Rattle.std.proofs.lemmas.Result.{err_from_is_err_and}
 use Rattle.sf_format.specs.Grammar.{destinations}
-use Rattle.sf_format.proofs.Holding.{none_held}
+use Rattle.sf_format.proofs.Destinations.{none_held}
 use Rattle.sf_format.proofs.Walks.{bytes_of, passing_none, passes_on, passing_more, passing_fault, walked_all, rest_shorter}
 use Rattle.sf_format.proofs.grammar.walk.Goals as goal
 

@@ -2,7 +2,7 @@ use Rattle.std.proofs.Common.{arith}
 use Rattle.std.proofs.lemmas.Result.{err_from_is_err_and}
 use Rattle.sf_format.specs.Passing.{fault_of}
 use Rattle.sf_format.proofs.Walks.{bytes_of}
-use Rattle.sf_format.proofs.FormatLaws.{part_refused, number_refused, all_judged, judged_few}
+use Rattle.sf_format.proofs.Judgements.{part_refused, number_refused, all_judged, judged_few}
 use Rattle.sf_format.proofs.judgement.judge.Goals as goal
 
 pub returns-in_err-slots : goal.returns-in_err-slots

@@ -1,5 +1,4 @@
-use Rattle.sf_format.proofs.Meanings.{scan_slots}
-use Rattle.sf_format.proofs.PrintMeanings.{print_slots}
+use Rattle.sf_format.proofs.Meanings.{scan_slots, print_slots}
 use Rattle.sf_format.proofs.PartSlots.{slots_in_order}
 use Rattle.sf_format.proofs.laws.in_order.Goals as goal
 

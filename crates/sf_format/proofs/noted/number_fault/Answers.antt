@@ -1,7 +1,7 @@
 use Rattle.std.proofs.Common.{sym, ◌∙◌, arith, rules}
 use Rattle.sf_format.specs.Grammar.{destinations}
 use Rattle.sf_format.proofs.Outcomes.{not_false, not_true}
-use Rattle.sf_format.proofs.Holding.{none_held}
+use Rattle.sf_format.proofs.Destinations.{none_held}
 use Rattle.sf_format.proofs.Walks.{bytes_of, passes_on, passing_fault, rest_shorter}
 use Rattle.sf_format.proofs.Notings.{unnumbered_none, noting_none, noting_more, noting_all}
 use Rattle.sf_format.proofs.noted.number_fault.Goals as goal

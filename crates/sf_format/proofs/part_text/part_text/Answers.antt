@@ -1,6 +1,6 @@
 use Rattle.std.proofs.Common.{sym, ◌∙◌, arith}
 use Rattle.sf_format.specs.Grammar.{destinations}
-use Rattle.sf_format.proofs.Holding.{none_held}
+use Rattle.sf_format.proofs.Destinations.{none_held}
 use Rattle.sf_format.proofs.Walks.{bytes_of, passes_on, passing_fault, rest_shorter}
 use Rattle.sf_format.proofs.PartTexts.{counting_none, counting_more, text_found, text_none}
 use Rattle.sf_format.proofs.part_text.part_text.Goals as goal

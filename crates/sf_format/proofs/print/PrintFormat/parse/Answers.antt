@@ -1,11 +1,11 @@
 use Rattle.std.proofs.Common.{Err, sym, ◌∙◌, ap, arith}
 use Rattle.std.proofs.lemmas.Result.{err_from_is_err_and}
-use Rattle.sf_format.proofs.FormatLaws.{gathers_spells, gathers_count, judged_fault, hindered, same_fault, no_fault, not_refused, gathers_one}
+use Rattle.sf_format.proofs.Judgements.{gathers_spells, gathers_count, judged_fault, hindered, same_fault, no_fault, not_refused, gathers_one}
 use Rattle.sf_format.specs.Language.{Print}
 use Rattle.sf_format.specs.PrintGrammar.{Prints}
 use Rattle.sf_format.proofs.Walks.{bytes_of}
-use Rattle.sf_format.proofs.PrintMeanings.{print_meaning, print_slots}
-use Rattle.sf_format.proofs.PrintAccepted.{proper}
+use Rattle.sf_format.proofs.Meanings.{print_meaning, print_slots}
+use Rattle.sf_format.proofs.Accepted.{print_proper}
 use Rattle.sf_format.proofs.PartSlots.{slots_count}
 use Rattle.sf_format.proofs.print.PrintFormat.parse.Goals as goal
 
@@ -41,7 +41,7 @@ pub invariant_of-result : goal.invariant_of-result
 invariant_of-result c =
     let gathered = c.in_ok-units.ensures.gathered in record {
       accepted =
-          proper c.args.profile c.args.text.now c.in_ok-units.units.items
+          print_proper c.args.profile c.args.text.now c.in_ok-units.units.items
           (gathers_spells (Print c.args.profile) (Prints c.args.profile) c.args.text.now c.in_ok-values.values
           c.in_ok-units.units.items (bytes_of c.args.text.now (λ i. omega (arith, c.type_inv.text i))) c.in_ok-values.ensures
           gathered);

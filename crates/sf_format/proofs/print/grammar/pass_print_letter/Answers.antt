@@ -5,8 +5,7 @@ use Rattle.sf_format.specs.Grammar.{value_opening, slot_of}
 use Rattle.sf_format.specs.Rules.{slot_rules}
 use Rattle.sf_format.specs.PrintRules.{print_letter_rules, flag_rules}
 use Rattle.sf_format.specs.Passing.{print_opening_of, fault_of}
-use Rattle.sf_format.proofs.Passages.{first_left}
-use Rattle.sf_format.proofs.PrintPassages.{value_slot, print_rest_first}
+use Rattle.sf_format.proofs.Passages.{first_left, value_slot, print_rest_first}
 use Rattle.sf_format.proofs.print.grammar.pass_print_letter.Goals as goal
 
 pub returns-in_err-found : goal.returns-in_err-found

@@ -2,8 +2,7 @@ use Rattle.std.proofs.Common.{◌+◌, ◌-◌, ◌∙◌, Err, length, refl, sy
 use Rattle.sf_format.specs.declared.fault.FormatWhy.TheVariants.{Truncated}
 use Rattle.sf_format.specs.Passing.{print_opening_of, fault_of}
 use Rattle.sf_format.proofs.WholeTexts.{no_bytes}
-use Rattle.sf_format.proofs.Passages.{first_and_rest}
-use Rattle.sf_format.proofs.PrintPassages.{print_cut_fault, print_cut_passes}
+use Rattle.sf_format.proofs.Passages.{first_and_rest, print_cut_fault, print_cut_passes}
 use Rattle.sf_format.proofs.print.grammar.PrintGrammarGrammar.pass_conversion.Goals as goal
 
 pub returns-in-Some : goal.returns-in-Some
