@@ -47,8 +47,9 @@ numbers_tell language text (Err fault) few tells =
     let place : 0 + length (text_of tells.done) ≡ length (text_of tells.done) = omega arith in
     inr (few, inl (tells.done, tells.rest, faultless, divides.text, rw place at tells.first))
 
-pub short_judged : (language : Language) (text : List ℕ) → length text ≤ 4096 → judged language text ≡ numbers_judged (read (length text) language [] 0 text)
-short_judged language text few = rw (not_above 4096 (length text) few)
+pub read_judged : (language : Language) (text : List ℕ) (r : Judgement) → length text ≤ 4096 → read (length text) language [] 0 text ≡ r
+    → judged language text ≡ numbers_judged r
+read_judged language text r few e = rw (not_above 4096 (length text) few, e)
 
 -- each text of bytes is judged rightly
 pub judged_tells : (language : Language) (text : List ℕ) → AreBytes text → Judges language text (judged language text)
@@ -64,8 +65,8 @@ judged_tells language text bytes = by_length (nat_lt 4096 (length text)) refl
 -- the parts of a format are judged so
 pub format_judged : (language : Language) (pieces : List Piece) → IsFormat language pieces → judged language (text_of pieces) ≡ Ok pieces
 format_judged language pieces is =
-    short_judged language (text_of pieces) is.short
-    ∙ rw (parts_read language pieces is.each is.apart (slots_alike pieces is.slots), slots_quiet pieces is.slots)
+    read_judged language (text_of pieces) (Ok pieces) is.short (parts_read language pieces is.each is.apart (slots_alike pieces is.slots))
+    ∙ rw (slots_quiet pieces is.slots)
 
 -- a fault of a text is judged so
 pub fault_judged : (language : Language) (text : List ℕ) (at : ℕ) (why : FormatWhy) → FaultIn language text at why → judged language text ≡ Err (why, at)
@@ -74,8 +75,8 @@ fault_judged language text at why h =
       | inl much ↦ rw (is_above 4096 (length text) much.0, much.1, much.2)
       | inr few ↦
           elim few.1 [
-            | inl part ↦ short_judged language text few.0 ∙ rw (fault_read language text (why, at) part)
-            | inr number ↦ short_judged language text few.0 ∙ rw (number.2, parts_read language number.0 number.1.each number.1.apart number.1.alike, number.3)
+            | inl part ↦ read_judged language text (Err (why, at)) few.0 (fault_read language text (why, at) part)
+            | inr (done, good, is, first) ↦ read_judged language text (Ok done) few.0 (rw is (parts_read language done good.each good.apart good.alike)) ∙ rw first
           ]
     ]
 
@@ -91,11 +92,11 @@ pub spelled_judged : {D : Type 0} (language : Language) (means : ℕ → Piece �
     (h : SpellsAs language means text ds) → judged language text ≡ Ok h.0
 spelled_judged language means text ds h = ap (judged language) h.2 ∙ format_judged language h.0 h.1
 
-pub one_list : {D : Type 0} (language : Language) (means : ℕ → Piece → D → Type 0) → IsMeaning D language means
+pub one_list : {D : Type 0} {language : Language} {means : ℕ → Piece → D → Type 0} → IsMeaning D language means
     → (text : List ℕ) (ds es : List D) → SpellsAs language means text ds → SpellsAs language means text es → ds ≡ es
-one_list language means m text ds es h k =
+one_list {language = language} {means} m text ds es h k =
     let same : h.0 ≡ k.0 = let e = sym (spelled_judged language means text ds h) ∙ spelled_judged language means text es k in cc in
-    mean_all_one m 1 k.0 ds es (subst (λ ps. MeanAll means 1 ps ds) same h.3) k.3
+    mean_all_one m 1 k.0 ds es (rw same at h.3) k.3
 
 pub one_fault : (language : Language) (text : List ℕ) (at place : ℕ) (why reason : FormatWhy) → FaultIn language text at why
     → FaultIn language text place reason → (at ≡ place) × (why ≡ reason)
@@ -114,9 +115,9 @@ some_spelled : {D : Type 0} {language : Language} {means : ℕ → Piece → D �
     → (text : List ℕ) (pieces : List Piece) → Judges language text (Ok pieces) → (ds : List D) × SpellsAs language means text ds
 some_spelled m text pieces h = let ds = some_meanings m 1 pieces h.0.each in (ds.0, (pieces, h.0, h.1, ds.1))
 
-pub either : {D : Type 0} (language : Language) (means : ℕ → Piece → D → Type 0) → IsMeaning D language means → (text : List ℕ) → AreBytes text
+pub either : {D : Type 0} {language : Language} {means : ℕ → Piece → D → Type 0} → IsMeaning D language means → (text : List ℕ) → AreBytes text
     → ((ds : List D) × SpellsAs language means text ds) ⊎ ((at : ℕ) × (why : FormatWhy) × FaultIn language text at why)
-either {D} language means m text bytes = by_judgement (judged language text) (judged_tells language text bytes)
+either {D} {language} {means} m text bytes = by_judgement (judged language text) (judged_tells language text bytes)
   where
     by_judgement : (r : Judgement) → Judges language text r
         → ((ds : List D) × SpellsAs language means text ds) ⊎ ((at : ℕ) × (why : FormatWhy) × FaultIn language text at why)
@@ -128,22 +129,10 @@ either {D} language means m text bytes = by_judgement (judged language text) (ju
 tells : (language : Language) (text : List ℕ) (r : Judgement) → AreBytes text → judged language text ≡ r → Judges language text r
 tells language text r bytes e = subst (Judges language text) e (judged_tells language text bytes)
 
-pub part_refused : (language : Language) (text : List ℕ) (fault : FormatWhy × ℕ) → length text ≤ 4096 → read (length text) language [] 0 text ≡ Err fault
-    → judged language text ≡ Err fault
-part_refused language text fault short e = short_judged language text short ∙ ap numbers_judged e
-
-pub number_refused : (language : Language) (text : List ℕ) (slots : Slots) (fault : FormatWhy × ℕ) → length text ≤ 4096
-    → (walked : Walked language text (Ok slots)) → Some fault ≡ first_of (number_rules walked.0) → judged language text ≡ Err fault
-number_refused language text slots fault short walked e =
-    short_judged language text short ∙ ap numbers_judged walked.1 ∙ ap (λ first. unless first (Ok walked.0)) (sym e)
-
 pub all_judged : (language : Language) (text : List ℕ) (slots : Slots) → length text ≤ 4096 → (walked : Walked language text (Ok slots))
     → None ≡ first_of (number_rules walked.0) → Judged language text (Ok slots.count)
-all_judged language text slots short walked e = (
-  walked.0,
-  short_judged language text short ∙ ap numbers_judged walked.1 ∙ ap (λ first. unless first (Ok walked.0)) (sym e),
-  walked.2.count,
-)
+all_judged language text slots short walked e =
+    (walked.0, read_judged language text (Ok walked.0) short walked.1 ∙ rw (← e), walked.2.count)
 
 pub judged_few : (language : Language) (text : List ℕ) (count : ℕ) → AreBytes text → Judged language text (Ok count) → count ≤ 32
 judged_few language text count bytes h =
@@ -155,30 +144,22 @@ judged_few language text count bytes h =
 read_same : (language : Language) (text : List ℕ) (pieces others : List Piece) → judged language text ≡ Ok pieces
     → read (length text) language [] 0 text ≡ Ok others → others ≡ pieces
 read_same language text pieces others e f =
-    by_first (first_of (number_rules others))
-    (sym (short_judged language text (judged_short language text pieces e) ∙ ap numbers_judged f) ∙ e)
+    by_first (first_of (number_rules others)) (sym (read_judged language text (Ok others) (judged_short language text pieces e) f) ∙ e)
   where
     by_first : (first : Option (FormatWhy × ℕ)) → unless first (Ok others) ≡ Ok pieces → others ≡ pieces
     by_first None g = cc
     by_first (Some fault) g = absurd (cc)
 
-pub gathers_spells : {D : Type 0} (language : Language) (means : ℕ → Piece → D → Type 0) (text : List ℕ) (count : ℕ) (ds : List D) → AreBytes text
+pub gathers_spells : {D : Type 0} {language : Language} {means : ℕ → Piece → D → Type 0} {text : List ℕ} {ds : List D} (count : ℕ) → AreBytes text
     → Judged language text (Ok count) → Gathers language means text ds → SpellsAs language means text ds
-gathers_spells language means text count ds bytes judges h =
+gathers_spells {language = language} {text = text} count bytes judges h =
     let is = tells language text (Ok judges.0) bytes judges.1 in
-    (judges.0, is.0, is.1, subst (λ ps. MeanAll means 1 ps ds) (read_same language text judges.0 h.0 judges.1 h.1) h.2)
+    (judges.0, is.0, is.1, rw (read_same language text judges.0 h.pieces judges.1 h.parts) at h.meaning)
 
 -- both walks count the same destinations
-pub gathers_count : {D : Type 0} (language : Language) (means : ℕ → Piece → D → Type 0) (text : List ℕ) (count : ℕ) (ds : List D)
-    → Judged language text (Ok count) → (h : Gathers language means text ds) → count ≡ length (destinations h.0)
-gathers_count language means text count ds judges h =
-    judges.2 ∙ ap (λ ps. length (destinations ps)) (sym (read_same language text judges.0 h.0 judges.1 h.1))
-
-pub gathers_one : {D : Type 0} (language : Language) (means : ℕ → Piece → D → Type 0) → IsMeaning D language means
-    → (text : List ℕ) (count : ℕ) (ds es : List D) → AreBytes text → Judged language text (Ok count)
-    → Gathers language means text ds → SpellsAs language means text es → ds ≡ es
-gathers_one language means m text count ds es bytes judges h spelled =
-    one_list language means m text ds es (gathers_spells language means text count ds bytes judges h) spelled
+pub gathers_count : {D : Type 0} {language : Language} {means : ℕ → Piece → D → Type 0} {text : List ℕ} {ds : List D} (count : ℕ)
+    → Judged language text (Ok count) → (h : Gathers language means text ds) → count ≡ length (destinations h.pieces)
+gathers_count {language = language} {text = text} count judges h = rw (read_same language text judges.0 h.pieces judges.1 h.parts) judges.2
 
 -- ---- a text that is refused
 
@@ -186,14 +167,14 @@ pub judged_fault : {D : Type 0} (language : Language) (means : ℕ → Piece →
     → judged language text ≡ Err (fault_of fault) → IsRefusedAs language means text fault
 judged_fault language means text fault bytes e = inl (tells language text (Err (fault_of fault)) bytes e)
 
-pub hindered : {D : Type 0} (language : Language) (means : ℕ → Piece → D → Type 0) → IsMeaning D language means
+pub hindered : {D : Type 0} {language : Language} {means : ℕ → Piece → D → Type 0} → IsMeaning D language means
     → (text : List ℕ) (count : ℕ) (fault : FormatFault) → AreBytes text → Judged language text (Ok count)
     → IsHindered language text fault → IsRefusedAs language means text fault
-hindered language means m text count fault bytes judges h =
+hindered {language = language} {means} m text count fault bytes judges h =
     elim h [
       | inl e ↦
           judged_fault language means text fault bytes
-          (part_refused language text (fault_of fault) (judged_short language text judges.0 judges.1) e)
+          (read_judged language text (Err (fault_of fault)) (judged_short language text judges.0 judges.1) e)
       | inr none ↦ inr (none, some_spelled m text judges.0 (tells language text (Ok judges.0) bytes judges.1))
     ]
 

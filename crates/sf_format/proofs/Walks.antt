@@ -201,4 +201,4 @@ gathering_more {language = language} means {rest = rest} {ds = ds} d h passes on
 pub gathering_all : {D : Type 0} {language : Language} {means : ℕ → Piece → D → Type 0} {text : List ℕ} {at : ℕ} {rest : List ℕ} {slots : Slots}
     {ds : List D} {empty : Bool} → Gathering D language means text at rest slots ds → empty ≡ (length rest == 0) → empty ≡ true
     → Gathers language means text ds
-gathering_all h is_empty none = (h.passing.done, passing_all h.passing is_empty none, h.meaning)
+gathering_all h is_empty none = record { pieces = h.passing.done; parts = passing_all h.passing is_empty none; meaning = h.meaning }

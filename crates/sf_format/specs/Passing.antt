@@ -175,8 +175,10 @@ Judged language text (Ok assigned) = (pieces : List Piece) × (judged language t
 Judged language text (Err fault) = judged language text ≡ Err (fault_of fault)
 
 -- what the text's parts stand for
-abbrev pub Gathers : {D : Type 0} → Language → (ℕ → Piece → D → Type 0) → List ℕ → List D → Type 0
-Gathers language means text ds = (pieces : List Piece) × (read (length text) language [] 0 text ≡ Ok pieces) × MeanAll means 1 pieces ds
+pub record Gathers {D : Type 0} (language : Language) (means : ℕ → Piece → D → Type 0) (text : List ℕ) (ds : List D) : Type 0 where
+  pub pieces : List Piece
+  pub parts : read (length text) language [] 0 text ≡ Ok pieces
+  pub meaning : MeanAll means 1 pieces ds
 
 -- the fault of a part of the text, or no memory
 abbrev pub IsHindered : Language → List ℕ → FormatFault → Type 0

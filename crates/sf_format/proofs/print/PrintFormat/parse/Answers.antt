@@ -1,6 +1,6 @@
 use Rattle.std.proofs.Common.{Err, sym, ◌∙◌, ap, arith}
 use Rattle.std.proofs.lemmas.Result.{err_from_is_err_and}
-use Rattle.sf_format.proofs.Judgements.{gathers_spells, gathers_count, judged_fault, hindered, same_fault, no_fault, not_refused, gathers_one}
+use Rattle.sf_format.proofs.Judgements.{gathers_spells, gathers_count, judged_fault, hindered, same_fault, no_fault, not_refused, one_list}
 use Rattle.sf_format.specs.Language.{Print}
 use Rattle.sf_format.specs.PrintGrammar.{Prints}
 use Rattle.sf_format.proofs.Walks.{bytes_of}
@@ -30,7 +30,7 @@ pub returns-in_err-units-clause-refused : goal.returns-in_err-units-clause-refus
 returns-in_err-units-clause-refused c =
     let p = err_from_is_err_and c.from_residual-in_err-units.result c.from_residual-in_err-units.ensures.1 in
     rw (p.1, p.2)
-    (hindered (Print c.args.profile) (Prints c.args.profile) (print_meaning c.args.profile) c.args.text.now c.in_ok-values.values c.in_err-units.field-0.0
+    (hindered (print_meaning c.args.profile) c.args.text.now c.in_ok-values.values c.in_err-units.field-0.0
     (bytes_of c.args.text.now (λ i. omega (arith, c.type_inv.text i))) c.in_ok-values.ensures c.in_err-units.ensures.hindered)
 
 pub returns-in_err-units-clause-fault : goal.returns-in_err-units-clause-fault
@@ -42,19 +42,16 @@ invariant_of-result c =
     let gathered = c.in_ok-units.ensures.gathered in record {
       accepted =
           print_proper c.args.profile c.args.text.now c.in_ok-units.units.items
-          (gathers_spells (Print c.args.profile) (Prints c.args.profile) c.args.text.now c.in_ok-values.values
-          c.in_ok-units.units.items (bytes_of c.args.text.now (λ i. omega (arith, c.type_inv.text i))) c.in_ok-values.ensures
+          (gathers_spells c.in_ok-values.values (bytes_of c.args.text.now (λ i. omega (arith, c.type_inv.text i))) c.in_ok-values.ensures
           gathered);
       counted =
-          gathers_count (Print c.args.profile) (Prints c.args.profile) c.args.text.now c.in_ok-values.values
-          c.in_ok-units.units.items c.in_ok-values.ensures gathered
-          ∙ sym (slots_count (print_slots c.args.profile) gathered.0 c.in_ok-units.units.items gathered.2);
+          gathers_count c.in_ok-values.values c.in_ok-values.ensures gathered
+          ∙ sym (slots_count (print_slots c.args.profile) gathered.pieces c.in_ok-units.units.items gathered.meaning);
     }
 
 pub returns-clause-spelled : goal.returns-clause-spelled
 returns-clause-spelled c =
-    gathers_spells (Print c.args.profile) (Prints c.args.profile) c.args.text.now c.in_ok-values.values c.in_ok-units.units.items
-    (bytes_of c.args.text.now (λ i. omega (arith, c.type_inv.text i))) c.in_ok-values.ensures c.in_ok-units.ensures.gathered
+    gathers_spells c.in_ok-values.values (bytes_of c.args.text.now (λ i. omega (arith, c.type_inv.text i))) c.in_ok-values.ensures c.in_ok-units.ensures.gathered
 
 pub returns-clause-fault : goal.returns-clause-fault
 returns-clause-fault c = λ at why fault.
@@ -62,5 +59,5 @@ returns-clause-fault c = λ at why fault.
 
 pub returns-clause-accepted : goal.returns-clause-accepted
 returns-clause-accepted c = λ ds spelled.
-    gathers_one (Print c.args.profile) (Prints c.args.profile) (print_meaning c.args.profile) c.args.text.now c.in_ok-values.values c.in_ok-units.units.items ds
-    (bytes_of c.args.text.now (λ i. omega (arith, c.type_inv.text i))) c.in_ok-values.ensures c.in_ok-units.ensures.gathered spelled
+    one_list (print_meaning c.args.profile) c.args.text.now c.in_ok-units.units.items ds
+    (gathers_spells c.in_ok-values.values (bytes_of c.args.text.now (λ i. omega (arith, c.type_inv.text i))) c.in_ok-values.ensures c.in_ok-units.ensures.gathered) spelled
