@@ -166,31 +166,21 @@ star_of true width z digits stops = refl
 star_of false [] z digits stops = mark_none 42 z (stops_less (λ b. nat_eq b 42) is_head (λ b e. grind arith) z stops)
 star_of false (d ∷ ds) z digits stops = mark_none 42 (d ∷ (ds ++ z)) (grind (arith, nat_tests))
 
+-- it begins with no %, and is cut where it was joined
 pub cut_of : (o : Opening) (letter : ℕ) (x : List ℕ) → HasDigits o → IsLast letter
-    → cut (inside o (letter ∷ x)) ≡ record { opening = o; rest = letter ∷ x }
+    → (begins (37 ∷ []) (inside o (letter ∷ x)) ≡ false) × (cut (inside o (letter ∷ x)) ≡ record { opening = o; rest = letter ∷ x })
 cut_of o letter x digits last =
     let z = length_text o.size ++ letter ∷ x in
-    let part = sized_stops o.size letter x last in
-    let head = head_stops z part in
+    let head = head_stops z (sized_stops o.size letter x last) in
+    let inner = star_inside o.star o.width digits.1 in
     let whole : star_text o.star ++ (o.width ++ z) ≡ (star_text o.star ++ o.width) ++ z = sym (append_assoc (star_text o.star) o.width z) in
     let number : number_at (inside o (letter ∷ x)) ≡ (o.number, star_text o.star ++ (o.width ++ z))
-    = rw whole (number_of o.number (star_text o.star ++ o.width) z digits.0 (star_inside o.star o.width digits.1) head) in
-    let stops = digit_stops z head in
-    rw (
-      number,
-      star_of o.star o.width z digits.1 head,
-      front_of is_decimal o.width z digits.1 stops,
-      behind_of is_decimal o.width z digits.1 stops,
-      length_of o.size letter x last,
-      length_dropped o.size (letter ∷ x),
+    = rw whole (number_of o.number (star_text o.star ++ o.width) z digits.0 inner head) in
+    let stops = digit_stops z head in (
+      rw whole (percent_none o.number (star_text o.star ++ o.width) z digits.0 inner head),
+      rw (number, star_of o.star o.width z digits.1 head, front_of is_decimal o.width z digits.1 stops, behind_of is_decimal o.width z digits.1 stops,
+          length_of o.size letter x last, length_dropped o.size (letter ∷ x)),
     )
-
-pub no_percent : (o : Opening) (letter : ℕ) (x : List ℕ) → HasDigits o → IsLast letter → begins (37 ∷ []) (inside o (letter ∷ x)) ≡ false
-no_percent o letter x digits last =
-    let z = length_text o.size ++ letter ∷ x in
-    let head = head_stops z (sized_stops o.size letter x last) in
-    let whole : star_text o.star ++ (o.width ++ z) ≡ (star_text o.star ++ o.width) ++ z = sym (append_assoc (star_text o.star) o.width z) in
-    rw whole (percent_none o.number (star_text o.star ++ o.width) z digits.0 (star_inside o.star o.width digits.1) head)
 
 pub cut_joined : (x : List ℕ) → inside (cut x).opening (cut x).rest ≡ x
 cut_joined x =
@@ -254,35 +244,23 @@ precision_is (Some ds) z digits stops =
     rw (front_of is_decimal ds z digits other, behind_of is_decimal ds z digits other)
 
 pub print_cut_of : (o : PrintOpening) (letter : ℕ) (x : List ℕ) → HasPrintDigits o → IsLast letter
-    → print_cut (print_inside o (letter ∷ x)) ≡ record { opening = o; rest = letter ∷ x }
+    → (begins (37 ∷ []) (print_inside o (letter ∷ x)) ≡ false) × (print_cut (print_inside o (letter ∷ x)) ≡ record { opening = o; rest = letter ∷ x })
 print_cut_of o letter x digits last =
     let sized = length_text o.size ++ letter ∷ x in
     let z = precision_text o.precision ++ sized in
     let part = sized_stops o.size letter x last in
     let head = precision_stops o.precision sized part in
+    let inner = flags_inside o.flags o.width digits.1 digits.2 in
     let whole : o.flags ++ (o.width ++ z) ≡ (o.flags ++ o.width) ++ z = sym (append_assoc o.flags o.width z) in
     let number : number_at (print_inside o (letter ∷ x)) ≡ (o.number, o.flags ++ (o.width ++ z))
-    = rw whole (number_of o.number (o.flags ++ o.width) z digits.0 (flags_inside o.flags o.width digits.1 digits.2) head) in
+    = rw whole (number_of o.number (o.flags ++ o.width) z digits.0 inner head) in
     let wide = width_stops o.width z digits.2 digits.3 head in
-    let stops = digit_stops z head in
-    rw (
-      number,
-      front_of is_flag o.flags (o.width ++ z) digits.1 wide,
-      behind_of is_flag o.flags (o.width ++ z) digits.1 wide,
-      front_of is_decimal o.width z digits.2 stops,
-      behind_of is_decimal o.width z digits.2 stops,
-      precision_is o.precision sized digits.4 part,
-      length_of o.size letter x last,
-      length_dropped o.size (letter ∷ x),
+    let stops = digit_stops z head in (
+      rw whole (percent_none o.number (o.flags ++ o.width) z digits.0 inner head),
+      rw (number, front_of is_flag o.flags (o.width ++ z) digits.1 wide, behind_of is_flag o.flags (o.width ++ z) digits.1 wide,
+          front_of is_decimal o.width z digits.2 stops, behind_of is_decimal o.width z digits.2 stops, precision_is o.precision sized digits.4 part,
+          length_of o.size letter x last, length_dropped o.size (letter ∷ x)),
     )
-
-pub no_print_percent : (o : PrintOpening) (letter : ℕ) (x : List ℕ) → HasPrintDigits o → IsLast letter
-    → begins (37 ∷ []) (print_inside o (letter ∷ x)) ≡ false
-no_print_percent o letter x digits last =
-    let z = precision_text o.precision ++ (length_text o.size ++ letter ∷ x) in
-    let head = precision_stops o.precision (length_text o.size ++ letter ∷ x) (sized_stops o.size letter x last) in
-    let whole : o.flags ++ (o.width ++ z) ≡ (o.flags ++ o.width) ++ z = sym (append_assoc o.flags o.width z) in
-    rw whole (percent_none o.number (o.flags ++ o.width) z digits.0 (flags_inside o.flags o.width digits.1 digits.2) head)
 
 -- ---- the cut joins
 

@@ -9,7 +9,7 @@ use Rattle.sf_format.specs.Grammar.{IsPiece, AreAlike, destinations, IsScanPiece
 use Rattle.sf_format.specs.Faults.{percent_rules, part_rules, conversion_rules, opening_rules, letter_rules, bracket_rules, scanlist_rules, rest_rules}
 use Rattle.sf_format.specs.Lists.{begins, front, behind}
 use Rattle.sf_format.proofs.Prefixes.{Stops, front_behind, front_passes, behind_stops, front_of, behind_of}
-use Rattle.sf_format.proofs.Cutting.{begins_joined, IsLast, HasDigits, inside, cut_of, cut_joined, cut_digits, no_percent, opening_regroup, HasPrintDigits, print_inside, print_cut_of, print_cut_joined, print_cut_digits, no_print_percent, print_opening_regroup}
+use Rattle.sf_format.proofs.Cutting.{begins_joined, IsLast, HasDigits, inside, cut_of, cut_joined, cut_digits, opening_regroup, HasPrintDigits, print_inside, print_cut_of, print_cut_joined, print_cut_digits, print_opening_regroup}
 use Rattle.sf_format.proofs.Rules.{Quiet, quiet_join, quiet_split, all_back}
 use Rattle.sf_format.proofs.Outcomes.{same_byte, other_byte, byte_differs}
 use Rattle.sf_format.specs.declared.directive.Profile.{Profile}
@@ -179,8 +179,7 @@ specification_is : (profile : Profile) (earlier : List Opening) (p : ℕ) (o : O
     → Quiet (part_rules (Scan profile) earlier p (37 ∷ inside o (letter ∷ y)))
     × (part_at (Scan profile) (37 ∷ inside o (letter ∷ y)) ≡ letter_at o (letter ∷ y))
 specification_is profile earlier p o letter y digits last opening rules list alike =
-    let other = no_percent o letter y digits last in
-    let is_cut = cut_of o letter y digits last in
+    let (other, is_cut) = cut_of o letter y digits last in
     let q = p + length (opening_text o) in
     let rest = quiet_join (letter_rules profile o letter q) (scanlist_rules letter q y ++ slot_rules earlier p o) (rules q)
     (quiet_join (scanlist_rules letter q y) (slot_rules earlier p o) (list q) (slot_quiet earlier p o alike)) in (
@@ -278,8 +277,7 @@ print_part_of profile earlier p (Printed o b) rest (letter, found, suits) alike 
     let rules = quiet_join (print_letter_rules profile o b q) (flags ++ slot) (print_letter_quiet profile letter o b q found suits) later in
     let digits = suits_print_digits letter o suits in
     let last = (print_letter_is profile b letter found).last in
-    let other = no_print_percent o b rest digits last in
-    let is_cut = print_cut_of o b rest digits last in
+    let (other, is_cut) = print_cut_of o b rest digits last in
     subst (λ x. Quiet (part_rules (Print profile) earlier p x) × (part_at (Print profile) x ≡ record { piece = Printed o b; rest = rest }))
     (sym (printed_text o b rest)) (
       percent_quiet (Print profile) earlier p (print_inside o (b ∷ rest)) other

@@ -2,6 +2,7 @@
 use Rattle.std.proofs.Common.{◌≡◌, ℕ, suc, ◌+◌, ◌-◌, ◌<◌, ◌≤◌, Bool, true, false, List, [], ◌∷◌, ◌++◌, length, get_or, Some, None, Ok, Err, refl, sym, ap, ◌∙◌, subst, arith, append_assoc, append-nil, length-append}
 use Rattle.std.specs.Prelude.{◌==◌}
 use Rattle.std.proofs.lemmas.Bool.Decides.{nat_tests}
+use Rattle.std.proofs.lemmas.Grind.{flat_map-append}
 use Rattle.sf_base.specs.Bytes.{AreBytes}
 use Rattle.sf_format.specs.Language.{Language}
 use Rattle.sf_format.specs.declared.fault.FormatFault.{FormatFault}
@@ -65,14 +66,8 @@ put_push done piece (Ok pieces) = rw (append_assoc done (piece ∷ []) pieces)
 put_push done piece (Err fault) = refl
 
 pub text_push : (done : List Piece) (piece : Piece) → length (text_of (done ++ piece ∷ [])) ≡ length (text_of done) + length (piece_text piece)
-text_push [] piece = omega (arith, length-append (piece_text piece) [])
-text_push (first ∷ done) piece =
-    omega (
-      arith,
-      length-append (piece_text first) (text_of (done ++ piece ∷ [])),
-      length-append (piece_text first) (text_of done),
-      text_push done piece,
-    )
+text_push done piece =
+    rw (flat_map-append piece_text done (piece ∷ []), append-nil) (length-append (text_of done) (piece_text piece))
 
 -- a part and what follows it, which are bytes
 pub record IsPart (language : Language) (x : List ℕ) : Type 0 where

@@ -41,14 +41,8 @@ stops_after (Scan profile) (WhiteSpace a) (_ ∷ pieces) rest each apart stops =
 stops_after language _ pieces rest each apart stops = tt
 
 apart_tail : (piece : Piece) (pieces : List Piece) → RunsApart (piece ∷ pieces) → RunsApart pieces
-apart_tail (WhiteSpace a) [] apart = tt
-apart_tail (WhiteSpace a) (WhiteSpace b ∷ pieces) apart = absurd apart
-apart_tail (WhiteSpace a) (Ordinary b ∷ pieces) apart = apart
-apart_tail (WhiteSpace a) (Percents ∷ pieces) apart = apart
-apart_tail (WhiteSpace a) (Plain o letter ∷ pieces) apart = apart
-apart_tail (WhiteSpace a) (Bracket o list ∷ pieces) apart = apart
-apart_tail (WhiteSpace a) (Printed o letter ∷ pieces) apart = apart
-apart_tail _ pieces apart = apart
+apart_tail piece [] apart = tt
+apart_tail piece (next ∷ pieces) apart = grind arith
 
 -- ---- from what is read
 
