@@ -101,11 +101,6 @@ pub record Noting (language : Language) (text : List ℕ) (at : ℕ) (rest : Lis
   pub notes : Notes count ns noted
   pub same : AreWritten (destinations passing.done) → ns ≡ numbered 0 passing.done
 
-pub noting_none : (language : Language) (text : List ℕ) (slots : Slots) (count : ℕ) (noted : Noted) → AreBytes text → Holds slots []
-    → Notes count [] noted → Noting language text 0 text slots count noted
-noting_none language text slots count noted bytes holds notes =
-    record { passing = passing_none language text slots bytes holds; ns = []; notes = notes; same = λ written. refl }
-
 pub noting_more : {language : Language} {text : List ℕ} {at : ℕ} {rest after : List ℕ} {slots later : Slots} {count : ℕ} {old new : Noted}
     {slot : Option ℕ} (h : Noting language text at rest slots count old) → PassesFirst language h.passing.done at rest after later
     → slot ≡ slot_at (1 + length (destinations h.passing.done)) (destinations ((part_at language rest).piece ∷ []))

@@ -44,11 +44,6 @@ pub record Counting (language : Language) (text : List ℕ) (at : ℕ) (rest : L
   pub some : 1 ≤ left
   pub count : left + length passing.done ≡ number
 
-pub counting_none : (language : Language) (text : List ℕ) (slots : Slots) (number : ℕ) → AreBytes text → Holds slots [] → 1 ≤ number
-    → Counting language text 0 text slots number number
-counting_none language text slots number bytes holds some =
-    record { passing = passing_none language text slots bytes holds; some = some; count = omega arith }
-
 pub counting_more : {language : Language} {text : List ℕ} {at : ℕ} {rest after : List ℕ} {slots new : Slots} {number left : ℕ}
     → (h : Counting language text at rest slots number left) → PassesFirst language h.passing.done at rest after new → 1 < left
     → Counting language text (length text - length after) after new number (left - 1)

@@ -52,10 +52,10 @@ rest_first profile earlier p o q b x letter rules found =
     ∙ first_append (scanlist_rules b q x) (slot_rules earlier p o)
     ∙ ap (λ v. or_else (first_of (bracket_rules v q x)) (first_of (slot_rules earlier p o))) (sym (bracket_is profile b letter found))
 
-letter_rest : (o : Opening) (letter : ℕ) (x : List ℕ) → (letter_at o (letter ∷ x)).rest ≡ rest_behind (nat_eq letter 91) x
+pub letter_rest : (o : Opening) (letter : ℕ) (x : List ℕ) → (letter_at o (letter ∷ x)).rest ≡ rest_behind (nat_eq letter 91) x
 letter_rest o letter x = grind arith
 
-letter_destination : (o : Opening) (letter : ℕ) (x : List ℕ) → destinations ((letter_at o (letter ∷ x)).piece ∷ []) ≡ assigned_opening o []
+pub letter_destination : (o : Opening) (letter : ℕ) (x : List ℕ) → destinations ((letter_at o (letter ∷ x)).piece ∷ []) ≡ assigned_opening o []
 letter_destination o letter x = grind arith
 
 -- ---- the conversion by a letter
@@ -80,7 +80,12 @@ made_by false profile place q b x o letter listed c set other found none is conv
     rw other (letter, c, found, conversion, shape, refl)
 
 -- the conversion that was made is what the part stands for
-made_means : (profile : Profile) (place q b : ℕ) (x : List ℕ) (o : Opening) (letter : Letter) (kind : Kind) (slot : Option ℕ) (listed : Listed)
+pub match_map : {A : Type 0} (N : Type 0) (P Q : A → Type 0) → ((a : A) → P a → Q a) → (o : Option A) → MatchOption o N P → MatchOption o N Q
+match_map N P Q f None h = h
+match_map N P Q f (Some a) h = f a h
+
+-- the conversion that was made is what the part stands for
+pub made_means : (profile : Profile) (place q b : ℕ) (x : List ℕ) (o : Opening) (letter : Letter) (kind : Kind) (slot : Option ℕ) (listed : Listed)
     (d : Directive) → letter_of profile b ≡ Some letter → kind_of letter o.size ≡ Some kind → first_of (bracket_rules (is_set letter) q x) ≡ None
     → IsListed (is_set letter) x listed → slot ≡ slot_of place o → IsMade letter kind o.width slot listed d
     → Means profile place (letter_at o (b ∷ x)).piece d
@@ -88,27 +93,6 @@ made_means profile place q b x o letter kind slot listed (directive.Conv c) foun
     made_by (is_set letter) profile place q b x o letter listed c refl (sym (bracket_is profile b letter found)) found none is
     (record { kind = known ∙ ap Some (sym h.0); width = h.1; slot = h.2 ∙ placed }) h.3
 made_means profile place q b x o letter kind slot listed _ found known none is placed h = absurd h
-
-pub passes_letter : (profile : Profile) (wanted : Bool) (earlier : List Opening) (p q b : ℕ) (x : List ℕ) (o : Opening) (letter : Letter) (kind : Kind)
-    (slot : Option ℕ) (listed : Listed) (d : Option Directive) (slots : Slots) → first_of (letter_rules profile o b q) ≡ None
-    → letter_of profile b ≡ Some letter → kind_of letter o.size ≡ Some kind → first_of (bracket_rules (is_set letter) q x) ≡ None
-    → IsListed (is_set letter) x listed → listed.rest.now ≡ rest_behind (is_set letter) x → slot ≡ slot_of (1 + length earlier) o
-    → MatchOption d (wanted ≡ false) (IsMade letter kind o.width slot listed) → first_of (slot_rules earlier p o) ≡ None
-    → Holds slots (earlier ++ assigned_opening o [])
-    → PassesAs wanted (Means profile) (rest_rules profile earlier p o q (b ∷ x)) earlier (letter_at o (b ∷ x)) d slot listed.rest.now slots
-passes_letter profile wanted earlier p q b x o letter kind slot listed d slots rules found known list is after placed made none holds =
-    let there = letter_destination o b x in (
-      rw (rest_first profile earlier p o q b x letter rules found, list) none,
-      after ∙ ap (λ a. rest_behind a x) (bracket_is profile b letter found) ∙ sym (letter_rest o b x),
-      stands d made,
-      subst (λ os. Holds slots (earlier ++ os)) (sym there) holds,
-      placed ∙ slot_there (1 + length earlier) o ∙ ap (slot_at (1 + length earlier)) (sym there),
-    )
-  where
-    stands : (d : Option Directive) → MatchOption d (wanted ≡ false) (IsMade letter kind o.width slot listed)
-        → MatchOption d (wanted ≡ false) (Means profile (1 + length earlier) (letter_at o (b ∷ x)).piece)
-    stands None h = h
-    stands (Some made) h = made_means profile (1 + length earlier) q b x o letter kind slot listed made found known list is placed h
 
 pub number_low : (ds : List ℕ) → (is_written ds && (nat_eq (magnitude 10 ds) 0 || nat_lt 32 (magnitude 10 ds))) ≡ false → magnitude 10 ds ≤ 32
 number_low [] e = omega arith
@@ -123,29 +107,13 @@ number_bound p o none = number_low o.number (quiet_is (opening_rules p o) none).
 
 -- ---- behind a %, in both languages
 
-begins_mark : (x : List ℕ) → begins (37 ∷ []) x ≡ (mark_at 37 x).0
+pub begins_mark : (x : List ℕ) → begins (37 ∷ []) x ≡ (mark_at 37 x).0
 begins_mark [] = refl
 begins_mark (b ∷ x) = grind arith
 
-behind_mark : (x : List ℕ) → (mark_at 37 x).0 ≡ true → (mark_at 37 x).1 ≡ drop 1 x
+pub behind_mark : (x : List ℕ) → (mark_at 37 x).0 ≡ true → (mark_at 37 x).1 ≡ drop 1 x
 behind_mark [] found = absurd (cc)
 behind_mark (b ∷ x) found = grind arith
-
--- what follows a % that no other follows
-pub passes_specification : {D : Type 0} (wanted : Bool) (means : ℕ → Piece → D → Type 0) (language : Language) (earlier : List Opening) (p : ℕ)
-    (x : List ℕ) (found : Bool) (r : Result (Passed D) FormatFault) → found ≡ (mark_at 37 x).0 → found ≡ false
-    → PassesBy wanted means (conversion_rules language earlier p x) earlier (conversion_at language x) r
-    → PassesBy wanted means (percent_rules language earlier p x) earlier (specification_at language x) r
-passes_specification wanted means language earlier p x found r is none passes = rw (begins_mark x ∙ sym is ∙ none) passes
-
--- %%
-pub passes_percents : {D : Type 0} (wanted : Bool) (means : ℕ → Piece → D → Type 0) (language : Language) (earlier : List Opening) (p : ℕ)
-    (x rest : List ℕ) (found : Bool) (made : D) (slots : Slots) → found ≡ (mark_at 37 x).0 → rest ≡ (mark_at 37 x).1 → found ≡ true
-    → means (1 + length earlier) Percents made → Holds slots earlier
-    → PassesAs wanted means (percent_rules language earlier p x) earlier (specification_at language x) (Some made) None rest slots
-passes_percents wanted means language earlier p x rest found made slots is behind there stands holds =
-    let marked = sym is ∙ there in
-    rw (begins_mark x ∙ marked) (refl, behind ∙ behind_mark x marked, stands, rw append-nil holds, refl)
 
 -- behind an opening without a fault
 pub passes_behind : {D : Type 0} (wanted : Bool) (means : ℕ → Piece → D → Type 0) (opening rest : List Rule) (earlier : List Opening) (part : Part)

@@ -168,20 +168,12 @@ passing_all {language} {at = at} {rest = rest} {empty = empty} h is_empty none =
     ∙ ap (λ x. put_all h.done (read h.fuel language (destinations h.done) at x)) over
     ∙ ap (put_all h.done) (nothing_read h.fuel language (destinations h.done) at) ∙ ap Ok (append-nil h.done)
 
-pub walked_all : {language : Language} {text : List ℕ} {at : ℕ} {rest : List ℕ} {slots : Slots} {empty : Bool}
-    → Passing language text at rest slots → empty ≡ (length rest == 0) → empty ≡ true → Walked language text (Ok slots)
-walked_all h is_empty none = (h.done, passing_all h is_empty none, h.holds)
-
 -- ---- with what the parts so far stand for
 
 pub record Gathering (D : Type 0) (language : Language) (means : ℕ → Piece → D → Type 0) (text : List ℕ) (at : ℕ) (rest : List ℕ) (slots : Slots)
     (ds : List D) : Type 0 where
   pub passing : Passing language text at rest slots
   pub meaning : MeanAll means 1 passing.done ds
-
-pub gathering_none : {D : Type 0} (language : Language) (means : ℕ → Piece → D → Type 0) (text : List ℕ) (slots : Slots) → AreBytes text
-    → Holds slots [] → Gathering D language means text 0 text slots []
-gathering_none language means text slots bytes holds = record { passing = passing_none language text slots bytes holds; meaning = tt }
 
 pub gathering_more : {D : Type 0} {language : Language} (means : ℕ → Piece → D → Type 0) {text : List ℕ} {at : ℕ} {rest after : List ℕ}
     {slots new : Slots} {ds : List D} (d : D) (h : Gathering D language means text at rest slots ds)
@@ -192,8 +184,3 @@ gathering_more {language = language} means {rest = rest} {ds = ds} d h passes on
   passing = passing_more h.passing passes;
   meaning = mean_push means 1 h.passing.done ds (part_at language rest).piece d h.meaning one;
 }
-
-pub gathering_all : {D : Type 0} {language : Language} {means : ℕ → Piece → D → Type 0} {text : List ℕ} {at : ℕ} {rest : List ℕ} {slots : Slots}
-    {ds : List D} {empty : Bool} → Gathering D language means text at rest slots ds → empty ≡ (length rest == 0) → empty ≡ true
-    → Gathers language means text ds
-gathering_all h is_empty none = record { pieces = h.passing.done; parts = passing_all h.passing is_empty none; meaning = h.meaning }

@@ -2,14 +2,16 @@ use Rattle.std.proofs.Common.{inl, arith}
 use Rattle.std.proofs.lemmas.Result.{err_from_is_err_and}
 use Rattle.sf_format.specs.Grammar.{destinations}
 use Rattle.sf_format.proofs.Destinations.{none_held}
-use Rattle.sf_format.proofs.Walks.{bytes_of, passes_on, gathering_none, gathering_more, passing_fault, gathering_all, rest_shorter}
+use Rattle.sf_format.proofs.Walks.{bytes_of, passes_on, passing_none, passing_all, gathering_more, passing_fault, rest_shorter}
 use Rattle.sf_format.proofs.grammar.gather.Goals as goal
 
 pub loop-rest-init : goal.loop-rest-init
 loop-rest-init g c =
     rw c.new-parts.ensures.items
-    (gathering_none (g.G.Grammar.language c.args.grammar) (g.G.Grammar.means c.args.grammar) c.args.text.now _ (bytes_of c.args.text.now (λ i. omega (arith, c.type_inv.text i)))
-    none_held)
+    (record {
+      passing = passing_none (g.G.Grammar.language c.args.grammar) c.args.text.now _ (bytes_of c.args.text.now (λ i. omega (arith, c.type_inv.text i))) none_held;
+      meaning = tt;
+    })
 
 pub returns-in_err-passed-clause-hindered : goal.returns-in_err-passed-clause-hindered
 returns-in_err-passed-clause-hindered g c =
@@ -36,4 +38,6 @@ loop-rest-preserved g c =
     (rw c.in-Some.is at passes.2))
 
 pub returns-clause-gathered : goal.returns-clause-gathered
-returns-clause-gathered g c = gathering_all c.loop-rest.invariant c.is_empty.ensures c.loop-rest-test.false
+returns-clause-gathered g c =
+    let h = c.loop-rest.invariant in
+    record { pieces = h.passing.done; parts = passing_all h.passing c.is_empty.ensures c.loop-rest-test.false; meaning = h.meaning }

@@ -2,7 +2,7 @@ use Rattle.std.proofs.Common.{arith}
 use Rattle.std.proofs.lemmas.Result.{err_from_is_err_and}
 use Rattle.sf_format.specs.Grammar.{destinations}
 use Rattle.sf_format.proofs.Destinations.{none_held}
-use Rattle.sf_format.proofs.Walks.{bytes_of, passing_none, passes_on, passing_more, passing_fault, walked_all, rest_shorter}
+use Rattle.sf_format.proofs.Walks.{bytes_of, passing_none, passes_on, passing_more, passing_fault, passing_all, rest_shorter}
 use Rattle.sf_format.proofs.grammar.walk.Goals as goal
 
 pub loop-rest-init : goal.loop-rest-init
@@ -42,4 +42,4 @@ loop-rest-preserved-in_ok-passed g c =
     passing_more h (passes_on h c.is_empty.ensures c.loop-rest-test.true (c.in_ok-passed.ensures (destinations h.done) h.holds))
 
 pub returns : goal.returns
-returns g c = walked_all c.loop-rest.invariant c.is_empty.ensures c.loop-rest-test.false
+returns g c = let h = c.loop-rest.invariant in (h.done, passing_all h c.is_empty.ensures c.loop-rest-test.false, h.holds)

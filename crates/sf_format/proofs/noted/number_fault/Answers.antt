@@ -1,9 +1,9 @@
-use Rattle.std.proofs.Common.{sym, ◌∙◌, arith, rules}
+use Rattle.std.proofs.Common.{[], refl, sym, ◌∙◌, arith, rules}
 use Rattle.sf_format.specs.Grammar.{destinations}
 use Rattle.sf_format.proofs.Outcomes.{not_false, not_true}
 use Rattle.sf_format.proofs.Destinations.{none_held}
-use Rattle.sf_format.proofs.Walks.{bytes_of, passes_on, passing_fault, rest_shorter}
-use Rattle.sf_format.proofs.Notings.{unnumbered_none, noting_none, noting_more, noting_all}
+use Rattle.sf_format.proofs.Walks.{bytes_of, passing_none, passes_on, passing_fault, rest_shorter}
+use Rattle.sf_format.proofs.Notings.{unnumbered_none, noting_more, noting_all}
 use Rattle.sf_format.proofs.noted.number_fault.Goals as goal
 
 pub returns-then-not-slots : goal.returns-then-not-slots
@@ -11,9 +11,12 @@ returns-then-not-slots g c = λ pieces e. unnumbered_none (g.G.Grammar.language 
 
 pub loop-rest-init : goal.loop-rest-init
 loop-rest-init g c =
-    noting_none (g.G.Grammar.language c.args.grammar) c.args.text.now _ c.args.slots.count _
-    (bytes_of c.args.text.now (λ i. omega (arith, c.type_inv.text i))) none_held
-    (search rules)
+    record {
+      passing = passing_none (g.G.Grammar.language c.args.grammar) c.args.text.now _ (bytes_of c.args.text.now (λ i. omega (arith, c.type_inv.text i))) none_held;
+      ns = [];
+      notes = search rules;
+      same = λ written. refl;
+    }
 
 pub unreachable-requires : goal.unreachable-requires
 unreachable-requires g c =

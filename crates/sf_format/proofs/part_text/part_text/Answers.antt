@@ -1,14 +1,17 @@
 use Rattle.std.proofs.Common.{sym, ◌∙◌, arith}
 use Rattle.sf_format.specs.Grammar.{destinations}
 use Rattle.sf_format.proofs.Destinations.{none_held}
-use Rattle.sf_format.proofs.Walks.{bytes_of, passes_on, passing_fault, rest_shorter}
-use Rattle.sf_format.proofs.PartTexts.{counting_none, counting_more, text_found, text_none}
+use Rattle.sf_format.proofs.Walks.{bytes_of, passing_none, passes_on, passing_fault, rest_shorter}
+use Rattle.sf_format.proofs.PartTexts.{counting_more, text_found, text_none}
 use Rattle.sf_format.proofs.part_text.part_text.Goals as goal
 
 pub loop-rest-init : goal.loop-rest-init
 loop-rest-init g c =
-    counting_none (g.G.Grammar.language c.args.grammar) c.args.text.now _ c.args.number
-    (bytes_of c.args.text.now (λ i. omega (arith, c.type_inv.text i))) none_held (omega arith)
+    record {
+      passing = passing_none (g.G.Grammar.language c.args.grammar) c.args.text.now _ (bytes_of c.args.text.now (λ i. omega (arith, c.type_inv.text i))) none_held;
+      some = omega arith;
+      count = omega arith;
+    }
 
 pub returns-in_default : goal.returns-in_default
 returns-in_default g c =
