@@ -118,10 +118,7 @@ values_fit values.Text size k e = rw (text_kinded size k e)
 unset : (letter : PrintLetter) (flag : ℕ) (flags : List ℕ) → AllByRecursion (λ b. has_flag letter b ≡ true) flags → has_flag letter flag ≡ false
     → is_set_flag flag flags ≡ false
 unset letter flag [] had e = refl
-unset letter flag (b ∷ flags) had e =
-    by_test (nat_eq b flag) (λ v. (v || is_set_flag flag flags) ≡ false)
-    (λ same. absurd (let h : has_flag letter flag ≡ true = rw (same_byte b flag same) at had.0 in cc))
-    (λ other. unset letter flag flags had.1 e)
+unset letter flag (b ∷ flags) had e = grind (arith, nat_tests, unset letter flag flags had.1 e)
 
 -- ---- units
 

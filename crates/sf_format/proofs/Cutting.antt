@@ -24,11 +24,7 @@ mark_none mark (b ∷ x) stops = rw stops
 pub mark_joined : (text : Bool → List ℕ) (mark : ℕ) (x : List ℕ) → text true ≡ mark ∷ [] → text false ≡ []
     → text (mark_at mark x).0 ++ (mark_at mark x).1 ≡ x
 mark_joined text mark [] there none = rw none
-mark_joined text mark (b ∷ x) there none = by_mark (nat_eq b mark) refl
-  where
-    by_mark : (v : Bool) → nat_eq b mark ≡ v → text (mark_at mark (b ∷ x)).0 ++ (mark_at mark (b ∷ x)).1 ≡ b ∷ x
-    by_mark true e = let same : mark ≡ b = grind (arith, nat_tests) in rw (e, there, same)
-    by_mark false e = rw (e, none)
+mark_joined text mark (b ∷ x) there none = grind (arith, nat_tests)
 
 -- ---- bytes that parts begin with
 
@@ -66,12 +62,7 @@ digits_inside ds h = all_map (λ b. is_decimal b ≡ true) (λ b. is_inside b �
 number_joined : (ds after x : List ℕ) → ds ++ after ≡ x → number_text (number_before ds after x).0 ++ (number_before ds after x).1 ≡ x
 number_joined [] after x e = refl
 number_joined (d ∷ ds) [] x e = refl
-number_joined (d ∷ ds) (b ∷ after) x e = by_dollar (nat_eq b 36) refl
-  where
-    by_dollar : (v : Bool) → nat_eq b 36 ≡ v
-        → number_text (number_before (d ∷ ds) (b ∷ after) x).0 ++ (number_before (d ∷ ds) (b ∷ after) x).1 ≡ x
-    by_dollar true f = let same : 36 ≡ b = grind (arith, nat_tests) in rw f (append_assoc (d ∷ ds) (36 ∷ []) after ∙ rw same e)
-    by_dollar false f = rw f
+number_joined (d ∷ ds) (b ∷ after) x e = grind (arith, nat_tests, append_assoc (d ∷ ds) (36 ∷ []) after)
 
 number_passes : (ds after x : List ℕ) → AllPass is_decimal ds → AllPass is_decimal (number_before ds after x).0
 number_passes [] after x h = tt
@@ -295,11 +286,7 @@ precision_passes false x = tt
 -- what follows flags is no 0
 above_zero : (x : List ℕ) → Stops is_flag x → StartsAboveZero (front is_decimal x)
 above_zero [] stops = tt
-above_zero (b ∷ x) stops = by_digit (is_decimal b) refl
-  where
-    by_digit : (v : Bool) → is_decimal b ≡ v → StartsAboveZero (front is_decimal (b ∷ x))
-    by_digit true e = rw e (λ same. absurd (let zero : is_flag b ≡ true = rw same in cc))
-    by_digit false e = rw e tt
+above_zero (b ∷ x) stops = grind (arith, nat_tests)
 
 pub print_cut_digits : (x : List ℕ) → HasPrintDigits (print_cut x).opening
 print_cut_digits x =

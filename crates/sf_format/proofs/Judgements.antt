@@ -81,11 +81,8 @@ fault_judged language text at why h =
     ]
 
 pub judged_short : (language : Language) (text : List ℕ) (pieces : List Piece) → judged language text ≡ Ok pieces → length text ≤ 4096
-judged_short language text pieces e = by_length (nat_lt 4096 (length text)) refl
-  where
-    by_length : (v : Bool) → nat_lt 4096 (length text) ≡ v → length text ≤ 4096
-    by_length true f = absurd (let g = rw f at e in cc)
-    by_length false f = within 4096 (length text) f
+judged_short language text pieces e = grind (arith, nat_tests)
+
 
 -- the parts of a spelled text are those that are judged
 pub spelled_judged : {D : Type 0} (language : Language) (means : ℕ → Piece → D → Type 0) (text : List ℕ) (ds : List D)

@@ -85,16 +85,12 @@ each_letter profile = assumption (of_text, quiet_text, of_count, quiet_count, ea
 
 pub any_of : (P : ℕ → Type 0) (bytes : List ℕ) (b : ℕ) → AllByRecursion P bytes → is_any_of bytes b ≡ true → P b
 any_of P [] b all e = absurd (cc)
-any_of P (a ∷ bytes) b all e =
-    by_test (nat_eq a b) (λ v. (v || is_any_of bytes b) ≡ true → P b) (λ same h. rw (same_byte a b same) at all.0) (λ other h. any_of P bytes b all.1 h) e
+any_of P (a ∷ bytes) b all e = grind (arith, nat_tests, any_of P bytes b all.1)
 
 pub found : {L : Type 0} (P : ℕ → L → Type 0) (rows : List (List ℕ × L)) → ForRows P rows → (b : ℕ) (letter : L) → find_letter rows b ≡ Some letter
     → P b letter
 found P [] all b letter e = absurd (cc)
-found P (row ∷ rows) all b letter e =
-    by_test (is_any_of row.0 b) (λ v. cond v (Some row.1) (find_letter rows b) ≡ Some letter → P b letter)
-    (λ t h. let same : row.1 ≡ letter = cc in subst (P b) same (any_of (λ a. P a row.1) row.0 b all.0 t))
-    (λ f h. found P rows all.1 b letter h) e
+found P (row ∷ rows) all b letter e = grind (arith, any_of (λ a. P a row.1) row.0 b all.0, found P rows all.1 b letter)
 
 pub letter_is : (profile : Profile) (b : ℕ) (letter : Letter) → letter_of profile b ≡ Some letter → IsLetterOf profile b letter
 letter_is profile b letter e = found (IsLetterOf profile) (letters profile) (each_letter profile) b letter e
@@ -215,11 +211,7 @@ each_print_letter p = assumption (of_text, quiet_text, each_print_added p)
 pub printed : (P : ℕ → PrintLetter → Type 0) (letters : List PrintLetter) → ForLetters P letters → (b : ℕ) (letter : PrintLetter)
     → find (λ l. is_any_of (print_row l).bytes b) letters ≡ Some letter → P b letter
 printed P [] all b letter e = absurd (cc)
-printed P (l ∷ letters) all b letter e =
-    by_test (is_any_of (print_row l).bytes b)
-    (λ v. cond v (Some l) (find (λ a. is_any_of (print_row a).bytes b) letters) ≡ Some letter → P b letter)
-    (λ t h. let same : l ≡ letter = cc in subst (P b) same (any_of (λ a. P a l) (print_row l).bytes b all.0 t))
-    (λ f h. printed P letters all.1 b letter h) e
+printed P (l ∷ letters) all b letter e = grind (arith, any_of (λ a. P a l) (print_row l).bytes b all.0, printed P letters all.1 b letter)
 
 pub print_letter_is : (p : Profile) (b : ℕ) (letter : PrintLetter) → print_letter_of p b ≡ Some letter → IsPrintLetterOf p b letter
 print_letter_is p b letter e = printed (IsPrintLetterOf p) (print_letters p) (each_print_letter p) b letter e
@@ -267,10 +259,7 @@ one_test _ precision h = refl
 none_foreign : (letter : PrintLetter) (n : ℕ) (flags : List ℕ) → is_some (foreign_flag letter n flags) ≡ false
     → AllByRecursion (λ b. has_flag letter b ≡ true) flags
 none_foreign letter n [] e = tt
-none_foreign letter n (b ∷ flags) e =
-    by_test (not (has_flag letter b))
-    (λ v. is_some (cond v (Some n) (foreign_flag letter (n + 1) flags)) ≡ false → AllByRecursion (λ a. has_flag letter a ≡ true) (b ∷ flags))
-    (λ t h. absurd (cc)) (λ f h. (not_false (has_flag letter b) f, none_foreign letter (n + 1) flags h)) e
+none_foreign letter n (b ∷ flags) e = grind (arith, none_foreign letter (n + 1) flags)
 
 had_quiet : (letter : PrintLetter) (n : ℕ) (flags : List ℕ) → AllByRecursion (λ b. has_flag letter b ≡ true) flags
     → is_some (foreign_flag letter n flags) ≡ false
