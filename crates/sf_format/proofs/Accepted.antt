@@ -1,115 +1,161 @@
--- What holds of the directives of each spelled text.
-use Rattle.std.proofs.Common.{◌≡◌, ℕ, List, [], ◌∷◌, ◌++◌, length, Option, Some, None, refl, sym, ap, ◌∙◌, subst, arith}
-use Rattle.std.proofs.lemmas.List.{length-map}
+-- What holds of the directives of each spelled scan format, and of the units of each print format.
+use Rattle.std.proofs.Common.{◌≡◌, ◌≢◌, ℕ, ◌<◌, Bool, true, false, List, [], ◌∷◌, None, refl, lit<, arith, Option, Some, ◌≤◌, ◌||◌, nat_eq, sym, ◌∙◌}
+use Rattle.std.proofs.lemmas.Bool.Decides.{nat_tests}
+use Rattle.std.specs.List.{AllByRecursion}
+use Rattle.sf_format.specs.Scanlist.{Scanlist, IsScanlist, is_listed, is_chosen, is_member, backward_range}
 use Rattle.sf_base.specs.declared.values.Kind.{Kind}
 use Rattle.sf_format.specs.declared.directive.Profile.{Profile}
 use Rattle.sf_format.specs.declared.directive.Shape.{Shape}
-use Rattle.sf_format.specs.declared.directive.Shape.TheVariants as shape
 use Rattle.sf_format.specs.declared.directive.Directive.{Directive}
-use Rattle.sf_format.specs.declared.directive.Directive.TheVariants as directive
-use Rattle.sf_format.specs.Language.{Scan}
+use Rattle.sf_format.specs.Language.{Scan, Print}
 use Rattle.sf_format.specs.declared.letter.Letter.{Letter}
 use Rattle.sf_format.specs.declared.letter.Letter.TheVariants.{Chars, Text, Set}
 use Rattle.sf_format.specs.declared.letter.Length.{Length}
-use Rattle.sf_format.specs.Letters.{kind_of}
-use Rattle.sf_format.specs.Digits.{IsOptionalNumber, optional_number}
-use Rattle.sf_format.specs.Slots.{Slotted, slots_from}
-use Rattle.sf_format.specs.Pieces.{Piece, Ordinary, Plain, Bracket, Printed}
-use Rattle.sf_format.specs.Grammar.{IsScanPiece, IsFormat, ArePlaced, destinations, shape_of, width_of, Means, MeanAll, Spells}
-use Rattle.sf_format.specs.Proper.{HasItsKind, IsKinded, HasItsWidth, IsSized, IsProperShape, IsProperWidth, IsProper, destinations_of, slots_of, AreInOrder, IsAccepted}
-use Rattle.sf_format.specs.Passing.{slot_in}
-use Rattle.sf_format.proofs.Members.{some_member}
+use Rattle.sf_format.specs.Letters.{kind_of, sized_kind}
+use Rattle.sf_format.specs.Digits.{IsOptionalNumber}
+use Rattle.sf_format.specs.Pieces.{Piece, Ordinary, Plain, Bracket, Printed, PrintOpening, Percents}
+use Rattle.sf_format.specs.Grammar.{IsScanPiece, shape_of, width_of, Means, Spells, SpellsPrint}
+use Rattle.sf_format.specs.Proper.{HasItsKind, IsKinded, HasItsWidth, IsSized, IsProperShape, IsProperWidth, IsProper, AreProper, AreSized, AreKinded, IsAccepted}
 use Rattle.sf_format.proofs.Suits.{text_kinded}
-use Rattle.sf_format.proofs.Meanings.{made, scan_meaning}
-use Rattle.sf_format.proofs.PartSlots.{ListsSlots, listed_slot, AreGood, all_short, format_few, slots_good, slots_count, slots_in_order}
-use Rattle.sf_format.proofs.Numbers.{all_map}
-use Rattle.sf_format.proofs.WholeMeanings.{mean_each}
+use Rattle.sf_format.proofs.Meanings.{scan_slots, mean_each, print_slots}
+use Rattle.sf_format.proofs.PartSlots.{all_short, format_few, slots_good, slots_count}
+use Rattle.std.specs.Prelude.{IfSome}
+use Rattle.std.specs.Option.{option_map}
+use Rattle.sf_base.specs.Bytes.{magnitude}
+use Rattle.sf_format.specs.declared.letter.Length.TheVariants.{NoLength}
+use Rattle.sf_format.specs.declared.unit.PrintLetter.{PrintLetter}
+use Rattle.sf_format.specs.declared.letter.Values.{Values}
+use Rattle.sf_format.specs.declared.letter.Values.TheVariants as values
+use Rattle.sf_format.specs.declared.unit.PrintConv.{PrintConv}
+use Rattle.sf_format.specs.declared.unit.Unit.{Unit as PrintUnit}
+use Rattle.sf_format.specs.PrintLetters.{print_row}
+use Rattle.sf_format.specs.Units.{holds_kind, has_flag, IsProperConv, IsProperUnit, AreAccepted}
+use Rattle.sf_format.specs.PrintGrammar.{IsPrecision, SuitsPrint, IsPrintPiece, is_set_flag, IsPrintConv, Prints}
+use Rattle.sf_format.proofs.Outcomes.{by_test, same_byte}
+
+-- the first member is listed
+first_listed : (n : ℕ) (first : ℕ) (others : List ℕ) → backward_range n (first ∷ others) ≡ None → is_listed (first ∷ others) first ≡ true
+first_listed n first [] e = grind (arith, nat_tests)
+first_listed n first (dash ∷ []) e = grind (arith, nat_tests)
+first_listed n first (dash ∷ high ∷ rest) e = grind (arith, nat_tests)
+
+nul_not_listed : (xs : List ℕ) → AllByRecursion (λ x. x ≢ 0) xs → is_listed xs 0 ≡ false
+nul_not_listed [] h = refl
+nul_not_listed (a ∷ []) h = grind (arith, nat_tests)
+nul_not_listed (a ∷ b ∷ []) h = grind (arith, nat_tests)
+nul_not_listed (a ∷ b ∷ c ∷ xs) h = grind (arith, nat_tests, nul_not_listed xs h.1.1.1, nul_not_listed (b ∷ c ∷ xs) h.1)
+
+pub some_member : (list : Scanlist) → IsScanlist list → list.first < 256 → (b : ℕ) × (b < 256) × (is_member list b ≡ true)
+some_member list is byte =
+    by_caret list.complemented (nul_not_listed (list.first ∷ list.others) is.no_nul) (first_listed 0 list.first list.others is.forward)
+  where
+    by_caret : (v : Bool) → is_listed (list.first ∷ list.others) 0 ≡ false → is_listed (list.first ∷ list.others) list.first ≡ true
+        → (b : ℕ) × (b < 256) × (is_chosen v (list.first ∷ list.others) b ≡ true)
+    by_caret true none some = (0, lit< tt, rw none)
+    by_caret false none some = (list.first, byte, some)
 
 -- ---- each directive
 
 -- of the shape, the width and the kind of a conversion
 abbrev IsGood : Shape → Option ℕ → Kind → Type 0
-IsGood s width kind = IsProperShape s × HasItsWidth s width × HasItsKind s kind
+IsGood s width kind = IsProperShape s × IsProperWidth width × HasItsWidth s width × HasItsKind s kind
 
 plain_good : (letter : Letter) (s : Shape) (ds : List ℕ) (size : Length) (k : Kind) → shape_of letter s → kind_of letter size ≡ Some k
-    → IsGood s (width_of letter ds) k
-plain_good Chars s [] size k h is = subst (λ t. IsGood t (width_of Chars []) k) (sym h) (tt, refl, text_kinded size k is)
-plain_good Chars s (d ∷ ds) size k h is = subst (λ t. IsGood t (width_of Chars (d ∷ ds)) k) (sym h) (tt, refl, text_kinded size k is)
-plain_good Text s ds size k h is = subst (λ t. IsGood t (width_of Text ds) k) (sym h) (tt, tt, text_kinded size k is)
-plain_good Set s ds size k h is = absurd h
-plain_good letter s ds size k h is = subst (λ t. IsGood t (width_of letter ds) k) (sym h) (tt, tt, tt)
+    → IsOptionalNumber 65535 ds → IsGood s (width_of letter ds) k
+plain_good Chars s [] size k h is number = rw h (tt, omega arith, refl, text_kinded size k is)
+plain_good Text s [] size k h is number = rw h (tt, tt, tt, text_kinded size k is)
+plain_good Set s ds size k h is number = absurd h
+plain_good letter s [] size k h is number = rw h (tt, tt, tt, tt)
+plain_good Chars s (d ∷ ds) size k h is number = rw h (tt, omega (arith, number.1), refl, text_kinded size k is)
+plain_good Text s (d ∷ ds) size k h is number = rw h (tt, omega (arith, number.1), tt, text_kinded size k is)
+plain_good letter s (d ∷ ds) size k h is number = rw h (tt, omega (arith, number.1), tt, tt)
 
-number_proper : (ds : List ℕ) → IsOptionalNumber 65535 ds → IsProperWidth (optional_number ds)
-number_proper [] h = tt
-number_proper (d ∷ ds) h = omega (arith, h.1)
-
-width_proper : (letter : Letter) (ds : List ℕ) → IsOptionalNumber 65535 ds → IsProperWidth (width_of letter ds)
-width_proper Chars [] h = omega arith
-width_proper _ ds h = number_proper ds h
+set_width : (ds : List ℕ) → IsOptionalNumber 65535 ds → IsProperWidth (width_of Set ds)
+set_width [] h = tt
+set_width (d ∷ ds) h = omega (arith, h.1)
 
 abbrev IsGoodDirective : Directive → Type 0
 IsGoodDirective d = IsProper d × IsSized d × IsKinded d
 
 good_one : (profile : Profile) (place : ℕ) (piece : Piece) (d : Directive) → IsScanPiece profile piece → Means profile place piece d → IsGoodDirective d
-good_one profile place (Ordinary b) d is h = subst IsGoodDirective (sym h) (is.0, tt, tt)
+good_one profile place (Ordinary b) d is h = rw h (is.0, tt, tt)
 good_one profile place (Plain o b) d is h =
-    let good = plain_good h.0 h.1.shape o.width o.size h.1.kind h.4 h.3.kind in
-    let width = width_proper h.0 o.width is.1.2.width in
-    subst IsGoodDirective (sym h.5)
-    ((good.0, subst IsProperWidth (sym h.3.width) width), subst (HasItsWidth h.1.shape) (sym h.3.width) good.1, good.2)
+    let good = plain_good h.0 h.1.shape o.width o.size h.1.kind h.4 h.3.kind is.1.2.width in
+    rw (h.5, h.3.width) ((good.0, good.1), good.2, good.3)
 good_one profile place (Bracket o list) d is h =
     let m = some_member list is.1 is.1.bytes.0 in
-    let good : IsGood (shape.Set h.1) h.0.width h.0.kind = ((m.0, m.1, h.3.1 m.0 m.1 ∙ m.2), tt, text_kinded o.size h.0.kind h.2.kind) in
-    let there = subst (λ s. IsGood s h.0.width h.0.kind) (sym h.4) good in
-    subst IsGoodDirective (sym h.5)
-    ((there.0, subst IsProperWidth (sym h.2.width) (width_proper Set o.width is.0.width)), there.1, there.2)
+    rw (h.5, h.2.width, h.4)
+    (((m.0, m.1, rw (h.3.1 m.0 m.1) m.2), set_width o.width is.0.width), tt, text_kinded o.size h.0.kind h.2.kind)
 good_one profile place (Printed o b) d is h = absurd is
-good_one profile place _ d is h = subst IsGoodDirective (sym h) (tt, tt, tt)
+good_one profile place _ d is h = rw h (tt, tt, tt)
 
--- ---- slots
-
-made_slots : (s : Shape) (k : Kind) (w n : Option ℕ) (ds : List Directive)
-    → slots_of (directive.Conv (made s k w n) ∷ ds) ≡ listed_slot n ++ slots_of ds
-made_slots s k w None ds = refl
-made_slots s k w (Some n) ds = refl
-
-one_slot : (d : Directive) (ds : List Directive) → slots_of (d ∷ ds) ≡ listed_slot (slot_in d) ++ slots_of ds
-one_slot (directive.Conv c) ds = made_slots c.shape c.kind c.width c.slot ds
-one_slot _ ds = refl
-
-lists_slots : ListsSlots Directive slot_in slots_of
-lists_slots = record { none = refl; more = one_slot }
-
-slots_length : (ds : List Directive) → length (slots_of ds) ≡ length (destinations_of ds)
-slots_length ds = length-map (destinations_of ds) (λ (d : Slotted). d.0)
-
--- the destinations of the directives are those of the parts
-pub destinations_count : (profile : Profile) (pieces : List Piece) (ds : List Directive) → MeanAll (Means profile) 1 pieces ds
-    → length (destinations_of ds) ≡ length (destinations pieces)
-destinations_count profile pieces ds h =
-    sym (slots_length ds) ∙ slots_count (Scan profile) (Means profile) slots_of (scan_meaning profile) lists_slots pieces ds h
-
-pub in_order : (profile : Profile) (pieces : List Piece) (ds : List Directive) → ArePlaced (destinations pieces)
-    → MeanAll (Means profile) 1 pieces ds → AreInOrder ds
-in_order profile pieces ds placed h =
-    slots_in_order (Scan profile) (Means profile) slots_of (scan_meaning profile) lists_slots pieces ds placed h
-    ∙ ap (slots_from 1) (slots_length ds)
-
-pub format_accepted : (profile : Profile) (pieces : List Piece) (ds : List Directive) → IsFormat (Scan profile) pieces
-    → MeanAll (Means profile) 1 pieces ds → IsAccepted ds
-format_accepted profile pieces ds is h =
-    let count = destinations_count profile pieces ds h in
-    let each = mean_each IsGoodDirective (good_one profile) 1 pieces ds is.each h in
-    let good = subst (λ n. AreGood n (slots_of ds)) (sym count)
-    (slots_good (Scan profile) (Means profile) slots_of (scan_meaning profile) lists_slots pieces ds is h) in
-    record {
-      proper = all_map IsGoodDirective IsProper (λ d one. one.0) ds each;
-      sized = all_map IsGoodDirective IsSized (λ d one. one.1) ds each;
-      kinded = all_map IsGoodDirective IsKinded (λ d one. one.2) ds each;
-      short = omega (arith, all_short (Scan profile) (Means profile) 1 pieces ds is.each h, is.short);
-      few = omega (arith, count, format_few (Scan profile) pieces is);
-      slots = record { each = good.within; distinct = good.distinct };
-    }
+all_good : (ds : List Directive) → AllByRecursion IsGoodDirective ds → AreProper ds × AreSized ds × AreKinded ds
+all_good [] h = (tt, tt, tt)
+all_good (d ∷ ds) h = let rest = all_good ds h.1 in ((h.0.0, rest.0), (h.0.1, rest.1), (h.0.2, rest.2))
 
 pub proper : (profile : Profile) (text : List ℕ) (ds : List Directive) → Spells profile text ds → IsAccepted ds
-proper profile text ds h = format_accepted profile h.0 ds h.1 h.3
+proper profile text ds (pieces, is, e, means) =
+    let good = all_good ds (mean_each IsGoodDirective (good_one profile) 1 pieces ds is.each means) in
+    record {
+      proper = good.0;
+      sized = good.1;
+      kinded = good.2;
+      short = omega (arith, all_short (Scan profile) (Means profile) 1 pieces ds is.each means, is.short);
+      few = omega (arith, slots_count (scan_slots profile) pieces ds means, format_few (Scan profile) pieces is);
+      slots = slots_good (scan_slots profile) pieces ds is means;
+    }
+
+-- ---- letters
+
+values_fit : (v : Values) (size : Length) (k : Kind) → sized_kind v size ≡ Some k → holds_kind v k ≡ true
+values_fit values.Signed NoLength k e = grind arith
+values_fit values.Signed _ k e = grind arith
+values_fit values.Unsigned NoLength k e = grind arith
+values_fit values.Unsigned _ k e = grind arith
+values_fit values.Text size k e = rw (text_kinded size k e)
+
+-- a flag that the letter doesn't have is none of those that it has
+unset : (letter : PrintLetter) (flag : ℕ) (flags : List ℕ) → AllByRecursion (λ b. has_flag letter b ≡ true) flags → has_flag letter flag ≡ false
+    → is_set_flag flag flags ≡ false
+unset letter flag [] had e = refl
+unset letter flag (b ∷ flags) had e = grind (arith, nat_tests, unset letter flag flags had.1 e)
+
+-- ---- units
+
+width_within : (ds : List ℕ) → IsOptionalNumber 65535 ds → magnitude 10 ds ≤ 65535
+width_within [] h = omega arith
+width_within (d ∷ ds) h = h.2
+
+precision_within : (precision : Option (List ℕ)) → IfSome precision IsPrecision → IfSome (option_map (λ ds. magnitude 10 ds) precision) (λ p. p ≤ 255)
+precision_within None h = tt
+precision_within (Some ds) h = h.1
+
+proper_conversion : (place : ℕ) (o : PrintOpening) (letter : PrintLetter) (c : PrintConv) → SuitsPrint letter o → IsPrintConv place o letter c
+    → IsProperConv c
+proper_conversion place o letter c suits h = record {
+  kind = rw h.prints (values_fit (print_row letter).prints o.size c.kind h.kind);
+  plus = λ e. h.plus ∙ unset letter 43 o.flags suits.had (rw h.prints at e);
+  blank = λ e. h.blank ∙ unset letter 32 o.flags suits.had (rw h.prints at e);
+  alt = λ e. h.alt ∙ unset letter 35 o.flags suits.had (rw h.prints at e);
+  zero = λ e. h.zero ∙ unset letter 48 o.flags suits.had (rw h.prints at e);
+  width = rw h.width (width_within o.width suits.width);
+  precision = rw h.precision (precision_within o.precision suits.precision);
+  one = rw (h.prints, h.precision) suits.one;
+}
+
+proper_unit : (profile : Profile) (place : ℕ) (piece : Piece) (u : PrintUnit) → IsPrintPiece profile piece → Prints profile place piece u
+    → IsProperUnit u
+proper_unit profile place (Ordinary b) u is h = rw h is.0
+proper_unit profile place Percents u is h = rw h (omega arith)
+proper_unit profile place (Printed o b) u is h =
+    let same : is.0 ≡ h.0 = let e = sym is.1 ∙ h.2 in cc in
+    rw h.4 (proper_conversion place o h.0 h.1 (rw same at is.2) h.3)
+proper_unit profile place _ u is h = absurd is
+
+pub print_proper : (profile : Profile) (text : List ℕ) (us : List PrintUnit) → SpellsPrint profile text us → AreAccepted us
+print_proper profile text us (pieces, is, e, means) = record {
+  proper = mean_each IsProperUnit (proper_unit profile) 1 pieces us is.each means;
+  short = omega (arith, all_short (Print profile) (Prints profile) 1 pieces us is.each means, is.short);
+  few = omega (arith, slots_count (print_slots profile) pieces us means, format_few (Print profile) pieces is);
+  slots = slots_good (print_slots profile) pieces us is means;
+}

@@ -1,107 +1,78 @@
--- The cut of a conversion specification gives its parts, and joins to its text.
-use Rattle.std.proofs.Common.{◌≡◌, ℕ, ◌+◌, ◌<◌, ◌≤◌, Bool, true, false, cond, ◌&&◌, nat_eq, List, [], ◌∷◌, ◌++◌, length, drop, refl, sym, ap, ◌∙◌, append_assoc, length-append, lit<, arith}
+-- The cut of a conversion specification gives its parts, and joins to its text, in scan formats and in print formats.
+use Rattle.std.proofs.Common.{◌≡◌, ℕ, ◌+◌, ◌≤◌, Bool, true, false, ◌||◌, nat_eq, List, [], ◌∷◌, ◌++◌, length, drop, refl, sym, ap, ◌∙◌, append_assoc, length-append, arith, Option, Some, None}
 use Rattle.std.proofs.lemmas.Bool.Decides.{nat_tests}
+use Rattle.std.specs.Prelude.{codes, IfSome}
 use Rattle.sf_format.specs.Digits.{is_decimal}
-use Rattle.sf_format.specs.Lists.{front, behind, begins, mark_at}
+use Rattle.sf_format.specs.Lists.{front, behind, begins, mark_at, is_any_of}
 use Rattle.sf_format.specs.declared.letter.Length.{Length}
 use Rattle.sf_format.specs.declared.letter.Length.TheVariants.{NoLength, HH, H, LL, L, J, Z, T}
 use Rattle.sf_format.specs.Letters.{length_text}
 use Rattle.sf_format.specs.PrintLetters.{is_flag}
-use Rattle.sf_format.specs.Pieces.{Opening, number_text, star_text, opening_text}
-use Rattle.sf_format.specs.Cut.{Cut, number_before, number_at, first_length, length_at, cut_length, cut}
-use Rattle.sf_format.proofs.Outcomes.{by_test, and_left, and_right, same_byte}
-use Rattle.sf_format.proofs.Prefixes.{Stops, AllPass, front_behind, front_passes, front_of, behind_of}
-
-pub digit_is_not : (d mark : ℕ) → is_decimal d ≡ true → mark < 48 → nat_eq d mark ≡ false
-digit_is_not d mark e low = grind (arith, nat_tests)
+use Rattle.sf_format.specs.Pieces.{Opening, number_text, star_text, opening_text, PrintOpening, precision_text, print_opening_text}
+use Rattle.sf_format.specs.Cut.{number_before, number_at, first_length, length_at, cut, precision_behind, precision_at, print_cut}
+use Rattle.sf_format.proofs.Prefixes.{Stops, AllPass, front_behind, front_passes, front_of, behind_of, behind_stops}
+use Rattle.sf_format.proofs.Rules.{all_map, all_append}
+use Rattle.sf_format.specs.PrintGrammar.{StartsAboveZero}
 
 -- ---- a byte in front
 
-abbrev pick : {A B : Type 0} → Bool → A × B → A × B → A × B
-pick v a b = cond v a b
-
 pub mark_none : (mark : ℕ) (x : List ℕ) → Stops (λ b. nat_eq b mark) x → mark_at mark x ≡ (false, x)
 mark_none mark [] stops = refl
-mark_none mark (b ∷ x) stops = ap (λ v. pick v (true, x) (false, b ∷ x)) stops
+mark_none mark (b ∷ x) stops = rw stops
 
--- the text of what stands in front
-abbrev pub mark_text : ℕ → Bool → List ℕ
-mark_text mark true = mark ∷ []
-mark_text mark false = []
+-- what is cut off in front, by the text of the mark
+pub mark_joined : (text : Bool → List ℕ) (mark : ℕ) (x : List ℕ) → text true ≡ mark ∷ [] → text false ≡ []
+    → text (mark_at mark x).0 ++ (mark_at mark x).1 ≡ x
+mark_joined text mark [] there none = rw none
+mark_joined text mark (b ∷ x) there none = grind (arith, nat_tests)
 
-pub mark_joined : (mark : ℕ) (x : List ℕ) → mark_text mark (mark_at mark x).0 ++ (mark_at mark x).1 ≡ x
-mark_joined mark [] = refl
-mark_joined mark (b ∷ x) =
-    by_test (nat_eq b mark)
-    (λ v. mark_text mark (pick v (true, x) (false, b ∷ x)).0 ++ (pick v (true, x) (false, b ∷ x)).1 ≡ b ∷ x)
-    (λ e. ap (λ a. a ∷ x) (sym (same_byte b mark e))) (λ e. refl)
+-- ---- bytes that parts begin with
 
-star_is : (star : Bool) → mark_text 42 star ≡ star_text star
-star_is true = refl
-star_is false = refl
+-- a byte of a star, of flags or of a width
+abbrev pub is_inside : ℕ → Bool
+is_inside b = is_decimal b || is_flag b || nat_eq b 42
+
+-- one that a part before the precision begins with, or %
+abbrev pub is_head : ℕ → Bool
+is_head b = is_inside b || is_any_of (codes "$%") b
+
+-- one before a length
+abbrev pub is_part : ℕ → Bool
+is_part b = is_head b || nat_eq b 46
+
+-- a byte that no part before a letter begins with
+abbrev pub IsLast : ℕ → Type 0
+IsLast b = (is_part b || is_any_of (codes "hjltz") b) ≡ false
+
+pub stops_less : (test other : ℕ → Bool) → ((b : ℕ) → other b ≡ false → test b ≡ false) → (x : List ℕ) → Stops other x → Stops test x
+stops_less test other less [] stops = tt
+stops_less test other less (b ∷ x) stops = less b stops
+
+pub head_stops : (x : List ℕ) → Stops is_part x → Stops is_head x
+head_stops x stops = stops_less is_head is_part (λ b e. grind arith) x stops
+
+pub digit_stops : (x : List ℕ) → Stops is_head x → Stops is_decimal x
+digit_stops x stops = stops_less is_decimal is_head (λ b e. grind arith) x stops
+
+pub digits_inside : (ds : List ℕ) → AllPass is_decimal ds → AllPass is_inside ds
+digits_inside ds h = all_map (λ b. is_decimal b ≡ true) (λ b. is_inside b ≡ true) (λ b e. rw e) ds h
 
 -- ---- the number
 
 number_joined : (ds after x : List ℕ) → ds ++ after ≡ x → number_text (number_before ds after x).0 ++ (number_before ds after x).1 ≡ x
 number_joined [] after x e = refl
 number_joined (d ∷ ds) [] x e = refl
-number_joined (d ∷ ds) (b ∷ after) x e =
-    by_test (nat_eq b 36)
-    (λ v. number_text (pick v (d ∷ ds, after) ([], x)).0 ++ (pick v (d ∷ ds, after) ([], x)).1 ≡ x)
-    (λ same. append_assoc (d ∷ ds) (36 ∷ []) after ∙ ap (λ a. d ∷ (ds ++ a ∷ after)) (sym (same_byte b 36 same)) ∙ e)
-    (λ other. refl)
+number_joined (d ∷ ds) (b ∷ after) x e = grind (arith, nat_tests, append_assoc (d ∷ ds) (36 ∷ []) after)
 
 number_passes : (ds after x : List ℕ) → AllPass is_decimal ds → AllPass is_decimal (number_before ds after x).0
 number_passes [] after x h = tt
 number_passes (d ∷ ds) [] x h = tt
-number_passes (d ∷ ds) (b ∷ after) x h =
-    by_test (nat_eq b 36) (λ v. AllPass is_decimal (pick v (d ∷ ds, after) ([], x)).0) (λ e. h) (λ e. tt)
+number_passes (d ∷ ds) (b ∷ after) x h = grind arith
 
 number_none : (ds after x : List ℕ) → Stops (λ b. nat_eq b 36) after → number_before ds after x ≡ ([], x)
 number_none [] after x h = refl
 number_none (d ∷ ds) [] x h = refl
-number_none (d ∷ ds) (b ∷ after) x h = ap (λ v. pick v (d ∷ ds, after) ([], x)) h
-
--- a byte that no part before a length begins with, in either language
-pub record IsPlain (b : ℕ) : Type 0 where
-  pub decimal : is_decimal b ≡ false
-  pub dollar : nat_eq b 36 ≡ false
-  pub percent : nat_eq b 37 ≡ false
-  pub star : nat_eq b 42 ≡ false
-  pub flag : is_flag b ≡ false
-  pub point : nat_eq b 46 ≡ false
-
-pub plain_byte : (b : ℕ) → is_decimal b ≡ false → nat_eq b 36 ≡ false → nat_eq b 37 ≡ false → nat_eq b 42 ≡ false → is_flag b ≡ false
-    → nat_eq b 46 ≡ false → IsPlain b
-plain_byte b decimal dollar percent star flag point =
-    record { decimal = decimal; dollar = dollar; percent = percent; star = star; flag = flag; point = point }
-
-h_plain : IsPlain 104
-h_plain = plain_byte 104 refl refl refl refl refl refl
-
-l_plain : IsPlain 108
-l_plain = plain_byte 108 refl refl refl refl refl refl
-
--- a byte that no part before a letter begins with
-pub record IsLast (b : ℕ) : Type 0 where
-  pub plain : IsPlain b
-  pub h : nat_eq b 104 ≡ false
-  pub j : nat_eq b 106 ≡ false
-  pub l : nat_eq b 108 ≡ false
-  pub t : nat_eq b 116 ≡ false
-  pub z : nat_eq b 122 ≡ false
-
-number_of_front : (ds after x : List ℕ) → AllPass is_decimal ds → Stops is_decimal after → x ≡ ds ++ after → number_at x ≡ number_before ds after x
-number_of_front ds after x passes stops e =
-    ap (λ y. number_before (front is_decimal y) (behind is_decimal y) x) e
-    ∙ ap (λ f. number_before f (behind is_decimal (ds ++ after)) x) (front_of is_decimal ds after passes stops)
-    ∙ ap (λ y. number_before ds y x) (behind_of is_decimal ds after passes stops)
-
-number_free : (star : Bool) (width : List ℕ) (b : ℕ) (x : List ℕ) → AllPass is_decimal width → IsPlain b
-    → number_at (star_text star ++ (width ++ b ∷ x)) ≡ ([], star_text star ++ (width ++ b ∷ x))
-number_free true width b x passes plain = refl
-number_free false width b x passes plain =
-    number_of_front width (b ∷ x) (width ++ b ∷ x) passes plain.decimal refl ∙ number_none width (b ∷ x) (width ++ b ∷ x) plain.dollar
+number_none (d ∷ ds) (b ∷ after) x h = rw h
 
 -- the number in front of a text, whatever follows
 pub number_whole : (x : List ℕ) → number_text (number_at x).0 ++ (number_at x).1 ≡ x
@@ -110,48 +81,50 @@ number_whole x = number_joined (front is_decimal x) (behind is_decimal x) x (fro
 pub number_passing : (x : List ℕ) → AllPass is_decimal (number_at x).0
 number_passing x = number_passes (front is_decimal x) (behind is_decimal x) x (front_passes is_decimal x)
 
-pub number_absent : (x : List ℕ) → Stops (λ b. nat_eq b 36) (behind is_decimal x) → number_at x ≡ ([], x)
-number_absent x h = number_none (front is_decimal x) (behind is_decimal x) x h
+no_dollar : (u z : List ℕ) → AllPass is_inside u → Stops is_head z → Stops (λ b. nat_eq b 36) (behind is_decimal (u ++ z))
+no_dollar [] [] inside stops = tt
+no_dollar [] (b ∷ z) inside stops = grind (arith, nat_tests)
+no_dollar (a ∷ u) z inside stops = grind (arith, nat_tests, no_dollar u z inside.1 stops)
 
-pub number_written : (d : ℕ) (ds y : List ℕ) → AllPass is_decimal (d ∷ ds) → number_at (number_text (d ∷ ds) ++ y) ≡ (d ∷ ds, y)
-number_written d ds y digits = number_of_front (d ∷ ds) (36 ∷ y) (number_text (d ∷ ds) ++ y) digits refl (append_assoc (d ∷ ds) (36 ∷ []) y)
+pub number_of : (number u z : List ℕ) → AllPass is_decimal number → AllPass is_inside u → Stops is_head z
+    → number_at (number_text number ++ (u ++ z)) ≡ (number, u ++ z)
+number_of [] u z digits inside stops = number_none (front is_decimal (u ++ z)) _ (u ++ z) (no_dollar u z inside stops)
+number_of (d ∷ ds) u z digits inside stops =
+    let whole = append_assoc (d ∷ ds) (36 ∷ []) (u ++ z) in
+    ap number_at whole
+    ∙ rw (front_of is_decimal (d ∷ ds) (36 ∷ (u ++ z)) digits refl, behind_of is_decimal (d ∷ ds) (36 ∷ (u ++ z)) digits refl)
 
-number_of : (number : List ℕ) (star : Bool) (width : List ℕ) (b : ℕ) (x : List ℕ) → AllPass is_decimal number → AllPass is_decimal width
-    → IsPlain b → number_at (number_text number ++ (star_text star ++ (width ++ b ∷ x))) ≡ (number, star_text star ++ (width ++ b ∷ x))
-number_of [] star width b x digits passes plain = number_free star width b x passes plain
-number_of (d ∷ ds) star width b x digits passes plain = number_written d ds (star_text star ++ (width ++ b ∷ x)) digits
-
--- ---- the star
-
-star_of : (star : Bool) (width : List ℕ) (b : ℕ) (x : List ℕ) → AllPass is_decimal width → IsPlain b
-    → mark_at 42 (star_text star ++ (width ++ b ∷ x)) ≡ (star, width ++ b ∷ x)
-star_of true width b x passes plain = refl
-star_of false [] b x passes plain = mark_none 42 (b ∷ x) plain.star
-star_of false (d ∷ ds) b x passes plain =
-    mark_none 42 (d ∷ (ds ++ b ∷ x)) (digit_is_not d 42 passes.0 (lit< tt))
+-- what stands behind the % of a specification is no %
+pub percent_none : (number u z : List ℕ) → AllPass is_decimal number → AllPass is_inside u → Stops is_head z
+    → begins (37 ∷ []) (number_text number ++ (u ++ z)) ≡ false
+percent_none (d ∷ ds) u z digits inside stops = grind (arith, nat_tests)
+percent_none [] (a ∷ u) z digits inside stops = grind (arith, nat_tests)
+percent_none [] [] [] digits inside stops = refl
+percent_none [] [] (b ∷ z) digits inside stops = grind (arith, nat_tests)
 
 -- ---- the length
 
 pub length_of : (size : Length) (letter : ℕ) (x : List ℕ) → IsLast letter → length_at (length_text size ++ letter ∷ x) ≡ size
-length_of NoLength letter x last = simp (last.h, last.l, last.j, last.z, last.t)
-length_of H letter x last = simp last.h
-length_of L letter x last = simp last.l
+length_of NoLength letter x last = grind (arith, nat_tests)
+length_of H letter x last = grind (arith, nat_tests)
+length_of L letter x last = grind (arith, nat_tests)
 length_of _ letter x last = refl
 
 pub begins_joined : (word x : List ℕ) → begins word x ≡ true → word ++ drop (length word) x ≡ x
 begins_joined [] x e = refl
 begins_joined (a ∷ word) [] e = cc
-begins_joined (a ∷ word) (b ∷ x) e =
-    ap (λ c. c ∷ (word ++ drop (length word) x)) (sym (same_byte b a (and_left _ _ e)))
-    ∙ ap (λ y. b ∷ y) (begins_joined word x (and_right (nat_eq b a) _ e))
+begins_joined (a ∷ word) (b ∷ x) e = grind (arith, nat_tests, begins_joined word x)
 
 length_joined : (sizes : List Length) (x : List ℕ)
     → length_text (first_length sizes x) ++ drop (length (length_text (first_length sizes x))) x ≡ x
 length_joined [] x = refl
-length_joined (size ∷ sizes) x =
-    by_test (begins (length_text size) x)
-    (λ v. length_text (cond v size (first_length sizes x)) ++ drop (length (length_text (cond v size (first_length sizes x)))) x ≡ x)
-    (λ e. begins_joined (length_text size) x e) (λ e. length_joined sizes x)
+length_joined (size ∷ sizes) x = by_size (begins (length_text size) x) refl (length_joined sizes x)
+  where
+    by_size : (v : Bool) → begins (length_text size) x ≡ v
+        → length_text (first_length sizes x) ++ drop (length (length_text (first_length sizes x))) x ≡ x
+        → length_text (first_length (size ∷ sizes) x) ++ drop (length (length_text (first_length (size ∷ sizes) x))) x ≡ x
+    by_size true e later = rw e (begins_joined (length_text size) x e)
+    by_size false e later = rw e later
 
 pub length_whole : (x : List ℕ) → length_text (length_at x) ++ drop (length (length_text (length_at x))) x ≡ x
 length_whole x = length_joined (HH ∷ H ∷ LL ∷ L ∷ J ∷ Z ∷ T ∷ []) x
@@ -160,17 +133,10 @@ pub length_dropped : (size : Length) (y : List ℕ) → drop (length (length_tex
 length_dropped NoLength y = refl
 length_dropped _ y = refl
 
--- a length, or the letter, begins with such a byte
-pub sized_head : (size : Length) (letter : ℕ) (x : List ℕ) → IsLast letter
-    → (b : ℕ) × (y : List ℕ) × (length_text size ++ letter ∷ x ≡ b ∷ y) × IsPlain b
-sized_head NoLength letter x last = (letter, x, refl, last.plain)
-sized_head HH letter x last = (104, 104 ∷ letter ∷ x, refl, h_plain)
-sized_head H letter x last = (104, letter ∷ x, refl, h_plain)
-sized_head LL letter x last = (108, 108 ∷ letter ∷ x, refl, l_plain)
-sized_head L letter x last = (108, letter ∷ x, refl, l_plain)
-sized_head J letter x last = (106, letter ∷ x, refl, plain_byte 106 refl refl refl refl refl refl)
-sized_head Z letter x last = (122, letter ∷ x, refl, plain_byte 122 refl refl refl refl refl refl)
-sized_head T letter x last = (116, letter ∷ x, refl, plain_byte 116 refl refl refl refl refl refl)
+-- a length, or the letter, begins with no byte of the parts before it
+pub sized_stops : (size : Length) (letter : ℕ) (x : List ℕ) → IsLast letter → Stops is_part (length_text size ++ letter ∷ x)
+sized_stops NoLength letter x last = grind arith
+sized_stops _ letter x last = refl
 
 -- ---- the whole cut
 
@@ -181,71 +147,40 @@ inside o y = number_text o.number ++ (star_text o.star ++ (o.width ++ (length_te
 abbrev pub HasDigits : Opening → Type 0
 HasDigits o = AllPass is_decimal o.number × AllPass is_decimal o.width
 
-abbrev cut_width : List ℕ → Bool × List ℕ → Cut
-cut_width number star = cut_length number star.0 (front is_decimal star.1) (behind is_decimal star.1)
+star_inside : (star : Bool) (width : List ℕ) → AllPass is_decimal width → AllPass is_inside (star_text star ++ width)
+star_inside true width h = (refl, digits_inside width h)
+star_inside false width h = digits_inside width h
 
-abbrev cut_star : List ℕ × List ℕ → Cut
-cut_star number = cut_width number.0 (mark_at 42 number.1)
+star_of : (star : Bool) (width z : List ℕ) → AllPass is_decimal width → Stops is_head z
+    → mark_at 42 (star_text star ++ (width ++ z)) ≡ (star, width ++ z)
+star_of true width z digits stops = refl
+star_of false [] z digits stops = mark_none 42 z (stops_less (λ b. nat_eq b 42) is_head (λ b e. grind arith) z stops)
+star_of false (d ∷ ds) z digits stops = mark_none 42 (d ∷ (ds ++ z)) (grind (arith, nat_tests))
 
-cut_plain : (number : List ℕ) (star : Bool) (width : List ℕ) (b : ℕ) (y : List ℕ) → AllPass is_decimal number → AllPass is_decimal width
-    → IsPlain b → cut (number_text number ++ (star_text star ++ (width ++ b ∷ y))) ≡ cut_length number star width (b ∷ y)
-cut_plain number star width b y digits passes plain =
-    ap cut_star (number_of number star width b y digits passes plain)
-    ∙ ap (cut_width number) (star_of star width b y passes plain)
-    ∙ ap (λ f. cut_length number star f (behind is_decimal (width ++ b ∷ y))) (front_of is_decimal width (b ∷ y) passes plain.decimal)
-    ∙ ap (λ f. cut_length number star width f) (behind_of is_decimal width (b ∷ y) passes plain.decimal)
-
-cut_sized : (o : Opening) (letter : ℕ) (x : List ℕ) → IsLast letter
-    → cut_length o.number o.star o.width (length_text o.size ++ letter ∷ x) ≡ record { opening = o; rest = letter ∷ x }
-cut_sized o letter x last =
-    let y = length_text o.size ++ letter ∷ x in
-    let at : Length → Cut = λ size. record {
-      opening = record { number = o.number; star = o.star; width = o.width; size = size };
-      rest = drop (length (length_text size)) y;
-    } in
-    let with_rest : List ℕ → Cut = λ rest. record { opening = o; rest = rest } in
-    ap at (length_of o.size letter x last) ∙ ap with_rest (length_dropped o.size (letter ∷ x))
-
+-- it begins with no %, and is cut where it was joined
 pub cut_of : (o : Opening) (letter : ℕ) (x : List ℕ) → HasDigits o → IsLast letter
-    → cut (inside o (letter ∷ x)) ≡ record { opening = o; rest = letter ∷ x }
+    → (begins (37 ∷ []) (inside o (letter ∷ x)) ≡ false) × (cut (inside o (letter ∷ x)) ≡ record { opening = o; rest = letter ∷ x })
 cut_of o letter x digits last =
-    let h = sized_head o.size letter x last in
-    ap (λ t. cut (number_text o.number ++ (star_text o.star ++ (o.width ++ t)))) h.2
-    ∙ cut_plain o.number o.star o.width h.0 h.1 digits.0 digits.1 h.3
-    ∙ ap (cut_length o.number o.star o.width) (sym h.2)
-    ∙ cut_sized o letter x last
+    let z = length_text o.size ++ letter ∷ x in
+    let head = head_stops z (sized_stops o.size letter x last) in
+    let inner = star_inside o.star o.width digits.1 in
+    let whole : star_text o.star ++ (o.width ++ z) ≡ (star_text o.star ++ o.width) ++ z = sym (append_assoc (star_text o.star) o.width z) in
+    let number : number_at (inside o (letter ∷ x)) ≡ (o.number, star_text o.star ++ (o.width ++ z))
+    = rw whole (number_of o.number (star_text o.star ++ o.width) z digits.0 inner head) in
+    let stops = digit_stops z head in (
+      rw whole (percent_none o.number (star_text o.star ++ o.width) z digits.0 inner head),
+      rw (number, star_of o.star o.width z digits.1 head, front_of is_decimal o.width z digits.1 stops, behind_of is_decimal o.width z digits.1 stops,
+          length_of o.size letter x last, length_dropped o.size (letter ∷ x)),
+    )
 
 pub cut_joined : (x : List ℕ) → inside (cut x).opening (cut x).rest ≡ x
 cut_joined x =
     let number = number_at x in
     let star = mark_at 42 number.1 in
-    let y = behind is_decimal star.1 in
-    ap (λ t. number_text number.0 ++ (star_text star.0 ++ (front is_decimal star.1 ++ t)))
-    (length_whole y)
-    ∙ ap (λ t. number_text number.0 ++ (star_text star.0 ++ t)) (front_behind is_decimal star.1)
-    ∙ ap (λ t. number_text number.0 ++ (t ++ star.1)) (sym (star_is star.0))
-    ∙ ap (λ t. number_text number.0 ++ t) (mark_joined 42 number.1)
-    ∙ number_whole x
+    rw (length_whole (behind is_decimal star.1), front_behind is_decimal star.1, mark_joined star_text 42 number.1 refl refl) (number_whole x)
 
 pub cut_digits : (x : List ℕ) → HasDigits (cut x).opening
-cut_digits x = (
-  number_passing x,
-  front_passes is_decimal (mark_at 42 (number_at x).1).1,
-)
-
--- what stands behind the % of a specification is no %
-pub no_percent : (o : Opening) (letter : ℕ) (x : List ℕ) → HasDigits o → IsLast letter → begins (37 ∷ []) (inside o (letter ∷ x)) ≡ false
-no_percent o letter x digits last =
-    let h = sized_head o.size letter x last in
-    ap (λ t. begins (37 ∷ []) (number_text o.number ++ (star_text o.star ++ (o.width ++ t)))) h.2
-    ∙ headed o.number o.star o.width h.0 h.1 digits.0 digits.1 h.3
-  where
-    headed : (number : List ℕ) (star : Bool) (width : List ℕ) (b : ℕ) (y : List ℕ) → AllPass is_decimal number → AllPass is_decimal width
-        → IsPlain b → begins (37 ∷ []) (number_text number ++ (star_text star ++ (width ++ b ∷ y))) ≡ false
-    headed (d ∷ ds) star width b y number passes plain = ap (λ v. v && true) (digit_is_not d 37 number.0 (lit< tt))
-    headed [] true width b y number passes plain = refl
-    headed [] false (d ∷ ds) b y number passes plain = ap (λ v. v && true) (digit_is_not d 37 passes.0 (lit< tt))
-    headed [] false [] b y number passes plain = ap (λ v. v && true) plain.percent
+cut_digits x = (number_passing x, front_passes is_decimal (mark_at 42 (number_at x).1).1)
 
 pub opening_regroup : (o : Opening) (y : List ℕ) → opening_text o ++ y ≡ 37 ∷ inside o y
 opening_regroup o y = simp append_assoc
@@ -265,5 +200,127 @@ length-cut x =
 pub number_shorter : (x : List ℕ) → length (cut x).opening.number ≤ length x
 number_shorter x =
     let o = (cut x).opening in
-    let behind = star_text o.star ++ (o.width ++ (length_text o.size ++ (cut x).rest)) in
-    omega (arith, ap length (cut_joined x), length-append (number_text o.number) behind, number_text_longer o.number)
+    let later = star_text o.star ++ (o.width ++ (length_text o.size ++ (cut x).rest)) in
+    omega (arith, ap length (cut_joined x), length-append (number_text o.number) later, number_text_longer o.number)
+
+abbrev pub HasPrintDigits : PrintOpening → Type 0
+HasPrintDigits o =
+    AllPass is_decimal o.number × AllPass is_flag o.flags × AllPass is_decimal o.width × StartsAboveZero o.width
+    × IfSome o.precision (AllPass is_decimal)
+
+-- what stands behind the % of an opening
+abbrev pub print_inside : PrintOpening → List ℕ → List ℕ
+print_inside o y = number_text o.number ++ (o.flags ++ (o.width ++ (precision_text o.precision ++ (length_text o.size ++ y))))
+
+-- ---- the whole cut
+
+flags_inside : (flags width : List ℕ) → AllPass is_flag flags → AllPass is_decimal width → AllPass is_inside (flags ++ width)
+flags_inside flags width h k =
+    all_append (λ b. is_inside b ≡ true) flags width (all_map (λ b. is_flag b ≡ true) (λ b. is_inside b ≡ true) (λ b e. grind arith) flags h)
+    (digits_inside width k)
+
+width_stops : (width z : List ℕ) → AllPass is_decimal width → StartsAboveZero width → Stops is_head z → Stops is_flag (width ++ z)
+width_stops [] z digits first stops = stops_less is_flag is_head (λ b e. grind arith) z stops
+width_stops (d ∷ ds) z digits first stops = grind (arith, nat_tests)
+
+precision_stops : (precision : Option (List ℕ)) (z : List ℕ) → Stops is_part z → Stops is_head (precision_text precision ++ z)
+precision_stops None z stops = head_stops z stops
+precision_stops (Some ds) z stops = refl
+
+precision_is : (precision : Option (List ℕ)) (z : List ℕ) → IfSome precision (AllPass is_decimal) → Stops is_part z
+    → precision_at (precision_text precision ++ z) ≡ (precision, z)
+precision_is None z digits stops = rw (mark_none 46 z (stops_less (λ b. nat_eq b 46) is_part (λ b e. grind arith) z stops))
+precision_is (Some ds) z digits stops =
+    let other = digit_stops z (head_stops z stops) in
+    rw (front_of is_decimal ds z digits other, behind_of is_decimal ds z digits other)
+
+pub print_cut_of : (o : PrintOpening) (letter : ℕ) (x : List ℕ) → HasPrintDigits o → IsLast letter
+    → (begins (37 ∷ []) (print_inside o (letter ∷ x)) ≡ false) × (print_cut (print_inside o (letter ∷ x)) ≡ record { opening = o; rest = letter ∷ x })
+print_cut_of o letter x digits last =
+    let sized = length_text o.size ++ letter ∷ x in
+    let z = precision_text o.precision ++ sized in
+    let part = sized_stops o.size letter x last in
+    let head = precision_stops o.precision sized part in
+    let inner = flags_inside o.flags o.width digits.1 digits.2 in
+    let whole : o.flags ++ (o.width ++ z) ≡ (o.flags ++ o.width) ++ z = sym (append_assoc o.flags o.width z) in
+    let number : number_at (print_inside o (letter ∷ x)) ≡ (o.number, o.flags ++ (o.width ++ z))
+    = rw whole (number_of o.number (o.flags ++ o.width) z digits.0 inner head) in
+    let wide = width_stops o.width z digits.2 digits.3 head in
+    let stops = digit_stops z head in (
+      rw whole (percent_none o.number (o.flags ++ o.width) z digits.0 inner head),
+      rw (number, front_of is_flag o.flags (o.width ++ z) digits.1 wide, behind_of is_flag o.flags (o.width ++ z) digits.1 wide,
+          front_of is_decimal o.width z digits.2 stops, behind_of is_decimal o.width z digits.2 stops, precision_is o.precision sized digits.4 part,
+          length_of o.size letter x last, length_dropped o.size (letter ∷ x)),
+    )
+
+-- ---- the cut joins
+
+abbrev point_text : Bool → List ℕ
+point_text true = 46 ∷ []
+point_text false = []
+
+precision_joined : (point : Bool) (x : List ℕ)
+    → precision_text (precision_behind (point, x)).0 ++ (precision_behind (point, x)).1 ≡ point_text point ++ x
+precision_joined true x = rw (front_behind is_decimal x)
+precision_joined false x = refl
+
+pub print_cut_joined : (x : List ℕ) → print_inside (print_cut x).opening (print_cut x).rest ≡ x
+print_cut_joined x =
+    let number = number_at x in
+    let wide = behind is_flag number.1 in
+    let pointed = behind is_decimal wide in
+    let point = mark_at 46 pointed in
+    rw (
+      length_whole (precision_at pointed).1,
+      precision_joined point.0 point.1,
+      mark_joined point_text 46 pointed refl refl,
+      front_behind is_decimal wide,
+      front_behind is_flag number.1,
+    )
+    (number_whole x)
+
+precision_passes : (point : Bool) (x : List ℕ) → IfSome (precision_behind (point, x)).0 (AllPass is_decimal)
+precision_passes true x = front_passes is_decimal x
+precision_passes false x = tt
+
+-- what follows flags is no 0
+above_zero : (x : List ℕ) → Stops is_flag x → StartsAboveZero (front is_decimal x)
+above_zero [] stops = tt
+above_zero (b ∷ x) stops = grind (arith, nat_tests)
+
+pub print_cut_digits : (x : List ℕ) → HasPrintDigits (print_cut x).opening
+print_cut_digits x =
+    let number = number_at x in
+    let wide = behind is_flag number.1 in
+    let point = mark_at 46 (behind is_decimal wide) in (
+      number_passing x,
+      front_passes is_flag number.1,
+      front_passes is_decimal wide,
+      above_zero wide (behind_stops is_flag number.1),
+      precision_passes point.0 point.1,
+    )
+
+pub print_opening_regroup : (o : PrintOpening) (y : List ℕ) → print_opening_text o ++ y ≡ 37 ∷ print_inside o y
+print_opening_regroup o y = simp append_assoc
+
+-- ---- lengths
+
+pub length-print_cut : (x : List ℕ) → length (print_opening_text (print_cut x).opening) + length (print_cut x).rest ≡ 1 + length x
+length-print_cut x =
+    let e = print_opening_regroup (print_cut x).opening (print_cut x).rest ∙ ap (λ t. 37 ∷ t) (print_cut_joined x) in
+    omega (arith, length-append (print_opening_text (print_cut x).opening) (print_cut x).rest, ap length e)
+
+-- the parts are no longer than what was cut
+pub parts_shorter : (x : List ℕ)
+    → length (print_cut x).opening.number + length (print_cut x).opening.flags + length (print_cut x).opening.width ≤ length x
+parts_shorter x =
+    let o = (print_cut x).opening in
+    let sized = precision_text o.precision ++ (length_text o.size ++ (print_cut x).rest) in
+    omega (
+      arith,
+      ap length (print_cut_joined x),
+      length-append (number_text o.number) (o.flags ++ (o.width ++ sized)),
+      length-append o.flags (o.width ++ sized),
+      length-append o.width sized,
+      number_text_longer o.number,
+    )

@@ -1,18 +1,22 @@
--- What is judged of a text is its parts or its fault.
-use Rattle.std.proofs.Common.{◌≡◌, ℕ, ◌+◌, ◌<◌, ◌≤◌, inl, inr, Bool, true, cond, nat_lt, List, [], length, Option, Some, None, Result, Ok, Err, refl, sym, ap, ◌∙◌, subst, arith, lit≤, append-nil}
+-- What is judged of a text is its parts or its fault: laws of formats, and what is answered about a text.
+use Rattle.std.proofs.Common.{◌≡◌, ℕ, ◌+◌, ◌≤◌, inl, inr, Bool, true, false, nat_lt, List, [], length, Option, Some, None, Result, Ok, Err, refl, ◌∙◌, arith, lit≤, append-nil, ◌⊎◌, sym, ap, subst}
 use Rattle.std.proofs.lemmas.Bool.Decides.{nat_tests}
 use Rattle.sf_base.specs.Bytes.{AreBytes}
 use Rattle.sf_format.specs.Language.{Language}
 use Rattle.sf_format.specs.declared.fault.FormatWhy.{FormatWhy}
-use Rattle.sf_format.specs.declared.fault.FormatWhy.TheVariants.{FormatTooLong}
 use Rattle.sf_format.specs.Pieces.{Piece, text_of}
-use Rattle.sf_format.specs.Grammar.{AreAlike, IsFormat, destinations}
+use Rattle.sf_format.specs.Grammar.{AreAlike, IsFormat, SpellsAs, MeanAll, destinations}
 use Rattle.sf_format.specs.Rules.{first_of}
-use Rattle.sf_format.specs.Faults.{part_rules, number_rules, AreFaultless, NumberFault, FaultIn}
+use Rattle.sf_format.specs.Faults.{number_rules, AreFaultless, FaultIn, IsRefusedAs}
 use Rattle.sf_format.specs.Reading.{unless, read, numbers_judged, judged}
-use Rattle.sf_format.proofs.Outcomes.{by_test, within, not_above, is_above}
+use Rattle.sf_format.proofs.Outcomes.{within, not_above, is_above}
 use Rattle.sf_format.proofs.Numbers.{slots_from, slots_alike, slots_quiet}
-use Rattle.sf_format.proofs.WholeTexts.{Divides, Refuses, read_tells, parts_read, fault_read}
+use Rattle.sf_format.proofs.WholeTexts.{Tells, read_tells, parts_read, fault_read}
+use Rattle.sf_format.specs.declared.fault.FormatFault.{FormatFault}
+use Rattle.sf_format.specs.declared.slots.Slots.{Slots}
+use Rattle.sf_format.specs.Passing.{Judged, Gathers, IsHindered, Walked, fault_of}
+use Rattle.sf_format.proofs.PartSlots.{format_few}
+use Rattle.sf_format.proofs.Meanings.{IsMeaning, mean_all_one, some_meanings}
 
 abbrev pub Judgement : Type 0
 Judgement = Result (List Piece) (FormatWhy × ℕ)
@@ -22,98 +26,171 @@ abbrev pub Judges : Language → List ℕ → Judgement → Type 0
 Judges language text (Ok pieces) = IsFormat language pieces × (text ≡ text_of pieces)
 Judges language text (Err fault) = FaultIn language text fault.1 fault.0
 
-long : (n : ℕ) → nat_lt 4096 n ≡ true → 4096 < n
-long n e = grind (arith, nat_tests)
-
-abbrev judged_as : Language → List ℕ → Bool → Judgement
-judged_as language text v = cond v (Err (FormatTooLong, 4096)) (numbers_judged (read (length text) language [] 0 text))
-
 none_before : AreAlike []
 none_before = inl (tt, lit≤ tt)
 
 -- what was read of a short text
-abbrev ReadAs : Language → List ℕ → Judgement → Type 0
-ReadAs language text (Ok pieces) = Divides language [] text pieces []
-ReadAs language text (Err fault) = Refuses language [] 0 text fault
-
-number_fault : (language : Language) (text : List ℕ) (pieces : List Piece) → length text ≤ 4096 → Divides language [] text pieces []
-    → (first : Option (FormatWhy × ℕ)) → first_of (number_rules pieces) ≡ first → Judges language text (unless first (Ok pieces))
-number_fault language text pieces few divides None e =
-    let same = divides.text ∙ append-nil (text_of pieces) in (
-      record {
-        short = subst (λ t. length t ≤ 4096) same few;
-        each = divides.each;
-        apart = divides.apart;
-        slots = slots_from pieces divides.alike e;
-      },
-      same,
-    )
-number_fault language text pieces few divides (Some fault) e =
-    let faultless : AreFaultless language pieces = record { each = divides.each; apart = divides.apart; alike = divides.alike } in
-    inr (few, inr (pieces, faultless, divides.text ∙ append-nil (text_of pieces), e))
-
-numbers_tell : (language : Language) (text : List ℕ) (r : Judgement) → length text ≤ 4096 → ReadAs language text r
+numbers_tell : (language : Language) (text : List ℕ) (r : Judgement) → length text ≤ 4096 → Tells language [] 0 text r
     → Judges language text (numbers_judged r)
-numbers_tell language text (Ok pieces) few tells = number_fault language text pieces few tells (first_of (number_rules pieces)) refl
+numbers_tell language text (Ok pieces) few divides = by_first (first_of (number_rules pieces)) refl
+  where
+    by_first : (first : Option (FormatWhy × ℕ)) → first_of (number_rules pieces) ≡ first → Judges language text (unless first (Ok pieces))
+    by_first None e =
+        let same = divides.text ∙ append-nil (text_of pieces) in
+        (record { short = rw same at few; each = divides.each; apart = divides.apart; slots = slots_from pieces divides.alike e }, same)
+    by_first (Some fault) e =
+        let faultless : AreFaultless language pieces = record { each = divides.each; apart = divides.apart; alike = divides.alike } in
+        inr (few, inr (pieces, faultless, divides.text ∙ append-nil (text_of pieces), e))
 numbers_tell language text (Err fault) few tells =
     let divides = tells.divides in
     let faultless : AreFaultless language tells.done = record { each = divides.each; apart = divides.apart; alike = divides.alike } in
-    let places : length (text_of tells.done) ≡ 0 + length (text_of tells.done) = omega arith in
-    inr (
-      few,
-      inl (
-        tells.done,
-        tells.rest,
-        faultless,
-        divides.text,
-        ap (λ q. first_of (part_rules language (destinations tells.done) q tells.rest)) places ∙ tells.first,
-      ),
-    )
+    let place : 0 + length (text_of tells.done) ≡ length (text_of tells.done) = omega arith in
+    inr (few, inl (tells.done, tells.rest, faultless, divides.text, rw place at tells.first))
+
+pub read_judged : (language : Language) (text : List ℕ) (r : Judgement) → length text ≤ 4096 → read (length text) language [] 0 text ≡ r
+    → judged language text ≡ numbers_judged r
+read_judged language text r few e = rw (not_above 4096 (length text) few, e)
 
 -- each text of bytes is judged rightly
 pub judged_tells : (language : Language) (text : List ℕ) → AreBytes text → Judges language text (judged language text)
-judged_tells language text bytes =
-    by_test (nat_lt 4096 (length text)) (λ v. Judges language text (judged_as language text v))
-    (λ e. inl (long (length text) e, refl, refl))
-    (λ e. numbers_tell language text (read (length text) language [] 0 text) (within 4096 (length text) e)
-    (read_tells (length text) language [] 0 text (omega arith) bytes none_before))
+judged_tells language text bytes = by_length (nat_lt 4096 (length text)) refl
+  where
+    by_length : (v : Bool) → nat_lt 4096 (length text) ≡ v → Judges language text (judged language text)
+    by_length true e = rw e (inl (grind (arith, nat_tests), refl, refl))
+    by_length false e =
+        rw e
+        (numbers_tell language text (read (length text) language [] 0 text) (within 4096 (length text) e)
+        (read_tells (length text) language [] 0 text (omega arith) bytes none_before))
 
 -- the parts of a format are judged so
 pub format_judged : (language : Language) (pieces : List Piece) → IsFormat language pieces → judged language (text_of pieces) ≡ Ok pieces
 format_judged language pieces is =
-    ap (judged_as language (text_of pieces)) (not_above 4096 _ is.short)
-    ∙ ap numbers_judged (parts_read language pieces is.each is.apart (slots_alike pieces is.slots))
-    ∙ ap (λ first. unless first (Ok pieces)) (slots_quiet pieces is.slots)
-
-number_fault_judged : (language : Language) (text : List ℕ) (fault : FormatWhy × ℕ) → NumberFault language text fault
-    → numbers_judged (read (length text) language [] 0 text) ≡ Err fault
-number_fault_judged language text fault h =
-    let good = h.1 in
-    subst (λ t. numbers_judged (read (length t) language [] 0 t) ≡ Err fault) (sym h.2)
-    (ap numbers_judged (parts_read language h.0 good.each good.apart good.alike) ∙ ap (λ first. unless first (Ok h.0)) h.3)
+    read_judged language (text_of pieces) (Ok pieces) is.short (parts_read language pieces is.each is.apart (slots_alike pieces is.slots))
+    ∙ rw (slots_quiet pieces is.slots)
 
 -- a fault of a text is judged so
 pub fault_judged : (language : Language) (text : List ℕ) (at : ℕ) (why : FormatWhy) → FaultIn language text at why → judged language text ≡ Err (why, at)
 fault_judged language text at why h =
     elim h [
-      | inl much ↦
-          ap (judged_as language text) (is_above 4096 _ much.0)
-          ∙ ap (λ w. fault w 4096) (sym much.2) ∙ ap (fault why) (sym much.1)
+      | inl much ↦ rw (is_above 4096 (length text) much.0, much.1, much.2)
       | inr few ↦
-          ap (judged_as language text) (not_above 4096 _ few.0)
-          ∙ elim few.1 [
-            | inl part ↦ ap numbers_judged (fault_read language text (why, at) part)
-            | inr number ↦ number_fault_judged language text (why, at) number
+          elim few.1 [
+            | inl part ↦ read_judged language text (Err (why, at)) few.0 (fault_read language text (why, at) part)
+            | inr (done, good, is, first) ↦ read_judged language text (Ok done) few.0 (rw is (parts_read language done good.each good.apart good.alike)) ∙ rw first
           ]
     ]
-  where
-    fault : FormatWhy → ℕ → Judgement
-    fault w place = Err (w, place)
-
-pub short_judged : (language : Language) (text : List ℕ) → length text ≤ 4096 → judged language text ≡ numbers_judged (read (length text) language [] 0 text)
-short_judged language text few = ap (judged_as language text) (not_above 4096 (length text) few)
 
 pub judged_short : (language : Language) (text : List ℕ) (pieces : List Piece) → judged language text ≡ Ok pieces → length text ≤ 4096
-judged_short language text pieces e =
-    by_test (nat_lt 4096 (length text)) (λ v. judged_as language text v ≡ Ok pieces → length text ≤ 4096)
-    (λ t h. absurd (cc)) (λ f h. within 4096 (length text) f) e
+judged_short language text pieces e = grind (arith, nat_tests)
+
+
+-- the parts of a spelled text are those that are judged
+pub spelled_judged : {D : Type 0} (language : Language) (means : ℕ → Piece → D → Type 0) (text : List ℕ) (ds : List D)
+    (h : SpellsAs language means text ds) → judged language text ≡ Ok h.0
+spelled_judged language means text ds h = ap (judged language) h.2 ∙ format_judged language h.0 h.1
+
+pub one_list : {D : Type 0} {language : Language} {means : ℕ → Piece → D → Type 0} → IsMeaning D language means
+    → (text : List ℕ) (ds es : List D) → SpellsAs language means text ds → SpellsAs language means text es → ds ≡ es
+one_list {language = language} {means} m text ds es h k =
+    let same : h.0 ≡ k.0 = let e = sym (spelled_judged language means text ds h) ∙ spelled_judged language means text es k in cc in
+    mean_all_one m 1 k.0 ds es (rw same at h.3) k.3
+
+pub one_fault : (language : Language) (text : List ℕ) (at place : ℕ) (why reason : FormatWhy) → FaultIn language text at why
+    → FaultIn language text place reason → (at ≡ place) × (why ≡ reason)
+one_fault language text at place why reason h k =
+    let same : (why, at) ≡ (reason, place) =
+    let e = sym (fault_judged language text at why h) ∙ fault_judged language text place reason k in cc in
+    (ap (λ (p : FormatWhy × ℕ). p.1) same, ap (λ (p : FormatWhy × ℕ). p.0) same)
+
+pub not_both : {D : Type 0} (language : Language) (means : ℕ → Piece → D → Type 0) (text : List ℕ) (ds : List D) (at : ℕ) (why : FormatWhy)
+    → SpellsAs language means text ds → FaultIn language text at why → ⊥
+not_both language means text ds at why h k =
+    let e = sym (spelled_judged language means text ds h) ∙ fault_judged language text at why k in absurd (cc)
+
+-- a format whose parts are judged spells some list
+some_spelled : {D : Type 0} {language : Language} {means : ℕ → Piece → D → Type 0} → IsMeaning D language means
+    → (text : List ℕ) (pieces : List Piece) → Judges language text (Ok pieces) → (ds : List D) × SpellsAs language means text ds
+some_spelled m text pieces h = let ds = some_meanings m 1 pieces h.0.each in (ds.0, (pieces, h.0, h.1, ds.1))
+
+pub either : {D : Type 0} {language : Language} {means : ℕ → Piece → D → Type 0} → IsMeaning D language means → (text : List ℕ) → AreBytes text
+    → ((ds : List D) × SpellsAs language means text ds) ⊎ ((at : ℕ) × (why : FormatWhy) × FaultIn language text at why)
+either {D} {language} {means} m text bytes = by_judgement (judged language text) (judged_tells language text bytes)
+  where
+    by_judgement : (r : Judgement) → Judges language text r
+        → ((ds : List D) × SpellsAs language means text ds) ⊎ ((at : ℕ) × (why : FormatWhy) × FaultIn language text at why)
+    by_judgement (Ok pieces) h = inl (some_spelled m text pieces h)
+    by_judgement (Err fault) h = inr (fault.1, fault.0, h)
+
+-- ---- what is judged
+
+tells : (language : Language) (text : List ℕ) (r : Judgement) → AreBytes text → judged language text ≡ r → Judges language text r
+tells language text r bytes e = subst (Judges language text) e (judged_tells language text bytes)
+
+pub all_judged : (language : Language) (text : List ℕ) (slots : Slots) → length text ≤ 4096 → (walked : Walked language text (Ok slots))
+    → None ≡ first_of (number_rules walked.0) → Judged language text (Ok slots.count)
+all_judged language text slots short walked e =
+    (walked.0, read_judged language text (Ok walked.0) short walked.1 ∙ rw (← e), walked.2.count)
+
+pub judged_few : (language : Language) (text : List ℕ) (count : ℕ) → AreBytes text → Judged language text (Ok count) → count ≤ 32
+judged_few language text count bytes h =
+    let is = tells language text (Ok h.0) bytes h.1 in omega (arith, h.2, format_few language h.0 is.0)
+
+-- ---- a text whose parts were judged good
+
+-- what is read of it are those parts
+read_same : (language : Language) (text : List ℕ) (pieces others : List Piece) → judged language text ≡ Ok pieces
+    → read (length text) language [] 0 text ≡ Ok others → others ≡ pieces
+read_same language text pieces others e f =
+    by_first (first_of (number_rules others)) (sym (read_judged language text (Ok others) (judged_short language text pieces e) f) ∙ e)
+  where
+    by_first : (first : Option (FormatWhy × ℕ)) → unless first (Ok others) ≡ Ok pieces → others ≡ pieces
+    by_first None g = cc
+    by_first (Some fault) g = absurd (cc)
+
+pub gathers_spells : {D : Type 0} {language : Language} {means : ℕ → Piece → D → Type 0} {text : List ℕ} {ds : List D} (count : ℕ) → AreBytes text
+    → Judged language text (Ok count) → Gathers language means text ds → SpellsAs language means text ds
+gathers_spells {language = language} {text = text} count bytes judges h =
+    let is = tells language text (Ok judges.0) bytes judges.1 in
+    (judges.0, is.0, is.1, rw (read_same language text judges.0 h.pieces judges.1 h.parts) at h.meaning)
+
+-- both walks count the same destinations
+pub gathers_count : {D : Type 0} {language : Language} {means : ℕ → Piece → D → Type 0} {text : List ℕ} {ds : List D} (count : ℕ)
+    → Judged language text (Ok count) → (h : Gathers language means text ds) → count ≡ length (destinations h.pieces)
+gathers_count {language = language} {text = text} count judges h = rw (read_same language text judges.0 h.pieces judges.1 h.parts) judges.2
+
+-- ---- a text that is refused
+
+pub judged_fault : {D : Type 0} (language : Language) (means : ℕ → Piece → D → Type 0) (text : List ℕ) (fault : FormatFault) → AreBytes text
+    → judged language text ≡ Err (fault_of fault) → IsRefusedAs language means text fault
+judged_fault language means text fault bytes e = inl (tells language text (Err (fault_of fault)) bytes e)
+
+pub hindered : {D : Type 0} {language : Language} {means : ℕ → Piece → D → Type 0} → IsMeaning D language means
+    → (text : List ℕ) (count : ℕ) (fault : FormatFault) → AreBytes text → Judged language text (Ok count)
+    → IsHindered language text fault → IsRefusedAs language means text fault
+hindered {language = language} {means} m text count fault bytes judges h =
+    elim h [
+      | inl e ↦
+          judged_fault language means text fault bytes
+          (read_judged language text (Err (fault_of fault)) (judged_short language text judges.0 judges.1) e)
+      | inr none ↦ inr (none, some_spelled m text judges.0 (tells language text (Ok judges.0) bytes judges.1))
+    ]
+
+-- the one fault of the text is the one that was found
+pub same_fault : (language : Language) (text : List ℕ) (fault : FormatFault) (at : ℕ) (why : FormatWhy) → judged language text ≡ Err (fault_of fault)
+    → FaultIn language text at why → fault ≡ record { at = at; why = why }
+same_fault language text fault at why e h =
+    let same : fault_of fault ≡ (why, at) = let both = sym e ∙ fault_judged language text at why h in cc in
+    ap (λ (p : FormatWhy × ℕ). made p.1 p.0) same
+  where
+    made : ℕ → FormatWhy → FormatFault
+    made n w = record { at = n; why = w }
+
+-- a text that is judged good has no fault
+pub no_fault : {A : Type 0} (language : Language) (text : List ℕ) (count : ℕ) (at : ℕ) (why : FormatWhy) → Judged language text (Ok count)
+    → FaultIn language text at why → A
+no_fault language text count at why judges h = let e = sym judges.1 ∙ fault_judged language text at why h in absurd (cc)
+
+-- a spelled text is not judged bad
+pub not_refused : {A D : Type 0} (language : Language) (means : ℕ → Piece → D → Type 0) (text : List ℕ) (fault : FormatFault) (ds : List D)
+    → judged language text ≡ Err (fault_of fault) → SpellsAs language means text ds → A
+not_refused language means text fault ds e h = let f = sym e ∙ spelled_judged language means text ds h in absurd (cc)

@@ -1,6 +1,16 @@
--- A part of a scan format means one directive.
-use Rattle.std.proofs.Common.{◌≡◌, ◌≢◌, ℕ, zero, suc, ◌+◌, ◌<◌, Bool, false, cond, List, [], ◌∷◌, length, get_or, Option, Some, refl, sym, ap, ◌∙◌, subst, arith}
+-- What the parts of a format stand for: each one directive, or one unit.
+use Rattle.std.proofs.Common.{◌≡◌, ℕ, ◌+◌, List, [], ◌∷◌, ◌++◌, length, Option, refl, arith, length-append, Some, None, ◌≢◌, ◌<◌, Bool, false, map, sym, ◌∙◌, ap}
+use Rattle.std.specs.Prelude.{IsSome}
+use Rattle.std.specs.List.{AllByRecursion, range_with_len}
+use Rattle.std.specs.Option.{option_map}
+use Rattle.sf_format.specs.Language.{Language, Scan, Print}
+use Rattle.sf_format.specs.Pieces.{Piece, Opening, WhiteSpace, Ordinary, Percents, Plain, Bracket, Printed, PrintOpening}
+use Rattle.sf_format.specs.Slots.{Slotted}
+use Rattle.sf_format.specs.Grammar.{IsPiece, MeanAll, destinations, IsScanPiece, IsConversion, Means, shape_of, width_of, slot_of}
+use Rattle.sf_format.specs.Passing.{slot_at}
+use Rattle.sf_format.proofs.Destinations.{destinations_cons, slot_there}
 use Rattle.std.proofs.lemmas.List.{ext_get_or}
+use Rattle.std.proofs.lemmas.List.FromFn.{get_or-map-range_with_len, length-map-range_with_len}
 use Rattle.sf_base.specs.declared.values.Kind.{Kind}
 use Rattle.sf_format.specs.declared.directive.Profile.{Profile}
 use Rattle.sf_format.specs.declared.directive.Shape.{Shape}
@@ -12,42 +22,84 @@ use Rattle.sf_format.specs.declared.letter.Letter.{Letter}
 use Rattle.sf_format.specs.declared.letter.Letter.TheVariants.{Signed, Unsigned, Chars, Text, Set, Count}
 use Rattle.sf_format.specs.Letters.{letter_of, kind_of}
 use Rattle.sf_format.specs.Scanlist.{Scanlist, is_member, IsSetOf}
-use Rattle.sf_format.specs.Pieces.{Opening, Piece, WhiteSpace, Ordinary, Percents, Plain, Bracket, Printed}
-use Rattle.sf_format.specs.Grammar.{IsScanPiece, IsConversion, Means, shape_of, width_of, slot_of, destinations}
-use Rattle.sf_format.specs.Language.{Scan}
-use Rattle.sf_format.specs.Passing.{slot_in, slot_at}
-use Rattle.sf_format.proofs.WholeMeanings.{IsMeaning, some_of}
-use Rattle.sf_format.proofs.Destinations.{slot_there}
+use Rattle.sf_format.specs.Proper.{destination_of}
 use Rattle.sf_format.proofs.Suits.{bracket_is}
 use Rattle.sf_format.proofs.Outcomes.{same_byte}
+use Rattle.sf_base.specs.Bytes.{magnitude}
+use Rattle.sf_format.specs.declared.unit.PrintLetter.{PrintLetter}
+use Rattle.sf_format.specs.declared.unit.PrintConv.{PrintConv}
+use Rattle.sf_format.specs.declared.unit.Unit.{Unit as PrintUnit}
+use Rattle.sf_format.specs.declared.unit.Unit.TheVariants as unit
+use Rattle.sf_format.specs.Digits.{optional_number}
+use Rattle.sf_format.specs.PrintLetters.{print_kind_of}
+use Rattle.sf_format.specs.Units.{printed_of}
+use Rattle.sf_format.specs.PrintGrammar.{IsPrintPiece, IsPrintConv, Prints, or_place, is_set_flag}
+
+-- each part stands for exactly one of these
+pub record IsMeaning (D : Type 0) (language : Language) (means : ℕ → Piece → D → Type 0) : Type 0 where
+  pub one : (place : ℕ) (piece : Piece) (d e : D) → means place piece d → means place piece e → d ≡ e
+  pub some : (place : ℕ) (piece : Piece) → IsPiece language piece → (d : D) × means place piece d
+
+-- which has the part's slot
+pub record HasSlots (D : Type 0) (means : ℕ → Piece → D → Type 0) (slotted : D → Option Slotted) : Type 0 where
+  pub slot : (place : ℕ) (piece : Piece) (d : D) → means place piece d
+      → option_map (λ e. e.0) (slotted d) ≡ slot_at place (destinations (piece ∷ []))
+
+pub mean_all_one : {D : Type 0} {language : Language} {means : ℕ → Piece → D → Type 0} → IsMeaning D language means
+    → (place : ℕ) (pieces : List Piece) (ds es : List D) → MeanAll means place pieces ds → MeanAll means place pieces es → ds ≡ es
+mean_all_one m place [] [] [] h k = refl
+mean_all_one m place [] [] (e ∷ es) h k = absurd k
+mean_all_one m place [] (d ∷ ds) es h k = absurd h
+mean_all_one m place (piece ∷ pieces) [] es h k = absurd h
+mean_all_one m place (piece ∷ pieces) (d ∷ ds) [] h k = absurd k
+mean_all_one m place (piece ∷ pieces) (d ∷ ds) (e ∷ es) h k =
+    rw (m.one place piece d e h.0 k.0, mean_all_one m (place + length (destinations (piece ∷ []))) pieces ds es h.1 k.1)
+
+pub some_meanings : {D : Type 0} {language : Language} {means : ℕ → Piece → D → Type 0} → IsMeaning D language means
+    → (place : ℕ) (pieces : List Piece) → AllByRecursion (IsPiece language) pieces → (ds : List D) × MeanAll means place pieces ds
+some_meanings m place [] each = ([], tt)
+some_meanings m place (piece ∷ pieces) each =
+    let here = m.some place piece each.0 in
+    let later = some_meanings m (place + length (destinations (piece ∷ []))) pieces each.1 in
+    (here.0 ∷ later.0, (here.1, later.1))
+
+-- one more part
+pub mean_push : {D : Type 0} (means : ℕ → Piece → D → Type 0) (place : ℕ) (done : List Piece) (ds : List D) (piece : Piece) (d : D)
+    → MeanAll means place done ds → means (place + length (destinations done)) piece d
+    → MeanAll means place (done ++ piece ∷ []) (ds ++ d ∷ [])
+mean_push means place [] [] piece d all one = let same : place + 0 ≡ place = omega arith in (rw same at one, tt)
+mean_push means place [] (e ∷ ds) piece d all one = absurd all
+mean_push means place (first ∷ done) [] piece d all one = absurd all
+mean_push means place (first ∷ done) (e ∷ ds) piece d all one =
+    let here = length (destinations (first ∷ [])) in
+    let same : place + length (destinations (first ∷ []) ++ destinations done) ≡ (place + here) + length (destinations done)
+    = omega (arith, length-append (destinations (first ∷ [])) (destinations done)) in
+    (all.0, mean_push means (place + here) done ds piece d all.1 (rw (destinations_cons first done, same) at one))
+
+-- what holds of what each part stands for
+pub mean_each : {D : Type 0} {means : ℕ → Piece → D → Type 0} {Q : Piece → Type 0} (P : D → Type 0)
+    → ((place : ℕ) (piece : Piece) (d : D) → Q piece → means place piece d → P d) → (place : ℕ) (pieces : List Piece) (ds : List D)
+    → AllByRecursion Q pieces → MeanAll means place pieces ds → AllByRecursion P ds
+mean_each P one place [] [] each h = tt
+mean_each P one place [] (d ∷ ds) each h = absurd h
+mean_each P one place (piece ∷ pieces) [] each h = absurd h
+mean_each P one place (piece ∷ pieces) (d ∷ ds) each h =
+    (one place piece d each.0 h.0, mean_each P one (place + length (destinations (piece ∷ []))) pieces ds each.1 h.1)
+
+pub some_of : {A : Type 0} (o : Option A) → IsSome o → (a : A) × (o ≡ Some a)
+some_of None h = absurd (cc)
+some_of (Some a) h = (a, refl)
 
 -- ---- sets
 
-marks_from : ℕ → ℕ → (ℕ → Bool) → List Bool
-marks_from zero b test = []
-marks_from (suc n) b test = test b ∷ marks_from n (b + 1) test
-
-length-marks_from : (n b : ℕ) (test : ℕ → Bool) → length (marks_from n b test) ≡ n
-unfolding marks_from
-length-marks_from zero b test = refl
-length-marks_from (suc n) b test = ap suc (length-marks_from n (b + 1) test)
-
-marks_from_at : (n b k : ℕ) (test : ℕ → Bool) → k < n → get_or (marks_from n b test) k false ≡ test (b + k)
-unfolding marks_from
-marks_from_at zero b k test h = absurd (omega (arith, h))
-marks_from_at (suc n) b zero test h = let e : b ≡ b + 0 = omega arith in ap test e
-marks_from_at (suc n) b (suc k) test h =
-    let e : (b + 1) + k ≡ b + suc k = omega arith in
-    marks_from_at n (b + 1) k test (omega (arith, h)) ∙ ap test e
-
 set_of : Scanlist → List Bool
-set_of list = marks_from 256 0 (is_member list)
+set_of list = map (is_member list) (range_with_len 0 256)
 
 set_is : (list : Scanlist) → IsSetOf list (set_of list)
 unfolding set_of
 set_is list = (
-  length-marks_from 256 0 (is_member list),
-  λ b h. let e : 0 + b ≡ b = omega arith in marks_from_at 256 0 b (is_member list) h ∙ ap (is_member list) e,
+  length-map-range_with_len (is_member list) 0 256,
+  λ b below. get_or-map-range_with_len (is_member list) 0 256 b b false below (omega arith),
 )
 
 set_same : (list : Scanlist) (a b : List Bool) → IsSetOf list a → IsSetOf list b → a ≡ b
@@ -61,47 +113,37 @@ shape_same : (letter : Letter) (s t : Shape) → shape_of letter s → shape_of 
 shape_same Set s t h k = absurd h
 shape_same _ s t h k = h ∙ sym k
 
-abbrev pub made : Shape → Kind → Option ℕ → Option ℕ → Conversion
+abbrev made : Shape → Kind → Option ℕ → Option ℕ → Conversion
 made s k w n = record { shape = s; kind = k; width = w; slot = n }
 
 conversion_same : (place : ℕ) (o : Opening) (letter : Letter) (c d : Conversion) → IsConversion place o letter c → IsConversion place o letter d
     → c.shape ≡ d.shape → c ≡ d
 conversion_same place o letter c d h k same =
     let kinds : c.kind ≡ d.kind = let e = sym h.kind ∙ k.kind in cc in
-    ap (λ s. made s c.kind c.width c.slot) same
-    ∙ ap (λ a. made d.shape a c.width c.slot) kinds
-    ∙ ap (λ a. made d.shape d.kind a c.slot) (h.width ∙ sym k.width)
-    ∙ ap (made d.shape d.kind d.width) (h.slot ∙ sym k.slot)
+    let all : made c.shape c.kind c.width c.slot ≡ made d.shape d.kind d.width d.slot = rw (same, kinds, h.width, k.width, h.slot, k.slot) in
+    all
 
-plain_same : (place : ℕ) (o : Opening) (l m : Letter) (c d : Conversion) → l ≡ m → IsConversion place o l c → IsConversion place o m d
-    → shape_of l c.shape → shape_of m d.shape → c ≡ d
-plain_same place o l m c d e h k s t =
-    conversion_same place o m c d (subst (λ a. IsConversion place o a c) e h) k (shape_same m c.shape d.shape (subst (λ a. shape_of a c.shape) e s) t)
-
-pub means_one : (profile : Profile) (place : ℕ) (piece : Piece) (d e : Directive) → Means profile place piece d → Means profile place piece e → d ≡ e
+means_one : (profile : Profile) (place : ℕ) (piece : Piece) (d e : Directive) → Means profile place piece d → Means profile place piece e → d ≡ e
 means_one profile place (Printed o b) d e h k = absurd h
 means_one profile place (Plain o b) d e h k =
     let same : h.0 ≡ k.0 = let f = sym h.2 ∙ k.2 in cc in
-    h.5 ∙ ap directive.Conv (plain_same place o h.0 k.0 h.1 k.1 same h.3 k.3 h.4 k.4) ∙ sym k.5
+    rw (h.5, k.5, conversion_same place o k.0 h.1 k.1 (rw same at h.3) k.3 (shape_same k.0 h.1.shape k.1.shape (rw same at h.4) k.4))
 means_one profile place (Bracket o list) d e h k =
-    let shapes = h.4 ∙ ap shape.Set (set_same list h.1 k.1 h.3 k.3) ∙ sym k.4 in
-    h.5 ∙ ap directive.Conv (conversion_same place o Set h.0 k.0 h.2 k.2 shapes) ∙ sym k.5
+    let sets = set_same list h.1 k.1 h.3 k.3 in
+    rw (h.5, k.5, conversion_same place o Set h.0 k.0 h.2 k.2 (rw (h.4, k.4, sets)))
 means_one profile place _ d e h k = h ∙ sym k
 
 -- ---- each part means a directive
 
-set_letter : (profile : Profile) (b : ℕ) → letter_of profile b ≡ Some Set → b ≡ 91
-set_letter profile b e = same_byte b 91 (sym (bracket_is profile b Set e))
-
-pub some_shape : (profile : Profile) (b : ℕ) (letter : Letter) → b ≢ 91 → letter_of profile b ≡ Some letter → (s : Shape) × shape_of letter s
+some_shape : (profile : Profile) (b : ℕ) (letter : Letter) → b ≢ 91 → letter_of profile b ≡ Some letter → (s : Shape) × shape_of letter s
 some_shape profile b (Signed base) other e = (shape.Int base, refl)
 some_shape profile b (Unsigned base) other e = (shape.Int base, refl)
 some_shape profile b Chars other e = (shape.Chars, refl)
 some_shape profile b Text other e = (shape.Text, refl)
 some_shape profile b Count other e = (shape.Count, refl)
-some_shape profile b Set other e = absurd (other (set_letter profile b e))
+some_shape profile b Set other e = absurd (other (same_byte b 91 (sym (bracket_is profile b Set e))))
 
-pub some_meaning : (profile : Profile) (place : ℕ) (piece : Piece) → IsScanPiece profile piece → (d : Directive) × Means profile place piece d
+some_meaning : (profile : Profile) (place : ℕ) (piece : Piece) → IsScanPiece profile piece → (d : Directive) × Means profile place piece d
 some_meaning profile place (WhiteSpace bs) is = (directive.Space, refl)
 some_meaning profile place (Ordinary b) is = (directive.Byte b, refl)
 some_meaning profile place Percents is = (directive.Percent, refl)
@@ -117,22 +159,87 @@ some_meaning profile place (Bracket o list) is =
     (directive.Conv c, (c, set_of list, record { kind = k.1; width = refl; slot = refl }, set_is list, refl, refl))
 some_meaning profile place (Printed o b) is = absurd is
 
+pub scan_meaning : (profile : Profile) → IsMeaning Directive (Scan profile) (Means profile)
+scan_meaning profile = record { one = means_one profile; some = some_meaning profile }
+
 -- ---- slots
 
-conversion_slot : (place : ℕ) (o : Opening) (c : Conversion) → c.slot ≡ slot_of place o → c.slot ≡ slot_at place (cond o.star [] (o ∷ []))
-conversion_slot place o c e = e ∙ slot_there place o
+conversion_slot : (c : Conversion) → option_map (λ e. e.0) (destination_of (directive.Conv c)) ≡ c.slot
+conversion_slot c = grind arith
 
 -- the slot of a directive is that of its part
-pub means_slot : (profile : Profile) (place : ℕ) (piece : Piece) (d : Directive) → Means profile place piece d
-    → slot_in d ≡ slot_at place (destinations (piece ∷ []))
-means_slot profile place (Plain o b) d h = ap slot_in h.5 ∙ conversion_slot place o h.1 h.3.slot
-means_slot profile place (Bracket o list) d h = ap slot_in h.5 ∙ conversion_slot place o h.0 h.2.slot
+means_slot : (profile : Profile) (place : ℕ) (piece : Piece) (d : Directive) → Means profile place piece d
+    → option_map (λ e. e.0) (destination_of d) ≡ slot_at place (destinations (piece ∷ []))
+means_slot profile place (Plain o b) d h = rw h.5 (conversion_slot h.1 ∙ h.3.slot ∙ slot_there place o)
+means_slot profile place (Bracket o list) d h = rw h.5 (conversion_slot h.0 ∙ h.2.slot ∙ slot_there place o)
 means_slot profile place (Printed o b) d h = absurd h
-means_slot profile place _ d h = ap slot_in h
+means_slot profile place _ d h = rw h
 
-pub scan_meaning : (profile : Profile) → IsMeaning Directive (Scan profile) (Means profile) slot_in
-scan_meaning profile = record {
-  one = means_one profile;
-  some = some_meaning profile;
-  slot = means_slot profile;
+pub scan_slots : (profile : Profile) → HasSlots Directive (Means profile) destination_of
+scan_slots profile = record { slot = means_slot profile }
+
+abbrev print_made : PrintLetter → Kind → ℕ → Bool → Bool → Bool → Bool → Bool → ℕ → Option ℕ → PrintConv
+print_made l k n minus plus blank alt zero w p = record {
+  letter = l;
+  kind = k;
+  slot = n;
+  minus = minus;
+  plus = plus;
+  blank = blank;
+  alt = alt;
+  zero = zero;
+  width = w;
+  precision = p;
 }
+
+-- the conversion, but for its kind
+abbrev told_by : ℕ → PrintOpening → PrintLetter → Kind → PrintConv
+told_by place o letter k =
+    print_made letter k (or_place place (optional_number o.number)) (is_set_flag 45 o.flags) (is_set_flag 43 o.flags) (is_set_flag 32 o.flags)
+    (is_set_flag 35 o.flags) (is_set_flag 48 o.flags) (magnitude 10 o.width) (option_map (λ ds. magnitude 10 ds) o.precision)
+
+is_told : (place : ℕ) (o : PrintOpening) (letter : PrintLetter) (c : PrintConv) → IsPrintConv place o letter c → c ≡ told_by place o letter c.kind
+is_told place o letter c h =
+    rw (← h.prints, ← h.slot, ← h.minus, ← h.plus, ← h.blank, ← h.alt, ← h.zero, ← h.width, ← h.precision) refl
+
+print_conversion_same : (place : ℕ) (o : PrintOpening) (letter : PrintLetter) (c d : PrintConv) → IsPrintConv place o letter c
+    → IsPrintConv place o letter d → c ≡ d
+print_conversion_same place o letter c d h k =
+    let kinds : c.kind ≡ d.kind = let e = sym h.kind ∙ k.kind in cc in
+    is_told place o letter c h ∙ ap (told_by place o letter) kinds ∙ sym (is_told place o letter d k)
+
+prints_one : (profile : Profile) (place : ℕ) (piece : Piece) (u v : PrintUnit) → Prints profile place piece u → Prints profile place piece v → u ≡ v
+prints_one profile place (Ordinary b) u v h k = h ∙ sym k
+prints_one profile place Percents u v h k = h ∙ sym k
+prints_one profile place (Printed o b) u v h k =
+    let same : h.0 ≡ k.0 = let e = sym h.2 ∙ k.2 in cc in
+    rw (h.4, k.4, print_conversion_same place o k.0 h.1 k.1 (rw same at h.3) k.3)
+prints_one profile place _ u v h k = absurd h
+
+some_unit : (profile : Profile) (place : ℕ) (piece : Piece) → IsPrintPiece profile piece → (u : PrintUnit) × Prints profile place piece u
+some_unit profile place (Ordinary b) is = (unit.Byte b, refl)
+some_unit profile place Percents is = (unit.Byte 37, refl)
+some_unit profile place (Printed o b) is =
+    let k = some_of (print_kind_of is.0 o.size) is.2.size in
+    let c = told_by place o is.0 k.0 in
+    let told : IsPrintConv place o is.0 c = assumption k.1 in
+    (unit.Conv c, (is.0, c, is.1, told, refl))
+some_unit profile place _ is = absurd is
+
+pub print_meaning : (profile : Profile) → IsMeaning PrintUnit (Print profile) (Prints profile)
+print_meaning profile = record { one = prints_one profile; some = some_unit profile }
+
+placed : (place : ℕ) (n : Option ℕ) → Some (or_place place n) ≡ elim n [ None ↦ Some place | Some m ↦ Some m ]
+placed place None = refl
+placed place (Some n) = refl
+
+-- the slot of a unit is that of its part
+prints_slot : (profile : Profile) (place : ℕ) (piece : Piece) (u : PrintUnit) → Prints profile place piece u
+    → option_map (λ e. e.0) (printed_of u) ≡ slot_at place (destinations (piece ∷ []))
+prints_slot profile place (Ordinary b) u h = rw h
+prints_slot profile place Percents u h = rw h
+prints_slot profile place (Printed o b) u h = rw (h.4, h.3.slot) (placed place (optional_number o.number))
+prints_slot profile place _ u h = absurd h
+
+pub print_slots : (profile : Profile) → HasSlots PrintUnit (Prints profile) printed_of
+print_slots profile = record { slot = prints_slot profile }

@@ -1,12 +1,11 @@
 -- Lists of rules of which none applies.
-use Rattle.std.proofs.Common.{◌≡◌, false, cond, List, [], ◌∷◌, ◌++◌, map, Option, Some, None, is_some, refl, ap, ◌∙◌}
+use Rattle.std.proofs.Common.{◌≡◌, false, List, [], ◌∷◌, ◌++◌, map, Option, Some, None, is_some, refl, arith}
 use Rattle.std.specs.List.{AllByRecursion}
 use Rattle.sf_base.specs.declared.rules.Rule.{Rule as CodeRule}
 use Rattle.sf_base.specs.Rules.{first_reason}
 use Rattle.sf_format.specs.declared.fault.FormatFault.{FormatFault}
 use Rattle.sf_format.specs.Rules.{Rule, first_of}
 use Rattle.sf_format.specs.Passing.{fault_in, row_of}
-use Rattle.sf_format.proofs.Outcomes.{by_test}
 
 -- no rule applies
 abbrev pub Quiet : List Rule → Type 0
@@ -14,13 +13,19 @@ Quiet rules = AllByRecursion (λ rule. rule.applies ≡ false) rules
 
 pub quiet_is : (rules : List Rule) → first_of rules ≡ None → Quiet rules
 quiet_is [] e = tt
-quiet_is (rule ∷ rules) e =
-    by_test rule.applies (λ v. cond v (Some (rule.why, rule.at)) (first_of rules) ≡ None → Quiet (rule ∷ rules))
-    (λ t h. absurd (cc)) (λ f h. (f, quiet_is rules h)) e
+quiet_is (rule ∷ rules) e = grind (arith, quiet_is rules)
 
 pub quiet_from : (rules : List Rule) → Quiet rules → first_of rules ≡ None
 quiet_from [] h = refl
-quiet_from (rule ∷ rules) h = ap (λ v. cond v (Some (rule.why, rule.at)) (first_of rules)) h.0 ∙ quiet_from rules h.1
+quiet_from (rule ∷ rules) h = rw h.0 (quiet_from rules h.1)
+
+abbrev pub or_else : {A : Type 0} → Option A → Option A → Option A
+or_else None other = other
+or_else (Some a) other = Some a
+
+pub first_append : (a b : List Rule) → first_of (a ++ b) ≡ or_else (first_of a) (first_of b)
+first_append [] b = refl
+first_append (rule ∷ a) b = grind (arith, first_append a b)
 
 pub all_append : {A : Type 0} (P : A → Type 0) (xs ys : List A) → AllByRecursion P xs → AllByRecursion P ys → AllByRecursion P (xs ++ ys)
 all_append P [] ys h k = k
@@ -34,14 +39,20 @@ pub all_back : {A : Type 0} (P : A → Type 0) (xs ys : List A) → AllByRecursi
 all_back P [] ys h = h
 all_back P (x ∷ xs) ys h = all_back P xs ys h.1
 
+pub all_map : {A : Type 0} (P Q : A → Type 0) → ((a : A) → P a → Q a) → (xs : List A) → AllByRecursion P xs → AllByRecursion Q xs
+all_map P Q f [] h = tt
+all_map P Q f (x ∷ xs) h = (f x h.0, all_map P Q f xs h.1)
+
 pub none_from : {A : Type 0} (o : Option A) → is_some o ≡ false → o ≡ None
-none_from None e = refl
-none_from (Some a) e = absurd (cc)
+none_from o e = grind arith
+
+pub quiet_join : (a b : List Rule) → Quiet a → Quiet b → Quiet (a ++ b)
+quiet_join a b h k = all_append (λ r. r.applies ≡ false) a b h k
+
+pub quiet_split : (a b : List Rule) → Quiet (a ++ b) → Quiet a × Quiet b
+quiet_split a b h = (all_front (λ r. r.applies ≡ false) a b h, all_back (λ r. r.applies ≡ false) a b h)
 
 -- the first rule of a table in the code
 pub table_fault : (rules : List (CodeRule FormatFault)) → fault_in (first_reason rules) ≡ first_of (map row_of rules)
 table_fault [] = refl
-table_fault (rule ∷ rules) =
-    by_test rule.applies
-    (λ v. fault_in (cond v (Some rule.why) (first_reason rules)) ≡ cond v (Some (rule.why.why, rule.why.at)) (first_of (map row_of rules)))
-    (λ t. refl) (λ f. table_fault rules)
+table_fault (rule ∷ rules) = grind (arith, table_fault rules)

@@ -1,51 +1,71 @@
 -- Which slots are found among those from 1 to their count, each once.
-use Rattle.std.proofs.Common.{◌≡◌, ◌≢◌, ℕ, ◌≤◌, Bool, true, false, cond, nat_eq, List, [], ◌∷◌, length, map, Option, Some, None, is_some, refl, sym, ◌∙◌, subst, arith}
-use Rattle.std.proofs.lemmas.List.{length-map}
-use Rattle.std.specs.Prelude.{◌↔◌, IsSome, find}
+use Rattle.std.proofs.Common.{◌≡◌, ◌≢◌, ℕ, zero, suc, ◌+◌, ◌≤◌, cond, nat_eq, List, [], ◌∷◌, length, refl, arith, Bool, true, false, map, is_some}
+use Rattle.std.proofs.lemmas.Bool.Decides.{nat_tests}
 use Rattle.std.specs.List.{AllByRecursion}
-use Rattle.std.specs.Option.{option_map}
-use Rattle.sf_format.specs.Slots.{Slotted, kind_with, AreSlots}
-use Rattle.sf_format.proofs.Outcomes.{by_test, same_byte, other_byte}
-use Rattle.sf_format.proofs.Pigeonholes.{pigeonhole}
+use Rattle.sf_format.specs.Slots.{AreDistinct, Slotted, kind_with, AreSlots}
+use Rattle.std.proofs.lemmas.List.{length-map}
+use Rattle.std.specs.Prelude.{◌↔◌, IsSome}
 
-abbrev has_slot : ℕ → Slotted → Bool
-has_slot slot d = nat_eq d.0 slot
+abbrev pub AreWithin : ℕ → List ℕ → Type 0
+AreWithin n xs = AllByRecursion (λ x. (1 ≤ x) × (x ≤ n)) xs
+
+-- the list without a number
+abbrev without : ℕ → List ℕ → List ℕ
+without k [] = []
+without k (x ∷ xs) = cond (nat_eq x k) (without k xs) (x ∷ without k xs)
+
+none_without : (k : ℕ) (xs : List ℕ) → AllByRecursion (λ m. m ≢ k) xs → without k xs ≡ xs
+none_without k [] h = refl
+none_without k (x ∷ xs) h = grind (arith, nat_tests, none_without k xs h.1)
+
+others_without : (k m : ℕ) (xs : List ℕ) → AllByRecursion (λ x. x ≢ m) xs → AllByRecursion (λ x. x ≢ m) (without k xs)
+others_without k m [] h = tt
+others_without k m (x ∷ xs) h = grind (arith, others_without k m xs h.1)
+
+distinct_without : (k : ℕ) (xs : List ℕ) → AreDistinct xs → AreDistinct (without k xs)
+distinct_without k [] h = tt
+distinct_without k (x ∷ xs) h = grind (arith, others_without k x xs h.0, distinct_without k xs h.1)
+
+length_without : (k : ℕ) (xs : List ℕ) → AreDistinct xs → length xs ≤ 1 + length (without k xs)
+length_without k [] h = omega arith
+length_without k (x ∷ xs) h = grind (arith, nat_tests, none_without x xs h.0, length_without k xs h.1)
+
+lower_without : (n : ℕ) (xs : List ℕ) → AreWithin (suc n) xs → AreWithin n (without (suc n) xs)
+lower_without n [] h = tt
+lower_without n (x ∷ xs) h = grind (arith, nat_tests, lower_without n xs h.1)
+
+pub pigeonhole : (n : ℕ) (xs : List ℕ) → AreDistinct xs → AreWithin n xs → length xs ≤ n
+pigeonhole zero [] distinct within = omega arith
+pigeonhole zero (x ∷ xs) distinct within = absurd (omega (arith, within.0.0, within.0.1))
+pigeonhole (suc n) xs distinct within =
+    let fewer = pigeonhole n (without (suc n) xs) (distinct_without (suc n) xs distinct) (lower_without n xs within) in
+    omega (arith, length_without (suc n) xs distinct, fewer)
 
 abbrev numbers : List Slotted → List ℕ
 numbers es = map (λ d. d.0) es
 
-abbrev found_by : Bool → Slotted → Option Slotted → Option Slotted
-found_by v e rest = cond v (Some e) rest
-
 -- what is not found is none of the slots
-not_found : (slot : ℕ) (es : List Slotted) → is_some (find (has_slot slot) es) ≡ false → AllByRecursion (λ m. m ≢ slot) (numbers es)
+not_found : (slot : ℕ) (es : List Slotted) → is_some (kind_with slot es) ≡ false → AllByRecursion (λ m. m ≢ slot) (numbers es)
 not_found slot [] e = tt
-not_found slot (d ∷ es) e =
-    by_test (has_slot slot d)
-    (λ v. is_some (found_by v d (find (has_slot slot) es)) ≡ false → AllByRecursion (λ m. m ≢ slot) (numbers (d ∷ es)))
-    (λ same h. absurd (cc)) (λ other h. (other_byte d.0 slot other, not_found slot es h)) e
+not_found slot (d ∷ es) e = grind (arith, nat_tests, not_found slot es)
 
 -- what is found is one of them
-is_found : (P : ℕ → Type 0) (slot : ℕ) (es : List Slotted) → AllByRecursion P (numbers es) → is_some (find (has_slot slot) es) ≡ true → P slot
-is_found P slot [] all e = absurd (cc)
-is_found P slot (d ∷ es) all e =
-    by_test (has_slot slot d) (λ v. is_some (found_by v d (find (has_slot slot) es)) ≡ true → P slot)
-    (λ same h. subst P (same_byte d.0 slot same) all.0) (λ other h. is_found P slot es all.1 h) e
-
-kind_found : (o : Option Slotted) → is_some (option_map (λ d. d.1) o) ≡ is_some o
-kind_found None = refl
-kind_found (Some d) = refl
+is_found : (n slot : ℕ) (es : List Slotted) → AllByRecursion (λ m. (1 ≤ m) × (m ≤ n)) (numbers es) → IsSome (kind_with slot es)
+    → (1 ≤ slot) × (slot ≤ n)
+is_found n slot [] all some = absurd (cc)
+is_found n slot (d ∷ es) all some = grind (arith, nat_tests, is_found n slot es all.1)
 
 -- the slots with a kind are those from 1 to their count
 pub kinds_are : (slot : ℕ) (es : List Slotted) → AreSlots es → IsSome (kind_with slot es) ↔ ((1 ≤ slot) × (slot ≤ length es))
-kinds_are slot es slots =
-    let same = kind_found (find (has_slot slot) es) in (
-      λ some. is_found (λ n. (1 ≤ n) × (n ≤ length es)) slot es slots.each (sym same ∙ some),
-      λ h. same
-          ∙ by_test (is_some (find (has_slot slot) es)) (λ v. v ≡ true) (λ found. refl)
-          (λ none. absurd (omega (
-            arith,
-            length-map es (λ (d : Slotted). d.0),
-            pigeonhole (length es) (slot ∷ numbers es) (not_found slot es none, slots.distinct) (h, slots.each),
-          ))),
-    )
+kinds_are slot es slots = (
+  λ some. is_found (length es) slot es slots.each some,
+  λ h. found h (is_some (kind_with slot es)) refl,
+)
+  where
+    found : (1 ≤ slot) × (slot ≤ length es) → (v : Bool) → is_some (kind_with slot es) ≡ v → v ≡ true
+    found h true e = refl
+    found h false e = absurd (omega (
+      arith,
+      length-map es (λ (d : Slotted). d.0),
+      pigeonhole (length es) (slot ∷ numbers es) (not_found slot es e, slots.distinct) (h, slots.each),
+    ))

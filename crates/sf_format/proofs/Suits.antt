@@ -1,31 +1,39 @@
--- An opening and a letter that no rule refuses suit each other.
-use Rattle.std.proofs.Common.{◌≡◌, ℕ, ◌<◌, Bool, true, false, cond, ◌&&◌, ◌||◌, nat_eq, nat_lt, List, [], ◌∷◌, Some, None, is_some, is_none, refl, sym, ap, ◌∙◌, subst, arith}
-use Rattle.std.specs.Prelude.{IsSome}
+-- An opening and a letter that no rule refuses suit each other, in scan formats and in print formats.
+use Rattle.std.proofs.Common.{◌≡◌, ℕ, ◌<◌, ◌≤◌, Bool, true, false, cond, ◌&&◌, ◌||◌, nat_eq, nat_lt, List, [], ◌∷◌, Some, None, is_some, is_none, refl, subst, arith, ◌≢◌, zero, suc, ◌+◌, ◌^◌, not, length, Option, find}
+use Rattle.std.specs.Prelude.{IsSome, IfSome}
 use Rattle.std.proofs.lemmas.Bool.Decides.{nat_tests}
 use Rattle.std.specs.List.{AllByRecursion}
 use Rattle.sf_base.specs.Bytes.{magnitude}
 use Rattle.sf_format.specs.Digits.{is_decimal, IsOptionalNumber}
 use Rattle.sf_format.specs.Lists.{is_any_of, is_written}
-use Rattle.sf_format.specs.PrintLetters.{is_flag}
 use Rattle.sf_format.specs.Letters.{added_letters, letters, find_letter, letter_of, kind_of, text_kind}
-use Rattle.sf_format.specs.Pieces.{Opening}
+use Rattle.sf_format.specs.Pieces.{Opening, PrintOpening}
 use Rattle.sf_format.specs.Grammar.{SuitsCount, Suits}
 use Rattle.sf_format.specs.Rules.{first_of, has_length, is_l}
 use Rattle.sf_format.specs.Faults.{opening_rules, letter_rules}
 use Rattle.sf_format.specs.declared.directive.Profile.{Profile}
-use Rattle.sf_format.specs.declared.directive.Profile.TheVariants.{One, Two}
 use Rattle.sf_format.specs.declared.letter.Letter.{Letter}
 use Rattle.sf_format.specs.declared.letter.Letter.TheVariants.{Count}
 use Rattle.sf_base.specs.declared.values.Kind.{Kind}
 use Rattle.sf_base.specs.declared.values.Kind.TheVariants as kinds
-use Rattle.std.proofs.lemmas.Option.{same_Some}
 use Rattle.sf_format.specs.declared.letter.Length.{Length}
 use Rattle.sf_format.specs.declared.letter.Length.TheVariants.{NoLength}
-use Rattle.sf_format.proofs.Outcomes.{by_test, or_left, or_right, same_byte, within, not_above}
+use Rattle.sf_format.proofs.Outcomes.{by_test, same_byte, within, not_above, above_zero, not_zero, not_false}
 use Rattle.sf_format.proofs.Prefixes.{AllPass}
-use Rattle.sf_format.proofs.Cutting.{IsLast, plain_byte, HasDigits}
+use Rattle.sf_format.proofs.Cutting.{IsLast, HasDigits, HasPrintDigits}
 use Rattle.sf_format.proofs.Rules.{Quiet, quiet_is}
 use Rattle.sf_format.specs.Passing.{is_set}
+use Rattle.std.specs.Char.{digit_value}
+use Rattle.std.specs.Option.{option_map}
+use Rattle.std.proofs.Math.Nat.{mul-pos}
+use native.Mathlib.Nat.{pow-suc}
+use Rattle.sf_format.specs.declared.directive.Profile.TheVariants as profiles
+use Rattle.sf_format.specs.declared.unit.PrintLetter.{PrintLetter}
+use Rattle.sf_format.specs.declared.unit.PrintLetter.TheVariants.{One}
+use Rattle.sf_format.specs.PrintLetters.{print_row, added_print_letters, print_letters, print_letter_of, print_kind_of}
+use Rattle.sf_format.specs.Units.{has_flag, HasPrecision}
+use Rattle.sf_format.specs.PrintGrammar.{IsPrecision, StartsAboveZero, SuitsPrint}
+use Rattle.sf_format.specs.PrintRules.{flags_place, precision_number, foreign_flag, takes_one, print_opening_rules, print_letter_rules, flag_rules}
 
 -- ---- letters
 
@@ -45,31 +53,19 @@ text_quiet _ e = absurd (cc)
 
 -- a text has the kind of texts
 pub text_kinded : (size : Length) (k : Kind) → text_kind size ≡ Some k → k ≡ kinds.Text
-text_kinded NoLength k h = same_Some _ _ (sym h)
+text_kinded NoLength k h = cc
 text_kinded _ k h = absurd cc
-
-nothing_written : (x : List ℕ) → is_written x ≡ false → x ≡ []
-nothing_written [] e = refl
-nothing_written (b ∷ x) e = absurd (cc)
-
-pub last_byte : (b : ℕ) → nat_eq b 104 ≡ false → nat_eq b 106 ≡ false → nat_eq b 108 ≡ false → nat_eq b 116 ≡ false → nat_eq b 122 ≡ false
-    → is_decimal b ≡ false → nat_eq b 36 ≡ false → nat_eq b 37 ≡ false → nat_eq b 42 ≡ false → is_flag b ≡ false → nat_eq b 46 ≡ false → IsLast b
-last_byte b h j l t z decimal dollar percent star flag point =
-    record { plain = plain_byte b decimal dollar percent star flag point; h = h; j = j; l = l; t = t; z = z }
-
-abbrev all_quiet : (false ≡ false) × ((false ≡ false) × ((false ≡ false) × ((false ≡ false) × ((false ≡ false) × ((false ≡ false) × Unit {0})))))
-all_quiet = (refl, (refl, (refl, (refl, (refl, (refl, tt))))))
 
 -- a fact for each byte of each row
 abbrev pub ForRows : {L : Type 0} → (ℕ → L → Type 0) → List (List ℕ × L) → Type 0
 ForRows P rows = AllByRecursion (λ row. AllByRecursion (λ b. P b row.1) row.0) rows
 
 each_added : (profile : Profile) → ForRows (IsLetterOf profile) (added_letters profile)
-each_added One = tt
-each_added Two = ((record { last = last_byte 98 refl refl refl refl refl refl refl refl refl refl refl; allowed = λ o q h. (refl, tt); quiet = λ o q s c. all_quiet }, tt), tt)
+each_added profiles.One = tt
+each_added profiles.Two = assumption
 
-pub each_letter : (profile : Profile) → ForRows (IsLetterOf profile) (letters profile)
-each_letter profile = ((record { last = last_byte 100 refl refl refl refl refl refl refl refl refl refl refl; allowed = λ o q h. (refl, tt); quiet = λ o q s c. all_quiet }, tt), ((record { last = last_byte 105 refl refl refl refl refl refl refl refl refl refl refl; allowed = λ o q h. (refl, tt); quiet = λ o q s c. all_quiet }, tt), ((record { last = last_byte 117 refl refl refl refl refl refl refl refl refl refl refl; allowed = λ o q h. (refl, tt); quiet = λ o q s c. all_quiet }, tt), ((record { last = last_byte 111 refl refl refl refl refl refl refl refl refl refl refl; allowed = λ o q h. (refl, tt); quiet = λ o q s c. all_quiet }, tt), ((record { last = last_byte 120 refl refl refl refl refl refl refl refl refl refl refl; allowed = λ o q h. (refl, tt); quiet = λ o q s c. all_quiet }, (record { last = last_byte 88 refl refl refl refl refl refl refl refl refl refl refl; allowed = λ o q h. (refl, tt); quiet = λ o q s c. all_quiet }, tt)), ((record { last = last_byte 115 refl refl refl refl refl refl refl refl refl refl refl; allowed = of_text; quiet = quiet_text }, tt), ((record { last = last_byte 91 refl refl refl refl refl refl refl refl refl refl refl; allowed = of_text; quiet = quiet_text }, tt), ((record { last = last_byte 99 refl refl refl refl refl refl refl refl refl refl refl; allowed = of_text; quiet = quiet_text }, tt), ((record { last = last_byte 110 refl refl refl refl refl refl refl refl refl refl refl; allowed = of_count; quiet = quiet_count }, tt), each_added profile)))))))))
+each_letter : (profile : Profile) → ForRows (IsLetterOf profile) (letters profile)
+each_letter profile = assumption (of_text, quiet_text, of_count, quiet_count, each_added profile)
   where
     of_text : (o : Opening) (q : ℕ) → Quiet (letter_rules profile o 115 q) → IsSome (text_kind o.size) × Unit {0}
     of_text o q h = (text_allowed o.size h.1.1.1.1.0, tt)
@@ -78,25 +74,23 @@ each_letter profile = ((record { last = last_byte 100 refl refl refl refl refl r
     quiet_text o q s c = let t = text_quiet o.size s in (refl, (refl, (refl, (t.0, (t.1, (refl, tt))))))
 
     of_count : (o : Opening) (q : ℕ) → Quiet (letter_rules profile o 110 q) → IsSome (kind_of Count o.size) × SuitsCount Count o
-    of_count o q h = (refl, (or_left o.star _ h.1.1.1.1.1.0, nothing_written o.width (or_right o.star _ h.1.1.1.1.1.0)))
+    of_count o q h = (refl, count o.star o.width h.1.1.1.1.1.0)
+      where
+        count : (star : Bool) (width : List ℕ) → (star || is_written width) ≡ false → (star ≡ false) × (width ≡ [])
+        count star [] e = (grind arith, refl)
+        count star (d ∷ ds) e = absurd (grind arith)
 
     quiet_count : (o : Opening) (q : ℕ) → IsSome (kind_of Count o.size) → SuitsCount Count o → Quiet (letter_rules profile o 110 q)
-    quiet_count o q s c =
-        (refl, (refl, (refl, (refl, (refl, (ap (λ v. v || is_written o.width) c.0 ∙ ap is_written c.1, tt))))))
+    quiet_count o q s c = rw (c.0, c.1) (refl, (refl, (refl, (refl, (refl, (refl, tt))))))
 
 pub any_of : (P : ℕ → Type 0) (bytes : List ℕ) (b : ℕ) → AllByRecursion P bytes → is_any_of bytes b ≡ true → P b
 any_of P [] b all e = absurd (cc)
-any_of P (a ∷ bytes) b all e =
-    by_test (nat_eq a b) (λ v. (v || is_any_of bytes b) ≡ true → P b) (λ same h. subst P (same_byte a b same) all.0)
-    (λ other h. any_of P bytes b all.1 h) e
+any_of P (a ∷ bytes) b all e = grind (arith, nat_tests, any_of P bytes b all.1)
 
 pub found : {L : Type 0} (P : ℕ → L → Type 0) (rows : List (List ℕ × L)) → ForRows P rows → (b : ℕ) (letter : L) → find_letter rows b ≡ Some letter
     → P b letter
 found P [] all b letter e = absurd (cc)
-found P (row ∷ rows) all b letter e =
-    by_test (is_any_of row.0 b) (λ v. cond v (Some row.1) (find_letter rows b) ≡ Some letter → P b letter)
-    (λ t h. let same : row.1 ≡ letter = cc in subst (P b) same (any_of (λ a. P a row.1) row.0 b all.0 t))
-    (λ f h. found P rows all.1 b letter h) e
+found P (row ∷ rows) all b letter e = grind (arith, any_of (λ a. P a row.1) row.0 b all.0, found P rows all.1 b letter)
 
 pub letter_is : (profile : Profile) (b : ℕ) (letter : Letter) → letter_of profile b ≡ Some letter → IsLetterOf profile b letter
 letter_is profile b letter e = found (IsLetterOf profile) (letters profile) (each_letter profile) b letter e
@@ -106,59 +100,41 @@ abbrev IsBracket : ℕ → Letter → Type 0
 IsBracket b letter = is_set letter ≡ nat_eq b 91
 
 pub bracket_is : (profile : Profile) (b : ℕ) (letter : Letter) → letter_of profile b ≡ Some letter → is_set letter ≡ nat_eq b 91
-bracket_is profile b letter e = found IsBracket (letters profile) each b letter e
+bracket_is profile b letter e = found IsBracket (letters profile) (assumption (added profile)) b letter e
   where
     added : (p : Profile) → ForRows IsBracket (added_letters p)
-    added One = tt
-    added Two = ((refl, tt), tt)
-
-    each : ForRows IsBracket (letters profile)
-    each = ((refl, tt), ((refl, tt), ((refl, tt), ((refl, tt), ((refl, (refl, tt)), ((refl, tt), ((refl, tt), ((refl, tt), ((refl, tt), added profile)))))))))
+    added profiles.One = tt
+    added profiles.Two = ((refl, tt), tt)
 
 -- ---- numbers
 
-above_zero : (n : ℕ) → nat_eq n 0 ≡ false → 0 < n
-above_zero n e = grind (arith, nat_tests)
-
-pub not_zero : (n : ℕ) → 0 < n → nat_eq n 0 ≡ false
-not_zero n h = grind (arith, nat_tests)
-
 pub number_from : (limit : ℕ) (ds : List ℕ) → AllPass is_decimal ds → (is_written ds && nat_eq (magnitude 10 ds) 0) ≡ false
     → nat_lt limit (magnitude 10 ds) ≡ false → IsOptionalNumber limit ds
-number_from limit [] digits zero high = tt
-number_from limit (d ∷ ds) digits zero high = (digits, above_zero _ zero, within limit _ high)
-
-number_low : (limit : ℕ) (ds : List ℕ) → IsOptionalNumber limit ds → (is_written ds && nat_eq (magnitude 10 ds) 0) ≡ false
-number_low limit [] h = refl
-number_low limit (d ∷ ds) h = not_zero _ h.1
-
-pub number_high : (limit : ℕ) (ds : List ℕ) → IsOptionalNumber limit ds → nat_lt limit (magnitude 10 ds) ≡ false
-number_high limit [] h = not_above limit 0 (omega arith)
-number_high limit (d ∷ ds) h = not_above limit _ h.2
-
-pub number_digits : (limit : ℕ) (ds : List ℕ) → IsOptionalNumber limit ds → AllPass is_decimal ds
-number_digits limit [] h = tt
-number_digits limit (d ∷ ds) h = h.0
+number_from limit [] digits low high = tt
+number_from limit (d ∷ ds) digits low high = (digits, above_zero _ low, within limit _ high)
 
 -- the test of a slot's number
 pub slot_from : (ds : List ℕ) → AllPass is_decimal ds → (is_written ds && (nat_eq (magnitude 10 ds) 0 || nat_lt 32 (magnitude 10 ds))) ≡ false
     → IsOptionalNumber 32 ds
 slot_from [] digits e = tt
-slot_from (d ∷ ds) digits e =
-    (digits, above_zero _ (or_left _ _ e), within 32 _ (or_right (nat_eq (magnitude 10 (d ∷ ds)) 0) _ e))
+slot_from (d ∷ ds) digits e = low (magnitude 10 (d ∷ ds)) e
+  where
+    low : (n : ℕ) → (nat_eq n 0 || nat_lt 32 n) ≡ false → AllPass is_decimal (d ∷ ds) × (0 < n) × (n ≤ 32)
+    low n e = (digits, grind (arith, nat_tests), grind (arith, nat_tests))
 
-pub slot_test : (ds : List ℕ) → IsOptionalNumber 32 ds → (is_written ds && (nat_eq (magnitude 10 ds) 0 || nat_lt 32 (magnitude 10 ds))) ≡ false
-slot_test [] h = refl
-slot_test (d ∷ ds) h = ap (λ v. v || nat_lt 32 (magnitude 10 (d ∷ ds))) (not_zero _ h.1) ∙ not_above 32 _ h.2
+-- what the tests say of a number
+pub record NumberTests (limit : ℕ) (ds : List ℕ) : Type 0 where
+  pub digits : AllPass is_decimal ds
+  pub low : (is_written ds && nat_eq (magnitude 10 ds) 0) ≡ false
+  pub high : nat_lt limit (magnitude 10 ds) ≡ false
+  pub slot : (is_written ds && (nat_eq (magnitude 10 ds) 0 || nat_lt limit (magnitude 10 ds))) ≡ false
 
-suppressed_from : (ds : List ℕ) (star : Bool) → (is_written ds && star) ≡ false → star ≡ true → ds ≡ []
-suppressed_from [] star e s = refl
-suppressed_from (d ∷ ds) star e s = absurd (cc)
-
-suppressed_test : (ds : List ℕ) (star : Bool) → (star ≡ true → ds ≡ []) → (is_written ds && star) ≡ false
-suppressed_test [] star h = refl
-suppressed_test (d ∷ ds) false h = refl
-suppressed_test (d ∷ ds) true h = absurd (let e = h refl in cc)
+pub number_tests : (limit : ℕ) (ds : List ℕ) → IsOptionalNumber limit ds → NumberTests limit ds
+number_tests limit [] h = record { digits = tt; low = refl; high = not_above limit 0 (omega arith); slot = refl }
+number_tests limit (d ∷ ds) h =
+    let low = not_zero _ h.1 in
+    let high = not_above limit _ h.2 in
+    record { digits = h.0; low = low; high = high; slot = rw (low, high) }
 
 -- ---- both
 
@@ -168,42 +144,175 @@ suits_from profile letter o b p q e digits opening rules =
     let h = (letter_is profile b letter e).allowed o q rules in
     record {
       number = slot_from o.number digits.0 opening.0;
-      suppressed = suppressed_from o.number o.star opening.1.0;
+      suppressed = unnumbered o.number o.star opening.1.0;
       width = number_from 65535 o.width digits.1 opening.1.1.0 opening.1.1.1.0;
       size = h.0;
       count = h.1;
     }
+  where
+    unnumbered : (ds : List ℕ) (star : Bool) → (is_written ds && star) ≡ false → star ≡ true → ds ≡ []
+    unnumbered [] star e s = refl
+    unnumbered (d ∷ ds) star e s = absurd (cc)
 
 pub opening_quiet : (letter : Letter) (o : Opening) (p : ℕ) → Suits letter o → Quiet (opening_rules p o)
-opening_quiet letter o p suits = (
-  slot_test o.number suits.number,
-  (
-    suppressed_test o.number o.star suits.suppressed,
-    (
-      number_low 65535 o.width suits.width,
-      (number_high 65535 o.width suits.width, tt),
-    ),
-  ),
-)
+opening_quiet letter o p suits =
+    let width = number_tests 65535 o.width suits.width in
+    ((number_tests 32 o.number suits.number).slot, (suppressed o.number o.star suits.suppressed, (width.low, (width.high, tt))))
+  where
+    suppressed : (ds : List ℕ) (star : Bool) → (star ≡ true → ds ≡ []) → (is_written ds && star) ≡ false
+    suppressed ds false h = grind arith
+    suppressed ds true h = rw h refl
 
 pub letter_quiet : (profile : Profile) (letter : Letter) (o : Opening) (b q : ℕ) → letter_of profile b ≡ Some letter → Suits letter o
     → Quiet (letter_rules profile o b q)
-letter_quiet profile letter o b q e suits =
-    (letter_is profile b letter e).quiet o q suits.size suits.count
+letter_quiet profile letter o b q e suits = (letter_is profile b letter e).quiet o q suits.size suits.count
 
 pub suits_digits : (letter : Letter) (o : Opening) → Suits letter o → HasDigits o
-suits_digits letter o suits = (number_digits 32 o.number suits.number, number_digits 65535 o.width suits.width)
+suits_digits letter o suits = ((number_tests 32 o.number suits.number).digits, (number_tests 65535 o.width suits.width).digits)
 
 -- ---- what a letter that no rule refuses converts
 
 pub some_letter : {A : Type 0} (profile : Profile) (o : Opening) (b q : ℕ) → first_of (letter_rules profile o b q) ≡ None → letter_of profile b ≡ None → A
 some_letter profile o b q none e =
     let known = (quiet_is (letter_rules profile o b q) none).1.1.0 in
-    let unknown : is_none (letter_of profile b) ≡ true = ap is_none e in absurd (cc)
+    let unknown : is_none (letter_of profile b) ≡ true = rw e in absurd (cc)
 
 pub some_kind : {A : Type 0} (profile : Profile) (o : Opening) (b q : ℕ) (letter : Letter) → first_of (letter_rules profile o b q) ≡ None
     → letter_of profile b ≡ Some letter → kind_of letter o.size ≡ None → A
 some_kind profile o b q letter none found e =
-    let quiet = quiet_is (letter_rules profile o b q) none in
-    let some = ((letter_is profile b letter found).allowed o q quiet).0 in
-    let nothing : is_some (kind_of letter o.size) ≡ false = ap is_some e in absurd (cc)
+    let some = ((letter_is profile b letter found).allowed o q (quiet_is (letter_rules profile o b q) none)).0 in
+    let nothing : is_some (kind_of letter o.size) ≡ false = rw e in absurd (cc)
+
+-- ---- letters
+
+-- what is known of a letter's byte
+pub record IsPrintLetterOf (p : Profile) (b : ℕ) (letter : PrintLetter) : Type 0 where
+  pub last : IsLast b
+  pub allowed : (o : PrintOpening) (q : ℕ) → Quiet (print_letter_rules p o b q) → IsSome (print_kind_of letter o.size)
+  pub quiet : (o : PrintOpening) (q : ℕ) → IsSome (print_kind_of letter o.size) → Quiet (print_letter_rules p o b q)
+
+-- a fact for each byte of each letter
+abbrev pub ForLetters : (ℕ → PrintLetter → Type 0) → List PrintLetter → Type 0
+ForLetters P letters = AllByRecursion (λ l. AllByRecursion (λ b. P b l) (print_row l).bytes) letters
+
+each_print_added : (p : Profile) → ForLetters (IsPrintLetterOf p) (added_print_letters p)
+each_print_added profiles.One = tt
+each_print_added profiles.Two = assumption
+
+each_print_letter : (p : Profile) → ForLetters (IsPrintLetterOf p) (print_letters p)
+each_print_letter p = assumption (of_text, quiet_text, each_print_added p)
+  where
+    of_text : (o : PrintOpening) (q : ℕ) → Quiet (print_letter_rules p o 115 q) → IsSome (text_kind o.size)
+    of_text o q h = text_allowed o.size h.1.1.1.1.0
+
+    quiet_text : (o : PrintOpening) (q : ℕ) → IsSome (text_kind o.size) → Quiet (print_letter_rules p o 115 q)
+    quiet_text o q s = let t = text_quiet o.size s in (refl, (refl, (refl, (t.0, (t.1, tt)))))
+
+pub printed : (P : ℕ → PrintLetter → Type 0) (letters : List PrintLetter) → ForLetters P letters → (b : ℕ) (letter : PrintLetter)
+    → find (λ l. is_any_of (print_row l).bytes b) letters ≡ Some letter → P b letter
+printed P [] all b letter e = absurd (cc)
+printed P (l ∷ letters) all b letter e = grind (arith, any_of (λ a. P a l) (print_row l).bytes b all.0, printed P letters all.1 b letter)
+
+pub print_letter_is : (p : Profile) (b : ℕ) (letter : PrintLetter) → print_letter_of p b ≡ Some letter → IsPrintLetterOf p b letter
+print_letter_is p b letter e = printed (IsPrintLetterOf p) (print_letters p) (each_print_letter p) b letter e
+
+-- ---- widths
+
+ten_pos : (n : ℕ) → 0 < 10 ^ n
+ten_pos zero = omega arith
+ten_pos (suc n) = omega (arith, pow-suc 10 n, ten_pos n)
+
+value_pos : (d : ℕ) → is_decimal d ≡ true → d ≢ 48 → 0 < digit_value d
+value_pos d e other = grind (arith, nat_tests)
+
+width_low : (ds : List ℕ) → AllPass is_decimal ds → StartsAboveZero ds → (is_written ds && nat_eq (magnitude 10 ds) 0) ≡ false
+width_low [] digits first = refl
+width_low (d ∷ ds) digits first =
+    not_zero (magnitude 10 (d ∷ ds)) (omega (arith, mul-pos (value_pos d digits.0 first) (ten_pos (length ds))))
+
+-- ---- the precision
+
+precision_from : (precision : Option (List ℕ)) → IfSome precision (AllPass is_decimal) → nat_lt 255 (precision_number precision) ≡ false
+    → IfSome precision IsPrecision
+precision_from None digits e = tt
+precision_from (Some ds) digits e = (digits, within 255 (magnitude 10 ds) e)
+
+precision_test : (precision : Option (List ℕ)) → IfSome precision IsPrecision
+    → (nat_lt 255 (precision_number precision) ≡ false) × IfSome precision (AllPass is_decimal)
+precision_test None h = (not_above 255 0 (omega arith), tt)
+precision_test (Some ds) h = (not_above 255 (magnitude 10 ds) h.1, h.0)
+
+one_from : (letter : PrintLetter) (precision : Option (List ℕ)) → (takes_one letter && is_some precision) ≡ false
+    → HasPrecision letter (option_map (λ ds. magnitude 10 ds) precision)
+one_from One None e = refl
+one_from One (Some ds) e = absurd (cc)
+one_from _ precision e = tt
+
+one_test : (letter : PrintLetter) (precision : Option (List ℕ)) → HasPrecision letter (option_map (λ ds. magnitude 10 ds) precision)
+    → (takes_one letter && is_some precision) ≡ false
+one_test One None h = refl
+one_test One (Some ds) h = absurd (cc)
+one_test _ precision h = refl
+
+-- ---- flags
+
+none_foreign : (letter : PrintLetter) (n : ℕ) (flags : List ℕ) → is_some (foreign_flag letter n flags) ≡ false
+    → AllByRecursion (λ b. has_flag letter b ≡ true) flags
+none_foreign letter n [] e = tt
+none_foreign letter n (b ∷ flags) e = grind (arith, none_foreign letter (n + 1) flags)
+
+had_quiet : (letter : PrintLetter) (n : ℕ) (flags : List ℕ) → AllByRecursion (λ b. has_flag letter b ≡ true) flags
+    → is_some (foreign_flag letter n flags) ≡ false
+had_quiet letter n [] h = refl
+had_quiet letter n (b ∷ flags) h = rw h.0 (had_quiet letter (n + 1) flags h.1)
+
+-- ---- both
+
+pub suits_print_from : (p : Profile) (letter : PrintLetter) (o : PrintOpening) (b place q : ℕ) → print_letter_of p b ≡ Some letter → HasPrintDigits o
+    → Quiet (print_opening_rules place o) → Quiet (print_letter_rules p o b q) → Quiet (flag_rules place o (Some letter)) → SuitsPrint letter o
+suits_print_from p letter o b place q e digits opening rules flags = record {
+  number = slot_from o.number digits.0 opening.0;
+  flags = digits.1;
+  had = none_foreign letter (flags_place place o) o.flags flags.0;
+  width = number_from 65535 o.width digits.2 (width_low o.width digits.2 digits.3) opening.1.0;
+  first = digits.3;
+  precision = precision_from o.precision digits.4 opening.1.1.0;
+  one = one_from letter o.precision flags.1.0;
+  size = (print_letter_is p b letter e).allowed o q rules;
+}
+
+pub print_opening_quiet : (letter : PrintLetter) (o : PrintOpening) (place : ℕ) → SuitsPrint letter o → Quiet (print_opening_rules place o)
+print_opening_quiet letter o place suits = (
+  (number_tests 32 o.number suits.number).slot,
+  ((number_tests 65535 o.width suits.width).high, ((precision_test o.precision suits.precision).0, tt)),
+)
+
+pub print_letter_quiet : (p : Profile) (letter : PrintLetter) (o : PrintOpening) (b q : ℕ) → print_letter_of p b ≡ Some letter
+    → SuitsPrint letter o → Quiet (print_letter_rules p o b q)
+print_letter_quiet p letter o b q e suits = (print_letter_is p b letter e).quiet o q suits.size
+
+pub flags_quiet : (letter : PrintLetter) (o : PrintOpening) (place : ℕ) → SuitsPrint letter o → Quiet (flag_rules place o (Some letter))
+flags_quiet letter o place suits = (had_quiet letter (flags_place place o) o.flags suits.had, (one_test letter o.precision suits.one, tt))
+
+pub suits_print_digits : (letter : PrintLetter) (o : PrintOpening) → SuitsPrint letter o → HasPrintDigits o
+suits_print_digits letter o suits = (
+  (number_tests 32 o.number suits.number).digits,
+  suits.flags,
+  (number_tests 65535 o.width suits.width).digits,
+  suits.first,
+  (precision_test o.precision suits.precision).1,
+)
+
+-- ---- what a letter that no rule refuses prints
+
+pub some_print_letter : {A : Type 0} (p : Profile) (o : PrintOpening) (b q : ℕ) → first_of (print_letter_rules p o b q) ≡ None
+    → print_letter_of p b ≡ None → A
+some_print_letter p o b q none e =
+    let known = (quiet_is (print_letter_rules p o b q) none).1.1.0 in
+    let unknown : is_none (print_letter_of p b) ≡ true = rw e in absurd (cc)
+
+pub some_print_kind : {A : Type 0} (p : Profile) (o : PrintOpening) (b q : ℕ) (letter : PrintLetter) → first_of (print_letter_rules p o b q) ≡ None
+    → print_letter_of p b ≡ Some letter → print_kind_of letter o.size ≡ None → A
+some_print_kind p o b q letter none found e =
+    let some = (print_letter_is p b letter found).allowed o q (quiet_is (print_letter_rules p o b q) none) in
+    let nothing : is_some (print_kind_of letter o.size) ≡ false = rw e in absurd (cc)

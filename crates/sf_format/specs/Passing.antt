@@ -20,8 +20,6 @@ use Rattle.sf_format.specs.declared.slots.Slots.{Slots}
 use Rattle.sf_format.specs.declared.scan.scanlist.Listed.{Listed}
 use Rattle.sf_format.specs.Language.{Language}
 use Rattle.sf_format.specs.declared.unit.PrintLetter.{PrintLetter}
-use Rattle.sf_format.specs.declared.unit.Unit.{Unit as PrintUnit}
-use Rattle.sf_format.specs.declared.unit.Unit.TheVariants as unit
 use Rattle.sf_format.specs.declared.print.opening.PrintWritten.{PrintWritten}
 use Rattle.sf_format.specs.declared.grammar.Passed.{Passed}
 use Rattle.sf_format.specs.declared.grammar.Literal.{Literal}
@@ -29,9 +27,9 @@ use Rattle.sf_format.specs.declared.grammar.Literal.TheVariants as literal
 use Rattle.sf_format.specs.declared.noted.Noted.{Noted}
 use Rattle.sf_format.specs.Lists.{is_any_of, is_written, mark_at}
 use Rattle.sf_format.specs.Letters.{letter_of, kind_of}
-use Rattle.sf_format.specs.Scanlist.{IsSetBy, IsSetOf}
+use Rattle.sf_format.specs.Scanlist.{IsSetBy}
 use Rattle.sf_format.specs.Pieces.{Opening, PrintOpening, Piece, Ordinary, Percents}
-use Rattle.sf_format.specs.Cut.{Part, list_of, members_at, close_at}
+use Rattle.sf_format.specs.Cut.{Part, members_at, close_at}
 use Rattle.sf_format.specs.PrintLetters.{print_letter_of, print_kind_of}
 use Rattle.sf_format.specs.Grammar.{destinations, slot_of, width_of, shape_of, MeanAll}
 use Rattle.sf_format.specs.Rules.{Rule, first_of}
@@ -84,12 +82,6 @@ Converts profile o b rules (Err fault) = first_of rules ≡ Some (fault_of fault
 abbrev pub is_set : Letter → Bool
 is_set Set = true
 is_set _ = false
-
--- what a letter takes, by its scanlist x if it is a [
-abbrev pub IsShape : Bool → Letter → List ℕ → Shape → Type 0
-IsShape true letter x s =
-    (members : List Bool) × IsSetOf (list_of (mark_at (code "^") x).0 (mark_at (code "^") x).1) members × (s ≡ shape.Set members)
-IsShape false letter x s = shape_of letter s
 
 -- what follows the scanlist behind a letter, if it has one
 abbrev pub rest_behind : Bool → List ℕ → List ℕ
@@ -155,16 +147,6 @@ Walked language text (Ok slots) =
     (pieces : List Piece) × (read (length text) language [] 0 text ≡ Ok pieces) × Holds slots (destinations pieces)
 Walked language text (Err fault) = read (length text) language [] 0 text ≡ Err (fault_of fault)
 
--- the slot that a directive assigns
-abbrev pub slot_in : Directive → Option ℕ
-slot_in (directive.Conv c) = c.slot
-slot_in _ = None
-
--- the slot of the value that a unit prints
-abbrev pub printed_slot : PrintUnit → Option ℕ
-printed_slot (unit.Byte b) = None
-printed_slot (unit.Conv c) = Some c.slot
-
 -- a slot with a place
 abbrev pub with_place : Option ℕ → ℕ → List (ℕ × ℕ)
 with_place None at = []
@@ -193,8 +175,10 @@ Judged language text (Ok assigned) = (pieces : List Piece) × (judged language t
 Judged language text (Err fault) = judged language text ≡ Err (fault_of fault)
 
 -- what the text's parts stand for
-abbrev pub Gathers : {D : Type 0} → Language → (ℕ → Piece → D → Type 0) → List ℕ → List D → Type 0
-Gathers language means text ds = (pieces : List Piece) × (read (length text) language [] 0 text ≡ Ok pieces) × MeanAll means 1 pieces ds
+pub record Gathers {D : Type 0} (language : Language) (means : ℕ → Piece → D → Type 0) (text : List ℕ) (ds : List D) : Type 0 where
+  pub pieces : List Piece
+  pub parts : read (length text) language [] 0 text ≡ Ok pieces
+  pub meaning : MeanAll means 1 pieces ds
 
 -- the fault of a part of the text, or no memory
 abbrev pub IsHindered : Language → List ℕ → FormatFault → Type 0

@@ -68,17 +68,14 @@ pub fn letter_of(profile: Profile, b: u8) -> Option<Letter>
 pub fn left_out(b: u8) -> bool
     ensures { result ≡ is_left_out b }
 {
-    matches!(
-        b,
-        b'm' | b'L' | b'a' | b'A' | b'e' | b'E' | b'f' | b'F' | b'g' | b'G' | b'p' | b'C' | b'S'
-    )
+    b"mLaAeEfFgGpCS".contains(&b)
 }
 
 /// Whether the letter takes a text.
 pub fn of_text(b: u8) -> bool
     ensures { result ≡ takes_text b }
 {
-    matches!(b, b'c' | b's' | b'[')
+    b"cs[".contains(&b)
 }
 
 impl Length {
@@ -93,10 +90,7 @@ impl Length {
     pub fn is_written(self) -> bool
         ensures { result ≡ has_length self }
     {
-        match self {
-            Length::NoLength => false,
-            _ => true,
-        }
+        !matches!(self, Length::NoLength)
     }
 }
 

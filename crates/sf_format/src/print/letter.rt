@@ -43,23 +43,7 @@ pub fn print_letter_of(profile: Profile, b: u8) -> Option<PrintLetter>
 fn print_left_out(b: u8) -> bool
     ensures { result ≡ is_print_left_out b }
 {
-    matches!(
-        b,
-        b'*' | b'\''
-            | b'n'
-            | b'L'
-            | b'a'
-            | b'A'
-            | b'e'
-            | b'E'
-            | b'f'
-            | b'F'
-            | b'g'
-            | b'G'
-            | b'p'
-            | b'C'
-            | b'S'
-    )
+    b"*'nLaAeEfFgGpCS".contains(&b)
 }
 
 /// A row of the table of letters: what the letter prints, and the flags that it has.

@@ -1,15 +1,17 @@
 use Rattle.std.proofs.Common.{inl, arith}
 use Rattle.std.proofs.lemmas.Result.{err_from_is_err_and}
 use Rattle.sf_format.specs.Grammar.{destinations}
-use Rattle.sf_format.proofs.Holding.{none_held}
-use Rattle.sf_format.proofs.Walks.{bytes_of, some_left, none_left, passes_on, gathering_none, gathering_more, passing_fault, gathering_all, rest_shorter}
+use Rattle.sf_format.proofs.Destinations.{none_held}
+use Rattle.sf_format.proofs.Walks.{bytes_of, passes_on, passing_none, passing_all, gathering_more, passing_fault, rest_shorter}
 use Rattle.sf_format.proofs.grammar.gather.Goals as goal
 
 pub loop-rest-init : goal.loop-rest-init
 loop-rest-init g c =
     rw c.new-parts.ensures.items
-    (gathering_none (g.G.Grammar.language c.args.grammar) (g.G.Grammar.means c.args.grammar) c.args.text.now _ (bytes_of c.args.text.now (λ i. omega (arith, c.type_inv.text i)))
-    none_held)
+    (record {
+      passing = passing_none (g.G.Grammar.language c.args.grammar) c.args.text.now _ (bytes_of c.args.text.now (λ i. omega (arith, c.type_inv.text i))) none_held;
+      meaning = tt;
+    })
 
 pub returns-in_err-passed-clause-hindered : goal.returns-in_err-passed-clause-hindered
 returns-in_err-passed-clause-hindered g c =
@@ -20,24 +22,22 @@ returns-in_err-passed-clause-hindered g c =
 pub overflow_sub-at : goal.overflow_sub-at
 overflow_sub-at g c =
     let h = c.loop-rest.invariant.passing in
-    let some = some_left c.loop-rest.rest.now c.is_empty.result c.is_empty.ensures c.loop-rest-test.true in
-    (rest_shorter c.in_ok-passed.passed.rest.now c.in_ok-passed.passed.slots h some (passes_on (c.in_ok-passed.ensures (destinations h.done) h.holds))).1
+    (rest_shorter h (passes_on h c.is_empty.ensures c.loop-rest-test.true (c.in_ok-passed.ensures (destinations h.done) h.holds))).1
 
 pub loop-rest-smaller : goal.loop-rest-smaller
 loop-rest-smaller g c =
     let h = c.loop-rest.invariant.passing in
-    let some = some_left c.loop-rest.rest.now c.is_empty.result c.is_empty.ensures c.loop-rest-test.true in
-    (rest_shorter c.in_ok-passed.passed.rest.now c.in_ok-passed.passed.slots h some (passes_on (c.in_ok-passed.ensures (destinations h.done) h.holds))).0
+    (rest_shorter h (passes_on h c.is_empty.ensures c.loop-rest-test.true (c.in_ok-passed.ensures (destinations h.done) h.holds))).0
 
 pub loop-rest-preserved : goal.loop-rest-preserved
 loop-rest-preserved g c =
     let h = c.loop-rest.invariant in
-    let some = some_left c.loop-rest.rest.now c.is_empty.result c.is_empty.ensures c.loop-rest-test.true in
     let passes = c.in_ok-passed.ensures (destinations h.passing.done) h.passing.holds in
     rw (c.in_ok-push.ensures.items, c.in-Some.is)
-    (gathering_more (g.G.Grammar.means c.args.grammar) c.in-Some.part c.in_ok-passed.passed.rest.now c.in_ok-passed.passed.slots h some
-    (passes_on passes) (rw c.in-Some.is at passes.2))
+    (gathering_more (g.G.Grammar.means c.args.grammar) c.in-Some.part h (passes_on h.passing c.is_empty.ensures c.loop-rest-test.true passes)
+    (rw c.in-Some.is at passes.2))
 
 pub returns-clause-gathered : goal.returns-clause-gathered
 returns-clause-gathered g c =
-    gathering_all c.loop-rest.invariant (none_left c.loop-rest.rest.now c.is_empty.result c.is_empty.ensures c.loop-rest-test.false)
+    let h = c.loop-rest.invariant in
+    record { pieces = h.passing.done; parts = passing_all h.passing c.is_empty.ensures c.loop-rest-test.false; meaning = h.meaning }

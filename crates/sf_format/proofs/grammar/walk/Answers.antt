@@ -1,8 +1,8 @@
 use Rattle.std.proofs.Common.{arith}
 use Rattle.std.proofs.lemmas.Result.{err_from_is_err_and}
 use Rattle.sf_format.specs.Grammar.{destinations}
-use Rattle.sf_format.proofs.Holding.{none_held}
-use Rattle.sf_format.proofs.Walks.{bytes_of, passing_none, some_left, none_left, passes_on, passing_more, passing_fault, walked_all, rest_shorter}
+use Rattle.sf_format.proofs.Destinations.{none_held}
+use Rattle.sf_format.proofs.Walks.{bytes_of, passing_none, passes_on, passing_more, passing_fault, passing_all, rest_shorter}
 use Rattle.sf_format.proofs.grammar.walk.Goals as goal
 
 pub loop-rest-init : goal.loop-rest-init
@@ -19,32 +19,27 @@ returns-in_err-passed g c =
 pub overflow_sub-at : goal.overflow_sub-at
 overflow_sub-at g c =
     let h = c.loop-rest.invariant in
-    let some = some_left c.loop-rest.rest.now c.is_empty.result c.is_empty.ensures c.loop-rest-test.true in
-    (rest_shorter c.in_ok-passed.passed.rest.now c.in_ok-passed.passed.slots h some (passes_on (c.in_ok-passed.ensures (destinations h.done) h.holds))).1
+    (rest_shorter h (passes_on h c.is_empty.ensures c.loop-rest-test.true (c.in_ok-passed.ensures (destinations h.done) h.holds))).1
 
 pub loop-rest-smaller : goal.loop-rest-smaller
 loop-rest-smaller g c =
     let h = c.loop-rest.invariant in
-    let some = some_left c.loop-rest.rest.now c.is_empty.result c.is_empty.ensures c.loop-rest-test.true in
-    (rest_shorter c.in_ok-passed.passed.rest.now c.in_ok-passed.passed.slots h some (passes_on (c.in_ok-passed.ensures (destinations h.done) h.holds))).0
+    (rest_shorter h (passes_on h c.is_empty.ensures c.loop-rest-test.true (c.in_ok-passed.ensures (destinations h.done) h.holds))).0
 
 pub loop-rest-smaller-in_ok-passed : goal.loop-rest-smaller-in_ok-passed
 loop-rest-smaller-in_ok-passed g c =
     let h = c.loop-rest.invariant in
-    let some = some_left c.loop-rest.rest.now c.is_empty.result c.is_empty.ensures c.loop-rest-test.true in
-    (rest_shorter c.in_ok-passed.passed.rest.now c.in_ok-passed.passed.slots h some (passes_on (c.in_ok-passed.ensures (destinations h.done) h.holds))).0
+    (rest_shorter h (passes_on h c.is_empty.ensures c.loop-rest-test.true (c.in_ok-passed.ensures (destinations h.done) h.holds))).0
 
 pub loop-rest-preserved : goal.loop-rest-preserved
 loop-rest-preserved g c =
     let h = c.loop-rest.invariant in
-    let some = some_left c.loop-rest.rest.now c.is_empty.result c.is_empty.ensures c.loop-rest-test.true in
-    passing_more c.in_ok-passed.passed.rest.now c.in_ok-passed.passed.slots h some (passes_on (c.in_ok-passed.ensures (destinations h.done) h.holds))
+    passing_more h (passes_on h c.is_empty.ensures c.loop-rest-test.true (c.in_ok-passed.ensures (destinations h.done) h.holds))
 
 pub loop-rest-preserved-in_ok-passed : goal.loop-rest-preserved-in_ok-passed
 loop-rest-preserved-in_ok-passed g c =
     let h = c.loop-rest.invariant in
-    let some = some_left c.loop-rest.rest.now c.is_empty.result c.is_empty.ensures c.loop-rest-test.true in
-    passing_more c.in_ok-passed.passed.rest.now c.in_ok-passed.passed.slots h some (passes_on (c.in_ok-passed.ensures (destinations h.done) h.holds))
+    passing_more h (passes_on h c.is_empty.ensures c.loop-rest-test.true (c.in_ok-passed.ensures (destinations h.done) h.holds))
 
 pub returns : goal.returns
-returns g c = walked_all c.loop-rest.invariant (none_left c.loop-rest.rest.now c.is_empty.result c.is_empty.ensures c.loop-rest-test.false)
+returns g c = let h = c.loop-rest.invariant in (h.done, passing_all h c.is_empty.ensures c.loop-rest-test.false, h.holds)

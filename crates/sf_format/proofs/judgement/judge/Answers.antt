@@ -1,21 +1,22 @@
-use Rattle.std.proofs.Common.{arith}
+use Rattle.std.proofs.Common.{Ok, Err, ◌∙◌, arith}
 use Rattle.std.proofs.lemmas.Result.{err_from_is_err_and}
 use Rattle.sf_format.specs.Passing.{fault_of}
 use Rattle.sf_format.proofs.Walks.{bytes_of}
-use Rattle.sf_format.proofs.Answers.{part_refused, number_refused, all_judged, judged_few}
+use Rattle.sf_format.proofs.Judgements.{read_judged, all_judged, judged_few}
 use Rattle.sf_format.proofs.judgement.judge.Goals as goal
 
 pub returns-in_err-slots : goal.returns-in_err-slots
 returns-in_err-slots g c =
     let p = err_from_is_err_and c.from_residual.result c.from_residual.ensures.1 in
     rw (p.1, p.2)
-    (part_refused (g.G.Grammar.language c.args.grammar) c.args.text.now (fault_of c.in_err-slots.field-0.0) c.if-text-gt4096.false c.in_err-slots.ensures)
+    (read_judged (g.G.Grammar.language c.args.grammar) c.args.text.now (Err (fault_of c.in_err-slots.field-0.0)) c.if-text-gt4096.false
+    c.in_err-slots.ensures)
 
 pub returns-in-Some : goal.returns-in-Some
 returns-in-Some g c =
     let walked = c.in_ok-slots.ensures in
-    number_refused (g.G.Grammar.language c.args.grammar) c.args.text.now c.in_ok-slots.slots (fault_of c.in-Some.fault) c.if-text-gt4096.false walked
-    (c.in-Some.ensures walked.0 walked.1)
+    read_judged (g.G.Grammar.language c.args.grammar) c.args.text.now (Ok walked.0) c.if-text-gt4096.false walked.1
+    ∙ rw (← c.in-Some.ensures walked.0 walked.1)
 
 pub overflow_cast-result : goal.overflow_cast-result
 overflow_cast-result g c =

@@ -1,6 +1,5 @@
 use Rattle.sf_format.specs.Language.{Scan}
-use Rattle.sf_format.proofs.Judgements.{judged_short}
-use Rattle.sf_format.proofs.Answers.{no_fault}
+use Rattle.sf_format.proofs.Judgements.{judged_short, no_fault}
 use Rattle.sf_format.proofs.PartTexts.{format_read, format_not_refused}
 use Rattle.sf_format.proofs.part_text.directive_text.Goals as goal
 

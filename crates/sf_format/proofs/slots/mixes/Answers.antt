@@ -1,5 +1,5 @@
 use Rattle.sf_format.specs.Passing.{opening_of}
-use Rattle.sf_format.proofs.Holding.{mixed_result}
+use Rattle.sf_format.proofs.Destinations.{mixed_result}
 use Rattle.sf_format.proofs.slots.mixes.Goals as goal
 
 pub returns-then-slots-gt0 : goal.returns-then-slots-gt0

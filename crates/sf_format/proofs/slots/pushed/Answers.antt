@@ -2,7 +2,7 @@ use Rattle.std.proofs.Common.{Bool, ◌+◌, ◌++◌, [], subst, sym}
 use Rattle.sf_format.specs.declared.slots.Slots.{Slots}
 use Rattle.sf_format.specs.Grammar.{assigned_opening}
 use Rattle.sf_format.specs.Passing.{opening_of, Holds}
-use Rattle.sf_format.proofs.Holding.{held_more, written_from_empty}
+use Rattle.sf_format.proofs.Destinations.{held_more, written_from_empty}
 use Rattle.sf_format.proofs.slots.pushed.Goals as goal
 
 pub returns-else-written : goal.returns-else-written

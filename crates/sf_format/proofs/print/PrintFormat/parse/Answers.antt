@@ -1,11 +1,12 @@
 use Rattle.std.proofs.Common.{Err, sym, ◌∙◌, ap, arith}
 use Rattle.std.proofs.lemmas.Result.{err_from_is_err_and}
-use Rattle.sf_format.proofs.Answers.{gathers_spells, gathers_count, judged_fault, hindered, same_fault, no_fault, not_refused, gathers_one}
+use Rattle.sf_format.proofs.Judgements.{gathers_spells, gathers_count, judged_fault, hindered, same_fault, no_fault, not_refused, one_list}
 use Rattle.sf_format.specs.Language.{Print}
 use Rattle.sf_format.specs.PrintGrammar.{Prints}
 use Rattle.sf_format.proofs.Walks.{bytes_of}
-use Rattle.sf_format.proofs.PrintMeanings.{print_meaning}
-use Rattle.sf_format.proofs.PrintAccepted.{proper, values_count}
+use Rattle.sf_format.proofs.Meanings.{print_meaning, print_slots}
+use Rattle.sf_format.proofs.Accepted.{print_proper}
+use Rattle.sf_format.proofs.PartSlots.{slots_count}
 use Rattle.sf_format.proofs.print.PrintFormat.parse.Goals as goal
 
 pub returns-in_err-values-clause-refused : goal.returns-in_err-values-clause-refused
@@ -29,7 +30,7 @@ pub returns-in_err-units-clause-refused : goal.returns-in_err-units-clause-refus
 returns-in_err-units-clause-refused c =
     let p = err_from_is_err_and c.from_residual-in_err-units.result c.from_residual-in_err-units.ensures.1 in
     rw (p.1, p.2)
-    (hindered (Print c.args.profile) (Prints c.args.profile) (print_meaning c.args.profile) c.args.text.now c.in_ok-values.values c.in_err-units.field-0.0
+    (hindered (print_meaning c.args.profile) c.args.text.now c.in_ok-values.values c.in_err-units.field-0.0
     (bytes_of c.args.text.now (λ i. omega (arith, c.type_inv.text i))) c.in_ok-values.ensures c.in_err-units.ensures.hindered)
 
 pub returns-in_err-units-clause-fault : goal.returns-in_err-units-clause-fault
@@ -40,20 +41,17 @@ pub invariant_of-result : goal.invariant_of-result
 invariant_of-result c =
     let gathered = c.in_ok-units.ensures.gathered in record {
       accepted =
-          proper c.args.profile c.args.text.now c.in_ok-units.units.items
-          (gathers_spells (Print c.args.profile) (Prints c.args.profile) c.args.text.now c.in_ok-values.values
-          c.in_ok-units.units.items (bytes_of c.args.text.now (λ i. omega (arith, c.type_inv.text i))) c.in_ok-values.ensures
+          print_proper c.args.profile c.args.text.now c.in_ok-units.units.items
+          (gathers_spells c.in_ok-values.values (bytes_of c.args.text.now (λ i. omega (arith, c.type_inv.text i))) c.in_ok-values.ensures
           gathered);
       counted =
-          gathers_count (Print c.args.profile) (Prints c.args.profile) c.args.text.now c.in_ok-values.values
-          c.in_ok-units.units.items c.in_ok-values.ensures gathered
-          ∙ sym (values_count c.args.profile gathered.0 c.in_ok-units.units.items gathered.2);
+          gathers_count c.in_ok-values.values c.in_ok-values.ensures gathered
+          ∙ sym (slots_count (print_slots c.args.profile) gathered.pieces c.in_ok-units.units.items gathered.meaning);
     }
 
 pub returns-clause-spelled : goal.returns-clause-spelled
 returns-clause-spelled c =
-    gathers_spells (Print c.args.profile) (Prints c.args.profile) c.args.text.now c.in_ok-values.values c.in_ok-units.units.items
-    (bytes_of c.args.text.now (λ i. omega (arith, c.type_inv.text i))) c.in_ok-values.ensures c.in_ok-units.ensures.gathered
+    gathers_spells c.in_ok-values.values (bytes_of c.args.text.now (λ i. omega (arith, c.type_inv.text i))) c.in_ok-values.ensures c.in_ok-units.ensures.gathered
 
 pub returns-clause-fault : goal.returns-clause-fault
 returns-clause-fault c = λ at why fault.
@@ -61,5 +59,5 @@ returns-clause-fault c = λ at why fault.
 
 pub returns-clause-accepted : goal.returns-clause-accepted
 returns-clause-accepted c = λ ds spelled.
-    gathers_one (Print c.args.profile) (Prints c.args.profile) (print_meaning c.args.profile) c.args.text.now c.in_ok-values.values c.in_ok-units.units.items ds
-    (bytes_of c.args.text.now (λ i. omega (arith, c.type_inv.text i))) c.in_ok-values.ensures c.in_ok-units.ensures.gathered spelled
+    one_list (print_meaning c.args.profile) c.args.text.now c.in_ok-units.units.items ds
+    (gathers_spells c.in_ok-values.values (bytes_of c.args.text.now (λ i. omega (arith, c.type_inv.text i))) c.in_ok-values.ensures c.in_ok-units.ensures.gathered) spelled

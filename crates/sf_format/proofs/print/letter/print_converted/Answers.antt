@@ -1,7 +1,7 @@
 use Rattle.std.proofs.Common.{sym, ap, ◌∙◌}
 use Rattle.sf_format.specs.Letters.{sized_kind}
 use Rattle.sf_format.specs.Passing.{print_opening_of}
-use Rattle.sf_format.proofs.PrintSuits.{some_print_letter, some_print_kind}
+use Rattle.sf_format.proofs.Suits.{some_print_letter, some_print_kind}
 use Rattle.sf_format.proofs.print.letter.print_converted.Goals as goal
 
 pub unreachable-requires : goal.unreachable-requires

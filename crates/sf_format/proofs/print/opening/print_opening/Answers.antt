@@ -3,8 +3,8 @@ use Rattle.sf_format.specs.Digits.{is_decimal}
 use Rattle.sf_format.specs.Pieces.{PrintOpening, print_opening_text}
 use Rattle.sf_format.specs.Cut.{print_cut}
 use Rattle.sf_format.proofs.Prefixes.{AllPass}
-use Rattle.sf_format.proofs.PrintCutting.{HasPrintDigits, print_cut_digits, length-print_cut, parts_shorter}
-use Rattle.sf_format.proofs.PrintPassages.{if_point}
+use Rattle.sf_format.proofs.Cutting.{HasPrintDigits, print_cut_digits, length-print_cut, parts_shorter}
+use Rattle.sf_format.proofs.Passages.{if_point}
 use Rattle.sf_format.proofs.print.opening.print_opening.Goals as goal
 
 pub returns-clause-number : goal.returns-clause-number

@@ -1,12 +1,13 @@
 use Rattle.std.proofs.Common.{Err, sym, ◌∙◌, ap, arith}
 use Rattle.std.proofs.lemmas.Result.{err_from_is_err_and}
-use Rattle.sf_format.proofs.Answers.{gathers_spells, gathers_count, judged_fault, hindered, same_fault, no_fault, not_refused, gathers_one}
+use Rattle.sf_format.proofs.Judgements.{gathers_spells, gathers_count, judged_fault, hindered, same_fault, no_fault, not_refused, one_list}
 use Rattle.sf_format.specs.Language.{Scan}
 use Rattle.sf_format.specs.Grammar.{Means}
 use Rattle.sf_format.specs.Widths.{width_sum}
 use Rattle.sf_format.proofs.Walks.{bytes_of}
-use Rattle.sf_format.proofs.Meanings.{scan_meaning}
-use Rattle.sf_format.proofs.Accepted.{proper, destinations_count}
+use Rattle.sf_format.proofs.Meanings.{scan_meaning, scan_slots}
+use Rattle.sf_format.proofs.Accepted.{proper}
+use Rattle.sf_format.proofs.PartSlots.{slots_count}
 use Rattle.sf_format.proofs.scan.ScanFormat.parse.Goals as goal
 
 pub returns-in_err-destinations-clause-refused : goal.returns-in_err-destinations-clause-refused
@@ -30,7 +31,7 @@ pub returns-in_err-directives-clause-refused : goal.returns-in_err-directives-cl
 returns-in_err-directives-clause-refused c =
     let p = err_from_is_err_and c.from_residual-in_err-directives.result c.from_residual-in_err-directives.ensures.1 in
     rw (p.1, p.2)
-    (hindered (Scan c.args.profile) (Means c.args.profile) (scan_meaning c.args.profile) c.args.text.now c.in_ok-destinations.destinations c.in_err-directives.field-0.0
+    (hindered (scan_meaning c.args.profile) c.args.text.now c.in_ok-destinations.destinations c.in_err-directives.field-0.0
     (bytes_of c.args.text.now (λ i. omega (arith, c.type_inv.text i))) c.in_ok-destinations.ensures c.in_err-directives.ensures.hindered)
 
 pub returns-in_err-directives-clause-fault : goal.returns-in_err-directives-clause-fault
@@ -41,8 +42,7 @@ pub sum_of_widths-widths-requires : goal.sum_of_widths-widths-requires
 sum_of_widths-widths-requires c =
     rw c.deref.ensures.value
     (proper c.args.profile c.args.text.now c.in_ok-directives.directives.items
-    (gathers_spells (Scan c.args.profile) (Means c.args.profile) c.args.text.now c.in_ok-destinations.destinations
-    c.in_ok-directives.directives.items (bytes_of c.args.text.now (λ i. omega (arith, c.type_inv.text i))) c.in_ok-destinations.ensures
+    (gathers_spells c.in_ok-destinations.destinations (bytes_of c.args.text.now (λ i. omega (arith, c.type_inv.text i))) c.in_ok-destinations.ensures
     c.in_ok-directives.ensures.gathered)).short
 
 pub invariant_of-result : goal.invariant_of-result
@@ -50,20 +50,17 @@ invariant_of-result c =
     let gathered = c.in_ok-directives.ensures.gathered in record {
       accepted =
           proper c.args.profile c.args.text.now c.in_ok-directives.directives.items
-          (gathers_spells (Scan c.args.profile) (Means c.args.profile) c.args.text.now c.in_ok-destinations.destinations
-          c.in_ok-directives.directives.items (bytes_of c.args.text.now (λ i. omega (arith, c.type_inv.text i))) c.in_ok-destinations.ensures
+          (gathers_spells c.in_ok-destinations.destinations (bytes_of c.args.text.now (λ i. omega (arith, c.type_inv.text i))) c.in_ok-destinations.ensures
           gathered);
       counted =
-          gathers_count (Scan c.args.profile) (Means c.args.profile) c.args.text.now c.in_ok-destinations.destinations
-          c.in_ok-directives.directives.items c.in_ok-destinations.ensures gathered
-          ∙ sym (destinations_count c.args.profile gathered.0 c.in_ok-directives.directives.items gathered.2);
+          gathers_count c.in_ok-destinations.destinations c.in_ok-destinations.ensures gathered
+          ∙ sym (slots_count (scan_slots c.args.profile) gathered.pieces c.in_ok-directives.directives.items gathered.meaning);
       summed = c.sum_of_widths-widths.ensures ∙ ap width_sum c.deref.ensures.value;
     }
 
 pub returns-clause-spelled : goal.returns-clause-spelled
 returns-clause-spelled c =
-    gathers_spells (Scan c.args.profile) (Means c.args.profile) c.args.text.now c.in_ok-destinations.destinations c.in_ok-directives.directives.items
-    (bytes_of c.args.text.now (λ i. omega (arith, c.type_inv.text i))) c.in_ok-destinations.ensures c.in_ok-directives.ensures.gathered
+    gathers_spells c.in_ok-destinations.destinations (bytes_of c.args.text.now (λ i. omega (arith, c.type_inv.text i))) c.in_ok-destinations.ensures c.in_ok-directives.ensures.gathered
 
 pub returns-clause-fault : goal.returns-clause-fault
 returns-clause-fault c = λ at why fault.
@@ -71,5 +68,5 @@ returns-clause-fault c = λ at why fault.
 
 pub returns-clause-accepted : goal.returns-clause-accepted
 returns-clause-accepted c = λ ds spelled.
-    gathers_one (Scan c.args.profile) (Means c.args.profile) (scan_meaning c.args.profile) c.args.text.now c.in_ok-destinations.destinations c.in_ok-directives.directives.items ds
-    (bytes_of c.args.text.now (λ i. omega (arith, c.type_inv.text i))) c.in_ok-destinations.ensures c.in_ok-directives.ensures.gathered spelled
+    one_list (scan_meaning c.args.profile) c.args.text.now c.in_ok-directives.directives.items ds
+    (gathers_spells c.in_ok-destinations.destinations (bytes_of c.args.text.now (λ i. omega (arith, c.type_inv.text i))) c.in_ok-destinations.ensures c.in_ok-directives.ensures.gathered) spelled

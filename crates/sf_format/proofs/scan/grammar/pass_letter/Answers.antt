@@ -1,10 +1,12 @@
-use Rattle.std.proofs.Common.{◌+◌, ◌++◌, sym, ap, ◌∙◌}
+use Rattle.std.proofs.Common.{◌+◌, ◌++◌, length, sym, ap, ◌∙◌, subst}
 use Rattle.std.proofs.lemmas.Result.{err_from_is_err_and}
 use Rattle.sf_format.specs.Grammar.{slot_of}
 use Rattle.sf_format.specs.Faults.{letter_rules, scanlist_rules}
 use Rattle.sf_format.specs.Rules.{slot_rules}
-use Rattle.sf_format.specs.Passing.{opening_of, fault_of, is_set}
-use Rattle.sf_format.proofs.Passages.{first_left, number_bound, listed_forward, passes_letter, passes_list, passes_slot}
+use Rattle.sf_format.specs.Passing.{opening_of, fault_of, is_set, rest_behind, slot_at, Holds}
+use Rattle.sf_format.proofs.Destinations.{slot_there}
+use Rattle.sf_format.proofs.Suits.{bracket_is}
+use Rattle.sf_format.proofs.Passages.{first_left, rest_first, number_bound, listed_forward, letter_rest, letter_destination, match_map, made_means}
 use Rattle.sf_format.proofs.scan.grammar.pass_letter.Goals as goal
 
 pub returns-in_err-found : goal.returns-in_err-found
@@ -21,15 +23,16 @@ pub returns-in_err-list : goal.returns-in_err-list
 returns-in_err-list c =
     λ earlier holds.
     let p = err_from_is_err_and c.from_residual-in_err-list.result c.from_residual-in_err-list.ensures.1 in
-    rw (p.1, p.2)
-    (passes_list c.args.profile earlier c.args.percent c.args.at c.args.letter c.args.text.now (opening_of c.args.written.now) c.in_ok-found.found
-    (fault_of c.in_err-list.field-0.0) c.in_ok-found.ensures.0 c.in_ok-found.ensures.1 c.in_err-list.ensures)
+    let first = rest_first c.args.profile earlier c.args.percent (opening_of c.args.written.now) c.args.at c.args.letter c.args.text.now
+    c.in_ok-found.found c.in_ok-found.ensures.0 c.in_ok-found.ensures.1 in
+    rw (p.1, p.2) (first ∙ rw c.in_err-list.ensures)
 
 pub returns-in-Some : goal.returns-in-Some
 returns-in-Some c =
     λ earlier holds.
-    passes_slot c.args.profile earlier c.args.percent c.args.at c.args.letter c.args.text.now (opening_of c.args.written.now) c.in_ok-found.found
-    (fault_of c.in-Some.fault) c.in_ok-found.ensures.0 c.in_ok-found.ensures.1 c.in_ok-list.ensures.0 (sym (c.in-Some.ensures.first earlier holds))
+    rest_first c.args.profile earlier c.args.percent (opening_of c.args.written.now) c.args.at c.args.letter c.args.text.now
+    c.in_ok-found.found c.in_ok-found.ensures.0 c.in_ok-found.ensures.1
+    ∙ rw (c.in_ok-list.ensures.0, ← c.in-Some.ensures.first earlier holds)
 
 pub slot_of-slot-requires-clause-bound : goal.slot_of-slot-requires-clause-bound
 slot_of-slot-requires-clause-bound c = number_bound c.args.percent (opening_of c.args.written.now) c.requires.opening
@@ -41,9 +44,19 @@ conversion-requires-clause-forward c = λ e.
 pub returns : goal.returns
 returns c =
     λ earlier holds.
+    let o = opening_of c.args.written.now in
+    let (rules, found, known) = c.in_ok-found.ensures in
+    let (fault, is, after) = c.in_ok-list.ensures in
+    let letter = c.in_ok-found.found in
     let none = sym (c.in_default.ensures.first earlier holds) in
-    let placed = c.slot_of-slot.ensures ∙ ap (λ n. slot_of (1 + n) (opening_of c.args.written.now)) holds.count in
-    passes_letter c.args.profile c.args.wanted earlier c.args.percent c.args.at c.args.letter c.args.text.now (opening_of c.args.written.now)
-    c.in_ok-found.found _ c.slot_of-slot.result c.in_ok-list.list c.conversion.result c.pushed.result c.in_ok-found.ensures.0
-    c.in_ok-found.ensures.1 c.in_ok-found.ensures.2 c.in_ok-list.ensures.0 c.in_ok-list.ensures.1 c.in_ok-list.ensures.2 placed c.conversion.ensures
-    none (c.pushed.ensures earlier c.args.percent holds none)
+    let placed = c.slot_of-slot.ensures ∙ ap (λ n. slot_of (1 + n) o) holds.count in
+    let there = letter_destination o c.args.letter c.args.text.now in (
+      rest_first c.args.profile earlier c.args.percent o c.args.at c.args.letter c.args.text.now letter rules found ∙ rw (fault, none),
+      after ∙ ap (λ v. rest_behind v c.args.text.now) (bracket_is c.args.profile c.args.letter letter found) ∙ sym (letter_rest o c.args.letter c.args.text.now),
+      match_map _ _ _
+          (λ d made. made_means c.args.profile (1 + length earlier) c.args.at c.args.letter c.args.text.now o letter _ c.slot_of-slot.result
+          c.in_ok-list.list d found known fault is placed made)
+          c.conversion.result c.conversion.ensures,
+      subst (λ os. Holds c.pushed.result (earlier ++ os)) (sym there) (c.pushed.ensures earlier c.args.percent holds none),
+      placed ∙ slot_there (1 + length earlier) o ∙ ap (slot_at (1 + length earlier)) (sym there),
+    )

@@ -1,5 +1,5 @@
 use Rattle.std.proofs.Common.{◌∙◌, arith}
-use Rattle.sf_format.proofs.Ranges.{backward_single, backward_range_passed, length-after}
+use Rattle.sf_format.proofs.Scanlists.{backward_single, backward_range_passed, length-after}
 use Rattle.sf_format.proofs.scan.scanlist.backward.Goals as goal
 
 pub loop-rest-preserved-then-dash-ne45 : goal.loop-rest-preserved-then-dash-ne45

@@ -2,7 +2,7 @@ use Rattle.std.proofs.Common.{◌≡◌, ◌∙◌, ap, drop, arith}
 use Rattle.std.proofs.lemmas.List.{take_rest}
 use Rattle.sf_format.specs.Lists.{front}
 use Rattle.sf_format.specs.Scanlist.{is_inner}
-use Rattle.sf_format.proofs.Ranges.{members_split}
+use Rattle.sf_format.proofs.Scanlists.{members_split}
 use Rattle.sf_format.proofs.scan.scanlist.members.Goals as goal
 
 pub split_at-requires : goal.split_at-requires

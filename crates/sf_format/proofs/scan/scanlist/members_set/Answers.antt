@@ -1,5 +1,5 @@
 use Rattle.std.proofs.Common.{arith}
-use Rattle.sf_format.proofs.Ranges.{one_more, range_more, forward_single, forward_range}
+use Rattle.sf_format.proofs.Scanlists.{one_more, range_more, forward_single, forward_range}
 use Rattle.sf_format.proofs.scan.scanlist.members_set.Goals as goal
 
 pub loop-rest-preserved-then-dash-eq45 : goal.loop-rest-preserved-then-dash-eq45

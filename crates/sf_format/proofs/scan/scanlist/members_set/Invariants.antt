@@ -1,6 +1,6 @@
 use Rattle.std.proofs.Common.{◌≡◌, None, length}
 use Rattle.sf_format.specs.Scanlist.{backward_range}
-use Rattle.sf_format.proofs.Ranges.{HasMembers}
+use Rattle.sf_format.proofs.Scanlists.{HasMembers}
 use Rattle.sf_format.proofs.scan.scanlist.members_set.Given as goal
 
 abbrev pub invariant-loop-rest : goal.invariant-loop-rest
