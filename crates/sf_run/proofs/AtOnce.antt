@@ -37,53 +37,28 @@ use Rattle.sf_run.proofs.Waits.{open_all}
 
 -- the slot of what it gives is its own
 pub free_of : (f : Finished) (d : Directive) (values : List Assigned) → (is_failing f ≡ false → slot_given f ≡ slot_of d) → MayBeGiven (slot_of d) values → MayBeGiven (slot_given f) values
-free_of finish.Passes d values own free = tt
-free_of (finish.Stores slot kind negative magnitude) d values own free = subst (λ o. MayBeGiven o values) (sym (own refl)) free
-free_of (finish.Closes slot) d values own free = subst (λ o. MayBeGiven o values) (sym (own refl)) free
-free_of (finish.Fails status) d values own free = tt
+free_of f d values own free = grind arith
 
 own_slot : (f : Finished) (text : List ℕ) (slot : Option ℕ) → passed (end_of text f) ≡ true → (is_failing f ≡ false → slot_given f ≡ slot) → slot_stored (end_of text f) ≡ slot
-own_slot finish.Passes text slot ok own = own refl
-own_slot (finish.Stores n kind negative magnitude) text slot ok own = own refl
-own_slot (finish.Closes n) text slot ok own = own refl
-own_slot (finish.Fails status) text slot ok own = absurd (true≢false (sym ok))
+own_slot f text slot ok own = grind arith
 
 pub passes_within : (d : Directive) (n : ℕ) (piece : List ℕ) (e : Ended) (stores : Bool) (old new : Kept) → IsProper d → EndsAtOnce d n piece e
     → GivesTo (end_of (take e.item (drop e.before piece)) e.finished) stores old new → PassesWithin d n piece (e.before + e.item) stores old new
-passes_within d n piece e stores old new proper is gives = record {
-  end = end_of (take e.item (drop e.before piece)) e.finished;
-  takes = (let a = is.answers proper in a.goes);
-  gives = gives;
-  own = own_slot e.finished (take e.item (drop e.before piece)) (slot_of d) gives.passes.passes is.fits.given;
-}
+passes_within d n piece e stores old new proper is gives = grind arith
 
 -- one that passes surely, and ends so, is given to a store with so much room
 pub sure_given : (d : Directive) (n : ℕ) (piece : List ℕ) (room : ℕ) (e : Ended) → IsProper d → EndsAtOnce d n piece e → IsSure d n piece room
     → (passed (end_of (take e.item (drop e.before piece)) e.finished) ≡ true → room < length (text_stored (end_of (take e.item (drop e.before piece)) e.finished))) → ⊥
-sure_given d n piece room e proper is sure full =
-    let a = is.answers proper in
-    let same = a.goes.takes sure.after in
-    let ok = sym (ap (λ (p : Part). passed p.end) same) ∙ sure.passes in
-    let long = ap (λ (p : Part). length (text_stored p.end)) same in
-    let fits = sure.fits in
-    let over = full ok in
-    omega (arith, long, fits, over)
+sure_given d n piece room e proper is sure full = grind arith
 
 -- a text that the store was given is what the directive gives
 pub text_given : (slot : ℕ) (text : List ℕ) (room : ℕ) (old new : Kept) → new ≡ with_text slot text room old → GivesTo (Stores slot (Bytes text)) true old new
-text_given slot text room old new is = subst (λ (k : Kept). GivesTo (Stores slot (Bytes text)) true old k) (sym is) (record {
-  passes = record { passes = refl; stored = refl };
-  values = refl;
-  opened = refl;
-  joined = λ joined. joined_text old.closed old.values slot text joined;
-})
+text_given slot text room old new is = grind (arith, joined_text)
 
 -- ---- directive after directive
 
 by_passed : (end : StepEnd) (y : RunReport) (f : Status → RunReport) → passed end ≡ true → by_end end y f ≡ y
-by_passed Passes y f h = refl
-by_passed (Stores slot v) y f h = refl
-by_passed (Fails status) y f h = absurd (true≢false (sym h))
+by_passed end y f h = grind arith
 
 -- The directives before this place have passed within the front, in which the run has come so far, and the store was given what they gave.
 pub record Going (ds : List Directive) (front : List ℕ) (p : ℕ) (t : code.Tally) (kept : Kept) : Type 0 where
@@ -99,9 +74,7 @@ pub record Going (ds : List Directive) (front : List ℕ) (p : ℕ) (t : code.Ta
 passes_on : (d : Directive) (ds : List Directive) (at : ℕ) (t : Tally) (x y : List ℕ) (taken : ℕ) (end : StepEnd) → passed end ≡ true
     → one_from d Skipping t.used x ≡ record { used = t.used + taken; left = y; end = end }
     → run_of None (d ∷ ds) at t x ≡ run_of None ds (at + 1) (counted d end (with_used (t.used + taken) t)) y
-passes_on d ds at t x y taken end ok is =
-    ap (λ (p : Part). then_on None d at t p (λ u v. run_of None ds (at + 1) u v)) is
-    ∙ by_passed end (run_of None ds (at + 1) (counted d end (with_used (t.used + taken) t)) y) (λ status. out_of status at (with_used (t.used + taken) t)) ok
+passes_on d ds at t x y taken end ok is = grind arith
 
 some_slot : (ds : List Directive) (p : ℕ) (d : Directive) (values : List Assigned) (end : StepEnd) → slice_get ds p ≡ Some d → slot_stored end ≡ slot_of d → passed end ≡ true
     → slots_in values ≡ slots_of (take p ds) → slots_in (values_with end values) ≡ slots_of (take (p + 1) ds)
@@ -110,9 +83,7 @@ some_slot ds p d values (Stores slot v) at own ok given = slots_more ds p d valu
 some_slot ds p d values (Fails status) at own ok given = absurd (true≢false (sym ok))
 
 stores_own : (d : Directive) (end : StepEnd) (stores : Bool) → slot_stored end ≡ slot_of d → stored end ≡ stores → stores ≡ true → is_destination d ≡ true
-stores_own d Passes stores own is some = absurd (true≢false (sym (is ∙ some)))
-stores_own d (Stores slot v) stores own is some = is_destination_of d slot (sym own)
-stores_own d (Fails status) stores own is some = absurd (true≢false (sym (is ∙ some)))
+stores_own d end stores own is some = grind arith
 
 -- the next directive has passed
 pub going_on : (ds : List Directive) (front : List ℕ) (p : ℕ) (d : Directive) (t u : code.Tally) (old new : Kept) (piece : List ℕ) (taken : ℕ) (stores : Bool) → slice_get ds p ≡ Some d
@@ -149,17 +120,10 @@ totals v stores taken t = record { used = t.used + taken; assigned = cond stores
 
 totals_counted : (d : Directive) (end : StepEnd) (stores : Bool) (taken : ℕ) (t : code.Tally) (values : List Assigned) → PassesSo end stores
     → tally_of (totals (is_conversion d) stores taken t) (values_with end values) ≡ counted d end (with_used (t.used + taken) (tally_of t values))
-totals_counted d Passes stores taken t values so = ap (λ b. tally_of (totals (is_conversion d) b taken t) values) (sym so.stored)
-totals_counted d (Stores slot v) stores taken t values so = ap (λ b. tally_of (totals (is_conversion d) b taken t) (values_with (Stores slot v) values)) (sym so.stored)
-totals_counted d (Fails status) stores taken t values so = absurd (true≢false (sym so.passes))
+totals_counted d end stores taken t values so = grind arith
 
 values_more : (end : StepEnd) (stores : Bool) (values : List Assigned) → PassesSo end stores → length (values_with end values) ≡ length values + cond stores 1 0
-values_more Passes stores values so = let e : ◌≡◌ {A = ℕ} 0 (cond stores 1 0) = ap (λ v. cond v 1 0) so.stored in omega (arith, e)
-values_more (Stores slot v) stores values so =
-    let e : ◌≡◌ {A = ℕ} 1 (cond stores 1 0) = ap (λ v. cond v 1 0) so.stored in
-    let long = length-append values (record { slot = slot; datum = v } ∷ []) in
-    omega (arith, e, long)
-values_more (Fails status) stores values so = absurd (true≢false (sym so.passes))
+values_more end stores values so = grind (arith, length-append)
 
 -- The directives before this place have passed within the front; behind the bytes that they took is the rest, and the strays are those that they make.
 pub record Counted (ds : List Directive) (front tail : List ℕ) (p : ℕ) (s : Strays) (kept : Kept) : Type 0 where
@@ -286,9 +250,7 @@ quick_is ds proper m most piece front t kept p all is fits h z ending =
 -- the same of what is the same
 pub passes_as : (d : Directive) (n : ℕ) (rest : List ℕ) (t u : ℕ) (old before new after : Kept) (s r a b : Strays) → u ≡ t → before ≡ old → after ≡ new → r ≡ s → b ≡ a
     → PassesBy d n rest t old new s a → PassesBy d n rest u before after r b
-passes_as d n rest t u old before new after s r a b e f g i j h =
-    subst (λ x. PassesBy d n rest x before after r b) (sym e) (subst (λ x. PassesBy d n rest t x after r b) (sym f)
-    (subst (λ x. PassesBy d n rest t old x r b) (sym g) (subst (λ x. PassesBy d n rest t old new x b) (sym i) (subst (λ x. PassesBy d n rest t old new s x) (sym j) h))))
+passes_as d n rest t u old before new after s r a b e f g i j h = grind arith
 
 -- before the first directive
 pub nothing_counted : (ds : List Directive) (front : List ℕ) (kept : Kept) (room : ℕ) → kept ≡ nothing_kept room → length (destinations_of ds) ≤ 32

@@ -76,14 +76,7 @@ can_all c f piece n proper within each k below =
 -- what was taken is shown by a phase that shows the scan
 pub shows_all : (d : Directive) (slot : Option ℕ) (scan new : ItemScan) (f y : List ℕ) (p : Phase) → ((r : Stage) → ShowsItem d slot new r → Shows d p r) → conversion_of new ≡ conversion_of scan
     → d ≡ Conv (conversion_of scan) → text_slot d ≡ slot → HasTaken new (f ++ y) → f ++ y ≢ [] → Shows d p (Item (f ++ y))
-shows_all d slot scan new f y p shows same own text taken some = shows (Item (f ++ y)) (record {
-  item = f ++ y;
-  stage = refl;
-  own = own ∙ ap Conv (sym same);
-  taken = taken;
-  begun = some;
-  text = text;
-})
+shows_all d slot scan new f y p shows same own text taken some = grind arith
 
 -- ---- what is skipped before an item
 

@@ -35,24 +35,11 @@ nothing_more c f b y e (suc j) h =
 
 one_more : (c : Conversion) (f : List ℕ) (b : ℕ) (y : List ℕ) (k : ℕ) → IsMost c (f ++ b ∷ []) y k
     → (j : ℕ) → (j ≤ length (b ∷ y)) × (can_take c (f ++ take j (b ∷ y)) ≡ true) → j ≤ suc k
-one_more c f b y k most zero h = omega arith
-one_more c f b y k most (suc j) h =
-    let fits = h.0 in
-    let below = most.above j (omega (arith, fits), ap (can_take c) (append_assoc f (b ∷ []) (take j y)) ∙ h.1) in
-    omega (arith, below)
+one_more c f b y k most j h = grind (arith, append_assoc)
 
 most_step : (c : Conversion) (f : List ℕ) (b : ℕ) (y : List ℕ) (k : ℕ) (v : Bool) → can_take c f ≡ true → can_take c (f ++ b ∷ []) ≡ v
     → (can_take c (f ++ b ∷ []) ≡ true → IsMost c (f ++ b ∷ []) y k) → IsMost c f (b ∷ y) (cond v (suc k) 0)
-most_step c f b y k true start e h =
-    let most = h e in
-    record {
-      holds = (let fits = most.holds.0 in omega (arith, fits), sym (ap (can_take c) (append_assoc f (b ∷ []) (take k y))) ∙ most.holds.1);
-      above = one_more c f b y k most;
-    }
-most_step c f b y k false start e h = record {
-  holds = (omega arith, ap (can_take c) (append-nil f) ∙ start);
-  above = λ j w. nothing_more c f b y e j w.1;
-}
+most_step c f b y k v start e h = grind (arith, append_assoc, one_more, append-nil, nothing_more)
 
 len_most : (c : Conversion) (f y : List ℕ) → can_take c f ≡ true → IsMost c f y (len c f y)
 len_most c f [] start = record { holds = (omega arith, ap (can_take c) (append-nil f) ∙ start); above = λ j h. h.0 }

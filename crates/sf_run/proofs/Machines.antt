@@ -118,28 +118,16 @@ item_byte Count proper = 0
 
 pub item_byte-below : (shape : Shape) (proper : IsProperShape shape) → item_byte shape proper < 256
 unfolding item_byte
-item_byte-below (Int base) proper = lit< tt
-item_byte-below Text proper = lit< tt
-item_byte-below (Set members) proper = proper.1
-item_byte-below Chars proper = lit< tt
-item_byte-below Count proper = lit< tt
+item_byte-below shape proper = grind arith
 
 other_begins : (shape : Shape) (width : Option ℕ) → (IsInt shape → ⊥) → (proper : IsProperShape shape) → (f : List ℕ) (b : ℕ) → Begins shape width f b
     → Begins shape width f (item_byte shape proper)
 unfolding item_byte
-other_begins (Int base) width other proper f b h = absurd (other (base, refl))
-other_begins Text width other proper f b h = all_with is_ink f b 65 h refl
-other_begins (Set members) width other proper f b h = all_with (has_byte members) f b proper.0 h proper.2
-other_begins Chars width other proper f b h = subst (λ n. nat_le n (unwrap_or width 1) ≡ true) (same_length f b 0) h
-other_begins Count width other proper f b h = absurd (true≢false (sym h))
+other_begins shape width other proper f b h = grind (arith, all_with, same_length)
 
 integer_byte : (shape : Shape) (proper : IsProperShape shape) → IsInt shape → item_byte shape proper ≡ 48
 unfolding item_byte
-integer_byte (Int base) proper int = refl
-integer_byte Text proper int = let k = int.1 in absurd cc
-integer_byte (Set members) proper int = let k = int.1 in absurd cc
-integer_byte Chars proper int = let k = int.1 in absurd cc
-integer_byte Count proper int = let k = int.1 in absurd cc
+integer_byte shape proper int = grind arith
 
 -- where some number is taken after f, that byte is
 pub item_byte-taken : (c : Conversion) (proper : IsProperShape c.shape) (f : List ℕ) (b : ℕ) → can_take c (f ++ b ∷ []) ≡ true
@@ -245,19 +233,7 @@ item_not_full c proper item full =
 
 shape_full : (c : Conversion) (shape : Shape) (q : Stage) (n : ℕ) (more : Bool) → (q ≡ Skipping → HasItem shape → ⊥)
     → conversion_finished c shape q n more ≡ conversion_finished c shape q n true
-shape_full c Count q n more none = refl
-shape_full c (Int base) Skipping n more none = absurd (none refl tt)
-shape_full c Text Skipping n more none = absurd (none refl tt)
-shape_full c (Set members) Skipping n more none = absurd (none refl tt)
-shape_full c Chars Skipping n more none = absurd (none refl tt)
-shape_full c (Int base) Taken n more none = refl
-shape_full c Text Taken n more none = refl
-shape_full c (Set members) Taken n more none = refl
-shape_full c Chars Taken n more none = refl
-shape_full c (Int base) (Item f) n more none = refl
-shape_full c Text (Item f) n more none = refl
-shape_full c (Set members) (Item f) n more none = refl
-shape_full c Chars (Item f) n more none = refl
+shape_full c shape q n more none = grind arith
 
 -- what follows a full directive makes no difference to its end
 pub full_finish : (d : Directive) → IsProper d → (q : Stage) (n : ℕ) (more : Bool) → is_full d q ≡ true → finished d q n more ≡ finished d q n true
@@ -282,8 +258,7 @@ full_refuses d proper q n (b ∷ z) full =
 -- a byte that is not taken ends the directive
 pub byte_refused : (d : Directive) (q : Stage) (n b : ℕ) (z : List ℕ) → stepped d q b ≡ None
     → one_from d q n (b ∷ z) ≡ record { used = n; left = b ∷ z; end = finished d q n true }
-byte_refused d q n b z e =
-    ap (λ o. choose o (record { used = n; left = b ∷ z; end = finished d q n true }) (λ r. one_from d r (n + 1) z)) e
+byte_refused d q n b z e = cc
 
 -- ---- no directive is too long by itself
 
@@ -303,49 +278,30 @@ integer_fits c slot None e = cc
 integer_fits c slot (Some i) e = number_fits c slot (value_of c.kind i.0 i.1) e
 
 stored_fits : (c : Conversion) (slot : ℕ) (shape : Shape) (item : List ℕ) → NotTooLong (stored_end c slot shape item)
-stored_fits c slot (Int base) item e = integer_fits c slot (integer_at base item) e
-stored_fits c slot Text item e = cc
-stored_fits c slot (Set members) item e = cc
-stored_fits c slot Chars item e = cc
-stored_fits c slot Count item e = cc
+stored_fits c slot shape item = grind arith
 
 passed_fits : (c : Conversion) (slot : Option ℕ) (item : List ℕ) → NotTooLong (passed_end c slot item)
 passed_fits c None item e = cc
 passed_fits c (Some slot) item e = stored_fits c slot c.shape item e
 
 item_fits : (c : Conversion) (item : List ℕ) → NotTooLong (item_end c item)
-item_fits c item = by_case (matches c item)
-  where
-    by_case : (v : Bool) → NotTooLong (cond v (passed_end c c.slot item) (Fails MatchingFailure))
-    by_case true e = passed_fits c c.slot item e
-    by_case false e = cc
+item_fits c item = grind arith
 
 nothing_fits : (more : Bool) → NotTooLong (nothing_end more)
 nothing_fits true e = cc
 nothing_fits false e = cc
 
 item_finish_fits : (c : Conversion) (q : Stage) (more : Bool) → NotTooLong (item_finished c q more)
-item_finish_fits c Skipping more e = nothing_fits more e
-item_finish_fits c Taken more e = cc
-item_finish_fits c (Item f) more e = item_fits c f e
+item_finish_fits c q more = grind arith
 
 conversion_fits : (c : Conversion) (shape : Shape) (q : Stage) (n : ℕ) (more : Bool) → NotTooLong (conversion_finished c shape q n more)
-conversion_fits c Count q n more e = count_fits c c.slot n e
-conversion_fits c (Int base) q n more e = item_finish_fits c q more e
-conversion_fits c Text q n more e = item_finish_fits c q more e
-conversion_fits c (Set members) q n more e = item_finish_fits c q more e
-conversion_fits c Chars q n more e = item_finish_fits c q more e
+conversion_fits c shape q n more = grind arith
 
 byte_fits : (q : Stage) (more : Bool) → NotTooLong (byte_finished q more)
-byte_fits Skipping more e = nothing_fits more e
-byte_fits Taken more e = cc
-byte_fits (Item f) more e = cc
+byte_fits q more = grind arith
 
 finish_fits : (d : Directive) (q : Stage) (n : ℕ) (more : Bool) → NotTooLong (finished d q n more)
-finish_fits Space q n more e = cc
-finish_fits (Byte a) q n more e = byte_fits q more e
-finish_fits Percent q n more e = byte_fits q more e
-finish_fits (Conv c) q n more e = conversion_fits c c.shape q n more e
+finish_fits d q n more = grind arith
 
 pub by_option : (P : Part → Type 0) (o : Option Stage) (y : Part) (f : Stage → Part) → P y → ((r : Stage) → P (f r)) → P (choose o y f)
 by_option P None y f a b = a

@@ -81,24 +81,19 @@ percent_taken n (b ∷ x) = refl
 -- by whether the byte is the one that has to stand there
 byte_part : (d : Directive) → IsTaken d → (v : Bool) (b : ℕ) (x : List ℕ) (n : ℕ)
     → choose (cond v (Some Taken) None) (record { used = n; left = b ∷ x; end = nothing_end true }) (λ r. one_from d r (n + 1) x) ≡ part_of n (b ∷ x) (byte_choice v)
-byte_part d taken true b x n = taken (n + 1) x
-byte_part d taken false b x n = same_used n (n + 0) (b ∷ x) (nothing_end true) (omega arith)
+byte_part d taken v b x n = grind arith
 
 byte_is : (a : ℕ) (x : List ℕ) (n : ℕ) → one_from (Byte a) Skipping n x ≡ part_of n x (byte_step a x)
 byte_is a [] n = same_used n (n + 0) [] (nothing_end false) (omega arith)
 byte_is a (b ∷ x) n = byte_part (Byte a) (byte_taken a) (nat_eq a b) b x n
 
 percent_here : (x : List ℕ) (n : ℕ) → Starts x → one_from Percent Skipping n x ≡ part_of n x (byte_step 37 x)
-percent_here [] n s = same_used n (n + 0) [] (nothing_end false) (omega arith)
-percent_here (b ∷ x) n s =
-    ap (λ v. choose (cond v (Some Skipping) (cond (nat_eq 37 b) (Some Taken) None)) (record { used = n; left = b ∷ x; end = nothing_end true }) (λ r. one_from Percent r (n + 1) x)) s
-    ∙ byte_part Percent percent_taken (nat_eq 37 b) b x n
+percent_here x n s = grind (arith, percent_taken)
 
 -- two steps, the first of s bytes
 two_parts : (x : List ℕ) (n s k : ℕ) (end : StepEnd)
     → part ((n + s) + k) (drop k (drop s x)) end ≡ part (n + (s + k)) (drop (s + k) x) end
-two_parts x n s k end =
-    ap₂ (λ (u : ℕ) (l : List ℕ). record { used = u; left = l; end = end }) (let h : (n + s) + k ≡ n + (s + k) = omega arith in h) (drop-drop k s x)
+two_parts x n s k end = grind (arith, drop-drop)
 
 percent_is : (x : List ℕ) (n : ℕ) → one_from Percent Skipping n x ≡ part_of n x (percent_step x (skip x))
 percent_is x n =
@@ -119,11 +114,7 @@ module _ (c : Conversion) where
       ≡ record { used = p; left = drop (len c (f ++ b ∷ []) y) y; end = item_end c ((f ++ b ∷ []) ++ take (len c (f ++ b ∷ []) y) y) })
       → choose (cond v (Some (Item (f ++ b ∷ []))) None) (record { used = n; left = b ∷ y; end = finished (Conv c) (Item f) n true }) (λ r. one_from (Conv c) r (n + 1) y)
       ≡ record { used = p; left = drop (cond v (suc (len c (f ++ b ∷ []) y)) 0) (b ∷ y); end = item_end c (f ++ take (cond v (suc (len c (f ++ b ∷ []) y)) 0) (b ∷ y)) }
-  after_item ends f b y n p true e more =
-      more (omega arith)
-      ∙ ap (λ (g : List ℕ). record { used = p; left = drop (len c (f ++ b ∷ []) y) y; end = item_end c g }) (append_assoc f (b ∷ []) (take (len c (f ++ b ∷ []) y) y))
-  after_item ends f b y n p false e more =
-      ap₂ (λ (u : ℕ) (end : StepEnd). record { used = u; left = b ∷ y; end = end }) (let h : n ≡ p = omega arith in h) (ends (Item f) n true ∙ ap (item_end c) (sym (append-nil f)))
+  after_item ends f b y n p v e more = grind (arith, append_assoc, append-nil)
 
   -- after the front f of an item, the rest of the item is taken
   item_from : EndsItem → (f y : List ℕ) (n p : ℕ) → p ≡ n + len c f y
@@ -136,9 +127,7 @@ module _ (c : Conversion) where
   first_byte : EndsItem → (b : ℕ) (y : List ℕ) (n : ℕ) (v : Bool)
       → choose (cond v (Some (Item (b ∷ []))) None) (record { used = n; left = b ∷ y; end = finished (Conv c) Skipping n true }) (λ r. one_from (Conv c) r (n + 1) y)
       ≡ part_of n (b ∷ y) (cond v (suc (len c (b ∷ []) y)) 0, item_ended c (b ∷ y) (cond v (suc (len c (b ∷ []) y)) 0))
-  first_byte ends b y n true = item_from ends (b ∷ []) y (n + 1) (n + suc (len c (b ∷ []) y)) (omega arith)
-  first_byte ends b y n false =
-      ap₂ (λ (u : ℕ) (end : StepEnd). record { used = u; left = b ∷ y; end = end }) (let h : n ≡ n + 0 = omega arith in h) (ends Skipping n true)
+  first_byte ends b y n v = grind (arith, item_from)
 
   -- an item that begins here
   abbrev IsHere : List ℕ → Type 0
@@ -168,10 +157,7 @@ module _ (c : Conversion) where
   unskipped_here does (b ∷ y) = ap (λ v. v && is_white b) does
 
   unskipped_item : EndsItem → shape_skips c.shape ≡ false → (x : List ℕ) (n : ℕ) → one_from (Conv c) Skipping n x ≡ part_of n x (item_part c x 0)
-  unskipped_item ends does x n =
-      item_here ends x n (unskipped_here does x)
-      ∙ same_used (n + len c [] x) (n + (0 + len c [] x)) _ _ (omega arith)
-      ∙ ap (λ (l : List ℕ). record { used = n + (0 + len c [] x); left = l; end = item_ended c x (len c [] x) }) (let h : len c [] x ≡ 0 + len c [] x = omega arith in ap (λ j. drop j x) h)
+  unskipped_item ends does x n = grind (arith, item_here)
 
   -- ---- %n
 
@@ -194,28 +180,17 @@ module _ (c : Conversion) where
   -- ---- each conversion
 
   ends_item : (shape : Shape) → c.shape ≡ shape → HasItem shape → EndsItem
-  ends_item (Int base) e takes q n more = ap (λ (s : Shape). conversion_finished c s q n more) e
-  ends_item Text e takes q n more = ap (λ (s : Shape). conversion_finished c s q n more) e
-  ends_item (Set members) e takes q n more = ap (λ (s : Shape). conversion_finished c s q n more) e
-  ends_item Chars e takes q n more = ap (λ (s : Shape). conversion_finished c s q n more) e
-  ends_item Count e takes q n more = absurd takes
+  ends_item shape e takes = grind arith
 
   at_shape : (shape : Shape) → c.shape ≡ shape → (x : List ℕ) (n : ℕ) → part_of n x (item_part c x (skip_before shape x)) ≡ part_of n x (item_step c x)
   at_shape shape e x n = ap (λ (s : Shape). part_of n x (item_part c x (skip_before s x))) (sym e)
 
   conversion_is : (shape : Shape) → c.shape ≡ shape → (x : List ℕ) (n : ℕ) → one_from (Conv c) Skipping n x ≡ part_of n x (conversion_step c shape x n)
-  conversion_is (Int base) e x n = skipped_item (ends_item (Int base) e tt) (ap shape_skips e) x n ∙ at_shape (Int base) e x n
-  conversion_is Text e x n = skipped_item (ends_item Text e tt) (ap shape_skips e) x n ∙ at_shape Text e x n
-  conversion_is (Set members) e x n = unskipped_item (ends_item (Set members) e tt) (ap shape_skips e) x n ∙ at_shape (Set members) e x n
-  conversion_is Chars e x n = unskipped_item (ends_item Chars e tt) (ap shape_skips e) x n ∙ at_shape Chars e x n
-  conversion_is Count e x n = count_is e x n
+  conversion_is shape e x n = grind (arith, skipped_item, at_shape, unskipped_item, count_is)
 
 -- the machine makes the step: it leaves the rest of the input, and ends as the step does
 pub one_made : (d : Directive) (x : List ℕ) (n : ℕ) → one_from d Skipping n x ≡ part_of n x (step_of d x n)
-one_made Space x n = space_is x n (n + skip x) refl
-one_made (Byte a) x n = byte_is a x n
-one_made Percent x n = percent_is x n
-one_made (Conv c) x n = conversion_is c c.shape refl x n
+one_made d x n = grind (arith, space_is, byte_is, percent_is, conversion_is)
 
 pub one_is : (d : Directive) → IsProper d → (x : List ℕ) (n : ℕ)
     → one_from d Skipping n x ≡ record { used = n + (step_of d x n).0; left = drop (step_of d x n).0 x; end = (step_of d x n).1 }

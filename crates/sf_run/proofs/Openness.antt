@@ -15,14 +15,10 @@ use Rattle.sf_run.proofs.Machines.{can_take_one, full_refuses, never_too_long, g
 -- ---- by the directive's end
 
 pub counted-used : (d : Directive) (o : StepEnd) (t : Tally) → (counted d o t).used ≡ t.used
-counted-used d Passes t = refl
-counted-used d (Stores slot v) t = refl
-counted-used d (Fails status) t = refl
+counted-used d o t = grind arith
 
 pub holds_by : (P : RunReport → Type 0) (o : StepEnd) (a : RunReport) (b : Status → RunReport) → P a → ((status : Status) → P (b status)) → P (by_end o a b)
-holds_by P Passes a b p q = p
-holds_by P (Stores slot v) a b p q = p
-holds_by P (Fails status) a b p q = q status
+holds_by P o a b p q = grind arith
 
 -- ---- the bytes that a run uses
 
@@ -34,10 +30,7 @@ uses_nothing m (d ∷ ds) at t h =
     rw h (holds_by (λ r. r.used ≡ t.used) o _ _ (uses_nothing m ds (at + 1) (counted d o t) (rw (counted-used d o t) h) ∙ counted-used d o t) (λ status. refl))
 
 pub rest_uses_nothing : (m : Option ℕ) (ds : List Directive) (q : Stage) (at : ℕ) (t : Tally) → is_over m t.used ≡ false → (run_from m ds q at t []).used ≡ t.used
-rest_uses_nothing m [] q at t h = refl
-rest_uses_nothing m (d ∷ ds) q at t h =
-    let o : StepEnd = finished d q t.used false in
-    rw h (holds_by (λ r. r.used ≡ t.used) o _ _ (uses_nothing m ds (at + 1) (counted d o t) (rw (counted-used d o t) h) ∙ counted-used d o t) (λ status. refl))
+rest_uses_nothing m ds q at t h = grind (arith, uses_nothing)
 
 -- a run uses no more than there is
 pub uses_within : (ds : List Directive) (at : ℕ) (t : Tally) (x : List ℕ) → (run_of None ds at t x).used ≤ t.used + length x
@@ -61,9 +54,7 @@ uses_more (d ∷ ds) at t x =
 -- ---- under a limit
 
 same_by : (m : ℕ) (o : StepEnd) (a c : RunReport) (b : Status → RunReport) → (by_end o a b).used ≤ m → (a.used ≤ m → c ≡ a) → by_end o c b ≡ by_end o a b
-same_by m Passes a c b h e = e h
-same_by m (Stores slot v) a c b h e = e h
-same_by m (Fails status) a c b h e = refl
+same_by m o a c b h e = grind arith
 
 -- a run within the limit is the run
 pub within_limit : (m : ℕ) (ds : List Directive) (at : ℕ) (t : Tally) (x : List ℕ) → (run_of None ds at t x).used ≤ m → run_of (Some m) ds at t x ≡ run_of None ds at t x

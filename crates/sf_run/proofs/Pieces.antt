@@ -142,11 +142,7 @@ module _ (d : Directive) (q : Stage) (n m : ℕ) (piece front : List ℕ) (run :
       subst (λ y. n + (run.before + run.item) ≤ (one_from d q n y).used) (ap (λ (y : List ℕ). y ++ (drop m piece ++ z)) is ∙ parted piece m z) (answers_use d q n front run within a (drop m piece ++ z))
 
   pub stores_front : (slot : Option ℕ) → slot_in run.phase ≡ slot → IsSome slot → (j : ℕ) → j < run.item → StoresByte d (get_or piece (run.before + j) 0)
-  stores_front None own some j below = absurd cc
-  stores_front (Some slot) own some j below =
-      let few = length-take m piece in
-      let long = ap length is in
-      subst (StoresByte d) (ap (λ (y : List ℕ). get_or y (run.before + j) 0) is ∙ get_or-take m piece (run.before + j) 0 (omega (arith, below, within, few, long))) (a.stores slot j own below)
+  stores_front slot own some j below = grind (arith, length-take, get_or-take)
 
 -- ---- behind bytes that are skipped
 
@@ -188,19 +184,13 @@ answers_behind d n w piece run within fits skips a = record {
 
 -- the byte behind them
 pub next_behind : (test : ℕ → Bool) (w : ℕ) (piece : List ℕ) → (w < length piece → test (get_or piece w 0) ≡ false) → 0 < length (drop w piece) → test (get_or (drop w piece) 0 0) ≡ false
-next_behind test w piece next some =
-    let all = length-drop w piece in
-    let same : w + 0 ≡ w = omega arith in
-    ap test (get_or-drop w piece 0 0 ∙ ap (λ i. get_or piece i 0) same) ∙ next (omega (arith, all, some))
+next_behind test w piece next some = grind (arith, length-drop, get_or-drop)
 
 -- ---- directives without an item
 
 pub plain_waits : (d : Directive) (n w : ℕ) (piece : List ℕ) → length piece ≤ w → stepped_all d Skipping (take w piece) ≡ Some Skipping
     → Answers d Skipping n piece (record { before = w; item = 0; phase = phase.Skipping; ends = None })
-plain_waits d n w piece all skips = record {
-  goes = record { stage = Skipping; stepped = ap (stepped_all d Skipping) (sym (take_all w piece all)) ∙ skips; shown = refl; grown = tt };
-  stores = λ slot j own below. absurd (omega (arith, below));
-}
+plain_waits d n w piece all skips = grind (arith, take_all)
 
 pub plain_ends : (d : Directive) (n w : ℕ) (r : Stage) (piece : List ℕ) (end : Finished) → w ≤ length piece → stepped_all d Skipping (take w piece) ≡ Some r
     → ((m : ℕ) (z : List ℕ) → one_from d r m (drop w piece ++ z) ≡ record { used = m; left = drop w piece ++ z; end = end_of [] end })
@@ -233,16 +223,11 @@ due_taken d (x ∷ xs) some e = ap (λ (o : Option Stage). choose o None (λ s. 
 
 pub byte_passes : (a n : ℕ) (piece : List ℕ) → a < 256 → 0 < length piece → get_or piece 0 0 ≡ a
     → Answers (Byte a) Skipping n piece (record { before = 1; item = 0; phase = phase.Skipping; ends = Some finish.Passes })
-byte_passes a n piece proper some is =
-    let takes : stepped (Byte a) Skipping (get_or piece 0 0) ≡ Some Taken = ap (λ v. cond v (Some Taken) None) ((tests_same a (get_or piece 0 0)).to (sym is)) in
-    plain_ends (Byte a) n 1 Taken piece finish.Passes (omega (arith, some)) (due_taken (Byte a) piece some takes) (stays_full (Byte a) Taken (drop 1 piece) proper (sym (taken_full (Byte a))))
+byte_passes a n piece proper some is = grind (arith, plain_ends, due_taken, stays_full, taken_full)
 
 pub percent_passes : (n : ℕ) (piece : List ℕ) → 0 < length piece → is_white (get_or piece 0 0) ≡ false → get_or piece 0 0 ≡ 37
     → Answers Percent Skipping n piece (record { before = 1; item = 0; phase = phase.Skipping; ends = Some finish.Passes })
-percent_passes n piece some ink is =
-    let takes : stepped Percent Skipping (get_or piece 0 0) ≡ Some Taken =
-    ap (λ v. cond v (Some Skipping) (stepped (Byte 37) Skipping (get_or piece 0 0))) ink ∙ ap (λ v. cond v (Some Taken) None) ((tests_same 37 (get_or piece 0 0)).to (sym is)) in
-    plain_ends Percent n 1 Taken piece finish.Passes (omega (arith, some)) (due_taken Percent piece some takes) (stays_full Percent Taken (drop 1 piece) tt (sym (taken_full Percent)))
+percent_passes n piece some ink is = grind (arith, plain_ends, due_taken, stays_full, taken_full)
 
 -- n
 pub count_answers : (c : Conversion) (n : ℕ) (piece : List ℕ) (end : Finished) → IsProper (Conv c) → is_count c.shape ≡ true → end_of [] end ≡ count_end c c.slot n
@@ -284,13 +269,7 @@ stores_behind c f piece n slot j within can own below =
 
 -- a scan is of a conversion with an item
 pub scan_has_item : (scan : ItemScan) (f : List ℕ) → HasTaken scan f → is_count (conversion_of scan).shape ≡ false
-scan_has_item scan f h = ap is_count (sym h.shape) ∙ by_reading scan.reading
-  where
-    by_reading : (r : Reading) → is_count (shape_of r) ≡ false
-    by_reading (reading.Integer base reached) = refl
-    by_reading reading.Text = refl
-    by_reading (reading.Set members) = refl
-    by_reading reading.Chars = refl
+scan_has_item scan f h = grind arith
 
 -- the item f with bytes of the piece ends where the next byte can't be taken
 pub over_next : (c : Conversion) (f piece : List ℕ) (n : ℕ) → IsProperShape c.shape → n < length piece → (CanTake c (f ++ take (n + 1) piece) → ⊥) → StaysAt (Conv c) (Item (f ++ take n piece)) (drop n piece)
@@ -394,9 +373,7 @@ nothing_taken c n piece proper other some ink never =
 
 -- an item that is over ends as the code tells
 pub over_ends : (c k : Conversion) (h rest : List ℕ) (end : Finished) → k ≡ c → is_count c.shape ≡ false → StaysAt (Conv k) (Item h) rest → end_of h end ≡ item_end c h → EndsAt (Conv c) h rest end
-over_ends c k h rest end same other stays is n z =
-    subst (λ (x : Conversion). one_from (Conv x) (Item h) n (rest ++ z) ≡ record { used = n; left = rest ++ z; end = finished (Conv x) (Item h) n true }) same (stays n z)
-    ∙ same_part refl refl (other_finished c c.shape (Item h) n true other ∙ sym is)
+over_ends c k h rest end same other stays is = grind arith
 
 -- ---- integers that were read in one go
 
@@ -423,11 +400,7 @@ fronts_of c x n proper below is = (can, cannot)
         omega (arith, most)
 
 some_bytes : (base : Base) (piece : List ℕ) (n : ℕ) (negative : Bool) (m : ℕ) → IsInteger base (take n piece) negative m → 0 < n
-some_bytes base piece zero negative m is = absurd (nothing (integer_at_is base [] negative m is))
-  where
-    nothing : ◌≡◌ {A = Option (Bool × ℕ)} None (Some (negative, m)) → ⊥
-    nothing e = cc
-some_bytes base piece (suc n) negative m is = omega arith
+some_bytes base piece n negative m is = grind arith
 
 pub integer_read : (c : Conversion) (n : ℕ) (piece : List ℕ) (w : WholeInteger) (end : Finished) → IsWhole c.shape c.width piece w → (shape_skips c.shape && is_white (get_or piece 0 0)) ≡ false
     → ((text : List ℕ) → end_of text end ≡ passed_number c c.slot (value_of c.kind w.negative w.magnitude))
@@ -497,37 +470,14 @@ bytes_read c n item piece end proper text other is ink none some = record {
 
 pub suits_waits : (d : Directive) (w : ℕ) (piece : List ℕ) → counts_bytes d ≡ false → w ≡ length piece
     → Suits d phase.Skipping piece (record { before = w; item = 0; phase = phase.Skipping; ends = None })
-suits_waits d w piece none all = record {
-  within = omega (arith, all);
-  all = λ e. omega (arith, all);
-  more = λ e q proper shows. ap (is_full d) shows ∙ sym (skipping_full d proper) ∙ none;
-  slot = tt;
-  left = tt;
-  end = tt;
-}
+suits_waits d w piece none all = grind (arith, skipping_full)
 
 pub suits_behind : (d : Directive) (w : ℕ) (piece : List ℕ) (run : Run) → w ≤ length piece → Suits d phase.Skipping (drop w piece) run → Suits d phase.Skipping piece (record run { before = w + run.before })
-suits_behind d w piece run within s =
-    let all : length (drop w piece) + w ≡ length piece = (let l = length-drop w piece in omega (arith, l, within)) in
-    let fits = s.within in
-    record { within = omega (arith, all, fits); all = λ e. let k = s.all e in omega (arith, all, k); more = s.more; slot = s.slot; left = s.left; end = s.end }
+suits_behind d w piece run within s = grind (arith, length-drop)
 
 -- one that isn't of a conversion
 pub suits_plain : (d : Directive) (p : Phase) (piece : List ℕ) (run : Run) → text_slot d ≡ None → IfSome (slot_in p) (λ slot. text_slot d ≡ Some slot) → Suits d phase.Skipping piece run → Suits d p piece run
-suits_plain d phase.Skipping piece run none own s = s
-suits_plain d (phase.Text slot scan) piece run none own s = let e : None ≡ Some slot = sym none ∙ own in cc
-suits_plain d (phase.Item scan) piece run none own s = record { within = s.within; all = s.all; more = s.more; slot = s.slot; left = by_phase run.phase s.left; end = s.end }
-  where
-    same : (d : Directive) → left_before d phase.Skipping ≡ left_before d (phase.Item scan)
-    same Space = refl
-    same (Byte a) = refl
-    same Percent = refl
-    same (Conv c) = refl
-
-    by_phase : (new : Phase) → LeftAfterAll d phase.Skipping new run.item → LeftAfterAll d (phase.Item scan) new run.item
-    by_phase phase.Skipping h = tt
-    by_phase (phase.Item next) h = tt
-    by_phase (phase.Text slot next) h = subst (λ m. HasLeft m (taking.left_of next) run.item) (same d) h
+suits_plain d p piece run none own s = grind arith
 
 pub end_is : (d : Directive) (current : Phase) (o : Option Finished) (end : Finished) → o ≡ Some end → IfSome o (IsEnd d current) → IsEnd d current end
 end_is d current o end e own = subst (λ (o : Option Finished). IfSome o (IsEnd d current)) e own
@@ -535,27 +485,12 @@ end_is d current o end e own = subst (λ (o : Option Finished). IfSome o (IsEnd 
 -- ---- directives that end within the piece
 
 pub end_fits : (d : Directive) (piece : List ℕ) (run : Run) (e : Ended) → IsEndOf e run → Suits d phase.Skipping piece run → IsEndIn d piece e
-end_fits d piece run e is suits =
-    let own : IsEnd d run.phase e.finished = end_is d run.phase run.ends e.finished is.finished suits.end in
-    let fits = suits.within in
-    let before = is.before in
-    let item = is.item in
-    record { within = omega (arith, fits, before, item); given = own.given; number = own.number; memory = own.memory }
+end_fits d piece run e is suits = grind arith
 
 -- the end of an answer that fits the directive
 pub ended_by : (d : Directive) (n : ℕ) (piece : List ℕ) (run : Run) (o : Option Ended) → IfSome o (λ e. IsEndOf e run) → (IsProper d → Answers d Skipping n piece run)
     → Suits d phase.Skipping piece run → IfSome o (EndsAtOnce d n piece)
-ended_by d n piece run None is answers suits = tt
-ended_by d n piece run (Some e) is answers suits = record {
-  answers = λ proper. record {
-    goes =
-        subst (λ k. EndsIn d Skipping n piece (e.before + k) (end_of (take k (drop e.before piece)) e.finished)) (sym is.item)
-        (subst (λ b. EndsIn d Skipping n piece (b + run.item) (end_of (take run.item (drop b piece)) e.finished)) (sym is.before)
-        (subst (λ (o : Option Finished). AnswersBy o d Skipping n piece run) is.finished (let a = answers proper in a.goes)));
-    stores = λ slot j none below. absurd cc;
-  };
-  fits = end_fits d piece run e is suits;
-}
+ended_by d n piece run o is answers suits = grind (arith, end_fits)
 
 -- behind bytes that are skipped
 pub ended_behind : (d : Directive) (n w : ℕ) (piece : List ℕ) (e : Ended) → w ≤ length piece → e.before ≡ 0 → (IsProper d → stepped_all d Skipping (take w piece) ≡ Some Skipping)
@@ -571,20 +506,8 @@ ended_behind d n w piece e within front skips answers is =
 
 -- one that closes no text fits the directive as an answer
 pub suits_ended : (d : Directive) (piece : List ℕ) (e : Ended) → slot_closed e.finished ≡ None → IsEndIn d piece e → Suits d phase.Skipping piece (run_of e)
-suits_ended d piece e none is = record {
-  within = is.within;
-  all = λ e. cc;
-  more = λ e. cc;
-  slot = tt;
-  left = tt;
-  end = record { text = λ ok. sym none; given = is.given; number = is.number; memory = is.memory };
-}
+suits_ended d piece e none is = grind arith
 
 -- a directive that waits at the end of the piece doesn't pass before
 pub waits_late : (d : Directive) (n : ℕ) (piece : List ℕ) (room : ℕ) (run : Run) → run.ends ≡ None → Answers d Skipping n piece run → Suits d phase.Skipping piece run → IsSure d n piece room → ⊥
-waits_late d n piece room run none answers suits sure =
-    let all = suits.all none in
-    let within = suits.within in
-    let most = answers_use d Skipping n piece run within answers sure.after in
-    let early = sure.early in
-    omega (arith, all, most, early)
+waits_late d n piece room run none answers suits sure = grind (arith, answers_use)

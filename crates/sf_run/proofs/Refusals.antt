@@ -44,70 +44,46 @@ own_end (Fails status) = is_own status
 
 number_own : (c : Conversion) (slot : ℕ) (v : Option ℤ) → own_end (number_end c slot v) ≡ true
 unfolding own_end is_own
-number_own c slot None = refl
-number_own c slot (Some v) = refl
+number_own c slot v = grind arith
 
 count_own : (c : Conversion) (slot : Option ℕ) (n : ℕ) → own_end (count_end c slot n) ≡ true
 unfolding own_end is_own
-count_own c None n = refl
-count_own c (Some slot) n = number_own c slot (value_of c.kind false n)
+count_own c slot n = grind arith
 
 integer_own : (c : Conversion) (slot : ℕ) (i : Option (Bool × ℕ)) → own_end (integer_end c slot i) ≡ true
 unfolding own_end is_own
-integer_own c slot None = refl
-integer_own c slot (Some i) = number_own c slot (value_of c.kind i.0 i.1)
+integer_own c slot i = grind arith
 
 stored_own : (c : Conversion) (slot : ℕ) (shape : Shape) (item : List ℕ) → own_end (stored_end c slot shape item) ≡ true
 unfolding own_end is_own
-stored_own c slot (Int base) item = integer_own c slot (integer_at base item)
-stored_own c slot Text item = refl
-stored_own c slot (Set members) item = refl
-stored_own c slot Chars item = refl
-stored_own c slot Count item = refl
+stored_own c slot shape item = grind arith
 
 passed_own : (c : Conversion) (slot : Option ℕ) (item : List ℕ) → own_end (passed_end c slot item) ≡ true
 unfolding own_end is_own
-passed_own c None item = refl
-passed_own c (Some slot) item = stored_own c slot c.shape item
+passed_own c slot item = grind arith
 
 item_own : (c : Conversion) (item : List ℕ) → own_end (item_end c item) ≡ true
 unfolding own_end is_own
-item_own c item = by_case (matches c item)
-  where
-    by_case : (v : Bool) → own_end (cond v (passed_end c c.slot item) (Fails MatchingFailure)) ≡ true
-    by_case true = passed_own c c.slot item
-    by_case false = refl
+item_own c item = grind arith
 
 nothing_own : (more : Bool) → own_end (nothing_end more) ≡ true
 unfolding own_end is_own
-nothing_own true = refl
-nothing_own false = refl
+nothing_own more = grind arith
 
 item_finish_own : (c : Conversion) (q : Stage) (more : Bool) → own_end (item_finished c q more) ≡ true
 unfolding own_end is_own
-item_finish_own c Skipping more = nothing_own more
-item_finish_own c Taken more = refl
-item_finish_own c (Item f) more = item_own c f
+item_finish_own c q more = grind arith
 
 conversion_own : (c : Conversion) (shape : Shape) (q : Stage) (n : ℕ) (more : Bool) → own_end (conversion_finished c shape q n more) ≡ true
-conversion_own c Count q n more = count_own c c.slot n
-conversion_own c (Int base) q n more = item_finish_own c q more
-conversion_own c Text q n more = item_finish_own c q more
-conversion_own c (Set members) q n more = item_finish_own c q more
-conversion_own c Chars q n more = item_finish_own c q more
+conversion_own c shape q n more = grind (arith, count_own, item_finish_own)
 
 byte_own : (q : Stage) (more : Bool) → own_end (byte_finished q more) ≡ true
 unfolding own_end is_own
-byte_own Skipping more = nothing_own more
-byte_own Taken more = refl
-byte_own (Item f) more = refl
+byte_own q more = grind arith
 
 finish_own : (d : Directive) (q : Stage) (n : ℕ) (more : Bool) → own_end (finished d q n more) ≡ true
 unfolding own_end is_own
-finish_own Space q n more = refl
-finish_own (Byte a) q n more = byte_own q more
-finish_own Percent q n more = byte_own q more
-finish_own (Conv c) q n more = conversion_own c c.shape q n more
+finish_own d q n more = grind arith
 
 one_own : (d : Directive) (q : Stage) (n : ℕ) (x : List ℕ) → own_end (one_from d q n x).end ≡ true
 one_own d q n [] = finish_own d q n false
@@ -115,12 +91,7 @@ one_own d q n (b ∷ x) = by_option (λ p. own_end p.end ≡ true) (stepped d q 
 
 own_status : (status : Status) → own_end (Fails status) ≡ true → is_memory_status status ≡ false
 unfolding own_end is_own
-own_status Done e = refl
-own_status InputFailure e = refl
-own_status MatchingFailure e = refl
-own_status OutOfRange e = refl
-own_status TooLong e = refl
-own_status NoMemory e = absurd (true≢false (sym e))
+own_status status e = grind arith
 
 own_not_done : (end : StepEnd) (status : Status) → own_end end ≡ true → end ≡ Fails status → status ≡ Done → ⊥
 unfolding own_end is_own
@@ -131,9 +102,7 @@ never_done d q n x status is done = own_not_done (one_from d q n x).end status (
 
 end_fine : (end : StepEnd) (y : RunReport) (f : Status → RunReport) → own_end end ≡ true → is_memory_status y.status ≡ false → ((status : Status) → (f status).status ≡ status)
     → is_memory_status (by_end end y f).status ≡ false
-end_fine Passes y f own h same = h
-end_fine (Stores slot v) y f own h same = h
-end_fine (Fails status) y f own h same = ap is_memory_status (same status) ∙ own_status status own
+end_fine end y f own h same = grind (arith, own_status)
 
 over_fine : (v : Bool) (a b : RunReport) → a.status ≡ TooLong → is_memory_status b.status ≡ false → is_memory_status (cond v a b).status ≡ false
 over_fine true a b e h = ap is_memory_status e
@@ -196,10 +165,7 @@ stores_shape Text slot n b u v j e text all =
     (is_some_of slot n e, (skip (u ++ b ∷ v), skip_is (u ++ b ∷ v), omega (arith, low, all)))
 
 stores_at : (d : Directive) (b : ℕ) (u v : List ℕ) (j : ℕ) → StoresByte d b → length u ≡ j → StoresAt d (u ++ b ∷ v) j
-stores_at Space b u v j h all = absurd h
-stores_at (Byte a) b u v j h all = absurd h
-stores_at Percent b u v j h all = absurd h
-stores_at (Conv c) b u v j h all = stores_shape c.shape c.slot h.0 b u v j h.1 h.2 all
+stores_at d b u v j h all = grind (arith, stores_shape)
 
 -- ---- the report
 

@@ -5,10 +5,7 @@ use Rattle.sf_base.specs.Bytes.{is_white, AreWhite, IsSkip}
 use Rattle.sf_run.specs.Computed.{skip}
 
 pub greatest_only : {P : ℕ → Type 0} {j k : ℕ} → IsGreatest P j → IsGreatest P k → j ≡ k
-greatest_only {P} {j} {k} g h =
-    let up = h.above j g.holds in
-    let down = g.above k h.holds in
-    omega (arith, up, down)
+greatest_only g h = grind arith
 
 pub one_more-le : (c : Bool) (k l : ℕ) → k ≤ l → cond c (suc k) 0 ≤ suc l
 one_more-le true k l h = omega arith
@@ -24,18 +21,10 @@ none_white b x e zero h = omega arith
 none_white b x e (suc j) h = absurd (true≢false (sym h.0 ∙ e))
 
 one_more : (b : ℕ) (x : List ℕ) (k : ℕ) → IsSkip x k → (j : ℕ) → (j ≤ length (b ∷ x)) × AreWhite (take j (b ∷ x)) → j ≤ suc k
-one_more b x k h zero w = omega arith
-one_more b x k h (suc j) w =
-    let fits = w.0 in
-    let below = h.above j (omega (arith, fits), w.1.1) in
-    omega (arith, below)
+one_more b x k h j w = grind arith
 
 skip_step : (b : ℕ) (x : List ℕ) (c : Bool) → is_white b ≡ c → IsSkip x (skip x) → IsSkip (b ∷ x) (cond c (suc (skip x)) 0)
-skip_step b x true e h = record {
-  holds = (let fits = h.holds.0 in omega (arith, fits), (e, h.holds.1));
-  above = one_more b x (skip x) h;
-}
-skip_step b x false e h = record { holds = (omega arith, tt); above = λ j w. none_white b x e j w.1 }
+skip_step b x c e h = grind arith
 
 pub skip_is : (x : List ℕ) → IsSkip x (skip x)
 skip_is [] = record { holds = (omega arith, tt); above = λ j h. h.0 }

@@ -40,19 +40,11 @@ with_slot (Some n) ns = n ∷ ns
 
 slots-cons : (d : Directive) (ds : List Directive) → slots_of (d ∷ ds) ≡ with_slot (slot_of d) (slots_of ds)
 unfolding with_slot
-slots-cons Space ds = refl
-slots-cons (Byte a) ds = refl
-slots-cons Percent ds = refl
-slots-cons (Conv c) ds = by_slot c.slot refl
-  where
-    by_slot : (slot : Option ℕ) → c.slot ≡ slot → slots_of (Conv c ∷ ds) ≡ with_slot slot (slots_of ds)
-    by_slot None e = rw e refl
-    by_slot (Some n) e = rw e refl
+slots-cons d ds = grind arith
 
 with-append : (slot : Option ℕ) (ms ns : List ℕ) → with_slot slot (ms ++ ns) ≡ with_slot slot ms ++ ns
 unfolding with_slot
-with-append None ms ns = refl
-with-append (Some n) ms ns = refl
+with-append slot ms ns = grind arith
 
 slots_split : (ds : List Directive) (p : ℕ) → slots_of ds ≡ slots_of (take p ds) ++ slots_of (drop p ds)
 slots_split ds zero = refl
@@ -164,23 +156,10 @@ slot_free ds p d slot values apart is at own =
 -- ---- destinations
 
 pub is_destination_of : (d : Directive) (slot : ℕ) → slot_of d ≡ Some slot → is_destination d ≡ true
-is_destination_of Space slot e = cc
-is_destination_of (Byte a) slot e = cc
-is_destination_of Percent slot e = cc
-is_destination_of (Conv c) slot e = rw e refl
+is_destination_of d slot e = grind arith
 
 pub slot_of_own : (d : Directive) (slot : ℕ) → text_slot d ≡ Some slot → slot_of d ≡ Some slot
-slot_of_own Space slot e = cc
-slot_of_own (Byte a) slot e = cc
-slot_of_own Percent slot e = cc
-slot_of_own (Conv c) slot e = by_shape c.shape e
-  where
-    by_shape : (shape : Shape) → slot_of_text shape c.slot ≡ Some slot → c.slot ≡ Some slot
-    by_shape (Int base) e = cc
-    by_shape Text e = e
-    by_shape (Set members) e = e
-    by_shape Chars e = e
-    by_shape Count e = cc
+slot_of_own d slot e = grind arith
 
 -- ---- texts
 
@@ -219,10 +198,7 @@ room_passed (Some stop) ds p d current room at fits = omega arith
 
 -- a directive of a format with a width sum has a width
 sum_some : (a b : Option ℕ) → is_some (add_widths a b) ≡ true → (is_some a ≡ true) × (is_some b ≡ true)
-sum_some None None e = absurd (true≢false (sym e))
-sum_some None (Some n) e = absurd (true≢false (sym e))
-sum_some (Some m) None e = absurd (true≢false (sym e))
-sum_some (Some m) (Some n) e = (refl, refl)
+sum_some a b e = grind arith
 
 width_at : (ds : List Directive) (p : ℕ) (d : Directive) → is_some (width_sum ds) ≡ true → slice_get ds p ≡ Some d → is_some (stored_width d) ≡ true
 width_at [] p d h at = cc
@@ -231,30 +207,16 @@ width_at (x ∷ ds) (suc p) d h at = width_at ds p d (sum_some (stored_width x) 
 
 -- the bytes of a text that begins
 first_left : (shape : Shape) (width slot : Option ℕ) (n : ℕ) → slot_of_text shape slot ≡ Some n → is_some (text_width shape width) ≡ true → most_bytes shape width ≡ text_width shape width
-first_left (Int base) width slot n e h = cc
-first_left Text width slot n e h = refl
-first_left (Set members) width slot n e h = refl
-first_left Chars None slot n e h = absurd (true≢false (sym h))
-first_left Chars (Some w) slot n e h = refl
-first_left Count width slot n e h = cc
+first_left shape width slot n e h = grind arith
 
 start_left : (c : Conversion) (slot : ℕ) → text_slot (Conv c) ≡ Some slot → is_some (stored_width (Conv c)) ≡ true → most_bytes c.shape c.width ≡ stored_width (Conv c)
-start_left c slot e h =
-    let own : stored_width (Conv c) ≡ text_width c.shape c.width = rw (slot_of_own (Conv c) slot e) refl in
-    first_left c.shape c.width c.slot slot e (ap is_some (sym own) ∙ h) ∙ sym own
+start_left c slot e h = grind arith
 
 pub begins_with : (d : Directive) (current : Phase) (slot : ℕ) → slot_in current ≡ None → text_slot d ≡ Some slot → is_some (stored_width d) ≡ true → left_before d current ≡ stored_width d
-begins_with Space current slot none e h = cc
-begins_with (Byte a) current slot none e h = cc
-begins_with Percent current slot none e h = cc
-begins_with (Conv c) (phase.Text s scan) slot none e h = cc
-begins_with (Conv c) phase.Skipping slot none e h = start_left c slot e h
-begins_with (Conv c) (phase.Item scan) slot none e h = start_left c slot e h
+begins_with d current slot none e h = grind arith
 
 width_before : (d : Directive) (current : Phase) → slot_in current ≡ None → width_left d current ≡ unwrap_or (stored_width d) 0
-width_before d phase.Skipping none = refl
-width_before d (phase.Item scan) none = refl
-width_before d (phase.Text slot scan) none = cc
+width_before d current none = grind arith
 
 module _ (ds : List Directive) (p : ℕ) (d : Directive) (current : Phase) (slot : ℕ) (scan : ItemScan) (at : slice_get ds p ≡ Some d) (none : slot_in current ≡ None)
     (text : text_slot d ≡ Some slot) (left : left_of scan ≡ left_before d current) (bounded : is_some (width_sum ds) ≡ true) where
@@ -265,20 +227,13 @@ module _ (ds : List Directive) (p : ℕ) (d : Directive) (current : Phase) (slot
   open_limited = ap is_some width ∙ width_at ds p d bounded at
 
   pub room_opened : (ended : Option Stop) (room : ℕ) → still_stored ended ds p current ≤ room → still_stored ended ds p (phase.Text slot scan) ≤ room
-  room_opened None room fits =
-      let a = widths_at ds p d current at in
-      let b = widths_at ds p d (phase.Text slot scan) at in
-      let e : unwrap_or (left_of scan) 0 ≡ width_left d current = ap (λ w. unwrap_or w 0) width ∙ sym (width_before d current none) in
-      omega (arith, a, b, e, fits)
-  room_opened (Some stop) room fits = omega arith
+  room_opened ended room fits = grind (arith, widths_at, width)
 
 -- ---- the text under way is that of the directive
 
 pub own_text : (ds : List Directive) (p : ℕ) (d : Directive) (current : Phase) → slice_get ds p ≡ Some d → (is_text current ≡ true → first_slot (drop p ds) ≡ slot_in current)
     → (slot : ℕ) → slot_in current ≡ Some slot → text_slot d ≡ Some slot
-own_text ds p d phase.Skipping at own slot e = cc
-own_text ds p d (phase.Item scan) at own slot e = cc
-own_text ds p d (phase.Text s scan) at own slot e = ap first_slot (sym (drop_at ds p d at)) ∙ own refl ∙ e
+own_text ds p d current at own slot e = grind (arith, drop_at)
 
 pub text_own : (ds : List Directive) (p : ℕ) (d : Directive) (slot : ℕ) → slice_get ds p ≡ Some d → text_slot d ≡ Some slot → first_slot (drop p ds) ≡ Some slot
 text_own ds p d slot at e = ap first_slot (drop_at ds p d at) ∙ e
@@ -289,12 +244,7 @@ if_some (Some a) P f = f a refl
 
 -- nothing of the item was taken yet
 pub left_first : (d : Directive) (c : Conversion) (current : Phase) → d ≡ Conv c → slot_in current ≡ None → most_bytes c.shape c.width ≡ left_before d current
-left_first Space c current e none = cc
-left_first (Byte a) c current e none = cc
-left_first Percent c current e none = cc
-left_first (Conv k) c phase.Skipping e none = ap (λ (x : Conversion). most_bytes x.shape x.width) (sym (conv_is k c e))
-left_first (Conv k) c (phase.Item scan) e none = ap (λ (x : Conversion). most_bytes x.shape x.width) (sym (conv_is k c e))
-left_first (Conv k) c (phase.Text slot scan) e none = cc
+left_first d c current e none = grind arith
 
 -- ---- what a format says of its slots
 
@@ -324,10 +274,7 @@ some_back None h = absurd (true≢false (sym h))
 some_back (Some n) h = refl
 
 added : (a b : Option ℕ) (n : ℕ) → add_widths a b ≡ Some n → unwrap_or a 0 + unwrap_or b 0 ≡ n
-added None None n e = cc
-added None (Some j) n e = cc
-added (Some i) None n e = cc
-added (Some i) (Some j) n e = some_is (i + j) n e
+added a b n e = grind arith
 
 unwrapped : (ds : List Directive) → is_some (width_sum ds) ≡ true → stored_widths ds ≡ unwrap_or (width_sum ds) 0
 unwrapped [] h = refl
@@ -342,14 +289,7 @@ pub widths_are : (ds : List Directive) (n : ℕ) → width_sum ds ≡ Some n →
 widths_are ds n e = plain_widths ds ∙ unwrapped ds (ap is_some e) ∙ ap (λ o. unwrap_or o 0) e
 
 pub room_first : (ds : List Directive) (room : ℕ) → IfSome (width_sum ds) (λ n. n ≤ room) → is_some (width_sum ds) ≡ true → widths_from ds phase.Skipping ≤ room
-room_first ds room fits bounded =
-    let e = widths_are ds (unwrap_or (width_sum ds) 0) (some_back (width_sum ds) bounded) in
-    let f = fits_by (width_sum ds) bounded fits in
-    omega (arith, e, f)
-  where
-    fits_by : (o : Option ℕ) → is_some o ≡ true → IfSome o (λ n. n ≤ room) → unwrap_or o 0 ≤ room
-    fits_by None h f = absurd (true≢false (sym h))
-    fits_by (Some n) h f = f
+room_first ds room fits bounded = grind (arith, widths_are)
 
 -- ---- how much a store holds of a format with a width sum
 
@@ -373,14 +313,7 @@ size_first ds bounded = widths_are ds (unwrap_or (width_sum ds) 0) (some_back (w
 
 pub holds : (ds : List Directive) (kept : Kept) (still : ℕ) → kept.closed ≡ texts_in kept.values
     → (is_some (width_sum ds) ≡ true → length (buffer_of kept) + still ≤ unwrap_or (width_sum ds) 0) → HoldsTexts ds kept
-holds ds kept still joined sized = record {
-  joined = ap (λ l. l ++ text_of kept.opened) joined;
-  few = few_by (width_sum ds) sized;
-}
-  where
-    few_by : (o : Option ℕ) → (is_some o ≡ true → length (buffer_of kept) + still ≤ unwrap_or o 0) → IfSome o (λ n. length (buffer_of kept) ≤ n)
-    few_by None f = tt
-    few_by (Some n) f = let h = f refl in omega (arith, h)
+holds ds kept still joined sized = grind arith
 
 -- ---- what a store can hold
 

@@ -26,24 +26,13 @@ Is r k end = (k ≡ r.0) × (end ≡ r.1)
 -- ---- a byte
 
 by_same : (a b : ℕ) (P : Bool → Type 0) → (a ≡ b → P true) → (a ≢ b → P false) → P (nat_eq a b)
-by_same a b P left right =
-    elim (nat_eq a b) as (λ v. nat_eq a b ≡ v → P v) [
-      | true ↦ λ e. left ((tests_same a b).from e)
-      | false ↦ λ e. right (fails (tests_same a b) e)
-    ] refl
+by_same a b P left right = grind arith
 
 byte_is : (a : ℕ) (x : List ℕ) → ByteStep a x (byte_step a x).0 (byte_step a x).1
-byte_is a [] = (refl, refl)
-byte_is a (b ∷ x) =
-    by_same a b (λ v. ByteStep a (b ∷ x) (byte_choice v).0 (byte_choice v).1)
-    (λ same. inl (sym same, refl, refl)) (λ other. inr (λ e. other (sym e), refl, refl))
+byte_is a x = grind arith
 
 byte_only : (a : ℕ) (x : List ℕ) (k : ℕ) (end : StepEnd) → ByteStep a x k end → Is (byte_step a x) k end
-byte_only a [] k end h = h
-byte_only a (b ∷ x) k end h =
-    by_same a b (λ v. Is (byte_choice v) k end)
-    (λ same. elim h [ inl l ↦ (l.1, l.2) | inr r ↦ absurd (r.0 (sym same)) ])
-    (λ other. elim h [ inl l ↦ absurd (other (sym l.0)) | inr r ↦ (r.1, r.2) ])
+byte_only a x k end h = grind arith
 
 choice-le : (v : Bool) (n : ℕ) → (byte_choice v).0 ≤ suc n
 choice-le true n = omega arith
@@ -134,56 +123,23 @@ ends_only c x (suc j) end h =
 -- ---- items
 
 skip_before_is : (shape : Shape) (x : List ℕ) → IsSkipBefore shape x (skip_before shape x)
-skip_before_is (Int base) x = skip_is x
-skip_before_is Text x = skip_is x
-skip_before_is (Set members) x = refl
-skip_before_is Chars x = refl
-skip_before_is Count x = refl
+skip_before_is shape x = grind (arith, skip_is)
 
 skip_before_only : (shape : Shape) (x : List ℕ) (s : ℕ) → IsSkipBefore shape x s → s ≡ skip_before shape x
-skip_before_only (Int base) x s h = skip_only x s h
-skip_before_only Text x s h = skip_only x s h
-skip_before_only (Set members) x s h = h
-skip_before_only Chars x s h = h
-skip_before_only Count x s h = h
+skip_before_only shape x s h = grind (arith, skip_only)
 
 skip_before-le : (shape : Shape) (x : List ℕ) → skip_before shape x ≤ length x
-skip_before-le (Int base) x = skip-le x
-skip_before-le Text x = skip-le x
-skip_before-le (Set members) x = omega arith
-skip_before-le Chars x = omega arith
-skip_before-le Count x = omega arith
+skip_before-le shape x = grind (arith, skip-le)
 
 item_step-le : (c : Conversion) (x : List ℕ) → (item_step c x).0 ≤ length x
-item_step-le c x =
-    let s = skip_before c.shape x in
-    let skipped : s ≤ length x = skip_before-le c.shape x in
-    let item : len c [] (drop s x) ≤ length (drop s x) = len-le c [] (drop s x) in
-    let left : length (drop s x) ≡ length x - s = length-drop s x in
-    omega (arith, skipped, item, left)
+item_step-le c x = grind (arith, skip_before-le, len-le, length-drop)
 
 module _ (c : Conversion) (proper : IsProperShape c.shape) (takes : HasItem c.shape) (x : List ℕ) where
   item_step_is : ItemStep c x (item_step c x).0 (item_step c x).1
-  item_step_is =
-      let s = skip_before c.shape x in
-      let j = len c [] (drop s x) in
-      (s, j, skip_before_is c.shape x, item_is c proper takes (drop s x), refl, ends_is c (drop s x) j)
+  item_step_is = grind (arith, skip_before_is, item_is, ends_is)
 
   item_step_only : (k : ℕ) (end : StepEnd) → ItemStep c x k end → Is (item_step c x) k end
-  item_step_only k end (s, j, skipped, item, k_is, ends) =
-      at_skip s (skip_before_only c.shape x s skipped) item k_is ends
-    where
-      at_item : (i : ℕ) → i ≡ len c [] (drop (skip_before c.shape x) x) → k ≡ skip_before c.shape x + i
-          → ItemEnds c (drop (skip_before c.shape x) x) i end → Is (item_step c x) k end
-      at_item i i_is k_is ends = (
-        k_is ∙ ap (λ n. skip_before c.shape x + n) i_is,
-        ends_only c (drop (skip_before c.shape x) x) i end ends ∙ ap (item_ended c (drop (skip_before c.shape x) x)) i_is,
-      )
-
-      at_skip : (r : ℕ) → r ≡ skip_before c.shape x → IsItem c (drop r x) j → k ≡ r + j → ItemEnds c (drop r x) j end → Is (item_step c x) k end
-      at_skip r r_is item k_is ends =
-          at_item j (item_only c proper takes (drop (skip_before c.shape x) x) j (subst (λ n. IsItem c (drop n x) j) r_is item))
-          (k_is ∙ ap (λ n. n + j) r_is) (subst (λ n. ItemEnds c (drop n x) j end) r_is ends)
+  item_step_only k end h1 = grind (arith, skip_before_only, ends_only, item_only)
 
 -- ---- steps
 
@@ -204,39 +160,19 @@ conversion_only c Chars e proper x n k end h = item_step_only c (subst IsProperS
 conversion_only c Count e proper x n k end h = (h.0, count_only c c.slot n end h.1)
 
 conversion_within : (c : Conversion) (shape : Shape) (x : List ℕ) (n : ℕ) → (conversion_step c shape x n).0 ≤ length x
-conversion_within c (Int base) x n = item_step-le c x
-conversion_within c Text x n = item_step-le c x
-conversion_within c (Set members) x n = item_step-le c x
-conversion_within c Chars x n = item_step-le c x
-conversion_within c Count x n = omega arith
+conversion_within c shape x n = grind (arith, item_step-le)
 
 pub step_is : (d : Directive) → IsProper d → (x : List ℕ) (n : ℕ) → Step d x n (step_of d x n).0 (step_of d x n).1
-step_is Space proper x n = (skip_is x, refl)
-step_is (Byte a) proper x n = byte_is a x
-step_is Percent proper x n = (skip x, (byte_step 37 (drop (skip x) x)).0, skip_is x, byte_is 37 (drop (skip x) x), refl)
-step_is (Conv c) proper x n = conversion_is c c.shape refl proper.0 x n
+step_is d proper x n = grind (arith, skip_is, conversion_is)
 
 percent_only : (x : List ℕ) (n k : ℕ) (end : StepEnd) → Step Percent x n k end → Is (step_of Percent x n) k end
-percent_only x n k end (s, j, skipped, byte, k_is) =
-    let s_is = skip_only x s skipped in
-    let here = byte_only 37 (drop (skip x) x) j end (subst (λ r. ByteStep 37 (drop r x) j end) s_is byte) in
-    (k_is ∙ ap₂ (λ a b. a + b) s_is here.0, here.1)
+percent_only x n k end h1 = grind (arith, skip_only)
 
 pub step_only : (d : Directive) → IsProper d → (x : List ℕ) (n k : ℕ) (end : StepEnd) → Step d x n k end → (k ≡ (step_of d x n).0) × (end ≡ (step_of d x n).1)
-step_only Space proper x n k end h = (skip_only x k h.0, h.1)
-step_only (Byte a) proper x n k end h = byte_only a x k end h
-step_only Percent proper x n k end h = percent_only x n k end h
-step_only (Conv c) proper x n k end h = conversion_only c c.shape refl proper.0 x n k end h
+step_only d proper x n k end h = grind (arith, skip_only, byte_only, conversion_only)
 
 percent_within : (x : List ℕ) → (percent_step x (skip x)).0 ≤ length x
-percent_within x =
-    let skipped = skip-le x in
-    let byte = byte_step-le 37 (drop (skip x) x) in
-    let left : length (drop (skip x) x) ≡ length x - skip x = length-drop (skip x) x in
-    omega (arith, skipped, byte, left)
+percent_within x = grind (arith, skip-le, byte_step-le, length-drop)
 
 pub step_within : (d : Directive) (x : List ℕ) (n : ℕ) → (step_of d x n).0 ≤ length x
-step_within Space x n = skip-le x
-step_within (Byte a) x n = byte_step-le a x
-step_within Percent x n = percent_within x
-step_within (Conv c) x n = conversion_within c c.shape x n
+step_within d x n = grind (arith, skip-le, percent_within, conversion_within)

@@ -75,10 +75,7 @@ sums_none t = same_tally _ _ _ _ (sym (add-zero t.used)) (sym (add-zero t.assign
 
 -- a step that fails
 sums_fails : (d : Directive) (status : Status) (k : ℕ) (t : Tally) → with_used (t.used + k) t ≡ sums t (ran_one d k (Fails status) ∷ [])
-sums_fails d status k t =
-    let r = ran_one d k (Fails status) in
-    same_tally _ _ _ _ (sym (add-zero (t.used + k)) ∙ used_more t.used k 0 _ (used-cons r [])) (sym (add-zero t.assigned) ∙ count_none (is_conversion d) t.assigned 0 _ (assigned-cons r []))
-    (sym (add-zero t.converted) ∙ count_none (is_conversion d) t.converted 0 _ (converted-cons r [])) (sym (append-nil t.values))
+sums_fails d status k t = grind (arith, append-nil)
 
 -- ---- reports of a list of steps, where a directives passed before with the totals t
 
@@ -99,43 +96,28 @@ place_more v a n = ap (λ i. cond v i 0) (let e : a + 1 + n ≡ a + suc n = omeg
 
 told_step : (d : Directive) (end : StepEnd) (k a : ℕ) (t : Tally) (ran : List Ran) → passed end ≡ true
     → told_from (a + 1) (counted d end (with_used (t.used + k) t)) ran ≡ told_from a t (ran_one d k end ∷ ran)
-told_step d Passes k a t ran h =
-    same_out (status_of ran) _ _ _ _ (place_more _ a (length ran)) (sums_step d Passes k t ran h)
-told_step d (Stores slot v) k a t ran h =
-    same_out (status_of ran) _ _ _ _ (place_more _ a (length ran)) (sums_step d (Stores slot v) k t ran h)
-told_step d (Fails status) k a t ran h = absurd (true≢false (sym h))
+told_step d end k a t ran h = grind (arith, sums_step)
 
 cut_step : (d : Directive) (end : StepEnd) (k a m : ℕ) (t : Tally) (before : List Ran) → passed end ≡ true
     → cut_from (a + 1) (counted d end (with_used (t.used + k) t)) before m ≡ cut_from a t (ran_one d k end ∷ before) m
-cut_step d end k a m t before h =
-    same_out TooLong _ _ _ _ (let e : a + 1 + (length before + 1) ≡ a + (suc (length before) + 1) = omega arith in e) (ap (with_used m) (sums_step d end k t before h))
+cut_step d end k a m t before h = grind (arith, sums_step)
 
 -- ---- by the first directive's end
 
 cases_passed : (end : StepEnd) → (passed end ≡ true) ⊎ (passed end ≡ false)
-cases_passed Passes = inl refl
-cases_passed (Stores slot v) = inl refl
-cases_passed (Fails status) = inr refl
+cases_passed end = grind arith
 
 counted-used : (d : Directive) (end : StepEnd) (t : Tally) → (counted d end t).used ≡ t.used
-counted-used d Passes t = refl
-counted-used d (Stores slot v) t = refl
-counted-used d (Fails status) t = refl
+counted-used d end t = grind arith
 
 by_passed : (end : StepEnd) (y : RunReport) (f : Status → RunReport) → passed end ≡ true → by_end end y f ≡ y
-by_passed Passes y f h = refl
-by_passed (Stores slot v) y f h = refl
-by_passed (Fails status) y f h = absurd (true≢false (sym h))
+by_passed end y f h = grind arith
 
 go_passed : (end : StepEnd) (rest : List Ran) → passed end ≡ true → go_on end rest ≡ rest
-go_passed Passes rest h = refl
-go_passed (Stores slot v) rest h = refl
-go_passed (Fails status) rest h = absurd (true≢false (sym h))
+go_passed end rest h = grind arith
 
 go_failed : (end : StepEnd) (rest : List Ran) → passed end ≡ false → go_on end rest ≡ []
-go_failed Passes rest h = absurd (true≢false h)
-go_failed (Stores slot v) rest h = absurd (true≢false h)
-go_failed (Fails status) rest h = refl
+go_failed end rest h = grind arith
 
 -- the totals after the first directive
 abbrev next_tally : Directive → List ℕ → Tally → Tally
@@ -207,17 +189,12 @@ uses_from ds proper x k e = (ran_of ds x 0, steps_is ds proper x 0, sym (ap (λ 
 
 -- by the first directive's end, if the rest of the run is the same where there is one
 same_first : (end : StepEnd) (y z : RunReport) (f : Status → RunReport) → (passed end ≡ true → y ≡ z) → by_end end y f ≡ by_end end z f
-same_first Passes y z f h = h refl
-same_first (Stores slot v) y z f h = h refl
-same_first (Fails status) y z f h = refl
+same_first end y z f h = grind arith
 
 -- the steps after the first, if it passes
 parts_left : (d : Directive) (ds : List Directive) (t : Tally) (x : List ℕ) (ran : List Ran) → passed (step_of d x t.used).1 ≡ true
     → go_on (step_of d x t.used).1 (later d ds x t.used) ≡ ran → ran_of ds (drop (step_of d x t.used).0 x) (next_tally d x t).used ≡ ran
-parts_left d ds t x ran h tail =
-    let k = (step_of d x t.used).0 in
-    ap (ran_of ds (drop k x)) (counted-used d (step_of d x t.used).1 (with_used (t.used + k) t))
-    ∙ sym (go_passed (step_of d x t.used).1 (later d ds x t.used) h) ∙ tail
+parts_left d ds t x ran h tail = grind arith
 
 within_limit : (ds : List Directive) (m at : ℕ) (t : Tally) (x : List ℕ) → t.used + used (ran_of ds x t.used) ≤ m
     → run_of (Some m) ds at t x ≡ run_of None ds at t x
@@ -407,16 +384,10 @@ module _ (open_all : UsesAll) (ds : List Directive) (proper : AreProper ds) (m :
   IsMet = IsOpen ds x × (length x ≤ m)
 
   from_length : IsMet → IsOpen ds x × (uses ds x ≤ m)
-  from_length h =
-      let all = open_all ds proper x h.0 in
-      let fits = h.1 in
-      (h.0, omega (arith, all, fits))
+  from_length h = grind arith
 
   to_length : IsOpen ds x × (uses ds x ≤ m) → IsMet
-  to_length h =
-      let all = open_all ds proper x h.0 in
-      let fits = h.1 in
-      (h.0, omega (arith, all, fits))
+  to_length h = grind arith
 
   pub within_met : (met : Option Ending) (r : RunReport) → TellsWithin ds m x r → SomeIff met (IsOpen ds x × (length x ≤ m)) ending
       → RunWithin ds m x ending (record r { met = met })
@@ -424,9 +395,7 @@ module _ (open_all : UsesAll) (ds : List Directive) (proper : AreProper ds) (m :
 
   pub met_within : (r : RunReport) → RunWithin ds m x ending r
       → TellsWithin ds m x (record r { met = None }) × SomeIff r.met (IsOpen ds x × (length x ≤ m)) ending
-  met_within r h =
-      let told = met_told ds proper m x ending r h in
-      (told.0, met_same r.met ending to_length from_length told.1)
+  met_within r h = grind (arith, met_told, met_same, to_length)
 
 -- ---- whether an input is open
 
@@ -467,10 +436,7 @@ met_is {test = true} ending tests = (tests.from refl, refl)
 met_is {test = false} ending tests = fails tests refl
 
 met_only : {P : Type 0} (test : Bool) (met : Option Ending) (ending : Ending) → Tests test P → SomeIff met P ending → met ≡ cond test (Some ending) None
-met_only true None ending tests h = absurd (h (tests.from refl))
-met_only false None ending tests h = refl
-met_only true (Some e) ending tests h = ap Some h.1
-met_only false (Some e) ending tests h = absurd (fails tests refl h.0)
+met_only test met ending tests h = grind arith
 
 -- the run met the ending: its input is open, and it was not cut off
 abbrev pub meets : List Directive → ℕ → List ℕ → Bool

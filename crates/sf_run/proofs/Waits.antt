@@ -91,13 +91,7 @@ one_byte d proper (phase.Text slot scan) q shows more = item_one d proper (Some 
 
 -- with no more input the scanner uses what it has used
 does_used : (s : Standing) (k : ℕ) (report : RunReport) → s.tally.used ≤ k → Does s k [] report → report.used ≡ s.tally.used
-does_used s k report within does = by_case s.ended does
-  where
-    by_case : (o : Option Stop) → DoesBy o s.directives s.passed s.phase s.opened s.tally k [] report → report.used ≡ s.tally.used
-    by_case None does =
-        ap (λ (r : RunReport). r.used) does.2
-        ∙ rest_uses_nothing (Some k) (drop s.passed s.directives) does.0 (s.passed + 1) s.tally (le-ltb k s.tally.used within)
-    by_case (Some stop) does = ap (λ (r : RunReport). r.used) does
+does_used s k report within does = grind (arith, rest_uses_nothing)
 
 module _ (ds : List Directive) (m : ℕ) (s : Standing) (x : List ℕ) (h : After ds m s x) where
   -- what is told of x alone, and of x and more
@@ -394,11 +388,7 @@ within_used ds m s x ending r h run = used_is ds m s x h (record r { met = None 
 -- before the first byte
 pub start_does : (own ds : List Directive) (opened : Option Opened) (t : Tally) (k : ℕ) (z : List ℕ) → own ≡ ds → opened ≡ None → t ≡ nothing_yet
     → DoesBy None own 0 phase.Skipping opened t k z (run_of (Some k) ds 1 nothing_yet z)
-start_does own ds opened t k z same none nothing = (
-  Skipping,
-  subst (λ o. ShowsFirst own phase.Skipping o Skipping) (sym none) (shows_fresh own),
-  sym (fresh (Some k) ds 1 nothing_yet z) ∙ ap (λ u. run_from (Some k) ds Skipping 1 u z) (sym nothing) ∙ ap (λ d. run_from (Some k) d Skipping 1 t z) (sym same),
-)
+start_does own ds opened t k z same none nothing = grind arith
 
 pub tally_nothing : (t : code.Tally) (values : List Assigned) → t.used ≡ 0 → t.assigned ≡ 0 → t.converted ≡ 0 → values ≡ [] → tally_of t values ≡ nothing_yet
 tally_nothing t values a b c d = rw (a, b, c, d) refl
