@@ -39,9 +39,6 @@ use Rattle.sf_run.proofs.Waits.{open_all}
 pub free_of : (f : Finished) (d : Directive) (values : List Assigned) → (is_failing f ≡ false → slot_given f ≡ slot_of d) → MayBeGiven (slot_of d) values → MayBeGiven (slot_given f) values
 free_of f d values own free = grind arith
 
-own_slot : (f : Finished) (text : List ℕ) (slot : Option ℕ) → passed (end_of text f) ≡ true → (is_failing f ≡ false → slot_given f ≡ slot) → slot_stored (end_of text f) ≡ slot
-own_slot f text slot ok own = grind arith
-
 pub passes_within : (d : Directive) (n : ℕ) (piece : List ℕ) (e : Ended) (stores : Bool) (old new : Kept) → IsProper d → EndsAtOnce d n piece e
     → GivesTo (end_of (take e.item (drop e.before piece)) e.finished) stores old new → PassesWithin d n piece (e.before + e.item) stores old new
 passes_within d n piece e stores old new proper is gives = grind arith
@@ -56,9 +53,6 @@ pub text_given : (slot : ℕ) (text : List ℕ) (room : ℕ) (old new : Kept) �
 text_given slot text room old new is = grind (arith, joined_text)
 
 -- ---- directive after directive
-
-by_passed : (end : StepEnd) (y : RunReport) (f : Status → RunReport) → passed end ≡ true → by_end end y f ≡ y
-by_passed end y f h = grind arith
 
 -- The directives before this place have passed within the front, in which the run has come so far, and the store was given what they gave.
 pub record Going (ds : List Directive) (front : List ℕ) (p : ℕ) (t : code.Tally) (kept : Kept) : Type 0 where
@@ -295,6 +289,3 @@ counted_run ds proper m most piece front rest s kept p count all is fits h count
     (ap (λ n. told n t.assigned t.converted values) used ∙ ap (λ n. told (length front - length rest) n t.converted values) assigned
     ∙ ap (λ n. told (length front - length rest) (count - s.uncounted) n values) converted)
     (quick_is ds proper m most piece front t kept p all is fits h.going z ending)
-
-pub counted_used : (ds : List Directive) (front rest : List ℕ) (p : ℕ) (s : Strays) (kept : Kept) → length ds ≤ p → Counted ds front rest p s kept → s.uncounted ≤ length (destinations_of ds)
-counted_used ds front rest p s kept all h = let sum = all_counted ds front rest p s kept all h in omega (arith, sum)

@@ -73,11 +73,6 @@ can_all c f piece n proper within each k below =
     let e : k + 1 ≤ n = omega (arith, below, length-take-le n piece within) in
     ap (λ y. can_take c (f ++ y)) (take-take (k + 1) n piece e) ∙ (tests_can_take c proper (f ++ take (k + 1) piece)).to (each k (omega (arith, e)))
 
--- what was taken is shown by a phase that shows the scan
-pub shows_all : (d : Directive) (slot : Option ℕ) (scan new : ItemScan) (f y : List ℕ) (p : Phase) → ((r : Stage) → ShowsItem d slot new r → Shows d p r) → conversion_of new ≡ conversion_of scan
-    → d ≡ Conv (conversion_of scan) → text_slot d ≡ slot → HasTaken new (f ++ y) → f ++ y ≢ [] → Shows d p (Item (f ++ y))
-shows_all d slot scan new f y p shows same own text taken some = grind arith
-
 -- ---- what is skipped before an item
 
 pub skips_all : (d : Directive) (piece : List ℕ) (n : ℕ) → n ≤ length piece → ((k : ℕ) → k < n → stepped d Skipping (get_or piece k 0) ≡ Some Skipping) → stepped_all d Skipping (take n piece) ≡ Some Skipping

@@ -75,37 +75,6 @@ step_front d x z n k end ok le h = grind (arith, skip_front, byte_front, drop-ap
 
 -- ---- no directive fails as Done
 
-byte_undone : (b : ℕ) (x : List ℕ) (k : ℕ) → ByteStep b x k (Fails Done) → ⊥
-byte_undone b x k h1 = grind arith
-
-number_undone : (c : Conversion) (slot : ℕ) (value : Option _) → NumberStored c slot value (Fails Done) → ⊥
-number_undone c slot None is = cc
-number_undone c slot (Some v) is = cc
-
-count_undone : (c : Conversion) (slot : Option ℕ) (n : ℕ) → CountStep c slot n (Fails Done) → ⊥
-count_undone c None n is = cc
-count_undone c (Some slot) n is = number_undone c slot (value_of c.kind false n) is
-
-stored_undone : (c : Conversion) (slot : ℕ) (shape : Shape) (item : List ℕ) → ItemStored c slot shape item (Fails Done) → ⊥
-stored_undone c slot shape item is = grind arith
-
-passes_undone : (c : Conversion) (slot : Option ℕ) (item : List ℕ) → ItemPasses c slot item (Fails Done) → ⊥
-passes_undone c None item is = cc
-passes_undone c (Some slot) item is = stored_undone c slot c.shape item is
-
-empty_undone : (x : List ℕ) → EmptyItem x (Fails Done) → ⊥
-empty_undone [] is = cc
-empty_undone (b ∷ x) is = cc
-
-ends_undone : (c : Conversion) (x : List ℕ) (j : ℕ) → ItemEnds c x j (Fails Done) → ⊥
-ends_undone c x j is = grind arith
-
-conversion_undone : (c : Conversion) (shape : Shape) (x : List ℕ) (n k : ℕ) → ConversionStep c shape x n k (Fails Done) → ⊥
-conversion_undone c shape x n k h1 = grind arith
-
-step_undone : (d : Directive) (x : List ℕ) (n k : ℕ) → Step d x n k (Fails Done) → ⊥
-step_undone d x n k h = grind arith
-
 -- ---- a list of steps
 
 -- by the end of the first

@@ -265,41 +265,6 @@ byte_refused d q n b z e = cc
 abbrev NotTooLong : StepEnd → Type 0
 NotTooLong end = end ≡ Fails TooLong → ⊥
 
-number_fits : (c : Conversion) (slot : ℕ) (v : Option ℤ) → NotTooLong (number_end c slot v)
-number_fits c slot None e = cc
-number_fits c slot (Some v) e = cc
-
-count_fits : (c : Conversion) (slot : Option ℕ) (n : ℕ) → NotTooLong (count_end c slot n)
-count_fits c None n e = cc
-count_fits c (Some slot) n e = number_fits c slot (value_of c.kind false n) e
-
-integer_fits : (c : Conversion) (slot : ℕ) (i : Option (Bool × ℕ)) → NotTooLong (integer_end c slot i)
-integer_fits c slot None e = cc
-integer_fits c slot (Some i) e = number_fits c slot (value_of c.kind i.0 i.1) e
-
-stored_fits : (c : Conversion) (slot : ℕ) (shape : Shape) (item : List ℕ) → NotTooLong (stored_end c slot shape item)
-stored_fits c slot shape item = grind arith
-
-passed_fits : (c : Conversion) (slot : Option ℕ) (item : List ℕ) → NotTooLong (passed_end c slot item)
-passed_fits c None item e = cc
-passed_fits c (Some slot) item e = stored_fits c slot c.shape item e
-
-item_fits : (c : Conversion) (item : List ℕ) → NotTooLong (item_end c item)
-item_fits c item = grind arith
-
-nothing_fits : (more : Bool) → NotTooLong (nothing_end more)
-nothing_fits true e = cc
-nothing_fits false e = cc
-
-item_finish_fits : (c : Conversion) (q : Stage) (more : Bool) → NotTooLong (item_finished c q more)
-item_finish_fits c q more = grind arith
-
-conversion_fits : (c : Conversion) (shape : Shape) (q : Stage) (n : ℕ) (more : Bool) → NotTooLong (conversion_finished c shape q n more)
-conversion_fits c shape q n more = grind arith
-
-byte_fits : (q : Stage) (more : Bool) → NotTooLong (byte_finished q more)
-byte_fits q more = grind arith
-
 finish_fits : (d : Directive) (q : Stage) (n : ℕ) (more : Bool) → NotTooLong (finished d q n more)
 finish_fits d q n more = grind arith
 

@@ -152,10 +152,6 @@ module _ (c : Conversion) where
       ∙ item_here ends (drop (skip x) x) (n + skip x) (starts_here (drop (skip x) x) (starts x))
       ∙ two_parts x n (skip x) (len c [] (drop (skip x) x)) (item_ended c (drop (skip x) x) (len c [] (drop (skip x) x)))
 
-  unskipped_here : shape_skips c.shape ≡ false → (y : List ℕ) → IsHere y
-  unskipped_here does [] = tt
-  unskipped_here does (b ∷ y) = ap (λ v. v && is_white b) does
-
   unskipped_item : EndsItem → shape_skips c.shape ≡ false → (x : List ℕ) (n : ℕ) → one_from (Conv c) Skipping n x ≡ part_of n x (item_part c x 0)
   unskipped_item ends does x n = grind (arith, item_here)
 
@@ -179,9 +175,6 @@ module _ (c : Conversion) where
 
   -- ---- each conversion
 
-  ends_item : (shape : Shape) → c.shape ≡ shape → HasItem shape → EndsItem
-  ends_item shape e takes = grind arith
-
   at_shape : (shape : Shape) → c.shape ≡ shape → (x : List ℕ) (n : ℕ) → part_of n x (item_part c x (skip_before shape x)) ≡ part_of n x (item_step c x)
   at_shape shape e x n = ap (λ (s : Shape). part_of n x (item_part c x (skip_before s x))) (sym e)
 
@@ -191,7 +184,3 @@ module _ (c : Conversion) where
 -- the machine makes the step: it leaves the rest of the input, and ends as the step does
 pub one_made : (d : Directive) (x : List ℕ) (n : ℕ) → one_from d Skipping n x ≡ part_of n x (step_of d x n)
 one_made d x n = grind (arith, space_is, byte_is, percent_is, conversion_is)
-
-pub one_is : (d : Directive) → IsProper d → (x : List ℕ) (n : ℕ)
-    → one_from d Skipping n x ≡ record { used = n + (step_of d x n).0; left = drop (step_of d x n).0 x; end = (step_of d x n).1 }
-one_is d proper x n = one_made d x n

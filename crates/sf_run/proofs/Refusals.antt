@@ -42,45 +42,6 @@ own_end Passes = true
 own_end (Stores slot v) = true
 own_end (Fails status) = is_own status
 
-number_own : (c : Conversion) (slot : ℕ) (v : Option ℤ) → own_end (number_end c slot v) ≡ true
-unfolding own_end is_own
-number_own c slot v = grind arith
-
-count_own : (c : Conversion) (slot : Option ℕ) (n : ℕ) → own_end (count_end c slot n) ≡ true
-unfolding own_end is_own
-count_own c slot n = grind arith
-
-integer_own : (c : Conversion) (slot : ℕ) (i : Option (Bool × ℕ)) → own_end (integer_end c slot i) ≡ true
-unfolding own_end is_own
-integer_own c slot i = grind arith
-
-stored_own : (c : Conversion) (slot : ℕ) (shape : Shape) (item : List ℕ) → own_end (stored_end c slot shape item) ≡ true
-unfolding own_end is_own
-stored_own c slot shape item = grind arith
-
-passed_own : (c : Conversion) (slot : Option ℕ) (item : List ℕ) → own_end (passed_end c slot item) ≡ true
-unfolding own_end is_own
-passed_own c slot item = grind arith
-
-item_own : (c : Conversion) (item : List ℕ) → own_end (item_end c item) ≡ true
-unfolding own_end is_own
-item_own c item = grind arith
-
-nothing_own : (more : Bool) → own_end (nothing_end more) ≡ true
-unfolding own_end is_own
-nothing_own more = grind arith
-
-item_finish_own : (c : Conversion) (q : Stage) (more : Bool) → own_end (item_finished c q more) ≡ true
-unfolding own_end is_own
-item_finish_own c q more = grind arith
-
-conversion_own : (c : Conversion) (shape : Shape) (q : Stage) (n : ℕ) (more : Bool) → own_end (conversion_finished c shape q n more) ≡ true
-conversion_own c shape q n more = grind (arith, count_own, item_finish_own)
-
-byte_own : (q : Stage) (more : Bool) → own_end (byte_finished q more) ≡ true
-unfolding own_end is_own
-byte_own q more = grind arith
-
 finish_own : (d : Directive) (q : Stage) (n : ℕ) (more : Bool) → own_end (finished d q n more) ≡ true
 unfolding own_end is_own
 finish_own d q n more = grind arith

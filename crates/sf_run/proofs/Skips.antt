@@ -15,11 +15,6 @@ pub skip-le : (x : List ℕ) → skip x ≤ length x
 skip-le [] = omega arith
 skip-le (b ∷ x) = one_more-le (is_white b) (skip x) (length x) (skip-le x)
 
--- the first byte is no white space
-none_white : (b : ℕ) (x : List ℕ) → is_white b ≡ false → (j : ℕ) → AreWhite (take j (b ∷ x)) → j ≤ 0
-none_white b x e zero h = omega arith
-none_white b x e (suc j) h = absurd (true≢false (sym h.0 ∙ e))
-
 one_more : (b : ℕ) (x : List ℕ) (k : ℕ) → IsSkip x k → (j : ℕ) → (j ≤ length (b ∷ x)) × AreWhite (take j (b ∷ x)) → j ≤ suc k
 one_more b x k h j w = grind arith
 

@@ -209,14 +209,8 @@ width_at (x ∷ ds) (suc p) d h at = width_at ds p d (sum_some (stored_width x) 
 first_left : (shape : Shape) (width slot : Option ℕ) (n : ℕ) → slot_of_text shape slot ≡ Some n → is_some (text_width shape width) ≡ true → most_bytes shape width ≡ text_width shape width
 first_left shape width slot n e h = grind arith
 
-start_left : (c : Conversion) (slot : ℕ) → text_slot (Conv c) ≡ Some slot → is_some (stored_width (Conv c)) ≡ true → most_bytes c.shape c.width ≡ stored_width (Conv c)
-start_left c slot e h = grind arith
-
 pub begins_with : (d : Directive) (current : Phase) (slot : ℕ) → slot_in current ≡ None → text_slot d ≡ Some slot → is_some (stored_width d) ≡ true → left_before d current ≡ stored_width d
 begins_with d current slot none e h = grind arith
-
-width_before : (d : Directive) (current : Phase) → slot_in current ≡ None → width_left d current ≡ unwrap_or (stored_width d) 0
-width_before d current none = grind arith
 
 module _ (ds : List Directive) (p : ℕ) (d : Directive) (current : Phase) (slot : ℕ) (scan : ItemScan) (at : slice_get ds p ≡ Some d) (none : slot_in current ≡ None)
     (text : text_slot d ≡ Some slot) (left : left_of scan ≡ left_before d current) (bounded : is_some (width_sum ds) ≡ true) where
@@ -310,10 +304,6 @@ pub size_first : (ds : List Directive) → is_some (width_sum ds) ≡ true → w
 size_first ds bounded = widths_are ds (unwrap_or (width_sum ds) 0) (some_back (width_sum ds) bounded)
 
 -- ---- what the scanner tells of it
-
-pub holds : (ds : List Directive) (kept : Kept) (still : ℕ) → kept.closed ≡ texts_in kept.values
-    → (is_some (width_sum ds) ≡ true → length (buffer_of kept) + still ≤ unwrap_or (width_sum ds) 0) → HoldsTexts ds kept
-holds ds kept still joined sized = grind arith
 
 -- ---- what a store can hold
 

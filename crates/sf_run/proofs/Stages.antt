@@ -102,9 +102,6 @@ unmatched_end c f none = by_case (matches c f) refl
     by_case true e = absurd (none ((tests_matches c f).from e))
     by_case false e = refl
 
-too_great : (kind : Kind) (negative : Bool) (m : ℕ) → 2 ^ 64 ≤ m → value_of kind negative m ≡ None
-too_great kind negative m great = grind arith
-
 -- no kind holds a number that 64 bits don't hold
 pub held_value : (kind : Kind) (negative : Bool) (magnitude m : ℕ) (overflowed : Bool) → HoldsNumber magnitude overflowed m
     → cond overflowed None (value_of kind negative magnitude) ≡ value_of kind negative m
@@ -133,10 +130,6 @@ suppressed_end c f none m = ap (λ slot. passed_end c slot f) (sym none) ∙ mat
 -- a text is stored as it stands
 pub text_end : (c : Conversion) (f : List ℕ) (slot : ℕ) → text_slot (Conv c) ≡ Some slot → Matches c f → Stores slot (Bytes f) ≡ item_end c f
 text_end c f slot text m = grind (arith, matched_end)
-
--- the text of a conversion that is no integer's and has a slot is stored
-pub not_suppressed : (c : Conversion) (f : List ℕ) (slot : ℕ) → text_slot (Conv c) ≡ None → c.slot ≡ Some slot → Matches c f → (IsInt c.shape → ⊥) → ⊥
-not_suppressed c f slot text own m never = grind arith
 
 -- a text that is no match
 pub text_fails : (c : Conversion) (f : List ℕ) (slot : ℕ) (e : ItemEnd) → text_slot (Conv c) ≡ Some slot → f ≢ [] → Ends c f e → (e ≡ ends.Matched → ⊥)

@@ -25,12 +25,6 @@ Is r k end = (k ≡ r.0) × (end ≡ r.1)
 
 -- ---- a byte
 
-by_same : (a b : ℕ) (P : Bool → Type 0) → (a ≡ b → P true) → (a ≢ b → P false) → P (nat_eq a b)
-by_same a b P left right = grind arith
-
-byte_is : (a : ℕ) (x : List ℕ) → ByteStep a x (byte_step a x).0 (byte_step a x).1
-byte_is a x = grind arith
-
 byte_only : (a : ℕ) (x : List ℕ) (k : ℕ) (end : StepEnd) → ByteStep a x k end → Is (byte_step a x) k end
 byte_only a x k end h = grind arith
 
@@ -164,9 +158,6 @@ conversion_within c shape x n = grind (arith, item_step-le)
 
 pub step_is : (d : Directive) → IsProper d → (x : List ℕ) (n : ℕ) → Step d x n (step_of d x n).0 (step_of d x n).1
 step_is d proper x n = grind (arith, skip_is, conversion_is)
-
-percent_only : (x : List ℕ) (n k : ℕ) (end : StepEnd) → Step Percent x n k end → Is (step_of Percent x n) k end
-percent_only x n k end h1 = grind (arith, skip_only)
 
 pub step_only : (d : Directive) → IsProper d → (x : List ℕ) (n k : ℕ) (end : StepEnd) → Step d x n k end → (k ≡ (step_of d x n).0) × (end ≡ (step_of d x n).1)
 step_only d proper x n k end h = grind (arith, skip_only, byte_only, conversion_only)

@@ -91,9 +91,6 @@ cut_from a t before m = out_of TooLong (a + (length before + 1)) (with_used m (s
 same_out : (status : Status) (i j : ℕ) (t u : Tally) → i ≡ j → t ≡ u → out_of status i t ≡ out_of status j u
 same_out status i j t u p q = ap₂ (out_of status) p q
 
-place_more : (v : Bool) (a n : ℕ) → cond v (a + 1 + n) 0 ≡ cond v (a + suc n) 0
-place_more v a n = ap (λ i. cond v i 0) (let e : a + 1 + n ≡ a + suc n = omega arith in e)
-
 told_step : (d : Directive) (end : StepEnd) (k a : ℕ) (t : Tally) (ran : List Ran) → passed end ≡ true
     → told_from (a + 1) (counted d end (with_used (t.used + k) t)) ran ≡ told_from a t (ran_one d k end ∷ ran)
 told_step d end k a t ran h = grind (arith, sums_step)
@@ -112,9 +109,6 @@ counted-used d end t = grind arith
 
 by_passed : (end : StepEnd) (y : RunReport) (f : Status → RunReport) → passed end ≡ true → by_end end y f ≡ y
 by_passed end y f h = grind arith
-
-go_passed : (end : StepEnd) (rest : List Ran) → passed end ≡ true → go_on end rest ≡ rest
-go_passed end rest h = grind arith
 
 go_failed : (end : StepEnd) (rest : List Ran) → passed end ≡ false → go_on end rest ≡ []
 go_failed end rest h = grind arith
