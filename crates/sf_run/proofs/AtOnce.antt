@@ -1,4 +1,5 @@
 -- Runs that begin and pass within a piece.
+use Rattle.std.proofs.lemmas.Grind.{common_steps}
 use Rattle.std.proofs.Common.{◌≡◌, ℕ, zero, suc, ◌+◌, ◌-◌, ◌<◌, ◌≤◌, Bool, true, false, cond, List, [], ◌∷◌, ◌++◌, length, take, drop, Option, Some, None, refl, sym, ap, subst, ◌∙◌, arith, true≢false, length-drop}
 use Rattle.std.specs.Prelude.{slice_get}
 use Rattle.std.proofs.lemmas.List.{append-nil, append_assoc, drop-drop, length-append, length-map, take_all, take-append-drop}
@@ -72,9 +73,7 @@ passes_on d ds at t x y taken end ok is = grind arith
 
 some_slot : (ds : List Directive) (p : ℕ) (d : Directive) (values : List Assigned) (end : StepEnd) → slice_get ds p ≡ Some d → slot_stored end ≡ slot_of d → passed end ≡ true
     → slots_in values ≡ slots_of (take p ds) → slots_in (values_with end values) ≡ slots_of (take (p + 1) ds)
-some_slot ds p d values Passes at own ok given = slots_none ds p d values at (sym own) given
-some_slot ds p d values (Stores slot v) at own ok given = slots_more ds p d values slot v at (sym own) given
-some_slot ds p d values (Fails status) at own ok given = absurd (true≢false (sym ok))
+some_slot ds p d values end at own ok given = grind (arith, given, slots_none, slots_more, true≢false)
 
 stores_own : (d : Directive) (end : StepEnd) (stores : Bool) → slot_stored end ≡ slot_of d → stored end ≡ stores → stores ≡ true → is_destination d ≡ true
 stores_own d end stores own is some = grind arith
@@ -186,30 +185,13 @@ all_counted ds front rest p s kept all h =
 -- the slot of the next directive is free
 pub free_at : (ds : List Directive) (p : ℕ) (d : Directive) (values : List Assigned) → slice_get ds p ≡ Some d → are_placed 32 ds ≡ true → are_apart (slots_of ds) ≡ true
     → slots_in values ≡ slots_of (take p ds) → MayBeGiven (slot_of d) values
-free_at ds p d values at placed apart given = by_slot (slot_of d) refl
-  where
-    by_slot : (o : Option ℕ) → slot_of d ≡ o → MayBeGiven o values
-    by_slot None own = tt
-    by_slot (Some slot) own =
-        let h = slot_placed 32 ds p d slot placed at own in (h.0, h.1, slot_free ds p d slot values apart given at own)
+free_at ds p d values at placed apart given = grind (arith, given, slot_placed, slot_free)
 
 -- ---- the end
 
 -- past the last directive
 all_passed : (ds : List Directive) (p : ℕ) (x : List ℕ) (t : Tally) → length ds ≤ p → run_of None (drop p ds) (p + 1) t x ≡ out_of Done 0 t
-all_passed [] p x t h = by_place p
-  where
-    by_place : (p : ℕ) → run_of None (drop p []) (p + 1) t x ≡ out_of Done 0 t
-    by_place zero = refl
-    by_place (suc p) = refl
-all_passed (d ∷ ds) zero x t h = absurd (omega (arith, h))
-all_passed (d ∷ ds) (suc p) x t h = past ds p (suc p + 1) x t (omega (arith, h))
-  where
-    past : (ds : List Directive) (p at : ℕ) (x : List ℕ) (t : Tally) → length ds ≤ p → run_of None (drop p ds) at t x ≡ out_of Done 0 t
-    past [] zero at x t h = refl
-    past [] (suc p) at x t h = refl
-    past (d ∷ ds) zero at x t h = absurd (omega (arith, h))
-    past (d ∷ ds) (suc p) at x t h = past ds p at x t (omega (arith, h))
+all_passed ds p x t h = grind (arith, common_steps)
 
 -- a run that is the same however the input goes on is the report
 pub done_is : (ds : List Directive) → AreProper ds → (m : ℕ) (x : List ℕ) (ending : Ending) (t : Tally) → ((z : List ℕ) → run_of None ds 1 nothing_yet (x ++ z) ≡ out_of Done 0 t)

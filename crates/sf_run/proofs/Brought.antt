@@ -1,4 +1,5 @@
 -- Many bytes at once.
+use Rattle.std.proofs.lemmas.Grind.{common_steps}
 use Rattle.std.proofs.Common.{◌≡◌, ◌≢◌, ℕ, zero, suc, ◌+◌, ◌<◌, ◌≤◌, true, false, cond, ◌&&◌, List, [], ◌∷◌, ◌++◌, length, take, get_or, append_assoc, Option, Some, None, refl, sym, ap, ◌∙◌, arith}
 use Rattle.std.proofs.lemmas.List.{append-nil, length-take-le}
 use Rattle.sf_base.specs.Bytes.{is_white}
@@ -59,10 +60,7 @@ first_all c b y ink can =
 -- ---- what a scan shows of them
 
 pub take-take : (j n : ℕ) (xs : List ℕ) → j ≤ n → take j (take n xs) ≡ take j xs
-take-take zero n xs h = refl
-take-take (suc j) zero xs h = absurd (omega (arith, h))
-take-take (suc j) (suc n) [] h = refl
-take-take (suc j) (suc n) (x ∷ xs) h = ap (λ l. x ∷ l) (take-take j n xs (omega (arith, h)))
+take-take j n xs h = grind (arith, common_steps)
 
 pub not_nothing : (f y : List ℕ) → f ≢ [] → f ++ y ≢ []
 not_nothing [] y some e = some refl

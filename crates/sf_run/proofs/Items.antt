@@ -12,9 +12,8 @@ use Rattle.sf_run.specs.Computed.{len}
 use Rattle.sf_run.proofs.Skips.{greatest_only, one_more-le}
 
 pub can_take_prefix : (c : Conversion) (f t : List ℕ) → can_take c (f ++ t) ≡ true → can_take c f ≡ true
-can_take_prefix c f [] h = ap (can_take c) (sym (append-nil f)) ∙ h
-can_take_prefix c f (b ∷ t) h =
-    can_take_front c f b (can_take_prefix c (f ++ b ∷ []) t (ap (can_take c) (append_assoc f (b ∷ []) t) ∙ h))
+can_take_prefix c f [] h = grind (arith, append-nil)
+can_take_prefix c f (b ∷ t) h = grind (arith, can_take_front, append_assoc, can_take_prefix c (f ++ b ∷ []) t)
 
 -- ---- how many bytes are taken
 
@@ -49,9 +48,7 @@ len_most c f (b ∷ y) start =
 -- ---- the item
 
 front_from : (c : Conversion) → IsProperShape c.shape → (x : List ℕ) (j : ℕ) → j ≤ length x → can_take c (take j x) ≡ true → IsWithin c j × Begins c (take j x)
-front_from c proper x j fits e =
-    let front = (tests_can_take c proper (take j x)).from e in
-    (subst (IsWithin c) (length-take-le j x fits) front.0, front.1)
+front_from c proper x j fits e = grind (arith, (tests_can_take c proper (take j x)), (length-take-le j x fits))
 
 front_to : (c : Conversion) → IsProperShape c.shape → (x : List ℕ) (j : ℕ) → j ≤ length x → IsWithin c j × Begins c (take j x) → can_take c (take j x) ≡ true
 front_to c proper x j fits h =

@@ -1,4 +1,5 @@
 -- Laws of the directives' machines that the run rests on.
+use Rattle.std.proofs.lemmas.Grind.{common_steps}
 use Rattle.std.proofs.Common.{◌≡◌, ◌≢◌, ℕ, zero, suc, ◌+◌, ◌<◌, ◌≤◌, Bool, true, false, not, cond, ◌&&◌, nat_eq, List, [], ◌∷◌, ◌++◌, length, Option, Some, None, is_some, refl, sym, ap, subst, ◌∙◌, arith, lit<, true≢false, nat_le, unwrap_or, length-append, ℤ}
 use Rattle.std.specs.List.{list_all}
 use Rattle.sf_base.specs.Bytes.{is_white}
@@ -25,22 +26,12 @@ abbrev SomeBelow : ℕ → (ℕ → Bool) → Type 0
 SomeBelow n test = (b : ℕ) × (b < n) × (test b ≡ true)
 
 pub some_from : (n : ℕ) (test : ℕ → Bool) → some_below n test ≡ true → SomeBelow n test
-some_from zero test e = absurd (true≢false (sym e))
-some_from (suc n) test e = by_case (test n) refl e (some_from n test)
-  where
-    by_case : (v : Bool) → test n ≡ v → cond v true (some_below n test) ≡ true → (some_below n test ≡ true → SomeBelow n test) → SomeBelow (suc n) test
-    by_case true is e rest = (n, omega arith, is)
-    by_case false is e rest = let (b, below, h) = rest e in (b, omega (arith, below), h)
+some_from zero test e = grind (arith, true≢false)
+some_from (suc n) test e = grind (arith, some_from n)
 
 pub some_to : (n : ℕ) (test : ℕ → Bool) (b : ℕ) → b < n → test b ≡ true → some_below n test ≡ true
-some_to zero test b below h = absurd (omega arith)
-some_to (suc n) test b below h = by_case (test n) refl (some_to n test b)
-  where
-    by_case : (v : Bool) → test n ≡ v → (b < n → test b ≡ true → some_below n test ≡ true) → cond v true (some_below n test) ≡ true
-    by_case true is rest = refl
-    by_case false is rest =
-        let other : b ≢ n = λ same. true≢false (sym h ∙ ap test same ∙ is) in
-        rest (omega (arith, other)) h
+some_to zero test b below h = grind arith
+some_to (suc n) test b below h = grind (arith, true≢false, some_to n test b)
 
 abbrev takes : Directive → Stage → ℕ → Bool
 takes d q b = is_some (stepped d q b)
@@ -100,10 +91,7 @@ same_length : (f : List ℕ) (b e : ℕ) → length (f ++ b ∷ []) ≡ length (
 same_length f b e = omega (arith, length-append f (b ∷ []), length-append f (e ∷ []))
 
 all_with : (p : ℕ → Bool) (f : List ℕ) (b e : ℕ) → list_all p (f ++ b ∷ []) ≡ true → p e ≡ true → list_all p (f ++ e ∷ []) ≡ true
-all_with p [] b e h one = both (p e) true one refl
-all_with p (x ∷ f) b e h one =
-    both (p x) (list_all p (f ++ e ∷ [])) (left_of (p x) (list_all p (f ++ b ∷ [])) h)
-    (all_with p f b e (right_of (p x) (list_all p (f ++ b ∷ [])) h) one)
+all_with p f b e h one = grind (arith, both, left_of, right_of, common_steps)
 
 abbrev Begins : Shape → Option ℕ → List ℕ → ℕ → Type 0
 Begins shape width f b = shape_begins shape width (f ++ b ∷ []) ≡ true
@@ -251,9 +239,8 @@ full_finish (Conv c) proper q n more full =
 -- a full directive takes nothing, and ends alike whatever follows
 pub full_refuses : (d : Directive) → IsProper d → (q : Stage) (n : ℕ) (z : List ℕ) → is_full d q ≡ true
     → one_from d q n z ≡ record { used = n; left = z; end = finished d q n true }
-full_refuses d proper q n [] full = ap (λ e. record { used = n; left = []; end = e }) (full_finish d proper q n false full)
-full_refuses d proper q n (b ∷ z) full =
-    ap (λ o. choose o (record { used = n; left = b ∷ z; end = finished d q n true }) (λ r. one_from d r (n + 1) z)) (full_takes_nothing d proper q b full)
+full_refuses d proper q n [] full = grind (arith, full_finish)
+full_refuses d proper q n (b ∷ z) full = grind (arith, full_takes_nothing)
 
 -- a byte that is not taken ends the directive
 pub byte_refused : (d : Directive) (q : Stage) (n b : ℕ) (z : List ℕ) → stepped d q b ≡ None

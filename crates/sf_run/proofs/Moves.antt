@@ -1,4 +1,5 @@
 -- How the rest of a run changes with each move of the scanner.
+use Rattle.std.proofs.lemmas.Grind.{common_steps}
 use Rattle.std.proofs.Common.{◌≡◌, ℕ, zero, suc, ◌+◌, ◌≤◌, ◌<◌, Bool, true, false, cond, ltb, List, [], ◌∷◌, ◌++◌, length, take, drop, get_or, append_assoc, length-append, Option, Some, None, is_some, inl, inr, refl, sym, ap, subst, ◌∙◌, arith, true≢false}
 use Rattle.std.specs.Prelude.{slice_get, IfNone, IsSome}
 use Rattle.std.specs.List.{AllByRecursion}
@@ -40,9 +41,7 @@ pub drop_at : {A : Type 0} (xs : List A) (i : ℕ) (x : A) → slice_get xs i �
 drop_at xs i x h = drop_more xs i x (slice_get_within xs i x h) ∙ ap (λ y. y ∷ drop (i + 1) xs) (get_or_from_slice_get xs i x x h)
 
 all_behind : {A : Type 0} (P : A → Type 0) (xs : List A) (i : ℕ) → AllByRecursion P xs → AllByRecursion P (drop i xs)
-all_behind P xs zero h = h
-all_behind P [] (suc i) h = tt
-all_behind P (x ∷ xs) (suc i) h = all_behind P xs i h.1
+all_behind P xs i h = grind (arith, common_steps)
 
 pub proper_at : (ds : List Directive) (p : ℕ) (d : Directive) → AreProper ds → slice_get ds p ≡ Some d → IsProper d
 proper_at ds p d h at =
@@ -323,10 +322,7 @@ place_taken ds p d v at some = grind (arith, places_next)
 -- there is a place for it
 pub has_place : (ds : List Directive) (p : ℕ) (d : Directive) (v : Bool) → slice_get ds p ≡ Some d → (v ≡ true → is_destination d ≡ true)
     → v ≡ true → 0 < places_left ds p
-has_place ds p d v at some e =
-    let h = place_taken ds p d v at some in
-    let k : 1 + places_left ds (p + 1) ≤ places_left ds p = subst (λ w. cond w 1 0 + places_left ds (p + 1) ≤ places_left ds p) e h in
-    omega (arith, k)
+has_place ds p d v at some e = grind (arith, (place_taken ds p d v at some))
 
 pub one_more : (v : Bool) (n : ℕ) → cond v (n + 1) n ≡ n + cond v 1 0
 one_more true n = refl
@@ -342,14 +338,7 @@ follows_on old mid new x y z more same first second = grind arith
 
 -- one that is refused after others
 pub refuses_on : (old mid new : Standing) (b : ℕ) (y z : List ℕ) → mid.tally.used ≤ new.tally.used → new.limit ≡ old.limit → Follows mid old y z → Refuses new mid b y → Refuses new old b z
-refuses_on old mid new b y z more same first r = record {
-  at = r.at;
-  directive = r.directive;
-  under_way = r.under_way;
-  ended = r.ended;
-  below = r.below;
-  cut = λ report does. let low = r.below in r.cut report (first new.tally.used report more (omega (arith, low, same)) does);
-}
+refuses_on old mid new b y z more same first r = grind (arith, ended)
 
 -- of no byte none is refused
 pub none_refused : (new old : Standing) (xs : List ℕ) → length xs ≡ 0 → (is_no_memory new.ended ≡ true → RefusesIn new old xs) → is_no_memory new.ended ≡ false

@@ -1,4 +1,5 @@
 -- Each directive's machine makes its step.
+use Rattle.std.proofs.lemmas.Grind.{common_steps}
 use Rattle.std.proofs.Common.{◌≡◌, ℕ, suc, ◌+◌, Bool, true, false, cond, ◌&&◌, nat_eq, List, [], ◌∷◌, ◌++◌, length, take, drop, Some, None, refl, sym, ap, ap₂, ◌∙◌, arith, append_assoc, append-nil}
 use Rattle.std.proofs.lemmas.Bool.{and_right}
 use Rattle.std.proofs.lemmas.List.{drop-drop}
@@ -25,14 +26,8 @@ same_used n p x end e = ap (λ (u : ℕ). record { used = u; left = x; end = end
 -- ---- white space
 
 space_is : (x : List ℕ) (n p : ℕ) → p ≡ n + skip x → one_from Space Skipping n x ≡ record { used = p; left = drop (skip x) x; end = Passes }
-space_is [] n p e = same_used n p [] Passes (omega arith)
-space_is (b ∷ x) n p e = by_white (is_white b) e (λ q f. space_is x (n + 1) q f)
-  where
-    by_white : (v : Bool) → p ≡ n + cond v (suc (skip x)) 0 → ((q : ℕ) → q ≡ n + 1 + skip x → one_from Space Skipping (n + 1) x ≡ record { used = q; left = drop (skip x) x; end = Passes })
-        → choose (cond v (Some Skipping) None) (record { used = n; left = b ∷ x; end = Passes }) (λ r. one_from Space r (n + 1) x)
-        ≡ record { used = p; left = drop (cond v (suc (skip x)) 0) (b ∷ x); end = Passes }
-    by_white true f more = more p (omega arith)
-    by_white false f more = same_used n p (b ∷ x) Passes (omega arith)
+space_is [] n p e = grind (arith, same_used)
+space_is (b ∷ x) n p e = grind (arith, same_used, space_is x)
 
 -- a directive that skips white space, and has taken none but that
 abbrev Skips : Directive → Type 0
@@ -40,16 +35,8 @@ Skips d = (b : ℕ) → is_white b ≡ true → stepped d Skipping b ≡ Some Sk
 
 -- it passes over the white space
 skips : (d : Directive) → Skips d → (x : List ℕ) (n p : ℕ) → p ≡ n + skip x → one_from d Skipping n x ≡ one_from d Skipping p (drop (skip x) x)
-skips d white [] n p e = ap (λ (u : ℕ). one_from d Skipping u []) (let h : n ≡ p = omega arith in h)
-skips d white (b ∷ x) n p e = by_white (is_white b) refl e (λ f. skips d white x (n + 1) p f)
-  where
-    by_white : (v : Bool) → is_white b ≡ v → p ≡ n + cond v (suc (skip x)) 0
-        → (p ≡ n + 1 + skip x → one_from d Skipping (n + 1) x ≡ one_from d Skipping p (drop (skip x) x))
-        → one_from d Skipping n (b ∷ x) ≡ one_from d Skipping p (drop (cond v (suc (skip x)) 0) (b ∷ x))
-    by_white true is f more =
-        ap (λ o. choose o (record { used = n; left = b ∷ x; end = finished d Skipping n true }) (λ r. one_from d r (n + 1) x)) (white b is)
-        ∙ more (omega arith)
-    by_white false is f more = ap (λ (u : ℕ). one_from d Skipping u (b ∷ x)) (let h : n ≡ p = omega arith in h)
+skips d white [] n p e = grind arith
+skips d white (b ∷ x) n p e = grind (arith, skips d white x)
 
 -- the first byte is no white space
 abbrev Starts : List ℕ → Type 0
@@ -58,11 +45,7 @@ Starts (b ∷ x) = is_white b ≡ false
 
 starts : (x : List ℕ) → Starts (drop (skip x) x)
 starts [] = tt
-starts (b ∷ x) = by_white (is_white b) refl (starts x)
-  where
-    by_white : (v : Bool) → is_white b ≡ v → Starts (drop (skip x) x) → Starts (drop (cond v (suc (skip x)) 0) (b ∷ x))
-    by_white true e h = h
-    by_white false e h = e
+starts (b ∷ x) = grind (arith, starts x)
 
 -- ---- a byte
 
@@ -96,10 +79,7 @@ two_parts : (x : List ℕ) (n s k : ℕ) (end : StepEnd)
 two_parts x n s k end = grind (arith, drop-drop)
 
 percent_is : (x : List ℕ) (n : ℕ) → one_from Percent Skipping n x ≡ part_of n x (percent_step x (skip x))
-percent_is x n =
-    skips Percent (λ b e. rw e refl) x n (n + skip x) refl
-    ∙ percent_here (drop (skip x) x) (n + skip x) (starts x)
-    ∙ two_parts x n (skip x) (byte_step 37 (drop (skip x) x)).0 (byte_step 37 (drop (skip x) x)).1
+percent_is x n = grind (arith, skips, percent_here, starts, two_parts, common_steps)
 
 -- ---- items
 
@@ -147,10 +127,7 @@ module _ (c : Conversion) where
 
   -- white space is skipped, and then the item is taken
   skipped_item : EndsItem → shape_skips c.shape ≡ true → (x : List ℕ) (n : ℕ) → one_from (Conv c) Skipping n x ≡ part_of n x (item_part c x (skip x))
-  skipped_item ends does x n =
-      skips (Conv c) (λ b e. rw (does, e) refl) x n (n + skip x) refl
-      ∙ item_here ends (drop (skip x) x) (n + skip x) (starts_here (drop (skip x) x) (starts x))
-      ∙ two_parts x n (skip x) (len c [] (drop (skip x) x)) (item_ended c (drop (skip x) x) (len c [] (drop (skip x) x)))
+  skipped_item ends does x n = grind (arith, skips, item_here, starts_here, starts, two_parts, common_steps)
 
   unskipped_item : EndsItem → shape_skips c.shape ≡ false → (x : List ℕ) (n : ℕ) → one_from (Conv c) Skipping n x ≡ part_of n x (item_part c x 0)
   unskipped_item ends does x n = grind (arith, item_here)
@@ -167,11 +144,8 @@ module _ (c : Conversion) where
   count_ends e n more = ap (λ (s : Shape). conversion_finished c s Skipping n more) e
 
   count_is : c.shape ≡ Count → (x : List ℕ) (n : ℕ) → one_from (Conv c) Skipping n x ≡ part_of n x (0, count_end c c.slot n)
-  count_is e [] n =
-      ap₂ (λ (u : ℕ) (end : StepEnd). record { used = u; left = []; end = end }) (let h : n ≡ n + 0 = omega arith in h) (count_ends e n false)
-  count_is e (b ∷ x) n =
-      ap (λ o. choose o (record { used = n; left = b ∷ x; end = finished (Conv c) Skipping n true }) (λ r. one_from (Conv c) r (n + 1) x)) (count_steps e b)
-      ∙ ap₂ (λ (u : ℕ) (end : StepEnd). record { used = u; left = b ∷ x; end = end }) (let h : n ≡ n + 0 = omega arith in h) (count_ends e n true)
+  count_is e [] n = grind (arith, count_ends)
+  count_is e (b ∷ x) n = grind (arith, count_ends, count_steps)
 
   -- ---- each conversion
 

@@ -1,4 +1,5 @@
 -- What a directive makes of a piece.
+use Rattle.std.proofs.lemmas.Grind.{common_steps}
 use Rattle.std.proofs.Common.{◌≡◌, ◌≢◌, ℕ, zero, suc, ◌+◌, ◌<◌, ◌≤◌, Bool, true, false, cond, ◌&&◌, not, List, [], ◌∷◌, ◌++◌, length, take, drop, get_or, append_assoc, append-nil, take-append-drop, length-drop, Option, Some, None, refl, sym, ap, subst, ◌∙◌, arith, true≢false}
 use Rattle.std.specs.Prelude.{IfSome, IsSome, slice_get}
 use Rattle.std.proofs.lemmas.Option.{get_or_from_slice_get, slice_get_within}
@@ -195,12 +196,7 @@ plain_waits d n w piece all skips = grind (arith, take_all)
 pub plain_ends : (d : Directive) (n w : ℕ) (r : Stage) (piece : List ℕ) (end : Finished) → w ≤ length piece → stepped_all d Skipping (take w piece) ≡ Some r
     → ((m : ℕ) (z : List ℕ) → one_from d r m (drop w piece ++ z) ≡ record { used = m; left = drop w piece ++ z; end = end_of [] end })
     → Answers d Skipping n piece (record { before = w; item = 0; phase = phase.Skipping; ends = Some end })
-plain_ends d n w r piece end within goes stays = record {
-  goes =
-      let same : w ≡ w + 0 = omega arith in
-      subst (λ k. EndsIn d Skipping n piece k (end_of [] end)) same (ends_in d Skipping r n w piece (end_of [] end) within goes stays);
-  stores = λ slot j own below. absurd (omega (arith, below));
-}
+plain_ends d n w r piece end within goes stays = grind (arith, (ends_in d Skipping r n w piece (end_of [] end) within goes stays))
 
 module _ (piece : List ℕ) (n w : ℕ) (within : w ≤ length piece) (white : (k : ℕ) → k < w → is_white (get_or piece k 0) ≡ true) where
   space_skips : stepped_all Space Skipping (take w piece) ≡ Some Skipping
@@ -246,21 +242,11 @@ count_answers c n piece end proper is e =
 
 -- a byte of a text
 in_text : (shape : Shape) (width : Option ℕ) (f : List ℕ) (b : ℕ) → shape_begins shape width (f ++ b ∷ []) ≡ true → IsInText shape b
-in_text (Int base) width f b e = tt
-in_text (Set members) width f b e = tt
-in_text Chars width f b e = tt
-in_text Count width f b e = tt
-in_text Text width [] b e = not_of (is_white b) (left_of (is_ink b) true e)
-in_text Text width (x ∷ f) b e = in_text Text width f b (right_of (is_ink x) (list_all is_ink (f ++ b ∷ [])) e)
+in_text shape width f b e = grind (arith, not_of, left_of, right_of, common_steps)
 
 -- the bytes of an item that is a text belong to it
 pub item_stores : (c : Conversion) (f y : List ℕ) (slot j : ℕ) → CanAll c f y → text_slot (Conv c) ≡ Some slot → j < length y → StoresByte (Conv c) (get_or y j 0)
-item_stores c f y slot j can own below =
-    let one : suc j ≡ j + 1 = omega arith in
-    let last : f ++ take (j + 1) y ≡ (f ++ take j y) ++ get_or y j 0 ∷ [] =
-    ap (λ m. f ++ take m y) (sym one) ∙ ap (λ g. f ++ g) (take-suc y j 0 below) ∙ sym (append_assoc f (take j y) (get_or y j 0 ∷ [])) in
-    let can : can_take c ((f ++ take j y) ++ get_or y j 0 ∷ []) ≡ true = ap (can_take c) (sym last) ∙ can j below in
-    (slot, own, in_text c.shape c.width (f ++ take j y) (get_or y j 0) (right_of (is_within c.width (length ((f ++ take j y) ++ get_or y j 0 ∷ []))) (shape_begins c.shape c.width ((f ++ take j y) ++ get_or y j 0 ∷ [])) can))
+item_stores c f y slot j can own below = grind (arith, take-suc, append_assoc, in_text, right_of, common_steps)
 
 pub stores_behind : (c : Conversion) (f piece : List ℕ) (n slot j : ℕ) → n ≤ length piece → CanAll c f (take n piece) → text_slot (Conv c) ≡ Some slot → j < n → StoresByte (Conv c) (get_or piece j 0)
 stores_behind c f piece n slot j within can own below =

@@ -1,4 +1,5 @@
 -- Runs for which memory was refused.
+use Rattle.std.proofs.lemmas.Grind.{common_steps}
 use Rattle.std.proofs.Common.{◌≡◌, ℕ, zero, suc, ◌+◌, ◌-◌, ◌<◌, ◌≤◌, inl, inr, Bool, true, false, cond, List, [], ◌∷◌, ◌++◌, length, drop, Option, Some, None, is_some, ℤ, refl, sym, ap, subst, ◌∙◌, arith, true≢false, append_assoc, length-append}
 use Rattle.std.specs.Prelude.{slice_get, IfNone, IsSome}
 use Rattle.sf_base.specs.Bytes.{is_white}
@@ -71,10 +72,7 @@ over_fine false a b e h = h
 
 pub run_fine : (m : Option ℕ) (ds : List Directive) (at : ℕ) (t : Tally) (x : List ℕ) → is_memory_status (run_of m ds at t x).status ≡ false
 run_fine m [] at t x = refl
-run_fine m (d ∷ ds) at t x =
-    let p : Part = one_from d Skipping t.used x in
-    over_fine (is_over m p.used) _ _ refl
-    (end_fine p.end _ (λ status. out_of status at (with_used p.used t)) (one_own d Skipping t.used x) (run_fine m ds (at + 1) (counted d p.end (with_used p.used t)) p.left) (λ status. refl))
+run_fine m (d ∷ ds) at t x = grind (arith, over_fine, end_fine, one_own, run_fine m ds)
 
 -- a scanner that is after some bytes has not run out
 pub after_fine : (ds : List Directive) (m : ℕ) (s : Standing) (x : List ℕ) → After ds m s x → ran_out s ≡ false
@@ -108,9 +106,7 @@ skip_before [] b v e = rw e (omega arith)
 skip_before (x ∷ u) b v e = one_more-le (is_white x) (skip (u ++ b ∷ v)) (length u) (skip_before u b v e)
 
 drop_front : (n : ℕ) (u v : List ℕ) → n ≤ length u → (drop n (u ++ v) ≡ drop n u ++ v) × (length (drop n u) + n ≡ length u)
-drop_front zero u v h = (refl, omega arith)
-drop_front (suc n) [] v h = absurd (omega (arith, h))
-drop_front (suc n) (x ∷ u) v h = let w = drop_front n u v (omega (arith, h)) in let l = w.1 in (w.0, omega (arith, l))
+drop_front n u v h = grind (arith, common_steps)
 
 is_some_of : (o : Option ℕ) (n : ℕ) → o ≡ Some n → IsSome o
 is_some_of o n e = ap is_some e

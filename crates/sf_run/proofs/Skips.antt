@@ -1,4 +1,5 @@
 -- The white space at the front of an input.
+use Rattle.std.proofs.lemmas.Grind.{common_steps}
 use Rattle.std.proofs.Common.{◌≡◌, ℕ, zero, suc, ◌<◌, ◌≤◌, Bool, true, false, cond, List, [], ◌∷◌, length, take, get_or, refl, sym, ◌∙◌, arith, true≢false}
 use Rattle.sf_base.specs.Greatest.{IsGreatest}
 use Rattle.sf_base.specs.Bytes.{is_white, AreWhite, IsSkip}
@@ -30,7 +31,4 @@ skip_only x k h = greatest_only h (skip_is x)
 
 -- each byte of a front of white space is some
 pub white_below : (x : List ℕ) (j k : ℕ) → AreWhite (take j x) → j ≤ length x → k < j → is_white (get_or x k 0) ≡ true
-white_below x zero k white fits below = absurd (omega (arith, below))
-white_below [] (suc j) k white fits below = absurd (omega (arith, fits))
-white_below (b ∷ x) (suc j) zero white fits below = white.0
-white_below (b ∷ x) (suc j) (suc k) white fits below = white_below x j k white.1 (omega (arith, fits)) (omega (arith, below))
+white_below x j k white fits below = grind (arith, common_steps)

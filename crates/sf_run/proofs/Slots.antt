@@ -1,4 +1,5 @@
 -- The slots of a format and those of a store.
+use Rattle.std.proofs.lemmas.Grind.{common_steps}
 use Rattle.std.proofs.Common.{◌≡◌, ℕ, zero, suc, ◌+◌, ◌≤◌, Bool, true, false, not, cond, ◌&&◌, ◌||◌, nat_eq, nat_le, List, [], ◌∷◌, ◌++◌, length, take, drop, Option, Some, None, is_some, refl, sym, ap, subst, ◌∙◌, arith, true≢false, unwrap_or, append-nil, append_assoc, length-append}
 use Rattle.std.specs.Prelude.{◌≢◌, slice_get, IfSome}
 use Rattle.std.specs.List.{AllByRecursion, list_all, list_any, find}
@@ -49,9 +50,7 @@ with-append slot ms ns = grind arith
 slots_split : (ds : List Directive) (p : ℕ) → slots_of ds ≡ slots_of (take p ds) ++ slots_of (drop p ds)
 slots_split ds zero = refl
 slots_split [] (suc p) = refl
-slots_split (d ∷ ds) (suc p) =
-    slots-cons d ds ∙ ap (with_slot (slot_of d)) (slots_split ds p) ∙ with-append (slot_of d) (slots_of (take p ds)) (slots_of (drop p ds))
-    ∙ ap (λ l. l ++ slots_of (drop p ds)) (sym (slots-cons d (take p ds)))
+slots_split (d ∷ ds) (suc p) = grind (arith, slots-cons, with_slot, with-append, slots_split ds)
 
 some_is : {A : Type 0} (a b : A) → Some a ≡ Some b → a ≡ b
 some_is a b e = cc
@@ -81,9 +80,7 @@ slots_more ds p d values slot v at own is =
 slots_at : (ds : List Directive) (p : ℕ) (d : Directive) (slot : ℕ) → slice_get ds p ≡ Some d → slot_of d ≡ Some slot
     → slots_of ds ≡ slots_of (take p ds) ++ slot ∷ slots_of (drop (p + 1) ds)
 unfolding with_slot
-slots_at ds p d slot at own =
-    slots_split ds p ∙ ap (λ rest. slots_of (take p ds) ++ slots_of rest) (drop_at ds p d at)
-    ∙ ap (λ l. slots_of (take p ds) ++ l) (slots-cons d (drop (p + 1) ds) ∙ ap (λ s. with_slot s (slots_of (drop (p + 1) ds))) own)
+slots_at ds p d slot at own = grind (arith, (slots_split ds p), (drop_at ds p d at), (slots-cons d (drop (p + 1) ds)))
 
 -- ---- each slot is one of the store's
 
@@ -132,20 +129,11 @@ not_any x (y ∷ xs) n ys h = not_any x xs n ys (or_right (nat_eq x y) (list_any
 
 apart_before : (xs : List ℕ) (n : ℕ) (ys : List ℕ) → are_apart (xs ++ n ∷ ys) ≡ true → list_any (nat_eq n) xs ≡ false
 apart_before [] n ys h = refl
-apart_before (x ∷ xs) n ys h =
-    let none : list_any (nat_eq x) (xs ++ n ∷ ys) ≡ false = not_true _ (left_of' (not (list_any (nat_eq x) (xs ++ n ∷ ys))) (are_apart (xs ++ n ∷ ys)) h) in
-    or_both (nat_eq n x) (list_any (nat_eq n) xs)
-    (ne_eqb n x (λ e. eqb-false x n (not_any x xs n ys none) (sym e)))
-    (apart_before xs n ys (right_of (not (list_any (nat_eq x) (xs ++ n ∷ ys))) (are_apart (xs ++ n ∷ ys)) h))
+apart_before (x ∷ xs) n ys h = grind (arith, not_true, left_of', or_both, ne_eqb, eqb-false, not_any, right_of, apart_before xs)
 
 no_datum : (slot : ℕ) (values : List Assigned) → list_any (nat_eq slot) (slots_in values) ≡ false → datum_at slot values ≡ None
 no_datum slot [] h = refl
-no_datum slot (a ∷ values) h =
-    by_case (nat_eq slot a.slot) (or_left (nat_eq slot a.slot) (list_any (nat_eq slot) (slots_in values)) h) (no_datum slot values (or_right (nat_eq slot a.slot) (list_any (nat_eq slot) (slots_in values)) h))
-  where
-    by_case : (v : Bool) → v ≡ false → datum_at slot values ≡ None → option_map (λ (a : Assigned). a.datum) (cond v (Some a) (find (λ (b : Assigned). nat_eq slot b.slot) values)) ≡ None
-    by_case true e rest = absurd (true≢false e)
-    by_case false e rest = rest
+no_datum slot (a ∷ values) h = grind (arith, or_left, or_right, true≢false, no_datum slot values)
 
 pub slot_free : (ds : List Directive) (p : ℕ) (d : Directive) (slot : ℕ) (values : List Assigned) → are_apart (slots_of ds) ≡ true → slots_in values ≡ slots_of (take p ds)
     → slice_get ds p ≡ Some d → slot_of d ≡ Some slot → datum_at slot values ≡ None
@@ -193,8 +181,7 @@ widths_at ds p d current at = ap (λ rest. widths_from rest current) (drop_at ds
 
 pub room_passed : (ended : Option Stop) (ds : List Directive) (p : ℕ) (d : Directive) (current : Phase) (room : ℕ) → slice_get ds p ≡ Some d → still_stored ended ds p current ≤ room
     → still_stored ended ds (p + 1) phase.Skipping ≤ room
-room_passed None ds p d current room at fits = let a = plain_widths (drop (p + 1) ds) in let b = widths_at ds p d current at in omega (arith, a, b, fits)
-room_passed (Some stop) ds p d current room at fits = omega arith
+room_passed ended ds p d current room at fits = grind (arith, plain_widths, widths_at, common_steps)
 
 -- a directive of a format with a width sum has a width
 sum_some : (a b : Option ℕ) → is_some (add_widths a b) ≡ true → (is_some a ≡ true) × (is_some b ≡ true)
@@ -248,10 +235,7 @@ both false b e f = absurd (true≢false (sym e))
 
 pub placed_from : (count slots : ℕ) (ns : List ℕ) → count ≤ slots → AllByRecursion (λ n. (1 ≤ n) × (n ≤ count)) ns → list_all (λ n. nat_le 1 n && nat_le n slots) ns ≡ true
 placed_from count slots [] fits h = refl
-placed_from count slots (n ∷ ns) fits h =
-    let low = h.0.0 in
-    let high = h.0.1 in
-    both (nat_le 1 n && nat_le n slots) _ (both (nat_le 1 n) (nat_le n slots) (grind (arith, nat_tests)) (grind (arith, nat_tests))) (placed_from count slots ns fits h.1)
+placed_from count slots (n ∷ ns) fits h = grind (arith, both, nat_tests, placed_from count slots ns)
 
 none_of_them : (n : ℕ) (ns : List ℕ) → AllByRecursion (λ m. m ≢ n) ns → list_any (nat_eq n) ns ≡ false
 none_of_them n [] h = refl
@@ -290,9 +274,7 @@ room_first ds room fits bounded = grind (arith, widths_are)
 -- the sum is at least what is held and what may still be stored
 pub size_passed : (ended : Option Stop) (ds : List Directive) (p : ℕ) (d : Directive) (current : Phase) (held sum : ℕ) → slice_get ds p ≡ Some d
     → held + still_stored ended ds p current ≤ sum → held + still_stored ended ds (p + 1) phase.Skipping ≤ sum
-size_passed ended ds p d current held sum at fits =
-    let rest = room_passed ended ds p d current (still_stored ended ds p current) at (omega arith) in
-    omega (arith, rest, fits)
+size_passed ended ds p d current held sum at fits = grind (arith, (room_passed ended ds p d current (still_stored ended ds p current) at (omega arith)))
 
 pub size_closed : (closed text : List ℕ) → length ((closed ++ text) ++ []) ≡ length (closed ++ text)
 size_closed closed text = ap length (append-nil (closed ++ text))

@@ -96,11 +96,7 @@ skipping_shown d never p q shows = grind arith
 -- ---- the end of an item
 
 pub unmatched_end : (c : Conversion) (f : List ℕ) → (Matches c f → ⊥) → Fails MatchingFailure ≡ item_end c f
-unmatched_end c f none = by_case (matches c f) refl
-  where
-    by_case : (v : Bool) → matches c f ≡ v → Fails MatchingFailure ≡ cond v (passed_end c c.slot f) (Fails MatchingFailure)
-    by_case true e = absurd (none ((tests_matches c f).from e))
-    by_case false e = refl
+unmatched_end c f none = grind (arith, (tests_matches c f))
 
 -- no kind holds a number that 64 bits don't hold
 pub held_value : (kind : Kind) (negative : Bool) (magnitude m : ℕ) (overflowed : Bool) → HoldsNumber magnitude overflowed m

@@ -92,11 +92,7 @@ empty_only [] end h = h
 empty_only (b ∷ x) end h = h
 
 by_match : (c : Conversion) (item : List ℕ) (P : Bool → Type 0) → (Matches c item → P true) → ((Matches c item → ⊥) → P false) → P (matches c item)
-by_match c item P left right =
-    elim (matches c item) as (λ v. matches c item ≡ v → P v) [
-      | true ↦ λ e. left ((tests_matches c item).from e)
-      | false ↦ λ e. right (fails (tests_matches c item) e)
-    ] refl
+by_match c item P left right = grind (arith, (tests_matches c item))
 
 ends_is : (c : Conversion) (x : List ℕ) (j : ℕ) → ItemEnds c x j (item_ended c x j)
 ends_is c x zero = empty_is x

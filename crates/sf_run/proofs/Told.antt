@@ -1,4 +1,5 @@
 -- The running totals tell what the list of steps tells.
+use Rattle.std.proofs.lemmas.Grind.{common_steps}
 use Rattle.std.proofs.Common.{◌≡◌, ℕ, zero, suc, ◌+◌, ◌<◌, ◌≤◌, ◌⊎◌, inl, inr, Bool, true, false, cond, ◌&&◌, nat_eq, nat_le, List, [], ◌∷◌, ◌++◌, length, drop, Option, Some, None, is_some, refl, sym, ap, ap₂, ◌∙◌, subst, arith, append_assoc, append-nil, true≢false, zero-add, add-zero}
 use Rattle.std.specs.Prelude.{SomeIff}
 use Rattle.std.specs.List.{list_any}
@@ -60,15 +61,7 @@ used_more n k j l e = omega arith
 -- a step that passes
 sums_step : (d : Directive) (end : StepEnd) (k : ℕ) (t : Tally) (ran : List Ran) → passed end ≡ true
     → sums (counted d end (with_used (t.used + k) t)) ran ≡ sums t (ran_one d k end ∷ ran)
-sums_step d Passes k t ran h =
-    let r = ran_one d k Passes in
-    same_tally _ _ _ _ (used_more t.used k (used ran) _ (used-cons r ran)) (count_none (is_conversion d) t.assigned (assigned ran) _ (assigned-cons r ran))
-    (count_more (is_conversion d) t.converted (converted ran) _ (converted-cons r ran)) refl
-sums_step d (Stores slot v) k t ran h =
-    let r = ran_one d k (Stores slot v) in
-    same_tally _ _ _ _ (used_more t.used k (used ran) _ (used-cons r ran)) (count_more (is_conversion d) t.assigned (assigned ran) _ (assigned-cons r ran))
-    (count_more (is_conversion d) t.converted (converted ran) _ (converted-cons r ran)) (append_assoc t.values (record { slot = slot; datum = v } ∷ []) (values ran))
-sums_step d (Fails status) k t ran h = absurd (true≢false (sym h))
+sums_step d end k t ran h = grind (arith, same_tally, used_more, used-cons, count_none, assigned-cons, count_more, converted-cons, append_assoc, true≢false, common_steps)
 
 sums_none : (t : Tally) → t ≡ sums t []
 sums_none t = same_tally _ _ _ _ (sym (add-zero t.used)) (sym (add-zero t.assigned)) (sym (add-zero t.converted)) (sym (append-nil t.values))
@@ -143,9 +136,7 @@ limited_over m d ds at t x over = first_step (Some m) d ds at t x ∙ cond-true 
 told_first : (d : Directive) (end : StepEnd) (k a at : ℕ) (t : Tally) (next : RunReport) (rest : List Ran) → at ≡ a + 1
     → next ≡ told_from (a + 1) (counted d end (with_used (t.used + k) t)) rest
     → by_end end next (λ status. out_of status at (with_used (t.used + k) t)) ≡ told_from a t (ran_one d k end ∷ go_on end rest)
-told_first d Passes k a at t next rest e h = h ∙ told_step d Passes k a t rest refl
-told_first d (Stores slot v) k a at t next rest e h = h ∙ told_step d (Stores slot v) k a t rest refl
-told_first d (Fails status) k a at t next rest e h = same_out status _ _ _ _ e (sums_fails d status k t)
+told_first d end k a at t next rest e h = grind (arith, told_step, same_out, sums_fails, common_steps)
 
 run_told_from : (ds : List Directive) (a at : ℕ) (t : Tally) (x : List ℕ) → at ≡ a + 1 → run_of None ds at t x ≡ told_from a t (ran_of ds x t.used)
 run_told_from [] a at t x e = ap (out_of Done 0) (sums_none t)
@@ -338,36 +329,11 @@ cut_uses ds proper m x before c =
 
 told_met : (ds : List Directive) → AreProper ds → (m : ℕ) (x : List ℕ) (ending : Ending) (met : Option Ending) (r : RunReport)
     → TellsWithin ds m x r → SomeIff met (IsOpen ds x × (uses ds x ≤ m)) ending → RunWithin ds m x ending (with_met r met)
-told_met ds proper m x ending met r (inl w) some =
-    let fits : used w.0 ≤ m = w.2 in
-    let told : uses ds x ≡ used w.0 = ap (λ (q : RunReport). q.used) (run_told ds proper x w.0 w.1) in
-    let here : r.used ≡ used w.0 = ap (λ (q : RunReport). q.used) w.3 in
-    inl (
-      omega (arith, fits, here),
-      (w.0, w.1, met, met_same met ending (λ h. h.0) (λ h. (h, omega (arith, told, fits))) some, ap (λ q. with_met q met) w.3),
-    )
-told_met ds proper m x ending met r (inr w) some =
-    let over = cut_uses ds proper m x w.0 w.1 in
-    let none : met ≡ None = met_none met ending (λ h. let fits = h.1 in absurd (omega (arith, over, fits))) some in
-    inr (w.0, w.1, ap₂ with_met w.2 none)
+told_met ds proper m x ending met r h2 some = grind (arith, run_told, met_same, cut_uses, met_none, common_steps)
 
 met_told : (ds : List Directive) → AreProper ds → (m : ℕ) (x : List ℕ) (ending : Ending) (r : RunReport)
     → RunWithin ds m x ending r → TellsWithin ds m x (with_met r None) × SomeIff r.met (IsOpen ds x × (uses ds x ≤ m)) ending
-met_told ds proper m x ending r (inl w) =
-    let run = w.1 in
-    let fits : r.used ≤ m = w.0 in
-    let told : uses ds x ≡ used run.0 = ap (λ (q : RunReport). q.used) (run_told ds proper x run.0 run.1) in
-    let here : r.used ≡ used run.0 = ap (λ (q : RunReport). q.used) run.4 in
-    let met : r.met ≡ run.2 = ap (λ (q : RunReport). q.met) run.4 in (
-      inl (run.0, run.1, omega (arith, fits, here), ap (λ q. with_met q None) run.4),
-      subst (λ v. SomeIff v (IsOpen ds x × (uses ds x ≤ m)) ending) (sym met)
-          (met_same run.2 ending (λ h. (h, omega (arith, told, here, fits))) (λ h. h.0) run.3),
-    )
-met_told ds proper m x ending r (inr w) =
-    let over = cut_uses ds proper m x w.0 w.1 in (
-      inr (w.0, w.1, ap (λ q. with_met q None) w.2),
-      none_met r.met ending (λ h. let fits = h.1 in absurd (omega (arith, over, fits))) (ap (λ (q : RunReport). q.met) w.2),
-    )
+met_told ds proper m x ending r h2 = grind (arith, run_told, met_same, cut_uses, none_met, common_steps)
 
 -- an open input is used whole
 abbrev pub UsesAll : Type 0
@@ -397,18 +363,8 @@ abbrev IsBelow : (ℕ → Type 0) → ℕ → Type 0
 IsBelow P n = (b : ℕ) × (b < n) × P b
 
 tests_below : (n : ℕ) (P : ℕ → Type 0) (test : ℕ → Bool) → ((b : ℕ) → Tests (test b) (P b)) → Tests (some_below n test) (IsBelow P n)
-tests_below zero P test tests = record { from = λ e. absurd (true≢false (sym e)); to = λ h. let none = h.1 in absurd (omega (arith, none)) }
-tests_below (suc n) P test tests = by_case (test n) refl (tests_below n P test tests)
-  where
-    top : (b : ℕ) → b < suc n → P b → test n ≡ false → b < n
-    top b below h e = let other : b ≡ n → ⊥ = λ same. fails (tests b) (ap test same ∙ e) h in omega (arith, below, other)
-
-    by_case : (v : Bool) → test n ≡ v → Tests (some_below n test) (IsBelow P n) → Tests (cond v true (some_below n test)) (IsBelow P (suc n))
-    by_case true e lower = record { from = λ _. (n, omega arith, (tests n).from e); to = λ _. refl }
-    by_case false e lower = record {
-      from = λ some. let found = lower.from some in let below = found.1 in (found.0, omega (arith, below), found.2);
-      to = λ h. lower.to (h.0, top h.0 h.1 h.2 e, h.2);
-    }
+tests_below zero P test tests = grind (arith, true≢false)
+tests_below (suc n) P test tests = grind (arith, fails, tests_below n P test tests)
 
 unfoldable pub is_open : List Directive → List ℕ → Bool
 is_open ds x = some_below 256 (λ b. nat_eq (run_of None ds 1 nothing_yet (x ++ b ∷ [])).used (length x + 1))

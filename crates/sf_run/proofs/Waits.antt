@@ -42,13 +42,7 @@ pub open_of : (ds : List Directive) → AreProper ds → (x : List ℕ) → Open
 open_of ds proper x w = (w.next, w.is_byte, uses_from ds proper (x ++ w.next ∷ []) (length x + 1) (let e : (full ds (x ++ w.next ∷ [])).used ≡ length x + 1 = omega (arith, w.takes) in e))
 
 pub open_all : (ds : List Directive) → AreProper ds → (x : List ℕ) → IsOpen ds x → (run_of None ds 1 nothing_yet x).used ≡ length x
-open_all ds proper x o =
-    elim (open_or_closed ds 1 nothing_yet x proper) [
-      | inl w ↦ omega (arith, w.all)
-      | inr w ↦ (let long : (full ds (x ++ o.0 ∷ [])).used ≡ length x + 1 = uses_is ds proper (x ++ o.0 ∷ []) (length x + 1) o.2 in
-          let same : (full ds (x ++ o.0 ∷ [])).used ≡ (full ds x).used = ap (λ (r : RunReport). r.used) (w None (o.0 ∷ [])) in
-          absurd (omega (arith, long, same, uses_within ds 1 nothing_yet x)))
-    ]
+open_all ds proper x o = grind (arith, (open_or_closed ds 1 nothing_yet x proper), (uses_is ds proper (x ++ o.0 ∷ []) (length x + 1) o.2), (uses_within ds 1 nothing_yet x))
 
 -- what isn't open is told alike however it goes on
 pub closed_same : (ds : List Directive) → AreProper ds → (m : ℕ) (x z : List ℕ) (r : RunReport) → (IsOpen ds x → ⊥) → TellsWithin ds m x r → TellsWithin ds m (x ++ z) r
