@@ -73,7 +73,7 @@ passes_on d ds at t x y taken end ok is = grind arith
 
 some_slot : (ds : List Directive) (p : ℕ) (d : Directive) (values : List Assigned) (end : StepEnd) → slice_get ds p ≡ Some d → slot_stored end ≡ slot_of d → passed end ≡ true
     → slots_in values ≡ slots_of (take p ds) → slots_in (values_with end values) ≡ slots_of (take (p + 1) ds)
-some_slot ds p d values end at own ok given = grind (arith, given, slots_none, slots_more, true≢false)
+some_slot ds p d values end at own ok given = grind (arith, slots_none, slots_more)
 
 stores_own : (d : Directive) (end : StepEnd) (stores : Bool) → slot_stored end ≡ slot_of d → stored end ≡ stores → stores ≡ true → is_destination d ≡ true
 stores_own d end stores own is some = grind arith
@@ -185,7 +185,7 @@ all_counted ds front rest p s kept all h =
 -- the slot of the next directive is free
 pub free_at : (ds : List Directive) (p : ℕ) (d : Directive) (values : List Assigned) → slice_get ds p ≡ Some d → are_placed 32 ds ≡ true → are_apart (slots_of ds) ≡ true
     → slots_in values ≡ slots_of (take p ds) → MayBeGiven (slot_of d) values
-free_at ds p d values at placed apart given = grind (arith, given, slot_placed, slot_free)
+free_at ds p d values at placed apart given = grind (arith, slot_placed, slot_free)
 
 -- ---- the end
 

@@ -26,12 +26,12 @@ abbrev SomeBelow : ℕ → (ℕ → Bool) → Type 0
 SomeBelow n test = (b : ℕ) × (b < n) × (test b ≡ true)
 
 pub some_from : (n : ℕ) (test : ℕ → Bool) → some_below n test ≡ true → SomeBelow n test
-some_from zero test e = grind (arith, true≢false)
+some_from zero test e = grind arith
 some_from (suc n) test e = grind (arith, some_from n)
 
 pub some_to : (n : ℕ) (test : ℕ → Bool) (b : ℕ) → b < n → test b ≡ true → some_below n test ≡ true
 some_to zero test b below h = grind arith
-some_to (suc n) test b below h = grind (arith, true≢false, some_to n test b)
+some_to (suc n) test b below h = grind (arith, some_to n test b)
 
 abbrev takes : Directive → Stage → ℕ → Bool
 takes d q b = is_some (stepped d q b)
@@ -91,7 +91,7 @@ same_length : (f : List ℕ) (b e : ℕ) → length (f ++ b ∷ []) ≡ length (
 same_length f b e = omega (arith, length-append f (b ∷ []), length-append f (e ∷ []))
 
 all_with : (p : ℕ → Bool) (f : List ℕ) (b e : ℕ) → list_all p (f ++ b ∷ []) ≡ true → p e ≡ true → list_all p (f ++ e ∷ []) ≡ true
-all_with p f b e h one = grind (arith, both, left_of, right_of, common_steps)
+all_with p f b e h one = grind (arith, common_steps)
 
 abbrev Begins : Shape → Option ℕ → List ℕ → ℕ → Type 0
 Begins shape width f b = shape_begins shape width (f ++ b ∷ []) ≡ true

@@ -338,7 +338,7 @@ follows_on old mid new x y z more same first second = grind arith
 
 -- one that is refused after others
 pub refuses_on : (old mid new : Standing) (b : ℕ) (y z : List ℕ) → mid.tally.used ≤ new.tally.used → new.limit ≡ old.limit → Follows mid old y z → Refuses new mid b y → Refuses new old b z
-refuses_on old mid new b y z more same first r = grind (arith, ended)
+refuses_on old mid new b y z more same first r = grind arith
 
 -- of no byte none is refused
 pub none_refused : (new old : Standing) (xs : List ℕ) → length xs ≡ 0 → (is_no_memory new.ended ≡ true → RefusesIn new old xs) → is_no_memory new.ended ≡ false

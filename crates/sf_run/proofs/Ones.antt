@@ -26,8 +26,8 @@ same_used n p x end e = ap (λ (u : ℕ). record { used = u; left = x; end = end
 -- ---- white space
 
 space_is : (x : List ℕ) (n p : ℕ) → p ≡ n + skip x → one_from Space Skipping n x ≡ record { used = p; left = drop (skip x) x; end = Passes }
-space_is [] n p e = grind (arith, same_used)
-space_is (b ∷ x) n p e = grind (arith, same_used, space_is x)
+space_is [] n p e = grind arith
+space_is (b ∷ x) n p e = grind (arith, space_is x)
 
 -- a directive that skips white space, and has taken none but that
 abbrev Skips : Directive → Type 0
@@ -73,13 +73,8 @@ byte_is a (b ∷ x) n = byte_part (Byte a) (byte_taken a) (nat_eq a b) b x n
 percent_here : (x : List ℕ) (n : ℕ) → Starts x → one_from Percent Skipping n x ≡ part_of n x (byte_step 37 x)
 percent_here x n s = grind (arith, percent_taken)
 
--- two steps, the first of s bytes
-two_parts : (x : List ℕ) (n s k : ℕ) (end : StepEnd)
-    → part ((n + s) + k) (drop k (drop s x)) end ≡ part (n + (s + k)) (drop (s + k) x) end
-two_parts x n s k end = grind (arith, drop-drop)
-
 percent_is : (x : List ℕ) (n : ℕ) → one_from Percent Skipping n x ≡ part_of n x (percent_step x (skip x))
-percent_is x n = grind (arith, skips, percent_here, starts, two_parts, common_steps)
+percent_is x n = grind (arith, skips, percent_here, starts, common_steps)
 
 -- ---- items
 
@@ -127,33 +122,21 @@ module _ (c : Conversion) where
 
   -- white space is skipped, and then the item is taken
   skipped_item : EndsItem → shape_skips c.shape ≡ true → (x : List ℕ) (n : ℕ) → one_from (Conv c) Skipping n x ≡ part_of n x (item_part c x (skip x))
-  skipped_item ends does x n = grind (arith, skips, item_here, starts_here, starts, two_parts, common_steps)
+  skipped_item ends does x n = grind (arith, skips, item_here, starts_here, starts, common_steps)
 
   unskipped_item : EndsItem → shape_skips c.shape ≡ false → (x : List ℕ) (n : ℕ) → one_from (Conv c) Skipping n x ≡ part_of n x (item_part c x 0)
   unskipped_item ends does x n = grind (arith, item_here)
 
   -- ---- %n
 
-  takes_none : (shape : Shape) → shape ≡ Count → (g : List ℕ) → (is_within c.width (length g) && shape_begins shape c.width g) ≡ false
-  takes_none shape e g = and_right (is_within c.width (length g)) (shape_begins shape c.width g) (ap (λ (s : Shape). shape_begins s c.width g) e)
-
-  count_steps : c.shape ≡ Count → (b : ℕ) → stepped (Conv c) Skipping b ≡ None
-  count_steps e b = rw (ap shape_skips e, takes_none c.shape e (b ∷ [])) refl
-
-  count_ends : c.shape ≡ Count → (n : ℕ) (more : Bool) → finished (Conv c) Skipping n more ≡ count_end c c.slot n
-  count_ends e n more = ap (λ (s : Shape). conversion_finished c s Skipping n more) e
-
   count_is : c.shape ≡ Count → (x : List ℕ) (n : ℕ) → one_from (Conv c) Skipping n x ≡ part_of n x (0, count_end c c.slot n)
-  count_is e [] n = grind (arith, count_ends)
-  count_is e (b ∷ x) n = grind (arith, count_ends, count_steps)
+  count_is e [] n = grind arith
+  count_is e (b ∷ x) n = grind arith
 
   -- ---- each conversion
 
-  at_shape : (shape : Shape) → c.shape ≡ shape → (x : List ℕ) (n : ℕ) → part_of n x (item_part c x (skip_before shape x)) ≡ part_of n x (item_step c x)
-  at_shape shape e x n = ap (λ (s : Shape). part_of n x (item_part c x (skip_before s x))) (sym e)
-
   conversion_is : (shape : Shape) → c.shape ≡ shape → (x : List ℕ) (n : ℕ) → one_from (Conv c) Skipping n x ≡ part_of n x (conversion_step c shape x n)
-  conversion_is shape e x n = grind (arith, skipped_item, at_shape, unskipped_item, count_is)
+  conversion_is shape e x n = grind (arith, skipped_item, unskipped_item)
 
 -- the machine makes the step: it leaves the rest of the input, and ends as the step does
 pub one_made : (d : Directive) (x : List ℕ) (n : ℕ) → one_from d Skipping n x ≡ part_of n x (step_of d x n)

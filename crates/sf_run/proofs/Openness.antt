@@ -25,7 +25,7 @@ holds_by P o a b p q = grind arith
 -- with no input left nothing more is used
 pub uses_nothing : (m : Option ℕ) (ds : List Directive) (at : ℕ) (t : Tally) → is_over m t.used ≡ false → (run_of m ds at t []).used ≡ t.used
 uses_nothing m [] at t h = refl
-uses_nothing m (d ∷ ds) at t h = grind (arith, holds_by, counted-used, uses_nothing m ds)
+uses_nothing m (d ∷ ds) at t h = grind (arith, uses_nothing m ds)
 
 pub rest_uses_nothing : (m : Option ℕ) (ds : List Directive) (q : Stage) (at : ℕ) (t : Tally) → is_over m t.used ≡ false → (run_from m ds q at t []).used ≡ t.used
 rest_uses_nothing m ds q at t h = grind (arith, uses_nothing)
@@ -33,21 +33,18 @@ rest_uses_nothing m ds q at t h = grind (arith, uses_nothing)
 -- a run uses no more than there is
 pub uses_within : (ds : List Directive) (at : ℕ) (t : Tally) (x : List ℕ) → (run_of None ds at t x).used ≤ t.used + length x
 uses_within [] at t x = omega arith
-uses_within (d ∷ ds) at t x = grind (arith, keeps_all, holds_by, counted-used, uses_within ds)
+uses_within (d ∷ ds) at t x = grind (arith, keeps_all, uses_within ds)
 
 pub uses_more : (ds : List Directive) (at : ℕ) (t : Tally) (x : List ℕ) → t.used ≤ (run_of None ds at t x).used
 uses_more [] at t x = omega arith
-uses_more (d ∷ ds) at t x = grind (arith, grows, holds_by, counted-used, uses_more ds)
+uses_more (d ∷ ds) at t x = grind (arith, grows, uses_more ds)
 
 -- ---- under a limit
-
-same_by : (m : ℕ) (o : StepEnd) (a c : RunReport) (b : Status → RunReport) → (by_end o a b).used ≤ m → (a.used ≤ m → c ≡ a) → by_end o c b ≡ by_end o a b
-same_by m o a c b h e = grind arith
 
 -- a run within the limit is the run
 pub within_limit : (m : ℕ) (ds : List Directive) (at : ℕ) (t : Tally) (x : List ℕ) → (run_of None ds at t x).used ≤ m → run_of (Some m) ds at t x ≡ run_of None ds at t x
 within_limit m [] at t x h = refl
-within_limit m (d ∷ ds) at t x h = grind (arith, holds_by, uses_more, counted-used, le-ltb, same_by, within_limit m ds)
+within_limit m (d ∷ ds) at t x h = grind (arith, uses_more, within_limit m ds)
 
 -- a run without a limit is not too long
 pub run_not_too_long : (ds : List Directive) (at : ℕ) (t : Tally) (x : List ℕ) → (run_of None ds at t x).status ≡ TooLong → ⊥
@@ -57,7 +54,7 @@ run_not_too_long (d ∷ ds) at t x h = grind (arith, never_too_long, run_not_too
 -- a run past the limit is too long
 pub over_is_too_long : (m : ℕ) (ds : List Directive) (at : ℕ) (t : Tally) (x : List ℕ) → t.used ≤ m → m < (run_of None ds at t x).used → (run_of (Some m) ds at t x).status ≡ TooLong
 over_is_too_long m [] at t x le h = grind arith
-over_is_too_long m (d ∷ ds) at t x le h = grind (arith, cases_lt, lt-ltb, le-ltb, counted-used, over_is_too_long m ds)
+over_is_too_long m (d ∷ ds) at t x le h = grind (arith, over_is_too_long m ds)
 
 -- ---- open or closed
 

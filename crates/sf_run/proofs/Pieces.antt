@@ -63,10 +63,6 @@ not_true : (v : Bool) → (v ≡ true → ⊥) → v ≡ false
 not_true true never = absurd (never refl)
 not_true false never = refl
 
-not_of : (v : Bool) → not v ≡ true → v ≡ false
-not_of true e = absurd (true≢false (sym e))
-not_of false e = refl
-
 right_of : (a b : Bool) → (a && b) ≡ true → b ≡ true
 right_of true b e = e
 right_of false b e = absurd (true≢false (sym e))
@@ -213,17 +209,13 @@ module _ (piece : List ℕ) (n w : ℕ) (within : w ≤ length piece) (white : (
 
 -- ---- the byte that is due
 
-due_taken : (d : Directive) (piece : List ℕ) → 0 < length piece → stepped d Skipping (get_or piece 0 0) ≡ Some Taken → stepped_all d Skipping (take 1 piece) ≡ Some Taken
-due_taken d [] some e = absurd (omega (arith, some))
-due_taken d (x ∷ xs) some e = ap (λ (o : Option Stage). choose o None (λ s. stepped_all d s [])) e
-
 pub byte_passes : (a n : ℕ) (piece : List ℕ) → a < 256 → 0 < length piece → get_or piece 0 0 ≡ a
     → Answers (Byte a) Skipping n piece (record { before = 1; item = 0; phase = phase.Skipping; ends = Some finish.Passes })
-byte_passes a n piece proper some is = grind (arith, plain_ends, due_taken, stays_full, taken_full)
+byte_passes a n piece proper some is = grind (arith, stays_full, taken_full)
 
 pub percent_passes : (n : ℕ) (piece : List ℕ) → 0 < length piece → is_white (get_or piece 0 0) ≡ false → get_or piece 0 0 ≡ 37
     → Answers Percent Skipping n piece (record { before = 1; item = 0; phase = phase.Skipping; ends = Some finish.Passes })
-percent_passes n piece some ink is = grind (arith, plain_ends, due_taken, stays_full, taken_full)
+percent_passes n piece some ink is = grind (arith, stays_full, taken_full)
 
 -- n
 pub count_answers : (c : Conversion) (n : ℕ) (piece : List ℕ) (end : Finished) → IsProper (Conv c) → is_count c.shape ≡ true → end_of [] end ≡ count_end c c.slot n
@@ -240,13 +232,9 @@ count_answers c n piece end proper is e =
 
 -- ---- items
 
--- a byte of a text
-in_text : (shape : Shape) (width : Option ℕ) (f : List ℕ) (b : ℕ) → shape_begins shape width (f ++ b ∷ []) ≡ true → IsInText shape b
-in_text shape width f b e = grind (arith, not_of, left_of, right_of, common_steps)
-
 -- the bytes of an item that is a text belong to it
 pub item_stores : (c : Conversion) (f y : List ℕ) (slot j : ℕ) → CanAll c f y → text_slot (Conv c) ≡ Some slot → j < length y → StoresByte (Conv c) (get_or y j 0)
-item_stores c f y slot j can own below = grind (arith, take-suc, append_assoc, in_text, right_of, common_steps)
+item_stores c f y slot j can own below = grind (arith, right_of, common_steps)
 
 pub stores_behind : (c : Conversion) (f piece : List ℕ) (n slot j : ℕ) → n ≤ length piece → CanAll c f (take n piece) → text_slot (Conv c) ≡ Some slot → j < n → StoresByte (Conv c) (get_or piece j 0)
 stores_behind c f piece n slot j within can own below =

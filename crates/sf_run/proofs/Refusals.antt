@@ -66,13 +66,9 @@ end_fine : (end : StepEnd) (y : RunReport) (f : Status → RunReport) → own_en
     → is_memory_status (by_end end y f).status ≡ false
 end_fine end y f own h same = grind (arith, own_status)
 
-over_fine : (v : Bool) (a b : RunReport) → a.status ≡ TooLong → is_memory_status b.status ≡ false → is_memory_status (cond v a b).status ≡ false
-over_fine true a b e h = ap is_memory_status e
-over_fine false a b e h = h
-
 pub run_fine : (m : Option ℕ) (ds : List Directive) (at : ℕ) (t : Tally) (x : List ℕ) → is_memory_status (run_of m ds at t x).status ≡ false
 run_fine m [] at t x = refl
-run_fine m (d ∷ ds) at t x = grind (arith, over_fine, end_fine, one_own, run_fine m ds)
+run_fine m (d ∷ ds) at t x = grind (arith, end_fine, one_own, run_fine m ds)
 
 -- a scanner that is after some bytes has not run out
 pub after_fine : (ds : List Directive) (m : ℕ) (s : Standing) (x : List ℕ) → After ds m s x → ran_out s ≡ false

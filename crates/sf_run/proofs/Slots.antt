@@ -50,7 +50,7 @@ with-append slot ms ns = grind arith
 slots_split : (ds : List Directive) (p : ℕ) → slots_of ds ≡ slots_of (take p ds) ++ slots_of (drop p ds)
 slots_split ds zero = refl
 slots_split [] (suc p) = refl
-slots_split (d ∷ ds) (suc p) = grind (arith, slots-cons, with_slot, with-append, slots_split ds)
+slots_split (d ∷ ds) (suc p) = grind (arith, slots_split ds)
 
 some_is : {A : Type 0} (a b : A) → Some a ≡ Some b → a ≡ b
 some_is a b e = cc
@@ -80,7 +80,7 @@ slots_more ds p d values slot v at own is =
 slots_at : (ds : List Directive) (p : ℕ) (d : Directive) (slot : ℕ) → slice_get ds p ≡ Some d → slot_of d ≡ Some slot
     → slots_of ds ≡ slots_of (take p ds) ++ slot ∷ slots_of (drop (p + 1) ds)
 unfolding with_slot
-slots_at ds p d slot at own = grind (arith, (slots_split ds p), (drop_at ds p d at), (slots-cons d (drop (p + 1) ds)))
+slots_at ds p d slot at own = grind (arith, (slots_split ds p), (drop_at ds p d at))
 
 -- ---- each slot is one of the store's
 
@@ -129,11 +129,11 @@ not_any x (y ∷ xs) n ys h = not_any x xs n ys (or_right (nat_eq x y) (list_any
 
 apart_before : (xs : List ℕ) (n : ℕ) (ys : List ℕ) → are_apart (xs ++ n ∷ ys) ≡ true → list_any (nat_eq n) xs ≡ false
 apart_before [] n ys h = refl
-apart_before (x ∷ xs) n ys h = grind (arith, not_true, left_of', or_both, ne_eqb, eqb-false, not_any, right_of, apart_before xs)
+apart_before (x ∷ xs) n ys h = grind (arith, not_any, apart_before xs)
 
 no_datum : (slot : ℕ) (values : List Assigned) → list_any (nat_eq slot) (slots_in values) ≡ false → datum_at slot values ≡ None
 no_datum slot [] h = refl
-no_datum slot (a ∷ values) h = grind (arith, or_left, or_right, true≢false, no_datum slot values)
+no_datum slot (a ∷ values) h = grind (arith, no_datum slot values)
 
 pub slot_free : (ds : List Directive) (p : ℕ) (d : Directive) (slot : ℕ) (values : List Assigned) → are_apart (slots_of ds) ≡ true → slots_in values ≡ slots_of (take p ds)
     → slice_get ds p ≡ Some d → slot_of d ≡ Some slot → datum_at slot values ≡ None
@@ -235,7 +235,7 @@ both false b e f = absurd (true≢false (sym e))
 
 pub placed_from : (count slots : ℕ) (ns : List ℕ) → count ≤ slots → AllByRecursion (λ n. (1 ≤ n) × (n ≤ count)) ns → list_all (λ n. nat_le 1 n && nat_le n slots) ns ≡ true
 placed_from count slots [] fits h = refl
-placed_from count slots (n ∷ ns) fits h = grind (arith, both, nat_tests, placed_from count slots ns)
+placed_from count slots (n ∷ ns) fits h = grind (arith, placed_from count slots ns)
 
 none_of_them : (n : ℕ) (ns : List ℕ) → AllByRecursion (λ m. m ≢ n) ns → list_any (nat_eq n) ns ≡ false
 none_of_them n [] h = refl

@@ -25,9 +25,6 @@ Is r k end = (k ≡ r.0) × (end ≡ r.1)
 
 -- ---- a byte
 
-byte_only : (a : ℕ) (x : List ℕ) (k : ℕ) (end : StepEnd) → ByteStep a x k end → Is (byte_step a x) k end
-byte_only a x k end h = grind arith
-
 choice-le : (v : Bool) (n : ℕ) → (byte_choice v).0 ≤ suc n
 choice-le true n = omega arith
 choice-le false n = omega arith
@@ -156,10 +153,10 @@ pub step_is : (d : Directive) → IsProper d → (x : List ℕ) (n : ℕ) → St
 step_is d proper x n = grind (arith, skip_is, conversion_is)
 
 pub step_only : (d : Directive) → IsProper d → (x : List ℕ) (n k : ℕ) (end : StepEnd) → Step d x n k end → (k ≡ (step_of d x n).0) × (end ≡ (step_of d x n).1)
-step_only d proper x n k end h = grind (arith, skip_only, byte_only, conversion_only)
+step_only d proper x n k end h = grind (arith, skip_only, conversion_only)
 
 percent_within : (x : List ℕ) → (percent_step x (skip x)).0 ≤ length x
 percent_within x = grind (arith, skip-le, byte_step-le, length-drop)
 
 pub step_within : (d : Directive) (x : List ℕ) (n : ℕ) → (step_of d x n).0 ≤ length x
-step_within d x n = grind (arith, skip-le, percent_within, conversion_within)
+step_within d x n = grind (arith, percent_within, conversion_within)

@@ -30,7 +30,7 @@ texts_counted d end t = grind (arith, append-nil, texts-push)
 
 texts_more : (ds : List Directive) (at : ℕ) (t : Tally) (x : List ℕ) → length (texts_in t.values) ≤ length (texts_in (run_of None ds at t x).values)
 texts_more [] at t x = omega arith
-texts_more (d ∷ ds) at t x = grind (arith, texts_counted, length-append, holds_by, texts_more ds)
+texts_more (d ∷ ds) at t x = grind (arith, texts_counted, length-append, texts_more ds)
 
 -- ---- the next directive of a run that is Done
 

@@ -30,12 +30,6 @@ ran_one d k end = record { directive = d; bytes = k; end = end }
 used-cons : (r : Ran) (ran : List Ran) → used (r ∷ ran) ≡ r.bytes + used ran
 used-cons r ran = sum_by-cons (λ (s : Ran). s.bytes) r ran
 
-assigned-cons : (r : Ran) (ran : List Ran) → assigned (r ∷ ran) ≡ cond (is_conversion r.directive && stored r.end) 1 0 + assigned ran
-assigned-cons r ran = sum_by-cons (λ (s : Ran). cond (is_conversion s.directive && stored s.end) 1 0) r ran
-
-converted-cons : (r : Ran) (ran : List Ran) → converted (r ∷ ran) ≡ cond (is_conversion r.directive && passed r.end) 1 0 + converted ran
-converted-cons r ran = sum_by-cons (λ (s : Ran). cond (is_conversion s.directive && passed s.end) 1 0) r ran
-
 abbrev tally : ℕ → ℕ → ℕ → List Assigned → Tally
 tally u a c v = record { used = u; assigned = a; converted = c; values = v }
 
@@ -51,24 +45,13 @@ count_more : (v : Bool) (n k l : ℕ) → l ≡ cond (v && true) 1 0 + k → con
 count_more true n k l e = omega arith
 count_more false n k l e = omega arith
 
-count_none : (v : Bool) (n k l : ℕ) → l ≡ cond (v && false) 1 0 + k → n + k ≡ n + l
-count_none true n k l e = omega arith
-count_none false n k l e = omega arith
-
-used_more : (n k j l : ℕ) → l ≡ k + j → (n + k) + j ≡ n + l
-used_more n k j l e = omega arith
-
 -- a step that passes
 sums_step : (d : Directive) (end : StepEnd) (k : ℕ) (t : Tally) (ran : List Ran) → passed end ≡ true
     → sums (counted d end (with_used (t.used + k) t)) ran ≡ sums t (ran_one d k end ∷ ran)
-sums_step d end k t ran h = grind (arith, same_tally, used_more, used-cons, count_none, assigned-cons, count_more, converted-cons, append_assoc, true≢false, common_steps)
+sums_step d end k t ran h = grind (arith, common_steps)
 
 sums_none : (t : Tally) → t ≡ sums t []
 sums_none t = same_tally _ _ _ _ (sym (add-zero t.used)) (sym (add-zero t.assigned)) (sym (add-zero t.converted)) (sym (append-nil t.values))
-
--- a step that fails
-sums_fails : (d : Directive) (status : Status) (k : ℕ) (t : Tally) → with_used (t.used + k) t ≡ sums t (ran_one d k (Fails status) ∷ [])
-sums_fails d status k t = grind (arith, append-nil)
 
 -- ---- reports of a list of steps, where a directives passed before with the totals t
 
@@ -83,10 +66,6 @@ cut_from a t before m = out_of TooLong (a + (length before + 1)) (with_used m (s
 
 same_out : (status : Status) (i j : ℕ) (t u : Tally) → i ≡ j → t ≡ u → out_of status i t ≡ out_of status j u
 same_out status i j t u p q = ap₂ (out_of status) p q
-
-told_step : (d : Directive) (end : StepEnd) (k a : ℕ) (t : Tally) (ran : List Ran) → passed end ≡ true
-    → told_from (a + 1) (counted d end (with_used (t.used + k) t)) ran ≡ told_from a t (ran_one d k end ∷ ran)
-told_step d end k a t ran h = grind (arith, sums_step)
 
 cut_step : (d : Directive) (end : StepEnd) (k a m : ℕ) (t : Tally) (before : List Ran) → passed end ≡ true
     → cut_from (a + 1) (counted d end (with_used (t.used + k) t)) before m ≡ cut_from a t (ran_one d k end ∷ before) m
@@ -136,7 +115,7 @@ limited_over m d ds at t x over = first_step (Some m) d ds at t x ∙ cond-true 
 told_first : (d : Directive) (end : StepEnd) (k a at : ℕ) (t : Tally) (next : RunReport) (rest : List Ran) → at ≡ a + 1
     → next ≡ told_from (a + 1) (counted d end (with_used (t.used + k) t)) rest
     → by_end end next (λ status. out_of status at (with_used (t.used + k) t)) ≡ told_from a t (ran_one d k end ∷ go_on end rest)
-told_first d end k a at t next rest e h = grind (arith, told_step, same_out, sums_fails, common_steps)
+told_first d end k a at t next rest e h = grind (arith, common_steps)
 
 run_told_from : (ds : List Directive) (a at : ℕ) (t : Tally) (x : List ℕ) → at ≡ a + 1 → run_of None ds at t x ≡ told_from a t (ran_of ds x t.used)
 run_told_from [] a at t x e = ap (out_of Done 0) (sums_none t)
@@ -307,33 +286,16 @@ met_same : {P Q : Type 0} (met : Option Ending) (ending : Ending) → (P → Q) 
 met_same None ending to back h = λ q. h (back q)
 met_same (Some e) ending to back h = (to h.0, h.1)
 
-met_none : {P : Type 0} (met : Option Ending) (ending : Ending) → (P → ⊥) → SomeIff met P ending → met ≡ None
-met_none None ending never h = refl
-met_none (Some e) ending never h = absurd (never h.0)
-
-none_met : {P : Type 0} (met : Option Ending) (ending : Ending) → (P → ⊥) → met ≡ None → SomeIff met P ending
-none_met None ending never e = never
-none_met (Some f) ending never e = absurd (cc)
-
 abbrev with_met : RunReport → Option Ending → RunReport
 with_met r met = record r { met = met }
 
--- a run that is cut off uses more than the limit
-cut_uses : (ds : List Directive) → AreProper ds → (m : ℕ) (x : List ℕ) (before : List Ran) → IsCut ds x m before → m < uses ds x
-cut_uses ds proper m x before c =
-    let told : uses ds x ≡ used (before ++ c.cut ∷ c.rest) = ap (λ (r : RunReport). r.used) (run_told ds proper x _ c.steps) in
-    let parts : used (before ++ c.cut ∷ c.rest) ≡ used before + used (c.cut ∷ c.rest) = sum_by-append (λ (s : Ran). s.bytes) before (c.cut ∷ c.rest) in
-    let last = used-cons c.cut c.rest in
-    let high : m < used before + c.cut.bytes = c.high in
-    omega (arith, told, parts, last, high)
-
 told_met : (ds : List Directive) → AreProper ds → (m : ℕ) (x : List ℕ) (ending : Ending) (met : Option Ending) (r : RunReport)
     → TellsWithin ds m x r → SomeIff met (IsOpen ds x × (uses ds x ≤ m)) ending → RunWithin ds m x ending (with_met r met)
-told_met ds proper m x ending met r h2 some = grind (arith, run_told, met_same, cut_uses, met_none, common_steps)
+told_met ds proper m x ending met r h2 some = grind (arith, run_told, common_steps)
 
 met_told : (ds : List Directive) → AreProper ds → (m : ℕ) (x : List ℕ) (ending : Ending) (r : RunReport)
     → RunWithin ds m x ending r → TellsWithin ds m x (with_met r None) × SomeIff r.met (IsOpen ds x × (uses ds x ≤ m)) ending
-met_told ds proper m x ending r h2 = grind (arith, run_told, met_same, cut_uses, none_met, common_steps)
+met_told ds proper m x ending r h2 = grind (arith, run_told, common_steps)
 
 -- an open input is used whole
 abbrev pub UsesAll : Type 0
@@ -355,7 +317,7 @@ module _ (open_all : UsesAll) (ds : List Directive) (proper : AreProper ds) (m :
 
   pub met_within : (r : RunReport) → RunWithin ds m x ending r
       → TellsWithin ds m x (record r { met = None }) × SomeIff r.met (IsOpen ds x × (length x ≤ m)) ending
-  met_within r h = grind (arith, met_told, met_same, to_length)
+  met_within r h = grind (arith, met_told, to_length)
 
 -- ---- whether an input is open
 
@@ -363,8 +325,8 @@ abbrev IsBelow : (ℕ → Type 0) → ℕ → Type 0
 IsBelow P n = (b : ℕ) × (b < n) × P b
 
 tests_below : (n : ℕ) (P : ℕ → Type 0) (test : ℕ → Bool) → ((b : ℕ) → Tests (test b) (P b)) → Tests (some_below n test) (IsBelow P n)
-tests_below zero P test tests = grind (arith, true≢false)
-tests_below (suc n) P test tests = grind (arith, fails, tests_below n P test tests)
+tests_below zero P test tests = grind arith
+tests_below (suc n) P test tests = grind (arith, tests_below n P test tests)
 
 unfoldable pub is_open : List Directive → List ℕ → Bool
 is_open ds x = some_below 256 (λ b. nat_eq (run_of None ds 1 nothing_yet (x ++ b ∷ [])).used (length x + 1))
