@@ -95,4 +95,4 @@ returns-clause-same g c proper fine z =
     c.run_on-run.ensures.suits.slot (end_is d run.phase run.ends c.in-Some.finished c.in-Some.is c.run_on-run.ensures.suits.end)
     (λ q shows.
     let a = subst (λ (o : Option Finished). AnswersBy o d q s.tally.used front run) c.in-Some.is ((c.run_on-run.ensures.answers q proper shows).goes) in
-    front_ends d q s.tally.used m n piece front (end_of (item_of q ++ take run.item (drop run.before front)) c.in-Some.finished) c.split_at.ensures.front (omega (arith, least)) a z)
+    front_ends d q s.tally.used m n piece front (end_of (item_of q ++ take run.item (drop run.before front)) c.in-Some.finished) c.split_at.ensures.front a z)
