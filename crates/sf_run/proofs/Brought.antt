@@ -54,8 +54,7 @@ item_all c f (b ∷ y) can =
 
 -- the first byte is not skipped
 pub first_all : (c : Conversion) (b : ℕ) (y : List ℕ) → (shape_skips c.shape && is_white b) ≡ false → CanAll c [] (b ∷ y) → stepped_all (Conv c) Skipping (b ∷ y) ≡ Some (Item (b ∷ y))
-first_all c b y ink can =
-    ap (λ v. choose (cond v (Some Skipping) (item_stepped c [] b)) None (λ s. stepped_all (Conv c) s y)) ink ∙ item_all c [] (b ∷ y) can
+first_all c b y ink can = grind (arith, (item_all c [] (b ∷ y) can))
 
 -- ---- what a scan shows of them
 

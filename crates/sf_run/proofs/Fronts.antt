@@ -49,15 +49,10 @@ skip_before_front : (shape : Shape) (x z : List ℕ) (k : ℕ) → k ≤ length 
 skip_before_front shape x z k le h = grind (arith, skip_front)
 
 empty_fails : (x : List ℕ) (end : StepEnd) → HasPassed end → EmptyItem x end → ⊥
-empty_fails [] end ok e = not_failed end _ ok e
-empty_fails (b ∷ x) end ok e = not_failed end _ ok e
-
-abbrev EndsBy : Conversion → StepEnd → List ℕ → Type 0
-EndsBy c end item = Matches c item × ItemPasses c c.slot item end ⊎ (Matches c item → ⊥) × (end ≡ Fails MatchingFailure)
+empty_fails x end ok e = grind (arith, not_failed)
 
 ends_front : (c : Conversion) (x z : List ℕ) (j : ℕ) (end : StepEnd) → HasPassed end → j ≤ length x → ItemEnds c (x ++ z) j end → ItemEnds c x j end
-ends_front c x z zero end ok le h = absurd (empty_fails (x ++ z) end ok h)
-ends_front c x z (suc j) end ok le h = subst (EndsBy c end) (take-append-le (suc j) x z le) h
+ends_front c x z j end ok le h = grind (arith, empty_fails, take-append-le)
 
 item_front : (c : Conversion) (x z : List ℕ) (k : ℕ) (end : StepEnd) → HasPassed end → k ≤ length x → ItemStep c (x ++ z) k end → ItemStep c x k end
 item_front c x z k end ok le h3 = grind (arith, drop-append-le, length-drop, skip_before_front, item_at_front, ends_front)

@@ -37,12 +37,10 @@ abbrev takes : Directive → Stage → ℕ → Bool
 takes d q b = is_some (stepped d q b)
 
 not_true : (v : Bool) → not v ≡ false → v ≡ true
-not_true true e = refl
-not_true false e = absurd (true≢false e)
+not_true v e = grind arith
 
 not_false : (v : Bool) → not v ≡ true → v ≡ false
-not_false true e = absurd (true≢false (sym e))
-not_false false e = refl
+not_false v e = grind arith
 
 some_of : {A : Type 0} (o : Option A) → is_some o ≡ true → (a : A) × (o ≡ Some a)
 some_of None e = absurd (true≢false (sym e))
@@ -75,16 +73,13 @@ full_of_none d q none = ap not (no_byte (some_below 256 (takes d q)) refl)
 -- ---- a full directive takes nothing
 
 left_of : (a b : Bool) → (a && b) ≡ true → a ≡ true
-left_of true b e = refl
-left_of false b e = e
+left_of a b e = grind arith
 
 right_of : (a b : Bool) → (a && b) ≡ true → b ≡ true
-right_of true b e = e
-right_of false b e = absurd (true≢false (sym e))
+right_of a b e = grind arith
 
 both : (a b : Bool) → a ≡ true → b ≡ true → (a && b) ≡ true
-both true b first second = second
-both false b first second = absurd (true≢false (sym first))
+both a b first second = grind arith
 
 -- whether a byte is last is all that the lengths see
 same_length : (f : List ℕ) (b e : ℕ) → length (f ++ b ∷ []) ≡ length (f ++ e ∷ [])
@@ -190,12 +185,10 @@ full_takes_nothing (Conv c) proper (Item f) b full = item_nothing c proper.0 (It
 -- ---- the end of a full directive
 
 within_one : (width : Option ℕ) → IsProperWidth width → is_within width 1 ≡ true
-within_one None h = refl
-within_one (Some w) h = (tests_most 1 w).to h
+within_one width h = grind (arith, tests_most)
 
 one_char : (width : Option ℕ) → IsProperWidth width → nat_le 1 (unwrap_or width 1) ≡ true
-one_char None h = refl
-one_char (Some w) h = (tests_most 1 w).to h
+one_char width h = grind (arith, tests_most)
 
 -- some byte begins an item
 first_begins : (shape : Shape) (width : Option ℕ) → IsProperShape shape → IsProperWidth width → HasItem shape
@@ -256,8 +249,7 @@ finish_fits : (d : Directive) (q : Stage) (n : ℕ) (more : Bool) → NotTooLong
 finish_fits d q n more = grind arith
 
 pub by_option : (P : Part → Type 0) (o : Option Stage) (y : Part) (f : Stage → Part) → P y → ((r : Stage) → P (f r)) → P (choose o y f)
-by_option P None y f a b = a
-by_option P (Some r) y f a b = b r
+by_option P o y f a b = grind arith
 
 pub never_too_long : (d : Directive) (q : Stage) (n : ℕ) (x : List ℕ) → (one_from d q n x).end ≡ Fails TooLong → ⊥
 never_too_long d q n [] = finish_fits d q n false

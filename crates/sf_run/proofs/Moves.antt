@@ -44,8 +44,7 @@ all_behind : {A : Type 0} (P : A → Type 0) (xs : List A) (i : ℕ) → AllByRe
 all_behind P xs i h = grind (arith, common_steps)
 
 pub proper_at : (ds : List Directive) (p : ℕ) (d : Directive) → AreProper ds → slice_get ds p ≡ Some d → IsProper d
-proper_at ds p d h at =
-    let rest : AllByRecursion IsProper (d ∷ drop (p + 1) ds) = subst (AllByRecursion IsProper) (drop_at ds p d at) (all_behind IsProper ds p h) in rest.0
+proper_at ds p d h at = grind (arith, drop_at, all_behind)
 
 -- ---- places
 
@@ -67,16 +66,13 @@ pub passes : (f : StepEnd) (y : RunReport) (g : Status → RunReport) → ((stat
 passes f y g h = grind arith
 
 pub fresh : (m : Option ℕ) (ds : List Directive) (at : ℕ) (t : Tally) (z : List ℕ) → run_from m ds Skipping at t z ≡ run_of m ds at t z
-fresh m [] at t z = refl
-fresh m (d ∷ ds) at t z = refl
+fresh m ds at t z = grind arith
 
 nothing_opened : (slot : Option ℕ) → None ≡ opened_for slot Skipping
-nothing_opened None = refl
-nothing_opened (Some slot) = refl
+nothing_opened slot = grind arith
 
 pub shows_fresh : (ds : List Directive) → ShowsFirst ds phase.Skipping None Skipping
-shows_fresh [] = tt
-shows_fresh (d ∷ ds) = (refl, nothing_opened (text_slot d))
+shows_fresh ds = grind (arith, nothing_opened)
 
 -- the first directive takes so much of y, ends so and leaves z
 ended_part : (k : ℕ) (d : Directive) (ds : List Directive) (q : Stage) (at : ℕ) (t u : Tally) (y z : List ℕ) (f : StepEnd) → u.used ≤ k → u ≡ with_used u.used t
@@ -325,8 +321,7 @@ pub has_place : (ds : List Directive) (p : ℕ) (d : Directive) (v : Bool) → s
 has_place ds p d v at some e = grind (arith, (place_taken ds p d v at some))
 
 pub one_more : (v : Bool) (n : ℕ) → cond v (n + 1) n ≡ n + cond v 1 0
-one_more true n = refl
-one_more false n = omega arith
+one_more v n = grind arith
 
 -- ---- counting the directives that may still end
 
@@ -366,8 +361,7 @@ ended_does s k y z report ended does = by_case s.ended ended does
     by_case (Some stop) h does = does
 
 pub if_none : {A : Type 0} (o : Option A) (P : Type 0) → P → IfNone o P
-if_none None P p = p
-if_none (Some a) P p = tt
+if_none o P p = grind arith
 
 -- a directive that takes a byte has used one more, if nothing follows
 pub byte_took : (k : ℕ) (ds : List Directive) (p : ℕ) (d : Directive) (q r : Stage) (t : Tally) (b : ℕ) → slice_get ds p ≡ Some d → stepped d q b ≡ Some r
@@ -379,9 +373,7 @@ pub byte_past : (k : ℕ) (ds : List Directive) (p : ℕ) (d : Directive) (q r :
 byte_past k ds p d q r t b at e full = passed_limit k ds p d q r t b [] at e full
 
 pub not_out : (o : Option Stop) → is_some o ≡ false → is_no_memory o ≡ false
-not_out None e = refl
-not_out (Some stop) e = absurd (true≢false e)
+not_out o e = grind arith
 
 pub waits_for : (o : Option Stop) → (IsSome o → ⊥) → o ≡ None
-waits_for None never = refl
-waits_for (Some stop) never = absurd (never refl)
+waits_for o never = grind arith

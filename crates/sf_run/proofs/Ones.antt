@@ -17,12 +17,6 @@ use Rattle.sf_run.specs.Machine.{Stage, Skipping, Taken, Item, shape_skips, step
 use Rattle.sf_run.specs.Residual.{Part, choose, one_from}
 use Rattle.sf_run.specs.Computed.{skip, len, byte_choice, byte_step, skip_before, item_ended, item_part, item_step, conversion_step, percent_step, step_of, part_of}
 
-abbrev pub part : ℕ → List ℕ → StepEnd → Part
-part n x end = record { used = n; left = x; end = end }
-
-same_used : (n p : ℕ) (x : List ℕ) (end : StepEnd) → n ≡ p → part n x end ≡ part p x end
-same_used n p x end e = ap (λ (u : ℕ). record { used = u; left = x; end = end }) e
-
 -- ---- white space
 
 space_is : (x : List ℕ) (n p : ℕ) → p ≡ n + skip x → one_from Space Skipping n x ≡ record { used = p; left = drop (skip x) x; end = Passes }
@@ -67,8 +61,7 @@ byte_part : (d : Directive) → IsTaken d → (v : Bool) (b : ℕ) (x : List ℕ
 byte_part d taken v b x n = grind arith
 
 byte_is : (a : ℕ) (x : List ℕ) (n : ℕ) → one_from (Byte a) Skipping n x ≡ part_of n x (byte_step a x)
-byte_is a [] n = same_used n (n + 0) [] (nothing_end false) (omega arith)
-byte_is a (b ∷ x) n = byte_part (Byte a) (byte_taken a) (nat_eq a b) b x n
+byte_is a x n = grind (arith, (byte_taken a))
 
 percent_here : (x : List ℕ) (n : ℕ) → Starts x → one_from Percent Skipping n x ≡ part_of n x (byte_step 37 x)
 percent_here x n s = grind (arith, percent_taken)
@@ -110,15 +103,10 @@ module _ (c : Conversion) where
   IsHere (b ∷ y) = (shape_skips c.shape && is_white b) ≡ false
 
   item_here : EndsItem → (y : List ℕ) (n : ℕ) → IsHere y → one_from (Conv c) Skipping n y ≡ part_of n y (len c [] y, item_ended c y (len c [] y))
-  item_here ends [] n here =
-      ap₂ (λ (u : ℕ) (end : StepEnd). record { used = u; left = []; end = end }) (let h : n ≡ n + 0 = omega arith in h) (ends Skipping n false)
-  item_here ends (b ∷ y) n here =
-      ap (λ v. choose (cond v (Some Skipping) (item_stepped c [] b)) (record { used = n; left = b ∷ y; end = finished (Conv c) Skipping n true }) (λ r. one_from (Conv c) r (n + 1) y)) here
-      ∙ first_byte ends b y n (can_take c (b ∷ []))
+  item_here ends y n here = grind (arith, first_byte, item_from)
 
   starts_here : (y : List ℕ) → Starts y → IsHere y
-  starts_here [] s = tt
-  starts_here (b ∷ y) s = and_right (shape_skips c.shape) (is_white b) s
+  starts_here y s = grind (arith, and_right)
 
   -- white space is skipped, and then the item is taken
   skipped_item : EndsItem → shape_skips c.shape ≡ true → (x : List ℕ) (n : ℕ) → one_from (Conv c) Skipping n x ≡ part_of n x (item_part c x (skip x))

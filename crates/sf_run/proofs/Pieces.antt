@@ -62,16 +62,13 @@ pub same_part : {n m : ℕ} {x y : List ℕ} {e f : StepEnd} → n ≡ m → x �
 same_part p q r = (λ i. record { used = p i; left = q i; end = r i })
 
 not_true : (v : Bool) → (v ≡ true → ⊥) → v ≡ false
-not_true true never = absurd (never refl)
-not_true false never = refl
+not_true v never = grind arith
 
 right_of : (a b : Bool) → (a && b) ≡ true → b ≡ true
-right_of true b e = e
-right_of false b e = absurd (true≢false (sym e))
+right_of a b e = grind arith
 
 left_of : (a b : Bool) → (a && b) ≡ true → a ≡ true
-left_of true b e = refl
-left_of false b e = e
+left_of a b e = grind arith
 
 pub none_first : (xs : List ℕ) → None ≡ slice_get xs 0 → 0 ≡ length xs
 none_first [] e = refl
@@ -84,8 +81,7 @@ some_first xs b e = (slice_get_within xs 0 b (sym e), get_or_from_slice_get xs 0
 
 -- it takes nothing of the rest where it doesn't take the next byte
 pub stays_next : (d : Directive) (q : Stage) (k : ℕ) (piece : List ℕ) → k < length piece → stepped d q (get_or piece k 0) ≡ None → StaysAt d q (drop k piece)
-stays_next d q k piece below none n z =
-    subst (λ y. one_from d q n y ≡ record { used = n; left = y; end = finished d q n true }) (sym (next_is piece k z below)) (byte_refused d q n (get_or piece k 0) (drop (k + 1) piece ++ z) none)
+stays_next d q k piece below none = grind (arith, next_is, byte_refused)
 
 -- and where it is full
 pub stays_full : (d : Directive) (q : Stage) (rest : List ℕ) → IsProper d → is_full d q ≡ true → StaysAt d q rest
@@ -134,8 +130,7 @@ answers_use d q n piece run within a z = by_ends run.ends a.goes
 -- of a piece of which the directive was handed a front
 module _ (d : Directive) (q : Stage) (n m : ℕ) (piece front : List ℕ) (run : Run) (is : front ≡ take m piece) (within : run.before + run.item ≤ length front) (a : Answers d q n front run) where
   pub uses_front : (z : List ℕ) → n + (run.before + run.item) ≤ (one_from d q n (piece ++ z)).used
-  uses_front z =
-      subst (λ y. n + (run.before + run.item) ≤ (one_from d q n y).used) (ap (λ (y : List ℕ). y ++ (drop m piece ++ z)) is ∙ parted piece m z) (answers_use d q n front run within a (drop m piece ++ z))
+  uses_front z = grind (arith, parted, answers_use)
 
   pub stores_front : (slot : Option ℕ) → slot_in run.phase ≡ slot → IsSome slot → (j : ℕ) → j < run.item → StoresByte d (get_or piece (run.before + j) 0)
   stores_front slot own some j below = grind (arith, length-take, get_or-take)

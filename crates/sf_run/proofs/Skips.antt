@@ -9,8 +9,7 @@ pub greatest_only : {P : ℕ → Type 0} {j k : ℕ} → IsGreatest P j → IsGr
 greatest_only g h = grind arith
 
 pub one_more-le : (c : Bool) (k l : ℕ) → k ≤ l → cond c (suc k) 0 ≤ suc l
-one_more-le true k l h = omega arith
-one_more-le false k l h = omega arith
+one_more-le c k l h = grind arith
 
 pub skip-le : (x : List ℕ) → skip x ≤ length x
 skip-le [] = omega arith

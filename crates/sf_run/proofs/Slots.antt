@@ -85,16 +85,13 @@ slots_at ds p d slot at own = grind (arith, (slots_split ds p), (drop_at ds p d 
 -- ---- each slot is one of the store's
 
 right_of : (a b : Bool) → (a && b) ≡ true → b ≡ true
-right_of true b e = e
-right_of false b e = absurd (true≢false (sym e))
+right_of a b e = grind arith
 
 left_of' : (a b : Bool) → (a && b) ≡ true → a ≡ true
-left_of' true b e = refl
-left_of' false b e = e
+left_of' a b e = grind arith
 
 among : (test : ℕ → Bool) (xs : List ℕ) (n : ℕ) (ys : List ℕ) → list_all test (xs ++ n ∷ ys) ≡ true → test n ≡ true
-among test [] n ys h = left_of' (test n) (list_all test ys) h
-among test (x ∷ xs) n ys h = among test xs n ys (right_of (test x) (list_all test (xs ++ n ∷ ys)) h)
+among test xs n ys h = grind (arith, left_of', right_of, common_steps)
 
 pub slot_placed : (slots : ℕ) (ds : List Directive) (p : ℕ) (d : Directive) (slot : ℕ) → are_placed slots ds ≡ true → slice_get ds p ≡ Some d → slot_of d ≡ Some slot
     → (1 ≤ slot) × (slot ≤ slots)
@@ -108,24 +105,19 @@ slot_placed slots ds p d slot placed at own =
 -- ---- the slot has no value yet
 
 not_true : (v : Bool) → not v ≡ true → v ≡ false
-not_true true e = absurd (true≢false (sym e))
-not_true false e = refl
+not_true v e = grind arith
 
 or_left : (a b : Bool) → (a || b) ≡ false → a ≡ false
-or_left true b e = absurd (true≢false e)
-or_left false b e = refl
+or_left a b e = grind arith
 
 or_right : (a b : Bool) → (a || b) ≡ false → b ≡ false
-or_right true b e = absurd (true≢false e)
-or_right false b e = e
+or_right a b e = grind arith
 
 or_both : (a b : Bool) → a ≡ false → b ≡ false → (a || b) ≡ false
-or_both true b e f = absurd (true≢false e)
-or_both false b e f = f
+or_both a b e f = grind arith
 
 not_any : (x : ℕ) (xs : List ℕ) (n : ℕ) (ys : List ℕ) → list_any (nat_eq x) (xs ++ n ∷ ys) ≡ false → nat_eq x n ≡ false
-not_any x [] n ys h = or_left (nat_eq x n) (list_any (nat_eq x) ys) h
-not_any x (y ∷ xs) n ys h = not_any x xs n ys (or_right (nat_eq x y) (list_any (nat_eq x) (xs ++ n ∷ ys)) h)
+not_any x xs n ys h = grind (arith, or_left, or_right, common_steps)
 
 apart_before : (xs : List ℕ) (n : ℕ) (ys : List ℕ) → are_apart (xs ++ n ∷ ys) ≡ true → list_any (nat_eq n) xs ≡ false
 apart_before [] n ys h = refl
@@ -152,8 +144,7 @@ slot_of_own d slot e = grind arith
 -- ---- texts
 
 pub texts-push : (values : List Assigned) (a : Assigned) → texts_in (values ++ a ∷ []) ≡ texts_in values ++ text_in a.datum
-texts-push [] a = append-nil (text_in a.datum)
-texts-push (x ∷ values) a = ap (λ l. text_in x.datum ++ l) (texts-push values a) ∙ sym (append_assoc (text_in x.datum) (texts_in values) (text_in a.datum))
+texts-push values a = grind (arith, append-nil, append_assoc, common_steps)
 
 pub joined_number : (closed : List ℕ) (values : List Assigned) (slot : ℕ) (n : Number) → closed ≡ texts_in values → closed ≡ texts_in (values ++ assigned slot (datum_of_number n) ∷ [])
 joined_number closed values slot n is = is ∙ sym (append-nil (texts_in values)) ∙ sym (texts-push values (assigned slot (datum_of_number n)))
@@ -163,18 +154,15 @@ pub joined_text : (closed : List ℕ) (values : List Assigned) (slot : ℕ) (tex
 joined_text closed values slot text is = ap (λ l. l ++ text) is ∙ sym (texts-push values (assigned slot (Bytes text)))
 
 pub closed_values : (values : List Assigned) (opened : Option Opened) (slot : ℕ) → opened_slot opened ≡ Some slot → values_closed values opened ≡ values ++ assigned slot (Bytes (text_of opened)) ∷ []
-closed_values values None slot e = cc
-closed_values values (Some o) slot e = ap (λ n. values ++ assigned n (Bytes o.text) ∷ []) (some_is o.slot slot e)
+closed_values values opened slot e = grind (arith, some_is)
 
 pub opened_none : (opened : Option Opened) → opened_slot opened ≡ None → opened ≡ None
-opened_none None e = refl
-opened_none (Some o) e = cc
+opened_none opened e = grind arith
 
 -- ---- room
 
 plain_widths : (ds : List Directive) → widths_from ds phase.Skipping ≡ stored_widths ds
-plain_widths [] = refl
-plain_widths (d ∷ ds) = sym (sum_by-cons (λ (e : Directive). unwrap_or (stored_width e) 0) d ds)
+plain_widths ds = grind (arith, sum_by-cons, common_steps)
 
 widths_at : (ds : List Directive) (p : ℕ) (d : Directive) (current : Phase) → slice_get ds p ≡ Some d → widths_from (drop p ds) current ≡ width_left d current + stored_widths (drop (p + 1) ds)
 widths_at ds p d current at = ap (λ rest. widths_from rest current) (drop_at ds p d at)
@@ -220,8 +208,7 @@ pub text_own : (ds : List Directive) (p : ℕ) (d : Directive) (slot : ℕ) → 
 text_own ds p d slot at e = ap first_slot (drop_at ds p d at) ∙ e
 
 pub if_some : {A : Type 0} (o : Option A) (P : A → Type 0) → ((a : A) → o ≡ Some a → P a) → IfSome o P
-if_some None P f = tt
-if_some (Some a) P f = f a refl
+if_some o P f = grind arith
 
 -- nothing of the item was taken yet
 pub left_first : (d : Directive) (c : Conversion) (current : Phase) → d ≡ Conv c → slot_in current ≡ None → most_bytes c.shape c.width ≡ left_before d current
@@ -230,8 +217,7 @@ left_first d c current e none = grind arith
 -- ---- what a format says of its slots
 
 both : (a b : Bool) → a ≡ true → b ≡ true → (a && b) ≡ true
-both true b e f = f
-both false b e f = absurd (true≢false (sym e))
+both a b e f = grind arith
 
 pub placed_from : (count slots : ℕ) (ns : List ℕ) → count ≤ slots → AllByRecursion (λ n. (1 ≤ n) × (n ≤ count)) ns → list_all (λ n. nat_le 1 n && nat_le n slots) ns ≡ true
 placed_from count slots [] fits h = refl
@@ -248,8 +234,7 @@ apart_from (n ∷ ns) h = both (not (list_any (nat_eq n) ns)) (are_apart ns) (ap
 -- ---- before the first byte
 
 some_back : (o : Option ℕ) → is_some o ≡ true → o ≡ Some (unwrap_or o 0)
-some_back None h = absurd (true≢false (sym h))
-some_back (Some n) h = refl
+some_back o h = grind arith
 
 added : (a b : Option ℕ) (n : ℕ) → add_widths a b ≡ Some n → unwrap_or a 0 + unwrap_or b 0 ≡ n
 added a b n e = grind arith

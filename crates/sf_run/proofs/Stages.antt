@@ -144,8 +144,7 @@ item_suppressed c f text h = grind arith
 -- ---- the end of a directive
 
 pub count_is : (c : Conversion) (slot : Option ℕ) (n : ℕ) → passed_number c slot (value_of c.kind false n) ≡ count_end c slot n
-count_is c None n = refl
-count_is c (Some slot) n = refl
+count_is c slot n = grind arith
 
 pub count_finished : (c : Conversion) (shape : Shape) (q : Stage) (n : ℕ) (more : Bool) → is_count shape ≡ true → conversion_finished c shape q n more ≡ count_end c c.slot n
 count_finished c shape q n more e = grind arith

@@ -26,30 +26,24 @@ Is r k end = (k ≡ r.0) × (end ≡ r.1)
 -- ---- a byte
 
 choice-le : (v : Bool) (n : ℕ) → (byte_choice v).0 ≤ suc n
-choice-le true n = omega arith
-choice-le false n = omega arith
+choice-le v n = grind arith
 
 byte_step-le : (a : ℕ) (x : List ℕ) → (byte_step a x).0 ≤ length x
-byte_step-le a [] = omega arith
-byte_step-le a (b ∷ x) = choice-le (nat_eq a b) (length x)
+byte_step-le a x = grind (arith, choice-le)
 
 -- ---- ends
 
 number_is : (c : Conversion) (slot : ℕ) (v : Option ℤ) → NumberStored c slot v (number_end c slot v)
-number_is c slot None = refl
-number_is c slot (Some v) = refl
+number_is c slot v = grind arith
 
 number_only : (c : Conversion) (slot : ℕ) (v : Option ℤ) (end : StepEnd) → NumberStored c slot v end → end ≡ number_end c slot v
-number_only c slot None end h = h
-number_only c slot (Some v) end h = h
+number_only c slot v end h = grind arith
 
 count_is : (c : Conversion) (slot : Option ℕ) (n : ℕ) → CountStep c slot n (count_end c slot n)
-count_is c None n = refl
-count_is c (Some slot) n = number_is c slot (value_of c.kind false n)
+count_is c slot n = grind (arith, number_is)
 
 count_only : (c : Conversion) (slot : Option ℕ) (n : ℕ) (end : StepEnd) → CountStep c slot n end → end ≡ count_end c slot n
-count_only c None n end h = h
-count_only c (Some slot) n end h = number_only c slot (value_of c.kind false n) end h
+count_only c slot n end h = grind (arith, number_only)
 
 stored_is : (c : Conversion) (slot : ℕ) (shape : Shape) (width : Option ℕ) (item : List ℕ) → ShapeMatches shape width item → ItemStored c slot shape item (stored_end c slot shape item)
 stored_is c slot (Int base) width item h = (
@@ -73,20 +67,16 @@ stored_only c slot Chars item end h = h
 stored_only c slot Count item end h = h
 
 passes_is : (c : Conversion) (slot : Option ℕ) (item : List ℕ) → Matches c item → ItemPasses c slot item (passed_end c slot item)
-passes_is c None item h = refl
-passes_is c (Some slot) item h = stored_is c slot c.shape c.width item h
+passes_is c slot item h = grind (arith, stored_is)
 
 passes_only : (c : Conversion) (slot : Option ℕ) (item : List ℕ) (end : StepEnd) → ItemPasses c slot item end → end ≡ passed_end c slot item
-passes_only c None item end h = h
-passes_only c (Some slot) item end h = stored_only c slot c.shape item end h
+passes_only c slot item end h = grind (arith, stored_only)
 
 empty_is : (x : List ℕ) → EmptyItem x (nothing_end (has_more x))
-empty_is [] = refl
-empty_is (b ∷ x) = refl
+empty_is x = grind arith
 
 empty_only : (x : List ℕ) (end : StepEnd) → EmptyItem x end → end ≡ nothing_end (has_more x)
-empty_only [] end h = h
-empty_only (b ∷ x) end h = h
+empty_only x end h = grind arith
 
 by_match : (c : Conversion) (item : List ℕ) (P : Bool → Type 0) → (Matches c item → P true) → ((Matches c item → ⊥) → P false) → P (matches c item)
 by_match c item P left right = grind (arith, (tests_matches c item))
@@ -132,19 +122,11 @@ module _ (c : Conversion) (proper : IsProperShape c.shape) (takes : HasItem c.sh
 
 conversion_is : (c : Conversion) (shape : Shape) → c.shape ≡ shape → IsProperShape shape → (x : List ℕ) (n : ℕ)
     → ConversionStep c shape x n (conversion_step c shape x n).0 (conversion_step c shape x n).1
-conversion_is c (Int base) e proper x n = item_step_is c (subst IsProperShape (sym e) proper) (subst HasItem (sym e) tt) x
-conversion_is c Text e proper x n = item_step_is c (subst IsProperShape (sym e) proper) (subst HasItem (sym e) tt) x
-conversion_is c (Set members) e proper x n = item_step_is c (subst IsProperShape (sym e) proper) (subst HasItem (sym e) tt) x
-conversion_is c Chars e proper x n = item_step_is c (subst IsProperShape (sym e) proper) (subst HasItem (sym e) tt) x
-conversion_is c Count e proper x n = (refl, count_is c c.slot n)
+conversion_is c shape e proper x n = grind (arith, item_step_is, count_is, skip_before_is, item_is, ends_is, number_is)
 
 conversion_only : (c : Conversion) (shape : Shape) → c.shape ≡ shape → IsProperShape shape → (x : List ℕ) (n k : ℕ) (end : StepEnd)
     → ConversionStep c shape x n k end → Is (conversion_step c shape x n) k end
-conversion_only c (Int base) e proper x n k end h = item_step_only c (subst IsProperShape (sym e) proper) (subst HasItem (sym e) tt) x k end h
-conversion_only c Text e proper x n k end h = item_step_only c (subst IsProperShape (sym e) proper) (subst HasItem (sym e) tt) x k end h
-conversion_only c (Set members) e proper x n k end h = item_step_only c (subst IsProperShape (sym e) proper) (subst HasItem (sym e) tt) x k end h
-conversion_only c Chars e proper x n k end h = item_step_only c (subst IsProperShape (sym e) proper) (subst HasItem (sym e) tt) x k end h
-conversion_only c Count e proper x n k end h = (h.0, count_only c c.slot n end h.1)
+conversion_only c shape e proper x n k end h = grind (arith, item_step_only, count_only, skip_before_only, ends_only, item_only, number_only)
 
 conversion_within : (c : Conversion) (shape : Shape) (x : List ℕ) (n : ℕ) → (conversion_step c shape x n).0 ≤ length x
 conversion_within c shape x n = grind (arith, item_step-le)

@@ -34,16 +34,14 @@ abbrev tally : ℕ → ℕ → ℕ → List Assigned → Tally
 tally u a c v = record { used = u; assigned = a; converted = c; values = v }
 
 same_tally : {t a c : ℕ} {v : List Assigned} (u b d : ℕ) (w : List Assigned) → t ≡ u → a ≡ b → c ≡ d → v ≡ w → tally t a c v ≡ tally u b d w
-same_tally {t} {a} {c} {v} u b d w p q r s =
-    ap (λ n. tally n a c v) p ∙ ap (λ n. tally u n c v) q ∙ ap (λ n. tally u b n v) r ∙ ap (λ l. tally u b d l) s
+same_tally u b d w p q r s = grind arith
 
 -- the totals t, and those of the steps
 abbrev sums : Tally → List Ran → Tally
 sums t ran = tally (t.used + used ran) (t.assigned + assigned ran) (t.converted + converted ran) (t.values ++ values ran)
 
 count_more : (v : Bool) (n k l : ℕ) → l ≡ cond (v && true) 1 0 + k → cond v (n + 1) n + k ≡ n + l
-count_more true n k l e = omega arith
-count_more false n k l e = omega arith
+count_more v n k l e = grind arith
 
 -- a step that passes
 sums_step : (d : Directive) (end : StepEnd) (k : ℕ) (t : Tally) (ran : List Ran) → passed end ≡ true
@@ -131,8 +129,7 @@ sums_nothing : (ran : List Ran) → sums nothing_yet ran ≡ tally (used ran) (a
 sums_nothing ran = same_tally _ _ _ _ (zero-add (used ran)) (zero-add (assigned ran)) (zero-add (converted ran)) refl
 
 told_nothing : (ran : List Ran) → told_from 0 nothing_yet ran ≡ report_of ran None
-told_nothing ran =
-    same_out (status_of ran) _ _ _ _ (ap (λ n. cond (list_any (λ r. is_some (failure_of r.end)) ran) n 0) (zero-add (length ran))) (sums_nothing ran)
+told_nothing ran = grind (arith, same_out, zero-add, sums_nothing)
 
 cut_nothing : (before : List Ran) (m : ℕ) → cut_from 0 nothing_yet before m ≡ cut_report TooLong before m
 cut_nothing before m = same_out TooLong _ _ _ _ (zero-add (length before + 1)) (ap (with_used m) (sums_nothing before))
@@ -283,8 +280,7 @@ abbrev pub uses : List Directive → List ℕ → ℕ
 uses ds x = (run_of None ds 1 nothing_yet x).used
 
 met_same : {P Q : Type 0} (met : Option Ending) (ending : Ending) → (P → Q) → (Q → P) → SomeIff met P ending → SomeIff met Q ending
-met_same None ending to back h = λ q. h (back q)
-met_same (Some e) ending to back h = (to h.0, h.1)
+met_same met ending to back h = grind arith
 
 abbrev with_met : RunReport → Option Ending → RunReport
 with_met r met = record r { met = met }
@@ -332,10 +328,7 @@ unfoldable pub is_open : List Directive → List ℕ → Bool
 is_open ds x = some_below 256 (λ b. nat_eq (run_of None ds 1 nothing_yet (x ++ b ∷ [])).used (length x + 1))
 
 tests_uses : (ds : List Directive) → AreProper ds → (x : List ℕ) (k : ℕ) → Tests (nat_eq (run_of None ds 1 nothing_yet x).used k) (Uses ds x k)
-tests_uses ds proper x k = record {
-  from = λ e. uses_from ds proper x k ((tests_same (uses ds x) k).from e);
-  to = λ h. (tests_same (uses ds x) k).to (uses_is ds proper x k h);
-}
+tests_uses ds proper x k = grind (arith, uses_from, tests_same, uses_is, steps_is, run_is_told, run_told)
 
 pub tests_open : (ds : List Directive) → AreProper ds → (x : List ℕ) → Tests (is_open ds x) (IsOpen ds x)
 unfolding is_open
@@ -344,8 +337,7 @@ tests_open ds proper x = tests_below 256 _ _ (λ b. tests_uses ds proper (x ++ b
 -- ---- one report
 
 met_is : {P : Type 0} {test : Bool} (ending : Ending) → Tests test P → SomeIff (cond test (Some ending) None) P ending
-met_is {test = true} ending tests = (tests.from refl, refl)
-met_is {test = false} ending tests = fails tests refl
+met_is ending tests = grind (arith, fails)
 
 met_only : {P : Type 0} (test : Bool) (met : Option Ending) (ending : Ending) → Tests test P → SomeIff met P ending → met ≡ cond test (Some ending) None
 met_only test met ending tests h = grind arith

@@ -272,8 +272,7 @@ ended_gives ds m s x z ending h ended = by_case s.ended refl ended
 -- ---- after a move
 
 none_before : {A : Type 0} (o p : Option A) → (IsSome o → IsSome p) → p ≡ None → o ≡ None
-none_before None p h e = refl
-none_before (Some a) p h e = absurd (let i = h refl in cc)
+none_before o p h e = grind arith
 
 -- after a piece was pushed
 pub after_push : (ds : List Directive) (m : ℕ) (old new : Standing) (x piece : List ℕ) (n : ℕ) → After ds m old x → new.tally.used ≤ new.limit
@@ -369,8 +368,7 @@ after_report ds m s x ending stop h e =
     (subst (λ r. TellsWithin ds m x r) (cut_here ds m s x h stop e) (told_exists ds h.proper m x)) (λ o. ended_closed ds m s x h (ap is_some e) o.0 o.1))
 
 pub none_is : {A : Type 0} (o : Option A) → is_some o ≡ false → o ≡ None
-none_is None h = refl
-none_is (Some a) h = absurd cc
+none_is o h = grind arith
 
 pub none_of : (s : Standing) → is_some s.ended ≡ false → s.ended ≡ None
 none_of s = none_is s.ended
