@@ -20,6 +20,7 @@ use Rattle.sf_run.specs.Machine.{some_below}
 use Rattle.sf_run.specs.Residual.{Tally, nothing_yet, with_used, counted, out_of, by_end, then_on, run_of}
 use Rattle.sf_run.specs.Computed.{step_of, part_of, go_on, ran_of}
 use Rattle.sf_run.proofs.Ones.{one_made}
+use Rattle.sf_run.proofs.Openness.{within_limit}
 use Rattle.sf_run.proofs.RunLaws.{steps_is, steps_only}
 
 -- ---- totals of a list of steps
@@ -110,20 +111,17 @@ limited_over m d ds at t x over = first_step (Some m) d ds at t x ∙ cond-true 
 
 -- ---- without a limit
 
-told_first : (d : Directive) (end : StepEnd) (k a at : ℕ) (t : Tally) (next : RunReport) (rest : List Ran) → at ≡ a + 1
-    → next ≡ told_from (a + 1) (counted d end (with_used (t.used + k) t)) rest
-    → by_end end next (λ status. out_of status at (with_used (t.used + k) t)) ≡ told_from a t (ran_one d k end ∷ go_on end rest)
-told_first d end k a at t next rest e h = grind (arith, common_steps)
+told_first : (d : Directive) (end : StepEnd) (k a : ℕ) (t : Tally) (next : RunReport) (rest : List Ran) → next ≡ told_from (a + 1) (counted d end (with_used (t.used + k) t)) rest
+    → by_end end next (λ status. out_of status (a + 1) (with_used (t.used + k) t)) ≡ told_from a t (ran_one d k end ∷ go_on end rest)
+told_first d end k a t next rest h = grind (arith, common_steps)
 
-run_told_from : (ds : List Directive) (a at : ℕ) (t : Tally) (x : List ℕ) → at ≡ a + 1 → run_of None ds at t x ≡ told_from a t (ran_of ds x t.used)
-run_told_from [] a at t x e = ap (out_of Done 0) (sums_none t)
-run_told_from (d ∷ ds) a at t x e =
+run_told_from : (ds : List Directive) (a : ℕ) (t : Tally) (x : List ℕ) → run_of None ds (a + 1) t x ≡ told_from a t (ran_of ds x t.used)
+run_told_from [] a t x = ap (out_of Done 0) (sums_none t)
+run_told_from (d ∷ ds) a t x =
     let k = (step_of d x t.used).0 in
-    let u = next_tally d x t in
-    let rest : run_of None ds (at + 1) u (drop k x) ≡ told_from (a + 1) u (ran_of ds (drop k x) u.used) = run_told_from ds (a + 1) (at + 1) u (drop k x) (omega arith) in
-    first_step None d ds at t x
-    ∙ told_first d (step_of d x t.used).1 k a at t _ (later d ds x t.used) e
-    (rest ∙ ap (λ n. told_from (a + 1) u (ran_of ds (drop k x) n)) (counted-used d (step_of d x t.used).1 (with_used (t.used + k) t)))
+    first_step None d ds (a + 1) t x
+    ∙ told_first d (step_of d x t.used).1 k a t _ (later d ds x t.used) (run_told_from ds (a + 1) (next_tally d x t) (drop k x)
+    ∙ ap (λ n. told_from (a + 1) (next_tally d x t) (ran_of ds (drop k x) n)) (counted-used d (step_of d x t.used).1 (with_used (t.used + k) t)))
 
 sums_nothing : (ran : List Ran) → sums nothing_yet ran ≡ tally (used ran) (assigned ran) (converted ran) (values ran)
 sums_nothing ran = same_tally _ _ _ _ (zero-add (used ran)) (zero-add (assigned ran)) (zero-add (converted ran)) refl
@@ -135,7 +133,7 @@ cut_nothing : (before : List Ran) (m : ℕ) → cut_from 0 nothing_yet before m 
 cut_nothing before m = same_out TooLong _ _ _ _ (zero-add (length before + 1)) (ap (with_used m) (sums_nothing before))
 
 pub run_is_told : (ds : List Directive) (x : List ℕ) → run_of None ds 1 nothing_yet x ≡ report_of (ran_of ds x 0) None
-run_is_told ds x = run_told_from ds 0 1 nothing_yet x refl ∙ told_nothing (ran_of ds x 0)
+run_is_told ds x = run_told_from ds 0 nothing_yet x ∙ told_nothing (ran_of ds x 0)
 
 pub run_told : (ds : List Directive) → AreProper ds → (x : List ℕ) (ran : List Ran) → Steps ds x 0 ran → run_of None ds 1 nothing_yet x ≡ report_of ran None
 run_told ds proper x ran h = run_is_told ds x ∙ ap (λ (r : List Ran). report_of r None) (sym (steps_only ds proper x 0 ran h))
@@ -157,58 +155,34 @@ parts_left : (d : Directive) (ds : List Directive) (t : Tally) (x : List ℕ) (r
     → go_on (step_of d x t.used).1 (later d ds x t.used) ≡ ran → ran_of ds (drop (step_of d x t.used).0 x) (next_tally d x t).used ≡ ran
 parts_left d ds t x ran h tail = grind arith
 
-within_limit : (ds : List Directive) (m at : ℕ) (t : Tally) (x : List ℕ) → t.used + used (ran_of ds x t.used) ≤ m
-    → run_of (Some m) ds at t x ≡ run_of None ds at t x
-within_limit [] m at t x fits = refl
-within_limit (d ∷ ds) m at t x fits =
-    let k : ℕ = (step_of d x t.used).0 in
-    let end : StepEnd = (step_of d x t.used).1 in
-    let rest : List Ran = go_on end (later d ds x t.used) in
-    let all : used (ran_of (d ∷ ds) x t.used) ≡ k + used rest = used-cons (ran_one d k end) rest in
-    let left : passed end ≡ true → (next_tally d x t).used + used (ran_of ds (drop k x) (next_tally d x t).used) ≤ m = λ h.
-    let same : (next_tally d x t).used ≡ t.used + k = counted-used d end (with_used (t.used + k) t) in
-    let steps : used (ran_of ds (drop k x) (next_tally d x t).used) ≡ used rest = ap used (parts_left d ds t x rest h refl) in
-    omega (arith, fits, all, same, steps) in
-    limited_step m d ds at t x (omega (arith, fits, all))
-    ∙ same_first end _ _ _ (λ h. within_limit ds m (at + 1) (next_tally d x t) (drop k x) (left h))
-    ∙ sym (first_step None d ds at t x)
+cut_first : (d : Directive) (end : StepEnd) (k a m : ℕ) (t : Tally) (before : List Ran) (next : RunReport) → passed end ≡ true
+    → next ≡ cut_from (a + 1) (counted d end (with_used (t.used + k) t)) before m
+    → by_end end next (λ status. out_of status (a + 1) (with_used (t.used + k) t)) ≡ cut_from a t (ran_one d k end ∷ before) m
+cut_first d end k a m t before next ok h = grind (arith, (cut_step d end k a m t before ok))
 
-no_split : (before : List Ran) (cut : Ran) (rest : List Ran) → [] ≡ before ++ cut ∷ rest → ⊥
-no_split [] cut rest e = absurd (cc)
-no_split (r ∷ before) cut rest e = absurd (cc)
-
-same_head : (r s : Ran) (l k : List Ran) → r ∷ l ≡ s ∷ k → r ≡ s
-same_head r s l k e = cc
-
-same_tail : (r s : Ran) (l k : List Ran) → r ∷ l ≡ s ∷ k → l ≡ k
-same_tail r s l k e = cc
+gone_on : (end : StepEnd) (l before : List Ran) (cut : Ran) (rest : List Ran) → go_on end l ≡ before ++ cut ∷ rest → (passed end ≡ true) × (l ≡ before ++ cut ∷ rest)
+gone_on end l [] cut rest e = grind arith
+gone_on end l (r ∷ before) cut rest e = grind arith
 
 -- a run past the limit is cut off in the step in which it passes it
-cut_is : (ds : List Directive) (m a at : ℕ) (t : Tally) (x : List ℕ) (before : List Ran) (cut : Ran) (rest : List Ran) → at ≡ a + 1
-    → ran_of ds x t.used ≡ before ++ cut ∷ rest → t.used + used before ≤ m → m < t.used + used before + cut.bytes
-    → run_of (Some m) ds at t x ≡ cut_from a t before m
-cut_is [] m a at t x before cut rest e parts low high = absurd (no_split before cut rest parts)
-cut_is (d ∷ ds) m a at t x [] cut rest e parts low high =
-    let size : (step_of d x t.used).0 ≡ cut.bytes = ap (λ (r : Ran). r.bytes) (same_head _ _ _ _ parts) in
-    limited_over m d ds at t x (omega (arith, high, size)) ∙ same_out TooLong _ _ _ _ e (ap (with_used m) (sums_none t))
-cut_is (d ∷ ds) m a at t x (r ∷ before) cut rest e parts low high =
+cut_is : (ds : List Directive) (m a : ℕ) (t : Tally) (x : List ℕ) (before : List Ran) (cut : Ran) (rest : List Ran)
+    → ran_of ds x t.used ≡ before ++ cut ∷ rest → t.used + used before ≤ m → m < t.used + used before + cut.bytes → run_of (Some m) ds (a + 1) t x ≡ cut_from a t before m
+cut_is [] m a t x [] cut rest parts low high = cc
+cut_is [] m a t x (r ∷ before) cut rest parts low high = cc
+cut_is (d ∷ ds) m a t x [] cut rest parts low high = grind (arith, limited_over, sums_none)
+cut_is (d ∷ ds) m a t x (r ∷ before) cut rest parts low high =
     let k : ℕ = (step_of d x t.used).0 in
     let end : StepEnd = (step_of d x t.used).1 in
-    let same : ran_one d k end ≡ r = same_head _ _ _ _ parts in
-    let tail : go_on end (later d ds x t.used) ≡ before ++ cut ∷ rest = same_tail _ _ _ _ parts in
-    let size : k ≡ r.bytes = ap (λ (s : Ran). s.bytes) same in
+    let same : ran_one d k end ≡ r = cc in
+    let size : k ≡ r.bytes = cc in
+    let tail : go_on end (later d ds x t.used) ≡ before ++ cut ∷ rest = cc in
+    let goes = gone_on end (later d ds x t.used) before cut rest tail in
     let all = used-cons r before in
-    let now : (next_tally d x t).used ≡ t.used + k = counted-used d end (with_used (t.used + k) t) in
-    limited_step m d ds at t x (omega (arith, low, size, all))
-    ∙ elim (cases_passed end) [
-      | inl h ↦
-          by_passed end _ _ h
-          ∙ cut_is ds m (a + 1) (at + 1) (next_tally d x t) (drop k x) before cut rest (omega (arith, e)) (parts_left d ds t x _ h tail)
-          (omega (arith, low, size, all, now)) (omega (arith, high, size, all, now))
-          ∙ cut_step d end k a m t before h
-          ∙ ap (λ (s : Ran). cut_from a t (s ∷ before) m) same
-      | inr h ↦ absurd (no_split before cut rest (sym (go_failed end (later d ds x t.used) h) ∙ tail))
-    ]
+    let now = counted-used d end (with_used (t.used + k) t) in
+    limited_step m d ds (a + 1) t x (omega (arith, low, size, all))
+    ∙ cut_first d end k a m t before _ goes.0
+    (cut_is ds m (a + 1) (next_tally d x t) (drop k x) before cut rest (rw now goes.1) (omega (arith, low, size, all, now)) (omega (arith, high, size, all, now)))
+    ∙ ap (λ (s : Ran). cut_from a t (s ∷ before) m) same
 
 -- the steps up to the one in which byte m + 1 falls
 record Split (ran : List Ran) (n m : ℕ) : Type 0 where
@@ -257,21 +231,17 @@ told_exists ds proper m x = by_case (cases_lt m (used (ran_of ds x 0)))
             low = omega (arith, low);
             high = omega (arith, high);
           },
-          cut_is ds m 0 1 nothing_yet x s.before s.cut s.rest refl s.parts low high ∙ cut_nothing s.before m,
+          cut_is ds m 0 nothing_yet x s.before s.cut s.rest s.parts low high ∙ cut_nothing s.before m,
         )
-    by_case (inr fits) = inl (ran_of ds x 0, steps_is ds proper x 0, fits, within_limit ds m 1 nothing_yet x (omega (arith, fits)) ∙ run_is_told ds x)
+    by_case (inr fits) = inl (ran_of ds x 0, steps_is ds proper x 0, fits, within_limit m ds 1 nothing_yet x (rw run_is_told fits) ∙ run_is_told ds x)
 
 pub told_is : (ds : List Directive) → AreProper ds → (m : ℕ) (x : List ℕ) (r : RunReport) → TellsWithin ds m x r → r ≡ run_of (Some m) ds 1 nothing_yet x
-told_is ds proper m x r (inl w) =
-    let fits : used w.0 ≤ m = w.2 in
-    let ran : w.0 ≡ ran_of ds x 0 = steps_only ds proper x 0 w.0 w.1 in
-    let total : used w.0 ≡ used (ran_of ds x 0) = ap used ran in
-    w.3 ∙ sym (run_told ds proper x w.0 w.1) ∙ sym (within_limit ds m 1 nothing_yet x (omega (arith, fits, total)))
+told_is ds proper m x r (inl w) = let told = run_told ds proper x w.0 w.1 in w.3 ∙ sym told ∙ sym (within_limit m ds 1 nothing_yet x (rw told w.2))
 told_is ds proper m x r (inr w) =
     let low : used w.0 ≤ m = w.1.low in
     let high : m < used w.0 + w.1.cut.bytes = w.1.high in
     w.2 ∙ sym (cut_nothing w.0 m)
-    ∙ sym (cut_is ds m 0 1 nothing_yet x w.0 w.1.cut w.1.rest refl (sym (steps_only ds proper x 0 _ w.1.steps)) (omega (arith, low)) (omega (arith, high)))
+    ∙ sym (cut_is ds m 0 nothing_yet x w.0 w.1.cut w.1.rest (sym (steps_only ds proper x 0 _ w.1.steps)) (omega (arith, low)) (omega (arith, high)))
 
 -- ---- what the run met
 
@@ -298,22 +268,15 @@ abbrev pub UsesAll : Type 0
 UsesAll = (ds : List Directive) → AreProper ds → (x : List ℕ) → IsOpen ds x → (run_of None ds 1 nothing_yet x).used ≡ length x
 
 module _ (open_all : UsesAll) (ds : List Directive) (proper : AreProper ds) (m : ℕ) (x : List ℕ) (ending : Ending) where
-  abbrev IsMet : Type 0
-  IsMet = IsOpen ds x × (length x ≤ m)
-
-  from_length : IsMet → IsOpen ds x × (uses ds x ≤ m)
-  from_length h = grind arith
-
-  to_length : IsOpen ds x × (uses ds x ≤ m) → IsMet
-  to_length h = grind arith
-
   pub within_met : (met : Option Ending) (r : RunReport) → TellsWithin ds m x r → SomeIff met (IsOpen ds x × (length x ≤ m)) ending
       → RunWithin ds m x ending (record r { met = met })
-  within_met met r h some = told_met ds proper m x ending met r h (met_same met ending from_length to_length some)
+  within_met met r h some =
+      let same : SomeIff met (IsOpen ds x × (uses ds x ≤ m)) ending = grind (arith, (open_all ds proper x)) in
+      told_met ds proper m x ending met r h same
 
   pub met_within : (r : RunReport) → RunWithin ds m x ending r
       → TellsWithin ds m x (record r { met = None }) × SomeIff r.met (IsOpen ds x × (length x ≤ m)) ending
-  met_within r h = grind (arith, met_told, to_length)
+  met_within r h = grind (arith, met_told, (open_all ds proper x))
 
 -- ---- whether an input is open
 

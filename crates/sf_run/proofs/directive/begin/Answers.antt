@@ -1,3 +1,5 @@
+use Rattle.std.proofs.lemmas.Grind.{common_steps}
+use Rattle.std.proofs.Common.{arith}
 use Rattle.std.proofs.Common.{◌≡◌, ◌<◌, ◌+◌, ◌≤◌, ◌&&◌, false, ℕ, List, [], length, drop, get_or, sym, subst, ◌∙◌}
 use Rattle.sf_base.specs.Bytes.{is_white}
 use Rattle.sf_format.specs.declared.directive.Conversion.{Conversion}
@@ -33,9 +35,4 @@ returns-clause-answers c proper =
     (answers_behind (Conv k) c.args.used w piece run e.within fits (item_skips k piece w e.within e.white) here)
 
 pub returns-clause-suits : goal.returns-clause-suits
-returns-clause-suits c =
-    let k : Conversion = c.args.conversion.now in
-    let w : ℕ = c.skipped-before.result in
-    let run = c.begin_item.result in
-    subst (λ (r : Run). Suits (Conv k) phase.Skipping c.args.piece.now r) (sym c.behind.ensures)
-    (suits_behind (Conv k) w c.args.piece.now run c.skipped-before.ensures.within (subst (λ y. Suits (Conv k) phase.Skipping y run) c.split_at.ensures.back c.begin_item.ensures.suits))
+returns-clause-suits c = grind (arith, common_steps, suits_behind)

@@ -21,10 +21,7 @@ returns-in-Some-clause-answers c proper ink n =
     subst (λ (r : Run). Answers (Conv c.args.conversion.now) Skipping n c.args.piece.now r) (sym c.ends.ensures) (c.in-Some.ensures.answers proper ink n)
 
 pub returns-in-Some-clause-suits : goal.returns-in-Some-clause-suits
-returns-in-Some-clause-suits c =
-    let e = c.in-Some.ensures in
-    subst (λ (r : Run). Suits (Conv c.args.conversion.now) phase.Skipping c.args.piece.now r) (sym c.ends.ensures)
-    (suits_ended (Conv c.args.conversion.now) c.args.piece.now c.in-Some.ended e.closes e.fits)
+returns-in-Some-clause-suits c = grind (arith, suits_ended)
 
 pub returns-then-run-eq0-clause-answers : goal.returns-then-run-eq0-clause-answers
 returns-then-run-eq0-clause-answers c proper ink n =

@@ -15,7 +15,4 @@ returns-clause-answers c proper ink n =
     (λ text. c.finish_number.ensures.end text (value_of k.kind w.negative w.magnitude) c.number_of-number.ensures)
 
 pub returns-clause-fits : goal.returns-clause-fits
-returns-clause-fits c =
-    let e = c.finish_number.ensures in
-    let below = c.in_ok-whole.ensures.behind in
-    record { within = omega (arith, below); given = e.given; number = e.number; memory = e.memory }
+returns-clause-fits c = grind arith

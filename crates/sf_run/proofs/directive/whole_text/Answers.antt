@@ -11,8 +11,4 @@ returns-clause-answers c proper ink n =
     c.finish_bytes.ensures.none c.finish_bytes.ensures.some
 
 pub returns-clause-fits : goal.returns-clause-fits
-returns-clause-fits c =
-    let e = c.finish_bytes.ensures in
-    let is = c.in_ok-item.ensures in
-    let below = is.behind in
-    record { within = omega (arith, below); given = λ ok. e.given; number = e.number; memory = e.memory }
+returns-clause-fits c = grind arith

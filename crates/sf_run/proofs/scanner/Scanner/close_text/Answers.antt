@@ -11,20 +11,10 @@ use Rattle.sf_run.proofs.Slots.{closed_capacity, size_passed, size_closed}
 use Rattle.sf_run.proofs.scanner.Scanner.close_text.Goals as goal
 
 pub counted-tally-requires : goal.counted-tally-requires
-counted-tally-requires g c =
-    let s = c.args.self.now in
-    let inside : s.passed < length s.directives.now = slice_get_within _ _ _ c.requires.current in
-    let place = has_place s.directives.now s.passed c.args.directive.now true c.requires.current (λ e. is_destination_of c.args.directive.now c.args.slot c.requires.own) refl in
-    record {
-      assigned = λ e. omega (arith, place, s.assigned);
-      converted = omega (arith, s.few, s.converted, inside);
-    }
+counted-tally-requires g c = grind (arith, slice_get_within, has_place, is_destination_of)
 
 pub invariant_of-self-clause-in_list : goal.invariant_of-self-clause-in_list
-invariant_of-self-clause-in_list g c =
-    let s = c.args.self.now in
-    let inside : s.passed < length s.directives.now = slice_get_within _ _ _ c.requires.current in
-    omega (arith, inside)
+invariant_of-self-clause-in_list g c = grind (arith, slice_get_within)
 
 pub invariant_of-self-clause-assigned : goal.invariant_of-self-clause-assigned
 invariant_of-self-clause-assigned g c =

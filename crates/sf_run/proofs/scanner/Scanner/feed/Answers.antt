@@ -47,9 +47,7 @@ returns-clause-gives g c ds m x z ending h is =
     by (ran_out (standing c.push-taken.new.self)) refl
 
 pub returns-clause-bounded : goal.returns-clause-bounded
-returns-clause-bounded g c ds m x bounded h =
-    let e = c.push-taken.ensures in
-    c.push-taken.new.self.healthy (ap (λ l. is_some (width_sum l)) (e.keeps.directives ∙ h.format) ∙ bounded)
+returns-clause-bounded g c ds m x bounded h = grind arith
 
 pub returns-clause-no_text : goal.returns-clause-no_text
 returns-clause-no_text g c ds m y out after = true≢false (sym out ∙ after_fine ds m (standing c.push-taken.new.self) y after)

@@ -14,9 +14,7 @@ use Rattle.sf_run.proofs.Slots.{if_some, own_text}
 use Rattle.sf_run.proofs.scanner.Scanner.hand.Goals as goal
 
 pub run_on-run-requires : goal.run_on-run-requires
-run_on-run-requires g c =
-    let s = c.args.self.now in
-    if_some (slot_in s.phase) (λ slot. text_slot c.args.directive.now ≡ Some slot) (own_text s.directives.now s.passed c.args.directive.now s.phase c.requires.current s.own_slot)
+run_on-run-requires g c = grind (arith, if_some, own_text)
 
 pub fail-requires-clause-current : goal.fail-requires-clause-current
 fail-requires-clause-current g c = slice_get_within _ _ _ c.requires.current

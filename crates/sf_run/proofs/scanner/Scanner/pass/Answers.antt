@@ -9,10 +9,7 @@ use Rattle.sf_run.proofs.Slots.{size_passed}
 use Rattle.sf_run.proofs.scanner.Scanner.pass.Goals as goal
 
 pub invariant_of-self-clause-in_list : goal.invariant_of-self-clause-in_list
-invariant_of-self-clause-in_list g c =
-    let s = c.args.self.now in
-    let inside : s.passed < length s.directives.now = slice_get_within _ _ _ c.requires.current in
-    omega (arith, inside)
+invariant_of-self-clause-in_list g c = grind (arith, slice_get_within)
 
 pub invariant_of-self-clause-assigned : goal.invariant_of-self-clause-assigned
 invariant_of-self-clause-assigned g c =
@@ -27,8 +24,7 @@ pub invariant_of-self-clause-bounded : goal.invariant_of-self-clause-bounded
 invariant_of-self-clause-bounded g c = let s = c.args.self.now in let e = c.counted-tally.ensures.used in omega (arith, s.bounded, e)
 
 pub invariant_of-self-clause-given : goal.invariant_of-self-clause-given
-invariant_of-self-clause-given g c =
-    let s = c.args.self.now in slots_none s.directives.now s.passed c.args.directive.now (kept_by s).values c.requires.current c.requires.no_slot s.given
+invariant_of-self-clause-given g c = grind (arith, slots_none)
 
 pub invariant_of-self-clause-roomy : goal.invariant_of-self-clause-roomy
 invariant_of-self-clause-roomy g c bounded =

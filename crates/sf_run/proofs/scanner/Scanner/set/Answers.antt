@@ -10,32 +10,19 @@ use Rattle.sf_run.proofs.Slots.{size_passed}
 use Rattle.sf_run.proofs.scanner.Scanner.set.Goals as goal
 
 pub counted-tally-requires : goal.counted-tally-requires
-counted-tally-requires g c =
-    let s = c.args.self.now in
-    let inside : s.passed < length s.directives.now = slice_get_within _ _ _ c.requires.current in
-    let place = has_place s.directives.now s.passed c.args.directive.now true c.requires.current (λ e. is_destination_of c.args.directive.now c.args.slot c.requires.own) refl in
-    record {
-      assigned = λ e. omega (arith, place, s.assigned);
-      converted = omega (arith, s.few, s.converted, inside);
-    }
+counted-tally-requires g c = grind (arith, slice_get_within, has_place, is_destination_of)
 
 pub set_number-requires-clause-at_least_one : goal.set_number-requires-clause-at_least_one
-set_number-requires-clause-at_least_one g c =
-    let s = c.args.self.now in let h = slot_placed g.S.Store.slots s.directives.now s.passed c.args.directive.now c.args.slot s.placed c.requires.current c.requires.own in h.0
+set_number-requires-clause-at_least_one g c = grind (arith, slot_placed)
 
 pub set_number-requires-clause-in_range : goal.set_number-requires-clause-in_range
-set_number-requires-clause-in_range g c =
-    let s = c.args.self.now in let h = slot_placed g.S.Store.slots s.directives.now s.passed c.args.directive.now c.args.slot s.placed c.requires.current c.requires.own in h.1
+set_number-requires-clause-in_range g c = grind (arith, slot_placed)
 
 pub set_number-requires-clause-absent : goal.set_number-requires-clause-absent
-set_number-requires-clause-absent g c =
-    let s = c.args.self.now in slot_free s.directives.now s.passed c.args.directive.now c.args.slot (kept_by s).values s.apart s.given c.requires.current c.requires.own
+set_number-requires-clause-absent g c = grind (arith, slot_free)
 
 pub invariant_of-self-clause-in_list : goal.invariant_of-self-clause-in_list
-invariant_of-self-clause-in_list g c =
-    let s = c.args.self.now in
-    let inside : s.passed < length s.directives.now = slice_get_within _ _ _ c.requires.current in
-    omega (arith, inside)
+invariant_of-self-clause-in_list g c = grind (arith, slice_get_within)
 
 pub invariant_of-self-clause-assigned : goal.invariant_of-self-clause-assigned
 invariant_of-self-clause-assigned g c =
