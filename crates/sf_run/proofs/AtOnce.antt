@@ -1,6 +1,6 @@
 -- Runs that begin and pass within a piece.
 use Rattle.std.proofs.lemmas.Grind.{common_steps}
-use Rattle.std.proofs.Common.{◌≡◌, ℕ, zero, suc, ◌+◌, ◌-◌, ◌<◌, ◌≤◌, Bool, true, false, cond, List, [], ◌∷◌, ◌++◌, length, take, drop, Option, Some, None, refl, sym, ap, subst, ◌∙◌, arith, true≢false, length-drop}
+use Rattle.std.proofs.Common.{◌≡◌, ℕ, ◌+◌, ◌-◌, ◌<◌, ◌≤◌, Bool, true, false, cond, List, [], ◌∷◌, ◌++◌, length, take, drop, Some, None, refl, sym, ap, subst, ◌∙◌, arith, length-drop}
 use Rattle.std.specs.Prelude.{slice_get}
 use Rattle.std.proofs.lemmas.List.{append-nil, append_assoc, drop-drop, length-append, length-map, take_all, take-append-drop}
 use Rattle.sf_base.specs.Data.{Assigned, Bytes}
@@ -9,10 +9,8 @@ use Rattle.sf_format.specs.declared.directive.Directive.{Directive}
 use Rattle.sf_format.specs.Proper.{AreProper, IsProper, destinations_of, slots_of}
 use Rattle.sf_format.specs.Slots.{Slotted}
 use Rattle.sf_run.specs.declared.directive.Finished.{Finished}
-use Rattle.sf_run.specs.declared.directive.Finished.TheVariants as finish
 use Rattle.sf_run.specs.declared.directive.Ended.{Ended}
 use Rattle.sf_run.specs.declared.outcome.Ending.{Ending}
-use Rattle.sf_run.specs.declared.outcome.Status.{Status}
 use Rattle.sf_run.specs.declared.outcome.Status.TheVariants.{Done}
 use Rattle.sf_run.specs.declared.quick.Strays.{Strays}
 use Rattle.sf_run.specs.declared.tally.Tally as code
@@ -23,14 +21,14 @@ use Rattle.sf_run.specs.Phases.{end_of, is_failing, slot_given}
 use Rattle.sf_run.specs.Pieces.{EndsAtOnce}
 use Rattle.sf_run.specs.Places.{is_destination, places_left}
 use Rattle.sf_run.specs.Quick.{GivesTo, IsSure, MayBeGiven, PassesBy, PassesWithin, slot_stored, strayed, text_stored}
-use Rattle.sf_run.specs.Residual.{Part, Tally, by_end, counted, nothing_yet, one_from, out_of, run_of, then_on, with_used}
+use Rattle.sf_run.specs.Residual.{Tally, counted, nothing_yet, one_from, out_of, run_of, with_used}
 use Rattle.sf_run.specs.Runs.{IsOpen, RunReport, is_conversion, passed, stored}
-use Rattle.sf_run.specs.Steps.{StepEnd, Passes, Stores, Fails}
+use Rattle.sf_run.specs.Steps.{StepEnd, Stores}
 use Rattle.sf_run.specs.Tallies.{PassesSo, tally_of, values_with}
 use Rattle.sf_run.specs.Texts.{slot_of, slots_in}
 use Rattle.sf_run.proofs.Moves.{drop_at, place_taken}
 use Rattle.sf_run.proofs.Openness.{within_limit}
-use Rattle.sf_run.proofs.Slots.{is_destination_of, joined_text, slot_free, slot_placed, slots_more, slots_none}
+use Rattle.sf_run.proofs.Slots.{joined_text, slot_free, slot_placed, slots_more, slots_none}
 use Rattle.sf_run.proofs.Told.{told_exists, uses_is, within_met}
 use Rattle.sf_run.proofs.Waits.{open_all}
 

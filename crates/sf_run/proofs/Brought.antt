@@ -7,15 +7,12 @@ use Rattle.sf_format.specs.declared.directive.Conversion.{Conversion}
 use Rattle.sf_format.specs.declared.directive.Directive.{Directive}
 use Rattle.sf_format.specs.declared.directive.Directive.TheVariants.{Conv}
 use Rattle.sf_format.specs.Proper.{IsProperShape}
-use Rattle.sf_item.specs.Taking.{CanTake, HasTaken, conversion_of}
+use Rattle.sf_item.specs.Taking.{CanTake}
 use Rattle.sf_item.specs.Tests.{can_take}
-use Rattle.sf_item.specs.declared.item.ItemScan.{ItemScan}
 use Rattle.sf_item.proofs.Deciding.{tests_can_take}
-use Rattle.sf_run.specs.declared.directive.Phase.{Phase}
 use Rattle.sf_run.specs.Machine.{Stage, Skipping, Item, shape_skips, item_stepped, stepped, finished}
 use Rattle.sf_run.specs.Residual.{choose, one_from, stepped_all}
-use Rattle.sf_run.specs.Phases.{ShowsItem, Shows, CanAll}
-use Rattle.sf_run.specs.Texts.{text_slot}
+use Rattle.sf_run.specs.Phases.{CanAll}
 
 -- ---- one list after another
 

@@ -1,9 +1,8 @@
 -- Laws of the directives' machines that the run rests on.
 use Rattle.std.proofs.lemmas.Grind.{common_steps}
-use Rattle.std.proofs.Common.{◌≡◌, ◌≢◌, ℕ, zero, suc, ◌+◌, ◌<◌, ◌≤◌, Bool, true, false, not, cond, ◌&&◌, nat_eq, List, [], ◌∷◌, ◌++◌, length, Option, Some, None, is_some, refl, sym, ap, subst, ◌∙◌, arith, lit<, true≢false, nat_le, unwrap_or, length-append, ℤ}
+use Rattle.std.proofs.Common.{◌≡◌, ℕ, zero, suc, ◌+◌, ◌<◌, ◌≤◌, Bool, true, false, not, cond, ◌&&◌, nat_eq, List, [], ◌∷◌, ◌++◌, length, Option, Some, None, is_some, refl, sym, ap, subst, ◌∙◌, arith, lit<, true≢false, nat_le, unwrap_or, length-append}
 use Rattle.std.specs.List.{list_all}
 use Rattle.sf_base.specs.Bytes.{is_white}
-use Rattle.sf_base.specs.Data.{value_of}
 use Rattle.sf_format.specs.declared.directive.Shape.{Shape}
 use Rattle.sf_format.specs.declared.directive.Shape.TheVariants.{Int, Text, Set, Chars, Count}
 use Rattle.sf_format.specs.declared.directive.Conversion.{Conversion}
@@ -12,12 +11,12 @@ use Rattle.sf_format.specs.declared.directive.Directive.TheVariants.{Space, Byte
 use Rattle.sf_format.specs.Proper.{IsProper, IsProperShape, IsProperWidth}
 use Rattle.sf_base.specs.Sets.{has_byte}
 use Rattle.sf_item.specs.Taking.{IsInt}
-use Rattle.sf_item.specs.Tests.{integer_at, is_ink, is_within, shape_begins, matches, can_take}
+use Rattle.sf_item.specs.Tests.{is_within, shape_begins, can_take}
 use Rattle.sf_item.proofs.Fronts.{HasItem, can_take_front, integer_goes_on}
 use Rattle.sf_item.proofs.Deciding.{tests_same, tests_most}
-use Rattle.sf_run.specs.declared.outcome.Status.TheVariants.{MatchingFailure, TooLong}
+use Rattle.sf_run.specs.declared.outcome.Status.TheVariants.{TooLong}
 use Rattle.sf_run.specs.Steps.{StepEnd, Fails}
-use Rattle.sf_run.specs.Machine.{Stage, Skipping, Taken, Item, shape_skips, item_stepped, stepped, some_below, is_full, finished, number_end, count_end, integer_end, stored_end, passed_end, item_end, nothing_end, byte_finished, item_finished, conversion_finished}
+use Rattle.sf_run.specs.Machine.{Stage, Skipping, Taken, Item, shape_skips, item_stepped, stepped, some_below, is_full, finished, conversion_finished}
 use Rattle.sf_run.specs.Residual.{Part, choose, one_from}
 
 -- ---- a byte that would be taken

@@ -1,18 +1,15 @@
 -- How the rest of a run changes with each move of the scanner.
 use Rattle.std.proofs.lemmas.Grind.{common_steps}
-use Rattle.std.proofs.Common.{◌≡◌, ℕ, zero, suc, ◌+◌, ◌≤◌, ◌<◌, Bool, true, false, cond, ltb, List, [], ◌∷◌, ◌++◌, length, take, drop, get_or, append_assoc, length-append, Option, Some, None, is_some, inl, inr, refl, sym, ap, subst, ◌∙◌, arith, true≢false}
+use Rattle.std.proofs.Common.{◌≡◌, ℕ, ◌+◌, ◌≤◌, ◌<◌, Bool, true, false, cond, ltb, List, [], ◌∷◌, ◌++◌, length, take, drop, get_or, append_assoc, length-append, Option, Some, None, is_some, inl, inr, refl, sym, ap, subst, ◌∙◌, arith}
 use Rattle.std.specs.Prelude.{slice_get, IfNone, IsSome}
 use Rattle.std.specs.List.{AllByRecursion}
 use Rattle.std.proofs.lemmas.Option.{slice_get_within, slice_get_cases, get_or_from_slice_get}
 use Rattle.std.proofs.lemmas.List.{drop_more, drop_all, take-append-drop, length-take-le}
-use Rattle.std.proofs.lemmas.Bool.{le-ltb, lt-ltb}
-use Rattle.sf_base.specs.Data.{Bytes}
+use Rattle.std.proofs.lemmas.Bool.{lt-ltb}
 use Rattle.sf_base.specs.Kept.{Opened, text_of}
-use Rattle.sf_base.specs.declared.values.Kind.{Kind}
 use Rattle.sf_format.specs.declared.directive.Directive.{Directive}
-use Rattle.sf_format.specs.Proper.{IsProper, AreProper, destination_of, destinations_of}
+use Rattle.sf_format.specs.Proper.{IsProper, AreProper, destinations_of}
 use Rattle.sf_run.specs.declared.directive.Finished.{Finished}
-use Rattle.sf_run.specs.declared.directive.Finished.TheVariants as finish
 use Rattle.sf_run.specs.declared.directive.Phase.{Phase}
 use Rattle.sf_run.specs.declared.directive.Phase.TheVariants as phase
 use Rattle.sf_run.specs.declared.directive.Run.{Run}
@@ -21,7 +18,7 @@ use Rattle.sf_run.specs.declared.outcome.Status.TheVariants.{Done, TooLong}
 use Rattle.sf_run.specs.declared.scanner.Stop.{Stop}
 use Rattle.sf_run.specs.Steps.{StepEnd, Passes, Stores, Fails}
 use Rattle.sf_run.specs.Runs.{RunReport}
-use Rattle.sf_run.specs.Machine.{Stage, Skipping, Taken, Item, stepped, finished}
+use Rattle.sf_run.specs.Machine.{Stage, Skipping, stepped, finished}
 use Rattle.sf_run.specs.Phases.{Shows, GrowsBy, Brings, end_of, slot_in}
 use Rattle.sf_run.specs.Pieces.{IsEnd, item_of}
 use Rattle.sf_run.specs.Places.{is_destination, places_left}
@@ -314,11 +311,6 @@ done_follows new old at waits stops z k report low high does =
 pub place_taken : (ds : List Directive) (p : ℕ) (d : Directive) (v : Bool) → slice_get ds p ≡ Some d → (v ≡ true → is_destination d ≡ true)
     → cond v 1 0 + places_left ds (p + 1) ≤ places_left ds p
 place_taken ds p d v at some = grind (arith, places_next)
-
--- there is a place for it
-pub has_place : (ds : List Directive) (p : ℕ) (d : Directive) (v : Bool) → slice_get ds p ≡ Some d → (v ≡ true → is_destination d ≡ true)
-    → v ≡ true → 0 < places_left ds p
-has_place ds p d v at some e = grind (arith, (place_taken ds p d v at some))
 
 pub one_more : (v : Bool) (n : ℕ) → cond v (n + 1) n ≡ n + cond v 1 0
 one_more v n = grind arith

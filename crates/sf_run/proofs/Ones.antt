@@ -1,21 +1,18 @@
 -- Each directive's machine makes its step.
 use Rattle.std.proofs.lemmas.Grind.{common_steps}
-use Rattle.std.proofs.Common.{◌≡◌, ℕ, suc, ◌+◌, Bool, true, false, cond, ◌&&◌, nat_eq, List, [], ◌∷◌, ◌++◌, length, take, drop, Some, None, refl, sym, ap, ap₂, ◌∙◌, arith, append_assoc, append-nil}
+use Rattle.std.proofs.Common.{◌≡◌, ℕ, suc, ◌+◌, Bool, true, false, cond, ◌&&◌, List, [], ◌∷◌, ◌++◌, take, drop, Some, None, refl, sym, ap, ap₂, ◌∙◌, arith, append_assoc, append-nil}
 use Rattle.std.proofs.lemmas.Bool.{and_right}
-use Rattle.std.proofs.lemmas.List.{drop-drop}
 use Rattle.sf_base.specs.Bytes.{is_white}
 use Rattle.sf_format.specs.declared.directive.Shape.{Shape}
-use Rattle.sf_format.specs.declared.directive.Shape.TheVariants.{Int, Text, Set, Chars, Count}
+use Rattle.sf_format.specs.declared.directive.Shape.TheVariants.{Count}
 use Rattle.sf_format.specs.declared.directive.Conversion.{Conversion}
 use Rattle.sf_format.specs.declared.directive.Directive.{Directive}
 use Rattle.sf_format.specs.declared.directive.Directive.TheVariants.{Space, Byte, Percent, Conv}
-use Rattle.sf_format.specs.Proper.{IsProper}
-use Rattle.sf_item.specs.Tests.{shape_begins, is_within, can_take}
-use Rattle.sf_item.proofs.Fronts.{HasItem}
+use Rattle.sf_item.specs.Tests.{can_take}
 use Rattle.sf_run.specs.Steps.{StepEnd, Passes}
-use Rattle.sf_run.specs.Machine.{Stage, Skipping, Taken, Item, shape_skips, stepped, item_stepped, finished, conversion_finished, item_finished, count_end, item_end, nothing_end}
-use Rattle.sf_run.specs.Residual.{Part, choose, one_from}
-use Rattle.sf_run.specs.Computed.{skip, len, byte_choice, byte_step, skip_before, item_ended, item_part, item_step, conversion_step, percent_step, step_of, part_of}
+use Rattle.sf_run.specs.Machine.{Stage, Skipping, Taken, Item, shape_skips, stepped, finished, item_finished, count_end, item_end, nothing_end}
+use Rattle.sf_run.specs.Residual.{choose, one_from}
+use Rattle.sf_run.specs.Computed.{skip, len, byte_choice, byte_step, item_ended, item_part, conversion_step, percent_step, step_of, part_of}
 
 -- ---- white space
 

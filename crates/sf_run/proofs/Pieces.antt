@@ -2,11 +2,9 @@
 use Rattle.std.proofs.lemmas.Grind.{common_steps}
 use Rattle.std.proofs.lemmas.Bool.{false_from_ne_true}
 use Rattle.std.proofs.lemmas.List.{take_more}
-use Rattle.std.proofs.Common.{zero-add, add-zero, length-append, ◌≡◌, ◌≢◌, ℕ, zero, suc, ◌+◌, ◌<◌, ◌≤◌, Bool, true, false, cond, ◌&&◌, not, List, [], ◌∷◌, ◌++◌, length, take, drop, get_or, append_assoc, append-nil, take-append-drop, length-drop, Option, Some, None, refl, sym, ap, subst, ◌∙◌, arith, true≢false}
+use Rattle.std.proofs.Common.{zero-add, add-zero, length-append, ◌≡◌, ◌≢◌, ℕ, zero, suc, ◌+◌, ◌<◌, ◌≤◌, Bool, true, false, cond, ◌&&◌, List, [], ◌∷◌, ◌++◌, length, take, drop, get_or, append_assoc, append-nil, take-append-drop, length-drop, Option, Some, None, refl, sym, ap, subst, ◌∙◌, arith}
 use Rattle.std.specs.Prelude.{IfSome, IsSome, slice_get}
 use Rattle.std.proofs.lemmas.Option.{get_or_from_slice_get, slice_get_within}
-use Rattle.std.specs.List.{list_all}
-use Rattle.std.proofs.Math.Seq.{take-suc}
 use Rattle.std.proofs.lemmas.List.{length-take, length-take-le, drop_more, drop-drop, drop-append-le, get_or-drop, get_or-take, take_all}
 use Rattle.sf_base.specs.Bytes.{is_white}
 use Rattle.sf_base.specs.Data.{value_of}
@@ -14,19 +12,13 @@ use Rattle.sf_format.specs.declared.directive.Base.{Base}
 use Rattle.sf_format.specs.declared.directive.Conversion.{Conversion}
 use Rattle.sf_format.specs.declared.directive.Directive.{Directive}
 use Rattle.sf_format.specs.declared.directive.Directive.TheVariants.{Space, Byte, Percent, Conv}
-use Rattle.sf_format.specs.declared.directive.Shape.{Shape}
-use Rattle.sf_format.specs.declared.directive.Shape.TheVariants.{Int, Text, Set, Chars, Count}
 use Rattle.sf_format.specs.Proper.{IsProper, IsProperShape}
 use Rattle.sf_item.specs.declared.item.ItemScan.{ItemScan}
-use Rattle.sf_item.specs.declared.reading.Reading.{Reading}
-use Rattle.sf_item.specs.declared.reading.Reading.TheVariants as reading
 use Rattle.sf_item.specs.declared.whole.WholeInteger.{WholeInteger}
-use Rattle.sf_item.specs.Scan.{HasLeft, shape_of}
-use Rattle.sf_item.specs.Taking as taking
-use Rattle.sf_item.specs.Matching.{IsInteger, IsItem, IsWithin, Matches}
+use Rattle.sf_item.specs.Matching.{IsInteger, IsItem, IsWithin}
 use Rattle.sf_item.specs.Taking.{CanTake, HasTaken, conversion_of}
-use Rattle.sf_item.specs.Tests.{is_ink, is_within, shape_begins, can_take}
-use Rattle.sf_item.proofs.Deciding.{integer_at_is, tests_can_take, tests_same}
+use Rattle.sf_item.specs.Tests.{can_take}
+use Rattle.sf_item.proofs.Deciding.{tests_can_take}
 use Rattle.sf_item.specs.Wholes.{ItemWithin}
 use Rattle.sf_run.specs.declared.directive.Ended.{Ended}
 use Rattle.sf_run.specs.declared.directive.Finished.{Finished}
@@ -36,13 +28,12 @@ use Rattle.sf_run.specs.declared.directive.Phase.TheVariants as phase
 use Rattle.sf_run.specs.declared.directive.Run.{Run}
 use Rattle.sf_run.specs.declared.outcome.Status.TheVariants.{MatchingFailure}
 use Rattle.sf_run.specs.Steps.{StepEnd}
-use Rattle.sf_run.specs.Holding.{LeftAfterAll, left_before}
-use Rattle.sf_run.specs.Machine.{Stage, Skipping, Taken, Item, shape_skips, count_end, item_stepped, item_end, stepped, finished, is_full}
-use Rattle.sf_run.specs.Phases.{CanAll, GrowsBy, Shows, ShowsItem, end_of, passed_number, slot_closed, slot_in}
+use Rattle.sf_run.specs.Machine.{Stage, Skipping, Item, shape_skips, count_end, item_end, stepped, is_full}
+use Rattle.sf_run.specs.Phases.{CanAll, GrowsBy, Shows, ShowsItem, end_of, passed_number, slot_in}
 use Rattle.sf_run.specs.Pieces.{Answers, AnswersBy, EndsAt, EndsAtOnce, EndsIn, IsEnd, IsEndIn, IsEndOf, IsWhole, StaysAt, Suits, item_of, run_of}
 use Rattle.sf_run.specs.Quick.{IsSure}
-use Rattle.sf_run.specs.Residual.{Part, choose, one_from, stepped_all}
-use Rattle.sf_run.specs.Texts.{IsInText, StoresByte, counts_bytes, is_count, text_slot, slot_of_text}
+use Rattle.sf_run.specs.Residual.{Part, one_from, stepped_all}
+use Rattle.sf_run.specs.Texts.{StoresByte, counts_bytes, is_count, text_slot, slot_of_text}
 use Rattle.sf_run.proofs.Brought.{all-append, can_all, first_all, item_all, one_from-all, skips_all, take-take}
 use Rattle.sf_run.proofs.Items.{can_take_prefix}
 use Rattle.sf_run.proofs.Machines.{byte_refused, full_refuses, grows}
@@ -354,13 +345,6 @@ pub suits_waits : (d : Directive) (w : ℕ) (piece : List ℕ) → counts_bytes 
     → Suits d phase.Skipping piece (record { before = w; item = 0; phase = phase.Skipping; ends = None })
 suits_waits d w piece none all = grind (arith, skipping_full)
 
-pub suits_behind : (d : Directive) (w : ℕ) (piece : List ℕ) (run : Run) → w ≤ length piece → Suits d phase.Skipping (drop w piece) run → Suits d phase.Skipping piece (record run { before = w + run.before })
-suits_behind d w piece run within s = grind (arith, length-drop)
-
--- one that isn't of a conversion
-pub suits_plain : (d : Directive) (p : Phase) (piece : List ℕ) (run : Run) → text_slot d ≡ None → IfSome (slot_in p) (λ slot. text_slot d ≡ Some slot) → Suits d phase.Skipping piece run → Suits d p piece run
-suits_plain d p piece run none own s = grind arith
-
 pub end_is : (d : Directive) (current : Phase) (o : Option Finished) (end : Finished) → o ≡ Some end → IfSome o (IsEnd d current) → IsEnd d current end
 end_is d current o end e own = subst (λ (o : Option Finished). IfSome o (IsEnd d current)) e own
 
@@ -385,10 +369,6 @@ ended_behind d n w piece e within front skips answers is =
       answers = λ proper. subst (λ b. Answers d Skipping n piece (run_of (record e { before = b }))) same (answers_behind d n w piece (run_of e) within fits (skips proper) (answers proper));
       fits = record { within = omega (arith, all, fits, front); given = is.given; number = is.number; memory = is.memory };
     }
-
--- one that closes no text fits the directive as an answer
-pub suits_ended : (d : Directive) (piece : List ℕ) (e : Ended) → slot_closed e.finished ≡ None → IsEndIn d piece e → Suits d phase.Skipping piece (run_of e)
-suits_ended d piece e none is = grind arith
 
 -- a directive that waits at the end of the piece doesn't pass before
 pub waits_late : (d : Directive) (n : ℕ) (piece : List ℕ) (room : ℕ) (run : Run) → run.ends ≡ None → Answers d Skipping n piece run → Suits d phase.Skipping piece run → IsSure d n piece room → ⊥

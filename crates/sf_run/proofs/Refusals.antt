@@ -1,26 +1,22 @@
 -- Runs for which memory was refused.
 use Rattle.std.proofs.lemmas.Grind.{common_steps}
-use Rattle.std.proofs.Common.{◌≡◌, ℕ, zero, suc, ◌+◌, ◌-◌, ◌<◌, ◌≤◌, inl, inr, Bool, true, false, cond, List, [], ◌∷◌, ◌++◌, length, drop, Option, Some, None, is_some, ℤ, refl, sym, ap, subst, ◌∙◌, arith, true≢false, append_assoc, length-append}
+use Rattle.std.proofs.Common.{◌≡◌, ℕ, ◌+◌, ◌-◌, ◌<◌, ◌≤◌, inl, inr, Bool, true, false, List, [], ◌∷◌, ◌++◌, length, drop, Option, Some, None, is_some, refl, sym, ap, subst, ◌∙◌, arith, true≢false, append_assoc, length-append}
 use Rattle.std.specs.Prelude.{slice_get, IfNone, IsSome}
 use Rattle.sf_base.specs.Bytes.{is_white}
-use Rattle.sf_base.specs.Data.{value_of}
 use Rattle.sf_format.specs.declared.directive.Shape.{Shape}
 use Rattle.sf_format.specs.declared.directive.Shape.TheVariants.{Int, Text, Set, Chars, Count}
-use Rattle.sf_format.specs.declared.directive.Conversion.{Conversion}
 use Rattle.sf_format.specs.declared.directive.Directive.{Directive}
-use Rattle.sf_format.specs.declared.directive.Directive.TheVariants.{Space, Byte, Percent, Conv}
 use Rattle.sf_format.specs.Proper.{AreProper}
-use Rattle.sf_item.specs.Tests.{integer_at, matches}
 use Rattle.sf_run.specs.declared.outcome.Ending.{Ending}
 use Rattle.sf_run.specs.declared.outcome.Status.{Status}
-use Rattle.sf_run.specs.declared.outcome.Status.TheVariants.{Done, InputFailure, MatchingFailure, OutOfRange, TooLong, NoMemory}
+use Rattle.sf_run.specs.declared.outcome.Status.TheVariants.{Done, TooLong, NoMemory}
 use Rattle.sf_run.specs.declared.scanner.Stop.{Stop}
 use Rattle.sf_run.specs.Steps.{StepEnd, Passes, Stores, Fails}
 use Rattle.sf_run.specs.Runs.{Ran, GoesOn, Steps, RunReport, report_of, used}
 use Rattle.sf_run.specs.Limits.{IsCut, TellsWithin, RunRefused}
 use Rattle.sf_run.specs.Limits.{Stores as StoresAt, StoresShape}
-use Rattle.sf_run.specs.Machine.{Stage, Skipping, Taken, Item, stepped, finished, number_end, count_end, integer_end, stored_end, passed_end, item_end, nothing_end, byte_finished, item_finished, conversion_finished}
-use Rattle.sf_run.specs.Residual.{Tally, Part, nothing_yet, with_used, counted, out_of, by_end, one_from, is_over, run_of}
+use Rattle.sf_run.specs.Machine.{Stage, stepped, finished}
+use Rattle.sf_run.specs.Residual.{Tally, nothing_yet, out_of, by_end, one_from, run_of}
 use Rattle.sf_run.specs.Standing.{Standing, Keeps, After, Does, Gives, Refuses, RefusesIn, ran_out, report_by}
 use Rattle.sf_run.specs.Stopping.{is_memory_status, is_no_memory}
 use Rattle.sf_run.specs.Texts.{IsInText, StoresByte, slot_of_text}

@@ -1,22 +1,20 @@
 -- The slots of a format and those of a store.
 use Rattle.std.proofs.lemmas.Grind.{common_steps}
-use Rattle.std.proofs.Common.{◌≡◌, ℕ, zero, suc, ◌+◌, ◌≤◌, Bool, true, false, not, cond, ◌&&◌, ◌||◌, nat_eq, nat_le, List, [], ◌∷◌, ◌++◌, length, take, drop, Option, Some, None, is_some, refl, sym, ap, subst, ◌∙◌, arith, true≢false, unwrap_or, append-nil, append_assoc, length-append}
+use Rattle.std.proofs.Common.{◌≡◌, ℕ, zero, suc, ◌+◌, ◌≤◌, Bool, true, false, not, ◌&&◌, ◌||◌, nat_eq, nat_le, List, [], ◌∷◌, ◌++◌, length, take, drop, Option, Some, None, is_some, refl, sym, ap, subst, ◌∙◌, arith, unwrap_or, append-nil, append_assoc, length-append}
 use Rattle.std.specs.Prelude.{◌≢◌, slice_get, IfSome}
-use Rattle.std.specs.List.{AllByRecursion, list_all, list_any, find}
-use Rattle.std.specs.Option.{option_map}
-use Rattle.std.proofs.lemmas.Bool.{eqb-false, ne_eqb}
+use Rattle.std.specs.List.{AllByRecursion, list_all, list_any}
+use Rattle.std.proofs.lemmas.Bool.{ne_eqb}
 use Rattle.std.proofs.lemmas.Bool.Decides.{nat_tests}
 use Rattle.std.proofs.lemmas.List.{map-append}
 use Rattle.std.proofs.lemmas.List.Sums.{sum_by-cons}
 use Rattle.sf_base.specs.Data.{Datum, Bytes, Assigned, datum_at, datum_of_number}
-use Rattle.sf_base.specs.Kept.{Kept, assigned, with_closed, buffer_of, Opened, text_of, text_in, texts_in, values_closed}
-use Rattle.sf_run.specs.Memory.{HoldsTexts, capacity_of}
+use Rattle.sf_base.specs.Kept.{Kept, assigned, with_closed, Opened, text_of, text_in, texts_in, values_closed}
+use Rattle.sf_run.specs.Memory.{capacity_of}
 use Rattle.sf_base.specs.declared.number.Number.{Number}
 use Rattle.sf_format.specs.declared.directive.Conversion.{Conversion}
 use Rattle.sf_format.specs.declared.directive.Directive.{Directive}
-use Rattle.sf_format.specs.declared.directive.Directive.TheVariants.{Space, Byte, Percent, Conv}
+use Rattle.sf_format.specs.declared.directive.Directive.TheVariants.{Conv}
 use Rattle.sf_format.specs.declared.directive.Shape.{Shape}
-use Rattle.sf_format.specs.declared.directive.Shape.TheVariants.{Int, Text, Set, Chars, Count}
 use Rattle.sf_format.specs.Slots.{AreDistinct}
 use Rattle.sf_format.specs.Proper.{slots_of}
 use Rattle.sf_format.specs.Widths.{add_widths, text_width, stored_width, width_sum}
@@ -30,7 +28,6 @@ use Rattle.sf_run.specs.Holding.{are_placed, are_apart, first_slot, is_text, sto
 use Rattle.sf_run.specs.Places.{is_destination}
 use Rattle.sf_run.specs.Texts.{slot_of, slot_of_text, text_slot, opened_slot, slots_in}
 use Rattle.sf_run.specs.Phases.{slot_in}
-use Rattle.sf_run.proofs.Stages.{conv_is}
 use Rattle.sf_run.proofs.Moves.{drop_at}
 
 -- ---- the slots of a list of directives

@@ -1,11 +1,8 @@
 -- What the phases of the code show of a directive's stage.
-use Rattle.std.proofs.Common.{◌≡◌, ℕ, ◌<◌, ◌≤◌, ◌^◌, Bool, true, false, cond, ◌&&◌, nat_eq, nat_lt, nat_le, List, [], ◌∷◌, ◌++◌, Option, Some, None, refl, sym, ap, subst, ◌∙◌, arith, lit<, true≢false}
+use Rattle.std.proofs.Common.{◌≡◌, ℕ, ◌<◌, Bool, true, false, cond, nat_eq, List, [], ◌∷◌, ◌++◌, Option, Some, None, refl, sym, ap, subst, ◌∙◌, arith, lit<, true≢false}
 use Rattle.std.specs.Prelude.{IsTrue, ◌≢◌, ◌↔◌}
-use Rattle.std.proofs.lemmas.Bool.Decides.{nat_tests}
-use Rattle.sf_base.specs.Bytes.{is_white}
 use Rattle.sf_base.specs.Data.{Bytes, value_of}
 use Rattle.sf_base.specs.declared.values.Kind.{Kind}
-use Rattle.sf_base.specs.declared.values.Kind.TheVariants.{I8, I16, I32, I64, U8, U16, U32, U64, Text as TextKind}
 use Rattle.sf_format.specs.declared.directive.Shape.{Shape}
 use Rattle.sf_format.specs.declared.directive.Shape.TheVariants.{Int, Text, Set, Chars, Count}
 use Rattle.sf_format.specs.declared.directive.Conversion.{Conversion}
@@ -14,21 +11,18 @@ use Rattle.sf_format.specs.declared.directive.Directive.TheVariants.{Space, Byte
 use Rattle.sf_format.specs.Proper.{IsProper, IsProperShape}
 use Rattle.sf_item.specs.Matching.{Matches, ShapeMatches}
 use Rattle.sf_item.specs.Scan.{HoldsNumber}
-use Rattle.sf_item.specs.Taking.{IsInt, CanTake, HasTaken, conversion_of, Ends}
-use Rattle.sf_item.specs.Tests.{matches, is_within, shape_begins, can_take}
+use Rattle.sf_item.specs.Taking.{CanTake, HasTaken, conversion_of, Ends}
+use Rattle.sf_item.specs.Tests.{can_take}
 use Rattle.sf_item.proofs.Fronts.{HasItem}
 use Rattle.sf_item.specs.declared.item.ItemScan.{ItemScan}
 use Rattle.sf_item.specs.declared.item.ItemEnd.{ItemEnd}
 use Rattle.sf_item.specs.declared.item.ItemEnd.TheVariants as ends
 use Rattle.sf_item.proofs.Deciding.{Tests, tests_same, tests_can_take, tests_matches, integer_at_is}
-use Rattle.sf_run.specs.declared.directive.Phase.{Phase}
-use Rattle.sf_run.specs.declared.directive.Phase.TheVariants as phase
 use Rattle.sf_run.specs.declared.outcome.Status.TheVariants.{MatchingFailure}
 use Rattle.sf_run.specs.Steps.{Passes, Stores, Fails}
-use Rattle.sf_run.specs.Texts.{slot_of_text, text_slot, opened_for, is_count, counts_bytes}
-use Rattle.sf_base.specs.Kept.{Opened, text_of}
-use Rattle.sf_run.specs.Machine.{Stage, Skipping, Taken, Item, shape_skips, stepped, is_full, count_end, integer_end, stored_end, passed_end, item_end, item_finished, conversion_finished}
-use Rattle.sf_run.specs.Phases.{ShowsItem, Shows, passed_number}
+use Rattle.sf_run.specs.Texts.{text_slot, is_count, counts_bytes}
+use Rattle.sf_run.specs.Machine.{Stage, Skipping, Taken, Item, stepped, is_full, count_end, integer_end, stored_end, passed_end, item_end, item_finished, conversion_finished}
+use Rattle.sf_run.specs.Phases.{ShowsItem, passed_number}
 use Rattle.sf_run.proofs.Machines.{not_full, full_of_none, item_not_full}
 
 -- ---- a byte more
@@ -89,10 +83,6 @@ item_full scan f full proper says = sym (by_case full says)
     by_case true says = full_of_none (Conv (conversion_of scan)) (Item f) (λ b below. stops b (says.0 refl b below) (can_take (conversion_of scan) (f ++ b ∷ [])) refl)
     by_case false says = full_is (is_full (Conv (conversion_of scan)) (Item f)) refl (λ none. true≢false (sym (says.1 none)))
 
--- only a conversion comes further while it waits
-pub skipping_shown : (d : Directive) → ((c : Conversion) → d ≡ Conv c → ⊥) → (p : Phase) (q : Stage) → Shows d p q → q ≡ Skipping
-skipping_shown d never p q shows = grind arith
-
 -- ---- the end of an item
 
 pub unmatched_end : (c : Conversion) (f : List ℕ) → (Matches c f → ⊥) → Fails MatchingFailure ≡ item_end c f
@@ -137,10 +127,6 @@ pub item_fails : (c : Conversion) (f : List ℕ) (e : ItemEnd) → f ≢ [] → 
     → ((negative : Bool) (magnitude : ℕ) (overflowed : Bool) → e ≡ ends.Integer negative magnitude overflowed → ⊥) → Fails MatchingFailure ≡ item_end c f
 item_fails c f e some h never none = grind (arith, unmatched_end)
 
--- one that is a match and no integer is suppressed
-pub item_suppressed : (c : Conversion) (f : List ℕ) → text_slot (Conv c) ≡ None → Ends c f ends.Matched → c.slot ≡ None
-item_suppressed c f text h = grind arith
-
 -- ---- the end of a directive
 
 pub count_is : (c : Conversion) (slot : Option ℕ) (n : ℕ) → passed_number c slot (value_of c.kind false n) ≡ count_end c slot n
@@ -154,14 +140,6 @@ other_finished c shape q n more e = grind arith
 
 pub conv_is : (a b : Conversion) → Conv a ≡ Conv b → a ≡ b
 conv_is a b e = cc
-
--- the text under way is the item
-pub shown_text : (d : Directive) (slot : ℕ) (scan : ItemScan) (q : Stage) (opened : Option Opened) (s : ShowsItem d (Some slot) scan q) → opened ≡ opened_for (text_slot d) q
-    → text_of opened ≡ s.item
-shown_text d slot scan q opened s e = ap text_of (e ∙ ap (λ t. opened_for t q) s.text ∙ ap (opened_for (Some slot)) s.stage)
-
-pub item_finish : (c : Conversion) (q : Stage) (more : Bool) (f : List ℕ) → q ≡ Item f → item_end c f ≡ item_finished c q more
-item_finish c q more f e = ap (λ r. item_finished c r more) (sym e)
 
 -- an item under way is full as its scan is
 pub shown_full : (d : Directive) (slot : Option ℕ) (scan : ItemScan) (q : Stage) (full : Bool) → IsProper d → ShowsItem d slot scan q

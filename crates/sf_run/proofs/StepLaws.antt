@@ -1,20 +1,19 @@
 -- Each directive makes exactly one step.
-use Rattle.std.proofs.Common.{◌≡◌, ◌≢◌, ℕ, zero, suc, ◌+◌, ◌-◌, ◌≤◌, Bool, true, false, cond, nat_eq, List, [], ◌∷◌, length, take, drop, Option, Some, None, refl, sym, ap, ap₂, ◌∙◌, subst, inl, inr, arith, ℤ, length-drop}
+use Rattle.std.proofs.Common.{◌≡◌, ℕ, zero, suc, ◌≤◌, Bool, true, false, cond, List, length, take, Option, refl, sym, ap, ◌∙◌, subst, inl, inr, arith, ℤ, length-drop}
 use Rattle.sf_base.specs.Data.{value_of}
 use Rattle.sf_format.specs.declared.directive.Shape.{Shape}
 use Rattle.sf_format.specs.declared.directive.Shape.TheVariants.{Int, Text, Set, Chars, Count}
 use Rattle.sf_format.specs.declared.directive.Conversion.{Conversion}
 use Rattle.sf_format.specs.declared.directive.Directive.{Directive}
-use Rattle.sf_format.specs.declared.directive.Directive.TheVariants.{Space, Byte, Percent, Conv}
 use Rattle.sf_format.specs.Proper.{IsProperShape, IsProper}
-use Rattle.sf_item.specs.Matching.{ShapeMatches, Matches, IsItem}
+use Rattle.sf_item.specs.Matching.{ShapeMatches, Matches}
 use Rattle.sf_item.specs.Tests.{matches}
-use Rattle.sf_item.proofs.Deciding.{integer_at_is, fails, tests_same, tests_matches}
+use Rattle.sf_item.proofs.Deciding.{integer_at_is, tests_matches}
 use Rattle.sf_run.specs.declared.outcome.Status.TheVariants.{MatchingFailure}
 use Rattle.sf_item.proofs.Fronts.{HasItem}
-use Rattle.sf_run.specs.Steps.{StepEnd, Fails, ByteStep, NumberStored, CountStep, ItemStored, ItemPasses, EmptyItem, ItemEnds, IsSkipBefore, ItemStep, ConversionStep, Step}
+use Rattle.sf_run.specs.Steps.{StepEnd, Fails, NumberStored, CountStep, ItemStored, ItemPasses, EmptyItem, ItemEnds, IsSkipBefore, ItemStep, ConversionStep, Step}
 use Rattle.sf_run.specs.Machine.{number_end, count_end, integer_end, stored_end, passed_end, nothing_end}
-use Rattle.sf_run.specs.Computed.{skip, len, has_more, byte_choice, byte_step, skip_before, item_ended, item_step, conversion_step, percent_step, step_of}
+use Rattle.sf_run.specs.Computed.{skip, has_more, byte_choice, byte_step, skip_before, item_ended, item_step, conversion_step, percent_step, step_of}
 use Rattle.sf_run.proofs.Skips.{skip_is, skip_only, skip-le}
 use Rattle.sf_run.proofs.Items.{len-le, item_is, item_only}
 

@@ -1,5 +1,5 @@
 -- When a run that begins and passes within a piece is told.
-use Rattle.std.proofs.Common.{◌≡◌, ℕ, ◌+◌, ◌-◌, ◌<◌, ◌≤◌, min, inl, inr, true, List, [], ◌∷◌, ◌++◌, length, take, drop, Option, Some, None, refl, sym, ap, subst, ◌∙◌, arith, length-append, length-drop}
+use Rattle.std.proofs.Common.{◌≡◌, ℕ, ◌+◌, ◌-◌, ◌<◌, ◌≤◌, min, true, List, [], ◌∷◌, ◌++◌, length, take, drop, Option, Some, None, refl, sym, ap, subst, ◌∙◌, arith, length-append, length-drop}
 use Rattle.std.specs.Prelude.{slice_get}
 use Rattle.std.proofs.lemmas.List.{append-nil, take-append-drop}
 use Rattle.sf_base.specs.Kept.{Kept, texts_in, text_of, Opened, buffer_of}
@@ -8,7 +8,6 @@ use Rattle.sf_format.specs.Proper.{AreProper}
 use Rattle.sf_run.specs.declared.outcome.Status.TheVariants.{Done}
 use Rattle.sf_run.specs.declared.quick.Strays.{Strays}
 use Rattle.sf_run.specs.declared.tally.Tally as code
-use Rattle.sf_run.specs.Limits.{RunWithin}
 use Rattle.sf_run.specs.Machine.{Skipping}
 use Rattle.sf_run.specs.Memory.{capacity_of}
 use Rattle.sf_run.specs.Quick.{IsDoneWithin, IsSure, text_stored}
@@ -18,7 +17,7 @@ use Rattle.sf_run.specs.Steps.{StepEnd, Passes, Stores, Fails}
 use Rattle.sf_run.specs.Tallies.{tally_of}
 use Rattle.sf_run.proofs.AtOnce.{Counted, Going}
 use Rattle.sf_run.proofs.Moves.{drop_at}
-use Rattle.sf_run.proofs.Openness.{counted-used, holds_by, uses_more}
+use Rattle.sf_run.proofs.Openness.{counted-used, uses_more}
 use Rattle.sf_run.proofs.Refusals.{never_done}
 use Rattle.sf_run.proofs.Slots.{texts-push}
 use Rattle.sf_run.proofs.Told.{run_told}

@@ -1,19 +1,19 @@
 -- The running totals tell what the list of steps tells.
 use Rattle.std.proofs.lemmas.Grind.{common_steps}
-use Rattle.std.proofs.Common.{◌≡◌, ℕ, zero, suc, ◌+◌, ◌<◌, ◌≤◌, ◌⊎◌, inl, inr, Bool, true, false, cond, ◌&&◌, nat_eq, nat_le, List, [], ◌∷◌, ◌++◌, length, drop, Option, Some, None, is_some, refl, sym, ap, ap₂, ◌∙◌, subst, arith, append_assoc, append-nil, true≢false, zero-add, add-zero}
+use Rattle.std.proofs.Common.{◌≡◌, ℕ, zero, suc, ◌+◌, ◌<◌, ◌≤◌, ◌⊎◌, inl, inr, Bool, true, cond, ◌&&◌, nat_eq, nat_le, List, [], ◌∷◌, ◌++◌, length, drop, Option, Some, None, is_some, refl, sym, ap, ap₂, ◌∙◌, subst, arith, append-nil, zero-add, add-zero}
 use Rattle.std.specs.Prelude.{SomeIff}
 use Rattle.std.specs.List.{list_any}
 use Rattle.std.proofs.lemmas.Bool.{cases_lt, cond-true, cond-false, lt-ltb, le-ltb}
-use Rattle.std.proofs.lemmas.List.Sums.{sum_by-cons, sum_by-append}
+use Rattle.std.proofs.lemmas.List.Sums.{sum_by-cons}
 use Rattle.sf_base.specs.Data.{Assigned}
 use Rattle.sf_format.specs.declared.directive.Directive.{Directive}
 use Rattle.sf_format.specs.Proper.{AreProper}
 use Rattle.sf_run.specs.declared.outcome.Ending.{Ending}
 use Rattle.sf_run.specs.declared.outcome.Status.{Status}
 use Rattle.sf_run.specs.declared.outcome.Status.TheVariants.{Done, TooLong}
-use Rattle.sf_run.specs.Steps.{StepEnd, Passes, Stores, Fails}
-use Rattle.sf_run.specs.Runs.{Ran, Steps, used, failure_of, status_of, values, is_conversion, passed, stored, assigned, converted, RunReport, report_of, Uses, IsOpen}
-use Rattle.sf_run.specs.Limits.{cut_report, IsCut, RunWithin, TellsWithin}
+use Rattle.sf_run.specs.Steps.{StepEnd}
+use Rattle.sf_run.specs.Runs.{Ran, Steps, used, failure_of, status_of, values, passed, assigned, converted, RunReport, report_of, Uses, IsOpen}
+use Rattle.sf_run.specs.Limits.{cut_report, RunWithin, TellsWithin}
 use Rattle.sf_item.proofs.Deciding.{Tests, fails, tests_both, tests_same, tests_most}
 use Rattle.sf_run.specs.Laws.{EachHasOneReport}
 use Rattle.sf_run.specs.Machine.{some_below}
@@ -72,17 +72,8 @@ cut_step d end k a m t before h = grind (arith, sums_step)
 
 -- ---- by the first directive's end
 
-cases_passed : (end : StepEnd) → (passed end ≡ true) ⊎ (passed end ≡ false)
-cases_passed end = grind arith
-
 counted-used : (d : Directive) (end : StepEnd) (t : Tally) → (counted d end t).used ≡ t.used
 counted-used d end t = grind arith
-
-by_passed : (end : StepEnd) (y : RunReport) (f : Status → RunReport) → passed end ≡ true → by_end end y f ≡ y
-by_passed end y f h = grind arith
-
-go_failed : (end : StepEnd) (rest : List Ran) → passed end ≡ false → go_on end rest ≡ []
-go_failed end rest h = grind arith
 
 -- the totals after the first directive
 abbrev next_tally : Directive → List ℕ → Tally → Tally
@@ -145,15 +136,6 @@ pub uses_from : (ds : List Directive) → AreProper ds → (x : List ℕ) (k : �
 uses_from ds proper x k e = (ran_of ds x 0, steps_is ds proper x 0, sym (ap (λ (r : RunReport). r.used) (run_is_told ds x)) ∙ e)
 
 -- ---- under a limit
-
--- by the first directive's end, if the rest of the run is the same where there is one
-same_first : (end : StepEnd) (y z : RunReport) (f : Status → RunReport) → (passed end ≡ true → y ≡ z) → by_end end y f ≡ by_end end z f
-same_first end y z f h = grind arith
-
--- the steps after the first, if it passes
-parts_left : (d : Directive) (ds : List Directive) (t : Tally) (x : List ℕ) (ran : List Ran) → passed (step_of d x t.used).1 ≡ true
-    → go_on (step_of d x t.used).1 (later d ds x t.used) ≡ ran → ran_of ds (drop (step_of d x t.used).0 x) (next_tally d x t).used ≡ ran
-parts_left d ds t x ran h tail = grind arith
 
 cut_first : (d : Directive) (end : StepEnd) (k a m : ℕ) (t : Tally) (before : List Ran) (next : RunReport) → passed end ≡ true
     → next ≡ cut_from (a + 1) (counted d end (with_used (t.used + k) t)) before m
@@ -248,9 +230,6 @@ told_is ds proper m x r (inr w) =
 -- the bytes that the run uses without a limit
 abbrev pub uses : List Directive → List ℕ → ℕ
 uses ds x = (run_of None ds 1 nothing_yet x).used
-
-met_same : {P Q : Type 0} (met : Option Ending) (ending : Ending) → (P → Q) → (Q → P) → SomeIff met P ending → SomeIff met Q ending
-met_same met ending to back h = grind arith
 
 abbrev with_met : RunReport → Option Ending → RunReport
 with_met r met = record r { met = met }

@@ -17,7 +17,7 @@ use Rattle.sf_run.specs.Runs.{RunReport, IsOpen}
 use Rattle.sf_run.specs.Limits.{RunWithin, TellsWithin, cut_report}
 use Rattle.sf_run.specs.Machine.{Stage, Skipping, Item, stepped, is_full}
 use Rattle.sf_run.specs.Phases.{ShowsItem, Shows}
-use Rattle.sf_run.specs.Residual.{Tally, nothing_yet, with_used, out_of, run_of, run_from}
+use Rattle.sf_run.specs.Residual.{Tally, nothing_yet, with_used, out_of, run_of}
 use Rattle.sf_run.specs.Standing.{Standing, ShowsFirst, DoesBy, Does, Follows, Waits, IsSettled, Keeps, After, HasCome, report_by, report_of, Gives}
 use Rattle.sf_base.specs.Data.{Assigned}
 use Rattle.sf_run.specs.declared.tally.Tally as code
@@ -26,7 +26,7 @@ use Rattle.sf_run.specs.Texts.{text_slot, opened_for}
 use Rattle.sf_run.specs.Limits.{RunTold}
 use Rattle.sf_base.specs.Kept.{Opened}
 use Rattle.sf_run.proofs.Machines.{can_take_one, item_byte, item_byte-below, item_takes}
-use Rattle.sf_run.proofs.Moves.{drop_at, proper_at, ended_does, waiting, byte_took, byte_past, fresh, shows_fresh}
+use Rattle.sf_run.proofs.Moves.{drop_at, proper_at, ended_does, waiting, byte_took, byte_past}
 use Rattle.sf_run.proofs.Openness.{OpenAt, open_or_closed, uses_within, within_limit, run_not_too_long, over_is_too_long, rest_uses_nothing}
 use Rattle.sf_run.proofs.Told.{run_told, told_exists, told_is, uses_is, uses_from, within_met, met_within}
 

@@ -1,15 +1,12 @@
-use Rattle.std.proofs.lemmas.Grind.{common_steps}
-use Rattle.std.proofs.Common.{arith}
 use Rattle.std.proofs.Common.{◌≡◌, ◌<◌, ◌+◌, ◌≤◌, ◌&&◌, false, ℕ, List, [], length, drop, get_or, sym, subst, ◌∙◌}
 use Rattle.sf_base.specs.Bytes.{is_white}
 use Rattle.sf_format.specs.declared.directive.Conversion.{Conversion}
 use Rattle.sf_format.specs.declared.directive.Directive.TheVariants.{Conv}
-use Rattle.sf_run.specs.declared.directive.Phase.TheVariants as phase
 use Rattle.sf_run.specs.declared.directive.Run.{Run}
 use Rattle.sf_run.specs.Machine.{Skipping, shape_skips}
-use Rattle.sf_run.specs.Pieces.{Answers, Suits}
+use Rattle.sf_run.specs.Pieces.{Answers}
 use Rattle.sf_run.proofs.Brought.{item_skips}
-use Rattle.sf_run.proofs.Pieces.{answers_behind, count_answers, next_behind, suits_behind}
+use Rattle.sf_run.proofs.Pieces.{answers_behind, count_answers, next_behind}
 use Rattle.sf_run.proofs.directive.begin.Goals as goal
 
 pub returns-then-is_count-clause-answers : goal.returns-then-is_count-clause-answers
@@ -33,6 +30,3 @@ returns-clause-answers c proper =
     (subst (λ y. 0 < length y → (shape_skips k.shape && is_white (get_or y 0 0)) ≡ false) (sym back) (next_behind (λ b. shape_skips k.shape && is_white b) w piece e.next)) (c.args.used + w)) in
     subst (λ (r : Run). Answers (Conv k) Skipping c.args.used piece r) (sym c.behind.ensures)
     (answers_behind (Conv k) c.args.used w piece run e.within fits (item_skips k piece w e.within e.white) here)
-
-pub returns-clause-suits : goal.returns-clause-suits
-returns-clause-suits c = grind (arith, common_steps, suits_behind)

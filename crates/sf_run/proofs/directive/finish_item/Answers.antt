@@ -3,9 +3,9 @@ use Rattle.std.proofs.Common.{sym, subst, ap, ◌∙◌}
 use Rattle.std.specs.Option.{option_map}
 use Rattle.sf_base.specs.Data.{Number, value_of}
 use Rattle.sf_format.specs.declared.directive.Conversion.{Conversion}
-use Rattle.sf_item.specs.declared.item.ItemEnd.TheVariants.{Integer, Matched}
+use Rattle.sf_item.specs.declared.item.ItemEnd.TheVariants.{Integer}
 use Rattle.sf_item.specs.Taking.{Ends}
-use Rattle.sf_run.proofs.Stages.{held_value, integer_ends, item_suppressed, suppressed_end, item_fails}
+use Rattle.sf_run.proofs.Stages.{held_value, integer_ends, item_fails}
 use Rattle.sf_run.proofs.directive.finish_item.Goals as goal
 
 pub returns-in-Integer-clause-end : goal.returns-in-Integer-clause-end
@@ -17,9 +17,6 @@ returns-in-Integer-clause-end c text f some same h none =
     c.finish_number.ensures.end text (value_of d.kind i.negative ends.1)
     (c.number_of.ensures ∙ ap (option_map (Number d.kind)) (held_value d.kind i.negative i.magnitude ends.1 i.overflowed ends.4))
     ∙ integer_ends d f i.negative i.magnitude i.overflowed ends
-
-pub returns-in-Matched-clause-end : goal.returns-in-Matched-clause-end
-returns-in-Matched-clause-end c text f some same h none = grind (arith, item_suppressed, suppressed_end)
 
 pub returns-in_default-clause-end : goal.returns-in_default-clause-end
 returns-in_default-clause-end c text f some same h none = grind (arith, item_fails)

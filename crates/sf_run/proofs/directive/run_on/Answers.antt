@@ -1,33 +1,9 @@
-use Rattle.std.proofs.Common.{arith}
-use Rattle.std.proofs.Common.{◌≡◌, Some, refl, sym, subst}
-use Rattle.std.specs.Prelude.{IfSome}
+use Rattle.std.proofs.Common.{sym, subst}
 use Rattle.sf_format.specs.declared.directive.Directive.{Directive}
-use Rattle.sf_format.specs.declared.directive.Directive.TheVariants.{Space, Byte, Percent}
 use Rattle.sf_format.specs.Proper.{IsProper}
-use Rattle.sf_run.specs.Phases.{Shows, slot_in}
-use Rattle.sf_run.specs.Pieces.{Answers, Suits}
-use Rattle.sf_run.specs.Texts.{text_slot}
-use Rattle.sf_run.proofs.Pieces.{suits_plain}
-use Rattle.sf_run.proofs.Stages.{skipping_shown}
+use Rattle.sf_run.specs.Phases.{Shows}
+use Rattle.sf_run.specs.Pieces.{Answers}
 use Rattle.sf_run.proofs.directive.run_on.Goals as goal
-
-pub returns-in-Space-clause-answers : goal.returns-in-Space-clause-answers
-returns-in-Space-clause-answers c q proper shows = grind (arith, skipping_shown)
-
-pub returns-in-Space-clause-suits : goal.returns-in-Space-clause-suits
-returns-in-Space-clause-suits c = grind (arith, suits_plain)
-
-pub returns-in-Byte-clause-answers : goal.returns-in-Byte-clause-answers
-returns-in-Byte-clause-answers c q proper shows = grind (arith, skipping_shown)
-
-pub returns-in-Byte-clause-suits : goal.returns-in-Byte-clause-suits
-returns-in-Byte-clause-suits c = grind (arith, suits_plain)
-
-pub returns-in-Percent-clause-answers : goal.returns-in-Percent-clause-answers
-returns-in-Percent-clause-answers c q proper shows = grind (arith, skipping_shown)
-
-pub returns-in-Percent-clause-suits : goal.returns-in-Percent-clause-suits
-returns-in-Percent-clause-suits c = grind (arith, suits_plain)
 
 pub returns-in-Conv-clause-answers : goal.returns-in-Conv-clause-answers
 returns-in-Conv-clause-answers c q proper shows =

@@ -1,7 +1,4 @@
 use Rattle.std.proofs.Common.{arith}
-use Rattle.std.proofs.Common.{◌≡◌, Some}
-use Rattle.sf_run.specs.Texts.{text_slot}
-use Rattle.sf_run.specs.Phases.{slot_in}
 use Rattle.sf_run.specs.Scanner.{kept_by, standing}
 use Rattle.sf_run.proofs.Moves.{last_follows}
 use Rattle.sf_run.proofs.Slots.{if_some, own_text}

@@ -1,4 +1,4 @@
-use Rattle.std.proofs.Common.{◌≡◌, ◌+◌, ◌++◌, ℕ, List, take, drop, Option, Some, refl, ap, subst, ◌∙◌, arith}
+use Rattle.std.proofs.Common.{◌+◌, ◌++◌, ℕ, List, take, drop, Option, refl, ap, subst, ◌∙◌, arith}
 use Rattle.std.specs.Prelude.{slice_get}
 use Rattle.std.proofs.lemmas.Option.{slice_get_within}
 use Rattle.sf_run.specs.declared.directive.Finished.{Finished}
@@ -6,7 +6,7 @@ use Rattle.sf_run.specs.declared.directive.Phase.{Phase}
 use Rattle.sf_run.specs.Phases.{Shows, end_of, slot_in}
 use Rattle.sf_run.specs.Pieces.{AnswersBy, item_of}
 use Rattle.sf_run.specs.Standing.{Standing, TakesAll, Waits}
-use Rattle.sf_run.specs.Texts.{opened_with, text_slot}
+use Rattle.sf_run.specs.Texts.{opened_with}
 use Rattle.sf_run.specs.Scanner.{kept_by, standing}
 use Rattle.sf_run.proofs.Moves.{answer_follows, if_none, limit_follows, runs_out_refuses, waits_follow}
 use Rattle.sf_run.proofs.Pieces.{end_is, front_ends, stores_front, uses_front}

@@ -20,12 +20,6 @@ open_text-requires-clause-absent g c = grind (arith, slot_free, slot_of_own)
 left : (g : _) (c : goal.After-start g) → left_of c.start.result ≡ left_before c.args.directive.now c.args.self.now.phase
 left g c = c.start.ensures.left ∙ left_first c.args.directive.now c.in-Conv.conversion c.args.self.now.phase c.in-Conv.is c.requires.no_text
 
-pub invariant_of-self-clause-given : goal.invariant_of-self-clause-given
-invariant_of-self-clause-given g c = rw c.open_text.ensures c.args.self.now.given
-
-pub invariant_of-self-clause-joined : goal.invariant_of-self-clause-joined
-invariant_of-self-clause-joined g c = rw c.open_text.ensures c.args.self.now.joined
-
 pub invariant_of-self-clause-own_slot : goal.invariant_of-self-clause-own_slot
 invariant_of-self-clause-own_slot g c e = grind (arith, text_own)
 
@@ -47,3 +41,9 @@ invariant_of-self-clause-sized g c bounded =
     let same = size_begun (kept_by s).closed (kept_by s).opened (opened_none (kept_by s).opened (s.under_way ∙ c.requires.no_text)) in
     let was = s.sized bounded in
     rw c.open_text.ensures (omega (arith, rest, same, was))
+
+pub invariant_of-self-clause-given : goal.invariant_of-self-clause-given
+invariant_of-self-clause-given g c = rw c.open_text.ensures c.args.self.now.given
+
+pub invariant_of-self-clause-joined : goal.invariant_of-self-clause-joined
+invariant_of-self-clause-joined g c = rw c.open_text.ensures c.args.self.now.joined

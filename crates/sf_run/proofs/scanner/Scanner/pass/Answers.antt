@@ -1,27 +1,11 @@
 use Rattle.sf_run.specs.Steps.{Passes}
-use Rattle.std.proofs.Common.{◌<◌, length, arith, false, refl, ◌∙◌}
-use Rattle.std.proofs.lemmas.Option.{slice_get_within}
+use Rattle.std.proofs.Common.{length, arith, false, refl, ◌∙◌}
 use Rattle.sf_run.specs.Scanner.{kept_by}
 use Rattle.sf_run.proofs.Moves.{place_taken}
 use Rattle.sf_run.proofs.Slots.{opened_none, slots_none, room_passed}
 use Rattle.sf_base.specs.Kept.{buffer_of}
 use Rattle.sf_run.proofs.Slots.{size_passed}
 use Rattle.sf_run.proofs.scanner.Scanner.pass.Goals as goal
-
-pub invariant_of-self-clause-in_list : goal.invariant_of-self-clause-in_list
-invariant_of-self-clause-in_list g c = grind (arith, slice_get_within)
-
-pub invariant_of-self-clause-assigned : goal.invariant_of-self-clause-assigned
-invariant_of-self-clause-assigned g c =
-    let s = c.args.self.now in
-    let place = place_taken s.directives.now s.passed c.args.directive.now false c.requires.current (λ e. cc) in
-    omega (arith, s.assigned, place, c.counted-tally.ensures.assigned)
-
-pub invariant_of-self-clause-converted : goal.invariant_of-self-clause-converted
-invariant_of-self-clause-converted g c = let s = c.args.self.now in omega (arith, s.converted, c.counted-tally.ensures.converted)
-
-pub invariant_of-self-clause-bounded : goal.invariant_of-self-clause-bounded
-invariant_of-self-clause-bounded g c = let s = c.args.self.now in let e = c.counted-tally.ensures.used in omega (arith, s.bounded, e)
 
 pub invariant_of-self-clause-given : goal.invariant_of-self-clause-given
 invariant_of-self-clause-given g c = grind (arith, slots_none)
@@ -45,3 +29,9 @@ returns g c =
 pub invariant_of-self-clause-sized : goal.invariant_of-self-clause-sized
 invariant_of-self-clause-sized g c bounded =
     let s = c.args.self.now in size_passed s.ended s.directives.now s.passed c.args.directive.now s.phase (length (buffer_of (kept_by s))) _ c.requires.current (s.sized bounded)
+
+pub invariant_of-self-clause-assigned : goal.invariant_of-self-clause-assigned
+invariant_of-self-clause-assigned g c =
+    let s = c.args.self.now in
+    let place = place_taken s.directives.now s.passed c.args.directive.now false c.requires.current (λ e. cc) in
+    omega (arith, s.assigned, place, c.counted-tally.ensures.assigned)
