@@ -22,9 +22,6 @@ abbrev HasPassed : StepEnd → Type 0
 HasPassed (Fails status) = ⊥
 HasPassed _ = Unit {0}
 
-not_failed : (end : StepEnd) (status : Status) → HasPassed end → end ≡ Fails status → ⊥
-not_failed end status ok e = subst HasPassed e ok
-
 -- ---- the greatest front of an input is that of its fronts which have it
 
 skip_front : (x z : List ℕ) (k : ℕ) → k ≤ length x → IsSkip (x ++ z) k → IsSkip x k
@@ -46,11 +43,8 @@ byte_front b x z k end ok le h = grind arith
 skip_before_front : (shape : Shape) (x z : List ℕ) (k : ℕ) → k ≤ length x → IsSkipBefore shape (x ++ z) k → IsSkipBefore shape x k
 skip_before_front shape x z k le h = grind (arith, skip_front)
 
-empty_fails : (x : List ℕ) (end : StepEnd) → HasPassed end → EmptyItem x end → ⊥
-empty_fails x end ok e = grind (arith, not_failed)
-
 ends_front : (c : Conversion) (x z : List ℕ) (j : ℕ) (end : StepEnd) → HasPassed end → j ≤ length x → ItemEnds c (x ++ z) j end → ItemEnds c x j end
-ends_front c x z j end ok le h = grind (arith, empty_fails, take-append-le)
+ends_front c x z j end ok le h = grind (arith, take-append-le)
 
 item_front : (c : Conversion) (x z : List ℕ) (k : ℕ) (end : StepEnd) → HasPassed end → k ≤ length x → ItemStep c (x ++ z) k end → ItemStep c x k end
 item_front c x z k end ok le h3 = grind (arith, drop-append-le, length-drop, skip_before_front, item_at_front, ends_front)

@@ -13,7 +13,7 @@ use Rattle.sf_base.specs.Sets.{has_byte}
 use Rattle.sf_item.specs.Taking.{IsInt}
 use Rattle.sf_item.specs.Tests.{is_within, shape_begins, can_take}
 use Rattle.sf_item.proofs.Fronts.{HasItem, can_take_front, integer_goes_on}
-use Rattle.sf_item.proofs.Deciding.{tests_same, tests_most}
+use Rattle.sf_item.proofs.Deciding.{tests_same}
 use Rattle.sf_run.specs.declared.outcome.Status.TheVariants.{TooLong}
 use Rattle.sf_run.specs.Steps.{StepEnd, Fails}
 use Rattle.sf_run.specs.Machine.{Stage, Skipping, Taken, Item, shape_skips, item_stepped, stepped, some_below, is_full, finished, conversion_finished}
@@ -184,10 +184,10 @@ full_takes_nothing (Conv c) proper (Item f) b full = item_nothing c proper.0 (It
 -- ---- the end of a full directive
 
 within_one : (width : Option ℕ) → IsProperWidth width → is_within width 1 ≡ true
-within_one width h = grind (arith, tests_most)
+within_one width h = grind arith
 
 one_char : (width : Option ℕ) → IsProperWidth width → nat_le 1 (unwrap_or width 1) ≡ true
-one_char width h = grind (arith, tests_most)
+one_char width h = grind arith
 
 -- some byte begins an item
 first_begins : (shape : Shape) (width : Option ℕ) → IsProperShape shape → IsProperWidth width → HasItem shape
@@ -233,11 +233,6 @@ pub full_refuses : (d : Directive) → IsProper d → (q : Stage) (n : ℕ) (z :
     → one_from d q n z ≡ record { used = n; left = z; end = finished d q n true }
 full_refuses d proper q n [] full = grind (arith, full_finish)
 full_refuses d proper q n (b ∷ z) full = grind (arith, full_takes_nothing)
-
--- a byte that is not taken ends the directive
-pub byte_refused : (d : Directive) (q : Stage) (n b : ℕ) (z : List ℕ) → stepped d q b ≡ None
-    → one_from d q n (b ∷ z) ≡ record { used = n; left = b ∷ z; end = finished d q n true }
-byte_refused d q n b z e = cc
 
 -- ---- no directive is too long by itself
 

@@ -65,11 +65,8 @@ passes f y g h = grind arith
 pub fresh : (m : Option ℕ) (ds : List Directive) (at : ℕ) (t : Tally) (z : List ℕ) → run_from m ds Skipping at t z ≡ run_of m ds at t z
 fresh m ds at t z = grind arith
 
-nothing_opened : (slot : Option ℕ) → None ≡ opened_for slot Skipping
-nothing_opened slot = grind arith
-
 pub shows_fresh : (ds : List Directive) → ShowsFirst ds phase.Skipping None Skipping
-shows_fresh ds = grind (arith, nothing_opened)
+shows_fresh ds = grind arith
 
 -- the first directive takes so much of y, ends so and leaves z
 ended_part : (k : ℕ) (d : Directive) (ds : List Directive) (q : Stage) (at : ℕ) (t u : Tally) (y z : List ℕ) (f : StepEnd) → u.used ≤ k → u ≡ with_used u.used t

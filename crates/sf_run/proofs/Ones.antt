@@ -1,7 +1,6 @@
 -- Each directive's machine makes its step.
 use Rattle.std.proofs.lemmas.Grind.{common_steps}
 use Rattle.std.proofs.Common.{◌≡◌, ℕ, suc, ◌+◌, Bool, true, false, cond, ◌&&◌, List, [], ◌∷◌, ◌++◌, take, drop, Some, None, refl, sym, ap, ap₂, ◌∙◌, arith, append_assoc, append-nil}
-use Rattle.std.proofs.lemmas.Bool.{and_right}
 use Rattle.sf_base.specs.Bytes.{is_white}
 use Rattle.sf_format.specs.declared.directive.Shape.{Shape}
 use Rattle.sf_format.specs.declared.directive.Shape.TheVariants.{Count}
@@ -89,21 +88,16 @@ module _ (c : Conversion) where
   item_from ends f (b ∷ y) n p e =
       after_item ends f b y n p (can_take c (f ++ b ∷ [])) e (λ h. item_from ends (f ++ b ∷ []) y (n + 1) p h)
 
-  first_byte : EndsItem → (b : ℕ) (y : List ℕ) (n : ℕ) (v : Bool)
-      → choose (cond v (Some (Item (b ∷ []))) None) (record { used = n; left = b ∷ y; end = finished (Conv c) Skipping n true }) (λ r. one_from (Conv c) r (n + 1) y)
-      ≡ part_of n (b ∷ y) (cond v (suc (len c (b ∷ []) y)) 0, item_ended c (b ∷ y) (cond v (suc (len c (b ∷ []) y)) 0))
-  first_byte ends b y n v = grind (arith, item_from)
-
   -- an item that begins here
   abbrev IsHere : List ℕ → Type 0
   IsHere [] = Unit {0}
   IsHere (b ∷ y) = (shape_skips c.shape && is_white b) ≡ false
 
   item_here : EndsItem → (y : List ℕ) (n : ℕ) → IsHere y → one_from (Conv c) Skipping n y ≡ part_of n y (len c [] y, item_ended c y (len c [] y))
-  item_here ends y n here = grind (arith, first_byte, item_from)
+  item_here ends y n here = grind (arith, item_from)
 
   starts_here : (y : List ℕ) → Starts y → IsHere y
-  starts_here y s = grind (arith, and_right)
+  starts_here y s = grind arith
 
   -- white space is skipped, and then the item is taken
   skipped_item : EndsItem → shape_skips c.shape ≡ true → (x : List ℕ) (n : ℕ) → one_from (Conv c) Skipping n x ≡ part_of n x (item_part c x (skip x))

@@ -36,7 +36,7 @@ use Rattle.sf_run.specs.Residual.{Part, one_from, stepped_all}
 use Rattle.sf_run.specs.Texts.{StoresByte, counts_bytes, is_count, text_slot, slot_of_text}
 use Rattle.sf_run.proofs.Brought.{all-append, can_all, first_all, item_all, one_from-all, skips_all, take-take}
 use Rattle.sf_run.proofs.Items.{can_take_prefix}
-use Rattle.sf_run.proofs.Machines.{byte_refused, full_refuses, grows}
+use Rattle.sf_run.proofs.Machines.{full_refuses, grows}
 use Rattle.sf_run.proofs.Stages.{count_finished, integer_ends, other_finished, skipping_full, suppressed_end, taken_full, text_end}
 
 -- ---- bytes of a piece
@@ -72,7 +72,7 @@ some_first xs b e = (slice_get_within xs 0 b (sym e), get_or_from_slice_get xs 0
 
 -- it takes nothing of the rest where it doesn't take the next byte
 pub stays_next : (d : Directive) (q : Stage) (k : ℕ) (piece : List ℕ) → k < length piece → stepped d q (get_or piece k 0) ≡ None → StaysAt d q (drop k piece)
-stays_next d q k piece below none = grind (arith, next_is, byte_refused)
+stays_next d q k piece below none = grind (arith, next_is)
 
 -- and where it is full
 pub stays_full : (d : Directive) (q : Stage) (rest : List ℕ) → IsProper d → is_full d q ≡ true → StaysAt d q rest
@@ -207,7 +207,7 @@ count_answers c n piece end proper is e =
 
 -- the bytes of an item that is a text belong to it
 pub item_stores : (c : Conversion) (f y : List ℕ) (slot j : ℕ) → CanAll c f y → text_slot (Conv c) ≡ Some slot → j < length y → StoresByte (Conv c) (get_or y j 0)
-item_stores c f y slot j can own below = grind (arith, right_of, common_steps)
+item_stores c f y slot j can own below = grind (arith, common_steps)
 
 pub stores_behind : (c : Conversion) (f piece : List ℕ) (n slot j : ℕ) → n ≤ length piece → CanAll c f (take n piece) → text_slot (Conv c) ≡ Some slot → j < n → StoresByte (Conv c) (get_or piece j 0)
 stores_behind c f piece n slot j within can own below =

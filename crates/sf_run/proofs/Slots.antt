@@ -88,7 +88,7 @@ left_of' : (a b : Bool) → (a && b) ≡ true → a ≡ true
 left_of' a b e = grind arith
 
 among : (test : ℕ → Bool) (xs : List ℕ) (n : ℕ) (ys : List ℕ) → list_all test (xs ++ n ∷ ys) ≡ true → test n ≡ true
-among test xs n ys h = grind (arith, left_of', right_of, common_steps)
+among test xs n ys h = grind (arith, common_steps)
 
 pub slot_placed : (slots : ℕ) (ds : List Directive) (p : ℕ) (d : Directive) (slot : ℕ) → are_placed slots ds ≡ true → slice_get ds p ≡ Some d → slot_of d ≡ Some slot
     → (1 ≤ slot) × (slot ≤ slots)
@@ -114,7 +114,7 @@ or_both : (a b : Bool) → a ≡ false → b ≡ false → (a || b) ≡ false
 or_both a b e f = grind arith
 
 not_any : (x : ℕ) (xs : List ℕ) (n : ℕ) (ys : List ℕ) → list_any (nat_eq x) (xs ++ n ∷ ys) ≡ false → nat_eq x n ≡ false
-not_any x xs n ys h = grind (arith, or_left, or_right, common_steps)
+not_any x xs n ys h = grind (arith, common_steps)
 
 apart_before : (xs : List ℕ) (n : ℕ) (ys : List ℕ) → are_apart (xs ++ n ∷ ys) ≡ true → list_any (nat_eq n) xs ≡ false
 apart_before [] n ys h = refl
@@ -141,7 +141,7 @@ slot_of_own d slot e = grind arith
 -- ---- texts
 
 pub texts-push : (values : List Assigned) (a : Assigned) → texts_in (values ++ a ∷ []) ≡ texts_in values ++ text_in a.datum
-texts-push values a = grind (arith, append-nil, append_assoc, common_steps)
+texts-push values a = grind (arith, common_steps)
 
 pub joined_number : (closed : List ℕ) (values : List Assigned) (slot : ℕ) (n : Number) → closed ≡ texts_in values → closed ≡ texts_in (values ++ assigned slot (datum_of_number n) ∷ [])
 joined_number closed values slot n is = is ∙ sym (append-nil (texts_in values)) ∙ sym (texts-push values (assigned slot (datum_of_number n)))
@@ -151,7 +151,7 @@ pub joined_text : (closed : List ℕ) (values : List Assigned) (slot : ℕ) (tex
 joined_text closed values slot text is = ap (λ l. l ++ text) is ∙ sym (texts-push values (assigned slot (Bytes text)))
 
 pub closed_values : (values : List Assigned) (opened : Option Opened) (slot : ℕ) → opened_slot opened ≡ Some slot → values_closed values opened ≡ values ++ assigned slot (Bytes (text_of opened)) ∷ []
-closed_values values opened slot e = grind (arith, some_is)
+closed_values values opened slot e = grind arith
 
 pub opened_none : (opened : Option Opened) → opened_slot opened ≡ None → opened ≡ None
 opened_none opened e = grind arith
@@ -159,7 +159,7 @@ opened_none opened e = grind arith
 -- ---- room
 
 plain_widths : (ds : List Directive) → widths_from ds phase.Skipping ≡ stored_widths ds
-plain_widths ds = grind (arith, sum_by-cons, common_steps)
+plain_widths ds = grind (arith, common_steps)
 
 widths_at : (ds : List Directive) (p : ℕ) (d : Directive) (current : Phase) → slice_get ds p ≡ Some d → widths_from (drop p ds) current ≡ width_left d current + stored_widths (drop (p + 1) ds)
 widths_at ds p d current at = ap (λ rest. widths_from rest current) (drop_at ds p d at)

@@ -10,7 +10,6 @@ use Rattle.sf_item.specs.Matching.{ShapeMatches, Matches}
 use Rattle.sf_item.specs.Tests.{matches}
 use Rattle.sf_item.proofs.Deciding.{integer_at_is, tests_matches}
 use Rattle.sf_run.specs.declared.outcome.Status.TheVariants.{MatchingFailure}
-use Rattle.sf_item.proofs.Fronts.{HasItem}
 use Rattle.sf_run.specs.Steps.{StepEnd, Fails, NumberStored, CountStep, ItemStored, ItemPasses, EmptyItem, ItemEnds, IsSkipBefore, ItemStep, ConversionStep, Step}
 use Rattle.sf_run.specs.Machine.{number_end, count_end, integer_end, stored_end, passed_end, nothing_end}
 use Rattle.sf_run.specs.Computed.{skip, has_more, byte_choice, byte_step, skip_before, item_ended, item_step, conversion_step, percent_step, step_of}
@@ -24,11 +23,8 @@ Is r k end = (k ≡ r.0) × (end ≡ r.1)
 
 -- ---- a byte
 
-choice-le : (v : Bool) (n : ℕ) → (byte_choice v).0 ≤ suc n
-choice-le v n = grind arith
-
 byte_step-le : (a : ℕ) (x : List ℕ) → (byte_step a x).0 ≤ length x
-byte_step-le a x = grind (arith, choice-le)
+byte_step-le a x = grind arith
 
 -- ---- ends
 
@@ -39,10 +35,7 @@ number_only : (c : Conversion) (slot : ℕ) (v : Option ℤ) (end : StepEnd) →
 number_only c slot v end h = grind arith
 
 count_is : (c : Conversion) (slot : Option ℕ) (n : ℕ) → CountStep c slot n (count_end c slot n)
-count_is c slot n = grind (arith, number_is)
-
-count_only : (c : Conversion) (slot : Option ℕ) (n : ℕ) (end : StepEnd) → CountStep c slot n end → end ≡ count_end c slot n
-count_only c slot n end h = grind (arith, number_only)
+count_is c slot n = grind arith
 
 stored_is : (c : Conversion) (slot : ℕ) (shape : Shape) (width : Option ℕ) (item : List ℕ) → ShapeMatches shape width item → ItemStored c slot shape item (stored_end c slot shape item)
 stored_is c slot (Int base) width item h = (
@@ -110,22 +103,15 @@ skip_before-le shape x = grind (arith, skip-le)
 item_step-le : (c : Conversion) (x : List ℕ) → (item_step c x).0 ≤ length x
 item_step-le c x = grind (arith, skip_before-le, len-le, length-drop)
 
-module _ (c : Conversion) (proper : IsProperShape c.shape) (takes : HasItem c.shape) (x : List ℕ) where
-  item_step_is : ItemStep c x (item_step c x).0 (item_step c x).1
-  item_step_is = grind (arith, skip_before_is, item_is, ends_is)
-
-  item_step_only : (k : ℕ) (end : StepEnd) → ItemStep c x k end → Is (item_step c x) k end
-  item_step_only k end h1 = grind (arith, skip_before_only, ends_only, item_only)
-
 -- ---- steps
 
 conversion_is : (c : Conversion) (shape : Shape) → c.shape ≡ shape → IsProperShape shape → (x : List ℕ) (n : ℕ)
     → ConversionStep c shape x n (conversion_step c shape x n).0 (conversion_step c shape x n).1
-conversion_is c shape e proper x n = grind (arith, item_step_is, count_is, skip_before_is, item_is, ends_is, number_is)
+conversion_is c shape e proper x n = grind (arith, skip_before_is, item_is, ends_is)
 
 conversion_only : (c : Conversion) (shape : Shape) → c.shape ≡ shape → IsProperShape shape → (x : List ℕ) (n k : ℕ) (end : StepEnd)
     → ConversionStep c shape x n k end → Is (conversion_step c shape x n) k end
-conversion_only c shape e proper x n k end h = grind (arith, item_step_only, count_only, skip_before_only, ends_only, item_only, number_only)
+conversion_only c shape e proper x n k end h = grind (arith, skip_before_only, ends_only, item_only)
 
 conversion_within : (c : Conversion) (shape : Shape) (x : List ℕ) (n : ℕ) → (conversion_step c shape x n).0 ≤ length x
 conversion_within c shape x n = grind (arith, item_step-le)

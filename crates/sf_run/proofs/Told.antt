@@ -14,7 +14,7 @@ use Rattle.sf_run.specs.declared.outcome.Status.TheVariants.{Done, TooLong}
 use Rattle.sf_run.specs.Steps.{StepEnd}
 use Rattle.sf_run.specs.Runs.{Ran, Steps, used, failure_of, status_of, values, passed, assigned, converted, RunReport, report_of, Uses, IsOpen}
 use Rattle.sf_run.specs.Limits.{cut_report, RunWithin, TellsWithin}
-use Rattle.sf_item.proofs.Deciding.{Tests, fails, tests_both, tests_same, tests_most}
+use Rattle.sf_item.proofs.Deciding.{Tests, tests_both, tests_most}
 use Rattle.sf_run.specs.Laws.{EachHasOneReport}
 use Rattle.sf_run.specs.Machine.{some_below}
 use Rattle.sf_run.specs.Residual.{Tally, nothing_yet, with_used, counted, out_of, by_end, then_on, run_of}
@@ -118,7 +118,7 @@ sums_nothing : (ran : List Ran) → sums nothing_yet ran ≡ tally (used ran) (a
 sums_nothing ran = same_tally _ _ _ _ (zero-add (used ran)) (zero-add (assigned ran)) (zero-add (converted ran)) refl
 
 told_nothing : (ran : List Ran) → told_from 0 nothing_yet ran ≡ report_of ran None
-told_nothing ran = grind (arith, same_out, zero-add, sums_nothing)
+told_nothing ran = grind arith
 
 cut_nothing : (before : List Ran) (m : ℕ) → cut_from 0 nothing_yet before m ≡ cut_report TooLong before m
 cut_nothing before m = same_out TooLong _ _ _ _ (zero-add (length before + 1)) (ap (with_used m) (sums_nothing before))
@@ -270,7 +270,7 @@ unfoldable pub is_open : List Directive → List ℕ → Bool
 is_open ds x = some_below 256 (λ b. nat_eq (run_of None ds 1 nothing_yet (x ++ b ∷ [])).used (length x + 1))
 
 tests_uses : (ds : List Directive) → AreProper ds → (x : List ℕ) (k : ℕ) → Tests (nat_eq (run_of None ds 1 nothing_yet x).used k) (Uses ds x k)
-tests_uses ds proper x k = grind (arith, uses_from, tests_same, uses_is, steps_is, run_is_told, run_told)
+tests_uses ds proper x k = grind (arith, uses_from, run_told)
 
 pub tests_open : (ds : List Directive) → AreProper ds → (x : List ℕ) → Tests (is_open ds x) (IsOpen ds x)
 unfolding is_open
@@ -279,7 +279,7 @@ tests_open ds proper x = tests_below 256 _ _ (λ b. tests_uses ds proper (x ++ b
 -- ---- one report
 
 met_is : {P : Type 0} {test : Bool} (ending : Ending) → Tests test P → SomeIff (cond test (Some ending) None) P ending
-met_is ending tests = grind (arith, fails)
+met_is ending tests = grind arith
 
 met_only : {P : Type 0} (test : Bool) (met : Option Ending) (ending : Ending) → Tests test P → SomeIff met P ending → met ≡ cond test (Some ending) None
 met_only test met ending tests h = grind arith
