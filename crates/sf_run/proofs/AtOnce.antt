@@ -1,5 +1,6 @@
 -- Runs that begin and pass within a piece.
-use Rattle.std.proofs.Common.{◌≡◌, ℕ, zero, suc, ◌+◌, ◌-◌, ◌<◌, ◌≤◌, Bool, true, false, cond, List, [], ◌∷◌, ◌++◌, length, take, drop, Option, Some, None, refl, sym, ap, subst, ◌∙◌, arith, true≢false, length-drop}
+use Rattle.std.proofs.lemmas.Grind.{common_steps}
+use Rattle.std.proofs.Common.{◌≡◌, ℕ, ◌+◌, ◌-◌, ◌<◌, ◌≤◌, Bool, true, false, cond, List, [], ◌∷◌, ◌++◌, length, take, drop, Some, None, refl, sym, ap, subst, ◌∙◌, arith, length-drop}
 use Rattle.std.specs.Prelude.{slice_get}
 use Rattle.std.proofs.lemmas.List.{append-nil, append_assoc, drop-drop, length-append, length-map, take_all, take-append-drop}
 use Rattle.sf_base.specs.Data.{Assigned, Bytes}
@@ -8,10 +9,8 @@ use Rattle.sf_format.specs.declared.directive.Directive.{Directive}
 use Rattle.sf_format.specs.Proper.{AreProper, IsProper, destinations_of, slots_of}
 use Rattle.sf_format.specs.Slots.{Slotted}
 use Rattle.sf_run.specs.declared.directive.Finished.{Finished}
-use Rattle.sf_run.specs.declared.directive.Finished.TheVariants as finish
 use Rattle.sf_run.specs.declared.directive.Ended.{Ended}
 use Rattle.sf_run.specs.declared.outcome.Ending.{Ending}
-use Rattle.sf_run.specs.declared.outcome.Status.{Status}
 use Rattle.sf_run.specs.declared.outcome.Status.TheVariants.{Done}
 use Rattle.sf_run.specs.declared.quick.Strays.{Strays}
 use Rattle.sf_run.specs.declared.tally.Tally as code
@@ -22,14 +21,14 @@ use Rattle.sf_run.specs.Phases.{end_of, is_failing, slot_given}
 use Rattle.sf_run.specs.Pieces.{EndsAtOnce}
 use Rattle.sf_run.specs.Places.{is_destination, places_left}
 use Rattle.sf_run.specs.Quick.{GivesTo, IsSure, MayBeGiven, PassesBy, PassesWithin, slot_stored, strayed, text_stored}
-use Rattle.sf_run.specs.Residual.{Part, Tally, by_end, counted, nothing_yet, one_from, out_of, run_of, then_on, with_used}
+use Rattle.sf_run.specs.Residual.{Tally, counted, nothing_yet, one_from, out_of, run_of, with_used}
 use Rattle.sf_run.specs.Runs.{IsOpen, RunReport, is_conversion, passed, stored}
-use Rattle.sf_run.specs.Steps.{StepEnd, Passes, Stores, Fails}
+use Rattle.sf_run.specs.Steps.{StepEnd, Stores}
 use Rattle.sf_run.specs.Tallies.{PassesSo, tally_of, values_with}
 use Rattle.sf_run.specs.Texts.{slot_of, slots_in}
 use Rattle.sf_run.proofs.Moves.{drop_at, place_taken}
 use Rattle.sf_run.proofs.Openness.{within_limit}
-use Rattle.sf_run.proofs.Slots.{is_destination_of, joined_text, slot_free, slot_placed, slots_more, slots_none}
+use Rattle.sf_run.proofs.Slots.{joined_text, slot_free, slot_placed, slots_more, slots_none}
 use Rattle.sf_run.proofs.Told.{told_exists, uses_is, within_met}
 use Rattle.sf_run.proofs.Waits.{open_all}
 
@@ -37,53 +36,22 @@ use Rattle.sf_run.proofs.Waits.{open_all}
 
 -- the slot of what it gives is its own
 pub free_of : (f : Finished) (d : Directive) (values : List Assigned) → (is_failing f ≡ false → slot_given f ≡ slot_of d) → MayBeGiven (slot_of d) values → MayBeGiven (slot_given f) values
-free_of finish.Passes d values own free = tt
-free_of (finish.Stores slot kind negative magnitude) d values own free = subst (λ o. MayBeGiven o values) (sym (own refl)) free
-free_of (finish.Closes slot) d values own free = subst (λ o. MayBeGiven o values) (sym (own refl)) free
-free_of (finish.Fails status) d values own free = tt
-
-own_slot : (f : Finished) (text : List ℕ) (slot : Option ℕ) → passed (end_of text f) ≡ true → (is_failing f ≡ false → slot_given f ≡ slot) → slot_stored (end_of text f) ≡ slot
-own_slot finish.Passes text slot ok own = own refl
-own_slot (finish.Stores n kind negative magnitude) text slot ok own = own refl
-own_slot (finish.Closes n) text slot ok own = own refl
-own_slot (finish.Fails status) text slot ok own = absurd (true≢false (sym ok))
+free_of f d values own free = grind arith
 
 pub passes_within : (d : Directive) (n : ℕ) (piece : List ℕ) (e : Ended) (stores : Bool) (old new : Kept) → IsProper d → EndsAtOnce d n piece e
     → GivesTo (end_of (take e.item (drop e.before piece)) e.finished) stores old new → PassesWithin d n piece (e.before + e.item) stores old new
-passes_within d n piece e stores old new proper is gives = record {
-  end = end_of (take e.item (drop e.before piece)) e.finished;
-  takes = (let a = is.answers proper in a.goes);
-  gives = gives;
-  own = own_slot e.finished (take e.item (drop e.before piece)) (slot_of d) gives.passes.passes is.fits.given;
-}
+passes_within d n piece e stores old new proper is gives = grind arith
 
 -- one that passes surely, and ends so, is given to a store with so much room
 pub sure_given : (d : Directive) (n : ℕ) (piece : List ℕ) (room : ℕ) (e : Ended) → IsProper d → EndsAtOnce d n piece e → IsSure d n piece room
     → (passed (end_of (take e.item (drop e.before piece)) e.finished) ≡ true → room < length (text_stored (end_of (take e.item (drop e.before piece)) e.finished))) → ⊥
-sure_given d n piece room e proper is sure full =
-    let a = is.answers proper in
-    let same = a.goes.takes sure.after in
-    let ok = sym (ap (λ (p : Part). passed p.end) same) ∙ sure.passes in
-    let long = ap (λ (p : Part). length (text_stored p.end)) same in
-    let fits = sure.fits in
-    let over = full ok in
-    omega (arith, long, fits, over)
+sure_given d n piece room e proper is sure full = grind arith
 
 -- a text that the store was given is what the directive gives
 pub text_given : (slot : ℕ) (text : List ℕ) (room : ℕ) (old new : Kept) → new ≡ with_text slot text room old → GivesTo (Stores slot (Bytes text)) true old new
-text_given slot text room old new is = subst (λ (k : Kept). GivesTo (Stores slot (Bytes text)) true old k) (sym is) (record {
-  passes = record { passes = refl; stored = refl };
-  values = refl;
-  opened = refl;
-  joined = λ joined. joined_text old.closed old.values slot text joined;
-})
+text_given slot text room old new is = grind (arith, joined_text)
 
 -- ---- directive after directive
-
-by_passed : (end : StepEnd) (y : RunReport) (f : Status → RunReport) → passed end ≡ true → by_end end y f ≡ y
-by_passed Passes y f h = refl
-by_passed (Stores slot v) y f h = refl
-by_passed (Fails status) y f h = absurd (true≢false (sym h))
 
 -- The directives before this place have passed within the front, in which the run has come so far, and the store was given what they gave.
 pub record Going (ds : List Directive) (front : List ℕ) (p : ℕ) (t : code.Tally) (kept : Kept) : Type 0 where
@@ -99,20 +67,14 @@ pub record Going (ds : List Directive) (front : List ℕ) (p : ℕ) (t : code.Ta
 passes_on : (d : Directive) (ds : List Directive) (at : ℕ) (t : Tally) (x y : List ℕ) (taken : ℕ) (end : StepEnd) → passed end ≡ true
     → one_from d Skipping t.used x ≡ record { used = t.used + taken; left = y; end = end }
     → run_of None (d ∷ ds) at t x ≡ run_of None ds (at + 1) (counted d end (with_used (t.used + taken) t)) y
-passes_on d ds at t x y taken end ok is =
-    ap (λ (p : Part). then_on None d at t p (λ u v. run_of None ds (at + 1) u v)) is
-    ∙ by_passed end (run_of None ds (at + 1) (counted d end (with_used (t.used + taken) t)) y) (λ status. out_of status at (with_used (t.used + taken) t)) ok
+passes_on d ds at t x y taken end ok is = grind arith
 
 some_slot : (ds : List Directive) (p : ℕ) (d : Directive) (values : List Assigned) (end : StepEnd) → slice_get ds p ≡ Some d → slot_stored end ≡ slot_of d → passed end ≡ true
     → slots_in values ≡ slots_of (take p ds) → slots_in (values_with end values) ≡ slots_of (take (p + 1) ds)
-some_slot ds p d values Passes at own ok given = slots_none ds p d values at (sym own) given
-some_slot ds p d values (Stores slot v) at own ok given = slots_more ds p d values slot v at (sym own) given
-some_slot ds p d values (Fails status) at own ok given = absurd (true≢false (sym ok))
+some_slot ds p d values end at own ok given = grind (arith, slots_none, slots_more)
 
 stores_own : (d : Directive) (end : StepEnd) (stores : Bool) → slot_stored end ≡ slot_of d → stored end ≡ stores → stores ≡ true → is_destination d ≡ true
-stores_own d Passes stores own is some = absurd (true≢false (sym (is ∙ some)))
-stores_own d (Stores slot v) stores own is some = is_destination_of d slot (sym own)
-stores_own d (Fails status) stores own is some = absurd (true≢false (sym (is ∙ some)))
+stores_own d end stores own is some = grind arith
 
 -- the next directive has passed
 pub going_on : (ds : List Directive) (front : List ℕ) (p : ℕ) (d : Directive) (t u : code.Tally) (old new : Kept) (piece : List ℕ) (taken : ℕ) (stores : Bool) → slice_get ds p ≡ Some d
@@ -149,17 +111,10 @@ totals v stores taken t = record { used = t.used + taken; assigned = cond stores
 
 totals_counted : (d : Directive) (end : StepEnd) (stores : Bool) (taken : ℕ) (t : code.Tally) (values : List Assigned) → PassesSo end stores
     → tally_of (totals (is_conversion d) stores taken t) (values_with end values) ≡ counted d end (with_used (t.used + taken) (tally_of t values))
-totals_counted d Passes stores taken t values so = ap (λ b. tally_of (totals (is_conversion d) b taken t) values) (sym so.stored)
-totals_counted d (Stores slot v) stores taken t values so = ap (λ b. tally_of (totals (is_conversion d) b taken t) (values_with (Stores slot v) values)) (sym so.stored)
-totals_counted d (Fails status) stores taken t values so = absurd (true≢false (sym so.passes))
+totals_counted d end stores taken t values so = grind arith
 
 values_more : (end : StepEnd) (stores : Bool) (values : List Assigned) → PassesSo end stores → length (values_with end values) ≡ length values + cond stores 1 0
-values_more Passes stores values so = let e : ◌≡◌ {A = ℕ} 0 (cond stores 1 0) = ap (λ v. cond v 1 0) so.stored in omega (arith, e)
-values_more (Stores slot v) stores values so =
-    let e : ◌≡◌ {A = ℕ} 1 (cond stores 1 0) = ap (λ v. cond v 1 0) so.stored in
-    let long = length-append values (record { slot = slot; datum = v } ∷ []) in
-    omega (arith, e, long)
-values_more (Fails status) stores values so = absurd (true≢false (sym so.passes))
+values_more end stores values so = grind (arith, length-append)
 
 -- The directives before this place have passed within the front; behind the bytes that they took is the rest, and the strays are those that they make.
 pub record Counted (ds : List Directive) (front tail : List ℕ) (p : ℕ) (s : Strays) (kept : Kept) : Type 0 where
@@ -228,30 +183,13 @@ all_counted ds front rest p s kept all h =
 -- the slot of the next directive is free
 pub free_at : (ds : List Directive) (p : ℕ) (d : Directive) (values : List Assigned) → slice_get ds p ≡ Some d → are_placed 32 ds ≡ true → are_apart (slots_of ds) ≡ true
     → slots_in values ≡ slots_of (take p ds) → MayBeGiven (slot_of d) values
-free_at ds p d values at placed apart given = by_slot (slot_of d) refl
-  where
-    by_slot : (o : Option ℕ) → slot_of d ≡ o → MayBeGiven o values
-    by_slot None own = tt
-    by_slot (Some slot) own =
-        let h = slot_placed 32 ds p d slot placed at own in (h.0, h.1, slot_free ds p d slot values apart given at own)
+free_at ds p d values at placed apart given = grind (arith, slot_placed, slot_free)
 
 -- ---- the end
 
 -- past the last directive
 all_passed : (ds : List Directive) (p : ℕ) (x : List ℕ) (t : Tally) → length ds ≤ p → run_of None (drop p ds) (p + 1) t x ≡ out_of Done 0 t
-all_passed [] p x t h = by_place p
-  where
-    by_place : (p : ℕ) → run_of None (drop p []) (p + 1) t x ≡ out_of Done 0 t
-    by_place zero = refl
-    by_place (suc p) = refl
-all_passed (d ∷ ds) zero x t h = absurd (omega (arith, h))
-all_passed (d ∷ ds) (suc p) x t h = past ds p (suc p + 1) x t (omega (arith, h))
-  where
-    past : (ds : List Directive) (p at : ℕ) (x : List ℕ) (t : Tally) → length ds ≤ p → run_of None (drop p ds) at t x ≡ out_of Done 0 t
-    past [] zero at x t h = refl
-    past [] (suc p) at x t h = refl
-    past (d ∷ ds) zero at x t h = absurd (omega (arith, h))
-    past (d ∷ ds) (suc p) at x t h = past ds p at x t (omega (arith, h))
+all_passed ds p x t h = grind (arith, common_steps)
 
 -- a run that is the same however the input goes on is the report
 pub done_is : (ds : List Directive) → AreProper ds → (m : ℕ) (x : List ℕ) (ending : Ending) (t : Tally) → ((z : List ℕ) → run_of None ds 1 nothing_yet (x ++ z) ≡ out_of Done 0 t)
@@ -286,9 +224,7 @@ quick_is ds proper m most piece front t kept p all is fits h z ending =
 -- the same of what is the same
 pub passes_as : (d : Directive) (n : ℕ) (rest : List ℕ) (t u : ℕ) (old before new after : Kept) (s r a b : Strays) → u ≡ t → before ≡ old → after ≡ new → r ≡ s → b ≡ a
     → PassesBy d n rest t old new s a → PassesBy d n rest u before after r b
-passes_as d n rest t u old before new after s r a b e f g i j h =
-    subst (λ x. PassesBy d n rest x before after r b) (sym e) (subst (λ x. PassesBy d n rest t x after r b) (sym f)
-    (subst (λ x. PassesBy d n rest t old x r b) (sym g) (subst (λ x. PassesBy d n rest t old new x b) (sym i) (subst (λ x. PassesBy d n rest t old new s x) (sym j) h))))
+passes_as d n rest t u old before new after s r a b e f g i j h = grind arith
 
 -- before the first directive
 pub nothing_counted : (ds : List Directive) (front : List ℕ) (kept : Kept) (room : ℕ) → kept ≡ nothing_kept room → length (destinations_of ds) ≤ 32
@@ -333,6 +269,3 @@ counted_run ds proper m most piece front rest s kept p count all is fits h count
     (ap (λ n. told n t.assigned t.converted values) used ∙ ap (λ n. told (length front - length rest) n t.converted values) assigned
     ∙ ap (λ n. told (length front - length rest) (count - s.uncounted) n values) converted)
     (quick_is ds proper m most piece front t kept p all is fits h.going z ending)
-
-pub counted_used : (ds : List Directive) (front rest : List ℕ) (p : ℕ) (s : Strays) (kept : Kept) → length ds ≤ p → Counted ds front rest p s kept → s.uncounted ≤ length (destinations_of ds)
-counted_used ds front rest p s kept all h = let sum = all_counted ds front rest p s kept all h in omega (arith, sum)

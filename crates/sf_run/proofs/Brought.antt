@@ -1,4 +1,5 @@
 -- Many bytes at once.
+use Rattle.std.proofs.lemmas.Grind.{common_steps}
 use Rattle.std.proofs.Common.{◌≡◌, ◌≢◌, ℕ, zero, suc, ◌+◌, ◌<◌, ◌≤◌, true, false, cond, ◌&&◌, List, [], ◌∷◌, ◌++◌, length, take, get_or, append_assoc, Option, Some, None, refl, sym, ap, ◌∙◌, arith}
 use Rattle.std.proofs.lemmas.List.{append-nil, length-take-le}
 use Rattle.sf_base.specs.Bytes.{is_white}
@@ -6,15 +7,12 @@ use Rattle.sf_format.specs.declared.directive.Conversion.{Conversion}
 use Rattle.sf_format.specs.declared.directive.Directive.{Directive}
 use Rattle.sf_format.specs.declared.directive.Directive.TheVariants.{Conv}
 use Rattle.sf_format.specs.Proper.{IsProperShape}
-use Rattle.sf_item.specs.Taking.{CanTake, HasTaken, conversion_of}
+use Rattle.sf_item.specs.Taking.{CanTake}
 use Rattle.sf_item.specs.Tests.{can_take}
-use Rattle.sf_item.specs.declared.item.ItemScan.{ItemScan}
 use Rattle.sf_item.proofs.Deciding.{tests_can_take}
-use Rattle.sf_run.specs.declared.directive.Phase.{Phase}
 use Rattle.sf_run.specs.Machine.{Stage, Skipping, Item, shape_skips, item_stepped, stepped, finished}
 use Rattle.sf_run.specs.Residual.{choose, one_from, stepped_all}
-use Rattle.sf_run.specs.Phases.{ShowsItem, Shows, CanAll}
-use Rattle.sf_run.specs.Texts.{text_slot}
+use Rattle.sf_run.specs.Phases.{CanAll}
 
 -- ---- one list after another
 
@@ -53,16 +51,12 @@ item_all c f (b ∷ y) can =
 
 -- the first byte is not skipped
 pub first_all : (c : Conversion) (b : ℕ) (y : List ℕ) → (shape_skips c.shape && is_white b) ≡ false → CanAll c [] (b ∷ y) → stepped_all (Conv c) Skipping (b ∷ y) ≡ Some (Item (b ∷ y))
-first_all c b y ink can =
-    ap (λ v. choose (cond v (Some Skipping) (item_stepped c [] b)) None (λ s. stepped_all (Conv c) s y)) ink ∙ item_all c [] (b ∷ y) can
+first_all c b y ink can = grind (arith, (item_all c [] (b ∷ y) can))
 
 -- ---- what a scan shows of them
 
 pub take-take : (j n : ℕ) (xs : List ℕ) → j ≤ n → take j (take n xs) ≡ take j xs
-take-take zero n xs h = refl
-take-take (suc j) zero xs h = absurd (omega (arith, h))
-take-take (suc j) (suc n) [] h = refl
-take-take (suc j) (suc n) (x ∷ xs) h = ap (λ l. x ∷ l) (take-take j n xs (omega (arith, h)))
+take-take j n xs h = grind (arith, common_steps)
 
 pub not_nothing : (f y : List ℕ) → f ≢ [] → f ++ y ≢ []
 not_nothing [] y some e = some refl
@@ -72,18 +66,6 @@ pub can_all : (c : Conversion) (f piece : List ℕ) (n : ℕ) → IsProperShape 
 can_all c f piece n proper within each k below =
     let e : k + 1 ≤ n = omega (arith, below, length-take-le n piece within) in
     ap (λ y. can_take c (f ++ y)) (take-take (k + 1) n piece e) ∙ (tests_can_take c proper (f ++ take (k + 1) piece)).to (each k (omega (arith, e)))
-
--- what was taken is shown by a phase that shows the scan
-pub shows_all : (d : Directive) (slot : Option ℕ) (scan new : ItemScan) (f y : List ℕ) (p : Phase) → ((r : Stage) → ShowsItem d slot new r → Shows d p r) → conversion_of new ≡ conversion_of scan
-    → d ≡ Conv (conversion_of scan) → text_slot d ≡ slot → HasTaken new (f ++ y) → f ++ y ≢ [] → Shows d p (Item (f ++ y))
-shows_all d slot scan new f y p shows same own text taken some = shows (Item (f ++ y)) (record {
-  item = f ++ y;
-  stage = refl;
-  own = own ∙ ap Conv (sym same);
-  taken = taken;
-  begun = some;
-  text = text;
-})
 
 -- ---- what is skipped before an item
 

@@ -1,18 +1,16 @@
 -- A run that is Done makes the same steps on every front of its input that has the bytes which it used.
-use Rattle.std.proofs.Common.{◌≡◌, ℕ, zero, suc, ◌+◌, ◌≤◌, ◌⊎◌, inl, inr, false, List, [], ◌∷◌, ◌++◌, length, take, drop, Option, Some, None, sym, ap, subst, ◌∙◌, arith, length-append, length-drop}
+use Rattle.std.proofs.Common.{◌≡◌, ℕ, ◌+◌, ◌≤◌, List, [], ◌∷◌, ◌++◌, length, drop, None, sym, subst, arith, length-append, length-drop}
 use Rattle.std.proofs.lemmas.List.{take-append-le, drop-append-le}
 use Rattle.std.proofs.lemmas.List.Sums.{sum_by-cons}
-use Rattle.sf_base.specs.Bytes.{AreWhite, IsSkip}
-use Rattle.sf_base.specs.Data.{value_of}
+use Rattle.sf_base.specs.Bytes.{IsSkip}
 use Rattle.sf_format.specs.declared.directive.Shape.{Shape}
 use Rattle.sf_format.specs.declared.directive.Shape.TheVariants.{Int, Text, Set, Chars, Count}
 use Rattle.sf_format.specs.declared.directive.Conversion.{Conversion}
 use Rattle.sf_format.specs.declared.directive.Directive.{Directive}
-use Rattle.sf_format.specs.declared.directive.Directive.TheVariants.{Space, Byte, Percent, Conv}
-use Rattle.sf_item.specs.Matching.{Begins, IsItem, Matches}
+use Rattle.sf_item.specs.Matching.{Begins, IsItem}
 use Rattle.sf_run.specs.declared.outcome.Status.{Status}
-use Rattle.sf_run.specs.declared.outcome.Status.TheVariants.{Done, MatchingFailure, TooLong}
-use Rattle.sf_run.specs.Steps.{StepEnd, Passes, Stores, Fails, ByteStep, CountStep, ConversionStep, EmptyItem, IsSkipBefore, ItemEnds, ItemPasses, ItemStep, ItemStored, NumberStored, Step}
+use Rattle.sf_run.specs.declared.outcome.Status.TheVariants.{Done}
+use Rattle.sf_run.specs.Steps.{StepEnd, Fails, ByteStep, ConversionStep, EmptyItem, IsSkipBefore, ItemEnds, ItemStep, Step}
 use Rattle.sf_run.specs.Runs.{GoesOn, Ran, RunReport, Steps, status_of, used}
 use Rattle.sf_run.specs.Limits.{TellsWithin}
 use Rattle.sf_run.specs.Laws.{EachDoneRunStays}
@@ -24,18 +22,10 @@ abbrev HasPassed : StepEnd → Type 0
 HasPassed (Fails status) = ⊥
 HasPassed _ = Unit {0}
 
-not_failed : (end : StepEnd) (status : Status) → HasPassed end → end ≡ Fails status → ⊥
-not_failed end status ok e = subst HasPassed e ok
-
 -- ---- the greatest front of an input is that of its fronts which have it
 
 skip_front : (x z : List ℕ) (k : ℕ) → k ≤ length x → IsSkip (x ++ z) k → IsSkip x k
-skip_front x z k le g = record {
-  holds = (le, subst AreWhite (take-append-le k x z le) g.holds.1);
-  above = λ j h.
-      let within = h.0 in
-      g.above j (omega (arith, length-append x z, within), subst AreWhite (sym (take-append-le j x z within)) h.1);
-}
+skip_front x z k le g = grind (arith, take-append-le, length-append)
 
 item_at_front : (c : Conversion) (x z : List ℕ) (k : ℕ) → k ≤ length x → IsItem c (x ++ z) k → IsItem c x k
 item_at_front c x z k le g = record {
@@ -48,41 +38,16 @@ item_at_front c x z k le g = record {
 -- ---- one directive
 
 byte_front : (b : ℕ) (x z : List ℕ) (k : ℕ) (end : StepEnd) → HasPassed end → k ≤ length x → ByteStep b (x ++ z) k end → ByteStep b x k end
-byte_front b (y ∷ x) z k end ok le h = h
-byte_front b [] [] k end ok le h = h
-byte_front b [] (y ∷ z) k end ok le (inl (same, one, passes)) = absurd (omega (arith, one, le))
-byte_front b [] (y ∷ z) k end ok le (inr (other, none, fails)) = absurd (not_failed end MatchingFailure ok fails)
+byte_front b x z k end ok le h = grind arith
 
 skip_before_front : (shape : Shape) (x z : List ℕ) (k : ℕ) → k ≤ length x → IsSkipBefore shape (x ++ z) k → IsSkipBefore shape x k
-skip_before_front (Int base) x z k le h = skip_front x z k le h
-skip_before_front Text x z k le h = skip_front x z k le h
-skip_before_front (Set members) x z k le h = h
-skip_before_front Chars x z k le h = h
-skip_before_front Count x z k le h = h
-
-empty_fails : (x : List ℕ) (end : StepEnd) → HasPassed end → EmptyItem x end → ⊥
-empty_fails [] end ok e = not_failed end _ ok e
-empty_fails (b ∷ x) end ok e = not_failed end _ ok e
-
-abbrev EndsBy : Conversion → StepEnd → List ℕ → Type 0
-EndsBy c end item = Matches c item × ItemPasses c c.slot item end ⊎ (Matches c item → ⊥) × (end ≡ Fails MatchingFailure)
+skip_before_front shape x z k le h = grind (arith, skip_front)
 
 ends_front : (c : Conversion) (x z : List ℕ) (j : ℕ) (end : StepEnd) → HasPassed end → j ≤ length x → ItemEnds c (x ++ z) j end → ItemEnds c x j end
-ends_front c x z zero end ok le h = absurd (empty_fails (x ++ z) end ok h)
-ends_front c x z (suc j) end ok le h = subst (EndsBy c end) (take-append-le (suc j) x z le) h
+ends_front c x z j end ok le h = grind (arith, take-append-le)
 
 item_front : (c : Conversion) (x z : List ℕ) (k : ℕ) (end : StepEnd) → HasPassed end → k ≤ length x → ItemStep c (x ++ z) k end → ItemStep c x k end
-item_front c x z k end ok le (s, j, blanks, item, size, ends) =
-    let skipped : s ≤ length x = omega (arith, size, le) in
-    let rest : drop s (x ++ z) ≡ drop s x ++ z = drop-append-le s x z skipped in
-    let within : j ≤ length (drop s x) = omega (arith, length-drop s x, size, le) in (
-      s,
-      j,
-      skip_before_front c.shape x z s skipped blanks,
-      item_at_front c (drop s x) z j within (subst (λ y. IsItem c y j) rest item),
-      size,
-      ends_front c (drop s x) z j end ok within (subst (λ y. ItemEnds c y j end) rest ends),
-    )
+item_front c x z k end ok le h3 = grind (arith, drop-append-le, length-drop, skip_before_front, item_at_front, ends_front)
 
 conversion_front : (c : Conversion) (shape : Shape) (x z : List ℕ) (n k : ℕ) (end : StepEnd) → HasPassed end → k ≤ length x → ConversionStep c shape (x ++ z) n k end → ConversionStep c shape x n k end
 conversion_front c (Int base) x z n k end ok le h = item_front c x z k end ok le h
@@ -93,62 +58,9 @@ conversion_front c Count x z n k end ok le h = h
 
 -- a directive that passes makes the same step on every front that has the bytes which it consumed
 step_front : (d : Directive) (x z : List ℕ) (n k : ℕ) (end : StepEnd) → HasPassed end → k ≤ length x → Step d (x ++ z) n k end → Step d x n k end
-step_front Space x z n k end ok le (blanks, passes) = (skip_front x z k le blanks, passes)
-step_front (Byte b) x z n k end ok le h = byte_front b x z k end ok le h
-step_front Percent x z n k end ok le (s, j, blanks, percent, size) =
-    let skipped : s ≤ length x = omega (arith, size, le) in
-    let rest : drop s (x ++ z) ≡ drop s x ++ z = drop-append-le s x z skipped in
-    let within : j ≤ length (drop s x) = omega (arith, length-drop s x, size, le) in
-    (s, j, skip_front x z s skipped blanks, byte_front 37 (drop s x) z j end ok within (subst (λ y. ByteStep 37 y j end) rest percent), size)
-step_front (Conv c) x z n k end ok le h = conversion_front c c.shape x z n k end ok le h
+step_front d x z n k end ok le h = grind (arith, skip_front, byte_front, drop-append-le, length-drop, conversion_front)
 
 -- ---- no directive fails as Done
-
-byte_undone : (b : ℕ) (x : List ℕ) (k : ℕ) → ByteStep b x k (Fails Done) → ⊥
-byte_undone b [] k (none, is) = cc
-byte_undone b (y ∷ x) k (inl (same, one, is)) = cc
-byte_undone b (y ∷ x) k (inr (other, none, is)) = cc
-
-number_undone : (c : Conversion) (slot : ℕ) (value : Option _) → NumberStored c slot value (Fails Done) → ⊥
-number_undone c slot None is = cc
-number_undone c slot (Some v) is = cc
-
-count_undone : (c : Conversion) (slot : Option ℕ) (n : ℕ) → CountStep c slot n (Fails Done) → ⊥
-count_undone c None n is = cc
-count_undone c (Some slot) n is = number_undone c slot (value_of c.kind false n) is
-
-stored_undone : (c : Conversion) (slot : ℕ) (shape : Shape) (item : List ℕ) → ItemStored c slot shape item (Fails Done) → ⊥
-stored_undone c slot (Int base) item (negative, m, integer, is) = number_undone c slot (value_of c.kind negative m) is
-stored_undone c slot Text item is = cc
-stored_undone c slot (Set members) item is = cc
-stored_undone c slot Chars item is = cc
-stored_undone c slot Count item is = cc
-
-passes_undone : (c : Conversion) (slot : Option ℕ) (item : List ℕ) → ItemPasses c slot item (Fails Done) → ⊥
-passes_undone c None item is = cc
-passes_undone c (Some slot) item is = stored_undone c slot c.shape item is
-
-empty_undone : (x : List ℕ) → EmptyItem x (Fails Done) → ⊥
-empty_undone [] is = cc
-empty_undone (b ∷ x) is = cc
-
-ends_undone : (c : Conversion) (x : List ℕ) (j : ℕ) → ItemEnds c x j (Fails Done) → ⊥
-ends_undone c x zero is = empty_undone x is
-ends_undone c x (suc j) (inl (matches, is)) = passes_undone c c.slot (take (suc j) x) is
-ends_undone c x (suc j) (inr (none, is)) = cc
-
-conversion_undone : (c : Conversion) (shape : Shape) (x : List ℕ) (n k : ℕ) → ConversionStep c shape x n k (Fails Done) → ⊥
-conversion_undone c (Int base) x n k (s, j, blanks, item, size, ends) = ends_undone c (drop s x) j ends
-conversion_undone c Text x n k (s, j, blanks, item, size, ends) = ends_undone c (drop s x) j ends
-conversion_undone c (Set members) x n k (s, j, blanks, item, size, ends) = ends_undone c (drop s x) j ends
-conversion_undone c Chars x n k (s, j, blanks, item, size, ends) = ends_undone c (drop s x) j ends
-conversion_undone c Count x n k (none, is) = count_undone c c.slot n is
-
-step_undone : (d : Directive) (x : List ℕ) (n k : ℕ) → Step d x n k (Fails Done) → ⊥
-step_undone Space x n k (blanks, is) = cc
-step_undone (Byte b) x n k h = byte_undone b x k h
-step_undone Percent x n k (s, j, blanks, percent, size) = byte_undone 37 (drop s x) j percent
-step_undone (Conv c) x n k h = conversion_undone c c.shape x n k h
 
 -- ---- a list of steps
 
@@ -161,13 +73,7 @@ OneStep d ds x n k end ran = Step d x n k end × GoesOn end (Steps ds (drop k x)
 
 first_front : (d : Directive) (ds : List Directive) (x z : List ℕ) (n k : ℕ) (end : StepEnd) (ran : List Ran) → status_of (record { directive = d; bytes = k; end = end } ∷ ran) ≡ Done → k + used ran ≤ length x
     → RestStays ds x z n k ran → OneStep d ds (x ++ z) n k end ran → OneStep d ds x n k end ran
-first_front d ds x z n k Passes ran done le rest (step, more) =
-    let within : k ≤ length x = omega (arith, le) in
-    (step_front d x z n k Passes tt within step, rest done (omega (arith, length-drop k x, le)) (subst (λ y. Steps ds y (n + k) ran) (drop-append-le k x z within) more))
-first_front d ds x z n k (Stores slot v) ran done le rest (step, more) =
-    let within : k ≤ length x = omega (arith, le) in
-    (step_front d x z n k (Stores slot v) tt within step, rest done (omega (arith, length-drop k x, le)) (subst (λ y. Steps ds y (n + k) ran) (drop-append-le k x z within) more))
-first_front d ds x z n k (Fails status) ran done le rest (step, more) = absurd (step_undone d (x ++ z) n k (subst (λ s. Step d (x ++ z) n k (Fails s)) done step))
+first_front d ds x z n k end ran done le rest h4 = grind (arith, step_front, length-drop, drop-append-le)
 
 steps_front : (ds : List Directive) (x z : List ℕ) (n : ℕ) (ran : List Ran) → status_of ran ≡ Done → used ran ≤ length x → Steps ds (x ++ z) n ran → Steps ds x n ran
 steps_front [] x z n [] done le h = tt
@@ -181,13 +87,7 @@ steps_front (d ∷ ds) x z n (r ∷ ran) done le h =
 -- ---- the run
 
 told_front : (ds : List Directive) (m : ℕ) (x z : List ℕ) (report : RunReport) → report.status ≡ Done → report.used ≤ length x → TellsWithin ds m (x ++ z) report → TellsWithin ds m x report
-told_front ds m x z report done le (inl (ran, steps, fits, is)) =
-    let status : status_of ran ≡ Done = ap (λ (r : RunReport). r.status) (sym is) ∙ done in
-    let total : report.used ≡ used ran = ap (λ (r : RunReport). r.used) is in
-    inl (ran, steps_front ds x z 0 ran status (omega (arith, total, le)) steps, fits, is)
-told_front ds m x z report done le (inr (before, cut, is)) =
-    let status : TooLong ≡ Done = ap (λ (r : RunReport). r.status) (sym is) ∙ done in
-    absurd (cc)
+told_front ds m x z report done le h3 = grind (arith, steps_front)
 
 pub done_runs_stay : EachDoneRunStays
 done_runs_stay ds proper m x z first second report run done le =

@@ -1,5 +1,5 @@
 -- Open inputs are used, and closed ones stay.
-use Rattle.std.proofs.Common.{◌≡◌, ℕ, ◌+◌, inl, inr, List, [], ◌∷◌, ◌++◌, length, Option, Some, None, refl, sym, ap, subst, ◌∙◌, arith, append_assoc, length-append}
+use Rattle.std.proofs.Common.{◌≡◌, ℕ, ◌+◌, inl, inr, List, [], ◌∷◌, ◌++◌, length, Option, None, sym, ap, subst, ◌∙◌, arith, append_assoc, length-append}
 use Rattle.std.specs.Prelude.{SomeIff}
 use Rattle.sf_format.specs.declared.directive.Directive.{Directive}
 use Rattle.sf_format.specs.Proper.{AreProper}
@@ -23,8 +23,7 @@ closed_more ds proper x z closed o =
     ]
 
 none_met : (met : Option Ending) (P : Type 0) (ending : Ending) → SomeIff met P ending → (P → ⊥) → met ≡ None
-none_met None P ending h never = refl
-none_met (Some e) P ending h never = absurd (never h.0)
+none_met met P ending h never = grind arith
 
 pub closed_inputs_stay : EachClosedInputStays
 closed_inputs_stay ds proper m x z first second report closed run =
@@ -35,5 +34,4 @@ closed_inputs_stay ds proper m x z first second report closed run =
     (λ o. closed_more ds proper x z closed o.0))
 
 pub open_inputs_are_used : EachOpenInputIsUsed
-open_inputs_are_used ds proper x ending report open' run =
-    ap (λ (r : RunReport). r.used) run.4 ∙ sym (ap (λ (r : RunReport). r.used) (run_told ds proper x run.0 run.1)) ∙ open_all ds proper x open'
+open_inputs_are_used = grind (arith, run_told, open_all)

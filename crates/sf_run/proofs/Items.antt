@@ -1,5 +1,5 @@
 -- The bytes that a conversion takes one by one are its item.
-use Rattle.std.proofs.Common.{◌≡◌, ℕ, zero, suc, ◌≤◌, Bool, true, false, cond, List, [], ◌∷◌, ◌++◌, length, take, refl, sym, ap, ◌∙◌, subst, arith, append_assoc, append-nil, true≢false}
+use Rattle.std.proofs.Common.{◌≡◌, ℕ, zero, suc, ◌≤◌, Bool, true, false, cond, List, [], ◌∷◌, ◌++◌, length, take, refl, sym, ap, ◌∙◌, arith, append_assoc, append-nil, true≢false}
 use Rattle.std.proofs.lemmas.List.{length-take-le}
 use Rattle.sf_base.specs.Greatest.{IsGreatest}
 use Rattle.sf_format.specs.declared.directive.Conversion.{Conversion}
@@ -12,9 +12,8 @@ use Rattle.sf_run.specs.Computed.{len}
 use Rattle.sf_run.proofs.Skips.{greatest_only, one_more-le}
 
 pub can_take_prefix : (c : Conversion) (f t : List ℕ) → can_take c (f ++ t) ≡ true → can_take c f ≡ true
-can_take_prefix c f [] h = ap (can_take c) (sym (append-nil f)) ∙ h
-can_take_prefix c f (b ∷ t) h =
-    can_take_front c f b (can_take_prefix c (f ++ b ∷ []) t (ap (can_take c) (append_assoc f (b ∷ []) t) ∙ h))
+can_take_prefix c f [] h = grind (arith, append-nil)
+can_take_prefix c f (b ∷ t) h = grind (arith, can_take_front, append_assoc, can_take_prefix c (f ++ b ∷ []) t)
 
 -- ---- how many bytes are taken
 
@@ -35,24 +34,11 @@ nothing_more c f b y e (suc j) h =
 
 one_more : (c : Conversion) (f : List ℕ) (b : ℕ) (y : List ℕ) (k : ℕ) → IsMost c (f ++ b ∷ []) y k
     → (j : ℕ) → (j ≤ length (b ∷ y)) × (can_take c (f ++ take j (b ∷ y)) ≡ true) → j ≤ suc k
-one_more c f b y k most zero h = omega arith
-one_more c f b y k most (suc j) h =
-    let fits = h.0 in
-    let below = most.above j (omega (arith, fits), ap (can_take c) (append_assoc f (b ∷ []) (take j y)) ∙ h.1) in
-    omega (arith, below)
+one_more c f b y k most j h = grind (arith, append_assoc)
 
 most_step : (c : Conversion) (f : List ℕ) (b : ℕ) (y : List ℕ) (k : ℕ) (v : Bool) → can_take c f ≡ true → can_take c (f ++ b ∷ []) ≡ v
     → (can_take c (f ++ b ∷ []) ≡ true → IsMost c (f ++ b ∷ []) y k) → IsMost c f (b ∷ y) (cond v (suc k) 0)
-most_step c f b y k true start e h =
-    let most = h e in
-    record {
-      holds = (let fits = most.holds.0 in omega (arith, fits), sym (ap (can_take c) (append_assoc f (b ∷ []) (take k y))) ∙ most.holds.1);
-      above = one_more c f b y k most;
-    }
-most_step c f b y k false start e h = record {
-  holds = (omega arith, ap (can_take c) (append-nil f) ∙ start);
-  above = λ j w. nothing_more c f b y e j w.1;
-}
+most_step c f b y k v start e h = grind (arith, append_assoc, one_more, append-nil, nothing_more)
 
 len_most : (c : Conversion) (f y : List ℕ) → can_take c f ≡ true → IsMost c f y (len c f y)
 len_most c f [] start = record { holds = (omega arith, ap (can_take c) (append-nil f) ∙ start); above = λ j h. h.0 }
@@ -62,13 +48,10 @@ len_most c f (b ∷ y) start =
 -- ---- the item
 
 front_from : (c : Conversion) → IsProperShape c.shape → (x : List ℕ) (j : ℕ) → j ≤ length x → can_take c (take j x) ≡ true → IsWithin c j × Begins c (take j x)
-front_from c proper x j fits e =
-    let front = (tests_can_take c proper (take j x)).from e in
-    (subst (IsWithin c) (length-take-le j x fits) front.0, front.1)
+front_from c proper x j fits e = grind (arith, (tests_can_take c proper (take j x)), (length-take-le j x fits))
 
 front_to : (c : Conversion) → IsProperShape c.shape → (x : List ℕ) (j : ℕ) → j ≤ length x → IsWithin c j × Begins c (take j x) → can_take c (take j x) ≡ true
-front_to c proper x j fits h =
-    (tests_can_take c proper (take j x)).to (subst (IsWithin c) (sym (length-take-le j x fits)) h.0, h.1)
+front_to c proper x j fits h = grind (arith, (tests_can_take c proper (take j x)), (length-take-le j x fits))
 
 pub item_is : (c : Conversion) → IsProperShape c.shape → HasItem c.shape → (x : List ℕ) → IsItem c x (len c [] x)
 item_is c proper takes x =

@@ -1,8 +1,8 @@
 -- Laws of the directives' machines that the run rests on.
-use Rattle.std.proofs.Common.{◌≡◌, ◌≢◌, ℕ, zero, suc, ◌+◌, ◌<◌, ◌≤◌, Bool, true, false, not, cond, ◌&&◌, nat_eq, List, [], ◌∷◌, ◌++◌, length, Option, Some, None, is_some, refl, sym, ap, subst, ◌∙◌, arith, lit<, true≢false, nat_le, unwrap_or, length-append, ℤ}
+use Rattle.std.proofs.lemmas.Grind.{common_steps}
+use Rattle.std.proofs.Common.{◌≡◌, ℕ, zero, suc, ◌+◌, ◌<◌, ◌≤◌, Bool, true, false, not, cond, ◌&&◌, nat_eq, List, [], ◌∷◌, ◌++◌, length, Option, Some, None, is_some, refl, sym, ap, subst, ◌∙◌, arith, lit<, true≢false, nat_le, unwrap_or, length-append}
 use Rattle.std.specs.List.{list_all}
 use Rattle.sf_base.specs.Bytes.{is_white}
-use Rattle.sf_base.specs.Data.{value_of}
 use Rattle.sf_format.specs.declared.directive.Shape.{Shape}
 use Rattle.sf_format.specs.declared.directive.Shape.TheVariants.{Int, Text, Set, Chars, Count}
 use Rattle.sf_format.specs.declared.directive.Conversion.{Conversion}
@@ -11,12 +11,12 @@ use Rattle.sf_format.specs.declared.directive.Directive.TheVariants.{Space, Byte
 use Rattle.sf_format.specs.Proper.{IsProper, IsProperShape, IsProperWidth}
 use Rattle.sf_base.specs.Sets.{has_byte}
 use Rattle.sf_item.specs.Taking.{IsInt}
-use Rattle.sf_item.specs.Tests.{integer_at, is_ink, is_within, shape_begins, matches, can_take}
+use Rattle.sf_item.specs.Tests.{is_within, shape_begins, can_take}
 use Rattle.sf_item.proofs.Fronts.{HasItem, can_take_front, integer_goes_on}
-use Rattle.sf_item.proofs.Deciding.{tests_same, tests_most}
-use Rattle.sf_run.specs.declared.outcome.Status.TheVariants.{MatchingFailure, TooLong}
+use Rattle.sf_item.proofs.Deciding.{tests_same}
+use Rattle.sf_run.specs.declared.outcome.Status.TheVariants.{TooLong}
 use Rattle.sf_run.specs.Steps.{StepEnd, Fails}
-use Rattle.sf_run.specs.Machine.{Stage, Skipping, Taken, Item, shape_skips, item_stepped, stepped, some_below, is_full, finished, number_end, count_end, integer_end, stored_end, passed_end, item_end, nothing_end, byte_finished, item_finished, conversion_finished}
+use Rattle.sf_run.specs.Machine.{Stage, Skipping, Taken, Item, shape_skips, item_stepped, stepped, some_below, is_full, finished, conversion_finished}
 use Rattle.sf_run.specs.Residual.{Part, choose, one_from}
 
 -- ---- a byte that would be taken
@@ -25,33 +25,21 @@ abbrev SomeBelow : ℕ → (ℕ → Bool) → Type 0
 SomeBelow n test = (b : ℕ) × (b < n) × (test b ≡ true)
 
 pub some_from : (n : ℕ) (test : ℕ → Bool) → some_below n test ≡ true → SomeBelow n test
-some_from zero test e = absurd (true≢false (sym e))
-some_from (suc n) test e = by_case (test n) refl e (some_from n test)
-  where
-    by_case : (v : Bool) → test n ≡ v → cond v true (some_below n test) ≡ true → (some_below n test ≡ true → SomeBelow n test) → SomeBelow (suc n) test
-    by_case true is e rest = (n, omega arith, is)
-    by_case false is e rest = let (b, below, h) = rest e in (b, omega (arith, below), h)
+some_from zero test e = grind arith
+some_from (suc n) test e = grind (arith, some_from n)
 
 pub some_to : (n : ℕ) (test : ℕ → Bool) (b : ℕ) → b < n → test b ≡ true → some_below n test ≡ true
-some_to zero test b below h = absurd (omega arith)
-some_to (suc n) test b below h = by_case (test n) refl (some_to n test b)
-  where
-    by_case : (v : Bool) → test n ≡ v → (b < n → test b ≡ true → some_below n test ≡ true) → cond v true (some_below n test) ≡ true
-    by_case true is rest = refl
-    by_case false is rest =
-        let other : b ≢ n = λ same. true≢false (sym h ∙ ap test same ∙ is) in
-        rest (omega (arith, other)) h
+some_to zero test b below h = grind arith
+some_to (suc n) test b below h = grind (arith, some_to n test b)
 
 abbrev takes : Directive → Stage → ℕ → Bool
 takes d q b = is_some (stepped d q b)
 
 not_true : (v : Bool) → not v ≡ false → v ≡ true
-not_true true e = refl
-not_true false e = absurd (true≢false e)
+not_true v e = grind arith
 
 not_false : (v : Bool) → not v ≡ true → v ≡ false
-not_false true e = absurd (true≢false (sym e))
-not_false false e = refl
+not_false v e = grind arith
 
 some_of : {A : Type 0} (o : Option A) → is_some o ≡ true → (a : A) × (o ≡ Some a)
 some_of None e = absurd (true≢false (sym e))
@@ -84,26 +72,20 @@ full_of_none d q none = ap not (no_byte (some_below 256 (takes d q)) refl)
 -- ---- a full directive takes nothing
 
 left_of : (a b : Bool) → (a && b) ≡ true → a ≡ true
-left_of true b e = refl
-left_of false b e = e
+left_of a b e = grind arith
 
 right_of : (a b : Bool) → (a && b) ≡ true → b ≡ true
-right_of true b e = e
-right_of false b e = absurd (true≢false (sym e))
+right_of a b e = grind arith
 
 both : (a b : Bool) → a ≡ true → b ≡ true → (a && b) ≡ true
-both true b first second = second
-both false b first second = absurd (true≢false (sym first))
+both a b first second = grind arith
 
 -- whether a byte is last is all that the lengths see
 same_length : (f : List ℕ) (b e : ℕ) → length (f ++ b ∷ []) ≡ length (f ++ e ∷ [])
 same_length f b e = omega (arith, length-append f (b ∷ []), length-append f (e ∷ []))
 
 all_with : (p : ℕ → Bool) (f : List ℕ) (b e : ℕ) → list_all p (f ++ b ∷ []) ≡ true → p e ≡ true → list_all p (f ++ e ∷ []) ≡ true
-all_with p [] b e h one = both (p e) true one refl
-all_with p (x ∷ f) b e h one =
-    both (p x) (list_all p (f ++ e ∷ [])) (left_of (p x) (list_all p (f ++ b ∷ [])) h)
-    (all_with p f b e (right_of (p x) (list_all p (f ++ b ∷ [])) h) one)
+all_with p f b e h one = grind (arith, common_steps)
 
 abbrev Begins : Shape → Option ℕ → List ℕ → ℕ → Type 0
 Begins shape width f b = shape_begins shape width (f ++ b ∷ []) ≡ true
@@ -118,28 +100,16 @@ item_byte Count proper = 0
 
 pub item_byte-below : (shape : Shape) (proper : IsProperShape shape) → item_byte shape proper < 256
 unfolding item_byte
-item_byte-below (Int base) proper = lit< tt
-item_byte-below Text proper = lit< tt
-item_byte-below (Set members) proper = proper.1
-item_byte-below Chars proper = lit< tt
-item_byte-below Count proper = lit< tt
+item_byte-below shape proper = grind arith
 
 other_begins : (shape : Shape) (width : Option ℕ) → (IsInt shape → ⊥) → (proper : IsProperShape shape) → (f : List ℕ) (b : ℕ) → Begins shape width f b
     → Begins shape width f (item_byte shape proper)
 unfolding item_byte
-other_begins (Int base) width other proper f b h = absurd (other (base, refl))
-other_begins Text width other proper f b h = all_with is_ink f b 65 h refl
-other_begins (Set members) width other proper f b h = all_with (has_byte members) f b proper.0 h proper.2
-other_begins Chars width other proper f b h = subst (λ n. nat_le n (unwrap_or width 1) ≡ true) (same_length f b 0) h
-other_begins Count width other proper f b h = absurd (true≢false (sym h))
+other_begins shape width other proper f b h = grind (arith, all_with, same_length)
 
 integer_byte : (shape : Shape) (proper : IsProperShape shape) → IsInt shape → item_byte shape proper ≡ 48
 unfolding item_byte
-integer_byte (Int base) proper int = refl
-integer_byte Text proper int = let k = int.1 in absurd cc
-integer_byte (Set members) proper int = let k = int.1 in absurd cc
-integer_byte Chars proper int = let k = int.1 in absurd cc
-integer_byte Count proper int = let k = int.1 in absurd cc
+integer_byte shape proper int = grind arith
 
 -- where some number is taken after f, that byte is
 pub item_byte-taken : (c : Conversion) (proper : IsProperShape c.shape) (f : List ℕ) (b : ℕ) → can_take c (f ++ b ∷ []) ≡ true
@@ -214,12 +184,10 @@ full_takes_nothing (Conv c) proper (Item f) b full = item_nothing c proper.0 (It
 -- ---- the end of a full directive
 
 within_one : (width : Option ℕ) → IsProperWidth width → is_within width 1 ≡ true
-within_one None h = refl
-within_one (Some w) h = (tests_most 1 w).to h
+within_one width h = grind arith
 
 one_char : (width : Option ℕ) → IsProperWidth width → nat_le 1 (unwrap_or width 1) ≡ true
-one_char None h = refl
-one_char (Some w) h = (tests_most 1 w).to h
+one_char width h = grind arith
 
 -- some byte begins an item
 first_begins : (shape : Shape) (width : Option ℕ) → IsProperShape shape → IsProperWidth width → HasItem shape
@@ -245,19 +213,7 @@ item_not_full c proper item full =
 
 shape_full : (c : Conversion) (shape : Shape) (q : Stage) (n : ℕ) (more : Bool) → (q ≡ Skipping → HasItem shape → ⊥)
     → conversion_finished c shape q n more ≡ conversion_finished c shape q n true
-shape_full c Count q n more none = refl
-shape_full c (Int base) Skipping n more none = absurd (none refl tt)
-shape_full c Text Skipping n more none = absurd (none refl tt)
-shape_full c (Set members) Skipping n more none = absurd (none refl tt)
-shape_full c Chars Skipping n more none = absurd (none refl tt)
-shape_full c (Int base) Taken n more none = refl
-shape_full c Text Taken n more none = refl
-shape_full c (Set members) Taken n more none = refl
-shape_full c Chars Taken n more none = refl
-shape_full c (Int base) (Item f) n more none = refl
-shape_full c Text (Item f) n more none = refl
-shape_full c (Set members) (Item f) n more none = refl
-shape_full c Chars (Item f) n more none = refl
+shape_full c shape q n more none = grind arith
 
 -- what follows a full directive makes no difference to its end
 pub full_finish : (d : Directive) → IsProper d → (q : Stage) (n : ℕ) (more : Bool) → is_full d q ≡ true → finished d q n more ≡ finished d q n true
@@ -275,81 +231,19 @@ full_finish (Conv c) proper q n more full =
 -- a full directive takes nothing, and ends alike whatever follows
 pub full_refuses : (d : Directive) → IsProper d → (q : Stage) (n : ℕ) (z : List ℕ) → is_full d q ≡ true
     → one_from d q n z ≡ record { used = n; left = z; end = finished d q n true }
-full_refuses d proper q n [] full = ap (λ e. record { used = n; left = []; end = e }) (full_finish d proper q n false full)
-full_refuses d proper q n (b ∷ z) full =
-    ap (λ o. choose o (record { used = n; left = b ∷ z; end = finished d q n true }) (λ r. one_from d r (n + 1) z)) (full_takes_nothing d proper q b full)
-
--- a byte that is not taken ends the directive
-pub byte_refused : (d : Directive) (q : Stage) (n b : ℕ) (z : List ℕ) → stepped d q b ≡ None
-    → one_from d q n (b ∷ z) ≡ record { used = n; left = b ∷ z; end = finished d q n true }
-byte_refused d q n b z e =
-    ap (λ o. choose o (record { used = n; left = b ∷ z; end = finished d q n true }) (λ r. one_from d r (n + 1) z)) e
+full_refuses d proper q n [] full = grind (arith, full_finish)
+full_refuses d proper q n (b ∷ z) full = grind (arith, full_takes_nothing)
 
 -- ---- no directive is too long by itself
 
 abbrev NotTooLong : StepEnd → Type 0
 NotTooLong end = end ≡ Fails TooLong → ⊥
 
-number_fits : (c : Conversion) (slot : ℕ) (v : Option ℤ) → NotTooLong (number_end c slot v)
-number_fits c slot None e = cc
-number_fits c slot (Some v) e = cc
-
-count_fits : (c : Conversion) (slot : Option ℕ) (n : ℕ) → NotTooLong (count_end c slot n)
-count_fits c None n e = cc
-count_fits c (Some slot) n e = number_fits c slot (value_of c.kind false n) e
-
-integer_fits : (c : Conversion) (slot : ℕ) (i : Option (Bool × ℕ)) → NotTooLong (integer_end c slot i)
-integer_fits c slot None e = cc
-integer_fits c slot (Some i) e = number_fits c slot (value_of c.kind i.0 i.1) e
-
-stored_fits : (c : Conversion) (slot : ℕ) (shape : Shape) (item : List ℕ) → NotTooLong (stored_end c slot shape item)
-stored_fits c slot (Int base) item e = integer_fits c slot (integer_at base item) e
-stored_fits c slot Text item e = cc
-stored_fits c slot (Set members) item e = cc
-stored_fits c slot Chars item e = cc
-stored_fits c slot Count item e = cc
-
-passed_fits : (c : Conversion) (slot : Option ℕ) (item : List ℕ) → NotTooLong (passed_end c slot item)
-passed_fits c None item e = cc
-passed_fits c (Some slot) item e = stored_fits c slot c.shape item e
-
-item_fits : (c : Conversion) (item : List ℕ) → NotTooLong (item_end c item)
-item_fits c item = by_case (matches c item)
-  where
-    by_case : (v : Bool) → NotTooLong (cond v (passed_end c c.slot item) (Fails MatchingFailure))
-    by_case true e = passed_fits c c.slot item e
-    by_case false e = cc
-
-nothing_fits : (more : Bool) → NotTooLong (nothing_end more)
-nothing_fits true e = cc
-nothing_fits false e = cc
-
-item_finish_fits : (c : Conversion) (q : Stage) (more : Bool) → NotTooLong (item_finished c q more)
-item_finish_fits c Skipping more e = nothing_fits more e
-item_finish_fits c Taken more e = cc
-item_finish_fits c (Item f) more e = item_fits c f e
-
-conversion_fits : (c : Conversion) (shape : Shape) (q : Stage) (n : ℕ) (more : Bool) → NotTooLong (conversion_finished c shape q n more)
-conversion_fits c Count q n more e = count_fits c c.slot n e
-conversion_fits c (Int base) q n more e = item_finish_fits c q more e
-conversion_fits c Text q n more e = item_finish_fits c q more e
-conversion_fits c (Set members) q n more e = item_finish_fits c q more e
-conversion_fits c Chars q n more e = item_finish_fits c q more e
-
-byte_fits : (q : Stage) (more : Bool) → NotTooLong (byte_finished q more)
-byte_fits Skipping more e = nothing_fits more e
-byte_fits Taken more e = cc
-byte_fits (Item f) more e = cc
-
 finish_fits : (d : Directive) (q : Stage) (n : ℕ) (more : Bool) → NotTooLong (finished d q n more)
-finish_fits Space q n more e = cc
-finish_fits (Byte a) q n more e = byte_fits q more e
-finish_fits Percent q n more e = byte_fits q more e
-finish_fits (Conv c) q n more e = conversion_fits c c.shape q n more e
+finish_fits d q n more = grind arith
 
 pub by_option : (P : Part → Type 0) (o : Option Stage) (y : Part) (f : Stage → Part) → P y → ((r : Stage) → P (f r)) → P (choose o y f)
-by_option P None y f a b = a
-by_option P (Some r) y f a b = b r
+by_option P o y f a b = grind arith
 
 pub never_too_long : (d : Directive) (q : Stage) (n : ℕ) (x : List ℕ) → (one_from d q n x).end ≡ Fails TooLong → ⊥
 never_too_long d q n [] = finish_fits d q n false

@@ -1,17 +1,15 @@
 -- How the rest of a run changes with each move of the scanner.
-use Rattle.std.proofs.Common.{◌≡◌, ℕ, zero, suc, ◌+◌, ◌≤◌, ◌<◌, Bool, true, false, cond, ltb, List, [], ◌∷◌, ◌++◌, length, take, drop, get_or, append_assoc, length-append, Option, Some, None, is_some, inl, inr, refl, sym, ap, subst, ◌∙◌, arith, true≢false}
+use Rattle.std.proofs.lemmas.Grind.{common_steps}
+use Rattle.std.proofs.Common.{◌≡◌, ℕ, ◌+◌, ◌≤◌, ◌<◌, Bool, true, false, cond, ltb, List, [], ◌∷◌, ◌++◌, length, take, drop, get_or, append_assoc, length-append, Option, Some, None, is_some, inl, inr, refl, sym, ap, subst, ◌∙◌, arith}
 use Rattle.std.specs.Prelude.{slice_get, IfNone, IsSome}
 use Rattle.std.specs.List.{AllByRecursion}
 use Rattle.std.proofs.lemmas.Option.{slice_get_within, slice_get_cases, get_or_from_slice_get}
 use Rattle.std.proofs.lemmas.List.{drop_more, drop_all, take-append-drop, length-take-le}
-use Rattle.std.proofs.lemmas.Bool.{le-ltb, lt-ltb}
-use Rattle.sf_base.specs.Data.{Bytes}
+use Rattle.std.proofs.lemmas.Bool.{lt-ltb}
 use Rattle.sf_base.specs.Kept.{Opened, text_of}
-use Rattle.sf_base.specs.declared.values.Kind.{Kind}
 use Rattle.sf_format.specs.declared.directive.Directive.{Directive}
-use Rattle.sf_format.specs.Proper.{IsProper, AreProper, destination_of, destinations_of}
+use Rattle.sf_format.specs.Proper.{IsProper, AreProper, destinations_of}
 use Rattle.sf_run.specs.declared.directive.Finished.{Finished}
-use Rattle.sf_run.specs.declared.directive.Finished.TheVariants as finish
 use Rattle.sf_run.specs.declared.directive.Phase.{Phase}
 use Rattle.sf_run.specs.declared.directive.Phase.TheVariants as phase
 use Rattle.sf_run.specs.declared.directive.Run.{Run}
@@ -20,7 +18,7 @@ use Rattle.sf_run.specs.declared.outcome.Status.TheVariants.{Done, TooLong}
 use Rattle.sf_run.specs.declared.scanner.Stop.{Stop}
 use Rattle.sf_run.specs.Steps.{StepEnd, Passes, Stores, Fails}
 use Rattle.sf_run.specs.Runs.{RunReport}
-use Rattle.sf_run.specs.Machine.{Stage, Skipping, Taken, Item, stepped, finished}
+use Rattle.sf_run.specs.Machine.{Stage, Skipping, stepped, finished}
 use Rattle.sf_run.specs.Phases.{Shows, GrowsBy, Brings, end_of, slot_in}
 use Rattle.sf_run.specs.Pieces.{IsEnd, item_of}
 use Rattle.sf_run.specs.Places.{is_destination, places_left}
@@ -40,13 +38,10 @@ pub drop_at : {A : Type 0} (xs : List A) (i : ℕ) (x : A) → slice_get xs i �
 drop_at xs i x h = drop_more xs i x (slice_get_within xs i x h) ∙ ap (λ y. y ∷ drop (i + 1) xs) (get_or_from_slice_get xs i x x h)
 
 all_behind : {A : Type 0} (P : A → Type 0) (xs : List A) (i : ℕ) → AllByRecursion P xs → AllByRecursion P (drop i xs)
-all_behind P xs zero h = h
-all_behind P [] (suc i) h = tt
-all_behind P (x ∷ xs) (suc i) h = all_behind P xs i h.1
+all_behind P xs i h = grind (arith, common_steps)
 
 pub proper_at : (ds : List Directive) (p : ℕ) (d : Directive) → AreProper ds → slice_get ds p ≡ Some d → IsProper d
-proper_at ds p d h at =
-    let rest : AllByRecursion IsProper (d ∷ drop (p + 1) ds) = subst (AllByRecursion IsProper) (drop_at ds p d at) (all_behind IsProper ds p h) in rest.0
+proper_at ds p d h at = grind (arith, drop_at, all_behind)
 
 -- ---- places
 
@@ -55,11 +50,7 @@ one_if true = 1
 one_if false = 0
 
 places_of : (d : Directive) (ds : List Directive) → length (destinations_of (d ∷ ds)) ≡ one_if (is_destination d) + length (destinations_of ds)
-places_of d ds = by_case (destination_of d) refl
-  where
-    by_case : (o : Option (ℕ × Kind)) → destination_of d ≡ o → length (destinations_of (d ∷ ds)) ≡ one_if (is_some o) + length (destinations_of ds)
-    by_case None e = rw e (omega arith)
-    by_case (Some x) e = rw e (omega arith)
+places_of d ds = grind arith
 
 -- one place less after a destination
 pub places_next : (ds : List Directive) (p : ℕ) (d : Directive) → slice_get ds p ≡ Some d
@@ -69,28 +60,19 @@ places_next ds p d at = ap (λ rest. length (destinations_of rest)) (drop_at ds 
 -- ---- a directive that ends
 
 pub passes : (f : StepEnd) (y : RunReport) (g : Status → RunReport) → ((status : Status) → f ≡ Fails status → ⊥) → by_end f y g ≡ y
-passes (Fails status) y g h = absurd (h status refl)
-passes Passes y g h = refl
-passes (Stores slot v) y g h = refl
+passes f y g h = grind arith
 
 pub fresh : (m : Option ℕ) (ds : List Directive) (at : ℕ) (t : Tally) (z : List ℕ) → run_from m ds Skipping at t z ≡ run_of m ds at t z
-fresh m [] at t z = refl
-fresh m (d ∷ ds) at t z = refl
-
-nothing_opened : (slot : Option ℕ) → None ≡ opened_for slot Skipping
-nothing_opened None = refl
-nothing_opened (Some slot) = refl
+fresh m ds at t z = grind arith
 
 pub shows_fresh : (ds : List Directive) → ShowsFirst ds phase.Skipping None Skipping
-shows_fresh [] = tt
-shows_fresh (d ∷ ds) = (refl, nothing_opened (text_slot d))
+shows_fresh ds = grind arith
 
 -- the first directive takes so much of y, ends so and leaves z
 ended_part : (k : ℕ) (d : Directive) (ds : List Directive) (q : Stage) (at : ℕ) (t u : Tally) (y z : List ℕ) (f : StepEnd) → u.used ≤ k → u ≡ with_used u.used t
     → one_from d q t.used y ≡ record { used = u.used; left = z; end = f }
     → run_from (Some k) (d ∷ ds) q at t y ≡ by_end f (run_of (Some k) ds (at + 1) (counted d f u) z) (λ status. out_of status at u)
-ended_part k d ds q at t u y z f le same e =
-    rw (e, le-ltb _ _ le) (ap (λ (v : Tally). by_end f (run_of (Some k) ds (at + 1) (counted d f v) z) (λ status. out_of status at v)) (sym same))
+ended_part k d ds q at t u y z f le same e = grind arith
 
 -- it would take more than the limit allows
 over_limit : (k : ℕ) (d : Directive) (ds : List Directive) (q : Stage) (at : ℕ) (t : Tally) (y : List ℕ) → k < (one_from d q t.used y).used
@@ -130,8 +112,7 @@ slice_get_none xs i h = elim (slice_get_cases xs i).1 [ inl w ↦ absurd (let e 
 -- every directive has passed
 pub conclude_same : (ds : List Directive) (p : ℕ) (current : Phase) (opened : Option Opened) (t : Tally) (k : ℕ) (z : List ℕ) (report : RunReport) → slice_get ds p ≡ None
     → DoesBy None ds p current opened t k z report → report ≡ out_of Done 0 t
-conclude_same ds p current opened t k z report h does =
-    does.2 ∙ ap (λ rest. run_from (Some k) rest does.0 (p + 1) t z) (drop_all p ds (slice_get_none ds p h))
+conclude_same ds p current opened t k z report h does = grind (arith, drop_all, slice_get_none)
 
 pub waiting : (s : Standing) (k : ℕ) (z : List ℕ) (report : RunReport) → s.ended ≡ None → Does s k z report
     → DoesBy None s.directives s.passed s.phase s.opened s.tally k z report
@@ -146,9 +127,7 @@ stopped_does : (s : Standing) (stop : Stop) (k : ℕ) (z : List ℕ) (report : R
 stopped_does s stop k z report e is = subst (λ o. DoesBy o s.directives s.passed s.phase s.opened s.tally k z report) (sym e) is
 
 pub counted-used : (d : Directive) (f : StepEnd) (t : Tally) → (counted d f t).used ≡ t.used
-counted-used d Passes t = refl
-counted-used d (Stores slot v) t = refl
-counted-used d (Fails status) t = refl
+counted-used d f t = grind arith
 
 -- ---- bytes that are taken
 
@@ -165,33 +144,7 @@ passed_limit k ds p d q r t b z at e full =
 -- what was opened is that of the stage that the bytes of the item lead to
 opened_grown : (d : Directive) (p : Phase) (q r : Stage) (g : List ℕ) (opened : Option Opened) → Shows d p r → GrowsBy q g r → opened ≡ opened_for (text_slot d) q
     → opened_with (slot_in p) g opened ≡ opened_for (text_slot d) r
-opened_grown d p q r g opened showing grown is = ap (opened_with (slot_in p) g) is ∙ by_phase p showing
-  where
-    by_text : (text : Option ℕ) (slot : ℕ) (q : Stage) (h : List ℕ) → text ≡ Some slot → GrowsBy q g (Item h) → opened_with (Some slot) g (opened_for text q) ≡ opened_for text (Item h)
-    by_text None slot q h e grown = cc
-    by_text (Some own) slot (Item f) h e grown = cc
-    by_text (Some own) slot Skipping h e grown = cc
-    by_text (Some own) slot Taken h e grown = cc
-
-    by_item : (text : Option ℕ) (q r : Stage) → text ≡ None → opened_for text q ≡ opened_for text r
-    by_item None q r e = refl
-    by_item (Some own) q r e = cc
-
-    by_plain : (text : Option ℕ) (q r : Stage) → ((h : List ℕ) → r ≡ Item h → ⊥) → GrowsBy q g r → opened_for text q ≡ opened_for text r
-    by_plain None q r none grown = refl
-    by_plain (Some own) q (Item h) none grown = absurd (none h refl)
-    by_plain (Some own) (Item f) Skipping none grown = cc
-    by_plain (Some own) (Item f) Taken none grown = cc
-    by_plain (Some own) Skipping Skipping none grown = refl
-    by_plain (Some own) Skipping Taken none grown = refl
-    by_plain (Some own) Taken Skipping none grown = refl
-    by_plain (Some own) Taken Taken none grown = refl
-
-    by_phase : (p : Phase) → Shows d p r → opened_with (slot_in p) g (opened_for (text_slot d) q) ≡ opened_for (text_slot d) r
-    by_phase phase.Skipping e = by_plain (text_slot d) q r (λ h at. cc) grown
-    by_phase (phase.Item scan) e = by_item (text_slot d) q r e.text
-    by_phase (phase.Text slot scan) e =
-        by_text (text_slot d) slot q e.item e.text (subst (GrowsBy q g) e.stage grown) ∙ ap (opened_for (text_slot d)) (sym e.stage)
+opened_grown d p q r g opened showing grown is = grind arith
 
 pub took_all : (k : ℕ) (ds : List Directive) (p : ℕ) (d : Directive) (q r : Stage) (t : Tally) (y z : List ℕ) → slice_get ds p ≡ Some d → stepped_all d q y ≡ Some r
     → run_from (Some k) (drop p ds) q (p + 1) t (y ++ z) ≡ run_from (Some k) (drop p ds) r (p + 1) (with_used (t.used + length y) t) z
@@ -279,24 +232,7 @@ last_follows new old d f at waits ends is =
 -- what closes the text under way closes the whole item
 closing_text : (d : Directive) (current new : Phase) (q : Stage) (opened : Option Opened) (g : List ℕ) (end : Finished) → Shows d current q → opened ≡ opened_for (text_slot d) q
     → IsNextSlot (text_slot d) (slot_in current) (slot_in new) → IsEnd d new end → end_of (text_of (opened_with (slot_in new) g opened)) end ≡ end_of (item_of q ++ g) end
-closing_text d current new q opened g finish.Passes shows is next own = refl
-closing_text d current new q opened g (finish.Stores slot kind negative magnitude) shows is next own = refl
-closing_text d current new q opened g (finish.Fails status) shows is next own = refl
-closing_text d current new q opened g (finish.Closes slot) shows is next own = ap (λ (text : List ℕ). Stores slot (Bytes text)) (by_phase current shows (subst (IsNextSlot (text_slot d) (slot_in current)) (own.text refl) next))
-  where
-    by_stage : (text : Option ℕ) (q : Stage) → text ≡ Some slot → text_of (opened_with (Some slot) g (opened_for text q)) ≡ item_of q ++ g
-    by_stage None q e = cc
-    by_stage (Some own) Skipping e = refl
-    by_stage (Some own) Taken e = refl
-    by_stage (Some own) (Item f) e = refl
-
-    at : (text : text_slot d ≡ Some slot) → text_of (opened_with (slot_in new) g opened) ≡ item_of q ++ g
-    at text = ap (λ s. text_of (opened_with s g opened)) (own.text refl) ∙ ap (λ o. text_of (opened_with (Some slot) g o)) is ∙ by_stage (text_slot d) q text
-
-    by_phase : (p : Phase) → Shows d p q → IsNextSlot (text_slot d) (slot_in p) (Some slot) → text_of (opened_with (slot_in new) g opened) ≡ item_of q ++ g
-    by_phase phase.Skipping shows next = at next
-    by_phase (phase.Item scan) shows next = at next
-    by_phase (phase.Text s scan) shows next = at (shows.text ∙ ap (λ n. Some n) (sym next))
+closing_text d current new q opened g end shows is next own = grind arith
 
 -- the directive under way has ended within the piece
 pub answer_follows : (new mid old : Standing) (d : Directive) (run : Run) (end : Finished) (front : List ℕ) (y z : List ℕ) → slice_get old.directives old.passed ≡ Some d → old.ended ≡ None
@@ -371,23 +307,10 @@ done_follows new old at waits stops z k report low high does =
 -- a value that is stored takes one of the places
 pub place_taken : (ds : List Directive) (p : ℕ) (d : Directive) (v : Bool) → slice_get ds p ≡ Some d → (v ≡ true → is_destination d ≡ true)
     → cond v 1 0 + places_left ds (p + 1) ≤ places_left ds p
-place_taken ds p d true at some =
-    let e = places_next ds p d at in
-    let is : places_left ds p ≡ 1 + places_left ds (p + 1) = e ∙ ap (λ v. one_if v + places_left ds (p + 1)) (some refl) in
-    omega (arith, is)
-place_taken ds p d false at some = let e = places_next ds p d at in omega (arith, e)
-
--- there is a place for it
-pub has_place : (ds : List Directive) (p : ℕ) (d : Directive) (v : Bool) → slice_get ds p ≡ Some d → (v ≡ true → is_destination d ≡ true)
-    → v ≡ true → 0 < places_left ds p
-has_place ds p d v at some e =
-    let h = place_taken ds p d v at some in
-    let k : 1 + places_left ds (p + 1) ≤ places_left ds p = subst (λ w. cond w 1 0 + places_left ds (p + 1) ≤ places_left ds p) e h in
-    omega (arith, k)
+place_taken ds p d v at some = grind (arith, places_next)
 
 pub one_more : (v : Bool) (n : ℕ) → cond v (n + 1) n ≡ n + cond v 1 0
-one_more true n = refl
-one_more false n = omega arith
+one_more v n = grind arith
 
 -- ---- counting the directives that may still end
 
@@ -395,30 +318,15 @@ one_more false n = omega arith
 
 pub follows_on : (old mid new : Standing) (x y z : List ℕ) → mid.tally.used ≤ new.tally.used → mid.limit ≡ old.limit → Follows mid old y z → Follows new mid x y
     → Follows new old x z
-follows_on old mid new x y z more same first second k report low high does =
-    second k report low (omega (arith, same)) (first k report (omega arith) high does)
+follows_on old mid new x y z more same first second = grind arith
 
 -- one that is refused after others
 pub refuses_on : (old mid new : Standing) (b : ℕ) (y z : List ℕ) → mid.tally.used ≤ new.tally.used → new.limit ≡ old.limit → Follows mid old y z → Refuses new mid b y → Refuses new old b z
-refuses_on old mid new b y z more same first r = record {
-  at = r.at;
-  directive = r.directive;
-  under_way = r.under_way;
-  ended = r.ended;
-  below = r.below;
-  cut = λ report does. let low = r.below in r.cut report (first new.tally.used report more (omega (arith, low, same)) does);
-}
+refuses_on old mid new b y z more same first r = grind arith
 
 -- of no byte none is refused
 pub none_refused : (new old : Standing) (xs : List ℕ) → length xs ≡ 0 → (is_no_memory new.ended ≡ true → RefusesIn new old xs) → is_no_memory new.ended ≡ false
-none_refused new old xs none h = by_case (is_no_memory new.ended) h
-  where
-    by_case : (v : Bool) → (v ≡ true → RefusesIn new old xs) → v ≡ false
-    by_case false h = refl
-    by_case true h =
-        let r = h refl in
-        let long = ap length r.whole in
-        absurd (omega (arith, long, none, length-append r.front (r.byte ∷ r.rest)))
+none_refused new old xs none h = grind (arith, length-append)
 
 -- a byte that is refused behind the first of a piece
 pub refused_behind : (old mid new : Standing) (xs : List ℕ) (i : ℕ) → i ≤ length xs → new.limit ≡ old.limit → mid.tally.used ≡ old.tally.used + i → ((z : List ℕ) → Follows mid old (drop i xs ++ z) (xs ++ z))
@@ -442,8 +350,7 @@ ended_does s k y z report ended does = by_case s.ended ended does
     by_case (Some stop) h does = does
 
 pub if_none : {A : Type 0} (o : Option A) (P : Type 0) → P → IfNone o P
-if_none None P p = p
-if_none (Some a) P p = tt
+if_none o P p = grind arith
 
 -- a directive that takes a byte has used one more, if nothing follows
 pub byte_took : (k : ℕ) (ds : List Directive) (p : ℕ) (d : Directive) (q r : Stage) (t : Tally) (b : ℕ) → slice_get ds p ≡ Some d → stepped d q b ≡ Some r
@@ -455,9 +362,7 @@ pub byte_past : (k : ℕ) (ds : List Directive) (p : ℕ) (d : Directive) (q r :
 byte_past k ds p d q r t b at e full = passed_limit k ds p d q r t b [] at e full
 
 pub not_out : (o : Option Stop) → is_some o ≡ false → is_no_memory o ≡ false
-not_out None e = refl
-not_out (Some stop) e = absurd (true≢false e)
+not_out o e = grind arith
 
 pub waits_for : (o : Option Stop) → (IsSome o → ⊥) → o ≡ None
-waits_for None never = refl
-waits_for (Some stop) never = absurd (never refl)
+waits_for o never = grind arith

@@ -1,38 +1,23 @@
 -- Each directive's machine makes its step.
-use Rattle.std.proofs.Common.{◌≡◌, ℕ, suc, ◌+◌, Bool, true, false, cond, ◌&&◌, nat_eq, List, [], ◌∷◌, ◌++◌, length, take, drop, Some, None, refl, sym, ap, ap₂, ◌∙◌, arith, append_assoc, append-nil}
-use Rattle.std.proofs.lemmas.Bool.{and_right}
-use Rattle.std.proofs.lemmas.List.{drop-drop}
+use Rattle.std.proofs.lemmas.Grind.{common_steps}
+use Rattle.std.proofs.Common.{◌≡◌, ℕ, suc, ◌+◌, Bool, true, false, cond, ◌&&◌, List, [], ◌∷◌, ◌++◌, take, drop, Some, None, refl, sym, ap, ap₂, ◌∙◌, arith, append_assoc, append-nil}
 use Rattle.sf_base.specs.Bytes.{is_white}
 use Rattle.sf_format.specs.declared.directive.Shape.{Shape}
-use Rattle.sf_format.specs.declared.directive.Shape.TheVariants.{Int, Text, Set, Chars, Count}
+use Rattle.sf_format.specs.declared.directive.Shape.TheVariants.{Count}
 use Rattle.sf_format.specs.declared.directive.Conversion.{Conversion}
 use Rattle.sf_format.specs.declared.directive.Directive.{Directive}
 use Rattle.sf_format.specs.declared.directive.Directive.TheVariants.{Space, Byte, Percent, Conv}
-use Rattle.sf_format.specs.Proper.{IsProper}
-use Rattle.sf_item.specs.Tests.{shape_begins, is_within, can_take}
-use Rattle.sf_item.proofs.Fronts.{HasItem}
+use Rattle.sf_item.specs.Tests.{can_take}
 use Rattle.sf_run.specs.Steps.{StepEnd, Passes}
-use Rattle.sf_run.specs.Machine.{Stage, Skipping, Taken, Item, shape_skips, stepped, item_stepped, finished, conversion_finished, item_finished, count_end, item_end, nothing_end}
-use Rattle.sf_run.specs.Residual.{Part, choose, one_from}
-use Rattle.sf_run.specs.Computed.{skip, len, byte_choice, byte_step, skip_before, item_ended, item_part, item_step, conversion_step, percent_step, step_of, part_of}
-
-abbrev pub part : ℕ → List ℕ → StepEnd → Part
-part n x end = record { used = n; left = x; end = end }
-
-same_used : (n p : ℕ) (x : List ℕ) (end : StepEnd) → n ≡ p → part n x end ≡ part p x end
-same_used n p x end e = ap (λ (u : ℕ). record { used = u; left = x; end = end }) e
+use Rattle.sf_run.specs.Machine.{Stage, Skipping, Taken, Item, shape_skips, stepped, finished, item_finished, count_end, item_end, nothing_end}
+use Rattle.sf_run.specs.Residual.{choose, one_from}
+use Rattle.sf_run.specs.Computed.{skip, len, byte_choice, byte_step, item_ended, item_part, conversion_step, percent_step, step_of, part_of}
 
 -- ---- white space
 
 space_is : (x : List ℕ) (n p : ℕ) → p ≡ n + skip x → one_from Space Skipping n x ≡ record { used = p; left = drop (skip x) x; end = Passes }
-space_is [] n p e = same_used n p [] Passes (omega arith)
-space_is (b ∷ x) n p e = by_white (is_white b) e (λ q f. space_is x (n + 1) q f)
-  where
-    by_white : (v : Bool) → p ≡ n + cond v (suc (skip x)) 0 → ((q : ℕ) → q ≡ n + 1 + skip x → one_from Space Skipping (n + 1) x ≡ record { used = q; left = drop (skip x) x; end = Passes })
-        → choose (cond v (Some Skipping) None) (record { used = n; left = b ∷ x; end = Passes }) (λ r. one_from Space r (n + 1) x)
-        ≡ record { used = p; left = drop (cond v (suc (skip x)) 0) (b ∷ x); end = Passes }
-    by_white true f more = more p (omega arith)
-    by_white false f more = same_used n p (b ∷ x) Passes (omega arith)
+space_is [] n p e = grind arith
+space_is (b ∷ x) n p e = grind (arith, space_is x)
 
 -- a directive that skips white space, and has taken none but that
 abbrev Skips : Directive → Type 0
@@ -40,16 +25,8 @@ Skips d = (b : ℕ) → is_white b ≡ true → stepped d Skipping b ≡ Some Sk
 
 -- it passes over the white space
 skips : (d : Directive) → Skips d → (x : List ℕ) (n p : ℕ) → p ≡ n + skip x → one_from d Skipping n x ≡ one_from d Skipping p (drop (skip x) x)
-skips d white [] n p e = ap (λ (u : ℕ). one_from d Skipping u []) (let h : n ≡ p = omega arith in h)
-skips d white (b ∷ x) n p e = by_white (is_white b) refl e (λ f. skips d white x (n + 1) p f)
-  where
-    by_white : (v : Bool) → is_white b ≡ v → p ≡ n + cond v (suc (skip x)) 0
-        → (p ≡ n + 1 + skip x → one_from d Skipping (n + 1) x ≡ one_from d Skipping p (drop (skip x) x))
-        → one_from d Skipping n (b ∷ x) ≡ one_from d Skipping p (drop (cond v (suc (skip x)) 0) (b ∷ x))
-    by_white true is f more =
-        ap (λ o. choose o (record { used = n; left = b ∷ x; end = finished d Skipping n true }) (λ r. one_from d r (n + 1) x)) (white b is)
-        ∙ more (omega arith)
-    by_white false is f more = ap (λ (u : ℕ). one_from d Skipping u (b ∷ x)) (let h : n ≡ p = omega arith in h)
+skips d white [] n p e = grind arith
+skips d white (b ∷ x) n p e = grind (arith, skips d white x)
 
 -- the first byte is no white space
 abbrev Starts : List ℕ → Type 0
@@ -58,11 +35,7 @@ Starts (b ∷ x) = is_white b ≡ false
 
 starts : (x : List ℕ) → Starts (drop (skip x) x)
 starts [] = tt
-starts (b ∷ x) = by_white (is_white b) refl (starts x)
-  where
-    by_white : (v : Bool) → is_white b ≡ v → Starts (drop (skip x) x) → Starts (drop (cond v (suc (skip x)) 0) (b ∷ x))
-    by_white true e h = h
-    by_white false e h = e
+starts (b ∷ x) = grind (arith, starts x)
 
 -- ---- a byte
 
@@ -81,30 +54,16 @@ percent_taken n (b ∷ x) = refl
 -- by whether the byte is the one that has to stand there
 byte_part : (d : Directive) → IsTaken d → (v : Bool) (b : ℕ) (x : List ℕ) (n : ℕ)
     → choose (cond v (Some Taken) None) (record { used = n; left = b ∷ x; end = nothing_end true }) (λ r. one_from d r (n + 1) x) ≡ part_of n (b ∷ x) (byte_choice v)
-byte_part d taken true b x n = taken (n + 1) x
-byte_part d taken false b x n = same_used n (n + 0) (b ∷ x) (nothing_end true) (omega arith)
+byte_part d taken v b x n = grind arith
 
 byte_is : (a : ℕ) (x : List ℕ) (n : ℕ) → one_from (Byte a) Skipping n x ≡ part_of n x (byte_step a x)
-byte_is a [] n = same_used n (n + 0) [] (nothing_end false) (omega arith)
-byte_is a (b ∷ x) n = byte_part (Byte a) (byte_taken a) (nat_eq a b) b x n
+byte_is a x n = grind (arith, (byte_taken a))
 
 percent_here : (x : List ℕ) (n : ℕ) → Starts x → one_from Percent Skipping n x ≡ part_of n x (byte_step 37 x)
-percent_here [] n s = same_used n (n + 0) [] (nothing_end false) (omega arith)
-percent_here (b ∷ x) n s =
-    ap (λ v. choose (cond v (Some Skipping) (cond (nat_eq 37 b) (Some Taken) None)) (record { used = n; left = b ∷ x; end = nothing_end true }) (λ r. one_from Percent r (n + 1) x)) s
-    ∙ byte_part Percent percent_taken (nat_eq 37 b) b x n
-
--- two steps, the first of s bytes
-two_parts : (x : List ℕ) (n s k : ℕ) (end : StepEnd)
-    → part ((n + s) + k) (drop k (drop s x)) end ≡ part (n + (s + k)) (drop (s + k) x) end
-two_parts x n s k end =
-    ap₂ (λ (u : ℕ) (l : List ℕ). record { used = u; left = l; end = end }) (let h : (n + s) + k ≡ n + (s + k) = omega arith in h) (drop-drop k s x)
+percent_here x n s = grind (arith, percent_taken)
 
 percent_is : (x : List ℕ) (n : ℕ) → one_from Percent Skipping n x ≡ part_of n x (percent_step x (skip x))
-percent_is x n =
-    skips Percent (λ b e. rw e refl) x n (n + skip x) refl
-    ∙ percent_here (drop (skip x) x) (n + skip x) (starts x)
-    ∙ two_parts x n (skip x) (byte_step 37 (drop (skip x) x)).0 (byte_step 37 (drop (skip x) x)).1
+percent_is x n = grind (arith, skips, percent_here, starts, common_steps)
 
 -- ---- items
 
@@ -119,11 +78,7 @@ module _ (c : Conversion) where
       ≡ record { used = p; left = drop (len c (f ++ b ∷ []) y) y; end = item_end c ((f ++ b ∷ []) ++ take (len c (f ++ b ∷ []) y) y) })
       → choose (cond v (Some (Item (f ++ b ∷ []))) None) (record { used = n; left = b ∷ y; end = finished (Conv c) (Item f) n true }) (λ r. one_from (Conv c) r (n + 1) y)
       ≡ record { used = p; left = drop (cond v (suc (len c (f ++ b ∷ []) y)) 0) (b ∷ y); end = item_end c (f ++ take (cond v (suc (len c (f ++ b ∷ []) y)) 0) (b ∷ y)) }
-  after_item ends f b y n p true e more =
-      more (omega arith)
-      ∙ ap (λ (g : List ℕ). record { used = p; left = drop (len c (f ++ b ∷ []) y) y; end = item_end c g }) (append_assoc f (b ∷ []) (take (len c (f ++ b ∷ []) y) y))
-  after_item ends f b y n p false e more =
-      ap₂ (λ (u : ℕ) (end : StepEnd). record { used = u; left = b ∷ y; end = end }) (let h : n ≡ p = omega arith in h) (ends (Item f) n true ∙ ap (item_end c) (sym (append-nil f)))
+  after_item ends f b y n p v e more = grind (arith, append_assoc, append-nil)
 
   -- after the front f of an item, the rest of the item is taken
   item_from : EndsItem → (f y : List ℕ) (n p : ℕ) → p ≡ n + len c f y
@@ -133,90 +88,35 @@ module _ (c : Conversion) where
   item_from ends f (b ∷ y) n p e =
       after_item ends f b y n p (can_take c (f ++ b ∷ [])) e (λ h. item_from ends (f ++ b ∷ []) y (n + 1) p h)
 
-  first_byte : EndsItem → (b : ℕ) (y : List ℕ) (n : ℕ) (v : Bool)
-      → choose (cond v (Some (Item (b ∷ []))) None) (record { used = n; left = b ∷ y; end = finished (Conv c) Skipping n true }) (λ r. one_from (Conv c) r (n + 1) y)
-      ≡ part_of n (b ∷ y) (cond v (suc (len c (b ∷ []) y)) 0, item_ended c (b ∷ y) (cond v (suc (len c (b ∷ []) y)) 0))
-  first_byte ends b y n true = item_from ends (b ∷ []) y (n + 1) (n + suc (len c (b ∷ []) y)) (omega arith)
-  first_byte ends b y n false =
-      ap₂ (λ (u : ℕ) (end : StepEnd). record { used = u; left = b ∷ y; end = end }) (let h : n ≡ n + 0 = omega arith in h) (ends Skipping n true)
-
   -- an item that begins here
   abbrev IsHere : List ℕ → Type 0
   IsHere [] = Unit {0}
   IsHere (b ∷ y) = (shape_skips c.shape && is_white b) ≡ false
 
   item_here : EndsItem → (y : List ℕ) (n : ℕ) → IsHere y → one_from (Conv c) Skipping n y ≡ part_of n y (len c [] y, item_ended c y (len c [] y))
-  item_here ends [] n here =
-      ap₂ (λ (u : ℕ) (end : StepEnd). record { used = u; left = []; end = end }) (let h : n ≡ n + 0 = omega arith in h) (ends Skipping n false)
-  item_here ends (b ∷ y) n here =
-      ap (λ v. choose (cond v (Some Skipping) (item_stepped c [] b)) (record { used = n; left = b ∷ y; end = finished (Conv c) Skipping n true }) (λ r. one_from (Conv c) r (n + 1) y)) here
-      ∙ first_byte ends b y n (can_take c (b ∷ []))
+  item_here ends y n here = grind (arith, item_from)
 
   starts_here : (y : List ℕ) → Starts y → IsHere y
-  starts_here [] s = tt
-  starts_here (b ∷ y) s = and_right (shape_skips c.shape) (is_white b) s
+  starts_here y s = grind arith
 
   -- white space is skipped, and then the item is taken
   skipped_item : EndsItem → shape_skips c.shape ≡ true → (x : List ℕ) (n : ℕ) → one_from (Conv c) Skipping n x ≡ part_of n x (item_part c x (skip x))
-  skipped_item ends does x n =
-      skips (Conv c) (λ b e. rw (does, e) refl) x n (n + skip x) refl
-      ∙ item_here ends (drop (skip x) x) (n + skip x) (starts_here (drop (skip x) x) (starts x))
-      ∙ two_parts x n (skip x) (len c [] (drop (skip x) x)) (item_ended c (drop (skip x) x) (len c [] (drop (skip x) x)))
-
-  unskipped_here : shape_skips c.shape ≡ false → (y : List ℕ) → IsHere y
-  unskipped_here does [] = tt
-  unskipped_here does (b ∷ y) = ap (λ v. v && is_white b) does
+  skipped_item ends does x n = grind (arith, skips, item_here, starts_here, starts, common_steps)
 
   unskipped_item : EndsItem → shape_skips c.shape ≡ false → (x : List ℕ) (n : ℕ) → one_from (Conv c) Skipping n x ≡ part_of n x (item_part c x 0)
-  unskipped_item ends does x n =
-      item_here ends x n (unskipped_here does x)
-      ∙ same_used (n + len c [] x) (n + (0 + len c [] x)) _ _ (omega arith)
-      ∙ ap (λ (l : List ℕ). record { used = n + (0 + len c [] x); left = l; end = item_ended c x (len c [] x) }) (let h : len c [] x ≡ 0 + len c [] x = omega arith in ap (λ j. drop j x) h)
+  unskipped_item ends does x n = grind (arith, item_here)
 
   -- ---- %n
 
-  takes_none : (shape : Shape) → shape ≡ Count → (g : List ℕ) → (is_within c.width (length g) && shape_begins shape c.width g) ≡ false
-  takes_none shape e g = and_right (is_within c.width (length g)) (shape_begins shape c.width g) (ap (λ (s : Shape). shape_begins s c.width g) e)
-
-  count_steps : c.shape ≡ Count → (b : ℕ) → stepped (Conv c) Skipping b ≡ None
-  count_steps e b = rw (ap shape_skips e, takes_none c.shape e (b ∷ [])) refl
-
-  count_ends : c.shape ≡ Count → (n : ℕ) (more : Bool) → finished (Conv c) Skipping n more ≡ count_end c c.slot n
-  count_ends e n more = ap (λ (s : Shape). conversion_finished c s Skipping n more) e
-
   count_is : c.shape ≡ Count → (x : List ℕ) (n : ℕ) → one_from (Conv c) Skipping n x ≡ part_of n x (0, count_end c c.slot n)
-  count_is e [] n =
-      ap₂ (λ (u : ℕ) (end : StepEnd). record { used = u; left = []; end = end }) (let h : n ≡ n + 0 = omega arith in h) (count_ends e n false)
-  count_is e (b ∷ x) n =
-      ap (λ o. choose o (record { used = n; left = b ∷ x; end = finished (Conv c) Skipping n true }) (λ r. one_from (Conv c) r (n + 1) x)) (count_steps e b)
-      ∙ ap₂ (λ (u : ℕ) (end : StepEnd). record { used = u; left = b ∷ x; end = end }) (let h : n ≡ n + 0 = omega arith in h) (count_ends e n true)
+  count_is e [] n = grind arith
+  count_is e (b ∷ x) n = grind arith
 
   -- ---- each conversion
 
-  ends_item : (shape : Shape) → c.shape ≡ shape → HasItem shape → EndsItem
-  ends_item (Int base) e takes q n more = ap (λ (s : Shape). conversion_finished c s q n more) e
-  ends_item Text e takes q n more = ap (λ (s : Shape). conversion_finished c s q n more) e
-  ends_item (Set members) e takes q n more = ap (λ (s : Shape). conversion_finished c s q n more) e
-  ends_item Chars e takes q n more = ap (λ (s : Shape). conversion_finished c s q n more) e
-  ends_item Count e takes q n more = absurd takes
-
-  at_shape : (shape : Shape) → c.shape ≡ shape → (x : List ℕ) (n : ℕ) → part_of n x (item_part c x (skip_before shape x)) ≡ part_of n x (item_step c x)
-  at_shape shape e x n = ap (λ (s : Shape). part_of n x (item_part c x (skip_before s x))) (sym e)
-
   conversion_is : (shape : Shape) → c.shape ≡ shape → (x : List ℕ) (n : ℕ) → one_from (Conv c) Skipping n x ≡ part_of n x (conversion_step c shape x n)
-  conversion_is (Int base) e x n = skipped_item (ends_item (Int base) e tt) (ap shape_skips e) x n ∙ at_shape (Int base) e x n
-  conversion_is Text e x n = skipped_item (ends_item Text e tt) (ap shape_skips e) x n ∙ at_shape Text e x n
-  conversion_is (Set members) e x n = unskipped_item (ends_item (Set members) e tt) (ap shape_skips e) x n ∙ at_shape (Set members) e x n
-  conversion_is Chars e x n = unskipped_item (ends_item Chars e tt) (ap shape_skips e) x n ∙ at_shape Chars e x n
-  conversion_is Count e x n = count_is e x n
+  conversion_is shape e x n = grind (arith, skipped_item, unskipped_item)
 
 -- the machine makes the step: it leaves the rest of the input, and ends as the step does
 pub one_made : (d : Directive) (x : List ℕ) (n : ℕ) → one_from d Skipping n x ≡ part_of n x (step_of d x n)
-one_made Space x n = space_is x n (n + skip x) refl
-one_made (Byte a) x n = byte_is a x n
-one_made Percent x n = percent_is x n
-one_made (Conv c) x n = conversion_is c c.shape refl x n
-
-pub one_is : (d : Directive) → IsProper d → (x : List ℕ) (n : ℕ)
-    → one_from d Skipping n x ≡ record { used = n + (step_of d x n).0; left = drop (step_of d x n).0 x; end = (step_of d x n).1 }
-one_is d proper x n = one_made d x n
+one_made d x n = grind (arith, space_is, byte_is, percent_is, conversion_is)

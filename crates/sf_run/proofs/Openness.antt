@@ -1,6 +1,5 @@
 -- Either some byte would be consumed next, or nothing that follows changes the run.
 use Rattle.std.proofs.Common.{◌≡◌, ℕ, ◌+◌, ◌<◌, ◌≤◌, ◌⊎◌, inl, inr, Bool, true, false, cond, List, [], ◌∷◌, ◌++◌, length, Option, Some, None, refl, ap, subst, ◌∙◌, arith}
-use Rattle.std.proofs.lemmas.Bool.{le-ltb, lt-ltb, cases_lt}
 use Rattle.std.proofs.lemmas.List.{append-nil}
 use Rattle.sf_format.specs.declared.directive.Directive.{Directive}
 use Rattle.sf_format.specs.Proper.{IsProper, AreProper}
@@ -15,95 +14,46 @@ use Rattle.sf_run.proofs.Machines.{can_take_one, full_refuses, never_too_long, g
 -- ---- by the directive's end
 
 pub counted-used : (d : Directive) (o : StepEnd) (t : Tally) → (counted d o t).used ≡ t.used
-counted-used d Passes t = refl
-counted-used d (Stores slot v) t = refl
-counted-used d (Fails status) t = refl
+counted-used d o t = grind arith
 
 pub holds_by : (P : RunReport → Type 0) (o : StepEnd) (a : RunReport) (b : Status → RunReport) → P a → ((status : Status) → P (b status)) → P (by_end o a b)
-holds_by P Passes a b p q = p
-holds_by P (Stores slot v) a b p q = p
-holds_by P (Fails status) a b p q = q status
+holds_by P o a b p q = grind arith
 
 -- ---- the bytes that a run uses
 
 -- with no input left nothing more is used
 pub uses_nothing : (m : Option ℕ) (ds : List Directive) (at : ℕ) (t : Tally) → is_over m t.used ≡ false → (run_of m ds at t []).used ≡ t.used
 uses_nothing m [] at t h = refl
-uses_nothing m (d ∷ ds) at t h =
-    let o : StepEnd = finished d Skipping t.used false in
-    rw h (holds_by (λ r. r.used ≡ t.used) o _ _ (uses_nothing m ds (at + 1) (counted d o t) (rw (counted-used d o t) h) ∙ counted-used d o t) (λ status. refl))
+uses_nothing m (d ∷ ds) at t h = grind (arith, uses_nothing m ds)
 
 pub rest_uses_nothing : (m : Option ℕ) (ds : List Directive) (q : Stage) (at : ℕ) (t : Tally) → is_over m t.used ≡ false → (run_from m ds q at t []).used ≡ t.used
-rest_uses_nothing m [] q at t h = refl
-rest_uses_nothing m (d ∷ ds) q at t h =
-    let o : StepEnd = finished d q t.used false in
-    rw h (holds_by (λ r. r.used ≡ t.used) o _ _ (uses_nothing m ds (at + 1) (counted d o t) (rw (counted-used d o t) h) ∙ counted-used d o t) (λ status. refl))
+rest_uses_nothing m ds q at t h = grind (arith, uses_nothing)
 
 -- a run uses no more than there is
 pub uses_within : (ds : List Directive) (at : ℕ) (t : Tally) (x : List ℕ) → (run_of None ds at t x).used ≤ t.used + length x
 uses_within [] at t x = omega arith
-uses_within (d ∷ ds) at t x =
-    let p : Part = one_from d Skipping t.used x in
-    let all = keeps_all d Skipping t.used x in
-    holds_by (λ r. r.used ≤ t.used + length x) p.end _ _
-    (omega (arith, uses_within ds (at + 1) (counted d p.end (with_used p.used t)) p.left, counted-used d p.end (with_used p.used t), all))
-    (λ status. omega (arith, all))
+uses_within (d ∷ ds) at t x = grind (arith, keeps_all, uses_within ds)
 
 pub uses_more : (ds : List Directive) (at : ℕ) (t : Tally) (x : List ℕ) → t.used ≤ (run_of None ds at t x).used
 uses_more [] at t x = omega arith
-uses_more (d ∷ ds) at t x =
-    let p : Part = one_from d Skipping t.used x in
-    let more = grows d Skipping t.used x in
-    holds_by (λ r. t.used ≤ r.used) p.end _ _
-    (omega (arith, more, uses_more ds (at + 1) (counted d p.end (with_used p.used t)) p.left, counted-used d p.end (with_used p.used t)))
-    (λ status. omega (arith, more))
+uses_more (d ∷ ds) at t x = grind (arith, grows, uses_more ds)
 
 -- ---- under a limit
-
-same_by : (m : ℕ) (o : StepEnd) (a c : RunReport) (b : Status → RunReport) → (by_end o a b).used ≤ m → (a.used ≤ m → c ≡ a) → by_end o c b ≡ by_end o a b
-same_by m Passes a c b h e = e h
-same_by m (Stores slot v) a c b h e = e h
-same_by m (Fails status) a c b h e = refl
 
 -- a run within the limit is the run
 pub within_limit : (m : ℕ) (ds : List Directive) (at : ℕ) (t : Tally) (x : List ℕ) → (run_of None ds at t x).used ≤ m → run_of (Some m) ds at t x ≡ run_of None ds at t x
 within_limit m [] at t x h = refl
-within_limit m (d ∷ ds) at t x h =
-    let p : Part = one_from d Skipping t.used x in
-    let u = counted d p.end (with_used p.used t) in
-    let low : p.used ≤ (by_end p.end (run_of None ds (at + 1) u p.left) (λ status. out_of status at (with_used p.used t))).used =
-    holds_by (λ r. p.used ≤ r.used) p.end _ _ (omega (arith, uses_more ds (at + 1) u p.left, counted-used d p.end (with_used p.used t))) (λ status. omega arith) in
-    rw (le-ltb m p.used (omega (arith, low, h))) (same_by m p.end _ _ _ h (λ i. within_limit m ds (at + 1) u p.left i))
+within_limit m (d ∷ ds) at t x h = grind (arith, uses_more, within_limit m ds)
 
 -- a run without a limit is not too long
 pub run_not_too_long : (ds : List Directive) (at : ℕ) (t : Tally) (x : List ℕ) → (run_of None ds at t x).status ≡ TooLong → ⊥
 run_not_too_long [] at t x h = cc
-run_not_too_long (d ∷ ds) at t x h =
-    let p : Part = one_from d Skipping t.used x in
-    go p.end (run_of None ds (at + 1) (counted d p.end (with_used p.used t)) p.left) (with_used p.used t) (never_too_long d Skipping t.used x)
-    (run_not_too_long ds (at + 1) (counted d p.end (with_used p.used t)) p.left) h
-  where
-    go : (o : StepEnd) (a : RunReport) (u : Tally) → (o ≡ Fails TooLong → ⊥) → (a.status ≡ TooLong → ⊥) → (by_end o a (λ status. out_of status at u)).status ≡ TooLong → ⊥
-    go Passes a u ok h e = h e
-    go (Stores slot v) a u ok h e = h e
-    go (Fails status) a u ok h e = ok (ap Fails e)
+run_not_too_long (d ∷ ds) at t x h = grind (arith, never_too_long, run_not_too_long ds)
 
 -- a run past the limit is too long
 pub over_is_too_long : (m : ℕ) (ds : List Directive) (at : ℕ) (t : Tally) (x : List ℕ) → t.used ≤ m → m < (run_of None ds at t x).used → (run_of (Some m) ds at t x).status ≡ TooLong
-over_is_too_long m [] at t x le h = absurd (omega arith)
-over_is_too_long m (d ∷ ds) at t x le h =
-    let p : Part = one_from d Skipping t.used x in
-    elim (cases_lt m p.used) [
-      | inl lt ↦ rw (lt-ltb m p.used lt) refl
-      | inr fits ↦ rw (le-ltb m p.used fits) (go p.end _ _ (with_used p.used t) h fits
-          (λ i. over_is_too_long m ds (at + 1) (counted d p.end (with_used p.used t)) p.left (omega (arith, counted-used d p.end (with_used p.used t), fits)) i))
-    ]
-  where
-    go : (o : StepEnd) (a c : RunReport) (u : Tally) → m < (by_end o a (λ status. out_of status at u)).used → u.used ≤ m → (m < a.used → c.status ≡ TooLong)
-        → (by_end o c (λ status. out_of status at u)).status ≡ TooLong
-    go Passes a c u h i e = e h
-    go (Stores slot v) a c u h i e = e h
-    go (Fails status) a c u h i e = absurd (omega arith)
+over_is_too_long m [] at t x le h = grind arith
+over_is_too_long m (d ∷ ds) at t x le h = grind (arith, over_is_too_long m ds)
 
 -- ---- open or closed
 

@@ -1,9 +1,10 @@
 -- What a directive makes of a piece.
-use Rattle.std.proofs.Common.{◌≡◌, ◌≢◌, ℕ, zero, suc, ◌+◌, ◌<◌, ◌≤◌, Bool, true, false, cond, ◌&&◌, not, List, [], ◌∷◌, ◌++◌, length, take, drop, get_or, append_assoc, append-nil, take-append-drop, length-drop, Option, Some, None, refl, sym, ap, subst, ◌∙◌, arith, true≢false}
+use Rattle.std.proofs.lemmas.Grind.{common_steps}
+use Rattle.std.proofs.lemmas.Bool.{false_from_ne_true}
+use Rattle.std.proofs.lemmas.List.{take_more}
+use Rattle.std.proofs.Common.{zero-add, add-zero, length-append, ◌≡◌, ◌≢◌, ℕ, zero, suc, ◌+◌, ◌<◌, ◌≤◌, Bool, true, false, cond, ◌&&◌, List, [], ◌∷◌, ◌++◌, length, take, drop, get_or, append_assoc, append-nil, take-append-drop, length-drop, Option, Some, None, refl, sym, ap, subst, ◌∙◌, arith}
 use Rattle.std.specs.Prelude.{IfSome, IsSome, slice_get}
 use Rattle.std.proofs.lemmas.Option.{get_or_from_slice_get, slice_get_within}
-use Rattle.std.specs.List.{list_all}
-use Rattle.std.proofs.Math.Seq.{take-suc}
 use Rattle.std.proofs.lemmas.List.{length-take, length-take-le, drop_more, drop-drop, drop-append-le, get_or-drop, get_or-take, take_all}
 use Rattle.sf_base.specs.Bytes.{is_white}
 use Rattle.sf_base.specs.Data.{value_of}
@@ -11,19 +12,13 @@ use Rattle.sf_format.specs.declared.directive.Base.{Base}
 use Rattle.sf_format.specs.declared.directive.Conversion.{Conversion}
 use Rattle.sf_format.specs.declared.directive.Directive.{Directive}
 use Rattle.sf_format.specs.declared.directive.Directive.TheVariants.{Space, Byte, Percent, Conv}
-use Rattle.sf_format.specs.declared.directive.Shape.{Shape}
-use Rattle.sf_format.specs.declared.directive.Shape.TheVariants.{Int, Text, Set, Chars, Count}
 use Rattle.sf_format.specs.Proper.{IsProper, IsProperShape}
 use Rattle.sf_item.specs.declared.item.ItemScan.{ItemScan}
-use Rattle.sf_item.specs.declared.reading.Reading.{Reading}
-use Rattle.sf_item.specs.declared.reading.Reading.TheVariants as reading
 use Rattle.sf_item.specs.declared.whole.WholeInteger.{WholeInteger}
-use Rattle.sf_item.specs.Scan.{HasLeft, shape_of}
-use Rattle.sf_item.specs.Taking as taking
-use Rattle.sf_item.specs.Matching.{IsInteger, IsItem, IsWithin, Matches}
+use Rattle.sf_item.specs.Matching.{IsInteger, IsItem, IsWithin}
 use Rattle.sf_item.specs.Taking.{CanTake, HasTaken, conversion_of}
-use Rattle.sf_item.specs.Tests.{is_ink, is_within, shape_begins, can_take}
-use Rattle.sf_item.proofs.Deciding.{integer_at_is, tests_can_take, tests_same}
+use Rattle.sf_item.specs.Tests.{can_take}
+use Rattle.sf_item.proofs.Deciding.{tests_can_take}
 use Rattle.sf_item.specs.Wholes.{ItemWithin}
 use Rattle.sf_run.specs.declared.directive.Ended.{Ended}
 use Rattle.sf_run.specs.declared.directive.Finished.{Finished}
@@ -33,16 +28,15 @@ use Rattle.sf_run.specs.declared.directive.Phase.TheVariants as phase
 use Rattle.sf_run.specs.declared.directive.Run.{Run}
 use Rattle.sf_run.specs.declared.outcome.Status.TheVariants.{MatchingFailure}
 use Rattle.sf_run.specs.Steps.{StepEnd}
-use Rattle.sf_run.specs.Holding.{LeftAfterAll, left_before}
-use Rattle.sf_run.specs.Machine.{Stage, Skipping, Taken, Item, shape_skips, count_end, item_stepped, item_end, stepped, finished, is_full}
-use Rattle.sf_run.specs.Phases.{CanAll, GrowsBy, Shows, ShowsItem, end_of, passed_number, slot_closed, slot_in}
+use Rattle.sf_run.specs.Machine.{Stage, Skipping, Item, shape_skips, count_end, item_end, stepped, is_full}
+use Rattle.sf_run.specs.Phases.{CanAll, GrowsBy, Shows, ShowsItem, end_of, passed_number, slot_in}
 use Rattle.sf_run.specs.Pieces.{Answers, AnswersBy, EndsAt, EndsAtOnce, EndsIn, IsEnd, IsEndIn, IsEndOf, IsWhole, StaysAt, Suits, item_of, run_of}
 use Rattle.sf_run.specs.Quick.{IsSure}
-use Rattle.sf_run.specs.Residual.{Part, choose, one_from, stepped_all}
-use Rattle.sf_run.specs.Texts.{IsInText, StoresByte, counts_bytes, is_count, text_slot, slot_of_text}
+use Rattle.sf_run.specs.Residual.{Part, one_from, stepped_all}
+use Rattle.sf_run.specs.Texts.{StoresByte, counts_bytes, is_count, text_slot, slot_of_text}
 use Rattle.sf_run.proofs.Brought.{all-append, can_all, first_all, item_all, one_from-all, skips_all, take-take}
 use Rattle.sf_run.proofs.Items.{can_take_prefix}
-use Rattle.sf_run.proofs.Machines.{byte_refused, full_refuses, grows}
+use Rattle.sf_run.proofs.Machines.{full_refuses, grows}
 use Rattle.sf_run.proofs.Stages.{count_finished, integer_ends, other_finished, skipping_full, suppressed_end, taken_full, text_end}
 
 -- ---- bytes of a piece
@@ -59,20 +53,13 @@ pub same_part : {n m : ℕ} {x y : List ℕ} {e f : StepEnd} → n ≡ m → x �
 same_part p q r = (λ i. record { used = p i; left = q i; end = r i })
 
 not_true : (v : Bool) → (v ≡ true → ⊥) → v ≡ false
-not_true true never = absurd (never refl)
-not_true false never = refl
-
-not_of : (v : Bool) → not v ≡ true → v ≡ false
-not_of true e = absurd (true≢false (sym e))
-not_of false e = refl
+not_true v never = grind arith
 
 right_of : (a b : Bool) → (a && b) ≡ true → b ≡ true
-right_of true b e = e
-right_of false b e = absurd (true≢false (sym e))
+right_of a b e = grind arith
 
 left_of : (a b : Bool) → (a && b) ≡ true → a ≡ true
-left_of true b e = refl
-left_of false b e = e
+left_of a b e = grind arith
 
 pub none_first : (xs : List ℕ) → None ≡ slice_get xs 0 → 0 ≡ length xs
 none_first [] e = refl
@@ -85,42 +72,38 @@ some_first xs b e = (slice_get_within xs 0 b (sym e), get_or_from_slice_get xs 0
 
 -- it takes nothing of the rest where it doesn't take the next byte
 pub stays_next : (d : Directive) (q : Stage) (k : ℕ) (piece : List ℕ) → k < length piece → stepped d q (get_or piece k 0) ≡ None → StaysAt d q (drop k piece)
-stays_next d q k piece below none n z =
-    subst (λ y. one_from d q n y ≡ record { used = n; left = y; end = finished d q n true }) (sym (next_is piece k z below)) (byte_refused d q n (get_or piece k 0) (drop (k + 1) piece ++ z) none)
+stays_next d q k piece below none = grind (arith, next_is)
 
 -- and where it is full
 pub stays_full : (d : Directive) (q : Stage) (rest : List ℕ) → IsProper d → is_full d q ≡ true → StaysAt d q rest
 stays_full d q rest proper full n z = full_refuses d proper q n (rest ++ z) full
 
+-- behind a front of the piece that it takes it ends
+ends_behind : (d : Directive) (q r : Stage) (n w k : ℕ) (piece : List ℕ) (end : StepEnd) → w ≤ length piece → stepped_all d q (take w piece) ≡ Some r
+    → EndsIn d r (n + w) (drop w piece) k end → EndsIn d q n piece (w + k) end
+ends_behind d q r n w k piece end within goes e = record {
+  within = omega (arith, length-drop w piece, e.within, within);
+  takes = λ z.
+      ap (one_from d q n) (sym (parted piece w z)) ∙ one_from-all d q r n (take w piece) (drop w piece ++ z) goes ∙ ap (λ m. one_from d r (n + m) (drop w piece ++ z)) (length-take-le w piece within)
+      ∙ e.takes z ∙ same_part (omega arith) (ap (λ y. y ++ z) (drop-drop k w piece)) refl;
+}
+
 -- a front of the piece brings it to a stage at which it ends
 pub ends_in : (d : Directive) (q r : Stage) (n k : ℕ) (piece : List ℕ) (end : StepEnd) → k ≤ length piece → stepped_all d q (take k piece) ≡ Some r
     → ((m : ℕ) (z : List ℕ) → one_from d r m (drop k piece ++ z) ≡ record { used = m; left = drop k piece ++ z; end = end }) → EndsIn d q n piece k end
-ends_in d q r n k piece end within goes stays = record {
-  within = within;
-  takes = λ z.
-      let long : n + length (take k piece) ≡ n + k = ap (λ m. n + m) (length-take-le k piece within) in
-      ap (one_from d q n) (sym (parted piece k z)) ∙ one_from-all d q r n (take k piece) (drop k piece ++ z) goes
-      ∙ subst (λ m. one_from d r m (drop k piece ++ z) ≡ record { used = n + k; left = drop k piece ++ z; end = end }) (sym long) (stays (n + k) z);
-}
+ends_in d q r n k piece end within goes stays =
+    rw add-zero at (ends_behind d q r n k 0 piece end within goes (record { within = omega arith; takes = λ z. stays (n + k) z ∙ same_part (omega arith) refl refl }))
 
 -- a front of the piece on which it ends
-ends_longer : (d : Directive) (q : Stage) (n k m : ℕ) (piece : List ℕ) (end : StepEnd) → m ≤ length piece → EndsIn d q n (take m piece) k end → EndsIn d q n piece k end
-ends_longer d q n k m piece end within e =
-    let fits = e.within in
-    let long = length-take-le m piece within in
-    record {
-      within = omega (arith, fits, long, within);
-      takes = λ z.
-          let left : drop k (take m piece) ++ (drop m piece ++ z) ≡ drop k piece ++ z =
-          sym (append_assoc (drop k (take m piece)) (drop m piece) z)
-          ∙ ap (λ (y : List ℕ). y ++ z) (sym (drop-append-le k (take m piece) (drop m piece) fits) ∙ ap (drop k) (take-append-drop m piece)) in
-          subst (λ y. one_from d q n y ≡ record { used = n + k; left = drop k piece ++ z; end = end }) (parted piece m z)
-          (subst (λ y. one_from d q n (take m piece ++ (drop m piece ++ z)) ≡ record { used = n + k; left = y; end = end }) left (e.takes (drop m piece ++ z)));
-    }
+ends_longer : (d : Directive) (q : Stage) (n k : ℕ) (x y : List ℕ) (end : StepEnd) → EndsIn d q n x k end → EndsIn d q n (x ++ y) k end
+ends_longer d q n k x y end e = record {
+  within = omega (arith, e.within, length-append x y);
+  takes = λ z. rw (append_assoc x y z, drop-append-le k x y e.within, append_assoc (drop k x) y z) (e.takes (y ++ z));
+}
 
-pub front_ends : (d : Directive) (q : Stage) (n m k : ℕ) (piece front : List ℕ) (end : StepEnd) → front ≡ take m piece → m ≤ length piece → EndsIn d q n front k end
+pub front_ends : (d : Directive) (q : Stage) (n m k : ℕ) (piece front : List ℕ) (end : StepEnd) → front ≡ take m piece → EndsIn d q n front k end
     → (z : List ℕ) → one_from d q n (piece ++ z) ≡ record { used = n + k; left = drop k piece ++ z; end = end }
-front_ends d q n m k piece front end is within e = let w = ends_longer d q n k m piece end within (subst (λ y. EndsIn d q n y k end) is e) in w.takes
+front_ends d q n m k piece front end is e = (rw (is, take-append-drop) at (ends_longer d q n k front (drop m piece) end e)).takes
 
 -- ---- what the answer says is taken
 
@@ -138,15 +121,10 @@ answers_use d q n piece run within a z = by_ends run.ends a.goes
 -- of a piece of which the directive was handed a front
 module _ (d : Directive) (q : Stage) (n m : ℕ) (piece front : List ℕ) (run : Run) (is : front ≡ take m piece) (within : run.before + run.item ≤ length front) (a : Answers d q n front run) where
   pub uses_front : (z : List ℕ) → n + (run.before + run.item) ≤ (one_from d q n (piece ++ z)).used
-  uses_front z =
-      subst (λ y. n + (run.before + run.item) ≤ (one_from d q n y).used) (ap (λ (y : List ℕ). y ++ (drop m piece ++ z)) is ∙ parted piece m z) (answers_use d q n front run within a (drop m piece ++ z))
+  uses_front z = grind (arith, parted, answers_use)
 
   pub stores_front : (slot : Option ℕ) → slot_in run.phase ≡ slot → IsSome slot → (j : ℕ) → j < run.item → StoresByte d (get_or piece (run.before + j) 0)
-  stores_front None own some j below = absurd cc
-  stores_front (Some slot) own some j below =
-      let few = length-take m piece in
-      let long = ap length is in
-      subst (StoresByte d) (ap (λ (y : List ℕ). get_or y (run.before + j) 0) is ∙ get_or-take m piece (run.before + j) 0 (omega (arith, below, within, few, long))) (a.stores slot j own below)
+  stores_front slot own some j below = grind (arith, length-take, get_or-take)
 
 -- ---- behind bytes that are skipped
 
@@ -171,46 +149,23 @@ answers_behind d n w piece run within fits skips a = record {
       grown = subst (λ g. GrowsBy Skipping g h.stage) item_is h.grown;
     }
     by_ends (Some end) h =
-        let k : ℕ = run.before + run.item in
-        let long : length (take w piece) ≡ w = length-take-le w piece within in
-        let all : length (drop w piece) + w ≡ length piece = (let l = length-drop w piece in omega (arith, l, within)) in
-        let more : n + w + k ≡ n + (w + run.before + run.item) = omega arith in
-        let place : w + k ≡ w + run.before + run.item = omega arith in
-        record {
-          within = omega (arith, all, fits);
-          takes = λ z.
-              let here : one_from d Skipping n (piece ++ z) ≡ one_from d Skipping (n + w) (drop w piece ++ z) =
-              ap (one_from d Skipping n) (sym (parted piece w z)) ∙ one_from-all d Skipping Skipping n (take w piece) (drop w piece ++ z) skips
-              ∙ ap (λ m. one_from d Skipping (n + m) (drop w piece ++ z)) long in
-              let left : drop k (drop w piece) ++ z ≡ drop (w + run.before + run.item) piece ++ z = ap (λ y. y ++ z) (drop-drop k w piece ∙ ap (λ i. drop i piece) place) in
-              here ∙ h.takes z ∙ same_part more left (ap (λ g. end_of g end) item_is);
-        }
+        let place : w + (run.before + run.item) ≡ w + run.before + run.item = omega arith in
+        rw (place, item_is) at (ends_behind d Skipping Skipping n w (run.before + run.item) piece _ within skips h)
 
 -- the byte behind them
 pub next_behind : (test : ℕ → Bool) (w : ℕ) (piece : List ℕ) → (w < length piece → test (get_or piece w 0) ≡ false) → 0 < length (drop w piece) → test (get_or (drop w piece) 0 0) ≡ false
-next_behind test w piece next some =
-    let all = length-drop w piece in
-    let same : w + 0 ≡ w = omega arith in
-    ap test (get_or-drop w piece 0 0 ∙ ap (λ i. get_or piece i 0) same) ∙ next (omega (arith, all, some))
+next_behind test w piece next some = grind (arith, length-drop, get_or-drop)
 
 -- ---- directives without an item
 
 pub plain_waits : (d : Directive) (n w : ℕ) (piece : List ℕ) → length piece ≤ w → stepped_all d Skipping (take w piece) ≡ Some Skipping
     → Answers d Skipping n piece (record { before = w; item = 0; phase = phase.Skipping; ends = None })
-plain_waits d n w piece all skips = record {
-  goes = record { stage = Skipping; stepped = ap (stepped_all d Skipping) (sym (take_all w piece all)) ∙ skips; shown = refl; grown = tt };
-  stores = λ slot j own below. absurd (omega (arith, below));
-}
+plain_waits d n w piece all skips = grind (arith, take_all)
 
 pub plain_ends : (d : Directive) (n w : ℕ) (r : Stage) (piece : List ℕ) (end : Finished) → w ≤ length piece → stepped_all d Skipping (take w piece) ≡ Some r
     → ((m : ℕ) (z : List ℕ) → one_from d r m (drop w piece ++ z) ≡ record { used = m; left = drop w piece ++ z; end = end_of [] end })
     → Answers d Skipping n piece (record { before = w; item = 0; phase = phase.Skipping; ends = Some end })
-plain_ends d n w r piece end within goes stays = record {
-  goes =
-      let same : w ≡ w + 0 = omega arith in
-      subst (λ k. EndsIn d Skipping n piece k (end_of [] end)) same (ends_in d Skipping r n w piece (end_of [] end) within goes stays);
-  stores = λ slot j own below. absurd (omega (arith, below));
-}
+plain_ends d n w r piece end within goes stays = grind (arith, (ends_in d Skipping r n w piece (end_of [] end) within goes stays))
 
 module _ (piece : List ℕ) (n w : ℕ) (within : w ≤ length piece) (white : (k : ℕ) → k < w → is_white (get_or piece k 0) ≡ true) where
   space_skips : stepped_all Space Skipping (take w piece) ≡ Some Skipping
@@ -227,22 +182,13 @@ module _ (piece : List ℕ) (n w : ℕ) (within : w ≤ length piece) (white : (
 
 -- ---- the byte that is due
 
-due_taken : (d : Directive) (piece : List ℕ) → 0 < length piece → stepped d Skipping (get_or piece 0 0) ≡ Some Taken → stepped_all d Skipping (take 1 piece) ≡ Some Taken
-due_taken d [] some e = absurd (omega (arith, some))
-due_taken d (x ∷ xs) some e = ap (λ (o : Option Stage). choose o None (λ s. stepped_all d s [])) e
-
 pub byte_passes : (a n : ℕ) (piece : List ℕ) → a < 256 → 0 < length piece → get_or piece 0 0 ≡ a
     → Answers (Byte a) Skipping n piece (record { before = 1; item = 0; phase = phase.Skipping; ends = Some finish.Passes })
-byte_passes a n piece proper some is =
-    let takes : stepped (Byte a) Skipping (get_or piece 0 0) ≡ Some Taken = ap (λ v. cond v (Some Taken) None) ((tests_same a (get_or piece 0 0)).to (sym is)) in
-    plain_ends (Byte a) n 1 Taken piece finish.Passes (omega (arith, some)) (due_taken (Byte a) piece some takes) (stays_full (Byte a) Taken (drop 1 piece) proper (sym (taken_full (Byte a))))
+byte_passes a n piece proper some is = grind (arith, stays_full, taken_full)
 
 pub percent_passes : (n : ℕ) (piece : List ℕ) → 0 < length piece → is_white (get_or piece 0 0) ≡ false → get_or piece 0 0 ≡ 37
     → Answers Percent Skipping n piece (record { before = 1; item = 0; phase = phase.Skipping; ends = Some finish.Passes })
-percent_passes n piece some ink is =
-    let takes : stepped Percent Skipping (get_or piece 0 0) ≡ Some Taken =
-    ap (λ v. cond v (Some Skipping) (stepped (Byte 37) Skipping (get_or piece 0 0))) ink ∙ ap (λ v. cond v (Some Taken) None) ((tests_same 37 (get_or piece 0 0)).to (sym is)) in
-    plain_ends Percent n 1 Taken piece finish.Passes (omega (arith, some)) (due_taken Percent piece some takes) (stays_full Percent Taken (drop 1 piece) tt (sym (taken_full Percent)))
+percent_passes n piece some ink is = grind (arith, stays_full, taken_full)
 
 -- n
 pub count_answers : (c : Conversion) (n : ℕ) (piece : List ℕ) (end : Finished) → IsProper (Conv c) → is_count c.shape ≡ true → end_of [] end ≡ count_end c c.slot n
@@ -259,23 +205,9 @@ count_answers c n piece end proper is e =
 
 -- ---- items
 
--- a byte of a text
-in_text : (shape : Shape) (width : Option ℕ) (f : List ℕ) (b : ℕ) → shape_begins shape width (f ++ b ∷ []) ≡ true → IsInText shape b
-in_text (Int base) width f b e = tt
-in_text (Set members) width f b e = tt
-in_text Chars width f b e = tt
-in_text Count width f b e = tt
-in_text Text width [] b e = not_of (is_white b) (left_of (is_ink b) true e)
-in_text Text width (x ∷ f) b e = in_text Text width f b (right_of (is_ink x) (list_all is_ink (f ++ b ∷ [])) e)
-
 -- the bytes of an item that is a text belong to it
 pub item_stores : (c : Conversion) (f y : List ℕ) (slot j : ℕ) → CanAll c f y → text_slot (Conv c) ≡ Some slot → j < length y → StoresByte (Conv c) (get_or y j 0)
-item_stores c f y slot j can own below =
-    let one : suc j ≡ j + 1 = omega arith in
-    let last : f ++ take (j + 1) y ≡ (f ++ take j y) ++ get_or y j 0 ∷ [] =
-    ap (λ m. f ++ take m y) (sym one) ∙ ap (λ g. f ++ g) (take-suc y j 0 below) ∙ sym (append_assoc f (take j y) (get_or y j 0 ∷ [])) in
-    let can : can_take c ((f ++ take j y) ++ get_or y j 0 ∷ []) ≡ true = ap (can_take c) (sym last) ∙ can j below in
-    (slot, own, in_text c.shape c.width (f ++ take j y) (get_or y j 0) (right_of (is_within c.width (length ((f ++ take j y) ++ get_or y j 0 ∷ []))) (shape_begins c.shape c.width ((f ++ take j y) ++ get_or y j 0 ∷ [])) can))
+item_stores c f y slot j can own below = grind (arith, common_steps)
 
 pub stores_behind : (c : Conversion) (f piece : List ℕ) (n slot j : ℕ) → n ≤ length piece → CanAll c f (take n piece) → text_slot (Conv c) ≡ Some slot → j < n → StoresByte (Conv c) (get_or piece j 0)
 stores_behind c f piece n slot j within can own below =
@@ -284,23 +216,14 @@ stores_behind c f piece n slot j within can own below =
 
 -- a scan is of a conversion with an item
 pub scan_has_item : (scan : ItemScan) (f : List ℕ) → HasTaken scan f → is_count (conversion_of scan).shape ≡ false
-scan_has_item scan f h = ap is_count (sym h.shape) ∙ by_reading scan.reading
-  where
-    by_reading : (r : Reading) → is_count (shape_of r) ≡ false
-    by_reading (reading.Integer base reached) = refl
-    by_reading reading.Text = refl
-    by_reading (reading.Set members) = refl
-    by_reading reading.Chars = refl
+scan_has_item scan f h = grind arith
 
 -- the item f with bytes of the piece ends where the next byte can't be taken
 pub over_next : (c : Conversion) (f piece : List ℕ) (n : ℕ) → IsProperShape c.shape → n < length piece → (CanTake c (f ++ take (n + 1) piece) → ⊥) → StaysAt (Conv c) (Item (f ++ take n piece)) (drop n piece)
 over_next c f piece n proper below never =
-    let one : suc n ≡ n + 1 = omega arith in
-    let next : f ++ take (n + 1) piece ≡ (f ++ take n piece) ++ get_or piece n 0 ∷ [] =
-    ap (λ m. f ++ take m piece) (sym one) ∙ ap (λ g. f ++ g) (take-suc piece n 0 below) ∙ sym (append_assoc f (take n piece) (get_or piece n 0 ∷ [])) in
-    let no : can_take c ((f ++ take n piece) ++ get_or piece n 0 ∷ []) ≡ false =
-    not_true (can_take c ((f ++ take n piece) ++ get_or piece n 0 ∷ [])) (λ e. never ((tests_can_take c proper (f ++ take (n + 1) piece)).from (ap (can_take c) next ∙ e))) in
-    stays_next (Conv c) (Item (f ++ take n piece)) n piece below (ap (λ v. cond v (Some (Item ((f ++ take n piece) ++ get_or piece n 0 ∷ []))) None) no)
+    let next : f ++ take (n + 1) piece ≡ (f ++ take n piece) ++ get_or piece n 0 ∷ [] = rw (take_more piece n 0 below, append_assoc) refl in
+    let no : can_take c ((f ++ take n piece) ++ get_or piece n 0 ∷ []) ≡ false = false_from_ne_true _ (λ e. never ((tests_can_take c proper (f ++ take (n + 1) piece)).from (ap (can_take c) next ∙ e))) in
+    stays_next (Conv c) (Item (f ++ take n piece)) n piece below (rw no refl)
 
 -- the first bytes of an item
 begins : (c : Conversion) (piece : List ℕ) (n : ℕ) → 0 < n → n ≤ length piece → (shape_skips c.shape && is_white (get_or piece 0 0)) ≡ false → CanAll c [] (take n piece)
@@ -312,91 +235,55 @@ begins c (b ∷ piece) (suc n) some within ink can = first_all c b (take n piece
 some_taken : (piece : List ℕ) (n : ℕ) → 0 < n → n ≤ length piece → take n piece ≢ []
 some_taken piece n some within e = let long = length-take-le n piece within in let none = ap length e in omega (arith, long, none, some)
 
+-- an item that ends or waits behind so many bytes of the piece, which bring the directive to it
+item_answers : (d : Directive) (q : Stage) (h : List ℕ) (n item : ℕ) (piece : List ℕ) (current : Phase) (ends : Option Finished) → item ≤ length piece
+    → stepped_all d q (take item piece) ≡ Some (Item h) → GrowsBy q (take item piece) (Item h) → item_of q ++ take item piece ≡ h
+    → ((slot j : ℕ) → slot_in current ≡ Some slot → j < item → StoresByte d (get_or piece j 0)) → (ends ≡ None → (item ≡ length piece) × Shows d current (Item h))
+    → IfSome ends (EndsAt d h (drop item piece)) → Answers d q n piece (record { before = 0; item = item; phase = current; ends = ends })
+item_answers d q h n item piece current ends within goes grown text stores all over = record { goes = by_ends ends all over; stores = λ slot j own below. rw zero-add (stores slot j own below) }
+  where
+    by_ends : (o : Option Finished) → (o ≡ None → (item ≡ length piece) × Shows d current (Item h)) → IfSome o (EndsAt d h (drop item piece))
+        → AnswersBy o d q n piece (record { before = 0; item = item; phase = current; ends = ends })
+    by_ends None all over = grind (arith, take_all, (all refl))
+    by_ends (Some end) all over = rw (zero-add, text) (ends_in d q (Item h) n item piece (end_of h end) within goes over)
+
 -- an item that begins with the piece
 module _ (c : Conversion) (n : ℕ) (piece : List ℕ) (item : ℕ) (proper : IsProper (Conv c)) (some : 0 < item) (within : item ≤ length piece)
     (ink : (shape_skips c.shape && is_white (get_or piece 0 0)) ≡ false) (can : CanAll c [] (take item piece)) where
   pub item_begins : (current : Phase) (ends : Option Finished) → slot_in current ≡ text_slot (Conv c) → (ends ≡ None → item ≡ length piece)
       → (take item piece ≢ [] → Shows (Conv c) current (Item (take item piece))) → (take item piece ≢ [] → IfSome ends (EndsAt (Conv c) (take item piece) (drop item piece)))
       → Answers (Conv c) Skipping n piece (record { before = 0; item = item; phase = current; ends = ends })
-  item_begins current ends own all shows over = record {
-    goes = by_ends ends all (over (some_taken piece item some within));
-    stores = λ slot j is below. let same : j ≡ 0 + j = omega arith in subst (λ i. StoresByte (Conv c) (get_or piece i 0)) same (stores_behind c [] piece item slot j within can (sym own ∙ is) below);
-  }
-    where
-      by_ends : (o : Option Finished) → (o ≡ None → item ≡ length piece) → IfSome o (EndsAt (Conv c) (take item piece) (drop item piece))
-          → AnswersBy o (Conv c) Skipping n piece (record { before = 0; item = item; phase = current; ends = ends })
-      by_ends None all over =
-          let whole : length piece ≤ item = (let e = all refl in omega (arith, e)) in
-          record {
-            stage = Item (take item piece);
-            stepped = ap (stepped_all (Conv c) Skipping) (sym (take_all item piece whole)) ∙ begins c piece item some within ink can;
-            shown = shows (some_taken piece item some within);
-            grown = refl;
-          }
-      by_ends (Some end) all over =
-          let same : item ≡ 0 + item = omega arith in
-          subst (λ k. EndsIn (Conv c) Skipping n piece k (end_of (take item piece) end)) same
-          (ends_in (Conv c) Skipping (Item (take item piece)) n item piece (end_of (take item piece) end) within (begins c piece item some within ink can) over)
+  item_begins current ends own all shows over =
+      let begun = some_taken piece item some within in
+      item_answers (Conv c) Skipping (take item piece) n item piece current ends within (begins c piece item some within ink can) refl refl
+      (λ slot j is below. stores_behind c [] piece item slot j within can (sym own ∙ is) below) (λ e. (all e, shows begun)) (over begun)
 
 -- an item that goes on with the piece
 pub item_goes_on : (d : Directive) (q : Stage) (slot : Option ℕ) (scan : ItemScan) (n item : ℕ) (piece : List ℕ) (current : Phase) (ends : Option Finished)
     → (shows : ShowsItem d slot scan q) → item ≤ length piece → CanAll (conversion_of scan) shows.item (take item piece) → slot_in current ≡ slot → (ends ≡ None → item ≡ length piece)
     → Shows d current (Item (shows.item ++ take item piece)) → IfSome ends (EndsAt d (shows.item ++ take item piece) (drop item piece))
     → Answers d q n piece (record { before = 0; item = item; phase = current; ends = ends })
-item_goes_on d q slot scan n item piece current ends shows within can own all now over = record {
-  goes = by_ends ends all over;
-  stores = λ s j is below.
-      let same : j ≡ 0 + j = omega arith in
-      subst (λ i. StoresByte d (get_or piece i 0)) same (subst (λ (x : Directive). StoresByte x (get_or piece j 0)) (sym shows.own)
-      (stores_behind (conversion_of scan) shows.item piece item s j within can (ap text_slot (sym shows.own) ∙ shows.text ∙ sym own ∙ is) below));
-}
-  where
-    goes : stepped_all d q (take item piece) ≡ Some (Item (shows.item ++ take item piece))
-    goes =
-        ap (λ (x : Directive). stepped_all x q (take item piece)) shows.own ∙ ap (λ s. stepped_all (Conv (conversion_of scan)) s (take item piece)) shows.stage
-        ∙ item_all (conversion_of scan) shows.item (take item piece) can
+item_goes_on d q slot scan n item piece current ends shows within can own all now over =
+    rw shows.stage (item_answers d (Item shows.item) (shows.item ++ take item piece) n item piece current ends within
+    (rw shows.own (item_all (conversion_of scan) shows.item (take item piece) can)) refl refl
+    (λ s j is below. rw shows.own (stores_behind (conversion_of scan) shows.item piece item s j within can (ap text_slot (sym shows.own) ∙ shows.text ∙ sym own ∙ is) below))
+    (λ e. (all e, now)) over)
 
-    text : item_of q ≡ shows.item
-    text = ap item_of shows.stage
-
-    by_ends : (o : Option Finished) → (o ≡ None → item ≡ length piece) → IfSome o (EndsAt d (shows.item ++ take item piece) (drop item piece))
-        → AnswersBy o d q n piece (record { before = 0; item = item; phase = current; ends = ends })
-    by_ends None all over =
-        let whole : length piece ≤ item = (let e = all refl in omega (arith, e)) in
-        record {
-          stage = Item (shows.item ++ take item piece);
-          stepped = ap (stepped_all d q) (sym (take_all item piece whole)) ∙ goes;
-          shown = now;
-          grown = subst (λ s. GrowsBy s (take item piece) (Item (shows.item ++ take item piece))) (sym shows.stage) refl;
-        }
-    by_ends (Some end) all over =
-        let same : item ≡ 0 + item = omega arith in
-        subst (λ k. EndsIn d q n piece k (end_of (item_of q ++ take item piece) end)) same
-        (subst (λ g. EndsIn d q n piece item (end_of (g ++ take item piece) end)) (sym text)
-        (ends_in d q (Item (shows.item ++ take item piece)) n item piece (end_of (shows.item ++ take item piece) end) within goes over))
+first_refused : (c : Conversion) (piece : List ℕ) → IsProperShape c.shape → 0 < length piece → (shape_skips c.shape && is_white (get_or piece 0 0)) ≡ false → (CanTake c (take 1 piece) → ⊥)
+    → stepped (Conv c) Skipping (get_or piece 0 0) ≡ None
+first_refused c [] proper some ink never = absurd (omega arith)
+first_refused c (b ∷ piece) proper some ink never = let no = false_from_ne_true (can_take c (b ∷ [])) (λ e. never ((tests_can_take c proper (b ∷ [])).from e)) in rw (ink, no) refl
 
 -- nothing of an item is taken where the first byte can't be
 pub nothing_taken : (c : Conversion) (n : ℕ) (piece : List ℕ) → IsProperShape c.shape → is_count c.shape ≡ false → 0 < length piece → (shape_skips c.shape && is_white (get_or piece 0 0)) ≡ false
     → (CanTake c (take 1 piece) → ⊥) → Answers (Conv c) Skipping n piece (record { before = 0; item = 0; phase = phase.Skipping; ends = Some (finish.Fails MatchingFailure) })
 nothing_taken c n piece proper other some ink never =
     plain_ends (Conv c) n 0 Skipping piece (finish.Fails MatchingFailure) (omega arith) refl
-    (λ m z. stays_next (Conv c) Skipping 0 piece some refused m z ∙ same_part refl refl (other_finished c c.shape Skipping m true other))
-  where
-    first : (xs : List ℕ) → 0 < length xs → take 1 xs ≡ get_or xs 0 0 ∷ []
-    first [] h = absurd (omega (arith, h))
-    first (x ∷ xs) h = refl
-
-    no : can_take c (get_or piece 0 0 ∷ []) ≡ false
-    no = not_true (can_take c (get_or piece 0 0 ∷ [])) (λ e. never ((tests_can_take c proper (take 1 piece)).from (ap (can_take c) (first piece some) ∙ e)))
-
-    refused : stepped (Conv c) Skipping (get_or piece 0 0) ≡ None
-    refused = ap (λ v. cond v (Some Skipping) (item_stepped c [] (get_or piece 0 0))) ink ∙ ap (λ v. cond v (Some (Item (get_or piece 0 0 ∷ []))) None) no
+    (λ m z. stays_next (Conv c) Skipping 0 piece some (first_refused c piece proper some ink never) m z ∙ same_part refl refl (other_finished c c.shape Skipping m true other))
 
 -- an item that is over ends as the code tells
 pub over_ends : (c k : Conversion) (h rest : List ℕ) (end : Finished) → k ≡ c → is_count c.shape ≡ false → StaysAt (Conv k) (Item h) rest → end_of h end ≡ item_end c h → EndsAt (Conv c) h rest end
-over_ends c k h rest end same other stays is n z =
-    subst (λ (x : Conversion). one_from (Conv x) (Item h) n (rest ++ z) ≡ record { used = n; left = rest ++ z; end = finished (Conv x) (Item h) n true }) same (stays n z)
-    ∙ same_part refl refl (other_finished c c.shape (Item h) n true other ∙ sym is)
+over_ends c k h rest end same other stays is = grind arith
 
 -- ---- integers that were read in one go
 
@@ -423,111 +310,40 @@ fronts_of c x n proper below is = (can, cannot)
         omega (arith, most)
 
 some_bytes : (base : Base) (piece : List ℕ) (n : ℕ) (negative : Bool) (m : ℕ) → IsInteger base (take n piece) negative m → 0 < n
-some_bytes base piece zero negative m is = absurd (nothing (integer_at_is base [] negative m is))
-  where
-    nothing : ◌≡◌ {A = Option (Bool × ℕ)} None (Some (negative, m)) → ⊥
-    nothing e = cc
-some_bytes base piece (suc n) negative m is = omega arith
+some_bytes base piece n negative m is = grind arith
+
+-- an item that ends before a byte of the piece, looked at as a whole
+item_read : (c : Conversion) (n item : ℕ) (piece : List ℕ) (end : Finished) → IsProperShape c.shape → is_count c.shape ≡ false → 0 < item → item < length piece
+    → ((z : List ℕ) → IsItem c (piece ++ z) item) → (shape_skips c.shape && is_white (get_or piece 0 0)) ≡ false → end_of (take item piece) end ≡ item_end c (take item piece)
+    → Answers (Conv c) Skipping n piece (record { before = 0; item = item; phase = phase.Skipping; ends = Some end })
+item_read c n item piece end proper other some below is ink ends =
+    let within : item ≤ length piece = omega arith in
+    let fronts = fronts_of c piece item proper below is in
+    item_answers (Conv c) Skipping (take item piece) n item piece phase.Skipping (Some end) within (begins c piece item some within ink (can_all c [] piece item proper within fronts.0)) refl refl
+    (λ slot j own less. absurd cc) (λ e. absurd cc)
+    (over_ends c c (take item piece) (drop item piece) end refl other (over_next c [] piece item proper below fronts.1) ends)
 
 pub integer_read : (c : Conversion) (n : ℕ) (piece : List ℕ) (w : WholeInteger) (end : Finished) → IsWhole c.shape c.width piece w → (shape_skips c.shape && is_white (get_or piece 0 0)) ≡ false
     → ((text : List ℕ) → end_of text end ≡ passed_number c c.slot (value_of c.kind w.negative w.magnitude))
     → Answers (Conv c) Skipping n piece (record { before = 0; item = w.bytes; phase = phase.Skipping; ends = Some end })
-integer_read c n piece w end is ink ends = record {
-  goes =
-      let same : w.bytes ≡ 0 + w.bytes = omega arith in
-      subst (λ k. EndsIn (Conv c) Skipping n piece k (end_of f end)) same (ends_in (Conv c) Skipping (Item f) n w.bytes piece (end_of f end) (omega (arith, below)) (begins c piece w.bytes some (omega (arith, below)) ink can)
-      (λ m z. over_next c [] piece w.bytes proper below fronts.1 m z ∙ same_part refl refl (other_finished c c.shape (Item f) m true (ap is_count is.is) ∙ sym (ends f ∙ number))));
-  stores = λ slot j own less. absurd cc;
-}
-  where
-    f : List ℕ
-    f = take w.bytes piece
-
-    below : w.bytes < length piece
-    below = is.ends.behind
-
-    proper : IsProperShape c.shape
-    proper = subst IsProperShape (sym is.is) tt
-
-    some : 0 < w.bytes
-    some = some_bytes is.base piece w.bytes w.negative w.magnitude is.ends.integer
-
-    fronts : ((k : ℕ) → k < w.bytes → CanTake c (take (k + 1) piece)) × (CanTake c (take (w.bytes + 1) piece) → ⊥)
-    fronts = fronts_of c piece w.bytes proper below (is.ends.item c is.is refl)
-
-    can : CanAll c [] f
-    can = can_all c [] piece w.bytes proper (omega (arith, below)) fronts.0
-
-    number : passed_number c c.slot (value_of c.kind w.negative w.magnitude) ≡ item_end c f
-    number = integer_ends c f w.negative w.magnitude false (is.base, w.magnitude, is.is, is.ends.integer, refl)
-
--- ---- items that are stored as they stand, looked at once
+integer_read c n piece w end is ink ends =
+    item_read c n w.bytes piece end (rw is.is tt) (ap is_count is.is) (some_bytes is.base piece w.bytes w.negative w.magnitude is.ends.integer) is.ends.behind (is.ends.item c is.is refl) ink
+    (ends (take w.bytes piece) ∙ integer_ends c (take w.bytes piece) w.negative w.magnitude false (is.base, w.magnitude, is.is, is.ends.integer, refl))
 
 pub bytes_read : (c : Conversion) (n item : ℕ) (piece : List ℕ) (end : Finished) → IsProper (Conv c) → ((slot : Option ℕ) → slot_of_text c.shape slot ≡ slot) → is_count c.shape ≡ false
     → ItemWithin c.shape c.width piece item → (shape_skips c.shape && is_white (get_or piece 0 0)) ≡ false → (c.slot ≡ None → end ≡ finish.Passes)
     → ((slot : ℕ) → c.slot ≡ Some slot → end ≡ finish.Closes slot) → Answers (Conv c) Skipping n piece (record { before = 0; item = item; phase = phase.Skipping; ends = Some end })
-bytes_read c n item piece end proper text other is ink none some = record {
-  goes =
-      let same : item ≡ 0 + item = omega arith in
-      subst (λ k. EndsIn (Conv c) Skipping n piece k (end_of f end)) same (ends_in (Conv c) Skipping (Item f) n item piece (end_of f end) (omega (arith, below)) (begins c piece item is.some (omega (arith, below)) ink can)
-      (λ m z. over_next c [] piece item proper.0 below fronts.1 m z ∙ same_part refl refl (other_finished c c.shape (Item f) m true other ∙ sym (by_slot c.slot refl))));
-  stores = λ slot j own less. absurd cc;
-}
+bytes_read c n item piece end proper text other is ink none some = item_read c n item piece end proper.0 other is.some is.behind (is.item c refl refl proper.0) ink (by_slot c.slot refl)
   where
-    f : List ℕ
-    f = take item piece
-
-    below : item < length piece
-    below = is.behind
-
-    fronts : ((k : ℕ) → k < item → CanTake c (take (k + 1) piece)) × (CanTake c (take (item + 1) piece) → ⊥)
-    fronts = fronts_of c piece item proper.0 below (is.item c refl refl proper.0)
-
-    can : CanAll c [] f
-    can = can_all c [] piece item proper.0 (omega (arith, below)) fronts.0
-
-    matched : Matches c f
-    matched = is.matches c refl refl
-
-    by_slot : (slot : Option ℕ) → c.slot ≡ slot → end_of f end ≡ item_end c f
-    by_slot None e = ap (end_of f) (none e) ∙ suppressed_end c f e matched
-    by_slot (Some slot) e = ap (end_of f) (some slot e) ∙ text_end c f slot (text c.slot ∙ e) matched
+    by_slot : (slot : Option ℕ) → c.slot ≡ slot → end_of (take item piece) end ≡ item_end c (take item piece)
+    by_slot None e = ap (end_of (take item piece)) (none e) ∙ suppressed_end c (take item piece) e (is.matches c refl refl)
+    by_slot (Some slot) e = ap (end_of (take item piece)) (some slot e) ∙ text_end c (take item piece) slot (text c.slot ∙ e) (is.matches c refl refl)
 
 -- ---- what the answer does to the text under way
 
 pub suits_waits : (d : Directive) (w : ℕ) (piece : List ℕ) → counts_bytes d ≡ false → w ≡ length piece
     → Suits d phase.Skipping piece (record { before = w; item = 0; phase = phase.Skipping; ends = None })
-suits_waits d w piece none all = record {
-  within = omega (arith, all);
-  all = λ e. omega (arith, all);
-  more = λ e q proper shows. ap (is_full d) shows ∙ sym (skipping_full d proper) ∙ none;
-  slot = tt;
-  left = tt;
-  end = tt;
-}
-
-pub suits_behind : (d : Directive) (w : ℕ) (piece : List ℕ) (run : Run) → w ≤ length piece → Suits d phase.Skipping (drop w piece) run → Suits d phase.Skipping piece (record run { before = w + run.before })
-suits_behind d w piece run within s =
-    let all : length (drop w piece) + w ≡ length piece = (let l = length-drop w piece in omega (arith, l, within)) in
-    let fits = s.within in
-    record { within = omega (arith, all, fits); all = λ e. let k = s.all e in omega (arith, all, k); more = s.more; slot = s.slot; left = s.left; end = s.end }
-
--- one that isn't of a conversion
-pub suits_plain : (d : Directive) (p : Phase) (piece : List ℕ) (run : Run) → text_slot d ≡ None → IfSome (slot_in p) (λ slot. text_slot d ≡ Some slot) → Suits d phase.Skipping piece run → Suits d p piece run
-suits_plain d phase.Skipping piece run none own s = s
-suits_plain d (phase.Text slot scan) piece run none own s = let e : None ≡ Some slot = sym none ∙ own in cc
-suits_plain d (phase.Item scan) piece run none own s = record { within = s.within; all = s.all; more = s.more; slot = s.slot; left = by_phase run.phase s.left; end = s.end }
-  where
-    same : (d : Directive) → left_before d phase.Skipping ≡ left_before d (phase.Item scan)
-    same Space = refl
-    same (Byte a) = refl
-    same Percent = refl
-    same (Conv c) = refl
-
-    by_phase : (new : Phase) → LeftAfterAll d phase.Skipping new run.item → LeftAfterAll d (phase.Item scan) new run.item
-    by_phase phase.Skipping h = tt
-    by_phase (phase.Item next) h = tt
-    by_phase (phase.Text slot next) h = subst (λ m. HasLeft m (taking.left_of next) run.item) (same d) h
+suits_waits d w piece none all = grind (arith, skipping_full)
 
 pub end_is : (d : Directive) (current : Phase) (o : Option Finished) (end : Finished) → o ≡ Some end → IfSome o (IsEnd d current) → IsEnd d current end
 end_is d current o end e own = subst (λ (o : Option Finished). IfSome o (IsEnd d current)) e own
@@ -535,27 +351,12 @@ end_is d current o end e own = subst (λ (o : Option Finished). IfSome o (IsEnd 
 -- ---- directives that end within the piece
 
 pub end_fits : (d : Directive) (piece : List ℕ) (run : Run) (e : Ended) → IsEndOf e run → Suits d phase.Skipping piece run → IsEndIn d piece e
-end_fits d piece run e is suits =
-    let own : IsEnd d run.phase e.finished = end_is d run.phase run.ends e.finished is.finished suits.end in
-    let fits = suits.within in
-    let before = is.before in
-    let item = is.item in
-    record { within = omega (arith, fits, before, item); given = own.given; number = own.number; memory = own.memory }
+end_fits d piece run e is suits = grind arith
 
 -- the end of an answer that fits the directive
 pub ended_by : (d : Directive) (n : ℕ) (piece : List ℕ) (run : Run) (o : Option Ended) → IfSome o (λ e. IsEndOf e run) → (IsProper d → Answers d Skipping n piece run)
     → Suits d phase.Skipping piece run → IfSome o (EndsAtOnce d n piece)
-ended_by d n piece run None is answers suits = tt
-ended_by d n piece run (Some e) is answers suits = record {
-  answers = λ proper. record {
-    goes =
-        subst (λ k. EndsIn d Skipping n piece (e.before + k) (end_of (take k (drop e.before piece)) e.finished)) (sym is.item)
-        (subst (λ b. EndsIn d Skipping n piece (b + run.item) (end_of (take run.item (drop b piece)) e.finished)) (sym is.before)
-        (subst (λ (o : Option Finished). AnswersBy o d Skipping n piece run) is.finished (let a = answers proper in a.goes)));
-    stores = λ slot j none below. absurd cc;
-  };
-  fits = end_fits d piece run e is suits;
-}
+ended_by d n piece run o is answers suits = grind (arith, end_fits)
 
 -- behind bytes that are skipped
 pub ended_behind : (d : Directive) (n w : ℕ) (piece : List ℕ) (e : Ended) → w ≤ length piece → e.before ≡ 0 → (IsProper d → stepped_all d Skipping (take w piece) ≡ Some Skipping)
@@ -569,22 +370,6 @@ ended_behind d n w piece e within front skips answers is =
       fits = record { within = omega (arith, all, fits, front); given = is.given; number = is.number; memory = is.memory };
     }
 
--- one that closes no text fits the directive as an answer
-pub suits_ended : (d : Directive) (piece : List ℕ) (e : Ended) → slot_closed e.finished ≡ None → IsEndIn d piece e → Suits d phase.Skipping piece (run_of e)
-suits_ended d piece e none is = record {
-  within = is.within;
-  all = λ e. cc;
-  more = λ e. cc;
-  slot = tt;
-  left = tt;
-  end = record { text = λ ok. sym none; given = is.given; number = is.number; memory = is.memory };
-}
-
 -- a directive that waits at the end of the piece doesn't pass before
 pub waits_late : (d : Directive) (n : ℕ) (piece : List ℕ) (room : ℕ) (run : Run) → run.ends ≡ None → Answers d Skipping n piece run → Suits d phase.Skipping piece run → IsSure d n piece room → ⊥
-waits_late d n piece room run none answers suits sure =
-    let all = suits.all none in
-    let within = suits.within in
-    let most = answers_use d Skipping n piece run within answers sure.after in
-    let early = sure.early in
-    omega (arith, all, most, early)
+waits_late d n piece room run none answers suits sure = grind (arith, answers_use)

@@ -1,25 +1,22 @@
 -- Runs for which memory was refused.
-use Rattle.std.proofs.Common.{◌≡◌, ℕ, zero, suc, ◌+◌, ◌-◌, ◌<◌, ◌≤◌, inl, inr, Bool, true, false, cond, List, [], ◌∷◌, ◌++◌, length, drop, Option, Some, None, is_some, ℤ, refl, sym, ap, subst, ◌∙◌, arith, true≢false, append_assoc, length-append}
+use Rattle.std.proofs.lemmas.Grind.{common_steps}
+use Rattle.std.proofs.Common.{◌≡◌, ℕ, ◌+◌, ◌-◌, ◌<◌, ◌≤◌, inl, inr, Bool, true, false, List, [], ◌∷◌, ◌++◌, length, drop, Option, Some, None, is_some, refl, sym, ap, subst, ◌∙◌, arith, true≢false, append_assoc, length-append}
 use Rattle.std.specs.Prelude.{slice_get, IfNone, IsSome}
 use Rattle.sf_base.specs.Bytes.{is_white}
-use Rattle.sf_base.specs.Data.{value_of}
 use Rattle.sf_format.specs.declared.directive.Shape.{Shape}
 use Rattle.sf_format.specs.declared.directive.Shape.TheVariants.{Int, Text, Set, Chars, Count}
-use Rattle.sf_format.specs.declared.directive.Conversion.{Conversion}
 use Rattle.sf_format.specs.declared.directive.Directive.{Directive}
-use Rattle.sf_format.specs.declared.directive.Directive.TheVariants.{Space, Byte, Percent, Conv}
 use Rattle.sf_format.specs.Proper.{AreProper}
-use Rattle.sf_item.specs.Tests.{integer_at, matches}
 use Rattle.sf_run.specs.declared.outcome.Ending.{Ending}
 use Rattle.sf_run.specs.declared.outcome.Status.{Status}
-use Rattle.sf_run.specs.declared.outcome.Status.TheVariants.{Done, InputFailure, MatchingFailure, OutOfRange, TooLong, NoMemory}
+use Rattle.sf_run.specs.declared.outcome.Status.TheVariants.{Done, TooLong, NoMemory}
 use Rattle.sf_run.specs.declared.scanner.Stop.{Stop}
 use Rattle.sf_run.specs.Steps.{StepEnd, Passes, Stores, Fails}
 use Rattle.sf_run.specs.Runs.{Ran, GoesOn, Steps, RunReport, report_of, used}
 use Rattle.sf_run.specs.Limits.{IsCut, TellsWithin, RunRefused}
 use Rattle.sf_run.specs.Limits.{Stores as StoresAt, StoresShape}
-use Rattle.sf_run.specs.Machine.{Stage, Skipping, Taken, Item, stepped, finished, number_end, count_end, integer_end, stored_end, passed_end, item_end, nothing_end, byte_finished, item_finished, conversion_finished}
-use Rattle.sf_run.specs.Residual.{Tally, Part, nothing_yet, with_used, counted, out_of, by_end, one_from, is_over, run_of}
+use Rattle.sf_run.specs.Machine.{Stage, stepped, finished}
+use Rattle.sf_run.specs.Residual.{Tally, nothing_yet, out_of, by_end, one_from, run_of}
 use Rattle.sf_run.specs.Standing.{Standing, Keeps, After, Does, Gives, Refuses, RefusesIn, ran_out, report_by}
 use Rattle.sf_run.specs.Stopping.{is_memory_status, is_no_memory}
 use Rattle.sf_run.specs.Texts.{IsInText, StoresByte, slot_of_text}
@@ -42,72 +39,9 @@ own_end Passes = true
 own_end (Stores slot v) = true
 own_end (Fails status) = is_own status
 
-number_own : (c : Conversion) (slot : ℕ) (v : Option ℤ) → own_end (number_end c slot v) ≡ true
-unfolding own_end is_own
-number_own c slot None = refl
-number_own c slot (Some v) = refl
-
-count_own : (c : Conversion) (slot : Option ℕ) (n : ℕ) → own_end (count_end c slot n) ≡ true
-unfolding own_end is_own
-count_own c None n = refl
-count_own c (Some slot) n = number_own c slot (value_of c.kind false n)
-
-integer_own : (c : Conversion) (slot : ℕ) (i : Option (Bool × ℕ)) → own_end (integer_end c slot i) ≡ true
-unfolding own_end is_own
-integer_own c slot None = refl
-integer_own c slot (Some i) = number_own c slot (value_of c.kind i.0 i.1)
-
-stored_own : (c : Conversion) (slot : ℕ) (shape : Shape) (item : List ℕ) → own_end (stored_end c slot shape item) ≡ true
-unfolding own_end is_own
-stored_own c slot (Int base) item = integer_own c slot (integer_at base item)
-stored_own c slot Text item = refl
-stored_own c slot (Set members) item = refl
-stored_own c slot Chars item = refl
-stored_own c slot Count item = refl
-
-passed_own : (c : Conversion) (slot : Option ℕ) (item : List ℕ) → own_end (passed_end c slot item) ≡ true
-unfolding own_end is_own
-passed_own c None item = refl
-passed_own c (Some slot) item = stored_own c slot c.shape item
-
-item_own : (c : Conversion) (item : List ℕ) → own_end (item_end c item) ≡ true
-unfolding own_end is_own
-item_own c item = by_case (matches c item)
-  where
-    by_case : (v : Bool) → own_end (cond v (passed_end c c.slot item) (Fails MatchingFailure)) ≡ true
-    by_case true = passed_own c c.slot item
-    by_case false = refl
-
-nothing_own : (more : Bool) → own_end (nothing_end more) ≡ true
-unfolding own_end is_own
-nothing_own true = refl
-nothing_own false = refl
-
-item_finish_own : (c : Conversion) (q : Stage) (more : Bool) → own_end (item_finished c q more) ≡ true
-unfolding own_end is_own
-item_finish_own c Skipping more = nothing_own more
-item_finish_own c Taken more = refl
-item_finish_own c (Item f) more = item_own c f
-
-conversion_own : (c : Conversion) (shape : Shape) (q : Stage) (n : ℕ) (more : Bool) → own_end (conversion_finished c shape q n more) ≡ true
-conversion_own c Count q n more = count_own c c.slot n
-conversion_own c (Int base) q n more = item_finish_own c q more
-conversion_own c Text q n more = item_finish_own c q more
-conversion_own c (Set members) q n more = item_finish_own c q more
-conversion_own c Chars q n more = item_finish_own c q more
-
-byte_own : (q : Stage) (more : Bool) → own_end (byte_finished q more) ≡ true
-unfolding own_end is_own
-byte_own Skipping more = nothing_own more
-byte_own Taken more = refl
-byte_own (Item f) more = refl
-
 finish_own : (d : Directive) (q : Stage) (n : ℕ) (more : Bool) → own_end (finished d q n more) ≡ true
 unfolding own_end is_own
-finish_own Space q n more = refl
-finish_own (Byte a) q n more = byte_own q more
-finish_own Percent q n more = byte_own q more
-finish_own (Conv c) q n more = conversion_own c c.shape q n more
+finish_own d q n more = grind arith
 
 one_own : (d : Directive) (q : Stage) (n : ℕ) (x : List ℕ) → own_end (one_from d q n x).end ≡ true
 one_own d q n [] = finish_own d q n false
@@ -115,12 +49,7 @@ one_own d q n (b ∷ x) = by_option (λ p. own_end p.end ≡ true) (stepped d q 
 
 own_status : (status : Status) → own_end (Fails status) ≡ true → is_memory_status status ≡ false
 unfolding own_end is_own
-own_status Done e = refl
-own_status InputFailure e = refl
-own_status MatchingFailure e = refl
-own_status OutOfRange e = refl
-own_status TooLong e = refl
-own_status NoMemory e = absurd (true≢false (sym e))
+own_status status e = grind arith
 
 own_not_done : (end : StepEnd) (status : Status) → own_end end ≡ true → end ≡ Fails status → status ≡ Done → ⊥
 unfolding own_end is_own
@@ -131,20 +60,11 @@ never_done d q n x status is done = own_not_done (one_from d q n x).end status (
 
 end_fine : (end : StepEnd) (y : RunReport) (f : Status → RunReport) → own_end end ≡ true → is_memory_status y.status ≡ false → ((status : Status) → (f status).status ≡ status)
     → is_memory_status (by_end end y f).status ≡ false
-end_fine Passes y f own h same = h
-end_fine (Stores slot v) y f own h same = h
-end_fine (Fails status) y f own h same = ap is_memory_status (same status) ∙ own_status status own
-
-over_fine : (v : Bool) (a b : RunReport) → a.status ≡ TooLong → is_memory_status b.status ≡ false → is_memory_status (cond v a b).status ≡ false
-over_fine true a b e h = ap is_memory_status e
-over_fine false a b e h = h
+end_fine end y f own h same = grind (arith, own_status)
 
 pub run_fine : (m : Option ℕ) (ds : List Directive) (at : ℕ) (t : Tally) (x : List ℕ) → is_memory_status (run_of m ds at t x).status ≡ false
 run_fine m [] at t x = refl
-run_fine m (d ∷ ds) at t x =
-    let p : Part = one_from d Skipping t.used x in
-    over_fine (is_over m p.used) _ _ refl
-    (end_fine p.end _ (λ status. out_of status at (with_used p.used t)) (one_own d Skipping t.used x) (run_fine m ds (at + 1) (counted d p.end (with_used p.used t)) p.left) (λ status. refl))
+run_fine m (d ∷ ds) at t x = grind (arith, end_fine, one_own, run_fine m ds)
 
 -- a scanner that is after some bytes has not run out
 pub after_fine : (ds : List Directive) (m : ℕ) (s : Standing) (x : List ℕ) → After ds m s x → ran_out s ≡ false
@@ -178,9 +98,7 @@ skip_before [] b v e = rw e (omega arith)
 skip_before (x ∷ u) b v e = one_more-le (is_white x) (skip (u ++ b ∷ v)) (length u) (skip_before u b v e)
 
 drop_front : (n : ℕ) (u v : List ℕ) → n ≤ length u → (drop n (u ++ v) ≡ drop n u ++ v) × (length (drop n u) + n ≡ length u)
-drop_front zero u v h = (refl, omega arith)
-drop_front (suc n) [] v h = absurd (omega (arith, h))
-drop_front (suc n) (x ∷ u) v h = let w = drop_front n u v (omega (arith, h)) in let l = w.1 in (w.0, omega (arith, l))
+drop_front n u v h = grind (arith, common_steps)
 
 is_some_of : (o : Option ℕ) (n : ℕ) → o ≡ Some n → IsSome o
 is_some_of o n e = ap is_some e
@@ -196,10 +114,7 @@ stores_shape Text slot n b u v j e text all =
     (is_some_of slot n e, (skip (u ++ b ∷ v), skip_is (u ++ b ∷ v), omega (arith, low, all)))
 
 stores_at : (d : Directive) (b : ℕ) (u v : List ℕ) (j : ℕ) → StoresByte d b → length u ≡ j → StoresAt d (u ++ b ∷ v) j
-stores_at Space b u v j h all = absurd h
-stores_at (Byte a) b u v j h all = absurd h
-stores_at Percent b u v j h all = absurd h
-stores_at (Conv c) b u v j h all = stores_shape c.shape c.slot h.0 b u v j h.1 h.2 all
+stores_at d b u v j h all = grind (arith, stores_shape)
 
 -- ---- the report
 

@@ -1,41 +1,25 @@
 -- The white space at the front of an input.
-use Rattle.std.proofs.Common.{◌≡◌, ℕ, zero, suc, ◌<◌, ◌≤◌, Bool, true, false, cond, List, [], ◌∷◌, length, take, get_or, refl, sym, ◌∙◌, arith, true≢false}
+use Rattle.std.proofs.lemmas.Grind.{common_steps}
+use Rattle.std.proofs.Common.{◌≡◌, ℕ, suc, ◌<◌, ◌≤◌, Bool, true, cond, List, [], ◌∷◌, length, take, get_or, refl, arith}
 use Rattle.sf_base.specs.Greatest.{IsGreatest}
 use Rattle.sf_base.specs.Bytes.{is_white, AreWhite, IsSkip}
 use Rattle.sf_run.specs.Computed.{skip}
 
 pub greatest_only : {P : ℕ → Type 0} {j k : ℕ} → IsGreatest P j → IsGreatest P k → j ≡ k
-greatest_only {P} {j} {k} g h =
-    let up = h.above j g.holds in
-    let down = g.above k h.holds in
-    omega (arith, up, down)
+greatest_only g h = grind arith
 
 pub one_more-le : (c : Bool) (k l : ℕ) → k ≤ l → cond c (suc k) 0 ≤ suc l
-one_more-le true k l h = omega arith
-one_more-le false k l h = omega arith
+one_more-le c k l h = grind arith
 
 pub skip-le : (x : List ℕ) → skip x ≤ length x
 skip-le [] = omega arith
 skip-le (b ∷ x) = one_more-le (is_white b) (skip x) (length x) (skip-le x)
 
--- the first byte is no white space
-none_white : (b : ℕ) (x : List ℕ) → is_white b ≡ false → (j : ℕ) → AreWhite (take j (b ∷ x)) → j ≤ 0
-none_white b x e zero h = omega arith
-none_white b x e (suc j) h = absurd (true≢false (sym h.0 ∙ e))
-
 one_more : (b : ℕ) (x : List ℕ) (k : ℕ) → IsSkip x k → (j : ℕ) → (j ≤ length (b ∷ x)) × AreWhite (take j (b ∷ x)) → j ≤ suc k
-one_more b x k h zero w = omega arith
-one_more b x k h (suc j) w =
-    let fits = w.0 in
-    let below = h.above j (omega (arith, fits), w.1.1) in
-    omega (arith, below)
+one_more b x k h j w = grind arith
 
 skip_step : (b : ℕ) (x : List ℕ) (c : Bool) → is_white b ≡ c → IsSkip x (skip x) → IsSkip (b ∷ x) (cond c (suc (skip x)) 0)
-skip_step b x true e h = record {
-  holds = (let fits = h.holds.0 in omega (arith, fits), (e, h.holds.1));
-  above = one_more b x (skip x) h;
-}
-skip_step b x false e h = record { holds = (omega arith, tt); above = λ j w. none_white b x e j w.1 }
+skip_step b x c e h = grind arith
 
 pub skip_is : (x : List ℕ) → IsSkip x (skip x)
 skip_is [] = record { holds = (omega arith, tt); above = λ j h. h.0 }
@@ -46,7 +30,4 @@ skip_only x k h = greatest_only h (skip_is x)
 
 -- each byte of a front of white space is some
 pub white_below : (x : List ℕ) (j k : ℕ) → AreWhite (take j x) → j ≤ length x → k < j → is_white (get_or x k 0) ≡ true
-white_below x zero k white fits below = absurd (omega (arith, below))
-white_below [] (suc j) k white fits below = absurd (omega (arith, fits))
-white_below (b ∷ x) (suc j) zero white fits below = white.0
-white_below (b ∷ x) (suc j) (suc k) white fits below = white_below x j k white.1 (omega (arith, fits)) (omega (arith, below))
+white_below x j k white fits below = grind (arith, common_steps)

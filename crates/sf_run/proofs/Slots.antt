@@ -1,21 +1,20 @@
 -- The slots of a format and those of a store.
-use Rattle.std.proofs.Common.{◌≡◌, ℕ, zero, suc, ◌+◌, ◌≤◌, Bool, true, false, not, cond, ◌&&◌, ◌||◌, nat_eq, nat_le, List, [], ◌∷◌, ◌++◌, length, take, drop, Option, Some, None, is_some, refl, sym, ap, subst, ◌∙◌, arith, true≢false, unwrap_or, append-nil, append_assoc, length-append}
+use Rattle.std.proofs.lemmas.Grind.{common_steps}
+use Rattle.std.proofs.Common.{◌≡◌, ℕ, zero, suc, ◌+◌, ◌≤◌, Bool, true, false, not, ◌&&◌, ◌||◌, nat_eq, nat_le, List, [], ◌∷◌, ◌++◌, length, take, drop, Option, Some, None, is_some, refl, sym, ap, subst, ◌∙◌, arith, unwrap_or, append-nil, append_assoc, length-append}
 use Rattle.std.specs.Prelude.{◌≢◌, slice_get, IfSome}
-use Rattle.std.specs.List.{AllByRecursion, list_all, list_any, find}
-use Rattle.std.specs.Option.{option_map}
-use Rattle.std.proofs.lemmas.Bool.{eqb-false, ne_eqb}
+use Rattle.std.specs.List.{AllByRecursion, list_all, list_any}
+use Rattle.std.proofs.lemmas.Bool.{ne_eqb}
 use Rattle.std.proofs.lemmas.Bool.Decides.{nat_tests}
 use Rattle.std.proofs.lemmas.List.{map-append}
 use Rattle.std.proofs.lemmas.List.Sums.{sum_by-cons}
 use Rattle.sf_base.specs.Data.{Datum, Bytes, Assigned, datum_at, datum_of_number}
-use Rattle.sf_base.specs.Kept.{Kept, assigned, with_closed, buffer_of, Opened, text_of, text_in, texts_in, values_closed}
-use Rattle.sf_run.specs.Memory.{HoldsTexts, capacity_of}
+use Rattle.sf_base.specs.Kept.{Kept, assigned, with_closed, Opened, text_of, text_in, texts_in, values_closed}
+use Rattle.sf_run.specs.Memory.{capacity_of}
 use Rattle.sf_base.specs.declared.number.Number.{Number}
 use Rattle.sf_format.specs.declared.directive.Conversion.{Conversion}
 use Rattle.sf_format.specs.declared.directive.Directive.{Directive}
-use Rattle.sf_format.specs.declared.directive.Directive.TheVariants.{Space, Byte, Percent, Conv}
+use Rattle.sf_format.specs.declared.directive.Directive.TheVariants.{Conv}
 use Rattle.sf_format.specs.declared.directive.Shape.{Shape}
-use Rattle.sf_format.specs.declared.directive.Shape.TheVariants.{Int, Text, Set, Chars, Count}
 use Rattle.sf_format.specs.Slots.{AreDistinct}
 use Rattle.sf_format.specs.Proper.{slots_of}
 use Rattle.sf_format.specs.Widths.{add_widths, text_width, stored_width, width_sum}
@@ -29,7 +28,6 @@ use Rattle.sf_run.specs.Holding.{are_placed, are_apart, first_slot, is_text, sto
 use Rattle.sf_run.specs.Places.{is_destination}
 use Rattle.sf_run.specs.Texts.{slot_of, slot_of_text, text_slot, opened_slot, slots_in}
 use Rattle.sf_run.specs.Phases.{slot_in}
-use Rattle.sf_run.proofs.Stages.{conv_is}
 use Rattle.sf_run.proofs.Moves.{drop_at}
 
 -- ---- the slots of a list of directives
@@ -40,26 +38,16 @@ with_slot (Some n) ns = n ∷ ns
 
 slots-cons : (d : Directive) (ds : List Directive) → slots_of (d ∷ ds) ≡ with_slot (slot_of d) (slots_of ds)
 unfolding with_slot
-slots-cons Space ds = refl
-slots-cons (Byte a) ds = refl
-slots-cons Percent ds = refl
-slots-cons (Conv c) ds = by_slot c.slot refl
-  where
-    by_slot : (slot : Option ℕ) → c.slot ≡ slot → slots_of (Conv c ∷ ds) ≡ with_slot slot (slots_of ds)
-    by_slot None e = rw e refl
-    by_slot (Some n) e = rw e refl
+slots-cons d ds = grind arith
 
 with-append : (slot : Option ℕ) (ms ns : List ℕ) → with_slot slot (ms ++ ns) ≡ with_slot slot ms ++ ns
 unfolding with_slot
-with-append None ms ns = refl
-with-append (Some n) ms ns = refl
+with-append slot ms ns = grind arith
 
 slots_split : (ds : List Directive) (p : ℕ) → slots_of ds ≡ slots_of (take p ds) ++ slots_of (drop p ds)
 slots_split ds zero = refl
 slots_split [] (suc p) = refl
-slots_split (d ∷ ds) (suc p) =
-    slots-cons d ds ∙ ap (with_slot (slot_of d)) (slots_split ds p) ∙ with-append (slot_of d) (slots_of (take p ds)) (slots_of (drop p ds))
-    ∙ ap (λ l. l ++ slots_of (drop p ds)) (sym (slots-cons d (take p ds)))
+slots_split (d ∷ ds) (suc p) = grind (arith, slots_split ds)
 
 some_is : {A : Type 0} (a b : A) → Some a ≡ Some b → a ≡ b
 some_is a b e = cc
@@ -89,23 +77,18 @@ slots_more ds p d values slot v at own is =
 slots_at : (ds : List Directive) (p : ℕ) (d : Directive) (slot : ℕ) → slice_get ds p ≡ Some d → slot_of d ≡ Some slot
     → slots_of ds ≡ slots_of (take p ds) ++ slot ∷ slots_of (drop (p + 1) ds)
 unfolding with_slot
-slots_at ds p d slot at own =
-    slots_split ds p ∙ ap (λ rest. slots_of (take p ds) ++ slots_of rest) (drop_at ds p d at)
-    ∙ ap (λ l. slots_of (take p ds) ++ l) (slots-cons d (drop (p + 1) ds) ∙ ap (λ s. with_slot s (slots_of (drop (p + 1) ds))) own)
+slots_at ds p d slot at own = grind (arith, (slots_split ds p), (drop_at ds p d at))
 
 -- ---- each slot is one of the store's
 
 right_of : (a b : Bool) → (a && b) ≡ true → b ≡ true
-right_of true b e = e
-right_of false b e = absurd (true≢false (sym e))
+right_of a b e = grind arith
 
 left_of' : (a b : Bool) → (a && b) ≡ true → a ≡ true
-left_of' true b e = refl
-left_of' false b e = e
+left_of' a b e = grind arith
 
 among : (test : ℕ → Bool) (xs : List ℕ) (n : ℕ) (ys : List ℕ) → list_all test (xs ++ n ∷ ys) ≡ true → test n ≡ true
-among test [] n ys h = left_of' (test n) (list_all test ys) h
-among test (x ∷ xs) n ys h = among test xs n ys (right_of (test x) (list_all test (xs ++ n ∷ ys)) h)
+among test xs n ys h = grind (arith, common_steps)
 
 pub slot_placed : (slots : ℕ) (ds : List Directive) (p : ℕ) (d : Directive) (slot : ℕ) → are_placed slots ds ≡ true → slice_get ds p ≡ Some d → slot_of d ≡ Some slot
     → (1 ≤ slot) × (slot ≤ slots)
@@ -119,41 +102,27 @@ slot_placed slots ds p d slot placed at own =
 -- ---- the slot has no value yet
 
 not_true : (v : Bool) → not v ≡ true → v ≡ false
-not_true true e = absurd (true≢false (sym e))
-not_true false e = refl
+not_true v e = grind arith
 
 or_left : (a b : Bool) → (a || b) ≡ false → a ≡ false
-or_left true b e = absurd (true≢false e)
-or_left false b e = refl
+or_left a b e = grind arith
 
 or_right : (a b : Bool) → (a || b) ≡ false → b ≡ false
-or_right true b e = absurd (true≢false e)
-or_right false b e = e
+or_right a b e = grind arith
 
 or_both : (a b : Bool) → a ≡ false → b ≡ false → (a || b) ≡ false
-or_both true b e f = absurd (true≢false e)
-or_both false b e f = f
+or_both a b e f = grind arith
 
 not_any : (x : ℕ) (xs : List ℕ) (n : ℕ) (ys : List ℕ) → list_any (nat_eq x) (xs ++ n ∷ ys) ≡ false → nat_eq x n ≡ false
-not_any x [] n ys h = or_left (nat_eq x n) (list_any (nat_eq x) ys) h
-not_any x (y ∷ xs) n ys h = not_any x xs n ys (or_right (nat_eq x y) (list_any (nat_eq x) (xs ++ n ∷ ys)) h)
+not_any x xs n ys h = grind (arith, common_steps)
 
 apart_before : (xs : List ℕ) (n : ℕ) (ys : List ℕ) → are_apart (xs ++ n ∷ ys) ≡ true → list_any (nat_eq n) xs ≡ false
 apart_before [] n ys h = refl
-apart_before (x ∷ xs) n ys h =
-    let none : list_any (nat_eq x) (xs ++ n ∷ ys) ≡ false = not_true _ (left_of' (not (list_any (nat_eq x) (xs ++ n ∷ ys))) (are_apart (xs ++ n ∷ ys)) h) in
-    or_both (nat_eq n x) (list_any (nat_eq n) xs)
-    (ne_eqb n x (λ e. eqb-false x n (not_any x xs n ys none) (sym e)))
-    (apart_before xs n ys (right_of (not (list_any (nat_eq x) (xs ++ n ∷ ys))) (are_apart (xs ++ n ∷ ys)) h))
+apart_before (x ∷ xs) n ys h = grind (arith, not_any, apart_before xs)
 
 no_datum : (slot : ℕ) (values : List Assigned) → list_any (nat_eq slot) (slots_in values) ≡ false → datum_at slot values ≡ None
 no_datum slot [] h = refl
-no_datum slot (a ∷ values) h =
-    by_case (nat_eq slot a.slot) (or_left (nat_eq slot a.slot) (list_any (nat_eq slot) (slots_in values)) h) (no_datum slot values (or_right (nat_eq slot a.slot) (list_any (nat_eq slot) (slots_in values)) h))
-  where
-    by_case : (v : Bool) → v ≡ false → datum_at slot values ≡ None → option_map (λ (a : Assigned). a.datum) (cond v (Some a) (find (λ (b : Assigned). nat_eq slot b.slot) values)) ≡ None
-    by_case true e rest = absurd (true≢false e)
-    by_case false e rest = rest
+no_datum slot (a ∷ values) h = grind (arith, no_datum slot values)
 
 pub slot_free : (ds : List Directive) (p : ℕ) (d : Directive) (slot : ℕ) (values : List Assigned) → are_apart (slots_of ds) ≡ true → slots_in values ≡ slots_of (take p ds)
     → slice_get ds p ≡ Some d → slot_of d ≡ Some slot → datum_at slot values ≡ None
@@ -164,29 +133,15 @@ slot_free ds p d slot values apart is at own =
 -- ---- destinations
 
 pub is_destination_of : (d : Directive) (slot : ℕ) → slot_of d ≡ Some slot → is_destination d ≡ true
-is_destination_of Space slot e = cc
-is_destination_of (Byte a) slot e = cc
-is_destination_of Percent slot e = cc
-is_destination_of (Conv c) slot e = rw e refl
+is_destination_of d slot e = grind arith
 
 pub slot_of_own : (d : Directive) (slot : ℕ) → text_slot d ≡ Some slot → slot_of d ≡ Some slot
-slot_of_own Space slot e = cc
-slot_of_own (Byte a) slot e = cc
-slot_of_own Percent slot e = cc
-slot_of_own (Conv c) slot e = by_shape c.shape e
-  where
-    by_shape : (shape : Shape) → slot_of_text shape c.slot ≡ Some slot → c.slot ≡ Some slot
-    by_shape (Int base) e = cc
-    by_shape Text e = e
-    by_shape (Set members) e = e
-    by_shape Chars e = e
-    by_shape Count e = cc
+slot_of_own d slot e = grind arith
 
 -- ---- texts
 
 pub texts-push : (values : List Assigned) (a : Assigned) → texts_in (values ++ a ∷ []) ≡ texts_in values ++ text_in a.datum
-texts-push [] a = append-nil (text_in a.datum)
-texts-push (x ∷ values) a = ap (λ l. text_in x.datum ++ l) (texts-push values a) ∙ sym (append_assoc (text_in x.datum) (texts_in values) (text_in a.datum))
+texts-push values a = grind (arith, common_steps)
 
 pub joined_number : (closed : List ℕ) (values : List Assigned) (slot : ℕ) (n : Number) → closed ≡ texts_in values → closed ≡ texts_in (values ++ assigned slot (datum_of_number n) ∷ [])
 joined_number closed values slot n is = is ∙ sym (append-nil (texts_in values)) ∙ sym (texts-push values (assigned slot (datum_of_number n)))
@@ -196,33 +151,26 @@ pub joined_text : (closed : List ℕ) (values : List Assigned) (slot : ℕ) (tex
 joined_text closed values slot text is = ap (λ l. l ++ text) is ∙ sym (texts-push values (assigned slot (Bytes text)))
 
 pub closed_values : (values : List Assigned) (opened : Option Opened) (slot : ℕ) → opened_slot opened ≡ Some slot → values_closed values opened ≡ values ++ assigned slot (Bytes (text_of opened)) ∷ []
-closed_values values None slot e = cc
-closed_values values (Some o) slot e = ap (λ n. values ++ assigned n (Bytes o.text) ∷ []) (some_is o.slot slot e)
+closed_values values opened slot e = grind arith
 
 pub opened_none : (opened : Option Opened) → opened_slot opened ≡ None → opened ≡ None
-opened_none None e = refl
-opened_none (Some o) e = cc
+opened_none opened e = grind arith
 
 -- ---- room
 
 plain_widths : (ds : List Directive) → widths_from ds phase.Skipping ≡ stored_widths ds
-plain_widths [] = refl
-plain_widths (d ∷ ds) = sym (sum_by-cons (λ (e : Directive). unwrap_or (stored_width e) 0) d ds)
+plain_widths ds = grind (arith, common_steps)
 
 widths_at : (ds : List Directive) (p : ℕ) (d : Directive) (current : Phase) → slice_get ds p ≡ Some d → widths_from (drop p ds) current ≡ width_left d current + stored_widths (drop (p + 1) ds)
 widths_at ds p d current at = ap (λ rest. widths_from rest current) (drop_at ds p d at)
 
 pub room_passed : (ended : Option Stop) (ds : List Directive) (p : ℕ) (d : Directive) (current : Phase) (room : ℕ) → slice_get ds p ≡ Some d → still_stored ended ds p current ≤ room
     → still_stored ended ds (p + 1) phase.Skipping ≤ room
-room_passed None ds p d current room at fits = let a = plain_widths (drop (p + 1) ds) in let b = widths_at ds p d current at in omega (arith, a, b, fits)
-room_passed (Some stop) ds p d current room at fits = omega arith
+room_passed ended ds p d current room at fits = grind (arith, plain_widths, widths_at, common_steps)
 
 -- a directive of a format with a width sum has a width
 sum_some : (a b : Option ℕ) → is_some (add_widths a b) ≡ true → (is_some a ≡ true) × (is_some b ≡ true)
-sum_some None None e = absurd (true≢false (sym e))
-sum_some None (Some n) e = absurd (true≢false (sym e))
-sum_some (Some m) None e = absurd (true≢false (sym e))
-sum_some (Some m) (Some n) e = (refl, refl)
+sum_some a b e = grind arith
 
 width_at : (ds : List Directive) (p : ℕ) (d : Directive) → is_some (width_sum ds) ≡ true → slice_get ds p ≡ Some d → is_some (stored_width d) ≡ true
 width_at [] p d h at = cc
@@ -231,30 +179,10 @@ width_at (x ∷ ds) (suc p) d h at = width_at ds p d (sum_some (stored_width x) 
 
 -- the bytes of a text that begins
 first_left : (shape : Shape) (width slot : Option ℕ) (n : ℕ) → slot_of_text shape slot ≡ Some n → is_some (text_width shape width) ≡ true → most_bytes shape width ≡ text_width shape width
-first_left (Int base) width slot n e h = cc
-first_left Text width slot n e h = refl
-first_left (Set members) width slot n e h = refl
-first_left Chars None slot n e h = absurd (true≢false (sym h))
-first_left Chars (Some w) slot n e h = refl
-first_left Count width slot n e h = cc
-
-start_left : (c : Conversion) (slot : ℕ) → text_slot (Conv c) ≡ Some slot → is_some (stored_width (Conv c)) ≡ true → most_bytes c.shape c.width ≡ stored_width (Conv c)
-start_left c slot e h =
-    let own : stored_width (Conv c) ≡ text_width c.shape c.width = rw (slot_of_own (Conv c) slot e) refl in
-    first_left c.shape c.width c.slot slot e (ap is_some (sym own) ∙ h) ∙ sym own
+first_left shape width slot n e h = grind arith
 
 pub begins_with : (d : Directive) (current : Phase) (slot : ℕ) → slot_in current ≡ None → text_slot d ≡ Some slot → is_some (stored_width d) ≡ true → left_before d current ≡ stored_width d
-begins_with Space current slot none e h = cc
-begins_with (Byte a) current slot none e h = cc
-begins_with Percent current slot none e h = cc
-begins_with (Conv c) (phase.Text s scan) slot none e h = cc
-begins_with (Conv c) phase.Skipping slot none e h = start_left c slot e h
-begins_with (Conv c) (phase.Item scan) slot none e h = start_left c slot e h
-
-width_before : (d : Directive) (current : Phase) → slot_in current ≡ None → width_left d current ≡ unwrap_or (stored_width d) 0
-width_before d phase.Skipping none = refl
-width_before d (phase.Item scan) none = refl
-width_before d (phase.Text slot scan) none = cc
+begins_with d current slot none e h = grind arith
 
 module _ (ds : List Directive) (p : ℕ) (d : Directive) (current : Phase) (slot : ℕ) (scan : ItemScan) (at : slice_get ds p ≡ Some d) (none : slot_in current ≡ None)
     (text : text_slot d ≡ Some slot) (left : left_of scan ≡ left_before d current) (bounded : is_some (width_sum ds) ≡ true) where
@@ -265,49 +193,32 @@ module _ (ds : List Directive) (p : ℕ) (d : Directive) (current : Phase) (slot
   open_limited = ap is_some width ∙ width_at ds p d bounded at
 
   pub room_opened : (ended : Option Stop) (room : ℕ) → still_stored ended ds p current ≤ room → still_stored ended ds p (phase.Text slot scan) ≤ room
-  room_opened None room fits =
-      let a = widths_at ds p d current at in
-      let b = widths_at ds p d (phase.Text slot scan) at in
-      let e : unwrap_or (left_of scan) 0 ≡ width_left d current = ap (λ w. unwrap_or w 0) width ∙ sym (width_before d current none) in
-      omega (arith, a, b, e, fits)
-  room_opened (Some stop) room fits = omega arith
+  room_opened ended room fits = grind (arith, widths_at, width)
 
 -- ---- the text under way is that of the directive
 
 pub own_text : (ds : List Directive) (p : ℕ) (d : Directive) (current : Phase) → slice_get ds p ≡ Some d → (is_text current ≡ true → first_slot (drop p ds) ≡ slot_in current)
     → (slot : ℕ) → slot_in current ≡ Some slot → text_slot d ≡ Some slot
-own_text ds p d phase.Skipping at own slot e = cc
-own_text ds p d (phase.Item scan) at own slot e = cc
-own_text ds p d (phase.Text s scan) at own slot e = ap first_slot (sym (drop_at ds p d at)) ∙ own refl ∙ e
+own_text ds p d current at own slot e = grind (arith, drop_at)
 
 pub text_own : (ds : List Directive) (p : ℕ) (d : Directive) (slot : ℕ) → slice_get ds p ≡ Some d → text_slot d ≡ Some slot → first_slot (drop p ds) ≡ Some slot
 text_own ds p d slot at e = ap first_slot (drop_at ds p d at) ∙ e
 
 pub if_some : {A : Type 0} (o : Option A) (P : A → Type 0) → ((a : A) → o ≡ Some a → P a) → IfSome o P
-if_some None P f = tt
-if_some (Some a) P f = f a refl
+if_some o P f = grind arith
 
 -- nothing of the item was taken yet
 pub left_first : (d : Directive) (c : Conversion) (current : Phase) → d ≡ Conv c → slot_in current ≡ None → most_bytes c.shape c.width ≡ left_before d current
-left_first Space c current e none = cc
-left_first (Byte a) c current e none = cc
-left_first Percent c current e none = cc
-left_first (Conv k) c phase.Skipping e none = ap (λ (x : Conversion). most_bytes x.shape x.width) (sym (conv_is k c e))
-left_first (Conv k) c (phase.Item scan) e none = ap (λ (x : Conversion). most_bytes x.shape x.width) (sym (conv_is k c e))
-left_first (Conv k) c (phase.Text slot scan) e none = cc
+left_first d c current e none = grind arith
 
 -- ---- what a format says of its slots
 
 both : (a b : Bool) → a ≡ true → b ≡ true → (a && b) ≡ true
-both true b e f = f
-both false b e f = absurd (true≢false (sym e))
+both a b e f = grind arith
 
 pub placed_from : (count slots : ℕ) (ns : List ℕ) → count ≤ slots → AllByRecursion (λ n. (1 ≤ n) × (n ≤ count)) ns → list_all (λ n. nat_le 1 n && nat_le n slots) ns ≡ true
 placed_from count slots [] fits h = refl
-placed_from count slots (n ∷ ns) fits h =
-    let low = h.0.0 in
-    let high = h.0.1 in
-    both (nat_le 1 n && nat_le n slots) _ (both (nat_le 1 n) (nat_le n slots) (grind (arith, nat_tests)) (grind (arith, nat_tests))) (placed_from count slots ns fits h.1)
+placed_from count slots (n ∷ ns) fits h = grind (arith, placed_from count slots ns)
 
 none_of_them : (n : ℕ) (ns : List ℕ) → AllByRecursion (λ m. m ≢ n) ns → list_any (nat_eq n) ns ≡ false
 none_of_them n [] h = refl
@@ -320,14 +231,10 @@ apart_from (n ∷ ns) h = both (not (list_any (nat_eq n) ns)) (are_apart ns) (ap
 -- ---- before the first byte
 
 some_back : (o : Option ℕ) → is_some o ≡ true → o ≡ Some (unwrap_or o 0)
-some_back None h = absurd (true≢false (sym h))
-some_back (Some n) h = refl
+some_back o h = grind arith
 
 added : (a b : Option ℕ) (n : ℕ) → add_widths a b ≡ Some n → unwrap_or a 0 + unwrap_or b 0 ≡ n
-added None None n e = cc
-added None (Some j) n e = cc
-added (Some i) None n e = cc
-added (Some i) (Some j) n e = some_is (i + j) n e
+added a b n e = grind arith
 
 unwrapped : (ds : List Directive) → is_some (width_sum ds) ≡ true → stored_widths ds ≡ unwrap_or (width_sum ds) 0
 unwrapped [] h = refl
@@ -342,23 +249,14 @@ pub widths_are : (ds : List Directive) (n : ℕ) → width_sum ds ≡ Some n →
 widths_are ds n e = plain_widths ds ∙ unwrapped ds (ap is_some e) ∙ ap (λ o. unwrap_or o 0) e
 
 pub room_first : (ds : List Directive) (room : ℕ) → IfSome (width_sum ds) (λ n. n ≤ room) → is_some (width_sum ds) ≡ true → widths_from ds phase.Skipping ≤ room
-room_first ds room fits bounded =
-    let e = widths_are ds (unwrap_or (width_sum ds) 0) (some_back (width_sum ds) bounded) in
-    let f = fits_by (width_sum ds) bounded fits in
-    omega (arith, e, f)
-  where
-    fits_by : (o : Option ℕ) → is_some o ≡ true → IfSome o (λ n. n ≤ room) → unwrap_or o 0 ≤ room
-    fits_by None h f = absurd (true≢false (sym h))
-    fits_by (Some n) h f = f
+room_first ds room fits bounded = grind (arith, widths_are)
 
 -- ---- how much a store holds of a format with a width sum
 
 -- the sum is at least what is held and what may still be stored
 pub size_passed : (ended : Option Stop) (ds : List Directive) (p : ℕ) (d : Directive) (current : Phase) (held sum : ℕ) → slice_get ds p ≡ Some d
     → held + still_stored ended ds p current ≤ sum → held + still_stored ended ds (p + 1) phase.Skipping ≤ sum
-size_passed ended ds p d current held sum at fits =
-    let rest = room_passed ended ds p d current (still_stored ended ds p current) at (omega arith) in
-    omega (arith, rest, fits)
+size_passed ended ds p d current held sum at fits = grind (arith, (room_passed ended ds p d current (still_stored ended ds p current) at (omega arith)))
 
 pub size_closed : (closed text : List ℕ) → length ((closed ++ text) ++ []) ≡ length (closed ++ text)
 size_closed closed text = ap length (append-nil (closed ++ text))
@@ -370,17 +268,6 @@ pub size_first : (ds : List Directive) → is_some (width_sum ds) ≡ true → w
 size_first ds bounded = widths_are ds (unwrap_or (width_sum ds) 0) (some_back (width_sum ds) bounded)
 
 -- ---- what the scanner tells of it
-
-pub holds : (ds : List Directive) (kept : Kept) (still : ℕ) → kept.closed ≡ texts_in kept.values
-    → (is_some (width_sum ds) ≡ true → length (buffer_of kept) + still ≤ unwrap_or (width_sum ds) 0) → HoldsTexts ds kept
-holds ds kept still joined sized = record {
-  joined = ap (λ l. l ++ text_of kept.opened) joined;
-  few = few_by (width_sum ds) sized;
-}
-  where
-    few_by : (o : Option ℕ) → (is_some o ≡ true → length (buffer_of kept) + still ≤ unwrap_or o 0) → IfSome o (λ n. length (buffer_of kept) ≤ n)
-    few_by None f = tt
-    few_by (Some n) f = let h = f refl in omega (arith, h)
 
 -- ---- what a store can hold
 

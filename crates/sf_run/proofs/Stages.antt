@@ -1,11 +1,8 @@
 -- What the phases of the code show of a directive's stage.
-use Rattle.std.proofs.Common.{◌≡◌, ℕ, ◌<◌, ◌≤◌, ◌^◌, Bool, true, false, cond, ◌&&◌, nat_eq, nat_lt, nat_le, List, [], ◌∷◌, ◌++◌, Option, Some, None, refl, sym, ap, subst, ◌∙◌, arith, lit<, true≢false}
+use Rattle.std.proofs.Common.{◌≡◌, ℕ, ◌<◌, Bool, true, false, cond, nat_eq, List, [], ◌∷◌, ◌++◌, Option, Some, None, refl, sym, ap, subst, ◌∙◌, arith, lit<, true≢false}
 use Rattle.std.specs.Prelude.{IsTrue, ◌≢◌, ◌↔◌}
-use Rattle.std.proofs.lemmas.Bool.Decides.{nat_tests}
-use Rattle.sf_base.specs.Bytes.{is_white}
 use Rattle.sf_base.specs.Data.{Bytes, value_of}
 use Rattle.sf_base.specs.declared.values.Kind.{Kind}
-use Rattle.sf_base.specs.declared.values.Kind.TheVariants.{I8, I16, I32, I64, U8, U16, U32, U64, Text as TextKind}
 use Rattle.sf_format.specs.declared.directive.Shape.{Shape}
 use Rattle.sf_format.specs.declared.directive.Shape.TheVariants.{Int, Text, Set, Chars, Count}
 use Rattle.sf_format.specs.declared.directive.Conversion.{Conversion}
@@ -14,21 +11,18 @@ use Rattle.sf_format.specs.declared.directive.Directive.TheVariants.{Space, Byte
 use Rattle.sf_format.specs.Proper.{IsProper, IsProperShape}
 use Rattle.sf_item.specs.Matching.{Matches, ShapeMatches}
 use Rattle.sf_item.specs.Scan.{HoldsNumber}
-use Rattle.sf_item.specs.Taking.{IsInt, CanTake, HasTaken, conversion_of, Ends}
-use Rattle.sf_item.specs.Tests.{matches, is_within, shape_begins, can_take}
+use Rattle.sf_item.specs.Taking.{CanTake, HasTaken, conversion_of, Ends}
+use Rattle.sf_item.specs.Tests.{can_take}
 use Rattle.sf_item.proofs.Fronts.{HasItem}
 use Rattle.sf_item.specs.declared.item.ItemScan.{ItemScan}
 use Rattle.sf_item.specs.declared.item.ItemEnd.{ItemEnd}
 use Rattle.sf_item.specs.declared.item.ItemEnd.TheVariants as ends
 use Rattle.sf_item.proofs.Deciding.{Tests, tests_same, tests_can_take, tests_matches, integer_at_is}
-use Rattle.sf_run.specs.declared.directive.Phase.{Phase}
-use Rattle.sf_run.specs.declared.directive.Phase.TheVariants as phase
 use Rattle.sf_run.specs.declared.outcome.Status.TheVariants.{MatchingFailure}
 use Rattle.sf_run.specs.Steps.{Passes, Stores, Fails}
-use Rattle.sf_run.specs.Texts.{slot_of_text, text_slot, opened_for, is_count, counts_bytes}
-use Rattle.sf_base.specs.Kept.{Opened, text_of}
-use Rattle.sf_run.specs.Machine.{Stage, Skipping, Taken, Item, shape_skips, stepped, is_full, count_end, integer_end, stored_end, passed_end, item_end, item_finished, conversion_finished}
-use Rattle.sf_run.specs.Phases.{ShowsItem, Shows, passed_number}
+use Rattle.sf_run.specs.Texts.{text_slot, is_count, counts_bytes}
+use Rattle.sf_run.specs.Machine.{Stage, Skipping, Taken, Item, stepped, is_full, count_end, integer_end, stored_end, passed_end, item_end, item_finished, conversion_finished}
+use Rattle.sf_run.specs.Phases.{ShowsItem, passed_number}
 use Rattle.sf_run.proofs.Machines.{not_full, full_of_none, item_not_full}
 
 -- ---- a byte more
@@ -39,11 +33,7 @@ module _ (scan : ItemScan) (f : List ℕ) (b : ℕ) (proper : IsProperShape (con
 
 -- n takes nothing
 pub count_takes_nothing : (c : Conversion) (b : ℕ) → c.shape ≡ Count → stepped (Conv c) Skipping b ≡ None
-count_takes_nothing c b e = ap (λ shape. cond (shape_skips shape && is_white b) (Some Skipping) (cond (is_within c.width 1 && shape_begins shape c.width (b ∷ [])) (Some (Item (b ∷ []))) None)) e ∙ never (is_within c.width 1)
-  where
-    never : (v : Bool) → cond (v && false) (Some (Item (b ∷ []))) None ≡ None
-    never true = refl
-    never false = refl
+count_takes_nothing c b e = grind arith
 
 -- ---- full
 
@@ -71,10 +61,7 @@ skipping_full (Conv c) proper = by_shape c.shape refl
     by_shape Count e = sym (full_of_none (Conv c) Skipping (λ b below. count_takes_nothing c b e))
 
 pub taken_full : (d : Directive) → true ≡ is_full d Taken
-taken_full Space = sym (full_of_none Space Taken (λ b below. refl))
-taken_full (Byte a) = sym (full_of_none (Byte a) Taken (λ b below. refl))
-taken_full Percent = sym (full_of_none Percent Taken (λ b below. refl))
-taken_full (Conv c) = sym (full_of_none (Conv c) Taken (λ b below. refl))
+taken_full d = grind (arith, full_of_none)
 
 pub item_full : (scan : ItemScan) (f : List ℕ) (full : Bool) → IsProperShape (conversion_of scan).shape
     → (IsTrue full ↔ ((b : ℕ) → b < 256 → CanTake (conversion_of scan) (f ++ b ∷ []) → ⊥)) → full ≡ is_full (Conv (conversion_of scan)) (Item f)
@@ -96,45 +83,15 @@ item_full scan f full proper says = sym (by_case full says)
     by_case true says = full_of_none (Conv (conversion_of scan)) (Item f) (λ b below. stops b (says.0 refl b below) (can_take (conversion_of scan) (f ++ b ∷ [])) refl)
     by_case false says = full_is (is_full (Conv (conversion_of scan)) (Item f)) refl (λ none. true≢false (sym (says.1 none)))
 
--- only a conversion comes further while it waits
-pub skipping_shown : (d : Directive) → ((c : Conversion) → d ≡ Conv c → ⊥) → (p : Phase) (q : Stage) → Shows d p q → q ≡ Skipping
-skipping_shown d never phase.Skipping q shows = shows
-skipping_shown d never (phase.Item scan) q shows = absurd (never (conversion_of scan) shows.own)
-skipping_shown d never (phase.Text slot scan) q shows = absurd (never (conversion_of scan) shows.own)
-
 -- ---- the end of an item
 
 pub unmatched_end : (c : Conversion) (f : List ℕ) → (Matches c f → ⊥) → Fails MatchingFailure ≡ item_end c f
-unmatched_end c f none = by_case (matches c f) refl
-  where
-    by_case : (v : Bool) → matches c f ≡ v → Fails MatchingFailure ≡ cond v (passed_end c c.slot f) (Fails MatchingFailure)
-    by_case true e = absurd (none ((tests_matches c f).from e))
-    by_case false e = refl
-
-too_great : (kind : Kind) (negative : Bool) (m : ℕ) → 2 ^ 64 ≤ m → value_of kind negative m ≡ None
-too_great I8 true m great = let h : nat_le m (2 ^ 7) ≡ false = grind (arith, nat_tests) in rw h refl
-too_great I8 false m great = let h : nat_lt m (2 ^ 7) ≡ false = grind (arith, nat_tests) in rw h refl
-too_great I16 true m great = let h : nat_le m (2 ^ 15) ≡ false = grind (arith, nat_tests) in rw h refl
-too_great I16 false m great = let h : nat_lt m (2 ^ 15) ≡ false = grind (arith, nat_tests) in rw h refl
-too_great I32 true m great = let h : nat_le m (2 ^ 31) ≡ false = grind (arith, nat_tests) in rw h refl
-too_great I32 false m great = let h : nat_lt m (2 ^ 31) ≡ false = grind (arith, nat_tests) in rw h refl
-too_great I64 true m great = let h : nat_le m (2 ^ 63) ≡ false = grind (arith, nat_tests) in rw h refl
-too_great I64 false m great = let h : nat_lt m (2 ^ 63) ≡ false = grind (arith, nat_tests) in rw h refl
-too_great U8 true m great = let h : nat_lt m (2 ^ 8) ≡ false = grind (arith, nat_tests) in rw h refl
-too_great U8 false m great = let h : nat_lt m (2 ^ 8) ≡ false = grind (arith, nat_tests) in rw h refl
-too_great U16 true m great = let h : nat_lt m (2 ^ 16) ≡ false = grind (arith, nat_tests) in rw h refl
-too_great U16 false m great = let h : nat_lt m (2 ^ 16) ≡ false = grind (arith, nat_tests) in rw h refl
-too_great U32 true m great = let h : nat_lt m (2 ^ 32) ≡ false = grind (arith, nat_tests) in rw h refl
-too_great U32 false m great = let h : nat_lt m (2 ^ 32) ≡ false = grind (arith, nat_tests) in rw h refl
-too_great U64 true m great = let h : nat_lt m (2 ^ 64) ≡ false = grind (arith, nat_tests) in rw h refl
-too_great U64 false m great = let h : nat_lt m (2 ^ 64) ≡ false = grind (arith, nat_tests) in rw h refl
-too_great TextKind negative m great = refl
+unmatched_end c f none = grind (arith, (tests_matches c f))
 
 -- no kind holds a number that 64 bits don't hold
 pub held_value : (kind : Kind) (negative : Bool) (magnitude m : ℕ) (overflowed : Bool) → HoldsNumber magnitude overflowed m
     → cond overflowed None (value_of kind negative magnitude) ≡ value_of kind negative m
-held_value kind negative magnitude m true h = sym (too_great kind negative m h.1)
-held_value kind negative magnitude m false h = ap (value_of kind negative) (sym h)
+held_value kind negative magnitude m overflowed h = grind arith
 
 matched_end : (c : Conversion) (f : List ℕ) → Matches c f → passed_end c c.slot f ≡ item_end c f
 matched_end c f m = ap (λ v. cond v (passed_end c c.slot f) (Fails MatchingFailure)) (sym ((tests_matches c f).to m))
@@ -158,84 +115,31 @@ suppressed_end c f none m = ap (λ slot. passed_end c slot f) (sym none) ∙ mat
 
 -- a text is stored as it stands
 pub text_end : (c : Conversion) (f : List ℕ) (slot : ℕ) → text_slot (Conv c) ≡ Some slot → Matches c f → Stores slot (Bytes f) ≡ item_end c f
-text_end c f slot text m = by_shape c.shape refl text ∙ matched_end c f m
-  where
-    stored_as : (shape : Shape) → c.shape ≡ shape → c.slot ≡ Some slot → stored_end c slot shape f ≡ Stores slot (Bytes f) → Stores slot (Bytes f) ≡ passed_end c c.slot f
-    stored_as shape e own is = sym is ∙ ap (λ s. stored_end c slot s f) (sym e) ∙ ap (λ o. passed_end c o f) (sym own)
-
-    by_shape : (shape : Shape) → c.shape ≡ shape → slot_of_text shape c.slot ≡ Some slot → Stores slot (Bytes f) ≡ passed_end c c.slot f
-    by_shape Text e own = stored_as Text e own refl
-    by_shape (Set members) e own = stored_as (Set members) e own refl
-    by_shape Chars e own = stored_as Chars e own refl
-    by_shape (Int base) e own = cc
-    by_shape Count e own = cc
-
--- the text of a conversion that is no integer's and has a slot is stored
-pub not_suppressed : (c : Conversion) (f : List ℕ) (slot : ℕ) → text_slot (Conv c) ≡ None → c.slot ≡ Some slot → Matches c f → (IsInt c.shape → ⊥) → ⊥
-not_suppressed c f slot text own m never = by_shape c.shape refl
-  where
-    by_shape : (shape : Shape) → c.shape ≡ shape → ⊥
-    by_shape (Int base) e = never (base, e)
-    by_shape Text e = let k : slot_of_text Text c.slot ≡ None = ap (λ s. slot_of_text s c.slot) (sym e) ∙ text in cc
-    by_shape (Set members) e = let k : slot_of_text (Set members) c.slot ≡ None = ap (λ s. slot_of_text s c.slot) (sym e) ∙ text in cc
-    by_shape Chars e = let k : slot_of_text Chars c.slot ≡ None = ap (λ s. slot_of_text s c.slot) (sym e) ∙ text in cc
-    by_shape Count e = let k : ShapeMatches Count c.width f = subst (λ s. ShapeMatches s c.width f) e m in k
+text_end c f slot text m = grind (arith, matched_end)
 
 -- a text that is no match
 pub text_fails : (c : Conversion) (f : List ℕ) (slot : ℕ) (e : ItemEnd) → text_slot (Conv c) ≡ Some slot → f ≢ [] → Ends c f e → (e ≡ ends.Matched → ⊥)
     → Fails MatchingFailure ≡ item_end c f
-text_fails c f slot ends.Empty text some h never = absurd (some h)
-text_fails c f slot ends.Unmatched text some h never = unmatched_end c f h.1
-text_fails c f slot ends.Matched text some h never = absurd (never refl)
-text_fails c f slot (ends.Integer negative magnitude overflowed) text some h never =
-    let k : slot_of_text (Int h.0) c.slot ≡ Some slot = ap (λ s. slot_of_text s c.slot) (sym h.2) ∙ text in absurd cc
+text_fails c f slot e text some h never = grind (arith, unmatched_end)
 
 -- an item that is not stored as it stands, and is no match
 pub item_fails : (c : Conversion) (f : List ℕ) (e : ItemEnd) → f ≢ [] → Ends c f e → (e ≡ ends.Matched → ⊥)
     → ((negative : Bool) (magnitude : ℕ) (overflowed : Bool) → e ≡ ends.Integer negative magnitude overflowed → ⊥) → Fails MatchingFailure ≡ item_end c f
-item_fails c f ends.Empty some h never none = absurd (some h)
-item_fails c f ends.Unmatched some h never none = unmatched_end c f h.1
-item_fails c f ends.Matched some h never none = absurd (never refl)
-item_fails c f (ends.Integer negative magnitude overflowed) some h never none = absurd (none negative magnitude overflowed refl)
-
--- one that is a match and no integer is suppressed
-pub item_suppressed : (c : Conversion) (f : List ℕ) → text_slot (Conv c) ≡ None → Ends c f ends.Matched → c.slot ≡ None
-item_suppressed c f text h = by_slot c.slot refl
-  where
-    by_slot : (slot : Option ℕ) → c.slot ≡ slot → slot ≡ None
-    by_slot None e = refl
-    by_slot (Some slot) e = absurd (not_suppressed c f slot text e h.1 h.2)
+item_fails c f e some h never none = grind (arith, unmatched_end)
 
 -- ---- the end of a directive
 
 pub count_is : (c : Conversion) (slot : Option ℕ) (n : ℕ) → passed_number c slot (value_of c.kind false n) ≡ count_end c slot n
-count_is c None n = refl
-count_is c (Some slot) n = refl
+count_is c slot n = grind arith
 
 pub count_finished : (c : Conversion) (shape : Shape) (q : Stage) (n : ℕ) (more : Bool) → is_count shape ≡ true → conversion_finished c shape q n more ≡ count_end c c.slot n
-count_finished c (Int base) q n more e = cc
-count_finished c Text q n more e = cc
-count_finished c (Set members) q n more e = cc
-count_finished c Chars q n more e = cc
-count_finished c Count q n more e = refl
+count_finished c shape q n more e = grind arith
 
 pub other_finished : (c : Conversion) (shape : Shape) (q : Stage) (n : ℕ) (more : Bool) → is_count shape ≡ false → conversion_finished c shape q n more ≡ item_finished c q more
-other_finished c (Int base) q n more e = refl
-other_finished c Text q n more e = refl
-other_finished c (Set members) q n more e = refl
-other_finished c Chars q n more e = refl
-other_finished c Count q n more e = cc
+other_finished c shape q n more e = grind arith
 
 pub conv_is : (a b : Conversion) → Conv a ≡ Conv b → a ≡ b
 conv_is a b e = cc
-
--- the text under way is the item
-pub shown_text : (d : Directive) (slot : ℕ) (scan : ItemScan) (q : Stage) (opened : Option Opened) (s : ShowsItem d (Some slot) scan q) → opened ≡ opened_for (text_slot d) q
-    → text_of opened ≡ s.item
-shown_text d slot scan q opened s e = ap text_of (e ∙ ap (λ t. opened_for t q) s.text ∙ ap (opened_for (Some slot)) s.stage)
-
-pub item_finish : (c : Conversion) (q : Stage) (more : Bool) (f : List ℕ) → q ≡ Item f → item_end c f ≡ item_finished c q more
-item_finish c q more f e = ap (λ r. item_finished c r more) (sym e)
 
 -- an item under way is full as its scan is
 pub shown_full : (d : Directive) (slot : Option ℕ) (scan : ItemScan) (q : Stage) (full : Bool) → IsProper d → ShowsItem d slot scan q

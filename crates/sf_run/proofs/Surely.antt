@@ -1,5 +1,5 @@
 -- When a run that begins and passes within a piece is told.
-use Rattle.std.proofs.Common.{◌≡◌, ℕ, ◌+◌, ◌-◌, ◌<◌, ◌≤◌, min, inl, inr, true, List, [], ◌∷◌, ◌++◌, length, take, drop, Option, Some, None, refl, sym, ap, subst, ◌∙◌, arith, length-append, length-drop}
+use Rattle.std.proofs.Common.{◌≡◌, ℕ, ◌+◌, ◌-◌, ◌<◌, ◌≤◌, min, true, List, [], ◌∷◌, ◌++◌, length, take, drop, Option, Some, None, refl, sym, ap, subst, ◌∙◌, arith, length-append, length-drop}
 use Rattle.std.specs.Prelude.{slice_get}
 use Rattle.std.proofs.lemmas.List.{append-nil, take-append-drop}
 use Rattle.sf_base.specs.Kept.{Kept, texts_in, text_of, Opened, buffer_of}
@@ -8,7 +8,6 @@ use Rattle.sf_format.specs.Proper.{AreProper}
 use Rattle.sf_run.specs.declared.outcome.Status.TheVariants.{Done}
 use Rattle.sf_run.specs.declared.quick.Strays.{Strays}
 use Rattle.sf_run.specs.declared.tally.Tally as code
-use Rattle.sf_run.specs.Limits.{RunWithin}
 use Rattle.sf_run.specs.Machine.{Skipping}
 use Rattle.sf_run.specs.Memory.{capacity_of}
 use Rattle.sf_run.specs.Quick.{IsDoneWithin, IsSure, text_stored}
@@ -18,7 +17,7 @@ use Rattle.sf_run.specs.Steps.{StepEnd, Passes, Stores, Fails}
 use Rattle.sf_run.specs.Tallies.{tally_of}
 use Rattle.sf_run.proofs.AtOnce.{Counted, Going}
 use Rattle.sf_run.proofs.Moves.{drop_at}
-use Rattle.sf_run.proofs.Openness.{counted-used, holds_by, uses_more}
+use Rattle.sf_run.proofs.Openness.{counted-used, uses_more}
 use Rattle.sf_run.proofs.Refusals.{never_done}
 use Rattle.sf_run.proofs.Slots.{texts-push}
 use Rattle.sf_run.proofs.Told.{run_told}
@@ -26,18 +25,11 @@ use Rattle.sf_run.proofs.Told.{run_told}
 -- ---- the texts of a run
 
 texts_counted : (d : Directive) (end : StepEnd) (t : Tally) → texts_in (counted d end t).values ≡ texts_in t.values ++ text_stored end
-texts_counted d Passes t = sym (append-nil (texts_in t.values))
-texts_counted d (Stores slot v) t = texts-push t.values (record { slot = slot; datum = v })
-texts_counted d (Fails status) t = sym (append-nil (texts_in t.values))
+texts_counted d end t = grind (arith, append-nil, texts-push)
 
 texts_more : (ds : List Directive) (at : ℕ) (t : Tally) (x : List ℕ) → length (texts_in t.values) ≤ length (texts_in (run_of None ds at t x).values)
 texts_more [] at t x = omega arith
-texts_more (d ∷ ds) at t x =
-    let p : Part = one_from d Skipping t.used x in
-    let u : Tally = counted d p.end (with_used p.used t) in
-    let same = ap length (texts_counted d p.end (with_used p.used t)) in
-    let long = length-append (texts_in t.values) (text_stored p.end) in
-    holds_by (λ r. length (texts_in t.values) ≤ length (texts_in r.values)) p.end _ _ (omega (arith, same, long, texts_more ds (at + 1) u p.left)) (λ status. omega arith)
+texts_more (d ∷ ds) at t x = grind (arith, texts_counted, length-append, texts_more ds)
 
 -- ---- the next directive of a run that is Done
 
@@ -109,12 +101,7 @@ sure_at ds front rest p d t kept capacity at h done early fits roomy =
 
 -- the run on the front of a piece that is Done before a byte of it is lacking
 pub done_on : (ds : List Directive) → AreProper ds → (limit : ℕ) (piece : List ℕ) (capacity : ℕ) → (h : IsDoneWithin ds limit piece capacity) → run_of None ds 1 nothing_yet piece ≡ record h.report { met = None }
-done_on ds proper limit piece capacity h = by_case h.is
-  where
-    by_case : RunWithin ds limit piece h.ending h.report → run_of None ds 1 nothing_yet piece ≡ record h.report { met = None }
-    by_case (inl fits) =
-        run_told ds proper piece fits.1.0 fits.1.1 ∙ sym (ap (λ (r : RunReport). record r { met = None }) fits.1.4)
-    by_case (inr cut) = absurd (let e = ap (λ (r : RunReport). r.status) cut.2 in cc)
+done_on ds proper limit piece capacity h = grind (arith, run_told)
 
 -- the next directive of a run on a piece that is Done before a byte of it is lacking
 pub sure_next : (ds : List Directive) → AreProper ds → (limit most n : ℕ) (piece front rest : List ℕ) (p : ℕ) (d : Directive) (s : Strays) (kept : Kept) (capacity : ℕ) → slice_get ds p ≡ Some d

@@ -1,24 +1,26 @@
 -- The running totals tell what the list of steps tells.
-use Rattle.std.proofs.Common.{◌≡◌, ℕ, zero, suc, ◌+◌, ◌<◌, ◌≤◌, ◌⊎◌, inl, inr, Bool, true, false, cond, ◌&&◌, nat_eq, nat_le, List, [], ◌∷◌, ◌++◌, length, drop, Option, Some, None, is_some, refl, sym, ap, ap₂, ◌∙◌, subst, arith, append_assoc, append-nil, true≢false, zero-add, add-zero}
+use Rattle.std.proofs.lemmas.Grind.{common_steps}
+use Rattle.std.proofs.Common.{◌≡◌, ℕ, zero, suc, ◌+◌, ◌<◌, ◌≤◌, ◌⊎◌, inl, inr, Bool, true, cond, ◌&&◌, nat_eq, nat_le, List, [], ◌∷◌, ◌++◌, length, drop, Option, Some, None, is_some, refl, sym, ap, ap₂, ◌∙◌, subst, arith, append-nil, zero-add, add-zero}
 use Rattle.std.specs.Prelude.{SomeIff}
 use Rattle.std.specs.List.{list_any}
 use Rattle.std.proofs.lemmas.Bool.{cases_lt, cond-true, cond-false, lt-ltb, le-ltb}
-use Rattle.std.proofs.lemmas.List.Sums.{sum_by-cons, sum_by-append}
+use Rattle.std.proofs.lemmas.List.Sums.{sum_by-cons}
 use Rattle.sf_base.specs.Data.{Assigned}
 use Rattle.sf_format.specs.declared.directive.Directive.{Directive}
 use Rattle.sf_format.specs.Proper.{AreProper}
 use Rattle.sf_run.specs.declared.outcome.Ending.{Ending}
 use Rattle.sf_run.specs.declared.outcome.Status.{Status}
 use Rattle.sf_run.specs.declared.outcome.Status.TheVariants.{Done, TooLong}
-use Rattle.sf_run.specs.Steps.{StepEnd, Passes, Stores, Fails}
-use Rattle.sf_run.specs.Runs.{Ran, Steps, used, failure_of, status_of, values, is_conversion, passed, stored, assigned, converted, RunReport, report_of, Uses, IsOpen}
-use Rattle.sf_run.specs.Limits.{cut_report, IsCut, RunWithin, TellsWithin}
-use Rattle.sf_item.proofs.Deciding.{Tests, fails, tests_both, tests_same, tests_most}
+use Rattle.sf_run.specs.Steps.{StepEnd}
+use Rattle.sf_run.specs.Runs.{Ran, Steps, used, failure_of, status_of, values, passed, assigned, converted, RunReport, report_of, Uses, IsOpen}
+use Rattle.sf_run.specs.Limits.{cut_report, RunWithin, TellsWithin}
+use Rattle.sf_item.proofs.Deciding.{Tests, tests_both, tests_most}
 use Rattle.sf_run.specs.Laws.{EachHasOneReport}
 use Rattle.sf_run.specs.Machine.{some_below}
 use Rattle.sf_run.specs.Residual.{Tally, nothing_yet, with_used, counted, out_of, by_end, then_on, run_of}
 use Rattle.sf_run.specs.Computed.{step_of, part_of, go_on, ran_of}
 use Rattle.sf_run.proofs.Ones.{one_made}
+use Rattle.sf_run.proofs.Openness.{within_limit}
 use Rattle.sf_run.proofs.RunLaws.{steps_is, steps_only}
 
 -- ---- totals of a list of steps
@@ -29,56 +31,26 @@ ran_one d k end = record { directive = d; bytes = k; end = end }
 used-cons : (r : Ran) (ran : List Ran) → used (r ∷ ran) ≡ r.bytes + used ran
 used-cons r ran = sum_by-cons (λ (s : Ran). s.bytes) r ran
 
-assigned-cons : (r : Ran) (ran : List Ran) → assigned (r ∷ ran) ≡ cond (is_conversion r.directive && stored r.end) 1 0 + assigned ran
-assigned-cons r ran = sum_by-cons (λ (s : Ran). cond (is_conversion s.directive && stored s.end) 1 0) r ran
-
-converted-cons : (r : Ran) (ran : List Ran) → converted (r ∷ ran) ≡ cond (is_conversion r.directive && passed r.end) 1 0 + converted ran
-converted-cons r ran = sum_by-cons (λ (s : Ran). cond (is_conversion s.directive && passed s.end) 1 0) r ran
-
 abbrev tally : ℕ → ℕ → ℕ → List Assigned → Tally
 tally u a c v = record { used = u; assigned = a; converted = c; values = v }
 
 same_tally : {t a c : ℕ} {v : List Assigned} (u b d : ℕ) (w : List Assigned) → t ≡ u → a ≡ b → c ≡ d → v ≡ w → tally t a c v ≡ tally u b d w
-same_tally {t} {a} {c} {v} u b d w p q r s =
-    ap (λ n. tally n a c v) p ∙ ap (λ n. tally u n c v) q ∙ ap (λ n. tally u b n v) r ∙ ap (λ l. tally u b d l) s
+same_tally u b d w p q r s = grind arith
 
 -- the totals t, and those of the steps
 abbrev sums : Tally → List Ran → Tally
 sums t ran = tally (t.used + used ran) (t.assigned + assigned ran) (t.converted + converted ran) (t.values ++ values ran)
 
 count_more : (v : Bool) (n k l : ℕ) → l ≡ cond (v && true) 1 0 + k → cond v (n + 1) n + k ≡ n + l
-count_more true n k l e = omega arith
-count_more false n k l e = omega arith
-
-count_none : (v : Bool) (n k l : ℕ) → l ≡ cond (v && false) 1 0 + k → n + k ≡ n + l
-count_none true n k l e = omega arith
-count_none false n k l e = omega arith
-
-used_more : (n k j l : ℕ) → l ≡ k + j → (n + k) + j ≡ n + l
-used_more n k j l e = omega arith
+count_more v n k l e = grind arith
 
 -- a step that passes
 sums_step : (d : Directive) (end : StepEnd) (k : ℕ) (t : Tally) (ran : List Ran) → passed end ≡ true
     → sums (counted d end (with_used (t.used + k) t)) ran ≡ sums t (ran_one d k end ∷ ran)
-sums_step d Passes k t ran h =
-    let r = ran_one d k Passes in
-    same_tally _ _ _ _ (used_more t.used k (used ran) _ (used-cons r ran)) (count_none (is_conversion d) t.assigned (assigned ran) _ (assigned-cons r ran))
-    (count_more (is_conversion d) t.converted (converted ran) _ (converted-cons r ran)) refl
-sums_step d (Stores slot v) k t ran h =
-    let r = ran_one d k (Stores slot v) in
-    same_tally _ _ _ _ (used_more t.used k (used ran) _ (used-cons r ran)) (count_more (is_conversion d) t.assigned (assigned ran) _ (assigned-cons r ran))
-    (count_more (is_conversion d) t.converted (converted ran) _ (converted-cons r ran)) (append_assoc t.values (record { slot = slot; datum = v } ∷ []) (values ran))
-sums_step d (Fails status) k t ran h = absurd (true≢false (sym h))
+sums_step d end k t ran h = grind (arith, common_steps)
 
 sums_none : (t : Tally) → t ≡ sums t []
 sums_none t = same_tally _ _ _ _ (sym (add-zero t.used)) (sym (add-zero t.assigned)) (sym (add-zero t.converted)) (sym (append-nil t.values))
-
--- a step that fails
-sums_fails : (d : Directive) (status : Status) (k : ℕ) (t : Tally) → with_used (t.used + k) t ≡ sums t (ran_one d k (Fails status) ∷ [])
-sums_fails d status k t =
-    let r = ran_one d k (Fails status) in
-    same_tally _ _ _ _ (sym (add-zero (t.used + k)) ∙ used_more t.used k 0 _ (used-cons r [])) (sym (add-zero t.assigned) ∙ count_none (is_conversion d) t.assigned 0 _ (assigned-cons r []))
-    (sym (add-zero t.converted) ∙ count_none (is_conversion d) t.converted 0 _ (converted-cons r [])) (sym (append-nil t.values))
 
 -- ---- reports of a list of steps, where a directives passed before with the totals t
 
@@ -94,48 +66,14 @@ cut_from a t before m = out_of TooLong (a + (length before + 1)) (with_used m (s
 same_out : (status : Status) (i j : ℕ) (t u : Tally) → i ≡ j → t ≡ u → out_of status i t ≡ out_of status j u
 same_out status i j t u p q = ap₂ (out_of status) p q
 
-place_more : (v : Bool) (a n : ℕ) → cond v (a + 1 + n) 0 ≡ cond v (a + suc n) 0
-place_more v a n = ap (λ i. cond v i 0) (let e : a + 1 + n ≡ a + suc n = omega arith in e)
-
-told_step : (d : Directive) (end : StepEnd) (k a : ℕ) (t : Tally) (ran : List Ran) → passed end ≡ true
-    → told_from (a + 1) (counted d end (with_used (t.used + k) t)) ran ≡ told_from a t (ran_one d k end ∷ ran)
-told_step d Passes k a t ran h =
-    same_out (status_of ran) _ _ _ _ (place_more _ a (length ran)) (sums_step d Passes k t ran h)
-told_step d (Stores slot v) k a t ran h =
-    same_out (status_of ran) _ _ _ _ (place_more _ a (length ran)) (sums_step d (Stores slot v) k t ran h)
-told_step d (Fails status) k a t ran h = absurd (true≢false (sym h))
-
 cut_step : (d : Directive) (end : StepEnd) (k a m : ℕ) (t : Tally) (before : List Ran) → passed end ≡ true
     → cut_from (a + 1) (counted d end (with_used (t.used + k) t)) before m ≡ cut_from a t (ran_one d k end ∷ before) m
-cut_step d end k a m t before h =
-    same_out TooLong _ _ _ _ (let e : a + 1 + (length before + 1) ≡ a + (suc (length before) + 1) = omega arith in e) (ap (with_used m) (sums_step d end k t before h))
+cut_step d end k a m t before h = grind (arith, sums_step)
 
 -- ---- by the first directive's end
 
-cases_passed : (end : StepEnd) → (passed end ≡ true) ⊎ (passed end ≡ false)
-cases_passed Passes = inl refl
-cases_passed (Stores slot v) = inl refl
-cases_passed (Fails status) = inr refl
-
 counted-used : (d : Directive) (end : StepEnd) (t : Tally) → (counted d end t).used ≡ t.used
-counted-used d Passes t = refl
-counted-used d (Stores slot v) t = refl
-counted-used d (Fails status) t = refl
-
-by_passed : (end : StepEnd) (y : RunReport) (f : Status → RunReport) → passed end ≡ true → by_end end y f ≡ y
-by_passed Passes y f h = refl
-by_passed (Stores slot v) y f h = refl
-by_passed (Fails status) y f h = absurd (true≢false (sym h))
-
-go_passed : (end : StepEnd) (rest : List Ran) → passed end ≡ true → go_on end rest ≡ rest
-go_passed Passes rest h = refl
-go_passed (Stores slot v) rest h = refl
-go_passed (Fails status) rest h = absurd (true≢false (sym h))
-
-go_failed : (end : StepEnd) (rest : List Ran) → passed end ≡ false → go_on end rest ≡ []
-go_failed Passes rest h = absurd (true≢false h)
-go_failed (Stores slot v) rest h = absurd (true≢false h)
-go_failed (Fails status) rest h = refl
+counted-used d end t = grind arith
 
 -- the totals after the first directive
 abbrev next_tally : Directive → List ℕ → Tally → Tally
@@ -164,35 +102,29 @@ limited_over m d ds at t x over = first_step (Some m) d ds at t x ∙ cond-true 
 
 -- ---- without a limit
 
-told_first : (d : Directive) (end : StepEnd) (k a at : ℕ) (t : Tally) (next : RunReport) (rest : List Ran) → at ≡ a + 1
-    → next ≡ told_from (a + 1) (counted d end (with_used (t.used + k) t)) rest
-    → by_end end next (λ status. out_of status at (with_used (t.used + k) t)) ≡ told_from a t (ran_one d k end ∷ go_on end rest)
-told_first d Passes k a at t next rest e h = h ∙ told_step d Passes k a t rest refl
-told_first d (Stores slot v) k a at t next rest e h = h ∙ told_step d (Stores slot v) k a t rest refl
-told_first d (Fails status) k a at t next rest e h = same_out status _ _ _ _ e (sums_fails d status k t)
+told_first : (d : Directive) (end : StepEnd) (k a : ℕ) (t : Tally) (next : RunReport) (rest : List Ran) → next ≡ told_from (a + 1) (counted d end (with_used (t.used + k) t)) rest
+    → by_end end next (λ status. out_of status (a + 1) (with_used (t.used + k) t)) ≡ told_from a t (ran_one d k end ∷ go_on end rest)
+told_first d end k a t next rest h = grind (arith, common_steps)
 
-run_told_from : (ds : List Directive) (a at : ℕ) (t : Tally) (x : List ℕ) → at ≡ a + 1 → run_of None ds at t x ≡ told_from a t (ran_of ds x t.used)
-run_told_from [] a at t x e = ap (out_of Done 0) (sums_none t)
-run_told_from (d ∷ ds) a at t x e =
+run_told_from : (ds : List Directive) (a : ℕ) (t : Tally) (x : List ℕ) → run_of None ds (a + 1) t x ≡ told_from a t (ran_of ds x t.used)
+run_told_from [] a t x = ap (out_of Done 0) (sums_none t)
+run_told_from (d ∷ ds) a t x =
     let k = (step_of d x t.used).0 in
-    let u = next_tally d x t in
-    let rest : run_of None ds (at + 1) u (drop k x) ≡ told_from (a + 1) u (ran_of ds (drop k x) u.used) = run_told_from ds (a + 1) (at + 1) u (drop k x) (omega arith) in
-    first_step None d ds at t x
-    ∙ told_first d (step_of d x t.used).1 k a at t _ (later d ds x t.used) e
-    (rest ∙ ap (λ n. told_from (a + 1) u (ran_of ds (drop k x) n)) (counted-used d (step_of d x t.used).1 (with_used (t.used + k) t)))
+    first_step None d ds (a + 1) t x
+    ∙ told_first d (step_of d x t.used).1 k a t _ (later d ds x t.used) (run_told_from ds (a + 1) (next_tally d x t) (drop k x)
+    ∙ ap (λ n. told_from (a + 1) (next_tally d x t) (ran_of ds (drop k x) n)) (counted-used d (step_of d x t.used).1 (with_used (t.used + k) t)))
 
 sums_nothing : (ran : List Ran) → sums nothing_yet ran ≡ tally (used ran) (assigned ran) (converted ran) (values ran)
 sums_nothing ran = same_tally _ _ _ _ (zero-add (used ran)) (zero-add (assigned ran)) (zero-add (converted ran)) refl
 
 told_nothing : (ran : List Ran) → told_from 0 nothing_yet ran ≡ report_of ran None
-told_nothing ran =
-    same_out (status_of ran) _ _ _ _ (ap (λ n. cond (list_any (λ r. is_some (failure_of r.end)) ran) n 0) (zero-add (length ran))) (sums_nothing ran)
+told_nothing ran = grind arith
 
 cut_nothing : (before : List Ran) (m : ℕ) → cut_from 0 nothing_yet before m ≡ cut_report TooLong before m
 cut_nothing before m = same_out TooLong _ _ _ _ (zero-add (length before + 1)) (ap (with_used m) (sums_nothing before))
 
 pub run_is_told : (ds : List Directive) (x : List ℕ) → run_of None ds 1 nothing_yet x ≡ report_of (ran_of ds x 0) None
-run_is_told ds x = run_told_from ds 0 1 nothing_yet x refl ∙ told_nothing (ran_of ds x 0)
+run_is_told ds x = run_told_from ds 0 nothing_yet x ∙ told_nothing (ran_of ds x 0)
 
 pub run_told : (ds : List Directive) → AreProper ds → (x : List ℕ) (ran : List Ran) → Steps ds x 0 ran → run_of None ds 1 nothing_yet x ≡ report_of ran None
 run_told ds proper x ran h = run_is_told ds x ∙ ap (λ (r : List Ran). report_of r None) (sym (steps_only ds proper x 0 ran h))
@@ -205,72 +137,34 @@ uses_from ds proper x k e = (ran_of ds x 0, steps_is ds proper x 0, sym (ap (λ 
 
 -- ---- under a limit
 
--- by the first directive's end, if the rest of the run is the same where there is one
-same_first : (end : StepEnd) (y z : RunReport) (f : Status → RunReport) → (passed end ≡ true → y ≡ z) → by_end end y f ≡ by_end end z f
-same_first Passes y z f h = h refl
-same_first (Stores slot v) y z f h = h refl
-same_first (Fails status) y z f h = refl
+cut_first : (d : Directive) (end : StepEnd) (k a m : ℕ) (t : Tally) (before : List Ran) (next : RunReport) → passed end ≡ true
+    → next ≡ cut_from (a + 1) (counted d end (with_used (t.used + k) t)) before m
+    → by_end end next (λ status. out_of status (a + 1) (with_used (t.used + k) t)) ≡ cut_from a t (ran_one d k end ∷ before) m
+cut_first d end k a m t before next ok h = grind (arith, (cut_step d end k a m t before ok))
 
--- the steps after the first, if it passes
-parts_left : (d : Directive) (ds : List Directive) (t : Tally) (x : List ℕ) (ran : List Ran) → passed (step_of d x t.used).1 ≡ true
-    → go_on (step_of d x t.used).1 (later d ds x t.used) ≡ ran → ran_of ds (drop (step_of d x t.used).0 x) (next_tally d x t).used ≡ ran
-parts_left d ds t x ran h tail =
-    let k = (step_of d x t.used).0 in
-    ap (ran_of ds (drop k x)) (counted-used d (step_of d x t.used).1 (with_used (t.used + k) t))
-    ∙ sym (go_passed (step_of d x t.used).1 (later d ds x t.used) h) ∙ tail
-
-within_limit : (ds : List Directive) (m at : ℕ) (t : Tally) (x : List ℕ) → t.used + used (ran_of ds x t.used) ≤ m
-    → run_of (Some m) ds at t x ≡ run_of None ds at t x
-within_limit [] m at t x fits = refl
-within_limit (d ∷ ds) m at t x fits =
-    let k : ℕ = (step_of d x t.used).0 in
-    let end : StepEnd = (step_of d x t.used).1 in
-    let rest : List Ran = go_on end (later d ds x t.used) in
-    let all : used (ran_of (d ∷ ds) x t.used) ≡ k + used rest = used-cons (ran_one d k end) rest in
-    let left : passed end ≡ true → (next_tally d x t).used + used (ran_of ds (drop k x) (next_tally d x t).used) ≤ m = λ h.
-    let same : (next_tally d x t).used ≡ t.used + k = counted-used d end (with_used (t.used + k) t) in
-    let steps : used (ran_of ds (drop k x) (next_tally d x t).used) ≡ used rest = ap used (parts_left d ds t x rest h refl) in
-    omega (arith, fits, all, same, steps) in
-    limited_step m d ds at t x (omega (arith, fits, all))
-    ∙ same_first end _ _ _ (λ h. within_limit ds m (at + 1) (next_tally d x t) (drop k x) (left h))
-    ∙ sym (first_step None d ds at t x)
-
-no_split : (before : List Ran) (cut : Ran) (rest : List Ran) → [] ≡ before ++ cut ∷ rest → ⊥
-no_split [] cut rest e = absurd (cc)
-no_split (r ∷ before) cut rest e = absurd (cc)
-
-same_head : (r s : Ran) (l k : List Ran) → r ∷ l ≡ s ∷ k → r ≡ s
-same_head r s l k e = cc
-
-same_tail : (r s : Ran) (l k : List Ran) → r ∷ l ≡ s ∷ k → l ≡ k
-same_tail r s l k e = cc
+gone_on : (end : StepEnd) (l before : List Ran) (cut : Ran) (rest : List Ran) → go_on end l ≡ before ++ cut ∷ rest → (passed end ≡ true) × (l ≡ before ++ cut ∷ rest)
+gone_on end l [] cut rest e = grind arith
+gone_on end l (r ∷ before) cut rest e = grind arith
 
 -- a run past the limit is cut off in the step in which it passes it
-cut_is : (ds : List Directive) (m a at : ℕ) (t : Tally) (x : List ℕ) (before : List Ran) (cut : Ran) (rest : List Ran) → at ≡ a + 1
-    → ran_of ds x t.used ≡ before ++ cut ∷ rest → t.used + used before ≤ m → m < t.used + used before + cut.bytes
-    → run_of (Some m) ds at t x ≡ cut_from a t before m
-cut_is [] m a at t x before cut rest e parts low high = absurd (no_split before cut rest parts)
-cut_is (d ∷ ds) m a at t x [] cut rest e parts low high =
-    let size : (step_of d x t.used).0 ≡ cut.bytes = ap (λ (r : Ran). r.bytes) (same_head _ _ _ _ parts) in
-    limited_over m d ds at t x (omega (arith, high, size)) ∙ same_out TooLong _ _ _ _ e (ap (with_used m) (sums_none t))
-cut_is (d ∷ ds) m a at t x (r ∷ before) cut rest e parts low high =
+cut_is : (ds : List Directive) (m a : ℕ) (t : Tally) (x : List ℕ) (before : List Ran) (cut : Ran) (rest : List Ran)
+    → ran_of ds x t.used ≡ before ++ cut ∷ rest → t.used + used before ≤ m → m < t.used + used before + cut.bytes → run_of (Some m) ds (a + 1) t x ≡ cut_from a t before m
+cut_is [] m a t x [] cut rest parts low high = cc
+cut_is [] m a t x (r ∷ before) cut rest parts low high = cc
+cut_is (d ∷ ds) m a t x [] cut rest parts low high = grind (arith, limited_over, sums_none)
+cut_is (d ∷ ds) m a t x (r ∷ before) cut rest parts low high =
     let k : ℕ = (step_of d x t.used).0 in
     let end : StepEnd = (step_of d x t.used).1 in
-    let same : ran_one d k end ≡ r = same_head _ _ _ _ parts in
-    let tail : go_on end (later d ds x t.used) ≡ before ++ cut ∷ rest = same_tail _ _ _ _ parts in
-    let size : k ≡ r.bytes = ap (λ (s : Ran). s.bytes) same in
+    let same : ran_one d k end ≡ r = cc in
+    let size : k ≡ r.bytes = cc in
+    let tail : go_on end (later d ds x t.used) ≡ before ++ cut ∷ rest = cc in
+    let goes = gone_on end (later d ds x t.used) before cut rest tail in
     let all = used-cons r before in
-    let now : (next_tally d x t).used ≡ t.used + k = counted-used d end (with_used (t.used + k) t) in
-    limited_step m d ds at t x (omega (arith, low, size, all))
-    ∙ elim (cases_passed end) [
-      | inl h ↦
-          by_passed end _ _ h
-          ∙ cut_is ds m (a + 1) (at + 1) (next_tally d x t) (drop k x) before cut rest (omega (arith, e)) (parts_left d ds t x _ h tail)
-          (omega (arith, low, size, all, now)) (omega (arith, high, size, all, now))
-          ∙ cut_step d end k a m t before h
-          ∙ ap (λ (s : Ran). cut_from a t (s ∷ before) m) same
-      | inr h ↦ absurd (no_split before cut rest (sym (go_failed end (later d ds x t.used) h) ∙ tail))
-    ]
+    let now = counted-used d end (with_used (t.used + k) t) in
+    limited_step m d ds (a + 1) t x (omega (arith, low, size, all))
+    ∙ cut_first d end k a m t before _ goes.0
+    (cut_is ds m (a + 1) (next_tally d x t) (drop k x) before cut rest (rw now goes.1) (omega (arith, low, size, all, now)) (omega (arith, high, size, all, now)))
+    ∙ ap (λ (s : Ran). cut_from a t (s ∷ before) m) same
 
 -- the steps up to the one in which byte m + 1 falls
 record Split (ran : List Ran) (n m : ℕ) : Type 0 where
@@ -319,21 +213,17 @@ told_exists ds proper m x = by_case (cases_lt m (used (ran_of ds x 0)))
             low = omega (arith, low);
             high = omega (arith, high);
           },
-          cut_is ds m 0 1 nothing_yet x s.before s.cut s.rest refl s.parts low high ∙ cut_nothing s.before m,
+          cut_is ds m 0 nothing_yet x s.before s.cut s.rest s.parts low high ∙ cut_nothing s.before m,
         )
-    by_case (inr fits) = inl (ran_of ds x 0, steps_is ds proper x 0, fits, within_limit ds m 1 nothing_yet x (omega (arith, fits)) ∙ run_is_told ds x)
+    by_case (inr fits) = inl (ran_of ds x 0, steps_is ds proper x 0, fits, within_limit m ds 1 nothing_yet x (rw run_is_told fits) ∙ run_is_told ds x)
 
 pub told_is : (ds : List Directive) → AreProper ds → (m : ℕ) (x : List ℕ) (r : RunReport) → TellsWithin ds m x r → r ≡ run_of (Some m) ds 1 nothing_yet x
-told_is ds proper m x r (inl w) =
-    let fits : used w.0 ≤ m = w.2 in
-    let ran : w.0 ≡ ran_of ds x 0 = steps_only ds proper x 0 w.0 w.1 in
-    let total : used w.0 ≡ used (ran_of ds x 0) = ap used ran in
-    w.3 ∙ sym (run_told ds proper x w.0 w.1) ∙ sym (within_limit ds m 1 nothing_yet x (omega (arith, fits, total)))
+told_is ds proper m x r (inl w) = let told = run_told ds proper x w.0 w.1 in w.3 ∙ sym told ∙ sym (within_limit m ds 1 nothing_yet x (rw told w.2))
 told_is ds proper m x r (inr w) =
     let low : used w.0 ≤ m = w.1.low in
     let high : m < used w.0 + w.1.cut.bytes = w.1.high in
     w.2 ∙ sym (cut_nothing w.0 m)
-    ∙ sym (cut_is ds m 0 1 nothing_yet x w.0 w.1.cut w.1.rest refl (sym (steps_only ds proper x 0 _ w.1.steps)) (omega (arith, low)) (omega (arith, high)))
+    ∙ sym (cut_is ds m 0 nothing_yet x w.0 w.1.cut w.1.rest (sym (steps_only ds proper x 0 _ w.1.steps)) (omega (arith, low)) (omega (arith, high)))
 
 -- ---- what the run met
 
@@ -341,92 +231,31 @@ told_is ds proper m x r (inr w) =
 abbrev pub uses : List Directive → List ℕ → ℕ
 uses ds x = (run_of None ds 1 nothing_yet x).used
 
-met_same : {P Q : Type 0} (met : Option Ending) (ending : Ending) → (P → Q) → (Q → P) → SomeIff met P ending → SomeIff met Q ending
-met_same None ending to back h = λ q. h (back q)
-met_same (Some e) ending to back h = (to h.0, h.1)
-
-met_none : {P : Type 0} (met : Option Ending) (ending : Ending) → (P → ⊥) → SomeIff met P ending → met ≡ None
-met_none None ending never h = refl
-met_none (Some e) ending never h = absurd (never h.0)
-
-none_met : {P : Type 0} (met : Option Ending) (ending : Ending) → (P → ⊥) → met ≡ None → SomeIff met P ending
-none_met None ending never e = never
-none_met (Some f) ending never e = absurd (cc)
-
 abbrev with_met : RunReport → Option Ending → RunReport
 with_met r met = record r { met = met }
 
--- a run that is cut off uses more than the limit
-cut_uses : (ds : List Directive) → AreProper ds → (m : ℕ) (x : List ℕ) (before : List Ran) → IsCut ds x m before → m < uses ds x
-cut_uses ds proper m x before c =
-    let told : uses ds x ≡ used (before ++ c.cut ∷ c.rest) = ap (λ (r : RunReport). r.used) (run_told ds proper x _ c.steps) in
-    let parts : used (before ++ c.cut ∷ c.rest) ≡ used before + used (c.cut ∷ c.rest) = sum_by-append (λ (s : Ran). s.bytes) before (c.cut ∷ c.rest) in
-    let last = used-cons c.cut c.rest in
-    let high : m < used before + c.cut.bytes = c.high in
-    omega (arith, told, parts, last, high)
-
 told_met : (ds : List Directive) → AreProper ds → (m : ℕ) (x : List ℕ) (ending : Ending) (met : Option Ending) (r : RunReport)
     → TellsWithin ds m x r → SomeIff met (IsOpen ds x × (uses ds x ≤ m)) ending → RunWithin ds m x ending (with_met r met)
-told_met ds proper m x ending met r (inl w) some =
-    let fits : used w.0 ≤ m = w.2 in
-    let told : uses ds x ≡ used w.0 = ap (λ (q : RunReport). q.used) (run_told ds proper x w.0 w.1) in
-    let here : r.used ≡ used w.0 = ap (λ (q : RunReport). q.used) w.3 in
-    inl (
-      omega (arith, fits, here),
-      (w.0, w.1, met, met_same met ending (λ h. h.0) (λ h. (h, omega (arith, told, fits))) some, ap (λ q. with_met q met) w.3),
-    )
-told_met ds proper m x ending met r (inr w) some =
-    let over = cut_uses ds proper m x w.0 w.1 in
-    let none : met ≡ None = met_none met ending (λ h. let fits = h.1 in absurd (omega (arith, over, fits))) some in
-    inr (w.0, w.1, ap₂ with_met w.2 none)
+told_met ds proper m x ending met r h2 some = grind (arith, run_told, common_steps)
 
 met_told : (ds : List Directive) → AreProper ds → (m : ℕ) (x : List ℕ) (ending : Ending) (r : RunReport)
     → RunWithin ds m x ending r → TellsWithin ds m x (with_met r None) × SomeIff r.met (IsOpen ds x × (uses ds x ≤ m)) ending
-met_told ds proper m x ending r (inl w) =
-    let run = w.1 in
-    let fits : r.used ≤ m = w.0 in
-    let told : uses ds x ≡ used run.0 = ap (λ (q : RunReport). q.used) (run_told ds proper x run.0 run.1) in
-    let here : r.used ≡ used run.0 = ap (λ (q : RunReport). q.used) run.4 in
-    let met : r.met ≡ run.2 = ap (λ (q : RunReport). q.met) run.4 in (
-      inl (run.0, run.1, omega (arith, fits, here), ap (λ q. with_met q None) run.4),
-      subst (λ v. SomeIff v (IsOpen ds x × (uses ds x ≤ m)) ending) (sym met)
-          (met_same run.2 ending (λ h. (h, omega (arith, told, here, fits))) (λ h. h.0) run.3),
-    )
-met_told ds proper m x ending r (inr w) =
-    let over = cut_uses ds proper m x w.0 w.1 in (
-      inr (w.0, w.1, ap (λ q. with_met q None) w.2),
-      none_met r.met ending (λ h. let fits = h.1 in absurd (omega (arith, over, fits))) (ap (λ (q : RunReport). q.met) w.2),
-    )
+met_told ds proper m x ending r h2 = grind (arith, run_told, common_steps)
 
 -- an open input is used whole
 abbrev pub UsesAll : Type 0
 UsesAll = (ds : List Directive) → AreProper ds → (x : List ℕ) → IsOpen ds x → (run_of None ds 1 nothing_yet x).used ≡ length x
 
 module _ (open_all : UsesAll) (ds : List Directive) (proper : AreProper ds) (m : ℕ) (x : List ℕ) (ending : Ending) where
-  abbrev IsMet : Type 0
-  IsMet = IsOpen ds x × (length x ≤ m)
-
-  from_length : IsMet → IsOpen ds x × (uses ds x ≤ m)
-  from_length h =
-      let all = open_all ds proper x h.0 in
-      let fits = h.1 in
-      (h.0, omega (arith, all, fits))
-
-  to_length : IsOpen ds x × (uses ds x ≤ m) → IsMet
-  to_length h =
-      let all = open_all ds proper x h.0 in
-      let fits = h.1 in
-      (h.0, omega (arith, all, fits))
-
   pub within_met : (met : Option Ending) (r : RunReport) → TellsWithin ds m x r → SomeIff met (IsOpen ds x × (length x ≤ m)) ending
       → RunWithin ds m x ending (record r { met = met })
-  within_met met r h some = told_met ds proper m x ending met r h (met_same met ending from_length to_length some)
+  within_met met r h some =
+      let same : SomeIff met (IsOpen ds x × (uses ds x ≤ m)) ending = grind (arith, (open_all ds proper x)) in
+      told_met ds proper m x ending met r h same
 
   pub met_within : (r : RunReport) → RunWithin ds m x ending r
       → TellsWithin ds m x (record r { met = None }) × SomeIff r.met (IsOpen ds x × (length x ≤ m)) ending
-  met_within r h =
-      let told = met_told ds proper m x ending r h in
-      (told.0, met_same r.met ending to_length from_length told.1)
+  met_within r h = grind (arith, met_told, (open_all ds proper x))
 
 -- ---- whether an input is open
 
@@ -434,27 +263,14 @@ abbrev IsBelow : (ℕ → Type 0) → ℕ → Type 0
 IsBelow P n = (b : ℕ) × (b < n) × P b
 
 tests_below : (n : ℕ) (P : ℕ → Type 0) (test : ℕ → Bool) → ((b : ℕ) → Tests (test b) (P b)) → Tests (some_below n test) (IsBelow P n)
-tests_below zero P test tests = record { from = λ e. absurd (true≢false (sym e)); to = λ h. let none = h.1 in absurd (omega (arith, none)) }
-tests_below (suc n) P test tests = by_case (test n) refl (tests_below n P test tests)
-  where
-    top : (b : ℕ) → b < suc n → P b → test n ≡ false → b < n
-    top b below h e = let other : b ≡ n → ⊥ = λ same. fails (tests b) (ap test same ∙ e) h in omega (arith, below, other)
-
-    by_case : (v : Bool) → test n ≡ v → Tests (some_below n test) (IsBelow P n) → Tests (cond v true (some_below n test)) (IsBelow P (suc n))
-    by_case true e lower = record { from = λ _. (n, omega arith, (tests n).from e); to = λ _. refl }
-    by_case false e lower = record {
-      from = λ some. let found = lower.from some in let below = found.1 in (found.0, omega (arith, below), found.2);
-      to = λ h. lower.to (h.0, top h.0 h.1 h.2 e, h.2);
-    }
+tests_below zero P test tests = grind arith
+tests_below (suc n) P test tests = grind (arith, tests_below n P test tests)
 
 unfoldable pub is_open : List Directive → List ℕ → Bool
 is_open ds x = some_below 256 (λ b. nat_eq (run_of None ds 1 nothing_yet (x ++ b ∷ [])).used (length x + 1))
 
 tests_uses : (ds : List Directive) → AreProper ds → (x : List ℕ) (k : ℕ) → Tests (nat_eq (run_of None ds 1 nothing_yet x).used k) (Uses ds x k)
-tests_uses ds proper x k = record {
-  from = λ e. uses_from ds proper x k ((tests_same (uses ds x) k).from e);
-  to = λ h. (tests_same (uses ds x) k).to (uses_is ds proper x k h);
-}
+tests_uses ds proper x k = grind (arith, uses_from, run_told)
 
 pub tests_open : (ds : List Directive) → AreProper ds → (x : List ℕ) → Tests (is_open ds x) (IsOpen ds x)
 unfolding is_open
@@ -463,14 +279,10 @@ tests_open ds proper x = tests_below 256 _ _ (λ b. tests_uses ds proper (x ++ b
 -- ---- one report
 
 met_is : {P : Type 0} {test : Bool} (ending : Ending) → Tests test P → SomeIff (cond test (Some ending) None) P ending
-met_is {test = true} ending tests = (tests.from refl, refl)
-met_is {test = false} ending tests = fails tests refl
+met_is ending tests = grind arith
 
 met_only : {P : Type 0} (test : Bool) (met : Option Ending) (ending : Ending) → Tests test P → SomeIff met P ending → met ≡ cond test (Some ending) None
-met_only true None ending tests h = absurd (h (tests.from refl))
-met_only false None ending tests h = refl
-met_only true (Some e) ending tests h = ap Some h.1
-met_only false (Some e) ending tests h = absurd (fails tests refl h.0)
+met_only test met ending tests h = grind arith
 
 -- the run met the ending: its input is open, and it was not cut off
 abbrev pub meets : List Directive → ℕ → List ℕ → Bool

@@ -17,7 +17,7 @@ use Rattle.sf_run.specs.Runs.{RunReport, IsOpen}
 use Rattle.sf_run.specs.Limits.{RunWithin, TellsWithin, cut_report}
 use Rattle.sf_run.specs.Machine.{Stage, Skipping, Item, stepped, is_full}
 use Rattle.sf_run.specs.Phases.{ShowsItem, Shows}
-use Rattle.sf_run.specs.Residual.{Tally, nothing_yet, with_used, out_of, run_of, run_from}
+use Rattle.sf_run.specs.Residual.{Tally, nothing_yet, with_used, out_of, run_of}
 use Rattle.sf_run.specs.Standing.{Standing, ShowsFirst, DoesBy, Does, Follows, Waits, IsSettled, Keeps, After, HasCome, report_by, report_of, Gives}
 use Rattle.sf_base.specs.Data.{Assigned}
 use Rattle.sf_run.specs.declared.tally.Tally as code
@@ -26,7 +26,7 @@ use Rattle.sf_run.specs.Texts.{text_slot, opened_for}
 use Rattle.sf_run.specs.Limits.{RunTold}
 use Rattle.sf_base.specs.Kept.{Opened}
 use Rattle.sf_run.proofs.Machines.{can_take_one, item_byte, item_byte-below, item_takes}
-use Rattle.sf_run.proofs.Moves.{drop_at, proper_at, ended_does, waiting, byte_took, byte_past, fresh, shows_fresh}
+use Rattle.sf_run.proofs.Moves.{drop_at, proper_at, ended_does, waiting, byte_took, byte_past}
 use Rattle.sf_run.proofs.Openness.{OpenAt, open_or_closed, uses_within, within_limit, run_not_too_long, over_is_too_long, rest_uses_nothing}
 use Rattle.sf_run.proofs.Told.{run_told, told_exists, told_is, uses_is, uses_from, within_met, met_within}
 
@@ -42,13 +42,7 @@ pub open_of : (ds : List Directive) → AreProper ds → (x : List ℕ) → Open
 open_of ds proper x w = (w.next, w.is_byte, uses_from ds proper (x ++ w.next ∷ []) (length x + 1) (let e : (full ds (x ++ w.next ∷ [])).used ≡ length x + 1 = omega (arith, w.takes) in e))
 
 pub open_all : (ds : List Directive) → AreProper ds → (x : List ℕ) → IsOpen ds x → (run_of None ds 1 nothing_yet x).used ≡ length x
-open_all ds proper x o =
-    elim (open_or_closed ds 1 nothing_yet x proper) [
-      | inl w ↦ omega (arith, w.all)
-      | inr w ↦ (let long : (full ds (x ++ o.0 ∷ [])).used ≡ length x + 1 = uses_is ds proper (x ++ o.0 ∷ []) (length x + 1) o.2 in
-          let same : (full ds (x ++ o.0 ∷ [])).used ≡ (full ds x).used = ap (λ (r : RunReport). r.used) (w None (o.0 ∷ [])) in
-          absurd (omega (arith, long, same, uses_within ds 1 nothing_yet x)))
-    ]
+open_all ds proper x o = grind (arith, (open_or_closed ds 1 nothing_yet x proper), (uses_is ds proper (x ++ o.0 ∷ []) (length x + 1) o.2), (uses_within ds 1 nothing_yet x))
 
 -- what isn't open is told alike however it goes on
 pub closed_same : (ds : List Directive) → AreProper ds → (m : ℕ) (x z : List ℕ) (r : RunReport) → (IsOpen ds x → ⊥) → TellsWithin ds m x r → TellsWithin ds m (x ++ z) r
@@ -91,13 +85,7 @@ one_byte d proper (phase.Text slot scan) q shows more = item_one d proper (Some 
 
 -- with no more input the scanner uses what it has used
 does_used : (s : Standing) (k : ℕ) (report : RunReport) → s.tally.used ≤ k → Does s k [] report → report.used ≡ s.tally.used
-does_used s k report within does = by_case s.ended does
-  where
-    by_case : (o : Option Stop) → DoesBy o s.directives s.passed s.phase s.opened s.tally k [] report → report.used ≡ s.tally.used
-    by_case None does =
-        ap (λ (r : RunReport). r.used) does.2
-        ∙ rest_uses_nothing (Some k) (drop s.passed s.directives) does.0 (s.passed + 1) s.tally (le-ltb k s.tally.used within)
-    by_case (Some stop) does = ap (λ (r : RunReport). r.used) does
+does_used s k report within does = grind (arith, rest_uses_nothing)
 
 module _ (ds : List Directive) (m : ℕ) (s : Standing) (x : List ℕ) (h : After ds m s x) where
   -- what is told of x alone, and of x and more
@@ -284,8 +272,7 @@ ended_gives ds m s x z ending h ended = by_case s.ended refl ended
 -- ---- after a move
 
 none_before : {A : Type 0} (o p : Option A) → (IsSome o → IsSome p) → p ≡ None → o ≡ None
-none_before None p h e = refl
-none_before (Some a) p h e = absurd (let i = h refl in cc)
+none_before o p h e = grind arith
 
 -- after a piece was pushed
 pub after_push : (ds : List Directive) (m : ℕ) (old new : Standing) (x piece : List ℕ) (n : ℕ) → After ds m old x → new.tally.used ≤ new.limit
@@ -381,8 +368,7 @@ after_report ds m s x ending stop h e =
     (subst (λ r. TellsWithin ds m x r) (cut_here ds m s x h stop e) (told_exists ds h.proper m x)) (λ o. ended_closed ds m s x h (ap is_some e) o.0 o.1))
 
 pub none_is : {A : Type 0} (o : Option A) → is_some o ≡ false → o ≡ None
-none_is None h = refl
-none_is (Some a) h = absurd cc
+none_is o h = grind arith
 
 pub none_of : (s : Standing) → is_some s.ended ≡ false → s.ended ≡ None
 none_of s = none_is s.ended
@@ -394,11 +380,7 @@ within_used ds m s x ending r h run = used_is ds m s x h (record r { met = None 
 -- before the first byte
 pub start_does : (own ds : List Directive) (opened : Option Opened) (t : Tally) (k : ℕ) (z : List ℕ) → own ≡ ds → opened ≡ None → t ≡ nothing_yet
     → DoesBy None own 0 phase.Skipping opened t k z (run_of (Some k) ds 1 nothing_yet z)
-start_does own ds opened t k z same none nothing = (
-  Skipping,
-  subst (λ o. ShowsFirst own phase.Skipping o Skipping) (sym none) (shows_fresh own),
-  sym (fresh (Some k) ds 1 nothing_yet z) ∙ ap (λ u. run_from (Some k) ds Skipping 1 u z) (sym nothing) ∙ ap (λ d. run_from (Some k) d Skipping 1 t z) (sym same),
-)
+start_does own ds opened t k z same none nothing = grind arith
 
 pub tally_nothing : (t : code.Tally) (values : List Assigned) → t.used ≡ 0 → t.assigned ≡ 0 → t.converted ≡ 0 → values ≡ [] → tally_of t values ≡ nothing_yet
 tally_nothing t values a b c d = rw (a, b, c, d) refl

@@ -2,12 +2,11 @@ use Rattle.std.proofs.Common.{◌≡◌, ◌<◌, ◌+◌, ◌≤◌, ◌&&◌, 
 use Rattle.sf_base.specs.Bytes.{is_white}
 use Rattle.sf_format.specs.declared.directive.Conversion.{Conversion}
 use Rattle.sf_format.specs.declared.directive.Directive.TheVariants.{Conv}
-use Rattle.sf_run.specs.declared.directive.Phase.TheVariants as phase
 use Rattle.sf_run.specs.declared.directive.Run.{Run}
 use Rattle.sf_run.specs.Machine.{Skipping, shape_skips}
-use Rattle.sf_run.specs.Pieces.{Answers, Suits}
+use Rattle.sf_run.specs.Pieces.{Answers}
 use Rattle.sf_run.proofs.Brought.{item_skips}
-use Rattle.sf_run.proofs.Pieces.{answers_behind, count_answers, next_behind, suits_behind}
+use Rattle.sf_run.proofs.Pieces.{answers_behind, count_answers, next_behind}
 use Rattle.sf_run.proofs.directive.begin.Goals as goal
 
 pub returns-then-is_count-clause-answers : goal.returns-then-is_count-clause-answers
@@ -31,11 +30,3 @@ returns-clause-answers c proper =
     (subst (λ y. 0 < length y → (shape_skips k.shape && is_white (get_or y 0 0)) ≡ false) (sym back) (next_behind (λ b. shape_skips k.shape && is_white b) w piece e.next)) (c.args.used + w)) in
     subst (λ (r : Run). Answers (Conv k) Skipping c.args.used piece r) (sym c.behind.ensures)
     (answers_behind (Conv k) c.args.used w piece run e.within fits (item_skips k piece w e.within e.white) here)
-
-pub returns-clause-suits : goal.returns-clause-suits
-returns-clause-suits c =
-    let k : Conversion = c.args.conversion.now in
-    let w : ℕ = c.skipped-before.result in
-    let run = c.begin_item.result in
-    subst (λ (r : Run). Suits (Conv k) phase.Skipping c.args.piece.now r) (sym c.behind.ensures)
-    (suits_behind (Conv k) w c.args.piece.now run c.skipped-before.ensures.within (subst (λ y. Suits (Conv k) phase.Skipping y run) c.split_at.ensures.back c.begin_item.ensures.suits))

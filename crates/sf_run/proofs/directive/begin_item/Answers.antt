@@ -8,7 +8,7 @@ use Rattle.sf_run.specs.Machine.{Skipping}
 use Rattle.sf_format.specs.Proper.{IsProperShape}
 use Rattle.sf_run.specs.Phases.{CanAll}
 use Rattle.sf_run.specs.Pieces.{Answers, Suits}
-use Rattle.sf_run.proofs.Pieces.{item_begins, nothing_taken, suits_ended, suits_waits}
+use Rattle.sf_run.proofs.Pieces.{item_begins, nothing_taken, suits_waits}
 use Rattle.sf_run.proofs.directive.begin_item.Goals as goal
 
 pub returns-then-is_empty-clause-suits : goal.returns-then-is_empty-clause-suits
@@ -19,12 +19,6 @@ returns-then-is_empty-clause-suits c =
 pub returns-in-Some-clause-answers : goal.returns-in-Some-clause-answers
 returns-in-Some-clause-answers c proper ink n =
     subst (λ (r : Run). Answers (Conv c.args.conversion.now) Skipping n c.args.piece.now r) (sym c.ends.ensures) (c.in-Some.ensures.answers proper ink n)
-
-pub returns-in-Some-clause-suits : goal.returns-in-Some-clause-suits
-returns-in-Some-clause-suits c =
-    let e = c.in-Some.ensures in
-    subst (λ (r : Run). Suits (Conv c.args.conversion.now) phase.Skipping c.args.piece.now r) (sym c.ends.ensures)
-    (suits_ended (Conv c.args.conversion.now) c.args.piece.now c.in-Some.ended e.closes e.fits)
 
 pub returns-then-run-eq0-clause-answers : goal.returns-then-run-eq0-clause-answers
 returns-then-run-eq0-clause-answers c proper ink n =

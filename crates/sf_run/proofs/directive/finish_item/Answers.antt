@@ -1,10 +1,11 @@
+use Rattle.std.proofs.Common.{arith}
 use Rattle.std.proofs.Common.{sym, subst, ap, ◌∙◌}
 use Rattle.std.specs.Option.{option_map}
 use Rattle.sf_base.specs.Data.{Number, value_of}
 use Rattle.sf_format.specs.declared.directive.Conversion.{Conversion}
-use Rattle.sf_item.specs.declared.item.ItemEnd.TheVariants.{Integer, Matched}
+use Rattle.sf_item.specs.declared.item.ItemEnd.TheVariants.{Integer}
 use Rattle.sf_item.specs.Taking.{Ends}
-use Rattle.sf_run.proofs.Stages.{held_value, integer_ends, item_suppressed, suppressed_end, item_fails}
+use Rattle.sf_run.proofs.Stages.{held_value, integer_ends, item_fails}
 use Rattle.sf_run.proofs.directive.finish_item.Goals as goal
 
 pub returns-in-Integer-clause-end : goal.returns-in-Integer-clause-end
@@ -17,15 +18,5 @@ returns-in-Integer-clause-end c text f some same h none =
     (c.number_of.ensures ∙ ap (option_map (Number d.kind)) (held_value d.kind i.negative i.magnitude ends.1 i.overflowed ends.4))
     ∙ integer_ends d f i.negative i.magnitude i.overflowed ends
 
-pub returns-in-Matched-clause-end : goal.returns-in-Matched-clause-end
-returns-in-Matched-clause-end c text f some same h none =
-    let d = c.args.conversion.now in
-    let ends : Ends d f Matched = subst (λ (e : Conversion). Ends e f Matched) (sym same) (c.in-Matched.ensures f h) in
-    let slot = item_suppressed d f none ends in
-    c.finish_matched.ensures.end text slot ∙ suppressed_end d f slot ends.1
-
 pub returns-in_default-clause-end : goal.returns-in_default-clause-end
-returns-in_default-clause-end c text f some same h none =
-    let d = c.args.conversion.now in
-    let ends : Ends d f c.finish.result = subst (λ (e : Conversion). Ends e f c.finish.result) (sym same) (c.finish.ensures f h) in
-    item_fails d f c.finish.result some ends c.in_default.not-Matched c.in_default.not-Integer
+returns-in_default-clause-end c text f some same h none = grind (arith, item_fails)

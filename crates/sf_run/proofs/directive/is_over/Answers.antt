@@ -1,3 +1,4 @@
+use Rattle.std.proofs.Common.{arith}
 use Rattle.std.proofs.Common.{◌++◌, take, drop, sym, ◌∙◌}
 use Rattle.sf_format.specs.declared.directive.Directive.TheVariants.{Conv}
 use Rattle.sf_item.specs.Taking.{conversion_of}
@@ -7,8 +8,7 @@ use Rattle.sf_run.proofs.Stages.{item_full, shown_full}
 use Rattle.sf_run.proofs.directive.is_over.Goals as goal
 
 pub returns-then-item-piece-clause-over : goal.returns-then-item-piece-clause-over
-returns-then-item-piece-clause-over c f proper h never over =
-    over_next (conversion_of c.args.scan.now) f c.args.piece.now c.args.item proper.0 c.if-item-piece.true (never c.if-item-piece.true)
+returns-then-item-piece-clause-over c f proper h never over = grind (arith, over_next)
 
 pub returns-else-item-piece-clause-over : goal.returns-else-item-piece-clause-over
 returns-else-item-piece-clause-over c f proper h never full =

@@ -13,9 +13,3 @@ returns-clause-answers c proper ink n =
     let below = is.ends.behind in
     integer_read k n c.args.piece.now w c.finish_number.result is (ink (omega (arith, below)))
     (λ text. c.finish_number.ensures.end text (value_of k.kind w.negative w.magnitude) c.number_of-number.ensures)
-
-pub returns-clause-fits : goal.returns-clause-fits
-returns-clause-fits c =
-    let e = c.finish_number.ensures in
-    let below = c.in_ok-whole.ensures.behind in
-    record { within = omega (arith, below); given = e.given; number = e.number; memory = e.memory }

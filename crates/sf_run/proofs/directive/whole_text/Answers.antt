@@ -9,10 +9,3 @@ returns-clause-answers c proper ink n =
     let below = is.behind in
     bytes_read c.args.conversion.now n c.in_ok-item.item c.args.piece.now c.finish_bytes.result proper c.requires.slot c.requires.item is (ink (omega (arith, below)))
     c.finish_bytes.ensures.none c.finish_bytes.ensures.some
-
-pub returns-clause-fits : goal.returns-clause-fits
-returns-clause-fits c =
-    let e = c.finish_bytes.ensures in
-    let is = c.in_ok-item.ensures in
-    let below = is.behind in
-    record { within = omega (arith, below); given = λ ok. e.given; number = e.number; memory = e.memory }

@@ -1,15 +1,11 @@
-use Rattle.std.proofs.Common.{◌≡◌, Some}
-use Rattle.sf_run.specs.Texts.{text_slot}
-use Rattle.sf_run.specs.Phases.{slot_in}
+use Rattle.std.proofs.Common.{arith}
 use Rattle.sf_run.specs.Scanner.{kept_by, standing}
 use Rattle.sf_run.proofs.Moves.{last_follows}
 use Rattle.sf_run.proofs.Slots.{if_some, own_text}
 use Rattle.sf_run.proofs.scanner.Scanner.close_last.Goals as goal
 
 pub finish-finished-requires : goal.finish-finished-requires
-finish-finished-requires g c =
-    let s = c.args.self.now in
-    if_some (slot_in s.phase) (λ slot. text_slot c.args.directive.now ≡ Some slot) (own_text s.directives.now s.passed c.args.directive.now s.phase c.requires.current s.own_slot)
+finish-finished-requires g c = grind (arith, if_some, own_text)
 
 pub returns-clause-same : goal.returns-clause-same
 returns-clause-same g c =

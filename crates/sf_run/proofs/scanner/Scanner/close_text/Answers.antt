@@ -1,42 +1,13 @@
 use Rattle.sf_base.specs.Data.{Bytes}
 use Rattle.sf_base.specs.Kept.{text_of}
 use Rattle.sf_run.specs.Steps.{Stores}
-use Rattle.std.proofs.Common.{◌<◌, length, arith, true, refl, ◌∙◌}
-use Rattle.std.proofs.lemmas.Option.{slice_get_within}
+use Rattle.std.proofs.Common.{length, arith, true, refl, ◌∙◌}
 use Rattle.sf_run.specs.Scanner.{kept_by}
-use Rattle.sf_run.proofs.Moves.{place_taken, has_place}
+use Rattle.sf_run.proofs.Moves.{place_taken}
 use Rattle.sf_run.proofs.Slots.{is_destination_of, slots_more, joined_text, closed_values, room_passed}
 use Rattle.sf_base.specs.Kept.{buffer_of}
 use Rattle.sf_run.proofs.Slots.{closed_capacity, size_passed, size_closed}
 use Rattle.sf_run.proofs.scanner.Scanner.close_text.Goals as goal
-
-pub counted-tally-requires : goal.counted-tally-requires
-counted-tally-requires g c =
-    let s = c.args.self.now in
-    let inside : s.passed < length s.directives.now = slice_get_within _ _ _ c.requires.current in
-    let place = has_place s.directives.now s.passed c.args.directive.now true c.requires.current (λ e. is_destination_of c.args.directive.now c.args.slot c.requires.own) refl in
-    record {
-      assigned = λ e. omega (arith, place, s.assigned);
-      converted = omega (arith, s.few, s.converted, inside);
-    }
-
-pub invariant_of-self-clause-in_list : goal.invariant_of-self-clause-in_list
-invariant_of-self-clause-in_list g c =
-    let s = c.args.self.now in
-    let inside : s.passed < length s.directives.now = slice_get_within _ _ _ c.requires.current in
-    omega (arith, inside)
-
-pub invariant_of-self-clause-assigned : goal.invariant_of-self-clause-assigned
-invariant_of-self-clause-assigned g c =
-    let s = c.args.self.now in
-    let place = place_taken s.directives.now s.passed c.args.directive.now true c.requires.current (λ e. is_destination_of c.args.directive.now c.args.slot c.requires.own) in
-    omega (arith, s.assigned, place, c.counted-tally.ensures.assigned)
-
-pub invariant_of-self-clause-converted : goal.invariant_of-self-clause-converted
-invariant_of-self-clause-converted g c = let s = c.args.self.now in omega (arith, s.converted, c.counted-tally.ensures.converted)
-
-pub invariant_of-self-clause-bounded : goal.invariant_of-self-clause-bounded
-invariant_of-self-clause-bounded g c = let s = c.args.self.now in let e = c.counted-tally.ensures.used in omega (arith, s.bounded, e)
 
 pub invariant_of-self-clause-given : goal.invariant_of-self-clause-given
 invariant_of-self-clause-given g c =
@@ -73,3 +44,9 @@ invariant_of-self-clause-sized g c bounded =
     let s = c.args.self.now in
     let same = size_closed (kept_by s).closed (text_of (kept_by s).opened) in
     rw (c.close_text.ensures, same) (size_passed s.ended s.directives.now s.passed c.args.directive.now s.phase (length (buffer_of (kept_by s))) _ c.requires.current (s.sized bounded))
+
+pub invariant_of-self-clause-assigned : goal.invariant_of-self-clause-assigned
+invariant_of-self-clause-assigned g c =
+    let s = c.args.self.now in
+    let place = place_taken s.directives.now s.passed c.args.directive.now true c.requires.current (λ e. is_destination_of c.args.directive.now c.args.slot c.requires.own) in
+    omega (arith, s.assigned, place, c.counted-tally.ensures.assigned)

@@ -1,6 +1,5 @@
-use Rattle.std.proofs.Common.{◌≡◌, ◌++◌, ◌∙◌, Bool, true, false, None, is_some, ap, sym, subst, arith, true≢false, refl}
+use Rattle.std.proofs.Common.{◌≡◌, ◌++◌, ◌∙◌, Bool, true, false, None, ap, sym, subst, arith, true≢false, refl}
 use Rattle.sf_format.specs.Proper.{AreProper}
-use Rattle.sf_format.specs.Widths.{width_sum}
 use Rattle.sf_run.specs.Standing.{After, Gives, ran_out}
 use Rattle.sf_run.specs.Scanner.{standing}
 use Rattle.sf_run.proofs.Moves.{waits_for}
@@ -45,11 +44,6 @@ returns-clause-gives g c ds m x z ending h is =
           (e.memory (subst (λ l. AreProper l) (sym h.format) h.proper) waits out)
     ] in
     by (ran_out (standing c.push-taken.new.self)) refl
-
-pub returns-clause-bounded : goal.returns-clause-bounded
-returns-clause-bounded g c ds m x bounded h =
-    let e = c.push-taken.ensures in
-    c.push-taken.new.self.healthy (ap (λ l. is_some (width_sum l)) (e.keeps.directives ∙ h.format) ∙ bounded)
 
 pub returns-clause-no_text : goal.returns-clause-no_text
 returns-clause-no_text g c ds m y out after = true≢false (sym out ∙ after_fine ds m (standing c.push-taken.new.self) y after)

@@ -1,4 +1,4 @@
-use Rattle.std.proofs.Common.{◌≡◌, ◌+◌, ◌++◌, ℕ, List, take, drop, Option, Some, refl, ap, subst, ◌∙◌, arith}
+use Rattle.std.proofs.Common.{◌+◌, ◌++◌, ℕ, List, take, drop, Option, refl, ap, subst, ◌∙◌, arith}
 use Rattle.std.specs.Prelude.{slice_get}
 use Rattle.std.proofs.lemmas.Option.{slice_get_within}
 use Rattle.sf_run.specs.declared.directive.Finished.{Finished}
@@ -6,7 +6,7 @@ use Rattle.sf_run.specs.declared.directive.Phase.{Phase}
 use Rattle.sf_run.specs.Phases.{Shows, end_of, slot_in}
 use Rattle.sf_run.specs.Pieces.{AnswersBy, item_of}
 use Rattle.sf_run.specs.Standing.{Standing, TakesAll, Waits}
-use Rattle.sf_run.specs.Texts.{opened_with, text_slot}
+use Rattle.sf_run.specs.Texts.{opened_with}
 use Rattle.sf_run.specs.Scanner.{kept_by, standing}
 use Rattle.sf_run.proofs.Moves.{answer_follows, if_none, limit_follows, runs_out_refuses, waits_follow}
 use Rattle.sf_run.proofs.Pieces.{end_is, front_ends, stores_front, uses_front}
@@ -14,9 +14,7 @@ use Rattle.sf_run.proofs.Slots.{if_some, own_text}
 use Rattle.sf_run.proofs.scanner.Scanner.hand.Goals as goal
 
 pub run_on-run-requires : goal.run_on-run-requires
-run_on-run-requires g c =
-    let s = c.args.self.now in
-    if_some (slot_in s.phase) (λ slot. text_slot c.args.directive.now ≡ Some slot) (own_text s.directives.now s.passed c.args.directive.now s.phase c.requires.current s.own_slot)
+run_on-run-requires g c = grind (arith, if_some, own_text)
 
 pub fail-requires-clause-current : goal.fail-requires-clause-current
 fail-requires-clause-current g c = slice_get_within _ _ _ c.requires.current
@@ -95,4 +93,4 @@ returns-clause-same g c proper fine z =
     c.run_on-run.ensures.suits.slot (end_is d run.phase run.ends c.in-Some.finished c.in-Some.is c.run_on-run.ensures.suits.end)
     (λ q shows.
     let a = subst (λ (o : Option Finished). AnswersBy o d q s.tally.used front run) c.in-Some.is ((c.run_on-run.ensures.answers q proper shows).goes) in
-    front_ends d q s.tally.used m n piece front (end_of (item_of q ++ take run.item (drop run.before front)) c.in-Some.finished) c.split_at.ensures.front (omega (arith, least)) a z)
+    front_ends d q s.tally.used m n piece front (end_of (item_of q ++ take run.item (drop run.before front)) c.in-Some.finished) c.split_at.ensures.front a z)

@@ -8,42 +8,23 @@ use Rattle.sf_run.proofs.Slots.{size_begun}
 use Rattle.sf_run.proofs.scanner.Scanner.open.Goals as goal
 
 pub open_text-requires-clause-at_least_one : goal.open_text-requires-clause-at_least_one
-open_text-requires-clause-at_least_one g c =
-    let s = c.args.self.now in
-    let d = c.args.directive.now in
-    let h = slot_placed g.S.Store.slots s.directives.now s.passed d c.args.slot s.placed c.requires.current (slot_of_own d c.args.slot c.requires.own) in h.0
+open_text-requires-clause-at_least_one g c = grind (arith, slot_placed, slot_of_own)
 
 pub open_text-requires-clause-in_range : goal.open_text-requires-clause-in_range
-open_text-requires-clause-in_range g c =
-    let s = c.args.self.now in
-    let d = c.args.directive.now in
-    let h = slot_placed g.S.Store.slots s.directives.now s.passed d c.args.slot s.placed c.requires.current (slot_of_own d c.args.slot c.requires.own) in h.1
+open_text-requires-clause-in_range g c = grind (arith, slot_placed, slot_of_own)
 
 pub open_text-requires-clause-absent : goal.open_text-requires-clause-absent
-open_text-requires-clause-absent g c =
-    let s = c.args.self.now in
-    let d = c.args.directive.now in
-    slot_free s.directives.now s.passed d c.args.slot (kept_by s).values s.apart s.given c.requires.current (slot_of_own d c.args.slot c.requires.own)
+open_text-requires-clause-absent g c = grind (arith, slot_free, slot_of_own)
 
 -- the bytes left as the text begins
 left : (g : _) (c : goal.After-start g) → left_of c.start.result ≡ left_before c.args.directive.now c.args.self.now.phase
 left g c = c.start.ensures.left ∙ left_first c.args.directive.now c.in-Conv.conversion c.args.self.now.phase c.in-Conv.is c.requires.no_text
 
-pub invariant_of-self-clause-given : goal.invariant_of-self-clause-given
-invariant_of-self-clause-given g c = rw c.open_text.ensures c.args.self.now.given
-
-pub invariant_of-self-clause-joined : goal.invariant_of-self-clause-joined
-invariant_of-self-clause-joined g c = rw c.open_text.ensures c.args.self.now.joined
-
 pub invariant_of-self-clause-own_slot : goal.invariant_of-self-clause-own_slot
-invariant_of-self-clause-own_slot g c e =
-    let s = c.args.self.now in text_own s.directives.now s.passed c.args.directive.now c.args.slot c.requires.current c.requires.own
+invariant_of-self-clause-own_slot g c e = grind (arith, text_own)
 
 pub invariant_of-self-clause-limited : goal.invariant_of-self-clause-limited
-invariant_of-self-clause-limited g c bounded =
-    let s = c.args.self.now in
-    let d = c.args.directive.now in
-    open_limited s.directives.now s.passed d s.phase c.args.slot c.start.result c.requires.current c.requires.no_text c.requires.own (left g c) bounded
+invariant_of-self-clause-limited g c bounded = grind (arith, open_limited, left)
 
 pub invariant_of-self-clause-roomy : goal.invariant_of-self-clause-roomy
 invariant_of-self-clause-roomy g c bounded =
@@ -60,3 +41,9 @@ invariant_of-self-clause-sized g c bounded =
     let same = size_begun (kept_by s).closed (kept_by s).opened (opened_none (kept_by s).opened (s.under_way ∙ c.requires.no_text)) in
     let was = s.sized bounded in
     rw c.open_text.ensures (omega (arith, rest, same, was))
+
+pub invariant_of-self-clause-given : goal.invariant_of-self-clause-given
+invariant_of-self-clause-given g c = rw c.open_text.ensures c.args.self.now.given
+
+pub invariant_of-self-clause-joined : goal.invariant_of-self-clause-joined
+invariant_of-self-clause-joined g c = rw c.open_text.ensures c.args.self.now.joined

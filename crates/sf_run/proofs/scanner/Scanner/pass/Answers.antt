@@ -1,6 +1,5 @@
 use Rattle.sf_run.specs.Steps.{Passes}
-use Rattle.std.proofs.Common.{◌<◌, length, arith, false, refl, ◌∙◌}
-use Rattle.std.proofs.lemmas.Option.{slice_get_within}
+use Rattle.std.proofs.Common.{length, arith, false, refl, ◌∙◌}
 use Rattle.sf_run.specs.Scanner.{kept_by}
 use Rattle.sf_run.proofs.Moves.{place_taken}
 use Rattle.sf_run.proofs.Slots.{opened_none, slots_none, room_passed}
@@ -8,27 +7,8 @@ use Rattle.sf_base.specs.Kept.{buffer_of}
 use Rattle.sf_run.proofs.Slots.{size_passed}
 use Rattle.sf_run.proofs.scanner.Scanner.pass.Goals as goal
 
-pub invariant_of-self-clause-in_list : goal.invariant_of-self-clause-in_list
-invariant_of-self-clause-in_list g c =
-    let s = c.args.self.now in
-    let inside : s.passed < length s.directives.now = slice_get_within _ _ _ c.requires.current in
-    omega (arith, inside)
-
-pub invariant_of-self-clause-assigned : goal.invariant_of-self-clause-assigned
-invariant_of-self-clause-assigned g c =
-    let s = c.args.self.now in
-    let place = place_taken s.directives.now s.passed c.args.directive.now false c.requires.current (λ e. cc) in
-    omega (arith, s.assigned, place, c.counted-tally.ensures.assigned)
-
-pub invariant_of-self-clause-converted : goal.invariant_of-self-clause-converted
-invariant_of-self-clause-converted g c = let s = c.args.self.now in omega (arith, s.converted, c.counted-tally.ensures.converted)
-
-pub invariant_of-self-clause-bounded : goal.invariant_of-self-clause-bounded
-invariant_of-self-clause-bounded g c = let s = c.args.self.now in let e = c.counted-tally.ensures.used in omega (arith, s.bounded, e)
-
 pub invariant_of-self-clause-given : goal.invariant_of-self-clause-given
-invariant_of-self-clause-given g c =
-    let s = c.args.self.now in slots_none s.directives.now s.passed c.args.directive.now (kept_by s).values c.requires.current c.requires.no_slot s.given
+invariant_of-self-clause-given g c = grind (arith, slots_none)
 
 pub invariant_of-self-clause-roomy : goal.invariant_of-self-clause-roomy
 invariant_of-self-clause-roomy g c bounded =
@@ -49,3 +29,9 @@ returns g c =
 pub invariant_of-self-clause-sized : goal.invariant_of-self-clause-sized
 invariant_of-self-clause-sized g c bounded =
     let s = c.args.self.now in size_passed s.ended s.directives.now s.passed c.args.directive.now s.phase (length (buffer_of (kept_by s))) _ c.requires.current (s.sized bounded)
+
+pub invariant_of-self-clause-assigned : goal.invariant_of-self-clause-assigned
+invariant_of-self-clause-assigned g c =
+    let s = c.args.self.now in
+    let place = place_taken s.directives.now s.passed c.args.directive.now false c.requires.current (λ e. cc) in
+    omega (arith, s.assigned, place, c.counted-tally.ensures.assigned)

@@ -1,53 +1,21 @@
 use Rattle.sf_base.specs.Data.{datum_of_number}
 use Rattle.sf_run.specs.Steps.{Stores}
-use Rattle.std.proofs.Common.{◌<◌, length, arith, true, refl, ◌∙◌}
-use Rattle.std.proofs.lemmas.Option.{slice_get_within}
+use Rattle.std.proofs.Common.{length, arith, true, refl, ◌∙◌}
 use Rattle.sf_run.specs.Scanner.{kept_by}
-use Rattle.sf_run.proofs.Moves.{place_taken, has_place}
+use Rattle.sf_run.proofs.Moves.{place_taken}
 use Rattle.sf_run.proofs.Slots.{opened_none, is_destination_of, slots_more, slot_placed, slot_free, joined_number, room_passed}
 use Rattle.sf_base.specs.Kept.{buffer_of}
 use Rattle.sf_run.proofs.Slots.{size_passed}
 use Rattle.sf_run.proofs.scanner.Scanner.set.Goals as goal
 
-pub counted-tally-requires : goal.counted-tally-requires
-counted-tally-requires g c =
-    let s = c.args.self.now in
-    let inside : s.passed < length s.directives.now = slice_get_within _ _ _ c.requires.current in
-    let place = has_place s.directives.now s.passed c.args.directive.now true c.requires.current (λ e. is_destination_of c.args.directive.now c.args.slot c.requires.own) refl in
-    record {
-      assigned = λ e. omega (arith, place, s.assigned);
-      converted = omega (arith, s.few, s.converted, inside);
-    }
-
 pub set_number-requires-clause-at_least_one : goal.set_number-requires-clause-at_least_one
-set_number-requires-clause-at_least_one g c =
-    let s = c.args.self.now in let h = slot_placed g.S.Store.slots s.directives.now s.passed c.args.directive.now c.args.slot s.placed c.requires.current c.requires.own in h.0
+set_number-requires-clause-at_least_one g c = grind (arith, slot_placed)
 
 pub set_number-requires-clause-in_range : goal.set_number-requires-clause-in_range
-set_number-requires-clause-in_range g c =
-    let s = c.args.self.now in let h = slot_placed g.S.Store.slots s.directives.now s.passed c.args.directive.now c.args.slot s.placed c.requires.current c.requires.own in h.1
+set_number-requires-clause-in_range g c = grind (arith, slot_placed)
 
 pub set_number-requires-clause-absent : goal.set_number-requires-clause-absent
-set_number-requires-clause-absent g c =
-    let s = c.args.self.now in slot_free s.directives.now s.passed c.args.directive.now c.args.slot (kept_by s).values s.apart s.given c.requires.current c.requires.own
-
-pub invariant_of-self-clause-in_list : goal.invariant_of-self-clause-in_list
-invariant_of-self-clause-in_list g c =
-    let s = c.args.self.now in
-    let inside : s.passed < length s.directives.now = slice_get_within _ _ _ c.requires.current in
-    omega (arith, inside)
-
-pub invariant_of-self-clause-assigned : goal.invariant_of-self-clause-assigned
-invariant_of-self-clause-assigned g c =
-    let s = c.args.self.now in
-    let place = place_taken s.directives.now s.passed c.args.directive.now true c.requires.current (λ e. is_destination_of c.args.directive.now c.args.slot c.requires.own) in
-    omega (arith, s.assigned, place, c.counted-tally.ensures.assigned)
-
-pub invariant_of-self-clause-converted : goal.invariant_of-self-clause-converted
-invariant_of-self-clause-converted g c = let s = c.args.self.now in omega (arith, s.converted, c.counted-tally.ensures.converted)
-
-pub invariant_of-self-clause-bounded : goal.invariant_of-self-clause-bounded
-invariant_of-self-clause-bounded g c = let s = c.args.self.now in let e = c.counted-tally.ensures.used in omega (arith, s.bounded, e)
+set_number-requires-clause-absent g c = grind (arith, slot_free)
 
 pub invariant_of-self-clause-given : goal.invariant_of-self-clause-given
 invariant_of-self-clause-given g c =
@@ -80,3 +48,9 @@ pub invariant_of-self-clause-sized : goal.invariant_of-self-clause-sized
 invariant_of-self-clause-sized g c bounded =
     let s = c.args.self.now in
     rw c.set_number.ensures (size_passed s.ended s.directives.now s.passed c.args.directive.now s.phase (length (buffer_of (kept_by s))) _ c.requires.current (s.sized bounded))
+
+pub invariant_of-self-clause-assigned : goal.invariant_of-self-clause-assigned
+invariant_of-self-clause-assigned g c =
+    let s = c.args.self.now in
+    let place = place_taken s.directives.now s.passed c.args.directive.now true c.requires.current (λ e. is_destination_of c.args.directive.now c.args.slot c.requires.own) in
+    omega (arith, s.assigned, place, c.counted-tally.ensures.assigned)

@@ -1,7 +1,6 @@
 use Rattle.std.proofs.Common.{◌≡◌, [], false, Some, refl, ap, length, arith}
 use Rattle.sf_base.specs.Kept.{Kept, buffer_of}
 use Rattle.sf_run.specs.Residual.{nothing_yet, run_of}
-use Rattle.sf_run.specs.Texts.{slots_in, opened_slot}
 use Rattle.sf_run.specs.Tallies.{tally_of}
 use Rattle.sf_run.specs.Scanner.{standing}
 use Rattle.sf_run.specs.Standing.{ran_out}
@@ -9,24 +8,6 @@ use Rattle.sf_run.proofs.Moves.{none_refused}
 use Rattle.sf_run.proofs.Slots.{room_first, size_first}
 use Rattle.sf_run.proofs.Waits.{after_nothing, start_does, tally_nothing}
 use Rattle.sf_run.proofs.scanner.Scanner.start.Goals as goal
-
-pub invariant_of-scanner-clause-assigned : goal.invariant_of-scanner-clause-assigned
-invariant_of-scanner-clause-assigned g c = let e = c.new.ensures.assigned in let p = c.requires.places in omega (arith, e, p)
-
-pub invariant_of-scanner-clause-converted : goal.invariant_of-scanner-clause-converted
-invariant_of-scanner-clause-converted g c = let e = c.new.ensures.converted in omega (arith, e)
-
-pub invariant_of-scanner-clause-bounded : goal.invariant_of-scanner-clause-bounded
-invariant_of-scanner-clause-bounded g c = let e = c.new.ensures.used in omega (arith, e)
-
-pub invariant_of-scanner-clause-given : goal.invariant_of-scanner-clause-given
-invariant_of-scanner-clause-given g c = ap (λ (k : Kept). slots_in k.values) c.requires.empty
-
-pub invariant_of-scanner-clause-under_way : goal.invariant_of-scanner-clause-under_way
-invariant_of-scanner-clause-under_way g c = ap (λ (k : Kept). opened_slot k.opened) c.requires.empty
-
-pub invariant_of-scanner-clause-joined : goal.invariant_of-scanner-clause-joined
-invariant_of-scanner-clause-joined g c = rw c.requires.empty refl
 
 pub invariant_of-scanner-clause-roomy : goal.invariant_of-scanner-clause-roomy
 invariant_of-scanner-clause-roomy g c bounded = room_first c.args.directives.now _ c.requires.roomy bounded

@@ -1,5 +1,0 @@
-use Rattle.std.proofs.Common.{rules}
-use Rattle.sf_run.proofs.report.Report.shown.Goals as goal
-
-pub returns : goal.returns
-returns g c = search rules
