@@ -24,7 +24,7 @@ use Rattle.sf_format.specs.Cut.{Part, cut, letter_at, conversion_at, specificati
 use Rattle.sf_format.specs.Grammar.{destinations, assigned_opening, slot_of, IsConversion, Means, value_opening}
 use Rattle.sf_format.specs.Rules.{Rule, first_of, slot_rules}
 use Rattle.sf_format.specs.Faults.{letter_rules, bracket_rules, scanlist_rules, rest_rules, opening_rules, conversion_rules, percent_rules}
-use Rattle.sf_format.specs.Passing.{Holds, rest_behind, is_set, slot_at, IsListed, ShapeBy, IsMade, PassesAs, PassesBy, precision_of}
+use Rattle.sf_format.specs.Passing.{Holds, rest_behind, is_set, slot_at, IsListed, ShapeBy, IsMade, PassesBy, precision_of}
 use Rattle.sf_format.specs.Language.{Language, Scan, Print}
 use Rattle.sf_format.proofs.Rules.{quiet_is, or_else, first_append}
 use Rattle.sf_format.proofs.Destinations.{slot_there}
