@@ -62,17 +62,10 @@ IsGood s width kind = IsProperShape s × IsProperWidth width × HasItsWidth s wi
 
 plain_good : (letter : Letter) (s : Shape) (ds : List ℕ) (size : Length) (k : Kind) → shape_of letter s → kind_of letter size ≡ Some k
     → IsOptionalNumber 65535 ds → IsGood s (width_of letter ds) k
-plain_good Chars s [] size k h is number = rw h (tt, omega arith, refl, text_kinded size k is)
-plain_good Text s [] size k h is number = rw h (tt, tt, tt, text_kinded size k is)
-plain_good Set s ds size k h is number = absurd h
-plain_good letter s [] size k h is number = rw h (tt, tt, tt, tt)
-plain_good Chars s (d ∷ ds) size k h is number = rw h (tt, omega (arith, number.1), refl, text_kinded size k is)
-plain_good Text s (d ∷ ds) size k h is number = rw h (tt, omega (arith, number.1), tt, text_kinded size k is)
-plain_good letter s (d ∷ ds) size k h is number = rw h (tt, omega (arith, number.1), tt, tt)
+plain_good letter s ds size k h is number = grind (arith, text_kinded size k)
 
 set_width : (ds : List ℕ) → IsOptionalNumber 65535 ds → IsProperWidth (width_of Set ds)
-set_width [] h = tt
-set_width (d ∷ ds) h = omega (arith, h.1)
+set_width ds h = grind arith
 
 abbrev IsGoodDirective : Directive → Type 0
 IsGoodDirective d = IsProper d × IsSized d × IsKinded d
@@ -108,11 +101,7 @@ proper profile text ds (pieces, is, e, means) =
 -- ---- letters
 
 values_fit : (v : Values) (size : Length) (k : Kind) → sized_kind v size ≡ Some k → holds_kind v k ≡ true
-values_fit values.Signed NoLength k e = grind arith
-values_fit values.Signed _ k e = grind arith
-values_fit values.Unsigned NoLength k e = grind arith
-values_fit values.Unsigned _ k e = grind arith
-values_fit values.Text size k e = rw (text_kinded size k e)
+values_fit v size k e = grind arith
 
 -- a flag that the letter doesn't have is none of those that it has
 unset : (letter : PrintLetter) (flag : ℕ) (flags : List ℕ) → AllByRecursion (λ b. has_flag letter b ≡ true) flags → has_flag letter flag ≡ false
@@ -127,8 +116,7 @@ width_within [] h = omega arith
 width_within (d ∷ ds) h = h.2
 
 precision_within : (precision : Option (List ℕ)) → IfSome precision IsPrecision → IfSome (option_map (λ ds. magnitude 10 ds) precision) (λ p. p ≤ 255)
-precision_within None h = tt
-precision_within (Some ds) h = h.1
+precision_within precision h = grind arith
 
 proper_conversion : (place : ℕ) (o : PrintOpening) (letter : PrintLetter) (c : PrintConv) → SuitsPrint letter o → IsPrintConv place o letter c
     → IsProperConv c

@@ -17,8 +17,7 @@ use Rattle.sf_format.specs.PrintGrammar.{StartsAboveZero}
 -- ---- a byte in front
 
 pub mark_none : (mark : ℕ) (x : List ℕ) → Stops (λ b. nat_eq b mark) x → mark_at mark x ≡ (false, x)
-mark_none mark [] stops = refl
-mark_none mark (b ∷ x) stops = rw stops
+mark_none mark x stops = grind arith
 
 -- what is cut off in front, by the text of the mark
 pub mark_joined : (text : Bool → List ℕ) (mark : ℕ) (x : List ℕ) → text true ≡ mark ∷ [] → text false ≡ []
@@ -65,14 +64,10 @@ number_joined (d ∷ ds) [] x e = refl
 number_joined (d ∷ ds) (b ∷ after) x e = grind (arith, nat_tests, append_assoc (d ∷ ds) (36 ∷ []) after)
 
 number_passes : (ds after x : List ℕ) → AllPass is_decimal ds → AllPass is_decimal (number_before ds after x).0
-number_passes [] after x h = tt
-number_passes (d ∷ ds) [] x h = tt
-number_passes (d ∷ ds) (b ∷ after) x h = grind arith
+number_passes ds after x h = grind arith
 
 number_none : (ds after x : List ℕ) → Stops (λ b. nat_eq b 36) after → number_before ds after x ≡ ([], x)
-number_none [] after x h = refl
-number_none (d ∷ ds) [] x h = refl
-number_none (d ∷ ds) (b ∷ after) x h = rw h
+number_none ds after x h = grind arith
 
 -- the number in front of a text, whatever follows
 pub number_whole : (x : List ℕ) → number_text (number_at x).0 ++ (number_at x).1 ≡ x
@@ -224,8 +219,7 @@ width_stops [] z digits first stops = stops_less is_flag is_head (λ b e. grind 
 width_stops (d ∷ ds) z digits first stops = grind (arith, nat_tests)
 
 precision_stops : (precision : Option (List ℕ)) (z : List ℕ) → Stops is_part z → Stops is_head (precision_text precision ++ z)
-precision_stops None z stops = head_stops z stops
-precision_stops (Some ds) z stops = refl
+precision_stops precision z stops = grind (arith, head_stops z stops)
 
 precision_is : (precision : Option (List ℕ)) (z : List ℕ) → IfSome precision (AllPass is_decimal) → Stops is_part z
     → precision_at (precision_text precision ++ z) ≡ (precision, z)

@@ -157,8 +157,7 @@ put_all done (Ok pieces) = Ok (done ++ pieces)
 put_all done (Err fault) = Err fault
 
 put_none : (r : Result (List Piece) (FormatWhy × ℕ)) → r ≡ put_all [] r
-put_none (Ok pieces) = refl
-put_none (Err fault) = refl
+put_none r = grind arith
 
 put_first : (language : Language) (earlier : List Opening) (p : ℕ) (piece : Piece) (done : List Piece) (rest : List ℕ) (m : ℕ)
     → put piece (put_all done (read m language ((earlier ++ destinations (piece ∷ [])) ++ destinations done)
