@@ -1,5 +1,5 @@
 -- What holds of the directives of each spelled scan format, and of the units of each print format.
-use Rattle.std.proofs.Common.{◌≡◌, ◌≢◌, ℕ, ◌<◌, Bool, true, false, List, [], ◌∷◌, None, refl, lit<, arith, Option, Some, ◌≤◌, ◌||◌, nat_eq, sym, ◌∙◌}
+use Rattle.std.proofs.Common.{◌≡◌, ◌≢◌, ℕ, ◌<◌, Bool, true, false, List, [], ◌∷◌, None, refl, lit<, arith, Option, Some, ◌≤◌, sym, ◌∙◌}
 use Rattle.std.proofs.lemmas.Bool.Decides.{nat_tests}
 use Rattle.std.specs.List.{AllByRecursion}
 use Rattle.sf_format.specs.Scanlist.{Scanlist, IsScanlist, is_listed, is_chosen, is_member, backward_range}
@@ -9,7 +9,7 @@ use Rattle.sf_format.specs.declared.directive.Shape.{Shape}
 use Rattle.sf_format.specs.declared.directive.Directive.{Directive}
 use Rattle.sf_format.specs.Language.{Scan, Print}
 use Rattle.sf_format.specs.declared.letter.Letter.{Letter}
-use Rattle.sf_format.specs.declared.letter.Letter.TheVariants.{Chars, Text, Set}
+use Rattle.sf_format.specs.declared.letter.Letter.TheVariants.{Set}
 use Rattle.sf_format.specs.declared.letter.Length.{Length}
 use Rattle.sf_format.specs.Letters.{kind_of, sized_kind}
 use Rattle.sf_format.specs.Digits.{IsOptionalNumber}
@@ -22,16 +22,13 @@ use Rattle.sf_format.proofs.PartSlots.{all_short, format_few, slots_good, slots_
 use Rattle.std.specs.Prelude.{IfSome}
 use Rattle.std.specs.Option.{option_map}
 use Rattle.sf_base.specs.Bytes.{magnitude}
-use Rattle.sf_format.specs.declared.letter.Length.TheVariants.{NoLength}
 use Rattle.sf_format.specs.declared.unit.PrintLetter.{PrintLetter}
 use Rattle.sf_format.specs.declared.letter.Values.{Values}
-use Rattle.sf_format.specs.declared.letter.Values.TheVariants as values
 use Rattle.sf_format.specs.declared.unit.PrintConv.{PrintConv}
 use Rattle.sf_format.specs.declared.unit.Unit.{Unit as PrintUnit}
 use Rattle.sf_format.specs.PrintLetters.{print_row}
 use Rattle.sf_format.specs.Units.{holds_kind, has_flag, IsProperConv, IsProperUnit, AreAccepted}
 use Rattle.sf_format.specs.PrintGrammar.{IsPrecision, SuitsPrint, IsPrintPiece, is_set_flag, IsPrintConv, Prints}
-use Rattle.sf_format.proofs.Outcomes.{by_test, same_byte}
 
 -- the first member is listed
 first_listed : (n : ℕ) (first : ℕ) (others : List ℕ) → backward_range n (first ∷ others) ≡ None → is_listed (first ∷ others) first ≡ true

@@ -164,8 +164,14 @@ cut_of o letter x digits last =
     = rw whole (number_of o.number (star_text o.star ++ o.width) z digits.0 inner head) in
     let stops = digit_stops z head in (
       rw whole (percent_none o.number (star_text o.star ++ o.width) z digits.0 inner head),
-      rw (number, star_of o.star o.width z digits.1 head, front_of is_decimal o.width z digits.1 stops, behind_of is_decimal o.width z digits.1 stops,
-          length_of o.size letter x last, length_dropped o.size (letter ∷ x)),
+      rw (
+        number,
+        star_of o.star o.width z digits.1 head,
+        front_of is_decimal o.width z digits.1 stops,
+        behind_of is_decimal o.width z digits.1 stops,
+        length_of o.size letter x last,
+        length_dropped o.size (letter ∷ x),
+      ),
     )
 
 pub cut_joined : (x : List ℕ) → inside (cut x).opening (cut x).rest ≡ x
@@ -242,9 +248,16 @@ print_cut_of o letter x digits last =
     let wide = width_stops o.width z digits.2 digits.3 head in
     let stops = digit_stops z head in (
       rw whole (percent_none o.number (o.flags ++ o.width) z digits.0 inner head),
-      rw (number, front_of is_flag o.flags (o.width ++ z) digits.1 wide, behind_of is_flag o.flags (o.width ++ z) digits.1 wide,
-          front_of is_decimal o.width z digits.2 stops, behind_of is_decimal o.width z digits.2 stops, precision_is o.precision sized digits.4 part,
-          length_of o.size letter x last, length_dropped o.size (letter ∷ x)),
+      rw (
+        number,
+        front_of is_flag o.flags (o.width ++ z) digits.1 wide,
+        behind_of is_flag o.flags (o.width ++ z) digits.1 wide,
+        front_of is_decimal o.width z digits.2 stops,
+        behind_of is_decimal o.width z digits.2 stops,
+        precision_is o.precision sized digits.4 part,
+        length_of o.size letter x last,
+        length_dropped o.size (letter ∷ x),
+      ),
     )
 
 -- ---- the cut joins

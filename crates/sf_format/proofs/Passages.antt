@@ -1,5 +1,5 @@
 -- What follows a part that no rule refuses.
-use Rattle.std.proofs.Common.{◌≡◌, ℕ, ◌+◌, ◌-◌, ◌≤◌, Bool, true, false, ◌&&◌, ◌||◌, nat_eq, nat_lt, List, [], ◌∷◌, ◌++◌, length, get_or, take, drop, Option, Some, None, Result, Ok, Err, refl, sym, ap, ◌∙◌, subst, arith, append-nil}
+use Rattle.std.proofs.Common.{◌≡◌, ℕ, ◌+◌, ◌-◌, ◌≤◌, Bool, true, false, ◌&&◌, ◌||◌, nat_eq, nat_lt, List, [], ◌∷◌, ◌++◌, length, get_or, take, drop, Option, Some, None, Result, Ok, Err, refl, sym, ap, ◌∙◌, subst, arith}
 use Rattle.std.proofs.lemmas.Bool.Decides.{nat_tests}
 use Rattle.std.proofs.lemmas.List.{take_rest}
 use Rattle.std.specs.Prelude.{MatchOption, IfSome}
@@ -14,20 +14,18 @@ use Rattle.sf_format.specs.declared.fault.FormatFault.{FormatFault}
 use Rattle.sf_format.specs.declared.fault.FormatWhy.{FormatWhy}
 use Rattle.sf_format.specs.declared.letter.Letter.{Letter}
 use Rattle.sf_format.specs.declared.letter.Letter.TheVariants.{Set}
-use Rattle.sf_format.specs.declared.slots.Slots.{Slots}
 use Rattle.sf_format.specs.declared.grammar.Passed.{Passed}
 use Rattle.sf_format.specs.Scanlist.{backward_range}
 use Rattle.sf_format.specs.Letters.{letter_of, kind_of}
 use Rattle.sf_format.specs.Lists.{is_written, mark_at, begins}
-use Rattle.sf_format.specs.Pieces.{Opening, Piece, opening_text, Percents, PrintOpening, print_opening_text}
-use Rattle.sf_format.specs.Cut.{Part, cut, letter_at, conversion_at, specification_at, print_cut, print_letter_at}
+use Rattle.sf_format.specs.Pieces.{Opening, Piece, opening_text, PrintOpening, print_opening_text}
+use Rattle.sf_format.specs.Cut.{Part, cut, letter_at, conversion_at, print_cut, print_letter_at}
 use Rattle.sf_format.specs.Grammar.{destinations, assigned_opening, slot_of, IsConversion, Means, value_opening}
 use Rattle.sf_format.specs.Rules.{Rule, first_of, slot_rules}
-use Rattle.sf_format.specs.Faults.{letter_rules, bracket_rules, scanlist_rules, rest_rules, opening_rules, conversion_rules, percent_rules}
-use Rattle.sf_format.specs.Passing.{Holds, rest_behind, is_set, slot_at, IsListed, ShapeBy, IsMade, PassesBy, precision_of}
-use Rattle.sf_format.specs.Language.{Language, Scan, Print}
+use Rattle.sf_format.specs.Faults.{letter_rules, bracket_rules, scanlist_rules, rest_rules, opening_rules, conversion_rules}
+use Rattle.sf_format.specs.Passing.{rest_behind, is_set, IsListed, ShapeBy, IsMade, PassesBy, precision_of}
+use Rattle.sf_format.specs.Language.{Scan, Print}
 use Rattle.sf_format.proofs.Rules.{quiet_is, or_else, first_append}
-use Rattle.sf_format.proofs.Destinations.{slot_there}
 use Rattle.sf_format.proofs.Scanlists.{list_forward, list_set}
 use Rattle.sf_format.proofs.Suits.{bracket_is}
 use Rattle.sf_format.specs.declared.unit.PrintLetter.{PrintLetter}

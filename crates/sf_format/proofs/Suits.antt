@@ -1,5 +1,5 @@
 -- An opening and a letter that no rule refuses suit each other, in scan formats and in print formats.
-use Rattle.std.proofs.Common.{◌≡◌, ℕ, ◌<◌, ◌≤◌, Bool, true, false, cond, ◌&&◌, ◌||◌, nat_eq, nat_lt, List, [], ◌∷◌, Some, None, is_some, is_none, refl, subst, arith, ◌≢◌, zero, suc, ◌+◌, ◌^◌, not, length, Option, find}
+use Rattle.std.proofs.Common.{◌≡◌, ℕ, ◌<◌, Bool, true, false, ◌&&◌, ◌||◌, nat_eq, nat_lt, List, [], ◌∷◌, Some, None, is_some, is_none, refl, arith, ◌≢◌, zero, suc, ◌+◌, ◌^◌, length, Option, find}
 use Rattle.std.specs.Prelude.{IsSome, IfSome}
 use Rattle.std.proofs.lemmas.Bool.Decides.{nat_tests}
 use Rattle.std.specs.List.{AllByRecursion}
@@ -17,8 +17,7 @@ use Rattle.sf_format.specs.declared.letter.Letter.TheVariants.{Count}
 use Rattle.sf_base.specs.declared.values.Kind.{Kind}
 use Rattle.sf_base.specs.declared.values.Kind.TheVariants as kinds
 use Rattle.sf_format.specs.declared.letter.Length.{Length}
-use Rattle.sf_format.specs.declared.letter.Length.TheVariants.{NoLength}
-use Rattle.sf_format.proofs.Outcomes.{by_test, same_byte, within, not_above, above_zero, not_zero, not_false}
+use Rattle.sf_format.proofs.Outcomes.{not_above, not_zero}
 use Rattle.sf_format.proofs.Prefixes.{AllPass}
 use Rattle.sf_format.proofs.Cutting.{IsLast, HasDigits, HasPrintDigits}
 use Rattle.sf_format.proofs.Rules.{Quiet, quiet_is}
@@ -29,7 +28,6 @@ use Rattle.std.proofs.Math.Nat.{mul-pos}
 use native.Mathlib.Nat.{pow-suc}
 use Rattle.sf_format.specs.declared.directive.Profile.TheVariants as profiles
 use Rattle.sf_format.specs.declared.unit.PrintLetter.{PrintLetter}
-use Rattle.sf_format.specs.declared.unit.PrintLetter.TheVariants.{One}
 use Rattle.sf_format.specs.PrintLetters.{print_row, added_print_letters, print_letters, print_letter_of, print_kind_of}
 use Rattle.sf_format.specs.Units.{has_flag, HasPrecision}
 use Rattle.sf_format.specs.PrintGrammar.{IsPrecision, StartsAboveZero, SuitsPrint}

@@ -4,7 +4,7 @@ use Rattle.std.specs.List.{AllByRecursion}
 use Rattle.sf_base.specs.Bytes.{AreBytes, is_white}
 use Rattle.sf_format.specs.Language.{Language, Scan, Print}
 use Rattle.sf_format.specs.declared.fault.FormatWhy.{FormatWhy}
-use Rattle.sf_format.specs.Pieces.{Opening, Piece, WhiteSpace, Ordinary, Percents, Plain, Bracket, Printed, piece_text, text_of}
+use Rattle.sf_format.specs.Pieces.{Opening, Piece, WhiteSpace, Ordinary, piece_text, text_of}
 use Rattle.sf_format.specs.Cut.{Part, part_at}
 use Rattle.sf_format.specs.Grammar.{IsPiece, RunsApart, AreAlike, destinations}
 use Rattle.sf_format.specs.Rules.{first_of}
