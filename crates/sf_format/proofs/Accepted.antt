@@ -1,5 +1,5 @@
 -- What holds of the directives of each spelled scan format, and of the units of each print format.
-use Rattle.std.proofs.Common.{◌≡◌, ◌≢◌, ℕ, ◌<◌, Bool, true, false, List, [], ◌∷◌, None, refl, lit<, arith, Option, Some, ◌≤◌, ◌||◌, nat_eq, sym, ◌∙◌}
+use Rattle.std.proofs.Common.{◌≡◌, ◌≢◌, ℕ, ◌<◌, Bool, true, false, List, [], ◌∷◌, None, refl, lit<, arith, Option, Some, ◌≤◌, sym, ◌∙◌}
 use Rattle.std.proofs.lemmas.Bool.Decides.{nat_tests}
 use Rattle.std.specs.List.{AllByRecursion}
 use Rattle.sf_format.specs.Scanlist.{Scanlist, IsScanlist, is_listed, is_chosen, is_member, backward_range}
@@ -9,7 +9,7 @@ use Rattle.sf_format.specs.declared.directive.Shape.{Shape}
 use Rattle.sf_format.specs.declared.directive.Directive.{Directive}
 use Rattle.sf_format.specs.Language.{Scan, Print}
 use Rattle.sf_format.specs.declared.letter.Letter.{Letter}
-use Rattle.sf_format.specs.declared.letter.Letter.TheVariants.{Chars, Text, Set}
+use Rattle.sf_format.specs.declared.letter.Letter.TheVariants.{Set}
 use Rattle.sf_format.specs.declared.letter.Length.{Length}
 use Rattle.sf_format.specs.Letters.{kind_of, sized_kind}
 use Rattle.sf_format.specs.Digits.{IsOptionalNumber}
@@ -22,16 +22,13 @@ use Rattle.sf_format.proofs.PartSlots.{all_short, format_few, slots_good, slots_
 use Rattle.std.specs.Prelude.{IfSome}
 use Rattle.std.specs.Option.{option_map}
 use Rattle.sf_base.specs.Bytes.{magnitude}
-use Rattle.sf_format.specs.declared.letter.Length.TheVariants.{NoLength}
 use Rattle.sf_format.specs.declared.unit.PrintLetter.{PrintLetter}
 use Rattle.sf_format.specs.declared.letter.Values.{Values}
-use Rattle.sf_format.specs.declared.letter.Values.TheVariants as values
 use Rattle.sf_format.specs.declared.unit.PrintConv.{PrintConv}
 use Rattle.sf_format.specs.declared.unit.Unit.{Unit as PrintUnit}
 use Rattle.sf_format.specs.PrintLetters.{print_row}
 use Rattle.sf_format.specs.Units.{holds_kind, has_flag, IsProperConv, IsProperUnit, AreAccepted}
 use Rattle.sf_format.specs.PrintGrammar.{IsPrecision, SuitsPrint, IsPrintPiece, is_set_flag, IsPrintConv, Prints}
-use Rattle.sf_format.proofs.Outcomes.{by_test, same_byte}
 
 -- the first member is listed
 first_listed : (n : ℕ) (first : ℕ) (others : List ℕ) → backward_range n (first ∷ others) ≡ None → is_listed (first ∷ others) first ≡ true
@@ -62,17 +59,10 @@ IsGood s width kind = IsProperShape s × IsProperWidth width × HasItsWidth s wi
 
 plain_good : (letter : Letter) (s : Shape) (ds : List ℕ) (size : Length) (k : Kind) → shape_of letter s → kind_of letter size ≡ Some k
     → IsOptionalNumber 65535 ds → IsGood s (width_of letter ds) k
-plain_good Chars s [] size k h is number = rw h (tt, omega arith, refl, text_kinded size k is)
-plain_good Text s [] size k h is number = rw h (tt, tt, tt, text_kinded size k is)
-plain_good Set s ds size k h is number = absurd h
-plain_good letter s [] size k h is number = rw h (tt, tt, tt, tt)
-plain_good Chars s (d ∷ ds) size k h is number = rw h (tt, omega (arith, number.1), refl, text_kinded size k is)
-plain_good Text s (d ∷ ds) size k h is number = rw h (tt, omega (arith, number.1), tt, text_kinded size k is)
-plain_good letter s (d ∷ ds) size k h is number = rw h (tt, omega (arith, number.1), tt, tt)
+plain_good letter s ds size k h is number = grind (arith, text_kinded size k)
 
 set_width : (ds : List ℕ) → IsOptionalNumber 65535 ds → IsProperWidth (width_of Set ds)
-set_width [] h = tt
-set_width (d ∷ ds) h = omega (arith, h.1)
+set_width ds h = grind arith
 
 abbrev IsGoodDirective : Directive → Type 0
 IsGoodDirective d = IsProper d × IsSized d × IsKinded d
@@ -108,11 +98,7 @@ proper profile text ds (pieces, is, e, means) =
 -- ---- letters
 
 values_fit : (v : Values) (size : Length) (k : Kind) → sized_kind v size ≡ Some k → holds_kind v k ≡ true
-values_fit values.Signed NoLength k e = grind arith
-values_fit values.Signed _ k e = grind arith
-values_fit values.Unsigned NoLength k e = grind arith
-values_fit values.Unsigned _ k e = grind arith
-values_fit values.Text size k e = rw (text_kinded size k e)
+values_fit v size k e = grind arith
 
 -- a flag that the letter doesn't have is none of those that it has
 unset : (letter : PrintLetter) (flag : ℕ) (flags : List ℕ) → AllByRecursion (λ b. has_flag letter b ≡ true) flags → has_flag letter flag ≡ false
@@ -127,8 +113,7 @@ width_within [] h = omega arith
 width_within (d ∷ ds) h = h.2
 
 precision_within : (precision : Option (List ℕ)) → IfSome precision IsPrecision → IfSome (option_map (λ ds. magnitude 10 ds) precision) (λ p. p ≤ 255)
-precision_within None h = tt
-precision_within (Some ds) h = h.1
+precision_within precision h = grind arith
 
 proper_conversion : (place : ℕ) (o : PrintOpening) (letter : PrintLetter) (c : PrintConv) → SuitsPrint letter o → IsPrintConv place o letter c
     → IsProperConv c

@@ -17,8 +17,7 @@ use Rattle.sf_format.specs.PrintGrammar.{StartsAboveZero}
 -- ---- a byte in front
 
 pub mark_none : (mark : ℕ) (x : List ℕ) → Stops (λ b. nat_eq b mark) x → mark_at mark x ≡ (false, x)
-mark_none mark [] stops = refl
-mark_none mark (b ∷ x) stops = rw stops
+mark_none mark x stops = grind arith
 
 -- what is cut off in front, by the text of the mark
 pub mark_joined : (text : Bool → List ℕ) (mark : ℕ) (x : List ℕ) → text true ≡ mark ∷ [] → text false ≡ []
@@ -65,14 +64,10 @@ number_joined (d ∷ ds) [] x e = refl
 number_joined (d ∷ ds) (b ∷ after) x e = grind (arith, nat_tests, append_assoc (d ∷ ds) (36 ∷ []) after)
 
 number_passes : (ds after x : List ℕ) → AllPass is_decimal ds → AllPass is_decimal (number_before ds after x).0
-number_passes [] after x h = tt
-number_passes (d ∷ ds) [] x h = tt
-number_passes (d ∷ ds) (b ∷ after) x h = grind arith
+number_passes ds after x h = grind arith
 
 number_none : (ds after x : List ℕ) → Stops (λ b. nat_eq b 36) after → number_before ds after x ≡ ([], x)
-number_none [] after x h = refl
-number_none (d ∷ ds) [] x h = refl
-number_none (d ∷ ds) (b ∷ after) x h = rw h
+number_none ds after x h = grind arith
 
 -- the number in front of a text, whatever follows
 pub number_whole : (x : List ℕ) → number_text (number_at x).0 ++ (number_at x).1 ≡ x
@@ -169,8 +164,14 @@ cut_of o letter x digits last =
     = rw whole (number_of o.number (star_text o.star ++ o.width) z digits.0 inner head) in
     let stops = digit_stops z head in (
       rw whole (percent_none o.number (star_text o.star ++ o.width) z digits.0 inner head),
-      rw (number, star_of o.star o.width z digits.1 head, front_of is_decimal o.width z digits.1 stops, behind_of is_decimal o.width z digits.1 stops,
-          length_of o.size letter x last, length_dropped o.size (letter ∷ x)),
+      rw (
+        number,
+        star_of o.star o.width z digits.1 head,
+        front_of is_decimal o.width z digits.1 stops,
+        behind_of is_decimal o.width z digits.1 stops,
+        length_of o.size letter x last,
+        length_dropped o.size (letter ∷ x),
+      ),
     )
 
 pub cut_joined : (x : List ℕ) → inside (cut x).opening (cut x).rest ≡ x
@@ -224,8 +225,7 @@ width_stops [] z digits first stops = stops_less is_flag is_head (λ b e. grind 
 width_stops (d ∷ ds) z digits first stops = grind (arith, nat_tests)
 
 precision_stops : (precision : Option (List ℕ)) (z : List ℕ) → Stops is_part z → Stops is_head (precision_text precision ++ z)
-precision_stops None z stops = head_stops z stops
-precision_stops (Some ds) z stops = refl
+precision_stops precision z stops = grind (arith, head_stops z stops)
 
 precision_is : (precision : Option (List ℕ)) (z : List ℕ) → IfSome precision (AllPass is_decimal) → Stops is_part z
     → precision_at (precision_text precision ++ z) ≡ (precision, z)
@@ -248,9 +248,16 @@ print_cut_of o letter x digits last =
     let wide = width_stops o.width z digits.2 digits.3 head in
     let stops = digit_stops z head in (
       rw whole (percent_none o.number (o.flags ++ o.width) z digits.0 inner head),
-      rw (number, front_of is_flag o.flags (o.width ++ z) digits.1 wide, behind_of is_flag o.flags (o.width ++ z) digits.1 wide,
-          front_of is_decimal o.width z digits.2 stops, behind_of is_decimal o.width z digits.2 stops, precision_is o.precision sized digits.4 part,
-          length_of o.size letter x last, length_dropped o.size (letter ∷ x)),
+      rw (
+        number,
+        front_of is_flag o.flags (o.width ++ z) digits.1 wide,
+        behind_of is_flag o.flags (o.width ++ z) digits.1 wide,
+        front_of is_decimal o.width z digits.2 stops,
+        behind_of is_decimal o.width z digits.2 stops,
+        precision_is o.precision sized digits.4 part,
+        length_of o.size letter x last,
+        length_dropped o.size (letter ∷ x),
+      ),
     )
 
 -- ---- the cut joins

@@ -5,7 +5,7 @@ use Rattle.sf_base.specs.Bytes.{AreBytes}
 use Rattle.sf_format.specs.Language.{Language}
 use Rattle.sf_format.specs.declared.fault.FormatWhy.{FormatWhy}
 use Rattle.sf_format.specs.Pieces.{Piece, text_of}
-use Rattle.sf_format.specs.Grammar.{AreAlike, IsFormat, SpellsAs, MeanAll, destinations}
+use Rattle.sf_format.specs.Grammar.{AreAlike, IsFormat, SpellsAs, destinations}
 use Rattle.sf_format.specs.Rules.{first_of}
 use Rattle.sf_format.specs.Faults.{number_rules, AreFaultless, FaultIn, IsRefusedAs}
 use Rattle.sf_format.specs.Reading.{unless, read, numbers_judged, judged}
@@ -82,7 +82,6 @@ fault_judged language text at why h =
 
 pub judged_short : (language : Language) (text : List ℕ) (pieces : List Piece) → judged language text ≡ Ok pieces → length text ≤ 4096
 judged_short language text pieces e = grind (arith, nat_tests)
-
 
 -- the parts of a spelled text are those that are judged
 pub spelled_judged : {D : Type 0} (language : Language) (means : ℕ → Piece → D → Type 0) (text : List ℕ) (ds : List D)

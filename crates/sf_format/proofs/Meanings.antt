@@ -110,8 +110,7 @@ set_same list a b h k =
 -- ---- conversions
 
 shape_same : (letter : Letter) (s t : Shape) → shape_of letter s → shape_of letter t → s ≡ t
-shape_same Set s t h k = absurd h
-shape_same _ s t h k = h ∙ sym k
+shape_same letter s t h k = grind arith
 
 abbrev made : Shape → Kind → Option ℕ → Option ℕ → Conversion
 made s k w n = record { shape = s; kind = k; width = w; slot = n }
@@ -230,8 +229,7 @@ pub print_meaning : (profile : Profile) → IsMeaning PrintUnit (Print profile) 
 print_meaning profile = record { one = prints_one profile; some = some_unit profile }
 
 placed : (place : ℕ) (n : Option ℕ) → Some (or_place place n) ≡ elim n [ None ↦ Some place | Some m ↦ Some m ]
-placed place None = refl
-placed place (Some n) = refl
+placed place n = grind arith
 
 -- the slot of a unit is that of its part
 prints_slot : (profile : Profile) (place : ℕ) (piece : Piece) (u : PrintUnit) → Prints profile place piece u

@@ -3,7 +3,7 @@ use Rattle.std.proofs.Common.{◌≡◌, ◌≢◌, ℕ, ◌+◌, ◌-◌, ◌<�
 use Rattle.std.proofs.lemmas.List.{map-append}
 use Rattle.std.specs.Prelude.{◌==◌}
 use Rattle.std.specs.List.{AllByRecursion}
-use Rattle.sf_base.specs.Bytes.{AreBytes, magnitude}
+use Rattle.sf_base.specs.Bytes.{magnitude}
 use Rattle.sf_base.specs.Sets.{has_byte}
 use Rattle.sf_format.specs.Language.{Language}
 use Rattle.sf_format.specs.declared.fault.FormatWhy.{FormatWhy}
@@ -22,7 +22,7 @@ use Rattle.sf_format.proofs.Outcomes.{same_test}
 use Rattle.sf_format.proofs.Rules.{all_front, all_back, first_append, or_else}
 use Rattle.sf_format.proofs.Destinations.{destinations_push, by_destination}
 use Rattle.sf_format.proofs.Numbers.{AreWritten, numbers, all_written, unnumbered_rules}
-use Rattle.sf_format.proofs.Walks.{Passing, PassesFirst, passing_none, passing_more, passing_all}
+use Rattle.sf_format.proofs.Walks.{Passing, PassesFirst, passing_more, passing_all}
 
 -- ---- one more number
 

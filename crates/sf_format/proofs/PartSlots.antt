@@ -35,8 +35,7 @@ abbrev pub numbers : List Slotted → List ℕ
 numbers entries = map (λ e. e.0) entries
 
 numbers_cons : (o : Option Slotted) (entries : List Slotted) → numbers (cons_option o entries) ≡ cons_option (option_map (λ e. e.0) o) (numbers entries)
-numbers_cons None entries = refl
-numbers_cons (Some e) entries = refl
+numbers_cons o entries = grind arith
 
 slots_all : {D : Type 0} {means : ℕ → Piece → D → Type 0} {slotted : D → Option Slotted} → HasSlots D means slotted
     → (place : ℕ) (pieces : List Piece) (ds : List D) → MeanAll means place pieces ds

@@ -2,7 +2,6 @@
 use Rattle.std.proofs.Common.{◌≡◌, ℕ, zero, suc, ◌+◌, ◌-◌, ◌<◌, ◌≤◌, Bool, true, List, [], ◌∷◌, ◌++◌, length, map, take, Some, None, Ok, Err, refl, sym, ap, ◌∙◌, arith, slice_get, length-append}
 use Rattle.std.specs.Prelude.{◌==◌}
 use Rattle.std.proofs.lemmas.List.{take_at}
-use Rattle.sf_base.specs.Bytes.{AreBytes}
 use Rattle.sf_format.specs.Language.{Language}
 use Rattle.sf_format.specs.declared.slots.Slots.{Slots}
 use Rattle.sf_format.specs.Pieces.{Piece, piece_text, text_of, text_at}
@@ -10,11 +9,11 @@ use Rattle.sf_format.specs.Cut.{part_at}
 use Rattle.sf_format.specs.Grammar.{IsFormat}
 use Rattle.sf_format.specs.Reading.{read, judged}
 use Rattle.sf_format.specs.declared.fault.FormatFault.{FormatFault}
-use Rattle.sf_format.specs.Passing.{Holds, fault_of}
+use Rattle.sf_format.specs.Passing.{fault_of}
 use Rattle.sf_format.proofs.Judgements.{Judgement, format_judged}
 use Rattle.sf_format.proofs.WholeTexts.{put_all, parts_read}
 use Rattle.sf_format.proofs.Numbers.{slots_alike}
-use Rattle.sf_format.proofs.Walks.{Passing, PassesFirst, passing_none, passing_more, passing_all}
+use Rattle.sf_format.proofs.Walks.{Passing, PassesFirst, passing_more, passing_all}
 
 -- ---- the parts that were passed are the first of the text's
 

@@ -1,5 +1,5 @@
 -- What follows a part that no rule refuses.
-use Rattle.std.proofs.Common.{◌≡◌, ℕ, ◌+◌, ◌-◌, ◌≤◌, Bool, true, false, ◌&&◌, ◌||◌, nat_eq, nat_lt, List, [], ◌∷◌, ◌++◌, length, get_or, take, drop, Option, Some, None, Result, Ok, Err, refl, sym, ap, ◌∙◌, subst, arith, append-nil}
+use Rattle.std.proofs.Common.{◌≡◌, ℕ, ◌+◌, ◌-◌, ◌≤◌, Bool, true, false, ◌&&◌, ◌||◌, nat_eq, nat_lt, List, [], ◌∷◌, ◌++◌, length, get_or, take, drop, Option, Some, None, Result, Ok, Err, refl, sym, ap, ◌∙◌, subst, arith}
 use Rattle.std.proofs.lemmas.Bool.Decides.{nat_tests}
 use Rattle.std.proofs.lemmas.List.{take_rest}
 use Rattle.std.specs.Prelude.{MatchOption, IfSome}
@@ -14,20 +14,18 @@ use Rattle.sf_format.specs.declared.fault.FormatFault.{FormatFault}
 use Rattle.sf_format.specs.declared.fault.FormatWhy.{FormatWhy}
 use Rattle.sf_format.specs.declared.letter.Letter.{Letter}
 use Rattle.sf_format.specs.declared.letter.Letter.TheVariants.{Set}
-use Rattle.sf_format.specs.declared.slots.Slots.{Slots}
 use Rattle.sf_format.specs.declared.grammar.Passed.{Passed}
 use Rattle.sf_format.specs.Scanlist.{backward_range}
 use Rattle.sf_format.specs.Letters.{letter_of, kind_of}
 use Rattle.sf_format.specs.Lists.{is_written, mark_at, begins}
-use Rattle.sf_format.specs.Pieces.{Opening, Piece, opening_text, Percents, PrintOpening, print_opening_text}
-use Rattle.sf_format.specs.Cut.{Part, cut, letter_at, conversion_at, specification_at, print_cut, print_letter_at}
+use Rattle.sf_format.specs.Pieces.{Opening, Piece, opening_text, PrintOpening, print_opening_text}
+use Rattle.sf_format.specs.Cut.{Part, cut, letter_at, conversion_at, print_cut, print_letter_at}
 use Rattle.sf_format.specs.Grammar.{destinations, assigned_opening, slot_of, IsConversion, Means, value_opening}
 use Rattle.sf_format.specs.Rules.{Rule, first_of, slot_rules}
-use Rattle.sf_format.specs.Faults.{letter_rules, bracket_rules, scanlist_rules, rest_rules, opening_rules, conversion_rules, percent_rules}
-use Rattle.sf_format.specs.Passing.{Holds, rest_behind, is_set, slot_at, IsListed, ShapeBy, IsMade, PassesAs, PassesBy, precision_of}
-use Rattle.sf_format.specs.Language.{Language, Scan, Print}
+use Rattle.sf_format.specs.Faults.{letter_rules, bracket_rules, scanlist_rules, rest_rules, opening_rules, conversion_rules}
+use Rattle.sf_format.specs.Passing.{rest_behind, is_set, IsListed, ShapeBy, IsMade, PassesBy, precision_of}
+use Rattle.sf_format.specs.Language.{Scan, Print}
 use Rattle.sf_format.proofs.Rules.{quiet_is, or_else, first_append}
-use Rattle.sf_format.proofs.Destinations.{slot_there}
 use Rattle.sf_format.proofs.Scanlists.{list_forward, list_set}
 use Rattle.sf_format.proofs.Suits.{bracket_is}
 use Rattle.sf_format.specs.declared.unit.PrintLetter.{PrintLetter}
@@ -61,8 +59,7 @@ letter_destination o letter x = grind arith
 -- ---- the conversion by a letter
 
 only_set : (letter : Letter) → is_set letter ≡ true → letter ≡ Set
-only_set Set e = refl
-only_set _ e = absurd (cc)
+only_set letter e = grind arith
 
 pub listed_forward : (bracket : Bool) (q : ℕ) (x : List ℕ) (listed : Listed) → bracket ≡ true → first_of (bracket_rules bracket q x) ≡ None
     → IsListed bracket x listed → backward_range 0 listed.members.now ≡ None
@@ -81,8 +78,7 @@ made_by false profile place q b x o letter listed c set other found none is conv
 
 -- the conversion that was made is what the part stands for
 pub match_map : {A : Type 0} (N : Type 0) (P Q : A → Type 0) → ((a : A) → P a → Q a) → (o : Option A) → MatchOption o N P → MatchOption o N Q
-match_map N P Q f None h = h
-match_map N P Q f (Some a) h = f a h
+match_map N P Q f o h = grind arith
 
 -- the conversion that was made is what the part stands for
 pub made_means : (profile : Profile) (place q b : ℕ) (x : List ℕ) (o : Opening) (letter : Letter) (kind : Kind) (slot : Option ℕ) (listed : Listed)
@@ -96,10 +92,7 @@ made_means profile place q b x o letter kind slot listed _ found known none is p
 
 pub number_low : (ds : List ℕ) → (is_written ds && (nat_eq (magnitude 10 ds) 0 || nat_lt 32 (magnitude 10 ds))) ≡ false → magnitude 10 ds ≤ 32
 number_low [] e = omega arith
-number_low (d ∷ ds) e = above (magnitude 10 (d ∷ ds)) e
-  where
-    above : (n : ℕ) → (nat_eq n 0 || nat_lt 32 n) ≡ false → n ≤ 32
-    above n e = grind (arith, nat_tests)
+number_low (d ∷ ds) e = grind (arith, nat_tests)
 
 -- an opening without a fault has numbers within their limits
 pub number_bound : (p : ℕ) (o : Opening) → first_of (opening_rules p o) ≡ None → magnitude 10 o.number ≤ 32
@@ -153,8 +146,7 @@ cut_passes wanted profile earlier p q x rest o r same behind place quiet passes 
 
 -- what holds of a precision that is there
 pub if_point : (P : List ℕ → Type 0) (point : Bool) (ds : List ℕ) → IfSome (precision_of point ds) P → point ≡ true → P ds
-if_point P true ds h e = h
-if_point P false ds h e = absurd (cc)
+if_point P point ds h e = grind arith
 
 -- an opening without a fault has numbers within their limits
 pub record IsBounded (o : PrintOpening) : Type 0 where
@@ -173,11 +165,7 @@ bounded p o none =
 
 -- the slot of a value
 pub value_slot : (place slot : ℕ) (o : PrintOpening) → Some slot ≡ slot_of place (value_opening o) → slot ≡ or_place place (optional_number o.number)
-value_slot place slot o = by_number (optional_number o.number)
-  where
-    by_number : (n : Option ℕ) → Some slot ≡ elim n [ None ↦ Some place | Some m ↦ Some m ] → slot ≡ or_place place n
-    by_number None e = cc
-    by_number (Some m) e = cc
+value_slot place slot o e = grind arith
 
 -- the rules of what stands from a letter on that has no fault itself
 pub print_rest_first : (profile : Profile) (earlier : List Opening) (p : ℕ) (o : PrintOpening) (q b : ℕ) (x : List ℕ) (letter : PrintLetter)

@@ -1,5 +1,5 @@
 -- Both profiles spell the same formats, but for base 2.
-use Rattle.std.proofs.Common.{◌≡◌, ℕ, ◌+◌, List, [], ◌∷◌, length, map, Some, sym, ap, ◌∙◌}
+use Rattle.std.proofs.Common.{◌≡◌, ℕ, ◌+◌, List, [], ◌∷◌, length, map, Some, sym, ap, ◌∙◌, arith}
 use Rattle.std.proofs.lemmas.List.{map-id}
 use Rattle.std.specs.List.{AllByRecursion}
 use Rattle.sf_format.specs.declared.directive.Profile.{Profile}
@@ -61,15 +61,10 @@ LetterHas P _ = Unit {0}
 
 -- a letter's base is that of its directive
 letter_has : (P : Base → Type 0) (letter : Letter) (s : Shape) → shape_of letter s → ShapeHas P s → LetterHas P letter
-letter_has P (Signed base) s h has = rw h at has
-letter_has P (Unsigned base) s h has = rw h at has
-letter_has P _ s h has = tt
+letter_has P letter s h has = grind arith
 
 shape_has : (P : Base → Type 0) (letter : Letter) (s : Shape) → shape_of letter s → LetterHas P letter → ShapeHas P s
-shape_has P (Signed base) s h has = rw h has
-shape_has P (Unsigned base) s h has = rw h has
-shape_has P Set s h has = absurd h
-shape_has P _ s h has = rw h tt
+shape_has P letter s h has = grind arith
 
 suits_with : (other : Base → Base) (letter : Letter) (o : Opening) → Suits letter o → Suits (letter_with other letter) o
 suits_with other (Signed base) o s = assumption s
@@ -85,8 +80,7 @@ is_with other place o (Signed base) c h = record { kind = h.kind; width = h.widt
 is_with other place o _ c h = record { kind = h.kind; width = h.width; slot = h.slot }
 
 takes_with : (other : Base → Base) (letter : Letter) (s : Shape) → shape_of letter s → shape_of (letter_with other letter) (shape_with other s)
-takes_with other Set s h = absurd h
-takes_with other _ s h = rw h
+takes_with other letter s h = grind arith
 
 -- a part in another profile, which has such letters too
 scan_part : (p q : Profile) (other : Base → Base) (P : Base → Type 0)

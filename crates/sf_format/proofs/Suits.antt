@@ -1,5 +1,5 @@
 -- An opening and a letter that no rule refuses suit each other, in scan formats and in print formats.
-use Rattle.std.proofs.Common.{◌≡◌, ℕ, ◌<◌, ◌≤◌, Bool, true, false, cond, ◌&&◌, ◌||◌, nat_eq, nat_lt, List, [], ◌∷◌, Some, None, is_some, is_none, refl, subst, arith, ◌≢◌, zero, suc, ◌+◌, ◌^◌, not, length, Option, find}
+use Rattle.std.proofs.Common.{◌≡◌, ℕ, ◌<◌, Bool, true, false, ◌&&◌, ◌||◌, nat_eq, nat_lt, List, [], ◌∷◌, Some, None, is_some, is_none, refl, arith, ◌≢◌, zero, suc, ◌+◌, ◌^◌, length, Option, find}
 use Rattle.std.specs.Prelude.{IsSome, IfSome}
 use Rattle.std.proofs.lemmas.Bool.Decides.{nat_tests}
 use Rattle.std.specs.List.{AllByRecursion}
@@ -17,8 +17,7 @@ use Rattle.sf_format.specs.declared.letter.Letter.TheVariants.{Count}
 use Rattle.sf_base.specs.declared.values.Kind.{Kind}
 use Rattle.sf_base.specs.declared.values.Kind.TheVariants as kinds
 use Rattle.sf_format.specs.declared.letter.Length.{Length}
-use Rattle.sf_format.specs.declared.letter.Length.TheVariants.{NoLength}
-use Rattle.sf_format.proofs.Outcomes.{by_test, same_byte, within, not_above, above_zero, not_zero, not_false}
+use Rattle.sf_format.proofs.Outcomes.{not_above, not_zero}
 use Rattle.sf_format.proofs.Prefixes.{AllPass}
 use Rattle.sf_format.proofs.Cutting.{IsLast, HasDigits, HasPrintDigits}
 use Rattle.sf_format.proofs.Rules.{Quiet, quiet_is}
@@ -29,7 +28,6 @@ use Rattle.std.proofs.Math.Nat.{mul-pos}
 use native.Mathlib.Nat.{pow-suc}
 use Rattle.sf_format.specs.declared.directive.Profile.TheVariants as profiles
 use Rattle.sf_format.specs.declared.unit.PrintLetter.{PrintLetter}
-use Rattle.sf_format.specs.declared.unit.PrintLetter.TheVariants.{One}
 use Rattle.sf_format.specs.PrintLetters.{print_row, added_print_letters, print_letters, print_letter_of, print_kind_of}
 use Rattle.sf_format.specs.Units.{has_flag, HasPrecision}
 use Rattle.sf_format.specs.PrintGrammar.{IsPrecision, StartsAboveZero, SuitsPrint}
@@ -44,17 +42,14 @@ pub record IsLetterOf (profile : Profile) (b : ℕ) (letter : Letter) : Type 0 w
   pub quiet : (o : Opening) (q : ℕ) → IsSome (kind_of letter o.size) → SuitsCount letter o → Quiet (letter_rules profile o b q)
 
 pub text_allowed : (size : Length) → has_length size ≡ false → IsSome (text_kind size)
-text_allowed NoLength e = refl
-text_allowed _ e = absurd (cc)
+text_allowed size e = grind arith
 
 pub text_quiet : (size : Length) → IsSome (text_kind size) → (is_l size ≡ false) × (has_length size ≡ false)
-text_quiet NoLength e = (refl, refl)
-text_quiet _ e = absurd (cc)
+text_quiet size e = grind arith
 
 -- a text has the kind of texts
 pub text_kinded : (size : Length) (k : Kind) → text_kind size ≡ Some k → k ≡ kinds.Text
-text_kinded NoLength k h = cc
-text_kinded _ k h = absurd cc
+text_kinded size k h = grind arith
 
 -- a fact for each byte of each row
 abbrev pub ForRows : {L : Type 0} → (ℕ → L → Type 0) → List (List ℕ × L) → Type 0
@@ -110,17 +105,12 @@ bracket_is profile b letter e = found IsBracket (letters profile) (assumption (a
 
 pub number_from : (limit : ℕ) (ds : List ℕ) → AllPass is_decimal ds → (is_written ds && nat_eq (magnitude 10 ds) 0) ≡ false
     → nat_lt limit (magnitude 10 ds) ≡ false → IsOptionalNumber limit ds
-number_from limit [] digits low high = tt
-number_from limit (d ∷ ds) digits low high = (digits, above_zero _ low, within limit _ high)
+number_from limit ds digits low high = grind (arith, nat_tests)
 
 -- the test of a slot's number
 pub slot_from : (ds : List ℕ) → AllPass is_decimal ds → (is_written ds && (nat_eq (magnitude 10 ds) 0 || nat_lt 32 (magnitude 10 ds))) ≡ false
     → IsOptionalNumber 32 ds
-slot_from [] digits e = tt
-slot_from (d ∷ ds) digits e = low (magnitude 10 (d ∷ ds)) e
-  where
-    low : (n : ℕ) → (nat_eq n 0 || nat_lt 32 n) ≡ false → AllPass is_decimal (d ∷ ds) × (0 < n) × (n ≤ 32)
-    low n e = (digits, grind (arith, nat_tests), grind (arith, nat_tests))
+slot_from ds digits e = grind (arith, nat_tests)
 
 -- what the tests say of a number
 pub record NumberTests (limit : ℕ) (ds : List ℕ) : Type 0 where
@@ -234,25 +224,19 @@ width_low (d ∷ ds) digits first =
 
 precision_from : (precision : Option (List ℕ)) → IfSome precision (AllPass is_decimal) → nat_lt 255 (precision_number precision) ≡ false
     → IfSome precision IsPrecision
-precision_from None digits e = tt
-precision_from (Some ds) digits e = (digits, within 255 (magnitude 10 ds) e)
+precision_from precision digits e = grind (arith, nat_tests)
 
 precision_test : (precision : Option (List ℕ)) → IfSome precision IsPrecision
     → (nat_lt 255 (precision_number precision) ≡ false) × IfSome precision (AllPass is_decimal)
-precision_test None h = (not_above 255 0 (omega arith), tt)
-precision_test (Some ds) h = (not_above 255 (magnitude 10 ds) h.1, h.0)
+precision_test precision h = grind (arith, nat_tests)
 
 one_from : (letter : PrintLetter) (precision : Option (List ℕ)) → (takes_one letter && is_some precision) ≡ false
     → HasPrecision letter (option_map (λ ds. magnitude 10 ds) precision)
-one_from One None e = refl
-one_from One (Some ds) e = absurd (cc)
-one_from _ precision e = tt
+one_from letter precision e = grind arith
 
 one_test : (letter : PrintLetter) (precision : Option (List ℕ)) → HasPrecision letter (option_map (λ ds. magnitude 10 ds) precision)
     → (takes_one letter && is_some precision) ≡ false
-one_test One None h = refl
-one_test One (Some ds) h = absurd (cc)
-one_test _ precision h = refl
+one_test letter precision h = grind arith
 
 -- ---- flags
 

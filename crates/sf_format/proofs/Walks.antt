@@ -13,7 +13,7 @@ use Rattle.sf_format.specs.Grammar.{destinations, MeanAll}
 use Rattle.sf_format.specs.Rules.{first_of}
 use Rattle.sf_format.specs.Faults.{part_rules}
 use Rattle.sf_format.specs.Reading.{put, read}
-use Rattle.sf_format.specs.Passing.{Holds, Walked, Gathers, fault_of}
+use Rattle.sf_format.specs.Passing.{Holds, fault_of}
 use Rattle.sf_format.proofs.Rules.{quiet_is, all_back}
 use Rattle.sf_format.proofs.Destinations.{destinations_push, at_most_one}
 use Rattle.sf_format.proofs.Meanings.{mean_push}

@@ -4,7 +4,7 @@ use Rattle.std.specs.List.{AllByRecursion}
 use Rattle.sf_base.specs.Bytes.{AreBytes, is_white}
 use Rattle.sf_format.specs.Language.{Language, Scan, Print}
 use Rattle.sf_format.specs.declared.fault.FormatWhy.{FormatWhy}
-use Rattle.sf_format.specs.Pieces.{Opening, Piece, WhiteSpace, Ordinary, Percents, Plain, Bracket, Printed, piece_text, text_of}
+use Rattle.sf_format.specs.Pieces.{Opening, Piece, WhiteSpace, Ordinary, piece_text, text_of}
 use Rattle.sf_format.specs.Cut.{Part, part_at}
 use Rattle.sf_format.specs.Grammar.{IsPiece, RunsApart, AreAlike, destinations}
 use Rattle.sf_format.specs.Rules.{first_of}
@@ -157,8 +157,7 @@ put_all done (Ok pieces) = Ok (done ++ pieces)
 put_all done (Err fault) = Err fault
 
 put_none : (r : Result (List Piece) (FormatWhy × ℕ)) → r ≡ put_all [] r
-put_none (Ok pieces) = refl
-put_none (Err fault) = refl
+put_none r = grind arith
 
 put_first : (language : Language) (earlier : List Opening) (p : ℕ) (piece : Piece) (done : List Piece) (rest : List ℕ) (m : ℕ)
     → put piece (put_all done (read m language ((earlier ++ destinations (piece ∷ [])) ++ destinations done)

@@ -5,7 +5,6 @@ use Rattle.std.specs.List.{AllByRecursion}
 use Rattle.sf_base.specs.declared.values.Kind.{Kind}
 use Rattle.sf_base.specs.declared.rules.Rule.{Rule as CodeRule}
 use Rattle.sf_base.specs.Sets.{has_byte}
-use Rattle.sf_format.specs.declared.directive.Profile.{Profile}
 use Rattle.sf_format.specs.declared.directive.Shape.{Shape}
 use Rattle.sf_format.specs.declared.directive.Shape.TheVariants as shape
 use Rattle.sf_format.specs.declared.directive.Directive.{Directive}
@@ -19,18 +18,15 @@ use Rattle.sf_format.specs.declared.opening.Written.{Written}
 use Rattle.sf_format.specs.declared.slots.Slots.{Slots}
 use Rattle.sf_format.specs.declared.scan.scanlist.Listed.{Listed}
 use Rattle.sf_format.specs.Language.{Language}
-use Rattle.sf_format.specs.declared.unit.PrintLetter.{PrintLetter}
 use Rattle.sf_format.specs.declared.print.opening.PrintWritten.{PrintWritten}
 use Rattle.sf_format.specs.declared.grammar.Passed.{Passed}
 use Rattle.sf_format.specs.declared.grammar.Literal.{Literal}
 use Rattle.sf_format.specs.declared.grammar.Literal.TheVariants as literal
 use Rattle.sf_format.specs.declared.noted.Noted.{Noted}
 use Rattle.sf_format.specs.Lists.{is_any_of, is_written, mark_at}
-use Rattle.sf_format.specs.Letters.{letter_of, kind_of}
 use Rattle.sf_format.specs.Scanlist.{IsSetBy}
 use Rattle.sf_format.specs.Pieces.{Opening, PrintOpening, Piece, Ordinary, Percents}
 use Rattle.sf_format.specs.Cut.{Part, members_at, close_at}
-use Rattle.sf_format.specs.PrintLetters.{print_letter_of, print_kind_of}
 use Rattle.sf_format.specs.Grammar.{destinations, slot_of, width_of, shape_of, MeanAll}
 use Rattle.sf_format.specs.Rules.{Rule, first_of}
 use Rattle.sf_format.specs.Faults.{bracket_rules, repeated, beyond, no_memory}
@@ -67,17 +63,10 @@ print_opening_of o = record {
   size = o.size;
 }
 
--- the first fault by the rules, or else what the letter prints and its kind
-abbrev pub ConvertsPrint : Profile → PrintOpening → ℕ → List Rule → Result (PrintLetter × Kind) FormatFault → Type 0
-ConvertsPrint profile o b rules (Ok found) =
-    (first_of rules ≡ None) × (print_letter_of profile b ≡ Some found.0) × (print_kind_of found.0 o.size ≡ Some found.1)
-ConvertsPrint profile o b rules (Err fault) = first_of rules ≡ Some (fault_of fault)
-
--- the first fault by the rules, or else what the letter converts and its kind
-abbrev pub Converts : Profile → Opening → ℕ → List Rule → Result (Letter × Kind) FormatFault → Type 0
-Converts profile o b rules (Ok found) =
-    (first_of rules ≡ None) × (letter_of profile b ≡ Some found.0) × (kind_of found.0 o.size ≡ Some found.1)
-Converts profile o b rules (Err fault) = first_of rules ≡ Some (fault_of fault)
+-- the first fault by the rules, or else the letter that was found, and the kind that it has
+abbrev pub Converts : {L : Type 0} → Option L → (L → Option Kind) → List Rule → Result (L × Kind) FormatFault → Type 0
+Converts letter kind rules (Ok found) = (first_of rules ≡ None) × (letter ≡ Some found.0) × (kind found.0 ≡ Some found.1)
+Converts letter kind rules (Err fault) = first_of rules ≡ Some (fault_of fault)
 
 abbrev pub is_set : Letter → Bool
 is_set Set = true
@@ -127,16 +116,14 @@ abbrev pub literal_piece : Literal → Piece
 literal_piece (literal.Byte b) = Ordinary b
 literal_piece literal.Percent = Percents
 
--- no fault by the rules, and what the part stands for, which was made if it is wanted, its slot, what follows it, and the destinations with it
-abbrev pub PassesAs : {D : Type 0} → Bool → (ℕ → Piece → D → Type 0) → List Rule → List Opening → Part → Option D → Option ℕ → List ℕ → Slots → Type 0
-PassesAs wanted means rules earlier part d slot rest slots =
-    (first_of rules ≡ None) × (rest ≡ part.rest) × MatchOption d (wanted ≡ false) (λ made. means (1 + length earlier) part.piece made)
-    × Holds slots (earlier ++ destinations (part.piece ∷ [])) × (slot ≡ slot_at (1 + length earlier) (destinations (part.piece ∷ [])))
-
--- that, or the first fault by the rules
+-- no fault by the rules, and what the part stands for, which was made if it is wanted, its slot, what follows it, and the destinations
+-- with it; or the first fault by the rules
 abbrev pub PassesBy : {D : Type 0} → Bool → (ℕ → Piece → D → Type 0) → List Rule → List Opening → Part → Result (Passed D) FormatFault → Type 0
 PassesBy wanted means rules earlier part (Ok passed) =
-    PassesAs wanted means rules earlier part passed.part passed.slot passed.rest.now passed.slots
+    (first_of rules ≡ None) × (passed.rest.now ≡ part.rest)
+    × MatchOption passed.part (wanted ≡ false) (λ made. means (1 + length earlier) part.piece made)
+    × Holds passed.slots (earlier ++ destinations (part.piece ∷ []))
+    × (passed.slot ≡ slot_at (1 + length earlier) (destinations (part.piece ∷ [])))
 PassesBy wanted means rules earlier part (Err fault) = first_of rules ≡ Some (fault_of fault)
 
 -- ---- whole texts

@@ -8,7 +8,7 @@ ghost use Rattle.sf_format.specs.PrintLetters.{print_row, print_letter_of, print
 ghost use Rattle.sf_format.specs.PrintGrammar.{or_place, IsPrintConv};
 ghost use Rattle.sf_format.specs.Rules.{first_of};
 ghost use Rattle.sf_format.specs.PrintRules.{is_print_left_out, print_letter_rules, flag_rules, foreign_flag, precision_number};
-ghost use Rattle.sf_format.specs.Passing.{print_opening_of, fault_in, ConvertsPrint};
+ghost use Rattle.sf_format.specs.Passing.{print_opening_of, fault_in, Converts};
 
 use crate::directive::Profile;
 use crate::fault::{FormatFault, FormatWhy};
@@ -99,7 +99,8 @@ pub fn print_converted(
     letter: u8,
     at: u16,
 ) -> Result<(PrintLetter, Kind), FormatFault>
-    ensures { ConvertsPrint profile (print_opening_of written.now) letter (print_letter_rules profile (print_opening_of written.now) letter at) result }
+    ensures { Converts (print_letter_of profile letter) (λ found. print_kind_of found written.now.size)
+        (print_letter_rules profile (print_opening_of written.now) letter at) result }
 {
     if let Some(fault) = print_letter_fault(profile, written, letter, at) {
         return Err(fault);

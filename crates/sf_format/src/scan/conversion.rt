@@ -4,6 +4,7 @@ ghost use Rattle.std.specs.List.{AllByRecursion};
 ghost use Rattle.sf_base.specs.Bytes.{magnitude};
 ghost use Rattle.sf_format.specs.Digits.{is_decimal};
 ghost use Rattle.sf_format.specs.Scanlist.{backward_range};
+ghost use Rattle.sf_format.specs.Letters.{letter_of, kind_of};
 ghost use Rattle.sf_format.specs.Grammar.{width_of};
 ghost use Rattle.sf_format.specs.Rules.{first_of};
 ghost use Rattle.sf_format.specs.Faults.{letter_rules};
@@ -42,7 +43,8 @@ pub fn converted(
     letter: u8,
     at: u16,
 ) -> Result<(Letter, Kind), FormatFault>
-    ensures { Converts profile (opening_of written.now) letter (letter_rules profile (opening_of written.now) letter at) result }
+    ensures { Converts (letter_of profile letter) (λ found. kind_of found written.now.size)
+        (letter_rules profile (opening_of written.now) letter at) result }
 {
     if let Some(fault) = letter_fault(profile, written, letter, at) {
         return Err(fault);
