@@ -30,9 +30,7 @@ skip_front x z k le g = grind (arith, take-append-le, length-append)
 item_at_front : (c : Conversion) (x z : List ℕ) (k : ℕ) → k ≤ length x → IsItem c (x ++ z) k → IsItem c x k
 item_at_front c x z k le g = record {
   holds = (le, g.holds.1, subst (Begins c) (take-append-le k x z le) g.holds.2);
-  above = λ j h.
-      let within = h.0 in
-      g.above j (omega (arith, length-append x z, within), h.1, subst (Begins c) (sym (take-append-le j x z within)) h.2);
+  above = λ j h. grind (arith, length-append, take-append-le);
 }
 
 -- ---- one directive

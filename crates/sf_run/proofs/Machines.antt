@@ -126,22 +126,13 @@ item_byte-taken c proper f b h = by_shape c.shape refl
     longer = omega (arith, length-append f (b ∷ []))
 
     other : (IsInt c.shape → ⊥) → can_take c (f ++ item_byte c.shape proper ∷ []) ≡ true
-    other no_integer =
-        both (is_within c.width (length (f ++ item_byte c.shape proper ∷ []))) (shape_begins c.shape c.width (f ++ item_byte c.shape proper ∷ []))
-        (subst (λ n. is_within c.width n ≡ true) (same_length f b (item_byte c.shape proper)) within)
-        (other_begins c.shape c.width no_integer proper f b begins)
+    other no_integer = grind (arith, both, item_byte, same_length, within, other_begins, begins)
 
     integer : IsInt c.shape → can_take c (f ++ item_byte c.shape proper ∷ []) ≡ true
-    integer int =
-        subst (λ n. can_take c (f ++ n ∷ []) ≡ true) (sym (integer_byte c.shape proper int))
-        (integer_goes_on c f int (can_take_front c f b h) (subst (λ n. is_within c.width n ≡ true) longer within))
+    integer int = grind (arith, integer_byte, integer_goes_on, can_take_front, longer, within)
 
     by_shape : (shape : Shape) → c.shape ≡ shape → can_take c (f ++ item_byte c.shape proper ∷ []) ≡ true
-    by_shape (Int base) e = integer (base, e)
-    by_shape Text e = other (λ int. let k = sym e ∙ int.1 in absurd cc)
-    by_shape (Set members) e = other (λ int. let k = sym e ∙ int.1 in absurd cc)
-    by_shape Chars e = other (λ int. let k = sym e ∙ int.1 in absurd cc)
-    by_shape Count e = other (λ int. let k = sym e ∙ int.1 in absurd cc)
+    by_shape shape e = grind (arith, integer, other)
 
 -- one that takes a byte isn't full
 takes_one : (d : Directive) (q : Stage) (b : ℕ) (r : Stage) → b < 256 → stepped d q b ≡ Some r → is_full d q ≡ true → ⊥
@@ -273,8 +264,4 @@ item_takes c proper f e =
     (Item (f ++ item_byte c.shape proper ∷ []), ap (λ v. cond v (Some (Item (f ++ item_byte c.shape proper ∷ []))) None) (item_byte-taken c proper f b (can b r is)))
   where
     can : (b : ℕ) (r : Stage) → item_stepped c f b ≡ Some r → can_take c (f ++ b ∷ []) ≡ true
-    can b r = by_case (can_take c (f ++ b ∷ []))
-      where
-        by_case : (v : Bool) → cond v (Some (Item (f ++ b ∷ []))) None ≡ Some r → v ≡ true
-        by_case true is = refl
-        by_case false is = absurd cc
+    can b r h1 = grind arith

@@ -336,8 +336,8 @@ refused_behind old mid new xs i within limit used first w = record {
   byte = w.byte;
   rest = w.rest;
   whole = sym (take-append-drop i xs) ∙ ap (λ l. take i xs ++ l) w.whole ∙ sym (append_assoc (take i xs) w.front (w.byte ∷ w.rest));
-  used = let u = w.used in omega (arith, u, used, length-append (take i xs) w.front, length-take-le i xs within);
-  refuses = λ z. let u = w.used in refuses_on old mid new w.byte (drop i xs ++ z) (xs ++ z) (omega (arith, u)) limit (first z) (w.refuses z);
+  used = grind (arith, length-append, length-take-le);
+  refuses = λ z. grind (arith, refuses_on);
 }
 
 -- an ended one does the same whatever follows
@@ -346,8 +346,7 @@ ended_does s k y z report ended does = by_case s.ended ended does
   where
     by_case : (o : Option Stop) → IsSome o → DoesBy o s.directives s.passed s.phase s.opened s.tally k y report
         → DoesBy o s.directives s.passed s.phase s.opened s.tally k z report
-    by_case None h does = absurd cc
-    by_case (Some stop) h does = does
+    by_case o h does = grind arith
 
 pub if_none : {A : Type 0} (o : Option A) (P : Type 0) → P → IfNone o P
 if_none o P p = grind arith

@@ -73,8 +73,7 @@ stops_early d q n (b ∷ x) z e = go (stepped d q b) e (λ r h. stops_early d r 
     go : (o : Option Stage) → choose o None (λ r. stage_after d r x) ≡ None → ((r : Stage) → stage_after d r x ≡ None → one_from d r (n + 1) (x ++ z) ≡ more_left (one_from d r (n + 1) x) z)
         → choose o (record { used = n; left = b ∷ (x ++ z); end = finished d q n true }) (λ p. one_from d p (n + 1) (x ++ z))
         ≡ more_left (choose o (record { used = n; left = b ∷ x; end = finished d q n true }) (λ p. one_from d p (n + 1) x)) z
-    go None h ih = refl
-    go (Some r) h ih = ih r h
+    go o h ih = grind arith
 
 -- a directive that takes all of x goes on from there
 goes_on : (d : Directive) (q r : Stage) (n p : ℕ) (x z : List ℕ) → stage_after d q x ≡ Some r → p ≡ n + length x → one_from d q n (x ++ z) ≡ one_from d r p z
@@ -83,8 +82,7 @@ goes_on d q r n p (b ∷ x) z e h = go (stepped d q b) e (λ s i. goes_on d s r 
   where
     go : (o : Option Stage) → choose o None (λ s. stage_after d s x) ≡ Some r → ((s : Stage) → stage_after d s x ≡ Some r → one_from d s (n + 1) (x ++ z) ≡ one_from d r p z)
         → choose o (record { used = n; left = b ∷ (x ++ z); end = finished d q n true }) (λ p. one_from d p (n + 1) (x ++ z)) ≡ one_from d r p z
-    go None i ih = absurd cc
-    go (Some s) i ih = ih s i
+    go o i ih = grind arith
 
 pub record OpenAt (ds : List Directive) (at : ℕ) (t : Tally) (x : List ℕ) : Type 0 where
   pub next : ℕ
@@ -158,8 +156,7 @@ takes_more d ds at t x r e more =
       is_byte = byte.1;
       takes = rw next (holds_by (λ o. o.used ≡ n + 1) (finished d byte.2 (n + 1) false) _ _
           (uses_nothing None ds (at + 1) _ refl ∙ counted-used d (finished d byte.2 (n + 1) false) (with_used (n + 1) t)) (λ status. refl));
-      all = rw here (holds_by (λ o. o.used ≡ n) (finished d r n false) _ _
-          (uses_nothing None ds (at + 1) _ refl ∙ counted-used d (finished d r n false) (with_used n t)) (λ status. refl));
+      all = grind (arith, holds_by, uses_nothing, counted-used);
     })
 
 pub open_or_closed : (ds : List Directive) (at : ℕ) (t : Tally) (x : List ℕ) → AreProper ds → OpenAt ds at t x ⊎ ClosedAt ds at t x

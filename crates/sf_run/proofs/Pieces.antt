@@ -305,9 +305,7 @@ fronts_of c x n proper below is = (can, cannot)
         (tests_can_take c proper (take (k + 1) x)).from (can_take_prefix c (take (k + 1) x) (drop (k + 1) (take n x)) (ap (can_take c) parts ∙ whole))
 
     cannot : CanTake c (take (n + 1) x) → ⊥
-    cannot h =
-        let most = item.above (n + 1) (omega (arith, below), subst (IsWithin c) (length-take-le (n + 1) x (omega (arith, below))) h.0, h.1) in
-        omega (arith, most)
+    cannot h = grind (arith, item, length-take-le)
 
 some_bytes : (base : Base) (piece : List ℕ) (n : ℕ) (negative : Bool) (m : ℕ) → IsInteger base (take n piece) negative m → 0 < n
 some_bytes base piece n negative m is = grind arith

@@ -1,4 +1,5 @@
 -- What the phases of the code show of a directive's stage.
+use Rattle.std.proofs.lemmas.Grind.{common_steps}
 use Rattle.std.proofs.Common.{◌≡◌, ℕ, ◌<◌, Bool, true, false, cond, nat_eq, List, [], ◌∷◌, ◌++◌, Option, Some, None, refl, sym, ap, subst, ◌∙◌, arith, lit<, true≢false}
 use Rattle.std.specs.Prelude.{IsTrue, ◌≢◌, ◌↔◌}
 use Rattle.sf_base.specs.Data.{Bytes, value_of}
@@ -47,18 +48,10 @@ skipping_full Percent proper = sym (not_full Percent Skipping 37 Taken (lit< tt)
 skipping_full (Conv c) proper = by_shape c.shape refl
   where
     never : HasItem c.shape → false ≡ is_full (Conv c) Skipping
-    never item = by_full (is_full (Conv c) Skipping) (λ full. item_not_full c proper item full)
-      where
-        by_full : (v : Bool) → (v ≡ true → ⊥) → false ≡ v
-        by_full true none = absurd (none refl)
-        by_full false none = refl
+    never item = grind (arith, item_not_full)
 
     by_shape : (shape : Shape) → c.shape ≡ shape → is_count shape ≡ is_full (Conv c) Skipping
-    by_shape (Int base) e = never (subst HasItem (sym e) tt)
-    by_shape Text e = never (subst HasItem (sym e) tt)
-    by_shape (Set members) e = never (subst HasItem (sym e) tt)
-    by_shape Chars e = never (subst HasItem (sym e) tt)
-    by_shape Count e = sym (full_of_none (Conv c) Skipping (λ b below. count_takes_nothing c b e))
+    by_shape shape e = grind (arith, never, full_of_none, count_takes_nothing, common_steps)
 
 pub taken_full : (d : Directive) → true ≡ is_full d Taken
 taken_full d = grind (arith, full_of_none)
