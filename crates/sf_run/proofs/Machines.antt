@@ -1,4 +1,5 @@
 -- Laws of the directives' machines that the run rests on.
+use Rattle.std.proofs.lemmas.Bool.{and_from, and_parts, not-false}
 use Rattle.std.proofs.lemmas.Grind.{common_steps}
 use Rattle.std.proofs.Common.{◌≡◌, ℕ, zero, suc, ◌+◌, ◌<◌, ◌≤◌, Bool, true, false, not, cond, ◌&&◌, nat_eq, List, [], ◌∷◌, ◌++◌, length, Option, Some, None, is_some, refl, sym, ap, subst, ◌∙◌, arith, lit<, true≢false, nat_le, unwrap_or, length-append}
 use Rattle.std.specs.List.{list_all}
@@ -19,6 +20,9 @@ use Rattle.sf_run.specs.Steps.{StepEnd, Fails}
 use Rattle.sf_run.specs.Machine.{Stage, Skipping, Taken, Item, shape_skips, item_stepped, stepped, some_below, is_full, finished, conversion_finished}
 use Rattle.sf_run.specs.Residual.{Part, choose, one_from}
 
+pub some_is : {A : Type 0} (a b : A) → Some a ≡ Some b → a ≡ b
+some_is a b e = cc
+
 -- ---- a byte that would be taken
 
 abbrev SomeBelow : ℕ → (ℕ → Bool) → Type 0
@@ -35,12 +39,6 @@ some_to (suc n) test b below h = grind (arith, some_to n test b)
 abbrev takes : Directive → Stage → ℕ → Bool
 takes d q b = is_some (stepped d q b)
 
-not_true : (v : Bool) → not v ≡ false → v ≡ true
-not_true v e = grind arith
-
-not_false : (v : Bool) → not v ≡ true → v ≡ false
-not_false v e = grind arith
-
 some_of : {A : Type 0} (o : Option A) → is_some o ≡ true → (a : A) × (o ≡ Some a)
 some_of None e = absurd (true≢false (sym e))
 some_of (Some a) e = (a, refl)
@@ -49,7 +47,7 @@ some_of (Some a) e = (a, refl)
 pub can_take_one : (d : Directive) (q : Stage) → is_full d q ≡ false → (b : ℕ) × (b < 256) × (r : Stage) × (stepped d q b ≡ Some r)
 unfolding is_full
 can_take_one d q e =
-    let (b, below, h) = some_from 256 (takes d q) (not_true _ e) in
+    let (b, below, h) = some_from 256 (takes d q) (not-false _ e) in
     let (r, is) = some_of (stepped d q b) h in
     (b, below, r, is)
 
@@ -70,15 +68,6 @@ full_of_none d q none = ap not (no_byte (some_below 256 (takes d q)) refl)
     no_byte false e = refl
 
 -- ---- a full directive takes nothing
-
-left_of : (a b : Bool) → (a && b) ≡ true → a ≡ true
-left_of a b e = grind arith
-
-right_of : (a b : Bool) → (a && b) ≡ true → b ≡ true
-right_of a b e = grind arith
-
-both : (a b : Bool) → a ≡ true → b ≡ true → (a && b) ≡ true
-both a b first second = grind arith
 
 -- whether a byte is last is all that the lengths see
 same_length : (f : List ℕ) (b e : ℕ) → length (f ++ b ∷ []) ≡ length (f ++ e ∷ [])
@@ -117,16 +106,16 @@ pub item_byte-taken : (c : Conversion) (proper : IsProperShape c.shape) (f : Lis
 item_byte-taken c proper f b h = by_shape c.shape refl
   where
     within : is_within c.width (length (f ++ b ∷ [])) ≡ true
-    within = left_of (is_within c.width (length (f ++ b ∷ []))) (shape_begins c.shape c.width (f ++ b ∷ [])) h
+    within = (and_parts (is_within c.width (length (f ++ b ∷ []))) (shape_begins c.shape c.width (f ++ b ∷ [])) h).0
 
     begins : Begins c.shape c.width f b
-    begins = right_of (is_within c.width (length (f ++ b ∷ []))) (shape_begins c.shape c.width (f ++ b ∷ [])) h
+    begins = (and_parts (is_within c.width (length (f ++ b ∷ []))) (shape_begins c.shape c.width (f ++ b ∷ [])) h).1
 
     longer : length (f ++ b ∷ []) ≡ length f + 1
     longer = omega (arith, length-append f (b ∷ []))
 
     other : (IsInt c.shape → ⊥) → can_take c (f ++ item_byte c.shape proper ∷ []) ≡ true
-    other no_integer = grind (arith, both, item_byte, same_length, within, other_begins, begins)
+    other no_integer = grind (arith, and_from, item_byte, same_length, within, other_begins, begins)
 
     integer : IsInt c.shape → can_take c (f ++ item_byte c.shape proper ∷ []) ≡ true
     integer int = grind (arith, integer_byte, integer_goes_on, can_take_front, longer, within)
@@ -185,7 +174,7 @@ first_begins : (shape : Shape) (width : Option ℕ) → IsProperShape shape → 
     → (e : ℕ) × (e < 256) × (shape_begins shape width (e ∷ []) ≡ true)
 first_begins (Int base) width proper wide item = (48, lit< tt, refl)
 first_begins Text width proper wide item = (65, lit< tt, refl)
-first_begins (Set members) width proper wide item = (proper.0, proper.1, both (has_byte members proper.0) true proper.2 refl)
+first_begins (Set members) width proper wide item = (proper.0, proper.1, and_from (has_byte members proper.0) true proper.2 refl)
 first_begins Chars width proper wide item = (0, lit< tt, one_char width wide)
 first_begins Count width proper wide item = absurd item
 
@@ -193,7 +182,7 @@ first_begins Count width proper wide item = absurd item
 pub item_not_full : (c : Conversion) → IsProper (Conv c) → HasItem c.shape → is_full (Conv c) Skipping ≡ true → ⊥
 item_not_full c proper item full =
     let (e, byte, begins) = first_begins c.shape c.width proper.0 proper.1 item in
-    let can : can_take c (e ∷ []) ≡ true = both (is_within c.width 1) (shape_begins c.shape c.width (e ∷ [])) (within_one c.width proper.1) begins in
+    let can : can_take c (e ∷ []) ≡ true = and_from (is_within c.width 1) (shape_begins c.shape c.width (e ∷ [])) (within_one c.width proper.1) begins in
     by_skips e byte can (shape_skips c.shape && is_white e) refl
   where
     by_skips : (e : ℕ) → e < 256 → can_take c (e ∷ []) ≡ true → (v : Bool) → (shape_skips c.shape && is_white e) ≡ v → ⊥

@@ -27,6 +27,7 @@ use Rattle.sf_run.specs.Stopping.{is_no_memory}
 use Rattle.sf_run.specs.Standing.{Standing, ShowsFirst, DoesBy, Does, Ends, Follows, Keeps, Stops, TakesAll, Refuses, RefusesIn, RunsOut}
 use Rattle.sf_run.specs.Standing.{Passes as Passed}
 use Rattle.sf_run.specs.Texts.{IsNextSlot, StoresByte, text_slot, opened_for, opened_with}
+use Rattle.sf_run.proofs.Openness.{counted-used}
 use Rattle.sf_run.proofs.Machines.{grows}
 use Rattle.sf_run.proofs.Brought.{one_from-all}
 use Rattle.sf_run.proofs.Pieces.{parted, same_part}
@@ -125,9 +126,6 @@ same_does s o ds p current opened t k z report e1 e2 e3 e4 e5 e6 does = rw (e1, 
 
 stopped_does : (s : Standing) (stop : Stop) (k : ℕ) (z : List ℕ) (report : RunReport) → s.ended ≡ Some stop → report ≡ out_of stop.status stop.at s.tally → Does s k z report
 stopped_does s stop k z report e is = subst (λ o. DoesBy o s.directives s.passed s.phase s.opened s.tally k z report) (sym e) is
-
-pub counted-used : (d : Directive) (f : StepEnd) (t : Tally) → (counted d f t).used ≡ t.used
-counted-used d f t = grind arith
 
 -- ---- bytes that are taken
 

@@ -25,7 +25,7 @@ use Rattle.sf_run.specs.Tallies.{tally_of}
 use Rattle.sf_run.specs.Texts.{text_slot, opened_for}
 use Rattle.sf_run.specs.Limits.{RunTold}
 use Rattle.sf_base.specs.Kept.{Opened}
-use Rattle.sf_run.proofs.Machines.{can_take_one, item_byte, item_byte-below, item_takes}
+use Rattle.sf_run.proofs.Machines.{some_is, can_take_one, item_byte, item_byte-below, item_takes}
 use Rattle.sf_run.proofs.Moves.{drop_at, proper_at, ended_does, waiting, byte_took, byte_past}
 use Rattle.sf_run.proofs.Openness.{OpenAt, open_or_closed, uses_within, within_limit, run_not_too_long, over_is_too_long, rest_uses_nothing}
 use Rattle.sf_run.proofs.Told.{run_told, told_exists, told_is, uses_is, uses_from, within_met, met_within}
@@ -339,9 +339,6 @@ after_nothing ds m s format limit proper does settled used met = record {
 
 pub ended_gives_own : (ds : List Directive) (m : ℕ) (s : Standing) (x : List ℕ) (ending : Ending) → After ds m s x → IsSome s.ended → Gives ds m s x ending
 ended_gives_own ds m s x ending h ended = subst (λ y. Gives ds m s y ending) (append-nil x) (ended_gives ds m s x [] ending h ended)
-
-some_is : {A : Type 0} (a b : A) → Some a ≡ Some b → a ≡ b
-some_is a b e = cc
 
 pub gives_report : (ds : List Directive) (m : ℕ) (s : Standing) (x : List ℕ) (ending : Ending) (stop : Stop) → Gives ds m s x ending → s.ended ≡ Some stop
     → RunTold ds m x ending (record (out_of stop.status stop.at s.tally) { met = s.met })
