@@ -141,16 +141,9 @@ item_nothing c proper q f is full b = by_case (can_take c (f ++ b ∷ [])) refl
         (is o ∙ ap (λ v. cond v (Some (Item (f ++ o ∷ []))) None) (item_byte-taken c proper f b e)) full)
 
 pub full_takes_nothing : (d : Directive) → IsProper d → (q : Stage) (b : ℕ) → is_full d q ≡ true → stepped d q b ≡ None
-full_takes_nothing Space proper Skipping b full = absurd (takes_one Space Skipping 32 Skipping (lit< tt) refl full)
-full_takes_nothing Space proper Taken b full = refl
-full_takes_nothing Space proper (Item f) b full = refl
-full_takes_nothing (Byte a) proper Skipping b full =
-    absurd (takes_one (Byte a) Skipping a Taken proper (ap (λ v. cond v (Some Taken) None) (same_test a)) full)
-full_takes_nothing (Byte a) proper Taken b full = refl
-full_takes_nothing (Byte a) proper (Item f) b full = refl
-full_takes_nothing Percent proper Skipping b full = absurd (takes_one Percent Skipping 37 Taken (lit< tt) refl full)
-full_takes_nothing Percent proper Taken b full = refl
-full_takes_nothing Percent proper (Item f) b full = refl
+full_takes_nothing Space proper q b full = grind (arith, (takes_one Space Skipping 32 Skipping (lit< tt) refl))
+full_takes_nothing (Byte a) proper q b full = grind (arith, (takes_one (Byte a) Skipping a Taken proper (rw same_test refl)))
+full_takes_nothing Percent proper q b full = grind (arith, (takes_one Percent Skipping 37 Taken (lit< tt) refl))
 full_takes_nothing (Conv c) proper Skipping b full = by_skips (shape_skips c.shape) refl
   where
     by_skips : (v : Bool) → shape_skips c.shape ≡ v → cond (shape_skips c.shape && is_white b) (Some Skipping) (item_stepped c [] b) ≡ None
@@ -198,13 +191,8 @@ shape_full c shape q n more none = grind arith
 -- what follows a full directive makes no difference to its end
 pub full_finish : (d : Directive) → IsProper d → (q : Stage) (n : ℕ) (more : Bool) → is_full d q ≡ true → finished d q n more ≡ finished d q n true
 full_finish Space proper q n more full = refl
-full_finish (Byte a) proper Skipping n more full =
-    absurd (takes_one (Byte a) Skipping a Taken proper (ap (λ v. cond v (Some Taken) None) (same_test a)) full)
-full_finish (Byte a) proper Taken n more full = refl
-full_finish (Byte a) proper (Item f) n more full = refl
-full_finish Percent proper Skipping n more full = absurd (takes_one Percent Skipping 37 Taken (lit< tt) refl full)
-full_finish Percent proper Taken n more full = refl
-full_finish Percent proper (Item f) n more full = refl
+full_finish (Byte a) proper q n more full = grind (arith, (takes_one (Byte a) Skipping a Taken proper (rw same_test refl)))
+full_finish Percent proper q n more full = grind (arith, (takes_one Percent Skipping 37 Taken (lit< tt) refl))
 full_finish (Conv c) proper q n more full =
     shape_full c c.shape q n more (λ e item. item_not_full c proper item (subst (λ r. is_full (Conv c) r ≡ true) e full))
 
