@@ -1,5 +1,5 @@
 -- A run that is Done makes the same steps on every front of its input that has the bytes which it used.
-use Rattle.std.proofs.Common.{◌≡◌, ℕ, ◌+◌, ◌≤◌, List, [], ◌∷◌, ◌++◌, length, drop, None, sym, subst, arith, length-append, length-drop}
+use Rattle.std.proofs.Common.{◌≡◌, ℕ, ◌+◌, ◌≤◌, List, [], ◌∷◌, ◌++◌, length, drop, None, subst, arith, length-append, length-drop}
 use Rattle.std.proofs.lemmas.List.{take-append-le, drop-append-le}
 use Rattle.std.proofs.lemmas.List.Sums.{sum_by-cons}
 use Rattle.sf_base.specs.Bytes.{IsSkip}
@@ -8,9 +8,8 @@ use Rattle.sf_format.specs.declared.directive.Shape.TheVariants.{Int, Text, Set,
 use Rattle.sf_format.specs.declared.directive.Conversion.{Conversion}
 use Rattle.sf_format.specs.declared.directive.Directive.{Directive}
 use Rattle.sf_item.specs.Matching.{Begins, IsItem}
-use Rattle.sf_run.specs.declared.outcome.Status.{Status}
 use Rattle.sf_run.specs.declared.outcome.Status.TheVariants.{Done}
-use Rattle.sf_run.specs.Steps.{StepEnd, Fails, ByteStep, ConversionStep, EmptyItem, IsSkipBefore, ItemEnds, ItemStep, Step}
+use Rattle.sf_run.specs.Steps.{StepEnd, Fails, ByteStep, ConversionStep, IsSkipBefore, ItemEnds, ItemStep, Step}
 use Rattle.sf_run.specs.Runs.{GoesOn, Ran, RunReport, Steps, status_of, used}
 use Rattle.sf_run.specs.Limits.{TellsWithin}
 use Rattle.sf_run.specs.Laws.{EachDoneRunStays}
