@@ -101,8 +101,8 @@ going_on ds front p d t u old new piece taken stores at h is w tally used assign
       given = ap slots_in w.gives.values ∙ some_slot ds p d old.values end at w.own ok h.given;
       opened = w.gives.opened;
       joined = w.gives.joined h.joined;
-      assigned = (let place = place_taken ds p d stores at (stores_own d end stores w.own w.gives.passes.stored) in let few = h.assigned in omega (arith, place, few, assigned'));
-      converted = (let few = h.converted in omega (arith, few, converted'));
+      assigned = grind (arith, place_taken, stores_own);
+      converted = grind arith;
     }
 
 -- the totals with a directive that has passed, which counts as a conversion or not, and stores or not
@@ -166,10 +166,10 @@ counting_on ds front rest left p d n s after old new taken at h begins w on =
       tally = u;
       going = going_on ds front p d t u old new rest taken w.stores at h.going h.rest is (λ end values so. totals_counted d end w.stores taken t values so) refl most less;
       rest = on ∙ ap (drop taken) h.rest ∙ drop-drop taken t.used front;
-      short = (let fewer = ap length on ∙ length-drop taken rest in let was = h.short in omega (arith, fewer, was));
-      assigned = (let e = ap (λ (r : Strays). r.uncounted) same in omega (arith, e, sums, before, values));
+      short = grind (arith, length-drop, rest, short);
+      assigned = grind (arith, same);
       converted = more.converted h.converted ∙ ap (λ (r : Strays). u.assigned + r.suppressed) (sym same);
-      few = (let e = ap (λ (r : Strays). r.uncounted) same in omega (arith, e, one, few));
+      few = grind (arith, same, few);
       low = (let e = ap (λ (r : Strays). r.suppressed) same in let sum = more.converted h.converted in let before = h.going.converted in omega (arith, e, sum, before, less));
     }
 

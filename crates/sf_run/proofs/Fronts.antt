@@ -1,5 +1,5 @@
 -- A run that is Done makes the same steps on every front of its input that has the bytes which it used.
-use Rattle.std.proofs.Common.{◌≡◌, ℕ, ◌+◌, ◌≤◌, List, [], ◌∷◌, ◌++◌, length, drop, None, sym, subst, arith, length-append, length-drop}
+use Rattle.std.proofs.Common.{◌≡◌, ℕ, ◌+◌, ◌≤◌, List, [], ◌∷◌, ◌++◌, length, drop, None, subst, arith, length-append, length-drop}
 use Rattle.std.proofs.lemmas.List.{take-append-le, drop-append-le}
 use Rattle.std.proofs.lemmas.List.Sums.{sum_by-cons}
 use Rattle.sf_base.specs.Bytes.{IsSkip}
@@ -8,9 +8,8 @@ use Rattle.sf_format.specs.declared.directive.Shape.TheVariants.{Int, Text, Set,
 use Rattle.sf_format.specs.declared.directive.Conversion.{Conversion}
 use Rattle.sf_format.specs.declared.directive.Directive.{Directive}
 use Rattle.sf_item.specs.Matching.{Begins, IsItem}
-use Rattle.sf_run.specs.declared.outcome.Status.{Status}
 use Rattle.sf_run.specs.declared.outcome.Status.TheVariants.{Done}
-use Rattle.sf_run.specs.Steps.{StepEnd, Fails, ByteStep, ConversionStep, EmptyItem, IsSkipBefore, ItemEnds, ItemStep, Step}
+use Rattle.sf_run.specs.Steps.{StepEnd, Fails, ByteStep, ConversionStep, IsSkipBefore, ItemEnds, ItemStep, Step}
 use Rattle.sf_run.specs.Runs.{GoesOn, Ran, RunReport, Steps, status_of, used}
 use Rattle.sf_run.specs.Limits.{TellsWithin}
 use Rattle.sf_run.specs.Laws.{EachDoneRunStays}
@@ -30,9 +29,7 @@ skip_front x z k le g = grind (arith, take-append-le, length-append)
 item_at_front : (c : Conversion) (x z : List ℕ) (k : ℕ) → k ≤ length x → IsItem c (x ++ z) k → IsItem c x k
 item_at_front c x z k le g = record {
   holds = (le, g.holds.1, subst (Begins c) (take-append-le k x z le) g.holds.2);
-  above = λ j h.
-      let within = h.0 in
-      g.above j (omega (arith, length-append x z, within), h.1, subst (Begins c) (sym (take-append-le j x z within)) h.2);
+  above = λ j h. grind (arith, length-append, take-append-le);
 }
 
 -- ---- one directive

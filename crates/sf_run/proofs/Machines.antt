@@ -1,4 +1,5 @@
 -- Laws of the directives' machines that the run rests on.
+use Rattle.std.proofs.lemmas.Bool.{and_from, and_parts, not-false}
 use Rattle.std.proofs.lemmas.Grind.{common_steps}
 use Rattle.std.proofs.Common.{◌≡◌, ℕ, zero, suc, ◌+◌, ◌<◌, ◌≤◌, Bool, true, false, not, cond, ◌&&◌, nat_eq, List, [], ◌∷◌, ◌++◌, length, Option, Some, None, is_some, refl, sym, ap, subst, ◌∙◌, arith, lit<, true≢false, nat_le, unwrap_or, length-append}
 use Rattle.std.specs.List.{list_all}
@@ -19,6 +20,9 @@ use Rattle.sf_run.specs.Steps.{StepEnd, Fails}
 use Rattle.sf_run.specs.Machine.{Stage, Skipping, Taken, Item, shape_skips, item_stepped, stepped, some_below, is_full, finished, conversion_finished}
 use Rattle.sf_run.specs.Residual.{Part, choose, one_from}
 
+pub some_is : {A : Type 0} (a b : A) → Some a ≡ Some b → a ≡ b
+some_is a b e = cc
+
 -- ---- a byte that would be taken
 
 abbrev SomeBelow : ℕ → (ℕ → Bool) → Type 0
@@ -35,12 +39,6 @@ some_to (suc n) test b below h = grind (arith, some_to n test b)
 abbrev takes : Directive → Stage → ℕ → Bool
 takes d q b = is_some (stepped d q b)
 
-not_true : (v : Bool) → not v ≡ false → v ≡ true
-not_true v e = grind arith
-
-not_false : (v : Bool) → not v ≡ true → v ≡ false
-not_false v e = grind arith
-
 some_of : {A : Type 0} (o : Option A) → is_some o ≡ true → (a : A) × (o ≡ Some a)
 some_of None e = absurd (true≢false (sym e))
 some_of (Some a) e = (a, refl)
@@ -49,7 +47,7 @@ some_of (Some a) e = (a, refl)
 pub can_take_one : (d : Directive) (q : Stage) → is_full d q ≡ false → (b : ℕ) × (b < 256) × (r : Stage) × (stepped d q b ≡ Some r)
 unfolding is_full
 can_take_one d q e =
-    let (b, below, h) = some_from 256 (takes d q) (not_true _ e) in
+    let (b, below, h) = some_from 256 (takes d q) (not-false _ e) in
     let (r, is) = some_of (stepped d q b) h in
     (b, below, r, is)
 
@@ -70,15 +68,6 @@ full_of_none d q none = ap not (no_byte (some_below 256 (takes d q)) refl)
     no_byte false e = refl
 
 -- ---- a full directive takes nothing
-
-left_of : (a b : Bool) → (a && b) ≡ true → a ≡ true
-left_of a b e = grind arith
-
-right_of : (a b : Bool) → (a && b) ≡ true → b ≡ true
-right_of a b e = grind arith
-
-both : (a b : Bool) → a ≡ true → b ≡ true → (a && b) ≡ true
-both a b first second = grind arith
 
 -- whether a byte is last is all that the lengths see
 same_length : (f : List ℕ) (b e : ℕ) → length (f ++ b ∷ []) ≡ length (f ++ e ∷ [])
@@ -117,31 +106,22 @@ pub item_byte-taken : (c : Conversion) (proper : IsProperShape c.shape) (f : Lis
 item_byte-taken c proper f b h = by_shape c.shape refl
   where
     within : is_within c.width (length (f ++ b ∷ [])) ≡ true
-    within = left_of (is_within c.width (length (f ++ b ∷ []))) (shape_begins c.shape c.width (f ++ b ∷ [])) h
+    within = (and_parts (is_within c.width (length (f ++ b ∷ []))) (shape_begins c.shape c.width (f ++ b ∷ [])) h).0
 
     begins : Begins c.shape c.width f b
-    begins = right_of (is_within c.width (length (f ++ b ∷ []))) (shape_begins c.shape c.width (f ++ b ∷ [])) h
+    begins = (and_parts (is_within c.width (length (f ++ b ∷ []))) (shape_begins c.shape c.width (f ++ b ∷ [])) h).1
 
     longer : length (f ++ b ∷ []) ≡ length f + 1
     longer = omega (arith, length-append f (b ∷ []))
 
     other : (IsInt c.shape → ⊥) → can_take c (f ++ item_byte c.shape proper ∷ []) ≡ true
-    other no_integer =
-        both (is_within c.width (length (f ++ item_byte c.shape proper ∷ []))) (shape_begins c.shape c.width (f ++ item_byte c.shape proper ∷ []))
-        (subst (λ n. is_within c.width n ≡ true) (same_length f b (item_byte c.shape proper)) within)
-        (other_begins c.shape c.width no_integer proper f b begins)
+    other no_integer = grind (arith, and_from, item_byte, same_length, within, other_begins, begins)
 
     integer : IsInt c.shape → can_take c (f ++ item_byte c.shape proper ∷ []) ≡ true
-    integer int =
-        subst (λ n. can_take c (f ++ n ∷ []) ≡ true) (sym (integer_byte c.shape proper int))
-        (integer_goes_on c f int (can_take_front c f b h) (subst (λ n. is_within c.width n ≡ true) longer within))
+    integer int = grind (arith, integer_byte, integer_goes_on, can_take_front, longer, within)
 
     by_shape : (shape : Shape) → c.shape ≡ shape → can_take c (f ++ item_byte c.shape proper ∷ []) ≡ true
-    by_shape (Int base) e = integer (base, e)
-    by_shape Text e = other (λ int. let k = sym e ∙ int.1 in absurd cc)
-    by_shape (Set members) e = other (λ int. let k = sym e ∙ int.1 in absurd cc)
-    by_shape Chars e = other (λ int. let k = sym e ∙ int.1 in absurd cc)
-    by_shape Count e = other (λ int. let k = sym e ∙ int.1 in absurd cc)
+    by_shape shape e = grind (arith, integer, other)
 
 -- one that takes a byte isn't full
 takes_one : (d : Directive) (q : Stage) (b : ℕ) (r : Stage) → b < 256 → stepped d q b ≡ Some r → is_full d q ≡ true → ⊥
@@ -161,16 +141,9 @@ item_nothing c proper q f is full b = by_case (can_take c (f ++ b ∷ [])) refl
         (is o ∙ ap (λ v. cond v (Some (Item (f ++ o ∷ []))) None) (item_byte-taken c proper f b e)) full)
 
 pub full_takes_nothing : (d : Directive) → IsProper d → (q : Stage) (b : ℕ) → is_full d q ≡ true → stepped d q b ≡ None
-full_takes_nothing Space proper Skipping b full = absurd (takes_one Space Skipping 32 Skipping (lit< tt) refl full)
-full_takes_nothing Space proper Taken b full = refl
-full_takes_nothing Space proper (Item f) b full = refl
-full_takes_nothing (Byte a) proper Skipping b full =
-    absurd (takes_one (Byte a) Skipping a Taken proper (ap (λ v. cond v (Some Taken) None) (same_test a)) full)
-full_takes_nothing (Byte a) proper Taken b full = refl
-full_takes_nothing (Byte a) proper (Item f) b full = refl
-full_takes_nothing Percent proper Skipping b full = absurd (takes_one Percent Skipping 37 Taken (lit< tt) refl full)
-full_takes_nothing Percent proper Taken b full = refl
-full_takes_nothing Percent proper (Item f) b full = refl
+full_takes_nothing Space proper q b full = grind (arith, (takes_one Space Skipping 32 Skipping (lit< tt) refl))
+full_takes_nothing (Byte a) proper q b full = grind (arith, (takes_one (Byte a) Skipping a Taken proper (rw same_test refl)))
+full_takes_nothing Percent proper q b full = grind (arith, (takes_one Percent Skipping 37 Taken (lit< tt) refl))
 full_takes_nothing (Conv c) proper Skipping b full = by_skips (shape_skips c.shape) refl
   where
     by_skips : (v : Bool) → shape_skips c.shape ≡ v → cond (shape_skips c.shape && is_white b) (Some Skipping) (item_stepped c [] b) ≡ None
@@ -194,7 +167,7 @@ first_begins : (shape : Shape) (width : Option ℕ) → IsProperShape shape → 
     → (e : ℕ) × (e < 256) × (shape_begins shape width (e ∷ []) ≡ true)
 first_begins (Int base) width proper wide item = (48, lit< tt, refl)
 first_begins Text width proper wide item = (65, lit< tt, refl)
-first_begins (Set members) width proper wide item = (proper.0, proper.1, both (has_byte members proper.0) true proper.2 refl)
+first_begins (Set members) width proper wide item = (proper.0, proper.1, and_from (has_byte members proper.0) true proper.2 refl)
 first_begins Chars width proper wide item = (0, lit< tt, one_char width wide)
 first_begins Count width proper wide item = absurd item
 
@@ -202,7 +175,7 @@ first_begins Count width proper wide item = absurd item
 pub item_not_full : (c : Conversion) → IsProper (Conv c) → HasItem c.shape → is_full (Conv c) Skipping ≡ true → ⊥
 item_not_full c proper item full =
     let (e, byte, begins) = first_begins c.shape c.width proper.0 proper.1 item in
-    let can : can_take c (e ∷ []) ≡ true = both (is_within c.width 1) (shape_begins c.shape c.width (e ∷ [])) (within_one c.width proper.1) begins in
+    let can : can_take c (e ∷ []) ≡ true = and_from (is_within c.width 1) (shape_begins c.shape c.width (e ∷ [])) (within_one c.width proper.1) begins in
     by_skips e byte can (shape_skips c.shape && is_white e) refl
   where
     by_skips : (e : ℕ) → e < 256 → can_take c (e ∷ []) ≡ true → (v : Bool) → (shape_skips c.shape && is_white e) ≡ v → ⊥
@@ -218,13 +191,8 @@ shape_full c shape q n more none = grind arith
 -- what follows a full directive makes no difference to its end
 pub full_finish : (d : Directive) → IsProper d → (q : Stage) (n : ℕ) (more : Bool) → is_full d q ≡ true → finished d q n more ≡ finished d q n true
 full_finish Space proper q n more full = refl
-full_finish (Byte a) proper Skipping n more full =
-    absurd (takes_one (Byte a) Skipping a Taken proper (ap (λ v. cond v (Some Taken) None) (same_test a)) full)
-full_finish (Byte a) proper Taken n more full = refl
-full_finish (Byte a) proper (Item f) n more full = refl
-full_finish Percent proper Skipping n more full = absurd (takes_one Percent Skipping 37 Taken (lit< tt) refl full)
-full_finish Percent proper Taken n more full = refl
-full_finish Percent proper (Item f) n more full = refl
+full_finish (Byte a) proper q n more full = grind (arith, (takes_one (Byte a) Skipping a Taken proper (rw same_test refl)))
+full_finish Percent proper q n more full = grind (arith, (takes_one Percent Skipping 37 Taken (lit< tt) refl))
 full_finish (Conv c) proper q n more full =
     shape_full c c.shape q n more (λ e item. item_not_full c proper item (subst (λ r. is_full (Conv c) r ≡ true) e full))
 
@@ -273,8 +241,4 @@ item_takes c proper f e =
     (Item (f ++ item_byte c.shape proper ∷ []), ap (λ v. cond v (Some (Item (f ++ item_byte c.shape proper ∷ []))) None) (item_byte-taken c proper f b (can b r is)))
   where
     can : (b : ℕ) (r : Stage) → item_stepped c f b ≡ Some r → can_take c (f ++ b ∷ []) ≡ true
-    can b r = by_case (can_take c (f ++ b ∷ []))
-      where
-        by_case : (v : Bool) → cond v (Some (Item (f ++ b ∷ []))) None ≡ Some r → v ≡ true
-        by_case true is = refl
-        by_case false is = absurd cc
+    can b r h1 = grind arith

@@ -27,6 +27,7 @@ use Rattle.sf_run.specs.Stopping.{is_no_memory}
 use Rattle.sf_run.specs.Standing.{Standing, ShowsFirst, DoesBy, Does, Ends, Follows, Keeps, Stops, TakesAll, Refuses, RefusesIn, RunsOut}
 use Rattle.sf_run.specs.Standing.{Passes as Passed}
 use Rattle.sf_run.specs.Texts.{IsNextSlot, StoresByte, text_slot, opened_for, opened_with}
+use Rattle.sf_run.proofs.Openness.{counted-used}
 use Rattle.sf_run.proofs.Machines.{grows}
 use Rattle.sf_run.proofs.Brought.{one_from-all}
 use Rattle.sf_run.proofs.Pieces.{parted, same_part}
@@ -125,9 +126,6 @@ same_does s o ds p current opened t k z report e1 e2 e3 e4 e5 e6 does = rw (e1, 
 
 stopped_does : (s : Standing) (stop : Stop) (k : ℕ) (z : List ℕ) (report : RunReport) → s.ended ≡ Some stop → report ≡ out_of stop.status stop.at s.tally → Does s k z report
 stopped_does s stop k z report e is = subst (λ o. DoesBy o s.directives s.passed s.phase s.opened s.tally k z report) (sym e) is
-
-pub counted-used : (d : Directive) (f : StepEnd) (t : Tally) → (counted d f t).used ≡ t.used
-counted-used d f t = grind arith
 
 -- ---- bytes that are taken
 
@@ -336,8 +334,8 @@ refused_behind old mid new xs i within limit used first w = record {
   byte = w.byte;
   rest = w.rest;
   whole = sym (take-append-drop i xs) ∙ ap (λ l. take i xs ++ l) w.whole ∙ sym (append_assoc (take i xs) w.front (w.byte ∷ w.rest));
-  used = let u = w.used in omega (arith, u, used, length-append (take i xs) w.front, length-take-le i xs within);
-  refuses = λ z. let u = w.used in refuses_on old mid new w.byte (drop i xs ++ z) (xs ++ z) (omega (arith, u)) limit (first z) (w.refuses z);
+  used = grind (arith, length-append, length-take-le);
+  refuses = λ z. grind (arith, refuses_on);
 }
 
 -- an ended one does the same whatever follows
@@ -346,8 +344,7 @@ ended_does s k y z report ended does = by_case s.ended ended does
   where
     by_case : (o : Option Stop) → IsSome o → DoesBy o s.directives s.passed s.phase s.opened s.tally k y report
         → DoesBy o s.directives s.passed s.phase s.opened s.tally k z report
-    by_case None h does = absurd cc
-    by_case (Some stop) h does = does
+    by_case o h does = grind arith
 
 pub if_none : {A : Type 0} (o : Option A) (P : Type 0) → P → IfNone o P
 if_none o P p = grind arith

@@ -8,7 +8,8 @@ use Rattle.sf_run.specs.declared.outcome.Status.TheVariants.{TooLong}
 use Rattle.sf_run.specs.Steps.{StepEnd, Passes, Stores, Fails}
 use Rattle.sf_run.specs.Runs.{RunReport}
 use Rattle.sf_run.specs.Machine.{Stage, Skipping, stepped, is_full, finished}
-use Rattle.sf_run.specs.Residual.{Tally, Part, choose, one_from, with_used, counted, out_of, by_end, is_over, or_zero, then_on, run_of, run_from}
+use Rattle.sf_run.specs.Residual.{stepped_all, Tally, Part, choose, one_from, with_used, counted, out_of, by_end, is_over, or_zero, then_on, run_of, run_from}
+use Rattle.sf_run.proofs.Brought.{one_from-all}
 use Rattle.sf_run.proofs.Machines.{can_take_one, full_refuses, never_too_long, grows, keeps_all}
 
 -- ---- by the directive's end
@@ -57,34 +58,18 @@ over_is_too_long m (d ∷ ds) at t x le h = grind (arith, over_is_too_long m ds)
 
 -- ---- open or closed
 
--- the stage after all of x; None where some byte of x is not taken
-abbrev stage_after : Directive → Stage → List ℕ → Option Stage
-stage_after d q [] = Some q
-stage_after d q (b ∷ x) = choose (stepped d q b) None (λ r. stage_after d r x)
-
 abbrev more_left : Part → List ℕ → Part
 more_left p z = record { used = p.used; left = p.left ++ z; end = p.end }
 
 -- a directive that ended before a byte of x ends there on every longer input
-stops_early : (d : Directive) (q : Stage) (n : ℕ) (x z : List ℕ) → stage_after d q x ≡ None → one_from d q n (x ++ z) ≡ more_left (one_from d q n x) z
+stops_early : (d : Directive) (q : Stage) (n : ℕ) (x z : List ℕ) → stepped_all d q x ≡ None → one_from d q n (x ++ z) ≡ more_left (one_from d q n x) z
 stops_early d q n [] z e = absurd cc
 stops_early d q n (b ∷ x) z e = go (stepped d q b) e (λ r h. stops_early d r (n + 1) x z h)
   where
-    go : (o : Option Stage) → choose o None (λ r. stage_after d r x) ≡ None → ((r : Stage) → stage_after d r x ≡ None → one_from d r (n + 1) (x ++ z) ≡ more_left (one_from d r (n + 1) x) z)
+    go : (o : Option Stage) → choose o None (λ r. stepped_all d r x) ≡ None → ((r : Stage) → stepped_all d r x ≡ None → one_from d r (n + 1) (x ++ z) ≡ more_left (one_from d r (n + 1) x) z)
         → choose o (record { used = n; left = b ∷ (x ++ z); end = finished d q n true }) (λ p. one_from d p (n + 1) (x ++ z))
         ≡ more_left (choose o (record { used = n; left = b ∷ x; end = finished d q n true }) (λ p. one_from d p (n + 1) x)) z
-    go None h ih = refl
-    go (Some r) h ih = ih r h
-
--- a directive that takes all of x goes on from there
-goes_on : (d : Directive) (q r : Stage) (n p : ℕ) (x z : List ℕ) → stage_after d q x ≡ Some r → p ≡ n + length x → one_from d q n (x ++ z) ≡ one_from d r p z
-goes_on d q r n p [] z e h = let same : n ≡ p = omega arith in let is : q ≡ r = cc in ap (λ (u : ℕ). one_from d q u z) same ∙ ap (λ (u : Stage). one_from d u p z) is
-goes_on d q r n p (b ∷ x) z e h = go (stepped d q b) e (λ s i. goes_on d s r (n + 1) p x z i (omega arith))
-  where
-    go : (o : Option Stage) → choose o None (λ s. stage_after d s x) ≡ Some r → ((s : Stage) → stage_after d s x ≡ Some r → one_from d s (n + 1) (x ++ z) ≡ one_from d r p z)
-        → choose o (record { used = n; left = b ∷ (x ++ z); end = finished d q n true }) (λ p. one_from d p (n + 1) (x ++ z)) ≡ one_from d r p z
-    go None i ih = absurd cc
-    go (Some s) i ih = ih s i
+    go o h ih = grind arith
 
 pub record OpenAt (ds : List Directive) (at : ℕ) (t : Tally) (x : List ℕ) : Type 0 where
   pub next : ℕ
@@ -117,7 +102,7 @@ abbrev Either : List Directive → ℕ → Tally → List ℕ → Type 0
 Either ds at t x = OpenAt ds at t x ⊎ ClosedAt ds at t x
 
 -- the first directive ends before a byte of x
-early : (d : Directive) (ds : List Directive) (at : ℕ) (t : Tally) (x : List ℕ) → stage_after d Skipping x ≡ None
+early : (d : Directive) (ds : List Directive) (at : ℕ) (t : Tally) (x : List ℕ) → stepped_all d Skipping x ≡ None
     → (let p = one_from d Skipping t.used x in Either ds (at + 1) (counted d p.end (with_used p.used t)) p.left) → Either (d ∷ ds) at t x
 early d ds at t x e ih =
     let p : Part = one_from d Skipping t.used x in
@@ -127,13 +112,13 @@ early d ds at t x e ih =
     ]
 
 -- it takes all of x, and would take no more
-full_end : (d : Directive) (ds : List Directive) (at : ℕ) (t : Tally) (x : List ℕ) (r : Stage) → IsProper d → stage_after d Skipping x ≡ Some r → is_full d r ≡ true
+full_end : (d : Directive) (ds : List Directive) (at : ℕ) (t : Tally) (x : List ℕ) (r : Stage) → IsProper d → stepped_all d Skipping x ≡ Some r → is_full d r ≡ true
     → (let o = finished d r (t.used + length x) true in Either ds (at + 1) (counted d o (with_used (t.used + length x) t)) []) → Either (d ∷ ds) at t x
 full_end d ds at t x r proper e full ih =
     let n : ℕ = t.used + length x in
     let o : StepEnd = finished d r n true in
     let goes : (z : List ℕ) → one_from d Skipping t.used (x ++ z) ≡ record { used = n; left = z; end = o } =
-    λ z. goes_on d Skipping r t.used n x z e refl ∙ full_refuses d proper r n z full in
+    λ z. one_from-all d Skipping r t.used x z e ∙ full_refuses d proper r n z full in
     let here : one_from d Skipping t.used x ≡ record { used = n; left = []; end = o } =
     subst (λ (y : List ℕ). one_from d Skipping t.used y ≡ record { used = n; left = []; end = o }) (append-nil x) (goes []) in
     elim (by_first o d ds at t n [] n (omega arith) ih) [
@@ -142,34 +127,33 @@ full_end d ds at t x r proper e full ih =
     ]
 
 -- it takes all of x, and would take one more
-takes_more : (d : Directive) (ds : List Directive) (at : ℕ) (t : Tally) (x : List ℕ) (r : Stage) → stage_after d Skipping x ≡ Some r → is_full d r ≡ false
+takes_more : (d : Directive) (ds : List Directive) (at : ℕ) (t : Tally) (x : List ℕ) (r : Stage) → stepped_all d Skipping x ≡ Some r → is_full d r ≡ false
     → Either (d ∷ ds) at t x
 takes_more d ds at t x r e more =
     let n : ℕ = t.used + length x in
     let byte = can_take_one d r more in
     let b : ℕ = byte.0 in
     let next : one_from d Skipping t.used (x ++ b ∷ []) ≡ record { used = n + 1; left = []; end = finished d byte.2 (n + 1) false } =
-    goes_on d Skipping r t.used n x (b ∷ []) e refl ∙ rw byte.3 refl in
+    one_from-all d Skipping r t.used x (b ∷ []) e ∙ rw byte.3 refl in
     let here : one_from d Skipping t.used x ≡ record { used = n; left = []; end = finished d r n false } =
     subst (λ (y : List ℕ). one_from d Skipping t.used y ≡ record { used = n; left = []; end = finished d r n false }) (append-nil x)
-    (goes_on d Skipping r t.used n x [] e refl) in
+    (one_from-all d Skipping r t.used x [] e) in
     inl (record {
       next = b;
       is_byte = byte.1;
       takes = rw next (holds_by (λ o. o.used ≡ n + 1) (finished d byte.2 (n + 1) false) _ _
           (uses_nothing None ds (at + 1) _ refl ∙ counted-used d (finished d byte.2 (n + 1) false) (with_used (n + 1) t)) (λ status. refl));
-      all = rw here (holds_by (λ o. o.used ≡ n) (finished d r n false) _ _
-          (uses_nothing None ds (at + 1) _ refl ∙ counted-used d (finished d r n false) (with_used n t)) (λ status. refl));
+      all = grind (arith, holds_by, uses_nothing, counted-used);
     })
 
 pub open_or_closed : (ds : List Directive) (at : ℕ) (t : Tally) (x : List ℕ) → AreProper ds → OpenAt ds at t x ⊎ ClosedAt ds at t x
 open_or_closed [] at t x proper = inr (λ m z. refl)
-open_or_closed (d ∷ ds) at t x proper = go (stage_after d Skipping x) refl (λ u y. open_or_closed ds (at + 1) u y proper.1)
+open_or_closed (d ∷ ds) at t x proper = go (stepped_all d Skipping x) refl (λ u y. open_or_closed ds (at + 1) u y proper.1)
   where
-    full_or : (r : Stage) (c : Bool) → is_full d r ≡ c → stage_after d Skipping x ≡ Some r → ((u : Tally) (y : List ℕ) → Either ds (at + 1) u y) → Either (d ∷ ds) at t x
+    full_or : (r : Stage) (c : Bool) → is_full d r ≡ c → stepped_all d Skipping x ≡ Some r → ((u : Tally) (y : List ℕ) → Either ds (at + 1) u y) → Either (d ∷ ds) at t x
     full_or r true f e ih = full_end d ds at t x r proper.0 e f (ih _ _)
     full_or r false f e ih = takes_more d ds at t x r e f
 
-    go : (o : Option Stage) → stage_after d Skipping x ≡ o → ((u : Tally) (y : List ℕ) → Either ds (at + 1) u y) → Either (d ∷ ds) at t x
+    go : (o : Option Stage) → stepped_all d Skipping x ≡ o → ((u : Tally) (y : List ℕ) → Either ds (at + 1) u y) → Either (d ∷ ds) at t x
     go None e ih = early d ds at t x e (ih _ _)
     go (Some r) e ih = full_or r (is_full d r) refl e ih

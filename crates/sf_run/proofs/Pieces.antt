@@ -34,7 +34,7 @@ use Rattle.sf_run.specs.Pieces.{Answers, AnswersBy, EndsAt, EndsAtOnce, EndsIn, 
 use Rattle.sf_run.specs.Quick.{IsSure}
 use Rattle.sf_run.specs.Residual.{Part, one_from, stepped_all}
 use Rattle.sf_run.specs.Texts.{StoresByte, counts_bytes, is_count, text_slot, slot_of_text}
-use Rattle.sf_run.proofs.Brought.{all-append, can_all, first_all, item_all, one_from-all, skips_all, take-take}
+use Rattle.sf_run.proofs.Brought.{item_skips, all-append, can_all, first_all, item_all, one_from-all, skips_all, take-take}
 use Rattle.sf_run.proofs.Items.{can_take_prefix}
 use Rattle.sf_run.proofs.Machines.{full_refuses, grows}
 use Rattle.sf_run.proofs.Stages.{count_finished, integer_ends, other_finished, skipping_full, suppressed_end, taken_full, text_end}
@@ -51,15 +51,6 @@ parted xs i z = sym (append_assoc (take i xs) (drop i xs) z) ∙ ap (λ (y : Lis
 
 pub same_part : {n m : ℕ} {x y : List ℕ} {e f : StepEnd} → n ≡ m → x ≡ y → e ≡ f → ◌≡◌ {A = Part} (record { used = n; left = x; end = e }) (record { used = m; left = y; end = f })
 same_part p q r = (λ i. record { used = p i; left = q i; end = r i })
-
-not_true : (v : Bool) → (v ≡ true → ⊥) → v ≡ false
-not_true v never = grind arith
-
-right_of : (a b : Bool) → (a && b) ≡ true → b ≡ true
-right_of a b e = grind arith
-
-left_of : (a b : Bool) → (a && b) ≡ true → a ≡ true
-left_of a b e = grind arith
 
 pub none_first : (xs : List ℕ) → None ≡ slice_get xs 0 → 0 ≡ length xs
 none_first [] e = refl
@@ -305,9 +296,7 @@ fronts_of c x n proper below is = (can, cannot)
         (tests_can_take c proper (take (k + 1) x)).from (can_take_prefix c (take (k + 1) x) (drop (k + 1) (take n x)) (ap (can_take c) parts ∙ whole))
 
     cannot : CanTake c (take (n + 1) x) → ⊥
-    cannot h =
-        let most = item.above (n + 1) (omega (arith, below), subst (IsWithin c) (length-take-le (n + 1) x (omega (arith, below))) h.0, h.1) in
-        omega (arith, most)
+    cannot h = grind (arith, item, length-take-le)
 
 some_bytes : (base : Base) (piece : List ℕ) (n : ℕ) (negative : Bool) (m : ℕ) → IsInteger base (take n piece) negative m → 0 < n
 some_bytes base piece n negative m is = grind arith
@@ -358,16 +347,19 @@ pub ended_by : (d : Directive) (n : ℕ) (piece : List ℕ) (run : Run) (o : Opt
     → Suits d phase.Skipping piece run → IfSome o (EndsAtOnce d n piece)
 ended_by d n piece run o is answers suits = grind (arith, end_fits)
 
--- behind bytes that are skipped
-pub ended_behind : (d : Directive) (n w : ℕ) (piece : List ℕ) (e : Ended) → w ≤ length piece → e.before ≡ 0 → (IsProper d → stepped_all d Skipping (take w piece) ≡ Some Skipping)
-    → (IsProper d → Answers d Skipping (n + w) (drop w piece) (run_of e)) → IsEndIn d (drop w piece) e → EndsAtOnce d n piece (record e { before = w })
-ended_behind d n w piece e within front skips answers is =
-    let all : length (drop w piece) + w ≡ length piece = (let l = length-drop w piece in omega (arith, l, within)) in
+-- a conversion behind white space that is skipped
+pub ended_behind : (c : Conversion) (n w : ℕ) (piece rest : List ℕ) (e : Ended) → rest ≡ drop w piece → w ≤ length piece
+    → ((k : ℕ) → k < w → (shape_skips c.shape && is_white (get_or piece k 0)) ≡ true) → (w < length piece → (shape_skips c.shape && is_white (get_or piece w 0)) ≡ false) → e.before ≡ 0
+    → (IsProper (Conv c) → (0 < length rest → (shape_skips c.shape && is_white (get_or rest 0 0)) ≡ false) → (n : ℕ) → Answers (Conv c) Skipping n rest (run_of e)) → IsEndIn (Conv c) rest e
+    → EndsAtOnce (Conv c) n piece (record e { before = w })
+ended_behind c n w piece rest e back within white next front answers is =
+    let all = length-drop w piece in
+    let long = ap length back in
     let fits = is.within in
-    let same : w + e.before ≡ w = omega (arith, front) in
+    let ink : 0 < length rest → (shape_skips c.shape && is_white (get_or rest 0 0)) ≡ false = rw back (next_behind (λ b. shape_skips c.shape && is_white b) w piece next) in
     record {
-      answers = λ proper. subst (λ b. Answers d Skipping n piece (run_of (record e { before = b }))) same (answers_behind d n w piece (run_of e) within fits (skips proper) (answers proper));
-      fits = record { within = omega (arith, all, fits, front); given = is.given; number = is.number; memory = is.memory };
+      answers = λ proper. rw (front, add-zero) at (answers_behind (Conv c) n w piece (run_of e) within (omega (arith, long, fits)) (item_skips c piece w within white) (rw back at (answers proper ink (n + w))));
+      fits = record { within = omega (arith, all, fits, front, long, within); given = is.given; number = is.number; memory = is.memory };
     }
 
 -- a directive that waits at the end of the piece doesn't pass before

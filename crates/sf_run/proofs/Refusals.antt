@@ -22,7 +22,7 @@ use Rattle.sf_run.specs.Stopping.{is_memory_status, is_no_memory}
 use Rattle.sf_run.specs.Texts.{IsInText, StoresByte, slot_of_text}
 use Rattle.sf_run.specs.Computed.{skip}
 use Rattle.sf_run.proofs.Skips.{skip_is, one_more-le}
-use Rattle.sf_run.proofs.Machines.{by_option}
+use Rattle.sf_run.proofs.Machines.{some_is, by_option}
 use Rattle.sf_run.proofs.Openness.{run_not_too_long}
 use Rattle.sf_run.proofs.Told.{run_told}
 use Rattle.sf_run.proofs.Waits.{cut_here}
@@ -75,9 +75,6 @@ after_fine ds m s x h = by_case s.ended refl
     by_case (Some stop) e = ap (λ (r : RunReport). is_memory_status r.status) (sym (cut_here ds m s x h stop e)) ∙ run_fine (Some m) ds 1 nothing_yet x
 
 -- ---- the directive at a place
-
-some_is : {A : Type 0} (a b : A) → Some a ≡ Some b → a ≡ b
-some_is a b e = cc
 
 goes : (end : StepEnd) (rest : Type 0) (before : List Ran) (cut : Ran) (more : List Ran) → GoesOn end rest (before ++ cut ∷ more) → rest
 goes Passes rest before cut more h = h

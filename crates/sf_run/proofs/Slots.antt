@@ -1,6 +1,8 @@
 -- The slots of a format and those of a store.
+use Rattle.sf_run.proofs.Machines.{some_is}
+use Rattle.std.proofs.lemmas.Bool.{and_from, and_parts, or_from}
 use Rattle.std.proofs.lemmas.Grind.{common_steps}
-use Rattle.std.proofs.Common.{◌≡◌, ℕ, zero, suc, ◌+◌, ◌≤◌, Bool, true, false, not, ◌&&◌, ◌||◌, nat_eq, nat_le, List, [], ◌∷◌, ◌++◌, length, take, drop, Option, Some, None, is_some, refl, sym, ap, subst, ◌∙◌, arith, unwrap_or, append-nil, append_assoc, length-append}
+use Rattle.std.proofs.Common.{◌≡◌, ℕ, zero, suc, ◌+◌, ◌≤◌, Bool, true, false, not, ◌&&◌, nat_eq, nat_le, List, [], ◌∷◌, ◌++◌, length, take, drop, Option, Some, None, is_some, refl, sym, ap, subst, ◌∙◌, arith, unwrap_or, append-nil, length-append}
 use Rattle.std.specs.Prelude.{◌≢◌, slice_get, IfSome}
 use Rattle.std.specs.List.{AllByRecursion, list_all, list_any}
 use Rattle.std.proofs.lemmas.Bool.{ne_eqb}
@@ -49,9 +51,6 @@ slots_split ds zero = refl
 slots_split [] (suc p) = refl
 slots_split (d ∷ ds) (suc p) = grind (arith, slots_split ds)
 
-some_is : {A : Type 0} (a b : A) → Some a ≡ Some b → a ≡ b
-some_is a b e = cc
-
 slots_taken : (ds : List Directive) (p : ℕ) (d : Directive) → slice_get ds p ≡ Some d → slots_of (take (suc p) ds) ≡ slots_of (take p ds) ++ with_slot (slot_of d) []
 slots_taken [] p d at = cc
 slots_taken (x ∷ ds) zero d at = slots-cons x [] ∙ ap (λ (e : Directive). with_slot (slot_of e) []) (some_is x d at)
@@ -81,12 +80,6 @@ slots_at ds p d slot at own = grind (arith, (slots_split ds p), (drop_at ds p d 
 
 -- ---- each slot is one of the store's
 
-right_of : (a b : Bool) → (a && b) ≡ true → b ≡ true
-right_of a b e = grind arith
-
-left_of' : (a b : Bool) → (a && b) ≡ true → a ≡ true
-left_of' a b e = grind arith
-
 among : (test : ℕ → Bool) (xs : List ℕ) (n : ℕ) (ys : List ℕ) → list_all test (xs ++ n ∷ ys) ≡ true → test n ≡ true
 among test xs n ys h = grind (arith, common_steps)
 
@@ -95,23 +88,11 @@ pub slot_placed : (slots : ℕ) (ds : List Directive) (p : ℕ) (d : Directive) 
 slot_placed slots ds p d slot placed at own =
     let e : (nat_le 1 slot && nat_le slot slots) ≡ true = among (λ n. nat_le 1 n && nat_le n slots) (slots_of (take p ds)) slot (slots_of (drop (p + 1) ds))
     (subst (λ l. list_all (λ n. nat_le 1 n && nat_le n slots) l ≡ true) (slots_at ds p d slot at own) placed) in
-    let low = left_of' (nat_le 1 slot) (nat_le slot slots) e in
-    let high = right_of (nat_le 1 slot) (nat_le slot slots) e in
+    let low = (and_parts (nat_le 1 slot) (nat_le slot slots) e).0 in
+    let high = (and_parts (nat_le 1 slot) (nat_le slot slots) e).1 in
     (grind (arith, nat_tests), grind (arith, nat_tests))
 
 -- ---- the slot has no value yet
-
-not_true : (v : Bool) → not v ≡ true → v ≡ false
-not_true v e = grind arith
-
-or_left : (a b : Bool) → (a || b) ≡ false → a ≡ false
-or_left a b e = grind arith
-
-or_right : (a b : Bool) → (a || b) ≡ false → b ≡ false
-or_right a b e = grind arith
-
-or_both : (a b : Bool) → a ≡ false → b ≡ false → (a || b) ≡ false
-or_both a b e f = grind arith
 
 not_any : (x : ℕ) (xs : List ℕ) (n : ℕ) (ys : List ℕ) → list_any (nat_eq x) (xs ++ n ∷ ys) ≡ false → nat_eq x n ≡ false
 not_any x xs n ys h = grind (arith, common_steps)
@@ -213,20 +194,17 @@ left_first d c current e none = grind arith
 
 -- ---- what a format says of its slots
 
-both : (a b : Bool) → a ≡ true → b ≡ true → (a && b) ≡ true
-both a b e f = grind arith
-
 pub placed_from : (count slots : ℕ) (ns : List ℕ) → count ≤ slots → AllByRecursion (λ n. (1 ≤ n) × (n ≤ count)) ns → list_all (λ n. nat_le 1 n && nat_le n slots) ns ≡ true
 placed_from count slots [] fits h = refl
 placed_from count slots (n ∷ ns) fits h = grind (arith, placed_from count slots ns)
 
 none_of_them : (n : ℕ) (ns : List ℕ) → AllByRecursion (λ m. m ≢ n) ns → list_any (nat_eq n) ns ≡ false
 none_of_them n [] h = refl
-none_of_them n (m ∷ ns) h = or_both (nat_eq n m) (list_any (nat_eq n) ns) (ne_eqb n m (λ e. h.0 (sym e))) (none_of_them n ns h.1)
+none_of_them n (m ∷ ns) h = or_from (nat_eq n m) (list_any (nat_eq n) ns) (ne_eqb n m (λ e. h.0 (sym e))) (none_of_them n ns h.1)
 
 pub apart_from : (ns : List ℕ) → AreDistinct ns → are_apart ns ≡ true
 apart_from [] h = refl
-apart_from (n ∷ ns) h = both (not (list_any (nat_eq n) ns)) (are_apart ns) (ap not (none_of_them n ns h.0)) (apart_from ns h.1)
+apart_from (n ∷ ns) h = and_from (not (list_any (nat_eq n) ns)) (are_apart ns) (ap not (none_of_them n ns h.0)) (apart_from ns h.1)
 
 -- ---- before the first byte
 

@@ -1,10 +1,12 @@
 -- What the phases of the code show of a directive's stage.
+use Rattle.std.proofs.lemmas.Bool.{false_from_ne_true}
+use Rattle.std.proofs.lemmas.Grind.{common_steps}
 use Rattle.std.proofs.Common.{◌≡◌, ℕ, ◌<◌, Bool, true, false, cond, nat_eq, List, [], ◌∷◌, ◌++◌, Option, Some, None, refl, sym, ap, subst, ◌∙◌, arith, lit<, true≢false}
 use Rattle.std.specs.Prelude.{IsTrue, ◌≢◌, ◌↔◌}
 use Rattle.sf_base.specs.Data.{Bytes, value_of}
 use Rattle.sf_base.specs.declared.values.Kind.{Kind}
 use Rattle.sf_format.specs.declared.directive.Shape.{Shape}
-use Rattle.sf_format.specs.declared.directive.Shape.TheVariants.{Int, Text, Set, Chars, Count}
+use Rattle.sf_format.specs.declared.directive.Shape.TheVariants.{Count}
 use Rattle.sf_format.specs.declared.directive.Conversion.{Conversion}
 use Rattle.sf_format.specs.declared.directive.Directive.{Directive}
 use Rattle.sf_format.specs.declared.directive.Directive.TheVariants.{Space, Byte, Percent, Conv}
@@ -23,7 +25,7 @@ use Rattle.sf_run.specs.Steps.{Passes, Stores, Fails}
 use Rattle.sf_run.specs.Texts.{text_slot, is_count, counts_bytes}
 use Rattle.sf_run.specs.Machine.{Stage, Skipping, Taken, Item, stepped, is_full, count_end, integer_end, stored_end, passed_end, item_end, item_finished, conversion_finished}
 use Rattle.sf_run.specs.Phases.{ShowsItem, passed_number}
-use Rattle.sf_run.proofs.Machines.{not_full, full_of_none, item_not_full}
+use Rattle.sf_run.proofs.Machines.{can_take_one, not_full, full_of_none, item_not_full}
 
 -- ---- a byte more
 
@@ -47,41 +49,26 @@ skipping_full Percent proper = sym (not_full Percent Skipping 37 Taken (lit< tt)
 skipping_full (Conv c) proper = by_shape c.shape refl
   where
     never : HasItem c.shape → false ≡ is_full (Conv c) Skipping
-    never item = by_full (is_full (Conv c) Skipping) (λ full. item_not_full c proper item full)
-      where
-        by_full : (v : Bool) → (v ≡ true → ⊥) → false ≡ v
-        by_full true none = absurd (none refl)
-        by_full false none = refl
+    never item = grind (arith, item_not_full)
 
     by_shape : (shape : Shape) → c.shape ≡ shape → is_count shape ≡ is_full (Conv c) Skipping
-    by_shape (Int base) e = never (subst HasItem (sym e) tt)
-    by_shape Text e = never (subst HasItem (sym e) tt)
-    by_shape (Set members) e = never (subst HasItem (sym e) tt)
-    by_shape Chars e = never (subst HasItem (sym e) tt)
-    by_shape Count e = sym (full_of_none (Conv c) Skipping (λ b below. count_takes_nothing c b e))
+    by_shape shape e = grind (arith, never, full_of_none, count_takes_nothing, common_steps)
 
 pub taken_full : (d : Directive) → true ≡ is_full d Taken
 taken_full d = grind (arith, full_of_none)
 
 pub item_full : (scan : ItemScan) (f : List ℕ) (full : Bool) → IsProperShape (conversion_of scan).shape
     → (IsTrue full ↔ ((b : ℕ) → b < 256 → CanTake (conversion_of scan) (f ++ b ∷ []) → ⊥)) → full ≡ is_full (Conv (conversion_of scan)) (Item f)
-item_full scan f full proper says = sym (by_case full says)
+item_full scan f full proper says = by_case (is_full (Conv (conversion_of scan)) (Item f)) refl
   where
-    stops : (b : ℕ) → (CanTake (conversion_of scan) (f ++ b ∷ []) → ⊥) → (v : Bool) → can_take (conversion_of scan) (f ++ b ∷ []) ≡ v → cond v (Some (Item (f ++ b ∷ []))) None ≡ None
-    stops b none true e = absurd (none ((decides scan f b proper).from e))
-    stops b none false e = refl
+    taken : (b : ℕ) (r : Stage) → stepped (Conv (conversion_of scan)) (Item f) b ≡ Some r → can_take (conversion_of scan) (f ++ b ∷ []) ≡ true
+    taken b r is = grind arith
 
-    goes : (b : ℕ) → b < 256 → (v : Bool) → can_take (conversion_of scan) (f ++ b ∷ []) ≡ v → is_full (Conv (conversion_of scan)) (Item f) ≡ true → v ≡ false
-    goes b below true e e' = absurd (true≢false (sym e' ∙ not_full (Conv (conversion_of scan)) (Item f) b (Item (f ++ b ∷ [])) below (ap (λ v. cond v (Some (Item (f ++ b ∷ []))) None) e)))
-    goes b below false e e' = refl
-
-    full_is : (v : Bool) → is_full (Conv (conversion_of scan)) (Item f) ≡ v → (((b : ℕ) → b < 256 → CanTake (conversion_of scan) (f ++ b ∷ []) → ⊥) → ⊥) → v ≡ false
-    full_is true e some = absurd (some (λ b below can. true≢false (sym ((decides scan f b proper).to can) ∙ goes b below (can_take (conversion_of scan) (f ++ b ∷ [])) refl e)))
-    full_is false e some = refl
-
-    by_case : (v : Bool) → (IsTrue v ↔ ((b : ℕ) → b < 256 → CanTake (conversion_of scan) (f ++ b ∷ []) → ⊥)) → is_full (Conv (conversion_of scan)) (Item f) ≡ v
-    by_case true says = full_of_none (Conv (conversion_of scan)) (Item f) (λ b below. stops b (says.0 refl b below) (can_take (conversion_of scan) (f ++ b ∷ [])) refl)
-    by_case false says = full_is (is_full (Conv (conversion_of scan)) (Item f)) refl (λ none. true≢false (sym (says.1 none)))
+    by_case : (v : Bool) → is_full (Conv (conversion_of scan)) (Item f) ≡ v → full ≡ v
+    by_case true e = says.1 (λ b below can. true≢false (sym e ∙ not_full (Conv (conversion_of scan)) (Item f) b (Item (f ++ b ∷ [])) below (rw ((decides scan f b proper).to can) refl)))
+    by_case false e =
+        let (b, below, r, is) = can_take_one (Conv (conversion_of scan)) (Item f) e in
+        false_from_ne_true full (λ on. says.0 on b below ((decides scan f b proper).from (taken b r is)))
 
 -- ---- the end of an item
 

@@ -10,9 +10,9 @@ use Rattle.sf_item.specs.Matching.{ShapeMatches, Matches}
 use Rattle.sf_item.specs.Tests.{matches}
 use Rattle.sf_item.proofs.Deciding.{integer_at_is, tests_matches}
 use Rattle.sf_run.specs.declared.outcome.Status.TheVariants.{MatchingFailure}
-use Rattle.sf_run.specs.Steps.{StepEnd, Fails, NumberStored, CountStep, ItemStored, ItemPasses, EmptyItem, ItemEnds, IsSkipBefore, ItemStep, ConversionStep, Step}
+use Rattle.sf_run.specs.Steps.{StepEnd, Fails, NumberStored, CountStep, ItemStored, ItemPasses, EmptyItem, ItemEnds, IsSkipBefore, ConversionStep, Step}
 use Rattle.sf_run.specs.Machine.{number_end, count_end, integer_end, stored_end, passed_end, nothing_end}
-use Rattle.sf_run.specs.Computed.{skip, has_more, byte_choice, byte_step, skip_before, item_ended, item_step, conversion_step, percent_step, step_of}
+use Rattle.sf_run.specs.Computed.{skip, has_more, byte_step, skip_before, item_ended, item_step, conversion_step, percent_step, step_of}
 use Rattle.sf_run.proofs.Skips.{skip_is, skip_only, skip-le}
 use Rattle.sf_run.proofs.Items.{len-le, item_is, item_only}
 

@@ -13,7 +13,7 @@ use Rattle.sf_run.specs.Memory.{capacity_of}
 use Rattle.sf_run.specs.Quick.{IsDoneWithin, IsSure, text_stored}
 use Rattle.sf_run.specs.Residual.{Part, Tally, by_end, counted, nothing_yet, one_from, out_of, run_of, with_used}
 use Rattle.sf_run.specs.Runs.{RunReport, passed}
-use Rattle.sf_run.specs.Steps.{StepEnd, Passes, Stores, Fails}
+use Rattle.sf_run.specs.Steps.{StepEnd}
 use Rattle.sf_run.specs.Tallies.{tally_of}
 use Rattle.sf_run.proofs.AtOnce.{Counted, Going}
 use Rattle.sf_run.proofs.Moves.{drop_at}
@@ -68,10 +68,7 @@ first_of d ds at t x done = by_case (one_from d Skipping t.used x).end refl
         }
 
     by_case : (end : StepEnd) → (one_from d Skipping t.used x).end ≡ end → FirstOf d t x (run_of None (d ∷ ds) at t x)
-    by_case Passes is = more Passes refl is refl
-    by_case (Stores slot v) is = more (Stores slot v) refl is refl
-    by_case (Fails status) is =
-        absurd (never_done d Skipping t.used x status is (sym (ap (λ e. (behind d ds at t (one_from d Skipping t.used x) e).status) is) ∙ done))
+    by_case end is = grind (arith, more, never_done)
 
 -- where the run on the front and what follows is Done within the front, the next directive passes within it
 pub sure_at : (ds : List Directive) (front rest : List ℕ) (p : ℕ) (d : Directive) (t : code.Tally) (kept : Kept) (capacity : ℕ) → slice_get ds p ≡ Some d → Going ds front p t kept

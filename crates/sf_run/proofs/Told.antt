@@ -20,7 +20,7 @@ use Rattle.sf_run.specs.Machine.{some_below}
 use Rattle.sf_run.specs.Residual.{Tally, nothing_yet, with_used, counted, out_of, by_end, then_on, run_of}
 use Rattle.sf_run.specs.Computed.{step_of, part_of, go_on, ran_of}
 use Rattle.sf_run.proofs.Ones.{one_made}
-use Rattle.sf_run.proofs.Openness.{within_limit}
+use Rattle.sf_run.proofs.Openness.{counted-used, within_limit}
 use Rattle.sf_run.proofs.RunLaws.{steps_is, steps_only}
 
 -- ---- totals of a list of steps
@@ -71,9 +71,6 @@ cut_step : (d : Directive) (end : StepEnd) (k a m : ℕ) (t : Tally) (before : L
 cut_step d end k a m t before h = grind (arith, sums_step)
 
 -- ---- by the first directive's end
-
-counted-used : (d : Directive) (end : StepEnd) (t : Tally) → (counted d end t).used ≡ t.used
-counted-used d end t = grind arith
 
 -- the totals after the first directive
 abbrev next_tally : Directive → List ℕ → Tally → Tally

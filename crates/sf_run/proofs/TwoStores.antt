@@ -1,4 +1,5 @@
 -- Scanners over two stores report alike.
+use Rattle.sf_run.proofs.Machines.{some_is}
 use Rattle.std.proofs.Common.{◌≡◌, ℕ, inl, inr, false, List, Option, Some, None, sym, ap, ◌∙◌, true≢false}
 use Rattle.sf_format.specs.declared.directive.Directive.{Directive}
 use Rattle.sf_run.specs.declared.outcome.Ending.{Ending}
@@ -10,9 +11,6 @@ use Rattle.sf_run.specs.Runs.{RunReport}
 use Rattle.sf_run.specs.Standing.{report_by}
 use Rattle.sf_run.specs.Stopping.{is_memory_status, is_no_memory}
 use Rattle.sf_run.proofs.Told.{one_report}
-
-some_is : {A : Type 0} (a b : A) → Some a ≡ Some b → a ≡ b
-some_is a b e = cc
 
 same_status : (o : Option Stop) (t : Tally) (met : Option Ending) (r : RunReport) → report_by o t met ≡ Some r → is_memory_status r.status ≡ is_no_memory o
 same_status None t met r e = cc

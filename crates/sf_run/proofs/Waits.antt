@@ -25,7 +25,7 @@ use Rattle.sf_run.specs.Tallies.{tally_of}
 use Rattle.sf_run.specs.Texts.{text_slot, opened_for}
 use Rattle.sf_run.specs.Limits.{RunTold}
 use Rattle.sf_base.specs.Kept.{Opened}
-use Rattle.sf_run.proofs.Machines.{can_take_one, item_byte, item_byte-below, item_takes}
+use Rattle.sf_run.proofs.Machines.{some_is, can_take_one, item_byte, item_byte-below, item_takes}
 use Rattle.sf_run.proofs.Moves.{drop_at, proper_at, ended_does, waiting, byte_took, byte_past}
 use Rattle.sf_run.proofs.Openness.{OpenAt, open_or_closed, uses_within, within_limit, run_not_too_long, over_is_too_long, rest_uses_nothing}
 use Rattle.sf_run.proofs.Told.{run_told, told_exists, told_is, uses_is, uses_from, within_met, met_within}
@@ -253,13 +253,12 @@ after_more ds m s x z h ended = record {
       (w.0, ended_does s k (z ++ y) y w.0 ended w.1, subst (λ v. TellsWithin ds k v w.0) (sym (append_assoc x z y)) w.2);
   settled = h.settled;
   all = ended_all s.ended ended;
-  within = let fits = h.within in omega (arith, fits, length-append x z);
+  within = grind (arith, length-append);
   fed = h.fed;
 }
   where
     ended_all : (o : Option Stop) → IsSome o → IfNone o (s.tally.used ≡ length (x ++ z))
-    ended_all None i = absurd cc
-    ended_all (Some stop) i = tt
+    ended_all o i = grind arith
 
 -- an ended one has the report of every longer input, with every ending
 pub ended_gives : (ds : List Directive) (m : ℕ) (s : Standing) (x z : List ℕ) (ending : Ending) → After ds m s x → IsSome s.ended → Gives ds m s (x ++ z) ending
@@ -282,24 +281,19 @@ after_push ds m old new x piece n h low follows used within all stays keeps sett
   format = keeps.directives ∙ h.format;
   limit = keeps.limit ∙ h.limit;
   proper = h.proper;
-  low = let e = keeps.limit in let l = h.limit in omega (arith, low, e, l);
+  low = grind (arith, low);
   same = λ k z below fits.
       let w = h.same k (piece ++ z) (omega (arith, below, used)) fits in
       let limit = h.limit in
       (w.0, follows (subst AreProper (sym h.format) h.proper) z k w.0 below (omega (arith, fits, limit)) w.1, subst (λ v. TellsWithin ds k v w.0) (sym (append_assoc x piece z)) w.2);
   settled = settled h.settled;
   all = go new.ended refl;
-  within = let was = h.within in omega (arith, was, used, within, length-append x piece);
+  within = grind (arith, length-append);
   fed = keeps.met ∙ h.fed;
 }
   where
     go : (o : Option Stop) → new.ended ≡ o → IfNone o (new.tally.used ≡ length (x ++ piece))
-    go None e =
-        let was : old.ended ≡ None = none_before old.ended new.ended stays e in
-        let k : n ≡ length piece = subst (λ (o : Option Stop). IfNone o (n ≡ length piece)) e all in
-        let l : old.tally.used ≡ length x = subst (λ (o : Option Stop). IfNone o (old.tally.used ≡ length x)) was h.all in
-        omega (arith, k, l, used, length-append x piece)
-    go (Some stop) e = tt
+    go o e = grind (arith, none_before, length-append)
 
 -- a waiting one that was run out has the report of its input with its ending
 pub run_out_gives : (ds : List Directive) (m : ℕ) (old new : Standing) (x : List ℕ) (ending : Ending) → After ds m old x → old.ended ≡ None
@@ -339,16 +333,12 @@ after_nothing ds m s format limit proper does settled used met = record {
 }
   where
     none_all : (o : Option Stop) → IfNone o (s.tally.used ≡ 0)
-    none_all None = used
-    none_all (Some stop) = tt
+    none_all o = grind arith
 
 -- ---- what is told of an ended one
 
 pub ended_gives_own : (ds : List Directive) (m : ℕ) (s : Standing) (x : List ℕ) (ending : Ending) → After ds m s x → IsSome s.ended → Gives ds m s x ending
 ended_gives_own ds m s x ending h ended = subst (λ y. Gives ds m s y ending) (append-nil x) (ended_gives ds m s x [] ending h ended)
-
-some_is : {A : Type 0} (a b : A) → Some a ≡ Some b → a ≡ b
-some_is a b e = cc
 
 pub gives_report : (ds : List Directive) (m : ℕ) (s : Standing) (x : List ℕ) (ending : Ending) (stop : Stop) → Gives ds m s x ending → s.ended ≡ Some stop
     → RunTold ds m x ending (record (out_of stop.status stop.at s.tally) { met = s.met })
