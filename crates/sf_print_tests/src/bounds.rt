@@ -80,7 +80,7 @@ fn numbers_make_their_values(_rt: HostRuntime) -> Result<(), Fail> {
 }
 
 /// The least and the greatest number of each kind.
-const KINDS: [(Kind, i128, i128); 8] = [
+static KINDS: [(Kind, i128, i128); 8] = [
     (Kind::I8, -128, 127),
     (Kind::I16, -32768, 32767),
     (Kind::I32, -2147483648, 2147483647),
@@ -93,15 +93,12 @@ const KINDS: [(Kind, i128, i128); 8] = [
 
 #[test]
 fn numbers_beyond_a_kind_have_no_value(_rt: HostRuntime) -> Result<(), Fail> {
-    for (kind, least, greatest) in KINDS {
-        is(&kind.value(least).is_some(), &true, &(kind, least))?;
-        is(&kind.value(least.saturating_sub(1)), &None, &(kind, least))?;
-        is(&kind.value(greatest).is_some(), &true, &(kind, greatest))?;
-        is(
-            &kind.value(greatest.saturating_add(1)),
-            &None,
-            &(kind, greatest),
-        )?;
+    for row in &KINDS {
+        let (kind, least, greatest) = row;
+        is(&kind.value(*least).is_some(), &true, row)?;
+        is(&kind.value(least.saturating_sub(1)), &None, row)?;
+        is(&kind.value(*greatest).is_some(), &true, row)?;
+        is(&kind.value(greatest.saturating_add(1)), &None, row)?;
     }
     is(&Kind::Text.value(0), &None, &"text")
 }

@@ -4,7 +4,7 @@ use sf_rows::is;
 use std::test::Fail;
 
 /// Numbers by their sign and magnitude, and their texts behind a letter.
-const NUMBERS: [(bool, u64, &str); 11] = [
+static NUMBERS: [(bool, u64, &str); 11] = [
     (false, 0, "n0"),
     (true, 7, "n-7"),
     (false, 10, "n10"),
@@ -20,7 +20,7 @@ const NUMBERS: [(bool, u64, &str); 11] = [
 
 #[test]
 fn numbers_are_appended(rt: HostRuntime) -> Result<(), Fail> {
-    for (negative, magnitude, want) in NUMBERS {
+    for &(negative, magnitude, want) in &NUMBERS {
         let mut text = Vec::<u8>::new(rt.alloc());
         text.push(b'n')?;
         push_number(&mut text, negative, magnitude)?;
@@ -31,7 +31,7 @@ fn numbers_are_appended(rt: HostRuntime) -> Result<(), Fail> {
 
 #[test]
 fn numbers_are_written_in_place() -> Result<(), Fail> {
-    for (negative, magnitude, want) in NUMBERS {
+    for &(negative, magnitude, want) in &NUMBERS {
         let mut buf = *b"n.....................|";
         let end = write_number(negative, magnitude, &mut buf, 1);
         is(&&buf[..end], &want.as_bytes(), &want)?;

@@ -2,30 +2,26 @@
 use sf_base::StoreFull;
 use sf_format::{FormatFault, FormatWhy, PrintFormat, Profile, ScanFormat};
 use sf_print::{PrintFault, SinkFault};
-use sf_rows::is;
+use sf_rows::is_error;
 use std::alloc::Global;
-use std::error::Error;
 use std::test::Fail;
-
-/// The fault, handed on.
-fn handed_on<E: Error>(fault: E) -> anyhow::Result<()> {
-    Err::<(), E>(fault)?;
-    Ok(())
-}
-
-/// The fault is an error with this text.
-fn is_error<E: Error>(alloc: Global, fault: E, wanted: &str) -> Result<(), Fail> {
-    let Err(error) = handed_on(fault) else {
-        return Err(Fail::new(wanted));
-    };
-    let text = format!(in alloc; "{error}")?;
-    is(&text.as_str(), &wanted, &wanted)
-}
 
 #[test]
 fn faults_of_stores_and_sinks(rt: HostRuntime) -> Result<(), Fail> {
     is_error(rt.alloc(), StoreFull, "the store is full")?;
     is_error(rt.alloc(), SinkFault, "write fault")
+}
+
+/// The fault of a text that is no scan format.
+fn scan_fault(alloc: Global, text: &[u8]) -> Result<FormatFault, Fail> {
+    let fault = ScanFormat::parse(alloc, Profile::One, text).err();
+    Ok(fault.ok_or("a format")?)
+}
+
+/// The fault of a text that is no print format.
+fn print_fault(alloc: Global, text: &[u8]) -> Result<FormatFault, Fail> {
+    let fault = PrintFormat::parse(alloc, Profile::One, text).err();
+    Ok(fault.ok_or("a format")?)
 }
 
 #[test]
@@ -37,18 +33,12 @@ fn faults_of_formats(rt: HostRuntime) -> Result<(), Fail> {
         why: FormatWhy::NoMemory,
     };
     is_error(alloc, fault, "F19 NoMemory at 2")?;
-    let Err(fault) = ScanFormat::parse(alloc, Profile::One, b"ab%q") else {
-        return Err(Fail::new("a format"));
-    };
-    is_error(alloc, fault, "F4 UnknownLetter at 3")?;
-    let Err(fault) = PrintFormat::parse(alloc, Profile::One, b"%f") else {
-        return Err(Fail::new("a format"));
-    };
-    is_error(alloc, fault, "F5 LeftOut at 1")
+    is_error(alloc, scan_fault(alloc, b"ab%q")?, "F4 UnknownLetter at 3")?;
+    is_error(alloc, print_fault(alloc, b"%f")?, "F5 LeftOut at 1")
 }
 
 /// The faults of a print, and their texts.
-const PRINT_FAULTS: [(PrintFault, &str); 5] = [
+static PRINT_FAULTS: [(PrintFault, &str); 5] = [
     (
         PrintFault::WrongCount,
         "the number of values isn't that of the format's conversions",
@@ -67,7 +57,7 @@ const PRINT_FAULTS: [(PrintFault, &str); 5] = [
 
 #[test]
 fn faults_of_prints(rt: HostRuntime) -> Result<(), Fail> {
-    for (fault, wanted) in PRINT_FAULTS {
+    for &(fault, wanted) in &PRINT_FAULTS {
         is_error(rt.alloc(), fault, wanted)?;
     }
     Ok(())

@@ -94,12 +94,13 @@ fn printed(alloc: Global, form: &Form, text: &[u8]) -> Result<Vec<u8>, Fail> {
 fn is_printed(alloc: Global, format: &PrintFormat, text: &[u8], wanted: &[u8]) -> Result<(), Fail> {
     let mut sink = ListSink::new(alloc);
     let count = fprint(&mut sink, format, &[Value::Text(text)])?;
-    is(&sink.bytes(), &wanted, &text.len())?;
-    is(&(count as usize), &wanted.len(), &text.len())?;
+    let place = text.len();
+    is(&sink.bytes(), &wanted, &place)?;
+    is(&(count as usize), &wanted.len(), &place)?;
     is(
         &printed_len(format, &[Value::Text(text)]),
         &Ok(count),
-        &text.len(),
+        &place,
     )
 }
 
@@ -113,8 +114,16 @@ fn is_cut(alloc: Global, format: &PrintFormat, text: &[u8], wanted: &[u8]) -> Re
     let mut sink = ScriptSink::new(alloc, &steps);
     let printed = fprint(&mut sink, format, &[Value::Text(text)]);
     let fault = PrintFault::Sink { written: 107 };
-    is(&printed, &Err(fault), &text.len())?;
-    is(&Some(sink.bytes()), &wanted.get(..107), &text.len())
+    let place = text.len();
+    is(&printed, &Err(fault), &place)?;
+    is(&Some(sink.bytes()), &wanted.get(..107), &place)
+}
+
+/// The text in one form.
+fn is_in_form(alloc: Global, format: &PrintFormat, form: &Form, text: &[u8]) -> Result<(), Fail> {
+    let wanted = printed(alloc, form, text)?;
+    is_printed(alloc, format, text, &wanted)?;
+    is_cut(alloc, format, text, &wanted)
 }
 
 /// Texts of 127 to 300 bytes in one form.
@@ -123,9 +132,7 @@ fn all_lengths(alloc: Global, form: &Form) -> Result<(), Fail> {
     let letters = letters(alloc, 300)?;
     for count in 127..301usize {
         let text = letters.get(..count).unwrap_or(&letters);
-        let wanted = printed(alloc, form, text)?;
-        is_printed(alloc, &format, text, &wanted)?;
-        is_cut(alloc, &format, text, &wanted)?;
+        is_in_form(alloc, &format, form, text)?;
     }
     Ok(())
 }

@@ -10,7 +10,7 @@ use std::test::Fail;
 type Row = (Kind, bool, u64, Option<Value<'static>>);
 
 /// Each kind at its bounds, and one beyond.
-const ROWS: [Row; 30] = [
+static ROWS: [Row; 30] = [
     (Kind::I8, false, 127, Some(Value::I8(127))),
     (Kind::I8, false, 128, None),
     (Kind::I8, true, 128, Some(Value::I8(-128))),
@@ -60,21 +60,21 @@ const ROWS: [Row; 30] = [
 
 #[test]
 fn kinds_hold_numbers() -> Result<(), Fail> {
-    for row in ROWS {
+    for row in &ROWS {
         let (kind, negative, magnitude, wanted) = row;
-        let found = match kind.number(negative, magnitude) {
+        let found = match kind.number(*negative, *magnitude) {
             Some(number) => Some(number.value()),
             None => None,
         };
-        is(&found, &wanted, &(kind, negative, magnitude))?;
+        is(&found, wanted, row)?;
     }
     Ok(())
 }
 
 #[test]
 fn values_are_shown() -> Result<(), Fail> {
-    for row in ROWS {
-        if let (_, _, _, Some(value)) = row {
+    for &(_, _, _, value) in &ROWS {
+        if let Some(value) = value {
             is(&value.shown().value(), &value, &value)?;
         }
     }
@@ -109,28 +109,23 @@ fn are_shown<S: Store>(store: &S) -> Result<(), Fail> {
     let Some(Shown::Number(number)) = store.shown(2) else {
         return Err(Fail::new("slot 2 has a number"));
     };
-    is(
-        &(number.kind, number.negative, number.magnitude),
-        &(Kind::I16, true, 7),
-        &"slot 2",
-    )?;
+    is(&number.kind, &Kind::I16, &"slot 2")?;
+    is(&number.negative, &true, &"slot 2")?;
+    is(&number.magnitude, &7, &"slot 2")?;
     is(&store.shown(4).is_none(), &true, &"slot 4")
 }
 
 #[test]
 fn a_text_is_put_at_once(rt: HostRuntime) -> Result<(), Fail> {
-    let mut heap = HeapStore::new(rt.alloc(), 0)?;
-    is(&is_second_refused(&mut heap)?, &false, &"the heap")?;
-    are_shown(&heap)?;
-    is(
-        &heap.value(3),
-        &Some(Value::Text(b"0123456789")),
-        &"the heap's slot 3",
-    )?;
     let mut fixed = FixedStore::<9, 5>::new();
     is(&is_second_refused(&mut fixed)?, &true, &"nine bytes")?;
     are_shown(&fixed)?;
-    is(&fixed.value(3), &None, &"slot 3 of nine bytes")
+    is(&fixed.value(3), &None, &"slot 3 of nine bytes")?;
+    let mut heap = HeapStore::new(rt.alloc(), 0)?;
+    is(&is_second_refused(&mut heap)?, &false, &"the heap")?;
+    are_shown(&heap)?;
+    let wanted = Some(Value::Text(b"0123456789"));
+    is(&heap.value(3), &wanted, &"the heap's slot 3")
 }
 
 /// Sets that lack one byte, or two, and how far their members go.

@@ -31,8 +31,10 @@ fn only(alloc: Global, text: &[u8]) -> Result<Option<PrintConv>, Fail> {
     })
 }
 
-fn fault(alloc: Global, text: &[u8]) -> Option<FormatFault> {
-    PrintFormat::parse(alloc, Profile::One, text).err()
+/// The text is no format, for this fault.
+fn is_fault(alloc: Global, text: &[u8], at: u16, why: FormatWhy) -> Result<(), Fail> {
+    let found = PrintFormat::parse(alloc, Profile::One, text).err();
+    is(&found, &Some(FormatFault { at, why }), &text)
 }
 
 #[test]
@@ -46,13 +48,13 @@ fn parses_units(rt: HostRuntime) -> Result<(), Fail> {
             Unit::Byte(b'%'),
             Unit::Conv(plain(PrintLetter::Signed, Kind::I32)),
         ];
-        assert!(rt; format.directives() == &want[..]);
+        is(&format.directives(), &want.as_slice(), &profile)?;
     }
     Ok(())
 }
 
 /// Formats of one conversion without flags, width and precision.
-const LETTERS: [(&[u8], PrintLetter, Kind); 12] = [
+static LETTERS: [(&[u8], PrintLetter, Kind); 12] = [
     (b"%d", PrintLetter::Signed, Kind::I32),
     (b"%i", PrintLetter::Signed, Kind::I32),
     (b"%hhd", PrintLetter::Signed, Kind::I8),
@@ -69,14 +71,23 @@ const LETTERS: [(&[u8], PrintLetter, Kind); 12] = [
 
 #[test]
 fn tells_letters_and_kinds(rt: HostRuntime) -> Result<(), Fail> {
-    for (text, letter, kind) in LETTERS {
-        is(&only(rt.alloc(), text)?, &Some(plain(letter, kind)), &text)?;
+    for (text, letter, kind) in &LETTERS {
+        is(&only(rt.alloc(), text)?, &Some(plain(*letter, *kind)), text)?;
     }
     Ok(())
 }
 
-/// Formats of one conversion, with its flags, its width and its precision.
-const FLAGGED: [(&[u8], PrintLetter, Kind, &[u8], u16, Option<u8>); 12] = [
+/// A format of one conversion, with its flags, its width and its precision.
+type Flagged = (
+    &'static [u8],
+    PrintLetter,
+    Kind,
+    &'static [u8],
+    u16,
+    Option<u8>,
+);
+
+static FLAGGED: [Flagged; 12] = [
     (b"%+ d", PrintLetter::Signed, Kind::I32, b"+ ", 0, None),
     (b"% d", PrintLetter::Signed, Kind::I32, b" ", 0, None),
     (b"%-05d", PrintLetter::Signed, Kind::I32, b"-0", 5, None),
@@ -110,23 +121,39 @@ fn flagged(conversion: PrintConv, flags: &[u8]) -> PrintConv {
     }
 }
 
+fn is_flagged(alloc: Global, row: &Flagged) -> Result<(), Fail> {
+    let (text, letter, kind, flags, width, precision) = row;
+    let wanted = PrintConv {
+        width: *width,
+        precision: *precision,
+        ..flagged(plain(*letter, *kind), flags)
+    };
+    is(&only(alloc, text)?, &Some(wanted), text)
+}
+
 #[test]
 fn tells_flags_widths_and_precisions(rt: HostRuntime) -> Result<(), Fail> {
-    for (text, letter, kind, flags, width, precision) in FLAGGED {
-        let wanted = PrintConv {
-            width,
-            precision,
-            ..flagged(plain(letter, kind), flags)
-        };
-        is(&only(rt.alloc(), text)?, &Some(wanted), &text)?;
+    for row in &FLAGGED {
+        is_flagged(rt.alloc(), row)?;
     }
     Ok(())
+}
+
+/// The slots of a format's two conversions, between which a byte stands.
+fn two_slots(format: &PrintFormat) -> Option<[u8; 2]> {
+    match format.directives() {
+        [Unit::Conv(first), Unit::Byte(b'-'), Unit::Conv(second)] => Some([
+            first.slot,
+            second.slot,
+        ]),
+        _ => None,
+    }
 }
 
 #[test]
 fn tells_values_by_number(rt: HostRuntime) -> Result<(), Fail> {
     let format = PrintFormat::parse(rt.alloc(), Profile::One, b"%2$s-%1$d")?;
-    assert_eq!(rt; format.values(), 2);
+    is(&format.values(), &2, &"values")?;
     let kinds = [
         format.kind(0),
         format.kind(1),
@@ -134,45 +161,42 @@ fn tells_values_by_number(rt: HostRuntime) -> Result<(), Fail> {
         format.kind(3),
     ];
     let wanted = [None, Some(Kind::I32), Some(Kind::Text), None];
-    is(&kinds, &wanted, &"%2$s-%1$d")?;
-    match format.directives() {
-        [Unit::Conv(first), Unit::Byte(b'-'), Unit::Conv(second)] => {
-            assert_eq!(rt; first.slot, 2);
-            assert_eq!(rt; second.slot, 1);
-        }
-        _ => panic!(rt; "other units"),
-    }
-    Ok(())
+    is(&kinds, &wanted, &"kinds")?;
+    is(&two_slots(&format), &Some([2, 1]), &"slots")
 }
 
 #[test]
 fn finds_print_faults(rt: HostRuntime) -> Result<(), Fail> {
     for (text, at, why) in print_faults() {
-        let wanted = FormatFault { at: *at, why: *why };
-        is(&fault(rt.alloc(), text), &Some(wanted), &text)?;
+        is_fault(rt.alloc(), text, *at, *why)?;
     }
     Ok(())
 }
 
+/// How many units and values the part has, so many times.
+fn counts(alloc: Global, part: &[u8], times: usize) -> Result<(usize, u8), Fail> {
+    let text = repeated(alloc, part, times)?;
+    let format = PrintFormat::parse(alloc, Profile::One, &text)?;
+    Ok((format.directives().len(), format.values()))
+}
+
+/// The part, so many times, is no format, for this fault.
+fn is_fault_of(
+    alloc: Global,
+    part: &[u8],
+    times: usize,
+    at: u16,
+    why: FormatWhy,
+) -> Result<(), Fail> {
+    let text = repeated(alloc, part, times)?;
+    is_fault(alloc, &text, at, why)
+}
+
 #[test]
 fn takes_4096_bytes_and_32_values(rt: HostRuntime) -> Result<(), Fail> {
-    let text = vec![in rt.alloc(); b' '; 4096]?;
-    let format = PrintFormat::parse(rt.alloc(), Profile::One, &text)?;
-    assert_eq!(rt; format.directives().len(), 4096);
-    let text = vec![in rt.alloc(); b' '; 4097]?;
-    let long = FormatFault {
-        at: 4096,
-        why: FormatWhy::FormatTooLong,
-    };
-    assert_eq!(rt; fault(rt.alloc(), &text), Some(long));
-    let text = repeated(rt.alloc(), b"%d", 32)?;
-    let format = PrintFormat::parse(rt.alloc(), Profile::One, &text)?;
-    assert_eq!(rt; format.values(), 32);
-    let text = repeated(rt.alloc(), b"%d", 33)?;
-    let beyond = FormatFault {
-        at: 64,
-        why: FormatWhy::TooManyDestinations,
-    };
-    assert_eq!(rt; fault(rt.alloc(), &text), Some(beyond));
-    Ok(())
+    let alloc = rt.alloc();
+    is(&counts(alloc, b" ", 4096)?, &(4096, 0), &"4096 bytes")?;
+    is_fault_of(alloc, b" ", 4097, 4096, FormatWhy::FormatTooLong)?;
+    is(&counts(alloc, b"%d", 32)?, &(32, 32), &"32 values")?;
+    is_fault_of(alloc, b"%d", 33, 64, FormatWhy::TooManyDestinations)
 }

@@ -1,4 +1,5 @@
 //! Printed texts known from C, what is refused, and each write that fails.
+use crate::scan_formats::repeated;
 use sf_base::Value;
 use sf_format::{PrintFormat, Profile};
 use sf_print::{ListSink, PrintFault, ScriptSink, WriteStep, fprint, printed_len};
@@ -51,33 +52,41 @@ fn values_are_refused_in_order(rt: HostRuntime) -> Result<(), Fail> {
     Ok(())
 }
 
+/// A format of so many texts.
+fn texts(alloc: Global, count: usize) -> Result<PrintFormat, Fail> {
+    let text = repeated(alloc, b"%s", count)?;
+    Ok(PrintFormat::parse(alloc, Profile::One, &text)?)
+}
+
+/// The text thirty-two times is too long, and nothing of it is written; with one byte less it isn't.
+fn are_too_long(format: &PrintFormat, sink: &mut ListSink, text: &[u8]) -> Result<(), Fail> {
+    let mut values = [Value::Text(text); 32];
+    let refused = Err(PrintFault::TooLong);
+    is(&printed_len(format, &values), &refused, &"32 texts")?;
+    is(&fprint(sink, format, &values), &refused, &"32 texts")?;
+    is(&sink.bytes().is_empty(), &true, &"32 texts")?;
+    values[31] = Value::Text(text.get(1..).unwrap_or(text));
+    is(
+        &printed_len(format, &values),
+        &Ok(2147483647),
+        &"a byte less",
+    )
+}
+
+/// The text is printed once.
+fn is_printed_once(format: &PrintFormat, sink: &mut ListSink, text: &[u8]) -> Result<(), Fail> {
+    let printed = fprint(sink, format, &[Value::Text(text)]);
+    is(&printed, &Ok(67108864), &"one text")?;
+    is(&(sink.bytes() == text), &true, &"one text")
+}
+
 #[test]
 fn longest_text(rt: HostRuntime) -> Result<(), Fail> {
     let mut text = Vec::with_capacity(rt.alloc(), 67108864)?;
     text.resize(67108864, b'a')?;
-    let bytes = text.as_slice();
-    let mut spec = Vec::new(rt.alloc());
-    for _ in 0..32 {
-        spec.extend_from_slice(b"%s")?;
-    }
-    let format = PrintFormat::parse(rt.alloc(), Profile::One, spec.as_slice())?;
-    let mut values = [Value::Text(bytes); 32];
-    assert_eq!(rt; printed_len(&format, &values), Err(PrintFault::TooLong));
     let mut sink = ListSink::new(rt.alloc());
-    assert_eq!(rt;
-        fprint(&mut sink, &format, &values),
-        Err(PrintFault::TooLong)
-    );
-    assert!(rt; sink.bytes().is_empty());
-    let format_of_one = PrintFormat::parse(rt.alloc(), Profile::One, b"%s")?;
-    assert_eq!(rt;
-        fprint(&mut sink, &format_of_one, &values[..1]),
-        Ok(67108864)
-    );
-    assert!(rt; sink.bytes() == bytes);
-    values[31] = Value::Text(&bytes[1..]);
-    assert_eq!(rt; printed_len(&format, &values), Ok(2147483647));
-    Ok(())
+    are_too_long(&texts(rt.alloc(), 32)?, &mut sink, &text)?;
+    is_printed_once(&texts(rt.alloc(), 1)?, &mut sink, &text)
 }
 
 /// So many writes are taken, each of at most so many bytes; the next one fails.
@@ -107,8 +116,9 @@ fn is_printed_in_part(
         Err(_) => return Err(Fail::new("another fault")),
     };
     let wanted = (front.len(), front.len() == text.len());
-    is(&found, &wanted, &(text, taken))?;
-    is(&sink.bytes(), &front, &(text, taken))
+    let place = (text, taken);
+    is(&found, &wanted, &place)?;
+    is(&sink.bytes(), &front, &place)
 }
 
 /// Each write of the text fails in turn, with writes of 1, 2 and 3 bytes.

@@ -21,7 +21,7 @@ fn integer_of(alloc: Global, profile: Profile, text: &[u8]) -> Result<Option<(Ba
 }
 
 /// Scan formats of profile 2, with the base and the kind of their conversion.
-const INTEGERS: [(&[u8], Base, Kind); 7] = [
+static INTEGERS: [(&[u8], Base, Kind); 7] = [
     (b"%b", Base::Bin, Kind::U32),
     (b"%hhb", Base::Bin, Kind::U8),
     (b"%hb", Base::Bin, Kind::U16),
@@ -33,9 +33,9 @@ const INTEGERS: [(&[u8], Base, Kind); 7] = [
 
 #[test]
 fn profile_two_has_binary_numbers(rt: HostRuntime) -> Result<(), Fail> {
-    for (text, base, kind) in INTEGERS {
+    for (text, base, kind) in &INTEGERS {
         let found = integer_of(rt.alloc(), Profile::Two, text)?;
-        is(&found, &Some((base, kind)), &text)?;
+        is(&found, &Some((*base, *kind)), text)?;
     }
     Ok(())
 }
@@ -51,12 +51,11 @@ fn unknown_at(at: u16) -> Option<FormatFault> {
 #[test]
 fn profile_one_has_none(rt: HostRuntime) -> Result<(), Fail> {
     let scan = ScanFormat::parse(rt.alloc(), Profile::One, b"%b").err();
-    assert_eq!(rt; scan, unknown_at(1));
+    is(&scan, &unknown_at(1), &"%b")?;
     let print = PrintFormat::parse(rt.alloc(), Profile::One, b"%#b").err();
-    assert_eq!(rt; print, unknown_at(2));
+    is(&print, &unknown_at(2), &"%#b")?;
     let auto = integer_of(rt.alloc(), Profile::One, b"%i")?;
-    assert_eq!(rt; auto, Some((Base::Auto, Kind::I32)));
-    Ok(())
+    is(&auto, &Some((Base::Auto, Kind::I32)), &"%i")
 }
 
 #[test]
@@ -74,12 +73,12 @@ fn binary_numbers_have_their_flags(rt: HostRuntime) -> Result<(), Fail> {
         width: 10,
         precision: None,
     };
-    assert!(rt; format.directives() == &[Unit::Conv(wanted)][..]);
+    let units = [Unit::Conv(wanted)];
+    is(&format.directives(), &units.as_slice(), &"%-#010hb")?;
     let signed = PrintFormat::parse(rt.alloc(), Profile::Two, b"%+b").err();
     let wanted = Some(FormatFault {
         at: 1,
         why: FormatWhy::BadFlag,
     });
-    assert_eq!(rt; signed, wanted);
-    Ok(())
+    is(&signed, &wanted, &"%+b")
 }

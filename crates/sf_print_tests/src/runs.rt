@@ -6,7 +6,7 @@ use sf_rows::is;
 use std::test::Fail;
 
 /// What `isspace` is true of in the C locale.
-const WHITE: [u8; 6] = [9, 10, 11, 12, 13, 32];
+static WHITE: [u8; 6] = [9, 10, 11, 12, 13, 32];
 
 /// A text of fifty bytes ends at the white space that stands there, and so does the text that is cut there.
 fn text_ends_at(stop: usize, white: u8) -> Result<(), Fail>
@@ -33,7 +33,7 @@ fn spaces_end_at(stop: usize, white: u8) -> Result<(), Fail>
 #[test]
 fn runs_end_at_each_place(_rt: HostRuntime) -> Result<(), Fail> {
     for stop in 0..50usize {
-        for white in WHITE {
+        for &white in &WHITE {
             text_ends_at(stop, white)?;
             spaces_end_at(stop, white)?;
         }
@@ -41,20 +41,26 @@ fn runs_end_at_each_place(_rt: HostRuntime) -> Result<(), Fail> {
     Ok(())
 }
 
+/// The byte ends a text there, or it ends white space.
+fn is_known(place: usize, b: u8) -> Result<(), Fail>
+    requires { place < 20 }
+{
+    let is_white = WHITE.contains(&b);
+    let mut text = [b'a'; 20];
+    text[place] = b;
+    let wanted = if is_white { place } else { 20 };
+    is(&text_run(&text), &wanted, &(place, b))?;
+    let mut spaces = [b' '; 20];
+    spaces[place] = b;
+    let wanted = if is_white { 20 } else { place };
+    is(&space_run(&spaces), &wanted, &(place, b))
+}
+
 #[test]
 fn runs_know_each_byte(rt: HostRuntime) -> Result<(), Fail> {
     for code in 0..256u16 {
-        let b = code as u8;
-        let is_white = WHITE.contains(&b);
         for place in [5usize, 15, 16, 17] {
-            let mut text = [b'a'; 20];
-            text[place] = b;
-            let wanted = if is_white { place } else { 20 };
-            is(&text_run(&text), &wanted, &(place, b))?;
-            let mut spaces = [b' '; 20];
-            spaces[place] = b;
-            let wanted = if is_white { 20 } else { place };
-            is(&space_run(&spaces), &wanted, &(place, b))?;
+            is_known(place, code as u8)?;
         }
     }
     Ok(())
@@ -70,6 +76,5 @@ fn runs_of_members(rt: HostRuntime) -> Result<(), Fail> {
     is(&set.run(b";?"), &0, &"none")?;
     is(&set.run(&[0, 255, 63, 64]), &4, &"all")?;
     is(&set.run(&[0, 255, 128]), &2, &"128")?;
-    is(&set.run(b""), &0, &"nothing")?;
-    Ok(())
+    is(&set.run(b""), &0, &"nothing")
 }

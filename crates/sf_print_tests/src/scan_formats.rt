@@ -5,6 +5,7 @@ use sf_format::{
 };
 use sf_rows::{is, scan_faults};
 use std::alloc::Global;
+use std::fmt::Display;
 use std::test::Fail;
 
 /// What a conversion takes, without its set.
@@ -48,8 +49,10 @@ fn only(alloc: Global, text: &[u8]) -> Result<Option<Told>, Fail> {
     })
 }
 
-fn fault(alloc: Global, text: &[u8]) -> Option<FormatFault> {
-    ScanFormat::parse(alloc, Profile::One, text).err()
+/// The text is no format, for this fault.
+fn is_fault(alloc: Global, text: &[u8], at: u16, why: FormatWhy) -> Result<(), Fail> {
+    let found = ScanFormat::parse(alloc, Profile::One, text).err();
+    is(&found, &Some(FormatFault { at, why }), &text)
 }
 
 /// A text that begins and ends so, with so many times the byte between.
@@ -72,35 +75,35 @@ pub fn repeated(alloc: Global, part: &[u8], count: usize) -> Result<Vec<u8>, Fai
     Ok(text)
 }
 
+/// What is told of two conversions, between which a comma, white space and a percent sign stand.
+fn two_conversions(format: &ScanFormat) -> Option<[Told; 2]> {
+    match format.directives() {
+        [
+            Directive::Conv(first),
+            Directive::Byte(b','),
+            Directive::Space,
+            Directive::Percent,
+            Directive::Conv(second),
+        ] => Some([told(first), told(second)]),
+        _ => None,
+    }
+}
+
 #[test]
 fn parses(rt: HostRuntime) -> Result<(), Fail> {
+    let wanted = [
+        (Family::Int(Base::Dec), Kind::I32, None, Some(1)),
+        (Family::Int(Base::Dec), Kind::I32, None, Some(2)),
+    ];
     for profile in [Profile::One, Profile::Two] {
         let format = ScanFormat::parse(rt.alloc(), profile, b"%d, \t%%%d")?;
-        match format.directives() {
-            [
-                Directive::Conv(first),
-                Directive::Byte(b','),
-                Directive::Space,
-                Directive::Percent,
-                Directive::Conv(second),
-            ] => {
-                assert_eq!(rt;
-                    told(first),
-                    (Family::Int(Base::Dec), Kind::I32, None, Some(1))
-                );
-                assert_eq!(rt;
-                    told(second),
-                    (Family::Int(Base::Dec), Kind::I32, None, Some(2))
-                );
-            }
-            _ => panic!(rt; "other directives"),
-        }
+        is(&two_conversions(&format), &Some(wanted), &profile)?;
     }
     Ok(())
 }
 
 /// Formats of one conversion, with what is told of it.
-const CONVERSIONS: [(&[u8], Told); 13] = [
+static CONVERSIONS: [(&[u8], Told); 13] = [
     (
         b"%010d",
         (Family::Int(Base::Dec), Kind::I32, Some(10), Some(1)),
@@ -124,35 +127,36 @@ const CONVERSIONS: [(&[u8], Told); 13] = [
 
 #[test]
 fn tells_conversions(rt: HostRuntime) -> Result<(), Fail> {
-    for (text, wanted) in CONVERSIONS {
-        is(&only(rt.alloc(), text)?, &Some(wanted), &text)?;
+    for (text, wanted) in &CONVERSIONS {
+        is(&only(rt.alloc(), text)?, &Some(*wanted), text)?;
     }
     Ok(())
 }
 
-#[test]
-fn assigns_slots_by_number(rt: HostRuntime) -> Result<(), Fail> {
-    let format = ScanFormat::parse(rt.alloc(), Profile::One, b"%2$d%*d %1$s")?;
+/// The slots of two conversions, and of a third behind white space.
+fn three_slots(format: &ScanFormat) -> Option<[Option<u8>; 3]> {
     match format.directives() {
         [
             Directive::Conv(first),
             Directive::Conv(second),
             Directive::Space,
             Directive::Conv(third),
-        ] => {
-            assert_eq!(rt; first.slot, Some(2));
-            assert_eq!(rt; second.slot, None);
-            assert_eq!(rt; third.slot, Some(1));
-        }
-        _ => panic!(rt; "other directives"),
+        ] => Some([first.slot, second.slot, third.slot]),
+        _ => None,
     }
-    assert_eq!(rt; format.kind(1), Some(Kind::Text));
-    assert_eq!(rt; format.kind(2), Some(Kind::I32));
-    Ok(())
+}
+
+#[test]
+fn assigns_slots_by_number(rt: HostRuntime) -> Result<(), Fail> {
+    let format = ScanFormat::parse(rt.alloc(), Profile::One, b"%2$d%*d %1$s")?;
+    let slots = [Some(2), None, Some(1)];
+    is(&three_slots(&format), &Some(slots), &"slots")?;
+    is(&format.kind(1), &Some(Kind::Text), &1)?;
+    is(&format.kind(2), &Some(Kind::I32), &2)
 }
 
 /// Formats with the number of their destinations.
-const DESTINATIONS: [(&[u8], u8); 5] = [
+static DESTINATIONS: [(&[u8], u8); 5] = [
     (b"%d, %d", 2),
     (b"", 0),
     (b"%%%*d%%", 0),
@@ -162,7 +166,7 @@ const DESTINATIONS: [(&[u8], u8); 5] = [
 
 #[test]
 fn counts_destinations(rt: HostRuntime) -> Result<(), Fail> {
-    for (text, wanted) in DESTINATIONS {
+    for &(text, wanted) in &DESTINATIONS {
         let format = ScanFormat::parse(rt.alloc(), Profile::One, text)?;
         is(&format.destinations(), &wanted, &text)?;
     }
@@ -179,8 +183,7 @@ fn tells_kinds(rt: HostRuntime) -> Result<(), Fail> {
         format.kind(3),
     ];
     let wanted = [None, Some(Kind::I32), Some(Kind::U8), None];
-    is(&kinds, &wanted, &"%d, %hhu")?;
-    Ok(())
+    is(&kinds, &wanted, &"%d, %hhu")
 }
 
 fn has_exactly(set: &ByteSet, members: &[u8]) -> bool {
@@ -192,20 +195,28 @@ fn has_exactly(set: &ByteSet, members: &[u8]) -> bool {
     true
 }
 
+/// The set of a format that is one set.
+fn only_set(format: &ScanFormat) -> Option<&ByteSet> {
+    match format.directives() {
+        [Directive::Conv(conversion)] => match &conversion.shape {
+            Shape::Set(set) => Some(set),
+            _ => None,
+        },
+        _ => None,
+    }
+}
+
 /// Whether the format is one set, with exactly these members.
 fn has_members(alloc: Global, text: &[u8], members: &[u8]) -> Result<bool, Fail> {
     let format = ScanFormat::parse(alloc, Profile::One, text)?;
-    Ok(match format.directives() {
-        [Directive::Conv(conversion)] => match &conversion.shape {
-            Shape::Set(set) => has_exactly(set, members),
-            _ => false,
-        },
-        _ => false,
+    Ok(match only_set(&format) {
+        Some(set) => has_exactly(set, members),
+        None => false,
     })
 }
 
 /// Formats of one set, with its members.
-const SETS: [(&[u8], &[u8]); 7] = [
+static SETS: [(&[u8], &[u8]); 7] = [
     (b"%[]a-c]", b"]abc"),
     (b"%[a-c-e]", b"abc-e"),
     (b"%[]-a]", b"]^_`a"),
@@ -217,7 +228,7 @@ const SETS: [(&[u8], &[u8]); 7] = [
 
 #[test]
 fn builds_sets(rt: HostRuntime) -> Result<(), Fail> {
-    for (text, members) in SETS {
+    for &(text, members) in &SETS {
         is(&has_members(rt.alloc(), text, members)?, &true, &text)?;
     }
     Ok(())
@@ -226,16 +237,11 @@ fn builds_sets(rt: HostRuntime) -> Result<(), Fail> {
 #[test]
 fn complements_sets(rt: HostRuntime) -> Result<(), Fail> {
     let format = ScanFormat::parse(rt.alloc(), Profile::One, b"%[^]]")?;
-    match format.directives() {
-        [Directive::Conv(conversion)] => match &conversion.shape {
-            Shape::Set(set) => {
-                for b in 0..=255u8 {
-                    assert_eq!(rt; set.contains(b), b != b']', "at {b}");
-                }
-            }
-            _ => panic!(rt; "another shape"),
-        },
-        _ => panic!(rt; "other directives"),
+    let Some(set) = only_set(&format) else {
+        return Err(Fail::new("no set"));
+    };
+    for b in 0..=255u8 {
+        is(&set.contains(b), &(b != b']'), &b)?;
     }
     Ok(())
 }
@@ -243,77 +249,71 @@ fn complements_sets(rt: HostRuntime) -> Result<(), Fail> {
 #[test]
 fn finds_faults(rt: HostRuntime) -> Result<(), Fail> {
     for (text, at, why) in scan_faults() {
-        let wanted = FormatFault { at: *at, why: *why };
-        is(&fault(rt.alloc(), text), &Some(wanted), &text)?;
+        is_fault(rt.alloc(), text, *at, *why)?;
     }
     Ok(())
 }
 
+fn is_shown(alloc: Global, fault: &impl Display, wanted: &str) -> Result<(), Fail> {
+    let told = format!(in alloc; "{fault}")?;
+    is(&told.as_str(), &wanted, &wanted)
+}
+
 #[test]
 fn faults_tell_themselves(rt: HostRuntime) -> Result<(), Fail> {
-    let alloc = rt.alloc();
-    let told = fault(rt.alloc(), b"%[b-a]").map(|it| format!(in alloc; "{it}"));
-    let Some(told) = told else {
+    let Err(fault) = ScanFormat::parse(rt.alloc(), Profile::One, b"%[b-a]") else {
         return Err(Fail::new("the range is accepted"));
     };
-    assert_eq!(rt; told?.as_str(), "F8 BackwardRange at 2");
-    let why = FormatWhy::ZeroWidth;
-    assert_eq!(rt; format!(in rt.alloc(); "{why}")?.as_str(), "F2 ZeroWidth");
-    Ok(())
+    is_shown(rt.alloc(), &fault, "F8 BackwardRange at 2")?;
+    is_shown(rt.alloc(), &FormatWhy::ZeroWidth, "F2 ZeroWidth")
 }
 
 #[test]
 fn takes_4000_digits(rt: HostRuntime) -> Result<(), Fail> {
     let text = padded(rt.alloc(), b"%", b'0', 4000, b"7c")?;
-    assert_eq!(rt;
-        only(rt.alloc(), &text)?,
-        Some((Family::Chars, Kind::Text, Some(7), Some(1)))
-    );
+    let wanted = (Family::Chars, Kind::Text, Some(7), Some(1));
+    is(&only(rt.alloc(), &text)?, &Some(wanted), &"4000 zeros")?;
     let text = padded(rt.alloc(), b"%", b'9', 4000, b"c")?;
-    let wide = FormatFault {
-        at: 1,
-        why: FormatWhy::TooWide,
-    };
-    assert_eq!(rt; fault(rt.alloc(), &text), Some(wide));
-    Ok(())
+    is_fault(rt.alloc(), &text, 1, FormatWhy::TooWide)
+}
+
+/// How many directives and destinations the part has, so many times.
+fn counts(alloc: Global, part: &[u8], times: usize) -> Result<(usize, u8), Fail> {
+    let text = repeated(alloc, part, times)?;
+    let format = ScanFormat::parse(alloc, Profile::One, &text)?;
+    Ok((format.directives().len(), format.destinations()))
+}
+
+/// The part, so many times, is no format, for this fault.
+fn is_fault_of(
+    alloc: Global,
+    part: &[u8],
+    times: usize,
+    at: u16,
+    why: FormatWhy,
+) -> Result<(), Fail> {
+    let text = repeated(alloc, part, times)?;
+    is_fault(alloc, &text, at, why)
 }
 
 #[test]
 fn takes_4096_bytes(rt: HostRuntime) -> Result<(), Fail> {
-    let text = vec![in rt.alloc(); b'a'; 4096]?;
-    let format = ScanFormat::parse(rt.alloc(), Profile::One, &text)?;
-    assert_eq!(rt; format.directives().len(), 4096);
-    let text = vec![in rt.alloc(); 0; 4097]?;
-    let long = FormatFault {
-        at: 4096,
-        why: FormatWhy::FormatTooLong,
-    };
-    assert_eq!(rt; fault(rt.alloc(), &text), Some(long));
-    let text = padded(rt.alloc(), b"%[", b'a', 4094, b"")?;
-    let open = FormatFault {
-        at: 1,
-        why: FormatWhy::OpenSet,
-    };
-    assert_eq!(rt; fault(rt.alloc(), &text), Some(open));
-    Ok(())
+    let alloc = rt.alloc();
+    is(&counts(alloc, b"a", 4096)?, &(4096, 0), &"4096 bytes")?;
+    is_fault_of(alloc, b"\0", 4097, 4096, FormatWhy::FormatTooLong)?;
+    let text = padded(alloc, b"%[", b'a', 4094, b"")?;
+    is_fault(alloc, &text, 1, FormatWhy::OpenSet)
 }
 
 #[test]
 fn takes_32_destinations(rt: HostRuntime) -> Result<(), Fail> {
-    let text = repeated(rt.alloc(), b"%d", 32)?;
-    let format = ScanFormat::parse(rt.alloc(), Profile::One, &text)?;
-    assert_eq!(rt; format.destinations(), 32);
-    let text = repeated(rt.alloc(), b"%d", 33)?;
-    let beyond = FormatFault {
-        at: 64,
-        why: FormatWhy::TooManyDestinations,
-    };
-    assert_eq!(rt; fault(rt.alloc(), &text), Some(beyond));
-    Ok(())
+    let alloc = rt.alloc();
+    is(&counts(alloc, b"%d", 32)?, &(32, 32), &"32 destinations")?;
+    is_fault_of(alloc, b"%d", 33, 64, FormatWhy::TooManyDestinations)
 }
 
 /// Formats with the sum of the widths of their texts.
-const WIDTH_SUMS: [(&[u8], Option<u32>); 8] = [
+static WIDTH_SUMS: [(&[u8], Option<u32>); 8] = [
     (b"", Some(0)),
     (b"%3d,%*s", Some(0)),
     (b"%c%3s%5[a]", Some(9)),
@@ -324,20 +324,22 @@ const WIDTH_SUMS: [(&[u8], Option<u32>); 8] = [
     (b"%2$4s%1$c", Some(5)),
 ];
 
+fn has_width_sum(alloc: Global, text: &[u8], wanted: &Option<u32>) -> Result<(), Fail> {
+    let format = ScanFormat::parse(alloc, Profile::One, text)?;
+    is(&format.width_sum(), wanted, &text)
+}
+
 #[test]
 fn sums_widths(rt: HostRuntime) -> Result<(), Fail> {
-    for (text, wanted) in WIDTH_SUMS {
-        let format = ScanFormat::parse(rt.alloc(), Profile::One, text)?;
-        is(&format.width_sum(), &wanted, &text)?;
+    for (text, wanted) in &WIDTH_SUMS {
+        has_width_sum(rt.alloc(), text, wanted)?;
     }
     let text = repeated(rt.alloc(), b"%65535s", 32)?;
-    let format = ScanFormat::parse(rt.alloc(), Profile::One, &text)?;
-    assert_eq!(rt; format.width_sum(), Some(2097120));
-    Ok(())
+    has_width_sum(rt.alloc(), &text, &Some(2097120))
 }
 
 /// Formats, numbers of directives, and their texts as they stand there.
-const DIRECTIVE_TEXTS: [(&[u8], u16, Option<&[u8]>); 12] = [
+static DIRECTIVE_TEXTS: [(&[u8], u16, Option<&[u8]>); 12] = [
     (b"%d", 0, None),
     (b"%d", 1, Some(b"%d")),
     (b"%d", 2, None),
@@ -354,10 +356,10 @@ const DIRECTIVE_TEXTS: [(&[u8], u16, Option<&[u8]>); 12] = [
 
 #[test]
 fn tells_texts_of_directives(rt: HostRuntime) -> Result<(), Fail> {
-    for (text, number, wanted) in DIRECTIVE_TEXTS {
-        let found = directive_text(Profile::One, text, number);
-        is(&found, &wanted, &(text, number))?;
+    for row in &DIRECTIVE_TEXTS {
+        let (text, number, wanted) = row;
+        is(&directive_text(Profile::One, text, *number), wanted, row)?;
     }
-    assert_eq!(rt; directive_text(Profile::Two, b"%b,%x", 1), Some(&b"%b"[..]));
-    Ok(())
+    let binary = directive_text(Profile::Two, b"%b,%x", 1);
+    is(&binary, &Some(b"%b".as_slice()), &"%b,%x")
 }

@@ -18,7 +18,8 @@ fn sink_fails_after_four_bytes(rt: HostRuntime) -> Result<(), Fail> {
     let steps = [WriteStep::Accept(4), WriteStep::Fail];
     let mut sink = ScriptSink::new(rt.alloc(), &steps);
     let printed = fprint(&mut sink, &format, &[Value::I32(12), Value::I32(345)]);
-    is(&printed, &Err(PrintFault::Sink { written: 4 }), &"%d,%d")?;
+    let fault = PrintFault::Sink { written: 4 };
+    is(&printed, &Err(fault), &"%d,%d")?;
     is(&sink.bytes(), &&b"12,3"[..], &"%d,%d")
 }
 
@@ -113,20 +114,23 @@ fn writers_are_sinks(rt: HostRuntime) -> Result<(), Fail> {
     is(&list.into_writer().as_slice(), &&b"-12"[..], &-12)
 }
 
+/// The most bytes that a writer takes at once, and how often it is called for a mebibyte.
+static PIECES: [(usize, u64); 5] = [
+    (1048576, 1),
+    (1048575, 2),
+    (4096, 256),
+    (1000, 1049),
+    (100, 10486),
+];
+
 /// A text of a mebibyte goes in one piece to a writer that takes it, and in as many as another one asks for.
 #[test]
 fn long_texts_go_in_pieces(rt: HostRuntime) -> Result<(), Fail> {
     let mut text = Vec::with_capacity(rt.alloc(), 1048576)?;
     text.resize(1048576, b'a')?;
-    for (most, writes) in [
-        (1048576usize, 1u64),
-        (1048575, 2),
-        (4096, 256),
-        (1000, 1049),
-        (100, 10486),
-    ] {
-        let found = written(rt.alloc(), Manner::Narrow(most), &text)?;
-        is(&found, &(Ok(1048576), 1048576, writes), &most)?;
+    for (most, writes) in &PIECES {
+        let found = written(rt.alloc(), Manner::Narrow(*most), &text)?;
+        is(&found, &(Ok(1048576), 1048576, *writes), most)?;
     }
     Ok(())
 }

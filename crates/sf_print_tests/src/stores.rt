@@ -27,7 +27,7 @@ fn script<S: Store>(store: &mut S) -> Result<usize, Fail>
 }
 
 /// What the slots then have.
-const KEPT: [(u8, Option<Value<'static>>); 7] = [
+static KEPT: [(u8, Option<Value<'static>>); 7] = [
     (0, None),
     (1, Some(Value::Text(b"abc"))),
     (2, Some(Value::I64(-9))),
@@ -38,10 +38,27 @@ const KEPT: [(u8, Option<Value<'static>>); 7] = [
 ];
 
 fn is_kept<S: Store>(store: &S) -> Result<(), Fail> {
-    for (slot, value) in KEPT {
-        is(&store.value(slot), &value, &slot)?;
+    for (slot, value) in &KEPT {
+        is(&store.value(*slot), value, slot)?;
     }
     Ok(())
+}
+
+/// The script over a heap store that was used before.
+fn heap_answers(store: &mut HeapStore) -> Result<(), Fail> {
+    store.clear();
+    is(&(store.room() >= 9), &true, &"the heap's room")?;
+    is(&script(store)?, &2, &"the heap")?;
+    is_kept(store)
+}
+
+/// The script over a fixed store that was used before.
+fn fixed_answers(store: &mut FixedStore<9, 5>) -> Result<(), Fail> {
+    store.clear();
+    is(&store.room(), &9, &"nine bytes")?;
+    is(&script(store)?, &2, &"nine bytes")?;
+    is_kept(store)?;
+    is(&store.room(), &4, &"nine bytes with five in use")
 }
 
 #[test]
@@ -49,35 +66,42 @@ fn stores_answer_alike(rt: HostRuntime) -> Result<(), Fail> {
     let mut heap = HeapStore::new(rt.alloc(), 9)?;
     let mut fixed = FixedStore::<9, 5>::new();
     for _ in 0..2 {
-        heap.clear();
-        assert!(rt; heap.room() >= 9);
-        assert_eq!(rt; script(&mut heap)?, 2);
-        is_kept(&heap)?;
-        fixed.clear();
-        assert_eq!(rt; fixed.room(), 9);
-        assert_eq!(rt; script(&mut fixed)?, 2);
-        is_kept(&fixed)?;
-        assert_eq!(rt; fixed.room(), 4);
+        heap_answers(&mut heap)?;
+        fixed_answers(&mut fixed)?;
     }
     Ok(())
 }
 
 #[test]
-fn a_fixed_store_is_full_at_its_capacity(rt: HostRuntime) {
+fn a_fixed_store_is_full_at_its_capacity() -> Result<(), Fail> {
     let mut store = FixedStore::<3, 1>::new();
     store.open_text(1);
-    assert!(rt; store.push_all(b"abcd").is_err() && store.room() == 3);
-    assert_eq!(rt; push_each(&mut store, b"abcd"), 3);
-    assert!(rt; store.push(b'd').is_err() && store.room() == 0);
+    is(&store.push_all(b"abcd").is_err(), &true, &"four bytes")?;
+    is(&store.room(), &3, &"four bytes")?;
+    is(&push_each(&mut store, b"abcd"), &3, &"byte by byte")?;
+    is(&store.push(b'd').is_err(), &true, &"the fourth")?;
+    is(&store.room(), &0, &"the fourth")?;
     store.close_text();
-    assert_eq!(rt; store.value(1), Some(Value::Text(b"abc")));
+    is(&store.value(1), &Some(Value::Text(b"abc")), &"the text")
 }
 
 #[test]
-fn a_store_without_bytes_keeps_numbers(rt: HostRuntime) {
+fn a_store_without_bytes_keeps_numbers() -> Result<(), Fail> {
     let mut store = FixedStore::<0, 1>::new();
-    store.set(1, Value::U64(18446744073709551615));
-    assert!(rt; store.room() == 0 && store.value(1) == Some(Value::U64(18446744073709551615)));
+    let number = Value::U64(18446744073709551615);
+    store.set(1, number);
+    is(&store.room(), &0, &"room")?;
+    is(&store.value(1), &Some(number), &"slot 1")
+}
+
+/// The slot has a text of a hundred thousand bytes, which begins and ends so.
+fn is_long_text(store: &HeapStore, slot: u8, start: &[u8], end: &[u8]) -> Result<(), Fail> {
+    let Some(Value::Text(text)) = store.value(slot) else {
+        return Err(Fail::new("the text is lost"));
+    };
+    is(&text.len(), &100000, &"bytes")?;
+    is(&text.starts_with(start), &true, &start)?;
+    is(&text.ends_with(end), &true, &end)
 }
 
 /// `rt try --test --fail-alloc N` refuses each growth in turn, for N from 2 on: the push that it hits changes nothing, and
@@ -89,16 +113,12 @@ fn a_text_grows_by_bytes(rt: HostRuntime) -> Result<(), Fail> {
     for pushed in 0..100000usize {
         let b = if pushed % 2 == 0 { b'a' } else { b'b' };
         if store.push(b).is_err() {
-            assert_eq!(rt; store.room(), 0);
+            is(&store.room(), &0, &pushed)?;
             store.push(b)?;
         }
     }
     store.close_text();
-    let Some(Value::Text(text)) = store.value(32) else {
-        return Err(Fail::new("the text is lost"));
-    };
-    assert!(rt; text.len() == 100000 && text.starts_with(b"abab") && text.ends_with(b"ab"));
-    Ok(())
+    is_long_text(&store, 32, b"abab", b"ab")
 }
 
 /// The same by whole pieces.
@@ -110,17 +130,13 @@ fn a_text_grows_by_pieces(rt: HostRuntime) -> Result<(), Fail> {
     for _ in 0..10000 {
         let room = store.room();
         if store.push_all(b"0123456789").is_err() {
-            assert_eq!(rt; store.room(), room);
+            is(&store.room(), &room, &"a refused piece")?;
             store.push_all(b"0123456789")?;
         }
     }
     store.close_text();
-    assert_eq!(rt; store.value(1), Some(Value::I8(-1)));
-    let Some(Value::Text(text)) = store.value(2) else {
-        return Err(Fail::new("the text is lost"));
-    };
-    assert!(rt; text.len() == 100000 && text.starts_with(b"01234567890") && text.ends_with(b"9"));
-    Ok(())
+    is(&store.value(1), &Some(Value::I8(-1)), &"slot 1")?;
+    is_long_text(&store, 2, b"01234567890", b"9")
 }
 
 /// Slots that are given in no order: numbers and texts by turns, one text taken away again.
@@ -148,7 +164,7 @@ fn scattered<S: Store>(store: &mut S) -> Result<(), Fail>
 }
 
 /// What the slots then have.
-const SCATTERED: [(u8, Option<Value<'static>>); 7] = [
+static SCATTERED: [(u8, Option<Value<'static>>); 7] = [
     (0, None),
     (1, Some(Value::Text(b"one"))),
     (2, Some(Value::U64(2))),
@@ -158,20 +174,24 @@ const SCATTERED: [(u8, Option<Value<'static>>); 7] = [
     (6, None),
 ];
 
-#[test]
-fn slots_in_no_order(rt: HostRuntime) -> Result<(), Fail> {
-    let mut heap = HeapStore::new(rt.alloc(), 0)?;
-    scattered(&mut heap)?;
-    let mut fixed = FixedStore::<11, 5>::new();
-    scattered(&mut fixed)?;
-    let mut seven = SevenCalls(FixedStore::new());
-    scattered(&mut seven)?;
-    for (slot, value) in SCATTERED {
-        is(&heap.value(slot), &value, &slot)?;
-        is(&fixed.value(slot), &value, &slot)?;
-        is(&seven.value(slot), &value, &slot)?;
+fn are_scattered<S: Store>(store: &S) -> Result<(), Fail> {
+    for (slot, value) in &SCATTERED {
+        is(&store.value(*slot), value, slot)?;
     }
     Ok(())
+}
+
+#[test]
+fn slots_in_no_order(rt: HostRuntime) -> Result<(), Fail> {
+    let mut fixed = FixedStore::<11, 5>::new();
+    scattered(&mut fixed)?;
+    are_scattered(&fixed)?;
+    let mut seven = SevenCalls(FixedStore::new());
+    scattered(&mut seven)?;
+    are_scattered(&seven)?;
+    let mut heap = HeapStore::new(rt.alloc(), 0)?;
+    scattered(&mut heap)?;
+    are_scattered(&heap)
 }
 
 /// A store that has the seven calls of a store, and no more.
@@ -212,18 +232,24 @@ impl Store for SevenCalls {
     }
 }
 
-#[test]
-fn seven_calls_make_a_store(rt: HostRuntime) -> Result<(), Fail> {
+/// The script over a new store of seven calls.
+fn seven_calls_keep() -> Result<(), Fail> {
     let mut store = SevenCalls(FixedStore::new());
-    assert_eq!(rt; script(&mut store)?, 2);
+    is(&script(&mut store)?, &2, &"seven calls")?;
     is_kept(&store)?;
-    assert_eq!(rt; store.room(), 4);
+    is(&store.room(), &4, &"seven calls")
+}
+
+#[test]
+fn seven_calls_make_a_store() -> Result<(), Fail> {
+    seven_calls_keep()?;
     let mut store = SevenCalls(FixedStore::new());
     store.open_text(3);
-    assert!(rt; store.push_all(b"0123456789").is_err() && store.room() == 9);
+    is(&store.push_all(b"0123456789").is_err(), &true, &"ten bytes")?;
+    is(&store.room(), &9, &"ten bytes")?;
     store.push_all(b"012345678")?;
-    assert_eq!(rt; store.room(), 0);
+    is(&store.room(), &0, &"nine bytes")?;
     store.close_text();
-    assert_eq!(rt; store.value(3), Some(Value::Text(b"012345678")));
-    Ok(())
+    let wanted = Some(Value::Text(b"012345678"));
+    is(&store.value(3), &wanted, &"nine bytes")
 }

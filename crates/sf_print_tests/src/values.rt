@@ -4,7 +4,7 @@ use sf_rows::is;
 use std::fmt::Debug;
 use std::test::Fail;
 
-const WHITE_SPACE: [(u8, bool); 9] = [
+static WHITE_SPACE: [(u8, bool); 9] = [
     (8, false),
     (9, true),
     (10, true),
@@ -18,13 +18,13 @@ const WHITE_SPACE: [(u8, bool); 9] = [
 
 #[test]
 fn white_space_is_told(rt: HostRuntime) -> Result<(), Fail> {
-    for (b, want) in WHITE_SPACE {
+    for &(b, want) in &WHITE_SPACE {
         is(&is_space(b), &want, &b)?;
     }
     Ok(())
 }
 
-const DIGITS: [(u8, u8, Option<u8>); 14] = [
+static DIGITS: [(u8, u8, Option<u8>); 14] = [
     (b'/', 10, None),
     (b'0', 2, Some(0)),
     (b'1', 2, Some(1)),
@@ -43,14 +43,15 @@ const DIGITS: [(u8, u8, Option<u8>); 14] = [
 
 #[test]
 fn digits_have_values(rt: HostRuntime) -> Result<(), Fail> {
-    for (b, base, want) in DIGITS {
-        assert!(rt; base <= 16);
-        is(&digit_value(b, base), &want, &(b, base))?;
+    for row in &DIGITS {
+        let (b, base, want) = row;
+        assert!(rt; *base <= 16);
+        is(&digit_value(*b, *base), want, row)?;
     }
     Ok(())
 }
 
-const MEMBERS: [(u8, bool); 5] = [
+static MEMBERS: [(u8, bool); 5] = [
     (0, true),
     (1, false),
     (b'-', true),
@@ -61,18 +62,18 @@ const MEMBERS: [(u8, bool); 5] = [
 #[test]
 fn sets_have_members(rt: HostRuntime) -> Result<(), Fail> {
     let mut set = ByteSet::empty();
-    assert!(rt; !set.contains(0));
+    is(&set.contains(0), &false, &"the empty set")?;
     set.insert(0);
     set.insert(b'-');
     set.insert(255);
     set.insert(255);
-    for (b, want) in MEMBERS {
+    for &(b, want) in &MEMBERS {
         is(&set.contains(b), &want, &b)?;
     }
     Ok(())
 }
 
-const RANGES: [(u8, u8, u16, u8, bool); 15] = [
+static RANGES: [(u8, u8, u16, u8, bool); 15] = [
     (b'a', b'z', 26, b'a', true),
     (b'a', b'z', 26, b'z', true),
     (b'a', b'z', 26, b'`', false),
@@ -92,31 +93,39 @@ const RANGES: [(u8, u8, u16, u8, bool); 15] = [
 
 #[test]
 fn ranges_have_members(rt: HostRuntime) -> Result<(), Fail> {
-    for (lo, hi, count, b, want) in RANGES {
-        assert!(rt; lo <= hi);
+    for row in &RANGES {
+        let (lo, hi, count, b, want) = row;
+        assert!(rt; *lo <= *hi);
         let mut set = ByteSet::empty();
-        set.insert_range(lo, hi);
-        is(&set.count(), &count, &(lo, hi))?;
-        is(&set.contains(b), &want, &(lo, hi, b))?;
+        set.insert_range(*lo, *hi);
+        is(&set.count(), count, row)?;
+        is(&set.contains(*b), want, row)?;
     }
     Ok(())
 }
 
+/// The set has this many members, and has these bytes or lacks them.
+fn has(set: &ByteSet, count: u16, bytes: &[(u8, bool)]) -> Result<(), Fail> {
+    is(&set.count(), &count, &"members")?;
+    for (b, want) in bytes {
+        is(&set.contains(*b), want, b)?;
+    }
+    Ok(())
+}
+
+static KEPT: [(u8, bool); 4] = [(b'_', true), (b'0', true), (b':', true), (b';', false)];
+
 #[test]
-fn a_range_keeps_members(rt: HostRuntime) {
+fn a_range_keeps_members() -> Result<(), Fail> {
     let mut set = ByteSet::empty();
     set.insert(b'_');
     set.insert(b'5');
     set.insert_range(b'0', b'9');
     set.insert_range(b'8', b':');
-    assert_eq!(rt; set.count(), 12);
-    assert!(rt; set.contains(b'_'));
-    assert!(rt; set.contains(b'0'));
-    assert!(rt; set.contains(b':'));
-    assert!(rt; !set.contains(b';'));
+    has(&set, 12, &KEPT)
 }
 
-const OTHERS: [(u8, bool); 5] = [
+static OTHERS: [(u8, bool); 5] = [
     (0, true),
     (b'\t', true),
     (b'\n', false),
@@ -125,25 +134,20 @@ const OTHERS: [(u8, bool); 5] = [
 ];
 
 #[test]
-fn complements_have_the_others(rt: HostRuntime) -> Result<(), Fail> {
+fn complements_have_the_others() -> Result<(), Fail> {
     let mut set = ByteSet::empty();
     set.complement();
-    assert_eq!(rt; set.count(), 256);
-    assert!(rt; set.contains(0) && set.contains(255));
+    has(&set, 256, &[(0, true), (255, true)])?;
     set.complement();
-    assert_eq!(rt; set.count(), 0);
+    has(&set, 0, &[])?;
     set.insert(b'\n');
     set.complement();
-    assert_eq!(rt; set.count(), 255);
-    for (b, want) in OTHERS {
-        is(&set.contains(b), &want, &b)?;
-    }
+    has(&set, 255, &OTHERS)?;
     set.insert(b'\n');
-    assert_eq!(rt; set.count(), 256);
-    Ok(())
+    has(&set, 256, &[])
 }
 
-const PAIRS: [(u8, u8, u8, u8, bool, bool); 11] = [
+static PAIRS: [(u8, u8, u8, u8, bool, bool); 11] = [
     (b'0', b'9', b'2', b'4', true, false),
     (b'2', b'4', b'0', b'9', true, true),
     (b'0', b'9', b'0', b'9', true, true),
@@ -159,41 +163,57 @@ const PAIRS: [(u8, u8, u8, u8, bool, bool); 11] = [
 
 #[test]
 fn sets_are_compared(rt: HostRuntime) -> Result<(), Fail> {
-    for (a, b, c, d, meets, subset) in PAIRS {
-        assert!(rt; a <= b && c <= d);
+    for row in &PAIRS {
+        let (a, b, c, d, meets, subset) = row;
+        assert!(rt; *a <= *b);
+        assert!(rt; *c <= *d);
         let mut one = ByteSet::empty();
-        one.insert_range(a, b);
+        one.insert_range(*a, *b);
         let mut other = ByteSet::empty();
-        other.insert_range(c, d);
-        is(&one.meets(&other), &meets, &(a, b, c, d))?;
-        is(&other.meets(&one), &meets, &(c, d, a, b))?;
-        is(&one.subset(&other), &subset, &(a, b, c, d))?;
+        other.insert_range(*c, *d);
+        let found = [one.meets(&other), other.meets(&one), one.subset(&other)];
+        is(&found, &[*meets, *meets, *subset], row)?;
     }
     Ok(())
 }
 
 #[test]
-fn the_empty_set_is_compared(rt: HostRuntime) {
+fn the_empty_set_is_compared() -> Result<(), Fail> {
     let none = ByteSet::empty();
     let mut all = ByteSet::empty();
     all.complement();
-    assert!(rt; !none.meets(&none) && !none.meets(&all) && !all.meets(&none));
-    assert!(rt; none.subset(&none) && none.subset(&all) && !all.subset(&none));
-    assert!(rt; all.meets(&all) && all.subset(&all));
+    let meet = [
+        none.meets(&none),
+        none.meets(&all),
+        all.meets(&none),
+        all.meets(&all),
+    ];
+    is(&meet, &[false, false, false, true], &"meets")?;
+    let subsets = [
+        none.subset(&none),
+        none.subset(&all),
+        all.subset(&none),
+        all.subset(&all),
+    ];
+    is(&subsets, &[true, true, false, true], &"subset")
 }
 
 /// Whether a minus stands there, the magnitude, whether that is too great for a u64, and the integer.
 type Parts<T> = (bool, u64, bool, Option<T>);
 
 fn are_made<T: ScanInt + Debug + Drop + PartialEq>(rows: &[Parts<T>]) -> Result<(), Fail> {
-    for (negative, magnitude, overflowed, want) in rows {
-        let made = T::from_parts(*negative, *magnitude, *overflowed);
-        is(&made, want, &(*negative, *magnitude, *overflowed))?;
+    for row in rows {
+        let (negative, magnitude, overflowed, want) = row;
+        is(
+            &T::from_parts(*negative, *magnitude, *overflowed),
+            want,
+            row,
+        )?;
     }
     Ok(())
 }
 
-const I32_PARTS: [Parts<i32>; 11] = [
+static I32_PARTS: [Parts<i32>; 11] = [
     (false, 0, false, Some(0)),
     (true, 0, false, Some(0)),
     (true, 1, false, Some(-1)),
@@ -213,7 +233,7 @@ fn a_sign_and_a_magnitude_make_an_i32(_rt: HostRuntime) -> Result<(), Fail> {
     is(&i32::kind(), &Kind::I32, &"kind")
 }
 
-const I8_PARTS: [Parts<i8>; 13] = [
+static I8_PARTS: [Parts<i8>; 13] = [
     (false, 127, false, Some(127)),
     (false, 128, false, None),
     (true, 128, false, Some(-128)),
@@ -235,7 +255,7 @@ fn a_sign_and_a_magnitude_make_an_i8(_rt: HostRuntime) -> Result<(), Fail> {
     is(&i8::kind(), &Kind::I8, &"kind")
 }
 
-const I16_PARTS: [Parts<i16>; 13] = [
+static I16_PARTS: [Parts<i16>; 13] = [
     (false, 32767, false, Some(32767)),
     (false, 32768, false, None),
     (true, 32768, false, Some(-32768)),
@@ -257,7 +277,7 @@ fn a_sign_and_a_magnitude_make_an_i16(_rt: HostRuntime) -> Result<(), Fail> {
     is(&i16::kind(), &Kind::I16, &"kind")
 }
 
-const I64_PARTS: [Parts<i64>; 11] = [
+static I64_PARTS: [Parts<i64>; 11] = [
     (false, 9223372036854775807, false, Some(9223372036854775807)),
     (false, 9223372036854775808, false, None),
     (true, 9223372036854775808, false, Some(i64::MIN)),
@@ -277,7 +297,7 @@ fn a_sign_and_a_magnitude_make_an_i64(_rt: HostRuntime) -> Result<(), Fail> {
     is(&i64::kind(), &Kind::I64, &"kind")
 }
 
-const U8_PARTS: [Parts<u8>; 12] = [
+static U8_PARTS: [Parts<u8>; 12] = [
     (false, 0, false, Some(0)),
     (true, 0, false, Some(0)),
     (false, 255, false, Some(255)),
@@ -298,7 +318,7 @@ fn a_sign_and_a_magnitude_make_a_u8(_rt: HostRuntime) -> Result<(), Fail> {
     is(&u8::kind(), &Kind::U8, &"kind")
 }
 
-const U16_PARTS: [Parts<u16>; 12] = [
+static U16_PARTS: [Parts<u16>; 12] = [
     (false, 0, false, Some(0)),
     (true, 0, false, Some(0)),
     (false, 65535, false, Some(65535)),
@@ -319,7 +339,7 @@ fn a_sign_and_a_magnitude_make_a_u16(_rt: HostRuntime) -> Result<(), Fail> {
     is(&u16::kind(), &Kind::U16, &"kind")
 }
 
-const U32_PARTS: [Parts<u32>; 12] = [
+static U32_PARTS: [Parts<u32>; 12] = [
     (false, 0, false, Some(0)),
     (true, 0, false, Some(0)),
     (false, 4294967295, false, Some(4294967295)),
@@ -340,7 +360,7 @@ fn a_sign_and_a_magnitude_make_a_u32(_rt: HostRuntime) -> Result<(), Fail> {
     is(&u32::kind(), &Kind::U32, &"kind")
 }
 
-const U64_PARTS: [Parts<u64>; 8] = [
+static U64_PARTS: [Parts<u64>; 8] = [
     (false, 0, false, Some(0)),
     (true, 0, false, Some(0)),
     (false, u64::MAX, false, Some(u64::MAX)),

@@ -1,16 +1,20 @@
 //! What slots were given, taken as types of Rust.
+use sf_base::HeapStore;
 use sf_format::{Profile, ScanFormat};
 use sf_read::sscan;
 use sf_rows::{LIMIT, is};
+use sf_run::{Report, Scanned};
+use std::alloc::Global;
 use std::test::Fail;
 
-const FORMAT: &[u8] = b"%hhd %hd %d %ld %hhu %hu %u %lu %s";
+/// A scan of a number of each kind, and of a text.
+fn scanned(alloc: Global) -> Result<Scanned<HeapStore>, Fail> {
+    let text = b"%hhd %hd %d %ld %hhu %hu %u %lu %s";
+    let format = ScanFormat::parse(alloc, Profile::One, text)?;
+    Ok(sscan(alloc, b"-1 -2 0 -4 5 6 7 8 nine", &format, LIMIT)?)
+}
 
-#[test]
-fn of_the_kind(rt: HostRuntime) -> Result<(), Fail> {
-    let format = ScanFormat::parse(rt.alloc(), Profile::One, FORMAT)?;
-    let scanned = sscan(rt.alloc(), b"-1 -2 0 -4 5 6 7 8 nine", &format, LIMIT)?;
-    let report = scanned.report();
+fn are_of_the_kind(report: &Report<'_, HeapStore>) -> Result<(), Fail> {
     is(&report.get::<i8>(1), &Some(-1), &1)?;
     is(&report.get::<i16>(2), &Some(-2), &2)?;
     is(&report.get::<i32>(3), &Some(0), &3)?;
@@ -23,15 +27,23 @@ fn of_the_kind(rt: HostRuntime) -> Result<(), Fail> {
 }
 
 #[test]
-fn of_another_kind(rt: HostRuntime) -> Result<(), Fail> {
-    let format = ScanFormat::parse(rt.alloc(), Profile::One, FORMAT)?;
-    let scanned = sscan(rt.alloc(), b"-1 -2 0 -4 5 6 7 8 nine", &format, LIMIT)?;
-    let report = scanned.report();
+fn of_the_kind(rt: HostRuntime) -> Result<(), Fail> {
+    are_of_the_kind(&scanned(rt.alloc())?.report())
+}
+
+fn are_of_another_kind(report: &Report<'_, HeapStore>) -> Result<(), Fail> {
     is(&report.get::<u32>(3), &None, &"an unsigned of 32 bits")?;
     is(&report.get::<i64>(3), &None, &"64 bits")?;
     is(&report.get::<&[u8]>(3), &None, &"a text")?;
     is(&report.get::<i32>(9), &None, &"a number")?;
     is(&report.get::<i32>(0), &None, &"no slot")?;
-    is(&report.get::<i32>(10), &None, &"no such slot")?;
+    is(&report.get::<i32>(10), &None, &"no such slot")
+}
+
+#[test]
+fn of_another_kind(rt: HostRuntime) -> Result<(), Fail> {
+    let scanned = scanned(rt.alloc())?;
+    let report = scanned.report();
+    are_of_another_kind(&report)?;
     is(&scanned.outcome(), &report.outcome(), &"the outcome")
 }

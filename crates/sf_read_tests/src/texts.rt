@@ -3,7 +3,7 @@ use sf_base::{HeapStore, Value};
 use sf_format::{Profile, ScanFormat};
 use sf_read::{Lookahead, SliceSource, fscan_fixed, sscan};
 use sf_rows::{LIMIT, ScanRow, is, scans};
-use sf_run::{Scanned, StartFault, Status};
+use sf_run::{Report, Scanned, StartFault, Status};
 use std::alloc::Global;
 use std::test::Fail;
 
@@ -50,22 +50,26 @@ fn scanned(alloc: Global, format: &[u8], text: &[u8]) -> Result<Scanned<HeapStor
     Ok(sscan(alloc, text, &format, 2147483647)?)
 }
 
+/// The run is Done, and used so many bytes.
+fn is_done(report: &Report<'_, HeapStore>, used: u32) -> Result<(), Fail> {
+    let outcome = report.outcome();
+    is(&outcome.status, &Status::Done, &used)?;
+    is(&outcome.used, &used, &used)
+}
+
+/// The slot has the text.
+fn has_text(report: &Report<'_, HeapStore>, slot: u8, text: &[u8]) -> Result<(), Fail> {
+    let is_text = report.value(slot) == Some(Value::Text(text));
+    is(&is_text, &true, &slot)
+}
+
 #[test]
 fn a_long_text(rt: HostRuntime) -> Result<(), Fail> {
     let text = long_text(rt.alloc(), 100000)?;
     let scanned = scanned(rt.alloc(), b"%s", &text)?;
     let report = scanned.report();
-    let outcome = report.outcome();
-    is(
-        &(outcome.status, outcome.used),
-        &(Status::Done, 100000),
-        &"outcome",
-    )?;
-    is(
-        &(report.value(1) == Some(Value::Text(&text))),
-        &true,
-        &"the text",
-    )
+    is_done(&report, 100000)?;
+    has_text(&report, 1, &text)
 }
 
 /// So many times the piece.
@@ -77,6 +81,15 @@ fn repeated(alloc: Global, piece: &[u8], count: u8) -> Result<Vec<u8>, Fail> {
     Ok(text)
 }
 
+/// The run is Done, and each of the thirty-two slots has the text.
+fn has_texts(report: &Report<'_, HeapStore>, text: &[u8]) -> Result<(), Fail> {
+    is_done(report, 2097120)?;
+    for before in 0..32u8 {
+        has_text(report, before + 1, text)?;
+    }
+    Ok(())
+}
+
 /// The widest texts, as many as a format has.
 #[test]
 fn many_long_texts(rt: HostRuntime) -> Result<(), Fail> {
@@ -84,18 +97,7 @@ fn many_long_texts(rt: HostRuntime) -> Result<(), Fail> {
     let format = repeated(rt.alloc(), b"%65535s", 32)?;
     let wide = repeated(rt.alloc(), &piece, 32)?;
     let scanned = scanned(rt.alloc(), &format, &wide)?;
-    let report = scanned.report();
-    let outcome = report.outcome();
-    is(
-        &(outcome.status, outcome.used),
-        &(Status::Done, 2097120),
-        &"outcome",
-    )?;
-    for before in 0..32u8 {
-        let whole = report.value(before + 1) == Some(Value::Text(&piece));
-        is(&whole, &true, &before)?;
-    }
-    Ok(())
+    has_texts(&scanned.report(), &piece)
 }
 
 /// Why a scan over a store of 64 bytes is refused.

@@ -4,6 +4,7 @@
 
 mod binary_scans;
 mod compare;
+mod errors;
 mod fault_rows;
 mod item_rows;
 mod limited_scans;
@@ -18,6 +19,7 @@ mod text_scans;
 mod told;
 
 pub use compare::{has_values, is};
+pub use errors::{is_error, says};
 pub use fault_rows::{FaultRow, print_faults, scan_faults};
 pub use item_rows::{DecimalRow, Found, ItemRow, Reader, decimals, items};
 pub use named::Named;

@@ -5,7 +5,7 @@ use sf_read::{Lookahead, ReadStep, ScriptSource, SliceSource, Source};
 use sf_run::{Ending, Outcome, Status};
 use sf_tool::{CommandFault, FormatName, ToolFault, run_words, tool};
 use std::alloc::Global;
-use std::fmt::Debug;
+use std::fmt::{Debug, Display};
 use std::process::Abort;
 use std::test::Fail;
 
@@ -21,10 +21,10 @@ struct Row {
 
 /// What a command comes to: its exit status, its output, and what it writes on standard error.
 #[derive(Drop)]
-struct Answer {
-    status: u8,
-    out: ListSink,
-    err: ListSink,
+pub(crate) struct Answer {
+    pub status: u8,
+    pub out: ListSink,
+    pub err: ListSink,
 }
 
 /// What is found is what is wanted; else the place is named.
@@ -41,27 +41,55 @@ pub(crate) fn owned(alloc: Global, words: &[&str]) -> Result<Vec<String>, Fail> 
 }
 
 /// The command of the words, on what the lookahead gives.
-fn answered<S: Source>(
+pub(crate) fn lent<S: Source>(
+    alloc: Global,
+    words: &[String],
+    from: &mut Lookahead<S, 4096>,
+) -> Answer {
+    let mut out = ListSink::new(alloc);
+    let mut err = ListSink::new(alloc);
+    let status = run_words(alloc, words, from, &mut out, &mut err);
+    Answer { status, out, err }
+}
+
+/// The same, of words that are lent.
+pub(crate) fn answered<S: Source>(
     alloc: Global,
     words: &[&str],
     from: &mut Lookahead<S, 4096>,
 ) -> Result<Answer, Fail> {
-    let words = owned(alloc, words)?;
-    let mut out = ListSink::new(alloc);
-    let mut err = ListSink::new(alloc);
-    let status = run_words(alloc, &words, from, &mut out, &mut err);
-    Ok(Answer { status, out, err })
+    Ok(lent(alloc, &owned(alloc, words)?, from))
 }
 
-/// The command of the words, on a script; and how many reads there were.
-fn scripted(alloc: Global, words: &[&str], steps: &[ReadStep<'_>]) -> Result<(Answer, u64), Fail> {
+/// The command of the words, on an input of its own.
+pub(crate) fn given<S: Source>(alloc: Global, words: &[String], from: S) -> Answer {
+    let mut out = ListSink::new(alloc);
+    let mut err = ListSink::new(alloc);
+    let status = tool(alloc, words, from, &mut out, &mut err);
+    Answer { status, out, err }
+}
+
+/// The command of the words, on a script.
+fn scripted(alloc: Global, words: &[&str], steps: &[ReadStep<'_>]) -> Result<Answer, Fail> {
     let mut from = Lookahead::<ScriptSource<'_>, 4096>::new(ScriptSource::new(steps));
-    let answer = answered(alloc, words, &mut from)?;
-    Ok((answer, from.source().reads()))
+    answered(alloc, words, &mut from)
+}
+
+/// The command of the words, which reads nothing.
+pub(crate) fn unread(
+    rt: &(impl Abort + AllocGlobal),
+    words: &[&str],
+    step: ReadStep<'_>,
+) -> Result<Answer, Fail> {
+    let steps = [step];
+    let mut from = Lookahead::<ScriptSource<'_>, 4096>::new(ScriptSource::new(&steps));
+    let answer = answered(rt.alloc(), words, &mut from)?;
+    is(rt, &from.source().reads(), &0, &words);
+    Ok(answer)
 }
 
 /// The answer has this output, this line on standard error and this status.
-fn is_answer(
+pub(crate) fn is_answer(
     rt: &impl Abort,
     answer: &Answer,
     output: &str,
@@ -86,15 +114,13 @@ fn scan_rows(rt: &(impl Abort + AllocGlobal), rows: &[Row]) -> Result<(), Fail> 
 /// Shows the formats of the rows, and reads nothing.
 fn show_rows(rt: &(impl Abort + AllocGlobal), rows: &[Row]) -> Result<(), Fail> {
     for row in rows {
-        let words = ["show", row.format];
-        let (answer, reads) = scripted(rt.alloc(), &words, &[ReadStep::Fail])?;
+        let answer = unread(rt, &["show", row.format], ReadStep::Fail)?;
         is_answer(rt, &answer, row.output, row.line, row.status, &row.format);
-        is(rt, &reads, &0, &row.format);
     }
     Ok(())
 }
 
-const ROWS: [Row; 11] = [
+static ROWS: [Row; 11] = [
     Row {
         format: "%d,%d",
         text: b"12,-7\n3,4\n",
@@ -179,7 +205,7 @@ fn rows(rt: HostRuntime) -> Result<(), Fail> {
     scan_rows(&rt, &ROWS)
 }
 
-const SHOWN_FORMATS: [Row; 4] = [
+static SHOWN_FORMATS: [Row; 4] = [
     Row {
         format: "a %d",
         text: b"a 1",
@@ -215,7 +241,7 @@ fn shown_formats(rt: HostRuntime) -> Result<(), Fail> {
     show_rows(&rt, &SHOWN_FORMATS)
 }
 
-const SHOWN_CONVERSIONS: [Row; 4] = [
+static SHOWN_CONVERSIONS: [Row; 4] = [
     Row {
         format: "%3d,%*s",
         text: b"1,a",
@@ -251,7 +277,7 @@ fn shown_conversions(rt: HostRuntime) -> Result<(), Fail> {
     show_rows(&rt, &SHOWN_CONVERSIONS)
 }
 
-const TEXTS: [Row; 4] = [
+static TEXTS: [Row; 4] = [
     Row {
         format: "%3c",
         text: b"abcdef\n",
@@ -287,7 +313,7 @@ fn texts(rt: HostRuntime) -> Result<(), Fail> {
     scan_rows(&rt, &TEXTS)
 }
 
-const DESTINATIONS: [Row; 6] = [
+static DESTINATIONS: [Row; 6] = [
     Row {
         format: "%n",
         text: b"abc",
@@ -340,16 +366,26 @@ fn destinations(rt: HostRuntime) -> Result<(), Fail> {
 /// A fault, its line and its exit status.
 type Line = (CommandFault, &'static str, u8);
 
+/// The fault is shown as this line.
+pub(crate) fn is_line(
+    rt: &(impl Abort + AllocGlobal),
+    fault: &impl Display,
+    line: &str,
+) -> Result<(), Fail> {
+    let told = format!(in rt.alloc(); "{fault}")?;
+    is(rt, &told.as_str(), &line, &line);
+    Ok(())
+}
+
 fn are_lines(rt: &(impl Abort + AllocGlobal), rows: &[Line]) -> Result<(), Fail> {
-    for &(fault, line, status) in rows {
-        let told = fault.to_string(rt.alloc())?;
-        is(rt, &told.as_str(), &line, &line);
-        is(rt, &fault.status(), &status, &line);
+    for (fault, line, status) in rows {
+        is_line(rt, fault, line)?;
+        is(rt, &fault.status(), status, line);
     }
     Ok(())
 }
 
-const LINES_OF_FORMATS: [Line; 4] = [
+static LINES_OF_FORMATS: [Line; 4] = [
     (
         CommandFault::Format(FormatFault {
             at: 7,
@@ -398,7 +434,7 @@ const TOO_LONG: Outcome = Outcome {
     met: Some(Ending::End),
 };
 
-const LINES_OF_FAULTS: [Line; 10] = [
+static LINES_OF_FAULTS: [Line; 10] = [
     (
         CommandFault::BadEscape {
             name: FormatName::Print,
@@ -450,27 +486,35 @@ fn lines_of_faults(rt: HostRuntime) -> Result<(), Fail> {
     are_lines(&rt, &LINES_OF_FAULTS)
 }
 
-/// The command of the words on `1 2`, where the output and the error output follow scripts: the exit status, and what they took.
-fn failing(
-    alloc: Global,
-    words: &[&str],
-    out: &[WriteStep],
-    err: &[WriteStep],
-) -> Result<(u8, Vec<u8>, Vec<u8>), Fail> {
-    let words = owned(alloc, words)?;
-    let steps = [ReadStep::Give(b"1 2")];
-    let mut out = ScriptSink::new(alloc, out);
-    let mut err = ScriptSink::new(alloc, err);
-    let status = tool(alloc, &words, ScriptSource::new(&steps), &mut out, &mut err);
-    Ok((
-        status,
-        out.bytes().to_vec(alloc)?,
-        err.bytes().to_vec(alloc)?,
-    ))
+/// What the output and the error output take, by scripts.
+#[derive(Drop)]
+pub(crate) struct Failing<'a> {
+    pub out: &'a [WriteStep],
+    pub err: &'a [WriteStep],
+}
+
+impl<'a> Failing<'a> {
+    /// The command of the words then has this exit status, and they took this output and this on standard error.
+    pub(crate) fn answers<S: Source>(
+        &self,
+        rt: &(impl Abort + AllocGlobal),
+        words: &[String],
+        from: S,
+        status: u8,
+        took: [&str; 2],
+    ) {
+        let mut out = ScriptSink::new(rt.alloc(), self.out);
+        let mut err = ScriptSink::new(rt.alloc(), self.err);
+        let answered = tool(rt.alloc(), words, from, &mut out, &mut err);
+        let [output, said] = took;
+        is(rt, &out.bytes(), &output.as_bytes(), &words);
+        is(rt, &err.bytes(), &said.as_bytes(), &words);
+        is(rt, &answered, &status, &words);
+    }
 }
 
 /// Words of each verb that writes, and what the output takes of it before it fails.
-const FAILING: [(&[&str], &str); 4] = [
+static FAILING: [(&[&str], &str); 4] = [
     (&["scan", "%d"], "1"),
     (&["show", "%d"], "1"),
     (&["print", "%d;", "12"], "1"),
@@ -479,17 +523,16 @@ const FAILING: [(&[&str], &str); 4] = [
 
 #[test]
 fn write_faults(rt: HostRuntime) -> Result<(), Fail> {
-    let fails = [WriteStep::Accept(1), WriteStep::Fail];
-    for (words, front) in FAILING {
-        let (status, output, line) = failing(rt.alloc(), words, &fails, &[])?;
-        is(&rt, &status, &3, &words);
-        is(
-            &rt,
-            &line.as_slice(),
-            &b"sf: write fault\n".as_slice(),
-            &words,
-        );
-        is(&rt, &output.as_slice(), &front.as_bytes(), &words);
+    let out = [WriteStep::Accept(1), WriteStep::Fail];
+    let failing = Failing {
+        out: &out,
+        err: &[],
+    };
+    for (words, front) in &FAILING {
+        let words = owned(rt.alloc(), words)?;
+        let steps = [ReadStep::Give(b"1 2")];
+        let took = [*front, "sf: write fault\n"];
+        failing.answers(&rt, &words, ScriptSource::new(&steps), 3, took);
     }
     Ok(())
 }
@@ -497,30 +540,45 @@ fn write_faults(rt: HostRuntime) -> Result<(), Fail> {
 /// A fault of the error output changes no status, and the line isn't begun again.
 #[test]
 fn error_output_fails(rt: HostRuntime) -> Result<(), Fail> {
-    let fails = [WriteStep::Accept(4), WriteStep::Fail];
-    let (status, output, line) = failing(rt.alloc(), &["scan", "%d;"], &[], &fails)?;
-    is(&rt, &status, &1, &"a failed record");
-    is(&rt, &output.is_empty(), &true, &"a failed record");
-    is(
-        &rt,
-        &line.as_slice(),
-        &b"sf: ".as_slice(),
-        &"a failed record",
-    );
+    let err = [WriteStep::Accept(4), WriteStep::Fail];
+    let words = owned(rt.alloc(), &["scan", "%d;"])?;
+    let steps = [ReadStep::Give(b"1 2")];
+    let failing = Failing {
+        out: &[],
+        err: &err,
+    };
+    failing.answers(&rt, &words, ScriptSource::new(&steps), 1, ["", "sf: "]);
     Ok(())
 }
 
 #[test]
 fn read_faults(rt: HostRuntime) -> Result<(), Fail> {
     let steps = [ReadStep::Give(b"1 2"), ReadStep::Fail];
-    let (answer, _) = scripted(rt.alloc(), &["scan", "%d"], &steps)?;
+    let answer = scripted(rt.alloc(), &["scan", "%d"], &steps)?;
     let line = "sf: record 2: read fault\n";
     is_answer(&rt, &answer, "1\n2\n", line, 3, &"a failing read");
     Ok(())
 }
 
+/// The command of the words reads nothing, and whether it writes on its output, and on standard error.
+fn is_told_usage(
+    rt: &(impl Abort + AllocGlobal),
+    words: &[&str],
+    status: u8,
+    writes: [bool; 2],
+) -> Result<(), Fail> {
+    let answer = unread(rt, words, ReadStep::Give(b"1"))?;
+    let found = [
+        !answer.out.bytes().is_empty(),
+        !answer.err.bytes().is_empty(),
+    ];
+    is(rt, &found, &writes, &words);
+    is(rt, &answer.status, &status, &words);
+    Ok(())
+}
+
 /// Words that are no command.
-const USAGES: [&[&str]; 5] = [
+static USAGES: [&[&str]; 5] = [
     &[],
     &["show"],
     &["scan", "%d", "%d"],
@@ -530,27 +588,19 @@ const USAGES: [&[&str]; 5] = [
 
 #[test]
 fn usage(rt: HostRuntime) -> Result<(), Fail> {
-    for words in USAGES {
-        let (answer, reads) = scripted(rt.alloc(), words, &[ReadStep::Give(b"1")])?;
-        is(&rt, &answer.status, &2, &words);
-        is(&rt, &answer.out.bytes().is_empty(), &true, &words);
-        is(&rt, &answer.err.bytes().is_empty(), &false, &words);
-        is(&rt, &reads, &0, &words);
+    for words in &USAGES {
+        is_told_usage(&rt, words, 2, [false, true])?;
     }
     Ok(())
 }
 
 /// Words that ask for help.
-const HELPS: [&[&str]; 3] = [&["--help"], &["help", "scan"], &["scan", "--help"]];
+static HELPS: [&[&str]; 3] = [&["--help"], &["help", "scan"], &["scan", "--help"]];
 
 #[test]
 fn help_is_asked_for(rt: HostRuntime) -> Result<(), Fail> {
-    for words in HELPS {
-        let (answer, reads) = scripted(rt.alloc(), words, &[ReadStep::Give(b"1")])?;
-        is(&rt, &answer.status, &0, &words);
-        is(&rt, &answer.out.bytes().is_empty(), &false, &words);
-        is(&rt, &answer.err.bytes().is_empty(), &true, &words);
-        is(&rt, &reads, &0, &words);
+    for words in &HELPS {
+        is_told_usage(&rt, words, 0, [true, false])?;
     }
     Ok(())
 }
@@ -558,7 +608,16 @@ fn help_is_asked_for(rt: HostRuntime) -> Result<(), Fail> {
 /// Words of the command, the output, the line on standard error, and the exit status.
 type Printed = (&'static [&'static str], &'static str, &'static str, u8);
 
-const PRINTED: [Printed; 8] = [
+/// The commands of the rows, which read nothing.
+fn unread_rows(rt: &(impl Abort + AllocGlobal), rows: &[Printed]) -> Result<(), Fail> {
+    for (words, output, line, status) in rows {
+        let answer = unread(rt, words, ReadStep::Fail)?;
+        is_answer(rt, &answer, output, line, *status, words);
+    }
+    Ok(())
+}
+
+static PRINTED: [Printed; 8] = [
     (&["print", "%+5d|%-5d|", "42", "42"], "  +42|42   |", "", 0),
     (
         &["print", "%08.3d %#06x", "--", "-5", "255"],
@@ -601,15 +660,10 @@ const PRINTED: [Printed; 8] = [
 
 #[test]
 fn printed_values(rt: HostRuntime) -> Result<(), Fail> {
-    for (words, output, line, status) in PRINTED {
-        let (answer, reads) = scripted(rt.alloc(), words, &[ReadStep::Fail])?;
-        is_answer(&rt, &answer, output, line, status, &words);
-        is(&rt, &reads, &0, &words);
-    }
-    Ok(())
+    unread_rows(&rt, &PRINTED)
 }
 
-const ESCAPED: [Row; 5] = [
+static ESCAPED: [Row; 5] = [
     Row {
         format: "%d\\n%s",
         text: b"1\nab",
@@ -656,15 +710,15 @@ fn escapes_in_scan_formats(rt: HostRuntime) -> Result<(), Fail> {
 #[test]
 fn limits(rt: HostRuntime) -> Result<(), Fail> {
     let words = ["scan", "--limit", "3", "%s"];
-    let (answer, _) = scripted(rt.alloc(), &words, &[ReadStep::Give(b"abcd")])?;
+    let answer = scripted(rt.alloc(), &words, &[ReadStep::Give(b"abcd")])?;
     let line = "sf: record 1: too long at 1, used 3, assigned 0\n";
     is_answer(&rt, &answer, "", line, 1, &words);
-    let (answer, _) = scripted(rt.alloc(), &words, &[ReadStep::Give(b"abc")])?;
+    let answer = scripted(rt.alloc(), &words, &[ReadStep::Give(b"abc")])?;
     is_answer(&rt, &answer, "\"abc\"\n", "", 0, &words);
     Ok(())
 }
 
-const CHECKED: [Printed; 10] = [
+static CHECKED: [Printed; 10] = [
     (
         &["check", "%xx", "%4xx"],
         "refused: Q6 RunsOn at 1\n",
@@ -719,16 +773,11 @@ const CHECKED: [Printed; 10] = [
 
 #[test]
 fn pairs_are_checked(rt: HostRuntime) -> Result<(), Fail> {
-    for (words, output, line, status) in CHECKED {
-        let (answer, reads) = scripted(rt.alloc(), words, &[ReadStep::Fail])?;
-        is_answer(&rt, &answer, output, line, status, &words);
-        is(&rt, &reads, &0, &words);
-    }
-    Ok(())
+    unread_rows(&rt, &CHECKED)
 }
 
-/// Words of a copy, its input, and what comes of it.
-type Copied = (
+/// Words, the input, the output, the line on standard error, and the exit status.
+pub(crate) type Ran = (
     &'static [&'static str],
     &'static [u8],
     &'static str,
@@ -736,7 +785,17 @@ type Copied = (
     u8,
 );
 
-const COPIED: [Copied; 7] = [
+/// The commands of the rows, on their inputs.
+pub(crate) fn run_rows(rt: &(impl Abort + AllocGlobal), rows: &[Ran]) -> Result<(), Fail> {
+    for (words, text, output, line, status) in rows {
+        let mut from = Lookahead::<SliceSource<'_>, 4096>::new(SliceSource::new(text));
+        let answer = answered(rt.alloc(), words, &mut from)?;
+        is_answer(rt, &answer, output, line, *status, words);
+    }
+    Ok(())
+}
+
+static COPIED: [Ran; 7] = [
     (
         &["copy", "%d,%s\\n", "%11d,%20s%*1[\\n]"],
         b" +7,ab\n08,c\n",
@@ -784,10 +843,5 @@ const COPIED: [Copied; 7] = [
 
 #[test]
 fn records_are_copied(rt: HostRuntime) -> Result<(), Fail> {
-    for (words, text, output, line, status) in COPIED {
-        let mut from = Lookahead::<SliceSource<'_>, 4096>::new(SliceSource::new(text));
-        let answer = answered(rt.alloc(), words, &mut from)?;
-        is_answer(&rt, &answer, output, line, status, &words);
-    }
-    Ok(())
+    run_rows(&rt, &COPIED)
 }

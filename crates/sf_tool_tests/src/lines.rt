@@ -1,21 +1,12 @@
 //! Rows of the lines of an input: `sf scan --lines`.
-use crate::commands::{is, owned};
-use sf_print::{ListSink, ScriptSink, WriteStep};
+use crate::commands::{Failing, Ran, given, is, is_answer, lent, owned};
+use sf_print::WriteStep;
 use sf_read::{Lookahead, ReadStep, ScriptSource, SliceSource};
-use sf_tool::{run_words, tool};
 use std::alloc::Global;
 use std::test::Fail;
 
-/// A row: words behind `scan --lines`, a text, the output, what is said on standard error, and the status.
-type Row = (
-    &'static [&'static str],
-    &'static [u8],
-    &'static str,
-    &'static str,
-    u8,
-);
-
-const ROWS: [Row; 20] = [
+/// Words behind `scan --lines`, a text, the output, what is said on standard error, and the status.
+static ROWS: [Ran; 20] = [
     (&["%d,%d"], b"1,2\n3,4", "1 2\n3 4\n", "", 0),
     (&["%d"], b"", "", "", 0),
     // the formats are tried in their order
@@ -137,21 +128,16 @@ fn lines_words(alloc: Global, words: &[&str]) -> Result<Vec<String>, Fail> {
 
 #[test]
 fn lines_of_a_text(rt: HostRuntime) -> Result<(), Fail> {
-    let alloc = rt.alloc();
-    for (words, text, output, said, status) in ROWS {
-        let given = lines_words(alloc, words)?;
-        let mut out = ListSink::new(alloc);
-        let mut err = ListSink::new(alloc);
-        let answered = tool(alloc, &given, SliceSource::new(text), &mut out, &mut err);
-        is(&rt, &out.bytes(), &output.as_bytes(), &words);
-        is(&rt, &err.bytes(), &said.as_bytes(), &words);
-        is(&rt, &answered, &status, &words);
+    for (words, text, output, said, status) in &ROWS {
+        let all = lines_words(rt.alloc(), words)?;
+        let answer = given(rt.alloc(), &all, SliceSource::new(text));
+        is_answer(&rt, &answer, output, said, *status, words);
     }
     Ok(())
 }
 
 /// Words whose formats are refused, and the line that says so: the first that is none.
-const REFUSED: [(&[&str], &str); 4] = [
+static REFUSED: [(&[&str], &str); 4] = [
     (
         &["-e", "%d", "-e", "%y"],
         "sf: scan format: F4 UnknownLetter at 1\n",
@@ -173,74 +159,43 @@ const REFUSED: [(&[&str], &str); 4] = [
 /// Nothing is read or written then.
 #[test]
 fn formats_that_are_refused(rt: HostRuntime) -> Result<(), Fail> {
-    let alloc = rt.alloc();
-    for (words, line) in REFUSED {
-        let given = lines_words(alloc, words)?;
-        let mut from = Lookahead::<ScriptSource<'_>, 4096>::new(ScriptSource::new(&[
-            ReadStep::Fail,
-        ]));
-        let mut out = ListSink::new(alloc);
-        let mut err = ListSink::new(alloc);
-        let status = run_words(alloc, &given, &mut from, &mut out, &mut err);
-        is(&rt, &out.bytes(), &b"".as_slice(), &words);
-        is(&rt, &err.bytes(), &line.as_bytes(), &words);
-        is(&rt, &status, &2, &words);
-        is(&rt, &from.source().reads(), &0, &words);
+    for (words, line) in &REFUSED {
+        let all = lines_words(rt.alloc(), words)?;
+        let steps = [ReadStep::Fail];
+        let mut from = Lookahead::<ScriptSource<'_>, 4096>::new(ScriptSource::new(&steps));
+        let answer = lent(rt.alloc(), &all, &mut from);
+        is_answer(&rt, &answer, "", line, 2, words);
+        is(&rt, &from.source().reads(), &0, words);
     }
     Ok(())
 }
 
 #[test]
 fn read_that_fails(rt: HostRuntime) -> Result<(), Fail> {
-    let alloc = rt.alloc();
-    let given = lines_words(alloc, &["--keep-going", "%d"])?;
+    let words = lines_words(rt.alloc(), &["--keep-going", "%d"])?;
     let steps = [ReadStep::Give(b"1\nx\n2"), ReadStep::Fail];
-    let mut out = ListSink::new(alloc);
-    let mut err = ListSink::new(alloc);
-    let status = tool(alloc, &given, ScriptSource::new(&steps), &mut out, &mut err);
+    let answer = given(rt.alloc(), &words, ScriptSource::new(&steps));
     let said = "sf: line 2: matching failure at 1, used 0, assigned 0\nsf: line 3: read fault\n";
-    is(&rt, &out.bytes(), &b"1\n".as_slice(), &"read");
-    is(&rt, &err.bytes(), &said.as_bytes(), &"read");
-    is(&rt, &status, &3, &"read");
+    is_answer(&rt, &answer, "1\n", said, 3, &"read");
     Ok(())
-}
-
-/// The status, the output and what is said, where the output and standard error take no more than these steps say.
-fn failing(
-    alloc: Global,
-    out: &[WriteStep],
-    err: &[WriteStep],
-) -> Result<(u8, Vec<u8>, Vec<u8>), Fail> {
-    let given = lines_words(alloc, &["--keep-going", "%d"])?;
-    let mut out = ScriptSink::new(alloc, out);
-    let mut err = ScriptSink::new(alloc, err);
-    let status = tool(
-        alloc,
-        &given,
-        SliceSource::new(b"x\n12\n3\n"),
-        &mut out,
-        &mut err,
-    );
-    Ok((
-        status,
-        out.bytes().to_vec(alloc)?,
-        err.bytes().to_vec(alloc)?,
-    ))
 }
 
 #[test]
 fn writes_that_fail(rt: HostRuntime) -> Result<(), Fail> {
-    let alloc = rt.alloc();
+    let words = lines_words(rt.alloc(), &["--keep-going", "%d"])?;
+    let text = b"x\n12\n3\n";
     let fails = [WriteStep::Accept(1), WriteStep::Fail];
-    let (status, output, said) = failing(alloc, &fails, &[])?;
-    let lines = "sf: line 1: matching failure at 1, used 0, assigned 0\nsf: write fault\n";
-    is(&rt, &status, &3, &"output");
-    is(&rt, &output.as_slice(), &b"1".as_slice(), &"output");
-    is(&rt, &said.as_slice(), &lines.as_bytes(), &"output");
+    let said = "sf: line 1: matching failure at 1, used 0, assigned 0\nsf: write fault\n";
+    let failing = Failing {
+        out: &fails,
+        err: &[],
+    };
+    failing.answers(&rt, &words, SliceSource::new(text), 3, ["1", said]);
     // a fault of standard error is ignored
-    let (status, output, said) = failing(alloc, &[], &fails)?;
-    is(&rt, &status, &1, &"said");
-    is(&rt, &output.as_slice(), &b"12\n3\n".as_slice(), &"said");
-    is(&rt, &said.as_slice(), &b"s".as_slice(), &"said");
+    let failing = Failing {
+        out: &[],
+        err: &fails,
+    };
+    failing.answers(&rt, &words, SliceSource::new(text), 1, ["12\n3\n", "s"]);
     Ok(())
 }

@@ -83,7 +83,7 @@ const SHORT: Outcome = Outcome {
     met: Some(Ending::End),
 };
 
-const ROWS: [Row; 5] = [
+static ROWS: [Row; 5] = [
     Row {
         format: "%d,%d",
         text: b"12,-7\n3,4\n",
@@ -145,7 +145,7 @@ const TEXT: &[u8] = b"12,-7\n3,4\n";
 const LINES: &[u8] = b"12 -7\n3 4\n";
 
 /// Where a read fails behind so many bytes of TEXT: how many records are written by then, and which run meets it.
-const CUTS: [(u32, u32); 11] = [
+static CUTS: [(u32, u32); 11] = [
     (0, 1),
     (0, 1),
     (0, 1),
@@ -182,14 +182,14 @@ fn read_fails_behind(alloc: Global, at: usize) -> Result<(ToolEnd, ListSink, u64
 
 #[test]
 fn each_read_fails_in_turn(rt: HostRuntime) -> Result<(), Fail> {
-    for (at, (records, number)) in CUTS.into_iter().enumerate() {
+    for (at, (records, number)) in CUTS.iter().enumerate() {
         let (end, out, failures) = read_fails_behind(rt.alloc(), at)?;
         let wanted = ToolEnd {
             status: 3,
-            records,
-            fault: Some(ToolFault::Read { number }),
+            records: *records,
+            fault: Some(ToolFault::Read { number: *number }),
         };
-        is(&rt, &out.bytes(), &front(records), &at);
+        is(&rt, &out.bytes(), &front(*records), &at);
         is(&rt, &end, &wanted, &at);
         is(&rt, &failures, &1, &at);
     }
@@ -251,8 +251,8 @@ fn a_failing_read_behind_a_record(rt: HostRuntime) -> Result<(), Fail> {
         records: 1,
         fault: Some(ToolFault::Read { number: 1 }),
     };
-    assert!(rt; out.bytes() == b"12\n".as_slice());
-    assert_eq!(rt; end, wanted);
+    is(&rt, &out.bytes(), &b"12\n".as_slice(), &"output");
+    is(&rt, &end, &wanted, &"end");
     Ok(())
 }
 
@@ -266,9 +266,9 @@ fn looped(alloc: Global, text: &[u8]) -> Result<(ToolEnd, Vec<u8>), Fail> {
 #[test]
 fn the_rest_stays_unread(rt: HostRuntime) -> Result<(), Fail> {
     let (end, held) = looped(rt.alloc(), b"1 2 x 3")?;
-    assert_eq!(rt; end.records, 2);
-    assert_eq!(rt; end.status, 1);
-    assert!(rt; held.as_slice() == b"x 3".as_slice());
+    is(&rt, &end.records, &2, &"records");
+    is(&rt, &end.status, &1, &"status");
+    is(&rt, &held.as_slice(), &b"x 3".as_slice(), &"held");
     Ok(())
 }
 
@@ -304,10 +304,13 @@ fn limited(alloc: Global) -> Result<(ToolEnd, ListSink), Fail> {
 #[test]
 fn a_limit_ends_endless_blanks(rt: HostRuntime) -> Result<(), Fail> {
     let (end, out) = limited(rt.alloc())?;
-    let outcome = BLANKS_TOO_LONG;
-    assert!(rt; end.fault == Some(ToolFault::Failed { number: 1, outcome }));
-    assert_eq!(rt; end.status, 1);
-    assert!(rt; out.bytes().is_empty());
+    let fault = ToolFault::Failed {
+        number: 1,
+        outcome: BLANKS_TOO_LONG,
+    };
+    is(&rt, &end.fault, &Some(fault), &"fault");
+    is(&rt, &end.status, &1, &"status");
+    is(&rt, &out.bytes().is_empty(), &true, &"output");
     Ok(())
 }
 
@@ -333,7 +336,8 @@ fn an_interrupted_read_has_failed(rt: HostRuntime) -> Result<(), Fail> {
         reads: 0,
     }));
     let (end, _) = listed(rt.alloc(), &mut from, "%d")?;
-    assert!(rt; end.fault == Some(ToolFault::Read { number: 1 }));
-    assert_eq!(rt; end.records, 0);
+    let fault = ToolFault::Read { number: 1 };
+    is(&rt, &end.fault, &Some(fault), &"fault");
+    is(&rt, &end.records, &0, &"records");
     Ok(())
 }

@@ -1,14 +1,11 @@
 //! Rows of places: what `--explain` says of where a run stopped.
-use crate::commands::{is, owned};
+use crate::commands::{answered, given, is, is_answer, owned};
 use sf_places::Place;
-use sf_print::ListSink;
 use sf_read::{Lookahead, ReadStep, ScriptSource, SliceSource};
-use sf_tool::{run_words, tool};
-use std::alloc::Global;
 use std::test::Fail;
 
 /// Bytes, and the line and column behind them.
-const PLACES: [(&[u8], u64, u64); 7] = [
+static PLACES: [(&[u8], u64, u64); 7] = [
     (b"", 1, 1),
     (b"a", 1, 2),
     (b"\n", 2, 1),
@@ -20,22 +17,14 @@ const PLACES: [(&[u8], u64, u64); 7] = [
 
 #[test]
 fn places_behind_bytes(rt: HostRuntime) -> Result<(), Fail> {
-    for (bytes, line, column) in PLACES {
-        is(
-            &rt,
-            &Place::first().behind(bytes),
-            &Place { line, column },
-            &bytes,
-        );
+    for &(bytes, line, column) in &PLACES {
+        let wanted = Place { line, column };
+        is(&rt, &Place::first().behind(bytes), &wanted, &bytes);
     }
     // the place behind a front and then the rest
     let halfway = Place::first().behind(b"a\nbc");
-    is(
-        &rt,
-        &halfway.behind(b"d\n"),
-        &Place { line: 3, column: 1 },
-        &"halfway",
-    );
+    let wanted = Place { line: 3, column: 1 };
+    is(&rt, &halfway.behind(b"d\n"), &wanted, &"halfway");
     Ok(())
 }
 
@@ -54,17 +43,8 @@ fn places_stay(rt: HostRuntime) -> Result<(), Fail> {
     Ok(())
 }
 
-/// What the command of the words writes on standard error.
-fn said(alloc: Global, words: &[&str], steps: &[ReadStep<'_>]) -> Result<(u8, ListSink), Fail> {
-    let words = owned(alloc, words)?;
-    let mut out = ListSink::new(alloc);
-    let mut err = ListSink::new(alloc);
-    let status = tool(alloc, &words, ScriptSource::new(steps), &mut out, &mut err);
-    Ok((status, err))
-}
-
 /// Words, what each read gives, and what is said.
-const SAID: [(&[&str], &[ReadStep<'_>], &str, u8); 6] = [
+static SAID: [(&[&str], &[ReadStep<'_>], &str, u8); 6] = [
     (
         &["scan", "--explain", "%d"],
         &[
@@ -109,10 +89,11 @@ const SAID: [(&[&str], &[ReadStep<'_>], &str, u8); 6] = [
 
 #[test]
 fn places_are_said(rt: HostRuntime) -> Result<(), Fail> {
-    for (words, steps, wanted, status) in SAID {
-        let (answered, err) = said(rt.alloc(), words, steps)?;
-        is(&rt, &err.bytes(), &wanted.as_bytes(), &words);
-        is(&rt, &answered, &status, &words);
+    for (words, steps, wanted, status) in &SAID {
+        let all = owned(rt.alloc(), words)?;
+        let answer = given(rt.alloc(), &all, ScriptSource::new(steps));
+        is(&rt, &answer.err.bytes(), &wanted.as_bytes(), words);
+        is(&rt, &answer.status, status, words);
     }
     Ok(())
 }
@@ -120,21 +101,18 @@ fn places_are_said(rt: HostRuntime) -> Result<(), Fail> {
 /// A command that is lent a lookahead doesn't know what was used of the input before.
 #[test]
 fn lent_input_has_no_place(rt: HostRuntime) -> Result<(), Fail> {
-    let alloc = rt.alloc();
-    let words = owned(alloc, &["scan", "--explain", "%d"])?;
+    let words = ["scan", "--explain", "%d"];
     let mut from = Lookahead::<SliceSource<'_>, 4096>::new(SliceSource::new(b"x"));
-    let mut out = ListSink::new(alloc);
-    let mut err = ListSink::new(alloc);
-    let status = run_words(alloc, &words, &mut from, &mut out, &mut err);
+    let answer = answered(rt.alloc(), &words, &mut from)?;
     let wanted =
         "sf: record 1: matching failure at 1, used 0, assigned 0\n  directive 1: \"%d\", d i32 width - slot 1\n  there stood \"x\"\n";
-    is(&rt, &err.bytes(), &wanted.as_bytes(), &"lent");
-    is(&rt, &status, &1, &"lent");
+    is(&rt, &answer.err.bytes(), &wanted.as_bytes(), &"lent");
+    is(&rt, &answer.status, &1, &"lent");
     Ok(())
 }
 
 /// The forms of a record: that of each name.
-const FORMS: [(&str, &str); 3] = [
+static FORMS: [(&str, &str); 3] = [
     ("plain", "1 \"a\\x09\\\"b\"\n"),
     ("tsv", "1\ta\\t\"b\n"),
     ("json", "[1,\"a\\t\\\"b\"]\n"),
@@ -142,16 +120,11 @@ const FORMS: [(&str, &str); 3] = [
 
 #[test]
 fn forms_of_a_record(rt: HostRuntime) -> Result<(), Fail> {
-    let alloc = rt.alloc();
-    for (form, wanted) in FORMS {
-        let words = owned(alloc, &["scan", "--output", form, "%d %[^\n]%*1[\n]"])?;
-        let mut out = ListSink::new(alloc);
-        let mut err = ListSink::new(alloc);
-        let text = SliceSource::new(b"1 a\t\"b\n");
-        let status = tool(alloc, &words, text, &mut out, &mut err);
-        is(&rt, &out.bytes(), &wanted.as_bytes(), &form);
-        is(&rt, &err.bytes(), &b"".as_slice(), &form);
-        is(&rt, &status, &0, &form);
+    for (form, wanted) in &FORMS {
+        let words = ["scan", "--output", form, "%d %[^\n]%*1[\n]"];
+        let all = owned(rt.alloc(), &words)?;
+        let answer = given(rt.alloc(), &all, SliceSource::new(b"1 a\t\"b\n"));
+        is_answer(&rt, &answer, wanted, "", 0, form);
     }
     Ok(())
 }

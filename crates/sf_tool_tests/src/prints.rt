@@ -1,5 +1,5 @@
 //! Words printed as C prints their values, words that are refused, and sinks that fail.
-use crate::commands::{is, owned};
+use crate::commands::{is, is_line, owned};
 use sf_base::Kind;
 use sf_format::{PrintFormat, Profile};
 use sf_print::{ListSink, ScriptSink, Sink, StdSink, WriteStep};
@@ -76,7 +76,7 @@ fn refuse_rows(rt: &(impl Abort + AllocGlobal), rows: &[Refusal]) -> Result<(), 
     Ok(())
 }
 
-const FLAGS: [Row; 10] = [
+static FLAGS: [Row; 10] = [
     Row {
         format: b"%+5d|%-5d|",
         words: &["42", "42"],
@@ -134,7 +134,7 @@ fn flags_widths_and_precisions(rt: HostRuntime) -> Result<(), Fail> {
     print_rows(&rt, &FLAGS)
 }
 
-const NUMBERS: [Row; 6] = [
+static NUMBERS: [Row; 6] = [
     Row {
         format: b"%d %d %d %d",
         words: &["-0", "+7", "007", "-00000007"],
@@ -193,7 +193,7 @@ fn words_of_numbers(rt: HostRuntime) -> Result<(), Fail> {
 }
 
 /// A format of one number, and the first number beyond each end of its kind.
-const BEYOND: [(&[u8], &str, &str, &str); 8] = [
+static BEYOND: [(&[u8], &str, &str, &str); 8] = [
     (b"%hhd", "-129", "128", "sf: value 1: expected i8"),
     (b"%hd", "-32769", "32768", "sf: value 1: expected i16"),
     (
@@ -220,23 +220,33 @@ const BEYOND: [(&[u8], &str, &str, &str); 8] = [
 ];
 
 /// A number beyond both ends of every kind, by its sign.
-const LONG: [&str; 2] = [
+static LONG: [&str; 2] = [
     "-99999999999999999999999999999999999999999999999999999999999999999999999999999999999999999999",
     "99999999999999999999999999999999999999999999999999999999999999999999999999999999999999999999",
 ];
 
+fn is_beyond(
+    rt: &(impl Abort + AllocGlobal),
+    format: &[u8],
+    word: &str,
+    line: &str,
+) -> Result<(), Fail> {
+    let (told, _, _) = refused(rt.alloc(), format, &[word])?;
+    is(rt, &told.as_str(), &line, &word);
+    Ok(())
+}
+
 #[test]
 fn numbers_beyond_their_kinds(rt: HostRuntime) -> Result<(), Fail> {
-    for (format, below, above, line) in BEYOND {
+    for &(format, below, above, line) in &BEYOND {
         for word in [below, above, LONG[0], LONG[1]] {
-            let (told, _, _) = refused(rt.alloc(), format, &[word])?;
-            is(&rt, &told.as_str(), &line, &word);
+            is_beyond(&rt, format, word, line)?;
         }
     }
     Ok(())
 }
 
-const NO_NUMBERS: [&str; 13] = [
+static NO_NUMBERS: [&str; 13] = [
     "", "+", "-", " 1", "1 ", "--1", "+-1", "1-", "0x10", "1.0", "1_000", "a", "\u{661}",
 ];
 
@@ -246,7 +256,7 @@ fn words_of_no_number(rt: HostRuntime) -> Result<(), Fail> {
         at: 1,
         kind: Kind::I32,
     };
-    for word in NO_NUMBERS {
+    for &word in &NO_NUMBERS {
         let (printed, out) = listed(rt.alloc(), b"%d", &[word])?;
         is(&rt, &printed, &Err(fault), &word);
         is(&rt, &out.bytes().is_empty(), &true, &word);
@@ -254,7 +264,7 @@ fn words_of_no_number(rt: HostRuntime) -> Result<(), Fail> {
     Ok(())
 }
 
-const ESCAPES: [Row; 4] = [
+static ESCAPES: [Row; 4] = [
     Row {
         format: b"%s",
         words: &["a\\x00b"],
@@ -282,7 +292,7 @@ fn escapes_in_values(rt: HostRuntime) -> Result<(), Fail> {
     print_rows(&rt, &ESCAPES)
 }
 
-const BAD_ESCAPES: [Refusal; 9] = [
+static BAD_ESCAPES: [Refusal; 9] = [
     Refusal {
         format: b"%s",
         words: &["ab\\q"],
@@ -335,7 +345,7 @@ fn bad_escapes_in_values(rt: HostRuntime) -> Result<(), Fail> {
     refuse_rows(&rt, &BAD_ESCAPES)
 }
 
-const REFUSALS: [Refusal; 10] = [
+static REFUSALS: [Refusal; 10] = [
     Refusal {
         format: b"%c",
         words: &[""],
@@ -394,29 +404,28 @@ fn words_are_refused_in_order(rt: HostRuntime) -> Result<(), Fail> {
 }
 
 /// What printing two numbers by `%d,%d` into a sink that follows a script answers, and what the sink took.
-fn scripted(
-    alloc: Global,
+fn is_printed_by(
+    rt: &(impl Abort + AllocGlobal),
     steps: &[WriteStep],
-) -> Result<(Result<(), ArgumentFault>, Vec<u8>), Fail> {
-    let mut out = ScriptSink::new(alloc, steps);
-    let printed = print(alloc, b"%d,%d", &["12", "345"], &mut out)?;
-    Ok((printed, out.bytes().to_vec(alloc)?))
+    wanted: Result<(), ArgumentFault>,
+    taken: &[u8],
+) -> Result<(), Fail> {
+    let mut out = ScriptSink::new(rt.alloc(), steps);
+    let printed = print(rt.alloc(), b"%d,%d", &["12", "345"], &mut out)?;
+    is(rt, &printed, &wanted, &taken);
+    is(rt, &out.bytes(), &taken, &taken);
+    Ok(())
 }
 
 #[test]
 fn sink_fails(rt: HostRuntime) -> Result<(), Fail> {
     let steps = [WriteStep::Accept(4), WriteStep::Fail];
-    let (printed, output) = scripted(rt.alloc(), &steps)?;
-    assert_eq!(rt; printed, Err(ArgumentFault::Write));
-    assert_eq!(rt; ArgumentFault::Write.status(), 3);
-    assert!(rt; output.as_slice() == b"12,3".as_slice());
-    let (printed, output) = scripted(rt.alloc(), &[])?;
-    assert_eq!(rt; printed, Ok(()));
-    assert!(rt; output.as_slice() == b"12,345".as_slice());
-    Ok(())
+    is_printed_by(&rt, &steps, Err(ArgumentFault::Write), b"12,3")?;
+    is(&rt, &ArgumentFault::Write.status(), &3, &"status");
+    is_printed_by(&rt, &[], Ok(()), b"12,345")
 }
 
-const OTHER_LINES: [(ArgumentFault, &str, u8); 3] = [
+static OTHER_LINES: [(ArgumentFault, &str, u8); 3] = [
     (ArgumentFault::TooLong, "sf: text too long", 2),
     (ArgumentFault::Write, "sf: write fault", 3),
     (ArgumentFault::Memory, "sf: out of memory", 4),
@@ -424,10 +433,9 @@ const OTHER_LINES: [(ArgumentFault, &str, u8); 3] = [
 
 #[test]
 fn other_lines(rt: HostRuntime) -> Result<(), Fail> {
-    for (fault, line, status) in OTHER_LINES {
-        let told = format!(in rt.alloc(); "{fault}")?;
-        is(&rt, &told.as_str(), &line, &line);
-        is(&rt, &fault.status(), &status, &line);
+    for (fault, line, status) in &OTHER_LINES {
+        is_line(&rt, fault, line)?;
+        is(&rt, &fault.status(), status, line);
     }
     Ok(())
 }
@@ -437,7 +445,8 @@ fn writers_are_printed_to(rt: HostRuntime) -> Result<(), Fail> {
     let mut bytes = Vec::<u8>::new(rt.alloc());
     bytes.push(b'>')?;
     let mut out = StdSink::new(&mut bytes);
-    assert_eq!(rt; print(rt.alloc(), b"%d;", &["12"], &mut out)?, Ok(()));
-    assert_eq!(rt; bytes.as_slice(), b">12;".as_slice());
+    let printed = print(rt.alloc(), b"%d;", &["12"], &mut out)?;
+    is(&rt, &printed, &Ok(()), &"%d;");
+    is(&rt, &bytes.as_slice(), &b">12;".as_slice(), &"%d;");
     Ok(())
 }

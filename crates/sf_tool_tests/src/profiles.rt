@@ -1,20 +1,8 @@
 //! Commands of both profiles.
-use crate::commands::{is, owned};
-use sf_print::ListSink;
-use sf_read::{Lookahead, SliceSource};
-use sf_tool::run_words;
+use crate::commands::{Ran, run_rows};
 use std::test::Fail;
 
-/// Words, the input, the output, the line on standard error, and the status.
-type Row = (
-    &'static [&'static str],
-    &'static [u8],
-    &'static str,
-    &'static str,
-    u8,
-);
-
-const ROWS: [Row; 9] = [
+static ROWS: [Ran; 9] = [
     (
         &["show", "--profile", "2", "%b"],
         b"",
@@ -76,16 +64,5 @@ const ROWS: [Row; 9] = [
 
 #[test]
 fn commands_of_both_profiles(rt: HostRuntime) -> Result<(), Fail> {
-    let alloc = rt.alloc();
-    for (words, input, output, line, status) in ROWS {
-        let given = owned(alloc, words)?;
-        let mut from = Lookahead::<SliceSource<'_>, 4096>::new(SliceSource::new(input));
-        let mut out = ListSink::new(alloc);
-        let mut err = ListSink::new(alloc);
-        let answered = run_words(alloc, &given, &mut from, &mut out, &mut err);
-        is(&rt, &out.bytes(), &output.as_bytes(), &words);
-        is(&rt, &err.bytes(), &line.as_bytes(), &words);
-        is(&rt, &answered, &status, &words);
-    }
-    Ok(())
+    run_rows(&rt, &ROWS)
 }
