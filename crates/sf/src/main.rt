@@ -1,8 +1,10 @@
 //! The program `sf`.
 #![tactic(auto)]
 
+mod output;
 mod telling;
 
+use crate::output::Output;
 use crate::telling::{Behind, Shared};
 use sf_print::StdSink;
 use sf_read::StdSource;
@@ -10,12 +12,8 @@ use sf_tool::{CommandFault, read_words, tool};
 use std::alloc::Global;
 use std::cell::RefCell;
 use std::env;
-use std::io::{self, BufWriter, ErrorKind, IsTerminal};
+use std::io::{self, ErrorKind, IsTerminal};
 use std::process::ExitCode;
-
-/// How many bytes of output are written at once where nobody waits for them. A writer without room hands each write on
-/// at once.
-const OUTPUT_BYTES: usize = 8192;
 
 /// The exit status of words that are refused.
 const USAGE: u8 = 2;
@@ -55,15 +53,15 @@ fn main(rt: HostRuntime) -> ExitCode {
         Ok(words) => words,
         Err(_) => return stopped(&rt, CommandFault::Memory),
     };
-    let room = if is_awaited(&rt, alloc, &words) {
-        0
+    let opened = if is_awaited(&rt, alloc, &words) {
+        Output::at_once(alloc, rt.stdout())
     } else {
-        OUTPUT_BYTES
+        Output::in_blocks(alloc, rt.stdout())
     };
-    let Ok(writer) = BufWriter::with_capacity(alloc, room, rt.stdout()) else {
+    let Ok(output) = opened else {
         return stopped(&rt, CommandFault::Memory);
     };
-    let output = RefCell::new(writer);
+    let output = RefCell::new(output);
     let mut out = Shared::new(&output);
     let mut err = StdSink::new(Behind::new(&output, rt.stderr()));
     let from = StdSource::new(rt.stdin());

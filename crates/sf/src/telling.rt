@@ -1,62 +1,21 @@
 //! The output, and the error output, whose texts come behind what was written to the output before.
-ghost use Rattle.std.specs.Prelude.{◌<◌, length, IfOk};
-ghost use Rattle.std.specs.Io.{WritesAtMost};
-
+use crate::output::Output;
 use sf_print::{Sink, SinkFault};
 use std::cell::RefCell;
-use std::io::{self, BufWriter, ErrorKind, Write};
+use std::io::{self, ErrorKind, Write};
 
 /// The line of a failed write, which is told once.
 const WRITE_FAULT: &[u8] = b"sf: write fault\n";
 
-/// What the output takes of the bytes: some, unless there are none.
-#[inline(always)]
-fn taken<W: Write + Drop>(output: &mut BufWriter<W>, bytes: &[u8]) -> Result<usize, SinkFault>
-    ensures most { WritesAtMost result bytes.now }
-    ensures some { 0 < length bytes.now → IfOk result (λ n. 0 < n) }
-{
-    match output.write(bytes) {
-        Ok(count) if count > 0 || bytes.is_empty() => Ok(count),
-        _ => Err(SinkFault),
-    }
-}
-
-/// As `taken`, where what is held back may have to be written before.
-#[inline(never)]
-fn taken_behind<W: Write + Drop>(
-    output: &mut BufWriter<W>,
-    bytes: &[u8],
-) -> Result<usize, SinkFault>
-    ensures most { WritesAtMost result bytes.now }
-    ensures some { 0 < length bytes.now → IfOk result (λ n. 0 < n) }
-{
-    taken(output, bytes)
-}
-
-/// As `taken`. Where there is room, nothing is called.
-#[inline(always)]
-fn taken_or_held<W: Write + Drop>(
-    output: &mut BufWriter<W>,
-    bytes: &[u8],
-) -> Result<usize, SinkFault>
-    ensures most { WritesAtMost result bytes.now }
-    ensures some { 0 < length bytes.now → IfOk result (λ n. 0 < n) }
-{
-    if bytes.len() < output.capacity() - output.buffer().len() {
-        return taken(output, bytes);
-    }
-    taken_behind(output, bytes)
-}
-
 /// The output, whose buffer the error output flushes.
 #[derive(Drop)]
 pub(crate) struct Shared<'a, W: Write + Drop> {
-    output: &'a RefCell<BufWriter<W>>,
+    output: &'a RefCell<Output<W>>,
     failures: u64,
 }
 
 impl<'a, W: Write + Drop> Shared<'a, W> {
-    pub(crate) fn new(output: &'a RefCell<BufWriter<W>>) -> Shared<'a, W> {
+    pub(crate) fn new(output: &'a RefCell<Output<W>>) -> Shared<'a, W> {
         Shared {
             output,
             failures: 0,
@@ -74,7 +33,7 @@ impl<W: Write + Drop> Sink for Shared<'_, W> {
     #[inline(always)]
     fn write(&mut self, bytes: &[u8]) -> Result<usize, SinkFault> {
         let taken = match self.output.try_borrow_mut() {
-            Ok(mut output) => taken_or_held(&mut output, bytes),
+            Ok(mut output) => output.take(bytes),
             Err(_) => Err(SinkFault),
         };
         if taken.is_err() {
@@ -85,7 +44,7 @@ impl<W: Write + Drop> Sink for Shared<'_, W> {
 }
 
 /// Writes what the output holds back.
-fn flush<W: Write + Drop>(output: &RefCell<BufWriter<W>>) -> io::Result<()> {
+fn flush<W: Write + Drop>(output: &RefCell<Output<W>>) -> io::Result<()> {
     match output.try_borrow_mut() {
         Ok(mut output) => output.flush(),
         Err(_) => Err(io::Error::from(ErrorKind::Other)),
@@ -95,7 +54,7 @@ fn flush<W: Write + Drop>(output: &RefCell<BufWriter<W>>) -> io::Result<()> {
 /// The error output. Each text that it is handed is written at once and whole, behind what the output holds back.
 #[derive(Drop)]
 pub(crate) struct Behind<'a, W: Write + Drop, E: Write + Drop> {
-    output: &'a RefCell<BufWriter<W>>,
+    output: &'a RefCell<Output<W>>,
     errors: E,
     /// Whether a flush of the output failed.
     unflushed: bool,
@@ -104,7 +63,7 @@ pub(crate) struct Behind<'a, W: Write + Drop, E: Write + Drop> {
 }
 
 impl<'a, W: Write + Drop, E: Write + Drop> Behind<'a, W, E> {
-    pub(crate) fn new(output: &'a RefCell<BufWriter<W>>, errors: E) -> Behind<'a, W, E> {
+    pub(crate) fn new(output: &'a RefCell<Output<W>>, errors: E) -> Behind<'a, W, E> {
         Behind {
             output,
             errors,

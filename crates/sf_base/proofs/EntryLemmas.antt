@@ -7,7 +7,7 @@ use Rattle.std.proofs.lemmas.Bool.{or_cases, eqb-true, eqb-false, eq-eqb, ne_eqb
 use Rattle.std.proofs.lemmas.List.{map-append, length-map, take-take, take-append-drop}
 use Rattle.std.proofs.lemmas.List.Folds.{list_any-append}
 use Rattle.std.proofs.lemmas.Slice.{between_is, between_to_end}
-use Rattle.std.proofs.Math.Seq.{take-length, take-append_seam, drop-append_seam}
+use Rattle.std.proofs.Math.Seq.{take-length, take-append-add, take-append_seam, drop-append_seam}
 use Rattle.std.proofs.lemmas.List.Elements.{All-nil, All-head, All-tail, All-push, All-weaker}
 use Rattle.std.proofs.lemmas.Map.Keys.{IsDistinct-push}
 use Rattle.std.proofs.lemmas.Map.Steps.{length-le_from_distinct_below}
@@ -188,3 +188,8 @@ IsSound-put slots es closed len len' opened text slot sound none more is_slot ab
     } in
     rw (none_opened text opened none)
     (IsSound-push slots es closed len' len' (Some slot) None (record { slot = slot; cell = cell.Text closed len' }) longer held (omega arith) is_slot absent (held, omega arith) refl)
+
+-- of more bytes that were appended at once, the first n stay
+pub front_moved : (all piece : List ℕ) (n more end : ℕ) → n ≤ more → end ≡ length all + n → take end (all ++ take more piece) ≡ all ++ take n piece
+front_moved all piece n more end fewer is_end =
+    rw (is_end, take-append-add all (take more piece) n, take-take n more piece fewer) refl

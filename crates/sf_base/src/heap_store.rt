@@ -1,5 +1,5 @@
 //! A store that grows.
-ghost use Rattle.std.specs.Prelude.{◌≡◌, ◌+◌, ◌<◌, ◌≤◌, ◌++◌, length, vec_len, vec_capacity, IfOk, OnErr, is_ok, if◌then◌else◌};
+ghost use Rattle.std.specs.Prelude.{◌≡◌, ◌+◌, ◌<◌, ◌≤◌, ◌++◌, length, take, vec_len, vec_capacity, IfOk, OnErr, is_ok, if◌then◌else◌};
 ghost use Rattle.sf_base.specs.Kept.{buffer_of, nothing_kept};
 
 use crate::entries::{Cell, Entry, find_shown, number_of};
@@ -7,6 +7,9 @@ use crate::store::{Store, StoreFull};
 use crate::{Number, Shown, Value};
 use std::alloc::{AllocError, Global};
 use std::marker::Model;
+
+/// How many bytes of a piece are moved at once, those of a short text and what stands behind them: by a constant it takes no call.
+const MOVED: usize = 16;
 
 /// A store on the heap.
 #[derive(Debug, Drop)]
@@ -40,7 +43,8 @@ impl HeapStore {
         ensures { IfOk result (λ s. s ≡ nothing_kept reserve) }
     {
         let entries = Vec::with_capacity(alloc, 32)?;
-        let bytes = Vec::with_capacity(alloc, reserve as usize)?;
+        let behind = if reserve == 0 { 0 } else { MOVED };
+        let bytes = Vec::with_capacity(alloc, reserve as usize + behind)?;
         Ok(HeapStore {
             entries,
             bytes,
@@ -61,20 +65,32 @@ impl HeapStore {
     }
 }
 
-/// Appends all of the bytes, or none; `sure` tells how many fit for sure.
+/// Appends the first `count` bytes of the piece, or none; `sure` tells how many fit for sure.
 #[inline(always)]
-fn append(bytes: &mut Vec<u8>, sure: &mut usize, more: &[u8]) -> Result<(), StoreFull>
+fn append(
+    bytes: &mut Vec<u8>,
+    sure: &mut usize,
+    piece: &[u8],
+    count: usize,
+) -> Result<(), StoreFull>
+    requires within { count ≤ length piece.now }
     requires held { vec_len bytes.old ≤ sure.old }
     requires fits { sure.old ≤ vec_capacity bytes.old }
-    ensures items { bytes.new.items ≡ (if is_ok result then bytes.old.items ++ more.now else bytes.old.items) }
-    ensures len { vec_len bytes.new ≡ (if is_ok result then vec_len bytes.old + length more.now else vec_len bytes.old) }
+    ensures items { bytes.new.items ≡ (if is_ok result then bytes.old.items ++ take count piece.now else bytes.old.items) }
+    ensures len { vec_len bytes.new ≡ (if is_ok result then vec_len bytes.old + count else vec_len bytes.old) }
     ensures sure { sure.old ≤ sure.new }
     ensures same { OnErr result (sure.new ≡ sure.old) }
     ensures held { vec_len bytes.new ≤ sure.new }
     ensures fits { sure.new ≤ vec_capacity bytes.new }
-    ensures full { OnErr result (sure.old < vec_len bytes.old + length more.now) }
+    ensures full { OnErr result (sure.old < vec_len bytes.old + count) }
 {
-    if bytes.extend_from_slice(more).is_err() {
+    let end = bytes.len() + count;
+    if count <= MOVED && MOVED <= piece.len() && MOVED <= bytes.capacity() - bytes.len() {
+        if bytes.extend_from_slice(&piece[..MOVED]).is_err() {
+            return Err(StoreFull);
+        }
+        bytes.truncate(end);
+    } else if bytes.extend_from_slice(&piece[..count]).is_err() {
         return Err(StoreFull);
     }
     if *sure < bytes.len() {
@@ -107,7 +123,7 @@ impl Store for HeapStore {
     }
 
     fn push_all(&mut self, bytes: &[u8]) -> Result<(), StoreFull> {
-        append(&mut self.bytes, &mut self.sure, bytes)
+        append(&mut self.bytes, &mut self.sure, bytes, bytes.len())
     }
 
     fn close_text(&mut self) {
@@ -144,9 +160,9 @@ impl Store for HeapStore {
         self.entries.push_reserved(Entry { slot, cell });
     }
 
-    fn put_text(&mut self, slot: u8, bytes: &[u8]) -> Result<(), StoreFull> {
+    fn put_text(&mut self, slot: u8, piece: &[u8], count: usize) -> Result<(), StoreFull> {
         let from = self.closed;
-        append(&mut self.bytes, &mut self.sure, bytes)?;
+        append(&mut self.bytes, &mut self.sure, piece, count)?;
         let to = self.bytes.len();
         let cell = Cell::Text { from, to };
         self.entries.push_reserved(Entry { slot, cell });

@@ -1,5 +1,6 @@
 pub mod Appending
 pub mod Around
+pub mod EndsCopied
 pub mod Digits
 pub mod FourDigits
 pub mod Plainness

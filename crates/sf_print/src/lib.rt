@@ -1,6 +1,7 @@
 //! Printed texts over any sink.
 #![tactic(auto)]
 
+mod copies;
 mod decimal;
 mod fault;
 mod handing;
@@ -19,6 +20,7 @@ mod std_sink;
 mod text;
 mod visible;
 
+pub use copies::copy_over;
 pub use decimal::{push_number, write_number};
 pub use fault::PrintFault;
 pub use judging::value_of_slot;

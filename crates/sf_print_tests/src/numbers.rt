@@ -91,9 +91,9 @@ fn is_second_refused<S: Store>(store: &mut S) -> Result<bool, Fail>
         return Err(Fail::new("-7 is a number of 16 bits"));
     };
     store.set_number(2, number);
-    store.put_text(1, b"abc")?;
+    store.put_text(1, b"abcd", 3)?;
     let room = store.room();
-    let refused = store.put_text(3, b"0123456789").is_err();
+    let refused = store.put_text(3, b"0123456789", 10).is_err();
     if refused {
         is(&store.room(), &room, &"a refused text")?;
     }

@@ -4,6 +4,7 @@ ghost use Rattle.std.specs.List.{flat_map, prefix_len};
 ghost use Rattle.sf_records.specs.Quotes.{hex_digit, escaped, is_plain, quoted};
 ghost use lib.Lanes.{mask_l, chunk};
 
+use sf_print::copy_over;
 use std::alloc::AllocError;
 use std::simd::prelude::*;
 
@@ -107,35 +108,6 @@ fn push_long(output: &mut Vec<u8>, bytes: &[u8]) -> Result<(), AllocError>
     Ok(())
 }
 
-/// Copies the first and the last bytes, so many each, over a part of a buffer: all bytes, where there are at most twice as
-/// many. By a constant it takes no call.
-#[inline(always)]
-fn copy_ends(bytes: &[u8], width: usize, buf: &mut [u8], at: usize)
-    requires width { (width ≤ length bytes.now) × (length bytes.now ≤ width + width) }
-    requires room { at + length bytes.now ≤ length buf.old }
-    ensures { buf.new ≡ take at buf.old ++ (bytes.now ++ drop (at + length bytes.now) buf.old) }
-{
-    let (len, end) = (bytes.len(), at + bytes.len());
-    buf[at..at + width].copy_from_slice(&bytes[..width]);
-    buf[end - width..end].copy_from_slice(&bytes[len - width..]);
-}
-
-/// Copies at most sixteen bytes over a part of a buffer.
-#[inline(always)]
-fn copy_short(bytes: &[u8], buf: &mut [u8], at: usize)
-    requires short { length bytes.now ≤ 16 }
-    requires room { at + length bytes.now ≤ length buf.old }
-    ensures { buf.new ≡ take at buf.old ++ (bytes.now ++ drop (at + length bytes.now) buf.old) }
-{
-    match bytes.len() {
-        0 => {}
-        1 => copy_ends(bytes, 1, buf, at),
-        2..=3 => copy_ends(bytes, 2, buf, at),
-        4..=7 => copy_ends(bytes, 4, buf, at),
-        _ => copy_ends(bytes, 8, buf, at),
-    }
-}
-
 /// Whether the first and the last bytes, so many each, are plain.
 #[inline(always)]
 fn are_ends_plain(bytes: &[u8], width: usize) -> bool
@@ -182,18 +154,6 @@ fn are_plain(bytes: &[u8]) -> bool
     is_long_plain(bytes)
 }
 
-/// Copies bytes over a part of a buffer.
-#[inline(always)]
-fn copy_over(bytes: &[u8], buf: &mut [u8], at: usize)
-    requires { at + length bytes.now ≤ length buf.old }
-    ensures { buf.new ≡ take at buf.old ++ (bytes.now ++ drop (at + length bytes.now) buf.old) }
-{
-    if bytes.len() <= LANES {
-        return copy_short(bytes, buf, at);
-    }
-    buf[at..at + bytes.len()].copy_from_slice(bytes);
-}
-
 /// Writes the bytes between quotes from a place on, and answers where they end. None where there is no room, or they
 /// aren't all plain.
 #[inline(always)]
@@ -223,7 +183,7 @@ fn push_short(output: &mut Vec<u8>, bytes: &[u8]) -> Result<(), AllocError>
 {
     let start = output.len() + 1;
     output.extend_from_slice(&QUOTES_AND_ROOM)?;
-    copy_short(bytes, output, start);
+    copy_over(bytes, output, start);
     output.truncate(start + bytes.len() + 1);
     Ok(())
 }

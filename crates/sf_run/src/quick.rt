@@ -91,8 +91,7 @@ fn give(store: &mut HeapStore, ended: Ended, piece: &[u8]) -> Option<bool>
         }
         Finished::Closes { slot } => {
             let (_, rest) = piece.split_at(ended.before);
-            let (item, _) = rest.split_at(ended.item);
-            match store.put_text(slot, item) {
+            match store.put_text(slot, rest, ended.item) {
                 Ok(()) => Some(true),
                 Err(_) => None,
             }

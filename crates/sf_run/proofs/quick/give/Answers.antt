@@ -1,4 +1,4 @@
-use Rattle.std.proofs.Common.{true, List, ℕ, take, drop, sym, ap, subst, ◌∙◌}
+use Rattle.std.proofs.Common.{true, List, ℕ, take, drop, sym, ap, subst}
 use Rattle.sf_base.specs.Data.{Bytes}
 use Rattle.sf_run.specs.declared.directive.Finished.{Finished}
 use Rattle.sf_run.specs.Phases.{end_of}
@@ -14,5 +14,5 @@ returns-in-Ok-clause-gives c =
     let old = c.args.store.now in
     let new = c.put_text.new.self in
     subst (λ (f : Finished). GivesTo (end_of (take e.item (drop e.before c.args.piece.now)) f) true old new) (sym c.in-Closes.is)
-    (subst (λ (y : List ℕ). GivesTo (Stores slot (Bytes y)) true old new) (c.split_at-in-Closes.ensures.front ∙ ap (take e.item) c.split_at.ensures.back)
-    (text_given slot c.split_at-in-Closes.result.0.now new.room old new c.in-Ok.ensures.ok))
+    (subst (λ (y : List ℕ). GivesTo (Stores slot (Bytes y)) true old new) (ap (take e.item) c.split_at.ensures.back)
+    (text_given slot (take e.item c.split_at.result.1.now) new.room old new c.in-Ok.ensures.ok))

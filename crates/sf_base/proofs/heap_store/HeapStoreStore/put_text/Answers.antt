@@ -1,4 +1,5 @@
 use Rattle.std.proofs.Common.{◌≡◌, ◌∙◌, ◌≤◌, ◌++◌, take, drop, length, arith, length-append}
+use Rattle.std.proofs.lemmas.List.{length-take-le}
 use Rattle.sf_base.specs.Entries.{slots_of, IsAbsent}
 use Rattle.sf_base.proofs.EntryLemmas.{IsAbsent-from_datum, length-lt-entries, IsSound-put, kept_of-put, closed-all}
 use Rattle.sf_base.proofs.heap_store.HeapStoreStore.put_text.Goals as goal
@@ -30,6 +31,8 @@ returns-clause-ok c =
     let s = c.self.inside in
     let none = rw (← c.self.view_is) at c.requires.none_opened in
     let whole = closed-all 32 (slots_of s.entries.items) s.closed s.bytes.len s.opened (drop s.closed s.bytes.items) c.self.invariant.0.under_way none in
-    let len : c.len-to.result ≡ length (s.bytes.items ++ c.args.bytes.now) = omega (arith, c.len-to.ensures, c.in_ok-append.ensures.len, s.bytes.ok.0, length-append s.bytes.items c.args.bytes.now) in
+    let text = take c.args.count c.args.piece.now in
+    let len : c.len-to.result ≡ length (s.bytes.items ++ text) =
+        omega (arith, c.len-to.ensures, c.in_ok-append.ensures.len, s.bytes.ok.0, length-append s.bytes.items text, length-take-le c.args.count c.args.piece.now c.requires.within) in
     rw (c.push_reserved.ensures.items, c.in_ok-append.ensures.items, ← c.self.view_is)
-    (kept_of-put s.entries.items s.bytes.items c.args.bytes.now s.closed c.len-to.result c.args.slot 0 _ s.opened none (whole ∙ s.bytes.ok.0) len c.self.invariant.0.within)
+    (kept_of-put s.entries.items s.bytes.items text s.closed c.len-to.result c.args.slot 0 _ s.opened none (whole ∙ s.bytes.ok.0) len c.self.invariant.0.within)

@@ -1,7 +1,7 @@
 use Rattle.std.proofs.Common.{◌+◌, ◌-◌, length, drop, ◌∙◌, arith}
 use Rattle.std.proofs.lemmas.List.{take_all, length-drop}
-use Rattle.sf_records.proofs.Short.{ends_copied}
-use Rattle.sf_records.proofs.quote.copy_ends.Goals as goal
+use Rattle.sf_print.proofs.EndsCopied.{ends_copied}
+use Rattle.sf_print.proofs.copies.copy_ends.Goals as goal
 
 pub returns : goal.returns
 returns c =
