@@ -77,13 +77,12 @@ impl<W: Write + Drop> Output<W> {
         ensures most { WritesAtMost result bytes.now }
         ensures some { 0 < length bytes.now → IfOk result (λ n. 0 < n) }
     {
-        match self.front.get_mut(self.end..) {
-            Some(room) if bytes.len() < room.len() => {
-                copy_over(bytes, room, 0);
-                self.end += bytes.len();
-                Ok(bytes.len())
-            }
-            _ => self.take_behind(bytes),
+        let room = self.front.len();
+        if self.end <= room && bytes.len() < room - self.end {
+            copy_over(bytes, &mut self.front, self.end);
+            self.end += bytes.len();
+            return Ok(bytes.len());
         }
+        self.take_behind(bytes)
     }
 }

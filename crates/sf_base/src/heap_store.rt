@@ -160,6 +160,7 @@ impl Store for HeapStore {
         self.entries.push_reserved(Entry { slot, cell });
     }
 
+    #[inline(always)]
     fn put_text(&mut self, slot: u8, piece: &[u8], count: usize) -> Result<(), StoreFull> {
         let from = self.closed;
         append(&mut self.bytes, &mut self.sure, piece, count)?;

@@ -22,11 +22,11 @@ fn copy_short(bytes: &[u8], buf: &mut [u8], at: usize)
     ensures { buf.new ≡ take at buf.old ++ (bytes.now ++ drop (at + length bytes.now) buf.old) }
 {
     match bytes.len() {
-        0 => {}
-        1 => copy_ends(bytes, 1, buf, at),
-        2..=3 => copy_ends(bytes, 2, buf, at),
+        8.. => copy_ends(bytes, 8, buf, at),
         4..=7 => copy_ends(bytes, 4, buf, at),
-        _ => copy_ends(bytes, 8, buf, at),
+        2..=3 => copy_ends(bytes, 2, buf, at),
+        1 => copy_ends(bytes, 1, buf, at),
+        0 => {}
     }
 }
 

@@ -33,6 +33,6 @@ returns-clause-ok c =
     let whole = closed-all 32 (slots_of s.entries.items) s.closed s.bytes.len s.opened (drop s.closed s.bytes.items) c.self.invariant.0.under_way none in
     let text = take c.args.count c.args.piece.now in
     let len : c.len-to.result ≡ length (s.bytes.items ++ text) =
-        omega (arith, c.len-to.ensures, c.in_ok-append.ensures.len, s.bytes.ok.0, length-append s.bytes.items text, length-take-le c.args.count c.args.piece.now c.requires.within) in
+    omega (arith, c.len-to.ensures, c.in_ok-append.ensures.len, s.bytes.ok.0, length-append s.bytes.items text, length-take-le c.args.count c.args.piece.now c.requires.within) in
     rw (c.push_reserved.ensures.items, c.in_ok-append.ensures.items, ← c.self.view_is)
     (kept_of-put s.entries.items s.bytes.items text s.closed c.len-to.result c.args.slot 0 _ s.opened none (whole ∙ s.bytes.ok.0) len c.self.invariant.0.within)
