@@ -6,6 +6,7 @@ pub mod Finding
 pub mod Lining
 pub mod Numbers
 pub mod OneAnswer
+pub mod OneSaid
 pub mod Places
 pub mod Placing
 pub mod PrintAnswering

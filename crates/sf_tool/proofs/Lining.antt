@@ -20,7 +20,7 @@ use Rattle.sf_tool.specs.Answers.{Answer}
 use Rattle.sf_tool.specs.Commands.{Counts, is_write_fault}
 use Rattle.sf_tool.specs.Escapes.{Unescapes}
 use Rattle.sf_tool.specs.Explains.{IsMoreOfLine, OfWord, more_of_line}
-use Rattle.sf_tool.specs.Lines.{AreNoScanWords, AreScanWords, IsTelling, SaysLines, SomeIsSaid, answer_by, line_telling}
+use Rattle.sf_tool.specs.Lines.{AreNoScanWords, AreScanWords, IsFirstRefused, IsTelling, SaysLines, SomeIsSaid, answer_by, line_telling}
 use Rattle.sf_tool.proofs.Escaping.{one_reading}
 
 -- ---- words
@@ -28,7 +28,7 @@ use Rattle.sf_tool.proofs.Escaping.{one_reading}
 -- the formats of the words before are read: with those of the words behind they are those of all
 pub record Opened (profile : Profile) (words rest : List (List ℕ)) (formats : List (List Directive)) : Type 0 where
   pub all : (more : List (List Directive)) → AreScanWords profile rest more → AreScanWords profile words (formats ++ more)
-  pub none : (fault : CommandFault) → AreNoScanWords profile rest fault → AreNoScanWords profile words fault
+  pub none : (refused : List ℕ) (fault : CommandFault) → IsFirstRefused profile rest refused fault → IsFirstRefused profile words refused fault
 
 module _ {A : Type 0} (f : A → List ℕ) (profile : Profile) (words : List A) (formats : List (List Directive)) where
   abbrev behind : ℕ → List (List ℕ)
@@ -46,16 +46,16 @@ module _ {A : Type 0} (f : A → List ℕ) (profile : Profile) (words : List A) 
       record {
         all = λ more h. subst (AreScanWords profile (map f words)) (sym (append_assoc formats (ds ∷ []) more))
             (o.all (ds ∷ more) (subst (λ ws. AreScanWords profile ws (ds ∷ more)) (sym next) (stands, h)));
-        none = λ fault h. o.none fault (subst (λ ws. AreNoScanWords profile ws fault) (sym next) (inr (ds, stands, h)));
+        none = λ refused fault h. o.none refused fault (subst (λ ws. IsFirstRefused profile ws refused fault) (sym next) (inr (ds, stands, h)));
       }
 
   pub closed_at : (i : ℕ) (x : A) → i < length words → x ≡ get_or words i x → (fault : CommandFault) → IsNoScanWord profile (f x) fault
-      → Opened profile (map f words) (behind i) formats → AreNoScanWords profile (map f words) fault
-  closed_at i x lt is fault bad o = o.none fault (subst (λ ws. AreNoScanWords profile ws fault) (sym (stands_next i x lt is)) (inl bad))
+      → Opened profile (map f words) (behind i) formats → IsFirstRefused profile (map f words) (f x) fault
+  closed_at i x lt is fault bad o = o.none (f x) fault (subst (λ ws. IsFirstRefused profile ws (f x) fault) (sym (stands_next i x lt is)) (inl (refl, bad)))
 
   -- want of memory is told of a word that is read
   pub refused_at : (i : ℕ) (x : A) → i < length words → x ≡ get_or words i x → (ds : List Directive) → IsScanWord profile (f x) ds
-      → Opened profile (map f words) (behind i) formats → AreNoScanWords profile (map f words) Memory
+      → Opened profile (map f words) (behind i) formats → IsFirstRefused profile (map f words) (f x) Memory
   refused_at i x lt is ds (text, stands, spells) o = closed_at i x lt is Memory (text, stands) o
 
   empty : (xs : List A) (i : ℕ) → length xs ≤ i → drop i xs ≡ []
@@ -103,7 +103,7 @@ module _ (profile : Profile) (quiet : Bool) (text : List ℕ) (ds : List Directi
 pub refused_memory : (profile : Profile) (words : List (List ℕ)) (formats : List (List Directive)) → AreScanWords profile words formats → 0 < length words → AreNoScanWords profile words Memory
 refused_memory profile [] formats are some = absurd (omega (arith, some))
 refused_memory profile (word ∷ words) [] are some = absurd are
-refused_memory profile (word ∷ words) (ds ∷ formats) ((text, stands, spells), are) some = inl (text, stands)
+refused_memory profile (word ∷ words) (ds ∷ formats) ((text, stands, spells), are) some = (word, inl (refl, (text, stands)))
 
 last_behind : {A : Type 0} (x y : A) (xs : List A) (last : A) → slice_get (y ∷ xs) (length (y ∷ xs) - 1) ≡ Some last → slice_get (x ∷ y ∷ xs) (length (x ∷ y ∷ xs) - 1) ≡ Some last
 last_behind x y xs last e =

@@ -14,7 +14,7 @@ use Rattle.sf_messages.specs.declared.fault.CommandFault.TheVariants.{Write, Mem
 use Rattle.sf_tool.specs.Answers.{Answer}
 use Rattle.sf_tool.specs.Commands.{CarriesOut, Counts, form_of, grammar_of}
 use Rattle.sf_tool.specs.Explains.{SaysMore}
-use Rattle.sf_tool.specs.Lines.{ScansLines}
+use Rattle.sf_tool.specs.Lines.{SaysMoreOfLines, ScansLines}
 use Rattle.sf_tool.specs.Saying.{Says}
 use Rattle.sf_messages.specs.Texts.{error_line, status_of}
 
@@ -45,13 +45,16 @@ Declines contents failures said unsaid (Usage text) out out' err err' status =
     (out' ≡ out) × Says said unsaid (string_bytes text) err err' × (status ≡ 2)
 Declines contents failures said unsaid NoMemory out out' err err' status = (out' ≡ out) × Ends said unsaid [] (Err Memory) err err' status
 
--- what an order of lines does: what is said of them comes before the line of the fault, and nothing behind that
+-- what an order of lines does: what is said of them comes before the line of the fault, and notes behind that where a word is
+-- refused
 abbrev pub EndsLines : {S K E : Type 0} → (S → Option (List ℕ)) → (S → ℕ) → (K → Option (List ℕ)) → (K → ℕ) → (E → Option (List ℕ)) → (E → ℕ) → LineOptions → Order
     → Ahead S → Ahead S → K → K → E → E → ℕ → Type 0
 EndsLines {S} {K} {E} to_come read_faults contents write_faults said unsaid options order from from' out out' err err' status =
     (answer : Answer) × ((between : E)
     × ScansLines to_come read_faults contents write_faults said unsaid (grammar_of order.profile) (form_of order.output) options order.explain order.limit (map string_bytes order.texts.items) from from' out out' err between answer
-    × Ends said unsaid [] answer between err' status)
+    × ((notes : List ℕ)
+    × SaysMoreOfLines order.explain (grammar_of order.profile) (map string_bytes order.texts.items) answer notes
+    × Ends said unsaid notes answer between err' status))
 
 -- what an order of records does, or one of lines
 abbrev pub DoesOrder : {S K E : Type 0} → (S → Option (List ℕ)) → (S → ℕ) → (K → Option (List ℕ)) → (K → ℕ) → (E → Option (List ℕ)) → (E → ℕ) → Option LineOptions → Order

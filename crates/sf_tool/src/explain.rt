@@ -1,16 +1,17 @@
 //! What is said behind the line of a fault, where the words ask for more.
-ghost use Rattle.std.specs.Prelude.{◌≡◌, ℕ, List, IfOk, map, option_map, slice_get, string_bytes};
+ghost use Rattle.std.specs.Prelude.{◌≡◌, ℕ, Err, List, IfOk, map, option_map, slice_get, string_bytes};
 ghost use Rattle.sf_format.specs.Language.{Scan};
 ghost use Rattle.sf_format.specs.Grammar.{IsFormat};
 ghost use Rattle.sf_format.specs.Pieces.{Piece, text_of};
 ghost use Rattle.sf_messages.specs.Notes.{escape_notes};
 ghost use Rattle.sf_tool.specs.Commands.{grammar_of};
 ghost use Rattle.sf_tool.specs.Explains.{Explains, OfBoth, OfWord, SaysClean, SaysFailed, SaysFailedText, SaysFormat, SaysMore, SaysPair, SaysVerdict, IsMoreOfLine, shown_at, told_at, told_of_line, word_place};
+ghost use Rattle.sf_tool.specs.Lines.{IsFirstRefused, SaysMoreOfLines, SaysOfLines};
 
 use crate::check::verdict_of;
 use crate::command::grammar_of;
 use crate::escape::{EscapeFault, unescape};
-use crate::formats::read_print;
+use crate::formats::{RefusedWord, read_print};
 use sf_format::{FormatFault, FormatWhy, PrintFormat, Profile, ScanFormat, directive_text};
 use sf_lines::LineFault;
 use sf_messages::{
@@ -77,6 +78,32 @@ fn of_format(alloc: Global, word: Option<&str>, fault: FormatFault) -> Result<Ve
     match word {
         Some(word) => of_format_word(alloc, word, fault),
         None => Ok(Vec::new(alloc)),
+    }
+}
+
+/// What is said of the first of some words that is refused.
+fn of_refused(alloc: Global, refused: RefusedWord<'_>) -> Result<Vec<u8>, AllocError>
+    ensures { IfOk result (λ notes. (profile : Profile) (words : List (List ℕ)) → IsFirstRefused profile words refused.entry.word.now refused.entry.fault
+        → SaysOfLines profile words (Err refused.entry.fault) notes.items) }
+{
+    match refused.fault {
+        CommandFault::BadEscape { at, .. } => escape_notes(alloc, refused.word.as_bytes(), at),
+        CommandFault::Format(fault) => of_format_word(alloc, refused.word, fault),
+        _ => Ok(Vec::new(alloc)),
+    }
+}
+
+/// What is said behind the line of the first of some words that is refused, where that is asked for and memory is there.
+pub(crate) fn notes_of_refused(alloc: Global, explain: bool, refused: RefusedWord<'_>) -> Vec<u8>
+    ensures { (profile : Profile) (words : List (List ℕ)) → IsFirstRefused profile words refused.entry.word.now refused.entry.fault
+        → SaysMoreOfLines explain profile words (Err refused.entry.fault) result.items }
+{
+    if !explain {
+        return Vec::new(alloc);
+    }
+    match of_refused(alloc, refused) {
+        Ok(notes) => notes,
+        Err(_) => Vec::new(alloc),
     }
 }
 

@@ -9,6 +9,13 @@ use sf_format::{PrintFormat, Profile, ScanFormat};
 use sf_messages::{CommandFault, FormatName, format_fault, print_format_fault};
 use std::alloc::Global;
 
+/// A word that spells no format, and why.
+#[derive(Clone, Copy)]
+pub(crate) struct RefusedWord<'w> {
+    pub(crate) word: &'w str,
+    pub(crate) fault: CommandFault,
+}
+
 /// The bytes of a format's text.
 pub(crate) fn resolved(alloc: Global, name: FormatName, word: &str) -> Result<Vec<u8>, CommandFault>
     ensures ok { IfOk result (λ text. Unescapes word.now text.items) }

@@ -3,10 +3,10 @@ ghost use Rattle.std.specs.Prelude.{◌≡◌, ◌≤◌, ◌<◌, ◌++◌, Non
 ghost use Rattle.sf_tool.specs.Exits.{Declines, Ends, EndsLines, Exits, ExitsOn, Helps, SaysNotes};
 ghost use Rattle.sf_tool.specs.Saying.{Says};
 
-use crate::command::carry_out;
+use crate::command::{carry_out, grammar_of};
 use crate::error_output::say;
-use crate::explain::{Left, notes_of};
-use crate::lines::scan_lines;
+use crate::explain::{Left, notes_of, notes_of_refused};
+use crate::lines::{formats_of, scan_lines};
 use sf_messages::{CommandFault, error_line};
 use sf_places::{BLOCK_BYTES, Input, Placed};
 use sf_print::Sink;
@@ -93,8 +93,16 @@ fn end_lines<S: Source, K: Sink, E: Sink, const N: usize>(
     requires some { 0 < length order.now.texts.items }
     ensures { EndsLines S.to_come S.failures K.contents K.failures E.contents E.failures options order.now from.old from.new out.old out.new err.old err.new result }
 {
-    let answer = scan_lines(alloc, order, options, from, out, err);
-    end(err, answer, &[])
+    match formats_of(alloc, grammar_of(order.profile), &order.texts) {
+        Ok(formats) => {
+            let answer = scan_lines(alloc, &formats, order, options, from, out, err);
+            end(err, answer, &[])
+        }
+        Err(refused) => {
+            let notes = notes_of_refused(alloc, order.explain, refused);
+            end(err, Err(refused.fault), &notes)
+        }
+    }
 }
 
 /// Runs the command of the words, which are those after the program's name, on what the lookahead holds and its source

@@ -1,5 +1,5 @@
 //! Laws of the definitions.
-ghost use Rattle.sf_tool.specs.Laws.{CountIsTold, FirstIsTold, OneList, OneValue};
+ghost use Rattle.sf_tool.specs.Laws.{CountIsTold, FirstIsTold, OneIsSaid, OneList, OneValue};
 
 pub use sf_records::laws::{copied_twice, joined_texts, one_end};
 
@@ -21,4 +21,9 @@ pub fn count_is_told()
 /// Else where a word stands for no value, the answer is the fault of the first such.
 pub fn first_is_told()
     ensures { FirstIsTold }
+{}
+
+/// Behind the line of an answer of lines at most one text is to be said: that of the first word that is refused.
+pub fn one_is_said()
+    ensures { OneIsSaid }
 {}

@@ -6,13 +6,13 @@ ghost use Rattle.sf_lines.specs.declared.end.LineFault.{LineFault};
 ghost use Rattle.sf_tool.specs.Commands.{form_of, grammar_of};
 ghost use Rattle.sf_tool.specs.Escapes.{Unescapes};
 ghost use Rattle.sf_tool.specs.Explains.{OfWord};
-ghost use Rattle.sf_tool.specs.Lines.{AreNoScanWords, AreScanWords, RunsLines, SaysLines, ScansLines, SomeIsSaid, answer_by, line_text};
+ghost use Rattle.sf_tool.specs.Lines.{AreScanWords, IsFirstRefused, RunsLines, SaysLines, ScansLines, SomeIsSaid, answer_by, line_text};
 
 use crate::command::{form_of, grammar_of};
 use crate::error_output::write_told;
 use crate::escape::unescape;
 use crate::explain::more_of_line;
-use crate::formats::read_scan;
+use crate::formats::{RefusedWord, read_scan};
 use sf_base::Store;
 use sf_format::{Profile, ScanFormat};
 use sf_lines::{LineFault, LinesEnd, LinesOptions, RecordFault, RecordWriter, Teller, run_lines};
@@ -99,20 +99,25 @@ impl<E: Sink> Teller for LineNotes<'_, '_, '_, E> {
     }
 }
 
-/// The scan formats that the words spell, in their order.
-fn formats_of(
+/// The scan formats that the words spell, in their order; or the first that spells none.
+pub(crate) fn formats_of(
     alloc: Global,
     profile: Profile,
     words: &[String],
-) -> Result<Vec<ScanFormat>, CommandFault>
-    ensures ok { IfOk result (λ formats. AreScanWords profile (map string_bytes words.now) formats.items) }
-    ensures err { IfErr result (AreNoScanWords profile (map string_bytes words.now)) }
+) -> Result<Vec<ScanFormat>, RefusedWord<'_>>
+    ensures ok { IfOk result (λ formats. AreScanWords profile (map string_bytes words.entry.now) formats.items) }
+    ensures err { IfErr result (λ refused. IsFirstRefused profile (map string_bytes words.entry.now) refused.word.now refused.fault) }
 {
     let mut formats = Vec::new(alloc);
-    for word in words {
-        let format = read_scan(alloc, profile, word.as_str())?;
+    for given in words {
+        let word = given.as_str();
+        let format = match read_scan(alloc, profile, word) {
+            Ok(format) => format,
+            Err(fault) => return Err(RefusedWord { word, fault }),
+        };
         if formats.push(format).is_err() {
-            return Err(CommandFault::Memory);
+            let fault = CommandFault::Memory;
+            return Err(RefusedWord { word, fault });
         }
     }
     Ok(formats)
@@ -226,10 +231,12 @@ fn lines_by<S: Source, K: Sink, E: Sink, const N: usize>(
     )
 }
 
-/// Scans the lines of what the lookahead holds and its source gives, by the formats of an order, and answers the exit status.
-/// What is to be said of lines that are no match is said as they come; where that fails, nothing more is said of lines. Err says why a format is refused, or why the lines stopped before the end of the input.
+/// Scans the lines of what the lookahead holds and its source gives, by the formats of an order's words, and answers the exit
+/// status. What is to be said of lines that are no match is said as they come; where that fails, nothing more is said of lines.
+/// Err says why the lines stopped before the end of the input.
 pub(crate) fn scan_lines<S: Source, K: Sink, E: Sink, const N: usize>(
     alloc: Global,
+    formats: &[ScanFormat],
     order: &Order,
     options: LineOptions,
     from: &mut Lookahead<S, N>,
@@ -238,10 +245,10 @@ pub(crate) fn scan_lines<S: Source, K: Sink, E: Sink, const N: usize>(
 ) -> Result<u8, CommandFault>
     requires limit { order.now.limit ≤ 2147483647 }
     requires some { 0 < length order.now.texts.items }
+    requires are { AreScanWords (grammar_of order.now.profile) (map string_bytes order.now.texts.items) formats.now }
     ensures { ScansLines S.to_come S.failures K.contents K.failures E.contents E.failures (grammar_of order.now.profile) (form_of order.now.output) options order.now.explain order.now.limit
         (map string_bytes order.now.texts.items) from.old from.new out.old out.new err.old err.new result }
 {
-    let formats = formats_of(alloc, grammar_of(order.profile), &order.texts)?;
     let text = text_of_last(alloc, order.explain, last_word(&order.texts))?;
-    lines_by(alloc, &formats, &text, order, options, from, out, err)
+    lines_by(alloc, formats, &text, order, options, from, out, err)
 }

@@ -136,8 +136,8 @@ fn lines_of_a_text(rt: HostRuntime) -> Result<(), Fail> {
     Ok(())
 }
 
-/// Words whose formats are refused, and the line that says so: the first that is none.
-static REFUSED: [(&[&str], &str); 4] = [
+/// Words whose formats are refused, and what is said: of the first that is none.
+static REFUSED: [(&[&str], &str); 8] = [
     (
         &["-e", "%d", "-e", "%y"],
         "sf: scan format: F4 UnknownLetter at 1\n",
@@ -150,9 +150,26 @@ static REFUSED: [(&[&str], &str); 4] = [
         &["-e", "ab%y", "-e", "\\q"],
         "sf: scan format: F4 UnknownLetter at 3\n",
     ),
+    // more is said where more is asked for, and of that one alone
     (
-        &["--explain", "-e", "%d", "-e", "%y"],
-        "sf: scan format: F4 UnknownLetter at 1\n",
+        &["--explain", "%y"],
+        "sf: scan format: F4 UnknownLetter at 1\n  no conversion has this letter\n  \"%y\"\n    ^\n",
+    ),
+    (
+        &["--explain", "-e", "%d", "-e", "%q", "-e", "%s"],
+        "sf: scan format: F4 UnknownLetter at 1\n  no conversion has this letter\n  \"%q\"\n    ^\n",
+    ),
+    (
+        &["--explain", "-e", "%d", "-e", "\\x01%d%q", "-e", "%y"],
+        "sf: scan format: F4 UnknownLetter at 4\n  no conversion has this letter\n  \"\\x01%d%q\"\n          ^\n",
+    ),
+    (
+        &["--explain", "-e", "%d", "-e", "a%d\\q", "-e", "%y"],
+        "sf: scan format: bad escape at 3\n  behind a backslash stands one of \\ n t v f r, or x and two hexadecimal digits\n  \"a%d\\\\q\"\n      ^\n",
+    ),
+    (
+        &["--explain", "--quiet", "-e", "ab%y", "-e", "\\q"],
+        "sf: scan format: F4 UnknownLetter at 3\n  no conversion has this letter\n  \"ab%y\"\n      ^\n",
     ),
 ];
 
