@@ -13,7 +13,7 @@ use Rattle.sf_format.specs.declared.letter.Letter.TheVariants.{Set}
 use Rattle.sf_format.specs.declared.letter.Length.{Length}
 use Rattle.sf_format.specs.Letters.{kind_of, sized_kind}
 use Rattle.sf_format.specs.Digits.{IsOptionalNumber}
-use Rattle.sf_format.specs.Pieces.{Piece, Ordinary, Plain, Bracket, Printed, PrintOpening, Percents}
+use Rattle.sf_format.specs.Pieces.{Opening, Piece, Ordinary, Plain, Bracket, Percents}
 use Rattle.sf_format.specs.Grammar.{IsScanPiece, shape_of, width_of, Means, Spells, SpellsPrint}
 use Rattle.sf_format.specs.Proper.{HasItsKind, IsKinded, HasItsWidth, IsSized, IsProperShape, IsProperWidth, IsProper, AreProper, AreSized, AreKinded, IsAccepted}
 use Rattle.sf_format.proofs.Suits.{text_kinded}
@@ -76,7 +76,6 @@ good_one profile place (Bracket o list) d is h =
     let m = some_member list is.1 is.1.bytes.0 in
     rw (h.5, h.2.width, h.4)
     (((m.0, m.1, rw (h.3.1 m.0 m.1) m.2), set_width o.width is.0.width), tt, text_kinded o.size h.0.kind h.2.kind)
-good_one profile place (Printed o b) d is h = absurd is
 good_one profile place _ d is h = rw h (tt, tt, tt)
 
 all_good : (ds : List Directive) → AllByRecursion IsGoodDirective ds → AreProper ds × AreSized ds × AreKinded ds
@@ -115,7 +114,7 @@ width_within (d ∷ ds) h = h.2
 precision_within : (precision : Option (List ℕ)) → IfSome precision IsPrecision → IfSome (option_map (λ ds. magnitude 10 ds) precision) (λ p. p ≤ 255)
 precision_within precision h = grind arith
 
-proper_conversion : (place : ℕ) (o : PrintOpening) (letter : PrintLetter) (c : PrintConv) → SuitsPrint letter o → IsPrintConv place o letter c
+proper_conversion : (place : ℕ) (o : Opening) (letter : PrintLetter) (c : PrintConv) → SuitsPrint letter o → IsPrintConv place o letter c
     → IsProperConv c
 proper_conversion place o letter c suits h = record {
   kind = rw h.prints (values_fit (print_row letter).prints o.size c.kind h.kind);
@@ -132,7 +131,7 @@ proper_unit : (profile : Profile) (place : ℕ) (piece : Piece) (u : PrintUnit) 
     → IsProperUnit u
 proper_unit profile place (Ordinary b) u is h = rw h is.0
 proper_unit profile place Percents u is h = rw h (omega arith)
-proper_unit profile place (Printed o b) u is h =
+proper_unit profile place (Plain o b) u is h =
     let same : is.0 ≡ h.0 = let e = sym is.1 ∙ h.2 in cc in
     rw h.4 (proper_conversion place o h.0 h.1 (rw same at is.2) h.3)
 proper_unit profile place _ u is h = absurd is

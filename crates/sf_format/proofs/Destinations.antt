@@ -3,8 +3,9 @@ use Rattle.std.proofs.Common.{◌≡◌, ◌≢◌, ℕ, ◌≤◌, inl, inr, Bo
 use Rattle.std.proofs.lemmas.Bool.Decides.{nat_tests}
 use Rattle.std.specs.List.{AllByRecursion, list_any}
 use Rattle.sf_format.specs.Lists.{is_written}
-use Rattle.sf_format.specs.Pieces.{Opening, Piece, Plain, Bracket, Printed}
-use Rattle.sf_format.specs.Grammar.{AreAlike, assigned_opening, destinations, slot_of, value_opening}
+use Rattle.sf_format.specs.Pieces.{Opening, Piece, Plain, Bracket}
+use Rattle.sf_format.specs.Slots.{slot_of}
+use Rattle.sf_format.specs.Grammar.{AreAlike, assigned_opening, destinations}
 use Rattle.sf_format.specs.Passing.{slot_at, Holds}
 use Rattle.sf_format.specs.Rules.{alike, slot_rules, first_of}
 use Rattle.sf_format.proofs.Outcomes.{by_test}
@@ -96,7 +97,6 @@ pub by_destination : (P : List Opening → Type 0) (piece : Piece) → P [] → 
     → P (destinations (piece ∷ []))
 by_destination P (Plain o letter) none one = by_test o.star (λ v. P (cond v [] (o ∷ []))) (λ t. none) (one o)
 by_destination P (Bracket o list) none one = by_test o.star (λ v. P (cond v [] (o ∷ []))) (λ t. none) (one o)
-by_destination P (Printed o letter) none one = one (value_opening o) refl
 by_destination P _ none one = none
 
 pub at_most_one : (piece : Piece) → length (destinations (piece ∷ [])) ≤ 1

@@ -17,7 +17,7 @@ use Rattle.sf_format.specs.declared.unit.PrintLetter.TheVariants.{Binary}
 use Rattle.sf_format.specs.declared.unit.Unit.{Unit as PrintUnit}
 use Rattle.sf_format.specs.Letters.{letters, letter_of}
 use Rattle.sf_format.specs.PrintLetters.{print_letters, print_letter_of}
-use Rattle.sf_format.specs.Pieces.{Opening, Piece, Ordinary, Percents, Plain, Bracket, Printed}
+use Rattle.sf_format.specs.Pieces.{Opening, Piece, Ordinary, Percents, Plain, Bracket}
 use Rattle.sf_format.specs.PrintGrammar.{IsPrintPiece, Prints}
 use Rattle.sf_format.specs.Grammar.{Suits, IsScanPiece, IsPiece, IsConversion, shape_of, destinations, Means, MeanAll, SpellsAs}
 use Rattle.sf_format.specs.Profiles.{shape_with, directive_with, base_in_two, base_in_one, ShapeHas, DirectiveHas, IsNotBin, IsOfOne, IsNotBinary, UnitIsNotBinary}
@@ -102,14 +102,12 @@ scan_part p q other P in_other place (Plain o b) d (plain, (l, known, suits)) (l
     )
 scan_part p q other P in_other place (Bracket o list) d piece (c, members, is, set, takes, told) has =
     (piece, (conversion_with other c, members, is_with other place o Set c is, set, ap (shape_with other) takes, ap (directive_with other) told))
-scan_part p q other P in_other place (Printed o b) d is h has = absurd is
 scan_part p q other P in_other place _ d is h has = (is, ap (directive_with other) h)
 
 means_old : (place : ℕ) (piece : Piece) (d : Directive) → IsScanPiece One piece → Means One place piece d → DirectiveHas IsOfOne d
 means_old place (Plain o b) d piece (letter, c, e, is, takes, told) =
     rw told (shape_has IsOfOne letter c.shape takes (found (λ b l. LetterHas IsOfOne l) (letters One) (assumption) b letter e))
 means_old place (Bracket o list) d piece (c, members, is, set, takes, told) = rw (told, takes) tt
-means_old place (Printed o b) d piece h = absurd h
 means_old place _ d piece h = rw h tt
 
 pub one_has_old_bases : OneHasOldBases
@@ -143,7 +141,7 @@ print_part : (p q : Profile) → ((b : ℕ) (letter : PrintLetter) → print_let
     → IsPrintPiece q piece × Prints q place piece u
 print_part p q in_other place (Ordinary b) u is h has = (is, h)
 print_part p q in_other place Percents u is h has = (is, h)
-print_part p q in_other place (Printed o b) u (letter, e, suits) (l, c, f, is, told) has =
+print_part p q in_other place (Plain o b) u (letter, e, suits) (l, c, f, is, told) has =
     let same : letter ≡ l = let both = sym e ∙ f in cc in
     let there = in_other b l f (rw (told, is.prints) at has) in
     ((l, there, rw same at suits), (l, c, there, is, told))
@@ -152,7 +150,7 @@ print_part p q in_other place _ u is h has = absurd is
 prints_old : (place : ℕ) (piece : Piece) (u : PrintUnit) → IsPrintPiece One piece → Prints One place piece u → UnitIsNotBinary u
 prints_old place (Ordinary b) u piece h = rw h tt
 prints_old place Percents u piece h = rw h tt
-prints_old place (Printed o b) u piece (letter, c, e, is, told) =
+prints_old place (Plain o b) u piece (letter, c, e, is, told) =
     rw (told, is.prints) (printed (λ b l. IsNotBinary l) (print_letters One) (assumption) b letter e)
 prints_old place _ u piece h = absurd h
 

@@ -5,7 +5,8 @@ ghost use Rattle.sf_base.specs.Bytes.{magnitude};
 ghost use Rattle.sf_format.specs.Digits.{is_decimal};
 ghost use Rattle.sf_format.specs.Pieces.{Opening};
 ghost use Rattle.sf_format.specs.Lists.{is_written};
-ghost use Rattle.sf_format.specs.Grammar.{assigned_opening, slot_of};
+ghost use Rattle.sf_format.specs.Slots.{slot_of};
+ghost use Rattle.sf_format.specs.Grammar.{assigned_opening};
 ghost use Rattle.sf_format.specs.Rules.{first_of, alike, slot_rules};
 ghost use Rattle.sf_format.specs.Passing.{opening_of, fault_in, Holds};
 

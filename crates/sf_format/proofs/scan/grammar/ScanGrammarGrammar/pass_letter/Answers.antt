@@ -1,13 +1,14 @@
 use Rattle.std.proofs.Common.{◌+◌, ◌++◌, length, sym, ap, ◌∙◌, subst}
 use Rattle.std.proofs.lemmas.Result.{err_from_is_err_and}
-use Rattle.sf_format.specs.Grammar.{slot_of}
-use Rattle.sf_format.specs.Faults.{letter_rules, scanlist_rules}
+use Rattle.sf_format.specs.Slots.{slot_of}
+use Rattle.sf_format.specs.Language.{Scan}
+use Rattle.sf_format.specs.Faults.{letter_rules, scanlist_rules, ending_rules}
 use Rattle.sf_format.specs.Rules.{slot_rules}
 use Rattle.sf_format.specs.Passing.{opening_of, fault_of, is_set, rest_behind, slot_at, Holds}
 use Rattle.sf_format.proofs.Destinations.{slot_there}
 use Rattle.sf_format.proofs.Suits.{bracket_is}
 use Rattle.sf_format.proofs.Passages.{first_left, rest_first, number_bound, listed_forward, letter_rest, letter_destination, match_map, made_means}
-use Rattle.sf_format.proofs.scan.grammar.pass_letter.Goals as goal
+use Rattle.sf_format.proofs.scan.grammar.ScanGrammarGrammar.pass_letter.Goals as goal
 
 pub returns-in_err-found : goal.returns-in_err-found
 returns-in_err-found c =
@@ -15,27 +16,28 @@ returns-in_err-found c =
     let o = opening_of c.args.written.now in
     let p = err_from_is_err_and c.from_residual.result c.from_residual.ensures.1 in
     rw (p.1, p.2)
-    (first_left (letter_rules c.args.profile o c.args.letter c.args.at)
-    (scanlist_rules c.args.letter c.args.at c.args.text.now ++ slot_rules earlier c.args.percent o) (fault_of c.in_err-found.field-0.0)
-    c.in_err-found.ensures)
+    (first_left (ending_rules (Scan c.args.self.profile) c.args.percent o c.args.at c.args.letter c.args.text.now)
+    (slot_rules earlier c.args.percent o) (fault_of c.in_err-found.field-0.0)
+    (first_left (letter_rules c.args.self.profile o c.args.letter c.args.at) (scanlist_rules c.args.letter c.args.at c.args.text.now)
+    (fault_of c.in_err-found.field-0.0) c.in_err-found.ensures))
 
 pub returns-in_err-list : goal.returns-in_err-list
 returns-in_err-list c =
     λ earlier holds.
     let p = err_from_is_err_and c.from_residual-in_err-list.result c.from_residual-in_err-list.ensures.1 in
-    let first = rest_first c.args.profile earlier c.args.percent (opening_of c.args.written.now) c.args.at c.args.letter c.args.text.now
+    let first = rest_first c.args.self.profile earlier c.args.percent (opening_of c.args.written.now) c.args.at c.args.letter c.args.text.now
     c.in_ok-found.found c.in_ok-found.ensures.0 c.in_ok-found.ensures.1 in
     rw (p.1, p.2) (first ∙ rw c.in_err-list.ensures)
 
 pub returns-in-Some : goal.returns-in-Some
 returns-in-Some c =
     λ earlier holds.
-    rest_first c.args.profile earlier c.args.percent (opening_of c.args.written.now) c.args.at c.args.letter c.args.text.now
+    rest_first c.args.self.profile earlier c.args.percent (opening_of c.args.written.now) c.args.at c.args.letter c.args.text.now
     c.in_ok-found.found c.in_ok-found.ensures.0 c.in_ok-found.ensures.1
     ∙ rw (c.in_ok-list.ensures.0, ← c.in-Some.ensures.first earlier holds)
 
 pub slot_of-slot-requires-clause-bound : goal.slot_of-slot-requires-clause-bound
-slot_of-slot-requires-clause-bound c = number_bound c.args.percent (opening_of c.args.written.now) c.requires.opening
+slot_of-slot-requires-clause-bound c = number_bound (Scan c.args.self.profile) c.args.percent (opening_of c.args.written.now) c.requires.opening
 
 pub conversion-requires-clause-forward : goal.conversion-requires-clause-forward
 conversion-requires-clause-forward c = λ e.
@@ -51,10 +53,10 @@ returns c =
     let none = sym (c.in_default.ensures.first earlier holds) in
     let placed = c.slot_of-slot.ensures ∙ ap (λ n. slot_of (1 + n) o) holds.count in
     let there = letter_destination o c.args.letter c.args.text.now in (
-      rest_first c.args.profile earlier c.args.percent o c.args.at c.args.letter c.args.text.now letter rules found ∙ rw (fault, none),
-      after ∙ ap (λ v. rest_behind v c.args.text.now) (bracket_is c.args.profile c.args.letter letter found) ∙ sym (letter_rest o c.args.letter c.args.text.now),
+      rest_first c.args.self.profile earlier c.args.percent o c.args.at c.args.letter c.args.text.now letter rules found ∙ rw (fault, none),
+      after ∙ ap (λ v. rest_behind v c.args.text.now) (bracket_is c.args.self.profile c.args.letter letter found) ∙ sym (letter_rest o c.args.letter c.args.text.now),
       match_map _ _ _
-          (λ d made. made_means c.args.profile (1 + length earlier) c.args.at c.args.letter c.args.text.now o letter _ c.slot_of-slot.result
+          (λ d made. made_means c.args.self.profile (1 + length earlier) c.args.at c.args.letter c.args.text.now o letter _ c.slot_of-slot.result
           c.in_ok-list.list d found known fault is placed made)
           c.conversion.result c.conversion.ensures,
       subst (λ os. Holds c.pushed.result (earlier ++ os)) (sym there) (c.pushed.ensures earlier c.args.percent holds none),
