@@ -117,27 +117,31 @@ are_now : (o : Opening) (es : List Opening) → list_any (λ a. not (alike a o))
 are_now o [] e = tt
 are_now o (a ∷ es) e = grind (arith, are_now o es)
 
-pub held_more : (slots : Slots) (o : Opening) (earlier : List Opening) (p : ℕ) → o.star ≡ false → Holds slots earlier
-    → first_of (slot_rules earlier p o) ≡ None
-    → Holds (record { count = slots.count + 1; numbered = is_written o.number }) (earlier ++ assigned_opening o [])
-held_more slots o earlier p plain holds e =
-    let same = are_now o earlier (rw plain at (quiet_is (slot_rules earlier p o) e).0) in
-    let after : List Opening → Type 0 = λ os. Holds (record { count = slots.count + 1; numbered = is_written o.number }) (earlier ++ os) in
-    subst (λ v. after (cond v [] (o ∷ []))) (sym plain)
-    (record {
-      count = omega (arith, length-append earlier (o ∷ []), holds.count);
-      same = all_append (λ a. is_written a.number ≡ is_written o.number) earlier (o ∷ []) same (refl, tt);
-    })
-
 -- before the first part
 pub none_held : Holds (record { count = 0; numbered = false }) []
 none_held = record { count = refl; same = tt }
 
 -- ---- what the code computes
 
-pub written_from_empty : (number : List ℕ) (empty : Bool) → empty ≡ (length number == 0) → not empty ≡ is_written number
+written_from_empty : (number : List ℕ) (empty : Bool) → empty ≡ (length number == 0) → not empty ≡ is_written number
 written_from_empty [] empty e = grind (arith, nat_tests)
 written_from_empty (d ∷ ds) empty e = grind (arith, nat_tests)
+
+pub held_more : (slots : Slots) (o : Opening) (empty : Bool) (earlier : List Opening) (p : ℕ) → o.star ≡ false → empty ≡ (length o.number == 0)
+    → Holds slots earlier → None ≡ first_of (slot_rules earlier p o)
+    → (first_of (slot_rules earlier p o) ≡ None)
+    × Holds (record { count = slots.count + 1; numbered = not empty }) (earlier ++ assigned_opening o [])
+held_more slots o empty earlier p plain is holds none =
+    let same = are_now o earlier (rw plain at (quiet_is (slot_rules earlier p o) (sym none)).0) in
+    let after : List Opening → Type 0 = λ os. Holds (record { count = slots.count + 1; numbered = is_written o.number }) (earlier ++ os) in (
+      sym none,
+      rw (written_from_empty o.number empty is)
+          (subst (λ v. after (cond v [] (o ∷ []))) (sym plain)
+          (record {
+            count = omega (arith, length-append earlier (o ∷ []), holds.count);
+            same = all_append (λ a. is_written a.number ≡ is_written o.number) earlier (o ∷ []) same (refl, tt);
+          })),
+    )
 
 pub mixed_result : (slots : Slots) (o : Opening) (empty : Bool) (earlier : List Opening) → o.star ≡ false → 0 < slots.count
     → empty ≡ (length o.number == 0) → Holds slots earlier

@@ -13,7 +13,6 @@ use Rattle.sf_format.proofs.Prefixes.{Stops, front_behind, front_passes, behind_
 use Rattle.sf_format.proofs.Cutting.{begins_joined, IsLast, HasParts, inside, cut_of, cut_joined, cut_parts, cut_in, opening_regroup}
 use Rattle.sf_format.proofs.Rules.{Quiet, quiet_join, quiet_split, all_back}
 use Rattle.sf_format.proofs.Outcomes.{same_byte, other_byte, byte_differs}
-use Rattle.sf_format.specs.declared.directive.Profile.{Profile}
 use Rattle.sf_format.specs.Letters.{letter_of}
 use Rattle.sf_format.specs.Scanlist.{Scanlist, scanlist_text}
 use Rattle.sf_format.specs.Rules.{slot_rules}

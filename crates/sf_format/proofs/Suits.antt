@@ -171,16 +171,15 @@ suits_parts letter o suits = record {
 
 -- ---- what a letter that no rule refuses converts
 
-pub some_letter : {A : Type 0} (profile : Profile) (o : Opening) (b q : ℕ) → first_of (letter_rules profile o b q) ≡ None → letter_of profile b ≡ None → A
-some_letter profile o b q none e =
-    let known = (quiet_is (letter_rules profile o b q) none).1.1.0 in
-    let unknown : is_none (letter_of profile b) ≡ true = rw e in absurd (cc)
+known : {A : Type 0} (o : Option A) → is_none o ≡ false → IsSome o
+known o e = grind arith
 
-pub some_kind : {A : Type 0} (profile : Profile) (o : Opening) (b q : ℕ) (letter : Letter) → first_of (letter_rules profile o b q) ≡ None
-    → letter_of profile b ≡ Some letter → kind_of letter o.size ≡ None → A
-some_kind profile o b q letter none found e =
-    let some = ((letter_is profile b letter found).allowed o q (quiet_is (letter_rules profile o b q) none)).0 in
-    let nothing : is_some (kind_of letter o.size) ≡ false = rw e in absurd (cc)
+pub some_letter : (profile : Profile) (o : Opening) (b q : ℕ) → first_of (letter_rules profile o b q) ≡ None → IsSome (letter_of profile b)
+some_letter profile o b q none = known (letter_of profile b) (quiet_is (letter_rules profile o b q) none).1.1.0
+
+pub some_kind : (profile : Profile) (o : Opening) (b q : ℕ) (letter : Letter) → first_of (letter_rules profile o b q) ≡ None
+    → letter_of profile b ≡ Some letter → IsSome (kind_of letter o.size)
+some_kind profile o b q letter none found = ((letter_is profile b letter found).allowed o q (quiet_is (letter_rules profile o b q) none)).0
 
 -- ---- letters
 
@@ -299,14 +298,9 @@ suits_print_parts letter o suits = record {
 
 -- ---- what a letter that no rule refuses prints
 
-pub some_print_letter : {A : Type 0} (p : Profile) (o : Opening) (b q : ℕ) → first_of (print_letter_rules p o b q) ≡ None
-    → print_letter_of p b ≡ None → A
-some_print_letter p o b q none e =
-    let known = (quiet_is (print_letter_rules p o b q) none).1.1.0 in
-    let unknown : is_none (print_letter_of p b) ≡ true = rw e in absurd (cc)
+pub some_print_letter : (p : Profile) (o : Opening) (b q : ℕ) → first_of (print_letter_rules p o b q) ≡ None → IsSome (print_letter_of p b)
+some_print_letter p o b q none = known (print_letter_of p b) (quiet_is (print_letter_rules p o b q) none).1.1.0
 
-pub some_print_kind : {A : Type 0} (p : Profile) (o : Opening) (b q : ℕ) (letter : PrintLetter) → first_of (print_letter_rules p o b q) ≡ None
-    → print_letter_of p b ≡ Some letter → print_kind_of letter o.size ≡ None → A
-some_print_kind p o b q letter none found e =
-    let some = (print_letter_is p b letter found).allowed o q (quiet_is (print_letter_rules p o b q) none) in
-    let nothing : is_some (print_kind_of letter o.size) ≡ false = rw e in absurd (cc)
+pub some_print_kind : (p : Profile) (o : Opening) (b q : ℕ) (letter : PrintLetter) → first_of (print_letter_rules p o b q) ≡ None
+    → print_letter_of p b ≡ Some letter → IsSome (print_kind_of letter o.size)
+some_print_kind p o b q letter none found = (print_letter_is p b letter found).allowed o q (quiet_is (print_letter_rules p o b q) none)

@@ -29,8 +29,8 @@ use Rattle.sf_format.specs.Scanlist.{IsSetBy}
 use Rattle.sf_format.specs.Pieces.{Opening, Piece, Ordinary, Percents}
 use Rattle.sf_format.specs.Cut.{Part, members_at, close_at}
 use Rattle.sf_format.specs.Slots.{slot_of}
-use Rattle.sf_format.specs.Grammar.{destinations, width_of, shape_of, MeanAll}
-use Rattle.sf_format.specs.Rules.{Rule, first_of}
+use Rattle.sf_format.specs.Grammar.{assigned_opening, destinations, width_of, shape_of, MeanAll}
+use Rattle.sf_format.specs.Rules.{Rule, first_of, slot_rules}
 use Rattle.sf_format.specs.Faults.{bracket_rules, repeated, beyond, no_memory}
 use Rattle.sf_format.specs.Reading.{read, judged}
 
@@ -114,6 +114,11 @@ pub record Holds (slots : Slots) (earlier : List Opening) : Type 0 where
 abbrev pub slot_at : ℕ → List Opening → Option ℕ
 slot_at place [] = None
 slot_at place (o ∷ os) = slot_of place o
+
+-- the first fault of one more destination, or else the destinations with it
+abbrev pub PushesBy : List Opening → ℕ → Opening → Result (Option ℕ × Slots) FormatFault → Type 0
+PushesBy earlier p o (Ok pushed) = (first_of (slot_rules earlier p o) ≡ None) × Holds pushed.1 (earlier ++ assigned_opening o [])
+PushesBy earlier p o (Err fault) = first_of (slot_rules earlier p o) ≡ Some (fault_of fault)
 
 -- the part that is one byte or %%
 abbrev pub literal_piece : Literal → Piece

@@ -239,10 +239,7 @@ pub fn gather<G: Grammar>(
         rest = passed.rest;
         at = (text.len() - rest.len()) as u16;
         slots = passed.slots;
-        let Some(part) = passed.part else {
-            unreachable!()
-        };
-        parts.push(part)?;
+        parts.push(passed.part.unwrap())?;
     }
     Ok(parts)
 }

@@ -10,7 +10,7 @@ use crate::opening::{Written, capped, is_no_slot};
 use crate::print::letter::{conversion, flag_fault, print_converted};
 use crate::print::opening::digits_behind;
 use crate::rule_table::{fault_by, rule};
-use crate::slots::{Slots, pushed, slot_fault, slot_of};
+use crate::slots::{Slots, pushed};
 use crate::unit::Unit;
 
 /// The grammar of print formats, with the conversions of a profile.
@@ -85,17 +85,13 @@ impl Grammar for PrintGrammar {
         if let Some(fault) = flag_fault(percent, written, found) {
             return Err(fault);
         }
-        if let Some(fault) = slot_fault(slots, written, percent) {
-            return Err(fault);
-        }
-        let Some(slot) = slot_of(slots, written) else {
-            unreachable!()
-        };
+        let (slot, slots) = pushed(slots, written, percent)?;
+        let conversion = conversion(written, found, kind, slot.unwrap());
         Ok(Passed {
-            part: Some(Unit::Conv(conversion(written, found, kind, slot))),
-            slot: Some(slot),
+            part: Some(Unit::Conv(conversion)),
+            slot,
             rest: text,
-            slots: pushed(slots, written),
+            slots,
         })
     }
 }

@@ -105,12 +105,8 @@ pub fn print_converted(
     if let Some(fault) = print_letter_fault(profile, written, letter, at) {
         return Err(fault);
     }
-    let Some(found) = print_letter_of(profile, letter) else {
-        unreachable!()
-    };
-    let Some(kind) = print_row(found).prints.kind(written.size) else {
-        unreachable!()
-    };
+    let found = print_letter_of(profile, letter).unwrap();
+    let kind = print_row(found).prints.kind(written.size).unwrap();
     Ok((found, kind))
 }
 

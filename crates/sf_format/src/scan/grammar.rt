@@ -11,7 +11,7 @@ use crate::grammar::{Grammar, Literal, Passed};
 use crate::opening::{Written, capped, is_no_slot, is_zero, number_len};
 use crate::rule_table::{fault_by, rule};
 use crate::scan::conversion::{conversion, converted, list_behind};
-use crate::slots::{Slots, pushed, slot_fault, slot_of};
+use crate::slots::{Slots, pushed};
 use sf_base::is_space;
 
 /// The grammar of scan formats, with the conversions of a profile.
@@ -97,15 +97,12 @@ impl Grammar for ScanGrammar {
     ) -> Result<Passed<'a, Directive>, FormatFault> {
         let (found, kind) = converted(self.profile, written, letter, at)?;
         let list = list_behind(found, at, text)?;
-        if let Some(fault) = slot_fault(slots, written, percent) {
-            return Err(fault);
-        }
-        let slot = slot_of(slots, written);
+        let (slot, slots) = pushed(slots, written, percent)?;
         Ok(Passed {
             part: conversion(wanted, found, kind, written, slot, &list),
             slot,
             rest: list.rest,
-            slots: pushed(slots, written),
+            slots,
         })
     }
 }

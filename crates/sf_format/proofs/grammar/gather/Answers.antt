@@ -33,9 +33,9 @@ pub loop-rest-preserved : goal.loop-rest-preserved
 loop-rest-preserved g c =
     let h = c.loop-rest.invariant in
     let passes = c.in_ok-passed.ensures (destinations h.passing.done) h.passing.holds in
-    rw (c.in_ok-push.ensures.items, c.in-Some.is)
-    (gathering_more (g.G.Grammar.means c.args.grammar) c.in-Some.part h (passes_on h.passing c.is_empty.ensures c.loop-rest-test.true passes)
-    (rw c.in-Some.is at passes.2))
+    rw c.in_ok-push.ensures.items
+    (gathering_more (g.G.Grammar.means c.args.grammar) c.unwrap.result h (passes_on h.passing c.is_empty.ensures c.loop-rest-test.true passes)
+    (rw c.unwrap.ensures at passes.2))
 
 pub returns-clause-gathered : goal.returns-clause-gathered
 returns-clause-gathered g c =

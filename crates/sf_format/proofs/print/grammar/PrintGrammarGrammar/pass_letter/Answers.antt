@@ -1,4 +1,4 @@
-use Rattle.std.proofs.Common.{refl, ◌+◌, length, sym, ap, ◌∙◌, arith}
+use Rattle.std.proofs.Common.{refl, ◌+◌, length, sym, ap, ◌∙◌}
 use Rattle.std.proofs.lemmas.Result.{err_from_is_err_and}
 use Rattle.sf_format.specs.PrintLetters.{print_letter_of}
 use Rattle.sf_format.specs.Language.{Print}
@@ -6,10 +6,10 @@ use Rattle.sf_format.specs.Slots.{slot_of}
 use Rattle.sf_format.specs.Faults.{ending_rules}
 use Rattle.sf_format.specs.Rules.{slot_rules}
 use Rattle.sf_format.specs.PrintRules.{print_letter_rules, flag_rules}
-use Rattle.sf_format.specs.Passing.{opening_of, fault_of, Holds, slot_at}
+use Rattle.sf_format.specs.Passing.{opening_of, fault_of}
 use Rattle.sf_format.proofs.Destinations.{slot_there}
 use Rattle.sf_format.proofs.Suits.{print_letter_is}
-use Rattle.sf_format.proofs.Passages.{first_left, letter_destination, print_rest_first}
+use Rattle.sf_format.proofs.Passages.{first_left, number_bound, print_rest_first}
 use Rattle.sf_format.proofs.print.grammar.PrintGrammarGrammar.pass_letter.Goals as goal
 
 pub returns-in_err-found : goal.returns-in_err-found
@@ -30,33 +30,31 @@ returns-in-Some c =
     c.in_ok-found.found c.in_ok-found.ensures.0 c.in_ok-found.ensures.1
     ∙ rw (← c.in-Some.ensures)
 
-pub returns-in-Some-slot_fault : goal.returns-in-Some-slot_fault
-returns-in-Some-slot_fault c =
-    λ earlier holds.
-    print_rest_first c.args.self.profile earlier c.args.percent (opening_of c.args.written.now) c.args.at c.args.letter c.args.text.now
-    c.in_ok-found.found c.in_ok-found.ensures.0 c.in_ok-found.ensures.1
-    ∙ rw (← c.in_default.ensures, ← c.in-Some-slot_fault.ensures.first earlier holds)
+pub pushed-requires-clause-bound : goal.pushed-requires-clause-bound
+pushed-requires-clause-bound c = number_bound (Print c.args.self.profile) c.args.percent (opening_of c.args.written.now) c.requires.opening
 
-pub unreachable-requires : goal.unreachable-requires
-unreachable-requires c =
-    let own = c.requires.own in
-    let none = sym c.slot_of.ensures ∙ c.in_default-slot_of.is in
-    absurd (grind arith)
+pub returns-in_err-slot : goal.returns-in_err-slot
+returns-in_err-slot c =
+    λ earlier holds.
+    let p = err_from_is_err_and c.from_residual-in_err-slot.result c.from_residual-in_err-slot.ensures.1 in
+    rw (p.1, p.2)
+    (print_rest_first c.args.self.profile earlier c.args.percent (opening_of c.args.written.now) c.args.at c.args.letter c.args.text.now
+    c.in_ok-found.found c.in_ok-found.ensures.0 c.in_ok-found.ensures.1
+    ∙ rw (← c.in_default.ensures) (c.in_err-slot.ensures.pushed earlier holds))
 
 pub returns : goal.returns
 returns c =
     λ earlier holds.
     let o = opening_of c.args.written.now in
-    let none = sym (c.in_default-slot_fault.ensures.first earlier holds) in
-    let slot = sym (sym c.in-Some-slot_of.is ∙ c.slot_of.ensures ∙ ap (λ n. slot_of (1 + n) o) holds.count) in
-    let is = c.conversion.ensures (1 + length earlier) slot c.in_ok-found.ensures.2 in
-    let there = letter_destination o c.args.letter c.args.text.now in
+    let (none, held) = c.in_ok-slot.ensures.pushed earlier holds in
+    let placed = c.in_ok-slot.ensures.slot ∙ ap (λ n. slot_of (1 + n) o) holds.count in
+    let is = c.conversion-conversion.ensures (1 + length earlier) (sym placed ∙ c.unwrap.ensures) c.in_ok-found.ensures.2 in
     let first = print_rest_first c.args.self.profile earlier c.args.percent o c.args.at c.args.letter c.args.text.now
     c.in_ok-found.found c.in_ok-found.ensures.0 c.in_ok-found.ensures.1 in
     rw (print_letter_is c.args.self.profile c.args.letter c.in_ok-found.found c.in_ok-found.ensures.1).plain (
       first ∙ rw (← c.in_default.ensures) none,
       refl,
-      (c.in_ok-found.found, c.conversion.result, c.in_ok-found.ensures.1, is, refl),
-      c.pushed.ensures earlier c.args.percent holds none,
-      sym slot ∙ slot_there (1 + length earlier) o,
+      (c.in_ok-found.found, c.conversion-conversion.result, c.in_ok-found.ensures.1, is, refl),
+      held,
+      placed ∙ slot_there (1 + length earlier) o,
     )

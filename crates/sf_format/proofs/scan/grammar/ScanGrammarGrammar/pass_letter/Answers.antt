@@ -29,15 +29,17 @@ returns-in_err-list c =
     c.in_ok-found.found c.in_ok-found.ensures.0 c.in_ok-found.ensures.1 in
     rw (p.1, p.2) (first ∙ rw c.in_err-list.ensures)
 
-pub returns-in-Some : goal.returns-in-Some
-returns-in-Some c =
-    λ earlier holds.
-    rest_first c.args.self.profile earlier c.args.percent (opening_of c.args.written.now) c.args.at c.args.letter c.args.text.now
-    c.in_ok-found.found c.in_ok-found.ensures.0 c.in_ok-found.ensures.1
-    ∙ rw (c.in_ok-list.ensures.0, ← c.in-Some.ensures.first earlier holds)
+pub pushed-requires-clause-bound : goal.pushed-requires-clause-bound
+pushed-requires-clause-bound c = number_bound (Scan c.args.self.profile) c.args.percent (opening_of c.args.written.now) c.requires.opening
 
-pub slot_of-slot-requires-clause-bound : goal.slot_of-slot-requires-clause-bound
-slot_of-slot-requires-clause-bound c = number_bound (Scan c.args.self.profile) c.args.percent (opening_of c.args.written.now) c.requires.opening
+pub returns-in_err-slot : goal.returns-in_err-slot
+returns-in_err-slot c =
+    λ earlier holds.
+    let p = err_from_is_err_and c.from_residual-in_err-slot.result c.from_residual-in_err-slot.ensures.1 in
+    rw (p.1, p.2)
+    (rest_first c.args.self.profile earlier c.args.percent (opening_of c.args.written.now) c.args.at c.args.letter c.args.text.now
+    c.in_ok-found.found c.in_ok-found.ensures.0 c.in_ok-found.ensures.1
+    ∙ rw (c.in_ok-list.ensures.0) (c.in_err-slot.ensures.pushed earlier holds))
 
 pub conversion-requires-clause-forward : goal.conversion-requires-clause-forward
 conversion-requires-clause-forward c = λ e.
@@ -50,15 +52,15 @@ returns c =
     let (rules, found, known) = c.in_ok-found.ensures in
     let (fault, is, after) = c.in_ok-list.ensures in
     let letter = c.in_ok-found.found in
-    let none = sym (c.in_default.ensures.first earlier holds) in
-    let placed = c.slot_of-slot.ensures ∙ ap (λ n. slot_of (1 + n) o) holds.count in
+    let (none, held) = c.in_ok-slot.ensures.pushed earlier holds in
+    let placed = c.in_ok-slot.ensures.slot ∙ ap (λ n. slot_of (1 + n) o) holds.count in
     let there = letter_destination o c.args.letter c.args.text.now in (
       rest_first c.args.self.profile earlier c.args.percent o c.args.at c.args.letter c.args.text.now letter rules found ∙ rw (fault, none),
       after ∙ ap (λ v. rest_behind v c.args.text.now) (bracket_is c.args.self.profile c.args.letter letter found) ∙ sym (letter_rest o c.args.letter c.args.text.now),
       match_map _ _ _
-          (λ d made. made_means c.args.self.profile (1 + length earlier) c.args.at c.args.letter c.args.text.now o letter _ c.slot_of-slot.result
+          (λ d made. made_means c.args.self.profile (1 + length earlier) c.args.at c.args.letter c.args.text.now o letter _ c.in_ok-slot.slot
           c.in_ok-list.list d found known fault is placed made)
           c.conversion.result c.conversion.ensures,
-      subst (λ os. Holds c.pushed.result (earlier ++ os)) (sym there) (c.pushed.ensures earlier c.args.percent holds none),
+      subst (λ os. Holds c.in_ok-slot.slots (earlier ++ os)) (sym there) held,
       placed ∙ slot_there (1 + length earlier) o ∙ ap (slot_at (1 + length earlier)) (sym there),
     )
