@@ -148,30 +148,9 @@ cut_passes wanted means language earlier p q x rest o r same behind place quiet 
 pub if_point : (P : List ℕ → Type 0) (point : Bool) (ds : List ℕ) → IfSome (precision_of point ds) P → point ≡ true → P ds
 if_point P point ds h e = grind arith
 
--- an opening without a fault has numbers within their limits
-pub record IsBounded (o : Opening) : Type 0 where
-  pub number : magnitude 10 o.number ≤ 32
-  pub width : magnitude 10 o.width ≤ 65535
-  pub precision : precision_number o.precision ≤ 255
-
-pub bounded : (profile : Profile) (p : ℕ) (o : Opening) → first_of (opening_rules (Print profile) p o) ≡ None → IsBounded o
-bounded profile p o none =
-    let quiet = quiet_is (opening_rules (Print profile) p o) none in
-    record {
-      number = number_low o.number quiet.0;
-      width = within 65535 (magnitude 10 o.width) quiet.1.0;
-      precision = within 255 (precision_number o.precision) quiet.1.1.0;
-    }
-
--- the rules of what stands from a letter on that has no fault itself
-pub print_rest_first : (profile : Profile) (earlier : List Opening) (p : ℕ) (o : Opening) (q b : ℕ) (x : List ℕ) (letter : PrintLetter)
-    → first_of (print_letter_rules profile o b q) ≡ None → print_letter_of profile b ≡ Some letter
-    → first_of (rest_rules (Print profile) earlier p o q (b ∷ x))
-    ≡ or_else (first_of (flag_rules p o (Some letter))) (first_of (slot_rules earlier p o))
-print_rest_first profile earlier p o q b x letter rules found =
-    rw (
-      first_append (ending_rules (Print profile) p o q b x) (slot_rules earlier p o),
-      first_append (print_letter_rules profile o b q) (flag_rules p o (print_letter_of profile b)),
-      rules,
-      found,
-    )
+-- behind a letter that has no fault itself, what stands before it decides
+pub flags_first : (profile : Profile) (p : ℕ) (o : Opening) (q b : ℕ) (letter : PrintLetter) → first_of (print_letter_rules profile o b q) ≡ None
+    → print_letter_of profile b ≡ Some letter
+    → first_of (print_letter_rules profile o b q ++ flag_rules p o (print_letter_of profile b)) ≡ first_of (flag_rules p o (Some letter))
+flags_first profile p o q b letter rules found =
+    rw (first_append (print_letter_rules profile o b q) (flag_rules p o (print_letter_of profile b)), rules, found)

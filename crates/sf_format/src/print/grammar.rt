@@ -7,7 +7,7 @@ use crate::fault::{FormatFault, FormatWhy};
 use crate::fronts::{Class, mark, number, size, split_front};
 use crate::grammar::{Grammar, Literal, Passed};
 use crate::opening::{Written, capped, is_no_slot};
-use crate::print::letter::{conversion, flag_fault, print_converted};
+use crate::print::letter::{conversion, print_converted};
 use crate::print::opening::digits_behind;
 use crate::rule_table::{fault_by, rule};
 use crate::slots::{Slots, pushed};
@@ -81,10 +81,7 @@ impl Grammar for PrintGrammar {
         slots: Slots,
         _wanted: bool,
     ) -> Result<Passed<'a, Unit>, FormatFault> {
-        let (found, kind) = print_converted(self.profile, written, letter, at)?;
-        if let Some(fault) = flag_fault(percent, written, found) {
-            return Err(fault);
-        }
+        let (found, kind) = print_converted(self.profile, written, letter, percent, at)?;
         let (slot, slots) = pushed(slots, written, percent)?;
         let conversion = conversion(written, found, kind, slot.unwrap());
         Ok(Passed {

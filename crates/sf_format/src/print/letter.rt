@@ -1,5 +1,5 @@
 //! Letters of print formats, and what they convert.
-ghost use Rattle.std.specs.Prelude.{◌≡◌, ◌≤◌, ◌+◌, ℕ, true, length, Some};
+ghost use Rattle.std.specs.Prelude.{◌≡◌, ◌≤◌, ◌+◌, ◌++◌, ℕ, true, length, Some};
 ghost use Rattle.std.specs.List.{AllByRecursion};
 ghost use Rattle.sf_base.specs.Bytes.{magnitude};
 ghost use Rattle.std.specs.Option.{option_map};
@@ -92,20 +92,27 @@ fn print_letter_fault(
     ])
 }
 
-/// What the letter at the place prints, and its kind.
+/// What the letter at the second place prints, and its kind, where what stands before it suits it. The `%` stands at the first.
 pub fn print_converted(
     profile: Profile,
     written: &Written,
     letter: u8,
+    percent: u16,
     at: u16,
 ) -> Result<(PrintLetter, Kind), FormatFault>
+    requires place { percent ≤ 4096 }
+    requires parts { length written.now.number.now + length written.now.flags.now + length written.now.width.now ≤ 4096 }
     ensures { Converts (print_letter_of profile letter) (λ found. print_kind_of found written.now.size)
-        (print_letter_rules profile (opening_of written.now) letter at) result }
+        (print_letter_rules profile (opening_of written.now) letter at
+        ++ flag_rules percent (opening_of written.now) (print_letter_of profile letter)) result }
 {
     if let Some(fault) = print_letter_fault(profile, written, letter, at) {
         return Err(fault);
     }
     let found = print_letter_of(profile, letter).unwrap();
+    if let Some(fault) = flag_fault(percent, written, found) {
+        return Err(fault);
+    }
     let kind = print_row(found).prints.kind(written.size).unwrap();
     Ok((found, kind))
 }
@@ -124,7 +131,7 @@ fn foreign_flag(letter: PrintLetter, from: u16, flags: &[u8]) -> Option<u16>
 }
 
 /// The first fault of what stands before the letter, behind the `%` at the place, as far as the letter does not have it.
-pub fn flag_fault(percent: u16, written: &Written, letter: PrintLetter) -> Option<FormatFault>
+fn flag_fault(percent: u16, written: &Written, letter: PrintLetter) -> Option<FormatFault>
     requires place { percent ≤ 4096 }
     requires parts { length written.now.number.now + length written.now.flags.now + length written.now.width.now ≤ 4096 }
     ensures { fault_in result ≡ first_of (flag_rules percent (opening_of written.now) (Some letter)) }
