@@ -30,7 +30,6 @@ use Rattle.sf_format.specs.declared.unit.PrintLetter.{PrintLetter}
 use Rattle.sf_format.specs.declared.unit.PrintConv.{PrintConv}
 use Rattle.sf_format.specs.declared.unit.Unit.{Unit as PrintUnit}
 use Rattle.sf_format.specs.declared.unit.Unit.TheVariants as unit
-use Rattle.sf_format.specs.Digits.{optional_number}
 use Rattle.sf_format.specs.PrintLetters.{print_kind_of}
 use Rattle.sf_format.specs.Units.{printed_of}
 use Rattle.sf_format.specs.PrintGrammar.{IsPrintPiece, IsPrintConv, Prints, is_set_flag}
@@ -213,15 +212,12 @@ prints_one profile place (Plain o b) u v h k =
     rw (h.4, k.4, print_conversion_same place o k.0 h.1 k.1 (rw same at h.3) k.3)
 prints_one profile place _ u v h k = absurd h
 
-some_slot : (place : ℕ) (n : Option ℕ) → IsSome (elim n [ None ↦ Some place | Some m ↦ Some m ])
-some_slot place n = grind arith
-
 some_unit : (profile : Profile) (place : ℕ) (piece : Piece) → IsPrintPiece profile piece → (u : PrintUnit) × Prints profile place piece u
 some_unit profile place (Ordinary b) is = (unit.Byte b, refl)
 some_unit profile place Percents is = (unit.Byte 37, refl)
 some_unit profile place (Plain o b) is =
     let k = some_of (print_kind_of is.0 o.size) is.2.size in
-    let n = some_of (slot_of place o) (rw is.2.star (some_slot place (optional_number o.number))) in
+    let n = some_of (slot_of place o) (rw is.2.star (grind arith)) in
     let c = told_by o is.0 (k.0, n.0) in
     let told : IsPrintConv place o is.0 c = assumption (k.1, n.1) in
     (unit.Conv c, (is.0, c, is.1, told, refl))

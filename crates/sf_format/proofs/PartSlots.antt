@@ -12,7 +12,7 @@ use Rattle.sf_format.specs.Grammar.{IsPiece, IsFormat, ArePlaced, assigned_openi
 use Rattle.sf_format.specs.Passing.{slot_at}
 use Rattle.sf_format.proofs.Numbers.{number_of, numbered_low, AreWritten}
 use Rattle.sf_format.proofs.Destinations.{destinations_cons, by_destination}
-use Rattle.sf_format.proofs.SlotLookups.{AreWithin, pigeonhole}
+use Rattle.sf_format.proofs.SlotLookups.{AreWithin, pigeonhole, numbers}
 use Rattle.sf_format.proofs.Parts.{empty_text}
 use Rattle.sf_format.proofs.Meanings.{HasSlots}
 
@@ -29,10 +29,6 @@ part_slot : (place : ℕ) (piece : Piece) (os : List Opening)
 part_slot place piece os =
     by_destination (λ here. cons_option (slot_at place here) (slots_named (place + length here) os) ≡ slots_named place (here ++ os)) piece
     (let same : place + 0 ≡ place = omega arith in ap (λ n. slots_named n os) same) (λ o plain. grind arith)
-
--- the slots of what is listed
-abbrev pub numbers : List Slotted → List ℕ
-numbers entries = map (λ e. e.0) entries
 
 numbers_cons : (o : Option Slotted) (entries : List Slotted) → numbers (cons_option o entries) ≡ cons_option (option_map (λ e. e.0) o) (numbers entries)
 numbers_cons o entries = grind arith

@@ -31,8 +31,7 @@ use Rattle.sf_format.proofs.Scanlists.{list_forward, list_set}
 use Rattle.sf_format.proofs.Suits.{bracket_is}
 use Rattle.sf_format.specs.declared.unit.PrintLetter.{PrintLetter}
 use Rattle.sf_format.specs.PrintLetters.{print_letter_of}
-use Rattle.sf_format.specs.PrintRules.{precision_number, print_letter_rules, flag_rules}
-use Rattle.sf_format.proofs.Outcomes.{within}
+use Rattle.sf_format.specs.PrintRules.{print_letter_rules, flag_rules}
 
 pub first_left : (a b : List Rule) (f : FormatWhy × ℕ) → first_of a ≡ Some f → first_of (a ++ b) ≡ Some f
 first_left a b f e = rw (first_append a b, e)
@@ -76,7 +75,6 @@ made_by true profile place q b x o letter listed c set same found none is conver
 made_by false profile place q b x o letter listed c set other found none is conversion shape =
     rw other (letter, c, found, conversion, shape, refl)
 
--- the conversion that was made is what the part stands for
 pub match_map : {A : Type 0} (N : Type 0) (P Q : A → Type 0) → ((a : A) → P a → Q a) → (o : Option A) → MatchOption o N P → MatchOption o N Q
 match_map N P Q f o h = grind arith
 

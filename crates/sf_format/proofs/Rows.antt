@@ -3,8 +3,7 @@ use Rattle.std.proofs.Common.{◌≡◌, ◌≢◌, ℕ, zero, suc, ◌+◌, Boo
 use Rattle.std.specs.Prelude.{codes, replicate, if◌then◌else◌}
 use Rattle.sf_base.specs.declared.values.Kind.TheVariants.{I32}
 use Rattle.sf_format.specs.declared.directive.Profile.TheVariants.{One, Two}
-use Rattle.sf_format.specs.Language.{Language}
-use Rattle.sf_format.specs.Language.{Scan, Print}
+use Rattle.sf_format.specs.Language.{Language, Scan, Print}
 use Rattle.sf_format.specs.declared.directive.Base.TheVariants.{Dec}
 use Rattle.sf_format.specs.declared.directive.Shape.TheVariants.{Int}
 use Rattle.sf_format.specs.declared.directive.Conversion.{Conversion}

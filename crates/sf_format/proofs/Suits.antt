@@ -25,15 +25,14 @@ use Rattle.sf_format.proofs.Cutting.{IsLast, HasParts}
 use Rattle.sf_format.proofs.Rules.{Quiet, quiet_is}
 use Rattle.sf_format.specs.Passing.{is_set}
 use Rattle.std.specs.Char.{digit_value}
-use Rattle.std.specs.Option.{option_map}
 use Rattle.std.proofs.Math.Nat.{mul-pos}
 use native.Mathlib.Nat.{pow-suc}
 use Rattle.sf_format.specs.declared.directive.Profile.TheVariants as profiles
 use Rattle.sf_format.specs.declared.unit.PrintLetter.{PrintLetter}
 use Rattle.sf_format.specs.PrintLetters.{print_row, added_print_letters, print_letters, print_letter_of, print_kind_of}
-use Rattle.sf_format.specs.Units.{has_flag, HasPrecision}
+use Rattle.sf_format.specs.Units.{has_flag}
 use Rattle.sf_format.specs.PrintGrammar.{IsPrecision, StartsAboveZero, SuitsPrint}
-use Rattle.sf_format.specs.PrintRules.{flags_place, precision_number, foreign_flag, takes_one, print_letter_rules, flag_rules}
+use Rattle.sf_format.specs.PrintRules.{flags_place, precision_number, foreign_flag, print_letter_rules, flag_rules}
 
 -- ---- letters
 
@@ -231,21 +230,9 @@ width_low (d ∷ ds) digits first =
 
 -- ---- the precision
 
-precision_from : (precision : Option (List ℕ)) → IfSome precision (AllPass is_decimal) → nat_lt 255 (precision_number precision) ≡ false
-    → IfSome precision IsPrecision
-precision_from precision digits e = grind (arith, nat_tests)
-
 precision_test : (precision : Option (List ℕ)) → IfSome precision IsPrecision
     → (nat_lt 255 (precision_number precision) ≡ false) × IfSome precision (AllPass is_decimal)
 precision_test precision h = grind (arith, nat_tests)
-
-one_from : (letter : PrintLetter) (precision : Option (List ℕ)) → (takes_one letter && is_some precision) ≡ false
-    → HasPrecision letter (option_map (λ ds. magnitude 10 ds) precision)
-one_from letter precision e = grind arith
-
-one_test : (letter : PrintLetter) (precision : Option (List ℕ)) → HasPrecision letter (option_map (λ ds. magnitude 10 ds) precision)
-    → (takes_one letter && is_some precision) ≡ false
-one_test letter precision h = grind arith
 
 -- ---- flags
 
@@ -270,8 +257,8 @@ suits_print_from p letter o b place q e parts own opening rules flags = record {
   had = none_foreign letter (flags_place place o) o.flags flags.0;
   width = number_from 65535 o.width parts.width (width_low o.width parts.width own.1) opening.1.0;
   first = own.1;
-  precision = precision_from o.precision parts.precision opening.1.1.0;
-  one = one_from letter o.precision flags.1.0;
+  precision = grind (arith, nat_tests, parts.precision, opening.1.1.0);
+  one = grind (arith, flags.1.0);
   size = (print_letter_is p b letter e).allowed o q rules;
 }
 
@@ -286,7 +273,7 @@ pub print_letter_quiet : (p : Profile) (letter : PrintLetter) (o : Opening) (b q
 print_letter_quiet p letter o b q e suits = (print_letter_is p b letter e).quiet o q suits.size
 
 pub flags_quiet : (letter : PrintLetter) (o : Opening) (place : ℕ) → SuitsPrint letter o → Quiet (flag_rules place o (Some letter))
-flags_quiet letter o place suits = (had_quiet letter (flags_place place o) o.flags suits.had, (one_test letter o.precision suits.one, tt))
+flags_quiet letter o place suits = (had_quiet letter (flags_place place o) o.flags suits.had, (grind (arith, suits.one), tt))
 
 pub suits_print_parts : (letter : PrintLetter) (o : Opening) → SuitsPrint letter o → HasParts o
 suits_print_parts letter o suits = record {

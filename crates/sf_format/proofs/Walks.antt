@@ -19,7 +19,7 @@ use Rattle.sf_format.proofs.Destinations.{destinations_push, at_most_one}
 use Rattle.sf_format.proofs.Meanings.{mean_push}
 use Rattle.sf_format.proofs.Parts.{begins_with, empty_text}
 use Rattle.sf_format.proofs.Judgements.{Judgement}
-use Rattle.sf_format.proofs.WholeTexts.{put_all, read_part, read_fault, nothing_read, no_bytes}
+use Rattle.sf_format.proofs.WholeTexts.{put_all, put_none, read_part, read_fault, nothing_read, no_bytes}
 
 pub bytes_of : (xs : List ℕ) → ((i : ℕ) → get_or xs i 0 < 256) → AreBytes xs
 bytes_of [] h = tt
@@ -47,12 +47,8 @@ passing_none language text slots bytes holds = record {
   few = omega arith;
   fuel = length text;
   enough = omega arith;
-  decides = alone (read (length text) language [] 0 text);
+  decides = put_none (read (length text) language [] 0 text);
 }
-  where
-    alone : (r : Judgement) → r ≡ put_all [] r
-    alone (Ok pieces) = refl
-    alone (Err fault) = refl
 
 pub put_push : (done : List Piece) (piece : Piece) (r : Judgement) → put_all done (put piece r) ≡ put_all (done ++ piece ∷ []) r
 put_push done piece (Ok pieces) = rw (append_assoc done (piece ∷ []) pieces)

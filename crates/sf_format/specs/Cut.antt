@@ -8,8 +8,7 @@ use Rattle.sf_format.specs.declared.letter.Length.{Length}
 use Rattle.sf_format.specs.declared.letter.Length.TheVariants.{NoLength, HH, H, LL, L, J, Z, T}
 use Rattle.sf_format.specs.Letters.{length_text}
 use Rattle.sf_format.specs.Scanlist.{Scanlist, is_inner}
-use Rattle.sf_format.specs.Language.{Language}
-use Rattle.sf_format.specs.Language.{Scan, Print}
+use Rattle.sf_format.specs.Language.{Language, Scan, Print}
 use Rattle.sf_format.specs.PrintLetters.{is_flag}
 use Rattle.sf_format.specs.Pieces.{Opening, Piece, WhiteSpace, Ordinary, Percents, Plain, Bracket}
 

@@ -4,8 +4,7 @@ use Prim.Native.Char.{code}
 use Rattle.std.specs.List.{AllByRecursion, list_all}
 use Rattle.sf_base.specs.Bytes.{magnitude}
 use Rattle.sf_format.specs.declared.directive.Profile.{Profile}
-use Rattle.sf_format.specs.Language.{Language}
-use Rattle.sf_format.specs.Language.{Scan, Print}
+use Rattle.sf_format.specs.Language.{Language, Scan, Print}
 use Rattle.sf_format.specs.declared.fault.FormatFault.{FormatFault}
 use Rattle.sf_format.specs.declared.fault.FormatWhy.{FormatWhy}
 use Rattle.sf_format.specs.declared.fault.FormatWhy.TheVariants.{Truncated, ZeroWidth, TooWide, UnknownLetter, LeftOut, BadLength, OpenSet, BackwardRange, BadCount, BadNumber, NumberTwice, NumberGap, Nul, FormatTooLong, NoMemory}
@@ -27,8 +26,8 @@ is_left_out b = is_any_of (codes "mLaAeEfFgGpCS") b
 -- ---- the faults inside one specification
 
 -- the parts before the letter; p is the place of the %
-abbrev pub scan_opening_rules : ℕ → Opening → List Rule
-scan_opening_rules p o =
+abbrev pub opening_rules : Language → ℕ → Opening → List Rule
+opening_rules (Scan profile) p o =
     let star_at = p + 1 + length (number_text o.number) in
     let width_at = star_at + length (star_text o.star) in
     let number = magnitude 10 o.number in
@@ -38,9 +37,6 @@ scan_opening_rules p o =
     ∷ record { why = ZeroWidth; applies = is_written o.width && nat_eq width 0; at = width_at }
     ∷ record { why = TooWide; applies = nat_lt 65535 width; at = width_at }
     ∷ []
-
-abbrev pub opening_rules : Language → ℕ → Opening → List Rule
-opening_rules (Scan profile) p o = scan_opening_rules p o
 opening_rules (Print profile) p o = print_opening_rules p o
 
 -- the letter, at q

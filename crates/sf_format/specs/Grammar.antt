@@ -15,8 +15,7 @@ use Rattle.sf_format.specs.declared.letter.Letter.TheVariants.{Signed, Unsigned,
 use Rattle.sf_format.specs.Letters.{letter_of, kind_of}
 use Rattle.sf_format.specs.Scanlist.{IsScanlist, IsSetOf}
 use Rattle.sf_format.specs.Slots.{AreDistinct, slot_of}
-use Rattle.sf_format.specs.Language.{Language}
-use Rattle.sf_format.specs.Language.{Scan, Print}
+use Rattle.sf_format.specs.Language.{Language, Scan, Print}
 use Rattle.sf_format.specs.declared.unit.Unit.{Unit as PrintUnit}
 use Rattle.sf_format.specs.PrintGrammar.{IsPrintPiece, Prints}
 use Rattle.sf_format.specs.Pieces.{Opening, Piece, WhiteSpace, Ordinary, Percents, Plain, Bracket, text_of}

@@ -17,8 +17,7 @@ use Rattle.sf_format.specs.declared.letter.Letter.TheVariants.{Set}
 use Rattle.sf_format.specs.declared.opening.Written.{Written}
 use Rattle.sf_format.specs.declared.slots.Slots.{Slots}
 use Rattle.sf_format.specs.declared.scan.scanlist.Listed.{Listed}
-use Rattle.sf_format.specs.Language.{Language}
-use Rattle.sf_format.specs.Language.{Scan, Print}
+use Rattle.sf_format.specs.Language.{Language, Scan, Print}
 use Rattle.sf_format.specs.PrintGrammar.{StartsAboveZero}
 use Rattle.sf_format.specs.declared.grammar.Passed.{Passed}
 use Rattle.sf_format.specs.declared.grammar.Literal.{Literal}

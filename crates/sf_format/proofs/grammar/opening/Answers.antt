@@ -14,12 +14,10 @@ returns-clause-parts g c =
     (parts_shorter (g.G.Grammar.language c.args.grammar) c.args.text.now)
 
 pub returns-clause-number : goal.returns-clause-number
-returns-clause-number g c =
-    (subst HasParts (sym c.cut_opening.ensures.opening) (cut_parts (g.G.Grammar.language c.args.grammar) c.args.text.now)).number
+returns-clause-number g c = (subst HasParts (sym c.cut_opening.ensures.opening) (cut_parts (g.G.Grammar.language c.args.grammar) c.args.text.now)).number
 
 pub returns-clause-width : goal.returns-clause-width
-returns-clause-width g c =
-    (subst HasParts (sym c.cut_opening.ensures.opening) (cut_parts (g.G.Grammar.language c.args.grammar) c.args.text.now)).width
+returns-clause-width g c = (subst HasParts (sym c.cut_opening.ensures.opening) (cut_parts (g.G.Grammar.language c.args.grammar) c.args.text.now)).width
 
 pub returns-clause-precision : goal.returns-clause-precision
 returns-clause-precision g c =
