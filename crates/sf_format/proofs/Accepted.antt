@@ -10,7 +10,7 @@ use Rattle.sf_format.specs.declared.directive.Directive.{Directive}
 use Rattle.sf_format.specs.Language.{Scan, Print}
 use Rattle.sf_format.specs.declared.letter.Letter.{Letter}
 use Rattle.sf_format.specs.declared.letter.Length.{Length}
-use Rattle.sf_format.specs.Letters.{kind_of, sized_kind}
+use Rattle.sf_format.specs.Letters.{kind_of}
 use Rattle.sf_format.specs.Digits.{IsOptionalNumber}
 use Rattle.sf_format.specs.Pieces.{Opening, Piece, Ordinary, Plain, Bracket, Percents}
 use Rattle.sf_format.specs.Grammar.{IsScanPiece, shape_of, width_of, Means, Spells, SpellsPrint}
@@ -20,11 +20,9 @@ use Rattle.sf_format.proofs.Meanings.{scan_slots, mean_each, print_slots}
 use Rattle.sf_format.proofs.PartSlots.{all_short, format_few, slots_good, slots_count}
 use Rattle.sf_base.specs.Bytes.{magnitude}
 use Rattle.sf_format.specs.declared.unit.PrintLetter.{PrintLetter}
-use Rattle.sf_format.specs.declared.letter.Values.{Values}
 use Rattle.sf_format.specs.declared.unit.PrintConv.{PrintConv}
 use Rattle.sf_format.specs.declared.unit.Unit.{Unit as PrintUnit}
-use Rattle.sf_format.specs.PrintLetters.{print_row}
-use Rattle.sf_format.specs.Units.{holds_kind, has_flag, IsProperConv, IsProperUnit, AreAccepted}
+use Rattle.sf_format.specs.Units.{has_flag, IsProperConv, IsProperUnit, AreAccepted}
 use Rattle.sf_format.specs.PrintGrammar.{SuitsPrint, IsPrintPiece, is_set_flag, IsPrintConv, Prints}
 
 -- the first member is listed
@@ -90,9 +88,6 @@ proper profile text ds (pieces, is, e, means) =
 
 -- ---- letters
 
-values_fit : (v : Values) (size : Length) (k : Kind) → sized_kind v size ≡ Some k → holds_kind v k ≡ true
-values_fit v size k e = grind arith
-
 -- a flag that the letter doesn't have is none of those that it has
 unset : (letter : PrintLetter) (flag : ℕ) (flags : List ℕ) → AllByRecursion (λ b. has_flag letter b ≡ true) flags → has_flag letter flag ≡ false
     → is_set_flag flag flags ≡ false
@@ -108,7 +103,7 @@ width_within (d ∷ ds) h = h.2
 proper_conversion : (place : ℕ) (o : Opening) (letter : PrintLetter) (c : PrintConv) → SuitsPrint letter o → IsPrintConv place o letter c
     → IsProperConv c
 proper_conversion place o letter c suits h = record {
-  kind = rw h.prints (values_fit (print_row letter).prints o.size c.kind h.kind);
+  kind = rw h.prints (grind (arith, h.kind));
   plus = λ e. h.plus ∙ unset letter 43 o.flags suits.had (rw h.prints at e);
   blank = λ e. h.blank ∙ unset letter 32 o.flags suits.had (rw h.prints at e);
   alt = λ e. h.alt ∙ unset letter 35 o.flags suits.had (rw h.prints at e);

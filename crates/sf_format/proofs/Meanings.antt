@@ -108,9 +108,6 @@ set_same list a b h k =
 
 -- ---- conversions
 
-shape_same : (letter : Letter) (s t : Shape) → shape_of letter s → shape_of letter t → s ≡ t
-shape_same letter s t h k = grind arith
-
 abbrev made : Shape → Kind → Option ℕ → Option ℕ → Conversion
 made s k w n = record { shape = s; kind = k; width = w; slot = n }
 
@@ -124,7 +121,8 @@ conversion_same place o letter c d h k same =
 means_one : (profile : Profile) (place : ℕ) (piece : Piece) (d e : Directive) → Means profile place piece d → Means profile place piece e → d ≡ e
 means_one profile place (Plain o b) d e h k =
     let same : h.0 ≡ k.0 = let f = sym h.2 ∙ k.2 in cc in
-    rw (h.5, k.5, conversion_same place o k.0 h.1 k.1 (rw same at h.3) k.3 (shape_same k.0 h.1.shape k.1.shape (rw same at h.4) k.4))
+    let shape = rw same at h.4 in
+    rw (h.5, k.5, conversion_same place o k.0 h.1 k.1 (rw same at h.3) k.3 (grind (arith, shape, k.4)))
 means_one profile place (Bracket o list) d e h k =
     let sets = set_same list h.1 k.1 h.3 k.3 in
     rw (h.5, k.5, conversion_same place o Set h.0 k.0 h.2 k.2 (rw (h.4, k.4, sets)))
@@ -173,25 +171,20 @@ means_slot profile place _ d h = rw h
 pub scan_slots : (profile : Profile) → HasSlots Directive (Means profile) destination_of
 scan_slots profile = record { slot = means_slot profile }
 
-abbrev print_made : PrintLetter → Kind → ℕ → Bool → Bool → Bool → Bool → Bool → ℕ → Option ℕ → PrintConv
-print_made l k n minus plus blank alt zero w p = record {
-  letter = l;
-  kind = k;
-  slot = n;
-  minus = minus;
-  plus = plus;
-  blank = blank;
-  alt = alt;
-  zero = zero;
-  width = w;
-  precision = p;
-}
-
 -- the conversion, but for its kind and its slot
 abbrev told_by : Opening → PrintLetter → Kind × ℕ → PrintConv
-told_by o letter k =
-    print_made letter k.0 k.1 (is_set_flag 45 o.flags) (is_set_flag 43 o.flags) (is_set_flag 32 o.flags)
-    (is_set_flag 35 o.flags) (is_set_flag 48 o.flags) (magnitude 10 o.width) (option_map (λ ds. magnitude 10 ds) o.precision)
+told_by o letter k = record {
+  letter = letter;
+  kind = k.0;
+  slot = k.1;
+  minus = is_set_flag 45 o.flags;
+  plus = is_set_flag 43 o.flags;
+  blank = is_set_flag 32 o.flags;
+  alt = is_set_flag 35 o.flags;
+  zero = is_set_flag 48 o.flags;
+  width = magnitude 10 o.width;
+  precision = option_map (λ ds. magnitude 10 ds) o.precision;
+}
 
 is_told : (place : ℕ) (o : Opening) (letter : PrintLetter) (c : PrintConv) → IsPrintConv place o letter c → c ≡ told_by o letter (c.kind, c.slot)
 is_told place o letter c h =
