@@ -9,26 +9,21 @@ use Rattle.sf_format.specs.declared.directive.Shape.{Shape}
 use Rattle.sf_format.specs.declared.directive.Directive.{Directive}
 use Rattle.sf_format.specs.Language.{Scan, Print}
 use Rattle.sf_format.specs.declared.letter.Letter.{Letter}
-use Rattle.sf_format.specs.declared.letter.Letter.TheVariants.{Set}
 use Rattle.sf_format.specs.declared.letter.Length.{Length}
-use Rattle.sf_format.specs.Letters.{kind_of, sized_kind}
+use Rattle.sf_format.specs.Letters.{kind_of}
 use Rattle.sf_format.specs.Digits.{IsOptionalNumber}
-use Rattle.sf_format.specs.Pieces.{Piece, Ordinary, Plain, Bracket, Printed, PrintOpening, Percents}
+use Rattle.sf_format.specs.Pieces.{Opening, Piece, Ordinary, Plain, Bracket, Percents}
 use Rattle.sf_format.specs.Grammar.{IsScanPiece, shape_of, width_of, Means, Spells, SpellsPrint}
 use Rattle.sf_format.specs.Proper.{HasItsKind, IsKinded, HasItsWidth, IsSized, IsProperShape, IsProperWidth, IsProper, AreProper, AreSized, AreKinded, IsAccepted}
 use Rattle.sf_format.proofs.Suits.{text_kinded}
 use Rattle.sf_format.proofs.Meanings.{scan_slots, mean_each, print_slots}
 use Rattle.sf_format.proofs.PartSlots.{all_short, format_few, slots_good, slots_count}
-use Rattle.std.specs.Prelude.{IfSome}
-use Rattle.std.specs.Option.{option_map}
 use Rattle.sf_base.specs.Bytes.{magnitude}
 use Rattle.sf_format.specs.declared.unit.PrintLetter.{PrintLetter}
-use Rattle.sf_format.specs.declared.letter.Values.{Values}
 use Rattle.sf_format.specs.declared.unit.PrintConv.{PrintConv}
 use Rattle.sf_format.specs.declared.unit.Unit.{Unit as PrintUnit}
-use Rattle.sf_format.specs.PrintLetters.{print_row}
-use Rattle.sf_format.specs.Units.{holds_kind, has_flag, IsProperConv, IsProperUnit, AreAccepted}
-use Rattle.sf_format.specs.PrintGrammar.{IsPrecision, SuitsPrint, IsPrintPiece, is_set_flag, IsPrintConv, Prints}
+use Rattle.sf_format.specs.Units.{has_flag, IsProperConv, IsProperUnit, AreAccepted}
+use Rattle.sf_format.specs.PrintGrammar.{SuitsPrint, IsPrintPiece, is_set_flag, IsPrintConv, Prints}
 
 -- the first member is listed
 first_listed : (n : ℕ) (first : ℕ) (others : List ℕ) → backward_range n (first ∷ others) ≡ None → is_listed (first ∷ others) first ≡ true
@@ -61,9 +56,6 @@ plain_good : (letter : Letter) (s : Shape) (ds : List ℕ) (size : Length) (k : 
     → IsOptionalNumber 65535 ds → IsGood s (width_of letter ds) k
 plain_good letter s ds size k h is number = grind (arith, text_kinded size k)
 
-set_width : (ds : List ℕ) → IsOptionalNumber 65535 ds → IsProperWidth (width_of Set ds)
-set_width ds h = grind arith
-
 abbrev IsGoodDirective : Directive → Type 0
 IsGoodDirective d = IsProper d × IsSized d × IsKinded d
 
@@ -75,8 +67,7 @@ good_one profile place (Plain o b) d is h =
 good_one profile place (Bracket o list) d is h =
     let m = some_member list is.1 is.1.bytes.0 in
     rw (h.5, h.2.width, h.4)
-    (((m.0, m.1, rw (h.3.1 m.0 m.1) m.2), set_width o.width is.0.width), tt, text_kinded o.size h.0.kind h.2.kind)
-good_one profile place (Printed o b) d is h = absurd is
+    (((m.0, m.1, rw (h.3.1 m.0 m.1) m.2), grind (arith, is.0.width)), tt, text_kinded o.size h.0.kind h.2.kind)
 good_one profile place _ d is h = rw h (tt, tt, tt)
 
 all_good : (ds : List Directive) → AllByRecursion IsGoodDirective ds → AreProper ds × AreSized ds × AreKinded ds
@@ -97,9 +88,6 @@ proper profile text ds (pieces, is, e, means) =
 
 -- ---- letters
 
-values_fit : (v : Values) (size : Length) (k : Kind) → sized_kind v size ≡ Some k → holds_kind v k ≡ true
-values_fit v size k e = grind arith
-
 -- a flag that the letter doesn't have is none of those that it has
 unset : (letter : PrintLetter) (flag : ℕ) (flags : List ℕ) → AllByRecursion (λ b. has_flag letter b ≡ true) flags → has_flag letter flag ≡ false
     → is_set_flag flag flags ≡ false
@@ -112,19 +100,16 @@ width_within : (ds : List ℕ) → IsOptionalNumber 65535 ds → magnitude 10 ds
 width_within [] h = omega arith
 width_within (d ∷ ds) h = h.2
 
-precision_within : (precision : Option (List ℕ)) → IfSome precision IsPrecision → IfSome (option_map (λ ds. magnitude 10 ds) precision) (λ p. p ≤ 255)
-precision_within precision h = grind arith
-
-proper_conversion : (place : ℕ) (o : PrintOpening) (letter : PrintLetter) (c : PrintConv) → SuitsPrint letter o → IsPrintConv place o letter c
+proper_conversion : (place : ℕ) (o : Opening) (letter : PrintLetter) (c : PrintConv) → SuitsPrint letter o → IsPrintConv place o letter c
     → IsProperConv c
 proper_conversion place o letter c suits h = record {
-  kind = rw h.prints (values_fit (print_row letter).prints o.size c.kind h.kind);
+  kind = rw h.prints (grind (arith, h.kind));
   plus = λ e. h.plus ∙ unset letter 43 o.flags suits.had (rw h.prints at e);
   blank = λ e. h.blank ∙ unset letter 32 o.flags suits.had (rw h.prints at e);
   alt = λ e. h.alt ∙ unset letter 35 o.flags suits.had (rw h.prints at e);
   zero = λ e. h.zero ∙ unset letter 48 o.flags suits.had (rw h.prints at e);
   width = rw h.width (width_within o.width suits.width);
-  precision = rw h.precision (precision_within o.precision suits.precision);
+  precision = rw h.precision (grind (arith, suits.precision));
   one = rw (h.prints, h.precision) suits.one;
 }
 
@@ -132,7 +117,7 @@ proper_unit : (profile : Profile) (place : ℕ) (piece : Piece) (u : PrintUnit) 
     → IsProperUnit u
 proper_unit profile place (Ordinary b) u is h = rw h is.0
 proper_unit profile place Percents u is h = rw h (omega arith)
-proper_unit profile place (Printed o b) u is h =
+proper_unit profile place (Plain o b) u is h =
     let same : is.0 ≡ h.0 = let e = sym is.1 ∙ h.2 in cc in
     rw h.4 (proper_conversion place o h.0 h.1 (rw same at is.2) h.3)
 proper_unit profile place _ u is h = absurd is

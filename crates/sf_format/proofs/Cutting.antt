@@ -1,5 +1,5 @@
--- The cut of a conversion specification gives its parts, and joins to its text, in scan formats and in print formats.
-use Rattle.std.proofs.Common.{◌≡◌, ℕ, ◌+◌, ◌≤◌, Bool, true, false, ◌||◌, nat_eq, List, [], ◌∷◌, ◌++◌, length, drop, refl, sym, ap, ◌∙◌, append_assoc, length-append, arith, Option, Some, None}
+-- The cut of a conversion specification gives its parts, and joins to its text.
+use Rattle.std.proofs.Common.{◌≡◌, ℕ, ◌+◌, ◌≤◌, Bool, true, false, ◌||◌, nat_eq, List, [], ◌∷◌, ◌++◌, length, drop, refl, ap, ◌∙◌, append_assoc, length-append, arith, Option, Some, None}
 use Rattle.std.proofs.lemmas.Bool.Decides.{nat_tests}
 use Rattle.std.specs.Prelude.{codes, IfSome}
 use Rattle.sf_format.specs.Digits.{is_decimal}
@@ -8,11 +8,13 @@ use Rattle.sf_format.specs.declared.letter.Length.{Length}
 use Rattle.sf_format.specs.declared.letter.Length.TheVariants.{NoLength, HH, H, LL, L, J, Z, T}
 use Rattle.sf_format.specs.Letters.{length_text}
 use Rattle.sf_format.specs.PrintLetters.{is_flag}
-use Rattle.sf_format.specs.Pieces.{Opening, number_text, star_text, opening_text, PrintOpening, precision_text, print_opening_text}
-use Rattle.sf_format.specs.Cut.{number_before, number_at, first_length, length_at, cut, precision_behind, precision_at, print_cut}
+use Rattle.sf_format.specs.Language.{Language, Scan, Print}
+use Rattle.sf_format.specs.Pieces.{Opening, number_text, star_text, opening_text, precision_text}
+use Rattle.sf_format.specs.Cut.{number_before, number_at, first_length, length_at, cut, precision_behind, precision_at}
 use Rattle.sf_format.proofs.Prefixes.{Stops, AllPass, front_behind, front_passes, front_of, behind_of, behind_stops}
 use Rattle.sf_format.proofs.Rules.{all_map, all_append}
 use Rattle.sf_format.specs.PrintGrammar.{StartsAboveZero}
+use Rattle.sf_format.specs.Passing.{IsIn}
 
 -- ---- a byte in front
 
@@ -52,9 +54,6 @@ head_stops x stops = stops_less is_head is_part (λ b e. grind arith) x stops
 
 pub digit_stops : (x : List ℕ) → Stops is_head x → Stops is_decimal x
 digit_stops x stops = stops_less is_decimal is_head (λ b e. grind arith) x stops
-
-pub digits_inside : (ds : List ℕ) → AllPass is_decimal ds → AllPass is_inside ds
-digits_inside ds h = all_map (λ b. is_decimal b ≡ true) (λ b. is_inside b ≡ true) (λ b e. rw e) ds h
 
 -- ---- the number
 
@@ -137,88 +136,33 @@ sized_stops _ letter x last = refl
 
 -- what stands behind the % of an opening
 abbrev pub inside : Opening → List ℕ → List ℕ
-inside o y = number_text o.number ++ (star_text o.star ++ (o.width ++ (length_text o.size ++ y)))
+inside o y = number_text o.number ++ (star_text o.star ++ (o.flags ++ (o.width ++ (precision_text o.precision ++ (length_text o.size ++ y)))))
 
-abbrev pub HasDigits : Opening → Type 0
-HasDigits o = AllPass is_decimal o.number × AllPass is_decimal o.width
+-- its parts have these bytes
+pub record HasParts (o : Opening) : Type 0 where
+  pub number : AllPass is_decimal o.number
+  pub flags : AllPass is_flag o.flags
+  pub width : AllPass is_decimal o.width
+  pub precision : IfSome o.precision (AllPass is_decimal)
 
-star_inside : (star : Bool) (width : List ℕ) → AllPass is_decimal width → AllPass is_inside (star_text star ++ width)
-star_inside true width h = (refl, digits_inside width h)
-star_inside false width h = digits_inside width h
+parts_inside : (star : Bool) (flags width : List ℕ) → AllPass is_flag flags → AllPass is_decimal width
+    → AllPass is_inside (star_text star ++ (flags ++ width))
+parts_inside star flags width h k = by_star star
+  where
+    inside : AllPass is_inside (flags ++ width)
+    inside =
+        all_append (λ b. is_inside b ≡ true) flags width (all_map (λ b. is_flag b ≡ true) (λ b. is_inside b ≡ true) (λ b e. grind arith) flags h)
+        (all_map (λ b. is_decimal b ≡ true) (λ b. is_inside b ≡ true) (λ b e. rw e) width k)
+
+    by_star : (v : Bool) → AllPass is_inside (star_text v ++ (flags ++ width))
+    by_star true = (refl, inside)
+    by_star false = inside
 
 star_of : (star : Bool) (width z : List ℕ) → AllPass is_decimal width → Stops is_head z
     → mark_at 42 (star_text star ++ (width ++ z)) ≡ (star, width ++ z)
 star_of true width z digits stops = refl
 star_of false [] z digits stops = mark_none 42 z (stops_less (λ b. nat_eq b 42) is_head (λ b e. grind arith) z stops)
 star_of false (d ∷ ds) z digits stops = mark_none 42 (d ∷ (ds ++ z)) (grind (arith, nat_tests))
-
--- it begins with no %, and is cut where it was joined
-pub cut_of : (o : Opening) (letter : ℕ) (x : List ℕ) → HasDigits o → IsLast letter
-    → (begins (37 ∷ []) (inside o (letter ∷ x)) ≡ false) × (cut (inside o (letter ∷ x)) ≡ record { opening = o; rest = letter ∷ x })
-cut_of o letter x digits last =
-    let z = length_text o.size ++ letter ∷ x in
-    let head = head_stops z (sized_stops o.size letter x last) in
-    let inner = star_inside o.star o.width digits.1 in
-    let whole : star_text o.star ++ (o.width ++ z) ≡ (star_text o.star ++ o.width) ++ z = sym (append_assoc (star_text o.star) o.width z) in
-    let number : number_at (inside o (letter ∷ x)) ≡ (o.number, star_text o.star ++ (o.width ++ z))
-    = rw whole (number_of o.number (star_text o.star ++ o.width) z digits.0 inner head) in
-    let stops = digit_stops z head in (
-      rw whole (percent_none o.number (star_text o.star ++ o.width) z digits.0 inner head),
-      rw (
-        number,
-        star_of o.star o.width z digits.1 head,
-        front_of is_decimal o.width z digits.1 stops,
-        behind_of is_decimal o.width z digits.1 stops,
-        length_of o.size letter x last,
-        length_dropped o.size (letter ∷ x),
-      ),
-    )
-
-pub cut_joined : (x : List ℕ) → inside (cut x).opening (cut x).rest ≡ x
-cut_joined x =
-    let number = number_at x in
-    let star = mark_at 42 number.1 in
-    rw (length_whole (behind is_decimal star.1), front_behind is_decimal star.1, mark_joined star_text 42 number.1 refl refl) (number_whole x)
-
-pub cut_digits : (x : List ℕ) → HasDigits (cut x).opening
-cut_digits x = (number_passing x, front_passes is_decimal (mark_at 42 (number_at x).1).1)
-
-pub opening_regroup : (o : Opening) (y : List ℕ) → opening_text o ++ y ≡ 37 ∷ inside o y
-opening_regroup o y = simp append_assoc
-
--- ---- lengths
-
-pub number_text_longer : (number : List ℕ) → length number ≤ length (number_text number)
-number_text_longer [] = omega arith
-number_text_longer (d ∷ ds) = omega (arith, length-append ds (36 ∷ []))
-
-pub length-cut : (x : List ℕ) → length (opening_text (cut x).opening) + length (cut x).rest ≡ 1 + length x
-length-cut x =
-    let e = opening_regroup (cut x).opening (cut x).rest ∙ ap (λ t. 37 ∷ t) (cut_joined x) in
-    omega (arith, length-append (opening_text (cut x).opening) (cut x).rest, ap length e)
-
--- the digits of a number are part of what was cut
-pub number_shorter : (x : List ℕ) → length (cut x).opening.number ≤ length x
-number_shorter x =
-    let o = (cut x).opening in
-    let later = star_text o.star ++ (o.width ++ (length_text o.size ++ (cut x).rest)) in
-    omega (arith, ap length (cut_joined x), length-append (number_text o.number) later, number_text_longer o.number)
-
-abbrev pub HasPrintDigits : PrintOpening → Type 0
-HasPrintDigits o =
-    AllPass is_decimal o.number × AllPass is_flag o.flags × AllPass is_decimal o.width × StartsAboveZero o.width
-    × IfSome o.precision (AllPass is_decimal)
-
--- what stands behind the % of an opening
-abbrev pub print_inside : PrintOpening → List ℕ → List ℕ
-print_inside o y = number_text o.number ++ (o.flags ++ (o.width ++ (precision_text o.precision ++ (length_text o.size ++ y))))
-
--- ---- the whole cut
-
-flags_inside : (flags width : List ℕ) → AllPass is_flag flags → AllPass is_decimal width → AllPass is_inside (flags ++ width)
-flags_inside flags width h k =
-    all_append (λ b. is_inside b ≡ true) flags width (all_map (λ b. is_flag b ≡ true) (λ b. is_inside b ≡ true) (λ b e. grind arith) flags h)
-    (digits_inside width k)
 
 width_stops : (width z : List ℕ) → AllPass is_decimal width → StartsAboveZero width → Stops is_head z → Stops is_flag (width ++ z)
 width_stops [] z digits first stops = stops_less is_flag is_head (λ b e. grind arith) z stops
@@ -234,35 +178,61 @@ precision_is (Some ds) z digits stops =
     let other = digit_stops z (head_stops z stops) in
     rw (front_of is_decimal ds z digits other, behind_of is_decimal ds z digits other)
 
-pub print_cut_of : (o : PrintOpening) (letter : ℕ) (x : List ℕ) → HasPrintDigits o → IsLast letter
-    → (begins (37 ∷ []) (print_inside o (letter ∷ x)) ≡ false) × (print_cut (print_inside o (letter ∷ x)) ≡ record { opening = o; rest = letter ∷ x })
-print_cut_of o letter x digits last =
+-- behind the number
+cut_behind : (language : Language) (o : Opening) (letter : ℕ) (x : List ℕ) → HasParts o → IsIn language o → IsLast letter
+    → number_at (inside o (letter ∷ x))
+    ≡ (o.number, star_text o.star ++ (o.flags ++ (o.width ++ (precision_text o.precision ++ (length_text o.size ++ letter ∷ x)))))
+    → cut language (inside o (letter ∷ x)) ≡ record { opening = o; rest = letter ∷ x }
+cut_behind (Scan profile) o letter x parts is last number =
+    let z = length_text o.size ++ letter ∷ x in
+    let head = head_stops z (sized_stops o.size letter x last) in
+    let stops = digit_stops z head in
+    rw (
+      number,
+      is.0,
+      is.1,
+      star_of o.star o.width z parts.width head,
+      front_of is_decimal o.width z parts.width stops,
+      behind_of is_decimal o.width z parts.width stops,
+      length_of o.size letter x last,
+      length_dropped o.size (letter ∷ x),
+    )
+cut_behind (Print profile) o letter x parts is last number =
     let sized = length_text o.size ++ letter ∷ x in
     let z = precision_text o.precision ++ sized in
     let part = sized_stops o.size letter x last in
     let head = precision_stops o.precision sized part in
-    let inner = flags_inside o.flags o.width digits.1 digits.2 in
-    let whole : o.flags ++ (o.width ++ z) ≡ (o.flags ++ o.width) ++ z = sym (append_assoc o.flags o.width z) in
-    let number : number_at (print_inside o (letter ∷ x)) ≡ (o.number, o.flags ++ (o.width ++ z))
-    = rw whole (number_of o.number (o.flags ++ o.width) z digits.0 inner head) in
-    let wide = width_stops o.width z digits.2 digits.3 head in
-    let stops = digit_stops z head in (
-      rw whole (percent_none o.number (o.flags ++ o.width) z digits.0 inner head),
-      rw (
-        number,
-        front_of is_flag o.flags (o.width ++ z) digits.1 wide,
-        behind_of is_flag o.flags (o.width ++ z) digits.1 wide,
-        front_of is_decimal o.width z digits.2 stops,
-        behind_of is_decimal o.width z digits.2 stops,
-        precision_is o.precision sized digits.4 part,
-        length_of o.size letter x last,
-        length_dropped o.size (letter ∷ x),
-      ),
+    let wide = width_stops o.width z parts.width is.1 head in
+    let stops = digit_stops z head in
+    rw (
+      number,
+      is.0,
+      front_of is_flag o.flags (o.width ++ z) parts.flags wide,
+      behind_of is_flag o.flags (o.width ++ z) parts.flags wide,
+      front_of is_decimal o.width z parts.width stops,
+      behind_of is_decimal o.width z parts.width stops,
+      precision_is o.precision sized parts.precision part,
+      length_of o.size letter x last,
+      length_dropped o.size (letter ∷ x),
+    )
+
+-- it begins with no %, and is cut where it was joined
+pub cut_of : (language : Language) (o : Opening) (letter : ℕ) (x : List ℕ) → HasParts o → IsIn language o → IsLast letter
+    → (begins (37 ∷ []) (inside o (letter ∷ x)) ≡ false) × (cut language (inside o (letter ∷ x)) ≡ record { opening = o; rest = letter ∷ x })
+cut_of language o letter x parts is last =
+    let sized = length_text o.size ++ letter ∷ x in
+    let z = precision_text o.precision ++ sized in
+    let head = precision_stops o.precision sized (sized_stops o.size letter x last) in
+    let u = star_text o.star ++ (o.flags ++ o.width) in
+    let inner = parts_inside o.star o.flags o.width parts.flags parts.width in
+    let whole : star_text o.star ++ (o.flags ++ (o.width ++ z)) ≡ u ++ z = simp append_assoc in (
+      rw whole (percent_none o.number u z parts.number inner head),
+      cut_behind language o letter x parts is last (rw whole (number_of o.number u z parts.number inner head)),
     )
 
 -- ---- the cut joins
 
-abbrev point_text : Bool → List ℕ
+abbrev pub point_text : Bool → List ℕ
 point_text true = 46 ∷ []
 point_text false = []
 
@@ -271,8 +241,12 @@ precision_joined : (point : Bool) (x : List ℕ)
 precision_joined true x = rw (front_behind is_decimal x)
 precision_joined false x = refl
 
-pub print_cut_joined : (x : List ℕ) → print_inside (print_cut x).opening (print_cut x).rest ≡ x
-print_cut_joined x =
+pub cut_joined : (language : Language) (x : List ℕ) → inside (cut language x).opening (cut language x).rest ≡ x
+cut_joined (Scan profile) x =
+    let number = number_at x in
+    let star = mark_at 42 number.1 in
+    rw (length_whole (behind is_decimal star.1), front_behind is_decimal star.1, mark_joined star_text 42 number.1 refl refl) (number_whole x)
+cut_joined (Print profile) x =
     let number = number_at x in
     let wide = behind is_flag number.1 in
     let pointed = behind is_decimal wide in
@@ -295,38 +269,53 @@ above_zero : (x : List ℕ) → Stops is_flag x → StartsAboveZero (front is_de
 above_zero [] stops = tt
 above_zero (b ∷ x) stops = grind (arith, nat_tests)
 
-pub print_cut_digits : (x : List ℕ) → HasPrintDigits (print_cut x).opening
-print_cut_digits x =
+pub cut_parts : (language : Language) (x : List ℕ) → HasParts (cut language x).opening
+cut_parts (Scan profile) x = record {
+  number = number_passing x;
+  flags = tt;
+  width = front_passes is_decimal (mark_at 42 (number_at x).1).1;
+  precision = tt;
+}
+cut_parts (Print profile) x =
     let number = number_at x in
     let wide = behind is_flag number.1 in
-    let point = mark_at 46 (behind is_decimal wide) in (
-      number_passing x,
-      front_passes is_flag number.1,
-      front_passes is_decimal wide,
-      above_zero wide (behind_stops is_flag number.1),
-      precision_passes point.0 point.1,
-    )
+    let point = mark_at 46 (behind is_decimal wide) in record {
+      number = number_passing x;
+      flags = front_passes is_flag number.1;
+      width = front_passes is_decimal wide;
+      precision = precision_passes point.0 point.1;
+    }
 
-pub print_opening_regroup : (o : PrintOpening) (y : List ℕ) → print_opening_text o ++ y ≡ 37 ∷ print_inside o y
-print_opening_regroup o y = simp append_assoc
+pub cut_in : (language : Language) (x : List ℕ) → IsIn language (cut language x).opening
+cut_in (Scan profile) x = (refl, refl)
+cut_in (Print profile) x = let number = number_at x in (refl, above_zero (behind is_flag number.1) (behind_stops is_flag number.1))
+
+pub opening_regroup : (o : Opening) (y : List ℕ) → opening_text o ++ y ≡ 37 ∷ inside o y
+opening_regroup o y = simp append_assoc
 
 -- ---- lengths
 
-pub length-print_cut : (x : List ℕ) → length (print_opening_text (print_cut x).opening) + length (print_cut x).rest ≡ 1 + length x
-length-print_cut x =
-    let e = print_opening_regroup (print_cut x).opening (print_cut x).rest ∙ ap (λ t. 37 ∷ t) (print_cut_joined x) in
-    omega (arith, length-append (print_opening_text (print_cut x).opening) (print_cut x).rest, ap length e)
+number_text_longer : (number : List ℕ) → length number ≤ length (number_text number)
+number_text_longer [] = omega arith
+number_text_longer (d ∷ ds) = omega (arith, length-append ds (36 ∷ []))
+
+pub length-cut : (language : Language) (x : List ℕ) → length (opening_text (cut language x).opening) + length (cut language x).rest ≡ 1 + length x
+length-cut language x =
+    let cut = cut language x in
+    let e = opening_regroup cut.opening cut.rest ∙ ap (λ t. 37 ∷ t) (cut_joined language x) in
+    omega (arith, length-append (opening_text cut.opening) cut.rest, ap length e)
 
 -- the parts are no longer than what was cut
-pub parts_shorter : (x : List ℕ)
-    → length (print_cut x).opening.number + length (print_cut x).opening.flags + length (print_cut x).opening.width ≤ length x
-parts_shorter x =
-    let o = (print_cut x).opening in
-    let sized = precision_text o.precision ++ (length_text o.size ++ (print_cut x).rest) in
+pub parts_shorter : (language : Language) (x : List ℕ)
+    → let o = (cut language x).opening in length o.number + length o.flags + length o.width ≤ length x
+parts_shorter language x =
+    let o = (cut language x).opening in
+    let sized = precision_text o.precision ++ (length_text o.size ++ (cut language x).rest) in
     omega (
       arith,
-      ap length (print_cut_joined x),
-      length-append (number_text o.number) (o.flags ++ (o.width ++ sized)),
+      ap length (cut_joined language x),
+      length-append (number_text o.number) (star_text o.star ++ (o.flags ++ (o.width ++ sized))),
+      length-append (star_text o.star) (o.flags ++ (o.width ++ sized)),
       length-append o.flags (o.width ++ sized),
       length-append o.width sized,
       number_text_longer o.number,

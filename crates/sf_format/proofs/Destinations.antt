@@ -3,8 +3,9 @@ use Rattle.std.proofs.Common.{◌≡◌, ◌≢◌, ℕ, ◌≤◌, inl, inr, Bo
 use Rattle.std.proofs.lemmas.Bool.Decides.{nat_tests}
 use Rattle.std.specs.List.{AllByRecursion, list_any}
 use Rattle.sf_format.specs.Lists.{is_written}
-use Rattle.sf_format.specs.Pieces.{Opening, Piece, Plain, Bracket, Printed}
-use Rattle.sf_format.specs.Grammar.{AreAlike, assigned_opening, destinations, slot_of, value_opening}
+use Rattle.sf_format.specs.Pieces.{Opening, Piece, Plain, Bracket}
+use Rattle.sf_format.specs.Slots.{slot_of}
+use Rattle.sf_format.specs.Grammar.{AreAlike, assigned_opening, destinations}
 use Rattle.sf_format.specs.Passing.{slot_at, Holds}
 use Rattle.sf_format.specs.Rules.{alike, slot_rules, first_of}
 use Rattle.sf_format.proofs.Outcomes.{by_test}
@@ -96,7 +97,6 @@ pub by_destination : (P : List Opening → Type 0) (piece : Piece) → P [] → 
     → P (destinations (piece ∷ []))
 by_destination P (Plain o letter) none one = by_test o.star (λ v. P (cond v [] (o ∷ []))) (λ t. none) (one o)
 by_destination P (Bracket o list) none one = by_test o.star (λ v. P (cond v [] (o ∷ []))) (λ t. none) (one o)
-by_destination P (Printed o letter) none one = one (value_opening o) refl
 by_destination P _ none one = none
 
 pub at_most_one : (piece : Piece) → length (destinations (piece ∷ [])) ≤ 1
@@ -117,27 +117,31 @@ are_now : (o : Opening) (es : List Opening) → list_any (λ a. not (alike a o))
 are_now o [] e = tt
 are_now o (a ∷ es) e = grind (arith, are_now o es)
 
-pub held_more : (slots : Slots) (o : Opening) (earlier : List Opening) (p : ℕ) → o.star ≡ false → Holds slots earlier
-    → first_of (slot_rules earlier p o) ≡ None
-    → Holds (record { count = slots.count + 1; numbered = is_written o.number }) (earlier ++ assigned_opening o [])
-held_more slots o earlier p plain holds e =
-    let same = are_now o earlier (rw plain at (quiet_is (slot_rules earlier p o) e).0) in
-    let after : List Opening → Type 0 = λ os. Holds (record { count = slots.count + 1; numbered = is_written o.number }) (earlier ++ os) in
-    subst (λ v. after (cond v [] (o ∷ []))) (sym plain)
-    (record {
-      count = omega (arith, length-append earlier (o ∷ []), holds.count);
-      same = all_append (λ a. is_written a.number ≡ is_written o.number) earlier (o ∷ []) same (refl, tt);
-    })
-
 -- before the first part
 pub none_held : Holds (record { count = 0; numbered = false }) []
 none_held = record { count = refl; same = tt }
 
 -- ---- what the code computes
 
-pub written_from_empty : (number : List ℕ) (empty : Bool) → empty ≡ (length number == 0) → not empty ≡ is_written number
+written_from_empty : (number : List ℕ) (empty : Bool) → empty ≡ (length number == 0) → not empty ≡ is_written number
 written_from_empty [] empty e = grind (arith, nat_tests)
 written_from_empty (d ∷ ds) empty e = grind (arith, nat_tests)
+
+pub held_more : (slots : Slots) (o : Opening) (empty : Bool) (earlier : List Opening) (p : ℕ) → o.star ≡ false → empty ≡ (length o.number == 0)
+    → Holds slots earlier → None ≡ first_of (slot_rules earlier p o)
+    → (first_of (slot_rules earlier p o) ≡ None)
+    × Holds (record { count = slots.count + 1; numbered = not empty }) (earlier ++ assigned_opening o [])
+held_more slots o empty earlier p plain is holds none =
+    let same = are_now o earlier (rw plain at (quiet_is (slot_rules earlier p o) (sym none)).0) in
+    let after : List Opening → Type 0 = λ os. Holds (record { count = slots.count + 1; numbered = is_written o.number }) (earlier ++ os) in (
+      sym none,
+      rw (written_from_empty o.number empty is)
+          (subst (λ v. after (cond v [] (o ∷ []))) (sym plain)
+          (record {
+            count = omega (arith, length-append earlier (o ∷ []), holds.count);
+            same = all_append (λ a. is_written a.number ≡ is_written o.number) earlier (o ∷ []) same (refl, tt);
+          })),
+    )
 
 pub mixed_result : (slots : Slots) (o : Opening) (empty : Bool) (earlier : List Opening) → o.star ≡ false → 0 < slots.count
     → empty ≡ (length o.number == 0) → Holds slots earlier

@@ -4,9 +4,9 @@ use Rattle.std.specs.Prelude.{IsSome}
 use Rattle.std.specs.List.{AllByRecursion, range_with_len}
 use Rattle.std.specs.Option.{option_map}
 use Rattle.sf_format.specs.Language.{Language, Scan, Print}
-use Rattle.sf_format.specs.Pieces.{Piece, Opening, WhiteSpace, Ordinary, Percents, Plain, Bracket, Printed, PrintOpening}
-use Rattle.sf_format.specs.Slots.{Slotted}
-use Rattle.sf_format.specs.Grammar.{IsPiece, MeanAll, destinations, IsScanPiece, IsConversion, Means, shape_of, width_of, slot_of}
+use Rattle.sf_format.specs.Pieces.{Piece, Opening, WhiteSpace, Ordinary, Percents, Plain, Bracket}
+use Rattle.sf_format.specs.Slots.{Slotted, slot_of}
+use Rattle.sf_format.specs.Grammar.{IsPiece, MeanAll, destinations, IsScanPiece, IsConversion, Means, shape_of, width_of}
 use Rattle.sf_format.specs.Passing.{slot_at}
 use Rattle.sf_format.proofs.Destinations.{destinations_cons, slot_there}
 use Rattle.std.proofs.lemmas.List.{ext_get_or}
@@ -30,10 +30,9 @@ use Rattle.sf_format.specs.declared.unit.PrintLetter.{PrintLetter}
 use Rattle.sf_format.specs.declared.unit.PrintConv.{PrintConv}
 use Rattle.sf_format.specs.declared.unit.Unit.{Unit as PrintUnit}
 use Rattle.sf_format.specs.declared.unit.Unit.TheVariants as unit
-use Rattle.sf_format.specs.Digits.{optional_number}
 use Rattle.sf_format.specs.PrintLetters.{print_kind_of}
 use Rattle.sf_format.specs.Units.{printed_of}
-use Rattle.sf_format.specs.PrintGrammar.{IsPrintPiece, IsPrintConv, Prints, or_place, is_set_flag}
+use Rattle.sf_format.specs.PrintGrammar.{IsPrintPiece, IsPrintConv, Prints, is_set_flag}
 
 -- each part stands for exactly one of these
 pub record IsMeaning (D : Type 0) (language : Language) (means : ℕ → Piece → D → Type 0) : Type 0 where
@@ -109,9 +108,6 @@ set_same list a b h k =
 
 -- ---- conversions
 
-shape_same : (letter : Letter) (s t : Shape) → shape_of letter s → shape_of letter t → s ≡ t
-shape_same letter s t h k = grind arith
-
 abbrev made : Shape → Kind → Option ℕ → Option ℕ → Conversion
 made s k w n = record { shape = s; kind = k; width = w; slot = n }
 
@@ -123,10 +119,10 @@ conversion_same place o letter c d h k same =
     all
 
 means_one : (profile : Profile) (place : ℕ) (piece : Piece) (d e : Directive) → Means profile place piece d → Means profile place piece e → d ≡ e
-means_one profile place (Printed o b) d e h k = absurd h
 means_one profile place (Plain o b) d e h k =
     let same : h.0 ≡ k.0 = let f = sym h.2 ∙ k.2 in cc in
-    rw (h.5, k.5, conversion_same place o k.0 h.1 k.1 (rw same at h.3) k.3 (shape_same k.0 h.1.shape k.1.shape (rw same at h.4) k.4))
+    let shape = rw same at h.4 in
+    rw (h.5, k.5, conversion_same place o k.0 h.1 k.1 (rw same at h.3) k.3 (grind (arith, shape, k.4)))
 means_one profile place (Bracket o list) d e h k =
     let sets = set_same list h.1 k.1 h.3 k.3 in
     rw (h.5, k.5, conversion_same place o Set h.0 k.0 h.2 k.2 (rw (h.4, k.4, sets)))
@@ -156,7 +152,6 @@ some_meaning profile place (Bracket o list) is =
     let k = some_of (kind_of Set o.size) is.0.size in
     let c = made (shape.Set (set_of list)) k.0 (width_of Set o.width) (slot_of place o) in
     (directive.Conv c, (c, set_of list, record { kind = k.1; width = refl; slot = refl }, set_is list, refl, refl))
-some_meaning profile place (Printed o b) is = absurd is
 
 pub scan_meaning : (profile : Profile) → IsMeaning Directive (Scan profile) (Means profile)
 scan_meaning profile = record { one = means_one profile; some = some_meaning profile }
@@ -171,46 +166,41 @@ means_slot : (profile : Profile) (place : ℕ) (piece : Piece) (d : Directive) �
     → option_map (λ e. e.0) (destination_of d) ≡ slot_at place (destinations (piece ∷ []))
 means_slot profile place (Plain o b) d h = rw h.5 (conversion_slot h.1 ∙ h.3.slot ∙ slot_there place o)
 means_slot profile place (Bracket o list) d h = rw h.5 (conversion_slot h.0 ∙ h.2.slot ∙ slot_there place o)
-means_slot profile place (Printed o b) d h = absurd h
 means_slot profile place _ d h = rw h
 
 pub scan_slots : (profile : Profile) → HasSlots Directive (Means profile) destination_of
 scan_slots profile = record { slot = means_slot profile }
 
-abbrev print_made : PrintLetter → Kind → ℕ → Bool → Bool → Bool → Bool → Bool → ℕ → Option ℕ → PrintConv
-print_made l k n minus plus blank alt zero w p = record {
-  letter = l;
-  kind = k;
-  slot = n;
-  minus = minus;
-  plus = plus;
-  blank = blank;
-  alt = alt;
-  zero = zero;
-  width = w;
-  precision = p;
+-- the conversion, but for its kind and its slot
+abbrev told_by : Opening → PrintLetter → Kind × ℕ → PrintConv
+told_by o letter k = record {
+  letter = letter;
+  kind = k.0;
+  slot = k.1;
+  minus = is_set_flag 45 o.flags;
+  plus = is_set_flag 43 o.flags;
+  blank = is_set_flag 32 o.flags;
+  alt = is_set_flag 35 o.flags;
+  zero = is_set_flag 48 o.flags;
+  width = magnitude 10 o.width;
+  precision = option_map (λ ds. magnitude 10 ds) o.precision;
 }
 
--- the conversion, but for its kind
-abbrev told_by : ℕ → PrintOpening → PrintLetter → Kind → PrintConv
-told_by place o letter k =
-    print_made letter k (or_place place (optional_number o.number)) (is_set_flag 45 o.flags) (is_set_flag 43 o.flags) (is_set_flag 32 o.flags)
-    (is_set_flag 35 o.flags) (is_set_flag 48 o.flags) (magnitude 10 o.width) (option_map (λ ds. magnitude 10 ds) o.precision)
-
-is_told : (place : ℕ) (o : PrintOpening) (letter : PrintLetter) (c : PrintConv) → IsPrintConv place o letter c → c ≡ told_by place o letter c.kind
+is_told : (place : ℕ) (o : Opening) (letter : PrintLetter) (c : PrintConv) → IsPrintConv place o letter c → c ≡ told_by o letter (c.kind, c.slot)
 is_told place o letter c h =
-    rw (← h.prints, ← h.slot, ← h.minus, ← h.plus, ← h.blank, ← h.alt, ← h.zero, ← h.width, ← h.precision) refl
+    rw (← h.prints, ← h.minus, ← h.plus, ← h.blank, ← h.alt, ← h.zero, ← h.width, ← h.precision) refl
 
-print_conversion_same : (place : ℕ) (o : PrintOpening) (letter : PrintLetter) (c d : PrintConv) → IsPrintConv place o letter c
+print_conversion_same : (place : ℕ) (o : Opening) (letter : PrintLetter) (c d : PrintConv) → IsPrintConv place o letter c
     → IsPrintConv place o letter d → c ≡ d
 print_conversion_same place o letter c d h k =
     let kinds : c.kind ≡ d.kind = let e = sym h.kind ∙ k.kind in cc in
-    is_told place o letter c h ∙ ap (told_by place o letter) kinds ∙ sym (is_told place o letter d k)
+    let slots : c.slot ≡ d.slot = let e = sym h.slot ∙ k.slot in cc in
+    is_told place o letter c h ∙ ap (told_by o letter) (rw (kinds, slots)) ∙ sym (is_told place o letter d k)
 
 prints_one : (profile : Profile) (place : ℕ) (piece : Piece) (u v : PrintUnit) → Prints profile place piece u → Prints profile place piece v → u ≡ v
 prints_one profile place (Ordinary b) u v h k = h ∙ sym k
 prints_one profile place Percents u v h k = h ∙ sym k
-prints_one profile place (Printed o b) u v h k =
+prints_one profile place (Plain o b) u v h k =
     let same : h.0 ≡ k.0 = let e = sym h.2 ∙ k.2 in cc in
     rw (h.4, k.4, print_conversion_same place o k.0 h.1 k.1 (rw same at h.3) k.3)
 prints_one profile place _ u v h k = absurd h
@@ -218,25 +208,23 @@ prints_one profile place _ u v h k = absurd h
 some_unit : (profile : Profile) (place : ℕ) (piece : Piece) → IsPrintPiece profile piece → (u : PrintUnit) × Prints profile place piece u
 some_unit profile place (Ordinary b) is = (unit.Byte b, refl)
 some_unit profile place Percents is = (unit.Byte 37, refl)
-some_unit profile place (Printed o b) is =
+some_unit profile place (Plain o b) is =
     let k = some_of (print_kind_of is.0 o.size) is.2.size in
-    let c = told_by place o is.0 k.0 in
-    let told : IsPrintConv place o is.0 c = assumption k.1 in
+    let n = some_of (slot_of place o) (rw is.2.star (grind arith)) in
+    let c = told_by o is.0 (k.0, n.0) in
+    let told : IsPrintConv place o is.0 c = assumption (k.1, n.1) in
     (unit.Conv c, (is.0, c, is.1, told, refl))
 some_unit profile place _ is = absurd is
 
 pub print_meaning : (profile : Profile) → IsMeaning PrintUnit (Print profile) (Prints profile)
 print_meaning profile = record { one = prints_one profile; some = some_unit profile }
 
-placed : (place : ℕ) (n : Option ℕ) → Some (or_place place n) ≡ elim n [ None ↦ Some place | Some m ↦ Some m ]
-placed place n = grind arith
-
 -- the slot of a unit is that of its part
 prints_slot : (profile : Profile) (place : ℕ) (piece : Piece) (u : PrintUnit) → Prints profile place piece u
     → option_map (λ e. e.0) (printed_of u) ≡ slot_at place (destinations (piece ∷ []))
 prints_slot profile place (Ordinary b) u h = rw h
 prints_slot profile place Percents u h = rw h
-prints_slot profile place (Printed o b) u h = rw (h.4, h.3.slot) (placed place (optional_number o.number))
+prints_slot profile place (Plain o b) u h = rw h.4 (sym h.3.slot ∙ slot_there place o)
 prints_slot profile place _ u h = absurd h
 
 pub print_slots : (profile : Profile) → HasSlots PrintUnit (Prints profile) printed_of

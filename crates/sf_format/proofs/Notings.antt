@@ -102,7 +102,7 @@ pub record Noting (language : Language) (text : List ℕ) (at : ℕ) (rest : Lis
   pub same : AreWritten (destinations passing.done) → ns ≡ numbered 0 passing.done
 
 pub noting_more : {language : Language} {text : List ℕ} {at : ℕ} {rest after : List ℕ} {slots later : Slots} {count : ℕ} {old new : Noted}
-    {slot : Option ℕ} (h : Noting language text at rest slots count old) → PassesFirst language h.passing.done at rest after later
+    {slot : Option ℕ} (h : Noting language text at rest slots count old) → PassesFirst h.passing after later
     → slot ≡ slot_at (1 + length (destinations h.passing.done)) (destinations ((part_at language rest).piece ∷ []))
     → Notes count (h.ns ++ with_place slot at) new
     → Noting language text (length text - length after) after later count new
@@ -111,7 +111,7 @@ noting_more {language} {at = at} {rest = rest} {slot = slot} h passes is notes =
     let piece = (part_at language rest).piece in
     let here = destinations (piece ∷ []) in
     record {
-      passing = passing_more h.passing passes;
+      passing = passing_more passes;
       ns = h.ns ++ with_place slot at;
       notes = notes;
       same = λ written.

@@ -10,7 +10,7 @@ use Rattle.sf_format.specs.Slots.{AreDistinct}
 use Rattle.sf_format.specs.Grammar.{destinations, ArePlaced, AreAlike, AreNumbered}
 use Rattle.sf_format.specs.Rules.{Rule, first_of}
 use Rattle.sf_format.specs.Faults.{numbered, repeated, beyond, number_rules}
-use Rattle.sf_format.proofs.Rules.{Quiet, quiet_is, quiet_from, all_append, all_front, all_back}
+use Rattle.sf_format.proofs.Rules.{Quiet, quiet_is, quiet_from, all_append, all_front, all_back, all_map}
 use Rattle.sf_format.proofs.Destinations.{destinations_cons}
 
 abbrev pub number_of : Opening → ℕ
@@ -145,14 +145,11 @@ unnumbered_rules pieces none = by_written (list_all (λ o. is_written o.number) 
         let empty = not_both (destinations pieces) none e in
         rw (e, no_numbers (numbered 0 pieces) (rw empty at (numbered_is 0 pieces)))
 
-placed_unnumbered : (os : List Opening) → AllByRecursion (λ o. o.number ≡ []) os → AllByRecursion (λ o. is_written o.number ≡ false) os
-placed_unnumbered [] h = tt
-placed_unnumbered (o ∷ os) h = (rw h.0 refl, placed_unnumbered os h.1)
-
 pub slots_quiet : (pieces : List Piece) → ArePlaced (destinations pieces) ⊎ AreNumbered (destinations pieces) → first_of (number_rules pieces) ≡ None
 slots_quiet pieces slots =
     elim slots [
-      | inl placed ↦ unnumbered_rules pieces (placed_unnumbered (destinations pieces) placed.0)
+      | inl placed ↦
+          unnumbered_rules pieces (all_map (λ o. o.number ≡ []) (λ o. is_written o.number ≡ false) (λ o e. rw e refl) (destinations pieces) placed.0)
       | inr h ↦
           rw (all_written (destinations pieces) (numbered_low (length (destinations pieces)) (destinations pieces) h.0).0)
           (quiet_from (written_rules pieces) (numbered_quiet pieces h))

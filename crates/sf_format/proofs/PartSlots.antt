@@ -7,12 +7,12 @@ use Rattle.sf_base.specs.Bytes.{magnitude}
 use Rattle.sf_format.specs.Language.{Language, Scan, Print}
 use Rattle.sf_format.specs.Digits.{IsOptionalNumber, optional_number}
 use Rattle.sf_format.specs.Slots.{Slotted, slots_from, AreDistinct, AreSlots}
-use Rattle.sf_format.specs.Pieces.{Opening, Piece, Plain, Bracket, Printed, piece_text, text_of}
+use Rattle.sf_format.specs.Pieces.{Opening, Piece, Plain, Bracket, piece_text, text_of}
 use Rattle.sf_format.specs.Grammar.{IsPiece, IsFormat, ArePlaced, assigned_opening, destinations, MeanAll}
 use Rattle.sf_format.specs.Passing.{slot_at}
 use Rattle.sf_format.proofs.Numbers.{number_of, numbered_low, AreWritten}
 use Rattle.sf_format.proofs.Destinations.{destinations_cons, by_destination}
-use Rattle.sf_format.proofs.SlotLookups.{AreWithin, pigeonhole}
+use Rattle.sf_format.proofs.SlotLookups.{AreWithin, pigeonhole, numbers}
 use Rattle.sf_format.proofs.Parts.{empty_text}
 use Rattle.sf_format.proofs.Meanings.{HasSlots}
 
@@ -29,10 +29,6 @@ part_slot : (place : ℕ) (piece : Piece) (os : List Opening)
 part_slot place piece os =
     by_destination (λ here. cons_option (slot_at place here) (slots_named (place + length here) os) ≡ slots_named place (here ++ os)) piece
     (let same : place + 0 ≡ place = omega arith in ap (λ n. slots_named n os) same) (λ o plain. grind arith)
-
--- the slots of what is listed
-abbrev pub numbers : List Slotted → List ℕ
-numbers entries = map (λ e. e.0) entries
 
 numbers_cons : (o : Option Slotted) (entries : List Slotted) → numbers (cons_option o entries) ≡ cons_option (option_map (λ e. e.0) o) (numbers entries)
 numbers_cons o entries = grind arith
@@ -75,10 +71,8 @@ have_numbers : (language : Language) (pieces : List Piece) → AllByRecursion (I
 have_numbers language [] each = tt
 have_numbers (Scan profile) (Plain o b ∷ pieces) each = assigned_number o _ each.0.1.2.number (have_numbers (Scan profile) pieces each.1)
 have_numbers (Scan profile) (Bracket o list ∷ pieces) each = assigned_number o _ each.0.0.number (have_numbers (Scan profile) pieces each.1)
-have_numbers (Scan profile) (Printed o b ∷ pieces) each = absurd each.0
-have_numbers (Print profile) (Plain o b ∷ pieces) each = absurd each.0
+have_numbers (Print profile) (Plain o b ∷ pieces) each = assigned_number o _ each.0.2.number (have_numbers (Print profile) pieces each.1)
 have_numbers (Print profile) (Bracket o list ∷ pieces) each = absurd each.0
-have_numbers (Print profile) (Printed o b ∷ pieces) each = (each.0.2.number, have_numbers (Print profile) pieces each.1)
 have_numbers language (_ ∷ pieces) each = have_numbers language pieces each.1
 
 within : (count : ℕ) (os : List Opening) → AllByRecursion (λ o. (o.number ≢ []) × (number_of o ≤ count)) os → HaveNumbers os

@@ -44,22 +44,22 @@ pub record Counting (language : Language) (text : List ℕ) (at : ℕ) (rest : L
   pub count : left + length passing.done ≡ number
 
 pub counting_more : {language : Language} {text : List ℕ} {at : ℕ} {rest after : List ℕ} {slots new : Slots} {number left : ℕ}
-    → (h : Counting language text at rest slots number left) → PassesFirst language h.passing.done at rest after new → 1 < left
+    → (h : Counting language text at rest slots number left) → PassesFirst h.passing after new → 1 < left
     → Counting language text (length text - length after) after new number (left - 1)
 counting_more {language} {rest = rest} h passes more = record {
-  passing = passing_more h.passing passes;
+  passing = passing_more passes;
   some = omega (arith, more);
   count = omega (arith, more, h.count, length-append h.passing.done ((part_at language rest).piece ∷ []));
 }
 
 -- the part in front of the rest is the one with the number
 pub text_found : {language : Language} {text : List ℕ} {at : ℕ} {rest after : List ℕ} {slots new : Slots} {number left : ℕ} (pieces : List Piece)
-    (h : Counting language text at rest slots number left) → PassesFirst language h.passing.done at rest after new → left ≡ 1
+    (h : Counting language text at rest slots number left) → PassesFirst h.passing after new → left ≡ 1
     → read (length text) language [] 0 text ≡ Ok pieces → Some (take (length rest - length after) rest) ≡ text_at number pieces
 text_found {language} {rest = rest} {after = after} {number = number} pieces h passes one e =
     let done = h.passing.done in
     let part = part_at language rest in
-    let next = passing_more h.passing passes in
+    let next = passing_more passes in
     let more = begin_put next.done _ pieces (sym next.decides ∙ e) in
     let counted : suc (length done) ≡ number = omega (arith, one, h.count) in
     let same : length rest - length after ≡ length (piece_text part.piece) = omega (arith, passes.part.lengths, ap length passes.behind) in

@@ -18,23 +18,20 @@ use Rattle.sf_format.specs.declared.grammar.Passed.{Passed}
 use Rattle.sf_format.specs.Scanlist.{backward_range}
 use Rattle.sf_format.specs.Letters.{letter_of, kind_of}
 use Rattle.sf_format.specs.Lists.{is_written, mark_at, begins}
-use Rattle.sf_format.specs.Pieces.{Opening, Piece, opening_text, PrintOpening, print_opening_text}
-use Rattle.sf_format.specs.Cut.{Part, cut, letter_at, conversion_at, print_cut, print_letter_at}
-use Rattle.sf_format.specs.Grammar.{destinations, assigned_opening, slot_of, IsConversion, Means, value_opening}
+use Rattle.sf_format.specs.Pieces.{Opening, Piece, opening_text}
+use Rattle.sf_format.specs.Cut.{Part, cut, letter_at, conversion_at}
+use Rattle.sf_format.specs.Slots.{slot_of}
+use Rattle.sf_format.specs.Grammar.{destinations, assigned_opening, IsConversion, Means}
 use Rattle.sf_format.specs.Rules.{Rule, first_of, slot_rules}
-use Rattle.sf_format.specs.Faults.{letter_rules, bracket_rules, scanlist_rules, rest_rules, opening_rules, conversion_rules}
+use Rattle.sf_format.specs.Faults.{letter_rules, bracket_rules, scanlist_rules, ending_rules, rest_rules, opening_rules, conversion_rules}
 use Rattle.sf_format.specs.Passing.{rest_behind, is_set, IsListed, ShapeBy, IsMade, PassesBy, precision_of}
-use Rattle.sf_format.specs.Language.{Scan, Print}
+use Rattle.sf_format.specs.Language.{Language, Scan, Print}
 use Rattle.sf_format.proofs.Rules.{quiet_is, or_else, first_append}
 use Rattle.sf_format.proofs.Scanlists.{list_forward, list_set}
 use Rattle.sf_format.proofs.Suits.{bracket_is}
 use Rattle.sf_format.specs.declared.unit.PrintLetter.{PrintLetter}
-use Rattle.sf_format.specs.declared.unit.Unit.{Unit as PrintUnit}
-use Rattle.sf_format.specs.Digits.{optional_number}
 use Rattle.sf_format.specs.PrintLetters.{print_letter_of}
-use Rattle.sf_format.specs.PrintGrammar.{or_place, Prints}
-use Rattle.sf_format.specs.PrintRules.{precision_number, print_opening_rules, print_letter_rules, flag_rules, print_rest_rules}
-use Rattle.sf_format.proofs.Outcomes.{within}
+use Rattle.sf_format.specs.PrintRules.{print_letter_rules, flag_rules}
 
 pub first_left : (a b : List Rule) (f : FormatWhy × ℕ) → first_of a ≡ Some f → first_of (a ++ b) ≡ Some f
 first_left a b f e = rw (first_append a b, e)
@@ -42,13 +39,15 @@ first_left a b f e = rw (first_append a b, e)
 -- the rules of what stands from a letter on that has no fault itself
 pub rest_first : (profile : Profile) (earlier : List Opening) (p : ℕ) (o : Opening) (q b : ℕ) (x : List ℕ) (letter : Letter)
     → first_of (letter_rules profile o b q) ≡ None → letter_of profile b ≡ Some letter
-    → first_of (rest_rules profile earlier p o q (b ∷ x))
+    → first_of (rest_rules (Scan profile) earlier p o q (b ∷ x))
     ≡ or_else (first_of (bracket_rules (is_set letter) q x)) (first_of (slot_rules earlier p o))
 rest_first profile earlier p o q b x letter rules found =
-    first_append (letter_rules profile o b q) (scanlist_rules b q x ++ slot_rules earlier p o)
-    ∙ ap (λ f. or_else f (first_of (scanlist_rules b q x ++ slot_rules earlier p o))) rules
-    ∙ first_append (scanlist_rules b q x) (slot_rules earlier p o)
-    ∙ ap (λ v. or_else (first_of (bracket_rules v q x)) (first_of (slot_rules earlier p o))) (sym (bracket_is profile b letter found))
+    rw (
+      first_append (ending_rules (Scan profile) p o q b x) (slot_rules earlier p o),
+      first_append (letter_rules profile o b q) (scanlist_rules b q x),
+      rules,
+      bracket_is profile b letter found,
+    )
 
 pub letter_rest : (o : Opening) (letter : ℕ) (x : List ℕ) → (letter_at o (letter ∷ x)).rest ≡ rest_behind (nat_eq letter 91) x
 letter_rest o letter x = grind arith
@@ -76,7 +75,6 @@ made_by true profile place q b x o letter listed c set same found none is conver
 made_by false profile place q b x o letter listed c set other found none is conversion shape =
     rw other (letter, c, found, conversion, shape, refl)
 
--- the conversion that was made is what the part stands for
 pub match_map : {A : Type 0} (N : Type 0) (P Q : A → Type 0) → ((a : A) → P a → Q a) → (o : Option A) → MatchOption o N P → MatchOption o N Q
 match_map N P Q f o h = grind arith
 
@@ -95,8 +93,9 @@ number_low [] e = omega arith
 number_low (d ∷ ds) e = grind (arith, nat_tests)
 
 -- an opening without a fault has numbers within their limits
-pub number_bound : (p : ℕ) (o : Opening) → first_of (opening_rules p o) ≡ None → magnitude 10 o.number ≤ 32
-number_bound p o none = number_low o.number (quiet_is (opening_rules p o) none).0
+pub number_bound : (language : Language) (p : ℕ) (o : Opening) → first_of (opening_rules language p o) ≡ None → magnitude 10 o.number ≤ 32
+number_bound (Scan profile) p o none = number_low o.number (quiet_is (opening_rules (Scan profile) p o) none).0
+number_bound (Print profile) p o none = number_low o.number (quiet_is (opening_rules (Print profile) p o) none).0
 
 -- ---- behind a %, in both languages
 
@@ -123,80 +122,33 @@ pub first_and_rest : (x : List ℕ) → 1 ≤ length x → split_first x ≡ x
 first_and_rest [] h = absurd (omega (arith, h))
 first_and_rest (b ∷ x) h = ap (λ y. b ∷ y) (take_rest (b ∷ x) 1)
 
--- ---- behind a % of a scan format
+pub cut_fault : (language : Language) (earlier : List Opening) (p : ℕ) (x : List ℕ) (o : Opening) (f : FormatWhy × ℕ) → o ≡ (cut language x).opening
+    → first_of (opening_rules language p o) ≡ Some f → first_of (conversion_rules language earlier p x) ≡ Some f
+cut_fault language earlier p x o f same first =
+    first_left (opening_rules language p (cut language x).opening)
+    (rest_rules language earlier p (cut language x).opening (p + length (opening_text (cut language x).opening)) (cut language x).rest) f
+    (subst (λ a. first_of (opening_rules language p a) ≡ Some f) same first)
 
-pub cut_fault : (profile : Profile) (earlier : List Opening) (p : ℕ) (x : List ℕ) (o : Opening) (f : FormatWhy × ℕ) → o ≡ (cut x).opening
-    → first_of (opening_rules p o) ≡ Some f → first_of (conversion_rules (Scan profile) earlier p x) ≡ Some f
-cut_fault profile earlier p x o f same first =
-    first_left (opening_rules p (cut x).opening)
-    (rest_rules profile earlier p (cut x).opening (p + length (opening_text (cut x).opening)) (cut x).rest) f
-    (subst (λ a. first_of (opening_rules p a) ≡ Some f) same first)
-
-pub cut_passes : (wanted : Bool) (profile : Profile) (earlier : List Opening) (p q : ℕ) (x rest : List ℕ) (o : Opening)
-    (r : Result (Passed Directive) FormatFault) → o ≡ (cut x).opening → rest ≡ (cut x).rest → q ≡ p + length (opening_text o)
-    → first_of (opening_rules p o) ≡ None → PassesBy wanted (Means profile) (rest_rules profile earlier p o q rest) earlier (letter_at o rest) r
-    → PassesBy wanted (Means profile) (conversion_rules (Scan profile) earlier p x) earlier (conversion_at (Scan profile) x) r
-cut_passes wanted profile earlier p q x rest o r same behind place quiet passes =
+pub cut_passes : {D : Type 0} (wanted : Bool) (means : ℕ → Piece → D → Type 0) (language : Language) (earlier : List Opening) (p q : ℕ)
+    (x rest : List ℕ) (o : Opening) (r : Result (Passed D) FormatFault) → o ≡ (cut language x).opening → rest ≡ (cut language x).rest
+    → q ≡ p + length (opening_text o) → first_of (opening_rules language p o) ≡ None
+    → PassesBy wanted means (rest_rules language earlier p o q rest) earlier (letter_at o rest) r
+    → PassesBy wanted means (conversion_rules language earlier p x) earlier (conversion_at language x) r
+cut_passes wanted means language earlier p q x rest o r same behind place quiet passes =
     let by : Opening → ℕ → List ℕ → Type 0
-    = λ a n y. PassesBy wanted (Means profile) (opening_rules p a ++ rest_rules profile earlier p a n y) earlier (letter_at a y) r in
-    subst (λ a. by a (p + length (opening_text a)) (cut x).rest) same
+    = λ a n y. PassesBy wanted means (opening_rules language p a ++ rest_rules language earlier p a n y) earlier (letter_at a y) r in
+    subst (λ a. by a (p + length (opening_text a)) (cut language x).rest) same
     (subst (by o (p + length (opening_text o))) behind
     (subst (λ n. by o n rest) place
-    (passes_behind wanted (Means profile) (opening_rules p o) (rest_rules profile earlier p o q rest) earlier (letter_at o rest) r quiet passes)))
+    (passes_behind wanted means (opening_rules language p o) (rest_rules language earlier p o q rest) earlier (letter_at o rest) r quiet passes)))
 
 -- what holds of a precision that is there
 pub if_point : (P : List ℕ → Type 0) (point : Bool) (ds : List ℕ) → IfSome (precision_of point ds) P → point ≡ true → P ds
 if_point P point ds h e = grind arith
 
--- an opening without a fault has numbers within their limits
-pub record IsBounded (o : PrintOpening) : Type 0 where
-  pub number : magnitude 10 o.number ≤ 32
-  pub width : magnitude 10 o.width ≤ 65535
-  pub precision : precision_number o.precision ≤ 255
-
-pub bounded : (p : ℕ) (o : PrintOpening) → first_of (print_opening_rules p o) ≡ None → IsBounded o
-bounded p o none =
-    let quiet = quiet_is (print_opening_rules p o) none in
-    record {
-      number = number_low o.number quiet.0;
-      width = within 65535 (magnitude 10 o.width) quiet.1.0;
-      precision = within 255 (precision_number o.precision) quiet.1.1.0;
-    }
-
--- the slot of a value
-pub value_slot : (place slot : ℕ) (o : PrintOpening) → Some slot ≡ slot_of place (value_opening o) → slot ≡ or_place place (optional_number o.number)
-value_slot place slot o e = grind arith
-
--- the rules of what stands from a letter on that has no fault itself
-pub print_rest_first : (profile : Profile) (earlier : List Opening) (p : ℕ) (o : PrintOpening) (q b : ℕ) (x : List ℕ) (letter : PrintLetter)
-    → first_of (print_letter_rules profile o b q) ≡ None → print_letter_of profile b ≡ Some letter
-    → first_of (print_rest_rules profile earlier p o q (b ∷ x))
-    ≡ or_else (first_of (flag_rules p o (Some letter))) (first_of (slot_rules earlier p (value_opening o)))
-print_rest_first profile earlier p o q b x letter rules found =
-    let slot = slot_rules earlier p (value_opening o) in
-    first_append (print_letter_rules profile o b q) (flag_rules p o (print_letter_of profile b) ++ slot)
-    ∙ ap (λ f. or_else f (first_of (flag_rules p o (print_letter_of profile b) ++ slot))) rules
-    ∙ ap (λ l. first_of (flag_rules p o l ++ slot)) found
-    ∙ first_append (flag_rules p o (Some letter)) slot
-
--- ---- behind a %
-
-pub print_cut_fault : (profile : Profile) (earlier : List Opening) (p : ℕ) (x : List ℕ) (o : PrintOpening) (f : FormatWhy × ℕ)
-    → o ≡ (print_cut x).opening → first_of (print_opening_rules p o) ≡ Some f → first_of (conversion_rules (Print profile) earlier p x) ≡ Some f
-print_cut_fault profile earlier p x o f same first =
-    first_left (print_opening_rules p (print_cut x).opening)
-    (print_rest_rules profile earlier p (print_cut x).opening (p + length (print_opening_text (print_cut x).opening)) (print_cut x).rest) f
-    (subst (λ a. first_of (print_opening_rules p a) ≡ Some f) same first)
-
-pub print_cut_passes : (wanted : Bool) (profile : Profile) (earlier : List Opening) (p q : ℕ) (x rest : List ℕ) (o : PrintOpening)
-    (r : Result (Passed PrintUnit) FormatFault) → o ≡ (print_cut x).opening → rest ≡ (print_cut x).rest → q ≡ p + length (print_opening_text o)
-    → first_of (print_opening_rules p o) ≡ None
-    → PassesBy wanted (Prints profile) (print_rest_rules profile earlier p o q rest) earlier (print_letter_at o rest) r
-    → PassesBy wanted (Prints profile) (conversion_rules (Print profile) earlier p x) earlier (conversion_at (Print profile) x) r
-print_cut_passes wanted profile earlier p q x rest o r same behind place quiet passes =
-    let by : PrintOpening → ℕ → List ℕ → Type 0
-    = λ a n y. PassesBy wanted (Prints profile) (print_opening_rules p a ++ print_rest_rules profile earlier p a n y) earlier (print_letter_at a y) r in
-    subst (λ a. by a (p + length (print_opening_text a)) (print_cut x).rest) same
-    (subst (by o (p + length (print_opening_text o))) behind
-    (subst (λ n. by o n rest) place
-    (passes_behind wanted (Prints profile) (print_opening_rules p o) (print_rest_rules profile earlier p o q rest) earlier (print_letter_at o rest) r quiet passes)))
+-- behind a letter that has no fault itself, what stands before it decides
+pub flags_first : (profile : Profile) (p : ℕ) (o : Opening) (q b : ℕ) (letter : PrintLetter) → first_of (print_letter_rules profile o b q) ≡ None
+    → print_letter_of profile b ≡ Some letter
+    → first_of (print_letter_rules profile o b q ++ flag_rules p o (print_letter_of profile b)) ≡ first_of (flag_rules p o (Some letter))
+flags_first profile p o q b letter rules found =
+    rw (first_append (print_letter_rules profile o b q) (flag_rules p o (print_letter_of profile b)), rules, found)

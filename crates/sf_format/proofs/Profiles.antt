@@ -6,7 +6,6 @@ use Rattle.sf_format.specs.declared.directive.Profile.{Profile}
 use Rattle.sf_format.specs.declared.directive.Profile.TheVariants.{One, Two}
 use Rattle.sf_format.specs.declared.directive.Base.{Base}
 use Rattle.sf_format.specs.declared.directive.Base.TheVariants.{Bin}
-use Rattle.sf_format.specs.declared.directive.Shape.{Shape}
 use Rattle.sf_format.specs.declared.directive.Conversion.{Conversion}
 use Rattle.sf_format.specs.declared.directive.Directive.{Directive}
 use Rattle.sf_format.specs.Language.{Language, Scan, Print}
@@ -17,10 +16,10 @@ use Rattle.sf_format.specs.declared.unit.PrintLetter.TheVariants.{Binary}
 use Rattle.sf_format.specs.declared.unit.Unit.{Unit as PrintUnit}
 use Rattle.sf_format.specs.Letters.{letters, letter_of}
 use Rattle.sf_format.specs.PrintLetters.{print_letters, print_letter_of}
-use Rattle.sf_format.specs.Pieces.{Opening, Piece, Ordinary, Percents, Plain, Bracket, Printed}
+use Rattle.sf_format.specs.Pieces.{Opening, Piece, Ordinary, Percents, Plain, Bracket}
 use Rattle.sf_format.specs.PrintGrammar.{IsPrintPiece, Prints}
-use Rattle.sf_format.specs.Grammar.{Suits, IsScanPiece, IsPiece, IsConversion, shape_of, destinations, Means, MeanAll, SpellsAs}
-use Rattle.sf_format.specs.Profiles.{shape_with, directive_with, base_in_two, base_in_one, ShapeHas, DirectiveHas, IsNotBin, IsOfOne, IsNotBinary, UnitIsNotBinary}
+use Rattle.sf_format.specs.Grammar.{Suits, IsScanPiece, IsPiece, IsConversion, destinations, Means, MeanAll, SpellsAs}
+use Rattle.sf_format.specs.Profiles.{shape_with, directive_with, base_in_two, base_in_one, DirectiveHas, IsNotBin, IsOfOne, IsNotBinary, UnitIsNotBinary}
 use Rattle.sf_format.specs.Laws.{TwoSpellsOne, OneSpellsTwo, OneHasOldBases, TwoPrintsOne, OnePrintsTwo}
 use Rattle.sf_format.proofs.Suits.{found, printed}
 use Rattle.sf_format.proofs.Meanings.{mean_each}
@@ -59,13 +58,6 @@ LetterHas P (Signed base) = P base
 LetterHas P (Unsigned base) = P base
 LetterHas P _ = Unit {0}
 
--- a letter's base is that of its directive
-letter_has : (P : Base → Type 0) (letter : Letter) (s : Shape) → shape_of letter s → ShapeHas P s → LetterHas P letter
-letter_has P letter s h has = grind arith
-
-shape_has : (P : Base → Type 0) (letter : Letter) (s : Shape) → shape_of letter s → LetterHas P letter → ShapeHas P s
-shape_has P letter s h has = grind arith
-
 suits_with : (other : Base → Base) (letter : Letter) (o : Opening) → Suits letter o → Suits (letter_with other letter) o
 suits_with other (Signed base) o s = assumption s
 suits_with other (Unsigned base) o s = assumption s
@@ -79,9 +71,6 @@ is_with : (other : Base → Base) (place : ℕ) (o : Opening) (letter : Letter) 
 is_with other place o (Signed base) c h = record { kind = h.kind; width = h.width; slot = h.slot }
 is_with other place o _ c h = record { kind = h.kind; width = h.width; slot = h.slot }
 
-takes_with : (other : Base → Base) (letter : Letter) (s : Shape) → shape_of letter s → shape_of (letter_with other letter) (shape_with other s)
-takes_with other letter s h = grind arith
-
 -- a part in another profile, which has such letters too
 scan_part : (p q : Profile) (other : Base → Base) (P : Base → Type 0)
     → ((b : ℕ) (letter : Letter) → letter_of p b ≡ Some letter → LetterHas P letter → letter_of q b ≡ Some (letter_with other letter))
@@ -89,27 +78,27 @@ scan_part : (p q : Profile) (other : Base → Base) (P : Base → Type 0)
     → IsScanPiece q piece × Means q place piece (directive_with other d)
 scan_part p q other P in_other place (Plain o b) d (plain, (l, known, suits)) (letter, c, e, is, takes, told) has =
     let same : l ≡ letter = let both = sym known ∙ e in cc in
-    let there = in_other b letter e (letter_has P letter c.shape takes (rw told at has)) in (
+    let base = rw told at has in
+    let there = in_other b letter e (grind (arith, takes, base)) in (
       (plain, (letter_with other letter, there, suits_with other letter o (rw same at suits))),
       (
         letter_with other letter,
         conversion_with other c,
         there,
         is_with other place o letter c is,
-        takes_with other letter c.shape takes,
+        grind (arith, takes),
         ap (directive_with other) told,
       ),
     )
 scan_part p q other P in_other place (Bracket o list) d piece (c, members, is, set, takes, told) has =
     (piece, (conversion_with other c, members, is_with other place o Set c is, set, ap (shape_with other) takes, ap (directive_with other) told))
-scan_part p q other P in_other place (Printed o b) d is h has = absurd is
 scan_part p q other P in_other place _ d is h has = (is, ap (directive_with other) h)
 
 means_old : (place : ℕ) (piece : Piece) (d : Directive) → IsScanPiece One piece → Means One place piece d → DirectiveHas IsOfOne d
 means_old place (Plain o b) d piece (letter, c, e, is, takes, told) =
-    rw told (shape_has IsOfOne letter c.shape takes (found (λ b l. LetterHas IsOfOne l) (letters One) (assumption) b letter e))
+    let base = found (λ b l. LetterHas IsOfOne l) (letters One) (assumption) b letter e in
+    rw told (grind (arith, takes, base))
 means_old place (Bracket o list) d piece (c, members, is, set, takes, told) = rw (told, takes) tt
-means_old place (Printed o b) d piece h = absurd h
 means_old place _ d piece h = rw h tt
 
 pub one_has_old_bases : OneHasOldBases
@@ -143,7 +132,7 @@ print_part : (p q : Profile) → ((b : ℕ) (letter : PrintLetter) → print_let
     → IsPrintPiece q piece × Prints q place piece u
 print_part p q in_other place (Ordinary b) u is h has = (is, h)
 print_part p q in_other place Percents u is h has = (is, h)
-print_part p q in_other place (Printed o b) u (letter, e, suits) (l, c, f, is, told) has =
+print_part p q in_other place (Plain o b) u (letter, e, suits) (l, c, f, is, told) has =
     let same : letter ≡ l = let both = sym e ∙ f in cc in
     let there = in_other b l f (rw (told, is.prints) at has) in
     ((l, there, rw same at suits), (l, c, there, is, told))
@@ -152,7 +141,7 @@ print_part p q in_other place _ u is h has = absurd is
 prints_old : (place : ℕ) (piece : Piece) (u : PrintUnit) → IsPrintPiece One piece → Prints One place piece u → UnitIsNotBinary u
 prints_old place (Ordinary b) u piece h = rw h tt
 prints_old place Percents u piece h = rw h tt
-prints_old place (Printed o b) u piece (letter, c, e, is, told) =
+prints_old place (Plain o b) u piece (letter, c, e, is, told) =
     rw (told, is.prints) (printed (λ b l. IsNotBinary l) (print_letters One) (assumption) b letter e)
 prints_old place _ u piece h = absurd h
 

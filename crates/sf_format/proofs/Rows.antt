@@ -3,8 +3,7 @@ use Rattle.std.proofs.Common.{◌≡◌, ◌≢◌, ℕ, zero, suc, ◌+◌, Boo
 use Rattle.std.specs.Prelude.{codes, replicate, if◌then◌else◌}
 use Rattle.sf_base.specs.declared.values.Kind.TheVariants.{I32}
 use Rattle.sf_format.specs.declared.directive.Profile.TheVariants.{One, Two}
-use Rattle.sf_format.specs.Language.{Language}
-use Rattle.sf_format.specs.Language.{Scan, Print}
+use Rattle.sf_format.specs.Language.{Language, Scan, Print}
 use Rattle.sf_format.specs.declared.directive.Base.TheVariants.{Dec}
 use Rattle.sf_format.specs.declared.directive.Shape.TheVariants.{Int}
 use Rattle.sf_format.specs.declared.directive.Conversion.{Conversion}
@@ -15,7 +14,7 @@ use Rattle.sf_format.specs.declared.letter.Length.TheVariants.{NoLength, HH, H, 
 use Rattle.sf_format.specs.declared.fault.FormatWhy.{FormatWhy}
 use Rattle.sf_format.specs.declared.fault.FormatWhy.TheVariants.{Truncated, ZeroWidth, TooWide, UnknownLetter, LeftOut, BadLength, OpenSet, BackwardRange, BadCount, MixedNumbering, BadNumber, NumberTwice, NumberGap, Nul, TooManyDestinations, BadFlag, PrecisionTooLarge}
 use Rattle.sf_format.specs.Scanlist.{Scanlist, is_member}
-use Rattle.sf_format.specs.Pieces.{Opening, Piece, WhiteSpace, Ordinary, Percents, Plain, Bracket, text_of, PrintOpening, Printed}
+use Rattle.sf_format.specs.Pieces.{Opening, Piece, WhiteSpace, Ordinary, Percents, Plain, Bracket, text_of}
 use Rattle.sf_format.specs.Grammar.{Spells}
 use Rattle.sf_format.specs.Faults.{Fault}
 use Rattle.sf_format.specs.Reading.{judged}
@@ -32,18 +31,22 @@ AreJudged language rows = map (λ row. judged language row.0) rows ≡ map (λ r
 
 -- ---- scan formats
 
+abbrev opened : List ℕ → List ℕ → List ℕ → Option (List ℕ) → Length → Opening
+opened number flags width precision size =
+    record { number = number; star = false; flags = flags; width = width; precision = precision; size = size }
+
 -- a specification that opens with a width and a length alone
 abbrev sized : List ℕ → Length → Opening
-sized width size = record { number = []; star = false; width = width; size = size }
+sized width size = opened [] [] width None size
 
 abbrev plain : Opening
 plain = sized [] NoLength
 
 abbrev numbered : List ℕ → Opening
-numbered number = record { number = number; star = false; width = []; size = NoLength }
+numbered number = opened number [] [] None NoLength
 
 abbrev suppressed : Opening
-suppressed = record { number = []; star = true; width = []; size = NoLength }
+suppressed = record plain { star = true }
 
 abbrev listed : Bool → ℕ → List ℕ → Scanlist
 listed complemented first others = record { complemented = complemented; first = first; others = others }
@@ -122,10 +125,6 @@ two_as_one = refl
 
 -- ---- print formats
 
-abbrev opened : List ℕ → List ℕ → List ℕ → Option (List ℕ) → Length → PrintOpening
-opened number flags width precision size =
-    record { number = number; flags = flags; width = width; precision = precision; size = size }
-
 print_faults : AreJudged (Print One) (
     (codes "%+u", at BadFlag 1)
     ∷ (codes "%05s", at BadFlag 1)
@@ -158,16 +157,16 @@ print_faults = refl
 print_formats : AreJudged (Print One) (
     ([], parts [])
     ∷ (codes "a \t%%", parts (Ordinary 97 ∷ Ordinary 32 ∷ Ordinary 9 ∷ Percents ∷ []))
-    ∷ (codes "%-05d|", parts (Printed (opened [] (codes "-0") (codes "5") None NoLength) 100 ∷ Ordinary 124 ∷ []))
-    ∷ (codes "%100d", parts (Printed (opened [] [] (codes "100") None NoLength) 100 ∷ []))
-    ∷ (codes "%#.o", parts (Printed (opened [] (codes "#") [] (Some []) NoLength) 111 ∷ []))
-    ∷ (codes "%1$ +08.003hhi", parts (Printed (opened (codes "1") (codes " +0") (codes "8") (Some (codes "003")) HH) 105 ∷ []))
-    ∷ (codes "%2$s-%1$d", parts (Printed (opened (codes "2") [] [] None NoLength) 115 ∷ Ordinary 45 ∷ Printed (opened (codes "1") [] [] None NoLength) 100 ∷ []))
+    ∷ (codes "%-05d|", parts (Plain (opened [] (codes "-0") (codes "5") None NoLength) 100 ∷ Ordinary 124 ∷ []))
+    ∷ (codes "%100d", parts (Plain (opened [] [] (codes "100") None NoLength) 100 ∷ []))
+    ∷ (codes "%#.o", parts (Plain (opened [] (codes "#") [] (Some []) NoLength) 111 ∷ []))
+    ∷ (codes "%1$ +08.003hhi", parts (Plain (opened (codes "1") (codes " +0") (codes "8") (Some (codes "003")) HH) 105 ∷ []))
+    ∷ (codes "%2$s-%1$d", parts (Plain (opened (codes "2") [] [] None NoLength) 115 ∷ Ordinary 45 ∷ Plain (opened (codes "1") [] [] None NoLength) 100 ∷ []))
     ∷ [])
 print_formats = refl
 
 print_of_two : AreJudged (Print Two) (
-    (codes "%#b", parts (Printed (opened [] (codes "#") [] None NoLength) 98 ∷ []))
+    (codes "%#b", parts (Plain (opened [] (codes "#") [] None NoLength) 98 ∷ []))
     ∷ (codes "%+b", at BadFlag 1)
     ∷ [])
 print_of_two = refl
@@ -202,7 +201,7 @@ spelled = (
   Plain plain 100 ∷ [],
   record {
     short = lit≤ tt;
-    each = ((differs, (Signed Dec, refl, record { number = tt; suppressed = λ e. absurd (cc); width = tt; size = refl; count = tt })), tt);
+    each = ((differs, (Signed Dec, refl, record { number = tt; suppressed = λ e. absurd (cc); flags = refl; width = tt; precision = refl; size = refl; count = tt })), tt);
     apart = tt;
     slots = inl ((refl, tt), lit≤ tt);
   },

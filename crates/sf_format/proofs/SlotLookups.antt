@@ -41,7 +41,8 @@ pigeonhole (suc n) xs distinct within =
     let fewer = pigeonhole n (without (suc n) xs) (distinct_without (suc n) xs distinct) (lower_without n xs within) in
     omega (arith, length_without (suc n) xs distinct, fewer)
 
-abbrev numbers : List Slotted → List ℕ
+-- the slots of what is listed
+abbrev pub numbers : List Slotted → List ℕ
 numbers es = map (λ d. d.0) es
 
 -- what is not found is none of the slots

@@ -7,10 +7,12 @@ use Rattle.sf_base.specs.Bytes.{magnitude}
 use Rattle.sf_format.specs.Digits.{is_decimal, IsOptionalNumber}
 use Rattle.sf_format.specs.Lists.{is_any_of, is_written}
 use Rattle.sf_format.specs.Letters.{added_letters, letters, find_letter, letter_of, kind_of, text_kind}
-use Rattle.sf_format.specs.Pieces.{Opening, PrintOpening}
+use Rattle.sf_format.specs.Pieces.{Opening}
 use Rattle.sf_format.specs.Grammar.{SuitsCount, Suits}
 use Rattle.sf_format.specs.Rules.{first_of, has_length, is_l}
+use Rattle.sf_format.specs.Language.{Scan, Print}
 use Rattle.sf_format.specs.Faults.{opening_rules, letter_rules}
+use Rattle.sf_format.specs.Passing.{IsIn}
 use Rattle.sf_format.specs.declared.directive.Profile.{Profile}
 use Rattle.sf_format.specs.declared.letter.Letter.{Letter}
 use Rattle.sf_format.specs.declared.letter.Letter.TheVariants.{Count}
@@ -19,19 +21,18 @@ use Rattle.sf_base.specs.declared.values.Kind.TheVariants as kinds
 use Rattle.sf_format.specs.declared.letter.Length.{Length}
 use Rattle.sf_format.proofs.Outcomes.{not_above, not_zero}
 use Rattle.sf_format.proofs.Prefixes.{AllPass}
-use Rattle.sf_format.proofs.Cutting.{IsLast, HasDigits, HasPrintDigits}
+use Rattle.sf_format.proofs.Cutting.{IsLast, HasParts}
 use Rattle.sf_format.proofs.Rules.{Quiet, quiet_is}
 use Rattle.sf_format.specs.Passing.{is_set}
 use Rattle.std.specs.Char.{digit_value}
-use Rattle.std.specs.Option.{option_map}
 use Rattle.std.proofs.Math.Nat.{mul-pos}
 use native.Mathlib.Nat.{pow-suc}
 use Rattle.sf_format.specs.declared.directive.Profile.TheVariants as profiles
 use Rattle.sf_format.specs.declared.unit.PrintLetter.{PrintLetter}
 use Rattle.sf_format.specs.PrintLetters.{print_row, added_print_letters, print_letters, print_letter_of, print_kind_of}
-use Rattle.sf_format.specs.Units.{has_flag, HasPrecision}
+use Rattle.sf_format.specs.Units.{has_flag}
 use Rattle.sf_format.specs.PrintGrammar.{IsPrecision, StartsAboveZero, SuitsPrint}
-use Rattle.sf_format.specs.PrintRules.{flags_place, precision_number, foreign_flag, takes_one, print_opening_rules, print_letter_rules, flag_rules}
+use Rattle.sf_format.specs.PrintRules.{flags_place, precision_number, foreign_flag, print_letter_rules, flag_rules}
 
 -- ---- letters
 
@@ -128,14 +129,16 @@ number_tests limit (d ∷ ds) h =
 
 -- ---- both
 
-pub suits_from : (profile : Profile) (letter : Letter) (o : Opening) (b p q : ℕ) → letter_of profile b ≡ Some letter → HasDigits o
-    → Quiet (opening_rules p o) → Quiet (letter_rules profile o b q) → Suits letter o
-suits_from profile letter o b p q e digits opening rules =
+pub suits_from : (profile : Profile) (letter : Letter) (o : Opening) (b p q : ℕ) → letter_of profile b ≡ Some letter → HasParts o
+    → IsIn (Scan profile) o → Quiet (opening_rules (Scan profile) p o) → Quiet (letter_rules profile o b q) → Suits letter o
+suits_from profile letter o b p q e parts own opening rules =
     let h = (letter_is profile b letter e).allowed o q rules in
     record {
-      number = slot_from o.number digits.0 opening.0;
+      number = slot_from o.number parts.number opening.0;
       suppressed = unnumbered o.number o.star opening.1.0;
-      width = number_from 65535 o.width digits.1 opening.1.1.0 opening.1.1.1.0;
+      flags = own.0;
+      width = number_from 65535 o.width parts.width opening.1.1.0 opening.1.1.1.0;
+      precision = own.1;
       size = h.0;
       count = h.1;
     }
@@ -144,8 +147,8 @@ suits_from profile letter o b p q e digits opening rules =
     unnumbered [] star e s = refl
     unnumbered (d ∷ ds) star e s = absurd (cc)
 
-pub opening_quiet : (letter : Letter) (o : Opening) (p : ℕ) → Suits letter o → Quiet (opening_rules p o)
-opening_quiet letter o p suits =
+pub opening_quiet : (profile : Profile) (letter : Letter) (o : Opening) (p : ℕ) → Suits letter o → Quiet (opening_rules (Scan profile) p o)
+opening_quiet profile letter o p suits =
     let width = number_tests 65535 o.width suits.width in
     ((number_tests 32 o.number suits.number).slot, (suppressed o.number o.star suits.suppressed, (width.low, (width.high, tt))))
   where
@@ -157,29 +160,34 @@ pub letter_quiet : (profile : Profile) (letter : Letter) (o : Opening) (b q : �
     → Quiet (letter_rules profile o b q)
 letter_quiet profile letter o b q e suits = (letter_is profile b letter e).quiet o q suits.size suits.count
 
-pub suits_digits : (letter : Letter) (o : Opening) → Suits letter o → HasDigits o
-suits_digits letter o suits = ((number_tests 32 o.number suits.number).digits, (number_tests 65535 o.width suits.width).digits)
+pub suits_parts : (letter : Letter) (o : Opening) → Suits letter o → HasParts o
+suits_parts letter o suits = record {
+  number = (number_tests 32 o.number suits.number).digits;
+  flags = rw suits.flags tt;
+  width = (number_tests 65535 o.width suits.width).digits;
+  precision = rw suits.precision tt;
+}
 
 -- ---- what a letter that no rule refuses converts
 
-pub some_letter : {A : Type 0} (profile : Profile) (o : Opening) (b q : ℕ) → first_of (letter_rules profile o b q) ≡ None → letter_of profile b ≡ None → A
-some_letter profile o b q none e =
-    let known = (quiet_is (letter_rules profile o b q) none).1.1.0 in
-    let unknown : is_none (letter_of profile b) ≡ true = rw e in absurd (cc)
+known : {A : Type 0} (o : Option A) → is_none o ≡ false → IsSome o
+known o e = grind arith
 
-pub some_kind : {A : Type 0} (profile : Profile) (o : Opening) (b q : ℕ) (letter : Letter) → first_of (letter_rules profile o b q) ≡ None
-    → letter_of profile b ≡ Some letter → kind_of letter o.size ≡ None → A
-some_kind profile o b q letter none found e =
-    let some = ((letter_is profile b letter found).allowed o q (quiet_is (letter_rules profile o b q) none)).0 in
-    let nothing : is_some (kind_of letter o.size) ≡ false = rw e in absurd (cc)
+pub some_letter : (profile : Profile) (o : Opening) (b q : ℕ) → first_of (letter_rules profile o b q) ≡ None → IsSome (letter_of profile b)
+some_letter profile o b q none = known (letter_of profile b) (quiet_is (letter_rules profile o b q) none).1.1.0
+
+pub some_kind : (profile : Profile) (o : Opening) (b q : ℕ) (letter : Letter) → first_of (letter_rules profile o b q) ≡ None
+    → letter_of profile b ≡ Some letter → IsSome (kind_of letter o.size)
+some_kind profile o b q letter none found = ((letter_is profile b letter found).allowed o q (quiet_is (letter_rules profile o b q) none)).0
 
 -- ---- letters
 
 -- what is known of a letter's byte
 pub record IsPrintLetterOf (p : Profile) (b : ℕ) (letter : PrintLetter) : Type 0 where
   pub last : IsLast b
-  pub allowed : (o : PrintOpening) (q : ℕ) → Quiet (print_letter_rules p o b q) → IsSome (print_kind_of letter o.size)
-  pub quiet : (o : PrintOpening) (q : ℕ) → IsSome (print_kind_of letter o.size) → Quiet (print_letter_rules p o b q)
+  pub plain : nat_eq b 91 ≡ false
+  pub allowed : (o : Opening) (q : ℕ) → Quiet (print_letter_rules p o b q) → IsSome (print_kind_of letter o.size)
+  pub quiet : (o : Opening) (q : ℕ) → IsSome (print_kind_of letter o.size) → Quiet (print_letter_rules p o b q)
 
 -- a fact for each byte of each letter
 abbrev pub ForLetters : (ℕ → PrintLetter → Type 0) → List PrintLetter → Type 0
@@ -192,10 +200,10 @@ each_print_added profiles.Two = assumption
 each_print_letter : (p : Profile) → ForLetters (IsPrintLetterOf p) (print_letters p)
 each_print_letter p = assumption (of_text, quiet_text, each_print_added p)
   where
-    of_text : (o : PrintOpening) (q : ℕ) → Quiet (print_letter_rules p o 115 q) → IsSome (text_kind o.size)
+    of_text : (o : Opening) (q : ℕ) → Quiet (print_letter_rules p o 115 q) → IsSome (text_kind o.size)
     of_text o q h = text_allowed o.size h.1.1.1.1.0
 
-    quiet_text : (o : PrintOpening) (q : ℕ) → IsSome (text_kind o.size) → Quiet (print_letter_rules p o 115 q)
+    quiet_text : (o : Opening) (q : ℕ) → IsSome (text_kind o.size) → Quiet (print_letter_rules p o 115 q)
     quiet_text o q s = let t = text_quiet o.size s in (refl, (refl, (refl, (t.0, (t.1, tt)))))
 
 pub printed : (P : ℕ → PrintLetter → Type 0) (letters : List PrintLetter) → ForLetters P letters → (b : ℕ) (letter : PrintLetter)
@@ -222,21 +230,9 @@ width_low (d ∷ ds) digits first =
 
 -- ---- the precision
 
-precision_from : (precision : Option (List ℕ)) → IfSome precision (AllPass is_decimal) → nat_lt 255 (precision_number precision) ≡ false
-    → IfSome precision IsPrecision
-precision_from precision digits e = grind (arith, nat_tests)
-
 precision_test : (precision : Option (List ℕ)) → IfSome precision IsPrecision
     → (nat_lt 255 (precision_number precision) ≡ false) × IfSome precision (AllPass is_decimal)
 precision_test precision h = grind (arith, nat_tests)
-
-one_from : (letter : PrintLetter) (precision : Option (List ℕ)) → (takes_one letter && is_some precision) ≡ false
-    → HasPrecision letter (option_map (λ ds. magnitude 10 ds) precision)
-one_from letter precision e = grind arith
-
-one_test : (letter : PrintLetter) (precision : Option (List ℕ)) → HasPrecision letter (option_map (λ ds. magnitude 10 ds) precision)
-    → (takes_one letter && is_some precision) ≡ false
-one_test letter precision h = grind arith
 
 -- ---- flags
 
@@ -252,51 +248,46 @@ had_quiet letter n (b ∷ flags) h = rw h.0 (had_quiet letter (n + 1) flags h.1)
 
 -- ---- both
 
-pub suits_print_from : (p : Profile) (letter : PrintLetter) (o : PrintOpening) (b place q : ℕ) → print_letter_of p b ≡ Some letter → HasPrintDigits o
-    → Quiet (print_opening_rules place o) → Quiet (print_letter_rules p o b q) → Quiet (flag_rules place o (Some letter)) → SuitsPrint letter o
-suits_print_from p letter o b place q e digits opening rules flags = record {
-  number = slot_from o.number digits.0 opening.0;
-  flags = digits.1;
+pub suits_print_from : (p : Profile) (letter : PrintLetter) (o : Opening) (b place q : ℕ) → print_letter_of p b ≡ Some letter → HasParts o
+    → IsIn (Print p) o → Quiet (opening_rules (Print p) place o) → Quiet (print_letter_rules p o b q) → Quiet (flag_rules place o (Some letter)) → SuitsPrint letter o
+suits_print_from p letter o b place q e parts own opening rules flags = record {
+  number = slot_from o.number parts.number opening.0;
+  star = own.0;
+  flags = parts.flags;
   had = none_foreign letter (flags_place place o) o.flags flags.0;
-  width = number_from 65535 o.width digits.2 (width_low o.width digits.2 digits.3) opening.1.0;
-  first = digits.3;
-  precision = precision_from o.precision digits.4 opening.1.1.0;
-  one = one_from letter o.precision flags.1.0;
+  width = number_from 65535 o.width parts.width (width_low o.width parts.width own.1) opening.1.0;
+  first = own.1;
+  precision = grind (arith, nat_tests, parts.precision, opening.1.1.0);
+  one = grind (arith, flags.1.0);
   size = (print_letter_is p b letter e).allowed o q rules;
 }
 
-pub print_opening_quiet : (letter : PrintLetter) (o : PrintOpening) (place : ℕ) → SuitsPrint letter o → Quiet (print_opening_rules place o)
-print_opening_quiet letter o place suits = (
+pub print_opening_quiet : (p : Profile) (letter : PrintLetter) (o : Opening) (place : ℕ) → SuitsPrint letter o → Quiet (opening_rules (Print p) place o)
+print_opening_quiet p letter o place suits = (
   (number_tests 32 o.number suits.number).slot,
   ((number_tests 65535 o.width suits.width).high, ((precision_test o.precision suits.precision).0, tt)),
 )
 
-pub print_letter_quiet : (p : Profile) (letter : PrintLetter) (o : PrintOpening) (b q : ℕ) → print_letter_of p b ≡ Some letter
+pub print_letter_quiet : (p : Profile) (letter : PrintLetter) (o : Opening) (b q : ℕ) → print_letter_of p b ≡ Some letter
     → SuitsPrint letter o → Quiet (print_letter_rules p o b q)
 print_letter_quiet p letter o b q e suits = (print_letter_is p b letter e).quiet o q suits.size
 
-pub flags_quiet : (letter : PrintLetter) (o : PrintOpening) (place : ℕ) → SuitsPrint letter o → Quiet (flag_rules place o (Some letter))
-flags_quiet letter o place suits = (had_quiet letter (flags_place place o) o.flags suits.had, (one_test letter o.precision suits.one, tt))
+pub flags_quiet : (letter : PrintLetter) (o : Opening) (place : ℕ) → SuitsPrint letter o → Quiet (flag_rules place o (Some letter))
+flags_quiet letter o place suits = (had_quiet letter (flags_place place o) o.flags suits.had, (grind (arith, suits.one), tt))
 
-pub suits_print_digits : (letter : PrintLetter) (o : PrintOpening) → SuitsPrint letter o → HasPrintDigits o
-suits_print_digits letter o suits = (
-  (number_tests 32 o.number suits.number).digits,
-  suits.flags,
-  (number_tests 65535 o.width suits.width).digits,
-  suits.first,
-  (precision_test o.precision suits.precision).1,
-)
+pub suits_print_parts : (letter : PrintLetter) (o : Opening) → SuitsPrint letter o → HasParts o
+suits_print_parts letter o suits = record {
+  number = (number_tests 32 o.number suits.number).digits;
+  flags = suits.flags;
+  width = (number_tests 65535 o.width suits.width).digits;
+  precision = (precision_test o.precision suits.precision).1;
+}
 
 -- ---- what a letter that no rule refuses prints
 
-pub some_print_letter : {A : Type 0} (p : Profile) (o : PrintOpening) (b q : ℕ) → first_of (print_letter_rules p o b q) ≡ None
-    → print_letter_of p b ≡ None → A
-some_print_letter p o b q none e =
-    let known = (quiet_is (print_letter_rules p o b q) none).1.1.0 in
-    let unknown : is_none (print_letter_of p b) ≡ true = rw e in absurd (cc)
+pub some_print_letter : (p : Profile) (o : Opening) (b q : ℕ) → first_of (print_letter_rules p o b q) ≡ None → IsSome (print_letter_of p b)
+some_print_letter p o b q none = known (print_letter_of p b) (quiet_is (print_letter_rules p o b q) none).1.1.0
 
-pub some_print_kind : {A : Type 0} (p : Profile) (o : PrintOpening) (b q : ℕ) (letter : PrintLetter) → first_of (print_letter_rules p o b q) ≡ None
-    → print_letter_of p b ≡ Some letter → print_kind_of letter o.size ≡ None → A
-some_print_kind p o b q letter none found e =
-    let some = (print_letter_is p b letter found).allowed o q (quiet_is (print_letter_rules p o b q) none) in
-    let nothing : is_some (print_kind_of letter o.size) ≡ false = rw e in absurd (cc)
+pub some_print_kind : (p : Profile) (o : Opening) (b q : ℕ) (letter : PrintLetter) → first_of (print_letter_rules p o b q) ≡ None
+    → print_letter_of p b ≡ Some letter → IsSome (print_kind_of letter o.size)
+some_print_kind p o b q letter none found = (print_letter_is p b letter found).allowed o q (quiet_is (print_letter_rules p o b q) none)

@@ -19,18 +19,11 @@ use Rattle.sf_format.proofs.Destinations.{destinations_push, at_most_one}
 use Rattle.sf_format.proofs.Meanings.{mean_push}
 use Rattle.sf_format.proofs.Parts.{begins_with, empty_text}
 use Rattle.sf_format.proofs.Judgements.{Judgement}
-use Rattle.sf_format.proofs.WholeTexts.{put_all, read_part, read_fault, nothing_read, no_bytes}
+use Rattle.sf_format.proofs.WholeTexts.{put_all, put_none, read_part, read_fault, nothing_read, no_bytes}
 
 pub bytes_of : (xs : List ℕ) → ((i : ℕ) → get_or xs i 0 < 256) → AreBytes xs
 bytes_of [] h = tt
 bytes_of (x ∷ xs) h = (h 0, bytes_of xs (λ i. h (suc i)))
-
--- a list that isn't empty has a length
-pub some_left : (rest : List ℕ) (empty : Bool) → empty ≡ (length rest == 0) → empty ≡ false → 0 < length rest
-some_left rest empty e f = let none : (length rest == 0) ≡ false = sym e ∙ f in grind (arith, nat_tests)
-
-pub none_left : (rest : List ℕ) (empty : Bool) → empty ≡ (length rest == 0) → empty ≡ true → length rest ≤ 0
-none_left rest empty e t = let none : (length rest == 0) ≡ true = sym e ∙ t in grind (arith, nat_tests)
 
 -- the text up to the place was passed, and what is read of the rest decides
 pub record Passing (language : Language) (text : List ℕ) (at : ℕ) (rest : List ℕ) (slots : Slots) : Type 0 where
@@ -54,12 +47,8 @@ passing_none language text slots bytes holds = record {
   few = omega arith;
   fuel = length text;
   enough = omega arith;
-  decides = alone (read (length text) language [] 0 text);
+  decides = put_none (read (length text) language [] 0 text);
 }
-  where
-    alone : (r : Judgement) → r ≡ put_all [] r
-    alone (Ok pieces) = refl
-    alone (Err fault) = refl
 
 pub put_push : (done : List Piece) (piece : Piece) (r : Judgement) → put_all done (put piece r) ≡ put_all (done ++ piece ∷ []) r
 put_push done piece (Ok pieces) = rw (append_assoc done (piece ∷ []) pieces)
@@ -90,21 +79,24 @@ is_part language earlier p (b ∷ x) some bytes quiet =
     }
 
 -- the part in front of the rest was passed, and something is left behind it
-pub record PassesFirst (language : Language) (done : List Piece) (at : ℕ) (rest after : List ℕ) (slots : Slots) : Type 0 where
+pub record PassesFirst {language : Language} {text : List ℕ} {at : ℕ} {rest : List ℕ} {slots : Slots} (h : Passing language text at rest slots)
+    (after : List ℕ) (new : Slots) : Type 0 where
   pub some : 0 < length rest
-  pub none : first_of (part_rules language (destinations done) at rest) ≡ None
+  pub none : first_of (part_rules language (destinations h.done) at rest) ≡ None
   pub behind : after ≡ (part_at language rest).rest
-  pub holds : Holds slots (destinations done ++ destinations ((part_at language rest).piece ∷ []))
+  pub holds : Holds new (destinations h.done ++ destinations ((part_at language rest).piece ∷ []))
   pub part : IsPart language rest
 
 -- whatever the part stands for
-pub passes_on : {language : Language} {text : List ℕ} {at : ℕ} {rest after : List ℕ} {slots new : Slots} {M S : Type 0} {empty : Bool}
+pub passes_on : {language : Language} {text : List ℕ} {at : ℕ} {rest after : List ℕ} {slots new : Slots} {M S : List Opening → Type 0} {empty : Bool}
     → (h : Passing language text at rest slots) → empty ≡ (length rest == 0) → empty ≡ false
-    → (first_of (part_rules language (destinations h.done) at rest) ≡ None) × (after ≡ (part_at language rest).rest) × M
-    × Holds new (destinations h.done ++ destinations ((part_at language rest).piece ∷ [])) × S
-    → PassesFirst language h.done at rest after new
-passes_on {language} {at = at} {rest = rest} {empty = empty} h is_empty more passes =
-    let some = some_left rest empty is_empty more in
+    → ((earlier : List Opening) → Holds slots earlier
+    → (first_of (part_rules language earlier at rest) ≡ None) × (after ≡ (part_at language rest).rest) × M earlier
+    × Holds new (earlier ++ destinations ((part_at language rest).piece ∷ [])) × S earlier)
+    → PassesFirst h after new
+passes_on {language} {at = at} {rest = rest} h is_empty more ensures =
+    let passes = ensures (destinations h.done) h.holds in
+    let some : 0 < length rest = let none : (length rest == 0) ≡ false = sym is_empty ∙ more in grind (arith, nat_tests) in
     record {
       some = some;
       none = passes.0;
@@ -114,17 +106,15 @@ passes_on {language} {at = at} {rest = rest} {empty = empty} h is_empty more pas
     }
 
 -- what follows a part is shorter
-pub rest_shorter : {language : Language} {text : List ℕ} {at : ℕ} {rest after : List ℕ} {slots new : Slots}
-    → (h : Passing language text at rest slots) → PassesFirst language h.done at rest after new
-    → (length after < length rest) × (length after ≤ length text)
-rest_shorter h passes =
+pub rest_shorter : {language : Language} {text : List ℕ} {at : ℕ} {rest after : List ℕ} {slots new : Slots} {h : Passing language text at rest slots}
+    → PassesFirst h after new → (length after < length rest) × (length after ≤ length text)
+rest_shorter {h = h} passes =
     let part = passes.part in
     (omega (arith, part.some, part.lengths, ap length passes.behind), omega (arith, part.some, part.lengths, ap length passes.behind, h.whole))
 
 abbrev pub passing_more : {language : Language} {text : List ℕ} {at : ℕ} {rest after : List ℕ} {slots new : Slots}
-    → (h : Passing language text at rest slots) → PassesFirst language h.done at rest after new
-    → Passing language text (length text - length after) after new
-passing_more {language} {text} {at} {rest} {after} {slots} {new} h passes =
+    → {h : Passing language text at rest slots} → PassesFirst h after new → Passing language text (length text - length after) after new
+passing_more {language} {text} {at} {rest} {after} {slots} {new} {h} passes =
     let part = passes.part in
     let piece = (part_at language rest).piece in
     let same : length after ≡ length (part_at language rest).rest = ap length passes.behind in
@@ -162,8 +152,8 @@ passing_fault {language} {at = at} {rest = rest} fault h first =
 
 pub passing_all : {language : Language} {text : List ℕ} {at : ℕ} {rest : List ℕ} {slots : Slots} {empty : Bool}
     → (h : Passing language text at rest slots) → empty ≡ (length rest == 0) → empty ≡ true → read (length text) language [] 0 text ≡ Ok h.done
-passing_all {language} {at = at} {rest = rest} {empty = empty} h is_empty none =
-    let over = no_bytes rest (none_left rest empty is_empty none) in
+passing_all {language} {at = at} {rest = rest} h is_empty none =
+    let over = no_bytes rest (let none : (length rest == 0) ≡ true = sym is_empty ∙ none in grind (arith, nat_tests)) in
     h.decides
     ∙ ap (λ x. put_all h.done (read h.fuel language (destinations h.done) at x)) over
     ∙ ap (put_all h.done) (nothing_read h.fuel language (destinations h.done) at) ∙ ap Ok (append-nil h.done)
@@ -177,10 +167,9 @@ pub record Gathering (D : Type 0) (language : Language) (means : ℕ → Piece �
 
 pub gathering_more : {D : Type 0} {language : Language} (means : ℕ → Piece → D → Type 0) {text : List ℕ} {at : ℕ} {rest after : List ℕ}
     {slots new : Slots} {ds : List D} (d : D) (h : Gathering D language means text at rest slots ds)
-    → PassesFirst language h.passing.done at rest after new
-    → means (1 + length (destinations h.passing.done)) (part_at language rest).piece d
+    → PassesFirst h.passing after new → means (1 + length (destinations h.passing.done)) (part_at language rest).piece d
     → Gathering D language means text (length text - length after) after new (ds ++ d ∷ [])
 gathering_more {language = language} means {rest = rest} {ds = ds} d h passes one = record {
-  passing = passing_more h.passing passes;
+  passing = passing_more passes;
   meaning = mean_push means 1 h.passing.done ds (part_at language rest).piece d h.meaning one;
 }

@@ -156,7 +156,7 @@ abbrev pub put_all : List Piece → Result (List Piece) (FormatWhy × ℕ) → R
 put_all done (Ok pieces) = Ok (done ++ pieces)
 put_all done (Err fault) = Err fault
 
-put_none : (r : Result (List Piece) (FormatWhy × ℕ)) → r ≡ put_all [] r
+pub put_none : (r : Result (List Piece) (FormatWhy × ℕ)) → r ≡ put_all [] r
 put_none r = grind arith
 
 put_first : (language : Language) (earlier : List Opening) (p : ℕ) (piece : Piece) (done : List Piece) (rest : List ℕ) (m : ℕ)

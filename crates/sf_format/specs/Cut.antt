@@ -8,10 +8,9 @@ use Rattle.sf_format.specs.declared.letter.Length.{Length}
 use Rattle.sf_format.specs.declared.letter.Length.TheVariants.{NoLength, HH, H, LL, L, J, Z, T}
 use Rattle.sf_format.specs.Letters.{length_text}
 use Rattle.sf_format.specs.Scanlist.{Scanlist, is_inner}
-use Rattle.sf_format.specs.Language.{Language}
-use Rattle.sf_format.specs.Language.{Scan, Print}
+use Rattle.sf_format.specs.Language.{Language, Scan, Print}
 use Rattle.sf_format.specs.PrintLetters.{is_flag}
-use Rattle.sf_format.specs.Pieces.{Opening, PrintOpening, Piece, WhiteSpace, Ordinary, Percents, Plain, Bracket, Printed}
+use Rattle.sf_format.specs.Pieces.{Opening, Piece, WhiteSpace, Ordinary, Percents, Plain, Bracket}
 
 -- ---- a conversion specification up to its letter
 
@@ -33,31 +32,6 @@ first_length (size ∷ sizes) x = if begins (length_text size) x then size else 
 abbrev pub length_at : List ℕ → Length
 length_at x = first_length (HH ∷ H ∷ LL ∷ L ∷ J ∷ Z ∷ T ∷ []) x
 
--- the parts of a specification up to where its letter is due, and the rest
-pub record Cut : Type 0 where
-  pub opening : Opening
-  pub rest : List ℕ
-
--- what follows the width, with the parts before it
-abbrev pub cut_length : List ℕ → Bool → List ℕ → List ℕ → Cut
-cut_length number star width x = record {
-  opening = record { number = number; star = star; width = width; size = length_at x };
-  rest = drop (length (length_text (length_at x))) x;
-}
-
--- what follows a %
-abbrev pub cut : List ℕ → Cut
-cut x =
-    let number = number_at x in
-    let star = mark_at (code "*") number.1 in
-    cut_length number.0 star.0 (front is_decimal star.1) (behind is_decimal star.1)
-
--- ---- a conversion specification of a print format up to its letter
-
-pub record PrintCut : Type 0 where
-  pub opening : PrintOpening
-  pub rest : List ℕ
-
 -- the precision that the text begins with, if the point stands there, and what follows it
 abbrev pub precision_behind : Bool × List ℕ → Option (List ℕ) × List ℕ
 precision_behind point = if point.0 then (Some (front is_decimal point.1), behind is_decimal point.1) else (None, point.1)
@@ -65,19 +39,28 @@ precision_behind point = if point.0 then (Some (front is_decimal point.1), behin
 abbrev pub precision_at : List ℕ → Option (List ℕ) × List ℕ
 precision_at x = precision_behind (mark_at (code ".") x)
 
+-- the parts of a specification up to where its letter is due, and the rest
+pub record Cut : Type 0 where
+  pub opening : Opening
+  pub rest : List ℕ
+
 -- what follows the precision, with the parts before it
-abbrev pub print_cut_length : List ℕ → List ℕ → List ℕ → Option (List ℕ) × List ℕ → PrintCut
-print_cut_length number flags width precision = record {
-  opening = record { number = number; flags = flags; width = width; precision = precision.0; size = length_at precision.1 };
+abbrev pub cut_length : List ℕ → Bool → List ℕ → List ℕ → Option (List ℕ) × List ℕ → Cut
+cut_length number star flags width precision = record {
+  opening = record { number = number; star = star; flags = flags; width = width; precision = precision.0; size = length_at precision.1 };
   rest = drop (length (length_text (length_at precision.1))) precision.1;
 }
 
--- what follows a %; a 0 that begins no number is a flag
-abbrev pub print_cut : List ℕ → PrintCut
-print_cut x =
+-- what follows a %: scan formats have no flags and no precision, print formats no star; a 0 that begins no number is a flag
+abbrev pub cut : Language → List ℕ → Cut
+cut (Scan profile) x =
+    let number = number_at x in
+    let star = mark_at (code "*") number.1 in
+    cut_length number.0 star.0 [] (front is_decimal star.1) (None, behind is_decimal star.1)
+cut (Print profile) x =
     let number = number_at x in
     let wide = behind is_flag number.1 in
-    print_cut_length number.0 (front is_flag number.1) (front is_decimal wide) (precision_at (behind is_decimal wide))
+    cut_length number.0 false (front is_flag number.1) (front is_decimal wide) (precision_at (behind is_decimal wide))
 
 -- ---- a scanlist
 
@@ -110,15 +93,9 @@ letter_at o [] = record { piece = Percents; rest = [] }
 letter_at o (letter ∷ x) =
     if nat_eq letter (code "[") then bracket_at o (mark_at (code "^") x) else record { piece = Plain o letter; rest = x }
 
--- the part of a print format from the letter on
-abbrev pub print_letter_at : PrintOpening → List ℕ → Part
-print_letter_at o [] = record { piece = Percents; rest = [] }
-print_letter_at o (letter ∷ x) = record { piece = Printed o letter; rest = x }
-
 -- behind a % that no other follows
 abbrev pub conversion_at : Language → List ℕ → Part
-conversion_at (Scan profile) x = letter_at (cut x).opening (cut x).rest
-conversion_at (Print profile) x = print_letter_at (print_cut x).opening (print_cut x).rest
+conversion_at language x = letter_at (cut language x).opening (cut language x).rest
 
 -- behind a %
 abbrev pub specification_at : Language → List ℕ → Part

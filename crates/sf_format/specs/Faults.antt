@@ -4,20 +4,20 @@ use Prim.Native.Char.{code}
 use Rattle.std.specs.List.{AllByRecursion, list_all}
 use Rattle.sf_base.specs.Bytes.{magnitude}
 use Rattle.sf_format.specs.declared.directive.Profile.{Profile}
-use Rattle.sf_format.specs.Language.{Language}
-use Rattle.sf_format.specs.Language.{Scan, Print}
+use Rattle.sf_format.specs.Language.{Language, Scan, Print}
 use Rattle.sf_format.specs.declared.fault.FormatFault.{FormatFault}
 use Rattle.sf_format.specs.declared.fault.FormatWhy.{FormatWhy}
 use Rattle.sf_format.specs.declared.fault.FormatWhy.TheVariants.{Truncated, ZeroWidth, TooWide, UnknownLetter, LeftOut, BadLength, OpenSet, BackwardRange, BadCount, BadNumber, NumberTwice, NumberGap, Nul, FormatTooLong, NoMemory}
 use Rattle.sf_format.specs.Letters.{letter_of}
+use Rattle.sf_format.specs.PrintLetters.{print_letter_of}
 use Rattle.sf_format.specs.Scanlist.{backward_range, caret_text}
 use Rattle.sf_format.specs.Lists.{is_any_of, begins, mark_at, is_written}
-use Rattle.sf_format.specs.Cut.{cut, print_cut, members_at, close_at}
-use Rattle.sf_format.specs.Pieces.{Opening, Piece, number_text, star_text, opening_text, print_opening_text, piece_text, text_of}
+use Rattle.sf_format.specs.Cut.{cut, members_at, close_at}
+use Rattle.sf_format.specs.Pieces.{Opening, Piece, number_text, star_text, opening_text, piece_text, text_of}
 use Rattle.sf_format.specs.PrintGrammar.{Prints}
 use Rattle.sf_format.specs.Grammar.{IsPiece, RunsApart, AreAlike, destinations, Means, SpellsAs}
 use Rattle.sf_format.specs.Rules.{Rule, first_of, takes_text, has_length, is_l, place_of, or_zero, slot_rules}
-use Rattle.sf_format.specs.PrintRules.{print_opening_rules, print_rest_rules}
+use Rattle.sf_format.specs.PrintRules.{print_opening_rules, print_letter_rules, flag_rules}
 
 -- a letter or a length that C or POSIX has
 abbrev pub is_left_out : ℕ → Bool
@@ -26,8 +26,8 @@ is_left_out b = is_any_of (codes "mLaAeEfFgGpCS") b
 -- ---- the faults inside one specification
 
 -- the parts before the letter; p is the place of the %
-abbrev pub opening_rules : ℕ → Opening → List Rule
-opening_rules p o =
+abbrev pub opening_rules : Language → ℕ → Opening → List Rule
+opening_rules (Scan profile) p o =
     let star_at = p + 1 + length (number_text o.number) in
     let width_at = star_at + length (star_text o.star) in
     let number = magnitude 10 o.number in
@@ -37,6 +37,7 @@ opening_rules p o =
     ∷ record { why = ZeroWidth; applies = is_written o.width && nat_eq width 0; at = width_at }
     ∷ record { why = TooWide; applies = nat_lt 65535 width; at = width_at }
     ∷ []
+opening_rules (Print profile) p o = print_opening_rules p o
 
 -- the letter, at q
 abbrev pub letter_rules : Profile → Opening → ℕ → ℕ → List Rule
@@ -71,20 +72,21 @@ bracket_rules bracket q x = if bracket then after_caret q (mark_at (code "^") x)
 abbrev pub scanlist_rules : ℕ → ℕ → List ℕ → List Rule
 scanlist_rules letter q x = bracket_rules (nat_eq letter (code "[")) q x
 
+-- the letter, at q, and what it has behind it or before it
+abbrev pub ending_rules : Language → ℕ → Opening → ℕ → ℕ → List ℕ → List Rule
+ending_rules (Scan profile) p o q letter x = letter_rules profile o letter q ++ scanlist_rules letter q x
+ending_rules (Print profile) p o q letter x = print_letter_rules profile o letter q ++ flag_rules p o (print_letter_of profile letter)
+
 -- from where the letter of the specification is due, at q
-abbrev pub rest_rules : Profile → List Opening → ℕ → Opening → ℕ → List ℕ → List Rule
-rest_rules profile earlier p o q [] = record { why = Truncated; applies = true; at = q } ∷ []
-rest_rules profile earlier p o q (letter ∷ x) =
-    letter_rules profile o letter q ++ (scanlist_rules letter q x ++ slot_rules earlier p o)
+abbrev pub rest_rules : Language → List Opening → ℕ → Opening → ℕ → List ℕ → List Rule
+rest_rules language earlier p o q [] = record { why = Truncated; applies = true; at = q } ∷ []
+rest_rules language earlier p o q (letter ∷ x) = ending_rules language p o q letter x ++ slot_rules earlier p o
 
 -- what stands behind a % that no other follows
 abbrev pub conversion_rules : Language → List Opening → ℕ → List ℕ → List Rule
-conversion_rules (Scan profile) earlier p x =
-    opening_rules p (cut x).opening
-    ++ rest_rules profile earlier p (cut x).opening (p + length (opening_text (cut x).opening)) (cut x).rest
-conversion_rules (Print profile) earlier p x =
-    print_opening_rules p (print_cut x).opening
-    ++ print_rest_rules profile earlier p (print_cut x).opening (p + length (print_opening_text (print_cut x).opening)) (print_cut x).rest
+conversion_rules language earlier p x =
+    let o = (cut language x).opening in
+    opening_rules language p o ++ rest_rules language earlier p o (p + length (opening_text o)) (cut language x).rest
 
 -- what stands behind a %
 abbrev pub percent_rules : Language → List Opening → ℕ → List ℕ → List Rule

@@ -14,12 +14,11 @@ use Rattle.sf_format.specs.declared.letter.Letter.{Letter}
 use Rattle.sf_format.specs.declared.letter.Letter.TheVariants.{Signed, Unsigned, Chars, Text, Set, Count}
 use Rattle.sf_format.specs.Letters.{letter_of, kind_of}
 use Rattle.sf_format.specs.Scanlist.{IsScanlist, IsSetOf}
-use Rattle.sf_format.specs.Slots.{AreDistinct}
-use Rattle.sf_format.specs.Language.{Language}
-use Rattle.sf_format.specs.Language.{Scan, Print}
+use Rattle.sf_format.specs.Slots.{AreDistinct, slot_of}
+use Rattle.sf_format.specs.Language.{Language, Scan, Print}
 use Rattle.sf_format.specs.declared.unit.Unit.{Unit as PrintUnit}
 use Rattle.sf_format.specs.PrintGrammar.{IsPrintPiece, Prints}
-use Rattle.sf_format.specs.Pieces.{Opening, PrintOpening, Piece, WhiteSpace, Ordinary, Percents, Plain, Bracket, Printed, text_of}
+use Rattle.sf_format.specs.Pieces.{Opening, Piece, WhiteSpace, Ordinary, Percents, Plain, Bracket, text_of}
 
 -- n is never suppressed and takes no width
 abbrev pub SuitsCount : Letter → Opening → Type 0
@@ -30,7 +29,9 @@ SuitsCount _ o = Unit {0}
 pub record Suits (letter : Letter) (o : Opening) : Type 0 where
   pub number : IsOptionalNumber 32 o.number
   pub suppressed : o.star ≡ true → o.number ≡ []
+  pub flags : o.flags ≡ []
   pub width : IsOptionalNumber 65535 o.width
+  pub precision : o.precision ≡ None
   pub size : IsSome (kind_of letter o.size)
   pub count : SuitsCount letter o
 
@@ -41,7 +42,6 @@ IsScanPiece profile (Ordinary b) = (b < 256) × (b ≢ 0) × (b ≢ code "%") ×
 IsScanPiece profile Percents = Unit {0}
 IsScanPiece profile (Plain o b) = (b ≢ code "[") × ((letter : Letter) × (letter_of profile b ≡ Some letter) × Suits letter o)
 IsScanPiece profile (Bracket o list) = Suits Set o × IsScanlist list
-IsScanPiece profile (Printed o b) = ⊥
 
 -- a part of a format, seen alone
 abbrev pub IsPiece : Language → Piece → Type 0
@@ -54,10 +54,6 @@ RunsApart [] = Unit {0}
 RunsApart (WhiteSpace a ∷ WhiteSpace b ∷ pieces) = ⊥
 RunsApart (piece ∷ pieces) = RunsApart pieces
 
--- a value of a print format, as the rules on numbers see it: never suppressed
-abbrev pub value_opening : PrintOpening → Opening
-value_opening o = record { number = o.number; star = false; width = o.width; size = o.size }
-
 -- the openings of the assigned conversions, or of the values
 abbrev pub assigned_opening : Opening → List Opening → List Opening
 assigned_opening o rest = if o.star then rest else o ∷ rest
@@ -66,7 +62,6 @@ abbrev pub destinations : List Piece → List Opening
 destinations [] = []
 destinations (Plain o letter ∷ pieces) = assigned_opening o (destinations pieces)
 destinations (Bracket o list ∷ pieces) = assigned_opening o (destinations pieces)
-destinations (Printed o letter ∷ pieces) = value_opening o ∷ destinations pieces
 destinations (_ ∷ pieces) = destinations pieces
 
 -- destinations without numbers, at most 32
@@ -88,11 +83,6 @@ pub record IsFormat (language : Language) (pieces : List Piece) : Type 0 where
   pub each : AllByRecursion (IsPiece language) pieces
   pub apart : RunsApart pieces
   pub slots : ArePlaced (destinations pieces) ⊎ AreNumbered (destinations pieces)
-
--- the slot of a conversion, where place is that of the next one without a number
-abbrev pub slot_of : ℕ → Opening → Option ℕ
-slot_of place o =
-    if o.star then None else (elim (optional_number o.number) [ None ↦ Some place | Some n ↦ Some n ])
 
 -- the width; c has the width 1 where none is written (C11 7.21.6.2p12)
 abbrev pub width_of : Letter → List ℕ → Option ℕ
@@ -124,7 +114,6 @@ Means profile place (Plain o b) d =
 Means profile place (Bracket o list) d =
     (c : Conversion) × (members : List Bool) × IsConversion place o Set c × IsSetOf list members × (c.shape ≡ shape.Set members)
     × (d ≡ directive.Conv c)
-Means profile place (Printed o b) d = ⊥
 
 -- what the parts stand for, one by one, where place is that of the next destination
 abbrev pub MeanAll : {D : Type 0} → (ℕ → Piece → D → Type 0) → ℕ → List Piece → List D → Type 0

@@ -17,24 +17,36 @@ use Rattle.sf_format.specs.declared.letter.Letter.TheVariants.{Set}
 use Rattle.sf_format.specs.declared.opening.Written.{Written}
 use Rattle.sf_format.specs.declared.slots.Slots.{Slots}
 use Rattle.sf_format.specs.declared.scan.scanlist.Listed.{Listed}
-use Rattle.sf_format.specs.Language.{Language}
-use Rattle.sf_format.specs.declared.print.opening.PrintWritten.{PrintWritten}
+use Rattle.sf_format.specs.Language.{Language, Scan, Print}
+use Rattle.sf_format.specs.PrintGrammar.{StartsAboveZero}
 use Rattle.sf_format.specs.declared.grammar.Passed.{Passed}
 use Rattle.sf_format.specs.declared.grammar.Literal.{Literal}
 use Rattle.sf_format.specs.declared.grammar.Literal.TheVariants as literal
 use Rattle.sf_format.specs.declared.noted.Noted.{Noted}
 use Rattle.sf_format.specs.Lists.{is_any_of, is_written, mark_at}
 use Rattle.sf_format.specs.Scanlist.{IsSetBy}
-use Rattle.sf_format.specs.Pieces.{Opening, PrintOpening, Piece, Ordinary, Percents}
+use Rattle.sf_format.specs.Pieces.{Opening, Piece, Ordinary, Percents}
 use Rattle.sf_format.specs.Cut.{Part, members_at, close_at}
-use Rattle.sf_format.specs.Grammar.{destinations, slot_of, width_of, shape_of, MeanAll}
-use Rattle.sf_format.specs.Rules.{Rule, first_of}
+use Rattle.sf_format.specs.Slots.{slot_of}
+use Rattle.sf_format.specs.Grammar.{assigned_opening, destinations, width_of, shape_of, MeanAll}
+use Rattle.sf_format.specs.Rules.{Rule, first_of, slot_rules}
 use Rattle.sf_format.specs.Faults.{bracket_rules, repeated, beyond, no_memory}
 use Rattle.sf_format.specs.Reading.{read, judged}
 
+abbrev pub precision_of : Bool → List ℕ → Option (List ℕ)
+precision_of true ds = Some ds
+precision_of false ds = None
+
 -- an opening without where its digits lie in memory
 abbrev pub opening_of : Written → Opening
-opening_of o = record { number = o.number.now; star = o.star; width = o.width.now; size = o.size }
+opening_of o = record {
+  number = o.number.now;
+  star = o.star;
+  flags = o.flags.now;
+  width = o.width.now;
+  precision = precision_of o.point o.precision.now;
+  size = o.size;
+}
 
 abbrev pub fault_of : FormatFault → FormatWhy × ℕ
 fault_of fault = (fault.why, fault.at)
@@ -49,19 +61,10 @@ row_of rule = record { why = rule.why.why; applies = rule.applies; at = rule.why
 
 -- ---- one specification
 
--- one of a print format
-abbrev pub precision_of : Bool → List ℕ → Option (List ℕ)
-precision_of true ds = Some ds
-precision_of false ds = None
-
-abbrev pub print_opening_of : PrintWritten → PrintOpening
-print_opening_of o = record {
-  number = o.number.now;
-  flags = o.flags.now;
-  width = o.width.now;
-  precision = precision_of o.point o.precision.now;
-  size = o.size;
-}
+-- what the language has of an opening
+abbrev pub IsIn : Language → Opening → Type 0
+IsIn (Scan profile) o = (o.flags ≡ []) × (o.precision ≡ None)
+IsIn (Print profile) o = (o.star ≡ false) × StartsAboveZero o.width
 
 -- the first fault by the rules, or else the letter that was found, and the kind that it has
 abbrev pub Converts : {L : Type 0} → Option L → (L → Option Kind) → List Rule → Result (L × Kind) FormatFault → Type 0
@@ -110,6 +113,11 @@ pub record Holds (slots : Slots) (earlier : List Opening) : Type 0 where
 abbrev pub slot_at : ℕ → List Opening → Option ℕ
 slot_at place [] = None
 slot_at place (o ∷ os) = slot_of place o
+
+-- the first fault of one more destination, or else the destinations with it
+abbrev pub PushesBy : List Opening → ℕ → Opening → Result (Option ℕ × Slots) FormatFault → Type 0
+PushesBy earlier p o (Ok pushed) = (first_of (slot_rules earlier p o) ≡ None) × Holds pushed.1 (earlier ++ assigned_opening o [])
+PushesBy earlier p o (Err fault) = first_of (slot_rules earlier p o) ≡ Some (fault_of fault)
 
 -- the part that is one byte or %%
 abbrev pub literal_piece : Literal → Piece

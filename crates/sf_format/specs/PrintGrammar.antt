@@ -1,5 +1,5 @@
 -- The grammar of print formats (C11 7.21.6.1p3 to p8, POSIX fprintf for the numbers).
-use Rattle.std.specs.Prelude.{◌≡◌, ◌≢◌, ℕ, ◌<◌, ◌≤◌, Bool, true, List, [], ◌∷◌, Option, Some, None, IsSome, IfSome, nat_eq}
+use Rattle.std.specs.Prelude.{◌≡◌, ◌≢◌, ℕ, ◌<◌, ◌≤◌, Bool, true, false, List, [], ◌∷◌, Some, IsSome, IfSome, nat_eq}
 use Prim.Native.Char.{code}
 use Rattle.std.specs.List.{AllByRecursion, list_any}
 use Rattle.std.specs.Option.{option_map}
@@ -9,10 +9,11 @@ use Rattle.sf_format.specs.declared.unit.PrintLetter.{PrintLetter}
 use Rattle.sf_format.specs.declared.unit.PrintConv.{PrintConv}
 use Rattle.sf_format.specs.declared.unit.Unit.{Unit as PrintUnit}
 use Rattle.sf_format.specs.declared.unit.Unit.TheVariants as unit
-use Rattle.sf_format.specs.Digits.{is_decimal, IsOptionalNumber, optional_number}
+use Rattle.sf_format.specs.Digits.{is_decimal, IsOptionalNumber}
+use Rattle.sf_format.specs.Slots.{slot_of}
 use Rattle.sf_format.specs.PrintLetters.{print_letter_of, print_kind_of, is_flag}
 use Rattle.sf_format.specs.Units.{has_flag, HasPrecision}
-use Rattle.sf_format.specs.Pieces.{PrintOpening, Piece, WhiteSpace, Ordinary, Percents, Plain, Bracket, Printed}
+use Rattle.sf_format.specs.Pieces.{Opening, Piece, WhiteSpace, Ordinary, Percents, Plain, Bracket}
 
 -- the digits behind a point; none stand for 0
 abbrev pub IsPrecision : List ℕ → Type 0
@@ -24,8 +25,9 @@ StartsAboveZero [] = Unit {0}
 StartsAboveZero (d ∷ ds) = d ≢ code "0"
 
 -- the letter may end a conversion specification that opens so
-pub record SuitsPrint (letter : PrintLetter) (o : PrintOpening) : Type 0 where
+pub record SuitsPrint (letter : PrintLetter) (o : Opening) : Type 0 where
   pub number : IsOptionalNumber 32 o.number
+  pub star : o.star ≡ false
   -- of - + space # 0, and only those that the letter has
   pub flags : AllByRecursion (λ b. is_flag b ≡ true) o.flags
   pub had : AllByRecursion (λ b. has_flag letter b ≡ true) o.flags
@@ -40,24 +42,17 @@ abbrev pub IsPrintPiece : Profile → Piece → Type 0
 IsPrintPiece profile (WhiteSpace bs) = ⊥
 IsPrintPiece profile (Ordinary b) = (b < 256) × (b ≢ 0) × (b ≢ code "%")
 IsPrintPiece profile Percents = Unit {0}
-IsPrintPiece profile (Plain o b) = ⊥
+IsPrintPiece profile (Plain o b) = (letter : PrintLetter) × (print_letter_of profile b ≡ Some letter) × SuitsPrint letter o
 IsPrintPiece profile (Bracket o list) = ⊥
-IsPrintPiece profile (Printed o b) =
-    (letter : PrintLetter) × (print_letter_of profile b ≡ Some letter) × SuitsPrint letter o
-
--- the number, or else the place
-abbrev pub or_place : ℕ → Option ℕ → ℕ
-or_place place None = place
-or_place place (Some n) = n
 
 abbrev pub is_set_flag : ℕ → List ℕ → Bool
 is_set_flag flag flags = list_any (λ a. nat_eq a flag) flags
 
 -- what a conversion specification stands for, where place is that of a value without a number
-pub record IsPrintConv (place : ℕ) (o : PrintOpening) (letter : PrintLetter) (c : PrintConv) : Type 0 where
+pub record IsPrintConv (place : ℕ) (o : Opening) (letter : PrintLetter) (c : PrintConv) : Type 0 where
   pub prints : c.letter ≡ letter
   pub kind : print_kind_of letter o.size ≡ Some c.kind
-  pub slot : c.slot ≡ or_place place (optional_number o.number)
+  pub slot : slot_of place o ≡ Some c.slot
   pub minus : c.minus ≡ is_set_flag (code "-") o.flags
   pub plus : c.plus ≡ is_set_flag (code "+") o.flags
   pub blank : c.blank ≡ is_set_flag (code " ") o.flags
@@ -71,7 +66,6 @@ abbrev pub Prints : Profile → ℕ → Piece → PrintUnit → Type 0
 Prints profile place (WhiteSpace bs) u = ⊥
 Prints profile place (Ordinary b) u = u ≡ unit.Byte b
 Prints profile place Percents u = u ≡ unit.Byte (code "%")
-Prints profile place (Plain o b) u = ⊥
-Prints profile place (Bracket o list) u = ⊥
-Prints profile place (Printed o b) u =
+Prints profile place (Plain o b) u =
     (letter : PrintLetter) × (c : PrintConv) × (print_letter_of profile b ≡ Some letter) × IsPrintConv place o letter c × (u ≡ unit.Conv c)
+Prints profile place (Bracket o list) u = ⊥

@@ -1,30 +1,29 @@
 -- The rules that conversion specifications of print formats have to keep, in order.
-use Rattle.std.specs.Prelude.{ℕ, ◌+◌, Bool, true, false, not, ◌&&◌, ◌||◌, List, [], ◌∷◌, ◌++◌, length, Option, Some, None, is_some, is_none, nat_eq, nat_lt, codes}
+use Rattle.std.specs.Prelude.{ℕ, ◌+◌, Bool, true, false, not, ◌&&◌, ◌||◌, List, [], ◌∷◌, length, Option, Some, None, is_some, is_none, nat_eq, nat_lt, codes}
 use Rattle.std.specs.List.{position_from}
 use Rattle.sf_base.specs.Bytes.{magnitude}
 use Rattle.sf_format.specs.declared.directive.Profile.{Profile}
-use Rattle.sf_format.specs.declared.fault.FormatWhy.TheVariants.{Truncated, TooWide, UnknownLetter, LeftOut, BadLength, BadNumber, Nul, BadFlag, PrecisionTooLarge}
+use Rattle.sf_format.specs.declared.fault.FormatWhy.TheVariants.{TooWide, UnknownLetter, LeftOut, BadLength, BadNumber, Nul, BadFlag, PrecisionTooLarge}
 use Rattle.sf_format.specs.declared.unit.PrintLetter.{PrintLetter}
 use Rattle.sf_format.specs.declared.unit.PrintLetter.TheVariants.{One}
 use Rattle.sf_format.specs.Lists.{is_any_of, is_written}
 use Rattle.sf_format.specs.PrintLetters.{print_letter_of}
 use Rattle.sf_format.specs.Units.{has_flag}
-use Rattle.sf_format.specs.Pieces.{Opening, PrintOpening, number_text}
-use Rattle.sf_format.specs.Grammar.{value_opening}
-use Rattle.sf_format.specs.Rules.{Rule, takes_text, has_length, is_l, or_zero, slot_rules}
+use Rattle.sf_format.specs.Pieces.{Opening, number_text}
+use Rattle.sf_format.specs.Rules.{Rule, takes_text, has_length, is_l, or_zero}
 
 -- a letter, a length or a mark that C or POSIX has
 abbrev pub is_print_left_out : ℕ → Bool
 is_print_left_out b = is_any_of (codes "*'nLaAeEfFgGpCS") b
 
 -- where the flags begin, the width, and the point; p is the place of the %
-abbrev pub flags_place : ℕ → PrintOpening → ℕ
+abbrev pub flags_place : ℕ → Opening → ℕ
 flags_place p o = p + 1 + length (number_text o.number)
 
-abbrev pub width_place : ℕ → PrintOpening → ℕ
+abbrev pub width_place : ℕ → Opening → ℕ
 width_place p o = flags_place p o + length o.flags
 
-abbrev pub point_place : ℕ → PrintOpening → ℕ
+abbrev pub point_place : ℕ → Opening → ℕ
 point_place p o = width_place p o + length o.width
 
 -- the number that a precision stands for, 0 where there is none
@@ -33,7 +32,7 @@ precision_number None = 0
 precision_number (Some ds) = magnitude 10 ds
 
 -- the parts before the letter
-abbrev pub print_opening_rules : ℕ → PrintOpening → List Rule
+abbrev pub print_opening_rules : ℕ → Opening → List Rule
 print_opening_rules p o =
     let number = magnitude 10 o.number in
     record { why = BadNumber; applies = is_written o.number && (nat_eq number 0 || nat_lt 32 number); at = p + 1 }
@@ -51,7 +50,7 @@ takes_one One = true
 takes_one _ = false
 
 -- the letter, at q
-abbrev pub print_letter_rules : Profile → PrintOpening → ℕ → ℕ → List Rule
+abbrev pub print_letter_rules : Profile → Opening → ℕ → ℕ → List Rule
 print_letter_rules profile o b q =
     record { why = Nul; applies = nat_eq b 0; at = q }
     ∷ record { why = LeftOut; applies = is_print_left_out b; at = q }
@@ -61,16 +60,10 @@ print_letter_rules profile o b q =
     ∷ []
 
 -- what stands before the letter, if the letter doesn't have it
-abbrev pub flag_rules : ℕ → PrintOpening → Option PrintLetter → List Rule
+abbrev pub flag_rules : ℕ → Opening → Option PrintLetter → List Rule
 flag_rules p o None = []
 flag_rules p o (Some letter) =
     let foreign = foreign_flag letter (flags_place p o) o.flags in
     record { why = BadFlag; applies = is_some foreign; at = or_zero foreign }
     ∷ record { why = BadFlag; applies = takes_one letter && is_some o.precision; at = point_place p o }
     ∷ []
-
--- from where the letter of the specification is due, at q
-abbrev pub print_rest_rules : Profile → List Opening → ℕ → PrintOpening → ℕ → List ℕ → List Rule
-print_rest_rules profile earlier p o q [] = record { why = Truncated; applies = true; at = q } ∷ []
-print_rest_rules profile earlier p o q (b ∷ x) =
-    print_letter_rules profile o b q ++ (flag_rules p o (print_letter_of profile b) ++ slot_rules earlier p (value_opening o))

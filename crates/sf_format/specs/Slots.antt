@@ -1,8 +1,10 @@
 -- Slots with their kinds: the destinations of a scan format, the values of a print format.
-use Rattle.std.specs.Prelude.{◌≢◌, ℕ, zero, suc, ◌+◌, ◌≤◌, nat_eq, List, [], ◌∷◌, length, map, find, Option}
+use Rattle.std.specs.Prelude.{◌≢◌, ℕ, zero, suc, ◌+◌, ◌≤◌, nat_eq, List, [], ◌∷◌, length, map, find, Option, Some, None, if◌then◌else◌}
 use Rattle.std.specs.List.{AllByRecursion}
 use Rattle.std.specs.Option.{option_map}
 use Rattle.sf_base.specs.declared.values.Kind.{Kind}
+use Rattle.sf_format.specs.Digits.{optional_number}
+use Rattle.sf_format.specs.Pieces.{Opening}
 
 -- a slot, and what kind it has
 abbrev pub Slotted : Type 0
@@ -26,3 +28,8 @@ AreDistinct (n ∷ ns) = AllByRecursion (λ m. m ≢ n) ns × AreDistinct ns
 pub record AreSlots (entries : List Slotted) : Type 0 where
   pub each : AllByRecursion (λ n. (1 ≤ n) × (n ≤ length entries)) (map (λ e. e.0) entries)
   pub distinct : AreDistinct (map (λ e. e.0) entries)
+
+-- the slot of a conversion, where place is that of the next one without a number
+abbrev pub slot_of : ℕ → Opening → Option ℕ
+slot_of place o =
+    if o.star then None else (elim (optional_number o.number) [ None ↦ Some place | Some n ↦ Some n ])

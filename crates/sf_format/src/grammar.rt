@@ -1,13 +1,17 @@
 //! What the grammars of scan formats and of print formats have in common.
-ghost use Rattle.std.specs.Prelude.{◌≡◌, ◌≤◌, ◌<◌, ◌+◌, true, false, ℕ, List, length, IfOk, IfErr, MatchOption};
+ghost use Rattle.std.specs.Prelude.{◌≡◌, ◌≤◌, ◌<◌, ◌+◌, true, false, ℕ, List, ◌∷◌, None, length, IfOk, IfErr, MatchOption};
+ghost use Rattle.std.specs.List.{AllByRecursion};
+ghost use Rattle.sf_format.specs.Digits.{is_decimal};
 ghost use Rattle.sf_format.specs.Language.{Language};
-ghost use Rattle.sf_format.specs.Pieces.{Opening, Piece, WhiteSpace};
-ghost use Rattle.sf_format.specs.Cut.{joins_run, conversion_at, specification_at, part_at};
-ghost use Rattle.sf_format.specs.Faults.{conversion_rules, percent_rules, part_rules};
-ghost use Rattle.sf_format.specs.Passing.{literal_piece, Holds, PassesBy, Walked, Gathers, IsHindered};
+ghost use Rattle.sf_format.specs.Pieces.{Opening, Piece, WhiteSpace, opening_text};
+ghost use Rattle.sf_format.specs.Cut.{cut, letter_at, joins_run, conversion_at, specification_at, part_at};
+ghost use Rattle.sf_format.specs.Rules.{first_of};
+ghost use Rattle.sf_format.specs.Faults.{opening_rules, rest_rules, conversion_rules, percent_rules, part_rules};
+ghost use Rattle.sf_format.specs.Passing.{opening_of, fault_in, IsIn, literal_piece, Holds, PassesBy, Walked, Gathers, IsHindered};
 
 use crate::fault::{FormatFault, FormatWhy};
 use crate::fronts::{Class, mark, split_front};
+use crate::opening::Written;
 use crate::slots::{NO_SLOTS, Slots};
 use std::alloc::Global;
 
@@ -47,19 +51,88 @@ pub trait Grammar: Copy {
     fn literal(self, literal: Literal) -> Self::Part
         ensures { (place : ℕ) → means self place (literal_piece literal) result };
 
-    /// Passes the conversion specification whose `%` stands at the place, after these destinations or values. The text is what
-    /// follows the `%`. What the specification stands for is made only where it is wanted.
-    fn pass_conversion<'a>(
+    /// What stands behind a `%`, up to where the letter is due, and the rest.
+    fn cut_opening(self, text: &[u8]) -> (Written, &[u8])
+        ensures opening { opening_of result.0 ≡ (cut (language self) text.now).opening }
+        ensures rest { result.1.now ≡ (cut (language self) text.now).rest };
+
+    /// The first fault of an opening whose `%` stands at the place.
+    fn opening_fault(self, at: u16, written: &Written) -> Option<FormatFault>
+        requires place { at ≤ 4096 }
+        requires parts { length written.now.number.now + length written.now.flags.now + length written.now.width.now ≤ 4096 }
+        requires number { AllByRecursion (λ b. is_decimal b ≡ true) written.now.number.now }
+        requires width { AllByRecursion (λ b. is_decimal b ≡ true) written.now.width.now }
+        requires precision { written.now.point ≡ true → AllByRecursion (λ b. is_decimal b ≡ true) written.now.precision.now }
+        ensures { fault_in result ≡ first_of (opening_rules (language self) at (opening_of written.now)) };
+
+    /// Passes a specification from its letter on, which stands at the second place. Its `%` stands at the first. What it stands
+    /// for is made only where it is wanted.
+    fn pass_letter<'a>(
         self,
+        written: &Written,
+        letter: u8,
         text: &'a [u8],
+        percent: u16,
         at: u16,
         slots: Slots,
         wanted: bool,
     ) -> Result<Passed<'a, Self::Part>, FormatFault>
+        requires percent { percent ≤ 4096 }
         requires place { at + 1 + length text.now ≤ 4096 }
         requires count { slots.count ≤ 4096 }
+        requires parts { length written.now.number.now + length written.now.flags.now + length written.now.width.now ≤ 4096 }
+        requires number { AllByRecursion (λ b. is_decimal b ≡ true) written.now.number.now }
+        requires width { AllByRecursion (λ b. is_decimal b ≡ true) written.now.width.now }
+        requires precision { written.now.point ≡ true → AllByRecursion (λ b. is_decimal b ≡ true) written.now.precision.now }
+        requires own { IsIn (language self) (opening_of written.now) }
+        requires opening { first_of (opening_rules (language self) percent (opening_of written.now)) ≡ None }
         ensures { (earlier : List Opening) → Holds slots earlier
-            → PassesBy wanted (means self) (conversion_rules (language self) earlier at text.now) earlier (conversion_at (language self) text.now) result };
+            → PassesBy wanted (means self) (rest_rules (language self) earlier percent (opening_of written.now) at (letter ∷ text.now)) earlier
+            (letter_at (opening_of written.now) (letter ∷ text.now)) result };
+}
+
+/// What stands behind a `%`, up to where the letter is due, and the rest.
+fn opening<G: Grammar>(grammar: G, text: &[u8]) -> (Written, &[u8])
+    ensures opening { opening_of result.0 ≡ (cut (G.language grammar) text.now).opening }
+    ensures rest { result.1.now ≡ (cut (G.language grammar) text.now).rest }
+    ensures parts { length result.0.number.now + length result.0.flags.now + length result.0.width.now ≤ length text.now }
+    ensures number { AllByRecursion (λ b. is_decimal b ≡ true) result.0.number.now }
+    ensures width { AllByRecursion (λ b. is_decimal b ≡ true) result.0.width.now }
+    ensures precision { result.0.point ≡ true → AllByRecursion (λ b. is_decimal b ≡ true) result.0.precision.now }
+    ensures own { IsIn (G.language grammar) (opening_of result.0) }
+    ensures length { length (opening_text (opening_of result.0)) + length result.1.now ≡ 1 + length text.now }
+{
+    grammar.cut_opening(text)
+}
+
+/// Passes the conversion specification whose `%` stands at the place, after these destinations or values. The text is what
+/// follows the `%`.
+fn pass_conversion<'a, G: Grammar>(
+    grammar: G,
+    text: &'a [u8],
+    at: u16,
+    slots: Slots,
+    wanted: bool,
+) -> Result<Passed<'a, G::Part>, FormatFault>
+    requires place { at + 1 + length text.now ≤ 4096 }
+    requires count { slots.count ≤ 4096 }
+    ensures { (earlier : List Opening) → Holds slots earlier
+        → PassesBy wanted (G.means grammar) (conversion_rules (G.language grammar) earlier at text.now) earlier (conversion_at (G.language grammar) text.now) result }
+{
+    let (written, rest) = opening(grammar, text);
+    if let Some(fault) = grammar.opening_fault(at, &written) {
+        return Err(fault);
+    }
+    let letter_at = at + 1 + (text.len() - rest.len()) as u16;
+    match rest {
+        [] => Err(FormatFault {
+            at: letter_at,
+            why: FormatWhy::Truncated,
+        }),
+        [letter, rest @ ..] => {
+            grammar.pass_letter(&written, *letter, rest, at, letter_at, slots, wanted)
+        }
+    }
 }
 
 /// Passes what stands behind the `%` at the place.
@@ -84,7 +157,7 @@ fn pass_specification<'a, G: Grammar>(
             slots,
         });
     }
-    grammar.pass_conversion(text, at, slots, wanted)
+    pass_conversion(grammar, text, at, slots, wanted)
 }
 
 /// Passes the part that begins with the byte at the place, after these destinations or values.
@@ -166,10 +239,7 @@ pub fn gather<G: Grammar>(
         rest = passed.rest;
         at = (text.len() - rest.len()) as u16;
         slots = passed.slots;
-        let Some(part) = passed.part else {
-            unreachable!()
-        };
-        parts.push(part)?;
+        parts.push(passed.part.unwrap())?;
     }
     Ok(parts)
 }

@@ -1,13 +1,13 @@
 //! The destinations of a scan format, or the values of a print format, as far as it was read.
-ghost use Rattle.std.specs.Prelude.{◌≡◌, ◌+◌, ◌<◌, ◌≤◌, ℕ, List, [], ◌++◌, true, false, not, ◌&&◌, nat_lt, None, length};
+ghost use Rattle.std.specs.Prelude.{◌≡◌, ◌+◌, ◌<◌, ◌≤◌, ℕ, List, true, false, not, ◌&&◌, nat_lt, None, length, IfOk};
 ghost use Rattle.std.specs.List.{AllByRecursion, list_any};
 ghost use Rattle.sf_base.specs.Bytes.{magnitude};
 ghost use Rattle.sf_format.specs.Digits.{is_decimal};
 ghost use Rattle.sf_format.specs.Pieces.{Opening};
 ghost use Rattle.sf_format.specs.Lists.{is_written};
-ghost use Rattle.sf_format.specs.Grammar.{assigned_opening, slot_of};
+ghost use Rattle.sf_format.specs.Slots.{slot_of};
 ghost use Rattle.sf_format.specs.Rules.{first_of, alike, slot_rules};
-ghost use Rattle.sf_format.specs.Passing.{opening_of, fault_in, Holds};
+ghost use Rattle.sf_format.specs.Passing.{opening_of, fault_in, Holds, PushesBy};
 
 use crate::fault::{FormatFault, FormatWhy};
 use crate::opening::{Written, capped};
@@ -42,7 +42,7 @@ fn is_beyond(slots: Slots, written: &Written) -> bool
 }
 
 /// The first fault of one more destination, whose `%` stands at the place.
-pub fn slot_fault(slots: Slots, written: &Written, at: u16) -> Option<FormatFault>
+fn slot_fault(slots: Slots, written: &Written, at: u16) -> Option<FormatFault>
     ensures first { (earlier : List Opening) → Holds slots earlier → fault_in result ≡ first_of (slot_rules earlier at (opening_of written.now)) }
     ensures room { result ≡ None → (not written.now.star && not (is_written written.now.number.now) && nat_lt 31 slots.count) ≡ false }
 {
@@ -56,34 +56,27 @@ pub fn slot_fault(slots: Slots, written: &Written, at: u16) -> Option<FormatFaul
     ])
 }
 
-/// The slot of one more destination, which has no fault. None if it is suppressed.
-pub fn slot_of(slots: Slots, written: &Written) -> Option<u8>
+/// The slot of one more destination, whose `%` stands at the place, and the destinations with it; or its first fault. A suppressed
+/// one has no slot.
+pub fn pushed(slots: Slots, written: &Written, at: u16) -> Result<(Option<u8>, Slots), FormatFault>
+    requires count { slots.count ≤ 4096 }
     requires digits { AllByRecursion (λ b. is_decimal b ≡ true) written.now.number.now }
     requires bound { magnitude 10 written.now.number.now ≤ 32 }
-    requires room { (not written.now.star && not (is_written written.now.number.now) && nat_lt 31 slots.count) ≡ false }
-    ensures { result ≡ slot_of (1 + slots.count) (opening_of written.now) }
+    ensures slot { IfOk result (λ pushed. pushed.0 ≡ slot_of (1 + slots.count) (opening_of written.now)) }
+    ensures pushed { (earlier : List Opening) → Holds slots earlier → PushesBy earlier at (opening_of written.now) result }
 {
-    if written.star {
-        None
-    } else if written.number.is_empty() {
-        Some(slots.count as u8 + 1)
-    } else {
-        Some(capped(written.number) as u8)
+    if let Some(fault) = slot_fault(slots, written, at) {
+        return Err(fault);
     }
-}
-
-/// The destinations with one more, which has no fault.
-pub fn pushed(slots: Slots, written: &Written) -> Slots
-    requires { slots.count ≤ 4096 }
-    ensures { (earlier : List Opening) (at : ℕ) → Holds slots earlier → first_of (slot_rules earlier at (opening_of written.now)) ≡ None
-        → Holds result (earlier ++ assigned_opening (opening_of written.now) []) }
-{
     if written.star {
-        slots
-    } else {
-        Slots {
-            count: slots.count + 1,
-            numbered: !written.number.is_empty(),
-        }
+        return Ok((None, slots));
     }
+    let numbered = !written.number.is_empty();
+    let count = slots.count + 1;
+    let slot = if numbered {
+        capped(written.number) as u8
+    } else {
+        count as u8
+    };
+    Ok((Some(slot), Slots { count, numbered }))
 }

@@ -1,20 +1,20 @@
 //! Letters of print formats, and what they convert.
-ghost use Rattle.std.specs.Prelude.{◌≡◌, ◌≤◌, ◌+◌, ℕ, true, length, Some};
+ghost use Rattle.std.specs.Prelude.{◌≡◌, ◌≤◌, ◌+◌, ◌++◌, ℕ, true, length, Some};
 ghost use Rattle.std.specs.List.{AllByRecursion};
 ghost use Rattle.sf_base.specs.Bytes.{magnitude};
 ghost use Rattle.std.specs.Option.{option_map};
-ghost use Rattle.sf_format.specs.Digits.{is_decimal, optional_number};
+ghost use Rattle.sf_format.specs.Digits.{is_decimal};
+ghost use Rattle.sf_format.specs.Slots.{slot_of};
 ghost use Rattle.sf_format.specs.PrintLetters.{print_row, print_letter_of, print_kind_of};
-ghost use Rattle.sf_format.specs.PrintGrammar.{or_place, IsPrintConv};
+ghost use Rattle.sf_format.specs.PrintGrammar.{IsPrintConv};
 ghost use Rattle.sf_format.specs.Rules.{first_of};
 ghost use Rattle.sf_format.specs.PrintRules.{is_print_left_out, print_letter_rules, flag_rules, foreign_flag, precision_number};
-ghost use Rattle.sf_format.specs.Passing.{print_opening_of, fault_in, Converts};
+ghost use Rattle.sf_format.specs.Passing.{opening_of, fault_in, Converts};
 
 use crate::directive::Profile;
 use crate::fault::{FormatFault, FormatWhy};
 use crate::letter::{Values, of_text};
-use crate::opening::capped;
-use crate::print::opening::PrintWritten;
+use crate::opening::{Written, capped};
 use crate::rule_table::{fault_by, rule};
 use crate::unit::{PrintConv, PrintLetter};
 use sf_base::Kind;
@@ -74,11 +74,11 @@ fn print_row(letter: PrintLetter) -> PrintRow
 /// The first fault of the letter at the place.
 fn print_letter_fault(
     profile: Profile,
-    written: &PrintWritten,
+    written: &Written,
     letter: u8,
     at: u16,
 ) -> Option<FormatFault>
-    ensures { fault_in result ≡ first_of (print_letter_rules profile (print_opening_of written.now) letter at) }
+    ensures { fault_in result ≡ first_of (print_letter_rules profile (opening_of written.now) letter at) }
 {
     let is_known = print_letter_of(profile, letter).is_some();
     let is_text = of_text(letter);
@@ -92,25 +92,28 @@ fn print_letter_fault(
     ])
 }
 
-/// What the letter at the place prints, and its kind.
+/// What the letter at the second place prints, and its kind, where what stands before it suits it. The `%` stands at the first.
 pub fn print_converted(
     profile: Profile,
-    written: &PrintWritten,
+    written: &Written,
     letter: u8,
+    percent: u16,
     at: u16,
 ) -> Result<(PrintLetter, Kind), FormatFault>
+    requires place { percent ≤ 4096 }
+    requires parts { length written.now.number.now + length written.now.flags.now + length written.now.width.now ≤ 4096 }
     ensures { Converts (print_letter_of profile letter) (λ found. print_kind_of found written.now.size)
-        (print_letter_rules profile (print_opening_of written.now) letter at) result }
+        (print_letter_rules profile (opening_of written.now) letter at
+        ++ flag_rules percent (opening_of written.now) (print_letter_of profile letter)) result }
 {
     if let Some(fault) = print_letter_fault(profile, written, letter, at) {
         return Err(fault);
     }
-    let Some(found) = print_letter_of(profile, letter) else {
-        unreachable!()
-    };
-    let Some(kind) = print_row(found).prints.kind(written.size) else {
-        unreachable!()
-    };
+    let found = print_letter_of(profile, letter).unwrap();
+    if let Some(fault) = flag_fault(percent, written, found) {
+        return Err(fault);
+    }
+    let kind = print_row(found).prints.kind(written.size).unwrap();
     Ok((found, kind))
 }
 
@@ -128,10 +131,10 @@ fn foreign_flag(letter: PrintLetter, from: u16, flags: &[u8]) -> Option<u16>
 }
 
 /// The first fault of what stands before the letter, behind the `%` at the place, as far as the letter does not have it.
-pub fn flag_fault(percent: u16, written: &PrintWritten, letter: PrintLetter) -> Option<FormatFault>
+fn flag_fault(percent: u16, written: &Written, letter: PrintLetter) -> Option<FormatFault>
     requires place { percent ≤ 4096 }
     requires parts { length written.now.number.now + length written.now.flags.now + length written.now.width.now ≤ 4096 }
-    ensures { fault_in result ≡ first_of (flag_rules percent (print_opening_of written.now) (Some letter)) }
+    ensures { fault_in result ≡ first_of (flag_rules percent (opening_of written.now) (Some letter)) }
 {
     let places = written.places(percent);
     let foreign = foreign_flag(letter, places.flags, written.flags);
@@ -142,10 +145,10 @@ pub fn flag_fault(percent: u16, written: &PrintWritten, letter: PrintLetter) -> 
     ])
 }
 
-fn precision_of(written: &PrintWritten) -> Option<u8>
+fn precision_of(written: &Written) -> Option<u8>
     requires digits { written.now.point ≡ true → AllByRecursion (λ b. is_decimal b ≡ true) written.now.precision.now }
-    requires bound { precision_number (print_opening_of written.now).precision ≤ 255 }
-    ensures { result ≡ option_map (λ ds. magnitude 10 ds) (print_opening_of written.now).precision }
+    requires bound { precision_number (opening_of written.now).precision ≤ 255 }
+    ensures { result ≡ option_map (λ ds. magnitude 10 ds) (opening_of written.now).precision }
 {
     if written.point {
         Some(capped(written.precision) as u8)
@@ -155,13 +158,13 @@ fn precision_of(written: &PrintWritten) -> Option<u8>
 }
 
 /// The conversion of a specification without a fault.
-pub fn conversion(written: &PrintWritten, letter: PrintLetter, kind: Kind, slot: u8) -> PrintConv
+pub fn conversion(written: &Written, letter: PrintLetter, kind: Kind, slot: u8) -> PrintConv
     requires width { AllByRecursion (λ b. is_decimal b ≡ true) written.now.width.now }
     requires precision { written.now.point ≡ true → AllByRecursion (λ b. is_decimal b ≡ true) written.now.precision.now }
     requires wide { magnitude 10 written.now.width.now ≤ 65535 }
-    requires precise { precision_number (print_opening_of written.now).precision ≤ 255 }
-    ensures { (place : ℕ) → slot ≡ or_place place (optional_number written.now.number.now) → print_kind_of letter written.now.size ≡ Some kind
-        → IsPrintConv place (print_opening_of written.now) letter result }
+    requires precise { precision_number (opening_of written.now).precision ≤ 255 }
+    ensures { (place : ℕ) → slot_of place (opening_of written.now) ≡ Some slot → print_kind_of letter written.now.size ≡ Some kind
+        → IsPrintConv place (opening_of written.now) letter result }
 {
     PrintConv {
         letter,

@@ -49,12 +49,8 @@ pub fn converted(
     if let Some(fault) = letter_fault(profile, written, letter, at) {
         return Err(fault);
     }
-    let Some(found) = letter_of(profile, letter) else {
-        unreachable!()
-    };
-    let Some(kind) = found.values().kind(written.size) else {
-        unreachable!()
-    };
+    let found = letter_of(profile, letter).unwrap();
+    let kind = found.values().kind(written.size).unwrap();
     Ok((found, kind))
 }
 

@@ -1,21 +1,17 @@
 //! The parts of a scan format.
-ghost use Rattle.std.specs.Prelude.{◌≡◌, ◌≤◌, ◌+◌, List, ◌∷◌, None, true, length};
-ghost use Rattle.std.specs.List.{AllByRecursion};
-ghost use Rattle.sf_format.specs.Digits.{is_decimal};
-ghost use Rattle.sf_format.specs.Pieces.{Opening};
-ghost use Rattle.sf_format.specs.Cut.{letter_at};
+ghost use Rattle.std.specs.Prelude.{◌≡◌, ◌&&◌};
+ghost use Rattle.sf_format.specs.Lists.{is_written};
 ghost use Rattle.sf_format.specs.Language.{Scan};
 ghost use Rattle.sf_format.specs.Grammar.{Means};
-ghost use Rattle.sf_format.specs.Rules.{first_of};
-ghost use Rattle.sf_format.specs.Faults.{opening_rules, rest_rules};
-ghost use Rattle.sf_format.specs.Passing.{opening_of, Holds, PassesBy};
 
 use crate::directive::{Directive, Profile};
 use crate::fault::{FormatFault, FormatWhy};
+use crate::fronts::{Class, mark, number, size, split_front};
 use crate::grammar::{Grammar, Literal, Passed};
-use crate::opening::{Written, opening, opening_fault};
+use crate::opening::{Written, capped, is_no_slot, is_zero, number_len};
+use crate::rule_table::{fault_by, rule};
 use crate::scan::conversion::{conversion, converted, list_behind};
-use crate::slots::{Slots, pushed, slot_fault, slot_of};
+use crate::slots::{Slots, pushed};
 use sf_base::is_space;
 
 /// The grammar of scan formats, with the conversions of a profile.
@@ -24,38 +20,13 @@ pub struct ScanGrammar {
     pub profile: Profile,
 }
 
-/// Passes a specification from its letter on, which stands at the second place. Its `%` stands at the first.
-fn pass_letter<'a>(
-    profile: Profile,
-    written: &Written,
-    letter: u8,
-    text: &'a [u8],
-    percent: u16,
-    at: u16,
-    slots: Slots,
-    wanted: bool,
-) -> Result<Passed<'a, Directive>, FormatFault>
-    requires place { at + 1 + length text.now ≤ 4096 }
-    requires count { slots.count ≤ 4096 }
-    requires number { AllByRecursion (λ b. is_decimal b ≡ true) written.now.number.now }
-    requires width { AllByRecursion (λ b. is_decimal b ≡ true) written.now.width.now }
-    requires opening { first_of (opening_rules percent (opening_of written.now)) ≡ None }
-    ensures { (earlier : List Opening) → Holds slots earlier
-        → PassesBy wanted (Means profile) (rest_rules profile earlier percent (opening_of written.now) at (letter ∷ text.now)) earlier
-        (letter_at (opening_of written.now) (letter ∷ text.now)) result }
-{
-    let (found, kind) = converted(profile, written, letter, at)?;
-    let list = list_behind(found, at, text)?;
-    if let Some(fault) = slot_fault(slots, written, percent) {
-        return Err(fault);
+impl Written<'_> {
+    /// Whether it has a number and is suppressed.
+    fn is_starred_number(&self) -> bool
+        ensures { result ≡ (is_written self.now.number.now && self.now.star) }
+    {
+        !self.number.is_empty() && self.star
     }
-    let slot = slot_of(slots, written);
-    Ok(Passed {
-        part: conversion(wanted, found, kind, written, slot, &list),
-        slot,
-        rest: list.rest,
-        slots: pushed(slots, written),
-    })
 }
 
 impl Grammar for ScanGrammar {
@@ -80,35 +51,58 @@ impl Grammar for ScanGrammar {
         }
     }
 
-    fn pass_conversion<'a>(
+    fn cut_opening(self, text: &[u8]) -> (Written, &[u8]) {
+        let none = &text[..0];
+        let (number, text) = number(text);
+        let (star, text) = mark(b'*', text);
+        let (width, text) = split_front(text, Class::Digit);
+        let (size, text) = size(text);
+        let written = Written {
+            number,
+            star,
+            flags: none,
+            width,
+            point: false,
+            precision: none,
+            size,
+        };
+        (written, text)
+    }
+
+    fn opening_fault(self, at: u16, written: &Written) -> Option<FormatFault> {
+        let star_at = at + 1 + number_len(written.number);
+        let width_at = star_at + written.star as u16;
+        let width = capped(written.width);
+        fault_by(&[
+            rule(FormatWhy::BadNumber, at + 1, is_no_slot(written.number)),
+            rule(FormatWhy::BadNumber, star_at, written.is_starred_number()),
+            rule(
+                FormatWhy::ZeroWidth,
+                width_at,
+                is_zero(written.width, width),
+            ),
+            rule(FormatWhy::TooWide, width_at, width > 65535),
+        ])
+    }
+
+    fn pass_letter<'a>(
         self,
+        written: &Written,
+        letter: u8,
         text: &'a [u8],
+        percent: u16,
         at: u16,
         slots: Slots,
         wanted: bool,
     ) -> Result<Passed<'a, Directive>, FormatFault> {
-        let (written, rest) = opening(text);
-        if let Some(fault) = opening_fault(at, &written) {
-            return Err(fault);
-        }
-        let letter_at = at + 1 + (text.len() - rest.len()) as u16;
-        match rest {
-            [] => Err(FormatFault {
-                at: letter_at,
-                why: FormatWhy::Truncated,
-            }),
-            [letter, rest @ ..] => {
-                pass_letter(
-                    self.profile,
-                    &written,
-                    *letter,
-                    rest,
-                    at,
-                    letter_at,
-                    slots,
-                    wanted,
-                )
-            }
-        }
+        let (found, kind) = converted(self.profile, written, letter, at)?;
+        let list = list_behind(found, at, text)?;
+        let (slot, slots) = pushed(slots, written, percent)?;
+        Ok(Passed {
+            part: conversion(wanted, found, kind, written, slot, &list),
+            slot,
+            rest: list.rest,
+            slots,
+        })
     }
 }

@@ -20,22 +20,18 @@ returns-in_err-passed-clause-hindered g c =
     rw (p.1, p.2) (inl (passing_fault c.in_err-passed.field-0.0 h (c.in_err-passed.ensures (destinations h.done) h.holds)))
 
 pub overflow_sub-at : goal.overflow_sub-at
-overflow_sub-at g c =
-    let h = c.loop-rest.invariant.passing in
-    (rest_shorter h (passes_on h c.is_empty.ensures c.loop-rest-test.true (c.in_ok-passed.ensures (destinations h.done) h.holds))).1
+overflow_sub-at g c = (rest_shorter (passes_on c.loop-rest.invariant.passing c.is_empty.ensures c.loop-rest-test.true c.in_ok-passed.ensures)).1
 
 pub loop-rest-smaller : goal.loop-rest-smaller
-loop-rest-smaller g c =
-    let h = c.loop-rest.invariant.passing in
-    (rest_shorter h (passes_on h c.is_empty.ensures c.loop-rest-test.true (c.in_ok-passed.ensures (destinations h.done) h.holds))).0
+loop-rest-smaller g c = (rest_shorter (passes_on c.loop-rest.invariant.passing c.is_empty.ensures c.loop-rest-test.true c.in_ok-passed.ensures)).0
 
 pub loop-rest-preserved : goal.loop-rest-preserved
 loop-rest-preserved g c =
     let h = c.loop-rest.invariant in
     let passes = c.in_ok-passed.ensures (destinations h.passing.done) h.passing.holds in
-    rw (c.in_ok-push.ensures.items, c.in-Some.is)
-    (gathering_more (g.G.Grammar.means c.args.grammar) c.in-Some.part h (passes_on h.passing c.is_empty.ensures c.loop-rest-test.true passes)
-    (rw c.in-Some.is at passes.2))
+    rw c.in_ok-push.ensures.items
+    (gathering_more (g.G.Grammar.means c.args.grammar) c.unwrap.result h (passes_on h.passing c.is_empty.ensures c.loop-rest-test.true c.in_ok-passed.ensures)
+    (rw c.unwrap.ensures at passes.2))
 
 pub returns-clause-gathered : goal.returns-clause-gathered
 returns-clause-gathered g c =

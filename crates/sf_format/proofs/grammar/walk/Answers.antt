@@ -17,29 +17,19 @@ returns-in_err-passed g c =
     rw (p.1, p.2) (passing_fault c.in_err-passed.field-0.0 h (c.in_err-passed.ensures (destinations h.done) h.holds))
 
 pub overflow_sub-at : goal.overflow_sub-at
-overflow_sub-at g c =
-    let h = c.loop-rest.invariant in
-    (rest_shorter h (passes_on h c.is_empty.ensures c.loop-rest-test.true (c.in_ok-passed.ensures (destinations h.done) h.holds))).1
+overflow_sub-at g c = (rest_shorter (passes_on c.loop-rest.invariant c.is_empty.ensures c.loop-rest-test.true c.in_ok-passed.ensures)).1
 
 pub loop-rest-smaller : goal.loop-rest-smaller
-loop-rest-smaller g c =
-    let h = c.loop-rest.invariant in
-    (rest_shorter h (passes_on h c.is_empty.ensures c.loop-rest-test.true (c.in_ok-passed.ensures (destinations h.done) h.holds))).0
+loop-rest-smaller g c = (rest_shorter (passes_on c.loop-rest.invariant c.is_empty.ensures c.loop-rest-test.true c.in_ok-passed.ensures)).0
 
 pub loop-rest-smaller-in_ok-passed : goal.loop-rest-smaller-in_ok-passed
-loop-rest-smaller-in_ok-passed g c =
-    let h = c.loop-rest.invariant in
-    (rest_shorter h (passes_on h c.is_empty.ensures c.loop-rest-test.true (c.in_ok-passed.ensures (destinations h.done) h.holds))).0
+loop-rest-smaller-in_ok-passed g c = (rest_shorter (passes_on c.loop-rest.invariant c.is_empty.ensures c.loop-rest-test.true c.in_ok-passed.ensures)).0
 
 pub loop-rest-preserved : goal.loop-rest-preserved
-loop-rest-preserved g c =
-    let h = c.loop-rest.invariant in
-    passing_more h (passes_on h c.is_empty.ensures c.loop-rest-test.true (c.in_ok-passed.ensures (destinations h.done) h.holds))
+loop-rest-preserved g c = passing_more (passes_on c.loop-rest.invariant c.is_empty.ensures c.loop-rest-test.true c.in_ok-passed.ensures)
 
 pub loop-rest-preserved-in_ok-passed : goal.loop-rest-preserved-in_ok-passed
-loop-rest-preserved-in_ok-passed g c =
-    let h = c.loop-rest.invariant in
-    passing_more h (passes_on h c.is_empty.ensures c.loop-rest-test.true (c.in_ok-passed.ensures (destinations h.done) h.holds))
+loop-rest-preserved-in_ok-passed g c = passing_more (passes_on c.loop-rest.invariant c.is_empty.ensures c.loop-rest-test.true c.in_ok-passed.ensures)
 
 pub returns : goal.returns
 returns g c = let h = c.loop-rest.invariant in (h.done, passing_all h c.is_empty.ensures c.loop-rest-test.false, h.holds)

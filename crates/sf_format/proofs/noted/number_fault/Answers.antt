@@ -25,31 +25,25 @@ unreachable-requires g c =
     cc
 
 pub overflow_sub-at : goal.overflow_sub-at
-overflow_sub-at g c =
-    let h = c.loop-rest.invariant.passing in
-    (rest_shorter h (passes_on h c.is_empty.ensures c.loop-rest-test.true (c.in-Ok.ensures (destinations h.done) h.holds))).1
+overflow_sub-at g c = (rest_shorter (passes_on c.loop-rest.invariant.passing c.is_empty.ensures c.loop-rest-test.true c.in-Ok.ensures)).1
 
 pub loop-rest-smaller : goal.loop-rest-smaller
-loop-rest-smaller g c =
-    let h = c.loop-rest.invariant.passing in
-    (rest_shorter h (passes_on h c.is_empty.ensures c.loop-rest-test.true (c.in-Ok.ensures (destinations h.done) h.holds))).0
+loop-rest-smaller g c = (rest_shorter (passes_on c.loop-rest.invariant.passing c.is_empty.ensures c.loop-rest-test.true c.in-Ok.ensures)).0
 
 pub loop-rest-smaller-in-Ok : goal.loop-rest-smaller-in-Ok
-loop-rest-smaller-in-Ok g c =
-    let h = c.loop-rest.invariant.passing in
-    (rest_shorter h (passes_on h c.is_empty.ensures c.loop-rest-test.true (c.in-Ok.ensures (destinations h.done) h.holds))).0
+loop-rest-smaller-in-Ok g c = (rest_shorter (passes_on c.loop-rest.invariant.passing c.is_empty.ensures c.loop-rest-test.true c.in-Ok.ensures)).0
 
 pub loop-rest-preserved : goal.loop-rest-preserved
 loop-rest-preserved g c =
     let h = c.loop-rest.invariant in
-    let passes = c.in-Ok.ensures (destinations h.passing.done) h.passing.holds in
-    noting_more h (passes_on h.passing c.is_empty.ensures c.loop-rest-test.true passes) passes.4 (c.note.ensures h.ns h.notes)
+    noting_more h (passes_on h.passing c.is_empty.ensures c.loop-rest-test.true c.in-Ok.ensures)
+    (c.in-Ok.ensures (destinations h.passing.done) h.passing.holds).4 (c.note.ensures h.ns h.notes)
 
 pub loop-rest-preserved-in-Ok : goal.loop-rest-preserved-in-Ok
 loop-rest-preserved-in-Ok g c =
     let h = c.loop-rest.invariant in
-    let passes = c.in-Ok.ensures (destinations h.passing.done) h.passing.holds in
-    noting_more h (passes_on h.passing c.is_empty.ensures c.loop-rest-test.true passes) passes.4 (c.note.ensures h.ns h.notes)
+    noting_more h (passes_on h.passing c.is_empty.ensures c.loop-rest-test.true c.in-Ok.ensures)
+    (c.in-Ok.ensures (destinations h.passing.done) h.passing.holds).4 (c.note.ensures h.ns h.notes)
 
 pub returns : goal.returns
 returns g c =

@@ -22,43 +22,33 @@ returns-in_default g c =
 
 pub slice_bounds-result-count : goal.slice_bounds-result-count
 slice_bounds-result-count g c =
-    let h = c.loop-rest.invariant.passing in
-    let shorter = (rest_shorter h (passes_on h c.is_empty.ensures c.loop-rest-test.true (c.in-Ok.ensures (destinations h.done) h.holds))).0 in
+    let shorter = (rest_shorter (passes_on c.loop-rest.invariant.passing c.is_empty.ensures c.loop-rest-test.true c.in-Ok.ensures)).0 in
     omega arith
 
 pub returns-then-left-eq1 : goal.returns-then-left-eq1
 returns-then-left-eq1 g c =
     λ pieces e.
     let h = c.loop-rest.invariant in
-    let passes = c.in-Ok.ensures (destinations h.passing.done) h.passing.holds in
-    text_found pieces h (passes_on h.passing c.is_empty.ensures c.loop-rest-test.true passes) c.if-left-eq1.true e
+    text_found pieces h (passes_on h.passing c.is_empty.ensures c.loop-rest-test.true c.in-Ok.ensures) c.if-left-eq1.true e
 
 pub overflow_sub-at : goal.overflow_sub-at
-overflow_sub-at g c =
-    let h = c.loop-rest.invariant.passing in
-    (rest_shorter h (passes_on h c.is_empty.ensures c.loop-rest-test.true (c.in-Ok.ensures (destinations h.done) h.holds))).1
+overflow_sub-at g c = (rest_shorter (passes_on c.loop-rest.invariant.passing c.is_empty.ensures c.loop-rest-test.true c.in-Ok.ensures)).1
 
 pub loop-rest-smaller : goal.loop-rest-smaller
-loop-rest-smaller g c =
-    let h = c.loop-rest.invariant.passing in
-    (rest_shorter h (passes_on h c.is_empty.ensures c.loop-rest-test.true (c.in-Ok.ensures (destinations h.done) h.holds))).0
+loop-rest-smaller g c = (rest_shorter (passes_on c.loop-rest.invariant.passing c.is_empty.ensures c.loop-rest-test.true c.in-Ok.ensures)).0
 
 pub loop-rest-smaller-else-left-eq1 : goal.loop-rest-smaller-else-left-eq1
-loop-rest-smaller-else-left-eq1 g c =
-    let h = c.loop-rest.invariant.passing in
-    (rest_shorter h (passes_on h c.is_empty.ensures c.loop-rest-test.true (c.in-Ok.ensures (destinations h.done) h.holds))).0
+loop-rest-smaller-else-left-eq1 g c = (rest_shorter (passes_on c.loop-rest.invariant.passing c.is_empty.ensures c.loop-rest-test.true c.in-Ok.ensures)).0
 
 pub loop-rest-preserved : goal.loop-rest-preserved
 loop-rest-preserved g c =
     let h = c.loop-rest.invariant in
-    let passes = c.in-Ok.ensures (destinations h.passing.done) h.passing.holds in
-    counting_more h (passes_on h.passing c.is_empty.ensures c.loop-rest-test.true passes) (let more = h.some in omega arith)
+    counting_more h (passes_on h.passing c.is_empty.ensures c.loop-rest-test.true c.in-Ok.ensures) (let more = h.some in omega arith)
 
 pub loop-rest-preserved-else-left-eq1 : goal.loop-rest-preserved-else-left-eq1
 loop-rest-preserved-else-left-eq1 g c =
     let h = c.loop-rest.invariant in
-    let passes = c.in-Ok.ensures (destinations h.passing.done) h.passing.holds in
-    counting_more h (passes_on h.passing c.is_empty.ensures c.loop-rest-test.true passes) (let more = h.some in omega arith)
+    counting_more h (passes_on h.passing c.is_empty.ensures c.loop-rest-test.true c.in-Ok.ensures) (let more = h.some in omega arith)
 
 pub returns : goal.returns
 returns g c = λ pieces e. text_none pieces c.loop-rest.invariant c.is_empty.ensures c.loop-rest-test.false e

@@ -1,14 +1,15 @@
-use Rattle.std.proofs.Common.{Bool, ◌+◌, ◌++◌, [], subst, sym}
-use Rattle.sf_format.specs.declared.slots.Slots.{Slots}
-use Rattle.sf_format.specs.Grammar.{assigned_opening}
-use Rattle.sf_format.specs.Passing.{opening_of, Holds}
-use Rattle.sf_format.proofs.Destinations.{held_more, written_from_empty}
+use Rattle.sf_format.specs.Passing.{opening_of}
+use Rattle.sf_format.proofs.Destinations.{held_more}
 use Rattle.sf_format.proofs.slots.pushed.Goals as goal
 
-pub returns-else-written : goal.returns-else-written
-returns-else-written c =
-    λ earlier at holds e.
-    let o = opening_of c.args.written.now in
-    let slots : Bool → Slots = λ v. record { count = c.args.slots.count + 1; numbered = v } in
-    subst (λ v. Holds (slots v) (earlier ++ assigned_opening o [])) (sym (written_from_empty o.number c.is_empty.result c.is_empty.ensures))
-    (held_more c.args.slots o earlier at c.if-written.false holds e)
+pub returns-then-numbered-clause-pushed : goal.returns-then-numbered-clause-pushed
+returns-then-numbered-clause-pushed c =
+    λ earlier holds.
+    held_more c.args.slots (opening_of c.args.written.now) c.is_empty-numbered.result earlier c.args.at c.if-written.false c.is_empty-numbered.ensures holds
+    (c.in_default.ensures.first earlier holds)
+
+pub returns-else-numbered-clause-pushed : goal.returns-else-numbered-clause-pushed
+returns-else-numbered-clause-pushed c =
+    λ earlier holds.
+    held_more c.args.slots (opening_of c.args.written.now) c.is_empty-numbered.result earlier c.args.at c.if-written.false c.is_empty-numbered.ensures holds
+    (c.in_default.ensures.first earlier holds)
