@@ -56,9 +56,20 @@ impl<W: Write + Drop> Output<W> {
         self.writer.flush()
     }
 
+    /// Whether there is room in front for the bytes: then they stand there. Nothing is called for short ones.
+    #[inline(always)]
+    pub(crate) fn holds(&mut self, bytes: &[u8]) -> bool {
+        let room = self.front.len();
+        if self.end <= room && bytes.len() < room - self.end {
+            copy_over(bytes, &mut self.front, self.end);
+            self.end += bytes.len();
+            return true;
+        }
+        false
+    }
+
     /// What the writer takes of the bytes, behind those in front of it: some, unless there are none.
-    #[inline(never)]
-    fn take_behind(&mut self, bytes: &[u8]) -> Result<usize, SinkFault>
+    pub(crate) fn take_behind(&mut self, bytes: &[u8]) -> Result<usize, SinkFault>
         ensures most { WritesAtMost result bytes.now }
         ensures some { 0 < length bytes.now → IfOk result (λ n. 0 < n) }
     {
@@ -69,20 +80,5 @@ impl<W: Write + Drop> Output<W> {
             Ok(count) if count > 0 || bytes.is_empty() => Ok(count),
             _ => Err(SinkFault),
         }
-    }
-
-    /// What the output takes of the bytes: some, unless there are none. Where there is room in front, nothing is called.
-    #[inline(always)]
-    pub(crate) fn take(&mut self, bytes: &[u8]) -> Result<usize, SinkFault>
-        ensures most { WritesAtMost result bytes.now }
-        ensures some { 0 < length bytes.now → IfOk result (λ n. 0 < n) }
-    {
-        let room = self.front.len();
-        if self.end <= room && bytes.len() < room - self.end {
-            copy_over(bytes, &mut self.front, self.end);
-            self.end += bytes.len();
-            return Ok(bytes.len());
-        }
-        self.take_behind(bytes)
     }
 }

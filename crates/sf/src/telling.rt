@@ -1,4 +1,7 @@
 //! The output, and the error output, whose texts come behind what was written to the output before.
+ghost use Rattle.std.specs.Prelude.{◌<◌, length, IfOk};
+ghost use Rattle.std.specs.Io.{WritesAtMost};
+
 use crate::output::Output;
 use sf_print::{Sink, SinkFault};
 use std::cell::RefCell;
@@ -21,6 +24,27 @@ impl<'a, W: Write + Drop> Shared<'a, W> {
             failures: 0,
         }
     }
+
+    /// Whether the output holds the bytes back.
+    #[inline(always)]
+    fn are_held(&self, bytes: &[u8]) -> bool {
+        match self.output.try_borrow_mut() {
+            Ok(mut output) => output.holds(bytes),
+            Err(_) => false,
+        }
+    }
+
+    /// What the output takes of bytes that it doesn't hold back.
+    #[inline(never)]
+    fn taken_behind(&self, bytes: &[u8]) -> Result<usize, SinkFault>
+        ensures most { WritesAtMost result bytes.now }
+        ensures some { 0 < length bytes.now → IfOk result (λ n. 0 < n) }
+    {
+        match self.output.try_borrow_mut() {
+            Ok(mut output) => output.take_behind(bytes),
+            Err(_) => Err(SinkFault),
+        }
+    }
 }
 
 impl<W: Write + Drop> Sink for Shared<'_, W> {
@@ -32,10 +56,10 @@ impl<W: Write + Drop> Sink for Shared<'_, W> {
 
     #[inline(always)]
     fn write(&mut self, bytes: &[u8]) -> Result<usize, SinkFault> {
-        let taken = match self.output.try_borrow_mut() {
-            Ok(mut output) => output.take(bytes),
-            Err(_) => Err(SinkFault),
-        };
+        if self.are_held(bytes) {
+            return Ok(bytes.len());
+        }
+        let taken = self.taken_behind(bytes);
         if taken.is_err() {
             self.failures = self.failures.saturating_add(1);
         }
