@@ -169,6 +169,21 @@ class LinesThatAreTold(Streams):
             self.expect(1, b"1\n3\n", None, *self.WORDS, stdin=b"1\nx\n3\n", stderr=disk)
 
 
+class Blocks(Streams):
+    # (what stands in front of the writer has 4000 bytes, what the writer holds back 8192; a line has three bytes more than its text)
+    LENGTHS = (1, 7, 13, 14, 29, 30, 3990, 3996, 3997, 3998, 4000, 7996, 7997, 8188, 8189, 8190, 8192, 12000, 20000)
+
+    def test_records_of_any_lengths_stand_in_order(self):
+        for first in self.LENGTHS:
+            texts = [bytes([97 + at % 26]) * length for at, length in enumerate((first, 5, *self.LENGTHS, 5, first, *reversed(self.LENGTHS)))]
+            out = b"".join(b'"%s"\n' % text for text in texts)
+            self.expect(0, out, b"", "scan", "%s", stdin=b"\n".join(texts))
+
+    def test_records_that_just_fill_a_block(self):
+        for count in range(1330, 1340):
+            self.expect(1, b"7\n" * 3 * count, b"sf: record %d: matching failure at 1, used 1, assigned 0\n" % (3 * count + 1), "scan", "%d", stdin=b"7\n" * 3 * count + b"x")
+
+
 class WhenItIsDue(Streams):
     """A record's line on a terminal comes while the input is still open; for a pipe lines are kept for a block."""
 
