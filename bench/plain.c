@@ -197,7 +197,7 @@ static void fixed(int summing) {
     long long x, y;
     while (number(10, 5, &x) && number(10, 3, &y) && word(8, &a)) {
         if (summing) {
-            sum += (int)x + (unsigned)y + summed(&a);
+            sum += (int)x + (long long)(unsigned)y + summed(&a);
             continue;
         }
         put_number((int)x);
