@@ -5,9 +5,9 @@ use Rattle.sf_base.specs.Bytes.{AreBytes}
 use Rattle.sf_format.specs.Language.{Language}
 use Rattle.sf_format.specs.declared.fault.FormatWhy.{FormatWhy}
 use Rattle.sf_format.specs.Pieces.{Piece, text_of}
-use Rattle.sf_format.specs.Grammar.{AreAlike, IsFormat, SpellsAs, destinations}
+use Rattle.sf_format.specs.Grammar.{AreAlike, IsFormat, IsMeaning, SpellsAs, SpellsCounted, destinations}
 use Rattle.sf_format.specs.Rules.{first_of}
-use Rattle.sf_format.specs.Faults.{number_rules, AreFaultless, FaultIn, IsRefusedAs}
+use Rattle.sf_format.specs.Faults.{number_rules, AreFaultless, FaultIn, IsRefusedAs, no_memory}
 use Rattle.sf_format.specs.Reading.{unless, read, numbers_judged, judged}
 use Rattle.sf_format.proofs.Outcomes.{within, not_above, is_above}
 use Rattle.sf_format.proofs.Numbers.{slots_from, slots_alike, slots_quiet}
@@ -16,7 +16,7 @@ use Rattle.sf_format.specs.declared.fault.FormatFault.{FormatFault}
 use Rattle.sf_format.specs.declared.slots.Slots.{Slots}
 use Rattle.sf_format.specs.Passing.{Judged, Gathers, IsHindered, Walked, fault_of}
 use Rattle.sf_format.proofs.PartSlots.{format_few}
-use Rattle.sf_format.proofs.Meanings.{IsMeaning, mean_all_one, some_meanings}
+use Rattle.sf_format.proofs.Meanings.{mean_all_one, some_meanings}
 
 abbrev pub Judgement : Type 0
 Judgement = Result (List Piece) (FormatWhy × ℕ)
@@ -146,22 +146,18 @@ read_same language text pieces others e f =
     by_first None g = cc
     by_first (Some fault) g = absurd (cc)
 
+-- both walks meet the same parts
 pub gathers_spells : {D : Type 0} {language : Language} {means : ℕ → Piece → D → Type 0} {text : List ℕ} {ds : List D} (count : ℕ) → AreBytes text
-    → Judged language text (Ok count) → Gathers language means text ds → SpellsAs language means text ds
+    → Judged language text (Ok count) → Gathers language means text ds → SpellsCounted language means text ds count
 gathers_spells {language = language} {text = text} count bytes judges h =
     let is = tells language text (Ok judges.0) bytes judges.1 in
-    (judges.0, is.0, is.1, rw (read_same language text judges.0 h.pieces judges.1 h.parts) at h.meaning)
-
--- both walks count the same destinations
-pub gathers_count : {D : Type 0} {language : Language} {means : ℕ → Piece → D → Type 0} {text : List ℕ} {ds : List D} (count : ℕ)
-    → Judged language text (Ok count) → (h : Gathers language means text ds) → count ≡ length (destinations h.pieces)
-gathers_count {language = language} {text = text} count judges h = rw (read_same language text judges.0 h.pieces judges.1 h.parts) judges.2
+    ((judges.0, is.0, is.1, rw (read_same language text judges.0 h.pieces judges.1 h.parts) at h.meaning), judges.2)
 
 -- ---- a text that is refused
 
-pub judged_fault : {D : Type 0} (language : Language) (means : ℕ → Piece → D → Type 0) (text : List ℕ) (fault : FormatFault) → AreBytes text
-    → judged language text ≡ Err (fault_of fault) → IsRefusedAs language means text fault
-judged_fault language means text fault bytes e = inl (tells language text (Err (fault_of fault)) bytes e)
+pub judged_fault : {D : Type 0} {language : Language} {means : ℕ → Piece → D → Type 0} → IsMeaning D language means
+    → (text : List ℕ) (fault : FormatFault) → AreBytes text → judged language text ≡ Err (fault_of fault) → IsRefusedAs language means text fault
+judged_fault {language = language} m text fault bytes e = inl (tells language text (Err (fault_of fault)) bytes e)
 
 pub hindered : {D : Type 0} {language : Language} {means : ℕ → Piece → D → Type 0} → IsMeaning D language means
     → (text : List ℕ) (count : ℕ) (fault : FormatFault) → AreBytes text → Judged language text (Ok count)
@@ -169,27 +165,26 @@ pub hindered : {D : Type 0} {language : Language} {means : ℕ → Piece → D �
 hindered {language = language} {means} m text count fault bytes judges h =
     elim h [
       | inl e ↦
-          judged_fault language means text fault bytes
+          judged_fault m text fault bytes
           (read_judged language text (Err (fault_of fault)) (judged_short language text judges.0 judges.1) e)
       | inr none ↦ inr (none, some_spelled m text judges.0 (tells language text (Ok judges.0) bytes judges.1))
     ]
 
--- the one fault of the text is the one that was found
-pub same_fault : (language : Language) (text : List ℕ) (fault : FormatFault) (at : ℕ) (why : FormatWhy) → judged language text ≡ Err (fault_of fault)
-    → FaultIn language text at why → fault ≡ record { at = at; why = why }
-same_fault language text fault at why e h =
-    let same : fault_of fault ≡ (why, at) = let both = sym e ∙ fault_judged language text at why h in cc in
-    ap (λ (p : FormatWhy × ℕ). made p.1 p.0) same
-  where
-    made : ℕ → FormatWhy → FormatFault
-    made n w = record { at = n; why = w }
+-- what is refused rightly is refused for each fault, and where something is spelled, for memory
+pub told : {D : Type 0} {language : Language} {means : ℕ → Piece → D → Type 0} → IsMeaning D language means
+    → (text : List ℕ) (fault : FormatFault) → IsRefusedAs language means text fault
+    → ((at : ℕ) (why : FormatWhy) → FaultIn language text at why → fault ≡ record { at = at; why = why })
+    × ((ds : List D) → SpellsAs language means text ds → fault ≡ no_memory)
+told {language = language} {means} m text fault (inl f) = (
+  λ at why g. let same = one_fault language text fault.at at fault.why why f g in rw (← same.0, ← same.1),
+  λ ds h. absurd (not_both language means text ds fault.at fault.why h f),
+)
+told {language = language} {means} m text fault (inr none) = (
+  λ at why g. absurd (not_both language means text none.1.0 at why none.1.1 g),
+  λ ds h. none.0,
+)
 
 -- a text that is judged good has no fault
 pub no_fault : {A : Type 0} (language : Language) (text : List ℕ) (count : ℕ) (at : ℕ) (why : FormatWhy) → Judged language text (Ok count)
     → FaultIn language text at why → A
 no_fault language text count at why judges h = let e = sym judges.1 ∙ fault_judged language text at why h in absurd (cc)
-
--- a spelled text is not judged bad
-pub not_refused : {A D : Type 0} (language : Language) (means : ℕ → Piece → D → Type 0) (text : List ℕ) (fault : FormatFault) (ds : List D)
-    → judged language text ≡ Err (fault_of fault) → SpellsAs language means text ds → A
-not_refused language means text fault ds e h = let f = sym e ∙ spelled_judged language means text ds h in absurd (cc)

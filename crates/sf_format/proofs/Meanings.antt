@@ -6,7 +6,7 @@ use Rattle.std.specs.Option.{option_map}
 use Rattle.sf_format.specs.Language.{Language, Scan, Print}
 use Rattle.sf_format.specs.Pieces.{Piece, Opening, WhiteSpace, Ordinary, Percents, Plain, Bracket}
 use Rattle.sf_format.specs.Slots.{Slotted, slot_of}
-use Rattle.sf_format.specs.Grammar.{IsPiece, MeanAll, destinations, IsScanPiece, IsConversion, Means, shape_of, width_of}
+use Rattle.sf_format.specs.Grammar.{IsMeaning, IsPiece, MeanAll, destinations, IsScanPiece, IsConversion, Means, shape_of, width_of}
 use Rattle.sf_format.specs.Passing.{slot_at}
 use Rattle.sf_format.proofs.Destinations.{destinations_cons, slot_there}
 use Rattle.std.proofs.lemmas.List.{ext_get_or}
@@ -34,12 +34,7 @@ use Rattle.sf_format.specs.PrintLetters.{print_kind_of}
 use Rattle.sf_format.specs.Units.{printed_of}
 use Rattle.sf_format.specs.PrintGrammar.{IsPrintPiece, IsPrintConv, Prints, is_set_flag}
 
--- each part stands for exactly one of these
-pub record IsMeaning (D : Type 0) (language : Language) (means : ℕ → Piece → D → Type 0) : Type 0 where
-  pub one : (place : ℕ) (piece : Piece) (d e : D) → means place piece d → means place piece e → d ≡ e
-  pub some : (place : ℕ) (piece : Piece) → IsPiece language piece → (d : D) × means place piece d
-
--- which has the part's slot
+-- each has the part's slot
 pub record HasSlots (D : Type 0) (means : ℕ → Piece → D → Type 0) (slotted : D → Option Slotted) : Type 0 where
   pub slot : (place : ℕ) (piece : Piece) (d : D) → means place piece d
       → option_map (λ e. e.0) (slotted d) ≡ slot_at place (destinations (piece ∷ []))

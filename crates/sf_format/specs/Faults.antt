@@ -1,5 +1,5 @@
 -- The first fault of a text that is no format. C11 7.21.6.1p9 and 7.21.6.2p13 leave such a text undefined; here it is refused.
-use Rattle.std.specs.Prelude.{◌≡◌, ℕ, ◌+◌, ◌<◌, ◌≤◌, ◌⊎◌, Bool, true, not, ◌&&◌, ◌||◌, List, [], ◌∷◌, ◌++◌, length, map, Some, is_some, is_none, nat_eq, nat_lt, if◌then◌else◌, codes}
+use Rattle.std.specs.Prelude.{◌≡◌, ℕ, ◌+◌, ◌<◌, ◌≤◌, ◌⊎◌, Bool, true, not, ◌&&◌, ◌||◌, List, [], ◌∷◌, ◌++◌, length, map, Some, Result, Err, MatchResult, is_some, is_none, nat_eq, nat_lt, if◌then◌else◌, codes}
 use Prim.Native.Char.{code}
 use Rattle.std.specs.List.{AllByRecursion, list_all}
 use Rattle.sf_base.specs.Bytes.{magnitude}
@@ -170,3 +170,11 @@ IsRefused profile text fault = IsRefusedAs (Scan profile) (Means profile) text f
 
 abbrev pub IsPrintRefused : Profile → List ℕ → FormatFault → Type 0
 IsPrintRefused profile text fault = IsRefusedAs (Print profile) (Prints profile) text fault
+
+-- a text with a fault is refused for it
+abbrev pub TellsFault : {A : Type 0} → (ℕ → FormatWhy → Type 0) → Result A FormatFault → Type 0
+TellsFault is_fault result = (at : ℕ) (why : FormatWhy) → is_fault at why → result ≡ Err (record { at = at; why = why })
+
+-- a text that spells something is refused only for memory
+abbrev pub TakesSpelled : {D : Type 0} → (D → Type 0) → Result D FormatFault → Type 0
+TakesSpelled {D} spells result = (ds : D) → spells ds → MatchResult result (λ format. format ≡ ds) (λ fault. fault ≡ no_memory)

@@ -115,6 +115,11 @@ Means profile place (Bracket o list) d =
     (c : Conversion) × (members : List Bool) × IsConversion place o Set c × IsSetOf list members × (c.shape ≡ shape.Set members)
     × (d ≡ directive.Conv c)
 
+-- each part stands for exactly one of these
+pub record IsMeaning (D : Type 0) (language : Language) (means : ℕ → Piece → D → Type 0) : Type 0 where
+  pub one : (place : ℕ) (piece : Piece) (d e : D) → means place piece d → means place piece e → d ≡ e
+  pub some : (place : ℕ) (piece : Piece) → IsPiece language piece → (d : D) × means place piece d
+
 -- what the parts stand for, one by one, where place is that of the next destination
 abbrev pub MeanAll : {D : Type 0} → (ℕ → Piece → D → Type 0) → ℕ → List Piece → List D → Type 0
 MeanAll means place [] [] = Unit {0}
@@ -127,6 +132,10 @@ MeanAll means place (piece ∷ pieces) [] = ⊥
 abbrev pub SpellsAs : {D : Type 0} → Language → (ℕ → Piece → D → Type 0) → List ℕ → List D → Type 0
 SpellsAs language means text ds =
     (pieces : List Piece) × IsFormat language pieces × (text ≡ text_of pieces) × MeanAll means 1 pieces ds
+
+-- the same, where its parts have so many destinations
+abbrev pub SpellsCounted : {D : Type 0} → Language → (ℕ → Piece → D → Type 0) → List ℕ → List D → ℕ → Type 0
+SpellsCounted language means text ds count = (spells : SpellsAs language means text ds) × (count ≡ length (destinations spells.0))
 
 -- the text is a scan format with these directives
 abbrev pub Spells : Profile → List ℕ → List Directive → Type 0

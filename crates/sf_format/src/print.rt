@@ -1,11 +1,9 @@
 //! Print formats.
-ghost use Rattle.std.specs.Prelude.{◌≡◌, ◌≤◌, ◌↔◌, IsSome, ℕ, List, [], ◌∷◌, length, Err, IfOk, IfErr, MatchResult};
-ghost use Rattle.sf_format.specs.declared.fault.FormatWhy.{FormatWhy};
-ghost use Rattle.sf_format.specs.declared.unit.Unit.{Unit as PrintUnit};
+ghost use Rattle.std.specs.Prelude.{◌≡◌, ◌≤◌, ◌↔◌, IsSome, [], ◌∷◌, length, IfOk, IfErr};
 ghost use Rattle.sf_format.specs.Slots.{AreSlots, kind_with};
 ghost use Rattle.sf_format.specs.Units.{AreAccepted, AreProperUnits, values_of};
 ghost use Rattle.sf_format.specs.Grammar.{SpellsPrint};
-ghost use Rattle.sf_format.specs.Faults.{PrintFault, IsPrintRefused, no_memory};
+ghost use Rattle.sf_format.specs.Faults.{PrintFault, IsPrintRefused, TellsFault, TakesSpelled};
 
 pub mod grammar;
 mod letter;
@@ -13,8 +11,7 @@ mod opening;
 
 use crate::directive::Profile;
 use crate::fault::FormatFault;
-use crate::grammar::gather;
-use crate::judgement::judge;
+use crate::judgement::parse;
 use crate::print::grammar::PrintGrammar;
 use crate::unit::Unit;
 use sf_base::Kind;
@@ -63,16 +60,10 @@ impl PrintFormat {
     pub fn parse(alloc: Global, profile: Profile, text: &[u8]) -> Result<PrintFormat, FormatFault>
         ensures spelled { IfOk result (λ format. SpellsPrint profile text.now format) }
         ensures refused { IfErr result (λ fault. IsPrintRefused profile text.now fault) }
-
-        // A text with a fault is refused for it; one without is refused only for memory.
-        ensures fault { (at : ℕ) (why : FormatWhy) → PrintFault profile text.now at why
-            → result ≡ Err (record { at = at; why = why }) }
-        ensures accepted { (us : List PrintUnit) → SpellsPrint profile text.now us
-            → MatchResult result (λ format. format ≡ us) (λ fault. fault ≡ no_memory) }
+        ensures fault { TellsFault (PrintFault profile text.now) result }
+        ensures accepted { TakesSpelled (SpellsPrint profile text.now) result }
     {
-        let grammar = PrintGrammar { profile };
-        let values = judge(grammar, text)?;
-        let units = gather(alloc, grammar, text)?;
+        let (units, values) = parse(alloc, PrintGrammar { profile }, text)?;
         Ok(PrintFormat { units, values })
     }
 

@@ -1,12 +1,10 @@
 //! Scan formats.
-ghost use Rattle.std.specs.Prelude.{◌≡◌, ◌≤◌, ◌↔◌, IsSome, ℕ, List, length, Err, IfOk, IfErr, MatchResult, IfSome};
-ghost use Rattle.sf_format.specs.declared.fault.FormatWhy.{FormatWhy};
-ghost use Rattle.sf_format.specs.declared.directive.Directive.{Directive};
+ghost use Rattle.std.specs.Prelude.{◌≡◌, ◌≤◌, ◌↔◌, IsSome, length, IfOk, IfErr, IfSome};
 ghost use Rattle.sf_format.specs.Slots.{AreSlots};
 ghost use Rattle.sf_format.specs.Proper.{AreKinded, AreProper, AreSized, IsAccepted, destinations_of, kind_at};
 ghost use Rattle.sf_format.specs.Widths.{width_sum, stored_width};
 ghost use Rattle.sf_format.specs.Grammar.{Spells};
-ghost use Rattle.sf_format.specs.Faults.{Fault, IsRefused, no_memory};
+ghost use Rattle.sf_format.specs.Faults.{Fault, IsRefused, TellsFault, TakesSpelled};
 
 mod conversion;
 pub mod grammar;
@@ -14,8 +12,7 @@ mod scanlist;
 
 use crate::directive::{Directive, Profile, Shape};
 use crate::fault::FormatFault;
-use crate::grammar::gather;
-use crate::judgement::judge;
+use crate::judgement::parse;
 use crate::scan::grammar::ScanGrammar;
 use sf_base::Kind;
 use std::alloc::Global;
@@ -95,16 +92,10 @@ impl ScanFormat {
     pub fn parse(alloc: Global, profile: Profile, text: &[u8]) -> Result<ScanFormat, FormatFault>
         ensures spelled { IfOk result (λ format. Spells profile text.now format) }
         ensures refused { IfErr result (λ fault. IsRefused profile text.now fault) }
-
-        // A text with a fault is refused for it; one without is refused only for memory.
-        ensures fault { (at : ℕ) (why : FormatWhy) → Fault profile text.now at why
-            → result ≡ Err (record { at = at; why = why }) }
-        ensures accepted { (ds : List Directive) → Spells profile text.now ds
-            → MatchResult result (λ format. format ≡ ds) (λ fault. fault ≡ no_memory) }
+        ensures fault { TellsFault (Fault profile text.now) result }
+        ensures accepted { TakesSpelled (Spells profile text.now) result }
     {
-        let grammar = ScanGrammar { profile };
-        let destinations = judge(grammar, text)?;
-        let directives = gather(alloc, grammar, text)?;
+        let (directives, destinations) = parse(alloc, ScanGrammar { profile }, text)?;
         let widths = sum_of_widths(&directives);
         Ok(ScanFormat {
             directives,

@@ -1,0 +1,36 @@
+use Rattle.std.proofs.Common.{Err, ap, arith}
+use Rattle.std.proofs.lemmas.Result.{err_from_is_err_and}
+use Rattle.sf_format.proofs.Walks.{bytes_of}
+use Rattle.sf_format.proofs.Judgements.{gathers_spells, judged_fault, hindered, told, no_fault, one_list}
+use Rattle.sf_format.proofs.judgement.parse.Goals as goal
+
+pub returns-in_err-count : goal.returns-in_err-count
+returns-in_err-count g c =
+    let p = err_from_is_err_and c.from_residual.result c.from_residual.ensures.1 in
+    let refused = judged_fault c.requires c.args.text.now c.in_err-count.field-0.0 (bytes_of c.args.text.now (λ i. omega (arith, c.type_inv.text i))) c.in_err-count.ensures in
+    let is = told c.requires c.args.text.now c.in_err-count.field-0.0 refused in
+    rw (p.1, p.2) (record { spelled = tt; refused = refused; fault = λ at why fault. ap Err (is.0 at why fault); accepted = is.1 })
+
+pub returns-in_err-parts : goal.returns-in_err-parts
+returns-in_err-parts g c =
+    let p = err_from_is_err_and c.from_residual-in_err-parts.result c.from_residual-in_err-parts.ensures.1 in
+    let refused =
+        hindered c.requires c.args.text.now c.in_ok-count.count c.in_err-parts.field-0.0
+        (bytes_of c.args.text.now (λ i. omega (arith, c.type_inv.text i))) c.in_ok-count.ensures c.in_err-parts.ensures.hindered in
+    let is = told c.requires c.args.text.now c.in_err-parts.field-0.0 refused in
+    rw (p.1, p.2) (record { spelled = tt; refused = refused; fault = λ at why fault. ap Err (is.0 at why fault); accepted = is.1 })
+
+pub returns-clause-spelled : goal.returns-clause-spelled
+returns-clause-spelled g c =
+    gathers_spells c.in_ok-count.count (bytes_of c.args.text.now (λ i. omega (arith, c.type_inv.text i))) c.in_ok-count.ensures
+    c.in_ok-parts.ensures.gathered
+
+pub returns-clause-fault : goal.returns-clause-fault
+returns-clause-fault g c = λ at why fault.
+    no_fault (g.G.Grammar.language c.args.grammar) c.args.text.now c.in_ok-count.count at why c.in_ok-count.ensures fault
+
+pub returns-clause-accepted : goal.returns-clause-accepted
+returns-clause-accepted g c = λ ds spelled.
+    one_list c.requires c.args.text.now c.in_ok-parts.parts.items ds
+    (gathers_spells c.in_ok-count.count (bytes_of c.args.text.now (λ i. omega (arith, c.type_inv.text i))) c.in_ok-count.ensures
+    c.in_ok-parts.ensures.gathered).0 spelled
