@@ -9,32 +9,27 @@ use Rattle.sf_format.specs.Grammar.{AreAlike, assigned_opening, destinations}
 use Rattle.sf_format.specs.Passing.{slot_at, Holds}
 use Rattle.sf_format.specs.Rules.{alike, slot_rules, first_of}
 use Rattle.sf_format.proofs.Outcomes.{by_test}
-use Rattle.sf_format.proofs.Rules.{Quiet, all_front, all_back, quiet_is, all_append}
+use Rattle.sf_format.proofs.Rules.{Quiet, all_front, all_back, all_map, quiet_is, all_append}
 use mathlib.Core.Bool.{beq}
 use Rattle.std.specs.Prelude.{◌==◌}
 use Rattle.sf_format.specs.declared.slots.Slots.{Slots}
 
 -- ---- alike
 
-unnumbered : (o : Opening) (es : List Opening) → o.number ≡ [] → list_any (λ e. not (alike e o)) es ≡ false
-    → AllByRecursion (λ a. a.number ≡ []) (es ++ o ∷ [])
-unnumbered o [] none h = (none, tt)
-unnumbered o (e ∷ es) none h = grind (arith, unnumbered o es none)
+-- those that are alike with o have a number if it has one
+are_now : (o : Opening) (es : List Opening) → list_any (λ a. not (alike a o)) es ≡ false
+    → AllByRecursion (λ a. is_written a.number ≡ is_written o.number) es
+are_now o [] e = tt
+are_now o (a ∷ es) e = grind (arith, are_now o es)
 
-numbered : (o : Opening) (es : List Opening) → o.number ≢ [] → list_any (λ e. not (alike e o)) es ≡ false
-    → AllByRecursion (λ a. a.number ≢ []) (es ++ o ∷ [])
-numbered o [] some h = (some, tt)
-numbered o (e ∷ es) some h = grind (arith, numbered o es some)
+with_one : (P : Opening → Type 0) (o : Opening) (es : List Opening) → ((a : Opening) → is_written a.number ≡ is_written o.number → P a)
+    → list_any (λ e. not (alike e o)) es ≡ false → AllByRecursion P (es ++ o ∷ [])
+with_one P o es all same = all_append P es (o ∷ []) (all_map (λ a. is_written a.number ≡ is_written o.number) P all es (are_now o es same)) (all o refl, tt)
 
-test_unnumbered : (o : Opening) (es : List Opening) → o.number ≡ [] → AllByRecursion (λ e. e.number ≡ []) es
-    → list_any (λ e. not (alike e o)) es ≡ false
-test_unnumbered o [] none h = refl
-test_unnumbered o (e ∷ es) none h = grind (arith, test_unnumbered o es none)
-
-test_numbered : (o : Opening) (es : List Opening) → o.number ≢ [] → AllByRecursion (λ e. e.number ≢ []) es
-    → list_any (λ e. not (alike e o)) es ≡ false
-test_numbered o [] some h = refl
-test_numbered o (e ∷ es) some h = grind (arith, test_numbered o es some)
+none_differs : (P : Opening → Type 0) (o : Opening) (es : List Opening) → ((a : Opening) → P a → is_written a.number ≡ is_written o.number)
+    → AllByRecursion P es → list_any (λ e. not (alike e o)) es ≡ false
+none_differs P o [] same all = refl
+none_differs P o (e ∷ es) same all = grind (arith, same e all.0, none_differs P o es same all.1)
 
 -- one more destination, if it is assigned
 pub assigned_alike : (earlier : List Opening) (p : ℕ) (o : Opening) → AreAlike earlier → Quiet (slot_rules earlier p o)
@@ -43,9 +38,9 @@ assigned_alike earlier p o before quiet =
     by_test o.star (λ v. AreAlike (earlier ++ cond v [] (o ∷ []))) (λ t. rw append-nil before) (λ plain. by_number plain (is_written o.number) refl)
   where
     by_number : o.star ≡ false → (v : Bool) → is_written o.number ≡ v → AreAlike (earlier ++ o ∷ [])
-    by_number plain true e = inr (numbered o earlier (grind arith) (grind arith))
+    by_number plain true e = inr (with_one (λ a. a.number ≢ []) o earlier (λ a same. grind arith) (grind arith))
     by_number plain false e =
-        inl (unnumbered o earlier (grind arith) (grind arith), grind (arith, nat_tests, length-append earlier (o ∷ [])))
+        inl (with_one (λ a. a.number ≡ []) o earlier (λ a same. grind arith) (grind arith), grind (arith, nat_tests, length-append earlier (o ∷ [])))
 
 pub slot_quiet : (earlier : List Opening) (p : ℕ) (o : Opening) → AreAlike (earlier ++ assigned_opening o []) → Quiet (slot_rules earlier p o)
 slot_quiet earlier p o h = by_star o.star refl h
@@ -55,12 +50,12 @@ slot_quiet earlier p o h = by_star o.star refl h
         elim h [
           | inl placed ↦
               let here = (all_back (λ a. a.number ≡ []) earlier (o ∷ []) placed.0).0 in
-              let same = test_unnumbered o earlier here (all_front (λ a. a.number ≡ []) earlier (o ∷ []) placed.0) in
+              let same = none_differs (λ a. a.number ≡ []) o earlier (λ a none. rw (none, here) refl) (all_front (λ a. a.number ≡ []) earlier (o ∷ []) placed.0) in
               let room = length-append earlier (o ∷ []) in
               grind (arith, nat_tests)
           | inr others ↦
               let here = (all_back (λ a. a.number ≢ []) earlier (o ∷ []) others).0 in
-              let same = test_numbered o earlier here (all_front (λ a. a.number ≢ []) earlier (o ∷ []) others) in
+              let same = none_differs (λ a. a.number ≢ []) o earlier (λ a some. grind arith) (all_front (λ a. a.number ≢ []) earlier (o ∷ []) others) in
               grind (arith, nat_tests)
         ]
 
@@ -111,11 +106,6 @@ any_differs : (v : Bool) (o e : Opening) (es : List Opening) → AllByRecursion 
     → list_any (λ a. not (alike a o)) (e ∷ es) ≡ not (beq v (is_written o.number))
 any_differs v o e [] h = grind arith
 any_differs v o e (a ∷ es) h = grind (arith, any_differs v o a es h.1)
-
-are_now : (o : Opening) (es : List Opening) → list_any (λ a. not (alike a o)) es ≡ false
-    → AllByRecursion (λ a. is_written a.number ≡ is_written o.number) es
-are_now o [] e = tt
-are_now o (a ∷ es) e = grind (arith, are_now o es)
 
 -- before the first part
 pub none_held : Holds (record { count = 0; numbered = false }) []

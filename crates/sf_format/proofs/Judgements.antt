@@ -26,9 +26,6 @@ abbrev pub Judges : Language → List ℕ → Judgement → Type 0
 Judges language text (Ok pieces) = IsFormat language pieces × (text ≡ text_of pieces)
 Judges language text (Err fault) = FaultIn language text fault.1 fault.0
 
-none_before : AreAlike []
-none_before = inl (tt, lit≤ tt)
-
 -- what was read of a short text
 numbers_tell : (language : Language) (text : List ℕ) (r : Judgement) → length text ≤ 4096 → Tells language [] 0 text r
     → Judges language text (numbers_judged r)
@@ -60,7 +57,7 @@ judged_tells language text bytes = by_length (nat_lt 4096 (length text)) refl
     by_length false e =
         rw e
         (numbers_tell language text (read (length text) language [] 0 text) (within 4096 (length text) e)
-        (read_tells (length text) language [] 0 text (omega arith) bytes none_before))
+        (read_tells (length text) language [] 0 text (omega arith) bytes (inl (tt, lit≤ tt))))
 
 -- the parts of a format are judged so
 pub format_judged : (language : Language) (pieces : List Piece) → IsFormat language pieces → judged language (text_of pieces) ≡ Ok pieces
@@ -140,13 +137,8 @@ judged_few language text count bytes h =
 read_same : (language : Language) (text : List ℕ) (pieces others : List Piece) → judged language text ≡ Ok pieces
     → read (length text) language [] 0 text ≡ Ok others → others ≡ pieces
 read_same language text pieces others e f =
-    by_first (first_of (number_rules others)) (sym (read_judged language text (Ok others) (judged_short language text pieces e) f) ∙ e)
-  where
-    by_first : (first : Option (FormatWhy × ℕ)) → unless first (Ok others) ≡ Ok pieces → others ≡ pieces
-    by_first None g = cc
-    by_first (Some fault) g = absurd (cc)
+    let both = sym (read_judged language text (Ok others) (judged_short language text pieces e) f) ∙ e in grind arith
 
--- both walks meet the same parts
 pub gathers_spells : {D : Type 0} {language : Language} {means : ℕ → Piece → D → Type 0} {text : List ℕ} {ds : List D} (count : ℕ) → AreBytes text
     → Judged language text (Ok count) → Gathers language means text ds → SpellsCounted language means text ds count
 gathers_spells {language = language} {text = text} count bytes judges h =

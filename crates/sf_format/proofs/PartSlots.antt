@@ -37,22 +37,20 @@ slots_all : {D : Type 0} {means : ℕ → Piece → D → Type 0} {slotted : D �
     → (place : ℕ) (pieces : List Piece) (ds : List D) → MeanAll means place pieces ds
     → numbers (filter_map slotted ds) ≡ slots_named place (destinations pieces)
 slots_all m place [] [] h = refl
-slots_all m place [] (d ∷ ds) h = absurd h
-slots_all m place (piece ∷ pieces) [] h = absurd h
 slots_all {slotted = slotted} m place (piece ∷ pieces) (d ∷ ds) h =
     let later = slots_all m (place + length (destinations (piece ∷ []))) pieces ds h.1 in
     rw (numbers_cons (slotted d) (filter_map slotted ds), m.slot place piece d h.0, later)
     (part_slot place piece (destinations pieces) ∙ ap (slots_named place) (sym (destinations_cons piece pieces)))
+slots_all m place _ _ h = absurd h
 
 -- something for each part, of which none is empty
 pub all_short : {D : Type 0} (language : Language) (means : ℕ → Piece → D → Type 0) (place : ℕ) (pieces : List Piece) (ds : List D)
     → AllByRecursion (IsPiece language) pieces → MeanAll means place pieces ds → length ds ≤ length (text_of pieces)
 all_short language means place [] [] each h = omega arith
-all_short language means place [] (d ∷ ds) each h = absurd h
-all_short language means place (piece ∷ pieces) [] each h = absurd h
 all_short language means place (piece ∷ pieces) (d ∷ ds) each h =
     let later = all_short language means (place + length (destinations (piece ∷ []))) pieces ds each.1 h.1 in
     omega (arith, empty_text language piece each.0, later, length-append (piece_text piece) (text_of pieces))
+all_short language means place _ _ each h = absurd h
 
 -- ---- with numbers
 

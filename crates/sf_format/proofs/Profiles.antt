@@ -32,12 +32,11 @@ all_through : {D : Type 0} (p q : Language) (mean means : ℕ → Piece → D �
     → (place : ℕ) (pieces : List Piece) (ds : List D) → AllByRecursion (IsPiece p) pieces → MeanAll mean place pieces ds → AllByRecursion P ds
     → AllByRecursion (IsPiece q) pieces × MeanAll means place pieces (map f ds)
 all_through p q mean means f P one place [] [] each h has = (tt, h)
-all_through p q mean means f P one place [] (d ∷ ds) each h has = absurd h
-all_through p q mean means f P one place (piece ∷ pieces) [] each h has = absurd h
 all_through p q mean means f P one place (piece ∷ pieces) (d ∷ ds) each h has =
     let here = one place piece d each.0 h.0 has.0 in
     let rest = all_through p q mean means f P one (place + length (destinations (piece ∷ []))) pieces ds each.1 h.1 has.1 in
     ((here.0, rest.0), (here.1, rest.1))
+all_through p q mean means f P one place _ _ each h has = absurd h
 
 spells_through : {D : Type 0} (p q : Language) (mean means : ℕ → Piece → D → Type 0) (f : D → D) (P : D → Type 0)
     → ((place : ℕ) (piece : Piece) (d : D) → IsPiece p piece → mean place piece d → P d → IsPiece q piece × means place piece (f d))

@@ -1,7 +1,9 @@
 -- Which slots are found among those from 1 to their count, each once.
-use Rattle.std.proofs.Common.{◌≡◌, ◌≢◌, ℕ, zero, suc, ◌+◌, ◌≤◌, cond, nat_eq, List, [], ◌∷◌, length, refl, arith, Bool, true, false, map, is_some}
+use Rattle.std.proofs.Common.{◌≡◌, ◌≢◌, ℕ, zero, suc, ◌+◌, ◌≤◌, ◌<◌, cond, nat_eq, List, [], ◌∷◌, length, refl, arith, Bool, true, false, map, is_some}
 use Rattle.std.proofs.lemmas.Bool.Decides.{nat_tests}
-use Rattle.std.specs.List.{AllByRecursion}
+use Rattle.std.specs.List.{AllByRecursion, IsDistinct, list_any}
+use Rattle.std.proofs.lemmas.Map.Steps.{length-le_from_distinct_below}
+use Rattle.sf_format.proofs.Rules.{all_map}
 use Rattle.sf_format.specs.Slots.{AreDistinct, Slotted, kind_with, AreSlots}
 use Rattle.std.proofs.lemmas.List.{length-map}
 use Rattle.std.specs.Prelude.{◌↔◌, IsSome}
@@ -9,37 +11,21 @@ use Rattle.std.specs.Prelude.{◌↔◌, IsSome}
 abbrev pub AreWithin : ℕ → List ℕ → Type 0
 AreWithin n xs = AllByRecursion (λ x. (1 ≤ x) × (x ≤ n)) xs
 
--- the list without a number
-abbrev without : ℕ → List ℕ → List ℕ
-without k [] = []
-without k (x ∷ xs) = cond (nat_eq x k) (without k xs) (x ∷ without k xs)
+distinct_of : (xs : List ℕ) → AreDistinct xs → IsDistinct nat_eq xs
+unfolding IsDistinct
+distinct_of [] h = tt
+distinct_of (x ∷ xs) h = (all_map (λ y. y ≢ x) (λ y. nat_eq x y ≡ false) (λ y other. grind (arith, nat_tests)) xs h.0, distinct_of xs h.1)
 
-none_without : (k : ℕ) (xs : List ℕ) → AllByRecursion (λ m. m ≢ k) xs → without k xs ≡ xs
-none_without k [] h = refl
-none_without k (x ∷ xs) h = grind (arith, nat_tests, none_without k xs h.1)
+within_of : (n q : ℕ) (xs : List ℕ) → AreWithin n xs → list_any (nat_eq q) xs ≡ true → q ≤ n
+within_of n q [] within e = absurd (cc)
+within_of n q (x ∷ xs) within e = grind (arith, nat_tests, within_of n q xs within.1)
 
-others_without : (k m : ℕ) (xs : List ℕ) → AllByRecursion (λ x. x ≢ m) xs → AllByRecursion (λ x. x ≢ m) (without k xs)
-others_without k m [] h = tt
-others_without k m (x ∷ xs) h = grind (arith, others_without k m xs h.1)
-
-distinct_without : (k : ℕ) (xs : List ℕ) → AreDistinct xs → AreDistinct (without k xs)
-distinct_without k [] h = tt
-distinct_without k (x ∷ xs) h = grind (arith, others_without k x xs h.0, distinct_without k xs h.1)
-
-length_without : (k : ℕ) (xs : List ℕ) → AreDistinct xs → length xs ≤ 1 + length (without k xs)
-length_without k [] h = omega arith
-length_without k (x ∷ xs) h = grind (arith, nat_tests, none_without x xs h.0, length_without k xs h.1)
-
-lower_without : (n : ℕ) (xs : List ℕ) → AreWithin (suc n) xs → AreWithin n (without (suc n) xs)
-lower_without n [] h = tt
-lower_without n (x ∷ xs) h = grind (arith, nat_tests, lower_without n xs h.1)
-
+-- with 0 they are numbers below n + 1
 pub pigeonhole : (n : ℕ) (xs : List ℕ) → AreDistinct xs → AreWithin n xs → length xs ≤ n
-pigeonhole zero [] distinct within = omega arith
-pigeonhole zero (x ∷ xs) distinct within = absurd (omega (arith, within.0.0, within.0.1))
-pigeonhole (suc n) xs distinct within =
-    let fewer = pigeonhole n (without (suc n) xs) (distinct_without (suc n) xs distinct) (lower_without n xs within) in
-    omega (arith, length_without (suc n) xs distinct, fewer)
+pigeonhole n xs distinct within =
+    let apart = all_map (λ x. (1 ≤ x) × (x ≤ n)) (λ x. x ≢ 0) (λ x h e. absurd (omega (arith, h.0, e))) xs within in
+    let below : (q : ℕ) → list_any (nat_eq q) (0 ∷ xs) ≡ true → q < n + 1 = λ q e. (let h = within_of n q xs within in grind (arith, nat_tests)) in
+    omega (arith, length-le_from_distinct_below (0 ∷ xs) (n + 1) (distinct_of (0 ∷ xs) (apart, distinct)) below)
 
 -- the slots of what is listed
 abbrev pub numbers : List Slotted → List ℕ

@@ -168,17 +168,8 @@ suits_parts letter o suits = record {
   precision = rw suits.precision tt;
 }
 
--- ---- what a letter that no rule refuses converts
-
-known : {A : Type 0} (o : Option A) → is_none o ≡ false → IsSome o
+pub known : {A : Type 0} (o : Option A) → is_none o ≡ false → IsSome o
 known o e = grind arith
-
-pub some_letter : (profile : Profile) (o : Opening) (b q : ℕ) → first_of (letter_rules profile o b q) ≡ None → IsSome (letter_of profile b)
-some_letter profile o b q none = known (letter_of profile b) (quiet_is (letter_rules profile o b q) none).1.1.0
-
-pub some_kind : (profile : Profile) (o : Opening) (b q : ℕ) (letter : Letter) → first_of (letter_rules profile o b q) ≡ None
-    → letter_of profile b ≡ Some letter → IsSome (kind_of letter o.size)
-some_kind profile o b q letter none found = ((letter_is profile b letter found).allowed o q (quiet_is (letter_rules profile o b q) none)).0
 
 -- ---- letters
 
@@ -282,12 +273,3 @@ suits_print_parts letter o suits = record {
   width = (number_tests 65535 o.width suits.width).digits;
   precision = (precision_test o.precision suits.precision).1;
 }
-
--- ---- what a letter that no rule refuses prints
-
-pub some_print_letter : (p : Profile) (o : Opening) (b q : ℕ) → first_of (print_letter_rules p o b q) ≡ None → IsSome (print_letter_of p b)
-some_print_letter p o b q none = known (print_letter_of p b) (quiet_is (print_letter_rules p o b q) none).1.1.0
-
-pub some_print_kind : (p : Profile) (o : Opening) (b q : ℕ) (letter : PrintLetter) → first_of (print_letter_rules p o b q) ≡ None
-    → print_letter_of p b ≡ Some letter → IsSome (print_kind_of letter o.size)
-some_print_kind p o b q letter none found = (print_letter_is p b letter found).allowed o q (quiet_is (print_letter_rules p o b q) none)

@@ -8,31 +8,23 @@ use Rattle.sf_format.proofs.Cutting.{HasParts, cut_parts, cut_in, length-cut, pa
 use Rattle.sf_format.proofs.Passages.{if_point}
 use Rattle.sf_format.proofs.grammar.opening.Goals as goal
 
-pub returns-clause-parts : goal.returns-clause-parts
-returns-clause-parts g c =
-    subst (λ (o : Opening). length o.number + length o.flags + length o.width ≤ length c.args.text.now) (sym c.cut_opening.ensures.opening)
-    (parts_shorter (g.G.Grammar.language c.args.grammar) c.args.text.now)
-
-pub returns-clause-number : goal.returns-clause-number
-returns-clause-number g c = (subst HasParts (sym c.cut_opening.ensures.opening) (cut_parts (g.G.Grammar.language c.args.grammar) c.args.text.now)).number
-
-pub returns-clause-width : goal.returns-clause-width
-returns-clause-width g c = (subst HasParts (sym c.cut_opening.ensures.opening) (cut_parts (g.G.Grammar.language c.args.grammar) c.args.text.now)).width
-
-pub returns-clause-precision : goal.returns-clause-precision
-returns-clause-precision g c =
+pub returns : goal.returns
+returns g c =
+    let language = g.G.Grammar.language c.args.grammar in
     let written = c.cut_opening.result.0 in
-    if_point (AllPass is_decimal) written.point written.precision.now
-    (subst HasParts (sym c.cut_opening.ensures.opening) (cut_parts (g.G.Grammar.language c.args.grammar) c.args.text.now)).precision
-
-pub returns-clause-own : goal.returns-clause-own
-returns-clause-own g c =
-    let language = g.G.Grammar.language c.args.grammar in
-    subst (IsIn language) (sym c.cut_opening.ensures.opening) (cut_in language c.args.text.now)
-
-pub returns-clause-length : goal.returns-clause-length
-returns-clause-length g c =
-    let language = g.G.Grammar.language c.args.grammar in
-    ap (λ o. length (opening_text o) + length c.cut_opening.result.1.now) c.cut_opening.ensures.opening
-    ∙ ap (λ t. length (opening_text (cut language c.args.text.now).opening) + length t) c.cut_opening.ensures.rest
-    ∙ length-cut language c.args.text.now
+    let same = sym c.cut_opening.ensures.opening in
+    let has = subst HasParts same (cut_parts language c.args.text.now) in record {
+      opening = c.cut_opening.ensures.opening;
+      rest = c.cut_opening.ensures.rest;
+      parts =
+          subst (λ (o : Opening). length o.number + length o.flags + length o.width ≤ length c.args.text.now) same
+          (parts_shorter language c.args.text.now);
+      number = has.number;
+      width = has.width;
+      precision = if_point (AllPass is_decimal) written.point written.precision.now has.precision;
+      own = subst (IsIn language) same (cut_in language c.args.text.now);
+      length =
+          ap (λ o. length (opening_text o) + length c.cut_opening.result.1.now) c.cut_opening.ensures.opening
+          ∙ ap (λ t. length (opening_text (cut language c.args.text.now).opening) + length t) c.cut_opening.ensures.rest
+          ∙ length-cut language c.args.text.now;
+    }

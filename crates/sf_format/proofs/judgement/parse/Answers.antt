@@ -20,17 +20,13 @@ returns-in_err-parts g c =
     let is = told c.requires c.args.text.now c.in_err-parts.field-0.0 refused in
     rw (p.1, p.2) (record { spelled = tt; refused = refused; fault = λ at why fault. ap Err (is.0 at why fault); accepted = is.1 })
 
-pub returns-clause-spelled : goal.returns-clause-spelled
-returns-clause-spelled g c =
-    gathers_spells c.in_ok-count.count (bytes_of c.args.text.now (λ i. omega (arith, c.type_inv.text i))) c.in_ok-count.ensures
-    c.in_ok-parts.ensures.gathered
-
-pub returns-clause-fault : goal.returns-clause-fault
-returns-clause-fault g c = λ at why fault.
-    no_fault (g.G.Grammar.language c.args.grammar) c.args.text.now c.in_ok-count.count at why c.in_ok-count.ensures fault
-
-pub returns-clause-accepted : goal.returns-clause-accepted
-returns-clause-accepted g c = λ ds spelled.
-    one_list c.requires c.args.text.now c.in_ok-parts.parts.items ds
-    (gathers_spells c.in_ok-count.count (bytes_of c.args.text.now (λ i. omega (arith, c.type_inv.text i))) c.in_ok-count.ensures
-    c.in_ok-parts.ensures.gathered).0 spelled
+pub returns : goal.returns
+returns g c =
+    let spelled =
+        gathers_spells c.in_ok-count.count (bytes_of c.args.text.now (λ i. omega (arith, c.type_inv.text i))) c.in_ok-count.ensures
+        c.in_ok-parts.ensures.gathered in record {
+      spelled = spelled;
+      refused = tt;
+      fault = λ at why fault. no_fault (g.G.Grammar.language c.args.grammar) c.args.text.now c.in_ok-count.count at why c.in_ok-count.ensures fault;
+      accepted = λ ds. one_list c.requires c.args.text.now c.in_ok-parts.parts.items ds spelled.0;
+    }

@@ -2,7 +2,8 @@ use Rattle.std.proofs.Common.{sym, ◌∙◌}
 use Rattle.sf_format.specs.PrintLetters.{print_letter_of}
 use Rattle.sf_format.specs.PrintRules.{print_letter_rules, flag_rules}
 use Rattle.sf_format.specs.Passing.{opening_of, fault_of}
-use Rattle.sf_format.proofs.Suits.{some_print_letter, some_print_kind}
+use Rattle.sf_format.proofs.Rules.{quiet_is}
+use Rattle.sf_format.proofs.Suits.{known, print_letter_is}
 use Rattle.sf_format.proofs.Passages.{first_left, flags_first}
 use Rattle.sf_format.proofs.print.letter.print_converted.Goals as goal
 
@@ -14,8 +15,8 @@ returns-in-Some c =
 
 pub unwrap-found-requires : goal.unwrap-found-requires
 unwrap-found-requires c =
-    rw c.print_letter_of.ensures
-    (some_print_letter c.args.profile (opening_of c.args.written.now) c.args.letter c.args.at (sym c.in_default.ensures))
+    let quiet = quiet_is (print_letter_rules c.args.profile (opening_of c.args.written.now) c.args.letter c.args.at) (sym c.in_default.ensures) in
+    rw c.print_letter_of.ensures (known (print_letter_of c.args.profile c.args.letter) quiet.1.1.0)
 
 pub returns-in-Some-flag_fault : goal.returns-in-Some-flag_fault
 returns-in-Some-flag_fault c =
@@ -25,9 +26,10 @@ returns-in-Some-flag_fault c =
 
 pub unwrap-kind-requires : goal.unwrap-kind-requires
 unwrap-kind-requires c =
+    let o = opening_of c.args.written.now in
+    let letter = print_letter_is c.args.profile c.args.letter c.unwrap-found.result (sym c.print_letter_of.ensures ∙ c.unwrap-found.ensures) in
     rw (c.kind.ensures, c.print_row.ensures.prints)
-    (some_print_kind c.args.profile (opening_of c.args.written.now) c.args.letter c.args.at c.unwrap-found.result (sym c.in_default.ensures)
-    (sym c.print_letter_of.ensures ∙ c.unwrap-found.ensures))
+    (letter.allowed o c.args.at (quiet_is (print_letter_rules c.args.profile o c.args.letter c.args.at) (sym c.in_default.ensures)))
 
 pub returns : goal.returns
 returns c =
