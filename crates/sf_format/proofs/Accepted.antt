@@ -1,5 +1,5 @@
 -- What holds of the directives of each spelled scan format, and of the units of each print format.
-use Rattle.std.proofs.Common.{◌≡◌, ◌≢◌, ℕ, ◌<◌, Bool, true, false, List, [], ◌∷◌, None, refl, lit<, arith, Option, Some, ◌≤◌, sym, ◌∙◌}
+use Rattle.std.proofs.Common.{◌≡◌, ◌≢◌, ℕ, ◌<◌, Bool, true, false, List, [], ◌∷◌, None, refl, lit<, arith, Some, ◌≤◌, sym, ◌∙◌}
 use Rattle.std.proofs.lemmas.Bool.Decides.{nat_tests}
 use Rattle.std.specs.List.{AllByRecursion}
 use Rattle.sf_format.specs.Scanlist.{Scanlist, IsScanlist, is_listed, is_chosen, is_member, backward_range}
@@ -48,12 +48,8 @@ some_member list is byte =
 
 -- ---- each directive
 
--- of the shape, the width and the kind of a conversion
-abbrev IsGood : Shape → Option ℕ → Kind → Type 0
-IsGood s width kind = IsProperShape s × IsProperWidth width × HasItsWidth s width × HasItsKind s kind
-
 plain_good : (letter : Letter) (s : Shape) (ds : List ℕ) (size : Length) (k : Kind) → shape_of letter s → kind_of letter size ≡ Some k
-    → IsOptionalNumber 65535 ds → IsGood s (width_of letter ds) k
+    → IsOptionalNumber 65535 ds → let width = width_of letter ds in IsProperShape s × IsProperWidth width × HasItsWidth s width × HasItsKind s k
 plain_good letter s ds size k h is number = grind (arith, text_kinded size k)
 
 abbrev IsGoodDirective : Directive → Type 0

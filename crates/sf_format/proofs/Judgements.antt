@@ -5,7 +5,7 @@ use Rattle.sf_base.specs.Bytes.{AreBytes}
 use Rattle.sf_format.specs.Language.{Language}
 use Rattle.sf_format.specs.declared.fault.FormatWhy.{FormatWhy}
 use Rattle.sf_format.specs.Pieces.{Piece, text_of}
-use Rattle.sf_format.specs.Grammar.{AreAlike, IsFormat, IsMeaning, SpellsAs, SpellsCounted, destinations}
+use Rattle.sf_format.specs.Grammar.{IsFormat, IsMeaning, SpellsAs, SpellsCounted}
 use Rattle.sf_format.specs.Rules.{first_of}
 use Rattle.sf_format.specs.Faults.{number_rules, AreFaultless, FaultIn, IsRefusedAs, no_memory}
 use Rattle.sf_format.specs.Reading.{unless, read, numbers_judged, judged}

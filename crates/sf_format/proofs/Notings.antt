@@ -1,5 +1,5 @@
 -- What is noted of the numbers of destinations, one after the other.
-use Rattle.std.proofs.Common.{◌≡◌, ◌≢◌, ℕ, ◌+◌, ◌-◌, ◌<◌, Bool, true, false, ◌||◌, nat_eq, nat_lt, List, [], ◌∷◌, ◌++◌, length, map, Option, Some, None, Ok, refl, sym, ap, ◌∙◌, subst, arith, append_assoc, append-nil, length-append}
+use Rattle.std.proofs.Common.{◌≡◌, ◌≢◌, ℕ, ◌+◌, ◌-◌, ◌<◌, Bool, true, false, ◌||◌, nat_eq, nat_lt, List, [], ◌∷◌, ◌++◌, length, map, Option, None, Ok, refl, sym, ap, ◌∙◌, subst, arith, append_assoc, append-nil, length-append}
 use Rattle.std.proofs.lemmas.List.{map-append}
 use Rattle.std.specs.Prelude.{◌==◌}
 use Rattle.std.specs.List.{AllByRecursion}
@@ -51,9 +51,7 @@ told_push why before rules applies at e =
     rw (first_append rules (record { why = why; applies = applies; at = at } ∷ []), ← e) (one before applies)
   where
     one : (found : Option ℕ) (v : Bool) → told why (first_place found v at) ≡ or_else (told why found) (first_of (record { why = why; applies = v; at = at } ∷ []))
-    one (Some place) v = refl
-    one None true = refl
-    one None false = refl
+    one found v = grind arith
 
 pub notes_more : (count : ℕ) (ns : List (ℕ × ℕ)) (old new : Noted) (n at : ℕ) (used high : Bool) → Notes count ns old → n < 256
     → used ≡ has_byte old.used n → high ≡ nat_lt count n → new.twice ≡ first_place old.twice used at → new.gap ≡ first_place old.gap high at

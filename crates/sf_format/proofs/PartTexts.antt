@@ -4,15 +4,11 @@ use Rattle.std.specs.Prelude.{◌==◌}
 use Rattle.std.proofs.lemmas.List.{take_at}
 use Rattle.sf_format.specs.Language.{Language}
 use Rattle.sf_format.specs.declared.slots.Slots.{Slots}
-use Rattle.sf_format.specs.Pieces.{Piece, piece_text, text_of, text_at}
+use Rattle.sf_format.specs.Pieces.{Piece, piece_text, text_at}
 use Rattle.sf_format.specs.Cut.{part_at}
-use Rattle.sf_format.specs.Grammar.{IsFormat}
-use Rattle.sf_format.specs.Reading.{read, judged}
-use Rattle.sf_format.specs.declared.fault.FormatFault.{FormatFault}
-use Rattle.sf_format.specs.Passing.{fault_of}
-use Rattle.sf_format.proofs.Judgements.{Judgement, format_judged}
-use Rattle.sf_format.proofs.WholeTexts.{put_all, parts_read}
-use Rattle.sf_format.proofs.Numbers.{slots_alike}
+use Rattle.sf_format.specs.Reading.{read}
+use Rattle.sf_format.proofs.Judgements.{Judgement}
+use Rattle.sf_format.proofs.WholeTexts.{put_all}
 use Rattle.sf_format.proofs.Walks.{Passing, PassesFirst, passing_more, passing_all}
 
 -- ---- the parts that were passed are the first of the text's
@@ -74,15 +70,3 @@ pub text_none : {language : Language} {text : List ℕ} {at : ℕ} {rest : List 
 text_none {number = number} pieces h is_empty none e =
     let same : h.passing.done ≡ pieces = let both = sym (passing_all h.passing is_empty none) ∙ e in cc in
     sym (text_past number h.passing.done (omega (arith, h.some, h.count))) ∙ ap (text_at number) same
-
--- ---- a format
-
-pub format_read : (language : Language) (text : List ℕ) (pieces : List Piece) → IsFormat language pieces → text ≡ text_of pieces
-    → read (length text) language [] 0 text ≡ Ok pieces
-format_read language text pieces is e = rw e (parts_read language pieces is.each is.apart (slots_alike pieces is.slots))
-
--- a format is not judged bad
-pub format_not_refused : {A : Type 0} (language : Language) (text : List ℕ) (pieces : List Piece) (fault : FormatFault) → IsFormat language pieces
-    → text ≡ text_of pieces → judged language text ≡ Err (fault_of fault) → A
-format_not_refused language text pieces fault is e refused =
-    let f = sym refused ∙ ap (judged language) e ∙ format_judged language pieces is in absurd (cc)

@@ -115,10 +115,7 @@ passes_behind wanted means opening rest earlier part (Ok passed) quiet h = (rw (
 passes_behind wanted means opening rest earlier part (Err fault) quiet h = rw (first_append opening rest, quiet) h
 
 -- the first byte and those that follow it
-abbrev pub split_first : List ℕ → List ℕ
-split_first x = get_or x 0 0 ∷ take (length x - 1) (drop 1 x)
-
-pub first_and_rest : (x : List ℕ) → 1 ≤ length x → split_first x ≡ x
+pub first_and_rest : (x : List ℕ) → 1 ≤ length x → get_or x 0 0 ∷ take (length x - 1) (drop 1 x) ≡ x
 first_and_rest [] h = absurd (omega (arith, h))
 first_and_rest (b ∷ x) h = ap (λ y. b ∷ y) (take_rest (b ∷ x) 1)
 

@@ -1,5 +1,5 @@
 -- An opening and a letter that no rule refuses suit each other, in scan formats and in print formats.
-use Rattle.std.proofs.Common.{◌≡◌, ℕ, ◌<◌, Bool, true, false, ◌&&◌, ◌||◌, nat_eq, nat_lt, List, [], ◌∷◌, Some, None, is_some, is_none, refl, arith, ◌≢◌, zero, suc, ◌+◌, ◌^◌, length, Option, find}
+use Rattle.std.proofs.Common.{◌≡◌, ℕ, ◌<◌, Bool, true, false, ◌&&◌, ◌||◌, nat_eq, nat_lt, List, [], ◌∷◌, Some, is_some, is_none, refl, arith, ◌≢◌, zero, suc, ◌+◌, ◌^◌, length, Option, find}
 use Rattle.std.specs.Prelude.{IsSome, IfSome}
 use Rattle.std.proofs.lemmas.Bool.Decides.{nat_tests}
 use Rattle.std.specs.List.{AllByRecursion}
@@ -9,7 +9,7 @@ use Rattle.sf_format.specs.Lists.{is_any_of, is_written}
 use Rattle.sf_format.specs.Letters.{added_letters, letters, find_letter, letter_of, kind_of, text_kind}
 use Rattle.sf_format.specs.Pieces.{Opening}
 use Rattle.sf_format.specs.Grammar.{SuitsCount, Suits}
-use Rattle.sf_format.specs.Rules.{first_of, has_length, is_l}
+use Rattle.sf_format.specs.Rules.{has_length, is_l}
 use Rattle.sf_format.specs.Language.{Scan, Print}
 use Rattle.sf_format.specs.Faults.{opening_rules, letter_rules}
 use Rattle.sf_format.specs.Passing.{IsIn}
@@ -22,7 +22,7 @@ use Rattle.sf_format.specs.declared.letter.Length.{Length}
 use Rattle.sf_format.proofs.Outcomes.{not_above, not_zero}
 use Rattle.sf_format.proofs.Prefixes.{AllPass}
 use Rattle.sf_format.proofs.Cutting.{IsLast, HasParts}
-use Rattle.sf_format.proofs.Rules.{Quiet, quiet_is}
+use Rattle.sf_format.proofs.Rules.{Quiet}
 use Rattle.sf_format.specs.Passing.{is_set}
 use Rattle.std.specs.Char.{digit_value}
 use Rattle.std.proofs.Math.Nat.{mul-pos}

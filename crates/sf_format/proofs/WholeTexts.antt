@@ -169,8 +169,7 @@ put_first language earlier p piece done rest m =
     rw (places, regroup earlier piece done) (one (read m language _ _ rest))
   where
     one : (r : Result (List Piece) (FormatWhy × ℕ)) → put piece (put_all done r) ≡ put_all (piece ∷ done) r
-    one (Ok pieces) = refl
-    one (Err fault) = refl
+    one r = grind arith
 
 -- what is read behind whole parts is read with them
 read_done : (n : ℕ) (language : Language) (earlier : List Opening) (p : ℕ) (done : List Piece) (rest : List ℕ)

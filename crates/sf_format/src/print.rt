@@ -79,15 +79,6 @@ impl PrintFormat {
         &self.units
     }
 
-    /// How many values the format prints.
-    pub fn values(&self) -> u8
-        ensures count { result ≡ length (values_of self.now) }
-        ensures accepted { AreAccepted self.now }
-        ensures few { result ≤ 32 }
-    {
-        self.values
-    }
-
     /// The kind of the value with the slot; None if there is none. Slots are counted from 1.
     pub fn kind(&self, slot: u8) -> Option<Kind>
         ensures kind { result ≡ kind_with slot (values_of self.now) }
@@ -95,5 +86,14 @@ impl PrintFormat {
             IsSome result ↔ ((1 ≤ slot) × (slot ≤ count)) }
     {
         find_printed_kind(self.directives(), slot)
+    }
+
+    /// How many values the format prints.
+    pub fn values(&self) -> u8
+        ensures count { result ≡ length (values_of self.now) }
+        ensures accepted { AreAccepted self.now }
+        ensures few { result ≤ 32 }
+    {
+        self.values
     }
 }

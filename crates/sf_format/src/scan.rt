@@ -38,8 +38,8 @@ impl Model for ScanFormat {
 
     ghost invariant = { λ f. record {
       accepted : IsAccepted f.directives.items;
-      counted : f.destinations ≡ length (destinations_of f.directives.items);
       summed : f.widths ≡ width_sum f.directives.items;
+      counted : f.destinations ≡ length (destinations_of f.directives.items);
     } };
 }
 

@@ -15,16 +15,16 @@ pub returns-in_err-parts : goal.returns-in_err-parts
 returns-in_err-parts g c =
     let p = err_from_is_err_and c.from_residual-in_err-parts.result c.from_residual-in_err-parts.ensures.1 in
     let refused =
-        hindered c.requires c.args.text.now c.in_ok-count.count c.in_err-parts.field-0.0
-        (bytes_of c.args.text.now (λ i. omega (arith, c.type_inv.text i))) c.in_ok-count.ensures c.in_err-parts.ensures.hindered in
+    hindered c.requires c.args.text.now c.in_ok-count.count c.in_err-parts.field-0.0
+    (bytes_of c.args.text.now (λ i. omega (arith, c.type_inv.text i))) c.in_ok-count.ensures c.in_err-parts.ensures.hindered in
     let is = told c.requires c.args.text.now c.in_err-parts.field-0.0 refused in
     rw (p.1, p.2) (record { spelled = tt; refused = refused; fault = λ at why fault. ap Err (is.0 at why fault); accepted = is.1 })
 
 pub returns : goal.returns
 returns g c =
     let spelled =
-        gathers_spells c.in_ok-count.count (bytes_of c.args.text.now (λ i. omega (arith, c.type_inv.text i))) c.in_ok-count.ensures
-        c.in_ok-parts.ensures.gathered in record {
+    gathers_spells c.in_ok-count.count (bytes_of c.args.text.now (λ i. omega (arith, c.type_inv.text i))) c.in_ok-count.ensures
+    c.in_ok-parts.ensures.gathered in record {
       spelled = spelled;
       refused = tt;
       fault = λ at why fault. no_fault (g.G.Grammar.language c.args.grammar) c.args.text.now c.in_ok-count.count at why c.in_ok-count.ensures fault;
