@@ -64,9 +64,6 @@ pub record Weighed (piece : List ℕ) (count i number : ℕ) : Type 0 where
   pub small : taken < 10 ^ front
   pub is : number ≡ taken * 10 ^ (count - i)
 
-pub weighed_none : (piece : List ℕ) (count : ℕ) → Weighed piece count 0 0
-weighed_none piece count = record { front = 0; taken = 0; least = omega arith; read = λ base sign. refl; small = omega arith; is = omega arith }
-
 -- the value that the subtraction leaves
 digit_left : (b : ℕ) → is_ascii_digit b ≡ true → (48 ≤ b) × (b ≤ 57)
 digit_left b h = (grind (arith, nat_tests, h), grind (arith, nat_tests, h))

@@ -40,11 +40,6 @@ empty_list (x ∷ xs) e = absurd (omega (arith, e))
 
 -- ---- reports
 
--- what a report's outcome is
-pub outcome_is : (o : Outcome) (r : RunReport) → o.status ≡ r.status → o.at ≡ r.at → o.assigned ≡ r.assigned
-    → o.converted ≡ r.converted → o.used ≡ r.used → o.met ≡ r.met → o ≡ outcome_of r
-outcome_is o r status at assigned converted used met = rw (← status, ← at, ← assigned, ← converted, ← used, ← met) refl
-
 pub none_or_some : (fault : Option LineFault) → is_some fault ≡ false → fault ≡ None
 none_or_some None e = refl
 none_or_some (Some fault) e = absurd (true≢false e)

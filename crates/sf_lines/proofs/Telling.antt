@@ -41,12 +41,6 @@ pub no_faults : (failed : Bool) (faults : ℕ) → faults ≡ faults_by failed f
 no_faults false faults = refl
 no_faults true faults = refl
 
--- one that has failed stays so
-pub tells_stays : (a b : Bool) (told told' : Option (List ℕ)) (text : List ℕ) → Tells a b told told' text → a ≡ true → b ≡ true
-tells_stays a b told told' text (inl (p, q, all)) e = absurd (true≢false (sym e ∙ p))
-tells_stays a b told told' text (inr (inl (p, q, part))) e = q
-tells_stays a b told told' text (inr (inr (p, q, none))) e = q
-
 -- the faults of two texts
 pub faults_then : (a b c : Bool) → (a ≡ true → b ≡ true) → (b ≡ true → c ≡ true) → (n k l : ℕ) → k ≡ faults_by a b n → l ≡ faults_by b c k → l ≡ faults_by a c n
 faults_then false false c stays on n k l p q = q ∙ ap (faults_by false c) p

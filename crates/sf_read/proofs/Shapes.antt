@@ -157,9 +157,6 @@ eq_swapped : (a b : ℕ) → nat_eq a b ≡ nat_eq b a
 eq_swapped a b =
     by_test (nat_eq a b) (λ v. v ≡ nat_eq b a) (λ same. sym (grind (arith, nat_tests))) (λ other. sym (grind (arith, nat_tests)))
 
-given_kind : Option Assigned → Option Kind
-given_kind a = option_map kind_of (option_map (λ (o : Assigned). o.datum) a)
-
 next_given : (slot s : ℕ) (v : Datum) (values : List Assigned) (es : List Slotted) → option_map kind_of (datum_at slot values) ≡ kind_with slot es
     → option_map kind_of (datum_at slot (record { slot = s; datum = v } ∷ values)) ≡ kind_with slot ((s, kind_of v) ∷ es)
 next_given slot s v values es rest =

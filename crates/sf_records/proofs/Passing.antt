@@ -119,11 +119,6 @@ fit_goes fits RanOut e = other refl e
 pub goes_is_no_fault : (w : Work) (r : RunReport) → turn_in w r ≡ Goes → is_fault r.met ≡ false
 goes_is_no_fault w r e = goes_by r.status r.met r.used r.converted (fit_goes (w.fits r) (turn_of r) e).0
 
--- what a report's outcome is
-pub outcome_is : (o : Outcome) (r : RunReport) → o.status ≡ r.status → o.at ≡ r.at → o.assigned ≡ r.assigned
-    → o.converted ≡ r.converted → o.used ≡ r.used → o.met ≡ r.met → o ≡ outcome_of r
-outcome_is o r status at assigned converted used met = rw (← status, ← at, ← assigned, ← converted, ← used, ← met) refl
-
 -- ---- records
 
 pub passed_append : (w : Work) (ds : List Directive) (m : ℕ) (ending : Ending) (x y z : List ℕ) (front rest : List RunReport)
