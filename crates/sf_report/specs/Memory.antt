@@ -1,4 +1,4 @@
--- What a scanner's store holds.
+-- What the store of a run holds.
 use Rattle.std.specs.Prelude.{◌≡◌, ◌≤◌, ◌+◌, ℕ, List, ◌++◌, length, None, IfSome}
 use Rattle.sf_base.specs.Kept.{Kept, buffer_of, text_of, texts_in}
 use Rattle.sf_format.specs.declared.directive.Directive.{Directive}

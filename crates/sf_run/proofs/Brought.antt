@@ -10,8 +10,8 @@ use Rattle.sf_format.specs.Proper.{IsProperShape}
 use Rattle.sf_item.specs.Taking.{CanTake}
 use Rattle.sf_item.specs.Tests.{can_take}
 use Rattle.sf_item.proofs.Deciding.{tests_can_take}
-use Rattle.sf_report.specs.Machine.{Stage, Skipping, Item, shape_skips, item_stepped, stepped, finished}
-use Rattle.sf_report.specs.Residual.{choose, one_from, stepped_all}
+use Rattle.sf_report.specs.Machine.{Stage, Skipping, Item, shape_skips, item_stepped, stepped}
+use Rattle.sf_report.specs.Residual.{choose, stepped_all}
 use Rattle.sf_run.specs.Phases.{CanAll}
 
 -- ---- the bytes of an item
