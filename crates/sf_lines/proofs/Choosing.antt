@@ -5,8 +5,8 @@ use Rattle.std.specs.List.{AllByRecursion}
 use Rattle.std.proofs.Math.Seq.{drop-cons}
 use Rattle.std.proofs.lemmas.List.{take_more, take_all, take-append-drop, length-drop}
 use Rattle.sf_format.specs.declared.directive.Directive.{Directive}
-use Rattle.sf_run.specs.declared.outcome.Ending.TheVariants.{End}
-use Rattle.sf_run.specs.declared.outcome.Outcome.{Outcome}
+use Rattle.sf_run.specs.outcome.Ending.TheVariants.{End}
+use Rattle.sf_run.specs.outcome.Outcome.{Outcome}
 use Rattle.sf_run.specs.Runs.{RunReport}
 use Rattle.sf_run.specs.Limits.{RunTold}
 use Rattle.sf_run.specs.Stopping.{is_memory_status}

@@ -2,8 +2,8 @@
 use Rattle.std.specs.Prelude.{◌≡◌, ◌<◌, ◌⊎◌, ℕ, List, [], ◌∷◌, ◌++◌, length}
 use Rattle.std.specs.List.{AllByRecursion}
 use Rattle.sf_format.specs.Proper.{AreProper}
-use Rattle.sf_run.specs.declared.outcome.Ending.{Ending}
-use Rattle.sf_run.specs.declared.outcome.Ending.TheVariants.{Fault}
+use Rattle.sf_run.specs.outcome.Ending.{Ending}
+use Rattle.sf_run.specs.outcome.Ending.TheVariants.{Fault}
 use Rattle.sf_lines.specs.Cut.{IsLine, lines_by, lines_of, joined}
 use Rattle.sf_lines.specs.Turns.{LineWork, Turn}
 use Rattle.sf_lines.specs.Loops.{AreTurns}

@@ -2,11 +2,11 @@
 use Rattle.std.specs.Prelude.{◌≡◌, ◌≤◌, ◌<◌, ◌⊎◌, ◌++◌, ◌∷◌, ◌&&◌, ℕ, nat_lt, Bool, if◌then◌else◌, List, [], length, take, Option, Some, None, IsSome, Result, Ok, Err}
 use Rattle.std.specs.List.{AllByRecursion}
 use Rattle.sf_format.specs.declared.directive.Directive.{Directive}
-use Rattle.sf_run.specs.declared.outcome.Ending.{Ending}
-use Rattle.sf_run.specs.declared.outcome.Ending.TheVariants.{End}
-use Rattle.sf_run.specs.declared.outcome.Status.{Status}
-use Rattle.sf_run.specs.declared.outcome.Status.TheVariants.{Done}
-use Rattle.sf_run.specs.declared.outcome.Outcome.{Outcome}
+use Rattle.sf_run.specs.outcome.Ending.{Ending}
+use Rattle.sf_run.specs.outcome.Ending.TheVariants.{End}
+use Rattle.sf_run.specs.outcome.Status.{Status}
+use Rattle.sf_run.specs.outcome.Status.TheVariants.{Done}
+use Rattle.sf_run.specs.outcome.Outcome.{Outcome}
 use Rattle.sf_run.specs.Runs.{RunReport}
 use Rattle.sf_run.specs.Limits.{RunWithin}
 use Rattle.sf_lines.specs.declared.options.LinesOptions.{LinesOptions}

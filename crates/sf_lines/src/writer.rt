@@ -3,7 +3,7 @@ ghost use Rattle.std.specs.Prelude.{◌≡◌, ℕ, List, Option, Bool, true, On
 ghost use Rattle.sf_format.specs.declared.directive.Directive.{Directive};
 ghost use Rattle.sf_print.specs.Sinks.{counted_on};
 ghost use Rattle.sf_run.specs.Runs.{RunReport};
-ghost use Rattle.sf_run.specs.declared.outcome.Ending.{Ending};
+ghost use Rattle.sf_run.specs.outcome.Ending.{Ending};
 ghost use Rattle.sf_lines.specs.Judging.{WritesRecord, is_sink_fault};
 ghost use Rattle.sf_lines.specs.Turns.{with_met};
 ghost use Rattle.sf_lines.specs.Telling.{Tells, faults_by};

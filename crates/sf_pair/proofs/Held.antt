@@ -13,7 +13,7 @@ use Rattle.sf_format.specs.declared.directive.Directive.TheVariants as directive
 use Rattle.sf_format.specs.Widths.{add_widths, text_width, stored_width, width_sum}
 use Rattle.sf_run.specs.Steps.{StepEnd, Passes, Stores, Fails, NumberStored, CountStep, ItemStored, ItemPasses, EmptyItem, ItemEnds, ConversionStep, Step}
 use Rattle.sf_run.specs.Runs.{Ran, RunReport, GoesOn, Steps, value_stored, values}
-use Rattle.sf_run.specs.declared.outcome.Ending.{Ending}
+use Rattle.sf_run.specs.outcome.Ending.{Ending}
 use Rattle.sf_run.specs.Limits.{IsCut, RunWithin, RunTold}
 use Rattle.sf_run.specs.Views.{StoredReport}
 use Rattle.sf_pair.specs.Groups.{is_count}

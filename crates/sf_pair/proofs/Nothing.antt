@@ -17,8 +17,8 @@ use Rattle.sf_format.specs.Proper.{IsProperShape, IsProperWidth, IsProper, ArePr
 use Rattle.sf_item.specs.Progress.{Start}
 use Rattle.sf_item.specs.Tests.{read, is_within, shape_begins, can_take}
 use Rattle.sf_print.specs.Printed.{printed}
-use Rattle.sf_run.specs.declared.outcome.Status.TheVariants.{Done, InputFailure}
-use Rattle.sf_run.specs.declared.outcome.Ending.TheVariants.{End}
+use Rattle.sf_run.specs.outcome.Status.TheVariants.{Done, InputFailure}
+use Rattle.sf_run.specs.outcome.Ending.TheVariants.{End}
 use Rattle.sf_run.specs.Steps.{StepEnd, Passes, Stores, Fails}
 use Rattle.sf_run.specs.Runs.{Ran, RunReport, Run, IsOpen, used, status_of, converted, report_of, is_conversion, passed}
 use Rattle.sf_run.specs.Computed.{skip_before, len, item_part, conversion_step, byte_choice, step_of, go_on, ran_of}

@@ -7,7 +7,7 @@ use Rattle.sf_format.specs.declared.unit.Unit.{Unit as PrintUnit}
 use Rattle.sf_format.specs.Units.{AreAccepted}
 use Rattle.sf_format.specs.Proper.{IsAccepted}
 use Rattle.sf_print.specs.Printed.{printed}
-use Rattle.sf_run.specs.declared.outcome.Ending.TheVariants.{End, Fault}
+use Rattle.sf_run.specs.outcome.Ending.TheVariants.{End, Fault}
 use Rattle.sf_run.specs.Runs.{RunReport}
 use Rattle.sf_run.specs.Limits.{RunWithin}
 use Rattle.sf_run.specs.Stopping.{is_memory_status}

@@ -8,7 +8,7 @@ use Rattle.sf_format.specs.declared.unit.Unit.{Unit as PrintUnit}
 use Rattle.sf_format.specs.Units.{IsProperUnit, AreProperUnits, AreAccepted, values_of}
 use Rattle.sf_format.specs.Proper.{AreProper, IsAccepted}
 use Rattle.sf_print.specs.Printed.{printed}
-use Rattle.sf_run.specs.declared.outcome.Status.TheVariants.{Done}
+use Rattle.sf_run.specs.outcome.Status.TheVariants.{Done}
 use Rattle.sf_run.specs.Steps.{StepEnd, Passes, Stores, Fails}
 use Rattle.sf_run.specs.Runs.{RunReport, Uses, used, IsOpen, is_conversion}
 use Rattle.sf_run.specs.Residual.{Tally, nothing_yet, with_used, counted, out_of, then_on, run_of}

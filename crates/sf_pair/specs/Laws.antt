@@ -11,9 +11,9 @@ use Rattle.sf_format.specs.Units.{AreAccepted, values_of}
 use Rattle.sf_format.specs.Proper.{IsAccepted, destinations_of}
 use Rattle.sf_base.specs.Kept.{texts_in}
 use Rattle.sf_print.specs.Printed.{value_at, printed}
-use Rattle.sf_run.specs.declared.outcome.Ending.{Ending}
-use Rattle.sf_run.specs.declared.outcome.Ending.TheVariants.{End}
-use Rattle.sf_run.specs.declared.outcome.Status.TheVariants.{Done, InputFailure}
+use Rattle.sf_run.specs.outcome.Ending.{Ending}
+use Rattle.sf_run.specs.outcome.Ending.TheVariants.{End}
+use Rattle.sf_run.specs.outcome.Status.TheVariants.{Done, InputFailure}
 use Rattle.sf_run.specs.Runs.{RunReport, Run, is_conversion}
 use Rattle.sf_run.specs.Limits.{RunWithin, RunTold}
 use Rattle.sf_run.specs.Rows.{AreRowOf}

@@ -6,7 +6,7 @@ use Rattle.sf_format.specs.declared.directive.Shape.TheVariants.{Int, Text, Set,
 use Rattle.sf_format.specs.declared.directive.Conversion.{Conversion}
 use Rattle.sf_format.specs.declared.directive.Directive.{Directive}
 use Rattle.sf_format.specs.declared.directive.Directive.TheVariants.{Space, Byte, Percent, Conv}
-use Rattle.sf_run.specs.declared.outcome.Ending.{Ending}
+use Rattle.sf_run.specs.outcome.Ending.{Ending}
 use Rattle.sf_run.specs.Steps.{StepEnd, Passes, Stores, Fails, Step, ByteStep, ItemStep, ConversionStep, IsSkipBefore}
 use Rattle.sf_run.specs.Runs.{Ran, RunReport, GoesOn, Steps, used}
 use Rattle.sf_run.specs.Limits.{IsCut, RunWithin}

@@ -3,9 +3,9 @@ use Rattle.std.proofs.Common.{◌≡◌, ◌<◌, ◌≤◌, inl, inr, Bool, tru
 use Rattle.std.specs.Prelude.{IsSome}
 use Rattle.std.proofs.Math.Nat.{lt_of_not-le}
 use Rattle.sf_format.specs.declared.directive.Directive.{Directive}
-use Rattle.sf_run.specs.declared.outcome.Ending.{Ending}
-use Rattle.sf_run.specs.declared.outcome.FeedState.{FeedState}
-use Rattle.sf_run.specs.declared.outcome.FeedState.TheVariants as feed
+use Rattle.sf_run.specs.outcome.Ending.{Ending}
+use Rattle.sf_run.specs.declared.feeding.FeedState.{FeedState}
+use Rattle.sf_run.specs.declared.feeding.FeedState.TheVariants as feed
 use Rattle.sf_run.specs.Runs.{RunReport}
 use Rattle.sf_run.specs.Limits.{RunTold, RunWithin}
 use Rattle.sf_run.specs.Standing.{Standing, After, Gives, ran_out}

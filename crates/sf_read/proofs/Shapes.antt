@@ -17,9 +17,9 @@ use Rattle.sf_format.specs.Proper.{AreKinded, HasItsKind, IsKinded, destination_
 use Rattle.sf_format.specs.Slots.{AreSlots, Slotted, kind_with}
 use Rattle.sf_format.proofs.Outcomes.{by_test}
 use Rattle.sf_format.proofs.SlotLookups.{kinds_are}
-use Rattle.sf_run.specs.declared.outcome.Ending.{Ending}
-use Rattle.sf_run.specs.declared.outcome.Status.{Status}
-use Rattle.sf_run.specs.declared.outcome.Status.TheVariants.{Done, InputFailure, MatchingFailure, OutOfRange, TooLong, NoMemory}
+use Rattle.sf_run.specs.outcome.Ending.{Ending}
+use Rattle.sf_run.specs.outcome.Status.{Status}
+use Rattle.sf_run.specs.outcome.Status.TheVariants.{Done, InputFailure, MatchingFailure, OutOfRange, TooLong, NoMemory}
 use Rattle.sf_run.specs.Limits.{RunTold}
 use Rattle.sf_run.specs.Rows.{AreGiven, at_slot, kind_of}
 use Rattle.sf_run.specs.Runs.{GoesOn, Ran, RunReport, Steps, status_of, values}

@@ -6,9 +6,9 @@ use Rattle.sf_base.specs.Data.{Datum, Assigned, datum_at}
 use Rattle.sf_format.specs.declared.directive.Directive.{Directive}
 use Rattle.sf_format.specs.Proper.{destinations_of, kind_at}
 use Rattle.sf_format.specs.Widths.{width_sum}
-use Rattle.sf_run.specs.declared.outcome.Ending.{Ending}
-use Rattle.sf_run.specs.declared.outcome.Ending.TheVariants.{End}
-use Rattle.sf_run.specs.declared.outcome.Status.TheVariants.{Done}
+use Rattle.sf_run.specs.outcome.Ending.{Ending}
+use Rattle.sf_run.specs.outcome.Ending.TheVariants.{End}
+use Rattle.sf_run.specs.outcome.Status.TheVariants.{Done}
 use Rattle.sf_run.specs.Limits.{RunTold}
 use Rattle.sf_run.specs.Rows.{at_slot, kind_of, AreRowOf}
 use Rattle.sf_run.specs.Runs.{RunReport}

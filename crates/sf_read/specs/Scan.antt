@@ -1,8 +1,8 @@
 -- What a scan of an input gives, and what it leaves (C11 7.21.6.2p4, p9, p16).
 use Rattle.std.specs.Prelude.{◌≡◌, ◌≤◌, ◌++◌, ◌⊎◌, ℕ, List, [], length, take, drop, Bool, true, false, Option, Some, None}
 use Rattle.sf_format.specs.declared.directive.Directive.{Directive}
-use Rattle.sf_run.specs.declared.outcome.Ending.{Ending}
-use Rattle.sf_run.specs.declared.outcome.Ending.TheVariants.{End, Fault}
+use Rattle.sf_run.specs.outcome.Ending.{Ending}
+use Rattle.sf_run.specs.outcome.Ending.TheVariants.{End, Fault}
 use Rattle.sf_run.specs.Runs.{RunReport, IsOpen}
 use Rattle.sf_run.specs.Limits.{RunWithin, RunTold}
 use Rattle.sf_read.specs.Ahead.{Ahead, input_of}

@@ -1,7 +1,7 @@
 //! Rows of what a source gives.
 ghost use Rattle.std.specs.Prelude.{◌≡◌, ◌≤◌, ◌<◌, ◌+◌, ◌⊎◌, ◌↔◌, ℕ, true, false, IsErrOf};
 ghost use Rattle.sf_format.specs.Proper.{AreKinded};
-ghost use Rattle.sf_run.specs.declared.outcome.Status.TheVariants.{Done};
+ghost use Rattle.sf_run.specs.outcome.Status.TheVariants.{Done};
 ghost use Rattle.sf_run.specs.Rows.{AreGiven};
 ghost use Rattle.sf_read.specs.RowScans.{Answers, HasShape, RowScan, is_run};
 

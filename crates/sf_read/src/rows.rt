@@ -2,7 +2,7 @@
 ghost use Rattle.std.specs.Prelude.{◌≡◌, ◌≤◌, List, length, map, IfOk};
 ghost use Rattle.sf_base.specs.declared.values.Kind.{Kind};
 ghost use Rattle.sf_base.specs.Data.{Datum, datum_of};
-ghost use Rattle.sf_run.specs.declared.outcome.Status.TheVariants.{Done};
+ghost use Rattle.sf_run.specs.outcome.Status.TheVariants.{Done};
 ghost use Rattle.sf_run.specs.Rows.{at_slot, AreGiven, AreRowOf};
 
 use arrayvec::ArrayVec;

@@ -4,7 +4,7 @@ ghost use Rattle.sf_base.specs.Kept.{buffer_of};
 ghost use Rattle.sf_format.specs.declared.directive.Directive.{Directive};
 ghost use Rattle.sf_format.specs.Proper.{destinations_of};
 ghost use Rattle.sf_format.specs.Widths.{width_sum};
-ghost use Rattle.sf_run.specs.declared.outcome.Status.TheVariants as status;
+ghost use Rattle.sf_run.specs.outcome.Status.TheVariants as status;
 ghost use Rattle.sf_run.specs.Limits.{RunTold};
 ghost use Rattle.sf_run.specs.Memory.{HoldsValues, capacity_of};
 ghost use Rattle.sf_run.specs.Quick.{IsDoneWithin};

@@ -11,9 +11,9 @@ use Rattle.sf_format.specs.Slots.{slots_from}
 use Rattle.sf_pair.specs.Fits.{Fit, FitsIsFit, fits}
 use Rattle.sf_pair.specs.Laws.{AlignedEndsOnNothing, AlignedSlotsAgree, PrintsSome, RoundTrip, read_back}
 use Rattle.sf_print.specs.Printed.{most_bytes, printed}
-use Rattle.sf_run.specs.declared.outcome.Ending.{Ending}
-use Rattle.sf_run.specs.declared.outcome.Ending.TheVariants.{End}
-use Rattle.sf_run.specs.declared.outcome.Status.TheVariants.{Done}
+use Rattle.sf_run.specs.outcome.Ending.{Ending}
+use Rattle.sf_run.specs.outcome.Ending.TheVariants.{End}
+use Rattle.sf_run.specs.outcome.Status.TheVariants.{Done}
 use Rattle.sf_run.specs.Rows.{AreRowOf}
 use Rattle.sf_run.specs.Runs.{RunReport}
 use Rattle.sf_run.specs.Limits.{RunWithin}

@@ -3,7 +3,7 @@ use Rattle.std.proofs.Common.{◌≡◌, ℕ, zero, suc, ◌+◌, ◌-◌, ◌<�
 use Rattle.std.proofs.lemmas.Grind.{flat_map-append}
 use Rattle.sf_format.specs.declared.directive.Directive.{Directive}
 use Rattle.sf_format.specs.Proper.{AreProper}
-use Rattle.sf_run.specs.declared.outcome.Ending.{Ending}
+use Rattle.sf_run.specs.outcome.Ending.{Ending}
 use Rattle.sf_run.specs.Runs.{RunReport}
 use Rattle.sf_run.specs.Limits.{RunWithin}
 use Rattle.sf_run.specs.Laws.{EachHasOneReport}

@@ -9,9 +9,9 @@ use Rattle.sf_format.specs.Units.{AreAccepted}
 use Rattle.sf_pair.specs.Fits.{Fit}
 use Rattle.sf_pair.specs.Groups.{IsAligned}
 use Rattle.sf_print.specs.Printed.{most_bytes, printed}
-use Rattle.sf_run.specs.declared.outcome.Ending.{Ending}
-use Rattle.sf_run.specs.declared.outcome.Ending.TheVariants.{End}
-use Rattle.sf_run.specs.declared.outcome.Status.TheVariants.{Done}
+use Rattle.sf_run.specs.outcome.Ending.{Ending}
+use Rattle.sf_run.specs.outcome.Ending.TheVariants.{End}
+use Rattle.sf_run.specs.outcome.Status.TheVariants.{Done}
 use Rattle.sf_run.specs.Rows.{AreRowOf}
 use Rattle.sf_run.specs.Runs.{RunReport}
 use Rattle.sf_records.specs.declared.end.ToolEnd.{ToolEnd}

@@ -2,7 +2,7 @@
 use Rattle.std.specs.Prelude.{◌≡◌, ℕ, List}
 use Rattle.sf_format.specs.declared.directive.Directive.{Directive}
 use Rattle.sf_format.specs.Proper.{AreProper}
-use Rattle.sf_run.specs.declared.outcome.Ending.{Ending}
+use Rattle.sf_run.specs.outcome.Ending.{Ending}
 use Rattle.sf_records.specs.declared.end.ToolEnd.{ToolEnd}
 use Rattle.sf_records.specs.Works.{Work}
 use Rattle.sf_records.specs.Records.{EndsWith}

@@ -5,7 +5,7 @@ ghost use Rattle.sf_format.specs.Proper.{AreProper};
 ghost use Rattle.sf_print.specs.Sinks.{counted_on};
 ghost use Rattle.sf_read.specs.Ahead.{input_of};
 ghost use Rattle.sf_records.specs.Judging.{Judges, fault_by, fault_of, is_write};
-ghost use Rattle.sf_run.specs.declared.outcome.Status.TheVariants as Status;
+ghost use Rattle.sf_run.specs.outcome.Status.TheVariants as Status;
 ghost use Rattle.sf_records.specs.Records.{Loops, end_by, ended, status_by};
 ghost use Rattle.sf_records.specs.Works.{turn_in};
 

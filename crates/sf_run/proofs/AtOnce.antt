@@ -10,27 +10,27 @@ use Rattle.sf_format.specs.Proper.{AreProper, IsProper, destinations_of, slots_o
 use Rattle.sf_format.specs.Slots.{Slotted}
 use Rattle.sf_run.specs.declared.directive.Finished.{Finished}
 use Rattle.sf_run.specs.declared.directive.Ended.{Ended}
-use Rattle.sf_run.specs.declared.outcome.Ending.{Ending}
-use Rattle.sf_run.specs.declared.outcome.Status.TheVariants.{Done}
+use Rattle.sf_report.specs.declared.outcome.Ending.{Ending}
+use Rattle.sf_report.specs.declared.outcome.Status.TheVariants.{Done}
 use Rattle.sf_run.specs.declared.quick.Strays.{Strays}
 use Rattle.sf_run.specs.declared.tally.Tally as code
 use Rattle.sf_run.specs.Holding.{are_apart, are_placed}
-use Rattle.sf_run.specs.Limits.{RunWithin, TellsWithin}
-use Rattle.sf_run.specs.Machine.{Skipping}
+use Rattle.sf_report.specs.Limits.{RunWithin, TellsWithin}
+use Rattle.sf_report.specs.Machine.{Skipping}
 use Rattle.sf_run.specs.Phases.{end_of, is_failing, slot_given}
 use Rattle.sf_run.specs.Pieces.{EndsAtOnce}
 use Rattle.sf_run.specs.Places.{is_destination, places_left}
 use Rattle.sf_run.specs.Quick.{GivesTo, IsSure, MayBeGiven, PassesBy, PassesWithin, slot_stored, strayed, text_stored}
-use Rattle.sf_run.specs.Residual.{Tally, counted, nothing_yet, one_from, out_of, run_of, with_used}
-use Rattle.sf_run.specs.Runs.{IsOpen, RunReport, is_conversion, passed, stored}
-use Rattle.sf_run.specs.Steps.{StepEnd, Stores}
+use Rattle.sf_report.specs.Residual.{Tally, counted, nothing_yet, one_from, out_of, run_of, with_used}
+use Rattle.sf_report.specs.Runs.{IsOpen, RunReport, is_conversion, passed, stored}
+use Rattle.sf_report.specs.Steps.{StepEnd, Stores}
 use Rattle.sf_run.specs.Tallies.{PassesSo, tally_of, values_with}
 use Rattle.sf_run.specs.Texts.{slot_of, slots_in}
 use Rattle.sf_run.proofs.Moves.{drop_at, place_taken}
-use Rattle.sf_run.proofs.Openness.{within_limit}
+use Rattle.sf_report.proofs.Openness.{within_limit}
 use Rattle.sf_run.proofs.Slots.{joined_text, slot_free, slot_placed, slots_more, slots_none}
-use Rattle.sf_run.proofs.Told.{told_exists, uses_is, within_met}
-use Rattle.sf_run.proofs.Waits.{open_all}
+use Rattle.sf_report.proofs.Told.{told_exists, uses_is, within_met}
+use Rattle.sf_report.proofs.Inputs.{open_all}
 
 -- ---- one directive
 

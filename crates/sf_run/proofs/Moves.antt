@@ -13,23 +13,23 @@ use Rattle.sf_run.specs.declared.directive.Finished.{Finished}
 use Rattle.sf_run.specs.declared.directive.Phase.{Phase}
 use Rattle.sf_run.specs.declared.directive.Phase.TheVariants as phase
 use Rattle.sf_run.specs.declared.directive.Run.{Run}
-use Rattle.sf_run.specs.declared.outcome.Status.{Status}
-use Rattle.sf_run.specs.declared.outcome.Status.TheVariants.{Done, TooLong}
+use Rattle.sf_report.specs.declared.outcome.Status.{Status}
+use Rattle.sf_report.specs.declared.outcome.Status.TheVariants.{Done, TooLong}
 use Rattle.sf_run.specs.declared.scanner.Stop.{Stop}
-use Rattle.sf_run.specs.Steps.{StepEnd, Passes, Stores, Fails}
-use Rattle.sf_run.specs.Runs.{RunReport}
-use Rattle.sf_run.specs.Machine.{Stage, Skipping, stepped, finished}
+use Rattle.sf_report.specs.Steps.{StepEnd, Passes, Stores, Fails}
+use Rattle.sf_report.specs.Runs.{RunReport}
+use Rattle.sf_report.specs.Machine.{Stage, Skipping, stepped, finished}
 use Rattle.sf_run.specs.Phases.{Shows, GrowsBy, Brings, end_of, slot_in}
 use Rattle.sf_run.specs.Pieces.{IsEnd, item_of}
 use Rattle.sf_run.specs.Places.{is_destination, places_left}
-use Rattle.sf_run.specs.Residual.{Tally, stepped_all, one_from, with_used, counted, out_of, by_end, run_of, run_from}
+use Rattle.sf_report.specs.Residual.{Tally, stepped_all, one_from, with_used, counted, out_of, by_end, run_of, run_from}
 use Rattle.sf_run.specs.Stopping.{is_no_memory}
 use Rattle.sf_run.specs.Standing.{Standing, ShowsFirst, DoesBy, Does, Ends, Follows, Keeps, Stops, TakesAll, Refuses, RefusesIn, RunsOut}
 use Rattle.sf_run.specs.Standing.{Passes as Passed}
 use Rattle.sf_run.specs.Texts.{IsNextSlot, StoresByte, text_slot, opened_for, opened_with}
-use Rattle.sf_run.proofs.Openness.{counted-used}
-use Rattle.sf_run.proofs.Machines.{grows}
-use Rattle.sf_run.proofs.Brought.{one_from-all}
+use Rattle.sf_report.proofs.Openness.{counted-used}
+use Rattle.sf_report.proofs.Machines.{grows}
+use Rattle.sf_report.proofs.Joined.{one_from-all}
 use Rattle.sf_run.proofs.Pieces.{parted, same_part}
 
 -- ---- the directive at a place

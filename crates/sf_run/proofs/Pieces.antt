@@ -26,17 +26,18 @@ use Rattle.sf_run.specs.declared.directive.Finished.TheVariants as finish
 use Rattle.sf_run.specs.declared.directive.Phase.{Phase}
 use Rattle.sf_run.specs.declared.directive.Phase.TheVariants as phase
 use Rattle.sf_run.specs.declared.directive.Run.{Run}
-use Rattle.sf_run.specs.declared.outcome.Status.TheVariants.{MatchingFailure}
-use Rattle.sf_run.specs.Steps.{StepEnd}
-use Rattle.sf_run.specs.Machine.{Stage, Skipping, Item, shape_skips, count_end, item_end, stepped, is_full}
+use Rattle.sf_report.specs.declared.outcome.Status.TheVariants.{MatchingFailure}
+use Rattle.sf_report.specs.Steps.{StepEnd}
+use Rattle.sf_report.specs.Machine.{Stage, Skipping, Item, shape_skips, count_end, item_end, stepped, is_full}
 use Rattle.sf_run.specs.Phases.{CanAll, GrowsBy, Shows, ShowsItem, end_of, passed_number, slot_in}
 use Rattle.sf_run.specs.Pieces.{Answers, AnswersBy, EndsAt, EndsAtOnce, EndsIn, IsEnd, IsEndIn, IsEndOf, IsWhole, StaysAt, Suits, item_of, run_of}
 use Rattle.sf_run.specs.Quick.{IsSure}
-use Rattle.sf_run.specs.Residual.{Part, one_from, stepped_all}
+use Rattle.sf_report.specs.Residual.{Part, one_from, stepped_all}
 use Rattle.sf_run.specs.Texts.{StoresByte, counts_bytes, is_count, text_slot, slot_of_text}
-use Rattle.sf_run.proofs.Brought.{item_skips, all-append, can_all, first_all, item_all, one_from-all, skips_all, take-take}
-use Rattle.sf_run.proofs.Items.{can_take_prefix}
-use Rattle.sf_run.proofs.Machines.{full_refuses, grows}
+use Rattle.sf_report.proofs.Joined.{all-append, one_from-all}
+use Rattle.sf_run.proofs.Brought.{item_skips, can_all, first_all, item_all, skips_all, take-take}
+use Rattle.sf_report.proofs.Items.{can_take_prefix}
+use Rattle.sf_report.proofs.Machines.{full_refuses, grows}
 use Rattle.sf_run.proofs.Stages.{count_finished, integer_ends, other_finished, skipping_full, suppressed_end, taken_full, text_end}
 
 -- ---- bytes of a piece

@@ -7,24 +7,24 @@ use Rattle.sf_format.specs.declared.directive.Shape.{Shape}
 use Rattle.sf_format.specs.declared.directive.Shape.TheVariants.{Int, Text, Set, Chars, Count}
 use Rattle.sf_format.specs.declared.directive.Directive.{Directive}
 use Rattle.sf_format.specs.Proper.{AreProper}
-use Rattle.sf_run.specs.declared.outcome.Ending.{Ending}
-use Rattle.sf_run.specs.declared.outcome.Status.{Status}
-use Rattle.sf_run.specs.declared.outcome.Status.TheVariants.{Done, TooLong, NoMemory}
+use Rattle.sf_report.specs.declared.outcome.Ending.{Ending}
+use Rattle.sf_report.specs.declared.outcome.Status.{Status}
+use Rattle.sf_report.specs.declared.outcome.Status.TheVariants.{Done, TooLong, NoMemory}
 use Rattle.sf_run.specs.declared.scanner.Stop.{Stop}
-use Rattle.sf_run.specs.Steps.{StepEnd, Passes, Stores, Fails}
-use Rattle.sf_run.specs.Runs.{Ran, GoesOn, Steps, RunReport, report_of, used}
-use Rattle.sf_run.specs.Limits.{IsCut, TellsWithin, RunRefused}
-use Rattle.sf_run.specs.Limits.{Stores as StoresAt, StoresShape}
-use Rattle.sf_run.specs.Machine.{Stage, stepped, finished}
-use Rattle.sf_run.specs.Residual.{Tally, nothing_yet, out_of, by_end, one_from, run_of}
+use Rattle.sf_report.specs.Steps.{StepEnd, Passes, Stores, Fails}
+use Rattle.sf_report.specs.Runs.{Ran, GoesOn, Steps, RunReport, report_of, used}
+use Rattle.sf_report.specs.Limits.{IsCut, TellsWithin, RunRefused}
+use Rattle.sf_report.specs.Limits.{Stores as StoresAt, StoresShape}
+use Rattle.sf_report.specs.Machine.{Stage, stepped, finished}
+use Rattle.sf_report.specs.Residual.{Tally, nothing_yet, out_of, by_end, one_from, run_of}
 use Rattle.sf_run.specs.Standing.{Standing, Keeps, After, Does, Gives, Refuses, RefusesIn, ran_out, report_by}
 use Rattle.sf_run.specs.Stopping.{is_memory_status, is_no_memory}
 use Rattle.sf_run.specs.Texts.{IsInText, StoresByte, slot_of_text}
-use Rattle.sf_run.specs.Computed.{skip}
-use Rattle.sf_run.proofs.Skips.{skip_is, one_more-le}
-use Rattle.sf_run.proofs.Machines.{some_is, by_option}
-use Rattle.sf_run.proofs.Openness.{run_not_too_long}
-use Rattle.sf_run.proofs.Told.{run_told}
+use Rattle.sf_report.specs.Computed.{skip}
+use Rattle.sf_report.proofs.Skips.{skip_is, one_more-le}
+use Rattle.sf_report.proofs.Machines.{some_is, by_option}
+use Rattle.sf_report.proofs.Openness.{run_not_too_long}
+use Rattle.sf_report.proofs.Told.{run_told}
 use Rattle.sf_run.proofs.Waits.{cut_here}
 
 -- ---- no run by the definitions stops for want of memory, and no directive fails as Done

@@ -1,5 +1,5 @@
 -- The slots of a format and those of a store.
-use Rattle.sf_run.proofs.Machines.{some_is}
+use Rattle.sf_report.proofs.Machines.{some_is}
 use Rattle.std.proofs.lemmas.Bool.{and_from, and_parts, or_from}
 use Rattle.std.proofs.lemmas.Grind.{common_steps}
 use Rattle.std.proofs.Common.{◌≡◌, ℕ, zero, suc, ◌+◌, ◌≤◌, Bool, true, false, not, ◌&&◌, nat_eq, nat_le, List, [], ◌∷◌, ◌++◌, length, take, drop, Option, Some, None, is_some, refl, sym, ap, subst, ◌∙◌, arith, unwrap_or, append-nil, length-append}
@@ -11,7 +11,7 @@ use Rattle.std.proofs.lemmas.List.{map-append}
 use Rattle.std.proofs.lemmas.List.Sums.{sum_by-cons}
 use Rattle.sf_base.specs.Data.{Datum, Bytes, Assigned, datum_at, datum_of_number}
 use Rattle.sf_base.specs.Kept.{Kept, assigned, with_closed, Opened, text_of, text_in, texts_in, values_closed}
-use Rattle.sf_run.specs.Memory.{capacity_of}
+use Rattle.sf_report.specs.Memory.{capacity_of}
 use Rattle.sf_base.specs.declared.number.Number.{Number}
 use Rattle.sf_format.specs.declared.directive.Conversion.{Conversion}
 use Rattle.sf_format.specs.declared.directive.Directive.{Directive}

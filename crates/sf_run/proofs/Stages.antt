@@ -20,12 +20,12 @@ use Rattle.sf_item.specs.declared.item.ItemScan.{ItemScan}
 use Rattle.sf_item.specs.declared.item.ItemEnd.{ItemEnd}
 use Rattle.sf_item.specs.declared.item.ItemEnd.TheVariants as ends
 use Rattle.sf_item.proofs.Deciding.{Tests, tests_same, tests_can_take, tests_matches, integer_at_is}
-use Rattle.sf_run.specs.declared.outcome.Status.TheVariants.{MatchingFailure}
-use Rattle.sf_run.specs.Steps.{Passes, Stores, Fails}
+use Rattle.sf_report.specs.declared.outcome.Status.TheVariants.{MatchingFailure}
+use Rattle.sf_report.specs.Steps.{Passes, Stores, Fails}
 use Rattle.sf_run.specs.Texts.{text_slot, is_count, counts_bytes}
-use Rattle.sf_run.specs.Machine.{Stage, Skipping, Taken, Item, stepped, is_full, count_end, integer_end, stored_end, passed_end, item_end, item_finished, conversion_finished}
+use Rattle.sf_report.specs.Machine.{Stage, Skipping, Taken, Item, stepped, is_full, count_end, integer_end, stored_end, passed_end, item_end, item_finished, conversion_finished}
 use Rattle.sf_run.specs.Phases.{ShowsItem, passed_number}
-use Rattle.sf_run.proofs.Machines.{can_take_one, not_full, full_of_none, item_not_full}
+use Rattle.sf_report.proofs.Machines.{can_take_one, not_full, full_of_none, item_not_full}
 
 -- ---- a byte more
 

@@ -5,22 +5,22 @@ use Rattle.std.proofs.lemmas.List.{append-nil, take-append-drop}
 use Rattle.sf_base.specs.Kept.{Kept, texts_in, text_of, Opened, buffer_of}
 use Rattle.sf_format.specs.declared.directive.Directive.{Directive}
 use Rattle.sf_format.specs.Proper.{AreProper}
-use Rattle.sf_run.specs.declared.outcome.Status.TheVariants.{Done}
+use Rattle.sf_report.specs.declared.outcome.Status.TheVariants.{Done}
 use Rattle.sf_run.specs.declared.quick.Strays.{Strays}
 use Rattle.sf_run.specs.declared.tally.Tally as code
-use Rattle.sf_run.specs.Machine.{Skipping}
-use Rattle.sf_run.specs.Memory.{capacity_of}
+use Rattle.sf_report.specs.Machine.{Skipping}
+use Rattle.sf_report.specs.Memory.{capacity_of}
 use Rattle.sf_run.specs.Quick.{IsDoneWithin, IsSure, text_stored}
-use Rattle.sf_run.specs.Residual.{Part, Tally, by_end, counted, nothing_yet, one_from, out_of, run_of, with_used}
-use Rattle.sf_run.specs.Runs.{RunReport, passed}
-use Rattle.sf_run.specs.Steps.{StepEnd}
+use Rattle.sf_report.specs.Residual.{Part, Tally, by_end, counted, nothing_yet, one_from, out_of, run_of, with_used}
+use Rattle.sf_report.specs.Runs.{RunReport, passed}
+use Rattle.sf_report.specs.Steps.{StepEnd}
 use Rattle.sf_run.specs.Tallies.{tally_of}
 use Rattle.sf_run.proofs.AtOnce.{Counted, Going}
 use Rattle.sf_run.proofs.Moves.{drop_at}
-use Rattle.sf_run.proofs.Openness.{counted-used, uses_more}
+use Rattle.sf_report.proofs.Openness.{counted-used, uses_more}
 use Rattle.sf_run.proofs.Refusals.{never_done}
 use Rattle.sf_run.proofs.Slots.{texts-push}
-use Rattle.sf_run.proofs.Told.{run_told}
+use Rattle.sf_report.proofs.Told.{run_told}
 
 -- ---- the texts of a run
 

@@ -1,16 +1,16 @@
 -- Scanners over two stores report alike.
-use Rattle.sf_run.proofs.Machines.{some_is}
+use Rattle.sf_report.proofs.Machines.{some_is}
 use Rattle.std.proofs.Common.{◌≡◌, ℕ, inl, inr, false, List, Option, Some, None, sym, ap, ◌∙◌, true≢false}
 use Rattle.sf_format.specs.declared.directive.Directive.{Directive}
-use Rattle.sf_run.specs.declared.outcome.Ending.{Ending}
+use Rattle.sf_report.specs.declared.outcome.Ending.{Ending}
 use Rattle.sf_run.specs.declared.scanner.Stop.{Stop}
 use Rattle.sf_run.specs.Laws.{EachStoreReportsAlike}
-use Rattle.sf_run.specs.Limits.{RunTold, RunWithin}
-use Rattle.sf_run.specs.Residual.{Tally}
-use Rattle.sf_run.specs.Runs.{RunReport}
+use Rattle.sf_report.specs.Limits.{RunTold, RunWithin}
+use Rattle.sf_report.specs.Residual.{Tally}
+use Rattle.sf_report.specs.Runs.{RunReport}
 use Rattle.sf_run.specs.Standing.{report_by}
 use Rattle.sf_run.specs.Stopping.{is_memory_status, is_no_memory}
-use Rattle.sf_run.proofs.Told.{one_report}
+use Rattle.sf_report.proofs.Told.{one_report}
 
 same_status : (o : Option Stop) (t : Tally) (met : Option Ending) (r : RunReport) → report_by o t met ≡ Some r → is_memory_status r.status ≡ is_no_memory o
 same_status None t met r e = cc

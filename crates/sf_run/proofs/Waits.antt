@@ -10,47 +10,34 @@ use Rattle.sf_item.specs.declared.item.ItemScan.{ItemScan}
 use Rattle.sf_item.specs.Taking.{conversion_of}
 use Rattle.sf_run.specs.declared.directive.Phase.{Phase}
 use Rattle.sf_run.specs.declared.directive.Phase.TheVariants as phase
-use Rattle.sf_run.specs.declared.outcome.Ending.{Ending}
-use Rattle.sf_run.specs.declared.outcome.Status.TheVariants.{TooLong}
+use Rattle.sf_report.specs.declared.outcome.Ending.{Ending}
+use Rattle.sf_report.specs.declared.outcome.Status.TheVariants.{TooLong}
 use Rattle.sf_run.specs.declared.scanner.Stop.{Stop}
-use Rattle.sf_run.specs.Runs.{RunReport, IsOpen}
-use Rattle.sf_run.specs.Limits.{RunWithin, TellsWithin, cut_report}
-use Rattle.sf_run.specs.Machine.{Stage, Skipping, Item, stepped, is_full}
+use Rattle.sf_report.specs.Runs.{RunReport, IsOpen}
+use Rattle.sf_report.specs.Limits.{RunWithin, TellsWithin, cut_report}
+use Rattle.sf_report.specs.Machine.{Stage, Skipping, Item, stepped, is_full}
 use Rattle.sf_run.specs.Phases.{ShowsItem, Shows}
-use Rattle.sf_run.specs.Residual.{Tally, nothing_yet, with_used, out_of, run_of}
+use Rattle.sf_report.specs.Residual.{Tally, nothing_yet, with_used, out_of, run_of}
 use Rattle.sf_run.specs.Standing.{Standing, ShowsFirst, DoesBy, Does, Follows, Waits, IsSettled, Keeps, After, HasCome, report_by, report_of, Gives}
 use Rattle.sf_base.specs.Data.{Assigned}
 use Rattle.sf_run.specs.declared.tally.Tally as code
 use Rattle.sf_run.specs.Tallies.{tally_of}
 use Rattle.sf_run.specs.Texts.{text_slot, opened_for}
-use Rattle.sf_run.specs.Limits.{RunTold}
+use Rattle.sf_report.specs.Limits.{RunTold}
 use Rattle.sf_base.specs.Kept.{Opened}
-use Rattle.sf_run.proofs.Machines.{some_is, can_take_one, item_byte, item_byte-below, item_takes}
+use Rattle.sf_report.proofs.Inputs.{open_all}
+use Rattle.sf_report.proofs.Machines.{some_is, can_take_one, item_byte, item_byte-below, item_takes}
 use Rattle.sf_run.proofs.Moves.{drop_at, proper_at, ended_does, waiting, byte_took, byte_past}
-use Rattle.sf_run.proofs.Openness.{OpenAt, open_or_closed, uses_within, within_limit, run_not_too_long, over_is_too_long, rest_uses_nothing}
-use Rattle.sf_run.proofs.Told.{run_told, told_exists, told_is, uses_is, uses_from, within_met, met_within}
+use Rattle.sf_report.proofs.Openness.{uses_within, within_limit, run_not_too_long, over_is_too_long, rest_uses_nothing}
+use Rattle.sf_report.proofs.Told.{run_told, told_exists, told_is, uses_is, uses_from, within_met, met_within}
 
--- ---- laws of open inputs
+-- ---- the runs of what a scanner was given
 
 abbrev full : List Directive → List ℕ → RunReport
 full ds x = run_of None ds 1 nothing_yet x
 
 abbrev cut : ℕ → List Directive → List ℕ → RunReport
 cut k ds x = run_of (Some k) ds 1 nothing_yet x
-
-pub open_of : (ds : List Directive) → AreProper ds → (x : List ℕ) → OpenAt ds 1 nothing_yet x → IsOpen ds x
-open_of ds proper x w = (w.next, w.is_byte, uses_from ds proper (x ++ w.next ∷ []) (length x + 1) (let e : (full ds (x ++ w.next ∷ [])).used ≡ length x + 1 = omega (arith, w.takes) in e))
-
-pub open_all : (ds : List Directive) → AreProper ds → (x : List ℕ) → IsOpen ds x → (run_of None ds 1 nothing_yet x).used ≡ length x
-open_all ds proper x o = grind (arith, (open_or_closed ds 1 nothing_yet x proper), (uses_is ds proper (x ++ o.0 ∷ []) (length x + 1) o.2), (uses_within ds 1 nothing_yet x))
-
--- what isn't open is told alike however it goes on
-pub closed_same : (ds : List Directive) → AreProper ds → (m : ℕ) (x z : List ℕ) (r : RunReport) → (IsOpen ds x → ⊥) → TellsWithin ds m x r → TellsWithin ds m (x ++ z) r
-closed_same ds proper m x z r closed h =
-    elim (open_or_closed ds 1 nothing_yet x proper) [
-      | inl w ↦ absurd (closed (open_of ds proper x w))
-      | inr w ↦ subst (λ (o : RunReport). TellsWithin ds m (x ++ z) o) (w (Some m) z ∙ sym (told_is ds proper m x r h)) (told_exists ds proper m (x ++ z))
-    ]
 
 -- ---- one byte that is taken, at each stage that the phase shows
 

@@ -10,7 +10,7 @@ use Rattle.sf_item.specs.Taking.{left_of}
 use Rattle.sf_run.specs.declared.directive.Phase.{Phase}
 use Rattle.sf_run.specs.declared.directive.Phase.TheVariants.{Text}
 use Rattle.sf_run.specs.declared.scanner.Stop.{Stop}
-use Rattle.sf_run.specs.Residual.{choose}
+use Rattle.sf_report.specs.Residual.{choose}
 use Rattle.sf_run.specs.Texts.{text_slot}
 
 -- each slot of the directives is one of the store's

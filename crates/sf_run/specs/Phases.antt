@@ -8,9 +8,9 @@ use Rattle.sf_format.specs.declared.directive.Directive.TheVariants.{Conv}
 use Rattle.sf_item.specs.declared.item.ItemScan.{ItemScan}
 use Rattle.sf_item.specs.Taking.{HasTaken, conversion_of}
 use Rattle.sf_item.specs.Tests.{can_take}
-use Rattle.sf_run.specs.Steps.{StepEnd, Passes, Stores, Fails}
-use Rattle.sf_run.specs.Machine.{Stage, Skipping, Taken, Item, number_end}
-use Rattle.sf_run.specs.Residual.{stepped_all}
+use Rattle.sf_report.specs.Steps.{StepEnd, Passes, Stores, Fails}
+use Rattle.sf_report.specs.Machine.{Stage, Skipping, Taken, Item, number_end}
+use Rattle.sf_report.specs.Residual.{stepped_all}
 use Rattle.sf_run.specs.Texts.{text_slot}
 use Rattle.sf_run.specs.Stopping.{is_memory_status}
 use Rattle.sf_run.specs.declared.directive.Phase.{Phase}

@@ -3,15 +3,15 @@ use Rattle.std.specs.Prelude.{◌≡◌, ℕ, ◌+◌, ◌<◌, ◌≤◌, Bool,
 use Rattle.sf_base.specs.Data.{Assigned, datum_at}
 use Rattle.sf_base.specs.Kept.{Kept, text_in, texts_in}
 use Rattle.sf_format.specs.declared.directive.Directive.{Directive}
-use Rattle.sf_run.specs.declared.outcome.Ending.{Ending}
-use Rattle.sf_run.specs.declared.outcome.Status.TheVariants.{Done}
+use Rattle.sf_report.specs.declared.outcome.Ending.{Ending}
+use Rattle.sf_report.specs.declared.outcome.Status.TheVariants.{Done}
 use Rattle.sf_run.specs.declared.quick.Strays.{Strays}
-use Rattle.sf_run.specs.Limits.{RunWithin}
-use Rattle.sf_run.specs.Machine.{Skipping}
+use Rattle.sf_report.specs.Limits.{RunWithin}
+use Rattle.sf_report.specs.Machine.{Skipping}
 use Rattle.sf_run.specs.Pieces.{EndsIn}
-use Rattle.sf_run.specs.Residual.{one_from}
-use Rattle.sf_run.specs.Runs.{RunReport, is_conversion, passed}
-use Rattle.sf_run.specs.Steps.{StepEnd, Stores}
+use Rattle.sf_report.specs.Residual.{one_from}
+use Rattle.sf_report.specs.Runs.{RunReport, is_conversion, passed}
+use Rattle.sf_report.specs.Steps.{StepEnd, Stores}
 use Rattle.sf_run.specs.Tallies.{PassesSo, values_with}
 use Rattle.sf_run.specs.Texts.{slot_of}
 

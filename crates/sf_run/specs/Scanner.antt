@@ -2,7 +2,7 @@
 use Rattle.sf_base.specs.declared.store.Store as store
 use Rattle.sf_base.specs.Kept.{Kept}
 use Rattle.sf_run.specs.declared.scanner.Scanner.{Scanner}
-use Rattle.sf_run.specs.Memory.{capacity_of}
+use Rattle.sf_report.specs.Memory.{capacity_of}
 use Rattle.sf_run.specs.Standing.{Standing}
 use Rattle.sf_run.specs.Tallies.{tally_of}
 

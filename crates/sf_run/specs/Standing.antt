@@ -5,17 +5,17 @@ use Rattle.sf_format.specs.declared.directive.Directive.{Directive}
 use Rattle.sf_format.specs.Proper.{IsProper, AreProper}
 use Rattle.sf_run.specs.declared.directive.Phase.{Phase}
 use Rattle.sf_run.specs.declared.directive.Phase.TheVariants.{Skipping}
-use Rattle.sf_run.specs.declared.outcome.Ending.{Ending}
-use Rattle.sf_run.specs.declared.outcome.Status.TheVariants.{TooLong, NoMemory}
+use Rattle.sf_report.specs.declared.outcome.Ending.{Ending}
+use Rattle.sf_report.specs.declared.outcome.Status.TheVariants.{TooLong, NoMemory}
 use Rattle.sf_run.specs.declared.scanner.Stop.{Stop}
-use Rattle.sf_run.specs.Steps.{StepEnd, Fails}
-use Rattle.sf_run.specs.Runs.{RunReport, Ran, assigned, converted, values}
-use Rattle.sf_run.specs.Limits.{IsCut, RunTold, TellsWithin}
-use Rattle.sf_run.specs.Machine.{Stage, is_full}
+use Rattle.sf_report.specs.Steps.{StepEnd, Fails}
+use Rattle.sf_report.specs.Runs.{RunReport, Ran, assigned, converted, values}
+use Rattle.sf_report.specs.Limits.{IsCut, RunTold, TellsWithin}
+use Rattle.sf_report.specs.Machine.{Stage, is_full}
 use Rattle.sf_run.specs.Phases.{Shows, slot_in}
 use Rattle.sf_run.specs.Stopping.{is_no_memory}
 use Rattle.sf_run.specs.Texts.{StoresByte, text_slot, opened_for}
-use Rattle.sf_run.specs.Residual.{Tally, with_used, counted, out_of, run_from, choose}
+use Rattle.sf_report.specs.Residual.{Tally, with_used, counted, out_of, run_from, choose}
 
 -- the fields of a scanner, with what its store has been given
 pub record Standing : Type 0 where

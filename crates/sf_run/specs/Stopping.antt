@@ -1,7 +1,7 @@
 -- Whether a run was stopped for want of memory.
 use Rattle.std.specs.Prelude.{Bool, true, false, Option, Some, None}
-use Rattle.sf_run.specs.declared.outcome.Status.{Status}
-use Rattle.sf_run.specs.declared.outcome.Status.TheVariants.{NoMemory}
+use Rattle.sf_report.specs.declared.outcome.Status.{Status}
+use Rattle.sf_report.specs.declared.outcome.Status.TheVariants.{NoMemory}
 use Rattle.sf_run.specs.declared.scanner.Stop.{Stop}
 
 -- memory for a text was refused

@@ -2,9 +2,9 @@
 use Rattle.std.specs.Prelude.{◌≡◌, Bool, true, List, [], ◌∷◌, ◌++◌}
 use Rattle.sf_base.specs.Data.{Assigned}
 use Rattle.sf_run.specs.declared.tally.Tally as code
-use Rattle.sf_run.specs.Residual.{Tally}
-use Rattle.sf_run.specs.Runs.{passed, stored}
-use Rattle.sf_run.specs.Steps.{StepEnd, Stores}
+use Rattle.sf_report.specs.Residual.{Tally}
+use Rattle.sf_report.specs.Runs.{passed, stored}
+use Rattle.sf_report.specs.Steps.{StepEnd, Stores}
 
 -- the counts with what the destinations were given
 abbrev pub tally_of : code.Tally → List Assigned → Tally

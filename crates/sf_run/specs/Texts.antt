@@ -8,7 +8,7 @@ use Rattle.sf_format.specs.declared.directive.Shape.{Shape}
 use Rattle.sf_format.specs.declared.directive.Shape.TheVariants.{Int, Text, Set, Chars, Count}
 use Rattle.sf_format.specs.declared.directive.Directive.{Directive}
 use Rattle.sf_format.specs.declared.directive.Directive.TheVariants.{Conv}
-use Rattle.sf_run.specs.Machine.{Stage, Skipping, Taken, Item}
+use Rattle.sf_report.specs.Machine.{Stage, Skipping, Taken, Item}
 
 abbrev pub slot_of_text : Shape → Option ℕ → Option ℕ
 slot_of_text (Int base) slot = None

@@ -12,10 +12,10 @@ ghost use Rattle.sf_format.specs.Proper.{IsProper, IsProperShape};
 ghost use Rattle.sf_item.specs.Scan.{HasLeft};
 ghost use Rattle.sf_item.specs.Taking.{CanTake, HasTaken, conversion_of, left_of};
 ghost use Rattle.sf_item.specs.Wholes.{EndsWithin};
-ghost use Rattle.sf_run.specs.Steps.{StepEnd};
+ghost use Rattle.sf_report.specs.Steps.{StepEnd};
 ghost use Rattle.sf_run.specs.declared.directive.Phase.TheVariants as phase;
 ghost use Rattle.sf_run.specs.declared.directive.Finished.TheVariants as finish;
-ghost use Rattle.sf_run.specs.Machine.{Stage, Skipping, Item, shape_skips, is_full, item_end, item_finished, count_end, finished};
+ghost use Rattle.sf_report.specs.Machine.{Stage, Skipping, Item, shape_skips, is_full, item_end, item_finished, count_end, finished};
 ghost use Rattle.sf_run.specs.Texts.{text_slot, opened_for, slot_of_text, is_count};
 ghost use Rattle.sf_run.specs.Holding.{FallsBy};
 ghost use Rattle.sf_run.specs.Phases.{ShowsItem, Shows, CanAll, IsNumberGiven, end_of, is_failing, is_memory_failure, passed_number, slot_closed, slot_given, slot_in};
@@ -23,10 +23,10 @@ ghost use Rattle.sf_run.specs.Pieces.{Answers, EndsAt, EndsAtOnce, IsEnd, IsEndI
 ghost use Rattle.sf_run.specs.Quick.{IsSure};
 
 use crate::number::number_of;
-use crate::outcome::Status;
 use sf_base::{Kind, Number, is_space, space_run};
 use sf_format::{Base, Conversion, Directive, Shape};
 use sf_item::{ItemEnd, ItemScan, WholeInteger, whole_bytes, whole_decimal, whole_hex};
+use sf_report::Status;
 
 /// How far a directive has come that waits for more.
 #[derive(Clone, Copy)]

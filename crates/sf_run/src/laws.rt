@@ -1,58 +1,12 @@
-//! Laws of the definitions.
-ghost use Rattle.sf_run.specs.Laws.{
-  EachByteIsTried,
-  EachClosedInputStays,
-  EachDoneRunStays,
-  EachHasOneReport,
-  EachMachineSteps,
-  EachOpenInputIsUsed,
-  EachRunIsComputed,
-  EachRunIsTold,
-  EachStepIsComputed,
-  EachStepIsWithin,
-  EachStoreReportsAlike,
+//! Laws of runs and of scanners.
+ghost use Rattle.sf_run.specs.Laws.{EachStoreReportsAlike};
+
+pub use sf_report::laws::{
+    bytes_are_tried, closed_inputs_stay, done_runs_stay, one_report, open_inputs_are_used,
+    runs_are_computed, steps_are_computed,
 };
-
-/// Directives, an input, its ending and a limit have one report, and no other.
-pub fn one_report()
-    ensures { EachHasOneReport }
-{}
-
-/// A run that no byte could go on with has the same report on every longer input.
-pub fn closed_inputs_stay()
-    ensures { EachClosedInputStays }
-{}
-
-/// A run that some byte would go on with has used all of its input.
-pub fn open_inputs_are_used()
-    ensures { EachOpenInputIsUsed }
-{}
-
-/// A run that is Done is Done with the same values on every front of its input that has the bytes which it used, with every
-/// ending.
-pub fn done_runs_stay()
-    ensures { EachDoneRunStays }
-{}
 
 /// Scanners over two stores that refused no storing report the same of the same input.
 pub fn stores_report_alike()
     ensures { EachStoreReportsAlike }
-{}
-
-/// Each directive makes the step that `step_of` computes, and no other; so does its machine, which is handed the input byte by byte.
-pub fn steps_are_computed()
-    ensures step { EachStepIsComputed }
-    ensures within { EachStepIsWithin }
-    ensures machine { EachMachineSteps }
-{}
-
-/// The directives run as `ran_of` computes, and in no other way; `run_of` computes the report of that.
-pub fn runs_are_computed()
-    ensures steps { EachRunIsComputed }
-    ensures report { EachRunIsTold }
-{}
-
-/// Whether some byte below a number passes a test is computed by trying each.
-pub fn bytes_are_tried()
-    ensures { EachByteIsTried }
 {}

@@ -2,15 +2,14 @@
 #![tactic(auto)]
 
 mod directive;
+mod feeding;
 pub mod laws;
 mod number;
-mod outcome;
 mod quick;
-mod report;
 mod scanner;
 mod tally;
 
-pub use outcome::{Ending, Fed, FeedState, Outcome, StartFault, Status};
+pub use feeding::{Fed, FeedState, StartFault};
 pub use quick::quick_run;
-pub use report::{Report, Scanned};
 pub use scanner::{MOST_BYTES, Scanner};
+pub use sf_report::{Ending, Outcome, Report, Scanned, Status};

@@ -2,24 +2,24 @@
 ghost use Rattle.std.specs.Prelude.{◌≡◌, ◌<◌, ◌≤◌, ◌+◌, ◌-◌, ◌^◌, ◌++◌, ℕ, List, length, take, drop, true, None, IfSome, IsNone, IsSome};
 ghost use Rattle.sf_base.specs.Kept.{buffer_of};
 ghost use Rattle.sf_format.specs.Proper.{IsProper};
-ghost use Rattle.sf_run.specs.declared.outcome.Ending.{Ending};
-ghost use Rattle.sf_run.specs.declared.outcome.Status.TheVariants as status;
-ghost use Rattle.sf_run.specs.Limits.{RunWithin};
-ghost use Rattle.sf_run.specs.Memory.{HoldsValues, capacity_of};
+ghost use Rattle.sf_report.specs.declared.outcome.Ending.{Ending};
+ghost use Rattle.sf_report.specs.declared.outcome.Status.TheVariants as status;
+ghost use Rattle.sf_report.specs.Limits.{RunWithin};
+ghost use Rattle.sf_report.specs.Memory.{HoldsValues, capacity_of};
 ghost use Rattle.sf_run.specs.Phases.{IsNumberGiven, end_of, slot_given};
 ghost use Rattle.sf_run.specs.Pieces.{EndsAtOnce};
 ghost use Rattle.sf_run.specs.Quick.{GivesTo, IsDoneWithin, IsSure, MayBeGiven, PassesBy, text_stored};
-ghost use Rattle.sf_run.specs.Runs.{is_conversion, passed};
+ghost use Rattle.sf_report.specs.Runs.{is_conversion, passed};
 ghost use Rattle.sf_run.specs.Texts.{slot_of};
-ghost use Rattle.sf_run.specs.Views.{report_by};
+ghost use Rattle.sf_report.specs.Views.{report_by};
 
 use crate::directive::{
     Ended, Finished, ended_within, is_count, whole_byte, whole_conversion, whole_space,
 };
-use crate::outcome::{Outcome, Status};
 use crate::tally::is_conversion;
 use sf_base::{HeapStore, Number, Store};
 use sf_format::{Directive, ScanFormat};
+use sf_report::{Outcome, Status};
 
 /// The directives that have passed and are counted otherwise than as a conversion that stored something.
 #[derive(Clone, Copy)]

@@ -8,8 +8,8 @@ ghost use Rattle.sf_base.specs.Kept.{buffer_of, longer, with_bytes, nothing_kept
 ghost use Rattle.sf_format.specs.declared.directive.Directive.{Directive};
 ghost use Rattle.sf_format.specs.Proper.{AreProper, IsProper, destinations_of, slots_of};
 ghost use Rattle.sf_format.specs.Widths.{width_sum};
-ghost use Rattle.sf_run.specs.declared.outcome.Ending.{Ending};
-ghost use Rattle.sf_run.specs.declared.outcome.Status.TheVariants as status;
+ghost use Rattle.sf_report.specs.declared.outcome.Ending.{Ending};
+ghost use Rattle.sf_report.specs.declared.outcome.Status.TheVariants as status;
 ghost use Rattle.sf_run.specs.Holding.{are_placed, are_apart, first_slot, is_text, still_stored, is_limited, LeftAfterAll, left_before};
 ghost use Rattle.sf_run.specs.declared.directive.Phase.TheVariants as phase;
 ghost use Rattle.sf_run.specs.Phases.{end_of, slot_in};
@@ -17,15 +17,15 @@ ghost use Rattle.sf_run.specs.Pieces.{IsEnd};
 ghost use Rattle.sf_run.specs.Places.{places_left};
 ghost use Rattle.sf_run.specs.Stopping.{is_no_memory, is_memory_status};
 ghost use Rattle.sf_run.specs.Texts.{text_slot, slot_of, opened_slot, slots_in, IsNextSlot, opened_with};
-ghost use Rattle.sf_run.specs.Steps.{StepEnd};
+ghost use Rattle.sf_report.specs.Steps.{StepEnd};
 
 use crate::directive::{Finished, Phase, Run, finish, run_on};
-use crate::outcome::{Ending, Fed, FeedState, Outcome, StartFault, Status};
-use crate::report::{Report, Scanned};
+use crate::feeding::{Fed, FeedState, StartFault};
 use crate::tally::Tally;
 use sf_base::{FixedStore, HeapStore, Number, Store, push_each};
 use sf_format::{Directive, ScanFormat};
 use sf_item::ItemScan;
+use sf_report::{Ending, Outcome, Report, Scanned, Status};
 use std::alloc::Global;
 
 /// The most bytes that a run may consume: no limit is above it.
@@ -101,12 +101,12 @@ pub struct Scanner<'f, S: Store> {
 }
 
 impl<'f, S: Store> Scanner<'f, S> {
-    ghost use Rattle.sf_run.specs.Residual.{out_of};
-    ghost use Rattle.sf_run.specs.Views.{report_by};
-    ghost use Rattle.sf_run.specs.Runs.{RunReport, IsOpen};
-    ghost use Rattle.sf_run.specs.Limits.{RunWithin, RunTold};
+    ghost use Rattle.sf_report.specs.Residual.{out_of};
+    ghost use Rattle.sf_report.specs.Views.{report_by};
+    ghost use Rattle.sf_report.specs.Runs.{RunReport, IsOpen};
+    ghost use Rattle.sf_report.specs.Limits.{RunWithin, RunTold};
     ghost use Rattle.sf_run.specs.Standing.{Ends, Follows, Keeps, Passes, Stops, Opens, TakesAll, RefusesIn, RunsOut, turns_left, IsSettled, After, Gives, HasCome, has_ended, report_of, used_by, ran_out};
-    ghost use Rattle.sf_run.specs.Memory.{HoldsTexts, HoldsValues, capacity_of};
+    ghost use Rattle.sf_report.specs.Memory.{HoldsTexts, HoldsValues, capacity_of};
     ghost use Rattle.sf_run.specs.Scanner.{kept_by, standing};
     ghost use Rattle.sf_run.specs.Tallies.{tally_of};
 
@@ -522,10 +522,7 @@ impl<'f, S: Store> Scanner<'f, S> {
         ensures exactly { result ≡ report_of (standing self.now) }
     {
         let stop = self.ended?;
-        Some(Report {
-            outcome: self.outcome(stop),
-            store: &self.store,
-        })
+        Some(Report::new(self.outcome(stop), &self.store))
     }
 
     /// What a run that has ended gave. A scanner whose run hasn't is given back.
@@ -541,10 +538,7 @@ impl<'f, S: Store> Scanner<'f, S> {
     {
         match self.ended {
             None => Err(self),
-            Some(stop) => Ok(Scanned {
-                outcome: self.outcome(stop),
-                store: self.store,
-            }),
+            Some(stop) => Ok(Scanned::new(self.outcome(stop), self.store)),
         }
     }
 
@@ -572,7 +566,7 @@ impl<'f, S: Store> Scanner<'f, S> {
 
 impl<'f> Scanner<'f, HeapStore> {
     ghost use Rattle.sf_run.specs.Standing.{After, has_ended, used_by};
-    ghost use Rattle.sf_run.specs.Memory.{HoldsTexts, HoldsValues, capacity_of};
+    ghost use Rattle.sf_report.specs.Memory.{HoldsTexts, HoldsValues, capacity_of};
     ghost use Rattle.sf_run.specs.Scanner.{kept_by, standing};
 
     /// A scanner that was given nothing yet, with a store that grows. The run consumes at most `limit` bytes. Where the
@@ -642,7 +636,7 @@ impl<'f> Scanner<'f, HeapStore> {
 
 impl<'f, const CAP: usize, const SLOTS: usize> Scanner<'f, FixedStore<CAP, SLOTS>> {
     ghost use Rattle.sf_run.specs.Standing.{After, has_ended, used_by};
-    ghost use Rattle.sf_run.specs.Memory.{HoldsTexts, HoldsValues, capacity_of};
+    ghost use Rattle.sf_report.specs.Memory.{HoldsTexts, HoldsValues, capacity_of};
     ghost use Rattle.sf_run.specs.Scanner.{kept_by, standing};
 
     /// A scanner that was given nothing yet, with a store of fixed capacity. The run consumes at most `limit` bytes. It

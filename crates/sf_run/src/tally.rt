@@ -1,9 +1,9 @@
 //! What a run has counted so far.
 ghost use Rattle.std.specs.Prelude.{◌≡◌, ◌+◌, ◌-◌, ◌<◌, ◌≤◌, ◌^◌, List, if◌then◌else◌, true};
 ghost use Rattle.sf_base.specs.Data.{Assigned};
-ghost use Rattle.sf_run.specs.Residual.{counted};
-ghost use Rattle.sf_run.specs.Runs.{is_conversion, stored};
-ghost use Rattle.sf_run.specs.Steps.{StepEnd};
+ghost use Rattle.sf_report.specs.Residual.{counted};
+ghost use Rattle.sf_report.specs.Runs.{is_conversion, stored};
+ghost use Rattle.sf_report.specs.Steps.{StepEnd};
 ghost use Rattle.sf_run.specs.Tallies.{tally_of, values_with, PassesSo};
 
 use sf_format::{Directive, Shape};

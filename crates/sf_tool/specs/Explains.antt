@@ -21,7 +21,7 @@ use Rattle.sf_pair.specs.declared.fault.PairFault.{PairFault}
 use Rattle.sf_places.specs.declared.place.Place.{Place}
 use Rattle.sf_records.specs.declared.end.ToolFault.TheVariants.{Failed, Stalled, Unfit, Read}
 use Rattle.sf_records.specs.Quotes.{quoted}
-use Rattle.sf_run.specs.declared.outcome.Outcome.{Outcome}
+use Rattle.sf_run.specs.outcome.Outcome.{Outcome}
 use Rattle.sf_words.specs.declared.order.Verb.{Verb}
 use Rattle.sf_words.specs.declared.order.Verb.TheVariants as verb
 use Rattle.sf_tool.specs.Answers.{Answer}

@@ -1,5 +1,5 @@
 use Rattle.std.proofs.Common.{◌≡◌, ◌≤◌, ◌+◌, ◌++◌, ◌∷◌, ◌∙◌, ℕ, List, [], length, true, sym, ap, subst, arith, length-append, true≢false}
-use Rattle.sf_run.specs.declared.outcome.Ending.TheVariants.{End}
+use Rattle.sf_run.specs.outcome.Ending.TheVariants.{End}
 use Rattle.sf_run.specs.Limits.{RunWithin}
 use Rattle.sf_run.specs.Runs.{RunReport}
 use Rattle.sf_run.specs.Views.{report_by}

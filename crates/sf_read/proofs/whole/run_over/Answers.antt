@@ -1,6 +1,6 @@
 use Rattle.std.proofs.Common.{◌≡◌, ◌∙◌, ℕ, List, [], false, ap}
 use Rattle.sf_format.specs.declared.directive.Directive.{Directive}
-use Rattle.sf_run.specs.declared.outcome.Ending.TheVariants.{End}
+use Rattle.sf_run.specs.outcome.Ending.TheVariants.{End}
 use Rattle.sf_run.specs.Standing.{After, Gives, ran_out}
 use Rattle.sf_run.specs.Scanner.{standing}
 use Rattle.sf_read.proofs.Ended.{fed_and_ended, told_within}

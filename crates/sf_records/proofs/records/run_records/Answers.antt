@@ -1,5 +1,5 @@
 use Rattle.std.proofs.Common.{◌≡◌, ℕ, Option, None, cond, ap, ◌∙◌, refl, arith}
-use Rattle.sf_run.specs.declared.outcome.Ending.{Ending}
+use Rattle.sf_run.specs.outcome.Ending.{Ending}
 use Rattle.sf_read.specs.Counts.{counted_on}
 use Rattle.sf_read.specs.Scan.{is_fault}
 use Rattle.sf_run.proofs.Told as told

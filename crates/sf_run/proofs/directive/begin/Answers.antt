@@ -3,7 +3,7 @@ use Rattle.sf_base.specs.Bytes.{is_white}
 use Rattle.sf_format.specs.declared.directive.Conversion.{Conversion}
 use Rattle.sf_format.specs.declared.directive.Directive.TheVariants.{Conv}
 use Rattle.sf_run.specs.declared.directive.Run.{Run}
-use Rattle.sf_run.specs.Machine.{Skipping, shape_skips}
+use Rattle.sf_report.specs.Machine.{Skipping, shape_skips}
 use Rattle.sf_run.specs.Pieces.{Answers}
 use Rattle.sf_run.proofs.Brought.{item_skips}
 use Rattle.sf_run.proofs.Pieces.{answers_behind, count_answers, next_behind}

@@ -4,7 +4,7 @@ use Rattle.sf_format.specs.declared.directive.Directive.TheVariants.{Conv}
 use Rattle.sf_item.specs.Taking.{CanTake, conversion_of}
 use Rattle.sf_run.specs.declared.directive.Phase.TheVariants as phase
 use Rattle.sf_run.specs.declared.directive.Run.{Run}
-use Rattle.sf_run.specs.Machine.{Skipping}
+use Rattle.sf_report.specs.Machine.{Skipping}
 use Rattle.sf_format.specs.Proper.{IsProperShape}
 use Rattle.sf_run.specs.Phases.{CanAll}
 use Rattle.sf_run.specs.Pieces.{Answers, Suits}

@@ -1,5 +1,5 @@
 use Rattle.std.proofs.Common.{refl}
-use Rattle.sf_run.specs.Machine.{Skipping}
+use Rattle.sf_report.specs.Machine.{Skipping}
 use Rattle.sf_run.proofs.Pieces.{ended_by, waits_late}
 use Rattle.sf_run.proofs.directive.ended_within.Goals as goal
 

@@ -2,7 +2,7 @@ use Rattle.std.proofs.Common.{◌≡◌, false, sym, ap, subst, ◌∙◌}
 use Rattle.sf_format.specs.declared.directive.Conversion.{Conversion}
 use Rattle.sf_format.specs.declared.directive.Directive.{Directive}
 use Rattle.sf_run.specs.Texts.{is_count, text_slot, opened_for}
-use Rattle.sf_run.specs.Machine.{finished}
+use Rattle.sf_report.specs.Machine.{finished}
 use Rattle.sf_run.specs.Phases.{Shows}
 use Rattle.sf_run.proofs.Stages.{conv_is, other_finished}
 use Rattle.sf_run.proofs.directive.finish.Goals as goal

@@ -1,6 +1,6 @@
 use Rattle.std.proofs.Common.{false, ap, ◌∙◌}
 use Rattle.sf_base.specs.Data.{value_of}
-use Rattle.sf_run.specs.Machine.{count_end}
+use Rattle.sf_report.specs.Machine.{count_end}
 use Rattle.sf_run.proofs.Stages.{count_is}
 use Rattle.sf_run.proofs.directive.finish_count.Goals as goal
 

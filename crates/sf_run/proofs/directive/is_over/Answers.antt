@@ -2,7 +2,7 @@ use Rattle.std.proofs.Common.{arith}
 use Rattle.std.proofs.Common.{◌++◌, take, drop, sym, ◌∙◌}
 use Rattle.sf_format.specs.declared.directive.Directive.TheVariants.{Conv}
 use Rattle.sf_item.specs.Taking.{conversion_of}
-use Rattle.sf_run.specs.Machine.{Item}
+use Rattle.sf_report.specs.Machine.{Item}
 use Rattle.sf_run.proofs.Pieces.{over_next, stays_full}
 use Rattle.sf_run.proofs.Stages.{item_full, shown_full}
 use Rattle.sf_run.proofs.directive.is_over.Goals as goal

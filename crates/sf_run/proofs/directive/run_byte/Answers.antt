@@ -2,7 +2,7 @@ use Rattle.std.proofs.Common.{sym, subst, refl, ◌∙◌}
 use Rattle.sf_format.specs.declared.directive.Directive.TheVariants.{Byte, Percent}
 use Rattle.sf_run.specs.declared.directive.Phase.TheVariants as phase
 use Rattle.sf_run.specs.declared.directive.Run.{Run}
-use Rattle.sf_run.specs.Machine.{Skipping}
+use Rattle.sf_report.specs.Machine.{Skipping}
 use Rattle.sf_run.specs.Pieces.{Answers, Suits}
 use Rattle.sf_run.proofs.Pieces.{byte_passes, none_first, percent_passes, some_first, suits_waits}
 use Rattle.sf_run.proofs.directive.run_byte.Goals as goal

@@ -2,7 +2,7 @@ use Rattle.std.proofs.Common.{sym, subst, refl, arith}
 use Rattle.sf_format.specs.declared.directive.Directive.TheVariants.{Space}
 use Rattle.sf_run.specs.declared.directive.Phase.TheVariants as phase
 use Rattle.sf_run.specs.declared.directive.Run.{Run}
-use Rattle.sf_run.specs.Machine.{Skipping}
+use Rattle.sf_report.specs.Machine.{Skipping}
 use Rattle.sf_run.specs.Pieces.{Answers, Suits}
 use Rattle.sf_run.proofs.Pieces.{space_waits, space_ends, suits_waits}
 use Rattle.sf_run.proofs.directive.run_space.Goals as goal

@@ -1,5 +1,5 @@
 use Rattle.std.proofs.Common.{arith}
-use Rattle.sf_run.proofs.Skips.{white_below}
+use Rattle.sf_report.proofs.Skips.{white_below}
 use Rattle.sf_run.proofs.directive.spaces.Goals as goal
 
 pub returns-in_default-clause-white : goal.returns-in_default-clause-white

@@ -3,7 +3,7 @@ use Rattle.sf_base.specs.Data.{Bytes}
 use Rattle.sf_run.specs.declared.directive.Finished.{Finished}
 use Rattle.sf_run.specs.Phases.{end_of}
 use Rattle.sf_run.specs.Quick.{GivesTo}
-use Rattle.sf_run.specs.Steps.{Stores}
+use Rattle.sf_report.specs.Steps.{Stores}
 use Rattle.sf_run.proofs.AtOnce.{text_given}
 use Rattle.sf_run.proofs.quick.give.Goals as goal
 

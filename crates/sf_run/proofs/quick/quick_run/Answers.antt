@@ -4,8 +4,8 @@ use Rattle.std.specs.Prelude.{slice_get}
 use Rattle.sf_base.specs.Kept.{Kept}
 use Rattle.sf_format.specs.declared.directive.Directive.{Directive}
 use Rattle.sf_format.specs.Proper.{destinations_of}
-use Rattle.sf_run.specs.Limits.{RunWithin}
-use Rattle.sf_run.specs.Memory.{capacity_of}
+use Rattle.sf_report.specs.Limits.{RunWithin}
+use Rattle.sf_report.specs.Memory.{capacity_of}
 use Rattle.sf_run.specs.Quick.{IsDoneWithin, IsSure, MayBeGiven, PassesBy}
 use Rattle.sf_run.specs.Texts.{slot_of}
 use Rattle.sf_run.proofs.AtOnce.{counted_run, counting_on, free_at, nothing_counted, passes_as, told}

@@ -1,5 +1,5 @@
 use Rattle.std.proofs.Common.{◌≤◌}
-use Rattle.sf_run.specs.Memory.{capacity_of}
+use Rattle.sf_report.specs.Memory.{capacity_of}
 use Rattle.sf_run.proofs.AtOnce.{Counted}
 use Rattle.sf_run.proofs.quick.quick_run.Given as goal
 

@@ -4,7 +4,7 @@ use Rattle.sf_base.specs.Kept.{texts_in}
 use Rattle.sf_format.specs.declared.directive.Directive.{Directive}
 use Rattle.sf_format.specs.Widths.{width_sum}
 use Rattle.sf_print.specs.Printed.{printed}
-use Rattle.sf_run.specs.declared.outcome.Ending.{Ending}
+use Rattle.sf_run.specs.outcome.Ending.{Ending}
 use Rattle.sf_run.specs.Limits.{RunTold}
 use Rattle.sf_read.specs.Scan.{Scan}
 use Rattle.sf_pair.proofs.Held.{told_held}

@@ -1,4 +1,4 @@
-use Rattle.sf_run.specs.Steps.{Passes}
+use Rattle.sf_report.specs.Steps.{Passes}
 use Rattle.std.proofs.Common.{length, arith, false, refl, ◌∙◌}
 use Rattle.sf_run.specs.Scanner.{kept_by}
 use Rattle.sf_run.proofs.Moves.{place_taken}

@@ -1,6 +1,6 @@
 use Rattle.std.proofs.Common.{◌≡◌, [], false, Some, refl, ap, length, arith}
 use Rattle.sf_base.specs.Kept.{Kept, buffer_of}
-use Rattle.sf_run.specs.Residual.{nothing_yet, run_of}
+use Rattle.sf_report.specs.Residual.{nothing_yet, run_of}
 use Rattle.sf_run.specs.Tallies.{tally_of}
 use Rattle.sf_run.specs.Scanner.{standing}
 use Rattle.sf_run.specs.Standing.{ran_out}

@@ -1,0 +1,95 @@
+-- A run that is Done makes the same steps on every front of its input that has the bytes which it used.
+use Rattle.std.proofs.Common.{◌≡◌, ℕ, ◌+◌, ◌≤◌, List, [], ◌∷◌, ◌++◌, length, drop, None, subst, arith, length-append, length-drop}
+use Rattle.std.proofs.lemmas.List.{take-append-le, drop-append-le}
+use Rattle.std.proofs.lemmas.List.Sums.{sum_by-cons}
+use Rattle.sf_base.specs.Bytes.{IsSkip}
+use Rattle.sf_format.specs.declared.directive.Shape.{Shape}
+use Rattle.sf_format.specs.declared.directive.Shape.TheVariants.{Int, Text, Set, Chars, Count}
+use Rattle.sf_format.specs.declared.directive.Conversion.{Conversion}
+use Rattle.sf_format.specs.declared.directive.Directive.{Directive}
+use Rattle.sf_item.specs.Matching.{Begins, IsItem}
+use Rattle.sf_report.specs.declared.outcome.Status.TheVariants.{Done}
+use Rattle.sf_report.specs.Steps.{StepEnd, Fails, ByteStep, ConversionStep, IsSkipBefore, ItemEnds, ItemStep, Step}
+use Rattle.sf_report.specs.Runs.{GoesOn, Ran, RunReport, Steps, status_of, used}
+use Rattle.sf_report.specs.Limits.{TellsWithin}
+use Rattle.sf_report.specs.Laws.{EachDoneRunStays}
+use Rattle.sf_report.proofs.Told.{met_within, one_report, within_met}
+use Rattle.sf_report.proofs.Inputs.{open_all}
+
+-- a directive that ends so has passed
+abbrev HasPassed : StepEnd → Type 0
+HasPassed (Fails status) = ⊥
+HasPassed _ = Unit {0}
+
+-- ---- the greatest front of an input is that of its fronts which have it
+
+skip_front : (x z : List ℕ) (k : ℕ) → k ≤ length x → IsSkip (x ++ z) k → IsSkip x k
+skip_front x z k le g = grind (arith, take-append-le, length-append)
+
+item_at_front : (c : Conversion) (x z : List ℕ) (k : ℕ) → k ≤ length x → IsItem c (x ++ z) k → IsItem c x k
+item_at_front c x z k le g = record {
+  holds = (le, g.holds.1, subst (Begins c) (take-append-le k x z le) g.holds.2);
+  above = λ j h. grind (arith, length-append, take-append-le);
+}
+
+-- ---- one directive
+
+byte_front : (b : ℕ) (x z : List ℕ) (k : ℕ) (end : StepEnd) → HasPassed end → k ≤ length x → ByteStep b (x ++ z) k end → ByteStep b x k end
+byte_front b x z k end ok le h = grind arith
+
+skip_before_front : (shape : Shape) (x z : List ℕ) (k : ℕ) → k ≤ length x → IsSkipBefore shape (x ++ z) k → IsSkipBefore shape x k
+skip_before_front shape x z k le h = grind (arith, skip_front)
+
+ends_front : (c : Conversion) (x z : List ℕ) (j : ℕ) (end : StepEnd) → HasPassed end → j ≤ length x → ItemEnds c (x ++ z) j end → ItemEnds c x j end
+ends_front c x z j end ok le h = grind (arith, take-append-le)
+
+item_front : (c : Conversion) (x z : List ℕ) (k : ℕ) (end : StepEnd) → HasPassed end → k ≤ length x → ItemStep c (x ++ z) k end → ItemStep c x k end
+item_front c x z k end ok le h3 = grind (arith, drop-append-le, length-drop, skip_before_front, item_at_front, ends_front)
+
+conversion_front : (c : Conversion) (shape : Shape) (x z : List ℕ) (n k : ℕ) (end : StepEnd) → HasPassed end → k ≤ length x → ConversionStep c shape (x ++ z) n k end → ConversionStep c shape x n k end
+conversion_front c (Int base) x z n k end ok le h = item_front c x z k end ok le h
+conversion_front c Text x z n k end ok le h = item_front c x z k end ok le h
+conversion_front c (Set members) x z n k end ok le h = item_front c x z k end ok le h
+conversion_front c Chars x z n k end ok le h = item_front c x z k end ok le h
+conversion_front c Count x z n k end ok le h = h
+
+-- a directive that passes makes the same step on every front that has the bytes which it consumed
+step_front : (d : Directive) (x z : List ℕ) (n k : ℕ) (end : StepEnd) → HasPassed end → k ≤ length x → Step d (x ++ z) n k end → Step d x n k end
+step_front d x z n k end ok le h = grind (arith, skip_front, byte_front, drop-append-le, length-drop, conversion_front)
+
+-- ---- no directive fails as Done
+
+-- ---- a list of steps
+
+-- by the end of the first
+abbrev RestStays : List Directive → List ℕ → List ℕ → ℕ → ℕ → List Ran → Type 0
+RestStays ds x z n k ran = status_of ran ≡ Done → used ran ≤ length (drop k x) → Steps ds (drop k x ++ z) (n + k) ran → Steps ds (drop k x) (n + k) ran
+
+abbrev OneStep : Directive → List Directive → List ℕ → ℕ → ℕ → StepEnd → List Ran → Type 0
+OneStep d ds x n k end ran = Step d x n k end × GoesOn end (Steps ds (drop k x) (n + k) ran) ran
+
+first_front : (d : Directive) (ds : List Directive) (x z : List ℕ) (n k : ℕ) (end : StepEnd) (ran : List Ran) → status_of (record { directive = d; bytes = k; end = end } ∷ ran) ≡ Done → k + used ran ≤ length x
+    → RestStays ds x z n k ran → OneStep d ds (x ++ z) n k end ran → OneStep d ds x n k end ran
+first_front d ds x z n k end ran done le rest h4 = grind (arith, step_front, length-drop, drop-append-le)
+
+steps_front : (ds : List Directive) (x z : List ℕ) (n : ℕ) (ran : List Ran) → status_of ran ≡ Done → used ran ≤ length x → Steps ds (x ++ z) n ran → Steps ds x n ran
+steps_front [] x z n [] done le h = tt
+steps_front [] x z n (r ∷ ran) done le h = absurd h
+steps_front (d ∷ ds) x z n [] done le h = absurd h
+steps_front (d ∷ ds) x z n (r ∷ ran) done le h =
+    let all : used (r ∷ ran) ≡ r.bytes + used ran = sum_by-cons (λ (s : Ran). s.bytes) r ran in
+    let first = first_front d ds x z n r.bytes r.end ran done (omega (arith, all, le)) (steps_front ds (drop r.bytes x) z (n + r.bytes) ran) (h.1, h.2) in
+    (h.0, first.0, first.1)
+
+-- ---- the run
+
+told_front : (ds : List Directive) (m : ℕ) (x z : List ℕ) (report : RunReport) → report.status ≡ Done → report.used ≤ length x → TellsWithin ds m (x ++ z) report → TellsWithin ds m x report
+told_front ds m x z report done le h3 = grind (arith, steps_front)
+
+pub done_runs_stay : EachDoneRunStays
+done_runs_stay ds proper m x z first second report run done le =
+    let told = met_within open_all ds proper m (x ++ z) first report run in
+    let own = one_report ds proper m x second in
+    let some = met_within open_all ds proper m x second own.report own.is in
+    let here : TellsWithin ds m x (record report { met = None }) = told_front ds m x z (record report { met = None }) done le told.0 in
+    (own.report.met, within_met open_all ds proper m x second own.report.met (record report { met = None }) here some.1)

@@ -1,0 +1,13 @@
+pub mod Skips
+pub mod Items
+pub mod StepLaws
+pub mod Ones
+pub mod RunLaws
+pub mod Told
+pub mod Computing
+pub mod Rows
+pub mod Machines
+pub mod Joined
+pub mod Openness
+pub mod Inputs
+pub mod Fronts

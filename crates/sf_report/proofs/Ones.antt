@@ -1,0 +1,122 @@
+-- Each directive's machine makes its step.
+use Rattle.std.proofs.lemmas.Grind.{common_steps}
+use Rattle.std.proofs.Common.{◌≡◌, ℕ, suc, ◌+◌, Bool, true, false, cond, ◌&&◌, List, [], ◌∷◌, ◌++◌, take, drop, Some, None, refl, sym, ap, ap₂, ◌∙◌, arith, append_assoc, append-nil}
+use Rattle.sf_base.specs.Bytes.{is_white}
+use Rattle.sf_format.specs.declared.directive.Shape.{Shape}
+use Rattle.sf_format.specs.declared.directive.Shape.TheVariants.{Count}
+use Rattle.sf_format.specs.declared.directive.Conversion.{Conversion}
+use Rattle.sf_format.specs.declared.directive.Directive.{Directive}
+use Rattle.sf_format.specs.declared.directive.Directive.TheVariants.{Space, Byte, Percent, Conv}
+use Rattle.sf_item.specs.Tests.{can_take}
+use Rattle.sf_report.specs.Steps.{StepEnd, Passes}
+use Rattle.sf_report.specs.Machine.{Stage, Skipping, Taken, Item, shape_skips, stepped, finished, item_finished, count_end, item_end, nothing_end}
+use Rattle.sf_report.specs.Residual.{choose, one_from}
+use Rattle.sf_report.specs.Computed.{skip, len, byte_choice, byte_step, item_ended, item_part, conversion_step, percent_step, step_of, part_of}
+
+-- ---- white space
+
+space_is : (x : List ℕ) (n p : ℕ) → p ≡ n + skip x → one_from Space Skipping n x ≡ record { used = p; left = drop (skip x) x; end = Passes }
+space_is [] n p e = grind arith
+space_is (b ∷ x) n p e = grind (arith, space_is x)
+
+-- a directive that skips white space, and has taken none but that
+abbrev Skips : Directive → Type 0
+Skips d = (b : ℕ) → is_white b ≡ true → stepped d Skipping b ≡ Some Skipping
+
+-- it passes over the white space
+skips : (d : Directive) → Skips d → (x : List ℕ) (n p : ℕ) → p ≡ n + skip x → one_from d Skipping n x ≡ one_from d Skipping p (drop (skip x) x)
+skips d white [] n p e = grind arith
+skips d white (b ∷ x) n p e = grind (arith, skips d white x)
+
+-- the first byte is no white space
+abbrev Starts : List ℕ → Type 0
+Starts [] = Unit {0}
+Starts (b ∷ x) = is_white b ≡ false
+
+starts : (x : List ℕ) → Starts (drop (skip x) x)
+starts [] = tt
+starts (b ∷ x) = grind (arith, starts x)
+
+-- ---- a byte
+
+-- a directive that has taken its byte takes no more
+abbrev IsTaken : Directive → Type 0
+IsTaken d = (n : ℕ) (x : List ℕ) → one_from d Taken n x ≡ record { used = n; left = x; end = Passes }
+
+byte_taken : (a : ℕ) → IsTaken (Byte a)
+byte_taken a n [] = refl
+byte_taken a n (b ∷ x) = refl
+
+percent_taken : IsTaken Percent
+percent_taken n [] = refl
+percent_taken n (b ∷ x) = refl
+
+-- by whether the byte is the one that has to stand there
+byte_part : (d : Directive) → IsTaken d → (v : Bool) (b : ℕ) (x : List ℕ) (n : ℕ)
+    → choose (cond v (Some Taken) None) (record { used = n; left = b ∷ x; end = nothing_end true }) (λ r. one_from d r (n + 1) x) ≡ part_of n (b ∷ x) (byte_choice v)
+byte_part d taken v b x n = grind arith
+
+byte_is : (a : ℕ) (x : List ℕ) (n : ℕ) → one_from (Byte a) Skipping n x ≡ part_of n x (byte_step a x)
+byte_is a x n = grind (arith, (byte_taken a))
+
+percent_here : (x : List ℕ) (n : ℕ) → Starts x → one_from Percent Skipping n x ≡ part_of n x (byte_step 37 x)
+percent_here x n s = grind (arith, percent_taken)
+
+percent_is : (x : List ℕ) (n : ℕ) → one_from Percent Skipping n x ≡ part_of n x (percent_step x (skip x))
+percent_is x n = grind (arith, skips, percent_here, starts, common_steps)
+
+-- ---- items
+
+module _ (c : Conversion) where
+  -- each end of an item is told by its bytes, or by whether a byte follows
+  abbrev EndsItem : Type 0
+  EndsItem = (q : Stage) (n : ℕ) (more : Bool) → finished (Conv c) q n more ≡ item_finished c q more
+
+  after_item : EndsItem → (f : List ℕ) (b : ℕ) (y : List ℕ) (n p : ℕ) (v : Bool)
+      → p ≡ n + cond v (suc (len c (f ++ b ∷ []) y)) 0
+      → (p ≡ n + 1 + len c (f ++ b ∷ []) y → one_from (Conv c) (Item (f ++ b ∷ [])) (n + 1) y
+      ≡ record { used = p; left = drop (len c (f ++ b ∷ []) y) y; end = item_end c ((f ++ b ∷ []) ++ take (len c (f ++ b ∷ []) y) y) })
+      → choose (cond v (Some (Item (f ++ b ∷ []))) None) (record { used = n; left = b ∷ y; end = finished (Conv c) (Item f) n true }) (λ r. one_from (Conv c) r (n + 1) y)
+      ≡ record { used = p; left = drop (cond v (suc (len c (f ++ b ∷ []) y)) 0) (b ∷ y); end = item_end c (f ++ take (cond v (suc (len c (f ++ b ∷ []) y)) 0) (b ∷ y)) }
+  after_item ends f b y n p v e more = grind (arith, append_assoc, append-nil)
+
+  -- after the front f of an item, the rest of the item is taken
+  item_from : EndsItem → (f y : List ℕ) (n p : ℕ) → p ≡ n + len c f y
+      → one_from (Conv c) (Item f) n y ≡ record { used = p; left = drop (len c f y) y; end = item_end c (f ++ take (len c f y) y) }
+  item_from ends f [] n p e =
+      ap₂ (λ (u : ℕ) (end : StepEnd). record { used = u; left = []; end = end }) (let h : n ≡ p = omega arith in h) (ends (Item f) n false ∙ ap (item_end c) (sym (append-nil f)))
+  item_from ends f (b ∷ y) n p e =
+      after_item ends f b y n p (can_take c (f ++ b ∷ [])) e (λ h. item_from ends (f ++ b ∷ []) y (n + 1) p h)
+
+  -- an item that begins here
+  abbrev IsHere : List ℕ → Type 0
+  IsHere [] = Unit {0}
+  IsHere (b ∷ y) = (shape_skips c.shape && is_white b) ≡ false
+
+  item_here : EndsItem → (y : List ℕ) (n : ℕ) → IsHere y → one_from (Conv c) Skipping n y ≡ part_of n y (len c [] y, item_ended c y (len c [] y))
+  item_here ends y n here = grind (arith, item_from)
+
+  starts_here : (y : List ℕ) → Starts y → IsHere y
+  starts_here y s = grind arith
+
+  -- white space is skipped, and then the item is taken
+  skipped_item : EndsItem → shape_skips c.shape ≡ true → (x : List ℕ) (n : ℕ) → one_from (Conv c) Skipping n x ≡ part_of n x (item_part c x (skip x))
+  skipped_item ends does x n = grind (arith, skips, item_here, starts_here, starts, common_steps)
+
+  unskipped_item : EndsItem → shape_skips c.shape ≡ false → (x : List ℕ) (n : ℕ) → one_from (Conv c) Skipping n x ≡ part_of n x (item_part c x 0)
+  unskipped_item ends does x n = grind (arith, item_here)
+
+  -- ---- %n
+
+  count_is : c.shape ≡ Count → (x : List ℕ) (n : ℕ) → one_from (Conv c) Skipping n x ≡ part_of n x (0, count_end c c.slot n)
+  count_is e [] n = grind arith
+  count_is e (b ∷ x) n = grind arith
+
+  -- ---- each conversion
+
+  conversion_is : (shape : Shape) → c.shape ≡ shape → (x : List ℕ) (n : ℕ) → one_from (Conv c) Skipping n x ≡ part_of n x (conversion_step c shape x n)
+  conversion_is shape e x n = grind (arith, skipped_item, unskipped_item)
+
+-- the machine makes the step: it leaves the rest of the input, and ends as the step does
+pub one_made : (d : Directive) (x : List ℕ) (n : ℕ) → one_from d Skipping n x ≡ part_of n x (step_of d x n)
+one_made d x n = grind (arith, space_is, byte_is, percent_is, conversion_is)

@@ -1,0 +1,129 @@
+-- Each directive makes exactly one step.
+use Rattle.std.proofs.Common.{◌≡◌, ℕ, zero, suc, ◌≤◌, Bool, true, false, cond, List, length, take, Option, refl, sym, ap, ◌∙◌, subst, inl, inr, arith, ℤ, length-drop}
+use Rattle.sf_base.specs.Data.{value_of}
+use Rattle.sf_format.specs.declared.directive.Shape.{Shape}
+use Rattle.sf_format.specs.declared.directive.Shape.TheVariants.{Int, Text, Set, Chars, Count}
+use Rattle.sf_format.specs.declared.directive.Conversion.{Conversion}
+use Rattle.sf_format.specs.declared.directive.Directive.{Directive}
+use Rattle.sf_format.specs.Proper.{IsProperShape, IsProper}
+use Rattle.sf_item.specs.Matching.{ShapeMatches, Matches}
+use Rattle.sf_item.specs.Tests.{matches}
+use Rattle.sf_item.proofs.Deciding.{integer_at_is, tests_matches}
+use Rattle.sf_report.specs.declared.outcome.Status.TheVariants.{MatchingFailure}
+use Rattle.sf_report.specs.Steps.{StepEnd, Fails, NumberStored, CountStep, ItemStored, ItemPasses, EmptyItem, ItemEnds, IsSkipBefore, ConversionStep, Step}
+use Rattle.sf_report.specs.Machine.{number_end, count_end, integer_end, stored_end, passed_end, nothing_end}
+use Rattle.sf_report.specs.Computed.{skip, has_more, byte_step, skip_before, item_ended, item_step, conversion_step, percent_step, step_of}
+use Rattle.sf_report.proofs.Skips.{skip_is, skip_only, skip-le}
+use Rattle.sf_report.proofs.Items.{len-le, item_is, item_only}
+
+-- ---- what a step is
+
+abbrev pub Is : ℕ × StepEnd → ℕ → StepEnd → Type 0
+Is r k end = (k ≡ r.0) × (end ≡ r.1)
+
+-- ---- a byte
+
+byte_step-le : (a : ℕ) (x : List ℕ) → (byte_step a x).0 ≤ length x
+byte_step-le a x = grind arith
+
+-- ---- ends
+
+number_is : (c : Conversion) (slot : ℕ) (v : Option ℤ) → NumberStored c slot v (number_end c slot v)
+number_is c slot v = grind arith
+
+number_only : (c : Conversion) (slot : ℕ) (v : Option ℤ) (end : StepEnd) → NumberStored c slot v end → end ≡ number_end c slot v
+number_only c slot v end h = grind arith
+
+count_is : (c : Conversion) (slot : Option ℕ) (n : ℕ) → CountStep c slot n (count_end c slot n)
+count_is c slot n = grind arith
+
+stored_is : (c : Conversion) (slot : ℕ) (shape : Shape) (width : Option ℕ) (item : List ℕ) → ShapeMatches shape width item → ItemStored c slot shape item (stored_end c slot shape item)
+stored_is c slot (Int base) width item h = (
+  h.0,
+  h.1,
+  h.2,
+  subst (λ o. NumberStored c slot (value_of c.kind h.0 h.1) (integer_end c slot o)) (sym (integer_at_is base item h.0 h.1 h.2))
+      (number_is c slot (value_of c.kind h.0 h.1)),
+)
+stored_is c slot Text width item h = refl
+stored_is c slot (Set members) width item h = refl
+stored_is c slot Chars width item h = refl
+stored_is c slot Count width item h = refl
+
+stored_only : (c : Conversion) (slot : ℕ) (shape : Shape) (item : List ℕ) (end : StepEnd) → ItemStored c slot shape item end → end ≡ stored_end c slot shape item
+stored_only c slot (Int base) item end h =
+    number_only c slot (value_of c.kind h.0 h.1) end h.3 ∙ ap (integer_end c slot) (sym (integer_at_is base item h.0 h.1 h.2))
+stored_only c slot Text item end h = h
+stored_only c slot (Set members) item end h = h
+stored_only c slot Chars item end h = h
+stored_only c slot Count item end h = h
+
+passes_is : (c : Conversion) (slot : Option ℕ) (item : List ℕ) → Matches c item → ItemPasses c slot item (passed_end c slot item)
+passes_is c slot item h = grind (arith, stored_is)
+
+passes_only : (c : Conversion) (slot : Option ℕ) (item : List ℕ) (end : StepEnd) → ItemPasses c slot item end → end ≡ passed_end c slot item
+passes_only c slot item end h = grind (arith, stored_only)
+
+empty_is : (x : List ℕ) → EmptyItem x (nothing_end (has_more x))
+empty_is x = grind arith
+
+empty_only : (x : List ℕ) (end : StepEnd) → EmptyItem x end → end ≡ nothing_end (has_more x)
+empty_only x end h = grind arith
+
+by_match : (c : Conversion) (item : List ℕ) (P : Bool → Type 0) → (Matches c item → P true) → ((Matches c item → ⊥) → P false) → P (matches c item)
+by_match c item P left right = grind (arith, (tests_matches c item))
+
+ends_is : (c : Conversion) (x : List ℕ) (j : ℕ) → ItemEnds c x j (item_ended c x j)
+ends_is c x zero = empty_is x
+ends_is c x (suc j) =
+    let item = take (suc j) x in
+    by_match c item (λ v. ItemEnds c x (suc j) (cond v (passed_end c c.slot item) (Fails MatchingFailure)))
+    (λ h. inl (h, passes_is c c.slot item h))
+    (λ n. inr (n, refl))
+
+ends_only : (c : Conversion) (x : List ℕ) (j : ℕ) (end : StepEnd) → ItemEnds c x j end → end ≡ item_ended c x j
+ends_only c x zero end h = empty_only x end h
+ends_only c x (suc j) end h =
+    let item = take (suc j) x in
+    by_match c item (λ v. end ≡ cond v (passed_end c c.slot item) (Fails MatchingFailure))
+    (λ m. elim h [ inl l ↦ passes_only c c.slot item end l.1 | inr r ↦ absurd (r.0 m) ])
+    (λ n. elim h [ inl l ↦ absurd (n l.0) | inr r ↦ r.1 ])
+
+-- ---- items
+
+skip_before_is : (shape : Shape) (x : List ℕ) → IsSkipBefore shape x (skip_before shape x)
+skip_before_is shape x = grind (arith, skip_is)
+
+skip_before_only : (shape : Shape) (x : List ℕ) (s : ℕ) → IsSkipBefore shape x s → s ≡ skip_before shape x
+skip_before_only shape x s h = grind (arith, skip_only)
+
+skip_before-le : (shape : Shape) (x : List ℕ) → skip_before shape x ≤ length x
+skip_before-le shape x = grind (arith, skip-le)
+
+item_step-le : (c : Conversion) (x : List ℕ) → (item_step c x).0 ≤ length x
+item_step-le c x = grind (arith, skip_before-le, len-le, length-drop)
+
+-- ---- steps
+
+conversion_is : (c : Conversion) (shape : Shape) → c.shape ≡ shape → IsProperShape shape → (x : List ℕ) (n : ℕ)
+    → ConversionStep c shape x n (conversion_step c shape x n).0 (conversion_step c shape x n).1
+conversion_is c shape e proper x n = grind (arith, skip_before_is, item_is, ends_is)
+
+conversion_only : (c : Conversion) (shape : Shape) → c.shape ≡ shape → IsProperShape shape → (x : List ℕ) (n k : ℕ) (end : StepEnd)
+    → ConversionStep c shape x n k end → Is (conversion_step c shape x n) k end
+conversion_only c shape e proper x n k end h = grind (arith, skip_before_only, ends_only, item_only)
+
+conversion_within : (c : Conversion) (shape : Shape) (x : List ℕ) (n : ℕ) → (conversion_step c shape x n).0 ≤ length x
+conversion_within c shape x n = grind (arith, item_step-le)
+
+pub step_is : (d : Directive) → IsProper d → (x : List ℕ) (n : ℕ) → Step d x n (step_of d x n).0 (step_of d x n).1
+step_is d proper x n = grind (arith, skip_is, conversion_is)
+
+pub step_only : (d : Directive) → IsProper d → (x : List ℕ) (n k : ℕ) (end : StepEnd) → Step d x n k end → (k ≡ (step_of d x n).0) × (end ≡ (step_of d x n).1)
+step_only d proper x n k end h = grind (arith, skip_only, conversion_only)
+
+percent_within : (x : List ℕ) → (percent_step x (skip x)).0 ≤ length x
+percent_within x = grind (arith, skip-le, byte_step-le, length-drop)
+
+pub step_within : (d : Directive) (x : List ℕ) (n : ℕ) → (step_of d x n).0 ≤ length x
+step_within d x n = grind (arith, percent_within, conversion_within)

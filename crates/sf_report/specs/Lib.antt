@@ -1,0 +1,11 @@
+pub mod Steps
+pub mod Runs
+pub mod Limits
+pub mod Machine
+pub mod Residual
+pub mod Computed
+pub mod Views
+pub mod Memory
+pub mod Rows
+pub mod Laws
+pub mod Wording

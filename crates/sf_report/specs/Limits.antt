@@ -1,0 +1,63 @@
+-- Runs under a limit on their bytes, and runs for which memory was refused.
+use Rattle.std.specs.Prelude.{◌≡◌, ℕ, ◌+◌, ◌-◌, ◌<◌, ◌≤◌, ◌⊎◌, List, ◌∷◌, ◌++◌, length, drop, Option, None, IsSome}
+use Rattle.sf_format.specs.declared.directive.Shape.{Shape}
+use Rattle.sf_format.specs.declared.directive.Shape.TheVariants.{Int, Count}
+use Rattle.sf_format.specs.declared.directive.Directive.{Directive}
+use Rattle.sf_format.specs.declared.directive.Directive.TheVariants.{Conv}
+use Rattle.sf_report.specs.declared.outcome.Ending.{Ending}
+use Rattle.sf_report.specs.declared.outcome.Status.{Status}
+use Rattle.sf_report.specs.declared.outcome.Status.TheVariants.{TooLong, NoMemory}
+use Rattle.sf_report.specs.Steps.{IsSkipBefore}
+use Rattle.sf_report.specs.Runs.{Ran, Steps, RunReport, report_of, Run, used, values, assigned, converted}
+
+-- a run that was cut off after m bytes, in the directive after those that ran before
+abbrev pub cut_report : Status → List Ran → ℕ → RunReport
+cut_report status before m = record {
+  status = status;
+  at = length before + 1;
+  assigned = assigned before;
+  converted = converted before;
+  used = m;
+  met = None;
+  values = values before;
+}
+
+-- byte m + 1 would be consumed by the directive after these
+pub record IsCut (ds : List Directive) (x : List ℕ) (m : ℕ) (before : List Ran) : Type 0 where
+  pub cut : Ran
+  pub rest : List Ran
+  pub steps : Steps ds x 0 (before ++ (cut ∷ rest))
+  pub low : used before ≤ m
+  pub high : m < used before + cut.bytes
+
+-- the report under a limit of m bytes
+abbrev pub RunWithin : List Directive → ℕ → List ℕ → Ending → RunReport → Type 0
+RunWithin ds m x ending report =
+    (report.used ≤ m) × Run ds x ending report
+    ⊎ ((before : List Ran) × IsCut ds x m before × (report ≡ cut_report TooLong before m))
+
+-- the same but for what the run met: what it tells of x alone
+abbrev pub TellsWithin : List Directive → ℕ → List ℕ → RunReport → Type 0
+TellsWithin ds m x report =
+    ((ran : List Ran) × Steps ds x 0 ran × (used ran ≤ m) × (report ≡ report_of ran None))
+    ⊎ ((before : List Ran) × IsCut ds x m before × (report ≡ cut_report TooLong before m))
+
+-- past the white space before its item, an assigned text conversion has consumed k bytes of x
+abbrev pub StoresShape : Shape → Option ℕ → List ℕ → ℕ → Type 0
+StoresShape (Int base) slot x k = ⊥
+StoresShape Count slot x k = ⊥
+StoresShape shape slot x k = IsSome slot × ((s : ℕ) × IsSkipBefore shape x s × (s ≤ k))
+
+abbrev pub Stores : Directive → List ℕ → ℕ → Type 0
+Stores (Conv c) x k = StoresShape c.shape c.slot x k
+Stores _ x k = ⊥
+
+-- the report where the storing of a byte was refused, within a limit of m bytes
+abbrev pub RunRefused : List Directive → ℕ → List ℕ → RunReport → Type 0
+RunRefused ds m x report =
+    (k : ℕ) × (k < m) × ((before : List Ran) × (cut : IsCut ds x k before)
+    × Stores cut.cut.directive (drop (used before) x) (k - used before) × (report ≡ cut_report NoMemory before k))
+
+-- the report under a limit of m bytes; or, where the storing of a byte was refused, that of the run up to there
+abbrev pub RunTold : List Directive → ℕ → List ℕ → Ending → RunReport → Type 0
+RunTold ds m x ending report = RunWithin ds m x ending report ⊎ RunRefused ds m x report

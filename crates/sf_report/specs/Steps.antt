@@ -1,0 +1,77 @@
+-- One directive of a run (C11 7.21.6.2p4 to p10).
+use Rattle.std.specs.Prelude.{◌≡◌, ◌≢◌, ℕ, zero, suc, ◌+◌, ◌⊎◌, Bool, false, List, [], ◌∷◌, take, drop, Option, Some, None, ℤ}
+use Rattle.sf_base.specs.Bytes.{IsSkip}
+use Rattle.sf_base.specs.Data.{Datum, Number, Bytes, value_of}
+use Rattle.sf_format.specs.declared.directive.Shape.{Shape}
+use Rattle.sf_format.specs.declared.directive.Shape.TheVariants.{Int, Text, Count}
+use Rattle.sf_format.specs.declared.directive.Conversion.{Conversion}
+use Rattle.sf_format.specs.declared.directive.Directive.{Directive}
+use Rattle.sf_format.specs.declared.directive.Directive.TheVariants.{Space, Byte, Percent, Conv}
+use Rattle.sf_item.specs.Matching.{IsInteger, Matches, IsItem}
+use Rattle.sf_report.specs.declared.outcome.Status.{Status}
+use Rattle.sf_report.specs.declared.outcome.Status.TheVariants.{InputFailure, MatchingFailure, OutOfRange}
+
+-- how a directive ends: it passes, perhaps with a value for its slot, or it fails
+pub data StepEnd : Type 0 where
+  Passes : StepEnd
+  Stores : ℕ → Datum → StepEnd
+  Fails : Status → StepEnd
+
+-- a byte that has to stand next (C11 7.21.6.2p6)
+abbrev pub ByteStep : ℕ → List ℕ → ℕ → StepEnd → Type 0
+ByteStep b [] k end = (k ≡ 0) × (end ≡ Fails InputFailure)
+ByteStep b (y ∷ x) k end = (y ≡ b) × (k ≡ 1) × (end ≡ Passes) ⊎ (y ≢ b) × (k ≡ 0) × (end ≡ Fails MatchingFailure)
+
+-- the conversion passes with a number, where its kind holds it (our choice where C11 7.21.6.2p10 leaves it undefined)
+abbrev pub NumberStored : Conversion → ℕ → Option ℤ → StepEnd → Type 0
+NumberStored c slot None end = end ≡ Fails OutOfRange
+NumberStored c slot (Some v) end = end ≡ Stores slot (Number c.kind v)
+
+-- %n: n bytes were consumed so far (C11 7.21.6.2p12)
+abbrev pub CountStep : Conversion → Option ℕ → ℕ → StepEnd → Type 0
+CountStep c None n end = end ≡ Passes
+CountStep c (Some slot) n end = NumberStored c slot (value_of c.kind false n) end
+
+-- what an assigned conversion stores of a matching item
+abbrev pub ItemStored : Conversion → ℕ → Shape → List ℕ → StepEnd → Type 0
+ItemStored c slot (Int base) item end =
+    (negative : Bool) × (m : ℕ) × IsInteger base item negative m × NumberStored c slot (value_of c.kind negative m) end
+ItemStored c slot _ item end = end ≡ Stores slot (Bytes item)
+
+-- a suppressed conversion stores nothing, and is not checked against its kind
+abbrev pub ItemPasses : Conversion → Option ℕ → List ℕ → StepEnd → Type 0
+ItemPasses c None item end = end ≡ Passes
+ItemPasses c (Some slot) item end = ItemStored c slot c.shape item end
+
+-- an item of no byte: the input ended there, or another byte stands there (C11 7.21.6.2p9)
+abbrev pub EmptyItem : List ℕ → StepEnd → Type 0
+EmptyItem [] end = end ≡ Fails InputFailure
+EmptyItem (b ∷ x) end = end ≡ Fails MatchingFailure
+
+-- how a conversion ends whose item is the first j bytes of x (C11 7.21.6.2p10)
+abbrev pub ItemEnds : Conversion → List ℕ → ℕ → StepEnd → Type 0
+ItemEnds c x zero end = EmptyItem x end
+ItemEnds c x (suc j) end =
+    Matches c (take (suc j) x) × ItemPasses c c.slot (take (suc j) x) end
+    ⊎ (Matches c (take (suc j) x) → ⊥) × (end ≡ Fails MatchingFailure)
+
+-- the white space that is skipped before the item of a shape (C11 7.21.6.2p8)
+abbrev pub IsSkipBefore : Shape → List ℕ → ℕ → Type 0
+IsSkipBefore (Int base) x s = IsSkip x s
+IsSkipBefore Text x s = IsSkip x s
+IsSkipBefore _ x s = s ≡ 0
+
+abbrev pub ItemStep : Conversion → List ℕ → ℕ → StepEnd → Type 0
+ItemStep c x k end =
+    (s : ℕ) × (j : ℕ) × IsSkipBefore c.shape x s × IsItem c (drop s x) j × (k ≡ s + j) × ItemEnds c (drop s x) j end
+
+abbrev pub ConversionStep : Conversion → Shape → List ℕ → ℕ → ℕ → StepEnd → Type 0
+ConversionStep c Count x n k end = (k ≡ 0) × CountStep c c.slot n end
+ConversionStep c _ x n k end = ItemStep c x k end
+
+-- on the remaining input x, after n bytes, the directive consumes k bytes and ends so
+abbrev pub Step : Directive → List ℕ → ℕ → ℕ → StepEnd → Type 0
+Step Space x n k end = IsSkip x k × (end ≡ Passes)
+Step (Byte b) x n k end = ByteStep b x k end
+Step Percent x n k end = (s : ℕ) × (j : ℕ) × IsSkip x s × ByteStep 37 (drop s x) j end × (k ≡ s + j)
+Step (Conv c) x n k end = ConversionStep c c.shape x n k end

@@ -1,5 +1,0 @@
-use Rattle.sf_run.proofs.Told as told
-use Rattle.sf_run.proofs.laws.one_report.Goals as goal
-
-pub returns : goal.returns
-returns c = told.one_report

@@ -1,5 +1,0 @@
-use Rattle.sf_run.proofs.Inputs as inputs
-use Rattle.sf_run.proofs.laws.open_inputs_are_used.Goals as goal
-
-pub returns : goal.returns
-returns c = inputs.open_inputs_are_used
