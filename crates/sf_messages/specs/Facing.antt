@@ -8,7 +8,7 @@ use Rattle.sf_format.specs.declared.unit.PrintLetter.TheVariants.{Signed, Unsign
 use Rattle.sf_format.specs.declared.unit.Unit.{Unit as PrintUnit}
 use Rattle.sf_format.specs.declared.unit.Unit.TheVariants.{Byte, Conv}
 use Rattle.sf_pair.specs.Walk.{after_space}
-use Rattle.sf_messages.specs.Names.{kind_text}
+use Rattle.sf_arguments.specs.Names.{kind_text}
 use Rattle.sf_messages.specs.Shown.{field_text}
 use Rattle.sf_records.specs.Quotes.{quoted}
 

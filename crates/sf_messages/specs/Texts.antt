@@ -9,9 +9,8 @@ use Rattle.sf_records.specs.Records.{status_by}
 use Rattle.sf_records.specs.Texts.{tool_fault_text}
 use Rattle.sf_pair.specs.declared.fault.PairFault.{PairFault}
 use Rattle.sf_pair.specs.Texts.{fault_text}
-use Rattle.sf_messages.specs.Names.{kind_text, name_text}
-use Rattle.sf_messages.specs.declared.argument_fault.ArgumentFault.{ArgumentFault}
-use Rattle.sf_messages.specs.declared.argument_fault.ArgumentFault.TheVariants as argument
+use Rattle.sf_arguments.specs.Texts.{argument_fault_text, argument_status}
+use Rattle.sf_messages.specs.Names.{name_text}
 use Rattle.sf_messages.specs.declared.fault.FormatName.{FormatName}
 use Rattle.sf_messages.specs.declared.fault.FormatName.TheVariants as name
 use Rattle.sf_messages.specs.declared.fault.CommandFault.{CommandFault}
@@ -19,22 +18,6 @@ use Rattle.sf_messages.specs.declared.fault.CommandFault.TheVariants.{BadEscape,
 
 abbrev pub format_fault_text : FormatName → FormatWhy → ℕ → List ℕ
 format_fault_text name why at = codes "sf: " ++ (name_text name ++ (codes ": " ++ (why_text why ++ (codes " at " ++ decimal at))))
-
--- the line of words that are not printed, without its line end
-abbrev pub argument_fault_text : ArgumentFault → List ℕ
-argument_fault_text (argument.WrongCount expected got) = codes "sf: expected " ++ (decimal expected ++ (codes " values, got " ++ decimal got))
-argument_fault_text (argument.BadEscape at offset) = codes "sf: value " ++ (decimal at ++ (codes ": bad escape at " ++ decimal offset))
-argument_fault_text (argument.NotInKind at kind) = codes "sf: value " ++ (decimal at ++ (codes ": expected " ++ kind_text kind))
-argument_fault_text (argument.NotOneByte at) = codes "sf: value " ++ (decimal at ++ codes ": expected one byte")
-argument_fault_text argument.TooLong = codes "sf: text too long"
-argument_fault_text argument.Write = codes "sf: write fault"
-argument_fault_text argument.Memory = codes "sf: out of memory"
-
--- their exit status
-abbrev pub argument_status : ArgumentFault → ℕ
-argument_status argument.Write = 3
-argument_status argument.Memory = 4
-argument_status _ = 2
 
 abbrev pub pair_fault_text : PairFault → List ℕ
 pair_fault_text fault = fault_text fault

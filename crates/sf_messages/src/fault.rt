@@ -4,8 +4,8 @@ ghost use Rattle.sf_messages.specs.Texts.{command_fault_text, status_of};
 ghost use Rattle.sf_messages.specs.Faults.{format_fault, print_format_fault};
 ghost use Rattle.sf_messages.specs.declared.fault.CommandFault.TheVariants.{Memory};
 
-use crate::argument_fault::ArgumentFault;
 use crate::names::name_text;
+use sf_arguments::ArgumentFault;
 use sf_format::{FormatFault, FormatWhy};
 use sf_lines::LinesFault;
 use sf_pair::PairFault;

@@ -1,7 +1,6 @@
 //! What a command says: how formats are shown, why it ends, and what is said behind that.
 #![tactic(auto)]
 
-mod argument_fault;
 mod facing;
 mod fault;
 mod names;
@@ -10,8 +9,8 @@ mod sentences;
 mod shown;
 mod wording;
 
-pub use argument_fault::ArgumentFault;
 pub use fault::{CommandFault, FormatName, format_fault, print_format_fault};
 pub use notes::{escape_notes, failed_notes, format_notes, input_notes, line_notes, pair_notes};
+pub use sf_arguments::ArgumentFault;
 pub use shown::{push_directive, show};
 pub use wording::{ErrorLine, error_line, joined, line_fault_line};

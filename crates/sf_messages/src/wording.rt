@@ -2,15 +2,16 @@
 ghost use Rattle.std.specs.Prelude.{◌≡◌, ◌≤◌, ◌++◌, ◌∷◌, [], codes, length};
 ghost use Rattle.std.specs.Fmt.{decimal};
 ghost use Rattle.sf_run.specs.Wording.{outcome_text};
-ghost use Rattle.sf_messages.specs.Texts.{argument_fault_text, command_fault_text, error_line, expected_text, format_fault_text, record_text};
+ghost use Rattle.sf_arguments.specs.Texts.{argument_fault_text};
+ghost use Rattle.sf_messages.specs.Texts.{command_fault_text, error_line, expected_text, format_fault_text, record_text};
 ghost use Rattle.sf_messages.specs.Joined.{joined};
 ghost use Rattle.sf_messages.specs.LineTexts.{line_fault_text};
 
-use crate::argument_fault::ArgumentFault;
 use crate::fault::{CommandFault, FormatName};
-use crate::names::{kind_text, name_text};
+use crate::names::name_text;
 use arrayvec::ArrayString;
 use itoa::Buffer;
+use sf_arguments::{ArgumentFault, kind_text};
 use sf_format::FormatWhy;
 use sf_lines::{LineFault, LinesFault};
 use sf_pair::PairWhy;

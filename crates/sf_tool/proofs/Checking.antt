@@ -11,7 +11,7 @@ use Rattle.sf_messages.specs.declared.fault.FormatName.TheVariants as name
 use Rattle.sf_tool.specs.Checks.{IsNoPrintWord, IsNoScanWord}
 use Rattle.sf_tool.specs.Commands.{Counts, IsBadText, IsUnwrittenBy}
 use Rattle.sf_messages.specs.Faults.{format_fault, format_fault_by, print_format_fault, print_format_fault_by}
-use Rattle.sf_tool.specs.Escapes.{Unescapes}
+use Rattle.sf_arguments.specs.Escapes.{Unescapes}
 use Rattle.sf_tool.proofs.Answering.{fault_of, is_memory, print_fault_of}
 
 -- ---- a text that is not resolved

@@ -1,16 +1,7 @@
 pub mod Answering
 pub mod Carrying
 pub mod Checking
-pub mod Escaping
-pub mod Finding
 pub mod Lining
-pub mod Numbers
-pub mod OneAnswer
 pub mod OneSaid
-pub mod Places
 pub mod Placing
-pub mod PrintAnswering
-pub mod Reading
 pub mod Saying
-pub mod Suiting
-pub mod WordRows

@@ -18,10 +18,10 @@ use Rattle.sf_print.specs.Sinks.{counted_on}
 use Rattle.sf_tool.specs.Checks.{IsNoScanWord, IsScanWord}
 use Rattle.sf_tool.specs.Answers.{Answer}
 use Rattle.sf_tool.specs.Commands.{Counts, is_write_fault}
-use Rattle.sf_tool.specs.Escapes.{Unescapes}
+use Rattle.sf_arguments.specs.Escapes.{Unescapes}
 use Rattle.sf_tool.specs.Explains.{IsMoreOfLine, OfWord, more_of_line}
 use Rattle.sf_tool.specs.Lines.{AreNoScanWords, AreScanWords, IsFirstRefused, IsTelling, SaysLines, SomeIsSaid, answer_by, line_telling}
-use Rattle.sf_tool.proofs.Escaping.{one_reading}
+use Rattle.sf_arguments.proofs.Escaping.{one_reading}
 
 -- ---- words
 

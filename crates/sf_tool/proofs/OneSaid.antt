@@ -13,7 +13,7 @@ use Rattle.sf_tool.specs.Checks.{IsNoScanWord, IsScanWord}
 use Rattle.sf_tool.specs.Explains.{SaysFormat}
 use Rattle.sf_tool.specs.Laws.{OneIsSaid}
 use Rattle.sf_tool.specs.Lines.{IsFirstRefused}
-use Rattle.sf_tool.proofs.Escaping.{bad_or_good, one_reading}
+use Rattle.sf_arguments.proofs.Escaping.{bad_or_good, one_reading}
 
 module _ (profile : Profile) (fault : CommandFault) where
   -- no word that has the fault spells a format

@@ -15,7 +15,7 @@ use Rattle.sf_messages.specs.declared.fault.CommandFault.{CommandFault}
 use Rattle.sf_messages.specs.declared.fault.CommandFault.TheVariants.{BadEscape, Format, PrintFormat, Write, Memory}
 use Rattle.sf_messages.specs.declared.fault.FormatName.TheVariants as name
 use Rattle.sf_tool.specs.Answers.{Answer}
-use Rattle.sf_tool.specs.Escapes.{IsBadEscape, Unescapes}
+use Rattle.sf_arguments.specs.Escapes.{IsBadEscape, Unescapes}
 
 -- ---- formats as words
 

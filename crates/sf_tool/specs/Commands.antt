@@ -32,16 +32,16 @@ use Rattle.sf_words.specs.declared.order.Profile.{Profile as GivenProfile}
 use Rattle.sf_words.specs.declared.order.Profile.TheVariants as given
 use Rattle.sf_words.specs.declared.order.Verb.{Verb}
 use Rattle.sf_words.specs.declared.order.Verb.TheVariants as verb
-use Rattle.sf_messages.specs.declared.argument_fault.ArgumentFault.{ArgumentFault}
-use Rattle.sf_messages.specs.declared.argument_fault.ArgumentFault.TheVariants as argument_fault
+use Rattle.sf_arguments.specs.declared.argument_fault.ArgumentFault.{ArgumentFault}
+use Rattle.sf_arguments.specs.declared.argument_fault.ArgumentFault.TheVariants as argument_fault
 use Rattle.sf_messages.specs.declared.fault.FormatName.{FormatName}
 use Rattle.sf_messages.specs.declared.fault.FormatName.TheVariants as name
 use Rattle.sf_messages.specs.declared.fault.CommandFault.{CommandFault}
 use Rattle.sf_messages.specs.declared.fault.CommandFault.TheVariants.{BadEscape, Format, PrintFormat, Values, Record, Lines, Write, Memory, Pair}
 use Rattle.sf_tool.specs.Answers.{Answer}
 use Rattle.sf_tool.specs.Checks.{ChecksWords, IsFaultOf, IsNoPrintWord, IsNoScanWord, IsPrintWord, IsScanWord}
-use Rattle.sf_tool.specs.Escapes.{IsBadEscape, Unescapes}
-use Rattle.sf_tool.specs.Prints.{Answers, IsUnwritten}
+use Rattle.sf_arguments.specs.Escapes.{IsBadEscape, Unescapes}
+use Rattle.sf_arguments.specs.Prints.{Answers, IsUnwritten}
 use Rattle.sf_messages.specs.Shown.{show_text}
 
 -- ---- faults

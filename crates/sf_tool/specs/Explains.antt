@@ -26,7 +26,7 @@ use Rattle.sf_words.specs.declared.order.Verb.{Verb}
 use Rattle.sf_words.specs.declared.order.Verb.TheVariants as verb
 use Rattle.sf_tool.specs.Answers.{Answer}
 use Rattle.sf_tool.specs.Checks.{IsPrintWord, IsVerdict}
-use Rattle.sf_tool.specs.Escapes.{IsBadEscape, Unescapes}
+use Rattle.sf_arguments.specs.Escapes.{IsBadEscape, Unescapes}
 use Rattle.sf_messages.specs.Shown.{directive_text}
 
 -- ---- the words of formats

@@ -1,12 +1,8 @@
 pub mod Answers
-pub mod Arguments
 pub mod Checks
 pub mod Commands
-pub mod Escapes
 pub mod Exits
 pub mod Explains
 pub mod Laws
 pub mod Lines
-pub mod Prints
 pub mod Saying
-pub mod Words

@@ -9,7 +9,7 @@ ghost use Rattle.sf_tool.specs.Commands.{CarriesOut, ChecksBoth, CopiesBoth, Cou
 use crate::check::check_words;
 use crate::copy::copy_words;
 use crate::formats::resolved;
-use crate::print::print_values;
+use sf_arguments::print_values;
 use sf_format::{PrintFormat, Profile, ScanFormat};
 use sf_messages::{CommandFault, FormatName, format_fault, print_format_fault, show};
 use sf_print::Sink;

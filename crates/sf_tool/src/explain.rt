@@ -10,8 +10,8 @@ ghost use Rattle.sf_tool.specs.Lines.{IsFirstRefused, SaysMoreOfLines, SaysOfLin
 
 use crate::check::verdict_of;
 use crate::command::grammar_of;
-use crate::escape::{EscapeFault, unescape};
 use crate::formats::{RefusedWord, read_print};
+use sf_arguments::{EscapeFault, unescape};
 use sf_format::{FormatFault, FormatWhy, PrintFormat, Profile, ScanFormat, directive_text};
 use sf_lines::LineFault;
 use sf_messages::{

@@ -2,9 +2,9 @@
 ghost use Rattle.std.specs.Prelude.{IfOk, IfErr};
 ghost use Rattle.sf_tool.specs.Checks.{IsNoPrintWord, IsNoScanWord, IsPrintWord, IsScanWord};
 ghost use Rattle.sf_tool.specs.Commands.{IsBadText};
-ghost use Rattle.sf_tool.specs.Escapes.{Unescapes};
+ghost use Rattle.sf_arguments.specs.Escapes.{Unescapes};
 
-use crate::escape::{EscapeFault, unescape};
+use sf_arguments::{EscapeFault, unescape};
 use sf_format::{PrintFormat, Profile, ScanFormat};
 use sf_messages::{CommandFault, FormatName, format_fault, print_format_fault};
 use std::alloc::Global;

@@ -1,22 +1,19 @@
 //! The command `sf`: records scanned from an input, a line for each; and words printed by a format.
 #![tactic(auto)]
 
-mod argument;
 mod check;
 mod command;
 mod copy;
 mod error_output;
-mod escape;
 mod explain;
 mod formats;
 mod invocation;
 pub mod laws;
 mod lines;
-mod print;
 
 pub use command::carry_out;
 pub use invocation::{run_words, tool};
-pub use print::print_values;
-pub use sf_messages::{ArgumentFault, CommandFault, FormatName};
+pub use sf_arguments::{ArgumentFault, print_values};
+pub use sf_messages::{CommandFault, FormatName};
 pub use sf_records::{ToolEnd, ToolFault, run_copy, run_scan};
 pub use sf_words::{Order, Verb, WordsFault, read_words};

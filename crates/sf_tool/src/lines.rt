@@ -4,15 +4,15 @@ ghost use Rattle.std.specs.Prelude.{◌≡◌, ◌≤◌, ◌<◌, ◌-◌, ℕ,
 ghost use Rattle.sf_format.specs.declared.directive.Directive.{Directive};
 ghost use Rattle.sf_lines.specs.declared.end.LineFault.{LineFault};
 ghost use Rattle.sf_tool.specs.Commands.{form_of, grammar_of};
-ghost use Rattle.sf_tool.specs.Escapes.{Unescapes};
+ghost use Rattle.sf_arguments.specs.Escapes.{Unescapes};
 ghost use Rattle.sf_tool.specs.Explains.{OfWord};
 ghost use Rattle.sf_tool.specs.Lines.{AreScanWords, IsFirstRefused, RunsLines, SaysLines, ScansLines, SomeIsSaid, answer_by, line_text};
 
 use crate::command::{form_of, grammar_of};
 use crate::error_output::write_told;
-use crate::escape::unescape;
 use crate::explain::more_of_line;
 use crate::formats::{RefusedWord, read_scan};
+use sf_arguments::unescape;
 use sf_base::Store;
 use sf_format::{Profile, ScanFormat};
 use sf_lines::{LineFault, LinesEnd, LinesOptions, RecordFault, RecordWriter, Teller, run_lines};

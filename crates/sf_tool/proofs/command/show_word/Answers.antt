@@ -1,5 +1,5 @@
 use Rattle.std.proofs.Common.{inr, rules}
-use Rattle.sf_tool.specs.Escapes.{Unescapes}
+use Rattle.sf_arguments.specs.Escapes.{Unescapes}
 use Rattle.sf_tool.proofs.command.show_word.Goals as goal
 
 pub returns : goal.returns

@@ -1,6 +1,6 @@
 use Rattle.std.proofs.Common.{rules}
 use Rattle.sf_format.specs.Faults.{IsPrintRefused}
-use Rattle.sf_tool.specs.Escapes.{Unescapes}
+use Rattle.sf_arguments.specs.Escapes.{Unescapes}
 use Rattle.sf_tool.proofs.Checking.{no_print_format}
 use Rattle.sf_tool.proofs.formats.read_print.Goals as goal
 

@@ -3,7 +3,7 @@ use Rattle.std.specs.Prelude.{slice_get}
 use Rattle.std.proofs.lemmas.List.{length-map}
 use Rattle.sf_format.specs.declared.directive.Directive.{Directive}
 use Rattle.sf_tool.specs.Commands.{grammar_of}
-use Rattle.sf_tool.specs.Escapes.{Unescapes}
+use Rattle.sf_arguments.specs.Escapes.{Unescapes}
 use Rattle.sf_tool.specs.Explains.{OfWord}
 use Rattle.sf_tool.specs.Lines.{AreNoScanWords, SaysLines, SomeIsSaid}
 use Rattle.sf_tool.proofs.Lining.{as_many, refused_memory, some_said, telling_of}

@@ -1,0 +1,9 @@
+pub mod Escaping
+pub mod Finding
+pub mod Numbers
+pub mod OneAnswer
+pub mod Places
+pub mod PrintAnswering
+pub mod Reading
+pub mod Suiting
+pub mod WordRows

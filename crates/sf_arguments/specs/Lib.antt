@@ -1,0 +1,7 @@
+pub mod Arguments
+pub mod Escapes
+pub mod Laws
+pub mod Names
+pub mod Prints
+pub mod Texts
+pub mod Words

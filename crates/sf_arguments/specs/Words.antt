@@ -1,0 +1,55 @@
+-- What a word of a command stands for. The number of an integer is written as strtol reads it, but for white space and
+-- what follows the digits (C11 7.22.1.4, paragraphs 2 to 5).
+use Rattle.std.specs.Prelude.{◌≡◌, ◌⊎◌, ℕ, ◌<◌, ℤ, Bool, true, false, List, [], ◌∷◌, ◌++◌, length}
+use Rattle.std.specs.List.{AllByRecursion}
+use Rattle.sf_base.specs.Bytes.{magnitude}
+use Rattle.sf_base.specs.Data.{Datum, IsIn}
+use Rattle.sf_base.specs.Data.Datum.{Number, Bytes}
+use Rattle.sf_base.specs.declared.values.Kind.{Kind}
+use Rattle.sf_format.specs.Digits.{is_decimal}
+use Rattle.sf_format.specs.declared.unit.PrintLetter.{PrintLetter}
+use Rattle.sf_format.specs.declared.unit.PrintLetter.TheVariants as letter
+use Rattle.sf_print.specs.Text.{with_sign}
+use Rattle.sf_arguments.specs.Escapes.{Unescapes}
+
+-- ---- numbers
+
+-- a sign (true: a minus): a minus; else a plus or nothing
+abbrev pub IsSign : Bool → List ℕ → Type 0
+IsSign true sign = sign ≡ 45 ∷ []
+IsSign false sign = (sign ≡ []) ⊎ (sign ≡ 43 ∷ [])
+
+-- the word is an optional sign and one or more decimal digits, and z is the number that they denote
+pub record Denotes (word : List ℕ) (z : ℤ) : Type 0 where
+  pub negative : Bool
+  pub sign : List ℕ
+  pub ds : List ℕ
+  pub parts : word ≡ sign ++ ds
+  pub signed : IsSign negative sign
+  pub some : 0 < length ds
+  pub decimal : AllByRecursion (λ b. is_decimal b ≡ true) ds
+  pub number : z ≡ with_sign negative (magnitude 10 ds)
+
+-- ---- values
+
+-- a number that its kind holds
+abbrev pub IsNumberOf : Kind → List ℕ → Datum → Type 0
+IsNumberOf kind word value = (z : ℤ) × Denotes word z × IsIn kind z × (value ≡ Number kind z)
+
+-- What a word stands for where a letter prints a value of a kind: for s the bytes that are left once its escapes are resolved,
+-- for c one such byte, else a number of the kind, written as the word stands.
+abbrev pub StandsFor : PrintLetter → Kind → List ℕ → Datum → Type 0
+StandsFor letter.Text kind word value = (bytes : List ℕ) × Unescapes word bytes × (value ≡ Bytes bytes)
+StandsFor letter.One kind word value = (bytes : List ℕ) × Unescapes word bytes × (length bytes ≡ 1) × (value ≡ Bytes bytes)
+StandsFor letter.Signed kind word value = IsNumberOf kind word value
+StandsFor letter.Unsigned kind word value = IsNumberOf kind word value
+StandsFor letter.Octal kind word value = IsNumberOf kind word value
+StandsFor letter.HexLower kind word value = IsNumberOf kind word value
+StandsFor letter.HexUpper kind word value = IsNumberOf kind word value
+StandsFor letter.Binary kind word value = IsNumberOf kind word value
+
+-- the bytes of a word whose value is a text
+abbrev pub IsReading : PrintLetter → List ℕ → List ℕ → Type 0
+IsReading letter.Text word bytes = Unescapes word bytes
+IsReading letter.One word bytes = Unescapes word bytes
+IsReading _ word bytes = Unit {0}

@@ -1,0 +1,131 @@
+//! What a word stands for.
+ghost use Rattle.std.specs.Prelude.{◌≡◌, ℤ, IfOk, IfSome, IfNone};
+ghost use Rattle.std.specs.Int.RustNames.{FitsSigned};
+ghost use Rattle.std.specs.Int.{w128};
+ghost use Rattle.sf_base.specs.Data.{Datum, datum_of};
+ghost use Rattle.sf_format.specs.declared.unit.PrintLetter.TheVariants.{One, Text};
+ghost use Rattle.sf_arguments.specs.Arguments.{IsNoNumber, IsRefusedBy};
+ghost use Rattle.sf_arguments.specs.Words.{Denotes, IsNumberOf, IsReading, StandsFor};
+
+use crate::argument_fault::ArgumentFault;
+use crate::escape::{escapes_of, resolve};
+use sf_base::{Kind, Value};
+use sf_format::{PrintConv, PrintLetter};
+use std::alloc::{AllocError, Global};
+
+/// The number that a word denotes. None if it denotes none, or one that no kind holds.
+fn number_of(word: &str) -> Option<i128>
+    ensures some { IfSome result (λ z. Denotes word.now z) }
+    ensures none { IfNone result ((z : ℤ) → Denotes word.now z → ¬ (FitsSigned w128 z)) }
+{
+    word.parse::<i128>().ok()
+}
+
+/// The value of a kind that a word denotes: an optional sign and decimal digits, of any number.
+fn integer_of_word<'a>(kind: Kind, word: &str) -> Option<Value<'a>>
+    ensures some { IfSome result (λ v. IsNumberOf kind word.now (datum_of v)) }
+    ensures none { IfNone result ((value : Datum) → ¬ (IsNumberOf kind word.now value)) }
+{
+    let number = number_of(word)?;
+    kind.value(number)
+}
+
+/// The value that a word stands for where the conversion prints it; `text` has its bytes if it is a text.
+pub(crate) fn value_of_word<'a>(conv: &PrintConv, word: &str, text: &'a [u8]) -> Value<'a>
+    requires text { IsReading conv.now.letter word.now text.now }
+    requires stands { (value : Datum) × StandsFor conv.now.letter conv.now.kind word.now value }
+    ensures { StandsFor conv.now.letter conv.now.kind word.now (datum_of result) }
+{
+    match conv.letter {
+        PrintLetter::Text | PrintLetter::One => Value::Text(text),
+        PrintLetter::Signed
+        | PrintLetter::Unsigned
+        | PrintLetter::Octal
+        | PrintLetter::HexLower
+        | PrintLetter::HexUpper
+        | PrintLetter::Binary => match integer_of_word(conv.kind, word) {
+            Some(value) => value,
+            None => unreachable!(),
+        },
+    }
+}
+
+/// Why a word stands for no text.
+fn fault_of_text(conv: &PrintConv, word: &str) -> Option<ArgumentFault>
+    ensures fault { IfSome result (IsRefusedBy Text conv.now word.now) }
+    ensures none { IfNone result ((value : Datum) × StandsFor Text conv.now.kind word.now value) }
+{
+    match escapes_of(word.as_bytes()) {
+        Ok(_) => None,
+        Err(offset) => Some(ArgumentFault::BadEscape {
+            at: conv.slot,
+            offset,
+        }),
+    }
+}
+
+/// Why a word stands for no text of one byte.
+fn fault_of_one(conv: &PrintConv, word: &str) -> Option<ArgumentFault>
+    ensures fault { IfSome result (IsRefusedBy One conv.now word.now) }
+    ensures none { IfNone result ((value : Datum) × StandsFor One conv.now.kind word.now value) }
+{
+    match escapes_of(word.as_bytes()) {
+        Ok(1) => None,
+        Ok(_) => Some(ArgumentFault::NotOneByte { at: conv.slot }),
+        Err(offset) => Some(ArgumentFault::BadEscape {
+            at: conv.slot,
+            offset,
+        }),
+    }
+}
+
+/// Why a word stands for no number of the conversion's kind.
+fn fault_of_number(conv: &PrintConv, word: &str) -> Option<ArgumentFault>
+    ensures fault { IfSome result (IsNoNumber conv.now word.now) }
+    ensures none { IfNone result ((value : Datum) × IsNumberOf conv.now.kind word.now value) }
+{
+    match integer_of_word(conv.kind, word) {
+        Some(_) => None,
+        None => Some(ArgumentFault::NotInKind {
+            at: conv.slot,
+            kind: conv.kind,
+        }),
+    }
+}
+
+/// Why a word stands for no value that the conversion prints; None where it stands for one. It takes no memory.
+pub(crate) fn fault_of_word(conv: &PrintConv, word: &str) -> Option<ArgumentFault>
+    ensures fault { IfSome result (IsRefusedBy conv.now.letter conv.now word.now) }
+    ensures none { IfNone result ((value : Datum) × StandsFor conv.now.letter conv.now.kind word.now value) }
+{
+    match conv.letter {
+        PrintLetter::Text => fault_of_text(conv, word),
+        PrintLetter::One => fault_of_one(conv, word),
+        PrintLetter::Signed
+        | PrintLetter::Unsigned
+        | PrintLetter::Octal
+        | PrintLetter::HexLower
+        | PrintLetter::HexUpper
+        | PrintLetter::Binary => fault_of_number(conv, word),
+    }
+}
+
+/// The bytes of a word whose value is a text.
+pub(crate) fn text_of_word(
+    alloc: Global,
+    conv: &PrintConv,
+    word: &str,
+) -> Result<Vec<u8>, AllocError>
+    requires { (value : Datum) × StandsFor conv.now.letter conv.now.kind word.now value }
+    ensures { IfOk result (λ text. IsReading conv.now.letter word.now text.items) }
+{
+    match conv.letter {
+        PrintLetter::Text | PrintLetter::One => resolve(alloc, word.as_bytes()),
+        PrintLetter::Signed
+        | PrintLetter::Unsigned
+        | PrintLetter::Octal
+        | PrintLetter::HexLower
+        | PrintLetter::HexUpper
+        | PrintLetter::Binary => Ok(Vec::new(alloc)),
+    }
+}

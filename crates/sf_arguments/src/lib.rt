@@ -1,0 +1,14 @@
+//! Words as values: their escapes, the value that each stands for where a conversion prints it, and a print of them.
+#![tactic(auto)]
+
+mod argument;
+mod argument_fault;
+mod escape;
+pub mod laws;
+mod names;
+mod print;
+
+pub use argument_fault::ArgumentFault;
+pub use escape::{EscapeFault, unescape};
+pub use names::kind_text;
+pub use print::print_values;
