@@ -1,4 +1,4 @@
-use Rattle.std.proofs.Common.{true, List, ℕ, take, drop, sym, ap, subst}
+use Rattle.std.proofs.Common.{true, List, ℕ, take, drop, sym, ap, subst, rules}
 use Rattle.sf_base.specs.Data.{Bytes}
 use Rattle.sf_run.specs.declared.directive.Finished.{Finished}
 use Rattle.sf_run.specs.Phases.{end_of}
@@ -16,3 +16,6 @@ returns-in-Ok-clause-gives c =
     subst (λ (f : Finished). GivesTo (end_of (take e.item (drop e.before c.args.piece.now)) f) true old new) (sym c.in-Closes.is)
     (subst (λ (y : List ℕ). GivesTo (Stores slot (Bytes y)) true old new) (ap (take e.item) c.split_at.ensures.back)
     (text_given slot (take e.item c.split_at.result.1.now) new.room old new c.in-Ok.ensures.ok))
+
+pub returns-in-Err-clause-gives : goal.returns-in-Err-clause-gives
+returns-in-Err-clause-gives c = search rules

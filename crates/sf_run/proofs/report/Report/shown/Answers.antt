@@ -1,0 +1,5 @@
+use Rattle.std.proofs.Common.{rules}
+use Rattle.sf_run.proofs.report.Report.shown.Goals as goal
+
+pub returns : goal.returns
+returns c = search rules
