@@ -1,5 +1,5 @@
 use Rattle.std.proofs.Common.{rules}
-use Rattle.sf_run.proofs.report.Scanned.into_store.Goals as goal
+use Rattle.sf_report.proofs.report.Scanned.into_store.Goals as goal
 
 pub returns-clause-kept : goal.returns-clause-kept
 returns-clause-kept c = search rules

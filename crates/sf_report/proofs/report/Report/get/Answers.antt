@@ -1,5 +1,5 @@
 use Rattle.std.proofs.Common.{rules}
-use Rattle.sf_run.proofs.report.Report.get.Goals as goal
+use Rattle.sf_report.proofs.report.Report.get.Goals as goal
 
 pub returns-in_err-value-clause-exactly : goal.returns-in_err-value-clause-exactly
 returns-in_err-value-clause-exactly c = search rules
