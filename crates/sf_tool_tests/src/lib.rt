@@ -1,4 +1,4 @@
-//! Tests of `sf_tool`.
+//! Tests of `sf_arguments` and `sf_tool`.
 #![tactic(auto)]
 
 #[cfg(test)]
@@ -15,3 +15,5 @@ mod places;
 mod prints;
 #[cfg(test)]
 mod profiles;
+#[cfg(test)]
+mod words;
