@@ -39,7 +39,7 @@ static KINDS: [(Kind, &str); 9] = [
 #[test]
 fn kinds_have_names(rt: HostRuntime) -> Result<(), Fail> {
     for (kind, name) in &KINDS {
-        is(&rt, &kind_text(*kind), name, name);
+        is(&rt, &kind_text(*kind), name, kind);
     }
     Ok(())
 }
