@@ -1,11 +1,10 @@
 //! The program `sf`.
 #![tactic(auto)]
 
-mod output;
 mod telling;
 
-use crate::output::Output;
 use crate::telling::{Behind, Shared};
+use sf_blocks::BlockSink;
 use sf_print::StdSink;
 use sf_read::StdSource;
 use sf_tool::{CommandFault, read_words, tool};
@@ -54,9 +53,9 @@ fn main(rt: HostRuntime) -> ExitCode {
         Err(_) => return stopped(&rt, CommandFault::Memory),
     };
     let opened = if is_awaited(&rt, alloc, &words) {
-        Output::at_once(alloc, rt.stdout())
+        Ok(BlockSink::at_once(alloc, rt.stdout()))
     } else {
-        Output::in_blocks(alloc, rt.stdout())
+        BlockSink::in_blocks(alloc, rt.stdout())
     };
     let Ok(output) = opened else {
         return stopped(&rt, CommandFault::Memory);

@@ -2,10 +2,10 @@
 ghost use Rattle.std.specs.Prelude.{◌<◌, length, IfOk};
 ghost use Rattle.std.specs.Io.{WritesAtMost};
 
-use crate::output::Output;
+use sf_blocks::BlockSink;
 use sf_print::{Sink, SinkFault};
 use std::cell::RefCell;
-use std::io::{self, ErrorKind, Write};
+use std::io::{self, Write};
 
 /// The line of a failed write, which is told once.
 const WRITE_FAULT: &[u8] = b"sf: write fault\n";
@@ -13,35 +13,26 @@ const WRITE_FAULT: &[u8] = b"sf: write fault\n";
 /// The output, whose buffer the error output flushes.
 #[derive(Drop)]
 pub(crate) struct Shared<'a, W: Write + Drop> {
-    output: &'a RefCell<Output<W>>,
+    output: &'a RefCell<BlockSink<W>>,
     failures: u64,
 }
 
 impl<'a, W: Write + Drop> Shared<'a, W> {
-    pub(crate) fn new(output: &'a RefCell<Output<W>>) -> Shared<'a, W> {
+    pub(crate) fn new(output: &'a RefCell<BlockSink<W>>) -> Shared<'a, W> {
         Shared {
             output,
             failures: 0,
         }
     }
 
-    /// Whether the output holds the bytes back.
+    /// What the output takes of the bytes.
     #[inline(always)]
-    fn are_held(&self, bytes: &[u8]) -> bool {
-        match self.output.try_borrow_mut() {
-            Ok(mut output) => output.holds(bytes),
-            Err(_) => false,
-        }
-    }
-
-    /// What the output takes of bytes that it doesn't hold back.
-    #[inline(never)]
-    fn taken_behind(&self, bytes: &[u8]) -> Result<usize, SinkFault>
+    fn taken(&self, bytes: &[u8]) -> Result<usize, SinkFault>
         ensures most { WritesAtMost result bytes.now }
         ensures some { 0 < length bytes.now → IfOk result (λ n. 0 < n) }
     {
         match self.output.try_borrow_mut() {
-            Ok(mut output) => output.take_behind(bytes),
+            Ok(mut output) => output.write(bytes),
             Err(_) => Err(SinkFault),
         }
     }
@@ -56,10 +47,7 @@ impl<W: Write + Drop> Sink for Shared<'_, W> {
 
     #[inline(always)]
     fn write(&mut self, bytes: &[u8]) -> Result<usize, SinkFault> {
-        if self.are_held(bytes) {
-            return Ok(bytes.len());
-        }
-        let taken = self.taken_behind(bytes);
+        let taken = self.taken(bytes);
         if taken.is_err() {
             self.failures = self.failures.saturating_add(1);
         }
@@ -68,17 +56,17 @@ impl<W: Write + Drop> Sink for Shared<'_, W> {
 }
 
 /// Writes what the output holds back.
-fn flush<W: Write + Drop>(output: &RefCell<Output<W>>) -> io::Result<()> {
+fn flush<W: Write + Drop>(output: &RefCell<BlockSink<W>>) -> Result<(), SinkFault> {
     match output.try_borrow_mut() {
         Ok(mut output) => output.flush(),
-        Err(_) => Err(io::Error::from(ErrorKind::Other)),
+        Err(_) => Err(SinkFault),
     }
 }
 
 /// The error output. Each text that it is handed is written at once and whole, behind what the output holds back.
 #[derive(Drop)]
 pub(crate) struct Behind<'a, W: Write + Drop, E: Write + Drop> {
-    output: &'a RefCell<Output<W>>,
+    output: &'a RefCell<BlockSink<W>>,
     errors: E,
     /// Whether a flush of the output failed.
     unflushed: bool,
@@ -87,7 +75,7 @@ pub(crate) struct Behind<'a, W: Write + Drop, E: Write + Drop> {
 }
 
 impl<'a, W: Write + Drop, E: Write + Drop> Behind<'a, W, E> {
-    pub(crate) fn new(output: &'a RefCell<Output<W>>, errors: E) -> Behind<'a, W, E> {
+    pub(crate) fn new(output: &'a RefCell<BlockSink<W>>, errors: E) -> Behind<'a, W, E> {
         Behind {
             output,
             errors,

@@ -1,0 +1,61 @@
+-- The bytes of a block that wait for a writer.
+use Rattle.std.proofs.Common.{◌≡◌, ℕ, ◌+◌, ◌-◌, ◌≤◌, List, [], ◌++◌, length, take, drop, ap, sym, ◌∙◌, arith, append_assoc, append-nil, Option, Some, None}
+use Rattle.std.specs.List.{slice_range}
+use Rattle.std.proofs.lemmas.List.{length-append, take-append-drop, drop-take, drop-drop, drop-append-le, length-take-le, length-drop}
+use Rattle.std.proofs.Math.Seq.{take-append-add, take-append_seam}
+use Rattle.std.specs.Io.KnownBytes.{Appends, Keeps, append_known}
+
+length-range : (block : List ℕ) (start end : ℕ) → end ≤ length block → length (slice_range block start end) ≡ end - start
+length-range block start end e = let l = length-drop start block in length-take-le (end - start) (drop start block) (omega arith)
+
+-- Bytes that are copied behind the waiting ones wait behind them.
+pub waits_behind : (block bytes : List ℕ) (start end : ℕ) → start ≤ end → end ≤ length block
+    → slice_range (take end block ++ (bytes ++ drop (end + length bytes) block)) start (end + length bytes) ≡ slice_range block start end ++ bytes
+waits_behind block bytes start end s e =
+    let rest : List ℕ = drop (end + length bytes) block in
+    let whole = length-take-le end block e in
+    let waits : drop start (take end block) ≡ slice_range block start end =
+    ap (λ (n : ℕ). drop start (take n block)) {x = end} {y = start + (end - start)} (omega arith) ∙ drop-take start (end - start) block in
+    let count = length-range block start end e in
+    ap (λ (t : List ℕ). take (end + length bytes - start) t) (drop-append-le start (take end block) (bytes ++ rest) (omega arith) ∙ ap (λ (t : List ℕ). t ++ (bytes ++ rest)) waits)
+    ∙ ap (λ (n : ℕ). take n (slice_range block start end ++ (bytes ++ rest))) {x = end + length bytes - start} {y = length (slice_range block start end) + length bytes} (omega arith)
+    ∙ take-append-add (slice_range block start end) (bytes ++ rest) (length bytes)
+    ∙ ap (λ (t : List ℕ). slice_range block start end ++ t) (take-append_seam bytes rest)
+
+-- Where the writer took the first n of the waiting bytes, the others wait.
+pub others_wait : (block : List ℕ) (start end n : ℕ) → start ≤ end → end ≤ length block → n ≤ length (slice_range block start end)
+    → slice_range block start end ≡ take n (slice_range block start end) ++ slice_range block (start + n) end
+others_wait block start end n s e most =
+    let count = length-range block start end e in
+    sym (take-append-drop n (slice_range block start end))
+    ∙ ap (λ (t : List ℕ). take n (slice_range block start end) ++ t)
+    (ap (λ (m : ℕ). drop n (take m (drop start block))) {x = end - start} {y = n + (end - (start + n))} (omega arith)
+    ∙ drop-take n (end - (start + n)) (drop start block)
+    ∙ ap (λ (t : List ℕ). take (end - (start + n)) t) (drop-drop n start block))
+
+-- What is known of the bytes stays, where a writer takes a front of those that wait.
+pub kept_on : (k old new : Option (List ℕ)) (waiting front rest : List ℕ) → waiting ≡ front ++ rest → Keeps k (append_known old waiting) → Appends old new front → Keeps k (append_known new rest)
+kept_on None old new waiting front rest cut kept took = tt
+kept_on (Some k) None new waiting front rest cut kept took = absurd kept
+kept_on (Some k) (Some old) None waiting front rest cut kept took = absurd took
+kept_on (Some k) (Some old) (Some new) waiting front rest cut kept took = ap (λ (t : List ℕ). t ++ rest) took ∙ append_assoc old front rest ∙ ap (λ (t : List ℕ). old ++ t) (sym cut) ∙ kept
+
+-- What is known of the bytes, with more behind it.
+pub waits_too : (old : Option (List ℕ)) (waiting bytes now : List ℕ) → now ≡ waiting ++ bytes → Appends (append_known old waiting) (append_known old now) bytes
+waits_too None waiting bytes now more = tt
+waits_too (Some old) waiting bytes now more = ap (λ (t : List ℕ). old ++ t) more ∙ sym (append_assoc old waiting bytes)
+
+-- A block in which bytes were written over others has its length.
+pub length-over : (block bytes : List ℕ) (at : ℕ) → at + length bytes ≤ length block → length (take at block ++ (bytes ++ drop (at + length bytes) block)) ≡ length block
+length-over block bytes at fits =
+    let rest : List ℕ = drop (at + length bytes) block in
+    let a = length-take-le at block (omega arith) in
+    let b = length-drop (at + length bytes) block in
+    let c = length-append bytes rest in
+    let d = length-append (take at block) (bytes ++ rest) in
+    omega arith
+
+-- Where nothing is held back and nothing waits, the bytes are the writer's.
+pub writer_has_all : (known given : Option (List ℕ)) (held : List ℕ) → known ≡ given → held ≡ [] → append_known (append_known known held) [] ≡ given
+writer_has_all None given held same none = same
+writer_has_all (Some known) given held same none = ap (λ (t : List ℕ). Some t) (append-nil (known ++ held) ∙ ap (λ (t : List ℕ). known ++ t) none ∙ append-nil known) ∙ same

@@ -1,0 +1,13 @@
+use Rattle.std.proofs.Common.{◌-◌, ◌≡◌}
+use Rattle.std.specs.Io.KnownBytes.{Keeps}
+use Rattle.sf_blocks.specs.Blocks.{taken_by}
+use Rattle.sf_blocks.proofs.block_sink.BlockSink.hand_on.Given as goal
+
+abbrev pub invariant-loop-self : goal.invariant-loop-self
+invariant-loop-self g l = record {
+  contents : Keeps (taken_by l.fn.self) (taken_by l.self);
+  failures : l.self.failures ≡ l.fn.self.failures;
+}
+
+abbrev pub decreases-loop-self : goal.decreases-loop-self
+decreases-loop-self g l = l.self.end - l.self.start

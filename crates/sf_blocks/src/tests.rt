@@ -1,0 +1,116 @@
+//! Tests over a writer that takes as few bytes as it likes, and fails once.
+use crate::BlockSink;
+use sf_print::Sink;
+use std::alloc::Global;
+use std::io::{self, ErrorKind, Write};
+use std::process::Abort;
+use std::test::Fail;
+
+/// A writer, with the bytes that it took.
+#[derive(Drop)]
+struct Device {
+    bytes: Vec<u8>,
+    /// The most bytes that it takes at once.
+    most: usize,
+    /// How many calls come before the one that fails.
+    before_failure: u64,
+}
+
+impl Device {
+    fn new(alloc: Global, most: usize, before_failure: u64) -> Device {
+        Device {
+            bytes: Vec::new(alloc),
+            most,
+            before_failure,
+        }
+    }
+}
+
+impl Write for Device {
+    fn write(&mut self, bytes: &[u8]) -> io::Result<usize> {
+        let fails = self.before_failure == 0;
+        self.before_failure = self.before_failure.wrapping_sub(1);
+        if fails {
+            return Err(io::Error::from(ErrorKind::Other));
+        }
+        let front = &bytes[..bytes.len().min(self.most)];
+        self.bytes.extend_from_slice(front)?;
+        Ok(front.len())
+    }
+
+    fn flush(&mut self) -> io::Result<()> {
+        Ok(())
+    }
+}
+
+/// Writes the text, and asks again for what wasn't taken.
+fn write_whole(sink: &mut BlockSink<Device>, text: &[u8]) {
+    let mut rest = text;
+    for _ in 0..text.len() + 1 {
+        if let Ok(count) = sink.write(rest) {
+            rest = &rest[count..];
+        }
+    }
+}
+
+/// Whether the bytes are so many texts of seven bytes, one behind the other.
+fn are_texts(bytes: &[u8], text: &[u8], count: usize) -> bool {
+    bytes.chunks(7).len() == count && bytes.chunks(7).all(|piece| piece == text)
+}
+
+/// The most bytes that a writer takes at once, and how many calls come before the one that fails.
+static DEVICES: [(usize, u64); 8] = [
+    (1, u64::MAX),
+    (3, u64::MAX),
+    (4001, u64::MAX),
+    (100000, u64::MAX),
+    (3, 0),
+    (3, 1),
+    (4001, 1),
+    (100000, 1),
+];
+
+/// No byte is lost, and none comes twice, also where a write fails.
+#[test]
+fn short_texts_go_in_blocks(rt: HostRuntime) -> Result<(), Fail> {
+    for &(most, before_failure) in &DEVICES {
+        let device = Device::new(rt.alloc(), most, before_failure);
+        let mut sink = BlockSink::in_blocks(rt.alloc(), device)?;
+        for _ in 0..3000u16 {
+            write_whole(&mut sink, b"record\n");
+        }
+        let _ = sink.flush();
+        let flushed = sink.flush().is_ok() && are_texts(&sink.writer().bytes, b"record\n", 3000);
+        assert!(rt; flushed, "at {most}, {before_failure}");
+    }
+    Ok(())
+}
+
+/// A text that is longer than all that is held back comes behind the short ones before it.
+#[test]
+fn a_long_text_comes_behind(rt: HostRuntime) -> Result<(), Fail> {
+    let mut sink = BlockSink::in_blocks(rt.alloc(), Device::new(rt.alloc(), 9000, u64::MAX))?;
+    let mut long = Vec::new(rt.alloc());
+    for _ in 0..2000u16 {
+        long.extend_from_slice(b"record\n")?;
+    }
+    write_whole(&mut sink, b"record\n");
+    write_whole(&mut sink, &long);
+    write_whole(&mut sink, b"record\n");
+    let flushed = sink.flush().is_ok() && are_texts(&sink.writer().bytes, b"record\n", 2002);
+    assert!(rt; flushed);
+    Ok(())
+}
+
+/// Where nothing is held back, the writer has each text at once.
+#[test]
+fn texts_go_at_once(rt: HostRuntime) {
+    let mut sink = BlockSink::at_once(rt.alloc(), Device::new(rt.alloc(), 9, u64::MAX));
+    for count in 1..4usize {
+        write_whole(&mut sink, b"record\n");
+        assert!(rt;
+            are_texts(&sink.writer().bytes, b"record\n", count),
+            "at {count}"
+        );
+    }
+}
