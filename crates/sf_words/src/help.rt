@@ -31,7 +31,7 @@ pub(crate) const SCAN: &str = "Examples:
   sf scan --lines --skip 1 -e '%d,%d' -e '%d' < points  behind the first line, two numbers or one
 
 Exit status:
-  0  each record or line was scanned, and the input ended where a record may begin
+  0  each record or line was scanned, and the input ended before the first conversion of another record
   1  a record or a line failed, a record took no bytes, or there were too many
   2  the words or a format were at fault
   3  standard input could not be read, or standard output not written
@@ -66,7 +66,7 @@ pub(crate) const COPY: &str = "Examples:
   sf copy '%+d;' '%3d;' < numbers                each number with its sign
 
 Exit status:
-  0  each record was copied, and the input ended where a record may begin
+  0  each record was copied, and the input ended before the first conversion of another record
   1  a record failed or took no bytes, its values did not fit, or there were too many records
   2  the words, a format or the pair of formats were at fault
   3  standard input could not be read, or standard output not written

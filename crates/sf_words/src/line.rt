@@ -225,7 +225,7 @@ fn check<'a>(alloc: Global) -> Result<Command<'a>, AllocError>
     with_options(
         alloc,
         "check",
-        "Tell whether a scan format reads back whatever a print format writes",
+        "Tell whether a scan format reads back what a print format writes of values that fit it",
         help::CHECK,
     )?
     .arg(word(alloc, "PRINT", "The print format"))?

@@ -17,7 +17,7 @@ fn help(rt: &impl Abort, alloc: Global, words: &str) -> Result<String, Fail> {
 }
 
 /// A command, what its help says first, how it is called, examples and options, and the statuses that it ends with.
-const HELPS: [(&str, &str, &str, &[&str], &[&str]); 5] = [
+static HELPS: [(&str, &str, &str, &[&str], &[&str]); 5] = [
     (
         "show",
         "Show the directives of a scan format, each on a line",
@@ -57,7 +57,7 @@ const HELPS: [(&str, &str, &str, &[&str], &[&str]); 5] = [
     ),
     (
         "check",
-        "Tell whether a scan format reads back whatever a print format writes",
+        "Tell whether a scan format reads back what a print format writes of values that fit it",
         "Usage: sf check [OPTIONS] <PRINT> <SCAN>",
         &[
             "\n  sf check '%d\\n' '%11d%*1[\\n]'",
@@ -80,7 +80,7 @@ const HELPS: [(&str, &str, &str, &[&str], &[&str]); 5] = [
 #[test]
 fn helps_of_commands(rt: HostRuntime) -> Result<(), Fail> {
     let alloc = rt.alloc();
-    for (command, about, call, examples, statuses) in HELPS {
+    for &(command, about, call, examples, statuses) in &HELPS {
         let text = help(&rt, alloc, format!(in alloc; "help|{command}")?.as_str())?;
         assert_eq!(rt; first_line(&text), about);
         assert!(rt; text.contains(call), "at {command}: {text}");
@@ -113,7 +113,7 @@ fn help_of_the_program(rt: HostRuntime) -> Result<(), Fail> {
             first_line(&text),
             "Scan and print records by formats, as fscanf and fprintf of C do"
         );
-        for (command, about, _, _, _) in HELPS {
+        for &(command, about, _, _, _) in &HELPS {
             assert!(rt;
                 text.contains(format!(in alloc; "\n  {command}")?.as_str()),
                 "at {command}: {text}"

@@ -45,7 +45,7 @@ fn line_of(alloc: Global, order: &Order) -> Result<String, Fail> {
 }
 
 /// Words, and the order that they make.
-const ORDERS: [(&str, &str); 58] = [
+static ORDERS: [(&str, &str); 58] = [
     ("show|%3d,%*s", "Show 1048576 |%3d,%*s"),
     ("scan|%d,%d", "Scan 1048576 |%d,%d"),
     ("scan|--limit|3|%s", "Scan 3 |%s"),
@@ -154,7 +154,7 @@ const ORDERS: [(&str, &str); 58] = [
 #[test]
 fn taken_words(rt: HostRuntime) -> Result<(), Fail> {
     let alloc = rt.alloc();
-    for (words, wanted) in ORDERS {
+    for &(words, wanted) in &ORDERS {
         let order = answer(alloc, words)??;
         assert_eq!(rt; line_of(alloc, &order)?.as_str(), wanted, "at {words}");
     }

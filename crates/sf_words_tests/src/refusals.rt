@@ -4,7 +4,7 @@ use sf_words::WordsFault;
 use std::test::Fail;
 
 /// Words, the first line that is said of them, and how the command is called, where that is said.
-const REFUSALS: [(&str, &str, &str); 46] = [
+static REFUSALS: [(&str, &str, &str); 46] = [
     (
         "scan",
         "error: the following required arguments were not provided:",
@@ -240,7 +240,7 @@ const REFUSALS: [(&str, &str, &str); 46] = [
 #[test]
 fn refused_words(rt: HostRuntime) -> Result<(), Fail> {
     let alloc = rt.alloc();
-    for (words, first, call) in REFUSALS {
+    for &(words, first, call) in &REFUSALS {
         let Err(WordsFault::Usage(text)) = answer(alloc, words)? else {
             assert!(rt; false, "{words} is not refused");
             continue;
