@@ -125,7 +125,7 @@ const FAILED: Outcome = Outcome {
 
 const WIDE: (&str, &str) = ("%d,%s\n", "%11d,%20s%*1[\n]");
 
-const ROWS: [Row; 7] = [
+static ROWS: [Row; 7] = [
     Row {
         formats: WIDE,
         text: b" +7,ab\n08,c\n",

@@ -37,11 +37,11 @@ fn read_fails_behind(alloc: Global, at: usize) -> Result<(ToolEnd, ListSink, u64
 
 /// Where a read fails behind so many bytes of TEXT: how many records are written by then, each in the run that ends with
 /// its line end.
-const CUTS: [u32; 13] = [0, 0, 0, 0, 0, 0, 0, 1, 1, 1, 1, 1, 2];
+static CUTS: [u32; 13] = [0, 0, 0, 0, 0, 0, 0, 1, 1, 1, 1, 1, 2];
 
 #[test]
 fn each_read_fails_in_turn(rt: HostRuntime) -> Result<(), Fail> {
-    for (at, records) in CUTS.into_iter().enumerate() {
+    for (at, &records) in CUTS.iter().enumerate() {
         let (end, out, failures) = read_fails_behind(rt.alloc(), at)?;
         let wanted = ToolEnd {
             status: 3,

@@ -34,7 +34,7 @@ const NO_MATCH: Outcome = Outcome {
 };
 
 /// The faults of a loop over records, and their texts.
-const FAULTS: [(ToolFault, &str); 7] = [
+static FAULTS: [(ToolFault, &str); 7] = [
     (
         ToolFault::Failed {
             number: 3,
@@ -55,7 +55,7 @@ const FAULTS: [(ToolFault, &str); 7] = [
 
 #[test]
 fn faults_of_record_loops(rt: HostRuntime) -> Result<(), Fail> {
-    for (fault, wanted) in FAULTS {
+    for &(fault, wanted) in &FAULTS {
         is_error(rt.alloc(), fault, wanted)?;
     }
     Ok(())

@@ -45,7 +45,7 @@ struct Row {
     json: &'static [u8],
 }
 
-const ROWS: [Row; 7] = [
+static ROWS: [Row; 7] = [
     Row {
         format: "%d,%19[^,\n]%*1[\n]",
         text: b"12,ab\n-7,\"c d\"\n",

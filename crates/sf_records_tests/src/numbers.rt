@@ -74,7 +74,7 @@ const MOST_U32: u64 = 4294967295;
 
 const MOST_U64: u64 = 18446744073709551615;
 
-const SIGNED: [Row; 12] = [
+static SIGNED: [Row; 12] = [
     (("%hhd;", "%24hhd;"), MOST_I8, Letter::Signed),
     (("%hd;", "%24hd;"), MOST_I16, Letter::Signed),
     (("%d;", "%24d;"), MOST_I32, Letter::Signed),
@@ -89,7 +89,7 @@ const SIGNED: [Row; 12] = [
     (("%li;", "%24li;"), MOST_I64, Letter::Auto),
 ];
 
-const UNSIGNED: [Row; 17] = [
+static UNSIGNED: [Row; 17] = [
     (("%hhu;", "%24hhu;"), MOST_U8, Letter::Unsigned),
     (("%hu;", "%24hu;"), MOST_U16, Letter::Unsigned),
     (("%u;", "%24u;"), MOST_U32, Letter::Unsigned),

@@ -20,7 +20,7 @@ enum Letter {
 /// A pair of formats for one text, its letter, and the byte that ends it.
 type Row = ((&'static str, &'static str), Letter, &'static [u8]);
 
-const TEXTS: [Row; 5] = [
+static TEXTS: [Row; 5] = [
     (("%s\n", "%24s%*1[\n]"), Letter::Word, b"\n"),
     (("%s;", "%24[^;];"), Letter::Member, b";"),
     (("%c", "%c"), Letter::Chars(1), b""),
