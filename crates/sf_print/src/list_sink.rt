@@ -1,5 +1,8 @@
 //! A sink in memory.
-ghost use Rattle.std.specs.Prelude.{◌≡◌, Some, []};
+ghost use Rattle.std.specs.Prelude.{◌≡◌, ◌<◌, Some, [], IfOk, length, is_err, if◌then◌else◌};
+ghost use Rattle.std.specs.Io.{WritesAtMost};
+ghost use Rattle.std.specs.Io.KnownBytes.{WriteAppends};
+ghost use Rattle.sf_print.specs.Sinks.{counted_on};
 
 use crate::sink::{Sink, SinkFault};
 use std::alloc::Global;
@@ -44,7 +47,15 @@ impl Sink for ListSink {
 
     ghost failures = { λ s. s.failures };
 
-    fn write(&mut self, bytes: &[u8]) -> Result<usize, SinkFault> {
+    /// Takes the whole piece, or fails.
+    fn write(&mut self, bytes: &[u8]) -> Result<usize, SinkFault>
+        ensures most { WritesAtMost result bytes.now }
+        ensures some { 0 < length bytes.now → IfOk result (λ n. 0 < n) }
+        ensures took { WriteAppends (Some self.old.bytes) (Some self.new.bytes) result bytes.now }
+        ensures failures { self.new.failures
+            ≡ (if is_err result then counted_on self.old.failures else self.old.failures) }
+        ensures all { IfOk result (λ n. n ≡ length bytes.now) }
+    {
         match self.list.extend_from_slice(bytes) {
             Ok(()) => Ok(bytes.len()),
             Err(_) => {

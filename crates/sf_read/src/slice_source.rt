@@ -1,5 +1,8 @@
 //! Bytes of a slice.
-ghost use Rattle.std.specs.Prelude.{◌≡◌};
+ghost use Rattle.std.specs.Prelude.{◌≡◌, Some, IfOk, is_err, false, length, min};
+ghost use Rattle.std.specs.Io.{ReadsAtMost};
+ghost use Rattle.std.specs.Io.KnownBytes.{ReadConsumes};
+ghost use Rattle.sf_read.specs.Counts.{counted_on};
 
 use crate::{Source, SourceFault};
 use std::marker::Model;
@@ -39,7 +42,14 @@ impl Source for SliceSource<'_> {
 
     ghost failures = { λ s. 0 };
 
-    fn read(&mut self, buf: &mut [u8]) -> Result<usize, SourceFault> {
+    /// Gives as many bytes as the buffer holds, or all that are left.
+    fn read(&mut self, buf: &mut [u8]) -> Result<usize, SourceFault>
+        ensures bound { ReadsAtMost result buf.new }
+        ensures bytes { ReadConsumes (Some self.old.to_come) (Some self.new.to_come) result buf.new }
+        ensures reads { self.new.reads ≡ counted_on self.old.reads }
+        ensures never { is_err result ≡ false }
+        ensures count { IfOk result (λ count. count ≡ min (length buf.new) (length self.old.to_come)) }
+    {
         let count = buf.len().min(self.rest.len());
         let (front, rest) = self.rest.split_at(count);
         buf[..count].copy_from_slice(front);
