@@ -1,14 +1,17 @@
 //! Texts and their lines, as fgets reads them (C11 7.21.7.2), without their line ends.
+ghost use Rattle.std.specs.Prelude.{◌≤◌};
+
 use sf_lines::{LineRead, next_line};
 use sf_read::{Lookahead, ReadStep, ScriptSource, SliceSource, Source};
 use std::alloc::Global;
+use std::process::Abort;
 use std::test::Fail;
 
 /// The most lines that a test reads.
 const MOST: usize = 16;
 
 /// Texts, and their lines with a bar behind each.
-const ROWS: [(&str, &str); 8] = [
+static ROWS: [(&str, &str); 8] = [
     ("", ""),
     ("\n", "|"),
     ("a", "a|"),
@@ -42,23 +45,34 @@ fn listed<S: Source, const N: usize>(
     Ok((out, LineRead::Endless))
 }
 
+/// Read in blocks of N bytes, the text has these lines, and then its end.
+fn has_lines<const N: usize>(
+    rt: &(impl Abort + AllocGlobal),
+    text: &str,
+    limit: usize,
+    wanted: &str,
+) -> Result<(), Fail>
+    requires few { N ≤ 4096 }
+    requires some { 1 ≤ N }
+{
+    let mut from = Lookahead::<SliceSource<'_>, N>::new(SliceSource::new(text.as_bytes()));
+    let (out, last) = listed(rt.alloc(), &mut from, limit)?;
+    let found = (out.as_slice(), last);
+    assert_eq!(rt; found, (wanted.as_bytes(), LineRead::End), "at {text:?}");
+    Ok(())
+}
+
 #[test]
 fn texts_are_cut_into_lines(rt: HostRuntime) -> Result<(), Fail> {
-    for (text, wanted) in ROWS {
-        let mut from = Lookahead::<SliceSource<'_>, 1>::new(SliceSource::new(text.as_bytes()));
-        let (out, last) = listed(rt.alloc(), &mut from, 8)?;
-        assert_eq!(rt; out.as_slice(), wanted.as_bytes());
-        assert_eq!(rt; last, LineRead::End);
-        let mut from = Lookahead::<SliceSource<'_>, 3>::new(SliceSource::new(text.as_bytes()));
-        let (out, last) = listed(rt.alloc(), &mut from, 8)?;
-        assert_eq!(rt; out.as_slice(), wanted.as_bytes());
-        assert_eq!(rt; last, LineRead::End);
+    for &(text, wanted) in &ROWS {
+        has_lines::<1>(&rt, text, 8, wanted)?;
+        has_lines::<3>(&rt, text, 8, wanted)?;
     }
     Ok(())
 }
 
 /// Texts, and their lines of at most two bytes.
-const LONG: [(&str, &str); 4] = [
+static LONG: [(&str, &str); 4] = [
     ("ab\nabc\nd", "ab|ab!|d|"),
     ("abcdefgh\n\nab", "ab!||ab|"),
     ("ab\nabcd", "ab|ab!|"),
@@ -67,15 +81,9 @@ const LONG: [(&str, &str); 4] = [
 
 #[test]
 fn long_lines_are_passed_over(rt: HostRuntime) -> Result<(), Fail> {
-    for (text, wanted) in LONG {
-        let mut from = Lookahead::<SliceSource<'_>, 1>::new(SliceSource::new(text.as_bytes()));
-        let (out, last) = listed(rt.alloc(), &mut from, 2)?;
-        assert_eq!(rt; out.as_slice(), wanted.as_bytes());
-        assert_eq!(rt; last, LineRead::End);
-        let mut from = Lookahead::<SliceSource<'_>, 64>::new(SliceSource::new(text.as_bytes()));
-        let (out, last) = listed(rt.alloc(), &mut from, 2)?;
-        assert_eq!(rt; out.as_slice(), wanted.as_bytes());
-        assert_eq!(rt; last, LineRead::End);
+    for &(text, wanted) in &LONG {
+        has_lines::<1>(&rt, text, 2, wanted)?;
+        has_lines::<64>(&rt, text, 2, wanted)?;
     }
     Ok(())
 }
