@@ -24,7 +24,7 @@ fn is_error<E: Error>(alloc: Global, fault: E, wanted: &str) -> Result<(), Fail>
 }
 
 /// What a pair check finds, and its code and name.
-const WHYS: [(PairWhy, &str); 11] = [
+static WHYS: [(PairWhy, &str); 11] = [
     (PairWhy::NotAligned, "Q1 NotAligned"),
     (PairWhy::KindDiffers, "Q2 KindDiffers"),
     (PairWhy::NumberDiffers, "Q3 NumberDiffers"),
@@ -40,7 +40,7 @@ const WHYS: [(PairWhy, &str); 11] = [
 
 #[test]
 fn what_checks_find(rt: HostRuntime) -> Result<(), Fail> {
-    for (why, wanted) in WHYS {
+    for &(why, wanted) in &WHYS {
         is(&why.text(), &wanted, &wanted)?;
         is_error(rt.alloc(), why, wanted)?;
     }
@@ -76,7 +76,7 @@ fn written(alloc: Global, print: &[u8], scan: &[u8], number: i32) -> anyhow::Res
 }
 
 /// A print format, a scan format, a number, and the text of the fault.
-const REFUSED: [(&[u8], &[u8], i32, &str); 4] = [
+static REFUSED: [(&[u8], &[u8], i32, &str); 4] = [
     (b"%f", b"%11d;", 0, "F5 LeftOut at 1"),
     (b"%d", b"%11d", 0, "Q7 OpenEnd at 1"),
     (b"%d,", b"%11d;", 0, "Q1 NotAligned at 2"),
@@ -85,7 +85,7 @@ const REFUSED: [(&[u8], &[u8], i32, &str); 4] = [
 
 #[test]
 fn faults_are_handed_on(rt: HostRuntime) -> Result<(), Fail> {
-    for (print, scan, number, wanted) in REFUSED {
+    for &(print, scan, number, wanted) in &REFUSED {
         let Err(error) = written(rt.alloc(), print, scan, number) else {
             return Err(Fail::new(wanted));
         };

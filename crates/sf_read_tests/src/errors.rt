@@ -80,7 +80,7 @@ fn sum(alloc: Global, format: &[u8], text: &[u8], limit: u32) -> anyhow::Result<
 }
 
 /// A format, a text, a limit, and the text of the fault.
-const REFUSED: [(&[u8], &[u8], u32, &str); 5] = [
+static REFUSED: [(&[u8], &[u8], u32, &str); 5] = [
     (b"%f", b"", 8, "F5 LeftOut at 1"),
     (
         b"%d",
@@ -105,7 +105,7 @@ const REFUSED: [(&[u8], &[u8], u32, &str); 5] = [
 
 #[test]
 fn faults_are_handed_on(rt: HostRuntime) -> Result<(), Fail> {
-    for (format, text, limit, wanted) in REFUSED {
+    for &(format, text, limit, wanted) in &REFUSED {
         let Err(error) = sum(rt.alloc(), format, text, limit) else {
             return Err(Fail::new(wanted));
         };

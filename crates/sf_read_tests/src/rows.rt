@@ -78,7 +78,7 @@ fn failed(status: Status, at: u16, used: u32, met: Option<Ending>) -> ScanRowFau
 const BAD_LIMIT: u32 = 2147483648;
 
 /// Formats and limits under which no run of a named number is begun.
-const REFUSED: [(&[u8], u32, ScanRowFault); 6] = [
+static REFUSED: [(&[u8], u32, ScanRowFault); 6] = [
     (b"%s %d", LIMIT, ScanRowFault::ShapeDiffers),
     (b"%d", LIMIT, ScanRowFault::ShapeDiffers),
     (b"%d %s %d", LIMIT, ScanRowFault::ShapeDiffers),
@@ -96,7 +96,7 @@ fn refused_before_the_run(rt: HostRuntime) -> Result<(), Fail> {
     let alloc = rt.alloc();
     let steps = [ReadStep::Give(b"up 7")];
     let mut from = Lookahead::<ScriptSource<'_>, 7>::new(ScriptSource::new(&steps));
-    for (format, limit, fault) in REFUSED {
+    for &(format, limit, fault) in &REFUSED {
         let found = row::<Named, _, _>(alloc, &mut from, format, limit)?;
         is(&found.err(), &Some(fault), &format)?;
     }

@@ -66,7 +66,7 @@ fn small(alloc: Global, format: &[u8], limit: u32) -> Result<(Option<StartFault>
 }
 
 /// Formats and limits, what the small store answers, and how often the source was read.
-const SMALL: [(&[u8], u32, Option<StartFault>, u64); 6] = [
+static SMALL: [(&[u8], u32, Option<StartFault>, u64); 6] = [
     (b"%8s", 2147483647, None, 2),
     (b"%9s", LIMIT, Some(StartFault::TooSmall), 0),
     (b"%1c%1c", LIMIT, Some(StartFault::TooSmall), 0),
@@ -77,7 +77,7 @@ const SMALL: [(&[u8], u32, Option<StartFault>, u64); 6] = [
 
 #[test]
 fn small_stores(rt: HostRuntime) -> Result<(), Fail> {
-    for (format, limit, fault, reads) in SMALL {
+    for &(format, limit, fault, reads) in &SMALL {
         let answered = small(rt.alloc(), format, limit)?;
         is(&answered, &(fault, reads), &format)?;
     }

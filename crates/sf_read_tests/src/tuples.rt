@@ -90,11 +90,11 @@ fn up_to_six_fields(rt: HostRuntime) -> Result<(), Fail> {
 }
 
 /// Formats whose destinations are not a number and a text.
-const OTHERS: [&[u8]; 5] = [b"%d", b"%s %d", b"%d %d", b"%ld %s", b"%d %s %d"];
+static OTHERS: [&[u8]; 5] = [b"%d", b"%s %d", b"%d %d", b"%ld %s", b"%d %s %d"];
 
 #[test]
 fn other_shapes(rt: HostRuntime) -> Result<(), Fail> {
-    for format in OTHERS {
+    for &format in &OTHERS {
         let found = row_of::<(i32, Vec<u8>)>(rt.alloc(), format, b"1 2 3")?;
         is(&found.err(), &Some(ScanRowFault::ShapeDiffers), &format)?;
     }
