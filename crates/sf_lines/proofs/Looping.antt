@@ -14,15 +14,15 @@ use Rattle.sf_lines.specs.declared.end.LinesFault.TheVariants.{Read, Write, Memo
 use Rattle.sf_lines.specs.Cut.{lines_by, lines_of}
 use Rattle.sf_lines.specs.declared.line.LineRead.{LineRead}
 use Rattle.sf_lines.specs.declared.line.LineRead.TheVariants as reads
-use Rattle.sf_lines.specs.Reading.{Loses, Took, TookPart, Reads, endless, is_failed}
+use Rattle.sf_lines.specs.Reading.{Took, TookPart, Reads, endless, is_failed}
 use Rattle.sf_lines.specs.Turns.{LineWork, Turn, Comes}
-use Rattle.sf_lines.specs.Loops.{AreLines, AreTurns, IsBegun, IsCutShort, TellsLines, goes_on, tellings, telling_of, texts, text_of, is_written, fault_after, ended, status_by, most_lines}
+use Rattle.sf_lines.specs.Loops.{AreLines, AreLinesAndPart, AreTurns, IsBegun, IsCutShort, TellsLines, goes_on, tellings, telling_of, texts, text_of, is_written, fault_after, ended, status_by, most_lines}
 use Rattle.sf_lines.specs.Loops as turns
 use Rattle.sf_lines.specs.Judging.{TakesPart}
 use Rattle.sf_lines.specs.Telling.{Tells}
 use Rattle.sf_lines.proofs.Telling.{all_said, tells_nothing, tells_then}
-use Rattle.sf_lines.proofs.Reading.{Lined, begins, took, gone_all, are_lines, consumed, failed_in, at_end}
-use Rattle.sf_lines.proofs.Turning.{Passed, passed_length, passed_then, passed_more, tellings_append, texts_more, count_more, turns_behind, if_stopped}
+use Rattle.sf_lines.proofs.Reading.{Lined, begins, took, gone_all, are_lines, consumed, lines_and_part, failed_in, at_end}
+use Rattle.sf_lines.proofs.Turning.{Passed, all_went_on, passed_length, passed_then, passed_more, tellings_append, texts_more, count_more, turns_behind, if_stopped}
 
 -- what the loop wrote, told and counted after these turns. The sink held the bytes `was`, and now `is`.
 pub record Did (w : LineWork) (done : List Turn) (was is : Option (List ℕ)) (dumb silent : Bool) (told told' : Option (List ℕ)) (written failed : ℕ) : Type 0 where
@@ -60,9 +60,13 @@ module _ {S : Type 0} {w : LineWork} {to_come : S → Option (List ℕ)} {t : Li
   lines_count : length g.front ≡ n
   lines_count = sym (passed_length w 0 g.front g.done g.passed) ∙ g.count
 
+  -- the bytes of the lines that are done
+  lines_done : AreLines t (length g.lined.gone) (length g.done)
+  lines_done = subst (AreLines t (length g.lined.gone)) (sym (passed_length w 0 g.front g.done g.passed)) (are_lines g.lined)
+
   -- the loop is ended before: what it did is the front of what comes of all lines
   cut_short : {new : Ahead S} (consumed : ℕ) → input_of to_come new ≡ Some (drop consumed t) → (more : List (List ℕ)) → lines_of t ≡ g.front ++ more → (later : List Turn) → AreTurns w (length g.front) more later
-      → (part : List ℕ) (after : Option (List ℕ)) → Appends is after part → (failures mid : ℕ) → mid ≡ failures → (answer : LinesEnd) → IsCutShort g.done part later t answer
+      → (part : List ℕ) (after : Option (List ℕ)) → Appends is after part → (failures mid : ℕ) → mid ≡ failures → (answer : LinesEnd) → IsCutShort g.done part later t consumed answer
       → TellsLines w to_come t new failures mid was after dumb silent told told' answer
   cut_short consumed rest more all later are part after wrote failures mid same answer why = (
     record {
@@ -78,24 +82,32 @@ module _ {S : Type 0} {w : LineWork} {to_come : S → Option (List ℕ)} {t : Li
       part = part;
       appends = Appends-then _ _ _ _ _ g.did.appends wrote;
       tells = all_said dumb silent told told' (tellings w 0 g.done) g.did.tells;
-      ends = inr (refl, why);
+      ends = inr (refl, all_went_on w 0 g.front g.done g.passed, why);
     },
     g.did.tells,
   )
 
-  -- no line was read, for want of memory or since there are too many
-  pub unread : {new : Ahead S} (bytes : List ℕ) → Loses to_come now new bytes → (failures mid : ℕ) → mid ≡ failures → (fault : LinesFault) (answer : LinesEnd) → answer ≡ record { status = status_by failed (Some fault); written = written; failed = failed; fault = Some fault }
-      → (fault ≡ Memory) ⊎ (fault ≡ TooMany) × ((n ≡ most_lines) ⊎ (endless ≤ length bytes)) → TellsLines w to_come t new failures mid was is dumb silent told told' answer
-  unread {new} bytes loses failures mid same fault answer answer_is why =
-      let (k, _, rest, _, few) = consumed g.lined new bytes loses in
+  -- no line was read, for want of memory or since it is endless
+  pub unread : {new : Ahead S} (part : List ℕ) → TookPart to_come now new part → (failures mid : ℕ) → mid ≡ failures → (fault : LinesFault) (answer : LinesEnd) → answer ≡ record { status = status_by failed (Some fault); written = written; failed = failed; fault = Some fault }
+      → (fault ≡ Memory) ⊎ (fault ≡ TooMany) × (endless ≤ length part) → TellsLines w to_come t new failures mid was is dumb silent told told' answer
+  unread {new} part lost failures mid same fault answer answer_is why =
+      let (k, rest, behind) = lines_and_part g.lined new part lost in
       let more = turns_behind one w proper some (length g.front) (lines_of g.lined.left) in
       let end : answer ≡ ended g.done (Some fault) = end_is answer written failed (Some fault) g.done answer_is g.did.written_are g.did.failed_are in
-      cut_short k rest (lines_of g.lined.left) g.lined.whole more.0 more.1 [] is (Appends-none is) failures mid same answer (by end few more.0 why)
+      cut_short k rest (lines_of g.lined.left) g.lined.whole more.0 more.1 [] is (Appends-none is) failures mid same answer
+      (by k end (subst (λ (lines : ℕ). AreLinesAndPart t k lines part) (sym (passed_length w 0 g.front g.done g.passed)) behind) more.0 why)
     where
-      by : answer ≡ ended g.done (Some fault) → length bytes ≤ length t → (later : List Turn) → (fault ≡ Memory) ⊎ (fault ≡ TooMany) × ((n ≡ most_lines) ⊎ (endless ≤ length bytes)) → IsCutShort g.done [] later t answer
-      by end few later (inl memory) = inr (inl (end ∙ ap (λ f. ended g.done (Some f)) memory, refl))
-      by end few later (inr (many, inl lines)) = inr (inr (end ∙ ap (λ f. ended g.done (Some f)) many, refl, inl (g.count ∙ lines)))
-      by end few later (inr (many, inr long)) = inr (inr (end ∙ ap (λ f. ended g.done (Some f)) many, refl, inr (omega (arith, long, few))))
+      by : (k : ℕ) → answer ≡ ended g.done (Some fault) → AreLinesAndPart t k (length g.done) part → (later : List Turn) → (fault ≡ Memory) ⊎ (fault ≡ TooMany) × (endless ≤ length part) → IsCutShort g.done [] later t k answer
+      by k end behind later (inl memory) = inr (inl (end ∙ ap (λ f. ended g.done (Some f)) memory, refl, inr (part, behind)))
+      by k end behind later (inr (many, long)) = inr (inr (end ∙ ap (λ f. ended g.done (Some f)) many, refl, inr (part, behind, long)))
+
+  -- the most lines were read
+  pub too_many : n ≡ most_lines → (failures mid : ℕ) → mid ≡ failures → (answer : LinesEnd) → answer ≡ record { status = status_by failed (Some TooMany); written = written; failed = failed; fault = Some TooMany }
+      → TellsLines w to_come t now failures mid was is dumb silent told told' answer
+  too_many most failures mid same answer answer_is =
+      let more = turns_behind one w proper some (length g.front) (lines_of g.lined.left) in
+      cut_short (length g.lined.gone) (g.lined.input ∙ ap Some (sym (gone_all g.lined))) (lines_of g.lined.left) g.lined.whole more.0 more.1 [] is (Appends-none is) failures mid same answer
+      (inr (inr (end_is answer written failed (Some TooMany) g.done answer_is g.did.written_are g.did.failed_are, refl, inl (g.count ∙ most, lines_done))))
 
   -- there was no other line
   all_passed : (lines : List (List ℕ)) → lines ≡ g.front → AreTurns w 0 lines g.done
@@ -121,7 +133,7 @@ module _ {S : Type 0} {w : LineWork} {to_come : S → Option (List ℕ)} {t : Li
           part = [];
           appends = Appends-same _ _ _ _ (sym (append-nil (texts g.done))) g.did.appends;
           tells = all_said dumb silent told told' (tellings w 0 g.done) g.did.tells;
-          ends = inl (refl, refl, end_is answer written failed None g.done answer_is g.did.written_are g.did.failed_are, λ _. subst (AreLines t (length g.lined.gone)) (sym (passed_length w 0 g.front g.done g.passed)) (are_lines g.lined));
+          ends = inl (refl, refl, end_is answer written failed None g.done answer_is g.did.written_are g.did.failed_are, λ _. lines_done);
         },
         g.did.tells,
       )
@@ -144,7 +156,12 @@ module _ {S : Type 0} {w : LineWork} {to_come : S → Option (List ℕ)} {t : Li
           part = [];
           appends = Appends-same _ _ _ _ (sym (append-nil (texts g.done))) g.did.appends;
           tells = all_said dumb silent told told' (tellings w 0 g.done) g.did.tells;
-          ends = inl (refl, refl, end_is answer written failed (Some (Read (n + 1))) g.done answer_is g.did.written_are g.did.failed_are ∙ ap (λ (k : ℕ). ended g.done (Some (Read (k + 1)))) (sym g.count), λ e. absurd (true≢false e));
+          ends = inl (
+            refl,
+            refl,
+            (all_went_on w 0 g.front g.done g.passed, end_is answer written failed (Some (Read (n + 1))) g.done answer_is g.did.written_are g.did.failed_are ∙ ap (λ (k : ℕ). ended g.done (Some (Read (k + 1)))) (sym g.count)),
+            λ e. absurd (true≢false e),
+          );
         },
         g.did.tells,
       )
@@ -156,7 +173,7 @@ module _ {S : Type 0} {w : LineWork} {to_come : S → Option (List ℕ)} {t : Li
   no_line reads.TooLong not_line not_long limit items h failures before mid same counts answer answer_is = absurd (not_long refl)
   no_line reads.End not_line not_long limit items h failures before mid same counts answer answer_is = at_last h.0 h.2 failures mid (counts ∙ same) answer answer_is
   no_line reads.Fault not_line not_long limit items h failures before mid same counts answer answer_is = read_failed h.0 h.1 h.2 failures mid before same counts answer answer_is
-  no_line reads.Endless not_line not_long limit items h failures before mid same counts answer answer_is = unread h.0 h.1.bytes failures mid (counts ∙ same) TooMany answer answer_is (inr (refl, inr h.2))
+  no_line reads.Endless not_line not_long limit items h failures before mid same counts answer answer_is = unread h.0 h.1 failures mid (counts ∙ same) TooMany answer answer_is (inr (refl, h.2))
   no_line reads.NoMemory not_line not_long limit items h failures before mid same counts answer answer_is = unread h.0 h.1 failures mid (counts ∙ same) Memory answer answer_is (inl refl)
 
   module _ {new : Ahead S} (line : List ℕ) (read : Took to_come now new line) where
@@ -168,6 +185,10 @@ module _ {S : Type 0} {w : LineWork} {to_come : S → Option (List ℕ)} {t : Li
 
     rest_is : input_of to_come new ≡ Some (drop (length lined.gone) t)
     rest_is = lined.input ∙ ap Some (sym (gone_all lined))
+
+    -- the bytes of the lines that are done, and of this one
+    lines_taken : AreLines t (length lined.gone) (length g.done + 1)
+    lines_taken = subst (AreLines t (length lined.gone)) {x = length (g.front ++ line ∷ [])} {y = length g.done + 1} (omega (arith, length-append g.front (line ∷ []), lines_count, g.count)) (are_lines lined)
 
     module _ (turn : Turn) (comes : Comes w (n + 1) line turn) (after : Option (List ℕ)) (silent' : Bool) (told'' : Option (List ℕ)) (written' failed' : ℕ) (wrote : Appends is after (text_of turn))
         (tells : Tells silent silent' told' told'' (telling_of w (n + 1) turn)) (more_written : written' ≡ written + cond (is_written turn) 1 0) (more_failed : failed' ≡ failed + cond (turns.is_failed turn) 1 0) where
@@ -219,7 +240,7 @@ module _ {S : Type 0} {w : LineWork} {to_come : S → Option (List ℕ)} {t : Li
             refl,
             refl,
             end_is answer written' failed' None (g.done ++ turn ∷ []) answer_is did_more.written_are did_more.failed_are,
-            λ _. subst (AreLines t (length lined.gone)) {x = length (g.front ++ line ∷ [])} {y = length (g.done ++ turn ∷ [])} (omega (arith, length-append g.front (line ∷ []), length-append g.done (turn ∷ []), lines_count, g.count)) (are_lines lined),
+            λ _. subst (AreLines t (length lined.gone)) (sym (length-append g.done (turn ∷ []))) lines_taken,
           );
         },
         did_more.tells,
@@ -231,7 +252,7 @@ module _ {S : Type 0} {w : LineWork} {to_come : S → Option (List ℕ)} {t : Li
     no_memory after nothing failures mid same answer answer_is =
         let later = turns_behind one w proper some (length g.front) (line ∷ lines_of lined.left) in
         cut_short (length lined.gone) rest_is (line ∷ lines_of lined.left) all_lines later.0 later.1 [] after nothing failures mid same answer
-        (inr (inl (end_is answer written failed (Some Memory) g.done answer_is g.did.written_are g.did.failed_are, refl)))
+        (inr (inl (end_is answer written failed (Some Memory) g.done answer_is g.did.written_are g.did.failed_are, refl, inl lines_taken)))
 
     -- the sink failed within the text
     pub unwritten : (after : Option (List ℕ)) (text : List ℕ) → Comes w (n + 1) line (Some (Ok text)) → TakesPart is after text → (failures mid : ℕ) → mid ≡ failures → (answer : LinesEnd)
@@ -240,7 +261,7 @@ module _ {S : Type 0} {w : LineWork} {to_come : S → Option (List ℕ)} {t : Li
         let later = turns_behind one w proper some (length g.front + 1) (lines_of lined.left) in
         let here : Comes w (length g.front + 1) line (Some (Ok text)) = subst (λ (k : ℕ). Comes w k line (Some (Ok text))) {x = n + 1} {y = length g.front + 1} (omega (arith, lines_count)) comes in
         cut_short (length lined.gone) rest_is (line ∷ lines_of lined.left) all_lines (Some (Ok text) ∷ later.0) (here, later.1) part after took failures mid same answer
-        (inl (end_is answer written failed (Some Write) g.done answer_is g.did.written_are g.did.failed_are, (missing, rest, later.0, ap (λ (y : List ℕ). Some (Ok y) ∷ later.0) begun)))
+        (inl (end_is answer written failed (Some Write) g.done answer_is g.did.written_are g.did.failed_are, (missing, rest, later.0, ap (λ (y : List ℕ). Some (Ok y) ∷ later.0) begun), lines_taken))
 
     -- either of these
     pub interrupted : (after : Option (List ℕ)) (fault : LinesFault) → (fault ≡ Memory) × Appends is after [] ⊎ (fault ≡ Write) × ((text : List ℕ) × Comes w (n + 1) line (Some (Ok text)) × TakesPart is after text)

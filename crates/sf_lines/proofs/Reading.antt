@@ -6,8 +6,8 @@ use Rattle.sf_run.specs.outcome.Ending.{Ending}
 use Rattle.sf_run.specs.outcome.Ending.TheVariants.{End, Fault}
 use Rattle.sf_read.specs.Ahead.{Ahead, input_of}
 use Rattle.sf_lines.specs.Cut.{IsLine, lines_by, lines_of}
-use Rattle.sf_lines.specs.Reading.{Loses, Took}
-use Rattle.sf_lines.specs.Loops.{AreLines}
+use Rattle.sf_lines.specs.Reading.{Loses, Took, TookPart}
+use Rattle.sf_lines.specs.Loops.{AreLines, AreLinesAndPart}
 use Rattle.sf_lines.proofs.Cutting.{cut_line, cut_last, cut_none}
 
 -- the input t lost these lines; what it has left is the rest
@@ -108,6 +108,12 @@ module _ {S : Type 0} {to_come : S → Option (List ℕ)} {t : List ℕ} {old : 
         ap (take (length (l.gone ++ bytes))) parts ∙ take-append_seam (l.gone ++ bytes) rest,
         omega (arith, ap length parts, length-append (l.gone ++ bytes) rest, length-append l.gone bytes),
       )
+
+  -- bytes of the next line alone
+  pub lines_and_part : (new : Ahead S) (part : List ℕ) → TookPart to_come old new part → (n : ℕ) × (input_of to_come new ≡ Some (drop n t)) × AreLinesAndPart t n (length front) part
+  lines_and_part new part lost' =
+      let (n, rest, input, gone, few) = consumed new part lost'.bytes in
+      (n, input, record { whole = length l.gone; are = are_lines; is_line = lost'.is_line; bytes = gone ∙ ap (λ (y : List ℕ). y ++ part) (sym gone_are) })
 
   -- a read failed in the next line
   pub failed_in : (part : List ℕ) → IsLine part → old.at_end ≡ false → lines_by Fault (l.gone ++ part) ≡ front

@@ -13,7 +13,7 @@ use Rattle.sf_lines.specs.declared.end.LineFault.{LineFault}
 use Rattle.sf_lines.specs.declared.end.LineFault.TheVariants.{TooLong}
 use Rattle.sf_lines.specs.Turns.{LineWork, Miss, Misses, Picks, Turn, IsJudged, Comes, judged, fault_of}
 use Rattle.sf_lines.proofs.Choosing.{all_append}
-use Rattle.sf_lines.specs.Loops.{IfGoing, AreTurns, goes_on, tellings, telling_of, texts, text_of}
+use Rattle.sf_lines.specs.Loops.{IfGoing, AllGoOn, AreTurns, goes_on, tellings, telling_of, texts, text_of}
 
 -- ---- lines after each of which the loop goes on
 
@@ -26,6 +26,12 @@ pub passed_length : (w : LineWork) (n : ℕ) (front : List (List ℕ)) (done : L
 passed_length w n [] done p = ap length p
 passed_length w n (line ∷ front) [] p = absurd p
 passed_length w n (line ∷ front) (turn ∷ done) p = ap (λ (k : ℕ). suc k) (passed_length w (n + 1) front done p.2)
+
+-- the loop stops at none of them
+pub all_went_on : (w : LineWork) (n : ℕ) (front : List (List ℕ)) (done : List Turn) → Passed w n front done → AllGoOn w done
+all_went_on w n [] done p = subst (AllGoOn w) (sym p) tt
+all_went_on w n (line ∷ front) [] p = absurd p
+all_went_on w n (line ∷ front) (turn ∷ done) p = (p.1, all_went_on w (n + 1) front done p.2)
 
 pub if_going : (b : Bool) {rest : Type 0} (turns : List Turn) → b ≡ true → rest → IfGoing b rest turns
 if_going true turns e h = h

@@ -1,6 +1,6 @@
 -- What comes of the lines of an input, and how the loop over them ends.
 use Rattle.std.specs.Prelude.{◌≡◌, ◌≤◌, ◌+◌, ◌-◌, ◌^◌, ◌++◌, ◌∷◌, ◌⊎◌, ℕ, nat_eq, Bool, true, false, if◌then◌else◌, List, [], length, take, drop, Option, Some, None, Ok, Err}
-use Rattle.std.specs.List.{flat_map, count_by}
+use Rattle.std.specs.List.{AllByRecursion, flat_map, count_by}
 use Rattle.std.specs.Io.KnownBytes.{Appends}
 use Rattle.sf_run.specs.outcome.Ending.{Ending}
 use Rattle.sf_run.specs.outcome.Ending.TheVariants as endings
@@ -11,7 +11,7 @@ use Rattle.sf_lines.specs.declared.line.LineRead.TheVariants as reads
 use Rattle.sf_lines.specs.declared.end.LinesEnd.{LinesEnd}
 use Rattle.sf_lines.specs.declared.end.LinesFault.{LinesFault}
 use Rattle.sf_lines.specs.declared.end.LinesFault.TheVariants.{Read, Write, Memory, TooMany}
-use Rattle.sf_lines.specs.Cut.{lines_by, lines_of}
+use Rattle.sf_lines.specs.Cut.{IsLine, lines_by, lines_of}
 use Rattle.sf_lines.specs.Reading.{endless}
 use Rattle.sf_lines.specs.Telling.{Tells}
 use Rattle.sf_lines.specs.Turns.{LineWork, Turn, Comes}
@@ -89,9 +89,13 @@ abbrev pub is_write : Option LinesFault → Bool
 is_write (Some Write) = true
 is_write _ = false
 
--- each line has had its turn, up to one at which the loop stops: the read failed in the line behind them, or there is none
+-- the loop stops at none of these
+abbrev pub AllGoOn : LineWork → List Turn → Type 0
+AllGoOn w turns = AllByRecursion (λ turn. goes_on w turn ≡ true) turns
+
+-- each line has had its turn, up to one at which the loop stops; or it stops at none, and the read failed in the line behind
 abbrev pub Concludes : LineWork → Bool → List Turn → LinesEnd → Type 0
-Concludes w true turns answer = answer ≡ ended turns (Some (Read (length turns + 1)))
+Concludes w true turns answer = AllGoOn w turns × (answer ≡ ended turns (Some (Read (length turns + 1))))
 Concludes w false turns answer = answer ≡ ended turns None
 
 -- the text of the first of these was begun, and is not written in full
@@ -102,12 +106,33 @@ IsBegun part later = (missing : ℕ) × (rest : List ℕ) × (more : List Turn) 
 abbrev pub most_lines : ℕ
 most_lines = 2 ^ 64 - 1
 
--- the loop was ended before, behind these turns
-abbrev pub IsCutShort : List Turn → List ℕ → List Turn → List ℕ → LinesEnd → Type 0
-IsCutShort done part later t answer =
-    (answer ≡ ended done (Some Write)) × IsBegun part later
-    ⊎ (answer ≡ ended done (Some Memory)) × (part ≡ [])
-    ⊎ (answer ≡ ended done (Some TooMany)) × (part ≡ []) × ((length done ≡ most_lines) ⊎ (endless ≤ length t))
+-- so many bytes are those of so many lines, with their line ends
+pub record AreLines (t : List ℕ) (consumed lines : ℕ) : Type 0 where
+  pub count : length (lines_of (take consumed t)) ≡ lines
+  pub cut : lines_of t ≡ lines_of (take consumed t) ++ lines_of (drop consumed t)
+
+-- so many bytes are those of so many lines, and of the next one this part, without its line end
+pub record AreLinesAndPart (t : List ℕ) (consumed lines : ℕ) (part : List ℕ) : Type 0 where
+  pub whole : ℕ
+  pub are : AreLines t whole lines
+  pub is_line : IsLine part
+  pub bytes : take consumed t ≡ take whole t ++ part
+
+-- the bytes up to where memory was refused: once the line behind so many was read, or while it was
+abbrev pub IsRefusedAt : List ℕ → ℕ → ℕ → Type 0
+IsRefusedAt t consumed lines = AreLines t consumed (lines + 1) ⊎ ((part : List ℕ) × AreLinesAndPart t consumed lines part)
+
+-- the bytes of the most lines; or of these, and too many of the next one
+abbrev pub AreTooMany : List ℕ → ℕ → ℕ → Type 0
+AreTooMany t consumed lines = (lines ≡ most_lines) × AreLines t consumed lines ⊎ ((part : List ℕ) × AreLinesAndPart t consumed lines part × (endless ≤ length part))
+
+-- The loop was ended before, behind these turns, where so many bytes of t were consumed: the sink failed within the text of
+-- the next line, which was taken whole; memory was refused; or there are too many lines, or too many bytes of one.
+abbrev pub IsCutShort : List Turn → List ℕ → List Turn → List ℕ → ℕ → LinesEnd → Type 0
+IsCutShort done part later t consumed answer =
+    (answer ≡ ended done (Some Write)) × IsBegun part later × AreLines t consumed (length done + 1)
+    ⊎ (answer ≡ ended done (Some Memory)) × (part ≡ []) × IsRefusedAt t consumed (length done)
+    ⊎ (answer ≡ ended done (Some TooMany)) × (part ≡ []) × AreTooMany t consumed (length done)
 
 -- ---- the loop over a source
 
@@ -117,11 +142,6 @@ input_by failed consumed t = if failed then take consumed t else t
 
 abbrev pub ending_by : Bool → Ending
 ending_by failed = if failed then endings.Fault else endings.End
-
--- so many bytes are those of so many lines, with their line ends
-pub record AreLines (t : List ℕ) (consumed lines : ℕ) : Type 0 where
-  pub count : length (lines_of (take consumed t)) ≡ lines
-  pub cut : lines_of t ≡ lines_of (take consumed t) ++ lines_of (drop consumed t)
 
 -- What the loop over the input t wrote, told and answered. now: what is held and to come afterwards. The sink held the bytes
 -- `before`, and then `after`, where it tells them; `failures` and `failures'` are the counts of the source's failures.
@@ -145,7 +165,7 @@ pub record Loops {S : Type 0} (w : LineWork) (to_come : S → Option (List ℕ))
   pub appends : Appends before after (texts done ++ part)
   pub tells : silent ≡ false → Appends told told' (tellings w 0 done)
   pub ends : (later ≡ []) × (part ≡ []) × Concludes w failed done answer × (failed ≡ false → AreLines t consumed (length done))
-      ⊎ (failed ≡ false) × IsCutShort done part later t answer
+      ⊎ (failed ≡ false) × AllGoOn w done × IsCutShort done part later t consumed answer
 
 -- the same, with what was told of these lines: all of it, or a part where the teller failed within it. `dumb`: whether it had
 -- failed before.

@@ -33,7 +33,7 @@ Reads to_come old new limit line TooLong = (long : List ℕ) × Took to_come old
 Reads to_come old new limit line End = TookPart to_come old new [] × (new.at_end ≡ true) × IsAtEnd (input_of to_come new)
 Reads to_come old new limit line Fault = (part : List ℕ) × TookPart to_come old new part × (old.at_end ≡ false) × (new.at_end ≡ false)
 Reads to_come old new limit line Endless = (part : List ℕ) × TookPart to_come old new part × (endless ≤ length part)
-Reads to_come old new limit line NoMemory = (bytes : List ℕ) × Loses to_come old new bytes
+Reads to_come old new limit line NoMemory = (part : List ℕ) × TookPart to_come old new part
 
 abbrev pub is_failed : LineRead → Bool
 is_failed Fault = true

@@ -27,7 +27,7 @@ gather-requires g c = record {
 }
 
 pub returns-in-Err-clause-reads : goal.returns-in-Err-clause-reads
-returns-in-Err-clause-reads g c = (c.loop-block.invariant.going.seen, c.loop-block.invariant.going.bytes)
+returns-in-Err-clause-reads g c = (c.loop-block.invariant.going.seen, record { is_line = c.loop-block.invariant.going.is_line; bytes = c.loop-block.invariant.going.bytes })
 
 pub returns-in-Err-clause-failures : goal.returns-in-Err-clause-failures
 returns-in-Err-clause-failures g c = c.loop-block.invariant.sound

@@ -1,4 +1,4 @@
-use Rattle.std.proofs.Common.{◌≡◌, ◌+◌, ◌∙◌, ℕ, List, [], Some, None, Ok, Err, cond, inl, inr, refl, sym, ap, subst, arith}
+use Rattle.std.proofs.Common.{◌≡◌, ◌+◌, ◌∙◌, ℕ, List, [], Some, None, Ok, Err, cond, inl, refl, sym, ap, subst, arith}
 use Rattle.std.specs.Io.KnownBytes.{Appends}
 use Rattle.std.proofs.KnownBytes.{Consumes-nil}
 use Rattle.sf_format.specs.declared.directive.Directive.{Directive}
@@ -12,7 +12,7 @@ use Rattle.sf_lines.specs.Loops.{TellsLines}
 use Rattle.sf_lines.specs.Telling.{Tells, faults_by}
 use Rattle.sf_lines.specs.Turns.{work_of}
 use Rattle.sf_lines.proofs.Coming.{denied, affirmed}
-use Rattle.sf_lines.proofs.Looping.{starts, unread, next, no_line, stops, interrupted}
+use Rattle.sf_lines.proofs.Looping.{starts, unread, too_many, next, no_line, stops, interrupted}
 use Rattle.sf_lines.proofs.Telling.{faults_then, no_faults, on_err, on_ok, tells_nothing}
 use Rattle.sf_lines.proofs.lines.run_lines.Goals as goal
 use Rattle.sf_lines.proofs.lines.run_lines.Goals.{in-Skipped, in-Written, in-Failed+else-is_err+else-not-options}
@@ -34,7 +34,7 @@ loop-before-init g c = record {
 pub returns-in_default-clause-tells : goal.returns-in_default-clause-tells
 returns-in_default-clause-tells g c telling t said e =
     let start = starts (work_of c.args.options c.args.formats.now (g.R.RecordWriter.text c.args.writer.now) telling) g.S.Source.to_come t c.args.from.now (g.K.Sink.contents c.args.to.now) (g.E.Teller.failed c.args.teller.now) (g.E.Teller.told c.args.teller.now) e in
-    unread told.one_report c.room_for.ensures.proper c.requires.some start [] (Consumes-nil _) _ _ refl _ _ c.ended.ensures (inl refl)
+    unread told.one_report c.room_for.ensures.proper c.requires.some start [] (record { is_line = tt; bytes = Consumes-nil _ }) _ _ refl _ _ c.ended.ensures (inl refl)
 
 pub returns-in_default-clause-loops : goal.returns-in_default-clause-loops
 returns-in_default-clause-loops g c telling t said e = (returns-in_default-clause-tells g c telling t said e).0
@@ -171,7 +171,7 @@ loop-before-preserved g c =
 
 pub returns-clause-tells : goal.returns-clause-tells
 returns-clause-tells g c telling t said e =
-    unread told.one_report c.room_for.ensures.proper c.requires.some (c.loop-before.invariant.going telling t said e) [] (Consumes-nil _) _ _ c.loop-before.invariant.source _ _ c.ended-2.ensures (inr (refl, inl (omega (arith, c.loop-before-test.false, c.loop-before.auto.before-end))))
+    too_many told.one_report c.room_for.ensures.proper c.requires.some (c.loop-before.invariant.going telling t said e) (omega (arith, c.loop-before-test.false, c.loop-before.auto.before-end)) _ _ c.loop-before.invariant.source _ c.ended-2.ensures
 
 pub returns-clause-loops : goal.returns-clause-loops
 returns-clause-loops g c telling t said e = (returns-clause-tells g c telling t said e).0
