@@ -1,5 +1,6 @@
 -- Records after which the loop goes on.
 use Rattle.std.proofs.Common.{◌≡◌, ℕ, ◌+◌, Bool, true, false, cond, nat_eq, List, [], ◌∷◌, ◌++◌, drop, Option, Some, None, ◌⊎◌, inl, inr, refl, sym, ap, ◌∙◌, arith, true≢false}
+use Rattle.std.specs.Prelude.{IsSome}
 use Rattle.sf_format.specs.declared.directive.Directive.{Directive}
 use Rattle.sf_format.specs.Proper.{AreProper}
 use Rattle.sf_run.specs.outcome.Ending.{Ending}
@@ -98,6 +99,11 @@ within_fine ds proper m x ending r ran =
 pub told_refused : (ds : List Directive) → AreProper ds → (m : ℕ) (x : List ℕ) (ending : Ending) (r : RunReport) → RunTold ds m x ending r → is_memory_status r.status ≡ true → RunRefused ds m x r
 told_refused ds proper m x ending r (inl ran) out = absurd (true≢false (sym out ∙ within_fine ds proper m x ending r ran))
 told_refused ds proper m x ending r (inr refused) out = refused
+
+-- where a sum would leave no refusal, and there was one, there is no sum
+pub unbounded_by : (sum : Option ℕ) (refused : Bool) → (IsSome sum → refused ≡ false) → refused ≡ true → sum ≡ None
+unbounded_by None refused fine out = refl
+unbounded_by (Some n) refused fine out = absurd (true≢false (sym out ∙ fine refl))
 
 pub written_is_no_memory : (turn : Turn) → writes turn ≡ true → is_ran_out turn ≡ false
 written_is_no_memory Goes due = refl

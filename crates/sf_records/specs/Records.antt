@@ -2,6 +2,7 @@
 use Rattle.std.specs.Prelude.{◌≡◌, ◌+◌, ◌<◌, ◌++◌, ◌⊎◌, ℕ, Bool, true, if◌then◌else◌, List, [], ◌∷◌, length, take, drop, Option, Some, None}
 use Rattle.std.specs.Io.KnownBytes.{Appends}
 use Rattle.sf_format.specs.declared.directive.Directive.{Directive}
+use Rattle.sf_format.specs.Widths.{width_sum}
 use Rattle.sf_run.specs.outcome.Ending.{Ending}
 use Rattle.sf_run.specs.outcome.Ending.TheVariants.{End, Fault}
 use Rattle.sf_run.specs.outcome.Outcome.{Outcome}
@@ -120,16 +121,17 @@ pub record IsUnmade (w : Work) (ds : List Directive) (m : ℕ) (y : List ℕ) (e
   pub spent_is : spent ≡ next.used
   pub due : writes (turn_in w next) ≡ true
 
--- the run over y used `spent` bytes, and then the storing of a byte was refused
+-- the run over y used `spent` bytes, and then the storing of a byte was refused, which happens where the format has no width sum
 pub record IsUnstored (ds : List Directive) (m : ℕ) (y : List ℕ) (spent : ℕ) : Type 0 where
+  pub unbounded : width_sum ds ≡ None
   pub next : RunReport
   pub ran : RunRefused ds m y next
   pub spent_is : spent ≡ next.used
 
--- Memory was refused where y was left: for the record of the run over y, for a byte that this run stores, or for the store
--- before the run. spent: the bytes that this run used.
-abbrev pub IsRefusedBehind : Work → List Directive → ℕ → List ℕ → Ending → ℕ → Type 0
-IsRefusedBehind w ds m y ending spent = IsUnmade w ds m y ending spent ⊎ IsUnstored ds m y spent ⊎ (spent ≡ 0)
+-- Memory was refused behind the records `before`, where y was left: for the record of the run over y, for a byte that this
+-- run stores, or for the store, which is made before the first run. spent: the bytes that the run over y used.
+abbrev pub IsRefusedBehind : List RunReport → Work → List Directive → ℕ → List ℕ → Ending → ℕ → Type 0
+IsRefusedBehind before w ds m y ending spent = IsUnmade w ds m y ending spent ⊎ IsUnstored ds m y spent ⊎ (before ≡ []) × (spent ≡ 0)
 
 -- The loop was ended before: by the sink, or by want of memory. Only full lines count as records. consumed: the bytes that
 -- the runs of these records used, and the run at which it was ended.
@@ -142,7 +144,7 @@ pub record IsCutShort (w : Work) (ds : List Directive) (m : ℕ) (x : List ℕ) 
   pub written_is : written ≡ texts w before ++ part
   pub consumed_is : consumed ≡ uses before + spent
   pub why : (end ≡ ended (length before) (Some faults.Write)) × IsUnwritten w ds m left ending part spent
-      ⊎ (end ≡ ended (length before) (Some faults.Memory)) × (part ≡ []) × IsRefusedBehind w ds m left ending spent
+      ⊎ (end ≡ ended (length before) (Some faults.Memory)) × (part ≡ []) × IsRefusedBehind before w ds m left ending spent
 
 -- ---- the loop over a source
 
