@@ -1,15 +1,17 @@
 -- The loop over the records of a source: how it goes on, and what holds where it stops.
-use Rattle.std.proofs.Common.{◌≡◌, ℕ, ◌+◌, ◌<◌, ◌≤◌, Bool, true, false, cond, List, [], ◌∷◌, ◌++◌, length, take, drop, Option, Some, ◌⊎◌, inl, inr, refl, sym, ap, subst, ◌∙◌, arith, append_assoc, append-nil, length-append}
+use Rattle.std.proofs.Common.{◌≡◌, ℕ, ◌+◌, ◌<◌, ◌≤◌, Bool, true, false, cond, List, [], ◌∷◌, ◌++◌, length, take, drop, Option, Some, ◌⊎◌, inl, inr, refl, sym, ap, subst, ◌∙◌, arith, append_assoc, append-nil, length-append, true≢false}
 use Rattle.std.proofs.lemmas.List.{take-append-drop, length-take-le}
 use Rattle.std.proofs.lemmas.Grind.{flat_map-append}
 use Rattle.std.proofs.Math.Seq.{take-append-add, drop-append-add, drop-append_seam}
+use Rattle.std.specs.Prelude.{IsSome}
 use Rattle.std.specs.Io.KnownBytes.{Appends}
 use Rattle.sf_format.specs.declared.directive.Directive.{Directive}
 use Rattle.sf_format.specs.Proper.{AreProper}
+use Rattle.sf_format.specs.Widths.{width_sum}
 use Rattle.sf_run.specs.outcome.Ending.{Ending}
 use Rattle.sf_run.specs.outcome.Ending.TheVariants.{End, Fault}
 use Rattle.sf_run.specs.Runs.{RunReport}
-use Rattle.sf_run.specs.Limits.{RunWithin}
+use Rattle.sf_run.specs.Limits.{RunWithin, RunTold}
 use Rattle.sf_run.specs.Stopping.{is_memory_status}
 use Rattle.sf_run.specs.Laws.{EachHasOneReport}
 use Rattle.sf_read.specs.Ahead.{Ahead, input_of}
@@ -24,8 +26,8 @@ use Rattle.sf_records.specs.declared.end.ToolFault.TheVariants as faults
 use Rattle.sf_records.specs.Judging.{TakesPart, Interrupts, Concludes}
 use Rattle.sf_records.specs.Turns.{writes}
 use Rattle.sf_records.specs.Works.{Work, turn_in, texts, last_text}
-use Rattle.sf_records.specs.Records.{Passed, EndsWith, IsCutShort, Loops, uses, ended, end_by, input_by, ending_by, most_records}
-use Rattle.sf_records.proofs.Passing.{is_ran_out, not_ran_out, goes_is_no_fault, written_is_no_memory, passed_more, uses_append}
+use Rattle.sf_records.specs.Records.{Passed, EndsWith, IsCutShort, IsRefusedBehind, Loops, uses, ended, end_by, input_by, ending_by, most_records}
+use Rattle.sf_records.proofs.Passing.{is_ran_out, not_ran_out, ran_out_status, within_fine, told_refused, unbounded_by, goes_is_no_fault, written_is_no_memory, passed_more, uses_append}
 use Rattle.sf_records.proofs.OneEnd.{has_end, has_end_after, joined}
 
 -- After n records of the input t. What they say rests on the bytes that were read alone, so that it stands also where the
@@ -86,10 +88,11 @@ drop_front a h z u e = rw (← e, append_assoc) (drop-append_seam a (h ++ z))
 -- ---- where the loop is ended before
 
 -- memory was refused behind the records that were passed
-short_of_memory : (one : EachHasOneReport) (w : Work) (ds : List Directive) → AreProper ds → (m : ℕ) (x left : List ℕ) (ending : Ending) (front : List RunReport) (answer : ToolEnd)
-    → length front ≤ most_records → Passed w ds m x ending front left → answer ≡ ended (length front) (Some faults.Memory)
-    → (output : List ℕ) × (used : ℕ) × (end : ToolEnd) × EndsWith w ds m x ending output used end × ((missing : List ℕ) × (output ≡ texts w front ++ missing)) × IsCutShort w ds m x ending (texts w front) answer
-short_of_memory one w ds proper m x left ending front answer few passed is =
+short_of_memory : (one : EachHasOneReport) (w : Work) (ds : List Directive) → AreProper ds → (m : ℕ) (x left : List ℕ) (ending : Ending) (front : List RunReport) (spent : ℕ) (answer : ToolEnd)
+    → length front ≤ most_records → Passed w ds m x ending front left → IsRefusedBehind front w ds m left ending spent → answer ≡ ended (length front) (Some faults.Memory)
+    → (output : List ℕ) × (used : ℕ) × (end : ToolEnd) × EndsWith w ds m x ending output used end × ((missing : List ℕ) × (output ≡ texts w front ++ missing))
+    × IsCutShort w ds m x ending (texts w front) (uses front + spent) answer
+short_of_memory one w ds proper m x left ending front spent answer few passed refused is =
     let h = has_end one w ds proper m ending (0 + length front) (omega (arith, few)) left in (
       texts w front ++ h.more,
       uses front + h.used,
@@ -100,9 +103,11 @@ short_of_memory one w ds proper m x left ending front answer few passed is =
         before = front;
         left = left;
         part = [];
+        spent = spent;
         passed = passed;
         written_is = sym (append-nil (texts w front));
-        why = inr (is, refl);
+        consumed_is = refl;
+        why = inr (is, refl, refused);
       },
     )
 
@@ -110,7 +115,8 @@ short_of_memory one w ds proper m x left ending front answer few passed is =
 cut_in_line : (one : EachHasOneReport) (w : Work) (ds : List Directive) → AreProper ds → (m : ℕ) (x left : List ℕ) (ending : Ending) (front : List RunReport) (answer : ToolEnd)
     → length front < most_records → Passed w ds m x ending front left → (next : RunReport) → RunWithin ds m left ending next → writes (turn_in w next) ≡ true
     → (part rest : List ℕ) (missing : ℕ) → w.text next ≡ part ++ missing ∷ rest → answer ≡ ended (length front) (Some faults.Write)
-    → (output : List ℕ) × (used : ℕ) × (end : ToolEnd) × EndsWith w ds m x ending output used end × ((missing : List ℕ) × (output ≡ texts w front ++ part ++ missing)) × IsCutShort w ds m x ending (texts w front ++ part) answer
+    → (output : List ℕ) × (used : ℕ) × (end : ToolEnd) × EndsWith w ds m x ending output used end × ((missing : List ℕ) × (output ≡ texts w front ++ part ++ missing))
+    × IsCutShort w ds m x ending (texts w front ++ part) (uses front + next.used) answer
 cut_in_line one w ds proper m x left ending front answer few passed next ran due part rest missing begun is =
     let h = has_end_after one w ds proper m ending (0 + length front) (omega (arith, few)) left next ran in
     let text : last_text w next ≡ part ++ missing ∷ rest = ap (λ b. cond b (w.text next) []) due ∙ begun in (
@@ -123,34 +129,37 @@ cut_in_line one w ds proper m x left ending front answer few passed next ran due
         before = front;
         left = left;
         part = part;
+        spent = next.used;
         passed = passed;
         written_is = refl;
-        why = inl (is, record { next = next; ran = ran; due = due; missing = missing; rest = rest; begun = begun });
+        consumed_is = refl;
+        why = inl (is, record { next = next; ran = ran; spent_is = refl; due = due; missing = missing; rest = rest; begun = begun });
       },
     )
 
 -- ---- the loop
 
+-- no store could be had
+pub no_memory : {S : Type 0} (one : EachHasOneReport) (w : Work) (to_come : S → Option (List ℕ)) (ds : List Directive) → AreProper ds → (m : ℕ) (t : List ℕ) (now : Ahead S) (was : Option (List ℕ)) (failures : ℕ)
+    → input_of to_come now ≡ Some t → (answer : ToolEnd) → answer ≡ ended 0 (Some faults.Memory) → Loops w to_come ds m t now failures failures was was answer
+no_memory one w to_come ds proper m t now was failures input answer is_end =
+    let s = short_of_memory one w ds proper m t t End [] 0 answer (omega arith) refl (inr (inr (refl, refl))) is_end in
+    record {
+      failed = false;
+      failures_are = refl;
+      consumed = 0;
+      rest = input;
+      output = s.0;
+      used = s.1;
+      end = s.2;
+      is = s.3;
+      written = [];
+      appends = Appends-none was;
+      told = inr (s.4, s.5);
+    }
+
 module _ {S : Type 0} {w : Work} {to_come : S → Option (List ℕ)} {ds : List Directive} {m : ℕ} {t : List ℕ} {now : Ahead S} {was is : Option (List ℕ)} {failures mid n : ℕ}
     (one : EachHasOneReport) (proper : AreProper ds) (g : Going w to_come ds m t now was is failures mid n) where
-  -- no run could be made
-  pub no_memory : n ≤ most_records → (answer : ToolEnd) → answer ≡ ended n (Some faults.Memory) → Loops w to_come ds m t now failures mid was is answer
-  no_memory few answer is_end =
-      let s = short_of_memory one w ds proper m t g.left End g.front answer (omega (arith, few, g.count)) g.whole (is_end ∙ ap (λ (k : ℕ). ended k (Some faults.Memory)) (sym g.count)) in
-      record {
-        failed = false;
-        failures_are = g.no_failure;
-        consumed = uses g.front + 0;
-        rest = g.input ∙ ap (λ (y : List ℕ). Some y) (sym (cut_rest t g.used_up g.left (uses g.front) 0 g.parts g.used));
-        output = s.0;
-        used = s.1;
-        end = s.2;
-        is = s.3;
-        written = texts w g.front;
-        appends = g.appends;
-        told = inr (s.4, s.5);
-      }
-
   -- there were as many records as there may be
   pub too_many : n ≡ most_records → (answer : ToolEnd) → answer ≡ ended most_records (Some faults.TooMany) → Loops w to_come ds m t now failures mid was is answer
   too_many full answer is_end = record {
@@ -177,7 +186,7 @@ module _ {S : Type 0} {w : Work} {to_come : S → Option (List ℕ)} {ds : List 
   }
 
   module _ {new : Ahead S} {after : ℕ} (r : RunReport) (scan : Scan to_come ds m g.left now new r) (stays : now.at_end ≡ true → new.at_end ≡ true)
-      (count : after ≡ cond (is_fault r.met) (counted_on mid) mid) where
+      (count : after ≡ cond (is_fault r.met) (counted_on mid) mid) (bounded : IsSome (width_sum ds) → is_memory_status r.status ≡ false) where
     -- the records before, on an input that goes on as this record's
     on_input : (z : List ℕ) (ending : Ending) → MayFollow new z ending → Passed w ds m (g.used_up ++ (take r.used g.left ++ new.held ++ z)) ending g.front (take r.used g.left ++ new.held ++ z)
     on_input z ending follows =
@@ -191,9 +200,10 @@ module _ {S : Type 0} {w : Work} {to_come : S → Option (List ℕ)} {ds : List 
       pub left : List ℕ
       pub passed : Passed w ds m (input_by b (uses g.front + r.used) t) (ending_by b) g.front left
       pub ran : is_memory_status r.status ≡ false → RunWithin ds m left (ending_by b) r
+      pub told : b ≡ false → RunTold ds m left End r
 
     reaches : (b : Bool) → is_fault r.met ≡ b → Reached b
-    reaches false f = record { left = g.left; passed = g.whole; ran = λ fine. told_within ds m g.left End r (scan.whole f) fine }
+    reaches false f = record { left = g.left; passed = g.whole; ran = λ fine. told_within ds m g.left End r (scan.whole f) fine; told = λ e. scan.whole f }
     reaches true f =
         let h = on_input [] Fault (λ e. absurd (let k = (scan.nothing_held f).1 in cc)) in
         let bytes : take r.used g.left ++ new.held ++ [] ≡ take r.used g.left = rw ((scan.nothing_held f).0, append-nil, append-nil) refl in
@@ -202,6 +212,7 @@ module _ {S : Type 0} {w : Work} {to_come : S → Option (List ℕ)} {ds : List 
           left = take r.used g.left;
           passed = rw (cut_front t g.used_up g.left (uses g.front) r.used g.parts g.used) k;
           ran = λ fine. scan.cut f;
+          told = λ e. absurd (true≢false e);
         }
 
     reached : Reached (is_fault r.met)
@@ -235,11 +246,23 @@ module _ {S : Type 0} {w : Work} {to_come : S → Option (List ℕ)} {ds : List 
           no_failure = count ∙ rw f g.no_failure;
         }
 
-    -- memory for a text was refused
-    pub ran_out : n ≤ most_records → (answer : ToolEnd) (wrote : Option (List ℕ)) → Appends is wrote [] → answer ≡ ended n (Some faults.Memory) → Loops w to_come ds m t new failures after was wrote answer
-    ran_out few answer wrote nothing is_end =
+    -- where the storing of a byte was refused, the source has not failed
+    refused_by : (b : Bool) → is_fault r.met ≡ b → (at : Reached b) → is_memory_status r.status ≡ true → IsRefusedBehind g.front w ds m at.left (ending_by b) r.used
+    refused_by false f at out = inr (inl (record { unbounded = unbounded_by (width_sum ds) (is_memory_status r.status) bounded out; next = r; ran = told_refused ds proper m at.left End r (at.told refl) out; spent_is = refl }))
+    refused_by true f at out = absurd (true≢false (sym out ∙ within_fine ds proper m (take r.used g.left) Fault r (scan.cut f)))
+
+    unstored : is_memory_status r.status ≡ true → IsRefusedBehind g.front w ds m reached.left (ending_by (is_fault r.met)) r.used
+    unstored out = refused_by (is_fault r.met) refl reached out
+
+    unmade : writes (turn_in w r) ≡ true → IsRefusedBehind g.front w ds m reached.left (ending_by (is_fault r.met)) r.used
+    unmade due = inl (record { next = r; ran = reached.ran (not_ran_out w r (turn_in w r) refl (written_is_no_memory (turn_in w r) due)); spent_is = refl; due = due })
+
+    -- memory was refused, for a text or for the record
+    ran_out : n ≤ most_records → (answer : ToolEnd) (wrote : Option (List ℕ)) → IsRefusedBehind g.front w ds m reached.left (ending_by (is_fault r.met)) r.used
+        → Appends is wrote [] → answer ≡ ended n (Some faults.Memory) → Loops w to_come ds m t new failures after was wrote answer
+    ran_out few answer wrote refused nothing is_end =
         let at = reached in
-        let s = short_of_memory one w ds proper m (input_by (is_fault r.met) (uses g.front + r.used) t) at.left (ending_by (is_fault r.met)) g.front answer (omega (arith, few, g.count)) at.passed (is_end ∙ ap (λ (k : ℕ). ended k (Some faults.Memory)) (sym g.count)) in
+        let s = short_of_memory one w ds proper m (input_by (is_fault r.met) (uses g.front + r.used) t) at.left (ending_by (is_fault r.met)) g.front r.used answer (omega (arith, few, g.count)) at.passed refused (is_end ∙ ap (λ (k : ℕ). ended k (Some faults.Memory)) (sym g.count)) in
         record {
           failed = is_fault r.met;
           failures_are = failures_are;
@@ -319,11 +342,11 @@ module _ {S : Type 0} {w : Work} {to_come : S → Option (List ℕ)} {ds : List 
         by : (turn : Turn) → turn_in w r ≡ turn → Loops w to_come ds m t new failures after was wrote answer
         by Goes e = absurd (stops e)
         by RanOut e =
-            ran_out (omega (arith, few)) answer wrote (subst (λ (text : List ℕ). Appends is wrote text) (ap (λ v. cond (writes v) (w.text r) []) e) took) (is_end ∙ ap (λ v. end_by v n r) e)
+            ran_out (omega (arith, few)) answer wrote (unstored (ran_out_status w r e)) (subst (λ (text : List ℕ). Appends is wrote text) (ap (λ v. cond (writes v) (w.text r) []) e) took) (is_end ∙ ap (λ v. end_by v n r) e)
         by Ends e = stopped few answer wrote stops (ap is_ran_out e) took is_end
         by (Cut written) e = stopped few answer wrote stops (ap is_ran_out e) took is_end
         by Failed e = stopped few answer wrote stops (ap is_ran_out e) took is_end
         by Unfit e = stopped few answer wrote stops (ap is_ran_out e) took is_end
         by Stalled e = stopped few answer wrote stops (ap is_ran_out e) took is_end
     ends_at few answer wrote (inr (due, inl (is_end, took))) = unwritten few answer wrote due (written_is_no_memory (turn_in w r) due) took is_end
-    ends_at few answer wrote (inr (due, inr (is_end, nothing))) = ran_out (omega (arith, few)) answer wrote nothing is_end
+    ends_at few answer wrote (inr (due, inr (is_end, nothing))) = ran_out (omega (arith, few)) answer wrote (unmade due) nothing is_end

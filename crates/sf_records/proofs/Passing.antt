@@ -1,20 +1,24 @@
 -- Records after which the loop goes on.
 use Rattle.std.proofs.Common.{◌≡◌, ℕ, ◌+◌, Bool, true, false, cond, nat_eq, List, [], ◌∷◌, ◌++◌, drop, Option, Some, None, ◌⊎◌, inl, inr, refl, sym, ap, ◌∙◌, arith, true≢false}
+use Rattle.std.specs.Prelude.{IsSome}
 use Rattle.sf_format.specs.declared.directive.Directive.{Directive}
+use Rattle.sf_format.specs.Proper.{AreProper}
 use Rattle.sf_run.specs.outcome.Ending.{Ending}
 use Rattle.sf_run.specs.outcome.Ending.TheVariants.{End, Fault}
 use Rattle.sf_run.specs.outcome.Status.{Status}
 use Rattle.sf_run.specs.outcome.Status.TheVariants.{Done, InputFailure, MatchingFailure, OutOfRange, TooLong, NoMemory}
-use Rattle.sf_run.specs.outcome.Outcome.{Outcome}
 use Rattle.sf_run.specs.Runs.{RunReport}
-use Rattle.sf_run.specs.Limits.{RunWithin}
+use Rattle.sf_run.specs.Limits.{RunWithin, RunTold, RunRefused}
+use Rattle.sf_run.specs.Residual.{nothing_yet}
 use Rattle.sf_run.specs.Stopping.{is_memory_status}
+use Rattle.sf_run.proofs.Refusals.{run_fine}
+use Rattle.sf_run.proofs.Told.{report_only}
 use Rattle.sf_read.specs.Scan.{is_fault}
 use Rattle.sf_records.specs.declared.turn.Turn.{Turn}
 use Rattle.sf_records.specs.declared.turn.Turn.TheVariants.{Goes, Ends, Cut, Failed, Stalled, Unfit, RanOut}
 use Rattle.sf_records.specs.Turns.{turn_by, turn_of, fit_turn, writes}
 use Rattle.sf_records.specs.Works.{Work, turn_in}
-use Rattle.sf_records.specs.Records.{Passed, uses, outcome_of}
+use Rattle.sf_records.specs.Records.{Passed, uses}
 
 -- ---- turns
 
@@ -81,6 +85,25 @@ fit_ran_out fits RanOut = refl
 pub not_ran_out : (w : Work) (r : RunReport) (turn : Turn) → turn_in w r ≡ turn → is_ran_out turn ≡ false → is_memory_status r.status ≡ false
 not_ran_out w r turn is fine =
     sym (ran_out_by r.status r.met r.used r.converted) ∙ sym (fit_ran_out (w.fits r) (turn_of r)) ∙ ap is_ran_out is ∙ fine
+
+pub ran_out_status : (w : Work) (r : RunReport) → turn_in w r ≡ RanOut → is_memory_status r.status ≡ true
+ran_out_status w r is =
+    sym (ran_out_by r.status r.met r.used r.converted) ∙ sym (fit_ran_out (w.fits r) (turn_of r)) ∙ ap is_ran_out is
+
+-- no run by the definitions ends for want of memory
+pub within_fine : (ds : List Directive) → AreProper ds → (m : ℕ) (x : List ℕ) (ending : Ending) (r : RunReport) → RunWithin ds m x ending r → is_memory_status r.status ≡ false
+within_fine ds proper m x ending r ran =
+    ap (λ (q : RunReport). is_memory_status q.status) (report_only ds proper m x ending r ran) ∙ run_fine (Some m) ds 1 nothing_yet x
+
+-- a report that tells of a refusal is that of a run for which a storing was refused
+pub told_refused : (ds : List Directive) → AreProper ds → (m : ℕ) (x : List ℕ) (ending : Ending) (r : RunReport) → RunTold ds m x ending r → is_memory_status r.status ≡ true → RunRefused ds m x r
+told_refused ds proper m x ending r (inl ran) out = absurd (true≢false (sym out ∙ within_fine ds proper m x ending r ran))
+told_refused ds proper m x ending r (inr refused) out = refused
+
+-- where a sum would leave no refusal, and there was one, there is no sum
+pub unbounded_by : (sum : Option ℕ) (refused : Bool) → (IsSome sum → refused ≡ false) → refused ≡ true → sum ≡ None
+unbounded_by None refused fine out = refl
+unbounded_by (Some n) refused fine out = absurd (true≢false (sym out ∙ fine refl))
 
 pub written_is_no_memory : (turn : Turn) → writes turn ≡ true → is_ran_out turn ≡ false
 written_is_no_memory Goes due = refl

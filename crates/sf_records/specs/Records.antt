@@ -2,11 +2,12 @@
 use Rattle.std.specs.Prelude.{◌≡◌, ◌+◌, ◌<◌, ◌++◌, ◌⊎◌, ℕ, Bool, true, if◌then◌else◌, List, [], ◌∷◌, length, take, drop, Option, Some, None}
 use Rattle.std.specs.Io.KnownBytes.{Appends}
 use Rattle.sf_format.specs.declared.directive.Directive.{Directive}
+use Rattle.sf_format.specs.Widths.{width_sum}
 use Rattle.sf_run.specs.outcome.Ending.{Ending}
 use Rattle.sf_run.specs.outcome.Ending.TheVariants.{End, Fault}
 use Rattle.sf_run.specs.outcome.Outcome.{Outcome}
 use Rattle.sf_run.specs.Runs.{RunReport}
-use Rattle.sf_run.specs.Limits.{RunWithin}
+use Rattle.sf_run.specs.Limits.{RunWithin, RunRefused}
 use Rattle.sf_read.specs.Ahead.{Ahead, input_of}
 use Rattle.sf_read.specs.Counts.{counted_on}
 use Rattle.sf_records.specs.declared.turn.Turn.{Turn}
@@ -103,24 +104,47 @@ EndsWith = EndsFrom 0
 
 -- ---- where memory was refused or the sink failed
 
--- the sink failed within the line of the run over y, when it had taken this part of it
-pub record IsUnwritten (w : Work) (ds : List Directive) (m : ℕ) (y : List ℕ) (ending : Ending) (part : List ℕ) : Type 0 where
+-- the sink failed within the line of the run over y, which used `spent` bytes, when it had taken this part of the line
+pub record IsUnwritten (w : Work) (ds : List Directive) (m : ℕ) (y : List ℕ) (ending : Ending) (part : List ℕ) (spent : ℕ) : Type 0 where
   pub next : RunReport
   pub ran : RunWithin ds m y ending next
+  pub spent_is : spent ≡ next.used
   pub due : writes (turn_in w next) ≡ true
   pub missing : ℕ
   pub rest : List ℕ
   pub begun : w.text next ≡ part ++ missing ∷ rest
 
--- The loop was ended before: by the sink, or by want of memory. Only full lines count as records.
-pub record IsCutShort (w : Work) (ds : List Directive) (m : ℕ) (x : List ℕ) (ending : Ending) (written : List ℕ) (end : ToolEnd) : Type 0 where
+-- the record of the run over y, which used `spent` bytes, was to be written, and memory for it was refused
+pub record IsUnmade (w : Work) (ds : List Directive) (m : ℕ) (y : List ℕ) (ending : Ending) (spent : ℕ) : Type 0 where
+  pub next : RunReport
+  pub ran : RunWithin ds m y ending next
+  pub spent_is : spent ≡ next.used
+  pub due : writes (turn_in w next) ≡ true
+
+-- the run over y used `spent` bytes, and then the storing of a byte was refused, which happens where the format has no width sum
+pub record IsUnstored (ds : List Directive) (m : ℕ) (y : List ℕ) (spent : ℕ) : Type 0 where
+  pub unbounded : width_sum ds ≡ None
+  pub next : RunReport
+  pub ran : RunRefused ds m y next
+  pub spent_is : spent ≡ next.used
+
+-- Memory was refused behind the records `before`, where y was left: for the record of the run over y, for a byte that this
+-- run stores, or for the store, which is made before the first run. spent: the bytes that the run over y used.
+abbrev pub IsRefusedBehind : List RunReport → Work → List Directive → ℕ → List ℕ → Ending → ℕ → Type 0
+IsRefusedBehind before w ds m y ending spent = IsUnmade w ds m y ending spent ⊎ IsUnstored ds m y spent ⊎ (before ≡ []) × (spent ≡ 0)
+
+-- The loop was ended before: by the sink, or by want of memory. Only full lines count as records. consumed: the bytes that
+-- the runs of these records used, and the run at which it was ended.
+pub record IsCutShort (w : Work) (ds : List Directive) (m : ℕ) (x : List ℕ) (ending : Ending) (written : List ℕ) (consumed : ℕ) (end : ToolEnd) : Type 0 where
   pub before : List RunReport
   pub left : List ℕ
   pub part : List ℕ
+  pub spent : ℕ
   pub passed : Passed w ds m x ending before left
   pub written_is : written ≡ texts w before ++ part
-  pub why : (end ≡ ended (length before) (Some faults.Write)) × IsUnwritten w ds m left ending part
-      ⊎ (end ≡ ended (length before) (Some faults.Memory)) × (part ≡ [])
+  pub consumed_is : consumed ≡ uses before + spent
+  pub why : (end ≡ ended (length before) (Some faults.Write)) × IsUnwritten w ds m left ending part spent
+      ⊎ (end ≡ ended (length before) (Some faults.Memory)) × (part ≡ []) × IsRefusedBehind before w ds m left ending spent
 
 -- ---- the loop over a source
 
@@ -149,4 +173,4 @@ pub record Loops {S : Type 0} (w : Work) (to_come : S → Option (List ℕ)) (ds
   pub written : List ℕ
   pub appends : Appends before after written
   pub told : (written ≡ output) × (consumed ≡ used) × (answer ≡ end)
-      ⊎ ((missing : List ℕ) × (output ≡ written ++ missing)) × IsCutShort w ds m (input_by failed consumed t) (ending_by failed) written answer
+      ⊎ ((missing : List ℕ) × (output ≡ written ++ missing)) × IsCutShort w ds m (input_by failed consumed t) (ending_by failed) written consumed answer

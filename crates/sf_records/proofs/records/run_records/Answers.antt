@@ -1,5 +1,11 @@
-use Rattle.std.proofs.Common.{◌≡◌, ℕ, Option, None, cond, ap, ◌∙◌, refl, arith}
+use Rattle.std.proofs.Common.{◌≡◌, ◌≤◌, ℕ, Option, None, false, cond, ap, sym, ◌∙◌, refl, arith, true≢false}
 use Rattle.sf_run.specs.outcome.Ending.{Ending}
+use Rattle.sf_run.specs.outcome.Status.{Status}
+use Rattle.sf_run.specs.outcome.Status.TheVariants.{Done}
+use Rattle.sf_run.specs.Stopping.{is_memory_status}
+use Rattle.std.specs.Prelude.{unwrap_or}
+use Rattle.sf_base.specs.Kept.{Kept, nothing_kept}
+use Rattle.sf_run.specs.Memory.{capacity_of}
 use Rattle.sf_read.specs.Counts.{counted_on}
 use Rattle.sf_read.specs.Scan.{is_fault}
 use Rattle.sf_run.proofs.Told as told
@@ -10,17 +16,29 @@ use Rattle.sf_records.proofs.records.run_records.Goals as goal
 quiet : {before after : ℕ} (met : Option Ending) → met ≡ None → after ≡ before → after ≡ cond (is_fault met) (counted_on before) before
 quiet met none same = rw none same
 
+-- nor was memory refused for a run that is Done
+done_fine : (status : Status) → status ≡ Done → is_memory_status status ≡ false
+done_fine status done = ap is_memory_status done
+
+-- the room of the store, when it is made and later
+fresh_roomy : (store : Kept) (made sum : ℕ) → store ≡ nothing_kept made → made ≡ sum → sum ≤ capacity_of store
+fresh_roomy store made sum fresh same = rw fresh (omega (arith, same))
+
+enough_still : {k m n : ℕ} → k ≤ m → m ≤ n → k ≤ n
+enough_still low high = omega (arith, low, high)
+
 pub loop-records-init : goal.loop-records-init
 loop-records-init g c = record {
   going = λ t e. begins (g.R.Recorder.work c.args.recorder.now) g.S.Source.to_come c.args.format.now c.args.limit t c.args.from.now (g.K.Sink.contents c.args.to.now) (g.S.Source.failures c.args.from.now.source) e;
   same = refl;
+  roomy = fresh_roomy _ _ _ c.in-Ok.ensures (c.unwrap_or.ensures ∙ ap (λ sum. unwrap_or sum 0) c.width_sum.ensures);
   sound = refl;
 }
 
 pub returns-in_default-clause-loops : goal.returns-in_default-clause-loops
 returns-in_default-clause-loops g c t e =
-    let start = begins (g.R.Recorder.work c.args.recorder.now) g.S.Source.to_come c.args.format.now c.args.limit t c.args.from.now (g.K.Sink.contents c.args.to.now) (g.S.Source.failures c.args.from.now.source) e in
-    no_memory told.one_report c.requires.proper start (omega arith) c.ended_by.result c.ended_by.ensures
+    no_memory told.one_report (g.R.Recorder.work c.args.recorder.now) g.S.Source.to_come c.args.format.now c.requires.proper c.args.limit t c.args.from.now (g.K.Sink.contents c.args.to.now) (g.S.Source.failures c.args.from.now.source) e
+    c.ended_by.result c.ended_by.ensures
 
 pub loop-records-preserved-in-Ok-write_held : goal.loop-records-preserved-in-Ok-write_held
 loop-records-preserved-in-Ok-write_held g c = record {
@@ -28,9 +46,10 @@ loop-records-preserved-in-Ok-write_held g c = record {
       let going = c.loop-records.invariant.going t e in
       let judged = c.in-Ok-write_held.ensures.written in
       next told.one_report c.requires.proper going c.new-report.result (scan_as c.new-report.ensures (c.in-Some.ensures.scan going.left going.input)) (λ at_end. c.fscan_held.ensures.stays ∙ at_end)
-      (quiet _ (ap (λ r. r.met) c.new-report.ensures ∙ c.in-Some.ensures.met) (ap g.S.Source.failures c.fscan_held.ensures.no_read)) _
+      (quiet _ (ap (λ r. r.met) c.new-report.ensures ∙ c.in-Some.ensures.met) (ap g.S.Source.failures c.fscan_held.ensures.no_read)) (λ _. done_fine _ (ap (λ r. r.status) c.new-report.ensures ∙ c.in-Some.ensures.done)) _
       (rw (← c.loop-records.invariant.same) judged.0) (rw (← c.loop-records.invariant.same) judged.1);
   same = c.write_held.ensures.same ∙ c.loop-records.invariant.same;
+  roomy = enough_still c.loop-records.invariant.roomy c.fscan_held.ensures.room;
   sound = c.in-Ok-write_held.ensures.failures ∙ c.loop-records.invariant.sound;
 }
 
@@ -38,7 +57,7 @@ pub returns-in-Err-clause-loops : goal.returns-in-Err-clause-loops
 returns-in-Err-clause-loops g c t e =
     let going = c.loop-records.invariant.going t e in
     ends_at told.one_report c.requires.proper going c.new-report.result (scan_as c.new-report.ensures (c.in-Some.ensures.scan going.left going.input)) (λ at_end. c.fscan_held.ensures.stays ∙ at_end)
-    (quiet _ (ap (λ r. r.met) c.new-report.ensures ∙ c.in-Some.ensures.met) (ap g.S.Source.failures c.fscan_held.ensures.no_read)) c.loop-records-test.true c.ended_by-in-Err.result _
+    (quiet _ (ap (λ r. r.met) c.new-report.ensures ∙ c.in-Some.ensures.met) (ap g.S.Source.failures c.fscan_held.ensures.no_read)) (λ _. done_fine _ (ap (λ r. r.status) c.new-report.ensures ∙ c.in-Some.ensures.done)) c.loop-records-test.true c.ended_by-in-Err.result _
     (rw (← c.loop-records.invariant.same, c.ended_by-in-Err.ensures) c.in-Err.ensures.unwritten)
 
 pub returns-in-Some-judge-clause-loops : goal.returns-in-Some-judge-clause-loops
@@ -46,7 +65,7 @@ returns-in-Some-judge-clause-loops g c t e =
     let going = c.loop-records.invariant.going t e in
     let judged = c.in-Some-judge.ensures.judged in
     ends_at told.one_report c.requires.proper going c.new-report.result (scan_as c.new-report.ensures (c.in-Some.ensures.scan going.left going.input)) (λ at_end. c.fscan_held.ensures.stays ∙ at_end)
-    (quiet _ (ap (λ r. r.met) c.new-report.ensures ∙ c.in-Some.ensures.met) (ap g.S.Source.failures c.fscan_held.ensures.no_read)) c.loop-records-test.true c.in-Some-judge.end _
+    (quiet _ (ap (λ r. r.met) c.new-report.ensures ∙ c.in-Some.ensures.met) (ap g.S.Source.failures c.fscan_held.ensures.no_read)) (λ _. done_fine _ (ap (λ r. r.status) c.new-report.ensures ∙ c.in-Some.ensures.done)) c.loop-records-test.true c.in-Some-judge.end _
     (rw (← c.loop-records.invariant.same) judged)
 
 pub loop-records-preserved-in-Some : goal.loop-records-preserved-in-Some
@@ -55,23 +74,22 @@ loop-records-preserved-in-Some g c = record {
       let going = c.loop-records.invariant.going t e in
       let judged = c.in_default-judge.ensures.judged in
       next told.one_report c.requires.proper going c.new-report.result (scan_as c.new-report.ensures (c.in-Some.ensures.scan going.left going.input)) (λ at_end. c.fscan_held.ensures.stays ∙ at_end)
-      (quiet _ (ap (λ r. r.met) c.new-report.ensures ∙ c.in-Some.ensures.met) (ap g.S.Source.failures c.fscan_held.ensures.no_read)) _
+      (quiet _ (ap (λ r. r.met) c.new-report.ensures ∙ c.in-Some.ensures.met) (ap g.S.Source.failures c.fscan_held.ensures.no_read)) (λ _. done_fine _ (ap (λ r. r.status) c.new-report.ensures ∙ c.in-Some.ensures.done)) _
       (rw (← c.loop-records.invariant.same) judged.0) (rw (← c.loop-records.invariant.same) judged.1);
   same = c.in_default-judge.ensures.same ∙ c.loop-records.invariant.same;
+  roomy = enough_still c.loop-records.invariant.roomy c.fscan_held.ensures.room;
   sound = c.in_default-judge.ensures.failures ∙ c.loop-records.invariant.sound;
 }
 
 pub returns-in_default-fscan_over-clause-loops : goal.returns-in_default-fscan_over-clause-loops
 returns-in_default-fscan_over-clause-loops g c t e =
-    let going = same_ahead g.S.Source.failures (c.in_default-fscan_held.ensures.none refl) (c.loop-records.invariant.going t e) in
-    let here = no_memory told.one_report c.requires.proper going (omega (arith, c.loop-records-test.true)) c.ended_by-in_default-fscan_over.result c.ended_by-in_default-fscan_over.ensures in
-    rw (c.in_default-fscan_over.ensures.unread) here
+    absurd (true≢false (sym (c.in_default-fscan_over.ensures.enough c.requires.limit (enough_still c.loop-records.invariant.roomy c.in_default-fscan_held.ensures.room))))
 
 pub returns-in-Some-judge-2-clause-loops : goal.returns-in-Some-judge-2-clause-loops
 returns-in-Some-judge-2-clause-loops g c t e =
     let going = same_ahead g.S.Source.failures (c.in_default-fscan_held.ensures.none refl) (c.loop-records.invariant.going t e) in
     let judged = c.in-Some-judge-2.ensures.judged in
-    ends_at told.one_report c.requires.proper going c.in-Ok-fscan_over.scanned.report (c.in-Ok-fscan_over.ensures.scan going.left going.input) c.in-Ok-fscan_over.ensures.stays c.in-Ok-fscan_over.ensures.failures c.loop-records-test.true c.in-Some-judge-2.end _
+    ends_at told.one_report c.requires.proper going c.in-Ok-fscan_over.scanned.report (c.in-Ok-fscan_over.ensures.scan going.left going.input) c.in-Ok-fscan_over.ensures.stays c.in-Ok-fscan_over.ensures.failures c.in-Ok-fscan_over.ensures.bounded c.loop-records-test.true c.in-Some-judge-2.end _
     (rw (← c.report.ensures, ← c.loop-records.invariant.same) judged)
 
 pub loop-records-preserved : goal.loop-records-preserved
@@ -79,9 +97,10 @@ loop-records-preserved g c = record {
   going = λ t e.
       let going = same_ahead g.S.Source.failures (c.in_default-fscan_held.ensures.none refl) (c.loop-records.invariant.going t e) in
       let judged = c.in_default-judge-2.ensures.judged in
-      next told.one_report c.requires.proper going c.in-Ok-fscan_over.scanned.report (c.in-Ok-fscan_over.ensures.scan going.left going.input) c.in-Ok-fscan_over.ensures.stays c.in-Ok-fscan_over.ensures.failures _
+      next told.one_report c.requires.proper going c.in-Ok-fscan_over.scanned.report (c.in-Ok-fscan_over.ensures.scan going.left going.input) c.in-Ok-fscan_over.ensures.stays c.in-Ok-fscan_over.ensures.failures c.in-Ok-fscan_over.ensures.bounded _
       (rw (← c.report.ensures, ← c.loop-records.invariant.same) judged.0) (rw (← c.report.ensures, ← c.loop-records.invariant.same) judged.1);
   same = c.in_default-judge-2.ensures.same ∙ c.loop-records.invariant.same;
+  roomy = rw (c.into_store-store.ensures.kept) c.in-Ok-fscan_over.ensures.room;
   sound = c.in_default-judge-2.ensures.failures ∙ c.loop-records.invariant.sound;
 }
 
