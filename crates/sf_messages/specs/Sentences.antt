@@ -22,7 +22,7 @@ abbrev pub why_sentence : FormatWhy → ℕ → List ℕ
 why_sentence format.Truncated b = codes "the format ends inside a conversion"
 why_sentence format.ZeroWidth b = codes "a conversion of width 0 takes nothing"
 why_sentence format.TooWide b = codes "a width is at most 65535"
-why_sentence format.UnknownLetter b = codes "no conversion has this letter"
+why_sentence format.UnknownLetter b = codes "no conversion of this profile is written so"
 why_sentence format.LeftOut b = left_out_sentence b
 why_sentence format.BadLength b = codes "this letter has no such length"
 why_sentence format.OpenSet b = codes "no ] closes the set"
@@ -46,7 +46,7 @@ pair_sentence why.KindDiffers = codes "the kinds or the letters of the two conve
 pair_sentence why.NumberDiffers = codes "the two conversions are of different values"
 pair_sentence why.NoWidth = codes "a conversion that is read back needs a width"
 pair_sentence why.TooNarrow = codes "the width is less than the shortest text that is written"
-pair_sentence why.RunsOn = codes "what is written next could be read as more of this value"
+pair_sentence why.RunsOn = codes "what is written next could be read by this directive too"
 pair_sentence why.OpenEnd = codes "nothing is written behind this, so what follows could be read as more of it"
 pair_sentence why.LeadingZero = codes "%i reads a leading zero as octal"
 pair_sentence why.NotWritten = codes "nothing is written for %n"
@@ -57,6 +57,6 @@ pair_sentence why.NoValues = codes "a pair has at least one value"
 abbrev pub escape_sentence : List ℕ
 escape_sentence = codes "behind a backslash stands one of \\ n t v f r, or x and two hexadecimal digits"
 
--- what is done about white space that a record leaves
+-- what is done about white space that stands in front of a record
 abbrev pub left_white_sentence : List ℕ
-left_white_sentence = codes "the record before left this white space: put %*1[\\n] at the format's end, or a blank at its front"
+left_white_sentence = codes "the record begins with white space: a blank at the format's front passes over it, and %*1[\\n] at its end takes the line end behind a record"

@@ -12,11 +12,11 @@ pub(crate) fn escape_sentence() -> &'static str
     "behind a backslash stands one of \\ n t v f r, or x and two hexadecimal digits"
 }
 
-/// What is done about white space that a record leaves.
+/// What is done about white space that stands in front of a record.
 pub(crate) fn left_white_sentence() -> &'static str
     ensures { result.now ≡ left_white_sentence }
 {
-    "the record before left this white space: put %*1[\\n] at the format's end, or a blank at its front"
+    "the record begins with white space: a blank at the format's front passes over it, and %*1[\\n] at its end takes the line end behind a record"
 }
 
 /// What C or POSIX has at this byte of a format, and sf has not.
@@ -42,7 +42,7 @@ pub(crate) fn why_sentence(why: FormatWhy, b: u8) -> &'static str
         FormatWhy::Truncated => "the format ends inside a conversion",
         FormatWhy::ZeroWidth => "a conversion of width 0 takes nothing",
         FormatWhy::TooWide => "a width is at most 65535",
-        FormatWhy::UnknownLetter => "no conversion has this letter",
+        FormatWhy::UnknownLetter => "no conversion of this profile is written so",
         FormatWhy::LeftOut => left_out_sentence(b),
         FormatWhy::BadLength => "this letter has no such length",
         FormatWhy::OpenSet => "no ] closes the set",
@@ -71,7 +71,7 @@ pub(crate) fn pair_sentence(why: PairWhy) -> &'static str
         PairWhy::NumberDiffers => "the two conversions are of different values",
         PairWhy::NoWidth => "a conversion that is read back needs a width",
         PairWhy::TooNarrow => "the width is less than the shortest text that is written",
-        PairWhy::RunsOn => "what is written next could be read as more of this value",
+        PairWhy::RunsOn => "what is written next could be read by this directive too",
         PairWhy::OpenEnd =>
             "nothing is written behind this, so what follows could be read as more of it",
         PairWhy::LeadingZero => "%i reads a leading zero as octal",

@@ -1,5 +1,8 @@
 //! A source that knows where in its input it is.
-ghost use Rattle.std.specs.Prelude.{◌≡◌, ◌≤◌, ◌++◌, ◌↔◌, [], ℕ, List, Option, Some, IfSome, IsSome, length};
+ghost use Rattle.std.specs.Prelude.{◌≡◌, ◌≤◌, ◌++◌, ◌↔◌, [], ℕ, List, Option, Some, IfSome, IsSome, IfOk, IfErr, is_err, if◌then◌else◌, length, take};
+ghost use Rattle.std.specs.Io.{ReadsAtMost};
+ghost use Rattle.std.specs.Io.KnownBytes.{ReadConsumes};
+ghost use Rattle.sf_read.specs.Counts.{counted_on};
 ghost use Rattle.sf_places.specs.Behind.{IsBehind};
 
 use crate::Place;
@@ -83,7 +86,15 @@ impl<S: Source, I: Input> Source for Placed<S, I> {
 
     ghost failures = { λ p. S.failures p.source };
 
-    fn read(&mut self, buf: &mut [u8]) -> Result<usize, SourceFault> {
+    /// Keeps the bytes that it gave, and none where it failed.
+    fn read(&mut self, buf: &mut [u8]) -> Result<usize, SourceFault>
+        ensures bound { ReadsAtMost result buf.new }
+        ensures bytes { ReadConsumes (S.to_come self.old.source) (S.to_come self.new.source) result buf.new }
+        ensures reads { S.reads self.new.source ≡ counted_on (S.reads self.old.source) }
+        ensures failures { S.failures self.new.source ≡ (if is_err result then counted_on (S.failures self.old.source) else S.failures self.old.source) }
+        ensures kept { IfOk result (λ count. self.new.last ≡ take count buf.new) }
+        ensures failed { IfErr result (λ _. self.new.last ≡ []) }
+    {
         self.pass();
         let room = buf.len().min(BLOCK_BYTES);
         let count = self.source.read(&mut buf[..room])?;

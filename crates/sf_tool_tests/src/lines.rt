@@ -153,15 +153,15 @@ static REFUSED: [(&[&str], &str); 8] = [
     // more is said where more is asked for, and of that one alone
     (
         &["--explain", "%y"],
-        "sf: scan format: F4 UnknownLetter at 1\n  no conversion has this letter\n  \"%y\"\n    ^\n",
+        "sf: scan format: F4 UnknownLetter at 1\n  no conversion of this profile is written so\n  \"%y\"\n    ^\n",
     ),
     (
         &["--explain", "-e", "%d", "-e", "%q", "-e", "%s"],
-        "sf: scan format: F4 UnknownLetter at 1\n  no conversion has this letter\n  \"%q\"\n    ^\n",
+        "sf: scan format: F4 UnknownLetter at 1\n  no conversion of this profile is written so\n  \"%q\"\n    ^\n",
     ),
     (
         &["--explain", "-e", "%d", "-e", "\\x01%d%q", "-e", "%y"],
-        "sf: scan format: F4 UnknownLetter at 4\n  no conversion has this letter\n  \"\\x01%d%q\"\n          ^\n",
+        "sf: scan format: F4 UnknownLetter at 4\n  no conversion of this profile is written so\n  \"\\x01%d%q\"\n          ^\n",
     ),
     (
         &["--explain", "-e", "%d", "-e", "a%d\\q", "-e", "%y"],
@@ -169,7 +169,7 @@ static REFUSED: [(&[&str], &str); 8] = [
     ),
     (
         &["--explain", "--quiet", "-e", "ab%y", "-e", "\\q"],
-        "sf: scan format: F4 UnknownLetter at 3\n  no conversion has this letter\n  \"ab%y\"\n      ^\n",
+        "sf: scan format: F4 UnknownLetter at 3\n  no conversion of this profile is written so\n  \"ab%y\"\n      ^\n",
     ),
 ];
 
