@@ -1,0 +1,165 @@
+r"""An edit: a wrong body that the prover must refuse. A file tests/edits/CRATE/MODULE.FUNCTION.WHAT.edit has lines of these kinds:
+
+    file: src/item.rt            the file that is changed
+    in: step                     the next texts are looked for in the body of this function alone
+    old: self.left               a text that stands there exactly once
+    new: None                    what stands in its place; further pairs apply to what the earlier ones made
+
+An edit changes the body of one function, or a table (a `static`, a `const`), or a definition that a law holds to account: of specs/,
+or of an `impl` for its trait (`ghost says = { .. }`). It changes no clause: an edit of what is promised shows nothing of the code.
+"""
+import os
+import re
+
+# Comments, strings and characters.
+NO_CODE = re.compile(r"""//[^\n]*|/\*.*?\*/|b?"(?:[^"\\]|\\.)*"|b?'(?:\\[^\n]{1,8}?|[^'\\\n])'""", re.S)
+CLAUSES = ("requires", "ensures", "ghost")
+
+
+def without_text(text):
+    """The source with each letter of its comments and strings blank, so that each place stays where it is."""
+    return NO_CODE.sub(lambda it: re.sub(r"[^\n]", " ", it[0]), text)
+
+
+def closing(text, at):
+    """Where the bracket at a place is closed."""
+    depth = 0
+    for here in range(at, len(text)):
+        depth += (text[here] in "([{") - (text[here] in ")]}")
+        if not depth:
+            return here
+    return len(text) - 1
+
+
+def bodies(text):
+    """The name of each function of a source, and the first and the last place of its body. Its clauses stand before it, in braces."""
+    text = without_text(text)
+    for head in re.finditer(r"\bfn\s+(\w+)", text):
+        at, is_clause = head.end(), False
+        while at < len(text) and text[at] != ";":
+            word = re.compile(r"\w+").match(text, at)
+            if word:
+                is_clause = is_clause or word[0] in CLAUSES
+                at = word.end()
+            elif text[at] in "([":
+                at = closing(text, at) + 1
+            elif text[at] == "{" and not is_clause:
+                yield head[1], at, closing(text, at)
+                break
+            elif text[at] == "{":
+                at, is_clause = closing(text, at) + 1, False
+            else:
+                at += 1
+
+
+def definitions(text):
+    """The first and the last place of the value of each `static`, `const` and ghost definition of an `impl`."""
+    text = without_text(text)
+    for head in re.finditer(r"\b(?:static|const)\s+\w+\s*:[^=;]*(?:\[[^\]]*\][^=;]*)?=", text):
+        yield head.end(), text.find(";", head.end())
+    for head in re.finditer(r"\bghost\s+\w+\s*=\s*\{", text):
+        yield head.end() - 1, closing(text, head.end() - 1)
+
+
+class BadEdit(Exception):
+    """Why an edit can't be applied, or shows nothing."""
+
+
+class Edit:
+    """A wrong body. `texts` has each changed file before and after; `place` is the file and the function that it changes, or None
+    where it changes a definition. `bad` says why it can't be applied."""
+
+    def __init__(self, crate, folder, path):
+        self.name, self.folder, self.how = f"{crate}/{os.path.basename(path)}", folder, ""
+        self.crate, self.texts, self.bad, self.place, self.spans = crate, {}, None, None, []
+        try:
+            with open(path, encoding="utf-8") as it:
+                self.apply(it.read().split("\n"))
+            self.spans = [self.span(file, *both) for file, both in self.texts.items()]
+            self.place = self.changed()
+        except BadEdit as why:
+            self.bad = str(why)
+
+    def apply(self, lines):
+        file, function, old = "", None, None
+        for line in lines:
+            key, _, value = line.partition(": ") if not line.startswith("new:") else ("new", "", line[4:].removeprefix(" "))
+            if key == "file":
+                file, function = self.file_of(value.strip()), None
+            elif key == "in":
+                function = value.strip()
+            elif key == "old":
+                old = value
+            elif key == "new":
+                if not file or not old:
+                    raise BadEdit("a 'new:' line stands before any 'file:' or 'old:' line")
+                was, now = self.texts[file]
+                self.texts[file] = was, replaced(now, file, function, old, value)
+                old = None
+        if old or not any(was != now for was, now in self.texts.values()):
+            raise BadEdit("it has no 'old:' and 'new:' pair that changes a text")
+
+    def file_of(self, file):
+        if os.path.normpath(file) != file or not file.startswith(("src/", "specs/")):
+            raise BadEdit("a 'file:' line names no file below src/ or specs/")
+        if file not in self.texts:
+            try:
+                with open(f"{self.folder}/{file}", encoding="utf-8") as it:
+                    text = it.read()
+            except OSError:
+                raise BadEdit(f"there is no file {file}") from None
+            self.texts[file] = text, text
+        return file
+
+    @staticmethod
+    def span(file, was, now):
+        """The one stretch of a text that is changed, and what stands there then."""
+        first = len(os.path.commonprefix([was, now]))
+        after = len(os.path.commonprefix([was[first:][::-1], now[first:][::-1]]))
+        return file, first, len(was) - after, now[first : len(now) - after]
+
+    def changed(self):
+        """The file and the function that is changed, or None for a definition."""
+        if len(self.spans) != 1:
+            raise BadEdit("it changes more than one file")
+        file, first, end, _ = self.spans[0]
+        if file.startswith("specs/"):
+            return None
+        was = self.texts[file][0]
+        inside = [name for name, opens, closes in bodies(was) if opens < first and end <= closes]
+        if not inside and not any(opens <= first and end <= closes for opens, closes in definitions(was)):
+            raise BadEdit("what it changes is neither the body of one function nor a definition")
+        return (file, inside[0]) if inside else None
+
+    def names(self):
+        """What a check may call the function, for any type of the module, and what stands inside it. A round has one edit of them."""
+        file, name = self.place
+        module = [it for it in file[len("src/") : -len(".rt")].split("/") if it not in ("lib", "main", "mod")]
+        return re.compile("::".join([self.crate, *module]) + rf"(::[^:]+)?::{name}(::.*)?")
+
+
+def replaced(text, file, function, old, new):
+    """The text with the new in place of the old, which stands there once: in the file, or in the body of the function."""
+    found = [(0, len(text))] if function is None else [(opens, closes) for name, opens, closes in bodies(text) if name == function]
+    count = sum(text.count(old, opens, closes) for opens, closes in found)
+    if count != 1:
+        where = file if function is None else f"the body of {function} in {file}"
+        raise BadEdit(f"an 'old:' text is in {where} {count} times, and not once")
+    at = max(text.find(old, opens, closes) for opens, closes in found)
+    return text[:at] + new + text[at + len(old) :]
+
+
+def applied(edits):
+    """The texts with all these edits, which are of different functions, and which edit a line is of."""
+    texts, lines = {}, {}
+    for file in {it.spans[0][0] for it in edits}:
+        here = sorted((it for it in edits if it.spans[0][0] == file), key=lambda it: it.spans[0][1])
+        was, text, at = here[0].texts[file][0], "", 0
+        for it in here:
+            _, first, end, new = it.spans[0]
+            text += was[at:first]
+            start = text.count("\n") + 1
+            text, at = text + new, end
+            lines.update({(file, line): it for line in range(start, text.count("\n") + 2)})
+        texts[file] = text + was[at:]
+    return texts, lines
