@@ -46,15 +46,14 @@ def refusal(said, edit):
 class Tries:
     """The tries of one crate's edits, in a folder of this run."""
 
-    def __init__(self, kit, crate, room, shows_times=False):
-        self.kit, self.crate, self.room, self.shows_times = kit, crate, room, shows_times
-        self.kept, self.notes, self.checks, self.began = f"{room}/kept", [], 0, time.monotonic()
+    def __init__(self, kit, crate, room):
+        self.kit, self.crate, self.kept, self.room = kit, crate, f"{room}/kept", room
+        self.notes, self.times, self.checks, self.began = [], [], 0, time.monotonic()
 
     def check(self, texts, kept, *flags):
         said = self.kit.check(self.crate, texts, kept, *flags)
         self.checks += 1
-        if self.shows_times:
-            self.notes += [f"   {seconds:6.1f} s {name}" for seconds, name in said.times[:20]]
+        self.times = sorted(self.times + said.times, reverse=True)
         return said
 
     def prepare(self):

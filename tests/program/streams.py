@@ -1,4 +1,5 @@
 """What `main` does with its streams: when output is written, in which order, and what a stream that fails does."""
+import contextlib
 import fcntl
 import os
 import pty
@@ -22,6 +23,21 @@ def read_within(file, seconds):
     number = file if isinstance(file, int) else file.fileno()
     ready, _, _ = select.select([number], [], [], seconds)
     return os.read(ready[0], 65536) if ready else None
+
+
+def filled(pipe):
+    """Fills a pipe that doesn't wait, so that each further write fails."""
+    for size in (4096, 1):
+        with contextlib.suppress(BlockingIOError):
+            while True:
+                os.write(pipe, b"x" * size)
+
+
+def drained(pipe):
+    """Takes all that a pipe has that doesn't wait."""
+    with contextlib.suppress(BlockingIOError):
+        while os.read(pipe, 65536):
+            pass
 
 
 class Streams(unittest.TestCase):
@@ -163,6 +179,19 @@ class LinesThatAreTold(Streams):
         with full() as disk:
             self.expect(3, None, self.TOLD % 2 + WRITE_FAULT, *self.WORDS, stdin=b"1\nx\n", stdout=disk)
             self.expect(3, None, WRITE_FAULT, *self.WORDS, stdin=b"1\n" * 100000 + b"x\n", stdout=disk)
+
+    def test_a_write_that_failed_is_not_forgotten_where_later_ones_succeed(self):
+        ours, theirs = os.pipe2(os.O_NONBLOCK)
+        self.addCleanup(os.close, ours)
+        filled(theirs)
+        running = self.watched(*self.WORDS, stdout=theirs)
+        os.close(theirs)
+        self.feed(b"1\nx\n")
+        self.assertEqual(read_within(running.stderr, program.SECONDS), self.TOLD % 2)
+        drained(ours)
+        self.feed(b"3\n")
+        _, err = running.communicate(timeout=program.SECONDS)
+        self.assertEqual((running.returncode, err), (3, WRITE_FAULT))
 
     def test_a_full_error_stream_changes_no_record(self):
         with full() as disk:
