@@ -185,6 +185,8 @@ pub record HasCome (ds : List Directive) (x : List ℕ) (s : Standing) : Type 0 
   pub byte : ℕ
   pub is_byte : byte < 256
   pub steps : IsCut ds (x ++ byte ∷ []) (length x) before
+  -- whichever byte follows, these have passed
+  pub first : (next : ℕ) (other : List Ran) → IsCut ds (x ++ next ∷ []) (length x) other → length before ≤ length other
   pub passed : s.passed ≡ length before
   pub assigned_are : s.tally.assigned ≡ assigned before
   pub converted_are : s.tally.converted ≡ converted before
