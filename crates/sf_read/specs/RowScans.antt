@@ -1,8 +1,7 @@
 -- What a scan of a row answers.
 use Rattle.std.specs.Prelude.{◌≡◌, ◌≢◌, ℕ, List, length, Bool, true, false, Option, Some, IsSome, Result, Ok, Err, if◌then◌else◌}
-use Rattle.std.specs.Option.{option_map}
 use Rattle.sf_base.specs.declared.values.Kind.{Kind}
-use Rattle.sf_base.specs.Data.{Datum, Assigned, datum_at}
+use Rattle.sf_base.specs.Data.{Datum}
 use Rattle.sf_format.specs.declared.directive.Directive.{Directive}
 use Rattle.sf_format.specs.Proper.{destinations_of, kind_at}
 use Rattle.sf_format.specs.Widths.{width_sum}
@@ -10,7 +9,7 @@ use Rattle.sf_run.specs.outcome.Ending.{Ending}
 use Rattle.sf_run.specs.outcome.Ending.TheVariants.{End}
 use Rattle.sf_run.specs.outcome.Status.TheVariants.{Done}
 use Rattle.sf_run.specs.Limits.{RunTold}
-use Rattle.sf_run.specs.Rows.{at_slot, kind_of, AreRowOf}
+use Rattle.sf_run.specs.Rows.{at_slot, AreRowOf}
 use Rattle.sf_run.specs.Runs.{RunReport}
 use Rattle.sf_run.specs.Stopping.{is_memory_status}
 use Rattle.sf_run.specs.Views.{report_by}
@@ -23,10 +22,6 @@ use Rattle.sf_read.specs.Scan.{Scan, is_fault}
 -- the slots with these kinds are the destinations of the format, with theirs
 abbrev pub HasShape : List Kind → List Directive → Type 0
 HasShape kinds ds = (length kinds ≡ length (destinations_of ds)) × ((slot : ℕ) → at_slot slot kinds ≡ kind_at slot ds)
-
--- each destination of the format was given something of its kind, and no other slot was given anything
-abbrev pub FillsSlots : List Directive → List Assigned → Type 0
-FillsSlots ds values = (slot : ℕ) → option_map kind_of (datum_at slot values) ≡ kind_at slot ds
 
 -- there was a run
 abbrev pub is_run : {T : Type 0} → Result T ScanRowFault → Bool

@@ -11,3 +11,6 @@ pub mod Joined
 pub mod Openness
 pub mod Inputs
 pub mod Fronts
+pub mod Filling
+pub mod Values
+pub mod HaveRows

@@ -56,6 +56,16 @@ pub over_is_too_long : (m : ℕ) (ds : List Directive) (at : ℕ) (t : Tally) (x
 over_is_too_long m [] at t x le h = grind arith
 over_is_too_long m (d ∷ ds) at t x le h = grind (arith, over_is_too_long m ds)
 
+-- a run that is too long is so in one of its directives
+pub too_long_at : (m : Option ℕ) (ds : List Directive) (at : ℕ) (t : Tally) (x : List ℕ) → (run_of m ds at t x).status ≡ TooLong → at ≤ (run_of m ds at t x).at
+too_long_at m [] at t x h = absurd cc
+too_long_at m (d ∷ ds) at t x h = grind (arith, too_long_at m ds)
+
+pub rest_too_long_at : (m : Option ℕ) (ds : List Directive) (q : Stage) (at : ℕ) (t : Tally) (x : List ℕ) → (run_from m ds q at t x).status ≡ TooLong
+    → at ≤ (run_from m ds q at t x).at
+rest_too_long_at m [] q at t x h = absurd cc
+rest_too_long_at m (d ∷ ds) q at t x h = grind (arith, too_long_at)
+
 -- ---- open or closed
 
 abbrev more_left : Part → List ℕ → Part

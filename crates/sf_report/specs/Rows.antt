@@ -1,19 +1,18 @@
 -- What a row is made of.
-use Rattle.std.specs.Prelude.{◌≡◌, ℕ, ◌-◌, nat_eq, if◌then◌else◌, List, map, slice_get, Option, Some, None}
+use Rattle.std.specs.Prelude.{◌≡◌, ℕ, ◌-◌, nat_eq, if◌then◌else◌, List, length, map, slice_get, Option, Some, None}
+use Rattle.std.specs.List.{AllByRecursion, filter_map}
 use Rattle.std.specs.Option.{option_map}
+use Rattle.sf_base.specs.Bytes.{AreBytes}
 use Rattle.sf_base.specs.declared.values.Kind.{Kind}
-use Rattle.sf_base.specs.declared.values.Kind.TheVariants.{Text}
-use Rattle.sf_base.specs.Data.{Datum, Number, Bytes, Assigned, datum_at}
+use Rattle.sf_base.specs.Data.{Datum, Number, Bytes, Assigned, IsIn, datum_at}
+pub use Rattle.sf_base.specs.Data.{kind_of}
+use Rattle.sf_format.specs.declared.directive.Directive.{Directive}
+use Rattle.sf_format.specs.Proper.{destinations_of, kind_at}
 use Rattle.sf_format.specs.Slots.{slots_from}
 
 -- what stands at a slot of a list whose first place is slot 1
 abbrev pub at_slot : {A : Type 0} → ℕ → List A → Option A
 at_slot slot xs = if nat_eq slot 0 then None else slice_get xs (slot - 1)
-
--- the kind of a destination that was given this
-abbrev pub kind_of : Datum → Kind
-kind_of (Number kind n) = kind
-kind_of (Bytes text) = Text
 
 -- each slot of these kinds was given something of its kind, and no other slot was given anything
 abbrev pub AreGiven : List Kind → List Assigned → Type 0
@@ -26,3 +25,26 @@ given_to n values = map (λ slot. datum_at slot values) (slots_from 1 n)
 -- the data, slot by slot, are what the slots from 1 to n were given
 abbrev pub AreRowOf : ℕ → List Datum → List Assigned → Type 0
 AreRowOf n row values = map Some row ≡ given_to n values
+
+-- ---- the row of a format
+
+-- a number that its kind holds, or bytes
+abbrev pub IsValue : Datum → Type 0
+IsValue (Number kind n) = IsIn kind n
+IsValue (Bytes text) = AreBytes text
+
+-- the kinds of the destinations, from slot 1 on
+abbrev pub kinds_of : List Directive → List Kind
+kinds_of ds = filter_map (λ slot. kind_at slot ds) (slots_from 1 (length (destinations_of ds)))
+
+-- each destination of the directives was given something of its kind, and no other slot was given anything
+abbrev pub FillsSlots : List Directive → List Assigned → Type 0
+FillsSlots ds values = (slot : ℕ) → option_map kind_of (datum_at slot values) ≡ kind_at slot ds
+
+-- what the destinations of the directives were given, in the order of their slots: values of their kinds, and nothing else
+pub record HasRow (ds : List Directive) (values : List Assigned) : Type 0 where
+  pub row : List Datum
+  pub is_row : AreRowOf (length (destinations_of ds)) row values
+  pub kinds : map kind_of row ≡ kinds_of ds
+  pub are_values : AllByRecursion IsValue row
+  pub given : AreGiven (kinds_of ds) values

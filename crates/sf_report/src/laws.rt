@@ -2,6 +2,7 @@
 ghost use Rattle.sf_report.specs.Laws.{
   EachByteIsTried,
   EachClosedInputStays,
+  EachDoneRunHasItsRow,
   EachDoneRunStays,
   EachHasOneReport,
   EachMachineSteps,
@@ -31,6 +32,12 @@ pub fn open_inputs_are_used()
 /// ending.
 pub fn done_runs_stay()
     ensures { EachDoneRunStays }
+{}
+
+/// A run of an accepted format that is Done has given each slot, from 1 to the count of the destinations, a value of the slot's
+/// kind: a number that the kind holds, or the bytes of a text.
+pub fn done_runs_have_rows()
+    ensures { EachDoneRunHasItsRow }
 {}
 
 /// Each directive makes the step that `step_of` computes, and no other; so does its machine, which is handed the input byte by byte.

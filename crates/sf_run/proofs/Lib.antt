@@ -12,6 +12,9 @@ pub use Rattle.sf_report.proofs.Joined
 pub use Rattle.sf_report.proofs.Openness
 pub use Rattle.sf_report.proofs.Inputs
 pub use Rattle.sf_report.proofs.Fronts
+pub use Rattle.sf_report.proofs.Filling
+pub use Rattle.sf_report.proofs.Values
+pub use Rattle.sf_report.proofs.HaveRows
 -- of what makes one
 pub mod Stages
 pub mod Brought

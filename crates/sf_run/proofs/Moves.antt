@@ -224,7 +224,7 @@ ends_follows new mid old d (Fails status) y z at waits here ends takes = fails_f
 pub last_follows : (new old : Standing) (d : Directive) (f : StepEnd) → slice_get old.directives old.passed ≡ Some d → old.ended ≡ None → Ends new old d f
     → ((q : Stage) → Shows d old.phase q → old.opened ≡ opened_for (text_slot d) q → f ≡ finished d q old.tally.used false) → Follows new old [] []
 last_follows new old d f at waits ends is =
-    ends_follows new old old d f [] [] at waits (record { keeps = record { directives = refl; limit = refl; met = refl; capacity = omega arith }; ended = refl; passed = refl; tally = refl }) ends
+    ends_follows new old old d f [] [] at waits (record { keeps = record { directives = refl; limit = refl; met = refl; capacity = omega arith; room = omega arith }; ended = refl; passed = refl; tally = refl }) ends
     (λ q shows opened. ap (λ (e : StepEnd). record { used = old.tally.used; left = []; end = e }) (sym (is q shows opened)))
 
 -- what closes the text under way closes the whole item

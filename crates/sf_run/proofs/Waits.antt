@@ -13,11 +13,11 @@ use Rattle.sf_run.specs.declared.directive.Phase.TheVariants as phase
 use Rattle.sf_report.specs.declared.outcome.Ending.{Ending}
 use Rattle.sf_report.specs.declared.outcome.Status.TheVariants.{TooLong}
 use Rattle.sf_run.specs.declared.scanner.Stop.{Stop}
-use Rattle.sf_report.specs.Runs.{RunReport, IsOpen}
-use Rattle.sf_report.specs.Limits.{RunWithin, TellsWithin, cut_report}
+use Rattle.sf_report.specs.Runs.{Ran, RunReport, IsOpen}
+use Rattle.sf_report.specs.Limits.{IsCut, RunWithin, TellsWithin, cut_report}
 use Rattle.sf_report.specs.Machine.{Stage, Skipping, Item, stepped, is_full}
 use Rattle.sf_run.specs.Phases.{ShowsItem, Shows}
-use Rattle.sf_report.specs.Residual.{Tally, nothing_yet, with_used, out_of, run_of}
+use Rattle.sf_report.specs.Residual.{Tally, nothing_yet, with_used, out_of, run_of, run_from}
 use Rattle.sf_run.specs.Standing.{Standing, ShowsFirst, DoesBy, Does, Follows, Waits, IsSettled, Keeps, After, HasCome, report_by, report_of, Gives}
 use Rattle.sf_base.specs.Data.{Assigned}
 use Rattle.sf_run.specs.declared.tally.Tally as code
@@ -28,7 +28,7 @@ use Rattle.sf_base.specs.Kept.{Opened}
 use Rattle.sf_report.proofs.Inputs.{open_all}
 use Rattle.sf_report.proofs.Machines.{some_is, can_take_one, item_byte, item_byte-below, item_takes}
 use Rattle.sf_run.proofs.Moves.{drop_at, proper_at, ended_does, waiting, byte_took, byte_past}
-use Rattle.sf_report.proofs.Openness.{uses_within, within_limit, run_not_too_long, over_is_too_long, rest_uses_nothing}
+use Rattle.sf_report.proofs.Openness.{uses_within, within_limit, run_not_too_long, over_is_too_long, rest_too_long_at, rest_uses_nothing}
 use Rattle.sf_report.proofs.Told.{run_told, told_exists, told_is, uses_is, uses_from, within_met, met_within}
 
 -- ---- the runs of what a scanner was given
@@ -164,6 +164,20 @@ module _ (ds : List Directive) (m : ℕ) (s : Standing) (x : List ℕ) (h : Afte
           subst (λ k. TellsWithin ds k (x ++ one.byte ∷ []) report) used tells,
         )
 
+    -- a run that is cut off there has come no less far
+    no_sooner : (b : ℕ) (other : List Ran) → IsCut ds (x ++ b ∷ []) (length x) other → s.passed ≤ length other
+    no_sooner b other is_cut =
+        let (report, does, tells) = h.same s.tally.used (b ∷ []) (omega arith) low in
+        let own : DoesBy None s.directives s.passed s.phase s.opened s.tally s.tally.used (b ∷ []) report = waiting s s.tally.used (b ∷ []) report e does in
+        let here : TellsWithin ds s.tally.used (x ++ b ∷ []) (cut_report TooLong other (length x)) =
+        subst (λ k. TellsWithin ds k (x ++ b ∷ []) (cut_report TooLong other (length x))) (sym used) (inr (other, is_cut, refl)) in
+        let same : report ≡ cut_report TooLong other (length x) =
+        told_is ds h.proper s.tally.used (x ++ b ∷ []) report tells ∙ sym (told_is ds h.proper s.tally.used (x ++ b ∷ []) (cut_report TooLong other (length x)) here) in
+        let rest : RunReport = run_from (Some s.tally.used) (drop s.passed s.directives) own.0 (s.passed + 1) s.tally (b ∷ []) in
+        let long : rest.status ≡ TooLong = ap (λ (r : RunReport). r.status) (sym own.2 ∙ same) in
+        let place : rest.at ≡ length other + 1 = ap (λ (r : RunReport). r.at) (sym own.2 ∙ same) in
+        omega (arith, place, rest_too_long_at (Some s.tally.used) (drop s.passed s.directives) own.0 (s.passed + 1) s.tally (b ∷ []) long)
+
     -- so it is cut off in the directive after those that passed
     pub has_come : HasCome ds x s
     has_come = by_case at_used.2
@@ -183,6 +197,7 @@ module _ (ds : List Directive) (m : ℕ) (s : Standing) (x : List ℕ) (h : Afte
               byte = one.byte;
               is_byte = one.is_byte;
               steps = w.1;
+              first = λ b other is_cut. omega (arith, place, no_sooner b other is_cut);
               passed = omega (arith, place);
               assigned_are = ap (λ (r : RunReport). r.assigned) same;
               converted_are = ap (λ (r : RunReport). r.converted) same;

@@ -23,4 +23,5 @@ module _ {S : Type 0} {st : store.Ghosts S} where
     ended = s.ended;
     met = s.met;
     capacity = capacity_of (st.kept s.store);
+    room = (st.kept s.store).room;
   }

@@ -27,8 +27,9 @@ pub record Standing : Type 0 where
   pub opened : Option Opened
   pub ended : Option Stop
   pub met : Option Ending
-  -- how many bytes its store can hold for sure, with those that it holds
+  -- how many bytes its store can hold for sure, with those that it holds, and how many more
   pub capacity : ℕ
+  pub room : ℕ
 
 -- the first of the directives, if there is one, has come to this stage, and its text is under way
 abbrev pub ShowsFirst : List Directive → Phase → Option Opened → Stage → Type 0
@@ -49,12 +50,13 @@ Does s k z report = DoesBy s.ended s.directives s.passed s.phase s.opened s.tall
 abbrev pub Follows : Standing → Standing → List ℕ → List ℕ → Type 0
 Follows new old y z = (k : ℕ) (report : RunReport) → new.tally.used ≤ k → k ≤ old.limit → Does old k z report → Does new k y report
 
--- it goes on with the same format under the same limit, and its store can hold as much
+-- it goes on with the same format under the same limit; its store can hold as much, and no byte took more room than its own
 pub record Keeps (new old : Standing) : Type 0 where
   pub directives : new.directives ≡ old.directives
   pub limit : new.limit ≡ old.limit
   pub met : new.met ≡ old.met
   pub capacity : old.capacity ≤ new.capacity
+  pub room : old.room + old.tally.used ≤ new.room + new.tally.used
 
 -- ---- moves
 
@@ -101,6 +103,7 @@ Ends new old d end = Passes new old d end
 pub record RunsOut (new old : Standing) (before item : ℕ) : Type 0 where
   pub stored : ℕ
   pub short : stored < item
+  pub full : old.room < item
   pub keeps : Keeps new old
   pub ended : new.ended ≡ Some (record { status = NoMemory; at = old.passed + 1 })
   pub tally : new.tally ≡ with_used (old.tally.used + (before + stored)) old.tally
@@ -185,6 +188,8 @@ pub record HasCome (ds : List Directive) (x : List ℕ) (s : Standing) : Type 0 
   pub byte : ℕ
   pub is_byte : byte < 256
   pub steps : IsCut ds (x ++ byte ∷ []) (length x) before
+  -- whichever byte follows, these have passed
+  pub first : (next : ℕ) (other : List Ran) → IsCut ds (x ++ next ∷ []) (length x) other → length before ≤ length other
   pub passed : s.passed ≡ length before
   pub assigned_are : s.tally.assigned ≡ assigned before
   pub converted_are : s.tally.converted ≡ converted before

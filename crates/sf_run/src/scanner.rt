@@ -323,6 +323,7 @@ impl<'f, S: Store> Scanner<'f, S> {
         ensures goes { result.waits ≡ true → turns_left (standing self.new) ≡ turns_left (standing self.old) }
         ensures some { result.waits ≡ true → 0 < length piece.now → 0 < result.taken }
         ensures settled { result.waits ≡ true → IsSettled (standing self.new) }
+        ensures full { ran_out (standing self.new) ≡ true → (kept_by self.old).room < length piece.now }
     {
         let room = (self.limit - self.tally.used) as usize;
         // At the limit one byte more is handed over, to see whether it would be taken.
@@ -368,6 +369,7 @@ impl<'f, S: Store> Scanner<'f, S> {
         ensures stays { IsSome self.old.ended → IsSome self.new.ended }
         ensures keeps { Keeps (standing self.new) (standing self.old) }
         ensures settled { IsSettled (standing self.new) }
+        ensures full { ran_out (standing self.old) ≡ false → ran_out (standing self.new) ≡ true → (kept_by self.old).room < length piece.now }
     {
         let mut taken = 0;
         while self.ended.is_none() {
@@ -485,6 +487,7 @@ impl<'f, S: Store> Scanner<'f, S> {
         ensures ended_stays { has_ended (standing self.old) ≡ true → self.new ≡ self.old }
         ensures texts { has_ended (standing self.new) ≡ true → HoldsValues (kept_by self.new) }
         ensures room { capacity_of (kept_by self.old) ≤ capacity_of (kept_by self.new) }
+        ensures full { ran_out (standing self.old) ≡ false → ran_out (standing self.new) ≡ true → (kept_by self.old).room < length piece.now }
     {
         let taken = self.push(piece);
         Fed {

@@ -31,7 +31,7 @@ returns g c =
     let s = c.args.self.now in
     let closed = closed_values (kept_by s).values (kept_by s).opened c.args.slot (s.under_way ∙ c.requires.text) in
     rw (c.close_text.ensures, closed) (record {
-      keeps = record { directives = refl; limit = refl; met = refl; capacity = closed_capacity (kept_by s) };
+      keeps = record { directives = refl; limit = refl; met = refl; capacity = closed_capacity (kept_by s); room = omega arith };
       ended = refl;
       passed = refl;
       phase = refl;

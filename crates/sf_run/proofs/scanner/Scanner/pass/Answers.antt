@@ -18,7 +18,7 @@ pub returns : goal.returns
 returns g c =
     let s = c.args.self.now in
     record {
-      keeps = record { directives = refl; limit = refl; met = refl; capacity = omega arith };
+      keeps = record { directives = refl; limit = refl; met = refl; capacity = omega arith; room = omega arith };
       ended = refl;
       passed = refl;
       phase = refl;

@@ -1,4 +1,4 @@
-use Rattle.std.proofs.Common.{◌≡◌, ◌+◌, ◌-◌, ◌≤◌, ℕ, List, ◌++◌, length, drop, None, true, false}
+use Rattle.std.proofs.Common.{◌≡◌, ◌+◌, ◌-◌, ◌<◌, ◌≤◌, ℕ, List, ◌++◌, length, drop, None, true, false}
 use Rattle.std.specs.Prelude.{IsSome}
 use Rattle.sf_format.specs.Proper.{AreProper}
 use Rattle.sf_run.specs.Standing.{Follows, Keeps, RefusesIn, ran_out, turns_left}
@@ -16,6 +16,7 @@ invariant-loop-directive g l = record {
   nothing : IsSome l.fn.self.ended → l.taken ≡ 0;
   unchanged : IsSome l.fn.self.ended → l.self ≡ l.fn.self;
   keeps : Keeps (standing l.self) (standing l.fn.self);
+  full : ran_out (standing l.fn.self) ≡ false → ran_out (standing l.self) ≡ true → (standing l.fn.self).room < length l.piece;
 }
 
 abbrev pub decreases-loop-directive : goal.decreases-loop-directive

@@ -36,7 +36,7 @@ pub returns : goal.returns
 returns g c =
     let s = c.args.self.now in
     rw c.set_number.ensures (record {
-      keeps = record { directives = refl; limit = refl; met = refl; capacity = omega arith };
+      keeps = record { directives = refl; limit = refl; met = refl; capacity = omega arith; room = omega arith };
       ended = refl;
       passed = refl;
       phase = refl;

@@ -1,0 +1,147 @@
+-- What the runs of a format store are values: numbers that their kinds hold, and bytes.
+use Rattle.std.proofs.Common.{◌≡◌, ℕ, zero, suc, ◌+◌, ◌^◌, ◌<◌, inl, inr, Bool, true, false, cond, nat_eq, List, [], ◌∷◌, drop, take, Option, Some, None, refl, sym, ap, subst, arith}
+use Rattle.std.proofs.lemmas.Bool.Decides.{nat_tests}
+use Rattle.std.proofs.lemmas.Int.{ints}
+use Rattle.std.proofs.lemmas.Nat.{pow_pos}
+use Rattle.std.specs.Prelude.{find, ℤ}
+use Rattle.std.specs.List.{AllByRecursion}
+use Rattle.std.specs.Option.{option_map}
+use Rattle.sf_base.specs.Bytes.{AreBytes}
+use Rattle.sf_base.specs.declared.values.Kind.{Kind}
+use Rattle.sf_base.specs.declared.values.Kind.TheVariants as kinds
+use Rattle.sf_base.specs.Data.{Datum, Assigned, IsIn, IsSigned, IsUnsigned, datum_at, signed_value, unsigned_value, value_of}
+use Rattle.sf_format.specs.declared.directive.Shape.{Shape}
+use Rattle.sf_format.specs.declared.directive.Shape.TheVariants.{Int, Text, Set, Chars, Count}
+use Rattle.sf_format.specs.declared.directive.Conversion.{Conversion}
+use Rattle.sf_format.specs.declared.directive.Directive.{Directive}
+use Rattle.sf_format.specs.declared.directive.Directive.TheVariants.{Space, Byte, Percent, Conv}
+use Rattle.sf_format.proofs.Outcomes.{by_test}
+use Rattle.sf_report.specs.declared.outcome.Ending.{Ending}
+use Rattle.sf_report.specs.declared.outcome.Status.TheVariants.{Done, TooLong, NoMemory}
+use Rattle.sf_report.specs.Limits.{RunTold}
+use Rattle.sf_report.specs.Rows.{IsValue}
+use Rattle.sf_report.specs.Runs.{GoesOn, Ran, RunReport, Steps, values}
+use Rattle.sf_report.specs.Steps.{ByteStep, ConversionStep, CountStep, EmptyItem, Fails, ItemEnds, ItemPasses, ItemStep, ItemStored, NumberStored, Passes, Step, StepEnd, Stores}
+
+-- ---- the numbers of a kind
+
+signed_in : (n : ℕ) (negative : Bool) (m : ℕ) (z : ℤ) → signed_value n negative m ≡ Some z → IsSigned n z
+signed_in n false m z e = grind (arith, nat_tests, ints)
+signed_in n true m z e = let some : 0 < 2 ^ n = pow_pos n in grind (arith, nat_tests, ints)
+
+unsigned_in : (n : ℕ) (negative : Bool) (m : ℕ) (z : ℤ) → unsigned_value n negative m ≡ Some z → IsUnsigned n z
+unsigned_in n false m z e = grind (arith, nat_tests, ints)
+unsigned_in n true m z e = grind (arith, nat_tests, ints)
+
+value_in : (kind : Kind) (negative : Bool) (m : ℕ) (z : ℤ) → value_of kind negative m ≡ Some z → IsIn kind z
+value_in kinds.I8 = signed_in 7
+value_in kinds.I16 = signed_in 15
+value_in kinds.I32 = signed_in 31
+value_in kinds.I64 = signed_in 63
+value_in kinds.U8 = unsigned_in 8
+value_in kinds.U16 = unsigned_in 16
+value_in kinds.U32 = unsigned_in 32
+value_in kinds.U64 = unsigned_in 64
+value_in kinds.Text = λ negative m z e. absurd cc
+
+-- ---- the bytes of an input
+
+bytes_from : (n : ℕ) (x : List ℕ) → AreBytes x → AreBytes (drop n x)
+bytes_from zero x h = h
+bytes_from (suc n) [] h = tt
+bytes_from (suc n) (b ∷ x) h = bytes_from n x h.1
+
+bytes_to : (n : ℕ) (x : List ℕ) → AreBytes x → AreBytes (take n x)
+bytes_to zero x h = tt
+bytes_to (suc n) [] h = tt
+bytes_to (suc n) (b ∷ x) h = (h.0, bytes_to n x h.1)
+
+-- ---- what a step stores
+
+-- what is stored, if something is, is a value
+abbrev GivesValue : StepEnd → Type 0
+GivesValue (Stores slot v) = IsValue v
+GivesValue _ = Unit {0}
+
+number_given : (c : Conversion) (slot : ℕ) (negative : Bool) (m : ℕ) (v : Option ℤ) (e : StepEnd) → value_of c.kind negative m ≡ v → NumberStored c slot v e → GivesValue e
+number_given c slot negative m None e is h = rw h tt
+number_given c slot negative m (Some z) e is h = rw h (value_in c.kind negative m z is)
+
+count_given : (c : Conversion) (slot : Option ℕ) (n : ℕ) (e : StepEnd) → CountStep c slot n e → GivesValue e
+count_given c None n e h = rw h tt
+count_given c (Some slot) n e h = number_given c slot false n (value_of c.kind false n) e refl h
+
+stored_given : (c : Conversion) (slot : ℕ) (shape : Shape) (item : List ℕ) (e : StepEnd) → AreBytes item → ItemStored c slot shape item e → GivesValue e
+stored_given c slot (Int base) item e bytes (negative, m, number, h) = number_given c slot negative m (value_of c.kind negative m) e refl h
+stored_given c slot Text item e bytes h = rw h bytes
+stored_given c slot (Set members) item e bytes h = rw h bytes
+stored_given c slot Chars item e bytes h = rw h bytes
+stored_given c slot Count item e bytes h = rw h bytes
+
+passes_given : (c : Conversion) (slot : Option ℕ) (item : List ℕ) (e : StepEnd) → AreBytes item → ItemPasses c slot item e → GivesValue e
+passes_given c None item e bytes h = rw h tt
+passes_given c (Some slot) item e bytes h = stored_given c slot c.shape item e bytes h
+
+empty_given : (x : List ℕ) (e : StepEnd) → EmptyItem x e → GivesValue e
+empty_given [] e h = rw h tt
+empty_given (b ∷ x) e h = rw h tt
+
+ends_given : (c : Conversion) (x : List ℕ) (j : ℕ) (e : StepEnd) → AreBytes x → ItemEnds c x j e → GivesValue e
+ends_given c x zero e bytes h = empty_given x e h
+ends_given c x (suc j) e bytes (inl h) = passes_given c c.slot (take (suc j) x) e (bytes_to (suc j) x bytes) h.1
+ends_given c x (suc j) e bytes (inr h) = rw h.1 tt
+
+item_given : (c : Conversion) (x : List ℕ) (k : ℕ) (e : StepEnd) → AreBytes x → ItemStep c x k e → GivesValue e
+item_given c x k e bytes (s, j, skip, item, length, ends) = ends_given c (drop s x) j e (bytes_from s x bytes) ends
+
+conversion_given : (c : Conversion) (shape : Shape) (x : List ℕ) (n k : ℕ) (e : StepEnd) → AreBytes x → ConversionStep c shape x n k e → GivesValue e
+conversion_given c Count x n k e bytes h = count_given c c.slot n e h.1
+conversion_given c (Int base) x n k e bytes h = item_given c x k e bytes h
+conversion_given c Text x n k e bytes h = item_given c x k e bytes h
+conversion_given c (Set members) x n k e bytes h = item_given c x k e bytes h
+conversion_given c Chars x n k e bytes h = item_given c x k e bytes h
+
+byte_given : (b : ℕ) (x : List ℕ) (k : ℕ) (e : StepEnd) → ByteStep b x k e → GivesValue e
+byte_given b [] k e h = rw h.1 tt
+byte_given b (y ∷ x) k e (inl h) = rw h.2 tt
+byte_given b (y ∷ x) k e (inr h) = rw h.2 tt
+
+step_given : (d : Directive) (x : List ℕ) (n k : ℕ) (e : StepEnd) → AreBytes x → Step d x n k e → GivesValue e
+step_given Space x n k e bytes h = rw h.1 tt
+step_given (Byte b) x n k e bytes h = byte_given b x k e h
+step_given Percent x n k e bytes (s, j, skip, byte, length) = byte_given 37 (drop s x) j e byte
+step_given (Conv c) x n k e bytes h = conversion_given c c.shape x n k e bytes h
+
+-- ---- what a run stores
+
+abbrev pub AreStored : List Assigned → Type 0
+AreStored vs = AllByRecursion (λ (a : Assigned). IsValue a.datum) vs
+
+next_given : (d : Directive) (b : ℕ) (e : StepEnd) (ran : List Ran) (Rest : Type 0) → GivesValue e → GoesOn e Rest ran → (Rest → AreStored (values ran))
+    → AreStored (values (record { directive = d; bytes = b; end = e } ∷ ran))
+next_given d b Passes ran Rest given goes rest = rest goes
+next_given d b (Stores s v) ran Rest given goes rest = (given, rest goes)
+next_given d b (Fails status) ran Rest given goes rest = rw goes tt
+
+steps_given : (ds : List Directive) (x : List ℕ) (n : ℕ) (ran : List Ran) → AreBytes x → Steps ds x n ran → AreStored (values ran)
+steps_given [] x n [] bytes steps = tt
+steps_given [] x n (r ∷ ran) bytes steps = absurd steps
+steps_given (d ∷ ds) x n [] bytes steps = absurd steps
+steps_given (d ∷ ds) x n (r ∷ ran) bytes steps =
+    next_given r.directive r.bytes r.end ran (Steps ds (drop r.bytes x) (n + r.bytes) ran) (step_given d x n r.bytes r.end bytes steps.1) steps.2
+    (λ rest. steps_given ds (drop r.bytes x) (n + r.bytes) ran (bytes_from r.bytes x bytes) rest)
+
+pub done_given : (ds : List Directive) (m : ℕ) (x : List ℕ) (ending : Ending) (report : RunReport) → AreBytes x → RunTold ds m x ending report → report.status ≡ Done
+    → AreStored report.values
+done_given ds m x ending report bytes (inl (inl (few, (ran, steps, met, is_met, is)))) done =
+    subst (λ (o : RunReport). AreStored o.values) (sym is) (steps_given ds x 0 ran bytes steps)
+done_given ds m x ending report bytes (inl (inr (before, cut, is))) done = let e : report.status ≡ TooLong = ap (λ (o : RunReport). o.status) is in absurd cc
+done_given ds m x ending report bytes (inr (k, low, (before, cut, stores, is))) done =
+    let e : report.status ≡ NoMemory = ap (λ (o : RunReport). o.status) is in absurd cc
+
+-- what a slot was given is one of these
+pub found_given : (slot : ℕ) (vs : List Assigned) (v : Datum) → AreStored vs → datum_at slot vs ≡ Some v → IsValue v
+found_given slot [] v stored e = absurd cc
+found_given slot (a ∷ vs) v stored e =
+    by_test (nat_eq slot a.slot) (λ t. option_map (λ (b : Assigned). b.datum) (cond t (Some a) (find (λ (b : Assigned). nat_eq slot b.slot) vs)) ≡ Some v → IsValue v)
+    (λ same first. let is : a.datum ≡ v = cc in subst IsValue is stored.0) (λ other later. found_given slot vs v stored.1 later) e
