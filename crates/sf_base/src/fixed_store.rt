@@ -45,6 +45,14 @@ impl<const CAP: usize, const SLOTS: usize> FixedStore<CAP, SLOTS> {
         }
     }
 
+    /// How many bytes it can hold: those that it holds, and the room.
+    pub fn capacity(&self) -> usize
+        ensures cap { result ≡ CAP }
+        ensures bytes { self.now.room + length (buffer_of self.now) ≡ CAP }
+    {
+        self.bytes.capacity()
+    }
+
     /// Takes everything away, and keeps the room.
     pub fn clear(&mut self)
         ensures { self.new ≡ nothing_kept (self.old.room + length (buffer_of self.old)) }

@@ -59,3 +59,10 @@ length-over block bytes at fits =
 pub writer_has_all : (known given : Option (List ℕ)) (held : List ℕ) → known ≡ given → held ≡ [] → append_known (append_known known held) [] ≡ given
 writer_has_all None given held same none = same
 writer_has_all (Some known) given held same none = ap (λ (t : List ℕ). Some t) (append-nil (known ++ held) ∙ ap (λ (t : List ℕ). known ++ t) none ∙ append-nil known) ∙ same
+
+-- What is known of the bytes stayed, and then more came.
+pub keeps_then : (old mid new : Option (List ℕ)) (bytes : List ℕ) → Keeps old mid → Appends mid new bytes → Appends old new bytes
+keeps_then None mid new bytes kept more = tt
+keeps_then (Some old) None new bytes kept more = absurd kept
+keeps_then (Some old) (Some mid) None bytes kept more = absurd more
+keeps_then (Some old) (Some mid) (Some new) bytes kept more = more ∙ ap (λ (t : List ℕ). t ++ bytes) kept

@@ -1,19 +1,31 @@
--- What a sink took that hands on blocks: the bytes that its writer has, those that the writer holds back, and those of the block.
-use Rattle.std.specs.Prelude.{ℕ, List, slice_range, Option}
+-- What a sink took that hands on blocks: the bytes that its writer has, and those of the block.
+use Rattle.std.specs.Prelude.{◌≡◌, ℕ, ◌+◌, ◌-◌, List, [], length, slice_range, Option, Result, Ok}
 use Rattle.std.specs.Io.KnownBytes.{append_known}
-use Rattle.std.specs.Io.Buffered.{writer_contents, writer_inner}
 use Rattle.std.specs.declared.io.traits.Write as write
 use Rattle.sf_blocks.specs.declared.block_sink.BlockSink.{BlockSink}
 
 module _ {W : Type 0} {w : write.Ghosts W} where
   -- the writer
   abbrev pub writer_of : BlockSink W w → W
-  writer_of s = writer_inner s.writer
+  writer_of s = s.writer
 
   -- the bytes of the block that wait for the writer
   abbrev pub waiting_in : BlockSink W w → List ℕ
   waiting_in s = slice_range s.block.items s.start s.end
 
+  -- how many bytes of the block are free
+  abbrev pub room_of : BlockSink W w → ℕ
+  room_of s = length s.block.items - s.end
+
   -- all bytes that the sink took, where the writer tells its own
   abbrev pub taken_by : BlockSink W w → Option (List ℕ)
-  taken_by s = append_known (writer_contents w.contents s.writer) (waiting_in s)
+  taken_by s = append_known (w.contents s.writer) (waiting_in s)
+
+  -- a text is taken whole into the room of the block, and the writer isn't asked
+  abbrev pub TakesShort : {E : Type 0} → BlockSink W w → BlockSink W w → List ℕ → Result ℕ E → Type 0
+  TakesShort old new text result =
+      (result ≡ Ok (length text)) × (writer_of new ≡ writer_of old) × (room_of new + length text ≡ room_of old)
+
+  -- the block has no byte, so that nothing waits: all that the sink took, the writer has
+  abbrev pub HoldsNothing : BlockSink W w → Type 0
+  HoldsNothing s = (length s.block.items ≡ 0) × (waiting_in s ≡ []) × (taken_by s ≡ w.contents s.writer)

@@ -1,42 +1,60 @@
 //! A writer with a block of bytes in front of it.
-ghost use Rattle.std.specs.Prelude.{◌≡◌, ◌≤◌, ◌<◌, [], length, Option, List, ℕ, None, OnOk, IfOk};
+ghost use Rattle.std.specs.Prelude.{◌≡◌, ◌≤◌, ◌<◌, ◌+◌, true, [], length, Option, List, ℕ, None, Ok, OnOk, IfOk};
 ghost use Rattle.std.specs.Bool.{OnTrue, OnFalse};
 ghost use Rattle.std.specs.Io.{WritesAtMost};
-ghost use Rattle.std.specs.Io.Buffered.{writer_contents};
-ghost use Rattle.std.specs.Io.KnownBytes.{Appends, Keeps, WriteAppends, append_known};
+ghost use Rattle.std.specs.Io.KnownBytes.{Appends, Keeps, WriteAppends};
 
 use sf_print::{Sink, SinkFault, copy_over};
 use std::alloc::{AllocError, Global};
-use std::io::{BufWriter, Write};
+use std::io::{ErrorKind, Write};
 
-/// How many bytes the block has. It fits into what the writer holds back, so that the writer takes it whole.
-const BLOCK_BYTES: usize = 4000;
+/// How many bytes the block has.
+const BLOCK_BYTES: usize = 8192;
 
-/// How many bytes the writer holds back.
-const HELD_BYTES: usize = 8192;
+/// How often the writer is asked anew where a write is interrupted.
+const TRIES: u64 = u64::MAX;
 
-/// A writer that holds bytes back, and in front of it a block that short texts are copied into without a call. What it
-/// took is told as far as the writer tells its bytes.
+/// A writer, and in front of it a block that short texts are copied into without a call. What it took is told as far as
+/// the writer tells its bytes.
 #[derive(Drop)]
 pub struct BlockSink<W: Write + Drop> {
-    writer: BufWriter<W>,
+    writer: W,
     /// Empty where nothing is held back.
     block: Vec<u8>,
     /// The bytes of the block from here on wait for the writer.
     start: usize,
-    /// Behind the last byte that waits.
+    /// After the last byte that waits.
     end: usize,
     failures: u64,
     ghost ordered: { start ≤ end },
     ghost within: { end ≤ length block.items },
 }
 
+/// What the writer takes of the bytes: some, or it fails. A write that is interrupted is tried again.
+fn write_some<W: Write>(writer: &mut W, bytes: &[u8]) -> Result<usize, SinkFault>
+    ensures most { WritesAtMost result bytes.now }
+    ensures some { IfOk result (λ n. 0 < n) }
+    ensures took { WriteAppends (W.contents writer.old) (W.contents writer.new) result bytes.now }
+{
+    for _ in 0..TRIES {
+        match writer.write(bytes) {
+            Ok(count) if count > 0 => return Ok(count),
+            Err(error) if error.kind() == ErrorKind::Interrupted => {}
+            _ => return Err(SinkFault),
+        }
+    }
+    Err(SinkFault)
+}
+
 impl<W: Write + Drop> BlockSink<W> {
-    ghost use Rattle.sf_blocks.specs.Blocks.{taken_by, waiting_in, writer_of};
+    ghost use Rattle.sf_blocks.specs.Blocks.{HoldsNothing, room_of, taken_by, waiting_in, writer_of};
 
     /// Nothing waits in the block.
-    fn over(writer: BufWriter<W>, block: Vec<u8>) -> BlockSink<W>
-        ensures contents { taken_by result ≡ append_known (writer_contents W.contents writer) [] }
+    fn over(writer: W, block: Vec<u8>) -> BlockSink<W>
+        ensures contents { taken_by result ≡ W.contents writer }
+        ensures writer { writer_of result ≡ writer }
+        ensures block { result.block ≡ block }
+        ensures room { room_of result ≡ length block.items }
         ensures failures { result.failures ≡ 0 }
     {
         BlockSink {
@@ -48,44 +66,43 @@ impl<W: Write + Drop> BlockSink<W> {
         }
     }
 
-    /// A sink that holds nothing back, since somebody waits for each text: each write is one of the writer's.
+    /// A sink that never holds anything back, since somebody waits for each text: what it took, the writer has.
     pub fn at_once(alloc: Global, writer: W) -> BlockSink<W>
         ensures contents { taken_by result ≡ W.contents writer }
+        ensures nothing { HoldsNothing result }
         ensures failures { ⟦<BlockSink<W> as Sink>⟧.failures result ≡ 0 }
     {
-        let unheld = BufWriter::with_capacity(alloc, 0, writer).unwrap();
-        BlockSink::over(unheld, Vec::new(alloc))
+        BlockSink::over(writer, Vec::new(alloc))
     }
 
     /// A sink that hands on blocks; its last bytes wait for a `flush`. Else there is no memory for it.
     pub fn in_blocks(alloc: Global, writer: W) -> Result<BlockSink<W>, AllocError>
         ensures contents { IfOk result (λ sink. taken_by sink ≡ W.contents writer) }
+        ensures room { IfOk result (λ sink. room_of sink ≡ 8192) }
         ensures failures { IfOk result (λ sink. ⟦<BlockSink<W> as Sink>⟧.failures sink ≡ 0) }
     {
-        let Ok(held) = BufWriter::with_capacity(alloc, HELD_BYTES, writer) else {
-            return Err(AllocError);
-        };
         let block = vec![in alloc; 0; BLOCK_BYTES]?;
-        Ok(BlockSink::over(held, block))
+        Ok(BlockSink::over(writer, block))
     }
 
     /// The writer, which has all that was taken but what is held back.
     pub fn writer(&self) -> &W
         ensures { result.now ≡ writer_of self.now }
     {
-        self.writer.get_ref()
+        &self.writer
     }
 
     /// Hands the writer what waits in the block. Where it fails, what it didn't take waits still.
     fn hand_on(&mut self) -> Result<(), SinkFault>
         ensures contents { Keeps (taken_by self.old) (taken_by self.new) }
         ensures empty { OnOk result (waiting_in self.new ≡ []) }
+        ensures block { self.new.block ≡ self.old.block }
         ensures failures { self.new.failures ≡ self.old.failures }
     {
         while self.start < self.end {
-            match self.writer.write(&self.block[self.start..self.end]) {
-                Ok(count) if count > 0 => self.start += count,
-                _ => return Err(SinkFault),
+            match write_some(&mut self.writer, &self.block[self.start..self.end]) {
+                Ok(count) => self.start += count,
+                Err(fault) => return Err(fault),
             }
         }
         self.start = 0;
@@ -97,6 +114,7 @@ impl<W: Write + Drop> BlockSink<W> {
     pub fn flush(&mut self) -> Result<(), SinkFault>
         ensures contents { Keeps (taken_by self.old) (taken_by self.new) }
         ensures all { OnOk result (taken_by self.new ≡ W.contents (writer_of self.new)) }
+        ensures nothing { HoldsNothing self.old → HoldsNothing self.new }
         ensures failures { ⟦<BlockSink<W> as Sink>⟧.failures self.new ≡ ⟦<BlockSink<W> as Sink>⟧.failures self.old }
     {
         self.hand_on()?;
@@ -111,6 +129,10 @@ impl<W: Write + Drop> BlockSink<W> {
     fn holds(&mut self, bytes: &[u8]) -> bool
         ensures held { OnTrue result (Appends (taken_by self.old) (taken_by self.new) bytes.now) }
         ensures same { OnFalse result (self.new ≡ self.old) }
+        ensures short { length bytes.now < room_of self.old → result ≡ true }
+        ensures writer { writer_of self.new ≡ writer_of self.old }
+        ensures room { OnTrue result (room_of self.new + length bytes.now ≡ room_of self.old) }
+        ensures size { length self.new.block.items ≡ length self.old.block.items }
         ensures failures { self.new.failures ≡ self.old.failures }
     {
         if bytes.len() >= self.block.len() - self.end {
@@ -121,15 +143,19 @@ impl<W: Write + Drop> BlockSink<W> {
         true
     }
 
-    /// What the writer takes of the bytes, behind those of the block: some, unless there are none.
+    /// Hands on the block, and then takes the bytes, or some: into the block where they have room there, else the writer does.
     #[inline(never)]
     fn take_behind(&mut self, bytes: &[u8]) -> Result<usize, SinkFault>
         ensures most { WritesAtMost result bytes.now }
         ensures some { 0 < length bytes.now → IfOk result (λ n. 0 < n) }
         ensures took { WriteAppends (taken_by self.old) (taken_by self.new) result bytes.now }
+        ensures size { length self.new.block.items ≡ length self.old.block.items }
         ensures failures { self.new.failures ≡ self.old.failures }
     {
         self.hand_on()?;
+        if self.holds(bytes) {
+            return Ok(bytes.len());
+        }
         match self.writer.write(bytes) {
             Ok(count) if count > 0 || bytes.is_empty() => Ok(count),
             _ => Err(SinkFault),
@@ -138,14 +164,25 @@ impl<W: Write + Drop> BlockSink<W> {
 }
 
 impl<W: Write + Drop> Sink for BlockSink<W> {
-    ghost use Rattle.sf_blocks.specs.Blocks.{taken_by};
+    ghost use Rattle.sf_print.specs.Sinks.{counted_on};
+    ghost use Rattle.std.specs.Prelude.{is_err, if◌then◌else◌};
+    ghost use Rattle.sf_blocks.specs.Blocks.{HoldsNothing, TakesShort, room_of, taken_by};
 
     ghost contents = { taken_by };
 
     ghost failures = { λ s. s.failures };
 
+    /// Takes the bytes, or some. A text that is shorter than the room of the block is taken without a call of the writer.
     #[inline(always)]
-    fn write(&mut self, bytes: &[u8]) -> Result<usize, SinkFault> {
+    fn write(&mut self, bytes: &[u8]) -> Result<usize, SinkFault>
+        ensures most { WritesAtMost result bytes.now }
+        ensures some { 0 < length bytes.now → IfOk result (λ n. 0 < n) }
+        ensures took { WriteAppends (taken_by self.old) (taken_by self.new) result bytes.now }
+        ensures failures { ⟦<BlockSink<W> as Sink>⟧.failures self.new
+            ≡ (if is_err result then counted_on (⟦<BlockSink<W> as Sink>⟧.failures self.old) else ⟦<BlockSink<W> as Sink>⟧.failures self.old) }
+        ensures short { length bytes.now < room_of self.old → TakesShort self.old self.new bytes.now result }
+        ensures nothing { HoldsNothing self.old → HoldsNothing self.new }
+    {
         if self.holds(bytes) {
             return Ok(bytes.len());
         }

@@ -14,6 +14,10 @@ struct Device {
     most: usize,
     /// How many calls come before the one that fails.
     before_failure: u64,
+    /// How that one fails.
+    failure: ErrorKind,
+    /// Whether it was flushed.
+    flushed: bool,
 }
 
 impl Device {
@@ -22,6 +26,8 @@ impl Device {
             bytes: Vec::new(alloc),
             most,
             before_failure,
+            failure: ErrorKind::Other,
+            flushed: false,
         }
     }
 }
@@ -31,7 +37,7 @@ impl Write for Device {
         let fails = self.before_failure == 0;
         self.before_failure = self.before_failure.wrapping_sub(1);
         if fails {
-            return Err(io::Error::from(ErrorKind::Other));
+            return Err(io::Error::from(self.failure));
         }
         let front = &bytes[..bytes.len().min(self.most)];
         self.bytes.extend_from_slice(front)?;
@@ -39,6 +45,7 @@ impl Write for Device {
     }
 
     fn flush(&mut self) -> io::Result<()> {
+        self.flushed = true;
         Ok(())
     }
 }
@@ -83,6 +90,22 @@ fn short_texts_go_in_blocks(rt: HostRuntime) -> Result<(), Fail> {
         let flushed = sink.flush().is_ok() && are_texts(&sink.writer().bytes, b"record\n", 3000);
         assert!(rt; flushed, "at {most}, {before_failure}");
     }
+    Ok(())
+}
+
+/// A write of the block that is interrupted is tried again, and a flush is handed on.
+#[test]
+fn an_interrupted_block_goes_on(rt: HostRuntime) -> Result<(), Fail> {
+    let mut device = Device::new(rt.alloc(), 3, 1);
+    device.failure = ErrorKind::Interrupted;
+    let mut sink = BlockSink::in_blocks(rt.alloc(), device)?;
+    for _ in 0..20u16 {
+        write_whole(&mut sink, b"record\n");
+    }
+    assert!(rt; sink.writer().bytes.is_empty());
+    let flushed = sink.flush().is_ok() && are_texts(&sink.writer().bytes, b"record\n", 20);
+    assert!(rt; flushed);
+    assert!(rt; sink.writer().flushed);
     Ok(())
 }
 

@@ -16,4 +16,4 @@ pub use invocation::{run_words, tool};
 pub use sf_arguments::{ArgumentFault, print_values};
 pub use sf_messages::{CommandFault, FormatName};
 pub use sf_records::{ToolEnd, ToolFault, run_copy, run_scan};
-pub use sf_words::{Order, Verb, WordsFault, read_words};
+pub use sf_words::{LineOptions, Order, Output, Profile, Verb, WordsFault, read_words};

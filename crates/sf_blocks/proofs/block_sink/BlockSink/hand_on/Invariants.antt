@@ -6,6 +6,7 @@ use Rattle.sf_blocks.proofs.block_sink.BlockSink.hand_on.Given as goal
 abbrev pub invariant-loop-self : goal.invariant-loop-self
 invariant-loop-self g l = record {
   contents : Keeps (taken_by l.fn.self) (taken_by l.self);
+  block : l.self.block ≡ l.fn.self.block;
   failures : l.self.failures ≡ l.fn.self.failures;
 }
 
