@@ -1,3 +1,4 @@
+pub mod Blocks
 pub mod Consuming
 pub mod Ended
 pub mod Endings
