@@ -1,8 +1,8 @@
 -- What the reads of a call gave, one read after the other.
-use Rattle.std.proofs.Common.{◌≡◌, ◌≤◌, ◌<◌, ◌⊎◌, inl, inr, true, ℕ, suc, List, [], ◌∷◌, ◌++◌, length, Option}
+use Rattle.std.proofs.Common.{◌≡◌, ◌≤◌, ◌<◌, ◌⊎◌, inl, inr, true, ℕ, suc, List, [], ◌∷◌, ◌++◌, length, Option, Some, None}
 use Rattle.std.proofs.Common.{refl, sym, ap, ap₂, subst, ◌∙◌, arith, append_assoc, append-nil, length-append}
 use Rattle.std.specs.List.{concat}
-use Rattle.std.specs.Io.KnownBytes.{Consumes}
+use Rattle.std.specs.Io.KnownBytes.{Consumes, prepend_known}
 use Rattle.std.proofs.KnownBytes.{Consumes-nil, Consumes-trans}
 use Rattle.std.proofs.lemmas.List.Folds.{concat-append}
 use Rattle.sf_read.specs.Ahead.{Ahead}
@@ -104,3 +104,14 @@ module _ {S : Type 0} {to_come : S → Option (List ℕ)} {reads : S → ℕ} {N
     | inl w ↦ omega (arith, here, ap length w.1)
     | inr w ↦ some front block w.0 w.1
   ]
+
+-- the input is what was used, and then what is held and to come
+pub input_is : (o p : Option (List ℕ)) (held left bytes given t rest : List ℕ) → prepend_known held o ≡ Some t → prepend_known left p ≡ Some rest
+    → bytes ++ left ≡ held ++ given → Consumes o p given → t ≡ bytes ++ rest
+input_is None p held left bytes given t rest e f gave taken = absurd cc
+input_is (Some x) None held left bytes given t rest e f gave taken = absurd taken
+input_is (Some x) (Some y) held left bytes given t rest e f gave taken =
+    let whole : held ++ x ≡ t = (let same = e in cc) in
+    let after : left ++ y ≡ rest = (let same = f in cc) in
+    sym whole ∙ ap (λ (l : List ℕ). held ++ l) taken ∙ sym (append_assoc held given y) ∙ ap (λ (l : List ℕ). l ++ y) (sym gave)
+    ∙ append_assoc bytes left y ∙ ap (λ (l : List ℕ). bytes ++ l) after

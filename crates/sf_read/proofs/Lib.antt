@@ -3,6 +3,7 @@ pub mod Consuming
 pub mod Ended
 pub mod Endings
 pub mod Holding
+pub mod InTurn
 pub mod Reading
 pub mod Scripts
 pub mod Shapes
