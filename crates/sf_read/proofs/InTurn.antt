@@ -1,7 +1,7 @@
 -- Scans in a row are the runs of one input.
 use Rattle.std.proofs.Common.{ℕ, List, [], ◌∷◌, Option, refl, sym, ap, ◌∙◌}
-use Rattle.sf_read.specs.Ahead.{Ahead, input_of}
-use Rattle.sf_read.specs.Laws.{ScanMade, ScansInTurn, ScansAreRuns}
+use Rattle.sf_read.specs.Ahead.{input_of}
+use Rattle.sf_read.specs.Laws.{ScansAreRuns}
 
 pub scans_are_runs : {S : Type 0} (to_come : S → Option (List ℕ)) → ScansAreRuns to_come
 scans_are_runs to_come old new [] is t e = (t, refl, ap (input_of to_come) (sym is) ∙ e)
