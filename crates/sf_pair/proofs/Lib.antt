@@ -31,3 +31,4 @@ pub mod Written
 pub mod SlotCounts
 pub mod Nothing
 pub mod Held
+pub mod JoinedTexts

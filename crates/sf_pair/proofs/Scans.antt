@@ -1,6 +1,8 @@
 -- A scan of an input that begins with a printed text reads it back, and leaves what follows.
-use Rattle.std.proofs.Common.{◌≡◌, ℕ, zero, suc, ◌-◌, ◌≤◌, ◌<◌, ◌⊎◌, inl, inr, Bool, true, false, List, [], ◌∷◌, ◌++◌, length, take, drop, Option, Some, None, refl, sym, ap, ap₂, subst, ◌∙◌, arith, true≢false}
-use Rattle.std.proofs.lemmas.List.{drop_at}
+use Rattle.std.proofs.Common.{◌≡◌, ℕ, zero, suc, ◌-◌, ◌≤◌, ◌<◌, ◌⊎◌, inl, inr, Bool, true, false, List, [], ◌∷◌, ◌++◌, length, take, drop, Option, Some, None, refl, sym, ap, ap₂, subst, ◌∙◌, arith, append_assoc, true≢false}
+use Rattle.std.specs.List.{concat}
+use Rattle.std.proofs.lemmas.List.{drop_at, append_cancel_right}
+use Rattle.std.proofs.lemmas.List.Folds.{concat-append}
 use Rattle.sf_base.specs.Data.{Datum}
 use Rattle.sf_format.specs.declared.directive.Directive.{Directive}
 use Rattle.sf_format.specs.declared.unit.Unit.{Unit as PrintUnit}
@@ -20,9 +22,10 @@ use Rattle.sf_pair.specs.Laws.{read_back}
 use Rattle.std.specs.Prelude.{IfOk, IsSome, is_some, Result, Ok, Err}
 use Rattle.sf_run.specs.Rows.{AreRowOf}
 use Rattle.sf_run.specs.Runs.{IsOpen}
-use Rattle.sf_read.specs.Scan.{WaitedFor}
+use Rattle.sf_read.specs.Reads.{WaitedFor}
+use Rattle.sf_read.proofs.Blocks.{input_is}
 use Rattle.sf_pair.specs.Formats.{Formats, IsChecked}
-use Rattle.sf_pair.specs.Reading.{NotReadBehind, ReadsBackWhole}
+use Rattle.sf_pair.specs.Reading.{NotReadAfter, ReadsBackWhole}
 use Rattle.sf_pair.proofs.Whole.{not_open}
 use Rattle.sf_pair.proofs.SlotRows.{row_of_printed}
 use Rattle.sf_pair.proofs.Cutting.{aligned_is_accepted}
@@ -51,7 +54,7 @@ le_or_lt zero k = inl (omega arith)
 le_or_lt (suc n) zero = inr (omega arith)
 le_or_lt (suc n) (suc k) = elim (le_or_lt n k) [ inl h ↦ inl (omega arith) | inr h ↦ inr (omega arith) ]
 
-module _ (laws : LawsBelow) {S : Type 0} (to_come : S → Option (List ℕ)) (us : List PrintUnit) (ds : List Directive) (accepted : AreAccepted us) (proper : IsAccepted ds) (aligned : IsAligned us ds) (values : List Datum) (fit : Fit us ds values)
+module _ (laws : LawsBelow) {S : Type 0} (to_come : S → Option (List ℕ)) (reads : S → ℕ) (N : ℕ) (us : List PrintUnit) (ds : List Directive) (accepted : AreAccepted us) (proper : IsAccepted ds) (aligned : IsAligned us ds) (values : List Datum) (fit : Fit us ds values)
     (m : ℕ) (fits : length (printed us values) ≤ m) (z : List ℕ) (old new : Ahead S) (report : RunReport) (scan : Scan to_come ds m (printed us values ++ z) old new report) (stored : is_memory_status report.status ≡ false) where
   -- the source didn't fail
   whole : is_fault report.met ≡ false → report ≡ read_back us ds values
@@ -83,22 +86,40 @@ module _ (laws : LawsBelow) {S : Type 0} (to_come : S → Option (List ℕ)) (us
       either : {P : Type 0} (n k : ℕ) → (k < n → P) → (n ≤ k → P) → P
       either n k f g = elim (le_or_lt n k) [ inl h ↦ g h | inr h ↦ f h ]
 
-  pub not_behind : report ≡ read_back us ds values → NotReadBehind (printed us values) old new
-  not_behind is =
-      let used : take report.used (printed us values ++ z) ≡ printed us values = ap (λ (r : RunReport). take r.used (printed us values ++ z)) is ∙ take_at (printed us values) z in
-      elim (subst (λ (t : List ℕ). WaitedFor ds m old t new) used scan.waited) [
-        | inl e ↦ inl e
-        | inr w ↦ inr (w.0, w.1, w.2, asked w.0 w.1 w.2 w.3, w.5, w.6)
-      ]
-
   pub rest_is : (is_fault report.met ≡ false) ⊎ (length (printed us values) ≤ report.used) → input_of to_come new ≡ Some z
   rest_is h =
       let used : report.used ≡ length (printed us values) = ap (λ (r : RunReport). r.used) (report_is h) in
       scan.rest ∙ ap Some (ap (λ (k : ℕ). drop k (printed us values ++ z)) used ∙ drop_at (printed us values) z (length (printed us values)) refl)
 
-pub both_ok : {A E : Type 0} {P Q R : A → Type 0} (r : Result A E) → IfOk r P → IfOk r Q → ((a : A) → P a → Q a → R a) → IfOk r R
-both_ok (Ok a) p q f = f a p q
-both_ok (Err e) p q f = tt
+  pub not_after : (h : (is_fault report.met ≡ false) ⊎ (length (printed us values) ≤ report.used)) → input_of to_come old ≡ Some (printed us values ++ z)
+      → WaitedFor to_come reads N ds m old new report.used → NotReadAfter to_come reads N (printed us values) old new
+  not_after h input (bytes, used, r) =
+      let text : List ℕ = printed us values in
+      let whole : text ++ z ≡ bytes ++ z = input_is (to_come old.source) (to_come new.source) old.held new.held bytes (concat r.blocks) (text ++ z) z input (rest_is h) r.gave r.taken in
+      let is : text ≡ bytes = append_cancel_right text bytes z whole in
+      let gave : text ++ new.held ≡ old.held ++ concat r.blocks = ap (λ (t : List ℕ). t ++ new.held) is ∙ r.gave in
+      record {
+        blocks = r.blocks;
+        gave = gave;
+        taken = r.taken;
+        count = r.count;
+        unread = r.unread;
+        at_end = r.at_end;
+        each = λ front block back e.
+            let one = r.each front block back e in
+            let parts : text ++ new.held ≡ (old.held ++ concat front) ++ concat (block ∷ back) = gave ∙ ap (λ (bs : List (List ℕ)). old.held ++ concat bs) e
+            ∙ ap (λ (t : List ℕ). old.held ++ t) (concat-append front (block ∷ back)) ∙ sym (append_assoc old.held (concat front) (concat (block ∷ back))) in
+            record {
+              few = one.few;
+              waited = asked (old.held ++ concat front) (concat (block ∷ back)) parts one.waited.0;
+              all_used = omega (arith, one.all_used, ap length is);
+              last = one.last;
+            };
+      }
+
+pub all_ok : {A E : Type 0} {P Q R T : A → Type 0} (r : Result A E) → IfOk r P → IfOk r Q → IfOk r R → ((a : A) → P a → Q a → R a → T a) → IfOk r T
+all_ok (Ok a) p q r f = f a p q r
+all_ok (Err e) p q r f = tt
 
 pub some_none : (o : Option ℕ) → IsSome o → o ≡ None → ⊥
 some_none o some e = let wrong : is_some {T = ℕ} None ≡ true = ap is_some (sym e) ∙ some in absurd cc
@@ -113,15 +134,16 @@ same_scan us ds f e = ap (λ (f : Formats). f.scan) e
 pub aligned_of : (us : List PrintUnit) (ds : List Directive) → IsChecked us ds → IsAligned us ds
 aligned_of us ds checked = (aligned_is_accepted us ds).0 checked.found
 
-pub reads_whole : LawsBelow → {S : Type 0} (to_come : S → Option (List ℕ)) (us : List PrintUnit) (ds : List Directive) → IsChecked us ds → (values : List Datum) → Fit us ds values
+pub reads_whole : LawsBelow → {S : Type 0} (to_come : S → Option (List ℕ)) (reads : S → ℕ) (N : ℕ) (us : List PrintUnit) (ds : List Directive) → IsChecked us ds → (values : List Datum) → Fit us ds values
     → (m : ℕ) → length (printed us values) ≤ m → (z : List ℕ) (old new : Ahead S) (report : RunReport) → Scan to_come ds m (printed us values ++ z) old new report → is_memory_status report.status ≡ false
-    → ReadsBackWhole to_come us ds values z old new report
-reads_whole laws to_come us ds checked values fit m fits z old new report scan stored = λ h.
+    → input_of to_come old ≡ Some (printed us values ++ z) → WaitedFor to_come reads N ds m old new report.used
+    → ReadsBackWhole to_come reads N us ds values z old new report
+reads_whole laws to_come reads N us ds checked values fit m fits z old new report scan stored input waited = λ h.
     let aligned : IsAligned us ds = aligned_of us ds checked in
-    let is : report ≡ read_back us ds values = report_is laws to_come us ds checked.printed checked.scanned aligned values fit m fits z old new report scan stored h in
+    let is : report ≡ read_back us ds values = report_is laws to_come reads N us ds checked.printed checked.scanned aligned values fit m fits z old new report scan stored h in
     record {
       report_is = is;
       row = subst (AreRowOf (length values) values) (sym (ap (λ (r : RunReport). r.values) is)) (row_of_printed laws us values checked.printed fit.count);
-      left = rest_is laws to_come us ds checked.printed checked.scanned aligned values fit m fits z old new report scan stored h;
-      read = not_behind laws to_come us ds checked.printed checked.scanned aligned values fit m fits z old new report scan stored is;
+      left = rest_is laws to_come reads N us ds checked.printed checked.scanned aligned values fit m fits z old new report scan stored h;
+      read = not_after laws to_come reads N us ds checked.printed checked.scanned aligned values fit m fits z old new report scan stored h input waited;
     }

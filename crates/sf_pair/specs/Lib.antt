@@ -6,5 +6,6 @@ pub mod Formats
 pub mod Fits
 pub mod Writing
 pub mod Laws
+pub mod Joined
 pub mod Reading
 pub mod Texts

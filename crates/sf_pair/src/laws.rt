@@ -2,6 +2,7 @@
 //! None of these functions does anything: its contract is the law.
 ghost use Rattle.sf_pair.specs.Walk.{AlignedIsAccepted};
 ghost use Rattle.sf_pair.specs.Fits.{FitsIsFit};
+ghost use Rattle.sf_pair.specs.Joined.{JoinedRoundTrip};
 ghost use Rattle.sf_pair.specs.Laws.{AlignedEndsOnNothing, AlignedIsBounded, AlignedSlotsAgree, EachStopIsOne, HeldIsBounded, LiteralsAreRunInto, OpenEndsAreOpen, PrintsSome, ReadWithin, RoundTrip};
 
 use crate::below::laws_below;
@@ -26,6 +27,14 @@ pub fn round_trip()
 /// The same under a limit, and no other report.
 pub fn read_within()
     ensures { ReadWithin }
+{
+    laws_below();
+}
+
+/// What is printed of rows that fit, one after the other, an aligned scan format reads back as these rows, one after the other,
+/// whatever follows.
+pub fn joined_round_trip()
+    ensures { JoinedRoundTrip }
 {
     laws_below();
 }

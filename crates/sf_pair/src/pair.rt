@@ -14,6 +14,7 @@ ghost use Rattle.sf_run.specs.Memory.{capacity_of};
 ghost use Rattle.sf_run.specs.Stopping.{is_memory_status};
 ghost use Rattle.sf_read.specs.Ahead.{input_of};
 ghost use Rattle.sf_read.specs.Counts.{counted_on};
+ghost use Rattle.sf_read.specs.Reads.{WaitedFor};
 ghost use Rattle.sf_read.specs.Scan.{Scan, is_fault};
 ghost use Rattle.sf_pair.specs.Groups.{IsAligned};
 ghost use Rattle.sf_pair.specs.Formats.{IsChecked};
@@ -130,9 +131,10 @@ impl<'f> Pair<'f> {
         ensures held { IfOk result (λ s. (n : ℕ) → width_sum self.now.scan ≡ Some n → length (texts_in s.report.values) ≤ n) }
         ensures back { (values : List Datum) → Fit self.now.print self.now.scan values → (z : List ℕ)
             → input_of S.to_come from.old ≡ Some (printed self.now.print values ++ z) → length (printed self.now.print values) ≤ limit
-            → IfOk result (λ s. ReadsBackWhole S.to_come self.now.print self.now.scan values z from.old from.new s.report) }
+            → IfOk result (λ s. ReadsBackWhole S.to_come S.reads N self.now.print self.now.scan values z from.old from.new s.report) }
         ensures failures { IfOk result (λ s. S.failures from.new.source ≡ (if is_fault s.report.met then counted_on (S.failures from.old.source) else S.failures from.old.source)) }
-        ensures reads { S.reads from.new.source ≤ S.reads from.old.source + limit + 1 }
+        ensures reads { IfOk result (λ s. S.reads from.new.source ≤ S.reads from.old.source + s.report.used + 1) }
+        ensures waited { IfOk result (λ s. WaitedFor S.to_come S.reads N self.now.scan limit from.old from.new s.report.used) }
         ensures end { IfOk result (λ s. s.report.met ≡ Some End → from.new.at_end ≡ true) }
         ensures no_read { from.old.at_end ≡ true → from.new.source ≡ from.old.source }
         ensures stays { from.old.at_end ≡ true → from.new.at_end ≡ true }
@@ -157,9 +159,10 @@ impl<'f> Pair<'f> {
         ensures held { IfOk result (λ s. (n : ℕ) → width_sum self.now.scan ≡ Some n → length (texts_in s.report.values) ≤ n) }
         ensures back { (values : List Datum) → Fit self.now.print self.now.scan values → (z : List ℕ)
             → input_of S.to_come from.old ≡ Some (printed self.now.print values ++ z) → length (printed self.now.print values) ≤ limit
-            → IfOk result (λ s. ReadsBackWhole S.to_come self.now.print self.now.scan values z from.old from.new s.report) }
+            → IfOk result (λ s. ReadsBackWhole S.to_come S.reads N self.now.print self.now.scan values z from.old from.new s.report) }
         ensures failures { IfOk result (λ s. S.failures from.new.source ≡ (if is_fault s.report.met then counted_on (S.failures from.old.source) else S.failures from.old.source)) }
-        ensures reads { S.reads from.new.source ≤ S.reads from.old.source + limit + 1 }
+        ensures reads { IfOk result (λ s. S.reads from.new.source ≤ S.reads from.old.source + s.report.used + 1) }
+        ensures waited { IfOk result (λ s. WaitedFor S.to_come S.reads N self.now.scan limit from.old from.new s.report.used) }
         ensures end { IfOk result (λ s. s.report.met ≡ Some End → from.new.at_end ≡ true) }
         ensures no_read { from.old.at_end ≡ true → from.new.source ≡ from.old.source }
         ensures stays { from.old.at_end ≡ true → from.new.at_end ≡ true }

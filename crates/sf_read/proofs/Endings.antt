@@ -1,6 +1,7 @@
 -- What a run that has ended says of the input.
 use Rattle.std.proofs.Common.{◌≡◌, ℕ, ◌≤◌, inl, inr, true, false, Bool, cond, List, [], ◌++◌, length, take, drop, Option, Some, None, refl, sym, ap, subst, ◌∙◌, arith, append_assoc, length-append}
 use Rattle.std.specs.Prelude.{SomeIff}
+use Rattle.std.specs.List.{concat}
 use Rattle.std.proofs.Math.Seq.{take-append_seam, drop-append_seam}
 use Rattle.sf_format.specs.declared.directive.Directive.{Directive}
 use Rattle.sf_run.specs.outcome.Ending.{Ending}
@@ -62,18 +63,18 @@ back t bytes held z n is e = rw (is, e, append_assoc) (drop-append_seam bytes (h
 -- ---- the clauses of a scan
 
 -- a scanner is driven by its own format, under its own limit
-pub driven_by : {S : Type 0} {to_come : S → Option (List ℕ)} {reads failures : S → ℕ} {ds : List Directive} {m : ℕ} {old new : Ahead S} {from s : Standing}
-    → After ds m from [] → Driven to_come reads failures from.directives from.limit old new s → Driven to_come reads failures ds m old new s
-driven_by {to_come = to_come} {reads = reads} {failures = failures} {m = m} {old = old} {new = new} {from = from} {s = s} after driven =
-    subst (λ e. Driven to_come reads failures e m old new s) after.format (subst (λ n. Driven to_come reads failures from.directives n old new s) after.limit driven)
+pub driven_by : {S : Type 0} {to_come : S → Option (List ℕ)} {reads failures : S → ℕ} {N : ℕ} {ds : List Directive} {m : ℕ} {old new : Ahead S} {from s : Standing}
+    → After ds m from [] → Driven to_come reads failures N from.directives from.limit old new s → Driven to_come reads failures N ds m old new s
+driven_by {to_come = to_come} {reads = reads} {failures = failures} {N = N} {m = m} {old = old} {new = new} {from = from} {s = s} after driven =
+    subst (λ e. Driven to_come reads failures N e m old new s) after.format (subst (λ n. Driven to_come reads failures N from.directives n old new s) after.limit driven)
 
 -- a run that was driven has ended
-pub has_report : {S : Type 0} {to_come : S → Option (List ℕ)} {reads failures : S → ℕ} {ds : List Directive} {m : ℕ} {old new : Ahead S} {s : Standing}
-    → Driven to_come reads failures ds m old new s → (x : List ℕ) × (ending : Ending) × Gives ds m s x ending
+pub has_report : {S : Type 0} {to_come : S → Option (List ℕ)} {reads failures : S → ℕ} {N : ℕ} {ds : List Directive} {m : ℕ} {old new : Ahead S} {s : Standing}
+    → Driven to_come reads failures N ds m old new s → (x : List ℕ) × (ending : Ending) × Gives ds m s x ending
 has_report {new = new} d = elim d.ends [ inl w ↦ (d.bytes ++ new.held ++ [], End, w.gives [] End (the_end new)) | inr w ↦ (d.bytes, Fault, w.gives) ]
 
-module _ {S : Type 0} {to_come : S → Option (List ℕ)} {reads failures : S → ℕ} {ds : List Directive} {m : ℕ} {old new : Ahead S} {s : Standing} (r : RunReport)
-    (d : Driven to_come reads failures ds m old new s) (gives : (x : List ℕ) (ending : Ending) → Gives ds m s x ending → RunTold ds m x ending r) (used : r.used ≡ used_by s) (memory : is_memory_status r.status ≡ ran_out s) where
+module _ {S : Type 0} {to_come : S → Option (List ℕ)} {reads failures : S → ℕ} {N : ℕ} {ds : List Directive} {m : ℕ} {old new : Ahead S} {s : Standing} (r : RunReport)
+    (d : Driven to_come reads failures N ds m old new s) (gives : (x : List ℕ) (ending : Ending) → Gives ds m s x ending → RunTold ds m x ending r) (used : r.used ≡ used_by s) (memory : is_memory_status r.status ≡ ran_out s) where
   whole_met : Whole failures ds m old new d.bytes s → is_fault r.met ≡ false
   whole_met w = not_fault ds m (d.bytes ++ new.held ++ []) r (gives (d.bytes ++ new.held ++ []) End (w.gives [] End (the_end new)))
 
@@ -107,7 +108,6 @@ module _ {S : Type 0} {to_come : S → Option (List ℕ)} {reads failures : S �
         rest = rw (left, w.1) refl;
         seen = λ f z ending follows. elim d.ends [ inl v ↦ rw took (gives (d.bytes ++ new.held ++ z) ending (v.gives z ending follows)) | inr v ↦ absurd (let g = cut_met v in cc) ];
         nothing_held = λ f. elim d.ends [ inl v ↦ absurd (let g = whole_met v in cc) | inr v ↦ (v.nothing, v.not_at_end) ];
-        read = rw took d.read;
-        waited = rw took d.waited;
+        read = rw took (concat d.waited.blocks, d.waited.gave, λ e. ap concat (d.waited.at_end e));
         told = d.told;
       }

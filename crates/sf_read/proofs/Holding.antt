@@ -10,12 +10,7 @@ use Rattle.sf_run.specs.Runs.{RunReport}
 use Rattle.sf_run.specs.Limits.{RunWithin}
 use Rattle.sf_read.specs.Ahead.{Ahead, input_of}
 use Rattle.sf_read.specs.Scan.{Scan, is_fault}
-use Rattle.sf_read.proofs.Reading.{at_end_some}
-
--- an input is what is held, and then what is to come
-known_parts : (held : List ℕ) (o : Option (List ℕ)) (t : List ℕ) → prepend_known held o ≡ Some t → (z : List ℕ) × (o ≡ Some z) × (t ≡ held ++ z)
-known_parts held None t e = cc
-known_parts held (Some z) t e = (z, refl, cc)
+use Rattle.sf_read.proofs.Reading.{at_end_some, known_parts}
 
 -- a report that stands however what is held goes on, of which so many bytes were consumed
 pub held_scan : {S : Type 0} (to_come : S → Option (List ℕ)) (ds : List Directive) (m : ℕ) (old new : Ahead S) (report : RunReport)
@@ -38,7 +33,6 @@ held_scan to_come ds m old new report run met fits held source at_end told t e =
       rest = ap (prepend_known new.held) (ap to_come source ∙ coming) ∙ ap (λ y. Some (y ++ z)) held ∙ ap Some (sym left);
       seen = λ _ y ending follows. inl (subst (λ x. RunWithin ds m x ending report) (sym (ap (λ x. x ++ y) both)) (run y ending));
       read = ([], both ∙ sym (append-nil old.held), λ _. refl);
-      waited = inl source;
       nothing_held = λ f. absurd (let g = ap is_fault met in cc);
       told = λ f y g. at_end_some (to_come new.source) y (told f) g;
     }

@@ -1,5 +1,5 @@
 -- What a scan of a row answers.
-use Rattle.std.specs.Prelude.{◌≡◌, ◌≢◌, ℕ, List, length, Bool, true, false, Option, Some, IsSome, Result, Ok, Err, if◌then◌else◌}
+use Rattle.std.specs.Prelude.{◌≡◌, ◌≢◌, ◌≤◌, ◌+◌, ℕ, List, length, Bool, true, false, Option, Some, IsSome, Result, Ok, Err, if◌then◌else◌}
 use Rattle.sf_base.specs.declared.values.Kind.{Kind}
 use Rattle.sf_base.specs.Data.{Datum}
 use Rattle.sf_format.specs.declared.directive.Directive.{Directive}
@@ -17,6 +17,7 @@ use Rattle.sf_read.specs.declared.row.ScanRowFault.{ScanRowFault}
 use Rattle.sf_read.specs.declared.row.ScanRowFault.TheVariants.{ShapeDiffers, Start, Failed, NoMemory}
 use Rattle.sf_read.specs.Ahead.{Ahead, input_of}
 use Rattle.sf_read.specs.Counts.{counted_on}
+use Rattle.sf_read.specs.Reads.{WaitedFor}
 use Rattle.sf_read.specs.Scan.{Scan, is_fault}
 
 -- the slots with these kinds are the destinations of the format, with theirs
@@ -40,7 +41,7 @@ Answers kinds listed report (Err (Failed outcome)) = (report.status ≢ Done) ×
 Answers kinds listed report (Err NoMemory) = report.status ≡ Done
 
 -- there was a run, and its one report is answered
-pub record RowScan {S T : Type 0} (to_come : S → Option (List ℕ)) (failures : S → ℕ) (kinds : List Kind) (listed : T → List Datum)
+pub record RowScan {S T : Type 0} (to_come : S → Option (List ℕ)) (reads failures : S → ℕ) (N : ℕ) (kinds : List Kind) (listed : T → List Datum)
     (ds : List Directive) (m : ℕ) (old new : Ahead S) (result : Result T ScanRowFault) : Type 0 where
   pub report : RunReport
   pub answers : Answers kinds listed report result
@@ -50,3 +51,5 @@ pub record RowScan {S T : Type 0} (to_come : S → Option (List ℕ)) (failures 
   pub bounded : IsSome (width_sum ds) → is_memory_status report.status ≡ false
   pub failed : failures new.source ≡ (if is_fault report.met then counted_on (failures old.source) else failures old.source)
   pub end : report.met ≡ Some End → new.at_end ≡ true
+  pub count : reads new.source ≤ reads old.source + report.used + 1
+  pub waited : WaitedFor to_come reads N ds m old new report.used

@@ -1,9 +1,9 @@
 -- What a scan of an input gives, and what it leaves (C11 7.21.6.2p4, p9, p16).
-use Rattle.std.specs.Prelude.{◌≡◌, ◌≤◌, ◌++◌, ◌⊎◌, ℕ, List, [], length, take, drop, Bool, true, false, Option, Some, None}
+use Rattle.std.specs.Prelude.{◌≡◌, ◌≤◌, ◌++◌, ℕ, List, [], length, take, drop, Bool, true, false, Option, Some, None}
 use Rattle.sf_format.specs.declared.directive.Directive.{Directive}
 use Rattle.sf_run.specs.outcome.Ending.{Ending}
 use Rattle.sf_run.specs.outcome.Ending.TheVariants.{End, Fault}
-use Rattle.sf_run.specs.Runs.{RunReport, IsOpen}
+use Rattle.sf_run.specs.Runs.{RunReport}
 use Rattle.sf_run.specs.Limits.{RunWithin, RunTold}
 use Rattle.sf_read.specs.Ahead.{Ahead, input_of}
 
@@ -21,13 +21,6 @@ MayFollow now z ending = now.at_end ≡ true → (z ≡ []) × (ending ≡ End)
 abbrev pub IsHeldAndRead : {S : Type 0} → Ahead S → List ℕ → Ahead S → Type 0
 IsHeldAndRead old bytes now = (read : List ℕ) × (bytes ++ now.held ≡ old.held ++ read) × (old.at_end ≡ true → read ≡ [])
 
--- the source was not read, or the run waited for what was read last: it was open after the bytes before that, which are all
--- that was held and more, and what is held now is of the last block
-abbrev pub WaitedFor : {S : Type 0} → List Directive → ℕ → Ahead S → List ℕ → Ahead S → Type 0
-WaitedFor ds m old bytes now =
-    (now.source ≡ old.source) ⊎ ((x : List ℕ) × (block : List ℕ) × (bytes ++ now.held ≡ x ++ block) × IsOpen ds x × (length x ≤ m)
-    × (length old.held ≤ length x) × (length now.held ≤ length block))
-
 -- A scan of the input t: its report, and what is then held and to come. old and new are the lookahead before and after it.
 pub record Scan {S : Type 0} (to_come : S → Option (List ℕ)) (ds : List Directive) (m : ℕ) (t : List ℕ) (old new : Ahead S) (report : RunReport) : Type 0 where
   -- the source did not fail: the report of the input with its end, or of the run up to where a storing was refused
@@ -42,7 +35,6 @@ pub record Scan {S : Type 0} (to_come : S → Option (List ℕ)) (ds : List Dire
       → RunTold ds m (take report.used t ++ new.held ++ z) ending report
   -- what was used and what is held is what was held, and then what was read
   pub read : IsHeldAndRead old (take report.used t) new
-  pub waited : WaitedFor ds m old (take report.used t) new
   -- the source failed only where nothing was held, and it may give more
   pub nothing_held : is_fault report.met ≡ true → (new.held ≡ []) × (new.at_end ≡ false)
   -- where it has told its end, nothing is to come

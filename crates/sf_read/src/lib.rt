@@ -2,6 +2,7 @@
 #![tactic(auto)]
 
 mod field;
+pub mod laws;
 mod lookahead;
 mod row;
 mod rows;

@@ -98,6 +98,7 @@ impl<S: Source, const N: usize> Lookahead<S, N> {
         ensures reads { S.reads self.new.source ≡ counted_on (S.reads self.old.source) }
         ensures failures { S.failures self.new.source ≡ (if is_err result then counted_on (S.failures self.old.source) else S.failures self.old.source) }
         ensures bytes { Consumes (S.to_come self.old.source) (S.to_come self.new.source) self.new.held }
+        ensures few { length self.new.held ≤ N }
         ensures read { IfOk result (λ _. ((self.new.at_end ≡ false) × (0 < length self.new.held)) ⊎ ((self.new.at_end ≡ true) × (self.new.held ≡ []))) }
         ensures failed { IfErr result (λ _. (self.new.at_end ≡ false) × (self.new.held ≡ [])) }
     {

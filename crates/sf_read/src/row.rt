@@ -99,8 +99,7 @@ pub fn scan_row<T: Row, S: Source, const N: usize>(
     ensures limit { IsErrOf result (ScanRowFault.Start StartFault.BadLimit) ↔ (HasShape T.kinds format.now × (2147483647 < limit)) }
     ensures start { (fault : StartFault) → IsErrOf result (ScanRowFault.Start fault) → (fault ≡ StartFault.BadLimit) ⊎ (fault ≡ StartFault.NoMemory) }
     ensures unread { is_run result ≡ false → from.new ≡ from.old }
-    ensures run { is_run result ≡ true → RowScan S.to_come S.failures T.kinds T.listed format.now limit from.old from.new result }
-    ensures reads { S.reads from.new.source ≤ S.reads from.old.source + limit + 1 }
+    ensures run { is_run result ≡ true → RowScan S.to_come S.reads S.failures N T.kinds T.listed format.now limit from.old from.new result }
     ensures no_read { from.old.at_end ≡ true → from.new.source ≡ from.old.source }
     ensures stays { from.old.at_end ≡ true → from.new.at_end ≡ true }
 {

@@ -1,5 +1,5 @@
 //! Scans of what a source gives.
-ghost use Rattle.std.specs.Prelude.{◌≡◌, unwrap_or, IsOk, ◌≤◌, ◌<◌, ◌+◌, ◌⊎◌, ◌↔◌, ℕ, List, [], length, true, false, Some, IsSome, IsNone, IfSome, None, IfOk, IfErr, IsErrOf, IsSomeAnd, if◌then◌else◌};
+ghost use Rattle.std.specs.Prelude.{◌≡◌, unwrap_or, IsOk, ◌≤◌, ◌<◌, ◌+◌, ◌⊎◌, ◌↔◌, ℕ, List, [], length, drop, true, false, Some, IsSome, IsNone, IfSome, None, IfOk, IfErr, IsErrOf, IsSomeAnd, if◌then◌else◌};
 ghost use Rattle.sf_base.specs.Kept.{buffer_of};
 ghost use Rattle.sf_format.specs.declared.directive.Directive.{Directive};
 ghost use Rattle.sf_format.specs.Proper.{destinations_of};
@@ -14,7 +14,8 @@ ghost use Rattle.sf_run.specs.Stopping.{is_memory_status};
 ghost use Rattle.sf_run.specs.Views.{report_by};
 ghost use Rattle.sf_read.specs.Ahead.{input_of};
 ghost use Rattle.sf_read.specs.Counts.{counted_on};
-ghost use Rattle.sf_read.specs.Reading.{Driven};
+ghost use Rattle.sf_read.specs.Reading.{Driven, IsFresh};
+ghost use Rattle.sf_read.specs.Reads.{WaitedFor};
 ghost use Rattle.sf_read.specs.Scan.{Scan, is_fault};
 
 use crate::{Lookahead, Source};
@@ -28,8 +29,8 @@ fn drive<S: Source, T: Store, const N: usize>(
     scanner: &mut Scanner<'_, T>,
     from: &mut Lookahead<S, N>,
 )
-    requires { After scanner.old.directives.now scanner.old.limit (standing scanner.old) [] }
-    ensures driven { Driven S.to_come S.reads S.failures scanner.old.directives.now scanner.old.limit from.old from.new (standing scanner.new) }
+    requires { IsFresh (standing scanner.old) }
+    ensures driven { Driven S.to_come S.reads S.failures N (standing scanner.old).directives (standing scanner.old).limit from.old from.new (standing scanner.new) }
     ensures room { capacity_of (kept_by scanner.old) ≤ capacity_of (kept_by scanner.new) }
 {
     'refills: loop {
@@ -58,13 +59,15 @@ fn run<S: Source, T: Store, const N: usize>(
     mut scanner: Scanner<'_, T>,
     from: &mut Lookahead<S, N>,
 ) -> Scanned<T>
-    requires { After scanner.directives.now scanner.limit (standing scanner) [] }
+    requires { IsFresh (standing scanner) }
     ensures scan { (ds : List Directive) (m : ℕ) (t : List ℕ) → After ds m (standing scanner.entry) [] → input_of S.to_come from.old ≡ Some t
         → Scan S.to_come ds m t from.old from.new result.report }
     ensures told { (ds : List Directive) (m : ℕ) → After ds m (standing scanner.entry) [] → (x : List ℕ) × (ending : Ending) × RunTold ds m x ending result.report }
     ensures bounded { (ds : List Directive) (m : ℕ) → After ds m (standing scanner.entry) [] → IsSome (width_sum ds) → is_memory_status result.report.status ≡ false }
     ensures failures { S.failures from.new.source ≡ (if is_fault result.report.met then counted_on (S.failures from.old.source) else S.failures from.old.source) }
-    ensures reads { (ds : List Directive) (m : ℕ) → After ds m (standing scanner.entry) [] → S.reads from.new.source ≤ S.reads from.old.source + m + 1 }
+    ensures reads { S.reads from.new.source ≤ S.reads from.old.source + result.report.used + 1 }
+    ensures waited { (ds : List Directive) (m : ℕ) → After ds m (standing scanner.entry) []
+        → WaitedFor S.to_come S.reads N ds m from.old from.new result.report.used }
     ensures end { result.report.met ≡ Some Ending.End → from.new.at_end ≡ true }
     ensures no_read { from.old.at_end ≡ true → from.new.source ≡ from.old.source }
     ensures stays { from.old.at_end ≡ true → from.new.at_end ≡ true }
@@ -94,7 +97,8 @@ pub fn fscan<S: Source, const N: usize>(
     ensures told { IfOk result (λ s. (x : List ℕ) × (ending : Ending) × RunTold format.now limit x ending s.report) }
     ensures bounded { IsSome (width_sum format.now) → IfOk result (λ s. is_memory_status s.report.status ≡ false) }
     ensures failures { IfOk result (λ s. S.failures from.new.source ≡ (if is_fault s.report.met then counted_on (S.failures from.old.source) else S.failures from.old.source)) }
-    ensures reads { S.reads from.new.source ≤ S.reads from.old.source + limit + 1 }
+    ensures reads { IfOk result (λ s. S.reads from.new.source ≤ S.reads from.old.source + s.report.used + 1) }
+    ensures waited { IfOk result (λ s. WaitedFor S.to_come S.reads N format.now limit from.old from.new s.report.used) }
     ensures end { IfOk result (λ s. s.report.met ≡ Some Ending.End → from.new.at_end ≡ true) }
     ensures no_read { from.old.at_end ≡ true → from.new.source ≡ from.old.source }
     ensures stays { from.old.at_end ≡ true → from.new.at_end ≡ true }
@@ -121,7 +125,8 @@ pub fn fscan_over<S: Source, const N: usize>(
     ensures told { IfOk result (λ s. (x : List ℕ) × (ending : Ending) × RunTold format.now limit x ending s.report) }
     ensures bounded { IsSome (width_sum format.now) → IfOk result (λ s. is_memory_status s.report.status ≡ false) }
     ensures failures { IfOk result (λ s. S.failures from.new.source ≡ (if is_fault s.report.met then counted_on (S.failures from.old.source) else S.failures from.old.source)) }
-    ensures reads { S.reads from.new.source ≤ S.reads from.old.source + limit + 1 }
+    ensures reads { IfOk result (λ s. S.reads from.new.source ≤ S.reads from.old.source + s.report.used + 1) }
+    ensures waited { IfOk result (λ s. WaitedFor S.to_come S.reads N format.now limit from.old from.new s.report.used) }
     ensures end { IfOk result (λ s. s.report.met ≡ Some Ending.End → from.new.at_end ≡ true) }
     ensures no_read { from.old.at_end ≡ true → from.new.source ≡ from.old.source }
     ensures stays { from.old.at_end ≡ true → from.new.at_end ≡ true }
@@ -164,6 +169,8 @@ pub fn fscan_held<S: Source, const N: usize>(
     ensures answers { IsDoneWithin format.now limit from.old.held (capacity_of store.old) → IsSome result }
     ensures texts { IfSome result (λ _. HoldsValues store.new) }
     ensures room { capacity_of store.old ≤ capacity_of store.new }
+    ensures within { IfSome result (λ outcome. outcome.used ≤ length from.old.held) }
+    ensures held { IfSome result (λ outcome. from.new.held ≡ drop outcome.used from.old.held) }
     ensures no_read { from.new.source ≡ from.old.source }
     ensures stays { from.new.at_end ≡ from.old.at_end }
     ensures none { IsNone result → from.new ≡ from.old }
@@ -186,7 +193,8 @@ pub fn fscan_fixed<const CAP: usize, const SLOTS: usize, S: Source, const N: usi
     ensures told { IfOk result (λ s. (x : List ℕ) × (ending : Ending) × RunTold format.now limit x ending s.report) }
     ensures bounded { IfOk result (λ s. is_memory_status s.report.status ≡ false) }
     ensures failures { IfOk result (λ s. S.failures from.new.source ≡ (if is_fault s.report.met then counted_on (S.failures from.old.source) else S.failures from.old.source)) }
-    ensures reads { S.reads from.new.source ≤ S.reads from.old.source + limit + 1 }
+    ensures reads { IfOk result (λ s. S.reads from.new.source ≤ S.reads from.old.source + s.report.used + 1) }
+    ensures waited { IfOk result (λ s. WaitedFor S.to_come S.reads N format.now limit from.old from.new s.report.used) }
     ensures end { IfOk result (λ s. s.report.met ≡ Some Ending.End → from.new.at_end ≡ true) }
     ensures no_read { from.old.at_end ≡ true → from.new.source ≡ from.old.source }
     ensures stays { from.old.at_end ≡ true → from.new.at_end ≡ true }

@@ -7,6 +7,7 @@ ghost use Rattle.sf_run.specs.Limits.{RunTold, RunWithin};
 ghost use Rattle.sf_run.specs.Memory.{capacity_of};
 ghost use Rattle.sf_run.specs.Scanner.{kept_by, standing};
 ghost use Rattle.sf_run.specs.Standing.{After};
+ghost use Rattle.sf_read.specs.Reading.{IsFresh};
 
 use sf_base::{HeapStore, Store};
 use sf_format::ScanFormat;
@@ -15,7 +16,7 @@ use std::alloc::Global;
 
 /// What the run of the scanner comes to, over a whole text.
 fn run_over<S: Store>(mut scanner: Scanner<'_, S>, text: &[u8]) -> Scanned<S>
-    requires { After scanner.directives.now scanner.limit (standing scanner) [] }
+    requires { IsFresh (standing scanner) }
     ensures told { (ds : List Directive) (m : ℕ) → After ds m (standing scanner.entry) [] → RunTold ds m text.now Ending.End result.report }
     ensures bounded { (ds : List Directive) (m : ℕ) → After ds m (standing scanner.entry) [] → IsSome (width_sum ds) → RunWithin ds m text.now Ending.End result.report }
     ensures room { capacity_of (kept_by scanner.entry) ≤ capacity_of result.kept }

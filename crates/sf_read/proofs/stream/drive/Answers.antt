@@ -4,24 +4,24 @@ use Rattle.sf_run.specs.Runs.{IsOpen}
 use Rattle.sf_run.specs.Standing.{used_by, ran_out}
 use Rattle.sf_run.specs.Scanner.{standing}
 use Rattle.sf_read.specs.Reading.{Reading}
-use Rattle.sf_read.proofs.Reading.{fed_more, refilled, ended, ended_at_end, failed, falls}
+use Rattle.sf_read.proofs.Reading.{started, fed_more, refilled, ended, ended_at_end, failed, falls}
 use Rattle.sf_read.proofs.stream.drive.Goals as goal
 
 pub returns-in-Ended-clause-driven : goal.returns-in-Ended-clause-driven
 returns-in-Ended-clause-driven g c =
-    let ds = c.args.scanner.now.directives.now in
-    let m : ℕ = c.args.scanner.now.limit in
+    let ds = (standing c.args.scanner.now).directives in
+    let m : ℕ = (standing c.args.scanner.now).limit in
     ended c.held.result.now c.feed-fed.result.taken c.refills.invariant.0 c.held.ensures.held c.feed-fed.ensures.within c.feed-fed.ensures.used
     (λ x z ending h. c.feed-fed.ensures.gives ds m x z ending h c.in-Ended.is) (λ x sum h. c.feed-fed.ensures.bounded ds m x sum h)
     c.consume.ensures.held c.consume.ensures.source c.consume.ensures.at_end c.consume.ensures.told
 
 pub returns-then-is_at_end-clause-driven : goal.returns-then-is_at_end-clause-driven
 returns-then-is_at_end-clause-driven g c =
-    let ds = c.args.scanner.now.directives.now in
-    let m : ℕ = c.args.scanner.now.limit in
+    let ds = (standing c.args.scanner.now).directives in
+    let m : ℕ = (standing c.args.scanner.now).limit in
     let stored : ran_out (standing c.feed-fed.new.self) ≡ false = c.feed-fed.ensures.stopped c.in-Wait.is in
     let none : c.consume.new.self.held ≡ [] = c.is_at_end.ensures.held c.if-is_at_end.true in
-    let now : (r : Reading g.S.Source.to_come g.S.Source.reads g.S.Source.failures ds m c.args.from.now c.consume.new.self (standing c.feed-fed.new.self)) × IsOpen ds r.fed
+    let now : (r : Reading g.S.Source.to_come g.S.Source.reads g.S.Source.failures g.row.N ds m c.args.from.now c.consume.new.self (standing c.feed-fed.new.self)) × IsOpen ds r.fed
     = fed_more c.held.result.now c.refills.invariant.0 c.held.ensures.held
     (λ x h. c.feed-fed.ensures.after ds m x stored h) (λ x h. c.feed-fed.ensures.waits ds m x h c.in-Wait.is) (λ x h. (c.feed-fed.ensures.state ds m x stored h).0 c.in-Wait.is)
     none c.consume.ensures.source c.consume.ensures.at_end in
@@ -29,12 +29,12 @@ returns-then-is_at_end-clause-driven g c =
 
 pub returns-in-Err-clause-driven : goal.returns-in-Err-clause-driven
 returns-in-Err-clause-driven g c =
-    let ds = c.args.scanner.now.directives.now in
-    let m : ℕ = c.args.scanner.now.limit in
+    let ds = (standing c.args.scanner.now).directives in
+    let m : ℕ = (standing c.args.scanner.now).limit in
     let stored : ran_out (standing c.feed-fed.new.self) ≡ false = c.feed-fed.ensures.stopped c.in-Wait.is in
     let none : c.consume.new.self.held ≡ [] = rw (c.consume.ensures.held, c.feed-fed.ensures.all c.in-Wait.is, ← c.held.ensures.held) (drop_all _ c.held.result.now (omega arith)) in
     let open' : c.consume.new.self.at_end ≡ false = sym c.is_at_end.ensures.is ∙ c.if-is_at_end.false in
-    let now : (r : Reading g.S.Source.to_come g.S.Source.reads g.S.Source.failures ds m c.args.from.now c.consume.new.self (standing c.feed-fed.new.self)) × IsOpen ds r.fed
+    let now : (r : Reading g.S.Source.to_come g.S.Source.reads g.S.Source.failures g.row.N ds m c.args.from.now c.consume.new.self (standing c.feed-fed.new.self)) × IsOpen ds r.fed
     = fed_more c.held.result.now c.refills.invariant.0 c.held.ensures.held
     (λ x h. c.feed-fed.ensures.after ds m x stored h) (λ x h. c.feed-fed.ensures.waits ds m x h c.in-Wait.is) (λ x h. (c.feed-fed.ensures.state ds m x stored h).0 c.in-Wait.is)
     none c.consume.ensures.source c.consume.ensures.at_end in
@@ -43,8 +43,8 @@ returns-in-Err-clause-driven g c =
 
 pub refills-smaller : goal.refills-smaller
 refills-smaller g c =
-    let ds = c.args.scanner.now.directives.now in
-    let m : ℕ = c.args.scanner.now.limit in
+    let ds = (standing c.args.scanner.now).directives in
+    let m : ℕ = (standing c.args.scanner.now).limit in
     let stored : ran_out (standing c.feed-fed.new.self) ≡ false = c.feed-fed.ensures.stopped c.in-Wait.is in
     let r = c.refills.invariant.0 in
     let open' : c.refills.from.at_end ≡ false = sym c.consume.ensures.at_end ∙ sym c.is_at_end.ensures.is ∙ c.if-is_at_end.false in
@@ -54,13 +54,16 @@ refills-smaller g c =
 
 pub refills-preserved : goal.refills-preserved
 refills-preserved g c =
-    let ds = c.args.scanner.now.directives.now in
-    let m : ℕ = c.args.scanner.now.limit in
+    let ds = (standing c.args.scanner.now).directives in
+    let m : ℕ = (standing c.args.scanner.now).limit in
     let stored : ran_out (standing c.feed-fed.new.self) ≡ false = c.feed-fed.ensures.stopped c.in-Wait.is in
     let none : c.consume.new.self.held ≡ [] = rw (c.consume.ensures.held, c.feed-fed.ensures.all c.in-Wait.is, ← c.held.ensures.held) (drop_all _ c.held.result.now (omega arith)) in
     let open' : c.consume.new.self.at_end ≡ false = sym c.is_at_end.ensures.is ∙ c.if-is_at_end.false in
-    let now : (r : Reading g.S.Source.to_come g.S.Source.reads g.S.Source.failures ds m c.args.from.now c.consume.new.self (standing c.feed-fed.new.self)) × IsOpen ds r.fed
+    let now : (r : Reading g.S.Source.to_come g.S.Source.reads g.S.Source.failures g.row.N ds m c.args.from.now c.consume.new.self (standing c.feed-fed.new.self)) × IsOpen ds r.fed
     = fed_more c.held.result.now c.refills.invariant.0 c.held.ensures.held
     (λ x h. c.feed-fed.ensures.after ds m x stored h) (λ x h. c.feed-fed.ensures.waits ds m x h c.in-Wait.is) (λ x h. (c.feed-fed.ensures.state ds m x stored h).0 c.in-Wait.is)
     none c.consume.ensures.source c.consume.ensures.at_end in
-    (refilled now none open' c.refill.ensures.reads c.in-Ok.ensures.failures c.refill.ensures.bytes c.in-Ok.ensures.read, omega (arith, c.refills.invariant.1, c.feed-fed.ensures.room))
+    (refilled now none open' c.refill.ensures.reads c.in-Ok.ensures.failures c.refill.ensures.bytes c.refill.ensures.few c.in-Ok.ensures.read, omega (arith, c.refills.invariant.1, c.feed-fed.ensures.room))
+
+pub refills-init : goal.refills-init
+refills-init g c = (started c.args.from.now c.requires, omega arith)

@@ -7,9 +7,9 @@ use Rattle.sf_read.proofs.stream.drive.Given as goal
 
 abbrev pub invariant-refills : goal.invariant-refills
 invariant-refills g l =
-    Reading g.S.Source.to_come g.S.Source.reads g.S.Source.failures l.fn.scanner.directives.now l.fn.scanner.limit l.fn.from l.from (standing l.scanner)
+    Reading g.S.Source.to_come g.S.Source.reads g.S.Source.failures g.row.N (standing l.fn.scanner).directives (standing l.fn.scanner).limit l.fn.from l.from (standing l.scanner)
     × (capacity_of (kept_by l.fn.scanner) ≤ capacity_of (kept_by l.scanner))
 
 -- the bytes that may still be used and are not held yet, and one where the source has not told its end
 abbrev pub decreases-refills : goal.decreases-refills
-decreases-refills g l = l.fn.scanner.limit + 1 - (used_by (standing l.scanner) + length l.from.held) + cond l.from.at_end 0 1
+decreases-refills g l = (standing l.fn.scanner).limit + 1 - (used_by (standing l.scanner) + length l.from.held) + cond l.from.at_end 0 1

@@ -10,5 +10,5 @@ returns-clause-bounded g c =
     c.run.ensures.bounded c.args.format.now c.args.limit c.in_ok-scanner.ensures.after
     (has_sum c.args.limit (width_sum c.args.format.now) (λ h. let is = c.in_ok-scanner.ensures.limit.1 h in absurd cc) (λ h. let is = c.in_ok-scanner.ensures.unbounded.1 h in absurd cc))
 
-pub returns-clause-reads : goal.returns-clause-reads
-returns-clause-reads g c = c.run.ensures.reads c.args.format.now c.args.limit c.in_ok-scanner.ensures.after
+pub returns-clause-waited : goal.returns-clause-waited
+returns-clause-waited g c = c.run.ensures.waited c.args.format.now c.args.limit c.in_ok-scanner.ensures.after

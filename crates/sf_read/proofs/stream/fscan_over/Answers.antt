@@ -1,7 +1,11 @@
-use Rattle.std.proofs.Common.{rules, ◌≡◌, ◌≤◌, ◌+◌, ◌∙◌, sym, ap, subst}
+use Rattle.std.proofs.Common.{rules, ◌≡◌, ◌∙◌, take, drop, refl, sym, ap, subst}
+use Rattle.std.proofs.lemmas.List.{take-append-drop, length-take-le}
 use Rattle.sf_run.specs.Limits.{RunTold}
 use Rattle.sf_read.specs.Ahead.{input_of}
+use Rattle.sf_run.specs.Runs.{RunReport}
+use Rattle.sf_read.specs.Reads.{WaitedFor}
 use Rattle.sf_read.specs.Scan.{Scan}
+use Rattle.sf_read.proofs.Blocks.{no_reads}
 use Rattle.sf_read.proofs.stream.fscan_over.Goals as goal
 
 pub returns-clause-scan : goal.returns-clause-scan
@@ -22,8 +26,16 @@ returns-2-clause-scan g c t e =
 pub returns-2-clause-bounded : goal.returns-2-clause-bounded
 returns-2-clause-bounded g c sum = c.run.ensures.bounded c.args.format.now c.args.limit c.in_ok-over.ensures.after sum
 
-pub returns-2-clause-reads : goal.returns-2-clause-reads
-returns-2-clause-reads g c =
+pub returns-clause-waited : goal.returns-clause-waited
+returns-clause-waited g c =
+    let held : c.fscan_held.new.from.held ≡ drop c.in-Some.outcome.used c.args.from.now.held = c.in-Some.ensures.held in (
+      take c.in-Some.outcome.used c.args.from.now.held,
+      ap (λ (r : RunReport). r.used) c.new.ensures.report ∙ sym (length-take-le c.in-Some.outcome.used c.args.from.now.held c.in-Some.ensures.within),
+      no_reads (take c.in-Some.outcome.used c.args.from.now.held) c.fscan_held.new.from (rw (held, take-append-drop) refl) c.fscan_held.ensures.no_read,
+    )
+
+pub returns-2-clause-waited : goal.returns-2-clause-waited
+returns-2-clause-waited g c =
     let stood : c.else-limit-le-MOST_BYTES.from ≡ c.args.from.now = search rules in
-    subst (λ old. g.S.Source.reads c.run.new.from.source ≤ g.S.Source.reads old.source + c.args.limit + 1) stood
-    (c.run.ensures.reads c.args.format.now c.args.limit c.in_ok-over.ensures.after)
+    subst (λ old. WaitedFor g.S.Source.to_come g.S.Source.reads g.row.N c.args.format.now c.args.limit old c.run.new.from c.run.result.report.used) stood
+    (c.run.ensures.waited c.args.format.now c.args.limit c.in_ok-over.ensures.after)

@@ -1,11 +1,12 @@
 use Rattle.std.proofs.Common.{◌∙◌}
+use Rattle.sf_run.specs.Scanner.{standing}
 use Rattle.sf_read.proofs.Endings.{has_report, count_failures, ends_at_end, scans, driven_by}
 use Rattle.sf_read.proofs.stream.run.Goals as goal
 
 pub unreachable-requires : goal.unreachable-requires
 unreachable-requires g c =
     let r = has_report c.drive.ensures.driven in
-    c.in-Err.ensures.gives c.args.scanner.directives.now c.args.scanner.limit r.0 r.1 r.2
+    c.in-Err.ensures.gives (standing c.args.scanner).directives (standing c.args.scanner).limit r.0 r.1 r.2
 
 pub returns-clause-scan : goal.returns-clause-scan
 returns-clause-scan g c ds m t after e =
@@ -17,15 +18,18 @@ returns-clause-told g c ds m after =
     (r.0, r.1, c.in-Ok.ensures.gives ds m r.0 r.1 r.2)
 
 pub returns-clause-reads : goal.returns-clause-reads
-returns-clause-reads g c ds m after = (driven_by after c.drive.ensures.driven).count
+returns-clause-reads g c = let d = c.drive.ensures.driven in rw (c.in-Ok.ensures.used, d.used) d.count
+
+pub returns-clause-waited : goal.returns-clause-waited
+returns-clause-waited g c ds m after = let d = driven_by after c.drive.ensures.driven in (d.bytes, c.in-Ok.ensures.used ∙ d.used, d.waited)
 
 pub returns-clause-failures : goal.returns-clause-failures
 returns-clause-failures g c =
-    count_failures c.in-Ok.scanned.report c.drive.ensures.driven (λ x ending h. c.in-Ok.ensures.gives c.args.scanner.directives.now c.args.scanner.limit x ending h) c.in-Ok.ensures.used c.in-Ok.ensures.memory
+    count_failures c.in-Ok.scanned.report c.drive.ensures.driven (λ x ending h. c.in-Ok.ensures.gives (standing c.args.scanner).directives (standing c.args.scanner).limit x ending h) c.in-Ok.ensures.used c.in-Ok.ensures.memory
 
 pub returns-clause-end : goal.returns-clause-end
 returns-clause-end g c e =
-    ends_at_end c.in-Ok.scanned.report c.drive.ensures.driven (λ x ending h. c.in-Ok.ensures.gives c.args.scanner.directives.now c.args.scanner.limit x ending h) c.in-Ok.ensures.used c.in-Ok.ensures.memory e
+    ends_at_end c.in-Ok.scanned.report c.drive.ensures.driven (λ x ending h. c.in-Ok.ensures.gives (standing c.args.scanner).directives (standing c.args.scanner).limit x ending h) c.in-Ok.ensures.used c.in-Ok.ensures.memory e
 
 pub returns-clause-bounded : goal.returns-clause-bounded
 returns-clause-bounded g c ds m after sum = c.in-Ok.ensures.memory ∙ (driven_by after c.drive.ensures.driven).bounded sum

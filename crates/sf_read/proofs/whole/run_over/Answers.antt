@@ -1,14 +1,13 @@
-use Rattle.std.proofs.Common.{◌≡◌, ◌∙◌, ℕ, List, [], false, ap}
-use Rattle.sf_format.specs.declared.directive.Directive.{Directive}
+use Rattle.std.proofs.Common.{◌≡◌, ◌∙◌, [], false, ap}
 use Rattle.sf_run.specs.outcome.Ending.TheVariants.{End}
-use Rattle.sf_run.specs.Standing.{After, Gives, ran_out}
+use Rattle.sf_run.specs.Standing.{Gives, ran_out}
 use Rattle.sf_run.specs.Scanner.{standing}
 use Rattle.sf_read.proofs.Ended.{fed_and_ended, told_within}
 use Rattle.sf_read.proofs.whole.run_over.Goals as goal
 
 pub unreachable-requires : goal.unreachable-requires
 unreachable-requires g c =
-    let gives : Gives c.args.scanner.directives.now c.args.scanner.limit (standing c.end.new.self) c.args.text.now End =
+    let gives : Gives (standing c.args.scanner).directives (standing c.args.scanner).limit (standing c.end.new.self) c.args.text.now End =
     fed_and_ended _ _ (standing c.feed.new.self) (standing c.end.new.self) c.args.text.now End c.feed.result.state
     (λ fine. c.feed.ensures.after _ _ [] fine c.requires) c.feed.ensures.stopped (λ is z. c.feed.ensures.gives _ _ [] z End c.requires is)
     (λ fed. c.end.ensures.gives _ _ _ fed) (λ own. ap standing (c.end.ensures.unchanged _ _ _ _ own)) in

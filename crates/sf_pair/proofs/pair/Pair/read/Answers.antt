@@ -6,10 +6,11 @@ use Rattle.sf_format.specs.Widths.{width_sum}
 use Rattle.sf_print.specs.Printed.{printed}
 use Rattle.sf_run.specs.outcome.Ending.{Ending}
 use Rattle.sf_run.specs.Limits.{RunTold}
+use Rattle.sf_read.specs.Reads.{WaitedFor}
 use Rattle.sf_read.specs.Scan.{Scan}
 use Rattle.sf_pair.proofs.Held.{told_held}
 use Rattle.sf_pair.proofs.Bounds.{aligned_is_bounded}
-use Rattle.sf_pair.proofs.Scans.{both_ok, checked_of, same_scan, aligned_of, reads_whole}
+use Rattle.sf_pair.proofs.Scans.{all_ok, checked_of, same_scan, aligned_of, reads_whole}
 use Rattle.sf_pair.proofs.pair.Pair.read.Goals as goal
 
 pub returns-clause-told : goal.returns-clause-told
@@ -30,7 +31,14 @@ returns-clause-back g c = λ values fit z input fits.
     let us = c.self.inside.print.now in
     let ds = c.self.inside.scan.now in
     let f = c.args.self.now in
-    both_ok c.fscan.result
+    all_ok c.fscan.result
     (subst (λ (ds : List Directive). IfOk c.fscan.result (λ s. Scan g.S.Source.to_come ds c.args.limit (printed f.print values ++ z) c.args.from.now c.fscan.new.from s.report)) (same_scan us ds f c.self.view_is) (c.fscan.ensures.scan _ input))
     (c.fscan.ensures.bounded (aligned_is_bounded c.self.inside.print.now c.self.inside.scan.now c.self.invariant.scanned (aligned_of c.self.inside.print.now c.self.inside.scan.now c.self.invariant)))
-    (λ s scan stored. reads_whole c.laws_below.ensures g.S.Source.to_come f.print f.scan (checked_of us ds f c.self.view_is c.self.invariant) values fit c.args.limit fits z c.args.from.now c.fscan.new.from s.report scan stored)
+    (subst (λ (ds : List Directive). IfOk c.fscan.result (λ s. WaitedFor g.S.Source.to_come g.S.Source.reads g.row.N ds c.args.limit c.args.from.now c.fscan.new.from s.report.used))
+    (same_scan us ds f c.self.view_is) c.fscan.ensures.waited)
+    (λ s scan stored waited. reads_whole c.laws_below.ensures g.S.Source.to_come g.S.Source.reads g.row.N f.print f.scan (checked_of us ds f c.self.view_is c.self.invariant) values fit c.args.limit fits z c.args.from.now c.fscan.new.from s.report scan stored input waited)
+
+pub returns-clause-waited : goal.returns-clause-waited
+returns-clause-waited g c =
+    subst (λ (ds : List Directive). IfOk c.fscan.result (λ s. WaitedFor g.S.Source.to_come g.S.Source.reads g.row.N ds c.args.limit c.args.from.now c.fscan.new.from s.report.used))
+    (same_scan c.self.inside.print.now c.self.inside.scan.now c.args.self.now c.self.view_is) c.fscan.ensures.waited
