@@ -1,7 +1,10 @@
+# make                                           the program, where it isn't there or is older than an edit
 # make install [PREFIX=/usr/local] [DESTDIR=]    the program, its man page and its completions
 # make uninstall                                 takes them away again
+# make dist                                      dist/sf-VERSION-x86_64-linux.tar.xz, which holds all of that
+# make prebuilt                                  proves and builds the program here, and packs it in prebuilt/
 #
-# The program is proved and built first where it isn't there; that takes minutes and needs the kit's rt in the path.
+# The program is the one that ./sf runs: the prebuilt one, or one that is proved and built first, by the kit's rt.
 
 PREFIX ?= /usr/local
 BINDIR ?= $(PREFIX)/bin
@@ -18,12 +21,18 @@ INSTALL ?= install
 
 PROGRAM = crates/sf/out/sf
 
-all: $(PROGRAM)
+# The version stands in the source of the command line alone.
+VERSION = $(shell sed -n 's/^const VERSION: &str = "\(.*\)";$$/\1/p' crates/sf_words/src/line.rt)
+DIST = sf-$(VERSION)-x86_64-linux
+STAGE = dist/$(DIST)
+# The time of each file in the archive, so that the same program makes the same archive: 2026-01-01, if none is given.
+SOURCE_DATE_EPOCH ?= 1767225600
+AS_NOBODY = --owner=0 --group=0 --numeric-owner --mode=u=rwX,go=rX
 
-$(PROGRAM):
+all:
 	./sf --version
 
-install: $(PROGRAM)
+install: all
 	$(INSTALL) -d "$(DESTDIR)$(BINDIR)" "$(DESTDIR)$(MANDIR)/man1" "$(DESTDIR)$(BASHDIR)" "$(DESTDIR)$(ZSHDIR)" "$(DESTDIR)$(FISHDIR)"
 	$(INSTALL) -m 755 $(PROGRAM) "$(DESTDIR)$(BINDIR)/sf"
 	$(INSTALL) -m 644 man/sf.1 "$(DESTDIR)$(MANDIR)/man1/sf.1"
@@ -34,4 +43,19 @@ install: $(PROGRAM)
 uninstall:
 	rm -f "$(DESTDIR)$(BINDIR)/sf" "$(DESTDIR)$(MANDIR)/man1/sf.1" "$(DESTDIR)$(BASHDIR)/sf" "$(DESTDIR)$(ZSHDIR)/_sf" "$(DESTDIR)$(FISHDIR)/sf.fish"
 
-.PHONY: all install uninstall
+dist:
+	test "$$(./sf --version)" = "sf $(VERSION)"
+	rm -rf "$(STAGE)"
+	$(MAKE) --no-print-directory install DESTDIR= PREFIX="$(STAGE)" BINDIR="$(STAGE)/bin" MANDIR="$(STAGE)/share/man" \
+		BASHDIR="$(STAGE)/share/bash-completion/completions" ZSHDIR="$(STAGE)/share/zsh/site-functions" \
+		FISHDIR="$(STAGE)/share/fish/vendor_completions.d"
+	$(INSTALL) -m 644 LICENSE NOTICE "$(STAGE)"
+	$(INSTALL) -m 644 prebuilt/README.dist "$(STAGE)/README"
+	tar -C dist --format=ustar --sort=name --mtime="@$(SOURCE_DATE_EPOCH)" $(AS_NOBODY) -cf "$(STAGE).tar" "$(DIST)"
+	xz -9e -T1 -f "$(STAGE).tar"
+	rm -rf "$(STAGE)"
+
+prebuilt:
+	prebuilt/pack
+
+.PHONY: all install uninstall dist prebuilt

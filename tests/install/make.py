@@ -1,6 +1,10 @@
-"""`make install` and `make uninstall`."""
+"""`make install`, `make uninstall` and `make dist`."""
+import io
+import lzma
 import os
 import shutil
+import subprocess
+import tarfile
 import tempfile
 import unittest
 
@@ -14,11 +18,19 @@ FILES = {
     "share/fish/vendor_completions.d/sf.fish": 0o644,
 }
 
-# Stands for the launcher: it builds a program that says what it was called with.
+# Stands for the launcher: where there is no program it builds one, which says what it was called with.
 LAUNCHER = """#!/bin/sh
-mkdir -p crates/sf/out
-printf '#!/bin/sh\\necho "called with $*"\\n' >crates/sf/out/sf
-chmod +x crates/sf/out/sf
+if [ ! -x crates/sf/out/sf ]; then
+    mkdir -p crates/sf/out
+    printf '#!/bin/sh\\necho "called with $*"\\n' >crates/sf/out/sf
+    chmod +x crates/sf/out/sf
+fi
+echo sf 1.2.3
+"""
+
+LINE = """/// The version that `sf --version` prints.
+const VERSION: &str = "1.2.3";
+const OTHER: &str = "4.5.6";
 """
 
 
@@ -28,8 +40,7 @@ def found(folder):
     return {os.path.relpath(path, folder): os.stat(path).st_mode & 0o777 for path in paths}
 
 
-@unittest.skipUnless(shutil.which("make"), "there is no make")
-class Make(unittest.TestCase):
+class Clone(unittest.TestCase):
     def setUp(self):
         room = tempfile.mkdtemp(prefix="sf install ")
         self.addCleanup(shutil.rmtree, room)
@@ -37,14 +48,24 @@ class Make(unittest.TestCase):
         os.mkdir(self.clone)
         for name in ("man", "completions"):
             shutil.copytree(f"{program.ROOT}/{name}", f"{self.clone}/{name}")
-        shutil.copy(program.ROOT + "/Makefile", self.clone)
-        with open(self.clone + "/sf", "w", encoding="ascii") as file:
-            file.write(LAUNCHER)
-        os.chmod(self.clone + "/sf", 0o755)
+        os.makedirs(self.clone + "/prebuilt")
+        for name in ("Makefile", "LICENSE", "NOTICE", "prebuilt/README.dist"):
+            shutil.copy(f"{program.ROOT}/{name}", f"{self.clone}/{name}")
+        os.makedirs(self.clone + "/crates/sf_words/src")
+        self.write("sf", LAUNCHER)
+        self.write("crates/sf_words/src/line.rt", LINE)
+
+    def write(self, name, text):
+        with open(f"{self.clone}/{name}", "w", encoding="ascii") as file:
+            file.write(text)
+        os.chmod(f"{self.clone}/{name}", 0o755)
 
     def make(self, *words):
         return program.output("make", "--silent", "-C", self.clone, *words)
 
+
+@unittest.skipUnless(shutil.which("make"), "there is no make")
+class Make(Clone):
     def test_it_installs_what_is_built(self):
         os.makedirs(self.clone + "/crates/sf/out")
         shutil.copy(program.path, self.clone + "/crates/sf/out/sf")
@@ -68,3 +89,81 @@ class Make(unittest.TestCase):
         self.assertIn("share/zsh/vendor-completions/_sf", found(self.place + "/usr"))
         self.make("uninstall", f"DESTDIR={self.place}", "PREFIX=/usr")
         self.assertEqual(found(self.place), {})
+
+
+@unittest.skipUnless(shutil.which("make") and shutil.which("xz"), "there is no make or no xz")
+class Dist(Clone):
+    NAME = "sf-1.2.3-x86_64-linux"
+
+    def archive(self):
+        self.make("dist")
+        self.assertEqual(os.listdir(self.clone + "/dist"), [self.NAME + ".tar.xz"])
+        with open(f"{self.clone}/dist/{self.NAME}.tar.xz", "rb") as file:
+            return lzma.decompress(file.read())
+
+    def members(self):
+        with tarfile.open(fileobj=io.BytesIO(self.archive())) as archive:
+            return archive.getmembers()
+
+    def test_it_holds_what_is_installed_and_the_terms(self):
+        files = {**FILES, "LICENSE": 0o644, "NOTICE": 0o644, "README": 0o644}
+        found = {it.name: it.mode for it in self.members() if it.isfile()}
+        self.assertEqual(found, {f"{self.NAME}/{name}": mode for name, mode in files.items()})
+
+    def test_its_entries_are_in_order_and_of_nobody_and_of_one_time(self):
+        members = self.members()
+        self.assertEqual([it.name for it in members], sorted(it.name for it in members))
+        marks = {(it.uid, it.gid, it.uname, it.gname, it.mtime) for it in members}
+        self.assertEqual(marks, {(0, 0, "", "", 1767225600)})
+        self.assertEqual({it.mode for it in members if it.isdir()}, {0o755})
+
+    def test_it_is_always_the_same(self):
+        first = self.archive()
+        for name in ("man/sf.1", "LICENSE", "crates/sf/out/sf"):
+            os.utime(f"{self.clone}/{name}", (1, 1))
+        self.addCleanup(os.umask, os.umask(0o077))
+        moved = self.clone + " that has moved"
+        os.rename(self.clone, moved)
+        self.clone = moved
+        self.assertEqual(self.archive(), first)
+
+    def test_its_time_can_be_given(self):
+        self.make("dist", "SOURCE_DATE_EPOCH=86400")
+        with tarfile.open(f"{self.clone}/dist/{self.NAME}.tar.xz") as archive:
+            self.assertEqual({it.mtime for it in archive.getmembers()}, {86400})
+
+    def test_the_program_in_it_is_the_one_that_is_built(self):
+        os.makedirs(self.clone + "/crates/sf/out")
+        shutil.copy(program.path, self.clone + "/crates/sf/out/sf")
+        with tarfile.open(fileobj=io.BytesIO(self.archive())) as archive:
+            packed = archive.extractfile(f"{self.NAME}/bin/sf").read()
+        with open(program.path, "rb") as file:
+            self.assertEqual(packed, file.read())
+
+    def test_what_its_page_says_puts_all_in_place(self):
+        os.mkdir(self.place)
+        self.make("dist")
+        folder = f"{self.clone}/dist/{self.NAME}"
+        program.output("tar", "-C", self.clone + "/dist", "-xJf", folder + ".tar.xz")
+        with open(folder + "/README", encoding="ascii") as page:
+            lines = [line.split() for line in page]
+        named = {line[0] for line in lines if line and line[0].startswith(("bin/", "share/"))}
+        self.assertEqual(named, set(FILES))
+        commands = [line[:4] for line in lines if line[:2] == ["cp", "-R"]]
+        self.assertEqual(commands, [["cp", "-R", "bin", "share"]])
+        program.output(*commands[0], self.place, cwd=folder)
+        self.assertEqual(found(self.place), FILES)
+
+    def test_a_program_of_another_version_is_not_packed(self):
+        self.write("sf", LAUNCHER.replace("1.2.3", "1.2.2"))
+        how = {"capture_output": True, "check": False, "timeout": program.SECONDS}
+        self.assertNotEqual(subprocess.run(["make", "-C", self.clone, "dist"], **how).returncode, 0)
+        self.assertFalse(os.path.exists(self.clone + "/dist"))
+
+    def test_the_version_is_that_of_the_program(self):
+        """The one place where it stands is found in the clone itself, too."""
+        shutil.copy(program.ROOT + "/crates/sf_words/src/line.rt", self.clone + "/crates/sf_words/src")
+        self.write("sf", LAUNCHER.replace("sf 1.2.3", program.version()))
+        self.make("dist")
+        name = program.version().replace(" ", "-")
+        self.assertEqual(os.listdir(self.clone + "/dist"), [name + "-x86_64-linux.tar.xz"])

@@ -1,6 +1,9 @@
 """The launcher `sf` in clones made up for it, with a stand-in for `rt` that notes its calls and builds at once."""
+import contextlib
 import os
 import pty
+import re
+import select
 import shutil
 import signal
 import subprocess
@@ -10,32 +13,70 @@ import unittest
 
 from program import ROOT, SECONDS
 
-# Builds a "program" that says which text it was built of. What it does besides is told by files beside it.
+# The program that is built of a text: it says so and what it was called with, copies its input, says something of an
+# error too, and ends with status 3.
+PROGRAM = """#!/bin/sh
+[ "$*" = --version ] && exit
+[ "$1" = long ] && exec sleep 1000
+echo "made of {text}, called with: $*"
+cat
+echo "an error text" >&2
+exit 3
+"""
+
+# Notes the crate that it is called in, and what with. It builds a program of the text of the lowest crate. Files beside
+# it say what else it does, and name the crate in which.
 RT = """#!/bin/sh
 room=$(dirname -- "$0")
-echo "$PWD $*" >>"$room/calls"
-[ -e "$room/fails" ] && { echo "error: something is not proved"; exit 1; }
-echo "rt: chose --jobs 2 for low"
-echo "fn low::one: proved"
-[ -e "$room/slow" ] && sleep 1.6
-[ -e "$room/endless" ] && { echo $$ >"$room/endless"; exec sleep 1000; }
-mkdir -p out
-{ echo "#!/bin/sh"; echo "echo \\"built of $(cat ../low/src/lib.rt), called with: \\$*\\""; } >out/new
-chmod +x out/new
-mv out/new out/sf
+[ "$1" = version ] && exec cat "$room/kit"
+crate=${PWD##*/}
+is() { [ "$(cat "$room/$1" 2>/dev/null)" = "$crate" ]; }
+echo "begins $crate: $*" >>"$room/calls"
+echo "fn $crate::one: proved"
+is fails && { echo "error: something is not proved"; exit 1; }
+is waits && { echo "rt: waiting for another rt to finish in $crate"; sleep 2.5; }
+[ -e "$room/slow" ] && sleep "$(cat "$room/slow")"
+is endless && { echo $$ >"$room/process of $crate"; exec sleep 1000; }
+mkdir -p out/incremental out/rlib
+if [ "$*" = lib ]; then
+    touch out/rlib/stamp
+else
+    touch out/sf.stamp
+    sed "s/{text}/$(cat ../low/src/lib.rt)/" "$room/program" >out/new
+    chmod +x out/new
+    mv out/new out/sf
+fi
+echo "ends $crate" >>"$room/calls"
 """
 
 CRATES = """# some crates
+other: num_traits
 low: num_traits
-sf: low
+middle: low
+sf: middle other
 apart: low
 """
+
+KIT = "kit-1 logic 12ab\n"
+
+# The commands of the system that the launcher uses.
+TOOLS = """awk cat chmod cmp cp date dirname find flock getconf grep head mkdir mkfifo mktemp mv nproc readlink rm
+    sed sh sha256sum sleep sort tail touch tr uname wc xargs xz""".split()
 
 
 def write(path, text):
     os.makedirs(os.path.dirname(path), exist_ok=True)
     with open(path, "w") as file:
         file.write(text)
+
+
+def read(path):
+    with open(path) as file:
+        return file.read()
+
+
+def answer(text, *words):
+    return f"made of {text}, called with: {' '.join(words)}\nsome input\n"
 
 
 class Launcher(unittest.TestCase):
@@ -45,45 +86,91 @@ class Launcher(unittest.TestCase):
         self.addCleanup(shutil.rmtree, self.room)
         self.clone = self.room + "/a clone"
         self.bin = self.room + "/bin"
+        self.temporary = self.room + "/temporary"
+        os.mkdir(self.temporary)
+        os.chmod(self.temporary, 0o777)
+        for crate in ("other", "low", "middle", "sf", "apart"):
+            write(f"{self.clone}/crates/{crate}/src/lib.rt", "first")
         write(self.clone + "/crates.txt", CRATES)
-        write(self.clone + "/crates/sf/src/main.rt", "main")
-        write(self.clone + "/crates/low/src/lib.rt", "first")
         write(self.clone + "/crates/low/specs/Lib.antt", "specs")
         write(self.clone + "/crates/low/proofs/part/Lib.antt", "proofs")
         write(self.clone + "/crates/low/must-fail/some.edit", "edit")
-        write(self.clone + "/crates/apart/src/lib.rt", "apart")
+        write(self.clone + "/prebuilt/SECONDS", "# some figures\nother 60\nlow 600\nmiddle 300\nsf 100\n")
         shutil.copy(ROOT + "/sf", self.clone + "/sf")
-        write(self.bin + "/rt", RT)
-        os.chmod(self.bin + "/rt", 0o755)
-        # as if all of it was written some time ago
+        for name in ("build", "pack", "plan.awk", "sum"):
+            shutil.copy(f"{ROOT}/prebuilt/{name}", self.clone + "/prebuilt")
+        self.command("rt", RT)
+        self.command("nproc", "#!/bin/sh\necho 2\n")
+        self.say("kit", KIT)
+        self.say("program", PROGRAM)
+        self.age()
+        self.path = f"{self.bin}:{os.environ['PATH']}"
+
+    def command(self, name, text):
+        write(f"{self.bin}/{name}", text)
+        os.chmod(f"{self.bin}/{name}", 0o755)
+
+    def age(self):
+        """As if all of the clone was written some time ago."""
         for at, _, names in os.walk(self.clone):
             for name in [".", *names]:
                 os.utime(os.path.join(at, name), (1e9, 1e9))
 
-    def started(self, *words, file=None, **how):
-        how = {"cwd": self.clone, "stdin": subprocess.DEVNULL, "stdout": subprocess.PIPE, "stderr": subprocess.PIPE, **how}
-        environment = {"PATH": f"{self.bin}:{os.environ['PATH']}"}
-        return subprocess.Popen([file or self.clone + "/sf", *words], env=environment, text=True, **how)
+    def only_tools(self, *left_out):
+        """Leaves no other commands in the path than those that the launcher uses, but for some of them."""
+        tools = self.room + "/tools"
+        os.mkdir(tools)
+        for name in set(TOOLS) - set(left_out):
+            os.symlink(shutil.which(name), f"{tools}/{name}")
+        self.path = f"{self.bin}:{tools}"
 
-    def call(self, *words, **how):
-        """The status, output and error text of one call of the launcher."""
-        started = self.started(*words, **how)
+    def without_rt(self):
+        os.remove(self.bin + "/rt")
+        self.only_tools()
+
+    def started(self, *words, file=None, **how):
+        how = {"cwd": self.clone, "stdin": subprocess.PIPE, "stdout": subprocess.PIPE, "stderr": subprocess.PIPE, **how}
+        environment = {"PATH": self.path, "TMPDIR": self.temporary}
+        started = subprocess.Popen([file or self.clone + "/sf", *words], env=environment, text=True, **how)
+        self.addCleanup(self.end, started)
+        return started
+
+    def end(self, started):
+        """Ends a call that is left, and closes its pipes."""
+        for number in (signal.SIGTERM, signal.SIGKILL):
+            if started.poll() is None:
+                started.send_signal(number)
+                with contextlib.suppress(subprocess.TimeoutExpired):
+                    started.wait(timeout=5)
+        for pipe in (started.stdin, started.stdout, started.stderr):
+            if pipe:
+                with contextlib.suppress(OSError):
+                    pipe.close()
+
+    def ended(self, started):
+        """The status, output and error text of a call, which is given some input."""
         try:
-            out, err = started.communicate(timeout=SECONDS)
+            out, err = started.communicate("some input\n", timeout=SECONDS)
         except subprocess.TimeoutExpired:
-            started.kill()
             self.fail("the launcher did not end")
         return started.returncode, out, err
 
-    def builds(self):
-        """How often `rt` was called."""
-        if not os.path.exists(self.bin + "/calls"):
-            return 0
-        with open(self.bin + "/calls") as calls:
-            return len(calls.readlines())
+    def call(self, *words, **how):
+        return self.ended(self.started(*words, **how))
 
-    def say(self, what):
-        write(f"{self.bin}/{what}", "")
+    def calls(self):
+        return read(self.bin + "/calls").splitlines() if os.path.exists(self.bin + "/calls") else []
+
+    def builds(self):
+        """How often the program was built."""
+        return self.calls().count("begins sf: run -- scan %d")
+
+    def say(self, what, text=""):
+        write(f"{self.bin}/{what}", text)
+
+    def take_back(self, *names):
+        for name in names:
+            os.remove(f"{self.bin}/{name}")
 
     def edit(self, file, text="second"):
         write(f"{self.clone}/crates/{file}", text)
@@ -95,29 +182,134 @@ class Launcher(unittest.TestCase):
             time.sleep(0.05)
         self.fail(why)
 
-    def expect(self, text, *words, builds, **how):
-        """A call that ends well, with the program built of this text, after that many builds in all."""
-        status, out, _ = self.call(*words, **how)
-        self.assertEqual((status, out), (0, f"built of {text}, called with: {' '.join(words)}\n"))
+    def endless(self, crate):
+        """The process that builds this crate without end, once it does."""
+        file = f"{self.bin}/process of {crate}"
+        self.wait_for(lambda: os.path.exists(file) and read(file).endswith("\n"), "no build began")
+        return int(read(file))
+
+    def is_gone(self, process):
+        with contextlib.suppress(ProcessLookupError):
+            os.kill(process, 0)
+            return False
+        return True
+
+    def expect(self, text, *words, builds=0, **how):
+        """A call that runs the program made of this text, after that many builds in all."""
+        status, out, err = self.call(*words, **how)
+        self.assertEqual((status, out), (3, answer(text, *words)))
+        self.assertTrue(err.endswith("an error text\n"), err)
         self.assertEqual(self.builds(), builds)
+        self.expect_nothing_left()
+        return err.removesuffix("an error text\n")
+
+    def expect_fault(self, pattern, *words, **how):
+        """A call that runs no program, and says so on the last line of the error text."""
+        status, out, err = self.call(*words, **how)
+        self.assertEqual((status, out), (1, ""))
+        self.assertRegex(err, rf"(?:\A|\n)sf: [^\n]*{pattern}[^\n]*\n\Z")
+        self.expect_nothing_left()
+        return err
+
+    def expect_nothing_left(self):
+        out = self.clone + "/crates/sf/out"
+        known = {"sf", "SUM", "build", "incremental", "rlib", "sf.stamp", "sf.began", "sf.begins"}
+        self.assertLessEqual(set(os.listdir(out) if os.path.exists(out) else ()), known)
+        self.assertEqual(os.listdir(self.temporary), [])
+
+    def closed(self):
+        """Lets nobody write to the clone from now on; how the caller is to be called then."""
+        if os.geteuid() == 0:
+            return {"user": 65534, "group": 65534, "extra_groups": []}
+        for at, _, _ in os.walk(self.clone):
+            os.chmod(at, 0o555)
+            self.addCleanup(os.chmod, at, 0o755)
+        return {}
+
+    def piece(self, file):
+        """What can be read next."""
+        self.assertTrue(select.select([file], [], [], SECONDS)[0], "nothing more is said")
+        return os.read(file, 4096)
+
+    def shown(self, *words):
+        """The output of a call, and what a terminal shows as its error text."""
+        ours, theirs = pty.openpty()
+        self.addCleanup(os.close, ours)
+        running = self.started(*words, stdin=subprocess.DEVNULL, stderr=theirs)
+        os.close(theirs)
+        shown = b""
+        with contextlib.suppress(OSError):
+            while piece := self.piece(ours):
+                shown += piece
+        return running.communicate(timeout=SECONDS)[0], shown.decode()
 
 
 class Builds(Launcher):
     def test_it_builds_once_and_hands_its_words_on(self):
         status, out, err = self.call("scan", "%d  %d")
-        self.assertEqual((status, out), (0, "built of first, called with: scan %d  %d\n"))
-        self.assertEqual(err, "sf: building the program, which takes some minutes\n")
-        self.assertEqual(self.call("x"), (0, "built of first, called with: x\n", ""))
-        with open(self.bin + "/calls") as calls:
-            self.assertEqual(calls.read(), f"{self.clone}/crates/sf run -- scan %d\n")
+        self.assertEqual((status, out), (3, answer("first", "scan", "%d  %d")))
+        self.assertEqual(self.call("x"), (3, answer("first", "x"), "an error text\n"))
+        self.assertEqual(self.builds(), 1)
+
+    def test_low_crates_come_first_and_those_that_share_none_side_by_side(self):
+        self.say("slow", "0.4")
+        self.expect("first", builds=1)
+        calls = self.calls()
+        self.assertEqual(set(calls[:2]), {"begins other: lib", "begins low: lib"})
+        self.assertEqual(set(calls[2:5]), {"ends other", "ends low", "begins middle: lib"})
+        self.assertLess(calls.index("ends low"), calls.index("begins middle: lib"))
+        self.assertEqual(calls[5:], ["ends middle", "begins sf: run -- scan %d", "ends sf"])
+
+    def test_a_crate_waits_for_one_that_shares_another_with_it(self):
+        """rt would have it wait too, and one that only waits would be said to be proved."""
+        write(self.clone + "/crates.txt", "low:\nmiddle: low\nother: low\nsf: middle other\n")
+        self.say("slow", "0.4")
+        self.expect("first", builds=1)
+        self.assertEqual([it.split(" ")[0] for it in self.calls()], ["begins", "ends"] * 4)
+
+    def test_it_says_how_long_it_takes_and_each_crate(self):
+        """On two cores a crate takes seven tenths of its processor time, and low, middle and sf are a chain: 700 s."""
+        lines = self.expect("first", builds=1).splitlines()
+        self.assertEqual(lines[0], "sf: proving and building the program here: about 12 minutes on 2 cores")
+        said = [re.sub(r"\d+:\d\d", "TIME", it) for it in lines[1:]]
+        self.assertEqual([it.split(" ", 4)[4] for it in said], [f"{it} of 4 crates (TIME)" for it in range(1, 5)])
+        self.assertEqual({it.split(" ")[1] for it in said[:2]} | {"middle"}, {"other", "low", "middle"})
+        self.assertEqual(said[3], "sf: sf is built, 4 of 4 crates (TIME)")
+
+    def test_cores_help_as_far_as_crates_share_none(self):
+        for cores, said in ((1, "18 minutes on 1 core"), (2, "12 minutes on 2 cores"), (8, "9 minutes on 8 cores")):
+            with self.subTest(cores):
+                self.command("nproc", f"#!/bin/sh\necho {cores}\n")
+                for crate in ("other", "low", "middle", "sf"):
+                    shutil.rmtree(f"{self.clone}/crates/{crate}/out", ignore_errors=True)
+                self.assertIn(f": about {said}\n", self.call()[2])
+
+    def test_it_says_that_less_is_to_be_done_where_work_is_kept(self):
+        """A fifth of what the edited crate and those above it take, 700 s and 112 s."""
+        self.expect("first", builds=1)
+        self.edit("low/src/lib.rt")
+        self.assertIn(": about 2 minutes on 2 cores\n", self.expect("second", builds=2))
+        self.edit("other/src/lib.rt")
+        self.assertIn(": about 1 minute on 2 cores\n", self.expect("second", builds=3))
 
     def test_it_builds_anew_after_an_edit_of_what_the_program_is_made_of(self):
         self.expect("first", builds=1)
-        edits = ["low/src/lib.rt", "low/specs/Lib.antt", "low/proofs/part/Lib.antt", "low/proofs/New.antt", "sf/src/main.rt", "../crates.txt"]
+        edits = ["low/src/lib.rt", "low/specs/Lib.antt", "low/proofs/part/Lib.antt", "low/proofs/New.antt"]
+        edits += ["middle/src/lib.rt", "other/src/lib.rt", "sf/src/lib.rt", "../crates.txt"]
         for builds, file in enumerate(edits, 2):
-            self.edit(file, CRATES if "crates.txt" in file else "second")
-            self.expect("second", builds=builds)
-            self.expect("second", builds=builds)
+            with self.subTest(file):
+                self.edit(file, CRATES + "# more" if "crates.txt" in file else "second")
+                self.expect("second", builds=builds)
+                self.expect("second", builds=builds)
+
+    def test_it_builds_anew_after_an_edit_that_keeps_an_old_time(self):
+        self.expect("first", builds=1)
+        self.edit("low/src/lib.rt")
+        os.utime(self.clone + "/crates/low/src/lib.rt", (1e9, 1e9))
+        self.expect("second", builds=2)
+        self.edit("low/src/lib.rt", "first")
+        os.utime(self.clone + "/crates/low/src/lib.rt", (1e9, 1e9))
+        self.expect("first", builds=3)
 
     def test_it_builds_anew_where_a_file_is_gone(self):
         self.expect("first", builds=1)
@@ -125,11 +317,11 @@ class Builds(Launcher):
         self.expect("first", builds=2)
 
     def test_it_builds_anew_after_an_edit_during_the_build(self):
-        self.say("slow")
+        self.say("slow", "0.4")
         running = self.started()
-        self.wait_for(self.builds, "no build began")
+        self.wait_for(self.calls, "no build began")
         self.edit("low/specs/Lib.antt")
-        running.communicate(timeout=SECONDS)
+        self.ended(running)
         self.expect("first", builds=2)
         self.expect("first", builds=2)
 
@@ -137,6 +329,12 @@ class Builds(Launcher):
         self.expect("first", builds=1)
         for file in ("apart/src/lib.rt", "low/must-fail/some.edit", "../README.md", "../docs/FORMATS.md"):
             self.edit(file)
+        self.expect("first", builds=1)
+
+    def test_it_does_not_build_where_only_times_are_new(self):
+        self.expect("first", builds=1)
+        os.utime(self.clone + "/crates/low/src/lib.rt")
+        self.edit("low/src/lib.rt", "first")
         self.expect("first", builds=1)
 
     def test_it_runs_what_another_command_has_built(self):
@@ -151,32 +349,36 @@ class Builds(Launcher):
         self.edit("low/src/lib.rt")
         self.expect("second", builds=2)
 
-    def test_a_failing_build_is_shown(self):
-        self.say("fails")
-        status, out, err = self.call()
-        self.assertEqual((status, out), (1, ""))
-        self.assertIn("error: something is not proved\n", err)
-        self.assertTrue(err.endswith("sf: the program could not be built\n"), err)
-        os.remove(self.bin + "/fails")
-        self.expect("first", builds=2)
+    def test_a_crate_that_fails_is_shown_with_its_log(self):
+        self.say("fails", "middle")
+        err = self.expect_fault("could not be built: middle failed")
+        self.assertIn("\nfn middle::one: proved\nerror: something is not proved\n", err)
+        self.assertNotIn("fn low::one", err)
+        self.assertEqual(self.builds(), 0)
+        self.take_back("fails")
+        self.expect("first", builds=1)
+
+    def test_a_crate_that_is_not_there_fails(self):
+        shutil.rmtree(self.clone + "/crates/middle")
+        self.expect_fault("could not be built: middle failed")
 
     def test_nothing_old_runs_where_the_build_after_an_edit_fails(self):
-        self.expect("first", builds=1)
-        self.edit("low/src/lib.rt")
-        self.say("fails")
-        status, out, _ = self.call()
-        self.assertEqual((status, out), (1, ""))
+        for crate in ("low", "sf"):
+            with self.subTest(crate):
+                self.call()
+                self.edit("low/src/lib.rt", f"an edit that {crate} doesn't bear")
+                self.say("fails", crate)
+                for _ in range(3):
+                    self.expect_fault(f"could not be built: {crate} failed")
+                self.take_back("fails")
+
+    def test_a_build_that_makes_no_program_is_a_failure(self):
+        self.command("rt", RT.replace("mv out/new out/sf", "rm out/new"))
+        self.expect_fault("could not be built")
 
     def test_without_rt_it_says_so(self):
-        os.remove(self.bin + "/rt")
-        os.symlink(shutil.which("true"), self.bin + "/true")
-        tools = self.room + "/tools"
-        os.mkdir(tools)
-        for name in ("sh", "awk", "find", "head", "dirname", "readlink", "mkdir", "touch", "flock", "cat", "sleep", "mv"):
-            os.symlink(shutil.which(name), f"{tools}/{name}")
-        done = subprocess.run([self.clone + "/sf"], env={"PATH": tools}, capture_output=True, text=True, timeout=SECONDS)
-        self.assertEqual((done.returncode, done.stdout), (1, ""))
-        self.assertRegex(done.stderr, r"\Asf: [^\n]*\brt\b[^\n]*\n\Z")
+        self.without_rt()
+        self.assertEqual(self.expect_fault(r"\brt\b").count("\n"), 1)
 
 
 class Places(Launcher):
@@ -190,145 +392,159 @@ class Places(Launcher):
         os.symlink("../a clone/sf", self.bin + "/relative")
         os.symlink("relative", self.bin + "/twice")
         os.symlink("a clone", self.room + "/folder")
+        there = set(os.listdir(self.bin))
         for file in (self.bin + "/absolute", self.bin + "/relative", self.bin + "/twice", self.room + "/folder/sf"):
             self.expect("first", "a", cwd="/", file=file, builds=1)
         self.expect("first", "a", cwd=self.room, file="bin/relative", builds=1)
-        self.assertEqual(sorted(os.listdir(self.bin)), ["absolute", "calls", "relative", "rt", "twice"])
+        self.assertEqual(set(os.listdir(self.bin)), there | {"calls"})
 
     def test_it_works_through_the_path(self):
         os.symlink("../a clone/sf", self.bin + "/sf")
-        done = subprocess.run(["sh", "-c", "cd / && sf a b"], env={"PATH": f"{self.bin}:{os.environ['PATH']}"}, capture_output=True, text=True)
-        self.assertEqual((done.returncode, done.stdout), (0, "built of first, called with: a b\n"))
+        done = subprocess.run(["sh", "-c", "cd / && sf a b"], env={"PATH": self.path}, input="some input\n",
+                              capture_output=True, text=True, timeout=SECONDS)
+        self.assertEqual((done.returncode, done.stdout), (3, answer("first", "a", "b")))
 
     def test_a_copy_of_it_alone_says_what_to_copy(self):
         shutil.copy(self.clone + "/sf", self.room + "/sf")
-        status, out, err = self.call(file=self.room + "/sf")
-        self.assertEqual((status, out), (1, ""))
-        self.assertRegex(err, r"\Asf: [^\n]*crates/sf/out/sf[^\n]*\n\Z")
+        self.expect_fault("crates/sf/out/sf", file=self.room + "/sf")
 
 
 class WithoutWriting(Launcher):
     """In a clone that its caller can't write to."""
 
-    def closed(self):
-        if os.geteuid() == 0:
-            return {"user": 65534, "group": 65534, "extra_groups": []}
-        for at, folders, names in os.walk(self.clone):
-            os.chmod(at, 0o555)
-            self.addCleanup(os.chmod, at, 0o755)
-        return {}
-
     def test_where_nothing_is_built_it_says_so_in_one_line(self):
-        status, out, err = self.call(**self.closed())
-        self.assertEqual((status, out), (1, ""))
-        self.assertRegex(err, r"\Asf: [^\n]*not built[^\n]*can't be written\n\Z")
-        self.assertEqual(self.builds(), 0)
+        how = self.closed()
+        self.assertEqual(self.expect_fault("not built[^\n]*can't be written", **how).count("\n"), 1)
+        self.assertEqual(self.expect_fault("can't be written", "--prove", **how).count("\n"), 1)
+        self.assertEqual(self.calls(), [])
 
     def test_what_is_built_runs(self):
         self.expect("first", builds=1)
-        how = self.closed()
-        self.assertEqual(self.call("a", **how), (0, "built of first, called with: a\n", ""))
-        self.assertEqual(self.builds(), 1)
+        self.assertEqual(self.expect("first", "a", builds=1, **self.closed()), "")
 
     def test_what_is_built_runs_after_an_edit_too_and_that_is_said(self):
         self.expect("first", builds=1)
         self.edit("low/src/lib.rt")
-        status, out, err = self.call("a", **self.closed())
-        self.assertEqual((status, out), (0, "built of first, called with: a\n"))
-        self.assertRegex(err, r"\Asf: [^\n]*older than its source[^\n]*\n\Z")
-        self.assertEqual(self.builds(), 1)
+        said = self.expect("first", "a", builds=1, **self.closed())
+        self.assertRegex(said, r"\Asf: [^\n]*older than its source[^\n]*\n\Z")
+
+    def test_what_is_built_is_not_older_where_only_times_are_new(self):
+        self.expect("first", builds=1)
+        os.utime(self.clone + "/crates/low/src/lib.rt")
+        self.assertEqual(self.expect("first", "a", builds=1, **self.closed()), "")
 
 
 class Together(Launcher):
     def test_one_of_two_calls_builds_and_the_other_waits(self):
-        self.say("slow")
+        self.say("slow", "0.4")
         first = self.started("a")
         self.wait_for(self.builds, "no build began")
         second = self.started("b")
-        self.assertEqual(first.communicate(timeout=SECONDS)[0], "built of first, called with: a\n")
-        out, err = second.communicate(timeout=SECONDS)
-        self.assertEqual(out, "built of first, called with: b\n")
-        self.assertRegex(err, r"\Asf: waiting [^\n]*\n\Z")
-        self.assertEqual((first.returncode, second.returncode, self.builds()), (0, 0, 1))
+        self.assertEqual(self.ended(first)[:2], (3, answer("first", "a")))
+        status, out, err = self.ended(second)
+        self.assertEqual((status, out), (3, answer("first", "b")))
+        self.assertRegex(err, r"\Asf: waiting [^\n]*\nan error text\n\Z")
+        self.assertEqual(self.builds(), 1)
+
+    def test_one_of_two_calls_builds_also_where_no_sum_can_be_made(self):
+        self.only_tools("sha256sum")
+        self.say("slow", "0.4")
+        first = self.started("a")
+        self.wait_for(self.calls, "no build began")
+        second = self.started("b")
+        self.assertEqual(self.ended(first)[:2], (3, answer("first", "a")))
+        self.assertEqual(self.ended(second)[:2], (3, answer("first", "b")))
+        self.assertEqual(self.builds(), 1)
 
     def test_an_interrupted_call_waits_no_longer(self):
-        self.say("endless")
+        self.say("endless", "low")
         first = self.started()
-        self.addCleanup(first.communicate)
-        self.addCleanup(first.terminate)
-        self.wait_for(self.builds, "no build began")
+        self.endless("low")
         second = self.started()
-        self.assertRegex(second.stderr.readline(), r"\Asf: waiting ")
+        self.assertRegex(self.piece(second.stderr.fileno()), rb"\Asf: waiting ")
         second.terminate()
-        second.communicate(timeout=SECONDS)
-        self.assertEqual((second.returncode, first.poll(), self.builds()), (143, None, 1))
+        second.wait(timeout=SECONDS)
+        self.assertEqual((second.returncode, first.poll(), self.calls().count("begins low: lib")), (143, None, 1))
 
     def test_a_call_does_not_wait_for_a_program_that_runs(self):
-        write(self.bin + "/rt", RT.replace('echo "echo ', 'echo "[ \\"\\$1\\" = long ] && exec sleep 1000"; echo "echo '))
-        running = self.started("long")
-        self.addCleanup(running.communicate)
-        self.addCleanup(running.kill)
+        self.started("long")
         self.wait_for(lambda: os.path.exists(self.clone + "/crates/sf/out/sf.began"), "it was not built")
         self.edit("low/src/lib.rt")
         self.expect("second", builds=2)
 
     def test_a_build_that_was_killed_is_waited_for_no_longer(self):
-        self.say("endless")
+        self.say("endless", "middle")
         first = self.started()
-        self.wait_for(self.builds, "no build began")
-        self.wait_for(lambda: os.path.getsize(self.bin + "/endless"), "no build began")
-        with open(self.bin + "/endless") as file:
-            build = int(file.read())
+        build = self.endless("middle")
         first.kill()
-        first.communicate()
+        first.wait(timeout=SECONDS)
         os.kill(build, signal.SIGKILL)
-        os.remove(self.bin + "/endless")
-        self.expect("first", builds=2)
+        self.take_back("endless")
+        status, out, _ = self.call()
+        self.assertEqual((status, out, self.builds()), (3, answer("first"), 1))
 
     def test_what_an_old_lock_left_is_not_waited_for(self):
         write(self.clone + "/crates/sf/out/building/owner", str(os.getpid()))
-        self.expect("first", builds=1)
+        self.assertEqual(self.call()[:2], (3, answer("first")))
 
 
 class Interrupts(Launcher):
     def test_an_interrupt_stops_the_build_and_gives_the_lock_back(self):
         for number, status in ((signal.SIGHUP, 129), (signal.SIGINT, 130), (signal.SIGTERM, 143)):
             with self.subTest(number):
-                self.say("endless")
+                self.say("endless", "middle")
                 running = self.started()
-                self.wait_for(lambda: os.path.getsize(self.bin + "/endless"), "no build began")
-                with open(self.bin + "/endless") as file:
-                    build = int(file.read())
+                build = self.endless("middle")
                 running.send_signal(number)
-                running.communicate(timeout=SECONDS)
-                self.assertEqual(running.returncode, status)
-                with self.assertRaises(ProcessLookupError):
-                    os.kill(build, 0)
-                os.remove(self.bin + "/endless")
-                os.remove(self.bin + "/calls")
-                shutil.rmtree(self.clone + "/crates/sf/out")
+                self.assertEqual(self.ended(running)[:2], (status, ""))
+                self.assertTrue(self.is_gone(build))
+                self.expect_nothing_left()
+                self.take_back("endless", "process of middle", "calls")
                 self.expect("first", builds=1)
-                os.remove(self.bin + "/calls")
+                self.take_back("calls")
                 shutil.rmtree(self.clone + "/crates/sf/out")
+
+    def test_an_interrupt_stops_all_crates_that_are_being_built(self):
+        self.command("rt", RT.replace("is endless && {", '[ -e "$room/endless" ] && {'))
+        self.say("endless")
+        running = self.started()
+        processes = [self.endless(crate) for crate in ("low", "other")]
+        running.terminate()
+        self.assertEqual(self.ended(running)[0], 143)
+        self.assertEqual([self.is_gone(it) for it in processes], [True, True])
+
+    def test_a_crate_that_fails_stops_the_others(self):
+        waits = 'is fails && until [ -s "$room/process of low" ]; do sleep 0.02; done'
+        self.command("rt", RT.replace("is fails &&", waits + "\nis fails &&"))
+        self.say("endless", "low")
+        self.say("fails", "other")
+        self.expect_fault("could not be built: other failed")
+        self.assertTrue(self.is_gone(self.endless("low")))
+
+    def test_each_moment_of_a_build_can_be_interrupted(self):
+        self.say("endless", "middle")
+        for at in range(25):
+            with self.subTest(at):
+                running = self.started()
+                time.sleep(0.008 * at)
+                running.terminate()
+                # (before it has set its traps it ends by the signal itself)
+                self.assertIn(self.ended(running)[:2], ((143, ""), (-signal.SIGTERM, "")))
+                self.expect_nothing_left()
 
 
 class Shown(Launcher):
-    def test_a_terminal_is_shown_which_crate_of_how_many_is_proved(self):
-        self.say("slow")
-        ours, theirs = pty.openpty()
-        running = self.started("a", stderr=theirs)
-        os.close(theirs)
-        shown = b""
-        while True:
-            try:
-                piece = os.read(ours, 4096)
-            except OSError:
-                break
-            if not piece:
-                break
-            shown += piece
-        os.close(ours)
-        self.assertEqual(running.communicate(timeout=SECONDS)[0], "built of first, called with: a\n")
-        self.assertIn(b"proving low, crate 1 of 2", shown)
-        self.assertNotIn(b"\n", shown)
-        self.assertTrue(shown.endswith(b"\r\x1b[K"), shown)
+    def test_a_terminal_is_shown_which_of_how_many_crates_are_proved(self):
+        self.say("slow", "1.2")
+        out, shown = self.shown("a")
+        self.assertEqual(out, "made of first, called with: a\n")
+        first, _, rest = shown.partition("\r\n")
+        self.assertEqual(first, "sf: proving and building the program here: about 12 minutes on 2 cores")
+        self.assertRegex(rest, r"\A\r\x1b\[Ksf: 0 of 4 crates done, proving (other, low|low, other) \(0:0\d\)\r")
+        self.assertRegex(rest, r"sf: 3 of 4 crates done, proving sf \(0:0\d\)\r")
+        self.assertTrue(rest.endswith("\r\x1b[Kan error text\r\n"), rest)
+        self.assertEqual(rest.count("\n"), 1)
+
+    def test_a_terminal_is_shown_that_another_rt_is_waited_for(self):
+        self.say("waits", "low")
+        self.assertIn("\x1b[Ksf: waiting for another rt to finish in low (0:0", self.shown()[1])

@@ -33,64 +33,50 @@ const NO_MATCH: Outcome = Outcome {
     met: None,
 };
 
-#[test]
-fn faults_of_lines(rt: HostRuntime) -> Result<(), Fail> {
-    let alloc = rt.alloc();
-    is_error(
-        alloc,
+/// Why a line is no match, and the texts.
+static LINES: [(LineFault, &str); 3] = [
+    (
         LineFault::Failed { outcome: NO_MATCH },
         "matching failure at 3, used 3, assigned 1",
-    )?;
-    is_error(
-        alloc,
+    ),
+    (
         LineFault::LeftOver { at: 4294967295 },
         "left over at 4294967295",
-    )?;
-    is_error(alloc, LineFault::TooLong, "too long")
-}
+    ),
+    (LineFault::TooLong, "too long"),
+];
 
-#[test]
-fn faults_of_line_loops(rt: HostRuntime) -> Result<(), Fail> {
-    let alloc = rt.alloc();
-    is_error(
-        alloc,
+/// The faults of a loop over lines, their texts, and their exit statuses.
+static LOOPS: [(LinesFault, &str, u8); 4] = [
+    (
         LinesFault::Read {
             line: 18446744073709551615,
         },
         "line 18446744073709551615: read fault",
-    )?;
-    is_error(alloc, LinesFault::Write, "write fault")?;
-    is_error(alloc, LinesFault::Memory, "out of memory")?;
-    is_error(alloc, LinesFault::TooMany, "too many lines")
-}
+        3,
+    ),
+    (LinesFault::Write, "write fault", 3),
+    (LinesFault::Memory, "out of memory", 4),
+    (LinesFault::TooMany, "too many lines", 1),
+];
+
+/// Why a record was not written, and the texts.
+static UNWRITTEN: [(RecordFault, &str); 2] = [
+    (RecordFault::Write, "a record was not written in full"),
+    (RecordFault::Memory, "no memory for the text of a record"),
+];
 
 #[test]
-fn faults_of_written_lines(rt: HostRuntime) -> Result<(), Fail> {
-    let alloc = rt.alloc();
-    is_error(
-        alloc,
-        RecordFault::Write,
-        "a record was not written in full",
-    )?;
-    is_error(
-        alloc,
-        RecordFault::Memory,
-        "no memory for the text of a record",
-    )
-}
-
-#[test]
-fn statuses_of_faults(_rt: HostRuntime) -> Result<(), Fail> {
-    let faults = [
-        (LinesFault::TooMany, 1),
-        (LinesFault::Read { line: 7 }, 3),
-        (LinesFault::Write, 3),
-        (LinesFault::Memory, 4),
-    ];
-    for (fault, wanted) in faults {
-        if fault.status() != wanted {
-            return Err(Fail::new("status"));
-        }
+fn faults_have_texts(rt: HostRuntime) -> Result<(), Fail> {
+    for &(fault, wanted) in &LINES {
+        is_error(rt.alloc(), fault, wanted)?;
+    }
+    for &(fault, wanted, status) in &LOOPS {
+        is_error(rt.alloc(), fault, wanted)?;
+        assert_eq!(rt; fault.status(), status, "{wanted}");
+    }
+    for &(fault, wanted) in &UNWRITTEN {
+        is_error(rt.alloc(), fault, wanted)?;
     }
     Ok(())
 }

@@ -1,8 +1,8 @@
-//! Texts and their lines, as fgets reads them (C11 7.21.7.2), without their line ends.
+//! Texts and their lines, as fgets reads them (C11 7.21.7.2), without their newlines.
 ghost use Rattle.std.specs.Prelude.{◌≤◌};
 
 use sf_lines::{LineRead, next_line};
-use sf_read::{Lookahead, ReadStep, ScriptSource, SliceSource, Source};
+use sf_read::{Lookahead, ReadStep, ScriptSource, Source};
 use std::alloc::Global;
 use std::process::Abort;
 use std::test::Fail;
@@ -10,20 +10,8 @@ use std::test::Fail;
 /// The most lines that a test reads.
 const MOST: usize = 16;
 
-/// Texts, and their lines with a bar behind each.
-static ROWS: [(&str, &str); 8] = [
-    ("", ""),
-    ("\n", "|"),
-    ("a", "a|"),
-    ("a\n", "a|"),
-    ("\na", "|a|"),
-    ("ab\n\ncd", "ab||cd|"),
-    ("ab\n\n\n", "ab|||"),
-    ("12 x\r\n\t 7\n", "12 x\r|\t 7|"),
-];
-
-/// The lines of at most `limit` bytes that a reader gives, with a bar behind each, and an exclamation
-/// mark behind the first bytes of each that is longer; and what stood behind them.
+/// The lines of at most `limit` bytes that a reader gives, with a bar after each, and an exclamation
+/// mark after the first bytes of each that is longer; and what stood after them.
 fn listed<S: Source, const N: usize>(
     alloc: Global,
     from: &mut Lookahead<S, N>,
@@ -45,59 +33,53 @@ fn listed<S: Source, const N: usize>(
     Ok((out, LineRead::Endless))
 }
 
-/// Read in blocks of N bytes, the text has these lines, and then its end.
+/// Read in blocks of N bytes, a source has these lines, and then that.
 fn has_lines<const N: usize>(
     rt: &(impl Abort + AllocGlobal),
-    text: &str,
+    steps: &[ReadStep<'_>],
     limit: usize,
     wanted: &str,
+    end: LineRead,
 ) -> Result<(), Fail>
     requires few { N ≤ 4096 }
     requires some { 1 ≤ N }
 {
-    let mut from = Lookahead::<SliceSource<'_>, N>::new(SliceSource::new(text.as_bytes()));
+    let mut from = Lookahead::<ScriptSource<'_>, N>::new(ScriptSource::new(steps));
     let (out, last) = listed(rt.alloc(), &mut from, limit)?;
-    let found = (out.as_slice(), last);
-    assert_eq!(rt; found, (wanted.as_bytes(), LineRead::End), "at {text:?}");
+    assert!(rt; out.as_slice() == wanted.as_bytes(), "at {wanted}: {out:?}");
+    assert_eq!(rt; last, end, "at {wanted}");
     Ok(())
 }
 
-#[test]
-fn texts_are_cut_into_lines(rt: HostRuntime) -> Result<(), Fail> {
-    for &(text, wanted) in &ROWS {
-        has_lines::<1>(&rt, text, 8, wanted)?;
-        has_lines::<3>(&rt, text, 8, wanted)?;
-    }
-    Ok(())
-}
-
-/// Texts, and their lines of at most two bytes.
-static LONG: [(&str, &str); 4] = [
-    ("ab\nabc\nd", "ab|ab!|d|"),
-    ("abcdefgh\n\nab", "ab!||ab|"),
-    ("ab\nabcd", "ab|ab!|"),
-    ("abc\n", "ab!|"),
+/// Texts, the most bytes of a line, and their lines of so many bytes with a bar after each.
+static ROWS: [(&str, usize, &str); 12] = [
+    ("", 8, ""),
+    ("\n", 8, "|"),
+    ("a", 8, "a|"),
+    ("a\n", 8, "a|"),
+    ("\na", 8, "|a|"),
+    ("ab\n\ncd", 8, "ab||cd|"),
+    ("ab\n\n\n", 8, "ab|||"),
+    ("12 x\r\n\t 7\n", 8, "12 x\r|\t 7|"),
+    ("ab\nabc\nd", 2, "ab|ab!|d|"),
+    ("abcdefgh\n\nab", 2, "ab!||ab|"),
+    ("ab\nabcd", 2, "ab|ab!|"),
+    ("abc\n", 2, "ab!|"),
 ];
 
 #[test]
-fn long_lines_are_passed_over(rt: HostRuntime) -> Result<(), Fail> {
-    for &(text, wanted) in &LONG {
-        has_lines::<1>(&rt, text, 2, wanted)?;
-        has_lines::<64>(&rt, text, 2, wanted)?;
+fn texts_are_cut_into_lines(rt: HostRuntime) -> Result<(), Fail> {
+    for &(text, limit, wanted) in &ROWS {
+        let steps = [ReadStep::Give(text.as_bytes())];
+        has_lines::<1>(&rt, &steps, limit, wanted, LineRead::End)?;
+        has_lines::<3>(&rt, &steps, limit, wanted, LineRead::End)?;
+        has_lines::<64>(&rt, &steps, limit, wanted, LineRead::End)?;
     }
-    Ok(())
-}
-
-#[test]
-fn a_read_fails_within_a_line(rt: HostRuntime) -> Result<(), Fail> {
+    // A read fails within a line.
     let steps = [
         ReadStep::Give(b"ab\nc"),
         ReadStep::Fail,
         ReadStep::Give(b"d\n"),
     ];
-    let mut from = Lookahead::<ScriptSource<'_>, 64>::new(ScriptSource::new(&steps));
-    let (out, last) = listed(rt.alloc(), &mut from, 8)?;
-    assert_eq!(rt; out.as_slice(), b"ab|".as_slice());
-    assert_eq!(rt; last, LineRead::Fault);
-    Ok(())
+    has_lines::<64>(&rt, &steps, 8, "ab|", LineRead::Fault)
 }

@@ -8,62 +8,73 @@ use sf_lines::{LineRead, LinesEnd, LinesFault, LinesOptions, next_line, run_line
 use sf_print::{ListSink, ScriptSink, Sink, WriteStep};
 use sf_read::{Lookahead, ReadStep, ScriptSource, SliceSource, Source};
 use std::alloc::{AllocGlobal, Global};
-use std::io;
 use std::process::Abort;
 use std::test::Fail;
 
 const LIMIT: u32 = 1048576;
 
-/// How the lines of a row are scanned.
-#[derive(Clone, Copy, Debug)]
-enum How {
-    Plain,
-    KeepGoing,
-    /// A format has to use a line to its end; the loop keeps going.
-    Whole,
-    /// A line of more than three bytes is too long; the loop keeps going.
-    Short,
-    /// So many lines are passed over first.
-    Skip(u64),
-}
+const PLAIN: LinesOptions = LinesOptions {
+    limit: LIMIT,
+    skip: 0,
+    whole: false,
+    keep_going: false,
+};
 
-fn options(how: How) -> LinesOptions
-    ensures { result.limit ≤ 1048576 }
-{
-    let plain = LinesOptions {
-        limit: LIMIT,
-        skip: 0,
-        whole: false,
-        keep_going: true,
-    };
-    match how {
-        How::Plain => LinesOptions {
-            keep_going: false,
-            ..plain
-        },
-        How::KeepGoing => plain,
-        How::Whole => LinesOptions {
-            whole: true,
-            ..plain
-        },
-        How::Short => LinesOptions { limit: 3, ..plain },
-        How::Skip(skip) => LinesOptions {
-            skip,
-            keep_going: false,
-            ..plain
-        },
+const KEEP_GOING: LinesOptions = LinesOptions {
+    limit: LIMIT,
+    skip: 0,
+    whole: false,
+    keep_going: true,
+};
+
+/// A format has to use a line to its end; the loop keeps going.
+const WHOLE: LinesOptions = LinesOptions {
+    limit: LIMIT,
+    skip: 0,
+    whole: true,
+    keep_going: true,
+};
+
+/// A line of more than three bytes is too long; the loop keeps going.
+const SHORT: LinesOptions = LinesOptions {
+    limit: 3,
+    skip: 0,
+    whole: false,
+    keep_going: true,
+};
+
+/// The first line is passed over.
+const SKIP_1: LinesOptions = LinesOptions {
+    limit: LIMIT,
+    skip: 1,
+    whole: false,
+    keep_going: false,
+};
+
+const SKIP_2: LinesOptions = LinesOptions {
+    limit: LIMIT,
+    skip: 2,
+    whole: false,
+    keep_going: false,
+};
+
+const SKIP_9: LinesOptions = LinesOptions {
+    limit: LIMIT,
+    skip: 9,
+    whole: false,
+    keep_going: false,
+};
+
+/// One format, and no second one.
+const ONE: (&str, &str) = ("%s", "");
+
+/// Notes of no line so far.
+fn notes(alloc: Global, refuses: bool) -> Notes {
+    Notes {
+        said: Vec::new(alloc),
+        failed: false,
+        refuses,
     }
-}
-
-fn no_format() -> Fail {
-    Fail::from(io::ErrorKind::InvalidInput)
-}
-
-/// How a loop ended, and what was told of its lines.
-#[derive(Drop)]
-struct Ran {
-    end: LinesEnd,
-    told: Vec<u8>,
 }
 
 /// The loop over the lines of a source by one format, or by two.
@@ -71,318 +82,278 @@ fn run<S: Source, K: Sink, const N: usize>(
     alloc: Global,
     from: &mut Lookahead<S, N>,
     to: &mut K,
+    teller: &mut Notes,
     formats: (&str, &str),
-    how: How,
-) -> Result<Ran, Fail> {
+    options: LinesOptions,
+) -> Result<LinesEnd, Fail> {
     let mut parsed = Vec::new(alloc);
-    let first = ScanFormat::parse(alloc, Profile::One, formats.0.as_bytes());
-    parsed.push(first.map_err(|_| no_format())?)?;
+    let first = ScanFormat::parse(alloc, Profile::One, formats.0.as_bytes())?;
+    parsed.push(first)?;
     if formats.1 != "" {
-        let second = ScanFormat::parse(alloc, Profile::One, formats.1.as_bytes());
-        parsed.push(second.map_err(|_| no_format())?)?;
+        let second = ScanFormat::parse(alloc, Profile::One, formats.1.as_bytes())?;
+        parsed.push(second)?;
     }
     let mut writer = FirstText {
         line: Vec::new(alloc),
     };
-    let mut teller = Notes {
-        said: Vec::new(alloc),
-        failed: false,
-        refuses: false,
-    };
-    let end = run_lines(
-        alloc,
-        from,
-        to,
-        &mut writer,
-        &mut teller,
-        &parsed,
-        options(how),
-    );
-    Ok(Ran {
-        end,
-        told: teller.said,
-    })
+    let limit = options.limit.min(LIMIT);
+    let options = LinesOptions { limit, ..options };
+    Ok(run_lines(alloc, from, to, &mut writer, teller, &parsed, options))
 }
 
-/// A row: one format or two, how, an input, what is written and told, and the counts of both.
+/// What reads of the input give, what writes of the output take, and whether memory is refused for what is told.
+#[derive(Clone, Copy, Debug)]
+struct Devices<'a> {
+    reads: &'a [ReadStep<'a>],
+    writes: &'a [WriteStep],
+    refuses: bool,
+}
+
+/// What is written and told, and how the loop ends.
 #[derive(Clone, Copy)]
-struct Row {
-    formats: (&'static str, &'static str),
-    how: How,
-    text: &'static str,
+struct Wanted {
     output: &'static str,
     told: &'static str,
-    written: u64,
-    failed: u64,
+    end: LinesEnd,
 }
 
-fn row_of(
-    formats: (&'static str, &'static str),
-    how: How,
-    text: &'static str,
-    output: &'static str,
-    told: &'static str,
-    counts: (u64, u64),
-) -> Row {
-    let (written, failed) = counts;
-    Row {
-        formats,
-        how,
-        text,
-        output,
-        told,
-        written,
-        failed,
-    }
-}
-
-const ONE: (&str, &str) = ("%s", "");
-
-/// Lines, and lines that are no match.
-fn plain_rows() -> [Row; 9] {
-    [
-        row_of(ONE, How::Plain, "", "", "", (0, 0)),
-        row_of(ONE, How::Plain, "ab\ncd\n", "ab\ncd\n", "", (2, 0)),
-        // A last line without its line end.
-        row_of(ONE, How::Plain, "ab\ncd", "ab\ncd\n", "", (2, 0)),
-        // What the format leaves of a line is no record of its own.
-        row_of(ONE, How::Plain, "ab cd\nef gh", "ab\nef\n", "", (2, 0)),
-        // An empty line is no match, and ends the loop.
-        row_of(ONE, How::Plain, "\nab\n", "", "1m-", (0, 1)),
-        row_of(
-            ONE,
-            How::KeepGoing,
-            "\nab\n\ncd\n",
-            "ab\ncd\n",
-            "1m-3m-",
-            (2, 2),
-        ),
-        row_of(ONE, How::KeepGoing, "\n\n", "", "1m-2m-", (0, 2)),
-        // A conversion doesn't go on behind the line end.
-        row_of(
-            ("%*d %s", ""),
-            How::KeepGoing,
-            "1\nab\n2 cd\n",
-            "cd\n",
-            "1m12ma",
-            (1, 2),
-        ),
-        row_of(
-            ("%*d %s", ""),
-            How::Plain,
-            "1 ab\nx\n2 cd\n",
-            "ab\n",
-            "2mx",
-            (1, 1),
-        ),
-    ]
-}
-
-/// Lines that are passed over.
-fn skipping_rows() -> [Row; 4] {
-    [
-        // Lines that are passed over.
-        row_of(ONE, How::Skip(1), "head\nab\n", "ab\n", "", (1, 0)),
-        row_of(
-            ("%*d %s", ""),
-            How::Skip(2),
-            "x\ny\n1 ab\n2 cd",
-            "ab\ncd\n",
-            "",
-            (2, 0),
-        ),
-        row_of(
-            ("%*d %s", ""),
-            How::Skip(1),
-            "x\ny\n1 ab\n",
-            "",
-            "2my",
-            (0, 1),
-        ),
-        row_of(ONE, How::Skip(9), "ab\ncd\n", "", "", (0, 0)),
-    ]
-}
-
-/// Lines that have to be used whole, several formats, and long lines.
-fn other_rows() -> [Row; 9] {
-    [
-        // Formats that have to use a line to its end.
-        row_of(ONE, How::Whole, "ab cd\nef\n", "ef\n", "1la", (1, 1)),
-        row_of(ONE, How::Whole, "ab\r\ncd\n", "cd\n", "1la", (1, 1)),
-        row_of(("%[^\n]", ""), How::Whole, "ab\r\n", "ab\r\n", "", (1, 0)),
-        // The first format that the line matches counts.
-        row_of(
-            ("%*d %s", "%s"),
-            How::Plain,
-            "1 ab\ncd\n",
-            "ab\ncd\n",
-            "",
-            (2, 0),
-        ),
-        row_of(
-            ("%s", "%*d %s"),
-            How::Plain,
-            "1 ab\ncd\n",
-            "1\ncd\n",
-            "",
-            (2, 0),
-        ),
-        row_of(
-            ("%s", "%s %*s"),
-            How::Whole,
-            "ab cd\nef\nab cd ef\n",
-            "ab\nef\n",
-            "3la",
-            (2, 1),
-        ),
-        row_of(
-            ("%*d %s", "%*[x]%s"),
-            How::KeepGoing,
-            "ab\nxcd\n",
-            "cd\n",
-            "1ma",
-            (1, 1),
-        ),
-        // Lines of more bytes than the limit.
-        row_of(
-            ONE,
-            How::Short,
-            "abc\nabcd\nef\nabcdefghi",
-            "abc\nef\n",
-            "2ta4ta",
-            (2, 2),
-        ),
-        row_of(("%3s", ""), How::Short, "abcd\nab", "ab\n", "1ta", (1, 1)),
-    ]
-}
-
-/// The row, read by blocks of N bytes, as wanted.
-fn holds<const N: usize>(alloc: Global, row: &Row) -> Result<bool, Fail>
+/// Read by blocks of N bytes, the loop over the lines comes to what is wanted.
+fn comes_to<const N: usize>(
+    rt: &(impl Abort + AllocGlobal),
+    formats: (&str, &str),
+    options: LinesOptions,
+    devices: Devices<'_>,
+    wanted: Wanted,
+) -> Result<(), Fail>
     requires few { N ≤ 4096 }
     requires some { 1 ≤ N }
 {
-    let mut from = Lookahead::<SliceSource<'_>, N>::new(SliceSource::new(row.text.as_bytes()));
-    let mut out = ListSink::new(alloc);
-    let ran = run(alloc, &mut from, &mut out, row.formats, row.how)?;
-    let wanted = LinesEnd {
-        status: u8::from(row.failed > 0),
-        written: row.written,
-        failed: row.failed,
-        fault: None,
+    let mut from = Lookahead::<ScriptSource<'_>, N>::new(ScriptSource::new(devices.reads));
+    let mut to = ScriptSink::new(rt.alloc(), devices.writes);
+    let mut teller = notes(rt.alloc(), devices.refuses);
+    let end = run(
+        rt.alloc(),
+        &mut from,
+        &mut to,
+        &mut teller,
+        formats,
+        options,
+    )?;
+    assert_eq!(rt; end, wanted.end, "{devices:?}");
+    assert!(rt; to.bytes() == wanted.output.as_bytes(), "{devices:?}");
+    assert!(rt;
+        teller.said.as_slice() == wanted.told.as_bytes(),
+        "{devices:?}"
+    );
+    let failures = match end.fault {
+        Some(LinesFault::Read { .. }) => 1,
+        _ => 0,
     };
-    Ok(
-        out.bytes() == row.output.as_bytes()
-            && ran.told.as_slice() == row.told.as_bytes()
-            && ran.end == wanted,
-    )
+    assert_eq!(rt; from.source().failures(), failures, "{devices:?}");
+    Ok(())
 }
 
-fn check(rt: &(impl Abort + AllocGlobal), rows: &[Row]) -> Result<(), Fail> {
-    for row in rows {
-        assert!(rt; holds::<1>(rt.alloc(), row)?, "{}", row.text);
-        assert!(rt; holds::<3>(rt.alloc(), row)?, "{}", row.text);
-        assert!(rt; holds::<64>(rt.alloc(), row)?, "{}", row.text);
+/// One format or two, how, an input, what is written and told, and the counts of both.
+type Row = (
+    (&'static str, &'static str),
+    LinesOptions,
+    &'static str,
+    &'static str,
+    &'static str,
+    (u64, u64),
+);
+
+static ROWS: [Row; 22] = [
+    // Lines, and lines that don't match.
+    (ONE, PLAIN, "", "", "", (0, 0)),
+    (ONE, PLAIN, "ab\ncd\n", "ab\ncd\n", "", (2, 0)),
+    // A last line without its newline.
+    (ONE, PLAIN, "ab\ncd", "ab\ncd\n", "", (2, 0)),
+    // What the format leaves of a line is no record of its own.
+    (ONE, PLAIN, "ab cd\nef gh", "ab\nef\n", "", (2, 0)),
+    // An empty line doesn't match, and ends the loop.
+    (ONE, PLAIN, "\nab\n", "", "1m-", (0, 1)),
+    (
+        ONE,
+        KEEP_GOING,
+        "\nab\n\ncd\n",
+        "ab\ncd\n",
+        "1m-3m-",
+        (2, 2),
+    ),
+    (ONE, KEEP_GOING, "\n\n", "", "1m-2m-", (0, 2)),
+    // A conversion doesn't go on after the newline.
+    (
+        ("%*d %s", ""),
+        KEEP_GOING,
+        "1\nab\n2 cd\n",
+        "cd\n",
+        "1m12ma",
+        (1, 2),
+    ),
+    (
+        ("%*d %s", ""),
+        PLAIN,
+        "1 ab\nx\n2 cd\n",
+        "ab\n",
+        "2mx",
+        (1, 1),
+    ),
+    // Lines that are passed over.
+    (ONE, SKIP_1, "head\nab\n", "ab\n", "", (1, 0)),
+    (
+        ("%*d %s", ""),
+        SKIP_2,
+        "x\ny\n1 ab\n2 cd",
+        "ab\ncd\n",
+        "",
+        (2, 0),
+    ),
+    (("%*d %s", ""), SKIP_1, "x\ny\n1 ab\n", "", "2my", (0, 1)),
+    (ONE, SKIP_9, "ab\ncd\n", "", "", (0, 0)),
+    // Formats that have to use a line to its end.
+    (ONE, WHOLE, "ab cd\nef\n", "ef\n", "1la", (1, 1)),
+    (ONE, WHOLE, "ab\r\ncd\n", "cd\n", "1la", (1, 1)),
+    (("%[^\n]", ""), WHOLE, "ab\r\n", "ab\r\n", "", (1, 0)),
+    // The first format that the line matches counts.
+    (
+        ("%*d %s", "%s"),
+        PLAIN,
+        "1 ab\ncd\n",
+        "ab\ncd\n",
+        "",
+        (2, 0),
+    ),
+    (("%s", "%*d %s"), PLAIN, "1 ab\ncd\n", "1\ncd\n", "", (2, 0)),
+    (
+        ("%s", "%s %*s"),
+        WHOLE,
+        "ab cd\nef\nab cd ef\n",
+        "ab\nef\n",
+        "3la",
+        (2, 1),
+    ),
+    (
+        ("%*d %s", "%*[x]%s"),
+        KEEP_GOING,
+        "ab\nxcd\n",
+        "cd\n",
+        "1ma",
+        (1, 1),
+    ),
+    // Lines of more bytes than the limit.
+    (
+        ONE,
+        SHORT,
+        "abc\nabcd\nef\nabcdefghi",
+        "abc\nef\n",
+        "2ta4ta",
+        (2, 2),
+    ),
+    (("%3s", ""), SHORT, "abcd\nab", "ab\n", "1ta", (1, 1)),
+];
+
+#[test]
+fn lines_are_scanned_one_by_one(rt: HostRuntime) -> Result<(), Fail> {
+    for &(formats, options, text, output, told, (written, failed)) in &ROWS {
+        let end = LinesEnd {
+            status: u8::from(failed > 0),
+            written,
+            failed,
+            fault: None,
+        };
+        let devices = Devices {
+            reads: &[ReadStep::Give(text.as_bytes())],
+            writes: &[],
+            refuses: false,
+        };
+        let wanted = Wanted { output, told, end };
+        comes_to::<1>(&rt, formats, options, devices, wanted)?;
+        comes_to::<3>(&rt, formats, options, devices, wanted)?;
+        comes_to::<64>(&rt, formats, options, devices, wanted)?;
+    }
+    Ok(())
+}
+
+/// Devices that fail, and what the loop by `%s` comes to that keeps going.
+static FAILURES: [(Devices<'static>, Wanted); 3] = [
+    // A read fails within a line.
+    (
+        Devices {
+            reads: &[
+                ReadStep::Give(b"ab\nc"),
+                ReadStep::Fail,
+                ReadStep::Give(b"d\n"),
+            ],
+            writes: &[],
+            refuses: false,
+        },
+        Wanted {
+            output: "ab\n",
+            told: "",
+            end: LinesEnd {
+                status: 3,
+                written: 1,
+                failed: 0,
+                fault: Some(LinesFault::Read { line: 2 }),
+            },
+        },
+    ),
+    // The sink fails within a line.
+    (
+        Devices {
+            reads: &[ReadStep::Give(b"ab\n\ncd\n")],
+            writes: &[WriteStep::Accept(4), WriteStep::Fail],
+            refuses: false,
+        },
+        Wanted {
+            output: "ab\nc",
+            told: "2m-",
+            end: LinesEnd {
+                status: 3,
+                written: 1,
+                failed: 1,
+                fault: Some(LinesFault::Write),
+            },
+        },
+    ),
+    // Memory is refused for what is told.
+    (
+        Devices {
+            reads: &[ReadStep::Give(b"ab\n\ncd\n")],
+            writes: &[],
+            refuses: true,
+        },
+        Wanted {
+            output: "ab\n",
+            told: "",
+            end: LinesEnd {
+                status: 4,
+                written: 1,
+                failed: 0,
+                fault: Some(LinesFault::Memory),
+            },
+        },
+    ),
+];
+
+#[test]
+fn devices_fail(rt: HostRuntime) -> Result<(), Fail> {
+    for &(devices, wanted) in &FAILURES {
+        comes_to::<64>(&rt, ONE, KEEP_GOING, devices, wanted)?;
     }
     Ok(())
 }
 
 #[test]
-fn lines_are_scanned_one_by_one(rt: HostRuntime) -> Result<(), Fail> {
-    check(&rt, &plain_rows())
-}
-
-#[test]
-fn first_lines_are_passed_over(rt: HostRuntime) -> Result<(), Fail> {
-    check(&rt, &skipping_rows())
-}
-
-#[test]
-fn lines_are_judged_by_the_options(rt: HostRuntime) -> Result<(), Fail> {
-    check(&rt, &other_rows())
-}
-
-#[test]
-fn the_lines_behind_a_stop_are_left(rt: HostRuntime) -> Result<(), Fail> {
+fn the_lines_after_a_stop_are_left(rt: HostRuntime) -> Result<(), Fail> {
     let mut from = Lookahead::<SliceSource<'_>, 64>::new(SliceSource::new(b"ab\n\ncd\nef"));
-    let mut out = ListSink::new(rt.alloc());
-    let ran = run(rt.alloc(), &mut from, &mut out, ONE, How::Plain)?;
-    assert_eq!(rt; ran.end.failed, 1);
+    let mut to = ListSink::new(rt.alloc());
+    let mut teller = notes(rt.alloc(), false);
+    let end = run(rt.alloc(), &mut from, &mut to, &mut teller, ONE, PLAIN)?;
+    assert_eq!(rt; end.failed, 1);
     let mut line = Vec::new(rt.alloc());
     assert_eq!(rt; next_line(&mut from, &mut line, 8), LineRead::Line);
     assert_eq!(rt; line.as_slice(), b"cd".as_slice());
-    Ok(())
-}
-
-#[test]
-fn a_read_fails_in_the_middle(rt: HostRuntime) -> Result<(), Fail> {
-    let steps = [
-        ReadStep::Give(b"ab\nc"),
-        ReadStep::Fail,
-        ReadStep::Give(b"d\n"),
-    ];
-    let mut from = Lookahead::<ScriptSource<'_>, 64>::new(ScriptSource::new(&steps));
-    let mut out = ListSink::new(rt.alloc());
-    let ran = run(rt.alloc(), &mut from, &mut out, ONE, How::KeepGoing)?;
-    let wanted = LinesEnd {
-        status: 3,
-        written: 1,
-        failed: 0,
-        fault: Some(LinesFault::Read { line: 2 }),
-    };
-    assert_eq!(rt; ran.end, wanted);
-    assert_eq!(rt; out.bytes(), b"ab\n".as_slice());
-    assert_eq!(rt; from.source().failures(), 1);
-    Ok(())
-}
-
-#[test]
-fn the_sink_fails_within_a_line(rt: HostRuntime) -> Result<(), Fail> {
-    let steps = [WriteStep::Accept(4), WriteStep::Fail];
-    let mut from = Lookahead::<SliceSource<'_>, 64>::new(SliceSource::new(b"ab\n\ncd\n"));
-    let mut out = ScriptSink::new(rt.alloc(), &steps);
-    let ran = run(rt.alloc(), &mut from, &mut out, ONE, How::KeepGoing)?;
-    let wanted = LinesEnd {
-        status: 3,
-        written: 1,
-        failed: 1,
-        fault: Some(LinesFault::Write),
-    };
-    assert_eq!(rt; ran.end, wanted);
-    assert_eq!(rt; ran.told.as_slice(), b"2m-".as_slice());
-    Ok(())
-}
-
-#[test]
-fn memory_is_refused_for_what_is_told(rt: HostRuntime) -> Result<(), Fail> {
-    let mut from = Lookahead::<SliceSource<'_>, 64>::new(SliceSource::new(b"ab\n\ncd\n"));
-    let mut out = ListSink::new(rt.alloc());
-    let format = ScanFormat::parse(rt.alloc(), Profile::One, b"%s");
-    let mut formats = Vec::new(rt.alloc());
-    formats.push(format.map_err(|_| no_format())?)?;
-    let mut writer = FirstText {
-        line: Vec::new(rt.alloc()),
-    };
-    let mut teller = Notes {
-        said: Vec::new(rt.alloc()),
-        failed: false,
-        refuses: true,
-    };
-    let end = run_lines(
-        rt.alloc(),
-        &mut from,
-        &mut out,
-        &mut writer,
-        &mut teller,
-        &formats,
-        options(How::KeepGoing),
-    );
-    let wanted = LinesEnd {
-        status: 4,
-        written: 1,
-        failed: 0,
-        fault: Some(LinesFault::Memory),
-    };
-    assert_eq!(rt; end, wanted);
-    assert_eq!(rt; teller.said.as_slice(), b"".as_slice());
     Ok(())
 }

@@ -1,51 +1,54 @@
-//! The least and the greatest value of each kind and letter, read back with each byte behind.
-use crate::checks::parsed;
+//! The least and the greatest value of each kind and letter, read back with each byte after them.
+use crate::shared::{found_of, has_read};
 use sf_base::Value;
 use sf_format::Profile;
 use sf_pair::Pair;
-use sf_print::ListSink;
+use sf_print::{ListSink, Sink};
 use sf_read::{Lookahead, SliceSource};
 use sf_rows::{LIMIT, bounds, is};
-use sf_run::Status;
 use std::alloc::Global;
 use std::test::Fail;
 
-/// Whether the value is read back, and the byte behind it is left.
-fn is_read_back(
-    alloc: Global,
-    pair: &Pair<'_>,
-    value: Value<'_>,
-    behind: u8,
-) -> Result<bool, Fail> {
+/// Whether the value is read back, and the byte after it is left.
+fn is_read_back(alloc: Global, pair: &Pair<'_>, value: Value<'_>, after: u8) -> bool {
     let mut to = ListSink::new(alloc);
-    let count = pair.write(&mut to, &[value])?;
-    let mut input = Vec::new(alloc);
-    input.extend_from_slice(to.bytes())?;
-    input.push(behind)?;
-    let mut from = Lookahead::<SliceSource<'_>, 64>::new(SliceSource::new(&input));
-    let scanned = pair.read(alloc, &mut from, LIMIT)?;
-    let report = scanned.report();
-    let outcome = report.outcome();
-    let whole = outcome.status == Status::Done && outcome.met.is_none() && outcome.used == count;
-    Ok(whole && report.value(1) == Some(value) && from.held() == [behind].as_slice())
+    let Ok(count) = pair.write(&mut to, &[value]) else {
+        return false;
+    };
+    if to.write(&[after]).is_err() {
+        return false;
+    }
+    let mut from = Lookahead::<SliceSource<'_>, 64>::new(SliceSource::new(to.bytes()));
+    match pair.read(alloc, &mut from, LIMIT) {
+        Ok(scanned) => has_read(&scanned, &[value], count as usize)
+            && from.held() == [after].as_slice(),
+        Err(_) => false,
+    }
 }
 
-/// The value is read back, whatever byte stands behind it.
-fn goes_there_and_back(alloc: Global, pair: &Pair<'_>, value: Value<'_>) -> Result<(), Fail> {
-    for behind in 0..=255u8 {
-        let found = is_read_back(alloc, pair, value, behind)?;
-        is(&found, &true, &(value, behind))?;
+/// The byte after which one of the values isn't read back.
+fn first_fault(
+    alloc: Global,
+    pair: &Pair<'_>,
+    least: Value<'_>,
+    greatest: Value<'_>,
+) -> Option<u8> {
+    for after in 0..=255u8 {
+        if !is_read_back(alloc, pair, least, after) || !is_read_back(alloc, pair, greatest, after) {
+            return Some(after);
+        }
     }
-    Ok(())
+    None
 }
 
 #[test]
 fn values_go_there_and_back(rt: HostRuntime) -> Result<(), Fail> {
-    for (print, scan, least, greatest) in bounds() {
-        let (print, scan) = parsed(rt.alloc(), Profile::One, print, scan)?;
-        let pair = Pair::check(&print, &scan)?;
-        goes_there_and_back(rt.alloc(), &pair, *least)?;
-        goes_there_and_back(rt.alloc(), &pair, *greatest)?;
+    let alloc = rt.alloc();
+    for &(print, scan, least, greatest) in bounds() {
+        let fault = found_of(alloc, Profile::One, print, scan, |pair| {
+            first_fault(alloc, pair, least, greatest)
+        })?;
+        is(&fault, &None, &print)?;
     }
     Ok(())
 }

@@ -3,25 +3,9 @@ use sf_base::Value;
 use sf_format::{PrintFormat, Profile, ScanFormat};
 use sf_pair::{Pair, PairFault, PairWhy, WriteFault};
 use sf_print::{ListSink, PrintFault};
-use sf_rows::is;
+use sf_rows::{is, is_error, says};
 use std::alloc::Global;
-use std::error::Error;
 use std::test::Fail;
-
-/// The fault, handed on.
-fn handed_on<E: Error>(fault: E) -> anyhow::Result<()> {
-    Err::<(), E>(fault)?;
-    Ok(())
-}
-
-/// The fault is an error with this text.
-fn is_error<E: Error>(alloc: Global, fault: E, wanted: &str) -> Result<(), Fail> {
-    let Err(error) = handed_on(fault) else {
-        return Err(Fail::new(wanted));
-    };
-    let text = format!(in alloc; "{error}")?;
-    is(&text.as_str(), &wanted, &wanted)
-}
 
 /// What a pair check finds, and its code and name.
 static WHYS: [(PairWhy, &str); 11] = [
@@ -44,11 +28,6 @@ fn what_checks_find(rt: HostRuntime) -> Result<(), Fail> {
         is(&why.text(), &wanted, &wanted)?;
         is_error(rt.alloc(), why, wanted)?;
     }
-    Ok(())
-}
-
-#[test]
-fn faults_of_pairs(rt: HostRuntime) -> Result<(), Fail> {
     let fault = PairFault {
         at: 65535,
         why: PairWhy::OpenEnd,
@@ -56,15 +35,15 @@ fn faults_of_pairs(rt: HostRuntime) -> Result<(), Fail> {
     is_error(rt.alloc(), fault, "Q7 OpenEnd at 65535")
 }
 
-#[test]
-fn faults_of_writes(rt: HostRuntime) -> Result<(), Fail> {
-    let alloc = rt.alloc();
-    is_error(alloc, WriteFault::NotFitting, "values do not fit")?;
-    let fault = WriteFault::Print(PrintFault::TooLong);
-    is_error(alloc, fault, "text too long")?;
-    let fault = WriteFault::Print(PrintFault::Sink { written: 7 });
-    is_error(alloc, fault, "write fault after 7 bytes")
-}
+/// Why a pair wrote nothing, or not all, and the text of the fault.
+static WRITES: [(WriteFault, &str); 3] = [
+    (WriteFault::NotFitting, "values do not fit"),
+    (WriteFault::Print(PrintFault::TooLong), "text too long"),
+    (
+        WriteFault::Print(PrintFault::Sink { written: 7 }),
+        "write fault after 7 bytes",
+    ),
+];
 
 /// Writes a number by a pair of these texts, as a program does that only hands faults on.
 fn written(alloc: Global, print: &[u8], scan: &[u8], number: i32) -> anyhow::Result<u32> {
@@ -85,12 +64,15 @@ static REFUSED: [(&[u8], &[u8], i32, &str); 4] = [
 
 #[test]
 fn faults_are_handed_on(rt: HostRuntime) -> Result<(), Fail> {
+    for &(fault, wanted) in &WRITES {
+        is_error(rt.alloc(), fault, wanted)?;
+    }
     for &(print, scan, number, wanted) in &REFUSED {
-        let Err(error) = written(rt.alloc(), print, scan, number) else {
-            return Err(Fail::new(wanted));
-        };
-        let text = format!(in rt.alloc(); "{error}")?;
-        is(&text.as_str(), &wanted, &wanted)?;
+        says(
+            rt.alloc(),
+            written(rt.alloc(), print, scan, number).err(),
+            wanted,
+        )?;
     }
     Ok(())
 }

@@ -1,15 +1,13 @@
-//! Tests of `sf_pair`.
+//! Tests of `sf_pair`, for what the program `sf` doesn't show.
 #![tactic(auto)]
 
 #[cfg(test)]
 mod bounds;
 #[cfg(test)]
-mod checks;
-#[cfg(test)]
 mod errors;
 #[cfg(test)]
-mod failures;
-#[cfg(test)]
-mod refusals;
+mod shared;
 #[cfg(test)]
 mod trips;
+#[cfg(test)]
+mod unfit;

@@ -2,42 +2,11 @@
 use sf_base::StoreFull;
 use sf_format::{FormatFault, FormatWhy, PrintFormat, Profile, ScanFormat};
 use sf_print::{PrintFault, SinkFault};
-use sf_rows::is_error;
+use sf_rows::{is_error, says};
 use std::alloc::Global;
 use std::test::Fail;
 
-#[test]
-fn faults_of_stores_and_sinks(rt: HostRuntime) -> Result<(), Fail> {
-    is_error(rt.alloc(), StoreFull, "the store is full")?;
-    is_error(rt.alloc(), SinkFault, "write fault")
-}
-
-/// The fault of a text that is no scan format.
-fn scan_fault(alloc: Global, text: &[u8]) -> Result<FormatFault, Fail> {
-    let fault = ScanFormat::parse(alloc, Profile::One, text).err();
-    Ok(fault.ok_or("a format")?)
-}
-
-/// The fault of a text that is no print format.
-fn print_fault(alloc: Global, text: &[u8]) -> Result<FormatFault, Fail> {
-    let fault = PrintFormat::parse(alloc, Profile::One, text).err();
-    Ok(fault.ok_or("a format")?)
-}
-
-#[test]
-fn faults_of_formats(rt: HostRuntime) -> Result<(), Fail> {
-    let alloc = rt.alloc();
-    is_error(alloc, FormatWhy::BackwardRange, "F8 BackwardRange")?;
-    let fault = FormatFault {
-        at: 2,
-        why: FormatWhy::NoMemory,
-    };
-    is_error(alloc, fault, "F19 NoMemory at 2")?;
-    is_error(alloc, scan_fault(alloc, b"ab%q")?, "F4 UnknownLetter at 3")?;
-    is_error(alloc, print_fault(alloc, b"%f")?, "F5 LeftOut at 1")
-}
-
-/// The faults of a print, and their texts.
+/// Faults of prints, and their texts.
 static PRINT_FAULTS: [(PrintFault, &str); 5] = [
     (
         PrintFault::WrongCount,
@@ -56,9 +25,41 @@ static PRINT_FAULTS: [(PrintFault, &str); 5] = [
 ];
 
 #[test]
-fn faults_of_prints(rt: HostRuntime) -> Result<(), Fail> {
-    for &(fault, wanted) in &PRINT_FAULTS {
-        is_error(rt.alloc(), fault, wanted)?;
+fn faults_have_texts(rt: HostRuntime) -> Result<(), Fail> {
+    let alloc = rt.alloc();
+    is_error(alloc, StoreFull, "the store is full")?;
+    is_error(alloc, SinkFault, "write fault")?;
+    is_error(alloc, FormatWhy::BackwardRange, "F8 BackwardRange")?;
+    is_error(alloc, FormatWhy::ZeroWidth, "F2 ZeroWidth")?;
+    let fault = FormatFault {
+        at: 2,
+        why: FormatWhy::NoMemory,
+    };
+    is_error(alloc, fault, "F19 NoMemory at 2")?;
+    for (fault, wanted) in &PRINT_FAULTS {
+        is_error(alloc, *fault, wanted)?;
+    }
+    Ok(())
+}
+
+/// Reads both formats.
+fn parsed(alloc: Global, scan: &[u8], print: &[u8]) -> anyhow::Result<()> {
+    ScanFormat::parse(alloc, Profile::One, scan)?;
+    PrintFormat::parse(alloc, Profile::One, print)?;
+    Ok(())
+}
+
+/// A scan format and a print format, one of which is at fault, and the text of that.
+static FORMATS: [(&[u8], &[u8], &str); 3] = [
+    (b"ab%q", b"", "F4 UnknownLetter at 3"),
+    (b"%[b-a]", b"", "F8 BackwardRange at 2"),
+    (b"", b"%f", "F5 LeftOut at 1"),
+];
+
+#[test]
+fn formats_have_faults(rt: HostRuntime) -> Result<(), Fail> {
+    for (scan, print, wanted) in &FORMATS {
+        says(rt.alloc(), parsed(rt.alloc(), scan, print).err(), wanted)?;
     }
     Ok(())
 }

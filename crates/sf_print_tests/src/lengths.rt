@@ -1,13 +1,13 @@
 //! Texts of 127 to 300 bytes: a sink is handed up to 128 bytes at once, and a longer piece goes to it directly.
+use crate::printing::{prints, prints_in_part};
 use sf_base::Value;
 use sf_format::{PrintFormat, Profile};
-use sf_print::{ListSink, PrintFault, ScriptSink, WriteStep, fprint, printed_len};
-use sf_rows::is;
+use sf_print::WriteStep;
 use std::alloc::Global;
 use std::test::Fail;
 
 /// A format of one text: the bytes before it, how many blanks it is filled up with to so many bytes and on which side, how
-/// many of its bytes are printed at most, and the bytes behind it.
+/// many of its bytes are printed at most, and the bytes after it.
 #[derive(Drop)]
 struct Form {
     format: &'static [u8],
@@ -15,7 +15,7 @@ struct Form {
     width: usize,
     left: bool,
     most: usize,
-    behind: &'static [u8],
+    after: &'static [u8],
 }
 
 const PLAIN: Form = Form {
@@ -24,7 +24,7 @@ const PLAIN: Form = Form {
     width: 0,
     left: false,
     most: 300,
-    behind: b"",
+    after: b"",
 };
 
 static FORMS: [Form; 6] = [
@@ -32,13 +32,13 @@ static FORMS: [Form; 6] = [
     Form {
         format: b"<%s>\n",
         before: b"<",
-        behind: b">\n",
+        after: b">\n",
         ..PLAIN
     },
     Form {
         format: b"%300s;",
         width: 300,
-        behind: b";",
+        after: b";",
         ..PLAIN
     },
     Form {
@@ -46,13 +46,13 @@ static FORMS: [Form; 6] = [
         before: b"ab",
         width: 300,
         left: true,
-        behind: b";",
+        after: b";",
         ..PLAIN
     },
     Form {
         format: b"%.128s|%%",
         most: 128,
-        behind: b"|%",
+        after: b"|%",
         ..PLAIN
     },
     Form {
@@ -73,74 +73,48 @@ fn letters(alloc: Global, count: usize) -> Result<Vec<u8>, Fail> {
     Ok(text)
 }
 
+static BLANKS: [u8; 300] = [b' '; 300];
+
 /// What is printed of the text.
 fn printed(alloc: Global, form: &Form, text: &[u8]) -> Result<Vec<u8>, Fail> {
     let shown = text.get(..form.most).unwrap_or(text);
-    let mut blanks = Vec::new(alloc);
-    blanks.resize(form.width.saturating_sub(shown.len()), b' ')?;
+    let blanks = BLANKS.get(shown.len()..form.width).unwrap_or(b"");
     let mut whole = form.before.to_vec(alloc)?;
-    if !form.left {
-        whole.extend_from_slice(&blanks)?;
-    }
-    whole.extend_from_slice(shown)?;
-    if form.left {
-        whole.extend_from_slice(&blanks)?;
-    }
-    whole.extend_from_slice(form.behind)?;
+    whole.extend_from_slice(if form.left { shown } else { blanks })?;
+    whole.extend_from_slice(if form.left { blanks } else { shown })?;
+    whole.extend_from_slice(form.after)?;
     Ok(whole)
 }
 
-/// The text is printed so, and so long.
-fn is_printed(alloc: Global, format: &PrintFormat, text: &[u8], wanted: &[u8]) -> Result<(), Fail> {
-    let mut sink = ListSink::new(alloc);
-    let count = fprint(&mut sink, format, &[Value::Text(text)])?;
-    let place = text.len();
-    is(&sink.bytes(), &wanted, &place)?;
-    is(&(count as usize), &wanted.len(), &place)?;
-    is(
-        &printed_len(format, &[Value::Text(text)]),
-        &Ok(count),
-        &place,
-    )
-}
-
-/// A sink that takes 7 bytes, then 100, and then fails has the front of the text that it took.
-fn is_cut(alloc: Global, format: &PrintFormat, text: &[u8], wanted: &[u8]) -> Result<(), Fail> {
-    let steps = [
-        WriteStep::Accept(7),
-        WriteStep::Accept(100),
-        WriteStep::Fail,
-    ];
-    let mut sink = ScriptSink::new(alloc, &steps);
-    let printed = fprint(&mut sink, format, &[Value::Text(text)]);
-    let fault = PrintFault::Sink { written: 107 };
-    let place = text.len();
-    is(&printed, &Err(fault), &place)?;
-    is(&Some(sink.bytes()), &wanted.get(..107), &place)
-}
+/// A sink that takes 7 bytes, then 100, and then fails.
+static CUT: [WriteStep; 3] = [
+    WriteStep::Accept(7),
+    WriteStep::Accept(100),
+    WriteStep::Fail,
+];
 
 /// The text in one form.
-fn is_in_form(alloc: Global, format: &PrintFormat, form: &Form, text: &[u8]) -> Result<(), Fail> {
-    let wanted = printed(alloc, form, text)?;
-    is_printed(alloc, format, text, &wanted)?;
-    is_cut(alloc, format, text, &wanted)
+fn is_in_form(alloc: Global, format: &PrintFormat, text: &[u8], wanted: &[u8]) -> Result<(), Fail> {
+    let values = [Value::Text(text)];
+    prints(alloc, format, &values, wanted)?;
+    prints_in_part(alloc, format, &values, wanted, &CUT, 107)
 }
 
 /// Texts of 127 to 300 bytes in one form.
-fn all_lengths(alloc: Global, form: &Form) -> Result<(), Fail> {
+fn all_lengths(alloc: Global, form: &Form, letters: &[u8]) -> Result<(), Fail> {
     let format = PrintFormat::parse(alloc, Profile::One, form.format)?;
-    let letters = letters(alloc, 300)?;
     for count in 127..301usize {
-        let text = letters.get(..count).unwrap_or(&letters);
-        is_in_form(alloc, &format, form, text)?;
+        let text = letters.get(..count).unwrap_or(letters);
+        is_in_form(alloc, &format, text, &printed(alloc, form, text)?)?;
     }
     Ok(())
 }
 
 #[test]
 fn texts_about_a_block(rt: HostRuntime) -> Result<(), Fail> {
+    let letters = letters(rt.alloc(), 300)?;
     for form in &FORMS {
-        all_lengths(rt.alloc(), form)?;
+        all_lengths(rt.alloc(), form, &letters)?;
     }
     Ok(())
 }

@@ -2,28 +2,24 @@
 #![tactic(auto)]
 
 #[cfg(test)]
-mod bounds;
+mod byte_sets;
+#[cfg(test)]
+mod bytes;
 #[cfg(test)]
 mod decimals;
 #[cfg(test)]
 mod errors;
 #[cfg(test)]
+mod formats;
+#[cfg(test)]
+mod kinds;
+#[cfg(test)]
 mod lengths;
 #[cfg(test)]
-mod numbers;
-#[cfg(test)]
-mod print_formats;
+mod printing;
 #[cfg(test)]
 mod prints;
-#[cfg(test)]
-mod profiles;
-#[cfg(test)]
-mod runs;
-#[cfg(test)]
-mod scan_formats;
 #[cfg(test)]
 mod sinks;
 #[cfg(test)]
 mod stores;
-#[cfg(test)]
-mod values;

@@ -1,4 +1,5 @@
 //! Sinks and writers: full ones, interrupted ones, narrow ones, and one that has failed as often as can be counted.
+use crate::printing::prints_in_part;
 use sf_base::Value;
 use sf_format::{PrintFormat, Profile};
 use sf_print::{PrintFault, ScriptSink, Sink, SinkFault, StdSink, WriteStep, fprint};
@@ -8,34 +9,69 @@ use std::io;
 use std::io::Write;
 use std::test::Fail;
 
-fn format_of(alloc: Global, text: &[u8]) -> Result<PrintFormat, Fail> {
-    Ok(PrintFormat::parse(alloc, Profile::One, text)?)
+/// The print of the values to the sink answers so.
+fn answers<K: Sink>(
+    alloc: Global,
+    to: &mut K,
+    format: &[u8],
+    values: &[Value<'_>],
+    wanted: &Result<u32, PrintFault>,
+) -> Result<(), Fail> {
+    let format = PrintFormat::parse(alloc, Profile::One, format)?;
+    is(&fprint(to, &format, values), wanted, &values)
 }
 
-#[test]
-fn sink_fails_after_four_bytes(rt: HostRuntime) -> Result<(), Fail> {
-    let format = format_of(rt.alloc(), b"%d,%d")?;
-    let steps = [WriteStep::Accept(4), WriteStep::Fail];
-    let mut sink = ScriptSink::new(rt.alloc(), &steps);
-    let printed = fprint(&mut sink, &format, &[Value::I32(12), Value::I32(345)]);
-    let fault = PrintFault::Sink { written: 4 };
-    is(&printed, &Err(fault), &"%d,%d")?;
-    is(&sink.bytes(), &&b"12,3"[..], &"%d,%d")
-}
+/// A print format, values, their text, the steps of a sink, and how many bytes it takes.
+type StepRow = (
+    &'static [u8],
+    &'static [Value<'static>],
+    &'static [u8],
+    &'static [WriteStep],
+    usize,
+);
+
+const IN_TURN: &[WriteStep] = &[
+    WriteStep::Accept(0),
+    WriteStep::Accept(2),
+    WriteStep::Accept(1),
+];
+
+static STEPS: [StepRow; 2] = [
+    (
+        b"%d,%d",
+        &[Value::I32(12), Value::I32(345)],
+        b"12,345",
+        &[WriteStep::Accept(4), WriteStep::Fail],
+        4,
+    ),
+    (b"%s", &[Value::Text(b"abcdef")], b"abcdef", IN_TURN, 6),
+];
 
 #[test]
 fn steps_are_taken_in_turn(rt: HostRuntime) -> Result<(), Fail> {
-    let format = format_of(rt.alloc(), b"%s")?;
-    let steps = [
-        WriteStep::Accept(0),
-        WriteStep::Accept(2),
-        WriteStep::Accept(1),
-    ];
-    let mut sink = ScriptSink::new(rt.alloc(), &steps);
-    let printed = fprint(&mut sink, &format, &[Value::Text(b"abcdef")]);
-    is(&printed, &Ok(6), &"abcdef")?;
-    let printed = fprint(&mut &mut sink, &format, &[Value::Text(b"")]);
-    is(&printed, &Ok(0), &"nothing")?;
+    for (text, values, wanted, steps, taken) in &STEPS {
+        let format = PrintFormat::parse(rt.alloc(), Profile::One, text)?;
+        prints_in_part(rt.alloc(), &format, values, wanted, steps, *taken)?;
+    }
+    Ok(())
+}
+
+/// A print of nothing through a sink that is lent.
+fn prints_nothing(alloc: Global, mut to: &mut ScriptSink<'_>) -> Result<(), Fail> {
+    answers(alloc, &mut to, b"%s", &[Value::Text(b"")], &Ok(0))
+}
+
+#[test]
+fn a_lent_sink_is_a_sink(rt: HostRuntime) -> Result<(), Fail> {
+    let mut sink = ScriptSink::new(rt.alloc(), IN_TURN);
+    answers(
+        rt.alloc(),
+        &mut sink,
+        b"%s",
+        &[Value::Text(b"abcdef")],
+        &Ok(6),
+    )?;
+    prints_nothing(rt.alloc(), &mut sink)?;
     is(&sink.bytes(), &&b"abcdef"[..], &"abcdef")
 }
 
@@ -75,42 +111,36 @@ impl Write for Device {
     }
 }
 
-/// What a print of the text to a writer answers, the bytes that it took, and how often it was called.
-fn written(
+/// A print of the text to a writer is answered so; the writer then took so many bytes, in so many calls.
+fn is_written(
     alloc: Global,
     manner: Manner,
     text: &[u8],
-) -> Result<(Result<u32, PrintFault>, u64, u64), Fail> {
-    let format = format_of(alloc, b"%s")?;
+    wanted: &Result<u32, PrintFault>,
+    counts: [u64; 2],
+) -> Result<(), Fail> {
     let mut sink = StdSink::new(Device {
         manner,
         taken: 0,
         writes: 0,
     });
-    let printed = fprint(&mut sink, &format, &[Value::Text(text)]);
+    answers(alloc, &mut sink, b"%s", &[Value::Text(text)], wanted)?;
     let device = sink.into_writer();
-    Ok((printed, device.taken, device.writes))
+    is(&[device.taken, device.writes], &counts, &counts)
 }
 
 /// Each is a failure at once: a writer that takes nothing of a piece, and an interrupted one, which isn't asked again.
 #[test]
 fn writers_that_take_nothing(rt: HostRuntime) -> Result<(), Fail> {
-    let wanted = (Err(PrintFault::Sink { written: 0 }), 0, 1);
-    let full = written(rt.alloc(), Manner::Full, b"-12")?;
-    is(&full, &wanted, &"full")?;
-    let interrupted = written(rt.alloc(), Manner::Interrupted, b"-12")?;
-    is(&interrupted, &wanted, &"interrupted")
+    let fault = Err(PrintFault::Sink { written: 0 });
+    is_written(rt.alloc(), Manner::Full, b"-12", &fault, [0, 1])?;
+    is_written(rt.alloc(), Manner::Interrupted, b"-12", &fault, [0, 1])
 }
 
 #[test]
 fn writers_are_sinks(rt: HostRuntime) -> Result<(), Fail> {
-    let format = format_of(rt.alloc(), b"%d")?;
     let mut list = StdSink::new(Vec::new(rt.alloc()));
-    is(
-        &fprint(&mut list, &format, &[Value::I32(-12)]),
-        &Ok(3),
-        &-12,
-    )?;
+    answers(rt.alloc(), &mut list, b"%d", &[Value::I32(-12)], &Ok(3))?;
     is(&list.into_writer().as_slice(), &&b"-12"[..], &-12)
 }
 
@@ -126,11 +156,16 @@ static PIECES: [(usize, u64); 5] = [
 /// A text of a mebibyte goes in one piece to a writer that takes it, and in as many as another one asks for.
 #[test]
 fn long_texts_go_in_pieces(rt: HostRuntime) -> Result<(), Fail> {
-    let mut text = Vec::with_capacity(rt.alloc(), 1048576)?;
-    text.resize(1048576, b'a')?;
+    let text = vec![in rt.alloc(); b'a'; 1048576]?;
     for (most, writes) in &PIECES {
-        let found = written(rt.alloc(), Manner::Narrow(*most), &text)?;
-        is(&found, &(Ok(1048576), 1048576, *writes), most)?;
+        let counts = [1048576, *writes];
+        is_written(
+            rt.alloc(),
+            Manner::Narrow(*most),
+            &text,
+            &Ok(1048576),
+            counts,
+        )?;
     }
     Ok(())
 }
@@ -157,9 +192,8 @@ impl Sink for Worn {
 /// A failure is told, though the count of failures stays where it is.
 #[test]
 fn counts_that_have_come_to_their_end(rt: HostRuntime) -> Result<(), Fail> {
-    let format = format_of(rt.alloc(), b"%d")?;
     let mut sink = Worn { failures: u64::MAX };
-    let printed = fprint(&mut sink, &format, &[Value::I32(7)]);
-    is(&printed, &Err(PrintFault::Sink { written: 0 }), &"%d")?;
+    let fault = PrintFault::Sink { written: 0 };
+    answers(rt.alloc(), &mut sink, b"%d", &[Value::I32(7)], &Err(fault))?;
     is(&sink.failures, &u64::MAX, &"failures")
 }

@@ -1,98 +1,369 @@
-//! Stores, run: one script of calls over both, and where they are full.
-ghost use Rattle.std.specs.Prelude.{◌≡◌, ◌≤◌};
-ghost use Rattle.sf_base.specs.Kept.{nothing_kept};
+//! Stores: one script of calls over each, and where they are full.
+ghost use Rattle.std.specs.Prelude.{◌≡◌, ◌≤◌, None, IsSome, IsTrue, OnOk};
+ghost use Rattle.sf_base.specs.Data.{datum_at};
 
-use sf_base::{FixedStore, HeapStore, Store, StoreFull, Value, push_each};
+use sf_base::{FixedStore, HeapStore, Number, Shown, Store, StoreFull, Value, push_each};
 use sf_rows::is;
 use std::test::Fail;
 
-/// Calls on an empty store: how many bytes of the last piece were pushed.
-fn script<S: Store>(store: &mut S) -> Result<usize, Fail>
-    requires slots { 5 ≤ S.slots }
-    requires empty { S.kept store.old ≡ nothing_kept (S.kept store.old).room }
-{
-    store.set(2, Value::I64(-9));
-    store.open_text(1);
-    store.push(b'a')?;
-    store.push_all(b"bc")?;
-    store.close_text();
-    store.open_text(3);
-    store.push_all(b"gone")?;
-    store.drop_text();
-    store.open_text(4);
-    store.set(5, Value::U8(255));
-    let pushed = push_each(store, b"de");
-    store.close_text();
-    Ok(pushed)
+/// Bytes for the text that is open.
+#[derive(Clone, Copy, Debug)]
+enum Bytes {
+    /// One, by `push`.
+    One(u8),
+    /// As many as there is room for, by `push_each`.
+    Each(&'static [u8]),
+    /// All or none, by `push_all`.
+    All(&'static [u8]),
 }
 
-/// What the slots then have.
-static KEPT: [(u8, Option<Value<'static>>); 7] = [
-    (0, None),
-    (1, Some(Value::Text(b"abc"))),
-    (2, Some(Value::I64(-9))),
-    (3, None),
-    (4, Some(Value::Text(b"de"))),
-    (5, Some(Value::U8(255))),
-    (6, None),
+/// What a slot is given, and by which calls.
+#[derive(Clone, Copy, Debug)]
+enum Given {
+    /// A number, by `set`.
+    Value(Value<'static>),
+    /// A number, by `set_number`.
+    Number(Value<'static>),
+    /// The first bytes of a piece, by `put_text`.
+    Piece(&'static [u8], usize),
+    /// A text: these bytes so many times.
+    Text(&'static [Bytes], u32),
+    /// A text that is taken away again.
+    Dropped(&'static [Bytes]),
+    /// A text; while it is open, another slot is given a number.
+    Beside(&'static [Bytes], u8, Value<'static>),
+}
+
+/// Slots in the order in which they are given something.
+type Script = &'static [(u8, Given)];
+
+/// How many of the bytes the store takes. A refusal leaves the room as it was.
+fn push<S: Store>(store: &mut S, bytes: Bytes) -> Result<usize, Fail>
+    requires { IsSome (S.kept store.old).opened }
+    ensures { IsSome (S.kept store.new).opened }
+{
+    let room = store.room();
+    let taken = match bytes {
+        Bytes::One(b) => usize::from(store.push(b).is_ok()),
+        Bytes::Each(text) => push_each(store, text),
+        Bytes::All(text) => match store.push_all(text) {
+            Ok(()) => text.len(),
+            Err(StoreFull) => 0,
+        },
+    };
+    if taken == 0 {
+        is(&store.room(), &room, &bytes)?;
+    }
+    Ok(taken)
+}
+
+/// How many bytes of the open text the store takes, so many times these. What it refuses is pushed once more: where
+/// `rt try --test --fail-alloc N` refuses a growth, for N from 2 on, the next push goes.
+fn push_times<S: Store>(store: &mut S, text: &[Bytes], times: u32) -> Result<usize, Fail>
+    requires { IsSome (S.kept store.old).opened }
+    ensures { IsSome (S.kept store.new).opened }
+{
+    let mut total = 0usize;
+    for _ in 0..times {
+        for bytes in text {
+            let mut taken = push(store, *bytes)?;
+            if taken == 0 {
+                taken = push(store, *bytes)?;
+            }
+            total = total.saturating_add(taken);
+        }
+    }
+    Ok(total)
+}
+
+/// Whether there is such a slot, and it was given nothing yet.
+fn is_free<S: Store>(store: &S, slots: u8, slot: u8) -> bool
+    ensures at_least_one { IsTrue result → 1 ≤ slot }
+    ensures in_range { IsTrue result → slot ≤ slots }
+    ensures absent { IsTrue result → datum_at slot (S.kept store.now).values ≡ None }
+{
+    1 <= slot && slot <= slots && store.value(slot).is_none()
+}
+
+/// How many bytes the store takes for the slot.
+fn give<S: Store>(store: &mut S, slots: u8, slot: u8, given: &Given) -> Result<usize, Fail>
+    requires slots { slots ≤ S.slots }
+    requires at_least_one { 1 ≤ slot }
+    requires in_range { slot ≤ slots }
+    requires absent { datum_at slot (S.kept store.old).values ≡ None }
+    requires none_opened { (S.kept store.old).opened ≡ None }
+    ensures { OnOk result ((S.kept store.new).opened ≡ None) }
+{
+    let mut taken = 0;
+    match given {
+        Given::Value(value) => {
+            if let Shown::Number(number) = value.shown() {
+                store.set(slot, number.value());
+            }
+        }
+        Given::Number(value) => {
+            if let Shown::Number(number) = value.shown() {
+                store.set_number(slot, number);
+            }
+        }
+        Given::Piece(piece, count) => {
+            if *count <= piece.len() && store.put_text(slot, piece, *count).is_ok() {
+                taken = *count;
+            }
+        }
+        Given::Text(text, times) => {
+            store.open_text(slot);
+            taken = push_times(store, text, *times)?;
+            store.close_text();
+        }
+        Given::Dropped(text) => {
+            store.open_text(slot);
+            taken = push_times(store, text, 1)?;
+            store.drop_text();
+        }
+        Given::Beside(text, other, value) => {
+            if *other == slot || !is_free(store, slots, *other) {
+                return Err(Fail::new("the other slot can't be given anything"));
+            }
+            store.open_text(slot);
+            if let Shown::Number(number) = value.shown() {
+                store.set(*other, number.value());
+            }
+            taken = push_times(store, text, 1)?;
+            store.close_text();
+        }
+    }
+    Ok(taken)
+}
+
+/// How many bytes the store takes for the slots of the script.
+fn play<S: Store>(store: &mut S, slots: u8, script: Script) -> Result<usize, Fail>
+    requires slots { slots ≤ S.slots }
+    requires none_opened { (S.kept store.old).opened ≡ None }
+{
+    let mut total = 0usize;
+    for (slot, given) in script {
+        if !is_free(store, slots, *slot) {
+            return Err(Fail::new("a slot that can't be given anything"));
+        }
+        let taken = give(store, slots, *slot, given)?;
+        total = total.saturating_add(taken);
+    }
+    Ok(total)
+}
+
+/// The value that the slot shows, by its parts.
+fn shown<S: Store>(store: &S, slot: u8) -> Option<Value<'_>> {
+    match store.shown(slot)? {
+        Shown::Number(number) => {
+            let Number {
+                kind,
+                negative,
+                magnitude,
+            } = number;
+            Some(kind.number(negative, magnitude)?.value())
+        }
+        Shown::Text(text) => Some(Value::Text(text)),
+    }
+}
+
+/// The slots from 0 on have these values, and show them.
+fn has_slots<S: Store>(store: &S, wanted: &[Option<Value<'static>>]) -> Result<(), Fail> {
+    let mut slot = 0u8;
+    for value in wanted {
+        is(
+            &[store.value(slot), shown(store, slot)],
+            &[*value, *value],
+            &slot,
+        )?;
+        slot = slot.saturating_add(1);
+    }
+    Ok(())
+}
+
+/// What a store makes of a script.
+#[derive(Clone, Copy)]
+struct Row {
+    script: Script,
+    /// How many bytes it takes.
+    taken: usize,
+    /// What a fixed store then has left of its room.
+    left: usize,
+    /// What the slots from 0 on then have.
+    slots: &'static [Option<Value<'static>>],
+}
+
+/// The store, which keeps nothing yet, takes so many bytes of the script, and the slots have what they were given.
+fn plays<S: Store>(store: &mut S, slots: u8, row: &Row) -> Result<(), Fail>
+    requires slots { slots ≤ S.slots }
+    requires none_opened { (S.kept store.old).opened ≡ None }
+{
+    is(&play(store, slots, row.script)?, &row.taken, &row.script)?;
+    has_slots(store, row.slots)
+}
+
+/// Texts by each call, one of them taken away again.
+const BY_EACH_CALL: Row = Row {
+    script: &[
+        (2, Given::Value(Value::I64(-9))),
+        (1, Given::Text(&[Bytes::One(b'a'), Bytes::All(b"bc")], 1)),
+        (3, Given::Dropped(&[Bytes::All(b"gone")])),
+        (4, Given::Beside(&[Bytes::Each(b"de")], 5, Value::U8(255))),
+    ],
+    taken: 9,
+    left: 4,
+    slots: &[
+        None,
+        Some(Value::Text(b"abc")),
+        Some(Value::I64(-9)),
+        None,
+        Some(Value::Text(b"de")),
+        Some(Value::U8(255)),
+        None,
+    ],
+};
+
+/// Slots in no order: numbers and texts by turns, one text taken away again.
+const SCATTERED: Row = Row {
+    script: &[
+        (4, Given::Text(&[Bytes::All(b"four")], 1)),
+        (5, Given::Value(Value::I8(-5))),
+        (3, Given::Dropped(&[Bytes::All(b"gone")])),
+        (2, Given::Value(Value::U64(2))),
+        (
+            1,
+            Given::Text(&[Bytes::All(b"o"), Bytes::One(b'n'), Bytes::One(b'e')], 1),
+        ),
+        (3, Given::Text(&[Bytes::All(b"33")], 1)),
+    ],
+    taken: 13,
+    left: 0,
+    slots: &[
+        None,
+        Some(Value::Text(b"one")),
+        Some(Value::U64(2)),
+        Some(Value::Text(b"33")),
+        Some(Value::Text(b"four")),
+        Some(Value::I8(-5)),
+        None,
+    ],
+};
+
+/// A number, and two texts at once: ten bytes after three are too many for nine.
+const AT_ONCE: Row = Row {
+    script: &[
+        (2, Given::Number(Value::I16(-7))),
+        (1, Given::Piece(b"abcd", 3)),
+        (3, Given::Piece(b"0123456789", 10)),
+    ],
+    taken: 3,
+    left: 6,
+    slots: &[
+        None,
+        Some(Value::Text(b"abc")),
+        Some(Value::I16(-7)),
+        None,
+        None,
+    ],
+};
+
+/// A text of ten bytes, then one of nine.
+const NINE_BYTES: Row = Row {
+    script: &[(
+        3,
+        Given::Text(&[Bytes::All(b"0123456789"), Bytes::All(b"012345678")], 1),
+    )],
+    taken: 9,
+    left: 0,
+    slots: &[None, None, None, Some(Value::Text(b"012345678"))],
+};
+
+/// What a store of nine bytes makes of each.
+static OF_NINE_BYTES: [Row; 5] = [BY_EACH_CALL, SCATTERED, AT_ONCE, NINE_BYTES, BY_EACH_CALL];
+
+/// What a store that grows makes of them.
+static GROWING: [Row; 4] = [
+    BY_EACH_CALL,
+    SCATTERED,
+    Row {
+        taken: 13,
+        slots: &[
+            None,
+            Some(Value::Text(b"abc")),
+            Some(Value::I16(-7)),
+            Some(Value::Text(b"0123456789")),
+            None,
+        ],
+        ..AT_ONCE
+    },
+    BY_EACH_CALL,
 ];
 
-fn is_kept<S: Store>(store: &S) -> Result<(), Fail> {
-    for (slot, value) in &KEPT {
-        is(&store.value(*slot), value, slot)?;
-    }
-    Ok(())
-}
-
-/// The script over a heap store that was used before.
-fn heap_answers(store: &mut HeapStore) -> Result<(), Fail> {
-    store.clear();
-    is(&(store.room() >= 9), &true, &"the heap's room")?;
-    is(&script(store)?, &2, &"the heap")?;
-    is_kept(store)
-}
-
-/// The script over a fixed store that was used before.
-fn fixed_answers(store: &mut FixedStore<9, 5>) -> Result<(), Fail> {
-    store.clear();
-    is(&store.room(), &9, &"nine bytes")?;
-    is(&script(store)?, &2, &"nine bytes")?;
-    is_kept(store)?;
-    is(&store.room(), &4, &"nine bytes with five in use")
-}
-
 #[test]
-fn stores_answer_alike(rt: HostRuntime) -> Result<(), Fail> {
-    let mut heap = HeapStore::new(rt.alloc(), 9)?;
-    let mut fixed = FixedStore::<9, 5>::new();
-    for _ in 0..2 {
-        heap_answers(&mut heap)?;
-        fixed_answers(&mut fixed)?;
+fn heap_stores_play(rt: HostRuntime) -> Result<(), Fail> {
+    for reserve in [0u32, 9] {
+        let mut store = HeapStore::new(rt.alloc(), reserve)?;
+        for row in &GROWING {
+            store.clear();
+            is(&(store.room() >= reserve as usize), &true, &reserve)?;
+            plays(&mut store, 32, row)?;
+        }
     }
     Ok(())
 }
 
 #[test]
-fn a_fixed_store_is_full_at_its_capacity() -> Result<(), Fail> {
-    let mut store = FixedStore::<3, 1>::new();
-    store.open_text(1);
-    is(&store.push_all(b"abcd").is_err(), &true, &"four bytes")?;
-    is(&store.room(), &3, &"four bytes")?;
-    is(&push_each(&mut store, b"abcd"), &3, &"byte by byte")?;
-    is(&store.push(b'd').is_err(), &true, &"the fourth")?;
-    is(&store.room(), &0, &"the fourth")?;
-    store.close_text();
-    is(&store.value(1), &Some(Value::Text(b"abc")), &"the text")
+fn fixed_stores_play() -> Result<(), Fail> {
+    let mut store = FixedStore::<9, 5>::new();
+    for row in &OF_NINE_BYTES {
+        store.clear();
+        is(&store.room(), &9, &"nine bytes")?;
+        plays(&mut store, 5, row)?;
+        is(&store.room(), &row.left, &row.script)?;
+    }
+    plays(&mut FixedStore::<11, 5>::new(), 5, &SCATTERED)
 }
 
+/// A store of three bytes, and one of none, which keeps numbers.
+const THREE_BYTES: Row = Row {
+    script: &[(
+        1,
+        Given::Text(
+            &[Bytes::All(b"abcd"), Bytes::Each(b"abcd"), Bytes::One(b'd')],
+            1,
+        ),
+    )],
+    taken: 3,
+    left: 0,
+    slots: &[None, Some(Value::Text(b"abc")), None],
+};
+
+const NO_BYTES: Row = Row {
+    script: &[(1, Given::Value(Value::U64(18446744073709551615)))],
+    taken: 0,
+    left: 0,
+    slots: &[None, Some(Value::U64(18446744073709551615)), None],
+};
+
 #[test]
-fn a_store_without_bytes_keeps_numbers() -> Result<(), Fail> {
-    let mut store = FixedStore::<0, 1>::new();
-    let number = Value::U64(18446744073709551615);
-    store.set(1, number);
-    is(&store.room(), &0, &"room")?;
-    is(&store.value(1), &Some(number), &"slot 1")
+fn full_stores_play() -> Result<(), Fail> {
+    let mut three = FixedStore::<3, 1>::new();
+    let mut none = FixedStore::<0, 1>::new();
+    is(&[three.room(), none.room()], &[3, 0], &"at first")?;
+    plays(&mut three, 1, &THREE_BYTES)?;
+    plays(&mut none, 1, &NO_BYTES)?;
+    is(&[three.room(), none.room()], &[0, 0], &"in the end")
 }
+
+/// Two texts of a hundred thousand bytes, by bytes and by pieces, and a number.
+const LONG: Script = &[
+    (
+        32,
+        Given::Text(&[Bytes::One(b'a'), Bytes::One(b'b')], 50000),
+    ),
+    (1, Given::Value(Value::I8(-1))),
+    (2, Given::Text(&[Bytes::All(b"0123456789")], 10000)),
+];
 
 /// The slot has a text of a hundred thousand bytes, which begins and ends so.
 fn is_long_text(store: &HeapStore, slot: u8, start: &[u8], end: &[u8]) -> Result<(), Fail> {
@@ -104,94 +375,13 @@ fn is_long_text(store: &HeapStore, slot: u8, start: &[u8], end: &[u8]) -> Result
     is(&text.ends_with(end), &true, &end)
 }
 
-/// `rt try --test --fail-alloc N` refuses each growth in turn, for N from 2 on: the push that it hits changes nothing, and
-/// the next one goes.
 #[test]
-fn a_text_grows_by_bytes(rt: HostRuntime) -> Result<(), Fail> {
+fn long_texts_grow(rt: HostRuntime) -> Result<(), Fail> {
     let mut store = HeapStore::new(rt.alloc(), 0)?;
-    store.open_text(32);
-    for pushed in 0..100000usize {
-        let b = if pushed % 2 == 0 { b'a' } else { b'b' };
-        if store.push(b).is_err() {
-            is(&store.room(), &0, &pushed)?;
-            store.push(b)?;
-        }
-    }
-    store.close_text();
-    is_long_text(&store, 32, b"abab", b"ab")
-}
-
-/// The same by whole pieces.
-#[test]
-fn a_text_grows_by_pieces(rt: HostRuntime) -> Result<(), Fail> {
-    let mut store = HeapStore::new(rt.alloc(), 0)?;
-    store.set(1, Value::I8(-1));
-    store.open_text(2);
-    for _ in 0..10000 {
-        let room = store.room();
-        if store.push_all(b"0123456789").is_err() {
-            is(&store.room(), &room, &"a refused piece")?;
-            store.push_all(b"0123456789")?;
-        }
-    }
-    store.close_text();
+    is(&play(&mut store, 32, LONG)?, &200000, &"bytes")?;
     is(&store.value(1), &Some(Value::I8(-1)), &"slot 1")?;
+    is_long_text(&store, 32, b"abab", b"ab")?;
     is_long_text(&store, 2, b"01234567890", b"9")
-}
-
-/// Slots that are given in no order: numbers and texts by turns, one text taken away again.
-fn scattered<S: Store>(store: &mut S) -> Result<(), Fail>
-    requires slots { 5 ≤ S.slots }
-    requires empty { S.kept store.old ≡ nothing_kept (S.kept store.old).room }
-{
-    store.open_text(4);
-    store.push_all(b"four")?;
-    store.close_text();
-    store.set(5, Value::I8(-5));
-    store.open_text(3);
-    store.push_all(b"gone")?;
-    store.drop_text();
-    store.set(2, Value::U64(2));
-    store.open_text(1);
-    store.push_all(b"o")?;
-    store.push(b'n')?;
-    store.push(b'e')?;
-    store.close_text();
-    store.open_text(3);
-    store.push_all(b"33")?;
-    store.close_text();
-    Ok(())
-}
-
-/// What the slots then have.
-static SCATTERED: [(u8, Option<Value<'static>>); 7] = [
-    (0, None),
-    (1, Some(Value::Text(b"one"))),
-    (2, Some(Value::U64(2))),
-    (3, Some(Value::Text(b"33"))),
-    (4, Some(Value::Text(b"four"))),
-    (5, Some(Value::I8(-5))),
-    (6, None),
-];
-
-fn are_scattered<S: Store>(store: &S) -> Result<(), Fail> {
-    for (slot, value) in &SCATTERED {
-        is(&store.value(*slot), value, slot)?;
-    }
-    Ok(())
-}
-
-#[test]
-fn slots_in_no_order(rt: HostRuntime) -> Result<(), Fail> {
-    let mut fixed = FixedStore::<11, 5>::new();
-    scattered(&mut fixed)?;
-    are_scattered(&fixed)?;
-    let mut seven = SevenCalls(FixedStore::new());
-    scattered(&mut seven)?;
-    are_scattered(&seven)?;
-    let mut heap = HeapStore::new(rt.alloc(), 0)?;
-    scattered(&mut heap)?;
-    are_scattered(&heap)
 }
 
 /// A store that has the seven calls of a store, and no more.
@@ -232,24 +422,13 @@ impl Store for SevenCalls {
     }
 }
 
-/// The script over a new store of seven calls.
-fn seven_calls_keep() -> Result<(), Fail> {
-    let mut store = SevenCalls(FixedStore::new());
-    is(&script(&mut store)?, &2, &"seven calls")?;
-    is_kept(&store)?;
-    is(&store.room(), &4, &"seven calls")
-}
-
 #[test]
 fn seven_calls_make_a_store() -> Result<(), Fail> {
-    seven_calls_keep()?;
-    let mut store = SevenCalls(FixedStore::new());
-    store.open_text(3);
-    is(&store.push_all(b"0123456789").is_err(), &true, &"ten bytes")?;
-    is(&store.room(), &9, &"ten bytes")?;
-    store.push_all(b"012345678")?;
-    is(&store.room(), &0, &"nine bytes")?;
-    store.close_text();
-    let wanted = Some(Value::Text(b"012345678"));
-    is(&store.value(3), &wanted, &"nine bytes")
+    for row in &OF_NINE_BYTES {
+        let mut store = SevenCalls(FixedStore::new());
+        is(&store.room(), &9, &"nine bytes")?;
+        plays(&mut store, 5, row)?;
+        is(&store.room(), &row.left, &row.script)?;
+    }
+    Ok(())
 }

@@ -1,12 +1,12 @@
 //! Copies from sources and into sinks that fail.
-use crate::copies::{copied, is};
-use sf_print::{ListSink, ScriptSink, Sink, WriteStep};
-use sf_read::{Lookahead, ReadStep, ScriptSource, SliceSource, Source};
-use sf_records::{ToolEnd, ToolFault};
-use std::alloc::Global;
-use std::test::Fail;
+ghost use Rattle.std.specs.Prelude.{◌≤◌};
 
-const FORMATS: (&str, &str) = ("%d,%s\n", "%11d,%20s%*1[\n]");
+use crate::copies::{Formats, WIDE, clean_end, copied, is};
+use sf_print::{ScriptSink, WriteStep};
+use sf_read::{Lookahead, ReadStep, ScriptSource};
+use sf_records::{ToolEnd, ToolFault};
+use std::process::Abort;
+use std::test::Fail;
 
 const TEXT: &[u8] = b" +7,ab\n08,c\n";
 
@@ -22,104 +22,85 @@ fn front(records: u32) -> &'static [u8] {
     }
 }
 
-/// The copy of TEXT where a read fails behind so many bytes: how it ends, the output, and how many reads failed.
-fn read_fails_behind(alloc: Global, at: usize) -> Result<(ToolEnd, ListSink, u64), Fail> {
-    let steps = [
-        ReadStep::Give(&TEXT[..at.min(TEXT.len())]),
-        ReadStep::Fail,
-        ReadStep::Give(TEXT),
-    ];
-    let mut from = Lookahead::<ScriptSource<'_>, 3>::new(ScriptSource::new(&steps));
-    let mut out = ListSink::new(alloc);
-    let end = copied(alloc, &mut from, &mut out, FORMATS)?;
-    Ok((end, out, from.source().failures()))
+/// The end of a copy by a fault.
+fn fault_end(records: u32, fault: ToolFault) -> ToolEnd {
+    ToolEnd {
+        status: 3,
+        records,
+        fault: Some(fault),
+    }
 }
 
-/// Where a read fails behind so many bytes of TEXT: how many records are written by then, each in the run that ends with
+/// The copy of what a source gives, by blocks of N bytes, into a sink: it ends so, and writes this.
+fn is_ended<const N: usize>(
+    rt: &(impl Abort + AllocGlobal),
+    formats: Formats,
+    reads: &[ReadStep<'_>],
+    writes: &[WriteStep],
+    output: &[u8],
+    end: ToolEnd,
+) -> Result<(), Fail>
+    requires few { N ≤ 4096 }
+    requires some { 1 ≤ N }
+{
+    let mut from = Lookahead::<ScriptSource<'_>, N>::new(ScriptSource::new(reads));
+    let mut out = ScriptSink::new(rt.alloc(), writes);
+    let found = copied(rt.alloc(), &mut from, &mut out, formats)?;
+    let failures = match end.fault {
+        Some(ToolFault::Read { .. }) => 1,
+        _ => 0,
+    };
+    is(rt, &found, &end, &(reads, writes));
+    is(rt, &out.bytes(), &output, &(reads, writes));
+    is(rt, &from.source().failures(), &failures, &(reads, writes));
+    Ok(())
+}
+
+/// Where a read fails after so many bytes of TEXT: how many records are written by then, each in the run that ends with
 /// its line end.
 static CUTS: [u32; 13] = [0, 0, 0, 0, 0, 0, 0, 1, 1, 1, 1, 1, 2];
 
 #[test]
 fn each_read_fails_in_turn(rt: HostRuntime) -> Result<(), Fail> {
     for (at, &records) in CUTS.iter().enumerate() {
-        let (end, out, failures) = read_fails_behind(rt.alloc(), at)?;
-        let wanted = ToolEnd {
-            status: 3,
+        let steps = [
+            ReadStep::Give(&TEXT[..at.min(TEXT.len())]),
+            ReadStep::Fail,
+            ReadStep::Give(TEXT),
+        ];
+        let end = fault_end(
             records,
-            fault: Some(ToolFault::Read {
-                number: records + 1,
-            }),
-        };
-        is(&rt, &out.bytes(), &front(records), &at);
-        is(&rt, &end, &wanted, &at);
-        is(&rt, &failures, &1, &at);
+            ToolFault::Read {
+                number: records.saturating_add(1),
+            },
+        );
+        is_ended::<3>(&rt, WIDE, &steps, &[], front(records), end)?;
     }
-    Ok(())
-}
-
-/// A record that is whole where the source fails is written, if it fits.
-fn last_before_a_fault(
-    alloc: Global,
-    formats: (&str, &str),
-    text: &[u8],
-) -> Result<(ToolEnd, ListSink), Fail> {
-    let steps = [ReadStep::Give(text), ReadStep::Fail];
-    let mut from = Lookahead::<ScriptSource<'_>, 4096>::new(ScriptSource::new(&steps));
-    let mut out = ListSink::new(alloc);
-    let end = copied(alloc, &mut from, &mut out, formats)?;
-    Ok((end, out))
-}
-
-#[test]
-fn a_failing_read_within_a_whole_record(rt: HostRuntime) -> Result<(), Fail> {
-    let formats = ("%04d", "%4d");
-    let (end, out) = last_before_a_fault(rt.alloc(), formats, b"12")?;
-    let wanted = ToolEnd {
-        status: 3,
-        records: 1,
-        fault: Some(ToolFault::Read { number: 1 }),
-    };
-    assert!(rt; out.bytes() == b"0012".as_slice());
-    assert_eq!(rt; end, wanted);
-    Ok(())
-}
-
-/// The copy of TEXT into a sink that follows a script: how it ends, and the output.
-fn written(alloc: Global, steps: &[WriteStep]) -> Result<(ToolEnd, Vec<u8>), Fail> {
-    let mut from = Lookahead::<SliceSource<'_>, 2>::new(SliceSource::new(TEXT));
-    let mut out = ScriptSink::new(alloc, steps);
-    let end = copied(alloc, &mut from, &mut out, FORMATS)?;
-    Ok((end, out.bytes().to_vec(alloc)?))
+    // A record that is whole where the source fails is written, if it fits.
+    let steps = [ReadStep::Give(b"12"), ReadStep::Fail];
+    let end = fault_end(1, ToolFault::Read { number: 1 });
+    is_ended::<4096>(&rt, ("%04d", "%4d"), &steps, &[], b"0012", end)
 }
 
 #[test]
 fn each_write_fails_in_turn(rt: HostRuntime) -> Result<(), Fail> {
+    let reads = [ReadStep::Give(TEXT)];
     for at in 0..COPY.len() {
         let mut steps = [WriteStep::Accept(1); 12];
         steps[at] = WriteStep::Fail;
-        let (end, output) = written(rt.alloc(), &steps)?;
-        let wanted = ToolEnd {
-            status: 3,
-            records: if at < 5 { 0 } else { 1 },
-            fault: Some(ToolFault::Write),
-        };
-        is(&rt, &Some(output.as_slice()), &COPY.get(..at), &at);
-        is(&rt, &end, &wanted, &at);
+        let end = fault_end(if at < 5 { 0 } else { 1 }, ToolFault::Write);
+        is_ended::<2>(&rt, WIDE, &reads, &steps, &COPY[..at], end)?;
     }
-    Ok(())
-}
-
-#[test]
-fn short_writes(rt: HostRuntime) -> Result<(), Fail> {
-    for size in [1, 2, 3] {
-        let (end, output) = written(rt.alloc(), &[WriteStep::Accept(size); 12])?;
-        let wanted = ToolEnd {
-            status: 0,
-            records: 2,
-            fault: None,
-        };
-        is(&rt, &output.as_slice(), &COPY, &size);
-        is(&rt, &end, &wanted, &size);
+    // Short writes are no failures.
+    for size in 1..4usize {
+        is_ended::<2>(
+            &rt,
+            WIDE,
+            &reads,
+            &[WriteStep::Accept(size); 12],
+            COPY,
+            clean_end(2),
+        )?;
     }
     Ok(())
 }

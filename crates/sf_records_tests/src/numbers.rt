@@ -1,12 +1,8 @@
 //! Copies of many random numbers of each kind and letter: what they come to is written by std.
-use crate::copies::{is, listed};
-use crate::random::{before, next};
-use std::alloc::Global;
+use crate::copies::Formats;
+use crate::random::{Records, before, next};
 use std::io::Write;
-use std::process::Abort;
 use std::test::Fail;
-
-const ROWS: u32 = 100000;
 
 /// How the digits of a number are written.
 #[derive(Clone, Copy)]
@@ -21,42 +17,14 @@ enum Letter {
     Octal,
     /// By `x`.
     Hex,
-    /// By `x` behind `0x`, but for 0.
+    /// By `x` after `0x`, but for 0.
     Prefixed,
     /// By `X`.
     UpperHex,
 }
 
-impl Letter {
-    fn has_sign(self) -> bool {
-        matches!(self, Letter::Signed | Letter::Auto)
-    }
-
-    /// Zeros that count for nothing before the digits.
-    fn zeros(self, state: u64) -> &'static str {
-        match self {
-            Letter::Auto | Letter::Prefixed => "",
-            _ => ["", "0", "", "000"][(state >> 36) as usize % 4],
-        }
-    }
-
-    fn push_digits(self, text: &mut Vec<u8>, magnitude: u64) -> Result<(), Fail> {
-        match self {
-            Letter::Signed | Letter::Auto | Letter::Unsigned => write!(text, "{magnitude}")?,
-            Letter::Octal => write!(text, "{magnitude:o}")?,
-            Letter::Hex => write!(text, "{magnitude:x}")?,
-            Letter::UpperHex => write!(text, "{magnitude:X}")?,
-            Letter::Prefixed => {
-                let prefix = if magnitude == 0 { "" } else { "0x" };
-                write!(text, "{prefix}{magnitude:x}")?;
-            }
-        }
-        Ok(())
-    }
-}
-
 /// A pair of formats for one number, the greatest number of its kind, and its letter.
-type Row = ((&'static str, &'static str), u64, Letter);
+type Row = (Formats, u64, Letter);
 
 const MOST_I8: u64 = 127;
 
@@ -74,7 +42,7 @@ const MOST_U32: u64 = 4294967295;
 
 const MOST_U64: u64 = 18446744073709551615;
 
-static SIGNED: [Row; 12] = [
+static ROWS: [Row; 29] = [
     (("%hhd;", "%24hhd;"), MOST_I8, Letter::Signed),
     (("%hd;", "%24hd;"), MOST_I16, Letter::Signed),
     (("%d;", "%24d;"), MOST_I32, Letter::Signed),
@@ -87,9 +55,6 @@ static SIGNED: [Row; 12] = [
     (("%hi;", "%24hi;"), MOST_I16, Letter::Auto),
     (("%i;", "%24i;"), MOST_I32, Letter::Auto),
     (("%li;", "%24li;"), MOST_I64, Letter::Auto),
-];
-
-static UNSIGNED: [Row; 17] = [
     (("%hhu;", "%24hhu;"), MOST_U8, Letter::Unsigned),
     (("%hu;", "%24hu;"), MOST_U16, Letter::Unsigned),
     (("%u;", "%24u;"), MOST_U32, Letter::Unsigned),
@@ -120,10 +85,31 @@ fn magnitude(state: u64, most: u64) -> u64 {
     }
 }
 
+/// Zeros before the digits, where they count for nothing.
+fn zeros(letter: Letter, state: u64) -> &'static str {
+    match letter {
+        Letter::Auto | Letter::Prefixed => "",
+        _ => ["", "0", "", "000"][(state >> 36) as usize % 4],
+    }
+}
+
+/// Appends the digits of a number, and what ends it.
+fn push_digits(text: &mut Vec<u8>, letter: Letter, magnitude: u64) -> Result<(), Fail> {
+    match letter {
+        Letter::Signed | Letter::Auto | Letter::Unsigned => write!(text, "{magnitude};")?,
+        Letter::Octal => write!(text, "{magnitude:o};")?,
+        Letter::Prefixed if magnitude > 0 => write!(text, "0x{magnitude:x};")?,
+        Letter::Hex | Letter::Prefixed => write!(text, "{magnitude:x};")?,
+        Letter::UpperHex => write!(text, "{magnitude:X};")?,
+    }
+    Ok(())
+}
+
 /// Appends a number as it may be written, and as it is copied.
-fn push_number(text: &mut Vec<u8>, copy: &mut Vec<u8>, row: &Row, state: u64) -> Result<(), Fail> {
+fn push_number(records: &mut Records, row: &Row, state: u64) -> Result<(), Fail> {
     let (_, most, letter) = *row;
-    let negative = letter.has_sign() && (state >> 45) % 2 == 1;
+    let is_signed = matches!(letter, Letter::Signed | Letter::Auto);
+    let negative = is_signed && (state >> 45) % 2 == 1;
     let magnitude = magnitude(state, most).saturating_add(u64::from(negative));
     let minus = if negative { "-" } else { "" };
     let sign = if !negative && (state >> 47) % 4 == 1 {
@@ -131,51 +117,26 @@ fn push_number(text: &mut Vec<u8>, copy: &mut Vec<u8>, row: &Row, state: u64) ->
     } else {
         minus
     };
-    let before = before(state);
-    let zeros = letter.zeros(state);
-    write!(text, "{before}{sign}{zeros}")?;
-    letter.push_digits(text, magnitude)?;
-    write!(text, ";")?;
-    write!(copy, "{minus}")?;
-    letter.push_digits(copy, magnitude)?;
-    write!(copy, ";")?;
-    Ok(())
-}
-
-/// Many records as they may be written, and as they are copied.
-fn records(alloc: Global, row: &Row) -> Result<(Vec<u8>, Vec<u8>), Fail> {
-    let mut text = Vec::<u8>::new(alloc);
-    let mut copy = Vec::<u8>::new(alloc);
-    let mut state = 11;
-    for _ in 0..ROWS {
-        state = next(state);
-        push_number(&mut text, &mut copy, row, state)?;
-    }
-    Ok((text, copy))
-}
-
-fn copied_and_again(rt: &(impl Abort + AllocGlobal), row: &Row) -> Result<(), Fail> {
-    let (text, copy) = records(rt.alloc(), row)?;
-    for source in [text.as_slice(), copy.as_slice()] {
-        let (end, out) = listed::<4096>(rt.alloc(), source, row.0)?;
-        is(rt, &(end.status, end.records), &(0, ROWS), &row.0);
-        assert!(rt; out.bytes() == copy.as_slice());
-    }
-    Ok(())
+    let (text, copy) = (&mut records.text, &mut records.copy);
+    text.extend_from_slice(before(state).as_bytes())?;
+    text.extend_from_slice(sign.as_bytes())?;
+    text.extend_from_slice(zeros(letter, state).as_bytes())?;
+    push_digits(text, letter, magnitude)?;
+    copy.extend_from_slice(minus.as_bytes())?;
+    push_digits(copy, letter, magnitude)
 }
 
 #[test]
-fn signed_numbers(rt: HostRuntime) -> Result<(), Fail> {
-    for row in &SIGNED {
-        copied_and_again(&rt, row)?;
-    }
-    Ok(())
-}
-
-#[test]
-fn unsigned_numbers(rt: HostRuntime) -> Result<(), Fail> {
-    for row in &UNSIGNED {
-        copied_and_again(&rt, row)?;
+fn many_numbers(rt: HostRuntime) -> Result<(), Fail> {
+    for row in &ROWS {
+        let mut records = Records::new(rt.alloc());
+        let mut state = 11;
+        for _ in 0..100000 {
+            state = next(state);
+            push_number(&mut records, row, state)?;
+        }
+        records.count = 100000;
+        records.are_copied(&rt, row.0)?;
     }
     Ok(())
 }

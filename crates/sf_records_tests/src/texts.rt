@@ -1,10 +1,7 @@
 //! Copies of many random texts of each letter.
-use crate::copies::{is, listed};
-use crate::random::{before, next};
-use std::alloc::Global;
+use crate::copies::Formats;
+use crate::random::{Records, before, next};
 use std::test::Fail;
-
-const ROWS: u32 = 100000;
 
 /// What a text may hold.
 #[derive(Clone, Copy)]
@@ -18,7 +15,7 @@ enum Letter {
 }
 
 /// A pair of formats for one text, its letter, and the byte that ends it.
-type Row = ((&'static str, &'static str), Letter, &'static [u8]);
+type Row = (Formats, Letter, &'static [u8]);
 
 static TEXTS: [Row; 5] = [
     (("%s\n", "%24s%*1[\n]"), Letter::Word, b"\n"),
@@ -46,38 +43,34 @@ fn length(letter: Letter, state: u64) -> u32 {
     }
 }
 
-/// Many records as they may be written, and as they are copied.
-fn records(alloc: Global, row: &Row) -> Result<(Vec<u8>, Vec<u8>), Fail> {
+/// Appends a text as it may be written, and as it is copied; the state after it.
+fn push_text(records: &mut Records, row: &Row, state: u64) -> Result<u64, Fail> {
     let (_, letter, end) = *row;
-    let mut text = Vec::<u8>::new(alloc);
-    let mut copy = Vec::<u8>::new(alloc);
-    let mut state = 13;
-    for _ in 0..ROWS {
-        state = next(state);
-        if matches!(letter, Letter::Word) {
-            text.extend_from_slice(before(state).as_bytes())?;
-        }
-        for _ in 0..length(letter, state) {
-            state = next(state);
-            let byte = byte(letter, state);
-            text.push(byte)?;
-            copy.push(byte)?;
-        }
-        text.extend_from_slice(end)?;
-        copy.extend_from_slice(end)?;
+    let mut state = next(state);
+    if matches!(letter, Letter::Word) {
+        records.text.extend_from_slice(before(state).as_bytes())?;
     }
-    Ok((text, copy))
+    for _ in 0..length(letter, state) {
+        state = next(state);
+        let byte = byte(letter, state);
+        records.text.push(byte)?;
+        records.copy.push(byte)?;
+    }
+    records.text.extend_from_slice(end)?;
+    records.copy.extend_from_slice(end)?;
+    Ok(state)
 }
 
 #[test]
-fn texts(rt: HostRuntime) -> Result<(), Fail> {
+fn many_texts(rt: HostRuntime) -> Result<(), Fail> {
     for row in &TEXTS {
-        let (text, copy) = records(rt.alloc(), row)?;
-        for source in [text.as_slice(), copy.as_slice()] {
-            let (end, out) = listed::<4096>(rt.alloc(), source, row.0)?;
-            is(&rt, &(end.status, end.records), &(0, ROWS), &row.0);
-            assert!(rt; out.bytes() == copy.as_slice());
+        let mut records = Records::new(rt.alloc());
+        let mut state = 13;
+        for _ in 0..100000 {
+            state = push_text(&mut records, row, state)?;
         }
+        records.count = 100000;
+        records.are_copied(&rt, row.0)?;
     }
     Ok(())
 }

@@ -1,10 +1,10 @@
-//! Tests of `sf_arguments` and `sf_tool`.
+//! Tests of `sf_arguments`, `sf_places` and `sf_tool`.
 #![tactic(auto)]
 
 #[cfg(test)]
 mod commands;
 #[cfg(test)]
-mod lines;
+mod faults;
 #[cfg(test)]
 mod loops;
 #[cfg(test)]
@@ -12,8 +12,6 @@ mod memory;
 #[cfg(test)]
 mod places;
 #[cfg(test)]
-mod prints;
+mod shared;
 #[cfg(test)]
-mod profiles;
-#[cfg(test)]
-mod words;
+mod values;

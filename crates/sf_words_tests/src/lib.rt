@@ -2,10 +2,6 @@
 #![tactic(auto)]
 
 #[cfg(test)]
-mod helps;
+mod faults;
 #[cfg(test)]
 mod orders;
-#[cfg(test)]
-mod refusals;
-#[cfg(test)]
-mod shared;

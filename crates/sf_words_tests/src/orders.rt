@@ -1,50 +1,9 @@
 //! Words that clap takes.
-use crate::shared::answer;
-use sf_words::{LineOptions, Order, Output, Profile};
+use sf_words::{LineOptions, Order, Output, Profile, read_words};
 use std::alloc::Global;
 use std::test::Fail;
 
-/// Appends the options of lines.
-fn push_lines(alloc: Global, line: &mut String, lines: LineOptions) -> Result<(), Fail> {
-    line.push_str(format!(in alloc; " lines skip {}", lines.skip)?.as_str())?;
-    for (is_set, name) in [
-        (lines.whole, " whole"),
-        (lines.keep_going, " keep-going"),
-        (lines.quiet, " quiet"),
-    ] {
-        if is_set {
-            line.push_str(name)?;
-        }
-    }
-    Ok(())
-}
-
-/// An order in one line: verb, limit, options, and the texts between bars. Profile 1 and the plain form aren't named.
-fn line_of(alloc: Global, order: &Order) -> Result<String, Fail> {
-    let mut line = format!(in alloc; "{:?} {}", order.verb, order.limit)?;
-    if order.line_buffered {
-        line.push_str(" line-buffered")?;
-    }
-    if order.profile == Profile::Two {
-        line.push_str(" profile-2")?;
-    }
-    if order.explain {
-        line.push_str(" explain")?;
-    }
-    if order.output != Output::Plain {
-        line.push_str(format!(in alloc; " {:?}", order.output)?.as_str())?;
-    }
-    if let Some(lines) = order.lines {
-        push_lines(alloc, &mut line, lines)?;
-    }
-    for text in order.texts.iter() {
-        line.push_str(" |")?;
-        line.push_str(text.as_str())?;
-    }
-    Ok(line)
-}
-
-/// Words, and the order that they make.
+/// Words, between which bars stand, and the order that they make.
 static ORDERS: [(&str, &str); 58] = [
     ("show|%3d,%*s", "Show 1048576 |%3d,%*s"),
     ("scan|%d,%d", "Scan 1048576 |%d,%d"),
@@ -151,12 +110,74 @@ static ORDERS: [(&str, &str); 58] = [
     ),
 ];
 
+/// The words of a line, between which bars stand.
+fn words_of(alloc: Global, line: &str) -> Result<Vec<String>, Fail> {
+    let mut words = Vec::new(alloc);
+    for word in line.split('|') {
+        words.push(String::from_str(alloc, word)?)?;
+    }
+    Ok(words)
+}
+
+/// The name of an option that is set.
+fn named(is_set: bool, name: &'static str) -> &'static str {
+    if is_set { name } else { "" }
+}
+
+/// The options of lines.
+fn lines_text(alloc: Global, lines: LineOptions) -> Result<String, Fail> {
+    Ok(format!(in alloc;
+        " lines skip {}{}{}{}",
+        lines.skip,
+        named(lines.whole, " whole"),
+        named(lines.keep_going, " keep-going"),
+        named(lines.quiet, " quiet")
+    )?)
+}
+
+/// The form of the values.
+fn output_name(output: Output) -> &'static str {
+    match output {
+        Output::Plain => "",
+        Output::Tsv => " Tsv",
+        Output::Json => " Json",
+    }
+}
+
+/// An order in one line: verb, limit, options, and the texts between bars. Profile 1 and the plain form aren't named.
+fn line_of(alloc: Global, order: &Order) -> Result<String, Fail> {
+    let lines = match order.lines {
+        Some(lines) => lines_text(alloc, lines)?,
+        None => String::new(alloc),
+    };
+    let mut line = format!(in alloc;
+        "{:?} {}{}{}{}{}{lines}",
+        order.verb,
+        order.limit,
+        named(order.line_buffered, " line-buffered"),
+        named(order.profile == Profile::Two, " profile-2"),
+        named(order.explain, " explain"),
+        output_name(order.output)
+    )?;
+    for text in &order.texts {
+        line.push_str(" |")?;
+        line.push_str(text)?;
+    }
+    Ok(line)
+}
+
+/// The order of the words, in one line.
+fn ordered(alloc: Global, words: &str) -> Result<String, Fail> {
+    let words = words_of(alloc, words)?;
+    let order = read_words(alloc, &words)?;
+    line_of(alloc, &order)
+}
+
 #[test]
 fn taken_words(rt: HostRuntime) -> Result<(), Fail> {
-    let alloc = rt.alloc();
-    for &(words, wanted) in &ORDERS {
-        let order = answer(alloc, words)??;
-        assert_eq!(rt; line_of(alloc, &order)?.as_str(), wanted, "at {words}");
+    for (words, wanted) in &ORDERS {
+        let line = ordered(rt.alloc(), words)?;
+        assert_eq!(rt; line.as_str(), *wanted, "at {words}");
     }
     Ok(())
 }

@@ -1,0 +1,73 @@
+"""prebuilt/pack, which `make prebuilt` calls, in clones made up for it."""
+import lzma
+import os
+import re
+import shutil
+import subprocess
+
+from launcher import PROGRAM, RT, SECONDS, read
+from launching import Packed
+
+
+class Packing(Packed):
+    def packs(self):
+        how = {"env": {"PATH": self.path, "TMPDIR": self.temporary}, "capture_output": True, "timeout": SECONDS}
+        done = subprocess.run([self.clone + "/prebuilt/pack"], check=False, **how)
+        names = {"build", "pack", "plan.awk", "sum", "SECONDS", "SUM", "sf-x86_64-linux.xz"}
+        self.assertLessEqual(set(os.listdir(self.clone + "/prebuilt")), names)
+        return done.returncode
+
+    def packed(self):
+        with open(self.clone + "/prebuilt/sf-x86_64-linux.xz", "rb") as file:
+            return lzma.decompress(file.read()).decode()
+
+    def test_it_packs_what_is_built_here_and_the_launcher_takes_it(self):
+        self.assertEqual(self.packs(), 0)
+        self.assertEqual(self.builds(), 1)
+        self.assertEqual(self.packed(), PROGRAM.replace("{text}", "first"))
+        names = re.findall(r"(?m)^([a-z]+) ", read(self.clone + "/prebuilt/SUM"))
+        self.assertEqual(names, ["program", "sources", "kit"])
+        shutil.rmtree(self.clone + "/crates/sf/out")
+        self.without_rt()
+        self.expect("first", builds=1)
+
+    def test_it_only_packs_what_is_current(self):
+        self.expect("first", builds=1)
+        self.assertEqual((self.packs(), self.builds()), (0, 1))
+        first = os.stat(self.clone + "/prebuilt/sf-x86_64-linux.xz").st_ino
+        with open(self.clone + "/prebuilt/sf-x86_64-linux.xz", "rb") as file:
+            before = file.read()
+        self.assertEqual((self.packs(), self.builds()), (0, 1))
+        with open(self.clone + "/prebuilt/sf-x86_64-linux.xz", "rb") as file:
+            self.assertEqual(file.read(), before)
+        self.assertNotEqual(os.stat(self.clone + "/prebuilt/sf-x86_64-linux.xz").st_ino, first)
+
+    def test_what_was_unpacked_or_is_older_than_an_edit_is_built_first(self):
+        self.pack("another")
+        self.expect("another", builds=0)
+        self.assertEqual((self.packs(), self.builds()), (0, 1))
+        self.assertIn("made of first,", self.packed())
+        self.edit("low/src/lib.rt")
+        self.assertEqual((self.packs(), self.builds()), (0, 2))
+        self.assertIn("made of second,", self.packed())
+
+    def test_what_another_kit_built_is_built_anew(self):
+        self.expect("first", builds=1)
+        self.say("kit", "kit-2 logic 34cd\n")
+        self.assertEqual((self.packs(), self.builds()), (0, 2))
+        self.assertIn("kit kit-2 logic 34cd\n", read(self.clone + "/prebuilt/SUM"))
+
+    def test_where_the_build_fails_nothing_is_packed(self):
+        self.pack("another")
+        before = read(self.clone + "/prebuilt/SUM")
+        self.say("fails", "low")
+        self.assertEqual(self.packs(), 1)
+        self.assertEqual(read(self.clone + "/prebuilt/SUM"), before)
+        self.assertIn("made of another,", self.packed())
+
+    def test_the_figures_are_those_of_a_build_from_nothing(self):
+        works = "[ $crate = low ] && sh -c 'ulimit -t 1; while :; do :; done'"
+        self.command("rt", RT.replace("is fails", works + "\nis fails"))
+        os.makedirs(self.clone + "/crates/middle/out/incremental")
+        self.packs()
+        self.assertEqual(read(self.clone + "/prebuilt/SECONDS"), "# some figures\nother 0\nlow 1\nmiddle 300\nsf 0\n")
