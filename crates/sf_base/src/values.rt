@@ -52,7 +52,7 @@ impl Kind {
 
     /// The number that the kind gives a sign (true: a minus) and a magnitude. None if the kind does not hold it, where C leaves
     /// open what is stored (C11 7.21.6.2p10); a text holds none. A minus before an unsigned number negates it in its kind (C11
-    /// 7.22.1.4p5). A sign and a magnitude stay what they are, so that nothing is converted: `Number::value` does that.
+    /// 7.22.1.4p5). The number keeps a sign and a magnitude, so nothing is converted here: `Number::value` converts.
     #[inline(always)]
     pub fn number(self, negative: bool, magnitude: u64) -> Option<Number>
         ensures { option_map datum_of_number result ≡ option_map (NumberOf self) (value_of self negative magnitude) }
