@@ -2,9 +2,9 @@
 ghost use Rattle.std.specs.Prelude.{◌≡◌, ◌+◌, length};
 ghost use Rattle.sf_base.specs.Kept.{buffer_of, nothing_kept};
 
-use crate::Value;
 use crate::entries::{Cell, Entry, find_shown, number_of};
 use crate::store::{Store, StoreFull};
+use crate::{Number, Shown, Value};
 use arrayvec::ArrayVec;
 use std::marker::Model;
 
@@ -70,8 +70,7 @@ impl<const CAP: usize, const SLOTS: usize> Store for FixedStore<CAP, SLOTS> {
     ghost kept = { λ s. s };
 
     fn set(&mut self, slot: u8, value: Value<'_>) {
-        let cell = Cell::Number(number_of(value));
-        self.entries.push(Entry { slot, cell });
+        self.set_number(slot, number_of(value));
     }
 
     fn open_text(&mut self, slot: u8) {
@@ -118,7 +117,16 @@ impl<const CAP: usize, const SLOTS: usize> Store for FixedStore<CAP, SLOTS> {
     }
 
     fn value(&self, slot: u8) -> Option<Value<'_>> {
+        Some(self.shown(slot)?.value())
+    }
+
+    fn set_number(&mut self, slot: u8, number: Number) {
+        let cell = Cell::Number(number);
+        self.entries.push(Entry { slot, cell });
+    }
+
+    fn shown(&self, slot: u8) -> Option<Shown<'_>> {
         let bytes = self.bytes.as_slice();
-        Some(find_shown(self.entries.as_slice(), slot, &bytes[..self.closed])?.value())
+        find_shown(self.entries.as_slice(), slot, &bytes[..self.closed])
     }
 }

@@ -1,8 +1,8 @@
 //! Numbers of a kind.
 ghost use Rattle.std.specs.Prelude.{◌≡◌, IsTrue};
-ghost use Rattle.sf_base.specs.Kinds.{is_held, is_signed, with_sign};
+ghost use Rattle.sf_base.specs.Kinds.{is_held, with_sign};
 
-use crate::{Kind, Value};
+use crate::{Kind, ScanInt, Value};
 
 /// A number of a kind, by its sign and its magnitude.
 #[derive(Clone, Copy, Debug, PartialEq, Eq)]
@@ -16,16 +16,15 @@ pub struct Number {
     pub ghost held: { IsTrue (is_held kind negative magnitude) },
 }
 
-/// The number of a sign and a magnitude, where 64 bits with a sign hold it.
+/// The value of a type that holds the number, by a checked conversion.
 #[inline(always)]
-fn signed(negative: bool, magnitude: u64) -> i64
-    requires { IsTrue (is_signed 63 negative magnitude) }
-    ensures { result ≡ with_sign negative magnitude }
+fn value_in<T: ScanInt>(number: Number) -> T
+    requires { T.own_kind ≡ number.kind }
+    ensures { T.integer result ≡ with_sign number.negative number.magnitude }
 {
-    if negative {
-        -((magnitude - 1) as i64) - 1
-    } else {
-        magnitude as i64
+    match T::from_parts(number.negative, number.magnitude, false) {
+        Some(value) => value,
+        None => unreachable!(),
     }
 }
 
@@ -39,14 +38,14 @@ impl Number {
         ensures number { is_number result ≡ true }
     {
         match self.kind {
-            Kind::I8 => Value::I8(signed(self.negative, self.magnitude) as i8),
-            Kind::I16 => Value::I16(signed(self.negative, self.magnitude) as i16),
-            Kind::I32 => Value::I32(signed(self.negative, self.magnitude) as i32),
-            Kind::I64 => Value::I64(signed(self.negative, self.magnitude)),
-            Kind::U8 => Value::U8(self.magnitude as u8),
-            Kind::U16 => Value::U16(self.magnitude as u16),
-            Kind::U32 => Value::U32(self.magnitude as u32),
-            Kind::U64 => Value::U64(self.magnitude),
+            Kind::I8 => Value::I8(value_in(self)),
+            Kind::I16 => Value::I16(value_in(self)),
+            Kind::I32 => Value::I32(value_in(self)),
+            Kind::I64 => Value::I64(value_in(self)),
+            Kind::U8 => Value::U8(value_in(self)),
+            Kind::U16 => Value::U16(value_in(self)),
+            Kind::U32 => Value::U32(value_in(self)),
+            Kind::U64 => Value::U64(value_in(self)),
             Kind::Text => unreachable!(),
         }
     }

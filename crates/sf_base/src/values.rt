@@ -3,6 +3,7 @@ ghost use Rattle.std.specs.Prelude.{◌≡◌};
 ghost use Rattle.sf_base.specs.Data.{with_sign};
 
 use crate::Number;
+use num_traits::cast;
 
 /// The kind of a destination: an integer type of the given sign and bits, or a text of bytes.
 #[derive(Clone, Copy, Debug, PartialEq, Eq)]
@@ -51,7 +52,7 @@ impl Kind {
 
     /// The number that the kind gives a sign (true: a minus) and a magnitude. None if the kind does not hold it, where C leaves
     /// open what is stored (C11 7.21.6.2p10); a text holds none. A minus before an unsigned number negates it in its kind (C11
-    /// 7.22.1.4p5).
+    /// 7.22.1.4p5). The number keeps a sign and a magnitude, so nothing is converted here: `Number::value` converts.
     #[inline(always)]
     pub fn number(self, negative: bool, magnitude: u64) -> Option<Number>
         ensures { option_map datum_of_number result ≡ option_map (NumberOf self) (value_of self negative magnitude) }
@@ -88,14 +89,14 @@ impl Kind {
         ensures beyond { IfNone result (¬ (IsIn self number)) }
     {
         let value = match self {
-            Kind::I8 => Value::I8(i8::try_from(number).ok()?),
-            Kind::I16 => Value::I16(i16::try_from(number).ok()?),
-            Kind::I32 => Value::I32(i32::try_from(number).ok()?),
-            Kind::I64 => Value::I64(i64::try_from(number).ok()?),
-            Kind::U8 => Value::U8(u8::try_from(number).ok()?),
-            Kind::U16 => Value::U16(u16::try_from(number).ok()?),
-            Kind::U32 => Value::U32(u32::try_from(number).ok()?),
-            Kind::U64 => Value::U64(u64::try_from(number).ok()?),
+            Kind::I8 => Value::I8(cast(number)?),
+            Kind::I16 => Value::I16(cast(number)?),
+            Kind::I32 => Value::I32(cast(number)?),
+            Kind::I64 => Value::I64(cast(number)?),
+            Kind::U8 => Value::U8(cast(number)?),
+            Kind::U16 => Value::U16(cast(number)?),
+            Kind::U32 => Value::U32(cast(number)?),
+            Kind::U64 => Value::U64(cast(number)?),
             Kind::Text => return None,
         };
         Some(value)

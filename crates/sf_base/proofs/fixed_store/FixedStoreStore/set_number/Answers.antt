@@ -2,7 +2,7 @@ use Rattle.std.proofs.Common.{length, take, drop, rules, arith}
 use Rattle.std.proofs.lemmas.Grind.{common_steps}
 use Rattle.sf_base.specs.Entries.{slots_of, IsAbsent}
 use Rattle.sf_base.proofs.EntryLemmas.{IsAbsent-from_datum, length-lt-entries, IsSound-push, IsUnderWay-push}
-use Rattle.sf_base.proofs.fixed_store.FixedStoreStore.set.Goals as goal
+use Rattle.sf_base.proofs.fixed_store.FixedStoreStore.set_number.Goals as goal
 
 pub push-requires : goal.push-requires
 push-requires g c =
