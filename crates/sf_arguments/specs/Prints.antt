@@ -14,10 +14,12 @@ use Rattle.sf_arguments.specs.Arguments.{ValuesOf, IsLowestFault}
 -- ---- what is written
 
 -- What a print of a text answers. The output held the bytes `before`, and now holds `after`; None where the sink doesn't tell.
+-- Where it failed, it took a front of the text, and not all.
 abbrev pub Writes : List ℕ → Option (List ℕ) → Option (List ℕ) → Result (Unit {0}) ArgumentFault → Type 0
 Writes text before after (Ok _) = (length text ≤ most_bytes) × Appends before after text
 Writes text before after (Err TooLong) = most_bytes < length text
-Writes text before after (Err Write) = (length text ≤ most_bytes) × ((written : ℕ) × (written ≤ length text) × Appends before after (take written text))
+Writes text before after (Err Write) =
+    (length text ≤ most_bytes) × ((written : ℕ) × (written < length text) × Appends before after (take written text))
 Writes text before after (Err Memory) = Unit {0}
 Writes text before after (Err _) = ⊥
 

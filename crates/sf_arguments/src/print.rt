@@ -138,7 +138,8 @@ fn fault_of_print(fault: PrintFault) -> ArgumentFault
 /// An integer's word is an optional sign and decimal digits, within its kind; that of `c` is one byte, that of `s` any text,
 /// once its escapes are resolved.
 /// It refuses the number of words, then the first word that stands for no value, then want of memory, then a text of more
-/// than 2147483647 bytes; nothing is written then. Where the sink fails, a front of the text was written.
+/// than 2147483647 bytes; nothing is written then. Where the sink fails, a front of the text was written,
+/// and not all of it.
 pub fn print_values<K: Sink>(
     alloc: Global,
     format: &PrintFormat,

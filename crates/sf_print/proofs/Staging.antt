@@ -1,5 +1,5 @@
 -- Texts on their way to a sink, piece after piece.
-use Rattle.std.proofs.Common.{◌≡◌, ℕ, ◌+◌, ◌≤◌, ◌<◌, List, [], ◌∷◌, ◌++◌, length, take, drop, subst, refl, sym, ap, ◌∙◌, arith, append_assoc, append-nil, length-append, Option, Result, Ok, Err, replicate, get_or}
+use Rattle.std.proofs.Common.{◌≡◌, ℕ, ◌+◌, ◌<◌, List, [], ◌∷◌, ◌++◌, length, take, drop, subst, refl, sym, ap, ◌∙◌, arith, append_assoc, append-nil, length-append, Option, Result, Ok, Err, replicate, get_or}
 use Rattle.std.proofs.lemmas.List.{replicate-append-replicate, take-append-drop, drop_more, take_more}
 use Rattle.std.proofs.lemmas.List.Concat.{flat_map-append}
 use Rattle.std.proofs.Math.Seq.{take-append_seam}
@@ -27,9 +27,16 @@ moved was now w v h k piece front e took count = λ old text (before, known, cou
     (before ++ front, Appends-then old was now before front known took, omega (arith, counted, count, length-append before front), regroup before h piece front k text is e)
 
 -- the sink took a front of what was held and the piece, and failed
-pub failed : (was now : Option (List ℕ)) (w v : ℕ) (h piece front rest : List ℕ) → h ++ piece ≡ front ++ rest → Appends was now front → v ≡ w + length front → Stops was w h now v piece
-failed was now w v h piece front rest e took count = λ old text (before, known, counted, is).
-    (before ++ front, rest, Appends-then old was now before front known took, omega (arith, counted, count, length-append before front), regroup before h piece front rest text is e)
+pub failed : (was now : Option (List ℕ)) (w v : ℕ) (h piece front rest : List ℕ) → h ++ piece ≡ front ++ rest → Appends was now front
+    → v ≡ w + length front → 0 < length rest → Stops was w h now v piece
+failed was now w v h piece front rest e took count more = λ old text (before, known, counted, is). (
+  before ++ front,
+  rest,
+  Appends-then old was now before front known took,
+  omega (arith, counted, count, length-append before front),
+  regroup before h piece front rest text is e,
+  more,
+)
 
 -- the piece is held
 pub stays : (now : Option (List ℕ)) (w v : ℕ) (h k piece : List ℕ) → k ≡ h ++ piece → v ≡ w → PutsAll now w h now v k piece
@@ -56,8 +63,9 @@ Stops-then a b d w v u h k p q first second = λ old text e.
 -- the sink failed in the first of two pieces
 pub Stops-front : (a b : Option (List ℕ)) (w v : ℕ) (h p q : List ℕ) → Stops a w h b v p → Stops a w h b v (p ++ q)
 Stops-front a b w v h p q stop = λ old text e.
-    let (front, rest, known, count, is) = stop old text e in
-    (front, rest ++ q, known, count, sym (append_assoc text p q) ∙ ap (λ (x : List ℕ). x ++ q) is ∙ append_assoc front rest q)
+    let (front, rest, known, count, is, more) = stop old text e in
+    let cut = sym (append_assoc text p q) ∙ ap (λ (x : List ℕ). x ++ q) is ∙ append_assoc front rest q in
+    (front, rest ++ q, known, count, cut, omega (arith, more, length-append rest q))
 
 -- the sink failed at one of the middle pieces
 pub Stops-middle : (a b d : Option (List ℕ)) (w v u : ℕ) (h k p q rest all : List ℕ) → PutsAll a w h b v k p → Stops b v k d u q → all ≡ p ++ (q ++ rest) → Stops a w h d u all
@@ -114,8 +122,9 @@ all_written a b s t p e w none all =
     Appends-same a b front p (sym (sym (append-nil p) ∙ is ∙ ap (λ (x : List ℕ). front ++ x) (empty_held t none) ∙ append-nil front)) known
 
 -- the sink failed after a front
-pub front_written : (a b : Option (List ℕ)) (s : Stage) (v : ℕ) (p : List ℕ) → s.len ≡ 0 → s.written ≡ 0 → Stops a s.written (held s) b v p → Appends a b (take v p) × (v ≤ length p)
+pub front_written : (a b : Option (List ℕ)) (s : Stage) (v : ℕ) (p : List ℕ) → s.len ≡ 0 → s.written ≡ 0 → Stops a s.written (held s) b v p
+    → Appends a b (take v p) × (v < length p)
 front_written a b s v p e w stop =
-    let (front, rest, known, count, is) = stop a [] (begins a s e w) in
+    let (front, rest, known, count, is, more) = stop a [] (begins a s e w) in
     let same : take v p ≡ front = (λ i. take (count i) (is i)) ∙ take-append_seam front rest in
-    (Appends-same a b front (take v p) (sym same) known, omega (arith, count, ap length is, length-append front rest))
+    (Appends-same a b front (take v p) (sym same) known, omega (arith, count, more, ap length is, length-append front rest))

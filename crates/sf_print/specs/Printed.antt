@@ -1,5 +1,5 @@
 -- The printed text of a format and values, and what is refused. (C11 7.21.6.1, paragraphs 2 to 4 and 9)
-use Rattle.std.specs.Prelude.{◌≡◌, ◌≤◌, take, ℕ, ◌-◌, Bool, true, false, ◌==◌, nat_le, not, if◌then◌else◌, List, [], ◌∷◌, length, slice_get, fold, Option, Some, None, Result, Ok, Err}
+use Rattle.std.specs.Prelude.{◌≡◌, ◌<◌, take, ℕ, ◌-◌, Bool, true, false, ◌==◌, nat_le, not, if◌then◌else◌, List, [], ◌∷◌, length, slice_get, fold, Option, Some, None, Result, Ok, Err}
 use Rattle.std.specs.List.{flat_map}
 use Rattle.std.specs.Io.KnownBytes.{Appends}
 use Rattle.sf_base.specs.declared.values.Kind.{Kind}
@@ -101,8 +101,8 @@ abbrev pub is_sink_fault : Result ℕ PrintFault → Bool
 is_sink_fault (Err (fault.Sink written)) = true
 is_sink_fault _ = false
 
--- the sink took the text whole, whose length is answered; or it failed after its first bytes, whose number is answered
+-- the sink took the text whole, whose length is answered; or it failed after its first bytes, and not all, and their number is answered
 abbrev pub WritesText : Option (List ℕ) → Option (List ℕ) → List ℕ → Result ℕ PrintFault → Type 0
 WritesText old new text (Ok n) = Appends old new text × (n ≡ length text)
-WritesText old new text (Err (fault.Sink written)) = Appends old new (take written text) × (written ≤ length text)
+WritesText old new text (Err (fault.Sink written)) = Appends old new (take written text) × (written < length text)
 WritesText old new text (Err f) = ⊥

@@ -9,5 +9,5 @@ returns-in-Ok-clause-text g c =
 
 pub returns-in-Err-clause-text : goal.returns-in-Err-clause-text
 returns-in-Err-clause-text g c =
-    let (front, rest, is, known, count) = c.in-Err.ensures.took in
-    failed _ _ _ _ _ c.args.piece.now front rest (ap (λ t. t ++ c.args.piece.now) (empty_held c.args.stage.now c.requires.empty) ∙ is) known count
+    let (front, rest, is, known, count, more) = c.in-Err.ensures.took in
+    failed _ _ _ _ _ c.args.piece.now front rest (ap (λ t. t ++ c.args.piece.now) (empty_held c.args.stage.now c.requires.empty) ∙ is) known count more
