@@ -140,7 +140,7 @@ passed_limit k ds p d q r t b z at e full =
     rw (drop_at ds p d at, e, over, ← full) refl
 
 -- what was opened is that of the stage that the bytes of the item lead to
-opened_grown : (d : Directive) (p : Phase) (q r : Stage) (g : List ℕ) (opened : Option Opened) → Shows d p r → GrowsBy q g r → opened ≡ opened_for (text_slot d) q
+pub opened_grown : (d : Directive) (p : Phase) (q r : Stage) (g : List ℕ) (opened : Option Opened) → Shows d p r → GrowsBy q g r → opened ≡ opened_for (text_slot d) q
     → opened_with (slot_in p) g opened ≡ opened_for (text_slot d) r
 opened_grown d p q r g opened showing grown is = grind arith
 
