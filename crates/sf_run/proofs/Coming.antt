@@ -1,17 +1,20 @@
 -- How far a run has come with the bytes that it consumed.
 use Rattle.std.proofs.Common.{◌≡◌, ℕ, suc, ◌+◌, ◌-◌, ◌≤◌, Bool, true, false, cond, ◌&&◌, List, [], ◌∷◌, ◌++◌, length, take, drop, append_assoc, append-nil, length-append, length-drop, Option, Some, None, refl, sym, ap, ap₂, subst, ◌∙◌, arith}
 use Rattle.std.specs.Prelude.{slice_get}
-use Rattle.std.proofs.lemmas.List.{drop-append-le, drop_all, length-take-le}
+use Rattle.std.proofs.lemmas.List.{drop-append-le, drop-drop, drop_all, length-take-le, take-append-drop}
 use Rattle.std.proofs.lemmas.List.Sums.{sum_by-append}
+use Rattle.std.proofs.Math.Seq.{take-add}
 use Rattle.sf_base.specs.Bytes.{is_white}
-use Rattle.sf_base.specs.Kept.{Opened}
+use Rattle.sf_base.specs.Kept.{Opened, text_of}
 use Rattle.sf_format.specs.declared.directive.Shape.{Shape}
 use Rattle.sf_format.specs.declared.directive.Conversion.{Conversion}
 use Rattle.sf_format.specs.declared.directive.Directive.{Directive}
 use Rattle.sf_format.specs.declared.directive.Directive.TheVariants.{Space, Byte, Percent, Conv}
 use Rattle.sf_format.specs.Proper.{AreProper}
 use Rattle.sf_item.specs.Tests.{can_take}
+use Rattle.sf_run.specs.declared.directive.Finished.{Finished}
 use Rattle.sf_run.specs.declared.directive.Phase.{Phase}
+use Rattle.sf_run.specs.declared.directive.Run.{Run}
 use Rattle.sf_run.specs.declared.directive.Phase.TheVariants as phase
 use Rattle.sf_report.specs.declared.outcome.Status.{Status}
 use Rattle.sf_report.specs.Steps.{StepEnd, Fails, Passes, Stores}
@@ -19,17 +22,20 @@ use Rattle.sf_report.specs.Runs.{Ran, used}
 use Rattle.sf_report.specs.Limits.{IsCut}
 use Rattle.sf_report.specs.Machine.{Stage, Skipping, Item, item_stepped, shape_skips}
 use Rattle.sf_report.specs.Computed.{go_on, part_of, ran_of, skip, skip_before, step_of}
-use Rattle.sf_report.specs.Residual.{Part, choose, one_from, stepped_all}
-use Rattle.sf_run.specs.Phases.{Brings, Shows, slot_in}
-use Rattle.sf_run.specs.Standing.{Comes, ComesBy, IsTextUnderWay, LedFirst, ShowsFirst, Standing, text_begun}
-use Rattle.sf_run.specs.Texts.{opened_for, opened_with, text_slot}
+use Rattle.sf_report.specs.Residual.{Part, Tally, choose, one_from, stepped_all}
+use Rattle.sf_run.specs.Phases.{Brings, Shows, end_of, slot_in}
+use Rattle.sf_run.specs.Pieces.{IsEnd, item_of}
+use Rattle.sf_run.specs.Standing.{Advances, Comes, ComesBy, Ends, IsTextUnderWay, LedFirst, ShowsFirst, Standing, TakesAll, text_begun}
+use Rattle.sf_run.specs.Standing.{Passes as Passed}
+use Rattle.sf_run.specs.Texts.{IsNextSlot, opened_for, opened_with, text_slot}
 use Rattle.sf_report.proofs.Joined.{all-append, one_from-all}
 use Rattle.sf_report.proofs.Machines.{some_is}
 use Rattle.sf_report.proofs.Ones.{one_made}
+use Rattle.sf_report.proofs.Openness.{counted-used}
 use Rattle.sf_report.proofs.RunLaws.{ran_at, steps_only}
 use Rattle.sf_report.proofs.StepLaws.{skip_before_is}
-use Rattle.sf_run.proofs.Moves.{drop_at, opened_grown, shows_fresh}
-use Rattle.sf_run.proofs.Pieces.{parted}
+use Rattle.sf_run.proofs.Moves.{Reaches, closing_text, drop_at, opened_grown, reaches_taken, shows_fresh}
+use Rattle.sf_run.proofs.Pieces.{parted, same_part}
 
 -- what has come so far, by the fields
 same_comes : (s : Standing) (ds : List Directive) (p : ℕ) (current : Phase) (opened : Option Opened) (n : ℕ) (x y : List ℕ)
@@ -179,6 +185,68 @@ passes_on ds p d at current opened n x y h k f ok within takes = record {
         ∙ ap (λ m. one_from d h.stage m (y ++ z)) bytes_size
         ∙ takes h.stage shows.0 shows.1 z
         ∙ ap (λ m. record { used = m; left = drop k y ++ z; end = f }) (let s = bytes_size in omega (arith, s))
+
+-- ---- moves
+
+-- the directive under way has used up what it was handed, and waits for more
+pub waits_advance : (new old : Standing) (d : Directive) (run : Run) (m : ℕ) (piece front item : List ℕ) → slice_get old.directives old.passed ≡ Some d → old.ended ≡ None → front ≡ take m piece → m ≤ length piece
+    → run.before + run.item ≡ length front → item ≡ take run.item (drop run.before front) → TakesAll new old run.phase (run.before + run.item) (opened_with (slot_in run.phase) item old.opened)
+    → ((q : Stage) → Shows d old.phase q → Brings d q front (take run.item (drop run.before front)) run.phase) → Advances new old piece (run.before + run.item)
+waits_advance new old d run m piece front item at waits is within all own takes brings x h still =
+    let n : ℕ = run.before + run.item in
+    let long : length front ≡ m = ap length is ∙ length-take-le m piece within in
+    let same : n ≡ m = omega (arith, long, all) in
+    let whole : piece ≡ front ++ drop m piece = sym (ap (λ l. l ++ drop m piece) is ∙ take-append-drop m piece) in
+    let goes = goes_on old.directives old.passed d at old.phase old.opened old.tally.used x piece h front item (drop m piece) run.phase whole
+        (λ q shows. subst (λ g. Brings d q front g run.phase) (sym own) (brings q shows)) in
+    let there : Comes new (x ++ front) (drop m piece) = same_comes new old.directives old.passed run.phase (opened_with (slot_in run.phase) item old.opened) (old.tally.used + length front) (x ++ front) (drop m piece)
+        takes.keeps.directives takes.passed takes.phase takes.opened (ap (λ (t : Tally). t.used) takes.tally ∙ ap (λ k. old.tally.used + k) all) goes in
+    subst (λ k. Comes new (x ++ take k piece) (drop k piece)) (sym same) (subst (λ l. Comes new (x ++ l) (drop m piece)) is there)
+
+-- the directive under way has ended
+ends_advance : (new mid old : Standing) (d : Directive) (f : StepEnd) (y : List ℕ) (n : ℕ) → slice_get old.directives old.passed ≡ Some d → Reaches mid old → mid.tally.used ≡ old.tally.used + n → Ends new mid d f
+    → n ≤ length y
+    → ((q : Stage) → Shows d old.phase q → old.opened ≡ opened_for (text_slot d) q → (z : List ℕ) → one_from d q old.tally.used (y ++ z) ≡ record { used = old.tally.used + n; left = drop n y ++ z; end = f })
+    → Advances new old y n
+ends_advance new mid old d f y n at here used ends within takes x h still = by f ends takes
+  where
+    passes : (g : StepEnd) → ((status : Status) → g ≡ Fails status → ⊥) → Passed new mid d g
+        → ((q : Stage) → Shows d old.phase q → old.opened ≡ opened_for (text_slot d) q → (z : List ℕ) → one_from d q old.tally.used (y ++ z) ≡ record { used = old.tally.used + n; left = drop n y ++ z; end = g })
+        → Comes new (x ++ take n y) (drop n y)
+    passes g ok passed takes =
+        same_comes new old.directives (old.passed + 1) phase.Skipping None (old.tally.used + n) (x ++ take n y) (drop n y)
+        (passed.keeps.directives ∙ here.keeps.directives) (passed.passed ∙ ap (λ p. p + 1) here.passed) passed.phase passed.opened
+        (ap (λ (t : Tally). t.used) passed.tally ∙ counted-used d g mid.tally ∙ used)
+        (passes_on old.directives old.passed d at old.phase old.opened old.tally.used x y h n g ok within takes)
+
+    by : (g : StepEnd) → Ends new mid d g
+        → ((q : Stage) → Shows d old.phase q → old.opened ≡ opened_for (text_slot d) q → (z : List ℕ) → one_from d q old.tally.used (y ++ z) ≡ record { used = old.tally.used + n; left = drop n y ++ z; end = g })
+        → Comes new (x ++ take n y) (drop n y)
+    by Passes ends takes = passes Passes (λ status e. cc) ends takes
+    by (Stores slot v) ends takes = passes (Stores slot v) (λ status e. cc) ends takes
+    by (Fails status) ends takes = let stopped = ends.ended in absurd cc
+
+pub answer_advances : (new mid old : Standing) (d : Directive) (run : Run) (end : Finished) (front y : List ℕ) → slice_get old.directives old.passed ≡ Some d
+    → TakesAll mid old run.phase (run.before + run.item) (opened_with (slot_in run.phase) (take run.item (drop run.before front)) old.opened) → Ends new mid d (end_of (text_of mid.opened) end)
+    → IsNextSlot (text_slot d) (slot_in old.phase) (slot_in run.phase) → IsEnd d run.phase end → run.before + run.item ≤ length y
+    → ((q : Stage) → Shows d old.phase q → (z : List ℕ)
+    → one_from d q old.tally.used (y ++ z) ≡ record { used = old.tally.used + (run.before + run.item); left = drop (run.before + run.item) y ++ z; end = end_of (item_of q ++ take run.item (drop run.before front)) end })
+    → Advances new old y (run.before + run.item)
+answer_advances new mid old d run end front y at takes ends next own within parts =
+    ends_advance new mid old d (end_of (text_of mid.opened) end) y (run.before + run.item) at (reaches_taken mid old run.phase _ _ takes) (ap (λ (t : Tally). t.used) takes.tally) ends within
+    (λ q shows is z. parts q shows z ∙ same_part refl refl
+    (sym (ap (λ o. end_of (text_of o) end) takes.opened ∙ closing_text d old.phase run.phase q old.opened (take run.item (drop run.before front)) end shows is next own)))
+
+-- no byte was taken yet
+pub stays_put : (s : Standing) (y : List ℕ) → Advances s s y 0
+stays_put s y x h still = subst (λ l. Comes s l y) (sym (append-nil x)) h
+
+-- one move after another
+pub advances_on : (old mid new : Standing) (y : List ℕ) (n k : ℕ) → mid.ended ≡ None → Advances mid old y n → Advances new mid (drop n y) k → Advances new old y (n + k)
+advances_on old mid new y n k waits first second x h still =
+    let there : Comes new ((x ++ take n y) ++ take k (drop n y)) (drop k (drop n y)) = second (x ++ take n y) (first x h waits) still in
+    subst (λ l. Comes new l (drop (n + k) y)) (append_assoc x (take n y) (take k (drop n y)) ∙ ap (λ l. x ++ l) (sym (take-add n k y)))
+    (subst (λ l. Comes new ((x ++ take n y) ++ take k (drop n y)) l) (drop-drop k n y) there)
 
 -- ---- the text under way
 

@@ -33,3 +33,5 @@ returns-clause-after g c =
     (λ k z within. c.push.ensures.same c.requires.proper fine z k (run_of (Some k) ds 1 nothing_yet z) (omega (arith, used)) within
     (start_does ds ds kept.opened (tally_of c.new.result kept.values) k z refl (ap (λ (k : Kept). k.opened) c.requires.empty) nothing))
     c.push.ensures.settled used c.push.ensures.keeps.met
+    (λ waits. subst (λ k. Comes (standing c.push.new.self) (take k []) (drop k [])) none
+    (c.push.ensures.comes c.requires.proper [] ? waits))
