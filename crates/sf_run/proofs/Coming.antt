@@ -1,7 +1,7 @@
 -- How far a run has come with the bytes that it consumed.
-use Rattle.std.proofs.Common.{◌≡◌, ℕ, suc, ◌+◌, ◌-◌, ◌≤◌, Bool, true, false, cond, ◌&&◌, List, [], ◌∷◌, ◌++◌, length, take, drop, append_assoc, append-nil, length-append, length-drop, Option, Some, None, refl, sym, ap, ap₂, subst, ◌∙◌, arith}
-use Rattle.std.specs.Prelude.{slice_get}
-use Rattle.std.proofs.lemmas.List.{drop-append-le, drop-drop, drop_all, length-take-le, take-append-drop}
+use Rattle.std.proofs.Common.{◌≡◌, ℕ, suc, ◌+◌, ◌≤◌, Bool, true, false, cond, ◌&&◌, List, [], ◌∷◌, ◌++◌, length, take, drop, append_assoc, append-nil, length-append, length-drop, Option, Some, None, refl, sym, ap, ap₂, subst, ◌∙◌, arith, is_some, true≢false}
+use Rattle.std.specs.Prelude.{IsSome, slice_get}
+use Rattle.std.proofs.lemmas.List.{drop-append-le, drop-drop, drop_all, length-take-le, take-append-drop, take_all}
 use Rattle.std.proofs.lemmas.List.Sums.{sum_by-append}
 use Rattle.std.proofs.Math.Seq.{take-add}
 use Rattle.sf_base.specs.Bytes.{is_white}
@@ -48,7 +48,7 @@ led_fresh : (ds : List Directive) → LedFirst ds [] Skipping
 led_fresh [] = tt
 led_fresh (d ∷ ds) = refl
 
-pub comes_first : (ds : List Directive) → ComesBy ds 0 phase.Skipping None 0 [] []
+comes_first : (ds : List Directive) → ComesBy ds 0 phase.Skipping None 0 [] []
 comes_first ds = record {
   before = [];
   stage = Skipping;
@@ -59,6 +59,9 @@ comes_first ds = record {
   shown = shows_fresh ds;
   led = led_fresh ds;
 }
+
+pub first_comes : (ds : List Directive) (opened : Option Opened) (n : ℕ) → opened ≡ None → n ≡ 0 → ComesBy ds 0 phase.Skipping opened n [] []
+first_comes ds opened n none nothing = rw (none, nothing) (comes_first ds)
 
 -- ---- bytes that follow
 
@@ -192,15 +195,16 @@ passes_on ds p d at current opened n x y h k f ok within takes = record {
 pub waits_advance : (new old : Standing) (d : Directive) (run : Run) (m : ℕ) (piece front item : List ℕ) → slice_get old.directives old.passed ≡ Some d → old.ended ≡ None → front ≡ take m piece → m ≤ length piece
     → run.before + run.item ≡ length front → item ≡ take run.item (drop run.before front) → TakesAll new old run.phase (run.before + run.item) (opened_with (slot_in run.phase) item old.opened)
     → ((q : Stage) → Shows d old.phase q → Brings d q front (take run.item (drop run.before front)) run.phase) → Advances new old piece (run.before + run.item)
+unfolding Advances
 waits_advance new old d run m piece front item at waits is within all own takes brings x h still =
     let n : ℕ = run.before + run.item in
     let long : length front ≡ m = ap length is ∙ length-take-le m piece within in
     let same : n ≡ m = omega (arith, long, all) in
     let whole : piece ≡ front ++ drop m piece = sym (ap (λ l. l ++ drop m piece) is ∙ take-append-drop m piece) in
     let goes = goes_on old.directives old.passed d at old.phase old.opened old.tally.used x piece h front item (drop m piece) run.phase whole
-        (λ q shows. subst (λ g. Brings d q front g run.phase) (sym own) (brings q shows)) in
+    (λ q shows. subst (λ g. Brings d q front g run.phase) (sym own) (brings q shows)) in
     let there : Comes new (x ++ front) (drop m piece) = same_comes new old.directives old.passed run.phase (opened_with (slot_in run.phase) item old.opened) (old.tally.used + length front) (x ++ front) (drop m piece)
-        takes.keeps.directives takes.passed takes.phase takes.opened (ap (λ (t : Tally). t.used) takes.tally ∙ ap (λ k. old.tally.used + k) all) goes in
+    takes.keeps.directives takes.passed takes.phase takes.opened (ap (λ (t : Tally). t.used) takes.tally ∙ ap (λ k. old.tally.used + k) all) goes in
     subst (λ k. Comes new (x ++ take k piece) (drop k piece)) (sym same) (subst (λ l. Comes new (x ++ l) (drop m piece)) is there)
 
 -- the directive under way has ended
@@ -208,6 +212,7 @@ ends_advance : (new mid old : Standing) (d : Directive) (f : StepEnd) (y : List 
     → n ≤ length y
     → ((q : Stage) → Shows d old.phase q → old.opened ≡ opened_for (text_slot d) q → (z : List ℕ) → one_from d q old.tally.used (y ++ z) ≡ record { used = old.tally.used + n; left = drop n y ++ z; end = f })
     → Advances new old y n
+unfolding Advances
 ends_advance new mid old d f y n at here used ends within takes x h still = by f ends takes
   where
     passes : (g : StepEnd) → ((status : Status) → g ≡ Fails status → ⊥) → Passed new mid d g
@@ -239,10 +244,24 @@ answer_advances new mid old d run end front y at takes ends next own within part
 
 -- no byte was taken yet
 pub stays_put : (s : Standing) (y : List ℕ) → Advances s s y 0
+unfolding Advances
 stays_put s y x h still = subst (λ l. Comes s l y) (sym (append-nil x)) h
+
+-- it has ended
+pub ended_advances : (new old : Standing) (y : List ℕ) (n : ℕ) → IsSome new.ended → Advances new old y n
+unfolding Advances
+ended_advances new old y n ended x h still = absurd (true≢false (sym ended ∙ ap is_some still))
+
+-- it has come so far, where all of the piece was taken
+pub came : (new old : Standing) (x y : List ℕ) (n : ℕ) → Advances new old y n → n ≡ length y → Comes old x [] → new.ended ≡ None → Comes new (x ++ y) []
+unfolding Advances
+came new old x y n advances whole here still =
+    subst (λ l. Comes new (x ++ l) []) (take_all n y (omega (arith, whole)))
+    (subst (λ l. Comes new (x ++ take n y) l) (drop_all n y (omega (arith, whole))) (advances x (comes_on old x y here) still))
 
 -- one move after another
 pub advances_on : (old mid new : Standing) (y : List ℕ) (n k : ℕ) → mid.ended ≡ None → Advances mid old y n → Advances new mid (drop n y) k → Advances new old y (n + k)
+unfolding Advances
 advances_on old mid new y n k waits first second x h still =
     let there : Comes new ((x ++ take n y) ++ take k (drop n y)) (drop k (drop n y)) = second (x ++ take n y) (first x h waits) still in
     subst (λ l. Comes new l (drop (n + k) y)) (append_assoc x (take n y) (take k (drop n y)) ∙ ap (λ l. x ++ l) (sym (take-add n k y)))

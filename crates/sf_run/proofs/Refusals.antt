@@ -12,7 +12,7 @@ use Rattle.sf_report.specs.declared.outcome.Status.{Status}
 use Rattle.sf_report.specs.declared.outcome.Status.TheVariants.{Done, TooLong, NoMemory}
 use Rattle.sf_run.specs.declared.scanner.Stop.{Stop}
 use Rattle.sf_report.specs.Steps.{StepEnd, Passes, Stores, Fails}
-use Rattle.sf_report.specs.Runs.{Ran, GoesOn, Steps, RunReport, report_of, used}
+use Rattle.sf_report.specs.Runs.{RunReport, report_of, used}
 use Rattle.sf_report.specs.Limits.{IsCut, TellsWithin, RunRefused}
 use Rattle.sf_report.specs.Limits.{Stores as StoresAt, StoresShape}
 use Rattle.sf_report.specs.Machine.{Stage, stepped, finished}

@@ -1,8 +1,8 @@
 -- When a scanner waits, what it has used, and what it tells.
-use Rattle.std.proofs.Common.{◌≡◌, ℕ, ◌+◌, ◌<◌, ◌≤◌, inl, inr, false, List, [], ◌∷◌, ◌++◌, length, take, drop, Option, Some, None, is_some, refl, sym, ap, subst, ◌∙◌, arith, append_assoc, length-append}
+use Rattle.std.proofs.Common.{◌≡◌, ℕ, ◌+◌, ◌<◌, ◌≤◌, inl, inr, false, List, [], ◌∷◌, ◌++◌, length, drop, Option, Some, None, is_some, refl, sym, ap, subst, ◌∙◌, arith, append_assoc, length-append}
 use Rattle.std.specs.Prelude.{slice_get, IfNone, IsSome}
 use Rattle.std.proofs.lemmas.Bool.{le-ltb, cases_lt}
-use Rattle.std.proofs.lemmas.List.{append-nil, drop_all, take_all}
+use Rattle.std.proofs.lemmas.List.{append-nil}
 use Rattle.sf_format.specs.declared.directive.Directive.{Directive}
 use Rattle.sf_format.specs.declared.directive.Directive.TheVariants.{Conv}
 use Rattle.sf_format.specs.Proper.{IsProper, AreProper}
@@ -27,7 +27,7 @@ use Rattle.sf_report.specs.Limits.{RunTold}
 use Rattle.sf_base.specs.Kept.{Opened}
 use Rattle.sf_report.proofs.Inputs.{open_all}
 use Rattle.sf_report.proofs.Machines.{some_is, can_take_one, item_byte, item_byte-below, item_takes}
-use Rattle.sf_run.proofs.Coming.{comes_on, text_of_cut}
+use Rattle.sf_run.proofs.Coming.{came, text_of_cut}
 use Rattle.sf_run.proofs.Moves.{drop_at, proper_at, ended_does, waiting, byte_took, byte_past}
 use Rattle.sf_report.proofs.Openness.{uses_within, within_limit, run_not_too_long, over_is_too_long, rest_too_long_at, rest_uses_nothing}
 use Rattle.sf_report.proofs.Told.{run_told, told_exists, told_is, uses_is, uses_from, within_met, met_within}
@@ -309,9 +309,7 @@ after_push ds m old new x piece n h low follows used within all stays keeps sett
         let waited : old.ended ≡ None = none_before old.ended new.ended stays e in
         let here : Comes old x [] = subst (λ (o : Option Stop). IfNone o (Comes old x [])) waited h.come in
         let whole : n ≡ length piece = subst (λ (o : Option Stop). IfNone o (n ≡ length piece)) e all in
-        let there : Comes new (x ++ take n piece) (drop n piece) = advances (subst AreProper (sym h.format) h.proper) x (comes_on old x piece here) e in
-        subst (λ l. Comes new (x ++ l) []) (take_all n piece (omega (arith, whole)))
-        (subst (λ l. Comes new (x ++ take n piece) l) (drop_all n piece (omega (arith, whole))) there)
+        came new old x piece n (advances (subst AreProper (sym h.format) h.proper)) whole here e
 
     go : (o : Option Stop) → new.ended ≡ o → IfNone o (new.tally.used ≡ length (x ++ piece))
     go o e = grind (arith, none_before, length-append)

@@ -84,7 +84,7 @@ abbrev pub Comes : Standing → List ℕ → List ℕ → Type 0
 Comes s x y = ComesBy s.directives s.passed s.phase s.opened s.tally.used x y
 
 -- where the old one was followed by y, the new one, if it waits, has come n bytes further
-abbrev pub Advances : Standing → Standing → List ℕ → ℕ → Type 0
+unfoldable pub Advances : Standing → Standing → List ℕ → ℕ → Type 0
 Advances new old y n = (x : List ℕ) → Comes old x y → new.ended ≡ None → Comes new (x ++ take n y) (drop n y)
 
 -- ---- moves

@@ -217,6 +217,7 @@ impl<'f, S: Store> Scanner<'f, S> {
         ensures keeps { Keeps (standing self.new) (standing self.old) }
         ensures fewer { turns_left (standing self.new) < turns_left (standing self.old) }
         ensures memory { ran_out (standing self.new) ≡ false }
+        ensures ended { IsSome self.new.ended }
     {
         let stop = Stop {
             status: Status::Done,

@@ -1,4 +1,4 @@
-use Rattle.std.proofs.Common.{◌+◌, ◌++◌, ℕ, List, take, drop, Option, refl, ap, subst, ◌∙◌, arith}
+use Rattle.std.proofs.Common.{◌+◌, ◌++◌, ℕ, List, take, drop, Option, refl, ap, subst, ◌∙◌, arith, is_some}
 use Rattle.std.specs.Prelude.{slice_get}
 use Rattle.std.proofs.lemmas.Option.{slice_get_within}
 use Rattle.sf_run.specs.declared.directive.Finished.{Finished}
@@ -8,7 +8,7 @@ use Rattle.sf_run.specs.Pieces.{AnswersBy, item_of}
 use Rattle.sf_run.specs.Standing.{Standing, TakesAll, Waits}
 use Rattle.sf_run.specs.Texts.{opened_with}
 use Rattle.sf_run.specs.Scanner.{kept_by, standing}
-use Rattle.sf_run.proofs.Coming.{answer_advances, waits_advance}
+use Rattle.sf_run.proofs.Coming.{answer_advances, ended_advances, waits_advance}
 use Rattle.sf_run.proofs.Moves.{answer_follows, if_none, limit_follows, runs_out_refuses, waits_follow}
 use Rattle.sf_run.proofs.Pieces.{end_is, front_ends, stores_front, uses_front}
 use Rattle.sf_run.proofs.Slots.{if_some, own_text}
@@ -129,3 +129,10 @@ returns-clause-comes g c proper =
     (λ q shows z.
     let a = subst (λ (o : Option Finished). AnswersBy o d q s.tally.used front run) c.in-Some.is ((c.run_on-run.ensures.answers q proper shows).goes) in
     front_ends d q s.tally.used m n piece front (end_of (item_of q ++ take run.item (drop run.before front)) c.in-Some.finished) c.split_at.ensures.front a z)
+
+pub returns-then-taken-room-clause-comes : goal.returns-then-taken-room-clause-comes
+returns-then-taken-room-clause-comes g c _ = ended_advances (standing c.fail.new.self) (standing c.args.self.now) c.args.piece.now _ (ap is_some c.fail.ensures.ended)
+
+pub returns-then-not-take_all-clause-comes : goal.returns-then-not-take_all-clause-comes
+returns-then-not-take_all-clause-comes g c _ =
+    ended_advances (standing c.take_all.new.self) (standing c.args.self.now) c.args.piece.now _ (ap is_some c.if-not-take_all.ensures.refused.ended)
