@@ -1,5 +1,6 @@
 -- The directives make exactly one list of steps.
-use Rattle.std.proofs.Common.{◌≡◌, ℕ, ◌+◌, List, [], ◌∷◌, drop, refl, ap₂, ◌∙◌}
+use Rattle.std.proofs.Common.{◌≡◌, ℕ, ◌+◌, List, [], ◌∷◌, ◌++◌, length, drop, Some, refl, sym, ap, ap₂, ◌∙◌}
+use Rattle.std.specs.Prelude.{slice_get}
 use Rattle.sf_format.specs.declared.directive.Directive.{Directive}
 use Rattle.sf_format.specs.Proper.{AreProper}
 use Rattle.sf_report.specs.Steps.{StepEnd, Passes, Stores, Fails}
@@ -33,3 +34,17 @@ steps_only (d ∷ ds) proper x n (r ∷ ran) h =
     (λ other s. steps_only ds proper.1 (drop r.bytes x) (n + r.bytes) other s) h.2 in
     ap₂ (λ directive more. record { directive = directive; bytes = r.bytes; end = r.end } ∷ more) h.0 rest
     ∙ ap₂ (λ bytes end. record { directive = d; bytes = bytes; end = end } ∷ go_on end (ran_of ds (drop bytes x) (n + bytes))) step.0 step.1
+
+-- ---- the directive that made a step
+
+goes : (end : StepEnd) (rest : Type 0) (before : List Ran) (cut : Ran) (more : List Ran) → GoesOn end rest (before ++ cut ∷ more) → rest
+goes Passes rest before cut more h = h
+goes (Stores slot v) rest before cut more h = h
+goes (Fails status) rest [] cut more h = cc
+goes (Fails status) rest (r ∷ before) cut more h = cc
+
+pub ran_at : (ds : List Directive) (x : List ℕ) (n : ℕ) (before : List Ran) (cut : Ran) (more : List Ran) → Steps ds x n (before ++ cut ∷ more) → slice_get ds (length before) ≡ Some cut.directive
+ran_at [] x n [] cut more h = absurd h
+ran_at [] x n (r ∷ before) cut more h = absurd h
+ran_at (d ∷ ds) x n [] cut more h = ap (λ (e : Directive). Some e) (sym h.0)
+ran_at (d ∷ ds) x n (r ∷ before) cut more h = ran_at ds (drop r.bytes x) (n + r.bytes) before cut more (goes r.end (Steps ds (drop r.bytes x) (n + r.bytes) (before ++ cut ∷ more)) before cut more h.2)

@@ -91,7 +91,7 @@ ends_only c x (suc j) end h =
 
 -- ---- items
 
-skip_before_is : (shape : Shape) (x : List ℕ) → IsSkipBefore shape x (skip_before shape x)
+pub skip_before_is : (shape : Shape) (x : List ℕ) → IsSkipBefore shape x (skip_before shape x)
 skip_before_is shape x = grind (arith, skip_is)
 
 skip_before_only : (shape : Shape) (x : List ℕ) (s : ℕ) → IsSkipBefore shape x s → s ≡ skip_before shape x

@@ -20,6 +20,7 @@ pub mod Stages
 pub mod Brought
 pub mod Pieces
 pub mod Moves
+pub mod Coming
 pub mod Slots
 pub mod Waits
 pub mod Refusals

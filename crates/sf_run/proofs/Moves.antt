@@ -140,7 +140,7 @@ passed_limit k ds p d q r t b z at e full =
     rw (drop_at ds p d at, e, over, ← full) refl
 
 -- what was opened is that of the stage that the bytes of the item lead to
-opened_grown : (d : Directive) (p : Phase) (q r : Stage) (g : List ℕ) (opened : Option Opened) → Shows d p r → GrowsBy q g r → opened ≡ opened_for (text_slot d) q
+pub opened_grown : (d : Directive) (p : Phase) (q r : Stage) (g : List ℕ) (opened : Option Opened) → Shows d p r → GrowsBy q g r → opened ≡ opened_for (text_slot d) q
     → opened_with (slot_in p) g opened ≡ opened_for (text_slot d) r
 opened_grown d p q r g opened showing grown is = grind arith
 
@@ -228,7 +228,7 @@ last_follows new old d f at waits ends is =
     (λ q shows opened. ap (λ (e : StepEnd). record { used = old.tally.used; left = []; end = e }) (sym (is q shows opened)))
 
 -- what closes the text under way closes the whole item
-closing_text : (d : Directive) (current new : Phase) (q : Stage) (opened : Option Opened) (g : List ℕ) (end : Finished) → Shows d current q → opened ≡ opened_for (text_slot d) q
+pub closing_text : (d : Directive) (current new : Phase) (q : Stage) (opened : Option Opened) (g : List ℕ) (end : Finished) → Shows d current q → opened ≡ opened_for (text_slot d) q
     → IsNextSlot (text_slot d) (slot_in current) (slot_in new) → IsEnd d new end → end_of (text_of (opened_with (slot_in new) g opened)) end ≡ end_of (item_of q ++ g) end
 closing_text d current new q opened g end shows is next own = grind arith
 

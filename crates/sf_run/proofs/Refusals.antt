@@ -12,7 +12,7 @@ use Rattle.sf_report.specs.declared.outcome.Status.{Status}
 use Rattle.sf_report.specs.declared.outcome.Status.TheVariants.{Done, TooLong, NoMemory}
 use Rattle.sf_run.specs.declared.scanner.Stop.{Stop}
 use Rattle.sf_report.specs.Steps.{StepEnd, Passes, Stores, Fails}
-use Rattle.sf_report.specs.Runs.{Ran, GoesOn, Steps, RunReport, report_of, used}
+use Rattle.sf_report.specs.Runs.{RunReport, report_of, used}
 use Rattle.sf_report.specs.Limits.{IsCut, TellsWithin, RunRefused}
 use Rattle.sf_report.specs.Limits.{Stores as StoresAt, StoresShape}
 use Rattle.sf_report.specs.Machine.{Stage, stepped, finished}
@@ -24,6 +24,7 @@ use Rattle.sf_report.specs.Computed.{skip}
 use Rattle.sf_report.proofs.Skips.{skip_is, one_more-le}
 use Rattle.sf_report.proofs.Machines.{some_is, by_option}
 use Rattle.sf_report.proofs.Openness.{run_not_too_long}
+use Rattle.sf_report.proofs.RunLaws.{ran_at}
 use Rattle.sf_report.proofs.Told.{run_told}
 use Rattle.sf_run.proofs.Waits.{cut_here}
 
@@ -73,20 +74,6 @@ after_fine ds m s x h = by_case s.ended refl
     by_case : (o : Option Stop) → s.ended ≡ o → is_no_memory o ≡ false
     by_case None e = refl
     by_case (Some stop) e = ap (λ (r : RunReport). is_memory_status r.status) (sym (cut_here ds m s x h stop e)) ∙ run_fine (Some m) ds 1 nothing_yet x
-
--- ---- the directive at a place
-
-goes : (end : StepEnd) (rest : Type 0) (before : List Ran) (cut : Ran) (more : List Ran) → GoesOn end rest (before ++ cut ∷ more) → rest
-goes Passes rest before cut more h = h
-goes (Stores slot v) rest before cut more h = h
-goes (Fails status) rest [] cut more h = cc
-goes (Fails status) rest (r ∷ before) cut more h = cc
-
-ran_at : (ds : List Directive) (x : List ℕ) (n : ℕ) (before : List Ran) (cut : Ran) (more : List Ran) → Steps ds x n (before ++ cut ∷ more) → slice_get ds (length before) ≡ Some cut.directive
-ran_at [] x n [] cut more h = absurd h
-ran_at [] x n (r ∷ before) cut more h = absurd h
-ran_at (d ∷ ds) x n [] cut more h = ap (λ (e : Directive). Some e) (sym h.0)
-ran_at (d ∷ ds) x n (r ∷ before) cut more h = ran_at ds (drop r.bytes x) (n + r.bytes) before cut more (goes r.end (Steps ds (drop r.bytes x) (n + r.bytes) (before ++ cut ∷ more)) before cut more h.2)
 
 -- ---- white space before a text
 

@@ -1,6 +1,6 @@
 -- When a scanner waits, what it has used, and what it tells.
 use Rattle.std.proofs.Common.{◌≡◌, ℕ, ◌+◌, ◌<◌, ◌≤◌, inl, inr, false, List, [], ◌∷◌, ◌++◌, length, drop, Option, Some, None, is_some, refl, sym, ap, subst, ◌∙◌, arith, append_assoc, length-append}
-use Rattle.std.specs.Prelude.{IfNone, IsSome}
+use Rattle.std.specs.Prelude.{slice_get, IfNone, IsSome}
 use Rattle.std.proofs.lemmas.Bool.{le-ltb, cases_lt}
 use Rattle.std.proofs.lemmas.List.{append-nil}
 use Rattle.sf_format.specs.declared.directive.Directive.{Directive}
@@ -18,7 +18,7 @@ use Rattle.sf_report.specs.Limits.{IsCut, RunWithin, TellsWithin, cut_report}
 use Rattle.sf_report.specs.Machine.{Stage, Skipping, Item, stepped, is_full}
 use Rattle.sf_run.specs.Phases.{ShowsItem, Shows}
 use Rattle.sf_report.specs.Residual.{Tally, nothing_yet, with_used, out_of, run_of, run_from}
-use Rattle.sf_run.specs.Standing.{Standing, ShowsFirst, DoesBy, Does, Follows, Waits, IsSettled, Keeps, After, HasCome, report_by, report_of, Gives}
+use Rattle.sf_run.specs.Standing.{Standing, ShowsFirst, DoesBy, Does, Follows, Waits, IsSettled, Keeps, Advances, After, Comes, ComesBy, HasCome, report_by, report_of, Gives}
 use Rattle.sf_base.specs.Data.{Assigned}
 use Rattle.sf_run.specs.declared.tally.Tally as code
 use Rattle.sf_run.specs.Tallies.{tally_of}
@@ -27,6 +27,7 @@ use Rattle.sf_report.specs.Limits.{RunTold}
 use Rattle.sf_base.specs.Kept.{Opened}
 use Rattle.sf_report.proofs.Inputs.{open_all}
 use Rattle.sf_report.proofs.Machines.{some_is, can_take_one, item_byte, item_byte-below, item_takes}
+use Rattle.sf_run.proofs.Coming.{came, text_of_cut}
 use Rattle.sf_run.proofs.Moves.{drop_at, proper_at, ended_does, waiting, byte_took, byte_past}
 use Rattle.sf_report.proofs.Openness.{uses_within, within_limit, run_not_too_long, over_is_too_long, rest_too_long_at, rest_uses_nothing}
 use Rattle.sf_report.proofs.Told.{run_told, told_exists, told_is, uses_is, uses_from, within_met, met_within}
@@ -102,6 +103,9 @@ module _ (ds : List Directive) (m : ℕ) (s : Standing) (x : List ℕ) (h : Afte
 
     used : s.tally.used ≡ length x
     used = subst (λ (o : Option Stop). IfNone o (s.tally.used ≡ length x)) e h.all
+
+    come : Comes s x []
+    come = subst (λ (o : Option Stop). IfNone o (Comes s x [])) e h.come
 
     proper_own : IsProper waits.under_way
     proper_own = proper_at s.directives s.passed waits.under_way (subst AreProper (sym h.format) h.proper) waits.current
@@ -202,6 +206,8 @@ module _ (ds : List Directive) (m : ℕ) (s : Standing) (x : List ℕ) (h : Afte
               assigned_are = ap (λ (r : RunReport). r.assigned) same;
               converted_are = ap (λ (r : RunReport). r.converted) same;
               values_are = ap (λ (r : RunReport). r.values) same;
+              text_is = text_of_cut ds h.proper s.passed waits.under_way (ap (λ l. slice_get l s.passed) (sym h.format) ∙ waits.current) s.phase s.opened s.tally.used x one.byte (length x)
+                  (subst (λ l. ComesBy l s.passed s.phase s.opened s.tally.used x []) h.format come) w.0 (omega (arith, place)) w.1;
             }
 
   -- an ended one tells the same however the input goes on
@@ -254,13 +260,15 @@ after_more ds m s x z h ended = record {
       let w = h.same k (z ++ y) below within in
       (w.0, ended_does s k (z ++ y) y w.0 ended w.1, subst (λ v. TellsWithin ds k v w.0) (sym (append_assoc x z y)) w.2);
   settled = h.settled;
-  all = ended_all s.ended ended;
+  all = ended_all s.ended (s.tally.used ≡ length (x ++ z)) ended;
+  come = ended_all s.ended (Comes s (x ++ z) []) ended;
   within = grind (arith, length-append);
   fed = h.fed;
 }
   where
-    ended_all : (o : Option Stop) → IsSome o → IfNone o (s.tally.used ≡ length (x ++ z))
-    ended_all o i = grind arith
+    ended_all : (o : Option Stop) (P : Type 0) → IsSome o → IfNone o P
+    ended_all None P i = absurd cc
+    ended_all (Some stop) P i = tt
 
 -- an ended one has the report of every longer input, with every ending
 pub ended_gives : (ds : List Directive) (m : ℕ) (s : Standing) (x z : List ℕ) (ending : Ending) → After ds m s x → IsSome s.ended → Gives ds m s (x ++ z) ending
@@ -278,8 +286,8 @@ none_before o p h e = grind arith
 -- after a piece was pushed
 pub after_push : (ds : List Directive) (m : ℕ) (old new : Standing) (x piece : List ℕ) (n : ℕ) → After ds m old x → new.tally.used ≤ new.limit
     → (AreProper old.directives → (z : List ℕ) → Follows new old z (piece ++ z)) → new.tally.used ≡ old.tally.used + n → n ≤ length piece → IfNone new.ended (n ≡ length piece)
-    → (IsSome old.ended → IsSome new.ended) → Keeps new old → (IsSettled old → IsSettled new) → After ds m new (x ++ piece)
-after_push ds m old new x piece n h low follows used within all stays keeps settled = record {
+    → (IsSome old.ended → IsSome new.ended) → Keeps new old → (IsSettled old → IsSettled new) → (AreProper old.directives → Advances new old piece n) → After ds m new (x ++ piece)
+after_push ds m old new x piece n h low follows used within all stays keeps settled advances = record {
   format = keeps.directives ∙ h.format;
   limit = keeps.limit ∙ h.limit;
   proper = h.proper;
@@ -290,10 +298,19 @@ after_push ds m old new x piece n h low follows used within all stays keeps sett
       (w.0, follows (subst AreProper (sym h.format) h.proper) z k w.0 below (omega (arith, fits, limit)) w.1, subst (λ v. TellsWithin ds k v w.0) (sym (append_assoc x piece z)) w.2);
   settled = settled h.settled;
   all = go new.ended refl;
+  come = comes new.ended refl;
   within = grind (arith, length-append);
   fed = keeps.met ∙ h.fed;
 }
   where
+    comes : (o : Option Stop) → new.ended ≡ o → IfNone o (Comes new (x ++ piece) [])
+    comes (Some stop) e = tt
+    comes None e =
+        let waited : old.ended ≡ None = none_before old.ended new.ended stays e in
+        let here : Comes old x [] = subst (λ (o : Option Stop). IfNone o (Comes old x [])) waited h.come in
+        let whole : n ≡ length piece = subst (λ (o : Option Stop). IfNone o (n ≡ length piece)) e all in
+        came new old x piece n (advances (subst AreProper (sym h.format) h.proper)) whole here e
+
     go : (o : Option Stop) → new.ended ≡ o → IfNone o (new.tally.used ≡ length (x ++ piece))
     go o e = grind (arith, none_before, length-append)
 
@@ -321,8 +338,9 @@ run_out_gives ds m old new x ending h waiting follows used ended met = by_case n
 
 -- one that was given nothing yet
 pub after_nothing : (ds : List Directive) (m : ℕ) (s : Standing) → s.directives ≡ ds → s.limit ≡ m → AreProper ds
-    → ((k : ℕ) (z : List ℕ) → k ≤ m → Does s k z (run_of (Some k) ds 1 nothing_yet z)) → IsSettled s → s.tally.used ≡ 0 → s.met ≡ None → After ds m s []
-after_nothing ds m s format limit proper does settled used met = record {
+    → ((k : ℕ) (z : List ℕ) → k ≤ m → Does s k z (run_of (Some k) ds 1 nothing_yet z)) → IsSettled s → s.tally.used ≡ 0 → s.met ≡ None → (s.ended ≡ None → Comes s [] [])
+    → After ds m s []
+after_nothing ds m s format limit proper does settled used met come = record {
   format = format;
   limit = limit;
   proper = proper;
@@ -330,10 +348,15 @@ after_nothing ds m s format limit proper does settled used met = record {
   same = λ k z below within. (run_of (Some k) ds 1 nothing_yet z, does k z within, told_exists ds proper k z);
   settled = settled;
   all = none_all s.ended;
+  come = none_come s.ended refl;
   within = omega (arith, used);
   fed = met;
 }
   where
+    none_come : (o : Option Stop) → s.ended ≡ o → IfNone o (Comes s [] [])
+    none_come None e = come e
+    none_come (Some stop) e = tt
+
     none_all : (o : Option Stop) → IfNone o (s.tally.used ≡ 0)
     none_all o = grind arith
 

@@ -1,21 +1,24 @@
 -- Where a run stands, and of what input.
-use Rattle.std.specs.Prelude.{ℕ, suc, ◌+◌, ◌-◌, ◌≡◌, ◌<◌, ◌≤◌, Bool, false, List, [], ◌∷◌, ◌++◌, length, drop, slice_get, Option, Some, None, IfNone, is_some}
+use Rattle.std.specs.Prelude.{ℕ, suc, ◌+◌, ◌-◌, ◌≡◌, ◌<◌, ◌≤◌, Bool, false, List, [], ◌∷◌, ◌++◌, length, take, drop, slice_get, Option, Some, None, IfNone, is_some}
 use Rattle.sf_base.specs.Kept.{Opened}
 use Rattle.sf_format.specs.declared.directive.Directive.{Directive}
+use Rattle.sf_format.specs.declared.directive.Directive.TheVariants.{Conv}
 use Rattle.sf_format.specs.Proper.{IsProper, AreProper}
 use Rattle.sf_run.specs.declared.directive.Phase.{Phase}
 use Rattle.sf_run.specs.declared.directive.Phase.TheVariants.{Skipping}
 use Rattle.sf_report.specs.declared.outcome.Ending.{Ending}
 use Rattle.sf_report.specs.declared.outcome.Status.TheVariants.{TooLong, NoMemory}
 use Rattle.sf_run.specs.declared.scanner.Stop.{Stop}
-use Rattle.sf_report.specs.Steps.{StepEnd, Fails}
-use Rattle.sf_report.specs.Runs.{RunReport, Ran, assigned, converted, values}
+use Rattle.sf_report.specs.Steps.{StepEnd, Fails, IsSkipBefore}
+use Rattle.sf_report.specs.Runs.{RunReport, Ran, assigned, converted, used, values}
 use Rattle.sf_report.specs.Limits.{IsCut, RunTold, TellsWithin}
+use Rattle.sf_report.specs.Computed.{ran_of}
 use Rattle.sf_report.specs.Machine.{Stage, is_full}
+use Rattle.sf_report.specs.Machine as start
 use Rattle.sf_run.specs.Phases.{Shows, slot_in}
 use Rattle.sf_run.specs.Stopping.{is_no_memory}
 use Rattle.sf_run.specs.Texts.{StoresByte, text_slot, opened_for}
-use Rattle.sf_report.specs.Residual.{Tally, with_used, counted, out_of, run_from, choose}
+use Rattle.sf_report.specs.Residual.{Tally, with_used, counted, out_of, run_from, choose, stepped_all}
 
 -- the fields of a scanner, with what its store has been given
 pub record Standing : Type 0 where
@@ -57,6 +60,32 @@ pub record Keeps (new old : Standing) : Type 0 where
   pub met : new.met ≡ old.met
   pub capacity : old.capacity ≤ new.capacity
   pub room : old.room + old.tally.used ≤ new.room + new.tally.used
+
+-- ---- how far a run has come
+
+-- the bytes y bring the first of the directives, if there is one, to this stage
+abbrev pub LedFirst : List Directive → List ℕ → Stage → Type 0
+LedFirst [] y q = Unit {0}
+LedFirst (d ∷ ds) y q = stepped_all d start.Skipping y ≡ Some q
+
+-- The bytes x were consumed, and y stands next. Whatever follows that, the directives that have passed made these steps, and the bytes of x that
+-- they left have brought the next one as far as the phase shows, and its text.
+pub record ComesBy (ds : List Directive) (passed : ℕ) (phase : Phase) (opened : Option Opened) (consumed : ℕ) (x y : List ℕ) : Type 0 where
+  pub before : List Ran
+  pub stage : Stage
+  pub count : passed ≡ length before
+  pub consumed_is : consumed ≡ length x
+  pub within : used before ≤ length x
+  pub steps : (z : List ℕ) → ran_of ds (x ++ (y ++ z)) 0 ≡ before ++ ran_of (drop passed ds) (drop (used before) x ++ (y ++ z)) (used before)
+  pub shown : ShowsFirst (drop passed ds) phase opened stage
+  pub led : LedFirst (drop passed ds) (drop (used before) x) stage
+
+abbrev pub Comes : Standing → List ℕ → List ℕ → Type 0
+Comes s x y = ComesBy s.directives s.passed s.phase s.opened s.tally.used x y
+
+-- where the old one was followed by y, the new one, if it waits, has come n bytes further
+unfoldable pub Advances : Standing → Standing → List ℕ → ℕ → Type 0
+Advances new old y n = (x : List ℕ) → Comes old x y → new.ended ≡ None → Comes new (x ++ take n y) (drop n y)
 
 -- ---- moves
 
@@ -156,6 +185,7 @@ pub record After (ds : List Directive) (m : ℕ) (s : Standing) (x : List ℕ) :
   pub same : (k : ℕ) (z : List ℕ) → s.tally.used ≤ k → k ≤ m → (report : RunReport) × Does s k z report × TellsWithin ds k (x ++ z) report
   pub settled : IsSettled s
   pub all : IfNone s.ended (s.tally.used ≡ length x)
+  pub come : IfNone s.ended (Comes s x [])
   pub within : s.tally.used ≤ length x
   pub fed : s.met ≡ None
 
@@ -181,6 +211,17 @@ pub record Gives (ds : List Directive) (m : ℕ) (s : Standing) (x : List ℕ) (
   pub is : report_of s ≡ Some report
   pub right : RunTold ds m x ending report
 
+-- the text of an item for this slot, where the item has a byte
+abbrev pub text_begun : Option ℕ → List ℕ → Option Opened
+text_begun None item = None
+text_begun (Some slot) [] = None
+text_begun (Some slot) (b ∷ item) = Some (record { slot = slot; text = b ∷ item })
+
+-- The text under way where the directive has consumed y: past the white space that it skips, all that it has of its item, where it stores a text.
+abbrev pub IsTextUnderWay : Directive → List ℕ → Option Opened → Type 0
+IsTextUnderWay (Conv c) y opened = (s : ℕ) × IsSkipBefore c.shape y s × (opened ≡ text_begun (text_slot (Conv c)) (drop s y))
+IsTextUnderWay _ y opened = opened ≡ None
+
 -- A scanner that waits has come so far with the bytes x: these directives have passed, each with its step, and what they gave is what
 -- its store was given. What they left of x the next directive has consumed, and it would consume one byte more.
 pub record HasCome (ds : List Directive) (x : List ℕ) (s : Standing) : Type 0 where
@@ -194,3 +235,4 @@ pub record HasCome (ds : List Directive) (x : List ℕ) (s : Standing) : Type 0 
   pub assigned_are : s.tally.assigned ≡ assigned before
   pub converted_are : s.tally.converted ≡ converted before
   pub values_are : s.tally.values ≡ values before
+  pub text_is : IsTextUnderWay steps.cut.directive (drop (used before) x) s.opened

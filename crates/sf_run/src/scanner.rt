@@ -105,7 +105,7 @@ impl<'f, S: Store> Scanner<'f, S> {
     ghost use Rattle.sf_report.specs.Views.{report_by};
     ghost use Rattle.sf_report.specs.Runs.{RunReport, IsOpen};
     ghost use Rattle.sf_report.specs.Limits.{RunWithin, RunTold};
-    ghost use Rattle.sf_run.specs.Standing.{Ends, Follows, Keeps, Passes, Stops, Opens, TakesAll, RefusesIn, RunsOut, turns_left, IsSettled, After, Gives, HasCome, has_ended, report_of, used_by, ran_out};
+    ghost use Rattle.sf_run.specs.Standing.{Advances, Ends, Follows, Keeps, Passes, Stops, Opens, TakesAll, RefusesIn, RunsOut, turns_left, IsSettled, After, Gives, HasCome, has_ended, report_of, used_by, ran_out};
     ghost use Rattle.sf_report.specs.Memory.{HoldsTexts, HoldsValues, capacity_of};
     ghost use Rattle.sf_run.specs.Scanner.{kept_by, standing};
     ghost use Rattle.sf_run.specs.Tallies.{tally_of};
@@ -217,6 +217,7 @@ impl<'f, S: Store> Scanner<'f, S> {
         ensures keeps { Keeps (standing self.new) (standing self.old) }
         ensures fewer { turns_left (standing self.new) < turns_left (standing self.old) }
         ensures memory { ran_out (standing self.new) ≡ false }
+        ensures ended { IsSome self.new.ended }
     {
         let stop = Stop {
             status: Status::Done,
@@ -324,6 +325,7 @@ impl<'f, S: Store> Scanner<'f, S> {
         ensures some { result.waits ≡ true → 0 < length piece.now → 0 < result.taken }
         ensures settled { result.waits ≡ true → IsSettled (standing self.new) }
         ensures full { ran_out (standing self.new) ≡ true → (kept_by self.old).room < length piece.now }
+        ensures comes { IsProper directive.now → Advances (standing self.new) (standing self.old) piece.now result.taken }
     {
         let room = (self.limit - self.tally.used) as usize;
         // At the limit one byte more is handed over, to see whether it would be taken.
@@ -370,6 +372,7 @@ impl<'f, S: Store> Scanner<'f, S> {
         ensures keeps { Keeps (standing self.new) (standing self.old) }
         ensures settled { IsSettled (standing self.new) }
         ensures full { ran_out (standing self.old) ≡ false → ran_out (standing self.new) ≡ true → (kept_by self.old).room < length piece.now }
+        ensures comes { AreProper self.old.directives.now → Advances (standing self.new) (standing self.old) piece.now result }
     {
         let mut taken = 0;
         while self.ended.is_none() {

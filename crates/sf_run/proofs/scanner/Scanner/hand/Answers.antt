@@ -1,4 +1,4 @@
-use Rattle.std.proofs.Common.{◌+◌, ◌++◌, ℕ, List, take, drop, Option, refl, ap, subst, ◌∙◌, arith}
+use Rattle.std.proofs.Common.{◌+◌, ◌++◌, ℕ, List, take, drop, Option, refl, ap, subst, ◌∙◌, arith, is_some}
 use Rattle.std.specs.Prelude.{slice_get}
 use Rattle.std.proofs.lemmas.Option.{slice_get_within}
 use Rattle.sf_run.specs.declared.directive.Finished.{Finished}
@@ -8,6 +8,7 @@ use Rattle.sf_run.specs.Pieces.{AnswersBy, item_of}
 use Rattle.sf_run.specs.Standing.{Standing, TakesAll, Waits}
 use Rattle.sf_run.specs.Texts.{opened_with}
 use Rattle.sf_run.specs.Scanner.{kept_by, standing}
+use Rattle.sf_run.proofs.Coming.{answer_advances, ended_advances, waits_advance}
 use Rattle.sf_run.proofs.Moves.{answer_follows, if_none, limit_follows, runs_out_refuses, waits_follow}
 use Rattle.sf_run.proofs.Pieces.{end_is, front_ends, stores_front, uses_front}
 use Rattle.sf_run.proofs.Slots.{if_some, own_text}
@@ -94,3 +95,44 @@ returns-clause-same g c proper fine z =
     (λ q shows.
     let a = subst (λ (o : Option Finished). AnswersBy o d q s.tally.used front run) c.in-Some.is ((c.run_on-run.ensures.answers q proper shows).goes) in
     front_ends d q s.tally.used m n piece front (end_of (item_of q ++ take run.item (drop run.before front)) c.in-Some.finished) c.split_at.ensures.front a z)
+
+pub returns-in_default-clause-comes : goal.returns-in_default-clause-comes
+returns-in_default-clause-comes g c proper =
+    let s = c.args.self.now in
+    let d = c.args.directive.now in
+    let run = c.run_on-run.result in
+    let piece : List ℕ = c.args.piece.now in
+    let front : List ℕ = c.split_at.result.0.now in
+    let least = c.min.ensures in
+    waits_advance (standing c.take_all.new.self) (standing s) d run c.min.result piece front c.split_at-3.result.0.now c.requires.current c.requires.waits c.split_at.ensures.front
+    (omega (arith, least)) (c.run_on-run.ensures.suits.all c.in_default.is)
+    (c.split_at-3.ensures.front ∙ ap (take run.item) c.split_at-2.ensures.back) c.if-not-take_all.ensures.taken
+    (λ q shows. subst (λ (o : Option Finished). AnswersBy o d q s.tally.used front run) c.in_default.is ((c.run_on-run.ensures.answers q proper shows).goes))
+
+pub returns-clause-comes : goal.returns-clause-comes
+returns-clause-comes g c proper =
+    let s = c.args.self.now in
+    let d = c.args.directive.now in
+    let run = c.run_on-run.result in
+    let piece : List ℕ = c.args.piece.now in
+    let front : List ℕ = c.split_at.result.0.now in
+    let m : ℕ = c.min.result in
+    let mid : Standing = standing c.take_all.new.self in
+    let n : ℕ = run.before + run.item in
+    let least = c.min.ensures in
+    let within = c.run_on-run.ensures.suits.within in
+    let few = c.split_at.ensures.front_len in
+    let own = c.split_at-3.ensures.front ∙ ap (take run.item) c.split_at-2.ensures.back in
+    answer_advances (standing c.close.new.self) mid (standing s) d run c.in-Some.finished front piece c.requires.current
+    (subst (λ g. TakesAll mid (standing s) run.phase n (opened_with (slot_in run.phase) g (kept_by s).opened)) own c.if-not-take_all.ensures.taken) c.close.ensures.ends
+    c.run_on-run.ensures.suits.slot (end_is d run.phase run.ends c.in-Some.finished c.in-Some.is c.run_on-run.ensures.suits.end) (omega (arith, within, few, least))
+    (λ q shows z.
+    let a = subst (λ (o : Option Finished). AnswersBy o d q s.tally.used front run) c.in-Some.is ((c.run_on-run.ensures.answers q proper shows).goes) in
+    front_ends d q s.tally.used m n piece front (end_of (item_of q ++ take run.item (drop run.before front)) c.in-Some.finished) c.split_at.ensures.front a z)
+
+pub returns-then-taken-room-clause-comes : goal.returns-then-taken-room-clause-comes
+returns-then-taken-room-clause-comes g c _ = ended_advances (standing c.fail.new.self) (standing c.args.self.now) c.args.piece.now _ (ap is_some c.fail.ensures.ended)
+
+pub returns-then-not-take_all-clause-comes : goal.returns-then-not-take_all-clause-comes
+returns-then-not-take_all-clause-comes g c _ =
+    ended_advances (standing c.take_all.new.self) (standing c.args.self.now) c.args.piece.now _ (ap is_some c.if-not-take_all.ensures.refused.ended)

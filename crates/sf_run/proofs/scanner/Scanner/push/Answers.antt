@@ -1,8 +1,29 @@
-use Rattle.std.proofs.Common.{arith}
+use Rattle.std.proofs.Common.{ℕ, arith, subst}
+use Rattle.std.proofs.lemmas.Grind.{common_steps}
 use Rattle.std.proofs.lemmas.List.{drop-drop}
 use Rattle.std.proofs.lemmas.Option.{slice_get_read}
+use Rattle.sf_run.proofs.Coming.{advances_on, ended_advances, stays_put}
 use Rattle.sf_run.proofs.Moves.{follows_on, not_out, proper_at, refused_behind}
+use Rattle.sf_format.specs.Proper.{IsProper}
+use Rattle.sf_run.specs.Scanner.{standing}
+use Rattle.sf_run.specs.Standing.{Advances}
 use Rattle.sf_run.proofs.scanner.Scanner.push.Goals as goal
 
 pub loop-directive-preserved : goal.loop-directive-preserved
-loop-directive-preserved g c = grind (arith, slice_get_read, not_out, proper_at, drop-drop, follows_on, refused_behind)
+loop-directive-preserved g c = grind (arith, slice_get_read, not_out, proper_at, drop-drop, follows_on, refused_behind, advances_on)
+
+pub loop-directive-init : goal.loop-directive-init
+loop-directive-init g c = grind (arith, common_steps, stays_put)
+
+pub returns-in_default-clause-comes : goal.returns-in_default-clause-comes
+returns-in_default-clause-comes g c proper = ended_advances (standing c.conclude.new.self) (standing c.args.self.now) c.args.piece.now c.loop-directive.taken c.conclude.ensures.ended
+
+pub returns-then-taken-piece-clause-comes : goal.returns-then-taken-piece-clause-comes
+returns-then-taken-piece-clause-comes g c proper =
+    let mid = c.loop-directive.self in
+    let taken : ℕ = c.loop-directive.taken in
+    let new = c.hand-handed.new.self in
+    let own : IsProper c.in-Some.directive.now = grind (arith, slice_get_read, proper_at) in
+    let second : Advances (standing new) (standing mid) c.split_at.result.1.now c.hand-handed.result.taken = c.hand-handed.ensures.comes own in
+    advances_on (standing c.args.self.now) (standing mid) (standing new) c.args.piece.now taken c.hand-handed.result.taken (grind (arith, common_steps)) (c.loop-directive.invariant.comes proper)
+    (subst (λ l. Advances (standing new) (standing mid) l c.hand-handed.result.taken) c.split_at.ensures.back second)

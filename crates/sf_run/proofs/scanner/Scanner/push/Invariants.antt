@@ -1,7 +1,7 @@
 use Rattle.std.proofs.Common.{◌≡◌, ◌+◌, ◌-◌, ◌<◌, ◌≤◌, ℕ, List, ◌++◌, length, drop, None, true, false}
 use Rattle.std.specs.Prelude.{IsSome}
 use Rattle.sf_format.specs.Proper.{AreProper}
-use Rattle.sf_run.specs.Standing.{Follows, Keeps, RefusesIn, ran_out, turns_left}
+use Rattle.sf_run.specs.Standing.{Advances, Follows, Keeps, RefusesIn, ran_out, turns_left}
 use Rattle.sf_run.specs.Scanner.{standing}
 use Rattle.sf_run.proofs.scanner.Scanner.push.Given as goal
 
@@ -17,6 +17,7 @@ invariant-loop-directive g l = record {
   unchanged : IsSome l.fn.self.ended → l.self ≡ l.fn.self;
   keeps : Keeps (standing l.self) (standing l.fn.self);
   full : ran_out (standing l.fn.self) ≡ false → ran_out (standing l.self) ≡ true → (standing l.fn.self).room < length l.piece;
+  comes : AreProper l.fn.self.directives.now → Advances (standing l.self) (standing l.fn.self) l.piece l.taken;
 }
 
 abbrev pub decreases-loop-directive : goal.decreases-loop-directive
