@@ -12,15 +12,15 @@ abbrev pub counted_by : ℕ → ℕ → ℕ
 counted_by zero n = n
 counted_by (suc k) n = counted_on (counted_by k n)
 
--- A read of a call: it gave this block, after other reads had given the blocks of `front`, and before others gave those of `back`.
--- So x, all that was held at first and read before, was used by then, and the call waited for more after x. A read that gave nothing is the last.
+-- A read of a call: it gave this block, and the reads after it gave the blocks `back`. All that was held at first and read before it is x: that
+-- was used by then, and the call waited for more after it. A read that gave nothing is the last.
 pub record IsRead (N : ℕ) (Waits : List ℕ → Type 0) (x : List ℕ) (used : ℕ) (block : List ℕ) (back : List (List ℕ)) : Type 0 where
   pub few : length block ≤ N
   pub waited : Waits x
   pub all_used : length x ≤ used
   pub last : block ≡ [] → back ≡ []
 
--- What the reads of a call gave, block by block. The call used these bytes; it waits for more after the bytes x where `Waits x`.
+-- What the reads of a call gave, block by block. The call used these bytes; after the bytes x it waits for more where `Waits x`.
 pub record ReadsWhile {S : Type 0} (to_come : S → Option (List ℕ)) (reads : S → ℕ) (N : ℕ) (Waits : List ℕ → Type 0)
     (old : Ahead S) (bytes : List ℕ) (new : Ahead S) : Type 0 where
   pub blocks : List (List ℕ)
