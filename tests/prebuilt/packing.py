@@ -65,6 +65,16 @@ class Packing(Packed):
         self.assertEqual(read(self.clone + "/prebuilt/SUM"), before)
         self.assertIn("made of another,", self.packed())
 
+    def test_where_the_build_after_an_edit_fails_nothing_old_is_packed(self):
+        self.assertEqual(self.packs(), 0)
+        before = read(self.clone + "/prebuilt/SUM")
+        os.remove(self.clone + "/prebuilt/sf-x86_64-linux.xz")
+        self.edit("low/src/lib.rt")
+        self.say("fails", "low")
+        self.assertEqual(self.packs(), 1)
+        self.assertEqual(read(self.clone + "/prebuilt/SUM"), before)
+        self.assertFalse(os.path.exists(self.clone + "/prebuilt/sf-x86_64-linux.xz"))
+
     def test_the_figures_are_those_of_a_build_from_nothing(self):
         works = "[ $crate = low ] && sh -c 'ulimit -t 1; while :; do :; done'"
         self.command("rt", RT.replace("is fails", works + "\nis fails"))

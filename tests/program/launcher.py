@@ -131,17 +131,16 @@ class Launcher(unittest.TestCase):
     def started(self, *words, file=None, **how):
         how = {"cwd": self.clone, "stdin": subprocess.PIPE, "stdout": subprocess.PIPE, "stderr": subprocess.PIPE, **how}
         environment = {"PATH": self.path, "TMPDIR": self.temporary}
-        started = subprocess.Popen([file or self.clone + "/sf", *words], env=environment, text=True, **how)
+        command = [file or self.clone + "/sf", *words]
+        started = subprocess.Popen(command, env=environment, text=True, start_new_session=True, **how)
         self.addCleanup(self.end, started)
         return started
 
     def end(self, started):
-        """Ends a call that is left, and closes its pipes."""
-        for number in (signal.SIGTERM, signal.SIGKILL):
-            if started.poll() is None:
-                started.send_signal(number)
-                with contextlib.suppress(subprocess.TimeoutExpired):
-                    started.wait(timeout=5)
+        """Ends a call that is left, with all that it has started, and closes its pipes."""
+        with contextlib.suppress(OSError):
+            os.killpg(started.pid, signal.SIGKILL)
+        started.wait(timeout=SECONDS)
         for pipe in (started.stdin, started.stdout, started.stderr):
             if pipe:
                 with contextlib.suppress(OSError):
@@ -259,6 +258,12 @@ class Builds(Launcher):
         self.assertEqual(set(calls[2:5]), {"ends other", "ends low", "begins middle: lib"})
         self.assertLess(calls.index("ends low"), calls.index("begins middle: lib"))
         self.assertEqual(calls[5:], ["ends middle", "begins sf: run -- scan %d", "ends sf"])
+
+    def test_the_order_of_the_list_of_crates_is_free(self):
+        write(self.clone + "/crates.txt", "sf: middle other\nmiddle: low\nother:\nlow:\n")
+        self.expect("first", builds=1)
+        begun = [it.split(" ")[1] for it in self.calls() if it.startswith("begins ")]
+        self.assertEqual((begun[-2:], set(begun[:2])), (["middle:", "sf:"], {"low:", "other:"}))
 
     def test_a_crate_waits_for_one_that_shares_another_with_it(self):
         """rt would have it wait too, and one that only waits would be said to be proved."""
@@ -531,6 +536,8 @@ class Interrupts(Launcher):
                 # (before it has set its traps it ends by the signal itself)
                 self.assertIn(self.ended(running)[:2], ((143, ""), (-signal.SIGTERM, "")))
                 self.expect_nothing_left()
+                if os.path.exists(self.bin + "/process of middle"):
+                    self.assertTrue(self.is_gone(self.endless("middle")))
 
 
 class Shown(Launcher):
