@@ -25,7 +25,7 @@ use Rattle.sf_report.specs.Computed.{go_on, part_of, ran_of, skip, skip_before, 
 use Rattle.sf_report.specs.Residual.{Part, Tally, choose, one_from, stepped_all}
 use Rattle.sf_run.specs.Phases.{Brings, Shows, end_of, slot_in}
 use Rattle.sf_run.specs.Pieces.{IsEnd, item_of}
-use Rattle.sf_run.specs.Standing.{Advances, Comes, ComesBy, Ends, IsTextUnderWay, LedFirst, ShowsFirst, Standing, TakesAll, text_begun}
+use Rattle.sf_run.specs.Standing.{Advances, Comes, ComesBy, Ends, IsTextUnderWay, IsUnderWay, LedFirst, ShowsFirst, Standing, TakesAll, text_begun}
 use Rattle.sf_run.specs.Standing.{Passes as Passed}
 use Rattle.sf_run.specs.Texts.{IsNextSlot, opened_for, opened_with, text_slot}
 use Rattle.sf_report.proofs.Joined.{all-append, one_from-all}
@@ -334,16 +334,28 @@ same_front (r ∷ a) (s ∷ b) u v e f =
     let more : length a ≡ length b = omega (arith, e) in
     ap₂ (λ (t : Ran) (l : List Ran). t ∷ l) first (same_front a b u v more rest)
 
--- the text under way is that of the directive that is cut off
-pub text_of_cut : (ds : List Directive) → AreProper ds → (p : ℕ) (d : Directive) → slice_get ds p ≡ Some d → (current : Phase) (opened : Option Opened) (n : ℕ) (x : List ℕ) (b m : ℕ)
-    → ComesBy ds p current opened n x [] → (before : List Ran) → p ≡ length before → (cut : IsCut ds (x ++ b ∷ []) m before) → IsTextUnderWay cut.cut.directive (drop (used before) x) opened
-text_of_cut ds proper p d at current opened n x b m h before count cut =
-    let shows = showing ds p d at current opened n x [] h in
-    let own : cut.cut.directive ≡ d =
-    some_is _ _ (sym (ran_at ds (x ++ b ∷ []) 0 before cut.cut cut.rest cut.steps) ∙ ap (slice_get ds) (sym count) ∙ at) in
-    let c = h.count in
-    let same : h.before ≡ before =
-    same_front h.before before _ _ (omega (arith, c, count)) (sym (h.steps (b ∷ [])) ∙ sym (steps_only ds proper (x ++ b ∷ []) 0 _ cut.steps)) in
-    subst (λ (e : Directive). IsTextUnderWay e (drop (used before) x) opened) (sym own)
-    (subst (λ (l : List Ran). IsTextUnderWay d (drop (used l) x) opened) same
-    (subst (IsTextUnderWay d (drop (used h.before) x)) (sym shows.1) (text_at d (drop (used h.before) x) h.stage (leading ds p d at current opened n x [] h))))
+-- a run on x and more is cut off in the directive under way, after the steps that the others made
+module _ (ds : List Directive) (proper : AreProper ds) (p : ℕ) (d : Directive) (at : slice_get ds p ≡ Some d) (current : Phase) (opened : Option Opened) (n : ℕ) (x : List ℕ)
+    (h : ComesBy ds p current opened n x []) (b m : ℕ) (before : List Ran) (count : p ≡ length before) (cut : IsCut ds (x ++ b ∷ []) m before) where
+  own : cut.cut.directive ≡ d
+  own = some_is _ _ (sym (ran_at ds (x ++ b ∷ []) 0 before cut.cut cut.rest cut.steps) ∙ ap (slice_get ds) (sym count) ∙ at)
+
+  same : h.before ≡ before
+  same =
+      let c = h.count in
+      same_front h.before before _ _ (omega (arith, c, count)) (sym (h.steps (b ∷ [])) ∙ sym (steps_only ds proper (x ++ b ∷ []) 0 _ cut.steps))
+
+  shows : Shows d current h.stage × (opened ≡ opened_for (text_slot d) h.stage)
+  shows = showing ds p d at current opened n x [] h
+
+  led : stepped_all d Skipping (drop (used h.before) x) ≡ Some h.stage
+  led = leading ds p d at current opened n x [] h
+
+  pub text_of_cut : IsTextUnderWay cut.cut.directive (drop (used before) x) opened
+  text_of_cut = subst (λ (e : Directive). IsTextUnderWay e (drop (used before) x) opened) (sym own)
+      (subst (λ (l : List Ran). IsTextUnderWay d (drop (used l) x) opened) same
+      (subst (IsTextUnderWay d (drop (used h.before) x)) (sym shows.1) (text_at d (drop (used h.before) x) h.stage led)))
+
+  pub item_of_cut : IsUnderWay cut.cut.directive (drop (used before) x) current
+  item_of_cut = subst (λ (e : Directive). IsUnderWay e (drop (used before) x) current) (sym own)
+      (subst (λ (l : List Ran). IsUnderWay d (drop (used l) x) current) same (h.stage, led, shows.0))

@@ -27,7 +27,7 @@ use Rattle.sf_report.specs.Limits.{RunTold}
 use Rattle.sf_base.specs.Kept.{Opened}
 use Rattle.sf_report.proofs.Inputs.{open_all}
 use Rattle.sf_report.proofs.Machines.{some_is, can_take_one, item_byte, item_byte-below, item_takes}
-use Rattle.sf_run.proofs.Coming.{came, text_of_cut}
+use Rattle.sf_run.proofs.Coming.{came, item_of_cut, text_of_cut}
 use Rattle.sf_run.proofs.Moves.{drop_at, proper_at, ended_does, waiting, byte_took, byte_past}
 use Rattle.sf_report.proofs.Openness.{uses_within, within_limit, run_not_too_long, over_is_too_long, rest_too_long_at, rest_uses_nothing}
 use Rattle.sf_report.proofs.Told.{run_told, told_exists, told_is, uses_is, uses_from, within_met, met_within}
@@ -104,8 +104,11 @@ module _ (ds : List Directive) (m : ℕ) (s : Standing) (x : List ℕ) (h : Afte
     used : s.tally.used ≡ length x
     used = subst (λ (o : Option Stop). IfNone o (s.tally.used ≡ length x)) e h.all
 
-    come : Comes s x []
-    come = subst (λ (o : Option Stop). IfNone o (Comes s x [])) e h.come
+    here : slice_get ds s.passed ≡ Some waits.under_way
+    here = ap (λ l. slice_get l s.passed) (sym h.format) ∙ waits.current
+
+    came_so : ComesBy ds s.passed s.phase s.opened s.tally.used x []
+    came_so = subst (λ l. ComesBy l s.passed s.phase s.opened s.tally.used x []) h.format (subst (λ (o : Option Stop). IfNone o (Comes s x [])) e h.come)
 
     proper_own : IsProper waits.under_way
     proper_own = proper_at s.directives s.passed waits.under_way (subst AreProper (sym h.format) h.proper) waits.current
@@ -206,8 +209,9 @@ module _ (ds : List Directive) (m : ℕ) (s : Standing) (x : List ℕ) (h : Afte
               assigned_are = ap (λ (r : RunReport). r.assigned) same;
               converted_are = ap (λ (r : RunReport). r.converted) same;
               values_are = ap (λ (r : RunReport). r.values) same;
-              text_is = text_of_cut ds h.proper s.passed waits.under_way (ap (λ l. slice_get l s.passed) (sym h.format) ∙ waits.current) s.phase s.opened s.tally.used x one.byte (length x)
-                  (subst (λ l. ComesBy l s.passed s.phase s.opened s.tally.used x []) h.format come) w.0 (omega (arith, place)) w.1;
+              used_are = used;
+              item_is = item_of_cut ds h.proper s.passed waits.under_way here s.phase s.opened s.tally.used x came_so one.byte (length x) w.0 (omega (arith, place)) w.1;
+              text_is = text_of_cut ds h.proper s.passed waits.under_way here s.phase s.opened s.tally.used x came_so one.byte (length x) w.0 (omega (arith, place)) w.1;
             }
 
   -- an ended one tells the same however the input goes on

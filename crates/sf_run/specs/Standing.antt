@@ -68,8 +68,8 @@ abbrev pub LedFirst : List Directive → List ℕ → Stage → Type 0
 LedFirst [] y q = Unit {0}
 LedFirst (d ∷ ds) y q = stepped_all d start.Skipping y ≡ Some q
 
--- The bytes x were consumed, and y stands next. Whatever follows that, the directives that have passed made these steps, and the bytes of x that
--- they left have brought the next one as far as the phase shows, and its text.
+-- The bytes x were consumed, and y stands next. Whatever follows that, the directives that have passed made these steps, and what
+-- they left of x has brought the next one, and its text, as far as the phase shows.
 pub record ComesBy (ds : List Directive) (passed : ℕ) (phase : Phase) (opened : Option Opened) (consumed : ℕ) (x y : List ℕ) : Type 0 where
   pub before : List Ran
   pub stage : Stage
@@ -217,13 +217,19 @@ text_begun None item = None
 text_begun (Some slot) [] = None
 text_begun (Some slot) (b ∷ item) = Some (record { slot = slot; text = b ∷ item })
 
--- The text under way where the directive has consumed y: past the white space that it skips, all that it has of its item, where it stores a text.
+-- The text under way of a directive that has consumed y: where it stores a text, the bytes of its item so far, which are y past the
+-- white space that it skips.
 abbrev pub IsTextUnderWay : Directive → List ℕ → Option Opened → Type 0
 IsTextUnderWay (Conv c) y opened = (s : ℕ) × IsSkipBefore c.shape y s × (opened ≡ text_begun (text_slot (Conv c)) (drop s y))
 IsTextUnderWay _ y opened = opened ≡ None
 
+-- the bytes y bring the directive to a stage, which the phase shows
+abbrev pub IsUnderWay : Directive → List ℕ → Phase → Type 0
+IsUnderWay d y phase = (q : Stage) × (stepped_all d start.Skipping y ≡ Some q) × Shows d phase q
+
 -- A scanner that waits has come so far with the bytes x: these directives have passed, each with its step, and what they gave is what
--- its store was given. What they left of x the next directive has consumed, and it would consume one byte more.
+-- its store was given. What they left of x the next directive has consumed: it is at the stage, and its text is the one, to which that
+-- brings it, and it would consume one byte more.
 pub record HasCome (ds : List Directive) (x : List ℕ) (s : Standing) : Type 0 where
   pub before : List Ran
   pub byte : ℕ
@@ -232,7 +238,9 @@ pub record HasCome (ds : List Directive) (x : List ℕ) (s : Standing) : Type 0 
   -- whichever byte follows, these have passed
   pub first : (next : ℕ) (other : List Ran) → IsCut ds (x ++ next ∷ []) (length x) other → length before ≤ length other
   pub passed : s.passed ≡ length before
+  pub used_are : s.tally.used ≡ length x
   pub assigned_are : s.tally.assigned ≡ assigned before
   pub converted_are : s.tally.converted ≡ converted before
   pub values_are : s.tally.values ≡ values before
+  pub item_is : IsUnderWay steps.cut.directive (drop (used before) x) s.phase
   pub text_is : IsTextUnderWay steps.cut.directive (drop (used before) x) s.opened
