@@ -280,6 +280,14 @@ class Input(Streams):
             self.expect(0, b"7", b"", "print", "%d", "7", stdin=unread)
             self.expect(2, b"", b"sf: scan format: F4 UnknownLetter at 1\n", "scan", "%q", stdin=unread)
 
+    def test_what_follows_a_bad_record_is_not_waited_for(self):
+        for words in (("scan", "%d"), ("scan", "--explain", "%d"), ("scan", "--lines", "%d"), ("copy", r"%d\n", r"%11d%*1[\n]")):
+            with self.subTest(words):
+                running = self.watched(*words)
+                self.feed(b"1\nx\n")
+                self.assertEqual(running.wait(program.SECONDS), 1)
+                self.assertEqual(running.stdout.read(), b"1\n")
+
     def test_pieces_of_any_size_give_the_same_lines(self):
         text = b"".join(b"%d,%d\n" % (number, -number) for number in range(60))
         for size in (1, 2, 3, 7):
