@@ -110,7 +110,7 @@ impl<W: Write + Drop> BlockSink<W> {
         Ok(())
     }
 
-    /// Hands on all bytes that are held back: then the writer has all that was taken. Where that fails, no byte is lost.
+    /// Hands on all bytes that are held back: then the writer has all that was taken. Where it fails, no byte is lost.
     pub fn flush(&mut self) -> Result<(), SinkFault>
         ensures contents { Keeps (taken_by self.old) (taken_by self.new) }
         ensures all { OnOk result (taken_by self.new ≡ W.contents (writer_of self.new)) }
@@ -143,7 +143,8 @@ impl<W: Write + Drop> BlockSink<W> {
         true
     }
 
-    /// Hands on the block, and then takes the bytes, or some: into the block where they have room there, else the writer does.
+    /// Hands on the block, and then takes the bytes, or some: into the block where they have room there, and else to the
+    /// writer.
     #[inline(never)]
     fn take_behind(&mut self, bytes: &[u8]) -> Result<usize, SinkFault>
         ensures most { WritesAtMost result bytes.now }
@@ -172,14 +173,15 @@ impl<W: Write + Drop> Sink for BlockSink<W> {
 
     ghost failures = { λ s. s.failures };
 
-    /// Takes the bytes, or some. A text that is shorter than the room of the block is taken without a call of the writer.
+    /// Takes the bytes, or some. Bytes that are fewer than the room of the block are taken with no call of the writer.
     #[inline(always)]
     fn write(&mut self, bytes: &[u8]) -> Result<usize, SinkFault>
         ensures most { WritesAtMost result bytes.now }
         ensures some { 0 < length bytes.now → IfOk result (λ n. 0 < n) }
         ensures took { WriteAppends (taken_by self.old) (taken_by self.new) result bytes.now }
         ensures failures { ⟦<BlockSink<W> as Sink>⟧.failures self.new
-            ≡ (if is_err result then counted_on (⟦<BlockSink<W> as Sink>⟧.failures self.old) else ⟦<BlockSink<W> as Sink>⟧.failures self.old) }
+            ≡ (if is_err result then counted_on (⟦<BlockSink<W> as Sink>⟧.failures self.old)
+            else ⟦<BlockSink<W> as Sink>⟧.failures self.old) }
         ensures short { length bytes.now < room_of self.old → TakesShort self.old self.new bytes.now result }
         ensures nothing { HoldsNothing self.old → HoldsNothing self.new }
     {

@@ -12,7 +12,8 @@ loop-self-preserved g c =
     let waiting : List ℕ → List ℕ = λ t. slice_range t l.self.start l.self.end in
     let Most : List ℕ → Type 0 = λ t. n ≤ length (waiting t) in
     let Took : List ℕ → Type 0 = λ t. Appends (contents l.self.writer) (contents c.write_some.new.writer) (take n (waiting t)) in
-    let cut = others_wait l.self.block.items l.self.start l.self.end n l.self.ordered l.self.within (subst Most c.deref.ensures.value c.in-Ok.ensures.most) in
+    let most = subst Most c.deref.ensures.value c.in-Ok.ensures.most in
+    let cut = others_wait l.self.block.items l.self.start l.self.end n l.self.ordered l.self.within most in
     record {
       contents = kept_on _ _ _ _ _ _ cut l.invariant.contents (subst Took c.deref.ensures.value c.in-Ok.ensures.took);
       block = l.invariant.block;
