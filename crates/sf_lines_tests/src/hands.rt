@@ -71,7 +71,8 @@ fn first_byte(line: &[u8]) -> u8
     }
 }
 
-/// Notes the last digit of each line's number, a letter for why it is no match, and its first byte; or it is refused memory.
+/// Notes the last digit of each line's number, a letter for why it doesn't match, and its first byte; or it is refused
+/// memory.
 #[derive(Drop)]
 pub(crate) struct Notes {
     pub(crate) said: Vec<u8>,

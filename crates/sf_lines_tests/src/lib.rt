@@ -1,4 +1,4 @@
-//! Tests of `sf_lines`.
+//! Tests of `sf_lines`, for what the program `sf` doesn't show.
 #![tactic(auto)]
 
 #[cfg(test)]

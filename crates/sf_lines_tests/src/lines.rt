@@ -3,34 +3,30 @@ ghost use Rattle.std.specs.Prelude.{◌≤◌};
 
 use sf_lines::{LineRead, next_line};
 use sf_read::{Lookahead, ReadStep, ScriptSource, Source};
-use std::alloc::Global;
 use std::process::Abort;
 use std::test::Fail;
 
 /// The most lines that a test reads.
 const MOST: usize = 16;
 
-/// The lines of at most `limit` bytes that a reader gives, with a bar after each, and an exclamation
-/// mark after the first bytes of each that is longer; and what stood after them.
-fn listed<S: Source, const N: usize>(
-    alloc: Global,
+/// Appends the lines of at most `limit` bytes that a reader gives, with a bar after each, and an exclamation mark after
+/// the first bytes of each that is longer. Says what stood after them.
+fn list<S: Source, const N: usize>(
     from: &mut Lookahead<S, N>,
     limit: usize,
-) -> Result<(Vec<u8>, LineRead), Fail> {
-    let mut line = Vec::new(alloc);
-    let mut out = Vec::new(alloc);
+    line: &mut Vec<u8>,
+    out: &mut Vec<u8>,
+) -> Result<LineRead, Fail> {
     for _ in 0..MOST {
-        match next_line(from, &mut line, limit) {
-            LineRead::Line => out.extend_from_slice(&line)?,
-            LineRead::TooLong => {
-                out.extend_from_slice(&line)?;
-                out.push(b'!')?;
-            }
-            last => return Ok((out, last)),
-        }
-        out.push(b'|')?;
+        let end = match next_line(from, line, limit) {
+            LineRead::Line => "|",
+            LineRead::TooLong => "!|",
+            last => return Ok(last),
+        };
+        out.extend_from_slice(line)?;
+        out.extend_from_slice(end.as_bytes())?;
     }
-    Ok((out, LineRead::Endless))
+    Ok(LineRead::Endless)
 }
 
 /// Read in blocks of N bytes, a source has these lines, and then that.
@@ -44,10 +40,12 @@ fn has_lines<const N: usize>(
     requires few { N ≤ 4096 }
     requires some { 1 ≤ N }
 {
-    let mut from = Lookahead::<ScriptSource<'_>, N>::new(ScriptSource::new(steps));
-    let (out, last) = listed(rt.alloc(), &mut from, limit)?;
-    assert!(rt; out.as_slice() == wanted.as_bytes(), "at {wanted}: {out:?}");
+    let mut from = Lookahead::<ScriptSource<'_>, N>::new(ScriptSource::new(&*steps));
+    let mut line = Vec::new(rt.alloc());
+    let mut out = Vec::new(rt.alloc());
+    let last = list(&mut from, limit, &mut line, &mut out)?;
     assert_eq!(rt; last, end, "at {wanted}");
+    assert!(rt; out.as_slice() == wanted.as_bytes(), "at {wanted}: {out:?}");
     Ok(())
 }
 

@@ -1,5 +1,5 @@
-//! What is written, told and answered for the lines of an input, with values found by reading the rules of the loop: each
-//! line is an input of its own, as for fgets and sscanf (C11 7.21.7.2, 7.21.6.7).
+//! What is written, told and answered for the lines of an input, with values found by reading the rules of the loop:
+//! each line is an input of its own, as for fgets and sscanf (C11 7.21.7.2, 7.21.6.7).
 ghost use Rattle.std.specs.Prelude.{◌≤◌};
 
 use crate::hands::{FirstText, Notes};
@@ -101,14 +101,6 @@ fn run<S: Source, K: Sink, const N: usize>(
     Ok(run_lines(alloc, from, to, &mut writer, teller, &parsed, options))
 }
 
-/// What reads of the input give, what writes of the output take, and whether memory is refused for what is told.
-#[derive(Clone, Copy, Debug)]
-struct Devices<'a> {
-    reads: &'a [ReadStep<'a>],
-    writes: &'a [WriteStep],
-    refuses: bool,
-}
-
 /// What is written and told, and how the loop ends.
 #[derive(Clone, Copy)]
 struct Wanted {
@@ -117,40 +109,12 @@ struct Wanted {
     end: LinesEnd,
 }
 
-/// Read by blocks of N bytes, the loop over the lines comes to what is wanted.
-fn comes_to<const N: usize>(
-    rt: &(impl Abort + AllocGlobal),
-    formats: (&str, &str),
-    options: LinesOptions,
-    devices: Devices<'_>,
-    wanted: Wanted,
-) -> Result<(), Fail>
-    requires few { N ≤ 4096 }
-    requires some { 1 ≤ N }
-{
-    let mut from = Lookahead::<ScriptSource<'_>, N>::new(ScriptSource::new(devices.reads));
-    let mut to = ScriptSink::new(rt.alloc(), devices.writes);
-    let mut teller = notes(rt.alloc(), devices.refuses);
-    let end = run(
-        rt.alloc(),
-        &mut from,
-        &mut to,
-        &mut teller,
-        formats,
-        options,
-    )?;
-    assert_eq!(rt; end, wanted.end, "{devices:?}");
-    assert!(rt; to.bytes() == wanted.output.as_bytes(), "{devices:?}");
-    assert!(rt;
-        teller.said.as_slice() == wanted.told.as_bytes(),
-        "{devices:?}"
-    );
-    let failures = match end.fault {
-        Some(LinesFault::Read { .. }) => 1,
-        _ => 0,
-    };
-    assert_eq!(rt; from.source().failures(), failures, "{devices:?}");
-    Ok(())
+/// The loop comes to what is wanted.
+fn is_ended(rt: &impl Abort, end: LinesEnd, output: &[u8], told: &[u8], wanted: &Wanted) {
+    let place = wanted.output;
+    assert_eq!(rt; end, wanted.end, "{place}");
+    assert!(rt; output == wanted.output.as_bytes(), "{place}");
+    assert!(rt; told == wanted.told.as_bytes(), "{place}");
 }
 
 /// One format or two, how, an input, what is written and told, and the counts of both.
@@ -253,41 +217,63 @@ static ROWS: [Row; 22] = [
     (("%3s", ""), SHORT, "abcd\nab", "ab\n", "1ta", (1, 1)),
 ];
 
+/// The loop over the row's lines, read by blocks of N bytes.
+fn by_blocks<const N: usize>(rt: &(impl Abort + AllocGlobal), row: &Row) -> Result<(), Fail>
+    requires few { N ≤ 4096 }
+    requires some { 1 ≤ N }
+{
+    let (formats, options, text, output, told, (written, failed)) = *row;
+    let mut from = Lookahead::<SliceSource<'_>, N>::new(SliceSource::new(text.as_bytes()));
+    let mut to = ListSink::new(rt.alloc());
+    let mut teller = notes(rt.alloc(), false);
+    let found = run(
+        rt.alloc(),
+        &mut from,
+        &mut to,
+        &mut teller,
+        formats,
+        options,
+    )?;
+    let status = u8::from(failed > 0);
+    let end = LinesEnd {
+        status,
+        written,
+        failed,
+        fault: None,
+    };
+    let wanted = Wanted { output, told, end };
+    is_ended(rt, found, to.bytes(), &teller.said, &wanted);
+    Ok(())
+}
+
 #[test]
 fn lines_are_scanned_one_by_one(rt: HostRuntime) -> Result<(), Fail> {
-    for &(formats, options, text, output, told, (written, failed)) in &ROWS {
-        let end = LinesEnd {
-            status: u8::from(failed > 0),
-            written,
-            failed,
-            fault: None,
-        };
-        let devices = Devices {
-            reads: &[ReadStep::Give(text.as_bytes())],
-            writes: &[],
-            refuses: false,
-        };
-        let wanted = Wanted { output, told, end };
-        comes_to::<1>(&rt, formats, options, devices, wanted)?;
-        comes_to::<3>(&rt, formats, options, devices, wanted)?;
-        comes_to::<64>(&rt, formats, options, devices, wanted)?;
+    for row in &ROWS {
+        by_blocks::<1>(&rt, row)?;
+        by_blocks::<3>(&rt, row)?;
+        by_blocks::<64>(&rt, row)?;
     }
     Ok(())
 }
 
-/// Devices that fail, and what the loop by `%s` comes to that keeps going.
-static FAILURES: [(Devices<'static>, Wanted); 3] = [
+/// What reads give, what writes take, whether memory is refused for what is told, and what the loop comes to.
+type Failure = (
+    &'static [ReadStep<'static>],
+    &'static [WriteStep],
+    bool,
+    Wanted,
+);
+
+static FAILURES: [Failure; 3] = [
     // A read fails within a line.
     (
-        Devices {
-            reads: &[
-                ReadStep::Give(b"ab\nc"),
-                ReadStep::Fail,
-                ReadStep::Give(b"d\n"),
-            ],
-            writes: &[],
-            refuses: false,
-        },
+        &[
+            ReadStep::Give(b"ab\nc"),
+            ReadStep::Fail,
+            ReadStep::Give(b"d\n"),
+        ],
+        &[],
+        false,
         Wanted {
             output: "ab\n",
             told: "",
@@ -301,11 +287,9 @@ static FAILURES: [(Devices<'static>, Wanted); 3] = [
     ),
     // The sink fails within a line.
     (
-        Devices {
-            reads: &[ReadStep::Give(b"ab\n\ncd\n")],
-            writes: &[WriteStep::Accept(4), WriteStep::Fail],
-            refuses: false,
-        },
+        &[ReadStep::Give(b"ab\n\ncd\n")],
+        &[WriteStep::Accept(4), WriteStep::Fail],
+        false,
         Wanted {
             output: "ab\nc",
             told: "2m-",
@@ -319,11 +303,9 @@ static FAILURES: [(Devices<'static>, Wanted); 3] = [
     ),
     // Memory is refused for what is told.
     (
-        Devices {
-            reads: &[ReadStep::Give(b"ab\n\ncd\n")],
-            writes: &[],
-            refuses: true,
-        },
+        &[ReadStep::Give(b"ab\n\ncd\n")],
+        &[],
+        true,
         Wanted {
             output: "ab\n",
             told: "",
@@ -337,10 +319,26 @@ static FAILURES: [(Devices<'static>, Wanted); 3] = [
     ),
 ];
 
+/// The loop by `%s` that keeps going, with what fails.
+fn fails_so(rt: &(impl Abort + AllocGlobal), failure: &Failure) -> Result<(), Fail> {
+    let (reads, writes, refuses, wanted) = failure;
+    let mut from = Lookahead::<ScriptSource<'static>, 64>::new(ScriptSource::new(*reads));
+    let mut to = ScriptSink::new(rt.alloc(), *writes);
+    let mut teller = notes(rt.alloc(), *refuses);
+    let end = run(rt.alloc(), &mut from, &mut to, &mut teller, ONE, KEEP_GOING)?;
+    is_ended(rt, end, to.bytes(), &teller.said, wanted);
+    let failures = match end.fault {
+        Some(LinesFault::Read { .. }) => 1,
+        _ => 0,
+    };
+    assert_eq!(rt; from.source().failures(), failures);
+    Ok(())
+}
+
 #[test]
 fn devices_fail(rt: HostRuntime) -> Result<(), Fail> {
-    for &(devices, wanted) in &FAILURES {
-        comes_to::<64>(&rt, ONE, KEEP_GOING, devices, wanted)?;
+    for failure in &FAILURES {
+        fails_so(&rt, failure)?;
     }
     Ok(())
 }
@@ -351,9 +349,9 @@ fn the_lines_after_a_stop_are_left(rt: HostRuntime) -> Result<(), Fail> {
     let mut to = ListSink::new(rt.alloc());
     let mut teller = notes(rt.alloc(), false);
     let end = run(rt.alloc(), &mut from, &mut to, &mut teller, ONE, PLAIN)?;
-    assert_eq!(rt; end.failed, 1);
     let mut line = Vec::new(rt.alloc());
-    assert_eq!(rt; next_line(&mut from, &mut line, 8), LineRead::Line);
-    assert_eq!(rt; line.as_slice(), b"cd".as_slice());
+    let read = next_line(&mut from, &mut line, 8);
+    assert_eq!(rt; (end.failed, read), (1, LineRead::Line));
+    assert!(rt; line.as_slice() == b"cd".as_slice(), "{line:?}");
     Ok(())
 }

@@ -12,8 +12,8 @@ use sf_run::Ending;
 use std::alloc::Global;
 use std::test::Fail;
 
-/// The most writes that are taken before one fails.
-const MOST: usize = 24;
+/// How many writes a script has, of which one fails.
+const WRITES: usize = 24;
 
 /// Whether a front of the text is written, as long as the fault tells; or the whole of it, where that is taken before.
 fn is_written_up_to(
@@ -34,7 +34,7 @@ fn is_written_up_to(
     told && to.bytes() == text.get(..taken).unwrap_or(text)
 }
 
-/// The first of the bytes and the writes by which the text isn't written: each write takes at most so many bytes, and the
+/// The first script by which the text isn't written as the fault says: each write takes at most so many bytes, and the
 /// one after so many writes fails.
 fn write_fault(
     alloc: Global,
@@ -43,8 +43,8 @@ fn write_fault(
     text: &[u8],
 ) -> Option<(usize, usize)> {
     for size in 1..4usize {
-        for writes in 0..MOST {
-            let mut steps = [WriteStep::Accept(size); MOST];
+        for writes in 0..WRITES {
+            let mut steps = [WriteStep::Accept(size); WRITES];
             steps[writes] = WriteStep::Fail;
             if !is_written_up_to(alloc, pair, values, text, &steps, size * writes) {
                 return Some((size, writes));
@@ -54,8 +54,8 @@ fn write_fault(
     None
 }
 
-/// Whether the values are read back, N bytes at once, from a source that fails right after their text and isn't asked there;
-/// over a store that grows, and over one of fixed capacity.
+/// Whether the values are read back, N bytes at once, from a source that fails right after their text and isn't asked
+/// there: over a store that grows, and over one of fixed capacity.
 fn are_read<const N: usize>(
     alloc: Global,
     pair: &Pair<'_>,

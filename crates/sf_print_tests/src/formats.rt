@@ -6,7 +6,6 @@ use sf_format::{
     Unit, directive_text,
 };
 use sf_rows::is;
-use std::alloc::Global;
 use std::test::Fail;
 
 /// Whether the directives are those of `%d, \t%%%d`.

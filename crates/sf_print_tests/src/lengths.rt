@@ -6,8 +6,8 @@ use sf_print::WriteStep;
 use std::alloc::Global;
 use std::test::Fail;
 
-/// A format of one text: the bytes before it, how many blanks it is filled up with to so many bytes and on which side, how
-/// many of its bytes are printed at most, and the bytes after it.
+/// A format of one text: the bytes before it, to how many bytes blanks fill it up and on which side, how many of its
+/// bytes are printed at most, and the bytes after it.
 #[derive(Drop)]
 struct Form {
     format: &'static [u8],

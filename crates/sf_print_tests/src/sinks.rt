@@ -189,7 +189,7 @@ impl Sink for Worn {
     }
 }
 
-/// A failure is told, though the count of failures stays where it is.
+/// A print reports a failure, though the count of failures stays where it is.
 #[test]
 fn counts_that_have_come_to_their_end(rt: HostRuntime) -> Result<(), Fail> {
     let mut sink = Worn { failures: u64::MAX };

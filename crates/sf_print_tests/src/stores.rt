@@ -299,17 +299,32 @@ static GROWING: [Row; 4] = [
     BY_EACH_CALL,
 ];
 
+/// A store that grows plays each, one after the other.
+fn plays_all(store: &mut HeapStore, reserve: u32) -> Result<(), Fail> {
+    for row in &GROWING {
+        store.clear();
+        is(&(store.room() >= reserve as usize), &true, &reserve)?;
+        plays(store, 32, row)?;
+    }
+    Ok(())
+}
+
 #[test]
 fn heap_stores_play(rt: HostRuntime) -> Result<(), Fail> {
     for reserve in [0u32, 9] {
-        let mut store = HeapStore::new(rt.alloc(), reserve)?;
-        for row in &GROWING {
-            store.clear();
-            is(&(store.room() >= reserve as usize), &true, &reserve)?;
-            plays(&mut store, 32, row)?;
-        }
+        plays_all(&mut HeapStore::new(rt.alloc(), reserve)?, reserve)?;
     }
     Ok(())
+}
+
+/// An empty store of so many bytes plays the script, and has as much room left as the row says.
+fn fills<S: Store>(store: &mut S, bytes: usize, slots: u8, row: &Row) -> Result<(), Fail>
+    requires slots { slots ≤ S.slots }
+    requires none_opened { (S.kept store.old).opened ≡ None }
+{
+    is(&store.room(), &bytes, &row.script)?;
+    plays(store, slots, row)?;
+    is(&store.room(), &row.left, &row.script)
 }
 
 #[test]
@@ -317,9 +332,7 @@ fn fixed_stores_play() -> Result<(), Fail> {
     let mut store = FixedStore::<9, 5>::new();
     for row in &OF_NINE_BYTES {
         store.clear();
-        is(&store.room(), &9, &"nine bytes")?;
-        plays(&mut store, 5, row)?;
-        is(&store.room(), &row.left, &row.script)?;
+        fills(&mut store, 9, 5, row)?;
     }
     plays(&mut FixedStore::<11, 5>::new(), 5, &SCATTERED)
 }
@@ -347,12 +360,8 @@ const NO_BYTES: Row = Row {
 
 #[test]
 fn full_stores_play() -> Result<(), Fail> {
-    let mut three = FixedStore::<3, 1>::new();
-    let mut none = FixedStore::<0, 1>::new();
-    is(&[three.room(), none.room()], &[3, 0], &"at first")?;
-    plays(&mut three, 1, &THREE_BYTES)?;
-    plays(&mut none, 1, &NO_BYTES)?;
-    is(&[three.room(), none.room()], &[0, 0], &"in the end")
+    fills(&mut FixedStore::<3, 1>::new(), 3, 1, &THREE_BYTES)?;
+    fills(&mut FixedStore::<0, 1>::new(), 0, 1, &NO_BYTES)
 }
 
 /// Two texts of a hundred thousand bytes, by bytes and by pieces, and a number.
@@ -370,18 +379,26 @@ fn is_long_text(store: &HeapStore, slot: u8, start: &[u8], end: &[u8]) -> Result
     let Some(Value::Text(text)) = store.value(slot) else {
         return Err(Fail::new("the text is lost"));
     };
-    is(&text.len(), &100000, &"bytes")?;
-    is(&text.starts_with(start), &true, &start)?;
-    is(&text.ends_with(end), &true, &end)
+    is(&text.len(), &100000, &slot)?;
+    is(
+        &[text.starts_with(start), text.ends_with(end)],
+        &[true, true],
+        &slot,
+    )
+}
+
+/// What the slots then have.
+fn has_long_texts(store: &HeapStore) -> Result<(), Fail> {
+    is(&store.value(1), &Some(Value::I8(-1)), &"slot 1")?;
+    is_long_text(store, 32, b"abab", b"ab")?;
+    is_long_text(store, 2, b"01234567890", b"9")
 }
 
 #[test]
 fn long_texts_grow(rt: HostRuntime) -> Result<(), Fail> {
     let mut store = HeapStore::new(rt.alloc(), 0)?;
     is(&play(&mut store, 32, LONG)?, &200000, &"bytes")?;
-    is(&store.value(1), &Some(Value::I8(-1)), &"slot 1")?;
-    is_long_text(&store, 32, b"abab", b"ab")?;
-    is_long_text(&store, 2, b"01234567890", b"9")
+    has_long_texts(&store)
 }
 
 /// A store that has the seven calls of a store, and no more.
@@ -425,10 +442,7 @@ impl Store for SevenCalls {
 #[test]
 fn seven_calls_make_a_store() -> Result<(), Fail> {
     for row in &OF_NINE_BYTES {
-        let mut store = SevenCalls(FixedStore::new());
-        is(&store.room(), &9, &"nine bytes")?;
-        plays(&mut store, 5, row)?;
-        is(&store.room(), &row.left, &row.script)?;
+        fills(&mut SevenCalls(FixedStore::new()), 9, 5, row)?;
     }
     Ok(())
 }

@@ -1,176 +1,315 @@
-//! Calls one after the other on one source, and what each leaves.
-use crate::streams::all;
+//! Calls one after the other on one source: what each reports, and what it leaves.
+ghost use Rattle.std.specs.Prelude.{◌≤◌};
+
 use sf_base::{HeapStore, Value};
 use sf_format::{Profile, ScanFormat};
-use sf_read::{Lookahead, ReadStep, ScriptSource, SliceSource, Source, fscan};
-use sf_rows::{LIMIT, is};
-use sf_run::{Ending, Scanned, StartFault, Status};
+use sf_read::{Lookahead, ReadStep, ScriptSource, Source, fscan, fscan_over};
+use sf_rows::{LIMIT, Met, Told, has_values, is};
+use sf_run::{Report, Status};
 use std::alloc::Global;
 use std::test::Fail;
 
-/// A call on a script: status, place, assigned, used, what was met, the first value, where it is an int.
-pub(crate) type Called = (Status, u16, u8, u32, Option<Ending>, Option<i32>);
+/// A scan, what it reports, and what stands after it: the bytes that are held, the reads, and how many of them failed.
+#[derive(Drop)]
+pub(crate) struct Call {
+    pub(crate) format: &'static [u8],
+    pub(crate) limit: u32,
+    pub(crate) told: Told,
+    pub(crate) values: &'static [Value<'static>],
+    pub(crate) held: &'static [u8],
+    pub(crate) reads: u64,
+    pub(crate) failures: u64,
+}
 
-pub(crate) fn call<S: Source, const N: usize>(
+/// How many bytes are read at once.
+#[derive(Clone, Copy)]
+enum Block {
+    Of2,
+    Of16,
+    Of4096,
+}
+
+/// What a source gives, in which blocks it is read, and the calls on it.
+#[derive(Drop)]
+struct Session {
+    block: Block,
+    steps: &'static [ReadStep<'static>],
+    calls: &'static [Call],
+}
+
+/// Sources of which reads fail, or of which more is read than a call uses.
+static SESSIONS: [Session; 8] = [
+    // A read fails between two numbers; once the source has ended, it isn't read again.
+    Session {
+        block: Block::Of4096,
+        steps: &[ReadStep::Give(b"12"), ReadStep::Fail, ReadStep::Give(b"34")],
+        calls: &[
+            Call {
+                format: b"%d",
+                limit: LIMIT,
+                told: Told::Done(1, 2, Met::Fault),
+                values: &[Value::I32(12)],
+                held: b"",
+                reads: 2,
+                failures: 1,
+            },
+            Call {
+                format: b"%d",
+                limit: LIMIT,
+                told: Told::Done(1, 2, Met::End),
+                values: &[Value::I32(34)],
+                held: b"",
+                reads: 4,
+                failures: 1,
+            },
+            Call {
+                format: b"%d",
+                limit: LIMIT,
+                told: Told::Failed(Status::InputFailure, 1, 0, 0, Met::End),
+                values: &[],
+                held: b"",
+                reads: 4,
+                failures: 1,
+            },
+        ],
+    },
+    // The read that would fail isn't needed.
+    Session {
+        block: Block::Of4096,
+        steps: &[ReadStep::Give(b""), ReadStep::Give(b"12"), ReadStep::Fail],
+        calls: &[Call {
+            format: b"%2d",
+            limit: LIMIT,
+            told: Told::Done(1, 2, Met::Nothing),
+            values: &[Value::I32(12)],
+            held: b"",
+            reads: 1,
+            failures: 0,
+        }],
+    },
+    // The rest of a block is held.
+    Session {
+        block: Block::Of4096,
+        steps: &[ReadStep::Give(b"5 6 7")],
+        calls: &[
+            Call {
+                format: b"%d",
+                limit: LIMIT,
+                told: Told::Done(1, 1, Met::Byte),
+                values: &[Value::I32(5)],
+                held: b" 6 7",
+                reads: 1,
+                failures: 0,
+            },
+            Call {
+                format: b"%d",
+                limit: LIMIT,
+                told: Told::Done(1, 2, Met::Byte),
+                values: &[Value::I32(6)],
+                held: b" 7",
+                reads: 1,
+                failures: 0,
+            },
+        ],
+    },
+    // A read fails before the second number.
+    Session {
+        block: Block::Of16,
+        steps: &[ReadStep::Give(b"1 "), ReadStep::Fail, ReadStep::Give(b"2")],
+        calls: &[Call {
+            format: b"%d %d",
+            limit: LIMIT,
+            told: Told::Failed(Status::InputFailure, 3, 1, 2, Met::Fault),
+            values: &[Value::I32(1)],
+            held: b"",
+            reads: 2,
+            failures: 1,
+        }],
+    },
+    // The first record is read; the second and the third are held.
+    Session {
+        block: Block::Of16,
+        steps: &[ReadStep::Give(b"1,ab;2,cd;3,ef;")],
+        calls: &[
+            Call {
+                format: b"%d,%2s;",
+                limit: LIMIT,
+                told: Told::Done(2, 5, Met::Nothing),
+                values: &[Value::I32(1), Value::Text(b"ab")],
+                held: b"2,cd;3,ef;",
+                reads: 1,
+                failures: 0,
+            },
+            Call {
+                format: b"%d,%2s;",
+                limit: LIMIT,
+                told: Told::Done(2, 5, Met::Nothing),
+                values: &[Value::I32(2), Value::Text(b"cd")],
+                held: b"3,ef;",
+                reads: 1,
+                failures: 0,
+            },
+            Call {
+                format: b"%d,%2s;",
+                limit: LIMIT,
+                told: Told::Done(2, 5, Met::Nothing),
+                values: &[Value::I32(3), Value::Text(b"ef")],
+                held: b"",
+                reads: 1,
+                failures: 0,
+            },
+        ],
+    },
+    // A failed read leaves what comes after it.
+    Session {
+        block: Block::Of2,
+        steps: &[ReadStep::Give(b"1"), ReadStep::Fail, ReadStep::Give(b"2")],
+        calls: &[
+            Call {
+                format: b"%d",
+                limit: LIMIT,
+                told: Told::Done(1, 1, Met::Fault),
+                values: &[Value::I32(1)],
+                held: b"",
+                reads: 2,
+                failures: 1,
+            },
+            Call {
+                format: b"%d",
+                limit: LIMIT,
+                told: Told::Done(1, 1, Met::End),
+                values: &[Value::I32(2)],
+                held: b"",
+                reads: 4,
+                failures: 1,
+            },
+        ],
+    },
+    // The byte that would be too much is held.
+    Session {
+        block: Block::Of2,
+        steps: &[ReadStep::Give(b"1234")],
+        calls: &[Call {
+            format: b"%d",
+            limit: 3,
+            told: Told::Failed(Status::TooLong, 1, 0, 3, Met::Byte),
+            values: &[],
+            held: b"4",
+            reads: 2,
+            failures: 0,
+        }],
+    },
+    // No text stands in the slot.
+    Session {
+        block: Block::Of2,
+        steps: &[ReadStep::Give(b"abcd")],
+        calls: &[Call {
+            format: b"%s",
+            limit: 3,
+            told: Told::Failed(Status::TooLong, 1, 0, 3, Met::Byte),
+            values: &[],
+            held: b"d",
+            reads: 2,
+            failures: 0,
+        }],
+    },
+];
+
+/// The report is that of the call.
+fn is_reported(report: &Report<'_, HeapStore>, call: &Call) -> Result<(), Fail> {
+    is(&report.outcome(), &call.told.outcome(), &call.format)?;
+    has_values(report, call.values, &call.format)
+}
+
+/// The call on the source, over a store of its own.
+pub(crate) fn is_call<S: Source, const N: usize>(
     alloc: Global,
     from: &mut Lookahead<S, N>,
-    format: &[u8],
-    limit: u32,
-) -> Result<Called, Fail> {
-    let format = ScanFormat::parse(alloc, Profile::One, format)?;
-    let scanned = fscan(alloc, from, &format, limit)?;
-    let report = scanned.report();
-    let outcome = report.outcome();
-    let first = match report.value(1) {
-        Some(Value::I32(number)) => Some(number),
-        _ => None,
-    };
-    Ok((
-        outcome.status,
-        outcome.at,
-        outcome.assigned,
-        outcome.used,
-        outcome.met,
-        first,
-    ))
+    call: &Call,
+) -> Result<(), Fail> {
+    let format = ScanFormat::parse(alloc, Profile::One, call.format)?;
+    let scanned = fscan(alloc, from, &format, call.limit)?;
+    is_reported(&scanned.report(), call)
 }
 
-/// Three calls on a script whose read fails between two numbers: what each tells, and how many reads there were after the
-/// second and the third.
-fn calls_on_12_and_34(alloc: Global) -> Result<([Called; 3], [u64; 2]), Fail> {
-    let steps = [ReadStep::Give(b"12"), ReadStep::Fail, ReadStep::Give(b"34")];
-    let mut from = Lookahead::<ScriptSource<'_>, 4096>::new(ScriptSource::new(&steps));
-    let first = call(alloc, &mut from, b"%d", LIMIT)?;
-    let second = call(alloc, &mut from, b"%d", LIMIT)?;
-    let reads = from.source().reads();
-    let third = call(alloc, &mut from, b"%d", LIMIT)?;
-    Ok(([first, second, third], [reads, from.source().reads()]))
-}
-
-#[test]
-fn a_failed_read_ends_one_scan(rt: HostRuntime) -> Result<(), Fail> {
-    let ([first, second, third], reads) = calls_on_12_and_34(rt.alloc())?;
-    assert!(rt; first == (Status::Done, 0, 1, 2, Some(Ending::Fault), Some(12)));
-    assert!(rt; second == (Status::Done, 0, 1, 2, Some(Ending::End), Some(34)));
-    assert!(rt; third == (Status::InputFailure, 1, 0, 0, Some(Ending::End), None));
-    // the end was told: it is not read again
-    is(&reads, &[4, 4], &"reads")
-}
-
-/// A call on a script whose read fails between two numbers: what it tells, what is held then, and what is left.
-fn call_on_1_and_2(alloc: Global) -> Result<(Called, Vec<u8>, Vec<u8>), Fail> {
-    let steps = [ReadStep::Give(b"1"), ReadStep::Fail, ReadStep::Give(b"2")];
-    let mut script = ScriptSource::new(&steps);
-    let (told, held) = {
-        let mut from = Lookahead::<&mut ScriptSource<'_>, 2>::new(&mut script);
-        told_and_held(alloc, &mut from, b"%d", LIMIT)?
-    };
-    let left = all(alloc, b"", &mut script)?;
-    Ok((told, held, left))
-}
-
-#[test]
-fn what_a_failed_read_leaves(rt: HostRuntime) -> Result<(), Fail> {
-    let (told, held, left) = call_on_1_and_2(rt.alloc())?;
-    assert!(rt; told == (Status::Done, 0, 1, 1, Some(Ending::Fault), Some(1)));
-    is(&held.as_slice(), &&b""[..], &"held")?;
-    is(&left.as_slice(), &&b"2"[..], &"left")
-}
-
-/// What a call on a script tells, and how many reads failed.
-fn told_and_failures<const N: usize>(
+/// The call on the source, over a store that was used before, which is given back.
+fn is_call_over<S: Source, const N: usize>(
     alloc: Global,
-    from: &mut Lookahead<ScriptSource<'_>, N>,
-    format: &[u8],
-) -> Result<(Called, u64), Fail> {
-    let told = call(alloc, from, format, LIMIT)?;
-    Ok((told, from.source().failures()))
-}
-
-#[test]
-fn faults(rt: HostRuntime) -> Result<(), Fail> {
-    let steps = [ReadStep::Give(b"1 "), ReadStep::Fail, ReadStep::Give(b"2")];
-    let mut from = Lookahead::<ScriptSource<'_>, 3>::new(ScriptSource::new(&steps));
-    let (told, failures) = told_and_failures(rt.alloc(), &mut from, b"%d %d")?;
-    assert!(rt; told == (Status::InputFailure, 3, 1, 2, Some(Ending::Fault), Some(1)));
-    assert_eq!(rt; failures, 1);
-
-    let steps = [ReadStep::Give(b""), ReadStep::Give(b"12"), ReadStep::Fail];
-    let mut from = Lookahead::<ScriptSource<'_>, 4096>::new(ScriptSource::new(&steps));
-    let (told, failures) = told_and_failures(rt.alloc(), &mut from, b"%2d")?;
-    assert!(rt; told == (Status::Done, 0, 1, 2, None, Some(12)));
-    assert_eq!(rt; failures, 0);
-    Ok(())
-}
-
-/// What a call tells, and what is held then.
-pub(crate) fn told_and_held<S: Source, const N: usize>(
-    alloc: Global,
+    store: HeapStore,
     from: &mut Lookahead<S, N>,
-    format: &[u8],
-    limit: u32,
-) -> Result<(Called, Vec<u8>), Fail> {
-    let told = call(alloc, from, format, limit)?;
-    Ok((told, from.held().to_vec(alloc)?))
+    call: &Call,
+) -> Result<HeapStore, Fail> {
+    let format = ScanFormat::parse(alloc, Profile::One, call.format)?;
+    let scanned = fscan_over(alloc, store, from, &format, call.limit)?;
+    is_reported(&scanned.report(), call)?;
+    Ok(scanned.into_store())
 }
 
-/// Two calls on three numbers.
-fn calls_on_5_6_7(alloc: Global) -> Result<[(Called, Vec<u8>); 2], Fail> {
-    let mut from = Lookahead::<SliceSource<'_>, 4096>::new(SliceSource::new(b"5 6 7"));
-    let first = told_and_held(alloc, &mut from, b"%d", LIMIT)?;
-    let second = told_and_held(alloc, &mut from, b"%d", LIMIT)?;
-    Ok([first, second])
+/// A script that is read by blocks of N bytes.
+type Blocks<'a, const N: usize> = Lookahead<ScriptSource<'a>, N>;
+
+/// What stands after the call is as it says.
+fn leaves<const N: usize>(from: &Blocks<'_, N>, call: &Call) -> Result<(), Fail> {
+    let script = from.source();
+    let found = (from.held(), script.reads(), script.failures());
+    is(
+        &found,
+        &(call.held, call.reads, call.failures),
+        &call.format,
+    )
 }
 
-#[test]
-fn the_rest_is_held(rt: HostRuntime) -> Result<(), Fail> {
-    let [(told, rest), (told_next, rest_next)] = calls_on_5_6_7(rt.alloc())?;
-    assert!(rt; told == (Status::Done, 0, 1, 1, None, Some(5)));
-    assert!(rt; rest.as_slice() == b" 6 7".as_slice());
-    assert!(rt; told_next == (Status::Done, 0, 1, 2, None, Some(6)));
-    assert!(rt; rest_next.as_slice() == b" 7".as_slice());
+/// The calls in turn, each over a store of its own.
+fn each_alone<const N: usize>(
+    alloc: Global,
+    from: &mut Blocks<'_, N>,
+    calls: &[Call],
+) -> Result<(), Fail> {
+    for call in calls {
+        is_call(alloc, from, call)?;
+        leaves(from, call)?;
+    }
     Ok(())
 }
 
-#[test]
-fn a_number_too_long(rt: HostRuntime) -> Result<(), Fail> {
-    let mut from = Lookahead::<SliceSource<'_>, 2>::new(SliceSource::new(b"1234"));
-    let (told, held) = told_and_held(rt.alloc(), &mut from, b"%d", 3)?;
-    assert!(rt; told == (Status::TooLong, 1, 0, 3, None, None));
-    assert!(rt; held.as_slice() == b"4".as_slice());
+/// The calls in turn, over one store.
+fn over_one_store<const N: usize>(
+    alloc: Global,
+    from: &mut Blocks<'_, N>,
+    calls: &[Call],
+) -> Result<(), Fail> {
+    let mut store = HeapStore::new(alloc, 0)?;
+    for call in calls {
+        store = is_call_over(alloc, store, from, call)?;
+        leaves(from, call)?;
+    }
     Ok(())
 }
 
-/// A scan of `abcd` by `%s` under a limit, and what is held then.
-fn scanned_abcd(alloc: Global, limit: u32) -> Result<(Scanned<HeapStore>, Vec<u8>), Fail> {
-    let mut from = Lookahead::<SliceSource<'_>, 2>::new(SliceSource::new(b"abcd"));
-    let format = ScanFormat::parse(alloc, Profile::One, b"%s")?;
-    let scanned = fscan(alloc, &mut from, &format, limit)?;
-    Ok((scanned, from.held().to_vec(alloc)?))
+/// The session, by blocks of N bytes.
+fn is_session<const N: usize>(alloc: Global, session: &Session) -> Result<(), Fail>
+    requires few { N ≤ 4096 }
+    requires some { 1 ≤ N }
+{
+    let mut from = Blocks::<'_, N>::new(ScriptSource::new(session.steps));
+    each_alone(alloc, &mut from, session.calls)?;
+    let mut from = Blocks::<'_, N>::new(ScriptSource::new(session.steps));
+    over_one_store(alloc, &mut from, session.calls)
+}
+
+/// The session, in its blocks.
+fn in_its_blocks(alloc: Global, session: &Session) -> Result<(), Fail> {
+    match session.block {
+        Block::Of2 => is_session::<2>(alloc, session),
+        Block::Of16 => is_session::<16>(alloc, session),
+        Block::Of4096 => is_session::<4096>(alloc, session),
+    }
 }
 
 #[test]
-fn a_text_too_long(rt: HostRuntime) -> Result<(), Fail> {
-    let (scanned, held) = scanned_abcd(rt.alloc(), 3)?;
-    let report = scanned.report();
-    let outcome = report.outcome();
-    assert!(rt; outcome.status == Status::TooLong && outcome.at == 1);
-    assert!(rt; outcome.used == 3 && outcome.assigned == 0 && report.value(1).is_none());
-    assert!(rt; held.as_slice() == b"d".as_slice());
+fn calls_in_turn(rt: HostRuntime) -> Result<(), Fail> {
+    for session in &SESSIONS {
+        in_its_blocks(rt.alloc(), session)?;
+    }
     Ok(())
-}
-
-/// Why a scan under the limit is refused, and how many reads there were.
-fn refusal(alloc: Global, limit: u32) -> Result<(Option<StartFault>, u64), Fail> {
-    let steps = [ReadStep::Give(b"1")];
-    let mut from = Lookahead::<ScriptSource<'_>, 2>::new(ScriptSource::new(&steps));
-    let format = ScanFormat::parse(alloc, Profile::One, b"%d")?;
-    let fault = fscan(alloc, &mut from, &format, limit).err();
-    Ok((fault, from.source().reads()))
-}
-
-#[test]
-fn a_refused_scan_reads_nothing(rt: HostRuntime) -> Result<(), Fail> {
-    let refused = refusal(rt.alloc(), 2147483648)?;
-    is(&refused, &(Some(StartFault::BadLimit), 0), &2147483648u32)
 }

@@ -1,17 +1,21 @@
-//! Scans of devices: readers that never end, an interrupted read, counts of reads and failures that have come to their end.
-use crate::calls::{Called, call, told_and_held};
+//! Scans of devices: readers that never end, an interrupted read, counts of reads and failures at their greatest.
+ghost use Rattle.std.specs.Prelude.{◌≤◌};
+
+use crate::calls::{Call, is_call};
+use sf_base::Value;
 use sf_read::{Lookahead, Source, SourceFault, StdSource};
-use sf_rows::{LIMIT, is};
-use sf_run::{Ending, Status};
+use sf_rows::{LIMIT, Met, Told, is};
+use sf_run::Status;
 use std::alloc::Global;
 use std::io;
 use std::io::Read;
 use std::test::Fail;
 
-/// A reader whose reads are counted. Each gives a buffer of blanks, or the first is interrupted and the others give no bytes.
+/// A reader whose reads are counted. Each gives a buffer of blanks; or the first is interrupted, and the others give no
+/// bytes.
 #[derive(Drop)]
 struct Device {
-    reads: u32,
+    reads: u64,
     interrupted: bool,
 }
 
@@ -29,52 +33,71 @@ impl Read for Device {
     }
 }
 
-/// A reader that gives blanks.
-const BLANKS: Device = Device {
-    reads: 0,
-    interrupted: false,
+/// Blocks of blanks.
+static BLANKS: Call = Call {
+    format: b"%d",
+    limit: 1000,
+    told: Told::Failed(Status::TooLong, 1, 0, 1000, Met::Byte),
+    values: &[],
+    held: &[b' '; 3096],
+    reads: 1,
+    failures: 0,
 };
 
-const BLANKS_TOLD: Called = (Status::TooLong, 1, 0, 1000, None, None);
+/// The same, in short blocks.
+static SHORT_BLANKS: Call = Call {
+    format: b"%d",
+    limit: 1000,
+    told: Told::Failed(Status::TooLong, 1, 0, 1000, Met::Byte),
+    values: &[],
+    held: b" ",
+    reads: 143,
+    failures: 0,
+};
 
-#[test]
-fn blanks_for_ever(rt: HostRuntime) -> Result<(), Fail> {
-    let mut from = Lookahead::<StdSource<Device>, 4096>::new(StdSource::new(BLANKS));
-    let (told, held) = told_and_held(rt.alloc(), &mut from, b"%d", 1000)?;
-    is(&told, &BLANKS_TOLD, &"blanks")?;
-    is(&held.len(), &3096, &"held")
+/// The read isn't asked again.
+static INTERRUPTED: Call = Call {
+    format: b"%d",
+    limit: LIMIT,
+    told: Told::Failed(Status::InputFailure, 1, 0, 0, Met::Fault),
+    values: &[],
+    held: b"",
+    reads: 1,
+    failures: 1,
+};
+
+/// The call on the device by blocks of N bytes, and what is held then.
+fn is_call_on<const N: usize>(alloc: Global, device: &mut Device, call: &Call) -> Result<(), Fail>
+    requires few { N ≤ 4096 }
+    requires some { 1 ≤ N }
+{
+    let mut from = Lookahead::<StdSource<&mut Device>, N>::new(StdSource::new(device));
+    is_call(alloc, &mut from, call)?;
+    is(&from.held(), &call.held, &call.format)
 }
 
-#[test]
-fn blanks_for_ever_in_short_blocks(rt: HostRuntime) -> Result<(), Fail> {
-    let mut from = Lookahead::<StdSource<Device>, 7>::new(StdSource::new(BLANKS));
-    is(
-        &call(rt.alloc(), &mut from, b"%d", 1000)?,
-        &BLANKS_TOLD,
-        &"blanks",
-    )
-}
-
-/// What a call by `%d` on the device tells.
-fn told_of_device(alloc: Global, device: &mut Device) -> Result<Called, Fail> {
-    let mut from = Lookahead::<StdSource<&mut Device>, 16>::new(StdSource::new(device));
-    call(alloc, &mut from, b"%d", LIMIT)
-}
-
-#[test]
-fn an_interrupted_read_is_not_asked_again(rt: HostRuntime) -> Result<(), Fail> {
+/// The call on a device that was not read before, and how often it is read.
+fn is_first_call<const N: usize>(alloc: Global, interrupted: bool, call: &Call) -> Result<(), Fail>
+    requires few { N ≤ 4096 }
+    requires some { 1 ≤ N }
+{
     let mut device = Device {
         reads: 0,
-        interrupted: true,
+        interrupted,
     };
-    let told = told_of_device(rt.alloc(), &mut device)?;
-    let wanted = (Status::InputFailure, 1, 0, 0, Some(Ending::Fault), None);
-    is(&told, &wanted, &"the interrupted read")?;
-    is(&device.reads, &1, &"reads")
+    is_call_on::<N>(alloc, &mut device, call)?;
+    is(&device.reads, &call.reads, &call.format)
 }
 
-/// A source that has counted as many reads and failures as there are numbers. One more read gives a digit, and then each
-/// fails.
+#[test]
+fn blanks_for_ever_and_an_interrupted_read(rt: HostRuntime) -> Result<(), Fail> {
+    is_first_call::<4096>(rt.alloc(), false, &BLANKS)?;
+    is_first_call::<7>(rt.alloc(), false, &SHORT_BLANKS)?;
+    is_first_call::<16>(rt.alloc(), true, &INTERRUPTED)
+}
+
+/// A source that has counted as many reads and failures as there are numbers. One more read gives a digit, and then
+/// each fails.
 #[derive(Drop)]
 struct Worn {
     reads: u64,
@@ -106,21 +129,39 @@ impl Source for Worn {
     }
 }
 
+/// The digit, and then the failure.
+static WORN: [Call; 2] = [
+    Call {
+        format: b"%d",
+        limit: LIMIT,
+        told: Told::Done(1, 1, Met::Fault),
+        values: &[Value::I32(7)],
+        held: b"",
+        reads: u64::MAX,
+        failures: u64::MAX,
+    },
+    Call {
+        format: b"%d",
+        limit: LIMIT,
+        told: Told::Failed(Status::InputFailure, 1, 0, 0, Met::Fault),
+        values: &[],
+        held: b"",
+        reads: u64::MAX,
+        failures: u64::MAX,
+    },
+];
+
 /// A failure is met, though the count of failures stays where it is.
 #[test]
 fn counts_that_have_come_to_their_end(rt: HostRuntime) -> Result<(), Fail> {
-    let worn = Worn {
+    let mut from = Lookahead::<Worn, 16>::new(Worn {
         reads: u64::MAX,
         failures: u64::MAX,
         gives: true,
-    };
-    let mut from = Lookahead::<Worn, 16>::new(worn);
-    let first = call(rt.alloc(), &mut from, b"%d", LIMIT)?;
-    let wanted = (Status::Done, 0, 1, 1, Some(Ending::Fault), Some(7));
-    is(&first, &wanted, &"the digit")?;
-    let second = call(rt.alloc(), &mut from, b"%d", LIMIT)?;
-    let wanted = (Status::InputFailure, 1, 0, 0, Some(Ending::Fault), None);
-    is(&second, &wanted, &"the failure")?;
+    });
+    for call in &WORN {
+        is_call(rt.alloc(), &mut from, call)?;
+    }
     let counts = (from.source().reads, from.source().failures);
     is(&counts, &(u64::MAX, u64::MAX), &"counts")
 }

@@ -1,35 +1,52 @@
 //! Faults as errors: `?` makes an `anyhow::Error` of each, with its text.
 use sf_format::{Profile, ScanFormat};
 use sf_read::{Lookahead, ReadStep, RowFault, ScanRowFault, ScriptSource, SourceFault, scan_row};
-use sf_rows::{Named, is};
+use sf_rows::{Named, is_error, says};
 use sf_run::{Ending, Outcome, StartFault, Status};
 use std::alloc::Global;
-use std::error::Error;
 use std::test::Fail;
 
-/// The fault, handed on.
-fn handed_on<E: Error>(fault: E) -> anyhow::Result<()> {
-    Err::<(), E>(fault)?;
-    Ok(())
-}
-
-/// The fault is an error with this text.
-fn is_error<E: Error>(alloc: Global, fault: E, wanted: &str) -> Result<(), Fail> {
-    let Err(error) = handed_on(fault) else {
-        return Err(Fail::new(wanted));
-    };
-    let text = format!(in alloc; "{error}")?;
-    is(&text.as_str(), &wanted, &wanted)
-}
-
-#[test]
-fn faults_of_sources_and_rows(rt: HostRuntime) -> Result<(), Fail> {
-    is_error(rt.alloc(), SourceFault, "read fault")?;
-    is_error(rt.alloc(), RowFault::NoMemory, "out of memory")
-}
+/// Why a run failed, at which directive, the bytes used and the values assigned, and the text.
+static RUNS: [(Status, u16, u32, u8, &str); 5] = [
+    (
+        Status::MatchingFailure,
+        2,
+        5,
+        1,
+        "matching failure at 2, used 5, assigned 1",
+    ),
+    (
+        Status::InputFailure,
+        1,
+        0,
+        0,
+        "input failure at 1, used 0, assigned 0",
+    ),
+    (
+        Status::OutOfRange,
+        3,
+        4294967295,
+        2,
+        "out of range at 3, used 4294967295, assigned 2",
+    ),
+    (
+        Status::TooLong,
+        65535,
+        7,
+        32,
+        "too long at 65535, used 7, assigned 32",
+    ),
+    (
+        Status::NoMemory,
+        1,
+        12,
+        0,
+        "out of memory at 1, used 12, assigned 0",
+    ),
+];
 
 /// A run that used so many bytes, and has assigned.
-const fn failed(status: Status, at: u16, used: u32, assigned: u8) -> ScanRowFault {
+fn failed(status: Status, at: u16, used: u32, assigned: u8) -> ScanRowFault {
     ScanRowFault::Failed(Outcome {
         status,
         at,
@@ -42,31 +59,43 @@ const fn failed(status: Status, at: u16, used: u32, assigned: u8) -> ScanRowFaul
 
 #[test]
 fn faults_of_runs(rt: HostRuntime) -> Result<(), Fail> {
-    let alloc = rt.alloc();
-    let fault = failed(Status::MatchingFailure, 2, 5, 1);
-    is_error(alloc, fault, "matching failure at 2, used 5, assigned 1")?;
-    let fault = failed(Status::InputFailure, 1, 0, 0);
-    is_error(alloc, fault, "input failure at 1, used 0, assigned 0")?;
-    let fault = failed(Status::OutOfRange, 3, 4294967295, 2);
-    is_error(
-        alloc,
-        fault,
-        "out of range at 3, used 4294967295, assigned 2",
-    )?;
-    let fault = failed(Status::TooLong, 65535, 7, 32);
-    is_error(alloc, fault, "too long at 65535, used 7, assigned 32")?;
-    let fault = failed(Status::NoMemory, 1, 12, 0);
-    is_error(alloc, fault, "out of memory at 1, used 12, assigned 0")
+    for (status, at, used, assigned, text) in &RUNS {
+        is_error(rt.alloc(), failed(*status, *at, *used, *assigned), text)?;
+    }
+    Ok(())
 }
 
+/// Why there is no row of a run, and the text.
+static FAULTS: [(ScanRowFault, &str); 3] = [
+    (
+        ScanRowFault::ShapeDiffers,
+        "the kinds of the row aren't those of the format's destinations",
+    ),
+    (
+        ScanRowFault::Start(StartFault::BadLimit),
+        "limit above 2147483647",
+    ),
+    (ScanRowFault::NoMemory, "out of memory"),
+];
+
 #[test]
-fn faults_without_a_run(rt: HostRuntime) -> Result<(), Fail> {
-    let alloc = rt.alloc();
-    let wanted = "the kinds of the row aren't those of the format's destinations";
-    is_error(alloc, ScanRowFault::ShapeDiffers, wanted)?;
-    let fault = ScanRowFault::Start(StartFault::BadLimit);
-    is_error(alloc, fault, "limit above 2147483647")?;
-    is_error(alloc, ScanRowFault::NoMemory, "out of memory")
+fn faults_are_errors(rt: HostRuntime) -> Result<(), Fail> {
+    for (fault, text) in &FAULTS {
+        is_error(rt.alloc(), *fault, text)?;
+    }
+    is_error(rt.alloc(), SourceFault, "read fault")?;
+    is_error(rt.alloc(), RowFault::NoMemory, "out of memory")
+}
+
+/// The number of the next row.
+fn number(
+    alloc: Global,
+    from: &mut Lookahead<ScriptSource<'_>, 7>,
+    format: &ScanFormat,
+    limit: u32,
+) -> Result<i32, ScanRowFault> {
+    let row: Named = scan_row(alloc, from, format, limit)?;
+    Ok(row.number)
 }
 
 /// The sum of the numbers of two rows, as a program makes it that only hands faults on.
@@ -74,9 +103,9 @@ fn sum(alloc: Global, format: &[u8], text: &[u8], limit: u32) -> anyhow::Result<
     let format = ScanFormat::parse(alloc, Profile::One, format)?;
     let steps = [ReadStep::Give(text)];
     let mut from = Lookahead::<ScriptSource<'_>, 7>::new(ScriptSource::new(&steps));
-    let first: Named = scan_row(alloc, &mut from, &format, limit)?;
-    let second: Named = scan_row(alloc, &mut from, &format, limit)?;
-    Ok(first.number.saturating_add(second.number))
+    let first = number(alloc, &mut from, &format, limit)?;
+    let second = number(alloc, &mut from, &format, limit)?;
+    Ok(first.saturating_add(second))
 }
 
 /// A format, a text, a limit, and the text of the fault.
@@ -105,12 +134,12 @@ static REFUSED: [(&[u8], &[u8], u32, &str); 5] = [
 
 #[test]
 fn faults_are_handed_on(rt: HostRuntime) -> Result<(), Fail> {
-    for &(format, text, limit, wanted) in &REFUSED {
-        let Err(error) = sum(rt.alloc(), format, text, limit) else {
-            return Err(Fail::new(wanted));
-        };
-        let text = format!(in rt.alloc(); "{error}")?;
-        is(&text.as_str(), &wanted, &wanted)?;
+    for (format, text, limit, wanted) in &REFUSED {
+        says(
+            rt.alloc(),
+            sum(rt.alloc(), format, text, *limit).err(),
+            wanted,
+        )?;
     }
     Ok(())
 }

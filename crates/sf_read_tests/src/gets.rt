@@ -15,35 +15,52 @@ fn scanned(alloc: Global) -> Result<Scanned<HeapStore>, Fail> {
 }
 
 fn are_of_the_kind(report: &Report<'_, HeapStore>) -> Result<(), Fail> {
-    is(&report.get::<i8>(1), &Some(-1), &1)?;
-    is(&report.get::<i16>(2), &Some(-2), &2)?;
-    is(&report.get::<i32>(3), &Some(0), &3)?;
-    is(&report.get::<i64>(4), &Some(-4), &4)?;
-    is(&report.get::<u8>(5), &Some(5), &5)?;
-    is(&report.get::<u16>(6), &Some(6), &6)?;
-    is(&report.get::<u32>(7), &Some(7), &7)?;
-    is(&report.get::<u64>(8), &Some(8), &8)?;
-    is(&report.get::<&[u8]>(9), &Some(b"nine".as_slice()), &9)
-}
-
-#[test]
-fn of_the_kind(rt: HostRuntime) -> Result<(), Fail> {
-    are_of_the_kind(&scanned(rt.alloc())?.report())
+    let signed = (
+        report.get::<i8>(1),
+        report.get::<i16>(2),
+        report.get::<i32>(3),
+        report.get::<i64>(4),
+    );
+    is(&signed, &(Some(-1), Some(-2), Some(0), Some(-4)), &"signed")?;
+    let unsigned = (
+        report.get::<u8>(5),
+        report.get::<u16>(6),
+        report.get::<u32>(7),
+        report.get::<u64>(8),
+    );
+    is(
+        &unsigned,
+        &(Some(5), Some(6), Some(7), Some(8)),
+        &"unsigned",
+    )?;
+    is(&report.get::<&[u8]>(9), &Some(b"nine".as_slice()), &"text")
 }
 
 fn are_of_another_kind(report: &Report<'_, HeapStore>) -> Result<(), Fail> {
-    is(&report.get::<u32>(3), &None, &"an unsigned of 32 bits")?;
-    is(&report.get::<i64>(3), &None, &"64 bits")?;
-    is(&report.get::<&[u8]>(3), &None, &"a text")?;
-    is(&report.get::<i32>(9), &None, &"a number")?;
-    is(&report.get::<i32>(0), &None, &"no slot")?;
-    is(&report.get::<i32>(10), &None, &"no such slot")
+    let of_a_number = (
+        report.get::<u32>(3),
+        report.get::<i64>(3),
+        report.get::<&[u8]>(3),
+    );
+    is(&of_a_number, &(None, None, None), &"no i32")?;
+    // A text, no slot, and no such slot.
+    let numbers = [
+        report.get::<i32>(9),
+        report.get::<i32>(0),
+        report.get::<i32>(10),
+    ];
+    is(&numbers, &[None; 3], &"no number")
+}
+
+/// The slots are given as types of their kinds, and as no others.
+fn is_given(scanned: &Scanned<HeapStore>) -> Result<(), Fail> {
+    let report = scanned.report();
+    are_of_the_kind(&report)?;
+    are_of_another_kind(&report)?;
+    is(&scanned.outcome(), &report.outcome(), &"the outcome")
 }
 
 #[test]
-fn of_another_kind(rt: HostRuntime) -> Result<(), Fail> {
-    let scanned = scanned(rt.alloc())?;
-    let report = scanned.report();
-    are_of_another_kind(&report)?;
-    is(&scanned.outcome(), &report.outcome(), &"the outcome")
+fn slots_as_types(rt: HostRuntime) -> Result<(), Fail> {
+    is_given(&scanned(rt.alloc())?)
 }

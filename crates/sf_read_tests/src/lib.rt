@@ -16,10 +16,8 @@ mod room;
 #[cfg(test)]
 mod rows;
 #[cfg(test)]
+mod scripts;
+#[cfg(test)]
 mod stores;
-#[cfg(test)]
-mod streams;
-#[cfg(test)]
-mod texts;
 #[cfg(test)]
 mod tuples;

@@ -6,8 +6,8 @@ use sf_run::{Outcome, Status};
 use std::alloc::Global;
 use std::test::Fail;
 
-/// The outcomes of three records in turn. None where memory was refused to the first: the others use its store again, and
-/// are never refused.
+/// The outcomes of three records in turn. None where memory was refused to the first: the others use its store again,
+/// and are never refused.
 fn three_records<S: Source, const N: usize>(
     alloc: Global,
     from: &mut Lookahead<S, N>,

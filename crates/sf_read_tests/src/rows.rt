@@ -1,8 +1,10 @@
 //! Rows of a number and a name from scripted sources.
+ghost use Rattle.std.specs.Prelude.{◌≤◌};
+
 use arrayvec::ArrayVec;
 use sf_base::{Kind, Store, Value};
 use sf_format::{Profile, ScanFormat};
-use sf_read::{Lookahead, ReadStep, Row, RowFault, ScanRowFault, ScriptSource, Source, scan_row};
+use sf_read::{Lookahead, ReadStep, Row, RowFault, ScanRowFault, ScriptSource, scan_row};
 use sf_rows::{LIMIT, Named, is};
 use sf_run::{Ending, Outcome, Report, StartFault, Status};
 use std::alloc::Global;
@@ -45,134 +47,146 @@ impl Row for Refused {
     }
 }
 
-fn row<T: Row, S: Source, const N: usize>(
+/// A row's number and name, or why there is none.
+type Found<'a> = Result<(i32, &'a [u8]), ScanRowFault>;
+
+/// A format and a limit, what is found, the bytes that are held then, and the reads of the source.
+type Call = (&'static [u8], u32, Found<'static>, &'static [u8], u64);
+
+/// What a source gives, and the calls on it.
+#[derive(Drop)]
+struct Session {
+    steps: &'static [ReadStep<'static>],
+    calls: &'static [Call],
+}
+
+const NO_NUMBER: Found<'static> = Err(ScanRowFault::Failed(Outcome {
+    status: Status::MatchingFailure,
+    at: 1,
+    assigned: 0,
+    converted: 0,
+    used: 0,
+    met: None,
+}));
+
+const READ_FAULT: Found<'static> = Err(ScanRowFault::Failed(Outcome {
+    status: Status::InputFailure,
+    at: 1,
+    assigned: 0,
+    converted: 0,
+    used: 0,
+    met: Some(Ending::Fault),
+}));
+
+const SHAPE_DIFFERS: Found<'static> = Err(ScanRowFault::ShapeDiffers);
+
+const BAD_LIMIT: Found<'static> = Err(ScanRowFault::Start(StartFault::BadLimit));
+
+/// No run is begun of formats whose slots have other kinds, nor under a limit too great. The last format has the same
+/// slots in another order.
+static REFUSED: Session = Session {
+    steps: &[ReadStep::Give(b"up 7")],
+    calls: &[
+        (b"%s %d", LIMIT, SHAPE_DIFFERS, b"", 0),
+        (b"%d", LIMIT, SHAPE_DIFFERS, b"", 0),
+        (b"%d %s %d", LIMIT, SHAPE_DIFFERS, b"", 0),
+        (b"%u %s", LIMIT, SHAPE_DIFFERS, b"", 0),
+        (b"%s %d", 2147483648, SHAPE_DIFFERS, b"", 0),
+        (b"%d %s", 2147483648, BAD_LIMIT, b"", 0),
+        (b"%2$s %1$d", LIMIT, Ok((7, b"up")), b"", 2),
+    ],
+};
+
+/// What is no number is left.
+static NO_ROW: Session = Session {
+    steps: &[ReadStep::Give(b"x")],
+    calls: &[(b"%d %5s", LIMIT, NO_NUMBER, b"x", 1)],
+};
+
+/// The rest of a block is left.
+static A_ROW: Session = Session {
+    steps: &[ReadStep::Give(b"7 abcdefg")],
+    calls: &[(b"%d %5s", LIMIT, Ok((7, b"abcde")), b"fg", 1)],
+};
+
+/// Two rows, and then a failed read.
+static ROWS: Session = Session {
+    steps: &[
+        ReadStep::Give(b"7 u"),
+        ReadStep::Give(b"p\n-8 down\n"),
+        ReadStep::Fail,
+    ],
+    calls: &[
+        (b"%d %s%*1[\n]", LIMIT, Ok((7, b"up")), b"-", 2),
+        (b"%d %s%*1[\n]", LIMIT, Ok((-8, b"down")), b"", 5),
+        (b"%d %s%*1[\n]", LIMIT, READ_FAULT, b"", 6),
+    ],
+};
+
+/// A script that is read by blocks of N bytes.
+type Blocks<'a, const N: usize> = Lookahead<ScriptSource<'a>, N>;
+
+/// The row by the format, or why there is none.
+fn row<T: Row, const N: usize>(
     alloc: Global,
-    from: &mut Lookahead<S, N>,
+    from: &mut Blocks<'_, N>,
     format: &[u8],
     limit: u32,
 ) -> Result<Result<T, ScanRowFault>, Fail> {
     let format = ScanFormat::parse(alloc, Profile::One, format)?;
-    Ok(scan_row::<T, S, N>(alloc, from, &format, limit))
+    Ok(scan_row::<T, _, N>(alloc, from, &format, limit))
 }
 
-/// The row was found.
-fn is_row(found: &Result<Named, ScanRowFault>, number: i32, name: &[u8]) -> Result<(), Fail> {
+/// What was found, what is held and the reads are as the call says.
+fn is_found<const N: usize>(
+    found: &Result<Named, ScanRowFault>,
+    from: &Blocks<'_, N>,
+    call: &Call,
+) -> Result<(), Fail> {
     let named = match found {
         Ok(row) => Ok((row.number, row.name.as_slice())),
-        Err(fault) => Err(fault),
+        Err(fault) => Err(*fault),
     };
-    is(&named, &Ok((number, name)), &name)
+    let found = (named, from.held(), from.source().reads());
+    is(&found, &(call.2, call.3, call.4), &call.0)
 }
 
-fn failed(status: Status, at: u16, used: u32, met: Option<Ending>) -> ScanRowFault {
-    ScanRowFault::Failed(Outcome {
-        status,
-        at,
-        assigned: 0,
-        converted: 0,
-        used,
-        met,
-    })
-}
-
-const BAD_LIMIT: u32 = 2147483648;
-
-/// Formats and limits under which no run of a named number is begun.
-static REFUSED: [(&[u8], u32, ScanRowFault); 6] = [
-    (b"%s %d", LIMIT, ScanRowFault::ShapeDiffers),
-    (b"%d", LIMIT, ScanRowFault::ShapeDiffers),
-    (b"%d %s %d", LIMIT, ScanRowFault::ShapeDiffers),
-    (b"%u %s", LIMIT, ScanRowFault::ShapeDiffers),
-    (b"%s %d", BAD_LIMIT, ScanRowFault::ShapeDiffers),
-    (
-        b"%d %s",
-        BAD_LIMIT,
-        ScanRowFault::Start(StartFault::BadLimit),
-    ),
-];
-
-#[test]
-fn refused_before_the_run(rt: HostRuntime) -> Result<(), Fail> {
-    let alloc = rt.alloc();
-    let steps = [ReadStep::Give(b"up 7")];
-    let mut from = Lookahead::<ScriptSource<'_>, 7>::new(ScriptSource::new(&steps));
-    for &(format, limit, fault) in &REFUSED {
-        let found = row::<Named, _, _>(alloc, &mut from, format, limit)?;
-        is(&found.err(), &Some(fault), &format)?;
-    }
-    is(&from.source().reads(), &0, &"the source")?;
-
-    // The same slots in another order.
-    let found = row::<Named, _, _>(alloc, &mut from, b"%2$s %1$d", LIMIT)?;
-    is_row(&found, 7, b"up")
-}
-
-/// A row by `%d %5s`, and what is held then.
-fn row_and_rest<const N: usize>(
+/// The calls in turn.
+fn are_calls<const N: usize>(
     alloc: Global,
-    from: &mut Lookahead<ScriptSource<'_>, N>,
-) -> Result<(Result<Named, ScanRowFault>, Vec<u8>), Fail> {
-    let found = row::<Named, _, _>(alloc, from, b"%d %5s", LIMIT)?;
-    Ok((found, from.held().to_vec(alloc)?))
-}
-
-#[test]
-fn what_no_row_leaves(rt: HostRuntime) -> Result<(), Fail> {
-    let steps = [ReadStep::Give(b"x")];
-    let mut from = Lookahead::<ScriptSource<'_>, 7>::new(ScriptSource::new(&steps));
-    let (found, held) = row_and_rest(rt.alloc(), &mut from)?;
-    let fault = failed(Status::MatchingFailure, 1, 0, None);
-    assert_eq!(rt; found.err(), Some(fault));
-    assert!(rt; held.as_slice() == b"x".as_slice());
+    from: &mut Blocks<'_, N>,
+    calls: &[Call],
+) -> Result<(), Fail> {
+    for call in calls {
+        let found = row(alloc, from, call.0, call.1)?;
+        is_found(&found, from, call)?;
+    }
     Ok(())
 }
 
-#[test]
-fn a_row_and_the_rest(rt: HostRuntime) -> Result<(), Fail> {
-    let steps = [ReadStep::Give(b"7 abcdefg")];
-    let mut from = Lookahead::<ScriptSource<'_>, 4096>::new(ScriptSource::new(&steps));
-    let (found, held) = row_and_rest(rt.alloc(), &mut from)?;
-    is_row(&found, 7, b"abcde")?;
-    assert!(rt; held.as_slice() == b"fg".as_slice());
-    Ok(())
-}
-
-/// Three rows in turn of a script that gives two, and then fails.
-fn three_rows(alloc: Global) -> Result<[Result<Named, ScanRowFault>; 3], Fail> {
-    let steps = [
-        ReadStep::Give(b"7 u"),
-        ReadStep::Give(b"p\n-8 down\n"),
-        ReadStep::Fail,
-    ];
-    let mut from = Lookahead::<ScriptSource<'_>, 3>::new(ScriptSource::new(&steps));
-    let first = row::<Named, _, _>(alloc, &mut from, b"%d %s%*1[\n]", LIMIT)?;
-    let second = row::<Named, _, _>(alloc, &mut from, b"%d %s%*1[\n]", LIMIT)?;
-    let third = row::<Named, _, _>(alloc, &mut from, b"%d %s%*1[\n]", LIMIT)?;
-    Ok([first, second, third])
+/// The session, by blocks of N bytes.
+fn is_session<const N: usize>(alloc: Global, session: &Session) -> Result<(), Fail>
+    requires few { N ≤ 4096 }
+    requires some { 1 ≤ N }
+{
+    let mut from = Blocks::<'_, N>::new(ScriptSource::new(session.steps));
+    are_calls(alloc, &mut from, session.calls)
 }
 
 #[test]
 fn rows_in_turn(rt: HostRuntime) -> Result<(), Fail> {
-    let [first, second, third] = three_rows(rt.alloc())?;
-    is_row(&first, 7, b"up")?;
-    is_row(&second, -8, b"down")?;
-    let fault = failed(Status::InputFailure, 1, 0, Some(Ending::Fault));
-    assert_eq!(rt; third.err(), Some(fault));
-    Ok(())
-}
-
-/// A row that is refused by `%d;`, and what is held then.
-fn refused_and_rest(alloc: Global) -> Result<(Option<ScanRowFault>, Vec<u8>), Fail> {
-    let steps = [ReadStep::Give(b"12;34")];
-    let mut from = Lookahead::<ScriptSource<'_>, 7>::new(ScriptSource::new(&steps));
-    let found = row::<Refused, _, _>(alloc, &mut from, b"%d;", LIMIT)?;
-    Ok((found.err(), from.held().to_vec(alloc)?))
+    is_session::<7>(rt.alloc(), &REFUSED)?;
+    is_session::<7>(rt.alloc(), &NO_ROW)?;
+    is_session::<4096>(rt.alloc(), &A_ROW)?;
+    is_session::<3>(rt.alloc(), &ROWS)
 }
 
 #[test]
 fn a_refused_row_is_consumed(rt: HostRuntime) -> Result<(), Fail> {
-    let (fault, held) = refused_and_rest(rt.alloc())?;
-    assert_eq!(rt; fault, Some(ScanRowFault::NoMemory));
-    assert!(rt; held.as_slice() == b"34".as_slice());
-    Ok(())
+    let steps = [ReadStep::Give(b"12;34")];
+    let mut from = Blocks::<'_, 7>::new(ScriptSource::new(&steps));
+    let found = row::<Refused, 7>(rt.alloc(), &mut from, b"%d;", LIMIT)?;
+    let found = (found.err(), from.held());
+    let wanted = (Some(ScanRowFault::NoMemory), b"34".as_slice());
+    is(&found, &wanted, &"12;34")
 }

@@ -43,16 +43,16 @@ fn is_ended<const N: usize>(
     requires few { N ≤ 4096 }
     requires some { 1 ≤ N }
 {
-    let mut from = Lookahead::<ScriptSource<'_>, N>::new(ScriptSource::new(reads));
+    let mut from = Lookahead::<ScriptSource<'_>, N>::new(ScriptSource::new(&*reads));
     let mut out = ScriptSink::new(rt.alloc(), writes);
     let found = copied(rt.alloc(), &mut from, &mut out, formats)?;
     let failures = match end.fault {
         Some(ToolFault::Read { .. }) => 1,
         _ => 0,
     };
-    is(rt, &found, &end, &(reads, writes));
-    is(rt, &out.bytes(), &output, &(reads, writes));
-    is(rt, &from.source().failures(), &failures, &(reads, writes));
+    is(rt, &found, &end, &formats);
+    is(rt, &out.bytes(), &output, &end);
+    is(rt, &from.source().failures(), &failures, &end);
     Ok(())
 }
 

@@ -8,7 +8,6 @@ use sf_print::{ListSink, ScriptSink, WriteStep};
 use sf_read::{Lookahead, SliceSource, fscan_fixed};
 use sf_records::{FormWriter, OutputForm, RecordFault, push_record, run_scan_as};
 use sf_run::Report;
-use std::alloc::Global;
 use std::process::Abort;
 use std::test::Fail;
 
@@ -109,9 +108,9 @@ fn are_written<const N: usize>(
 #[test]
 fn rows(rt: HostRuntime) -> Result<(), Fail> {
     for row in &ROWS {
-        for (form, wanted) in FORMS.iter().zip(row.forms.iter()) {
-            are_written::<3>(&rt, row, *form, wanted)?;
-            are_written::<4096>(&rt, row, *form, wanted)?;
+        for place in 0..3usize {
+            are_written::<3>(&rt, row, FORMS[place], row.forms[place])?;
+            are_written::<4096>(&rt, row, FORMS[place], row.forms[place])?;
         }
     }
     Ok(())
@@ -161,7 +160,6 @@ fn one_record(rt: HostRuntime) -> Result<(), Fail> {
     let mut from = Lookahead::<SliceSource<'_>, 64>::new(SliceSource::new(b"-12,abcd"));
     let scanned = fscan_fixed::<3, 2, _, _>(&mut from, &format, LIMIT)?;
     let report = scanned.report();
-    is(&rt, &format.destinations(), &2, &"destinations");
     is_pushed(&rt, &report);
     is_written_twice(&rt, &report);
     is_cut(&rt, &report);

@@ -1,4 +1,4 @@
-//! Tests of `sf_records`, for what the program `sf` doesn't show: records in each form, and copies by a pair of formats.
+//! Tests of `sf_records`, for what the program `sf` doesn't show: records in each form, and copies by a pair.
 #![tactic(auto)]
 
 #[cfg(test)]

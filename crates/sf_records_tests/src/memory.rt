@@ -1,5 +1,5 @@
-//! Copies where memory is refused: `rt try --test --fail-alloc N` refuses the Nth growth. Where that is one of the copy's
-//! own, this test passes all the same: the copy ends by it, and the records before stand.
+//! Copies where memory is refused: `rt try --test --fail-alloc N` refuses the Nth growth. Where that is one of the
+//! copy's own, this test passes all the same: the copy ends by it, and the records before stand.
 use crate::copies::{Formats, copied, is};
 use sf_print::StdSink;
 use sf_read::{Lookahead, SliceSource};

@@ -85,11 +85,14 @@ fn magnitude(state: u64, most: u64) -> u64 {
     }
 }
 
+/// Zeros that may stand before digits.
+static ZEROS: [&str; 4] = ["", "0", "", "000"];
+
 /// Zeros before the digits, where they count for nothing.
 fn zeros(letter: Letter, state: u64) -> &'static str {
     match letter {
         Letter::Auto | Letter::Prefixed => "",
-        _ => ["", "0", "", "000"][(state >> 36) as usize % 4],
+        _ => ZEROS[(state >> 36) as usize % 4],
     }
 }
 

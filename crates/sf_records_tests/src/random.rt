@@ -42,24 +42,24 @@ pub(crate) fn next(state: u64) -> u64 {
         .wrapping_add(1442695040888963407)
 }
 
-/// A front in which a number or a word may be written: it is skipped.
-pub(crate) fn before(state: u64) -> &'static str {
-    let fronts = ["", " ", "\t\n", "  "];
-    fronts[(state >> 44) as usize % 4]
-}
+/// White space in front of a number or a word, which is skipped.
+static FRONTS: [&str; 4] = ["", " ", "\t\n", "  "];
 
-/// Between 1 and 8 letters.
-fn word(state: u64) -> &'static str {
-    let words = [
-        "a", "bc", "def", "ghij", "klmno", "pqrstu", "vwxyz~!", "{|}$%&*+",
-    ];
-    words[(state >> 40) as usize % 8]
+/// Words of 1 to 8 letters.
+static WORDS: [&str; 8] = [
+    "a", "bc", "def", "ghij", "klmno", "pqrstu", "vwxyz~!", "{|}$%&*+",
+];
+
+/// White space that may stand in front.
+pub(crate) fn before(state: u64) -> &'static str {
+    FRONTS[(state >> 44) as usize % 4]
 }
 
 /// Appends a number of at most 31 bits, of either sign, and a word.
 fn push_line(records: &mut Records, state: u64) -> Result<(), Fail> {
     let number = (state >> 33) as i32 - 1073741824;
-    let (before, word) = (before(state), word(state));
+    let word = WORDS[(state >> 40) as usize % 8];
+    let before = before(state);
     write!(records.text, "{before}{number:09},{word}\n")?;
     write!(records.copy, "{number},{word}\n")?;
     Ok(())

@@ -1,9 +1,9 @@
 //! Numbers of 1 to 25 digits by the quick run and by the scanner, each cut at every place: at the number's end, too.
-use crate::runs::ended;
-use sf_base::{HeapStore, Store, Value, digit_value};
+use crate::runs::scanned;
+use sf_base::{HeapStore, Value, digit_value};
 use sf_format::{Profile, ScanFormat};
 use sf_rows::{LIMIT, is};
-use sf_run::{Ending, Outcome, Scanner, Status, quick_run};
+use sf_run::{Ending, Outcome, Report, Status, quick_run};
 use std::alloc::Global;
 use std::test::Fail;
 
@@ -62,7 +62,7 @@ fn number_of(radix: u8, digits: &[u8]) -> u128 {
     number
 }
 
-/// The value of the digits behind a sign; None where the kind doesn't hold it.
+/// The value of the digits after a sign; None where the kind doesn't hold it.
 fn value_of(letter: &Letter, negative: bool, digits: &[u8]) -> Option<Value<'static>> {
     let magnitude = u64::try_from(number_of(letter.radix, digits)).ok()?;
     if !letter.signed {
@@ -78,8 +78,8 @@ fn value_of(letter: &Letter, negative: bool, digits: &[u8]) -> Option<Value<'sta
     Some(Value::I64(i64::try_from(signed).ok()?))
 }
 
-/// What the run tells of a sign and digits, so many bytes together, before a `;`.
-fn told(value: Option<Value<'_>>, bytes: usize) -> Outcome {
+/// What the run reports of a sign and digits, so many bytes together, before a `;`.
+fn outcome_of(value: Option<Value<'_>>, bytes: usize) -> Outcome {
     let (status, at, assigned, used) = match value {
         Some(_) => (Status::Done, 0, 1, bytes.saturating_add(1)),
         None => (Status::OutOfRange, 1, 0, bytes),
@@ -94,7 +94,7 @@ fn told(value: Option<Value<'_>>, bytes: usize) -> Outcome {
     }
 }
 
-/// A text, and what is told of it.
+/// A text, and what is to be reported of it.
 #[derive(Clone, Copy)]
 struct Case<'a> {
     text: &'a [u8],
@@ -102,81 +102,100 @@ struct Case<'a> {
     value: Option<Value<'static>>,
 }
 
-/// The scanner that is handed the text in these two pieces tells it.
-fn scanner_tells(
-    alloc: Global,
-    format: &ScanFormat,
-    case: &Case<'_>,
-    at: usize,
-) -> Result<(), Fail> {
-    let Some((front, rest)) = case.text.split_at_checked(at) else {
-        return Ok(());
-    };
-    let mut scanner = Scanner::new(alloc, format, LIMIT)?;
-    scanner.feed(front);
-    scanner.feed(rest);
-    scanner.end(Ending::Fault);
-    let scanned = ended(scanner)?;
-    let report = scanned.report();
-    is(&report.outcome(), &case.outcome, &(case.text, at))?;
-    is(&report.value(1), &case.value, &(case.text, at))
+/// The report is that of the case, whose text was cut here.
+fn is_case(report: &Report<'_, HeapStore>, case: &Case<'_>, at: usize) -> Result<(), Fail> {
+    let found = (report.outcome(), report.value(1));
+    is(&found, &(case.outcome, case.value), &(case.text, at))
 }
 
-/// The quick run, where it tells something of the text's first bytes, tells it. Whether it does.
-fn quick_run_tells(
+/// The scanner reports it of the text in these two pieces.
+fn scanner_reports(
     alloc: Global,
     format: &ScanFormat,
     case: &Case<'_>,
-    at: usize,
+    front: &[u8],
+    rest: &[u8],
+) -> Result<(), Fail> {
+    let scanned = scanned(alloc, format, LIMIT, &[front, rest], Ending::Fault)?;
+    is_case(&scanned.report(), case, front.len())
+}
+
+/// The quick run, where it answers for the text's first bytes, reports it. Whether it does.
+fn quick_run_reports(
+    store: &mut HeapStore,
+    format: &ScanFormat,
+    case: &Case<'_>,
+    front: &[u8],
 ) -> Result<bool, Fail> {
-    let Some((front, _)) = case.text.split_at_checked(at) else {
+    let Some(outcome) = quick_run(store, format, LIMIT, front) else {
         return Ok(false);
     };
-    let mut store = HeapStore::new(alloc, 0)?;
-    let Some(outcome) = quick_run(&mut store, format, LIMIT, front) else {
-        return Ok(false);
-    };
-    is(&outcome, &case.outcome, &(case.text, at))?;
-    is(&store.value(1), &case.value, &(case.text, at))?;
+    is_case(&Report::new(outcome, store), case, front.len())?;
     Ok(true)
 }
 
-/// Both tell the text, wherever it is cut; a short number that stands there whole is told at once.
-fn both_tell(alloc: Global, format: &ScanFormat, case: &Case<'_>) -> Result<(), Fail> {
+/// Both report it, wherever the text is cut; the quick run answers for a short number that stands there whole.
+fn both_report(
+    alloc: Global,
+    store: &mut HeapStore,
+    format: &ScanFormat,
+    case: &Case<'_>,
+) -> Result<(), Fail> {
+    let mut answers = false;
     for at in 0..case.text.len() + 1 {
-        scanner_tells(alloc, format, case, at)?;
-        quick_run_tells(alloc, format, case, at)?;
+        let (front, rest) = case.text.split_at(at);
+        scanner_reports(alloc, format, case, front, rest)?;
+        answers = quick_run_reports(store, format, case, front)?;
     }
-    let at_once = quick_run_tells(alloc, format, case, case.text.len())?;
     let is_due = case.value.is_some() && case.text.len() < 15;
-    is(&(at_once || !is_due), &true, &case.text)
+    is(&(answers || !is_due), &true, &case.text)
 }
 
-/// The first digits of the letter, so many, behind a sign.
-fn is_told(alloc: Global, letter: &Letter, sign: &[u8], count: usize) -> Result<(), Fail> {
-    let format = ScanFormat::parse(alloc, Profile::One, letter.format)?;
-    let digits = letter.digits.get(..count).unwrap_or(letter.digits);
+/// A sign, digits, and bytes after them.
+fn text_of(alloc: Global, sign: &[u8], digits: &[u8]) -> Result<Vec<u8>, Fail> {
     let mut text = sign.to_vec(alloc)?;
     text.extend_from_slice(digits)?;
-    let value = value_of(letter, sign == b"-".as_slice(), digits);
-    let outcome = told(value, text.len());
     text.extend_from_slice(b";7")?;
+    Ok(text)
+}
+
+/// The first digits of the letter, so many, after a sign.
+fn is_reported(
+    alloc: Global,
+    format: &ScanFormat,
+    letter: &Letter,
+    sign: &[u8],
+    count: usize,
+) -> Result<(), Fail> {
+    let digits = letter.digits.get(..count).unwrap_or(letter.digits);
+    let value = value_of(letter, sign == b"-".as_slice(), digits);
+    let text = text_of(alloc, sign, digits)?;
     let case = Case {
         text: &text,
-        outcome,
+        outcome: outcome_of(value, sign.len().saturating_add(digits.len())),
         value,
     };
-    both_tell(alloc, &format, &case)
+    let mut store = HeapStore::new(alloc, 0)?;
+    both_report(alloc, &mut store, format, &case)
+}
+
+static SIGNS: [&[u8]; 3] = [b"", b"-", b"+"];
+
+/// Each sign, and the digits of each count.
+fn all_counts(alloc: Global, letter: &Letter) -> Result<(), Fail> {
+    let format = ScanFormat::parse(alloc, Profile::One, letter.format)?;
+    for count in 1..26usize {
+        for sign in &SIGNS {
+            is_reported(alloc, &format, letter, sign, count)?;
+        }
+    }
+    Ok(())
 }
 
 #[test]
 fn numbers_cut_at_every_place(rt: HostRuntime) -> Result<(), Fail> {
     for letter in &LETTERS {
-        for count in 1..26usize {
-            is_told(rt.alloc(), letter, b"", count)?;
-            is_told(rt.alloc(), letter, b"-", count)?;
-            is_told(rt.alloc(), letter, b"+", count)?;
-        }
+        all_counts(rt.alloc(), letter)?;
     }
     Ok(())
 }

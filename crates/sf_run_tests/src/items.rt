@@ -8,7 +8,7 @@ use sf_item::{
     ItemEnd, ItemScan, Radices, Step, WholeInteger, prefix_radix, radices_of, whole_bytes,
     whole_decimal, whole_hex,
 };
-use sf_rows::{Found, ItemRow, Reader, decimals, is, items};
+use sf_rows::{DecimalRow, Found, ItemRow, Reader, decimals, is, items};
 use std::test::Fail;
 
 fn integer(negative: bool, magnitude: u64) -> ItemEnd {
@@ -77,9 +77,10 @@ fn taken(mut scan: ItemScan<'_>, text: &[u8]) -> Taken {
 fn taken_in_two(mut scan: ItemScan<'_>, text: &[u8], at: usize) -> Taken
     requires { at ≤ length text.now }
 {
-    let mut count = scan.take_all(&text[..at]);
+    let (front, rest) = text.split_at(at);
+    let mut count = scan.take_all(front);
     if count == at {
-        count += scan.take_all(&text[at..]);
+        count += scan.take_all(rest);
     }
     (count, scan.is_full(), scan.finish())
 }
@@ -109,47 +110,41 @@ fn items_are_the_longest_fronts(rt: HostRuntime) -> Result<(), Fail> {
 }
 
 #[test]
-fn a_copy_goes_its_own_way(rt: HostRuntime) {
+fn a_copy_goes_its_own_way(_rt: HostRuntime) -> Result<(), Fail> {
     let conversion = conversion_of(Shape::Int(Base::Dec), None);
     let mut scan = ItemScan::start(&conversion);
     let before = scan;
-    assert_eq!(rt; scan.step(b'7'), Step::Taken);
-    assert_eq!(rt; scan.step(b'x'), Step::Refused);
-    assert_eq!(rt; scan.finish(), integer(false, 7));
-    assert_eq!(rt; before.finish(), ItemEnd::Empty);
+    let steps = (scan.step(b'7'), scan.step(b'x'));
+    let found = (steps, scan.finish(), before.finish());
+    let steps = (Step::Taken, Step::Refused);
+    let wanted = (steps, integer(false, 7), ItemEnd::Empty);
+    is(&found, &wanted, &"7x")
 }
 
+/// A piece, how many bytes of it are taken, and the number that stands after the minus then.
+static PIECES: [(&[u8], usize, u64); 6] = [
+    (b"-1", 2, 1),
+    (b"", 0, 1),
+    (b"2;", 1, 12),
+    (b";3", 0, 12),
+    (b"345", 1, 123),
+    (b"4", 0, 123),
+];
+
 #[test]
-fn pieces_are_taken(rt: HostRuntime) {
+fn pieces_are_taken(_rt: HostRuntime) -> Result<(), Fail> {
     let conversion = conversion_of(Shape::Int(Base::Dec), Some(4));
     let mut scan = ItemScan::start(&conversion);
-    assert_eq!(rt; scan.take_all(b"-1"), 2usize);
-    assert_eq!(rt; scan.take_all(b""), 0usize);
-    assert_eq!(rt; scan.take_all(b"2;"), 1usize);
-    assert_eq!(rt; scan.finish(), integer(true, 12));
-    assert_eq!(rt; scan.take_all(b";3"), 0usize);
-    assert_eq!(rt; scan.take_all(b"345"), 1usize);
-    assert_eq!(rt; scan.finish(), integer(true, 123));
-    assert_eq!(rt; scan.take_all(b"4"), 0usize);
-}
-
-#[test]
-fn whole_decimals_end_within(rt: HostRuntime) -> Result<(), Fail> {
-    for (width, text, wanted) in decimals() {
-        let wanted = wanted.map(|(bytes, negative, magnitude)| WholeInteger {
-            bytes,
-            negative,
-            magnitude,
-        });
-        is(&whole_decimal(*width, text), &wanted, &text)?;
+    for (piece, count, magnitude) in &PIECES {
+        let taken = scan.take_all(piece);
+        let wanted = (*count, integer(true, *magnitude));
+        is(&(taken, scan.finish()), &wanted, piece)?;
     }
     Ok(())
 }
 
-/// A width, a text, and its first bytes as a hexadecimal integer.
-type HexRow = (Option<u16>, &'static [u8], Option<(usize, bool, u64)>);
-
-static HEXES: [HexRow; 14] = [
+/// Texts whose first bytes may be a hexadecimal integer that is known at once.
+static HEXES: [DecimalRow; 14] = [
     (None, b"1f,", Some((2, false, 31))),
     (None, b"-0X1F ", Some((5, true, 31))),
     (None, b"0,", Some((1, false, 0))),
@@ -166,43 +161,45 @@ static HEXES: [HexRow; 14] = [
     (None, b"-,", None),
 ];
 
+/// The bytes of a whole integer, whether a minus stands there, and the number.
+fn parts(whole: WholeInteger) -> (usize, bool, u64) {
+    (whole.bytes, whole.negative, whole.magnitude)
+}
+
 #[test]
-fn whole_hexes_end_within(rt: HostRuntime) -> Result<(), Fail> {
+fn whole_integers_end_within(_rt: HostRuntime) -> Result<(), Fail> {
+    for (width, text, wanted) in decimals() {
+        is(&whole_decimal(*width, text).map(parts), wanted, text)?;
+    }
     for (width, text, wanted) in &HEXES {
-        let wanted = wanted.map(|(bytes, negative, magnitude)| WholeInteger {
-            bytes,
-            negative,
-            magnitude,
-        });
-        is(&whole_hex(*width, text), &wanted, &text)?;
+        is(&whole_hex(*width, text).map(parts), wanted, text)?;
     }
     Ok(())
 }
 
+/// A reader and its width, a text, and how many bytes the item has that ends within it.
+static WHOLES: [(Reader, Option<u16>, &[u8], Option<usize>); 9] = [
+    (Reader::Text, None, b"ab c", Some(2)),
+    (Reader::Text, Some(1), b"ab c", Some(1)),
+    (Reader::Text, None, b"abc", None),
+    (Reader::Text, None, b" ab ", None),
+    (Reader::Digits, None, b"12,", Some(2)),
+    (Reader::Digits, None, b",12", None),
+    (Reader::Characters, None, b" a", Some(1)),
+    (Reader::Characters, Some(2), b" a", None),
+    (Reader::Integer(Base::Dec), None, b"1,", None),
+];
+
 #[test]
-fn whole_bytes_end_within(rt: HostRuntime) -> Result<(), Fail> {
-    let digits = shape_of(Reader::Digits);
-    is(&whole_bytes(&Shape::Text, None, b"ab c"), &Some(2), &"text")?;
-    is(
-        &whole_bytes(&Shape::Text, Some(1), b"ab c"),
-        &Some(1),
-        &"text",
-    )?;
-    is(&whole_bytes(&Shape::Text, None, b"abc"), &None, &"text")?;
-    is(&whole_bytes(&Shape::Text, None, b" ab "), &None, &"text")?;
-    is(&whole_bytes(&digits, None, b"12,"), &Some(2), &"digits")?;
-    is(&whole_bytes(&digits, None, b",12"), &None, &"digits")?;
-    is(&whole_bytes(&Shape::Chars, None, b" a"), &Some(1), &"chars")?;
-    is(&whole_bytes(&Shape::Chars, Some(2), b" a"), &None, &"chars")?;
-    is(
-        &whole_bytes(&Shape::Int(Base::Dec), None, b"1,"),
-        &None,
-        &"integer",
-    )?;
+fn whole_bytes_end_within(_rt: HostRuntime) -> Result<(), Fail> {
+    for (reader, width, text, wanted) in &WHOLES {
+        let shape = shape_of(*reader);
+        is(&whole_bytes(&shape, *width, text), wanted, text)?;
+    }
     is(&whole_bytes(&Shape::Count, None, b"1,"), &None, &"count")
 }
 
-/// Where a whole integer is told of a text, stepping takes the same bytes and tells the same.
+/// Where a whole integer ends within the text, stepping takes the same bytes, to the same integer.
 fn is_as_steps(width: Option<u16>, text: &[u8]) -> Result<(), Fail> {
     let Some(whole) = whole_decimal(width, text) else {
         return Ok(());
@@ -228,19 +225,43 @@ fn whole_decimals_are_as_steps(rt: HostRuntime) -> Result<(), Fail> {
     Ok(())
 }
 
+/// The radices of digits that may begin with a prefix or a `0`.
+static RADICES: [(Base, Radices); 2] = [
+    (
+        Base::Auto,
+        Radices {
+            first: 10,
+            zero: 8,
+            x: Some(16),
+            b: None,
+        },
+    ),
+    (
+        Base::AutoBin,
+        Radices {
+            first: 10,
+            zero: 8,
+            x: Some(16),
+            b: Some(2),
+        },
+    ),
+];
+
+/// A base, a letter after a `0`, and the radix of the digits after both.
+static PREFIXES: [(Base, u8, Option<u8>); 4] = [
+    (Base::Bin, b'B', Some(2)),
+    (Base::Hex, b'b', None),
+    (Base::Hex, b'X', Some(16)),
+    (Base::Dec, b'x', None),
+];
+
 #[test]
-fn each_base_has_its_radices(rt: HostRuntime) {
-    let auto = Radices {
-        first: 10,
-        zero: 8,
-        x: Some(16),
-        b: None,
-    };
-    assert_eq!(rt; radices_of(Base::Auto), auto);
-    let auto_bin = Radices { b: Some(2), ..auto };
-    assert_eq!(rt; radices_of(Base::AutoBin), auto_bin);
-    assert_eq!(rt; prefix_radix(Base::Bin, b'B'), Some(2));
-    assert_eq!(rt; prefix_radix(Base::Hex, b'b'), None);
-    assert_eq!(rt; prefix_radix(Base::Hex, b'X'), Some(16));
-    assert_eq!(rt; prefix_radix(Base::Dec, b'x'), None);
+fn each_base_has_its_radices(_rt: HostRuntime) -> Result<(), Fail> {
+    for (base, radices) in &RADICES {
+        is(&radices_of(*base), radices, base)?;
+    }
+    for (base, letter, radix) in &PREFIXES {
+        is(&prefix_radix(*base, *letter), radix, letter)?;
+    }
+    Ok(())
 }

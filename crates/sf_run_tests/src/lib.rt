@@ -2,11 +2,11 @@
 #![tactic(auto)]
 
 #[cfg(test)]
-mod cuttings;
-#[cfg(test)]
 mod digits;
 #[cfg(test)]
 mod items;
+#[cfg(test)]
+mod pieces;
 #[cfg(test)]
 mod quick;
 #[cfg(test)]
@@ -15,5 +15,7 @@ mod rows;
 mod runs;
 #[cfg(test)]
 mod starts;
+#[cfg(test)]
+mod stores;
 #[cfg(test)]
 mod texts;

@@ -1,53 +1,49 @@
-//! The quick run and the scanner side by side.
-use crate::runs::ended;
+//! The quick run and the scanner side by side, and what the quick run makes of a store.
+use crate::runs::scanned;
 use sf_base::{HeapStore, Store, Value};
 use sf_format::{Profile, ScanFormat};
-use sf_rows::{Met, ScanRow, Told, has_values, is, scans};
-use sf_run::{Ending, Outcome, Report, Scanned, Scanner, Status, quick_run};
+use sf_rows::{Met, ScanRow, Told, is, scans};
+use sf_run::{Ending, Report, Scanned, quick_run};
 use std::alloc::Global;
 use std::test::Fail;
 
-/// The scanner, which is handed the text and no more, tells the same.
+/// The scanner, which is handed the text and no more, reports what the row says.
 fn scanner_agrees(
     alloc: Global,
-    format: &ScanFormat,
     row: &ScanRow,
+    format: &ScanFormat,
     text: &[u8],
-    outcome: Outcome,
 ) -> Result<(), Fail> {
-    let mut scanner = Scanner::new(alloc, format, row.limit)?;
-    scanner.feed(text);
-    scanner.end(Ending::Fault);
-    let scanned = ended(scanner)?;
-    let report = scanned.report();
-    is(&report.outcome(), &outcome, &(row.format, text))?;
-    has_values(&report, row.values, &(row.format, text))
+    let scanned = scanned(alloc, format, row.limit, &[text], Ending::Fault)?;
+    row.is_told(&scanned.report())
 }
 
-/// Whether a front of the row's text is told at once. It is told as the row, then, and as by the scanner.
+/// Whether the quick run answers for a front of the row's text. It then reports what the row says, and so does the
+/// scanner.
 fn is_at_once(
     alloc: Global,
     store: &mut HeapStore,
     row: &ScanRow,
+    format: &ScanFormat,
     front: &[u8],
 ) -> Result<bool, Fail> {
-    let format = row.parsed(alloc)?;
-    let Some(outcome) = quick_run(store, &format, row.limit, front) else {
+    let Some(outcome) = quick_run(store, format, row.limit, front) else {
         return Ok(false);
     };
     row.is_told(&Report::new(outcome, store))?;
-    scanner_agrees(alloc, &format, row, front, outcome)?;
+    scanner_agrees(alloc, row, format, front)?;
     Ok(true)
 }
 
-/// Each front of the row's text; the whole of it is told at once where the row says so.
+/// Each front of the row's text; for the whole of it the quick run answers where the row says so.
 fn all_fronts(alloc: Global, store: &mut HeapStore, row: &ScanRow) -> Result<(), Fail> {
-    for count in 0..row.text.len() {
+    let format = row.parsed(alloc)?;
+    let mut answers = false;
+    for count in 0..row.text.len() + 1 {
         let (front, _) = row.text.split_at(count);
-        is_at_once(alloc, store, row, front)?;
+        answers = is_at_once(alloc, store, row, &format, front)?;
     }
-    let told = is_at_once(alloc, store, row, row.text)?;
-    is(&(told || !row.at_once), &true, &(row.format, row.text))
+    is(&(answers || !row.at_once), &true, &(row.format, row.text))
 }
 
 /// The rows of a table.
@@ -67,37 +63,85 @@ fn records_read_at_once(rt: HostRuntime) -> Result<(), Fail> {
     Ok(())
 }
 
-/// Records one after the other into one store: each leaves its own values alone, and the bytes of their texts.
-#[test]
-fn a_store_is_used_again(rt: HostRuntime) -> Result<(), Fail> {
-    let format = ScanFormat::parse(rt.alloc(), Profile::One, b" %s")?;
-    let mut store = HeapStore::new(rt.alloc(), 8)?;
-    let mut rest: &[u8] = b"first second failing";
-    for word in [&b"first"[..], b"second"] {
-        let Some(outcome) = quick_run(&mut store, &format, 99, rest) else {
-            return Err(Fail::new("a record is read"));
-        };
-        is(&outcome.status, &Status::Done, &word)?;
-        is(&store.value(1), &Some(Value::Text(word)), &word)?;
-        is(&store.value(2), &None, &word)?;
-        (_, rest) = rest.split_at((outcome.used as usize).min(rest.len()));
-    }
-    is(&quick_run(&mut store, &format, 99, rest), &None, &rest)
+/// Records one after the other. The third has no byte after it.
+static RECORDS: [ScanRow; 4] = [
+    ScanRow {
+        profile: Profile::One,
+        format: b" %s",
+        limit: 99,
+        text: b"first second failing",
+        told: Told::Done(1, 5, Met::Byte),
+        values: &[Value::Text(b"first")],
+        at_once: true,
+    },
+    ScanRow {
+        profile: Profile::One,
+        format: b" %s",
+        limit: 99,
+        text: b" second failing",
+        told: Told::Done(1, 7, Met::Byte),
+        values: &[Value::Text(b"second")],
+        at_once: true,
+    },
+    ScanRow {
+        profile: Profile::One,
+        format: b" %s",
+        limit: 99,
+        text: b" failing",
+        told: Told::Done(1, 8, Met::End),
+        values: &[Value::Text(b"failing")],
+        at_once: false,
+    },
+    ScanRow {
+        profile: Profile::One,
+        format: b"%d %s",
+        limit: 99,
+        text: b"-12  abc\n",
+        told: Told::Done(2, 8, Met::Byte),
+        values: &[Value::I32(-12), Value::Text(b"abc")],
+        at_once: true,
+    },
+];
+
+/// The quick run answers for the record exactly where the row says so.
+fn is_record(alloc: Global, store: &mut HeapStore, row: &ScanRow) -> Result<(), Fail> {
+    let format = row.parsed(alloc)?;
+    let answers = is_at_once(alloc, store, row, &format, row.text)?;
+    is(&answers, &row.at_once, &row.text)
 }
 
-/// The outcome of a record and the store of its values are a whole scan, which gives the store back.
+/// Each record leaves its own values alone in the store, and the bytes of their texts.
+#[test]
+fn a_store_is_used_again(rt: HostRuntime) -> Result<(), Fail> {
+    let mut store = HeapStore::new(rt.alloc(), 8)?;
+    for row in &RECORDS {
+        is_record(rt.alloc(), &mut store, row)?;
+    }
+    Ok(())
+}
+
+/// A whole scan made of a record's outcome and the store of its values.
+fn scanned_of(
+    mut store: HeapStore,
+    format: &ScanFormat,
+    text: &[u8],
+) -> Result<Scanned<HeapStore>, Fail> {
+    match quick_run(&mut store, format, 99, text) {
+        Some(outcome) => Ok(Scanned::new(outcome, store)),
+        None => Err(Fail::new("a record is read")),
+    }
+}
+
+/// The whole scan has the values of the last record, and gives the store back.
+fn is_whole(scanned: Scanned<HeapStore>) -> Result<(), Fail> {
+    RECORDS[3].is_told(&scanned.report())?;
+    let text = Some(Value::Text(b"abc"));
+    is(&scanned.into_store().value(2), &text, &"the store")
+}
+
 #[test]
 fn scanned_of_a_record(rt: HostRuntime) -> Result<(), Fail> {
-    let format = ScanFormat::parse(rt.alloc(), Profile::One, b"%d %s")?;
-    let mut store = HeapStore::new(rt.alloc(), 8)?;
-    let Some(outcome) = quick_run(&mut store, &format, 99, b"-12  abc\n") else {
-        return Err(Fail::new("a record is read"));
-    };
-    let scanned = Scanned::new(outcome, store);
-    let wanted = Told::Done(2, 8, Met::Byte).outcome();
-    is(&scanned.report().outcome(), &wanted, &"%d %s")?;
-    let values = [Value::I32(-12), Value::Text(b"abc")];
-    has_values(&scanned.report(), &values, &"%d %s")?;
-    let text = Some(Value::Text(b"abc"));
-    is(&scanned.into_store().value(2), &text, &"%d %s")
+    let format = RECORDS[3].parsed(rt.alloc())?;
+    let store = HeapStore::new(rt.alloc(), 8)?;
+    is_whole(scanned_of(store, &format, RECORDS[3].text)?)
 }

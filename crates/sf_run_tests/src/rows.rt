@@ -1,7 +1,7 @@
 //! A row of a number and a text.
 use sf_base::{Kind, Value};
 use sf_read::Row;
-use sf_rows::Named;
+use sf_rows::{Named, is};
 use std::test::Fail;
 
 /// The count of slots, and the kinds of the slots 0 to 3, by the trait's own calls.
@@ -12,17 +12,16 @@ fn shape_of<T: Row>() -> (u8, [Option<Kind>; 4]) {
     )
 }
 
-/// The second value of a row.
-fn second<T: Row>(row: &T) -> Option<Value<'_>> {
-    row.with_values().as_slice().get(1).copied()
+#[test]
+fn a_row_has_a_shape(_rt: HostRuntime) -> Result<(), Fail> {
+    let kinds = [None, Some(Kind::I32), Some(Kind::Text), None];
+    is(&shape_of::<Named>(), &(2, kinds), &"the shape")
 }
 
-#[test]
-fn a_row_has_a_shape(rt: HostRuntime) -> Result<(), Fail> {
-    let (slots, kinds) = shape_of::<Named>();
-    assert_eq!(rt; slots, 2);
-    assert!(rt; kinds == [None, Some(Kind::I32), Some(Kind::Text), None]);
-    Ok(())
+/// How many values the row lists, and the second of them.
+fn listed<T: Row>(row: &T) -> (usize, Option<Value<'_>>) {
+    let values = row.with_values();
+    (values.len(), values.as_slice().get(1).copied())
 }
 
 #[test]
@@ -30,7 +29,5 @@ fn a_row_lists_its_values(rt: HostRuntime) -> Result<(), Fail> {
     let mut name = Vec::new(rt.alloc());
     name.extend_from_slice(b"up")?;
     let row = Named { number: 7, name };
-    assert_eq!(rt; row.with_values().len(), 2);
-    assert_eq!(rt; second(&row), Some(Value::Text(b"up")));
-    Ok(())
+    is(&listed(&row), &(2, Some(Value::Text(b"up"))), &"the values")
 }

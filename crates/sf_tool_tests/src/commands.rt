@@ -1,9 +1,7 @@
 //! Commands: those that read nothing, and reads and writes that fail.
-use crate::shared::{given, is, lent, words_of};
+use crate::shared::{given, is, lent, run, words_of};
 use sf_print::{ScriptSink, WriteStep};
 use sf_read::{Lookahead, ReadStep, ScriptSource, SliceSource};
-use sf_tool::tool;
-use std::process::Abort;
 use std::test::Fail;
 
 /// Words of commands that need no input, of formats and calls that are refused, and of help; and the status.
@@ -66,10 +64,11 @@ fn commands_that_read_nothing(rt: HostRuntime) -> Result<(), Fail> {
     Ok(())
 }
 
-/// Words, what each read gives, the output, what is said, and the status.
+/// Words, what the reads give in turn, whether the next one fails, the output, what is said, and the status.
 type Reading = (
     &'static str,
-    &'static [ReadStep<'static>],
+    [&'static str; 3],
+    bool,
     &'static str,
     &'static str,
     u8,
@@ -78,72 +77,92 @@ type Reading = (
 static READINGS: [Reading; 8] = [
     (
         "scan/--explain/%d",
-        &[
-            ReadStep::Give(b"1\n"),
-            ReadStep::Give(b"2\n\n"),
-            ReadStep::Give(b" x"),
-        ],
+        ["1\n", "2\n\n", " x"],
+        false,
         "1\n2\n",
         "sf: record 3: matching failure at 1, used 3, assigned 0\n  directive 1: \"%d\", d i32 width - slot 1\n  at line 4, column 2 of the input\n  there stood \"x\"\n",
         1,
     ),
     (
         "scan/--explain/%d,%5x",
-        &[ReadStep::Give(b"1,"), ReadStep::Give(b"\ng")],
+        ["1,", "\ng", ""],
+        false,
         "",
         "sf: record 1: matching failure at 3, used 3, assigned 1\n  directive 3: \"%5x\", x u32 width 5 slot 2\n  at line 2, column 1 of the input\n  there stood \"g\"\n",
         1,
     ),
     (
         "scan/--explain/%d",
-        &[ReadStep::Give(b"1 "), ReadStep::Fail],
+        ["1 ", "", ""],
+        true,
         "1\n",
         "sf: record 2: read fault\n  at line 1, column 3 of the input\n",
         3,
     ),
     (
         "scan/--explain/ ",
-        &[ReadStep::Give(b"\n"), ReadStep::Give(b"x")],
+        ["\n", "x", ""],
+        false,
         "\n",
         "sf: record 2: stalled\n  at line 2, column 1 of the input\n",
         1,
     ),
     (
         "copy/--explain/%d;/%3d;",
-        &[ReadStep::Give(b"1;2"), ReadStep::Give(b"2:")],
+        ["1;2", "2:", ""],
+        false,
         "1;",
         "sf: record 2: matching failure at 2, used 2, assigned 1\n  directive 2: \";\", byte \";\"\n  at line 1, column 5 of the input\n  there stood \":\"\n",
         1,
     ),
     (
         "scan/%d",
-        &[ReadStep::Give(b"x")],
+        ["x", "", ""],
+        false,
         "",
         "sf: record 1: matching failure at 1, used 0, assigned 0\n",
         1,
     ),
     (
         "scan/%d",
-        &[ReadStep::Give(b"1 2"), ReadStep::Fail],
+        ["1 2", "", ""],
+        true,
         "1\n2\n",
         "sf: record 2: read fault\n",
         3,
     ),
     (
         "scan/--lines/--keep-going/%d",
-        &[ReadStep::Give(b"1\nx\n2"), ReadStep::Fail],
+        ["1\nx\n2", "", ""],
+        true,
         "1\n",
         "sf: line 2: matching failure at 1, used 0, assigned 0\nsf: line 3: read fault\n",
         3,
     ),
 ];
 
+/// Reads that give these texts in turn; the next one fails, or reports the end.
+fn steps_of<'a>([first, second, third]: &[&'a str; 3], fails: bool) -> [ReadStep<'a>; 4] {
+    let last = if fails {
+        ReadStep::Fail
+    } else {
+        ReadStep::Give(b"")
+    };
+    [
+        ReadStep::Give(first.as_bytes()),
+        ReadStep::Give(second.as_bytes()),
+        ReadStep::Give(third.as_bytes()),
+        last,
+    ]
+}
+
 /// The place is that in the whole input, and a read that fails ends the command.
 #[test]
 fn inputs_in_pieces(rt: HostRuntime) -> Result<(), Fail> {
-    for (line, steps, output, said, status) in &READINGS {
+    for (line, pieces, fails, output, said, status) in &READINGS {
         let words = words_of(rt.alloc(), line)?;
-        let answer = given(rt.alloc(), &words, ScriptSource::new(steps));
+        let steps = steps_of(pieces, *fails);
+        let answer = given(rt.alloc(), &words, ScriptSource::new(&steps));
         answer.is(&rt, output, said, *status, line);
     }
     Ok(())
@@ -161,65 +180,63 @@ fn lent_input_has_no_place(rt: HostRuntime) -> Result<(), Fail> {
     Ok(())
 }
 
-/// What the output and the error output took, and the status, of a command whose writes follow scripts.
-fn took(
-    rt: &(impl Abort + AllocGlobal),
-    (line, text): (&str, &[u8]),
-    [out, err]: [&[WriteStep]; 2],
-    [output, said]: [&str; 2],
-    status: u8,
-) -> Result<(), Fail> {
-    let words = words_of(rt.alloc(), line)?;
-    let mut out = ScriptSink::new(rt.alloc(), out);
-    let mut err = ScriptSink::new(rt.alloc(), err);
-    let answered = tool(
-        rt.alloc(),
-        &words,
-        SliceSource::new(text),
-        &mut out,
-        &mut err,
-    );
-    is(rt, &out.bytes(), &output.as_bytes(), &line);
-    is(rt, &err.bytes(), &said.as_bytes(), &line);
-    is(rt, &answered, &status, &line);
-    Ok(())
-}
+/// No write fails.
+const ALL: usize = usize::MAX;
 
-/// Words, an input, what the output takes before it fails, and what is said.
-static OUTPUT_FAILS: [(&str, &[u8], &str, &str); 5] = [
-    ("scan/%d", b"1 2", "1", "sf: write fault\n"),
-    ("show/%d", b"1 2", "1", "sf: write fault\n"),
-    ("print/%d;/12", b"1 2", "1", "sf: write fault\n"),
-    ("check/%d;/%3d;", b"1 2", "a", "sf: write fault\n"),
+/// Words, an input, how many bytes the output and the error output take before a write fails, what they take, and the status.
+static WRITINGS: [(&str, &[u8], usize, usize, &str, &str, u8); 7] = [
+    ("scan/%d", b"1 2", 1, ALL, "1", "sf: write fault\n", 3),
+    ("show/%d", b"1 2", 1, ALL, "1", "sf: write fault\n", 3),
+    ("print/%d;/12", b"1 2", 1, ALL, "1", "sf: write fault\n", 3),
+    (
+        "check/%d;/%3d;",
+        b"1 2",
+        1,
+        ALL,
+        "a",
+        "sf: write fault\n",
+        3,
+    ),
     (
         "scan/--lines/--keep-going/%d",
         b"x\n12\n3\n",
+        1,
+        ALL,
         "1",
         "sf: line 1: matching failure at 1, used 0, assigned 0\nsf: write fault\n",
+        3,
+    ),
+    // a fault of the error output changes no status, and the line isn't begun again
+    ("scan/%d;", b"1 2", ALL, 4, "", "sf: ", 1),
+    (
+        "scan/--lines/--keep-going/%d",
+        b"x\n12\n3\n",
+        ALL,
+        1,
+        "12\n3\n",
+        "s",
+        1,
     ),
 ];
 
 #[test]
-fn output_fails(rt: HostRuntime) -> Result<(), Fail> {
-    let fails = [WriteStep::Accept(1), WriteStep::Fail];
-    for &(line, text, output, said) in &OUTPUT_FAILS {
-        took(&rt, (line, text), [&fails, &[]], [output, said], 3)?;
+fn writes_that_fail(rt: HostRuntime) -> Result<(), Fail> {
+    for (line, text, out_takes, err_takes, output, said, status) in &WRITINGS {
+        let words = words_of(rt.alloc(), line)?;
+        let out_steps = [WriteStep::Accept(*out_takes), WriteStep::Fail];
+        let err_steps = [WriteStep::Accept(*err_takes), WriteStep::Fail];
+        let mut out = ScriptSink::new(rt.alloc(), &out_steps);
+        let mut err = ScriptSink::new(rt.alloc(), &err_steps);
+        let answered = run(
+            rt.alloc(),
+            &words,
+            SliceSource::new(text),
+            &mut out,
+            &mut err,
+        );
+        is(&rt, &out.bytes(), &output.as_bytes(), line);
+        is(&rt, &err.bytes(), &said.as_bytes(), line);
+        is(&rt, &answered, status, line);
     }
     Ok(())
-}
-
-/// A fault of the error output changes no status, and the line isn't begun again.
-#[test]
-fn error_output_fails(rt: HostRuntime) -> Result<(), Fail> {
-    let fails = [WriteStep::Accept(4), WriteStep::Fail];
-    took(&rt, ("scan/%d;", b"1 2"), [&[], &fails], ["", "sf: "], 1)?;
-    let fails = [WriteStep::Accept(1), WriteStep::Fail];
-    let lines = "scan/--lines/--keep-going/%d";
-    took(
-        &rt,
-        (lines, b"x\n12\n3\n"),
-        [&[], &fails],
-        ["12\n3\n", "s"],
-        1,
-    )
 }

@@ -106,8 +106,8 @@ static ARGUMENT_FAULTS: [(ArgumentFault, &str, u8); 3] = [
 
 /// The fault is shown as this line.
 fn is_line(rt: &(impl Abort + AllocGlobal), fault: &impl Display, line: &str) -> Result<(), Fail> {
-    let told = format!(in rt.alloc(); "{fault}")?;
-    is(rt, &told.as_str(), &line, &line);
+    let shown = format!(in rt.alloc(); "{fault}")?;
+    is(rt, &shown.as_str(), &line, &line);
     Ok(())
 }
 

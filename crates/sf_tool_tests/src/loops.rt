@@ -167,7 +167,7 @@ const TEXT: &[u8] = b"12,-7\n3,4\n";
 /// The lines of the records of TEXT.
 const LINES: &[u8] = b"12 -7\n3 4\n";
 
-/// Where a read fails behind so many bytes of TEXT: the lines that are written by then, and which run meets it.
+/// A read fails after 0, 1, 2 .. bytes of TEXT: the lines and the number of records written by then, and the run that meets it.
 static CUTS: [(&[u8], u32, u32); 11] = [
     (b"", 0, 1),
     (b"", 0, 1),
@@ -247,7 +247,7 @@ fn short_writes(rt: HostRuntime) -> Result<(), Fail> {
 }
 
 #[test]
-fn a_failing_read_behind_a_record(rt: HostRuntime) -> Result<(), Fail> {
+fn a_failing_read_after_a_record(rt: HostRuntime) -> Result<(), Fail> {
     let steps = [ReadStep::Give(b"12"), ReadStep::Fail];
     let mut from = Lookahead::<ScriptSource<'_>, 4096>::new(ScriptSource::new(&steps));
     let wanted = ToolEnd {
@@ -267,7 +267,7 @@ const UNMATCHED: Outcome = Outcome {
     met: None,
 };
 
-/// The blank before the `x` is used, and nothing behind it.
+/// The blank before the `x` is used, and nothing after it.
 #[test]
 fn the_rest_stays_unread(rt: HostRuntime) -> Result<(), Fail> {
     let mut from = Lookahead::<SliceSource<'_>, 4096>::new(SliceSource::new(b"1 2 x 3"));

@@ -16,7 +16,7 @@ fn scan(alloc: Global, format: &[u8], text: &[u8]) -> Result<(ToolEnd, Vec<u8>),
     Ok((end, out.into_writer()))
 }
 
-/// Whether the loop ended cleanly behind three lines, or for want of memory before.
+/// Whether the loop ended cleanly after three lines, or for want of memory before.
 fn is_end_of_three(end: ToolEnd) -> bool {
     match end.fault {
         None => end.status == 0 && end.records == 3,

@@ -2,7 +2,7 @@
 use crate::shared::is;
 use sf_places::Place;
 
-/// A line and a column, bytes, and the line and the column behind them.
+/// A line and a column, bytes, and the line and the column after them.
 static PLACES: [(u64, u64, &[u8], u64, u64); 11] = [
     (1, 1, b"", 1, 1),
     (1, 1, b"a", 1, 2),
@@ -11,7 +11,7 @@ static PLACES: [(u64, u64, &[u8], u64, u64); 11] = [
     (1, 1, b"\n\n", 3, 1),
     (1, 1, b"\r\n", 2, 1),
     (1, 1, b"a\r\x0b\x0c", 1, 5),
-    // the place behind a front, and behind the rest
+    // the place after a front, and after the rest
     (1, 1, b"a\nbc", 2, 3),
     (2, 3, b"d\n", 3, 1),
     // the greatest numbers stay
@@ -20,7 +20,7 @@ static PLACES: [(u64, u64, &[u8], u64, u64); 11] = [
 ];
 
 #[test]
-fn places_behind_bytes(rt: HostRuntime) {
+fn places_after_bytes(rt: HostRuntime) {
     is(
         &rt,
         &Place::first(),

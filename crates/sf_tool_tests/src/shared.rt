@@ -1,5 +1,5 @@
 //! What the tests share.
-use sf_print::ListSink;
+use sf_print::{ListSink, Sink};
 use sf_read::{Lookahead, Source};
 use sf_tool::{run_words, tool};
 use std::alloc::Global;
@@ -59,10 +59,21 @@ pub(crate) fn lent<S: Source>(
     Answer { status, out, err }
 }
 
-/// The command of the words, on an input of its own.
+/// The command of the words, on an input of its own: its exit status.
+pub(crate) fn run<S: Source, K: Sink, E: Sink>(
+    alloc: Global,
+    words: &[String],
+    from: S,
+    out: &mut K,
+    err: &mut E,
+) -> u8 {
+    tool(alloc, words, from, out, err)
+}
+
+/// The same, with what it writes.
 pub(crate) fn given<S: Source>(alloc: Global, words: &[String], from: S) -> Answer {
     let mut out = ListSink::new(alloc);
     let mut err = ListSink::new(alloc);
-    let status = tool(alloc, words, from, &mut out, &mut err);
+    let status = run(alloc, words, from, &mut out, &mut err);
     Answer { status, out, err }
 }

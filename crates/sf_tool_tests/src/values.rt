@@ -35,8 +35,8 @@ fn sinks_are_printed_to(rt: HostRuntime) -> Result<(), Fail> {
     for (steps, wanted, taken) in &SINKS {
         let mut out = ScriptSink::new(rt.alloc(), steps);
         let printed = print(rt.alloc(), b"%d,%d", "12/345", &mut out)?;
-        is(&rt, &printed, wanted, taken);
-        is(&rt, &out.bytes(), taken, taken);
+        is(&rt, &printed, wanted, &"answer");
+        is(&rt, &out.bytes(), taken, &"taken");
     }
     Ok(())
 }

@@ -1,4 +1,4 @@
-//! What is told of a fault.
+//! The texts of faults.
 use sf_words::WordsFault;
 use std::test::Fail;
 
