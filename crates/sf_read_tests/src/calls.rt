@@ -21,27 +21,18 @@ pub(crate) struct Call {
     pub(crate) failures: u64,
 }
 
-/// How many bytes are read at once.
-#[derive(Clone, Copy)]
-enum Block {
-    Of2,
-    Of16,
-    Of4096,
-}
-
-/// What a source gives, in which blocks it is read, and the calls on it.
+/// What a source gives, the length of the blocks by which it is read, and the calls on it.
 #[derive(Drop)]
 struct Session {
-    block: Block,
+    block: u16,
     steps: &'static [ReadStep<'static>],
     calls: &'static [Call],
 }
 
-/// Sources of which reads fail, or of which more is read than a call uses.
 static SESSIONS: [Session; 8] = [
     // A read fails between two numbers; once the source has ended, it isn't read again.
     Session {
-        block: Block::Of4096,
+        block: 4096,
         steps: &[ReadStep::Give(b"12"), ReadStep::Fail, ReadStep::Give(b"34")],
         calls: &[
             Call {
@@ -75,7 +66,7 @@ static SESSIONS: [Session; 8] = [
     },
     // The read that would fail isn't needed.
     Session {
-        block: Block::Of4096,
+        block: 4096,
         steps: &[ReadStep::Give(b""), ReadStep::Give(b"12"), ReadStep::Fail],
         calls: &[Call {
             format: b"%2d",
@@ -89,7 +80,7 @@ static SESSIONS: [Session; 8] = [
     },
     // The rest of a block is held.
     Session {
-        block: Block::Of4096,
+        block: 4096,
         steps: &[ReadStep::Give(b"5 6 7")],
         calls: &[
             Call {
@@ -114,7 +105,7 @@ static SESSIONS: [Session; 8] = [
     },
     // A read fails before the second number.
     Session {
-        block: Block::Of16,
+        block: 16,
         steps: &[ReadStep::Give(b"1 "), ReadStep::Fail, ReadStep::Give(b"2")],
         calls: &[Call {
             format: b"%d %d",
@@ -128,7 +119,7 @@ static SESSIONS: [Session; 8] = [
     },
     // The first record is read; the second and the third are held.
     Session {
-        block: Block::Of16,
+        block: 16,
         steps: &[ReadStep::Give(b"1,ab;2,cd;3,ef;")],
         calls: &[
             Call {
@@ -162,7 +153,7 @@ static SESSIONS: [Session; 8] = [
     },
     // A failed read leaves what comes after it.
     Session {
-        block: Block::Of2,
+        block: 2,
         steps: &[ReadStep::Give(b"1"), ReadStep::Fail, ReadStep::Give(b"2")],
         calls: &[
             Call {
@@ -187,7 +178,7 @@ static SESSIONS: [Session; 8] = [
     },
     // The byte that would be too much is held.
     Session {
-        block: Block::Of2,
+        block: 2,
         steps: &[ReadStep::Give(b"1234")],
         calls: &[Call {
             format: b"%d",
@@ -201,7 +192,7 @@ static SESSIONS: [Session; 8] = [
     },
     // No text stands in the slot.
     Session {
-        block: Block::Of2,
+        block: 2,
         steps: &[ReadStep::Give(b"abcd")],
         calls: &[Call {
             format: b"%s",
@@ -297,19 +288,19 @@ fn is_session<const N: usize>(alloc: Global, session: &Session) -> Result<(), Fa
     over_one_store(alloc, &mut from, session.calls)
 }
 
-/// The session, in its blocks.
-fn in_its_blocks(alloc: Global, session: &Session) -> Result<(), Fail> {
+/// The session, by blocks of its length.
+fn is_any_session(alloc: Global, session: &Session) -> Result<(), Fail> {
     match session.block {
-        Block::Of2 => is_session::<2>(alloc, session),
-        Block::Of16 => is_session::<16>(alloc, session),
-        Block::Of4096 => is_session::<4096>(alloc, session),
+        2 => is_session::<2>(alloc, session),
+        16 => is_session::<16>(alloc, session),
+        _ => is_session::<4096>(alloc, session),
     }
 }
 
 #[test]
 fn calls_in_turn(rt: HostRuntime) -> Result<(), Fail> {
     for session in &SESSIONS {
-        in_its_blocks(rt.alloc(), session)?;
+        is_any_session(rt.alloc(), session)?;
     }
     Ok(())
 }
