@@ -33,7 +33,7 @@ const NO_MATCH: Outcome = Outcome {
     met: None,
 };
 
-/// Why a line is no match, and the texts.
+/// Why a line doesn't match, and the texts.
 static LINES: [(LineFault, &str); 3] = [
     (
         LineFault::Failed { outcome: NO_MATCH },

@@ -21,7 +21,7 @@ fn first_text<'r, T: Store>(report: &Report<'r, T>) -> &'r [u8]
     }
 }
 
-/// Writes the text of slot 1, and a line end.
+/// Writes the text of slot 1, and a newline.
 #[derive(Drop)]
 pub(crate) struct FirstText {
     pub(crate) line: Vec<u8>,

@@ -85,7 +85,7 @@ fn by_blocks<const N: usize>(rt: &(impl Abort + AllocGlobal), row: &Row) -> Resu
     is_copied::<N>(rt, row.formats, output, output, clean_end(row.end.records))
 }
 
-/// What the last record comes to where its line end is missing.
+/// What the last record comes to where its newline is missing.
 const CUT: Outcome = Outcome {
     status: Status::InputFailure,
     at: 4,

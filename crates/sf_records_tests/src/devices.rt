@@ -57,7 +57,7 @@ fn is_ended<const N: usize>(
 }
 
 /// Where a read fails after so many bytes of TEXT: how many records are written by then, each in the run that ends with
-/// its line end.
+/// its newline.
 static CUTS: [u32; 13] = [0, 0, 0, 0, 0, 0, 0, 1, 1, 1, 1, 1, 2];
 
 #[test]
