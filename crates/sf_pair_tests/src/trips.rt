@@ -15,7 +15,7 @@ use std::test::Fail;
 /// How many writes a script has, of which one fails.
 const WRITES: usize = 24;
 
-/// Whether a front of the text is written, as long as the fault reports; or the whole of it, where that is taken before.
+/// Whether a front of the text is written, as long as the fault says; or the whole of it, where that is taken before.
 fn is_written_up_to(
     alloc: Global,
     pair: &Pair<'_>,
