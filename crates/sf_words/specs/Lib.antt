@@ -1,5 +1,6 @@
 pub mod Laws
 pub mod Line
 pub mod Misuses
+pub mod Options
 pub mod Orders
 pub mod Taken

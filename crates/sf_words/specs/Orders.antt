@@ -1,5 +1,6 @@
 -- What the words of a command ask for, as clap reads them.
 use Rattle.std.specs.Prelude.{◌≡◌, ◌≢◌, ◌≤◌, ◌&&◌, ◌||◌, ℕ, Bool, true, false, not, List, [], ◌∷◌, ◌++◌, Option, Some, None, if◌then◌else◌, codes, map, string_bytes, unwrap_or}
+use Rattle.std.specs.List.{list_any}
 use Rattle.std.specs.Option.{option_map_or}
 use Rattle.std.specs.Str.{bytes_eq}
 use Rattle.std.specs.Str.Parse.{digits_value, without_leading_plus}
@@ -135,9 +136,13 @@ has_texts id rows = is_full (values_at id rows)
 -- an option was given that is one of lines
 abbrev pub has_line_option : List Row → Bool
 has_line_option rows =
-    has_texts (codes "formats") rows
-    || (has_texts (codes "skip") rows
-    || (is_set (codes "whole") rows || (is_set (codes "keep-going") rows || is_set (codes "quiet") rows)))
+    list_any (λ given. given)
+    (has_texts (codes "formats") rows
+    ∷ has_texts (codes "skip") rows
+    ∷ is_set (codes "whole") rows
+    ∷ is_set (codes "keep-going") rows
+    ∷ is_set (codes "quiet") rows
+    ∷ [])
 
 -- such an option stands with --lines alone
 abbrev pub line_faults : List Row → Kinds

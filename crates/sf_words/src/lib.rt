@@ -5,6 +5,7 @@ mod help;
 pub mod laws;
 mod line;
 mod misuse;
+mod options;
 mod order;
 mod words;
 
