@@ -9,8 +9,8 @@ use crate::natural::Natural;
 use crate::scientific::{ROOM, put_digits, put_point};
 
 /// How many digits stand before the point.
-fn whole_count(n: &Natural, decimals: usize) -> usize
-    requires few { decimals ≤ 255 }
+pub(crate) fn whole_count(n: &Natural, decimals: usize) -> usize
+    requires few { decimals ≤ 258 }
     requires most { n.now < 10 ^ (309 + decimals) }
     ensures count { IsCount decimals n.now result }
     ensures most { result ≤ 309 }

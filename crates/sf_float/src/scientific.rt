@@ -11,7 +11,7 @@ use crate::natural::Natural;
 /// Room for the longest text: the 309 digits of the greatest float, a point, and 255 digits after it.
 pub const ROOM: usize = 565;
 
-fn put(b: u8, out: &mut [u8; ROOM], at: usize) -> usize
+pub(crate) fn put(b: u8, out: &mut [u8; ROOM], at: usize) -> usize
     requires { at < 565 }
     ensures end { result ≡ at + 1 }
     ensures written { take (at + 1) out.new ≡ take at out.old ++ b ∷ [] }
@@ -59,7 +59,7 @@ pub(crate) fn put_point(
     put_digits(n, decimals, 0, out, end)
 }
 
-fn put_exponent(power: u32, out: &mut [u8; ROOM], at: usize) -> usize
+pub(crate) fn put_exponent(power: u32, out: &mut [u8; ROOM], at: usize) -> usize
     requires { (power < 1000) × (at + 5 ≤ 565) }
     ensures end { (at ≤ result) × (result ≤ at + 5) }
     ensures written { take result out.new ≡ take at out.old ++ exponent_text power }
