@@ -1,6 +1,6 @@
 -- The digits of a fraction without zeros at its end.
-use Rattle.std.proofs.Common.{◌≡◌, ◌≢◌, ℕ, ◌+◌, ◌-◌, ◌*◌, ◌/◌, ◌%◌, ◌^◌, ◌<◌, ◌≤◌, Bool, true, false, ◌∷◌, ◌++◌, refl, sym, ap, ◌∙◌, arith, true≢false, nat_lt, if◌then◌else◌, append_assoc, lt_of_mul-lt-mul_right, le_of_mul-le-mul_right, eq-zero-or-pos, inl, inr, lt_of_lt_of_le}
-use Rattle.std.proofs.Math.Nat.{div-div-eq-div-mul, div-one, pow-le-pow_right, not-le_of_lt, lt_of_le_of_lt}
+use Rattle.std.proofs.Common.{◌≡◌, ◌≢◌, ℕ, ◌+◌, ◌-◌, ◌*◌, ◌/◌, ◌%◌, ◌^◌, ◌<◌, ◌≤◌, Bool, true, false, ◌∷◌, ◌++◌, refl, sym, ap, ◌∙◌, arith, true≢false, nat_lt, if◌then◌else◌, pow-suc, append_assoc, lt_of_mul-lt-mul_right, le_of_mul-le-mul_right, eq-zero-or-pos, inl, inr, lt_of_lt_of_le, add-one, div-add-mod'}
+use Rattle.std.proofs.Math.Nat.{div-div-eq-div-mul, div-one, pow-zero, pow-le-pow_right, not-le_of_lt, lt_of_le_of_lt}
 use Rattle.std.proofs.lemmas.Nat.{pow-add}
 use lib.Dec.{lit<}
 use Rattle.ryu.specs.Plain.{text_with, exponent_with}
@@ -9,30 +9,33 @@ use Rattle.sf_float.specs.General.{IsShortened}
 use Rattle.sf_float.proofs.Limbs.{power_pos}
 
 -- one zero more
-pub cut_more : (n z : ℕ) → n ≡ n / 10 ^ z * 10 ^ z → n / 10 ^ z % 10 ≡ 0 → n ≡ n / 10 ^ (z + 1) * 10 ^ (z + 1)
-cut_more n z h e =
-    let q = n / 10 ^ z in
-    let p : 10 ^ (z + 1) ≡ 10 ^ z * 10 = pow-add 10 z 1 in
-    let d : n / 10 ^ (z + 1) ≡ q / 10 = ap (λ t. n / t) p ∙ sym (div-div-eq-div-mul n (10 ^ z) 10) in
-    let s : q ≡ q / 10 * 10 = omega arith in
-    h ∙ ap (λ t. t * 10 ^ z) s ∙ omega arith ∙ (λ i. sym d i * sym p i)
+pub cut_more : (b n z : ℕ) → 0 < b → n ≡ n / b ^ z * b ^ z → n / b ^ z % b ≡ 0 → n ≡ n / b ^ (z + 1) * b ^ (z + 1)
+cut_more b n z B h e =
+    let q = n / b ^ z in
+    let p : b ^ (z + 1) ≡ b ^ z * b = ap (λ t. b ^ t) (add-one z) ∙ pow-suc b z in
+    let d : n / b ^ (z + 1) ≡ q / b = ap (λ t. n / t) p ∙ sym (div-div-eq-div-mul n (b ^ z) b) in
+    let s : q ≡ q / b * b = sym (div-add-mod' q b) ∙ ap (λ t. q / b * b + t) e ∙ omega arith in
+    h ∙ ap (λ t. t * b ^ z) s ∙ regroup (q / b) b (b ^ z) ∙ (λ i. sym d i * sym p i)
+  where
+    regroup : (x y w : ℕ) → x * y * w ≡ x * (w * y)
+    regroup x y w = omega arith
 
-pub uncut : (n : ℕ) → n ≡ n / 10 ^ 0 * 10 ^ 0
-uncut n = omega (arith, div-one n)
+pub uncut : (b n : ℕ) → n ≡ n / b ^ 0 * b ^ 0
+uncut b n = rw pow-zero (omega (arith, div-one n))
 
-pub kept_all : (all : Bool) (decimals n : ℕ) → all ≡ true → IsShortened 10 all decimals n (decimals - 0) (n / 10 ^ 0)
-kept_all all decimals n h =
+pub kept_all : (b : ℕ) (all : Bool) (decimals n : ℕ) → all ≡ true → IsShortened b all decimals n (decimals - 0) (n / b ^ 0)
+kept_all b all decimals n h =
     let e : decimals - (decimals - 0) ≡ 0 = omega arith in
     record {
       fewer = omega arith;
-      same = rw e (uncut n);
+      same = rw e (uncut b n);
       each = λ _. omega arith;
       needed = λ k. absurd (true≢false (sym h ∙ k));
     }
 
-pub kept_some : (all : Bool) (decimals n z : ℕ) → all ≡ false → z ≤ decimals → n ≡ n / 10 ^ z * 10 ^ z → (z < decimals → n / 10 ^ z % 10 ≢ 0)
-    → IsShortened 10 all decimals n (decimals - z) (n / 10 ^ z)
-kept_some all decimals n z h l c next =
+pub kept_some : (b : ℕ) (all : Bool) (decimals n z : ℕ) → all ≡ false → z ≤ decimals → n ≡ n / b ^ z * b ^ z → (z < decimals → n / b ^ z % b ≢ 0)
+    → IsShortened b all decimals n (decimals - z) (n / b ^ z)
+kept_some b all decimals n z h l c next =
     let e : decimals - (decimals - z) ≡ z = omega arith in
     record {
       fewer = omega arith;
@@ -42,10 +45,10 @@ kept_some all decimals n z h l c next =
     }
 
 -- the digits before the point stay
-pub same_whole : (n decimals z : ℕ) → z ≤ decimals → n / 10 ^ z / 10 ^ (decimals - z) ≡ n / 10 ^ decimals
-same_whole n decimals z h =
+pub same_whole : (b n decimals z : ℕ) → z ≤ decimals → n / b ^ z / b ^ (decimals - z) ≡ n / b ^ decimals
+same_whole b n decimals z h =
     let e : z + (decimals - z) ≡ decimals = omega arith in
-    div-div-eq-div-mul n (10 ^ z) (10 ^ (decimals - z)) ∙ ap (λ t. n / t) (sym (pow-add 10 z (decimals - z)) ∙ ap (λ t. 10 ^ t) e)
+    div-div-eq-div-mul n (b ^ z) (b ^ (decimals - z)) ∙ ap (λ t. n / t) (sym (pow-add b z (decimals - z)) ∙ ap (λ t. b ^ t) e)
 
 module _ (all : Bool) (decimals n kept m count : ℕ) (s : IsShortened 10 all decimals n kept m) (c : IsCount decimals n count) where
   some : 0 < 10 ^ (decimals - kept)
@@ -65,13 +68,13 @@ module _ (all : Bool) (decimals n kept m count : ℕ) (s : IsShortened 10 all de
         least = λ l. le_of_mul-le-mul_right {k = 10 ^ (decimals - kept)} (omega (arith, s.same, joined (count - 1), c.least l)) some;
       }
 
--- a number below 10 ^ 256 has no more digits before the point
-pub few_count : (d n count : ℕ) → IsCount d n count → n < 10 ^ 256 → count ≤ 256
-few_count d n count c h =
-    elim (eq-zero-or-pos (count - 256)) [
+-- a number below 10 ^ most has no more digits before the point
+pub few_count : (d n count most : ℕ) → 0 < most → IsCount d n count → n < 10 ^ most → count ≤ most
+few_count d n count most M c h =
+    elim (eq-zero-or-pos (count - most)) [
       | inl z ↦ omega arith
       | inr p ↦
-          let k : 256 ≤ count - 1 + d = omega arith in
+          let k : most ≤ count - 1 + d = omega arith in
           absurd (not-le_of_lt (lt_of_le_of_lt (c.least (omega arith)) h) (pow-le-pow_right {n = 10} (lit< tt) k))
     ]
 

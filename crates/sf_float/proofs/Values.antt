@@ -29,7 +29,7 @@ at_pattern bits h =
 pub least_field : (bits : ℕ) → bits < 9218868437227405312 → bits / hidden ≡ 0 → HasValue (of_bits binary64 bits) false (bits % hidden * 1) (2 ^ 1074)
 least_field bits h e = subst (λ x. HasValue (of_bits binary64 bits) false (field_units binary64 x (bits % hidden)) (2 ^ 1074)) e (at_pattern bits h)
 
-at_field : (bits j : ℕ) → bits < 9218868437227405312 → bits / hidden ≡ suc j → HasValue (of_bits binary64 bits) false ((hidden + bits % hidden) * 2 ^ j) (2 ^ 1074)
+pub at_field : (bits j : ℕ) → bits < 9218868437227405312 → bits / hidden ≡ suc j → HasValue (of_bits binary64 bits) false ((hidden + bits % hidden) * 2 ^ j) (2 ^ 1074)
 at_field bits j h e = subst (λ x. HasValue (of_bits binary64 bits) false (field_units binary64 x (bits % hidden)) (2 ^ 1074)) e (at_pattern bits h)
 
 pub high_field : (bits : ℕ) → bits < 9218868437227405312 → 1075 < bits / hidden → HasValue (of_bits binary64 bits) false ((hidden + bits % hidden) * 2 ^ (bits / hidden - 1075)) (2 ^ 0)

@@ -11,9 +11,7 @@ use ryu::Float;
 
 const SIGN: u64 = 0x8000_0000_0000_0000;
 
-const INFINITE: u64 = 0x7ff0_0000_0000_0000;
-
-const HIDDEN: u64 = 0x10_0000_0000_0000;
+pub(crate) const HIDDEN: u64 = 0x10_0000_0000_0000;
 
 /// A size as the fraction m * 2^up / 2^down.
 #[derive(Clone, Copy, Debug)]

@@ -1,4 +1,5 @@
 use Rattle.std.proofs.Common.{◌≡◌, ◌-◌, ◌/◌, ◌^◌, ◌+◌, ◌++◌, sym, ap, ◌∙◌, arith}
+use lib.Dec.{lit<}
 use Rattle.sf_float.specs.Texts.{fixed_digits, point_text}
 use Rattle.sf_float.proofs.Shortening.{same_whole, same_count, few_count, below_power}
 use Rattle.sf_float.proofs.general.put_plain.Goals as goal
@@ -8,7 +9,7 @@ whole_count-count-requires-clause-most c = below_power c.args.n.now (309 + c.arg
 
 pub put_fraction-requires : goal.put_fraction-requires
 put_fraction-requires c =
-    let k = few_count c.args.decimals c.args.n.now c.whole_count-count.result c.whole_count-count.ensures.count c.requires.most in
+    let k = few_count c.args.decimals c.args.n.now c.whole_count-count.result 256 (lit< tt) c.whole_count-count.ensures.count c.requires.most in
     record { few = (c.needless-left_out.ensures.few, c.requires.few, omega (arith, c.put_digits-end.ensures.end)) }
 
 pub returns : goal.returns
@@ -19,7 +20,7 @@ returns c =
     let w = c.whole_count-count in
     let m = n / 10 ^ z.result in
     let e : w.result + d - d ≡ w.result = omega arith in
-    let front = ap (λ k. fixed_digits k (n / 10 ^ d)) e ∙ ap (fixed_digits w.result) (sym (same_whole n d z.result z.ensures.few)) in (
+    let front = ap (λ k. fixed_digits k (n / 10 ^ d)) e ∙ ap (fixed_digits w.result) (sym (same_whole 10 n d z.result z.ensures.few)) in (
       d - z.result,
       m,
       w.result,

@@ -11,7 +11,7 @@ returns c =
     let m = n / 10 ^ z.result in
     let kept = d - z.result in
     let e : d + 1 - d ≡ 1 = omega arith in
-    let front = ap (λ k. fixed_digits k (n / 10 ^ d)) e ∙ ap (fixed_digits 1) (sym (same_whole n d z.result z.ensures.few)) in (
+    let front = ap (λ k. fixed_digits k (n / 10 ^ d)) e ∙ ap (fixed_digits 1) (sym (same_whole 10 n d z.result z.ensures.few)) in (
       kept,
       m,
       z.ensures.short,
