@@ -7,3 +7,4 @@ pub mod InTurn
 pub mod Reading
 pub mod Scripts
 pub mod Shapes
+pub mod Unbounded

@@ -107,7 +107,12 @@ pub fn fscan<S: Source, const N: usize>(
     ensures room { IfOk result (λ s. unwrap_or (width_sum format.now) 0 ≤ capacity_of s.kept) }
     ensures unread { IfErr result (λ _. from.new ≡ from.old) }
 {
-    let store = Scanner::new(alloc, format, limit)?.into_store();
+    if limit > MOST_BYTES {
+        return Err(StartFault::BadLimit);
+    }
+    let Ok(store) = HeapStore::new(alloc, format.width_sum().unwrap_or(0)) else {
+        return Err(StartFault::NoMemory);
+    };
     fscan_over(alloc, store, from, format, limit)
 }
 

@@ -1,0 +1,16 @@
+use Rattle.std.proofs.Common.{ℕ, ◌++◌, List, [], append-nil, subst, Option, Some, None}
+use Rattle.std.specs.Prelude.{IfSome}
+use Rattle.sf_run.specs.outcome.Ending.{Ending}
+use Rattle.sf_run.specs.outcome.Ending.TheVariants.{End}
+use Rattle.sf_run.specs.outcome.Outcome.{Outcome}
+use Rattle.sf_run.specs.Limits.{RunWithin}
+use Rattle.sf_run.specs.Views.{report_by}
+use Rattle.sf_read.proofs.whole.scan_at_once.Goals as goal
+
+pub returns-else-text-lt-BLOCK-clause-run : goal.returns-else-text-lt-BLOCK-clause-run
+returns-else-text-lt-BLOCK-clause-run c = by c.quick_run.result c.quick_run.ensures.run
+  where
+    by : (o : Option Outcome) → IfSome o (λ outcome. (z : List ℕ) (ending : Ending) → RunWithin c.args.format.now c.args.limit (c.args.text.now ++ z) ending (report_by outcome c.quick_run.new.store.values))
+        → IfSome o (λ outcome. RunWithin c.args.format.now c.args.limit c.args.text.now End (report_by outcome c.quick_run.new.store.values))
+    by None h = tt
+    by (Some outcome) h = subst (λ x. RunWithin c.args.format.now c.args.limit x End (report_by outcome c.quick_run.new.store.values)) (append-nil c.args.text.now) (h [] End)
