@@ -46,7 +46,7 @@ fn room_for(formats: &[ScanFormat]) -> u32
 ///
 /// The status is 0 where each line is a match, 1 where one isn't, 3 where a read or the sink failed, and 4 where memory was
 /// refused.
-pub fn run_lines<R: RecordWriter, E: Teller, S: Source, K: Sink, const N: usize>(
+pub fn run_lines<R: RecordWriter, E: Teller<K>, S: Source, K: Sink, const N: usize>(
     alloc: Global,
     from: &mut Lookahead<S, N>,
     to: &mut K,
@@ -86,7 +86,7 @@ pub fn run_lines<R: RecordWriter, E: Teller, S: Source, K: Sink, const N: usize>
                 store = kept;
             }
             Judged::Failed(kept, fault) => {
-                if teller.tell(before + 1, &line, fault).is_err() {
+                if teller.tell(to, before + 1, &line, fault).is_err() {
                     return counts.ended(Some(LinesFault::Memory));
                 }
                 counts.failed += 1;
