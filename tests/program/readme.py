@@ -1,7 +1,7 @@
 """The examples in README.md: what stands below each `$ ..` is what a terminal shows, output and error text in their order.
 
-Each block with a call of the program is one session of sh in a new copy of tests/cookbook/data. A command whose status isn't 0
-has to be followed by `$ echo $?`. Blocks without such a call, as `$ ./test`, are not run.
+Each block with a call of the program is one session of sh in a new copy of tests/cookbook/data. A command whose status
+isn't 0 has to be followed by `$ echo $?`. Blocks without such a call, as `$ ./test`, are not run.
 """
 import os
 import re
