@@ -13,6 +13,7 @@ use Rattle.clap.specs.declared.builder.value_parser.Reading.TheVariants.{AsWritt
 use Rattle.clap.proofs.FaultLemmas.{stopped_fault}
 use Rattle.clap.proofs.OnLiterals.{clap_on_literals}
 use Rattle.clap.proofs.WalkLemmas.{walk_stopped}
+use Rattle.sf_words.specs.Hyphens.{clap_words}
 use Rattle.sf_words.specs.Laws.{IsTakenAs, TakesBehindDashes}
 use Rattle.sf_words.specs.Line.{print_app, sf_app, words_rule}
 use Rattle.sf_words.specs.Orders.{entered_faults, faults_of, own_faults, texts_by, verb_text}
@@ -115,10 +116,10 @@ nothing [] b none_a none_b = none_b
 nothing (k ∷ ks) b none_a none_b = absurd (no_kind none_a)
 
 -- nothing is at fault where clap finds nothing, and the command nothing in the rows
-pub none_at_fault : (words : List Text) (verb : Verb) (rows : List Row) → fault_of sf_app (codes "sf" ∷ words) ≡ []
-    → subcommand_of sf_app (codes "sf" ∷ words) ≡ Some (verb_text verb, rows) → own_faults (verb_text verb) rows ≡ [] → faults_of words ≡ []
+pub none_at_fault : (words : List Text) (verb : Verb) (rows : List Row) → fault_of sf_app (codes "sf" ∷ clap_words words) ≡ []
+    → subcommand_of sf_app (codes "sf" ∷ clap_words words) ≡ Some (verb_text verb, rows) → own_faults (verb_text verb) rows ≡ [] → faults_of words ≡ []
 none_at_fault words verb rows taken is own =
-    nothing (fault_of sf_app (codes "sf" ∷ words)) (entered_faults (subcommand_of sf_app (codes "sf" ∷ words))) taken
+    nothing (fault_of sf_app (codes "sf" ∷ clap_words words)) (entered_faults (subcommand_of sf_app (codes "sf" ∷ clap_words words))) taken
     (subst (λ e. entered_faults e ≡ []) (sym is) own)
 
 -- what is checked after a walk

@@ -1,5 +1,5 @@
 -- Formats of lines, each behind -e.
-use Rattle.std.proofs.Common.{◌≡◌, ◌∙◌, false, true, cond, List, [], ◌∷◌, ◌++◌, Some, refl, sym, ap, subst, codes}
+use Rattle.std.proofs.Common.{◌≡◌, ◌∙◌, false, true, cond, List, [], ◌∷◌, ◌++◌, None, Some, refl, sym, ap, subst, codes}
 use Rattle.std.specs.Prelude.{fold}
 use Rattle.std.specs.List.{AllByRecursion}
 use Rattle.std.specs.Option.{option_map_or}
@@ -8,9 +8,10 @@ use Rattle.clap.specs.Kinds.{or_else}
 use Rattle.clap.specs.Lexer.{long_of}
 use Rattle.clap.specs.Simple.{Shape, subcommand_of}
 use Rattle.clap.specs.Walk.{Held, Row, Step, Text, Walk, after_step, finished, idle, long_or_other, next, nothing_held, option, short_or_plain, trailing, walk, walk_from, walked, word_met}
-use Rattle.clap.specs.Faults.{bundle_fault, flag_word_fault, step_fault, turn_fault, walk_fault, word_fault}
+use Rattle.clap.specs.Faults.{bundle_fault, fault_of, flag_word_fault, step_fault, turn_fault, walk_fault, word_fault}
 use Rattle.clap.proofs.OnLiterals.{clap_on_literals}
-use Rattle.sf_words.specs.Laws.{TakesFormats, with_flags}
+use Rattle.sf_words.specs.Hyphens.{begins_with_hyphen, clap_words, joined}
+use Rattle.sf_words.specs.Laws.{IsPlain, TakesFormats, with_flags}
 use Rattle.sf_words.specs.Line.{sf_app}
 use Rattle.sf_words.specs.Orders.{is_set, own_faults, texts_by, verb_text}
 use Rattle.sf_words.specs.declared.order.Verb.TheVariants.{Scan}
@@ -167,11 +168,22 @@ all_texts : (before : List Text) (format : Text) (more : List Text) → texts_by
 all_texts before format [] = one_text before format
 all_texts before format (other ∷ rest) = all_texts (before ++ format ∷ []) other rest ∙ append_assoc before (format ∷ []) (other ∷ rest)
 
+-- none of them is joined to its -e
+plain_hyphen : (word : Text) → IsPlain word → begins_with_hyphen word ≡ false
+plain_hyphen [] plain = refl
+plain_hyphen (b ∷ rest) plain = plain
+
+as_they_are : (formats : List Text) → AllByRecursion IsPlain formats → joined None (with_flags formats) ≡ with_flags formats
+as_they_are [] plain = refl
+as_they_are (word ∷ rest) plain =
+    ap (λ b. cond b ((codes "-e" ++ codes "=" ++ word) ∷ joined None (with_flags rest)) (codes "-e" ∷ word ∷ joined None (with_flags rest))) (plain_hyphen word plain.0)
+    ∙ ap (λ ws. codes "-e" ∷ word ∷ ws) (as_they_are rest plain.1)
+
 pub formats_taken : TakesFormats
 formats_taken format more plain = (
   record {
     taken =
-        none_at_fault (codes "scan" ∷ words) Scan rows (fine_by Scan words (end [] format more) is (lines_fine format more facts) checks) entered_is
+        none_at_fault (codes "scan" ∷ words) Scan rows fine entered_is
         (at_end (λ w. own_faults (verb_text Scan) (finished scan.rules w.held) ≡ []) own_fine [] format more);
     given = rows;
     is_given = entered_is;
@@ -195,5 +207,12 @@ formats_taken format more plain = (
     checks : checks_after scan false (end [] format more) ≡ []
     checks = at_end (λ w. checks_after scan false w ≡ []) checks_fine [] format more
 
-    entered_is : subcommand_of sf_app (codes "sf" ∷ codes "scan" ∷ words) ≡ Some (verb_text Scan, rows)
-    entered_is = entered_by Scan words (end [] format more) rows is refl
+    same : clap_words (codes "scan" ∷ words) ≡ codes "scan" ∷ words
+    same = ap (λ ws. codes "scan" ∷ codes "--lines" ∷ ws) (as_they_are (format ∷ more) plain)
+
+    fine : fault_of sf_app (codes "sf" ∷ clap_words (codes "scan" ∷ words)) ≡ []
+    fine = subst (λ ws. fault_of sf_app (codes "sf" ∷ ws) ≡ []) (sym same) (fine_by Scan words (end [] format more) is (lines_fine format more facts) checks)
+
+    entered_is : subcommand_of sf_app (codes "sf" ∷ clap_words (codes "scan" ∷ words)) ≡ Some (verb_text Scan, rows)
+    entered_is =
+        subst (λ ws. subcommand_of sf_app (codes "sf" ∷ ws) ≡ Some (verb_text Scan, rows)) (sym same) (entered_by Scan words (end [] format more) rows is refl)

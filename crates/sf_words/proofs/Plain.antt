@@ -13,6 +13,7 @@ use Rattle.clap.specs.Faults.{bundle_fault, entered_fault, fault_of, flag_word_f
 use Rattle.clap.proofs.FaultLemmas.{stopped_fault}
 use Rattle.clap.proofs.OnLiterals.{clap_on_literals}
 use Rattle.clap.proofs.WalkLemmas.{walk_stopped}
+use Rattle.sf_words.specs.Hyphens.{asks_format, clap_words, joined}
 use Rattle.sf_words.specs.Laws.{IsPlain, IsTakenAs, TakesPlainTexts}
 use Rattle.sf_words.specs.Line.{check_app, copy_app, print_app, scan_app, sf_app, show_app}
 use Rattle.sf_words.specs.Orders.{own_faults, texts_by, verb_text}
@@ -162,13 +163,25 @@ entered_by verb words end rows is named =
 taken_by : (verb : Verb) (words texts : List Text) (end : Walk) (rows : List Row) → walk (level verb).rules [] nothing_held words ≡ end
     → walk_fault (level verb) [] (walk_from nothing_held) words ≡ [] → checks_after (level verb) false end ≡ []
     → rows_named verb (finished (level verb).rules end.held) rows → own_faults (verb_text verb) rows ≡ [] → texts_by verb rows ≡ texts
-    → IsTakenAs (verb_text verb ∷ words) verb texts
-taken_by verb words texts end rows is walk_fine checks named own are = record {
-  taken = none_at_fault (verb_text verb ∷ words) verb rows (fine_by verb words end is walk_fine checks) (entered_by verb words end rows is named) own;
-  given = rows;
-  is_given = entered_by verb words end rows is named;
-  texts_are = are;
-}
+    → clap_words (verb_text verb ∷ words) ≡ verb_text verb ∷ words → IsTakenAs (verb_text verb ∷ words) verb texts
+taken_by verb words texts end rows is walk_fine checks named own are same =
+    let entered = subst (λ ws. subcommand_of sf_app (codes "sf" ∷ ws) ≡ Some (verb_text verb, rows)) (sym same) (entered_by verb words end rows is named) in
+    let fine = subst (λ ws. fault_of sf_app (codes "sf" ∷ ws) ≡ []) (sym same) (fine_by verb words end is walk_fine checks) in
+    record {
+      taken = none_at_fault (verb_text verb ∷ words) verb rows fine entered own;
+      given = rows;
+      is_given = entered;
+      texts_are = are;
+    }
+
+-- one word of a scan is handed on as it is
+one_word : (w : Text) → joined None (w ∷ []) ≡ w ∷ []
+one_word w = go (asks_format w) (bytes_eq w (codes "--"))
+  where
+    go : (asks dashes : Bool) → cond asks (w ∷ []) (w ∷ cond dashes [] []) ≡ w ∷ []
+    go true dashes = refl
+    go false true = refl
+    go false false = refl
 
 -- ---- the five
 
@@ -186,7 +199,7 @@ show_plain : (w : Text) → NoFlag w → IsTakenAs (codes "show" ∷ w ∷ []) S
 unfolding clap_on_literals
 show_plain w fact =
     taken_by Show (w ∷ []) (w ∷ []) (one_pending (codes "FORMAT") w [] 2)
-    (finished (level Show).rules (one_pending (codes "FORMAT") w [] 2).held) (show_walk w fact) (show_fine w fact) refl refl refl refl
+    (finished (level Show).rules (one_pending (codes "FORMAT") w [] 2).held) (show_walk w fact) (show_fine w fact) refl refl refl refl refl
 
 scan_walk : (w : Text) → NoFlag w → walk (level Scan).rules [] nothing_held (w ∷ []) ≡ one_pending (codes "FORMAT") w [] 2
 scan_walk w fact = step w fact nothing_held (level Scan).rules idle 1 refl
@@ -200,6 +213,7 @@ unfolding clap_on_literals
 scan_plain w fact =
     taken_by Scan (w ∷ []) (w ∷ []) (one_pending (codes "FORMAT") w [] 2)
     (finished (level Scan).rules (one_pending (codes "FORMAT") w [] 2).held) (scan_walk w fact) (scan_fine w fact) refl refl refl refl
+    (ap (λ ws. codes "scan" ∷ ws) (one_word w))
 
 -- PRINT and then SCAN
 abbrev two_texts : Text → Text → Walk
@@ -222,7 +236,7 @@ check_plain : (p s : Text) → NoFlag p → NoFlag s → IsTakenAs (codes "check
 unfolding clap_on_literals
 check_plain p s print scan =
     taken_by Check (p ∷ s ∷ []) (p ∷ s ∷ []) (two_texts p s) (finished (level Check).rules (two_texts p s).held)
-    (check_walk p s print scan) (check_fine p s print scan) refl refl refl refl
+    (check_walk p s print scan) (check_fine p s print scan) refl refl refl refl refl
 
 copy_walk : (p s : Text) → NoFlag p → NoFlag s → walk (level Copy).rules [] nothing_held (p ∷ s ∷ []) ≡ two_texts p s
 copy_walk p s print scan =
@@ -241,7 +255,7 @@ copy_plain : (p s : Text) → NoFlag p → NoFlag s → IsTakenAs (codes "copy" 
 unfolding clap_on_literals
 copy_plain p s print scan =
     taken_by Copy (p ∷ s ∷ []) (p ∷ s ∷ []) (two_texts p s) (finished (level Copy).rules (two_texts p s).held)
-    (copy_walk p s print scan) (copy_fine p s print scan) refl refl refl refl
+    (copy_walk p s print scan) (copy_fine p s print scan) refl refl refl refl refl
 
 -- ---- print, with any number of values
 
@@ -256,7 +270,7 @@ format_plain : (w : Text) → NoFlag w → IsTakenAs (codes "print" ∷ w ∷ []
 unfolding clap_on_literals
 format_plain w fact =
     taken_by Print (w ∷ []) (w ∷ []) (one_pending (codes "FORMAT") w [] 2)
-    (finished (level Print).rules (one_pending (codes "FORMAT") w [] 2).held) (print_walk w fact) (print_fine w fact) refl refl refl refl
+    (finished (level Print).rules (one_pending (codes "FORMAT") w [] 2).held) (print_walk w fact) (print_fine w fact) refl refl refl refl refl
 
 abbrev values_held : Text → List Text → Held
 values_held format values = record { rows = row (codes "FORMAT") (format ∷ []) ∷ []; pending = Some (codes "VALUES", values); skip = 0 }
@@ -301,7 +315,7 @@ values_plain : (f v : Text) (rest : List Text) → NoFlag f → NoFlag v → All
 values_plain f v rest format first_value others few =
     taken_by Print (f ∷ v ∷ rest) (f ∷ v ∷ rest) (state (values_held f (v ∷ rest)) positional 2)
     (finished (level Print).rules (values_held f (v ∷ rest))) (values_walk f v rest format first_value others) (values_fine f v rest format first_value others) (values_checks f v rest (omega (arith, few))) refl
-    (values_own f v rest) (texts_of_values f v rest)
+    (values_own f v rest) (texts_of_values f v rest) refl
 
 -- ---- all of them
 

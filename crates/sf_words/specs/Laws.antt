@@ -2,6 +2,7 @@
 use Rattle.std.specs.Prelude.{◌≡◌, ◌==◌, ◌<◌, ◌^◌, false, true, List, [], ◌∷◌, Some, codes, length}
 use Rattle.std.specs.List.{AllByRecursion}
 use Rattle.clap.specs.Words.{Row, Text, subcommand_of}
+use Rattle.sf_words.specs.Hyphens.{clap_words}
 use Rattle.sf_words.specs.Line.{sf_app}
 use Rattle.sf_words.specs.Orders.{HasTexts, faults_of, is_set, texts_by, verb_text}
 use Rattle.sf_words.specs.declared.order.Verb.{Verb}
@@ -11,7 +12,7 @@ use Rattle.sf_words.specs.declared.order.Verb.TheVariants.{Scan}
 pub record IsTakenAs (words : List Text) (verb : Verb) (texts : List Text) : Type 0 where
   pub taken : faults_of words ≡ []
   pub given : List Row
-  pub is_given : subcommand_of sf_app (codes "sf" ∷ words) ≡ Some (verb_text verb, given)
+  pub is_given : subcommand_of sf_app (codes "sf" ∷ clap_words words) ≡ Some (verb_text verb, given)
   pub texts_are : texts_by verb given ≡ texts
 
 -- behind `--`, any texts

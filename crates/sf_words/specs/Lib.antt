@@ -1,3 +1,4 @@
+pub mod Hyphens
 pub mod Laws
 pub mod Line
 pub mod Misuses

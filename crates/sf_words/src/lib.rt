@@ -2,6 +2,7 @@
 #![tactic(auto)]
 
 mod help;
+mod hyphens;
 pub mod laws;
 mod line;
 mod misuse;

@@ -5,6 +5,7 @@ ghost use Rattle.clap.specs.Walk.{texts};
 ghost use Rattle.sf_words.specs.Orders.{HasLines, IsOrder, IsOrderOf, IsRefusal, IsRefusalOf, entered_faults, faults_of, form_given, is_form, is_set, number_by, output_text, profile_number, texts_by, values_at, verb_text};
 ghost use Rattle.sf_words.specs.Taken.{IsTaken, IsVerb, IsWithin};
 
+use crate::hyphens::clap_words;
 use crate::line::line;
 use crate::misuse::{form_given, is_set, misuse_of, refusal};
 use crate::order::{LineOptions, Order, Output, Profile, Verb, WordsFault};
@@ -203,7 +204,8 @@ pub fn read_words(alloc: Global, words: &[String]) -> Result<Order, WordsFault>
     ensures taken { IfOk result (λ _. faults_of (map string_bytes words.now) ≡ []) }
     ensures refused { IfErr result (IsRefusal (faults_of (map string_bytes words.now))) }
 {
-    let all = named(alloc, words)?;
+    let joined = clap_words(alloc, words)?;
+    let all = named(alloc, &joined)?;
     let line = line(alloc)?;
     match line.try_get_matches_from(all.as_slice()) {
         Ok(matches) => order_of(alloc, &matches),

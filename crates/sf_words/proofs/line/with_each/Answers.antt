@@ -1,4 +1,4 @@
-use Rattle.std.proofs.Common.{◌∙◌, IfOk, ap, fold, subst, sym}
+use Rattle.std.proofs.Common.{◌∙◌, ap, fold, subst, sym}
 use Rattle.std.proofs.lemmas.List.{at_drop_more, drop_all}
 use Rattle.sf_words.specs.Line.{IsLine}
 use Rattle.sf_words.specs.Options.{with_option}
