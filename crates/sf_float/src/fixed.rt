@@ -26,7 +26,8 @@ pub(crate) fn whole_count(n: &Natural, decimals: usize) -> usize
 /// Writes the size of a finite float, rounded to so many digits after the point, and answers how long the text is.
 pub fn write_fixed(x: f64, decimals: u8, alt: bool, out: &mut [u8; ROOM]) -> usize
     requires { IsTrue (float_is_finite x) }
-    ensures { (count : ℕ) × IsCount decimals (scaled x decimals 0) count
+    ensures end { result ≤ 565 }
+    ensures text { (count : ℕ) × IsCount decimals (scaled x decimals 0) count
         × (take result out.new ≡ fixed_text alt decimals (scaled x decimals 0) count) }
 {
     let n = fixed_number(x, decimals as u32);

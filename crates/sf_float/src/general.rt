@@ -61,7 +61,8 @@ fn put_fraction(
 fn put_plain(n: &Natural, decimals: usize, alt: bool, out: &mut [u8; ROOM]) -> usize
     requires few { decimals ≤ 258 }
     requires most { n.now < 10 ^ 256 }
-    ensures { (kept : ℕ) × (m : ℕ) × (count : ℕ) × IsShortened 10 alt decimals n.now kept m × IsCount kept m count
+    ensures end { result ≤ 565 }
+    ensures text { (kept : ℕ) × (m : ℕ) × (count : ℕ) × IsShortened 10 alt decimals n.now kept m × IsCount kept m count
         × (take result out.new ≡ fixed_text alt kept m count) }
 {
     let count = whole_count(n, decimals);
@@ -73,7 +74,8 @@ fn put_plain(n: &Natural, decimals: usize, alt: bool, out: &mut [u8; ROOM]) -> u
 /// The style of `%e`.
 fn put_raised(n: &Natural, power: u32, decimals: usize, alt: bool, out: &mut [u8; ROOM]) -> usize
     requires { (decimals ≤ 255) × (power < 1000) }
-    ensures { (kept : ℕ) × (m : ℕ) × IsShortened 10 alt decimals n.now kept m
+    ensures end { result ≤ 565 }
+    ensures text { (kept : ℕ) × (m : ℕ) × IsShortened 10 alt decimals n.now kept m
         × (take result out.new ≡ text_with true (scientific alt kept m power)) }
 {
     let left_out = needless(n, decimals, alt);
@@ -85,7 +87,8 @@ fn put_raised(n: &Natural, power: u32, decimals: usize, alt: bool, out: &mut [u8
 fn put_general(n: &Natural, power: u32, digits: u32, alt: bool, out: &mut [u8; ROOM]) -> usize
     requires few { (0 < digits) × (digits ≤ 255) × (power < 1000) }
     requires most { n.now < 10 ^ 256 }
-    ensures { IsGeneralOf alt digits n.now power (take result out.new) }
+    ensures end { result ≤ 565 }
+    ensures text { IsGeneralOf alt digits n.now power (take result out.new) }
 {
     if power < 396 || power >= 400 + digits {
         put_raised(n, power, digits as usize - 1, alt, out)
@@ -98,7 +101,8 @@ fn put_general(n: &Natural, power: u32, digits: u32, alt: bool, out: &mut [u8; R
 /// is (C11 7.21.6.1p8).
 pub fn write_general(x: f64, precision: u8, alt: bool, out: &mut [u8; ROOM]) -> usize
     requires { IsTrue (float_is_finite x) }
-    ensures { IsGeneralText alt (max precision 1) x (take result out.new) }
+    ensures end { result ≤ 565 }
+    ensures text { IsGeneralText alt (max precision 1) x (take result out.new) }
 {
     let digits = precision.max(1) as u32;
     match significant(x, digits) {

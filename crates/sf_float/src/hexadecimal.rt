@@ -179,7 +179,8 @@ fn put_numeral(m: u64, precision: Option<u8>, alt: bool, out: &mut [u8; ROOM]) -
 
 fn put_binary_exponent(m: u64, power: u32, out: &mut [u8; ROOM], at: usize) -> usize
     requires { (power < 2046) × (at ≤ 257) }
-    ensures { (t : List ℕ) × IsBinaryExponent (binary_power m power) t × (take result out.new ≡ take at out.old ++ t) }
+    ensures end { result ≤ 565 }
+    ensures text { (t : List ℕ) × IsBinaryExponent (binary_power m power) t × (take result out.new ≡ take at out.old ++ t) }
 {
     let power = if m == 0 { 1022 } else { power };
     let end = put(b'p', out, at);
@@ -194,7 +195,8 @@ fn put_binary_exponent(m: u64, power: u32, out: &mut [u8; ROOM], at: usize) -> u
 /// precision it has as many digits as are needed.
 pub fn write_hexadecimal(x: f64, precision: Option<u8>, alt: bool, out: &mut [u8; ROOM]) -> usize
     requires { IsTrue (float_is_finite x) }
-    ensures { IsHexadecimalText alt precision x (take result out.new) }
+    ensures end { result ≤ 565 }
+    ensures text { IsHexadecimalText alt precision x (take result out.new) }
 {
     let (_, bits) = sign_and_bits(x);
     let (m, power) = binary_of(bits);

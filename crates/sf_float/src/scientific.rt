@@ -79,7 +79,8 @@ fn put_scientific(
     out: &mut [u8; ROOM],
 ) -> usize
     requires { (decimals ≤ 255) × (power < 1000) }
-    ensures { take result out.new ≡ text_with true (scientific alt decimals n.now power) }
+    ensures end { result ≤ 565 }
+    ensures text { take result out.new ≡ text_with true (scientific alt decimals n.now power) }
 {
     let end = put_digits(n, decimals + 1, decimals, out, 0);
     let end = put_point(n, decimals, alt, out, end);
@@ -89,7 +90,8 @@ fn put_scientific(
 /// Writes the size of a finite float, rounded to so many digits after the point of the style d.ddde+dd, and answers how long the text is.
 pub fn write_scientific(x: f64, decimals: u8, alt: bool, out: &mut [u8; ROOM]) -> usize
     requires { IsTrue (float_is_finite x) }
-    ensures { (n : ℕ) × (power : ℕ) × IsScientific x decimals n power
+    ensures end { result ≤ 565 }
+    ensures text { (n : ℕ) × (power : ℕ) × IsScientific x decimals n power
         × (take result out.new ≡ text_with true (scientific alt decimals n power)) }
 {
     match significant(x, decimals as u32 + 1) {

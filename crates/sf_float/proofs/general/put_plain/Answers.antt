@@ -12,8 +12,13 @@ put_fraction-requires c =
     let k = few_count c.args.decimals c.args.n.now c.whole_count-count.result 256 (lit< tt) c.whole_count-count.ensures.count c.requires.most in
     record { few = (c.needless-left_out.ensures.few, c.requires.few, omega (arith, c.put_digits-end.ensures.end)) }
 
-pub returns : goal.returns
-returns c =
+pub returns-clause-end : goal.returns-clause-end
+returns-clause-end c =
+    let k = few_count c.args.decimals c.args.n.now c.whole_count-count.result 256 (lit< tt) c.whole_count-count.ensures.count c.requires.most in
+    omega (arith, k, c.put_digits-end.ensures.end, c.put_fraction.ensures.end)
+
+pub returns-clause-text : goal.returns-clause-text
+returns-clause-text c =
     let n = c.args.n.now in
     let d = c.args.decimals in
     let z = c.needless-left_out in

@@ -3,8 +3,8 @@ use Rattle.sf_float.specs.Texts.{fixed_digits, point_text, exponent_text}
 use Rattle.sf_float.proofs.Shortening.{same_whole, raised_text}
 use Rattle.sf_float.proofs.general.put_raised.Goals as goal
 
-pub returns : goal.returns
-returns c =
+pub returns-clause-text : goal.returns-clause-text
+returns-clause-text c =
     let n = c.args.n.now in
     let d = c.args.decimals in
     let z = c.needless-left_out in

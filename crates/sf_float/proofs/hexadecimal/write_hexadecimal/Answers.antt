@@ -7,12 +7,12 @@ use Rattle.sf_float.proofs.hexadecimal.write_hexadecimal.Goals as goal
 pub sign_and_bits-bits-requires : goal.sign_and_bits-bits-requires
 sign_and_bits-bits-requires c = finite_number c.args.x c.requires
 
-pub returns : goal.returns
-returns c =
+pub returns-clause-text : goal.returns-clause-text
+returns-clause-text c =
     let s = c.sign_and_bits-bits in
     let b = c.binary_of-m in
     let n = c.put_numeral-end in
-    let e = c.put_binary_exponent.ensures in (
+    let e = c.put_binary_exponent.ensures.text in (
       b.result.0,
       b.result.1,
       record {
