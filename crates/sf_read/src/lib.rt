@@ -22,5 +22,5 @@ pub use script_source::{ReadStep, ScriptSource};
 pub use slice_source::SliceSource;
 pub use source::{Source, SourceFault};
 pub use std_source::StdSource;
-pub use stream::{fscan, fscan_fixed, fscan_held, fscan_over};
+pub use stream::{count_newlines, fscan, fscan_counting, fscan_fixed, fscan_held, fscan_over};
 pub use whole::{sscan, sscan_over};

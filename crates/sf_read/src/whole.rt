@@ -46,19 +46,21 @@ fn lay_down(text: &[u8], block: &mut [u8])
     block[text.len()] = b'\n';
 }
 
-/// Scans a short text without a scanner, where it is Done: what it comes to with a newline after it tells what it comes to
-/// alone. None where that isn't so, or isn't known here: then the store may keep something.
-fn scan_short(
+/// Scans a whole text without a scanner, where it is seen at once to be Done. What a short text comes to with a newline after
+/// it tells what it comes to alone. None where that isn't so, or isn't known here: then the store may keep something.
+fn scan_at_once(
     store: &mut HeapStore,
     text: &[u8],
     format: &ScanFormat,
     limit: u32,
 ) -> Option<Outcome>
-    requires { length text.now < 256 }
     ensures run { IfSome result (λ outcome. RunWithin format.now limit text.now Ending.End (report_by outcome store.new.values)) }
     ensures texts { IfSome result (λ _. HoldsValues store.new) }
     ensures room { capacity_of store.old ≤ capacity_of store.new }
 {
+    if text.len() >= BLOCK {
+        return quick_run(store, format, limit, text);
+    }
     let directives = format.directives();
     let mut block = [0; BLOCK];
     lay_down(text, &mut block);
@@ -81,25 +83,6 @@ fn scan_short(
         used: outcome.used,
         met: Some(Ending::End),
     })
-}
-
-/// Scans a whole text without a scanner, where it is seen at once to be Done. None where it isn't: then the store may keep
-/// something.
-fn scan_at_once(
-    store: &mut HeapStore,
-    text: &[u8],
-    format: &ScanFormat,
-    limit: u32,
-) -> Option<Outcome>
-    ensures run { IfSome result (λ outcome. RunWithin format.now limit text.now Ending.End (report_by outcome store.new.values)) }
-    ensures texts { IfSome result (λ _. HoldsValues store.new) }
-    ensures room { capacity_of store.old ≤ capacity_of store.new }
-{
-    if text.len() < BLOCK {
-        scan_short(store, text, format, limit)
-    } else {
-        quick_run(store, format, limit, text)
-    }
 }
 
 /// What the run of the scanner comes to, over a whole text.

@@ -12,7 +12,8 @@ use Rattle.sf_read.proofs.row.scan_row_over.Goals as goal
 pub row_of-row-requires : goal.row_of-row-requires
 row_of-row-requires g c =
     let told = c.in-Ok.ensures.told in
-    given g.T.Row.kinds c.args.format.now c.args.limit told.0 told.1 c.in-Ok.scanned.report c.has_shape.ensures.kinded (c.if-not-has_shape.ensures.same.0 refl) told.2
+    given g.T.Row.kinds c.args.format.now c.args.limit told.0 told.1 c.in-Ok.scanned.report c.has_shape.ensures.kinded
+    (c.if-not-has_shape.ensures.same.0 refl) told.2
 
 pub returns-in-Err-clause-limit : goal.returns-in-Err-clause-limit
 returns-in-Err-clause-limit g c = grind (arith, common_steps)
@@ -20,6 +21,8 @@ returns-in-Err-clause-limit g c = grind (arith, common_steps)
 pub returns-in-Ok-clause-enough : goal.returns-in-Ok-clause-enough
 returns-in-Ok-clause-enough g c = by c.args.store.now
   where
-    by : (o : Option Kept) → IfSome o (λ s. unwrap_or (width_sum c.args.format.now) 0 ≤ capacity_of s → IsErrOf c.row_of-row.result (Start NoMemory) → ⊥)
+    by : (o : Option Kept)
+        → IfSome o (λ s. unwrap_or (width_sum c.args.format.now) 0 ≤ capacity_of s → IsErrOf c.row_of-row.result (Start NoMemory) → ⊥)
     by None = tt
-    by (Some s) = λ room e. no_start g.T.Row.kinds g.T.Row.listed c.in-Ok.scanned.report c.row_of-row.result c.row_of-row.ensures NoMemory e
+    by (Some s) = λ room e. no_start g.T.Row.kinds g.T.Row.listed c.in-Ok.scanned.report c.row_of-row.result c.row_of-row.ensures NoMemory
+        e
