@@ -12,24 +12,24 @@ _sf() {
         COMPREPLY=( $(compgen -W 'show scan print check copy help -h --help -V --version' -- "$word") )
         return
     fi
-    [[ $before == --limit || $before == --skip || $before == -e ]] && return
-    if [[ $before == --profile ]]; then
+    [[ $before == --limit || $before == --skip || $before == -s || $before == -e ]] && return
+    if [[ $before == --profile || $before == -p ]]; then
         COMPREPLY=( $(compgen -W '1 2' -- "$word") )
         return
     fi
-    if [[ $before == --output ]]; then
+    if [[ $before == --output || $before == -o ]]; then
         COMPREPLY=( $(compgen -W 'plain tsv json' -- "$word") )
         return
     fi
-    # what stands behind -- is no option
+    # what stands after -- is no option
     for (( at = 2; at < COMP_CWORD; at++ )); do
         [[ ${COMP_WORDS[at]} == -- ]] && return
     done
     case ${COMP_WORDS[1]} in
         help) (( COMP_CWORD == 2 )) && COMPREPLY=( $(compgen -W 'show scan print check copy help' -- "$word") ) ;;
-        scan) [[ $word == -* ]] && COMPREPLY=( $(compgen -W '--limit --line-buffered --profile --explain --output --lines -e --skip --whole --keep-going --quiet -h --help' -- "$word") ) ;;
-        copy) [[ $word == -* ]] && COMPREPLY=( $(compgen -W '--limit --line-buffered --profile --explain -h --help' -- "$word") ) ;;
-        show|print|check) [[ $word == -* ]] && COMPREPLY=( $(compgen -W '--profile --explain -h --help' -- "$word") ) ;;
+        scan) [[ $word == -* ]] && COMPREPLY=( $(compgen -W '--limit --line-buffered -p --profile --explain -o --output -l --lines -e -s --skip --whole -k --keep-going -q --quiet -h --help' -- "$word") ) ;;
+        copy) [[ $word == -* ]] && COMPREPLY=( $(compgen -W '--limit --line-buffered -p --profile --explain -h --help' -- "$word") ) ;;
+        show|print|check) [[ $word == -* ]] && COMPREPLY=( $(compgen -W '-p --profile --explain -h --help' -- "$word") ) ;;
     esac
 }
 complete -F _sf sf
