@@ -75,7 +75,7 @@ rest_of radix (b ∷ t) (inr (inl p)) =
 rest_of radix (b ∷ t) (inr (inr e)) =
     record { whole = []; point = []; fraction = []; exponent = b ∷ t; whole_digits = tt; fraction_digits = tt; pointed = inl (refl, refl); raised = exponent_of radix (b ∷ t) e; joined = refl }
 
-numeral_of : (radix : Radix) (t : List ℕ) → IsNumber radix t → IsNumeral radix t
+pub numeral_of : (radix : Radix) (t : List ℕ) → IsNumber radix t → IsNumeral radix t
 numeral_of radix [] h = absurd h
 numeral_of radix (b ∷ t) (inl d) =
     let r = rest_of radix t d.1 in
@@ -136,7 +136,7 @@ number_from radix (b ∷ w) point fraction exponent s p d f h = inl (d.0, whole_
 number_from radix [] point fraction exponent s (inl e) d f h = absurd (omega (arith, ap length e.1))
 number_from radix [] point fraction exponent s (inr e) d f h = subst (λ p. IsNumber radix (p ++ (fraction ++ exponent))) (sym e) (pointed_from radix fraction exponent (omega arith) f h)
 
-number_of : (radix : Radix) (t : List ℕ) → IsNumeral radix t → IsNumber radix t
+pub number_of : (radix : Radix) (t : List ℕ) → IsNumeral radix t → IsNumber radix t
 number_of radix t n = subst (IsNumber radix) (sym n.joined) (number_from radix n.whole n.point n.fraction n.exponent n.some n.pointed n.whole_digits n.fraction_digits (exponent_from radix n.exponent n.raised))
 
 -- ---- words
@@ -164,7 +164,7 @@ spells_alone [] (b ∷ t) rest s e = absurd s
 spells_alone (w ∷ ws) [] rest s e = absurd s
 spells_alone (w ∷ ws) (b ∷ t) rest s e = (s.0, spells_alone ws t rest s.1 e)
 
-infinity_of : (ws t : List ℕ) → Begins ws IsInfinityTail t → Spells ws t ⊎ Spells (ws ++ 105 ∷ 110 ∷ 105 ∷ 116 ∷ 121 ∷ []) t
+pub infinity_of : (ws t : List ℕ) → Begins ws IsInfinityTail t → Spells ws t ⊎ Spells (ws ++ 105 ∷ 110 ∷ 105 ∷ 116 ∷ 121 ∷ []) t
 infinity_of ws t h =
     let r = begun ws t IsInfinityTail h in
     elim r.4 [
@@ -203,7 +203,7 @@ sequence_from : (t : List ℕ) → IsCharSequence t → IsNanTail t
 sequence_from t (inl e) = subst IsNanTail (sym e) tt
 sequence_from t (inr c) = subst IsNanTail (sym c.2) (refl, payload_from c.0 c.1)
 
-nan_of : (t : List ℕ) → Begins (110 ∷ 97 ∷ 110 ∷ []) IsNanTail t → IsNan t
+pub nan_of : (t : List ℕ) → Begins (110 ∷ 97 ∷ 110 ∷ []) IsNanTail t → IsNan t
 nan_of t h = let r = begun (110 ∷ 97 ∷ 110 ∷ []) t IsNanTail h in (r.0, r.1, r.3, sequence_of r.1 r.4, r.2)
 
 nan_from : (t : List ℕ) → IsNan t → Begins (110 ∷ 97 ∷ 110 ∷ []) IsNanTail t
