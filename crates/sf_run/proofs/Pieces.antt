@@ -360,7 +360,7 @@ ended_behind c n w piece rest e back within white next front answers is =
     let ink : 0 < length rest → (shape_skips c.shape && is_white (get_or rest 0 0)) ≡ false = rw back (next_behind (λ b. shape_skips c.shape && is_white b) w piece next) in
     record {
       answers = λ proper. rw (front, add-zero) at (answers_behind (Conv c) n w piece (run_of e) within (omega (arith, long, fits)) (item_skips c piece w within white) (rw back at (answers proper ink (n + w))));
-      fits = record { within = omega (arith, all, fits, front, long, within); given = is.given; memory = is.memory };
+      fits = record { within = omega (arith, all, fits, front, long, within); given = is.given; number = is.number; memory = is.memory };
     }
 
 -- a directive that waits at the end of the piece doesn't pass before

@@ -1,6 +1,7 @@
 -- What the code holds of a directive that is under way.
-use Rattle.std.specs.Prelude.{◌≡◌, ◌≢◌, ◌+◌, ◌<◌, ℕ, Bool, true, false, List, [], ◌++◌, length, take, Option, Some, None, ℤ}
-use Rattle.sf_base.specs.Data.{Bytes, datum_of_number}
+use Rattle.std.specs.Prelude.{IsTrue, ◌≡◌, ◌≢◌, ◌+◌, ◌<◌, ℕ, Bool, true, false, List, [], ◌++◌, length, take, Option, Some, None, ℤ}
+use Rattle.sf_base.specs.Data.{Bytes, Number}
+use Rattle.sf_base.specs.Kinds.{is_held, with_sign}
 use Rattle.sf_format.specs.declared.directive.Conversion.{Conversion}
 use Rattle.sf_format.specs.declared.directive.Directive.{Directive}
 use Rattle.sf_format.specs.declared.directive.Directive.TheVariants.{Conv}
@@ -59,7 +60,7 @@ slot_in (phase.Text slot scan) = Some slot
 -- how a directive ended, where this is the text under way
 abbrev pub end_of : List ℕ → Finished → StepEnd
 end_of text finish.Passes = Passes
-end_of text (finish.Stores slot number) = Stores slot (datum_of_number number)
+end_of text (finish.Stores slot kind negative magnitude) = Stores slot (Number kind (with_sign negative magnitude))
 end_of text (finish.Closes slot) = Stores slot (Bytes text)
 end_of text (finish.Fails status) = Fails status
 
@@ -74,13 +75,18 @@ slot_closed _ = None
 
 -- the slot that is given something
 abbrev pub slot_given : Finished → Option ℕ
-slot_given (finish.Stores slot number) = Some slot
+slot_given (finish.Stores slot kind negative magnitude) = Some slot
 slot_given (finish.Closes slot) = Some slot
 slot_given _ = None
 
 abbrev pub is_memory_failure : Finished → Bool
 is_memory_failure (finish.Fails status) = is_memory_status status
 is_memory_failure _ = false
+
+-- what is stored as a number is one of its kind
+abbrev pub IsNumberGiven : Finished → Type 0
+IsNumberGiven (finish.Stores slot kind negative magnitude) = IsTrue (is_held kind negative magnitude)
+IsNumberGiven _ = Unit {0}
 
 -- the end of a conversion that matched a number, which its kind may not hold
 abbrev pub passed_number : Conversion → Option ℕ → Option ℤ → StepEnd

@@ -14,7 +14,7 @@ use Rattle.sf_run.specs.declared.directive.Phase.TheVariants as phase
 use Rattle.sf_run.specs.declared.directive.Run.{Run}
 use Rattle.sf_run.specs.Holding.{LeftAfterAll}
 use Rattle.sf_report.specs.Machine.{Stage, Skipping, Taken, Item, finished, is_full}
-use Rattle.sf_run.specs.Phases.{Brings, Shows, end_of, is_failing, is_memory_failure, slot_closed, slot_given, slot_in}
+use Rattle.sf_run.specs.Phases.{Brings, IsNumberGiven, Shows, end_of, is_failing, is_memory_failure, slot_closed, slot_given, slot_in}
 use Rattle.sf_report.specs.Residual.{one_from}
 use Rattle.sf_report.specs.Steps.{StepEnd}
 use Rattle.sf_run.specs.Texts.{IsNextSlot, StoresByte, slot_of, text_slot}
@@ -43,6 +43,7 @@ pub record Answers (d : Directive) (q : Stage) (n : ℕ) (piece : List ℕ) (run
 pub record IsEnd (d : Directive) (current : Phase) (end : Finished) : Type 0 where
   pub text : is_failing end ≡ false → slot_in current ≡ slot_closed end
   pub given : is_failing end ≡ false → slot_given end ≡ slot_of d
+  pub number : IsNumberGiven end
   pub memory : is_memory_failure end ≡ false
 
 -- Whatever its stage, the answer fits a directive that has come so far: it uses the piece up where it waits, and would then take one byte more; the text
@@ -85,6 +86,7 @@ run_of e = record { before = e.before; item = e.item; phase = phase.Skipping; en
 pub record IsEndIn (d : Directive) (piece : List ℕ) (e : Ended) : Type 0 where
   pub within : e.before + e.item ≤ length piece
   pub given : is_failing e.finished ≡ false → slot_given e.finished ≡ slot_of d
+  pub number : IsNumberGiven e.finished
   pub memory : is_memory_failure e.finished ≡ false
 
 -- The directive, which took nothing yet, n bytes into the run, ends so within the piece, whatever follows that.

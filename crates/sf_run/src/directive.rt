@@ -18,12 +18,12 @@ ghost use Rattle.sf_run.specs.declared.directive.Finished.TheVariants as finish;
 ghost use Rattle.sf_report.specs.Machine.{Stage, Skipping, Item, shape_skips, is_full, item_end, item_finished, count_end, finished};
 ghost use Rattle.sf_run.specs.Texts.{text_slot, opened_for, slot_of_text, is_count};
 ghost use Rattle.sf_run.specs.Holding.{FallsBy};
-ghost use Rattle.sf_run.specs.Phases.{ShowsItem, Shows, CanAll, end_of, is_failing, is_memory_failure, passed_number, slot_closed, slot_given, slot_in};
+ghost use Rattle.sf_run.specs.Phases.{ShowsItem, Shows, CanAll, IsNumberGiven, end_of, is_failing, is_memory_failure, passed_number, slot_closed, slot_given, slot_in};
 ghost use Rattle.sf_run.specs.Pieces.{Answers, EndsAt, EndsAtOnce, IsEnd, IsEndIn, IsEndOf, StaysAt, Suits, run_of};
 ghost use Rattle.sf_run.specs.Quick.{IsSure};
 
 use crate::number::number_of;
-use sf_base::{Number, is_space, space_run};
+use sf_base::{Kind, Number, is_space, space_run};
 use sf_format::{Base, Conversion, Directive, Shape};
 use sf_item::{ItemEnd, ItemScan, WholeInteger, whole_auto, whole_bytes, whole_decimal, whole_hex};
 use sf_report::Status;
@@ -44,9 +44,16 @@ pub(crate) enum Phase<'f> {
 pub(crate) enum Finished {
     Passes,
     /// The slot is given a number.
-    Stores { slot: u8, number: Number },
+    Stores {
+        slot: u8,
+        kind: Kind,
+        negative: bool,
+        magnitude: u64,
+    },
     /// The slot is given the opened text.
-    Closes { slot: u8 },
+    Closes {
+        slot: u8,
+    },
     Fails(Status),
 }
 
@@ -162,12 +169,18 @@ pub(crate) fn finish_number(conversion: &Conversion, number: Option<Number>) -> 
         → end_of text result ≡ passed_number conversion.now conversion.now.slot n }
     ensures closes { slot_closed result ≡ None }
     ensures given { is_failing result ≡ false → slot_given result ≡ conversion.now.slot }
+    ensures number { IsNumberGiven result }
     ensures memory { is_memory_failure result ≡ false }
 {
     match (conversion.slot, number) {
         (None, _) => Finished::Passes,
         (Some(_), None) => Finished::Fails(Status::OutOfRange),
-        (Some(slot), Some(number)) => Finished::Stores { slot, number },
+        (Some(slot), Some(number)) => Finished::Stores {
+            slot,
+            kind: number.kind,
+            negative: number.negative,
+            magnitude: number.magnitude,
+        },
     }
 }
 
@@ -176,6 +189,7 @@ fn finish_matched(slot: Option<u8>) -> Finished
     ensures end { (text : List ℕ) → slot ≡ None → end_of text result ≡ StepEnd.Passes }
     ensures closes { slot_closed result ≡ None }
     ensures given { is_failing result ≡ false → slot_given result ≡ slot }
+    ensures number { IsNumberGiven result }
     ensures memory { is_memory_failure result ≡ false }
 {
     match slot {
@@ -190,6 +204,7 @@ pub(crate) fn finish_item(conversion: &Conversion, scan: ItemScan<'_>) -> Finish
         → end_of text result ≡ item_end conversion.now f }
     ensures closes { slot_closed result ≡ None }
     ensures given { is_failing result ≡ false → slot_given result ≡ conversion.now.slot }
+    ensures number { IsNumberGiven result }
     ensures memory { is_memory_failure result ≡ false }
 {
     match scan.finish() {
@@ -212,6 +227,7 @@ pub(crate) fn finish_text(slot: u8, scan: ItemScan<'_>) -> Finished
         → end_of f result ≡ item_end (conversion_of scan.entry) f }
     ensures text { is_failing result ≡ false → Some slot ≡ slot_closed result }
     ensures given { is_failing result ≡ false → slot_given result ≡ Some slot }
+    ensures number { IsNumberGiven result }
     ensures memory { is_memory_failure result ≡ false }
 {
     match scan.finish() {
@@ -225,6 +241,7 @@ fn finish_count(conversion: &Conversion, used: u32) -> Finished
     ensures end { (text : List ℕ) → end_of text result ≡ count_end conversion.now conversion.now.slot used }
     ensures closes { slot_closed result ≡ None }
     ensures given { is_failing result ≡ false → slot_given result ≡ conversion.now.slot }
+    ensures number { IsNumberGiven result }
     ensures memory { is_memory_failure result ≡ false }
 {
     finish_number(
@@ -240,6 +257,7 @@ fn finish_taken(conversion: &Conversion, slot: Option<u8>, scan: ItemScan<'_>) -
         → end_of f result ≡ item_end conversion.now f }
     ensures text { is_failing result ≡ false → slot ≡ slot_closed result }
     ensures given { is_failing result ≡ false → slot_given result ≡ conversion.now.slot }
+    ensures number { IsNumberGiven result }
     ensures memory { is_memory_failure result ≡ false }
 {
     match slot {
@@ -545,6 +563,7 @@ fn finish_bytes(slot: Option<u8>) -> Finished
     ensures none { slot ≡ None → result ≡ finish.Passes }
     ensures some { (n : ℕ) → slot ≡ Some n → result ≡ finish.Closes n }
     ensures given { slot_given result ≡ slot }
+    ensures number { IsNumberGiven result }
     ensures memory { is_memory_failure result ≡ false }
 {
     match slot {

@@ -6,7 +6,7 @@ ghost use Rattle.sf_report.specs.declared.outcome.Ending.{Ending};
 ghost use Rattle.sf_report.specs.declared.outcome.Status.TheVariants as status;
 ghost use Rattle.sf_report.specs.Limits.{RunWithin};
 ghost use Rattle.sf_report.specs.Memory.{HoldsValues, capacity_of};
-ghost use Rattle.sf_run.specs.Phases.{end_of, slot_given};
+ghost use Rattle.sf_run.specs.Phases.{IsNumberGiven, end_of, slot_given};
 ghost use Rattle.sf_run.specs.Pieces.{EndsAtOnce};
 ghost use Rattle.sf_run.specs.Quick.{GivesTo, IsDoneWithin, IsSure, MayBeGiven, PassesBy, text_stored};
 ghost use Rattle.sf_report.specs.Runs.{is_conversion, passed};
@@ -17,7 +17,7 @@ use crate::directive::{
     Ended, Finished, ended_within, is_count, whole_byte, whole_conversion, whole_space,
 };
 use crate::tally::is_conversion;
-use sf_base::{HeapStore, Store};
+use sf_base::{HeapStore, Number, Store};
 use sf_format::{Directive, ScanFormat};
 use sf_report::{Outcome, Status};
 
@@ -65,6 +65,7 @@ impl Strays {
 fn give(store: &mut HeapStore, ended: Ended, piece: &[u8]) -> Option<bool>
     requires opened { store.old.opened ≡ None }
     requires free { MayBeGiven (slot_given ended.finished) store.old.values }
+    requires number { IsNumberGiven ended.finished }
     requires within { ended.before + ended.item ≤ length piece.now }
     ensures gives { IfSome result (λ stores. GivesTo (end_of (take ended.item (drop ended.before piece.now)) ended.finished) stores store.old store.new) }
     ensures none { IsNone result → passed (end_of (take ended.item (drop ended.before piece.now)) ended.finished) ≡ true
@@ -74,7 +75,17 @@ fn give(store: &mut HeapStore, ended: Ended, piece: &[u8]) -> Option<bool>
 {
     match ended.finished {
         Finished::Passes => Some(false),
-        Finished::Stores { slot, number } => {
+        Finished::Stores {
+            slot,
+            kind,
+            negative,
+            magnitude,
+        } => {
+            let number = Number {
+                kind,
+                negative,
+                magnitude,
+            };
             store.set_number(slot, number);
             Some(true)
         }

@@ -191,7 +191,19 @@ impl<'f, S: Store> Scanner<'f, S> {
         match finished {
             Finished::Fails(status) => self.fail(status),
             Finished::Passes => self.pass(directive),
-            Finished::Stores { slot, number } => self.set(directive, slot, number),
+            Finished::Stores {
+                slot,
+                kind,
+                negative,
+                magnitude,
+            } => {
+                let number = Number {
+                    kind,
+                    negative,
+                    magnitude,
+                };
+                self.set(directive, slot, number)
+            }
             Finished::Closes { slot } => self.close_text(directive, slot),
         }
     }
