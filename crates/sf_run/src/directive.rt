@@ -606,15 +606,6 @@ fn number_behind_space(conversion: &Conversion, base: Base, piece: &[u8]) -> Opt
     })
 }
 
-/// As `number_behind_space`, of a base that is written less often.
-#[inline(never)]
-fn other_number(conversion: &Conversion, base: Base, piece: &[u8]) -> Option<Ended>
-    requires { conversion.now.shape ≡ Int base }
-    ensures { (n : ℕ) → IfSome result (EndsAtOnce (directive.Conv conversion.now) n piece.now) }
-{
-    number_behind_space(conversion, base, piece)
-}
-
 /// As `whole_text`, of a conversion that took nothing yet.
 #[inline(always)]
 fn text_behind_space(conversion: &Conversion, piece: &[u8]) -> Option<Ended>
@@ -644,8 +635,7 @@ pub(crate) fn whole_conversion(conversion: &Conversion, piece: &[u8]) -> Option<
         Shape::Text => text_behind_space(conversion, piece),
         Shape::Set(_) => text_behind_space(conversion, piece),
         Shape::Chars => text_behind_space(conversion, piece),
-        Shape::Int(base) => other_number(conversion, *base, piece),
-        Shape::Count => None,
+        Shape::Int(_) | Shape::Count => None,
     }
 }
 
