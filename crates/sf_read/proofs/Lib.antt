@@ -4,6 +4,8 @@ pub mod Ended
 pub mod Endings
 pub mod Holding
 pub mod InTurn
+pub mod Lines
 pub mod Reading
 pub mod Scripts
 pub mod Shapes
+pub mod Unbounded

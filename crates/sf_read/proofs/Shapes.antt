@@ -1,5 +1,5 @@
 -- Rows and the destinations of formats.
-use Rattle.std.proofs.Common.{◌≡◌, ℕ, ◌+◌, ◌-◌, ◌≤◌, Bool, true, false, cond, not, nat_eq, List, length, Option, Some, None, is_some, refl, sym, ap, ◌∙◌, arith}
+use Rattle.std.proofs.Common.{◌≡◌, ℕ, ◌+◌, ◌-◌, ◌≤◌, Bool, true, false, cond, not, nat_eq, List, length, Option, Some, None, Result, Err, is_some, refl, sym, ap, subst, ◌∙◌, arith}
 use Rattle.std.proofs.Math.Nat.{lt_of_not-le}
 use Rattle.std.proofs.lemmas.Option.{slice_get_past}
 use Rattle.std.proofs.lemmas.Bool.Decides.{nat_tests}
@@ -17,7 +17,11 @@ use Rattle.sf_run.specs.Limits.{RunTold}
 use Rattle.sf_run.specs.Rows.{AreGiven, at_slot}
 use Rattle.sf_run.specs.Runs.{RunReport}
 use Rattle.sf_run.proofs.Filling.{done_fills}
-use Rattle.sf_read.specs.RowScans.{HasShape}
+use Rattle.sf_run.specs.declared.feeding.StartFault.{StartFault}
+use Rattle.sf_base.specs.Data.{Datum}
+use Rattle.sf_read.specs.declared.row.ScanRowFault.{ScanRowFault}
+use Rattle.sf_read.specs.declared.row.ScanRowFault.TheVariants.{Start}
+use Rattle.sf_read.specs.RowScans.{Answers, HasShape}
 
 -- ---- shapes
 
@@ -76,3 +80,8 @@ same_option eq same (Some a) (Some b) test is = ap Some (same a b (not_false (eq
 pub given : (shape : List Kind) (ds : List Directive) (m : ℕ) (x : List ℕ) (ending : Ending) (report : RunReport) → AreKinded ds → HasShape shape ds
     → RunTold ds m x ending report → report.status ≡ Done → AreGiven shape report.values
 given shape ds m x ending report kinded same told done = λ slot. done_fills ds m x ending report kinded told done slot ∙ sym (same.1 slot)
+
+-- a run that was made isn't answered with a fault of its start
+pub no_start : {T : Type 0} (kinds : List Kind) (listed : T → List Datum) (report : RunReport) (r : Result T ScanRowFault) → Answers kinds listed report r
+    → (fault : StartFault) → r ≡ Err (Start fault) → ⊥
+no_start kinds listed report r answers fault e = subst (Answers kinds listed report) e answers

@@ -16,11 +16,11 @@ mod whole;
 
 pub use field::Field;
 pub use lookahead::Lookahead;
-pub use row::{ScanRowFault, scan_row};
+pub use row::{ScanRowFault, has_shape, scan_row, scan_row_over};
 pub use rows::{Row, RowFault};
 pub use script_source::{ReadStep, ScriptSource};
 pub use slice_source::SliceSource;
 pub use source::{Source, SourceFault};
 pub use std_source::StdSource;
-pub use stream::{fscan, fscan_fixed, fscan_held, fscan_over};
+pub use stream::{count_newlines, fscan, fscan_counting, fscan_fixed, fscan_held, fscan_over};
 pub use whole::{sscan, sscan_over};

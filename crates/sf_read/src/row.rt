@@ -1,14 +1,22 @@
 //! Rows of what a source gives.
-ghost use Rattle.std.specs.Prelude.{◌≡◌, ◌≤◌, ◌<◌, ◌+◌, ◌⊎◌, ◌↔◌, ℕ, true, false, IsErrOf};
+ghost use Rattle.std.specs.Prelude.{◌≡◌, ◌≤◌, ◌<◌, ◌+◌, ◌⊎◌, ◌↔◌, ℕ, List, true, false, Some, IfErr, IfOk, IfSome, IsErrOf, IsOk, IsSome, unwrap_or, if◌then◌else◌};
 ghost use Rattle.sf_format.specs.Proper.{AreKinded};
+ghost use Rattle.sf_format.specs.Widths.{width_sum};
+ghost use Rattle.sf_run.specs.Limits.{RunTold};
+ghost use Rattle.sf_run.specs.Memory.{capacity_of};
 ghost use Rattle.sf_run.specs.outcome.Status.TheVariants.{Done};
 ghost use Rattle.sf_run.specs.Rows.{AreGiven};
+ghost use Rattle.sf_run.specs.Stopping.{is_memory_status};
+ghost use Rattle.sf_read.specs.Ahead.{input_of};
+ghost use Rattle.sf_read.specs.Counts.{counted_on};
+ghost use Rattle.sf_read.specs.Reads.{WaitedFor};
 ghost use Rattle.sf_read.specs.RowScans.{Answers, HasShape, RowScan, is_run};
+ghost use Rattle.sf_read.specs.Scan.{Scan, is_fault};
 
-use crate::{Lookahead, Row, RowFault, Source, fscan};
-use sf_base::Store;
+use crate::{Lookahead, Row, RowFault, Source, fscan, fscan_over};
+use sf_base::{HeapStore, Store};
 use sf_format::ScanFormat;
-use sf_run::{Outcome, Scanned, StartFault, Status};
+use sf_run::{Ending, Outcome, Scanned, StartFault, Status};
 use std::alloc::Global;
 use std::error::Error;
 use std::fmt;
@@ -51,7 +59,7 @@ impl fmt::Display for ScanRowFault {
 impl Error for ScanRowFault {}
 
 /// Whether the slots of the row and their kinds are the destinations of the format and theirs.
-fn has_shape<T: Row>(format: &ScanFormat) -> bool
+pub fn has_shape<T: Row>(format: &ScanFormat) -> bool
     ensures same { (result ≡ true) ↔ HasShape T.kinds format.now }
     ensures kinded { AreKinded format.now }
 {
@@ -83,6 +91,35 @@ fn row_of<T: Row, K: Store>(alloc: Global, scanned: &Scanned<K>) -> Result<T, Sc
     }
 }
 
+/// Scans as `fscan_over` does with the store, where there is one, and else as `fscan` does.
+fn scan_with<S: Source, const N: usize>(
+    alloc: Global,
+    store: Option<HeapStore>,
+    from: &mut Lookahead<S, N>,
+    format: &ScanFormat,
+    limit: u32,
+) -> Result<Scanned<HeapStore>, StartFault>
+    ensures scan { (t : List ℕ) → input_of S.to_come from.old ≡ Some t → IfOk result (λ s. Scan S.to_come format.now limit t from.old from.new s.report) }
+    ensures told { IfOk result (λ s. (x : List ℕ) × (ending : Ending) × RunTold format.now limit x ending s.report) }
+    ensures bounded { IsSome (width_sum format.now) → IfOk result (λ s. is_memory_status s.report.status ≡ false) }
+    ensures failures { IfOk result (λ s. S.failures from.new.source ≡ (if is_fault s.report.met then counted_on (S.failures from.old.source) else S.failures from.old.source)) }
+    ensures reads { IfOk result (λ s. S.reads from.new.source ≤ S.reads from.old.source + s.report.used + 1) }
+    ensures waited { IfOk result (λ s. WaitedFor S.to_come S.reads N format.now limit from.old from.new s.report.used) }
+    ensures end { IfOk result (λ s. s.report.met ≡ Some Ending.End → from.new.at_end ≡ true) }
+    ensures no_read { from.old.at_end ≡ true → from.new.source ≡ from.old.source }
+    ensures stays { from.old.at_end ≡ true → from.new.at_end ≡ true }
+    ensures limit { IsErrOf result StartFault.BadLimit ↔ (2147483647 < limit) }
+    ensures memory { IfErr result (λ fault. (fault ≡ StartFault.BadLimit) ⊎ (fault ≡ StartFault.NoMemory)) }
+    ensures enough { IfSome store (λ s. limit ≤ 2147483647 → unwrap_or (width_sum format.now) 0 ≤ capacity_of s → IsOk result) }
+    ensures as_much { IfSome store (λ old. IfOk result (λ s. capacity_of old ≤ capacity_of s.kept)) }
+    ensures unread { IfErr result (λ _. from.new ≡ from.old) }
+{
+    match store {
+        Some(store) => fscan_over(alloc, store, from, format, limit),
+        None => fscan(alloc, from, format, limit),
+    }
+}
+
 /// Scans as `fscan` does, and makes a row of the values.
 ///
 /// Refuses with ShapeDiffers where the slots of the row and their kinds are not the destinations of the format and
@@ -103,11 +140,39 @@ pub fn scan_row<T: Row, S: Source, const N: usize>(
     ensures no_read { from.old.at_end ≡ true → from.new.source ≡ from.old.source }
     ensures stays { from.old.at_end ≡ true → from.new.at_end ≡ true }
 {
+    let mut store = None;
+    scan_row_over(alloc, &mut store, from, format, limit)
+}
+
+/// As `scan_row`, over the store of a row before, whose memory is used again: `None` at first, and then what the call before
+/// left there. A call that scans leaves its store there.
+pub fn scan_row_over<T: Row, S: Source, const N: usize>(
+    alloc: Global,
+    store: &mut Option<HeapStore>,
+    from: &mut Lookahead<S, N>,
+    format: &ScanFormat,
+    limit: u32,
+) -> Result<T, ScanRowFault>
+    ensures shape { IsErrOf result ScanRowFault.ShapeDiffers ↔ (HasShape T.kinds format.now → ⊥) }
+    ensures limit { IsErrOf result (ScanRowFault.Start StartFault.BadLimit) ↔ (HasShape T.kinds format.now × (2147483647 < limit)) }
+    ensures start { (fault : StartFault) → IsErrOf result (ScanRowFault.Start fault) → (fault ≡ StartFault.BadLimit) ⊎ (fault ≡ StartFault.NoMemory) }
+    ensures unread { is_run result ≡ false → from.new ≡ from.old }
+    ensures run { is_run result ≡ true → RowScan S.to_come S.reads S.failures N T.kinds T.listed format.now limit from.old from.new result }
+    ensures no_read { from.old.at_end ≡ true → from.new.source ≡ from.old.source }
+    ensures stays { from.old.at_end ≡ true → from.new.at_end ≡ true }
+    ensures enough { IfSome store.old (λ s. unwrap_or (width_sum format.now) 0 ≤ capacity_of s → IsErrOf result (ScanRowFault.Start StartFault.NoMemory) → ⊥) }
+    ensures left { is_run result ≡ true → IsSome store.new }
+    ensures as_much { is_run result ≡ true → IfSome store.old (λ old. IfSome store.new (λ s. capacity_of old ≤ capacity_of s)) }
+{
     if !has_shape::<T>(format) {
         return Err(ScanRowFault::ShapeDiffers);
     }
-    match fscan(alloc, from, format, limit) {
-        Ok(scanned) => row_of(alloc, &scanned),
+    match scan_with(alloc, store.take(), from, format, limit) {
+        Ok(scanned) => {
+            let row = row_of(alloc, &scanned);
+            *store = Some(scanned.into_store());
+            row
+        }
         Err(fault) => Err(ScanRowFault::Start(fault)),
     }
 }

@@ -1,5 +1,5 @@
 //! Scans of what a source gives.
-ghost use Rattle.std.specs.Prelude.{◌≡◌, unwrap_or, IsOk, ◌≤◌, ◌<◌, ◌+◌, ◌⊎◌, ◌↔◌, ℕ, List, [], length, drop, true, false, Some, IsSome, IsNone, IfSome, None, IfOk, IfErr, IsErrOf, IsSomeAnd, if◌then◌else◌};
+ghost use Rattle.std.specs.Prelude.{◌≡◌, unwrap_or, IsOk, ◌≤◌, ◌<◌, ◌+◌, ◌⊎◌, ◌↔◌, ℕ, List, [], length, take, drop, true, false, Some, IsSome, IsNone, IfSome, None, IfOk, IfErr, IsErrOf, IsSomeAnd, if◌then◌else◌};
 ghost use Rattle.sf_base.specs.Kept.{buffer_of};
 ghost use Rattle.sf_format.specs.declared.directive.Directive.{Directive};
 ghost use Rattle.sf_format.specs.Proper.{destinations_of};
@@ -9,11 +9,11 @@ ghost use Rattle.sf_run.specs.Limits.{RunTold};
 ghost use Rattle.sf_run.specs.Memory.{HoldsValues, capacity_of};
 ghost use Rattle.sf_run.specs.Quick.{IsDoneWithin};
 ghost use Rattle.sf_run.specs.Scanner.{kept_by, standing};
-ghost use Rattle.sf_run.specs.Standing.{After};
+ghost use Rattle.sf_run.specs.Standing.{After, used_by};
 ghost use Rattle.sf_run.specs.Stopping.{is_memory_status};
 ghost use Rattle.sf_run.specs.Views.{report_by};
 ghost use Rattle.sf_read.specs.Ahead.{input_of};
-ghost use Rattle.sf_read.specs.Counts.{counted_on};
+ghost use Rattle.sf_read.specs.Counts.{counted_on, lines_after};
 ghost use Rattle.sf_read.specs.Reading.{Driven, IsFresh};
 ghost use Rattle.sf_read.specs.Reads.{WaitedFor};
 ghost use Rattle.sf_read.specs.Scan.{Scan, is_fault};
@@ -24,17 +24,30 @@ use sf_format::ScanFormat;
 use sf_run::{Ending, FeedState, MOST_BYTES, Outcome, Scanned, Scanner, StartFault, quick_run};
 use std::alloc::Global;
 
-/// Feeds the run until it ends: first what is held, then block by block.
+/// Adds the newlines of these bytes. The count stays at 2^64 - 1.
+pub fn count_newlines(lines: &mut u64, bytes: &[u8])
+    ensures { lines.new ≡ lines_after lines.old bytes.now }
+{
+    let more = bytes.iter().filter(|b| **b == b'\n').count();
+    *lines = lines.saturating_add(more as u64);
+}
+
+/// Feeds the run until it ends: first what is held, then block by block. The newlines that it consumes are counted.
 fn drive<S: Source, T: Store, const N: usize>(
     scanner: &mut Scanner<'_, T>,
     from: &mut Lookahead<S, N>,
+    lines: &mut u64,
 )
     requires { IsFresh (standing scanner.old) }
     ensures driven { Driven S.to_come S.reads S.failures N (standing scanner.old).directives (standing scanner.old).limit from.old from.new (standing scanner.new) }
+    ensures lines { (t : List ℕ) → input_of S.to_come from.old ≡ Some t → lines.new ≡ lines_after lines.old (take (used_by (standing scanner.new)) t) }
     ensures room { capacity_of (kept_by scanner.old) ≤ capacity_of (kept_by scanner.new) }
 {
+    let _before = *lines;
     'refills: loop {
         let fed = scanner.feed(from.held());
+        let (front, _) = from.held().split_at(fed.taken);
+        count_newlines(lines, front);
         from.consume(fed.taken);
         match fed.state {
             FeedState::Ended => return,
@@ -58,6 +71,7 @@ fn drive<S: Source, T: Store, const N: usize>(
 fn run<S: Source, T: Store, const N: usize>(
     mut scanner: Scanner<'_, T>,
     from: &mut Lookahead<S, N>,
+    lines: &mut u64,
 ) -> Scanned<T>
     requires { IsFresh (standing scanner) }
     ensures scan { (ds : List Directive) (m : ℕ) (t : List ℕ) → After ds m (standing scanner.entry) [] → input_of S.to_come from.old ≡ Some t
@@ -71,9 +85,10 @@ fn run<S: Source, T: Store, const N: usize>(
     ensures end { result.report.met ≡ Some Ending.End → from.new.at_end ≡ true }
     ensures no_read { from.old.at_end ≡ true → from.new.source ≡ from.old.source }
     ensures stays { from.old.at_end ≡ true → from.new.at_end ≡ true }
+    ensures lines { (t : List ℕ) → input_of S.to_come from.old ≡ Some t → lines.new ≡ lines_after lines.old (take result.report.used t) }
     ensures room { capacity_of (kept_by scanner.entry) ≤ capacity_of result.kept }
 {
-    drive(&mut scanner, from);
+    drive(&mut scanner, from, lines);
     match scanner.into_scanned() {
         Ok(scanned) => scanned,
         Err(_) => unreachable!(),
@@ -107,7 +122,12 @@ pub fn fscan<S: Source, const N: usize>(
     ensures room { IfOk result (λ s. unwrap_or (width_sum format.now) 0 ≤ capacity_of s.kept) }
     ensures unread { IfErr result (λ _. from.new ≡ from.old) }
 {
-    let store = Scanner::new(alloc, format, limit)?.into_store();
+    if limit > MOST_BYTES {
+        return Err(StartFault::BadLimit);
+    }
+    let Ok(store) = HeapStore::new(alloc, format.width_sum().unwrap_or(0)) else {
+        return Err(StartFault::NoMemory);
+    };
     fscan_over(alloc, store, from, format, limit)
 }
 
@@ -145,7 +165,43 @@ pub fn fscan_over<S: Source, const N: usize>(
     {
         return Ok(Scanned::new(outcome, store));
     }
-    Ok(run(Scanner::over(alloc, store, format, limit)?, from))
+    let mut lines = 0;
+    Ok(run(
+        Scanner::over(alloc, store, format, limit)?,
+        from,
+        &mut lines,
+    ))
+}
+
+/// As `fscan_over`, by a scanner whatever is held; the newlines that the run consumes are added to `lines`, which stays at
+/// 2^64 - 1.
+pub fn fscan_counting<S: Source, const N: usize>(
+    alloc: Global,
+    store: HeapStore,
+    from: &mut Lookahead<S, N>,
+    format: &ScanFormat,
+    limit: u32,
+    lines: &mut u64,
+) -> Result<Scanned<HeapStore>, StartFault>
+    ensures scan { (t : List ℕ) → input_of S.to_come from.old ≡ Some t → IfOk result (λ s. Scan S.to_come format.now limit t from.old from.new s.report) }
+    ensures told { IfOk result (λ s. (x : List ℕ) × (ending : Ending) × RunTold format.now limit x ending s.report) }
+    ensures bounded { IsSome (width_sum format.now) → IfOk result (λ s. is_memory_status s.report.status ≡ false) }
+    ensures failures { IfOk result (λ s. S.failures from.new.source ≡ (if is_fault s.report.met then counted_on (S.failures from.old.source) else S.failures from.old.source)) }
+    ensures reads { IfOk result (λ s. S.reads from.new.source ≤ S.reads from.old.source + s.report.used + 1) }
+    ensures waited { IfOk result (λ s. WaitedFor S.to_come S.reads N format.now limit from.old from.new s.report.used) }
+    ensures end { IfOk result (λ s. s.report.met ≡ Some Ending.End → from.new.at_end ≡ true) }
+    ensures no_read { from.old.at_end ≡ true → from.new.source ≡ from.old.source }
+    ensures stays { from.old.at_end ≡ true → from.new.at_end ≡ true }
+    ensures lines { (t : List ℕ) → input_of S.to_come from.old ≡ Some t → IfOk result (λ s. lines.new ≡ lines_after lines.old (take s.report.used t)) }
+    ensures limit { IsErrOf result StartFault.BadLimit ↔ (2147483647 < limit) }
+    ensures memory { IfErr result (λ fault. (fault ≡ StartFault.BadLimit) ⊎ (fault ≡ StartFault.NoMemory)) }
+    ensures enough { limit ≤ 2147483647 → unwrap_or (width_sum format.now) 0 ≤ store.room + length (buffer_of store) → IsOk result }
+    ensures room { IfOk result (λ s. unwrap_or (width_sum format.now) 0 ≤ capacity_of s.kept) }
+    ensures as_much { IfOk result (λ s. capacity_of store ≤ capacity_of s.kept) }
+    ensures unread { IfErr result (λ _. from.new ≡ from.old) }
+    ensures uncounted { IfErr result (λ _. lines.new ≡ lines.old) }
+{
+    Ok(run(Scanner::over(alloc, store, format, limit)?, from, lines))
 }
 
 /// Scans a record that is held whole, without a scanner: where it is Done before a byte of what the lookahead holds is
@@ -206,5 +262,6 @@ pub fn fscan_fixed<const CAP: usize, const SLOTS: usize, S: Source, const N: usi
     ensures unread { IfErr result (λ _. from.new ≡ from.old) }
 {
     let scanner = Scanner::<FixedStore<CAP, SLOTS>>::fixed(format, limit)?;
-    Ok(run(scanner, from))
+    let mut lines = 0;
+    Ok(run(scanner, from, &mut lines))
 }

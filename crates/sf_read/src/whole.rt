@@ -1,18 +1,89 @@
 //! Scans of whole texts.
-ghost use Rattle.std.specs.Prelude.{◌≡◌, ◌<◌, ◌≤◌, ◌+◌, ◌↔◌, ◌⊎◌, ℕ, List, [], length, unwrap_or, IfOk, IfErr, IsErrOf, IsOk, IsSome};
+ghost use Rattle.std.specs.Prelude.{◌≡◌, ◌<◌, ◌≤◌, ◌+◌, ◌++◌, ◌∷◌, ◌↔◌, ◌⊎◌, ℕ, List, [], length, take, unwrap_or, IfOk, IfErr, IfSome, IsErrOf, IsOk, IsSome, IsTrue};
 ghost use Rattle.sf_base.specs.Kept.{buffer_of};
 ghost use Rattle.sf_format.specs.declared.directive.Directive.{Directive};
 ghost use Rattle.sf_format.specs.Widths.{width_sum};
 ghost use Rattle.sf_run.specs.Limits.{RunTold, RunWithin};
-ghost use Rattle.sf_run.specs.Memory.{capacity_of};
+ghost use Rattle.sf_run.specs.Memory.{HoldsValues, capacity_of};
 ghost use Rattle.sf_run.specs.Scanner.{kept_by, standing};
 ghost use Rattle.sf_run.specs.Standing.{After};
+ghost use Rattle.sf_run.specs.Views.{report_by};
 ghost use Rattle.sf_read.specs.Reading.{IsFresh};
+ghost use Rattle.sf_read.specs.Unbounded.{EndsUnbounded};
 
 use sf_base::{HeapStore, Store};
-use sf_format::ScanFormat;
-use sf_run::{Ending, Scanned, Scanner, StartFault};
+use sf_format::{Directive, ScanFormat, Shape};
+use sf_run::laws::{done_runs_stay, open_inputs_are_used};
+use sf_run::{Ending, MOST_BYTES, Outcome, Scanned, Scanner, StartFault, quick_run};
 use std::alloc::Global;
+
+/// A text with fewer bytes is scanned at once, with a newline after it.
+const BLOCK: usize = 256;
+
+/// Whether the last directive is a conversion whose item ends only where a byte doesn't match.
+fn ends_unbounded(directives: &[Directive]) -> bool
+    ensures { IsTrue result → EndsUnbounded directives.now }
+{
+    match directives.last() {
+        Some(Directive::Conv(conversion)) => {
+            conversion.width.is_none()
+                && matches!(
+                    conversion.shape,
+                    Shape::Int(_) | Shape::Text | Shape::Set(_)
+                )
+        }
+        _ => false,
+    }
+}
+
+/// Lays down the text at the front of the block, and a newline after it.
+fn lay_down(text: &[u8], block: &mut [u8])
+    requires { length text.now < length block.old }
+    ensures front { take (length text.now + 1) block.new ≡ text.now ++ 10 ∷ [] }
+    ensures len { length block.new ≡ length block.old }
+{
+    block[..text.len()].copy_from_slice(text);
+    block[text.len()] = b'\n';
+}
+
+/// Scans a whole text without a scanner, where it is seen at once to be Done. What a short text comes to with a newline after
+/// it tells what it comes to alone. None where that isn't so, or isn't known here: then the store may keep something.
+fn scan_at_once(
+    store: &mut HeapStore,
+    text: &[u8],
+    format: &ScanFormat,
+    limit: u32,
+) -> Option<Outcome>
+    ensures run { IfSome result (λ outcome. RunWithin format.now limit text.now Ending.End (report_by outcome store.new.values)) }
+    ensures texts { IfSome result (λ _. HoldsValues store.new) }
+    ensures room { capacity_of store.old ≤ capacity_of store.new }
+{
+    if text.len() >= BLOCK {
+        return quick_run(store, format, limit, text);
+    }
+    let directives = format.directives();
+    let mut block = [0; BLOCK];
+    lay_down(text, &mut block);
+    let (front, _) = block.split_at(text.len() + 1);
+    let outcome = quick_run(store, format, limit, front)?;
+    done_runs_stay();
+    open_inputs_are_used();
+    let used = outcome.used as usize;
+    if used < text.len() {
+        return Some(outcome);
+    }
+    if used > text.len() || !ends_unbounded(directives) {
+        return None;
+    }
+    Some(Outcome {
+        status: outcome.status,
+        at: outcome.at,
+        assigned: outcome.assigned,
+        converted: outcome.converted,
+        used: outcome.used,
+        met: Some(Ending::End),
+    })
+}
 
 /// What the run of the scanner comes to, over a whole text.
 fn run_over<S: Store>(mut scanner: Scanner<'_, S>, text: &[u8]) -> Scanned<S>
@@ -45,15 +116,20 @@ pub fn sscan(
     ensures memory { IfErr result (λ fault. (fault ≡ StartFault.BadLimit) ⊎ (fault ≡ StartFault.NoMemory)) }
     ensures room { IfOk result (λ s. unwrap_or (width_sum format.now) 0 ≤ capacity_of s.kept) }
 {
-    let scanner = Scanner::new(alloc, format, limit)?;
-    Ok(run_over(scanner, text))
+    if limit > MOST_BYTES {
+        return Err(StartFault::BadLimit);
+    }
+    let Ok(store) = HeapStore::new(alloc, format.width_sum().unwrap_or(0)) else {
+        return Err(StartFault::NoMemory);
+    };
+    sscan_over(alloc, store, text, format, limit)
 }
 
 /// As `sscan`, over a store that was used before, as `Scanner::over` uses it: what it keeps is taken away, and its memory
 /// is used again. The store of a report is given back by `Scanned::into_store`.
 pub fn sscan_over(
     alloc: Global,
-    store: HeapStore,
+    mut store: HeapStore,
     text: &[u8],
     format: &ScanFormat,
     limit: u32,
@@ -66,6 +142,14 @@ pub fn sscan_over(
     ensures room { IfOk result (λ s. unwrap_or (width_sum format.now) 0 ≤ capacity_of s.kept) }
     ensures as_much { IfOk result (λ s. capacity_of store ≤ capacity_of s.kept) }
 {
+    store.clear();
+    let reserve = format.width_sum().unwrap_or(0) as usize;
+    if limit <= MOST_BYTES
+        && reserve <= store.room()
+        && let Some(outcome) = scan_at_once(&mut store, text, format, limit)
+    {
+        return Ok(Scanned::new(outcome, store));
+    }
     let scanner = Scanner::over(alloc, store, format, limit)?;
     Ok(run_over(scanner, text))
 }

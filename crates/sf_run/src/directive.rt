@@ -25,7 +25,7 @@ ghost use Rattle.sf_run.specs.Quick.{IsSure};
 use crate::number::number_of;
 use sf_base::{Kind, Number, is_space, space_run};
 use sf_format::{Base, Conversion, Directive, Shape};
-use sf_item::{ItemEnd, ItemScan, WholeInteger, whole_bytes, whole_decimal, whole_hex};
+use sf_item::{ItemEnd, ItemScan, WholeInteger, whole_auto, whole_bytes, whole_decimal, whole_hex};
 use sf_report::Status;
 
 /// How far a directive has come that waits for more.
@@ -413,7 +413,8 @@ fn whole_integer(base: Base, width: Option<u16>, piece: &[u8]) -> Option<WholeIn
     match base {
         Base::Dec => whole_decimal(width, piece),
         Base::Hex => whole_hex(width, piece),
-        Base::Oct | Base::Bin | Base::Auto | Base::AutoBin => None,
+        Base::Auto | Base::AutoBin => whole_auto(base, width, piece),
+        Base::Oct | Base::Bin => None,
     }
 }
 
@@ -605,6 +606,15 @@ fn number_behind_space(conversion: &Conversion, base: Base, piece: &[u8]) -> Opt
     })
 }
 
+/// As `number_behind_space`, of a base that is written less often.
+#[inline(never)]
+fn other_number(conversion: &Conversion, base: Base, piece: &[u8]) -> Option<Ended>
+    requires { conversion.now.shape ≡ Int base }
+    ensures { (n : ℕ) → IfSome result (EndsAtOnce (directive.Conv conversion.now) n piece.now) }
+{
+    number_behind_space(conversion, base, piece)
+}
+
 /// As `whole_text`, of a conversion that took nothing yet.
 #[inline(always)]
 fn text_behind_space(conversion: &Conversion, piece: &[u8]) -> Option<Ended>
@@ -634,7 +644,8 @@ pub(crate) fn whole_conversion(conversion: &Conversion, piece: &[u8]) -> Option<
         Shape::Text => text_behind_space(conversion, piece),
         Shape::Set(_) => text_behind_space(conversion, piece),
         Shape::Chars => text_behind_space(conversion, piece),
-        Shape::Int(_) | Shape::Count => None,
+        Shape::Int(base) => other_number(conversion, *base, piece),
+        Shape::Count => None,
     }
 }
 

@@ -1,10 +1,12 @@
-use Rattle.std.proofs.Common.{◌≡◌, [], ℕ, false, ◌+◌, ◌≤◌, length, sym, ap, ◌∙◌, arith}
+use Rattle.std.proofs.Common.{◌≡◌, [], ℕ, false, ◌+◌, ◌≤◌, length, take, sym, ap, ◌∙◌, arith}
 use Rattle.std.proofs.lemmas.List.{drop_all}
 use Rattle.sf_run.specs.Runs.{IsOpen}
 use Rattle.sf_run.specs.Standing.{used_by, ran_out}
 use Rattle.sf_run.specs.Scanner.{standing}
+use Rattle.sf_read.specs.Counts.{lines_after}
 use Rattle.sf_read.specs.Reading.{Reading}
 use Rattle.sf_read.proofs.Reading.{started, fed_more, refilled, ended, ended_at_end, failed, falls}
+use Rattle.sf_read.proofs.Lines.{lines_on, no_lines}
 use Rattle.sf_read.proofs.stream.drive.Goals as goal
 
 pub returns-in-Ended-clause-driven : goal.returns-in-Ended-clause-driven
@@ -54,6 +56,8 @@ refills-smaller g c =
 
 pub refills-preserved : goal.refills-preserved
 refills-preserved g c =
+    let within : c.feed-fed.result.taken ≤ length c.refills.from.held = omega (arith, c.feed-fed.ensures.within, ap length c.held.ensures.held) in
+    let front : c.split_at.result.0.now ≡ take c.feed-fed.result.taken c.refills.from.held = c.split_at.ensures.front ∙ ap (take c.feed-fed.result.taken) c.held-in-refills.ensures.held in
     let ds = (standing c.args.scanner.now).directives in
     let m : ℕ = (standing c.args.scanner.now).limit in
     let stored : ran_out (standing c.feed-fed.new.self) ≡ false = c.feed-fed.ensures.stopped c.in-Wait.is in
@@ -62,8 +66,35 @@ refills-preserved g c =
     let now : (r : Reading g.S.Source.to_come g.S.Source.reads g.S.Source.failures g.row.N ds m c.args.from.now c.consume.new.self (standing c.feed-fed.new.self)) × IsOpen ds r.fed
     = fed_more c.held.result.now c.refills.invariant.0 c.held.ensures.held
     (λ x h. c.feed-fed.ensures.after ds m x stored h) (λ x h. c.feed-fed.ensures.waits ds m x h c.in-Wait.is) (λ x h. (c.feed-fed.ensures.state ds m x stored h).0 c.in-Wait.is)
-    none c.consume.ensures.source c.consume.ensures.at_end in
-    (refilled now none open' c.refill.ensures.reads c.in-Ok.ensures.failures c.refill.ensures.bytes c.refill.ensures.few c.in-Ok.ensures.read, omega (arith, c.refills.invariant.1, c.feed-fed.ensures.room))
+    none c.consume.ensures.source c.consume.ensures.at_end in (
+      refilled now none open' c.refill.ensures.reads c.in-Ok.ensures.failures c.refill.ensures.bytes c.refill.ensures.few c.in-Ok.ensures.read,
+      omega (arith, c.refills.invariant.1, c.feed-fed.ensures.room),
+      λ t e. lines_on c.refills.invariant.0 t e c.args.lines.now c.refills.lines (c.refills.invariant.2 t e) c.feed-fed.result.taken within c.split_at.result.0.now front c.count_newlines.new.lines
+          (used_by (standing c.feed-fed.new.self)) c.count_newlines.ensures c.feed-fed.ensures.used,
+    )
 
 pub refills-init : goal.refills-init
-refills-init g c = (started c.args.from.now c.requires, omega arith)
+refills-init g c =
+    let nothing : used_by (standing c.args.scanner.now) ≡ 0 = omega (arith, c.requires.within) in
+    (started c.args.from.now c.requires, omega arith, λ t e. no_lines c.args.lines.now (omega arith) ∙ ap (λ n. lines_after c.args.lines.now (take n t)) (sym nothing))
+
+pub returns-in-Ended-clause-lines : goal.returns-in-Ended-clause-lines
+returns-in-Ended-clause-lines g c t e =
+    let within : c.feed-fed.result.taken ≤ length c.refills.from.held = omega (arith, c.feed-fed.ensures.within, ap length c.held.ensures.held) in
+    let front : c.split_at.result.0.now ≡ take c.feed-fed.result.taken c.refills.from.held = c.split_at.ensures.front ∙ ap (take c.feed-fed.result.taken) c.held-in-refills.ensures.held in
+    lines_on c.refills.invariant.0 t e c.args.lines.now c.refills.lines (c.refills.invariant.2 t e) c.feed-fed.result.taken within c.split_at.result.0.now front c.count_newlines.new.lines
+    (used_by (standing c.feed-fed.new.self)) c.count_newlines.ensures c.feed-fed.ensures.used
+
+pub returns-then-is_at_end-clause-lines : goal.returns-then-is_at_end-clause-lines
+returns-then-is_at_end-clause-lines g c t e =
+    let within : c.feed-fed.result.taken ≤ length c.refills.from.held = omega (arith, c.feed-fed.ensures.within, ap length c.held.ensures.held) in
+    let front : c.split_at.result.0.now ≡ take c.feed-fed.result.taken c.refills.from.held = c.split_at.ensures.front ∙ ap (take c.feed-fed.result.taken) c.held-in-refills.ensures.held in
+    lines_on c.refills.invariant.0 t e c.args.lines.now c.refills.lines (c.refills.invariant.2 t e) c.feed-fed.result.taken within c.split_at.result.0.now front c.count_newlines.new.lines
+    (used_by (standing c.end.new.self)) c.count_newlines.ensures (c.end.ensures.used ∙ c.feed-fed.ensures.used)
+
+pub returns-in-Err-clause-lines : goal.returns-in-Err-clause-lines
+returns-in-Err-clause-lines g c t e =
+    let within : c.feed-fed.result.taken ≤ length c.refills.from.held = omega (arith, c.feed-fed.ensures.within, ap length c.held.ensures.held) in
+    let front : c.split_at.result.0.now ≡ take c.feed-fed.result.taken c.refills.from.held = c.split_at.ensures.front ∙ ap (take c.feed-fed.result.taken) c.held-in-refills.ensures.held in
+    lines_on c.refills.invariant.0 t e c.args.lines.now c.refills.lines (c.refills.invariant.2 t e) c.feed-fed.result.taken within c.split_at.result.0.now front c.count_newlines.new.lines
+    (used_by (standing c.end-in-Err.new.self)) c.count_newlines.ensures (c.end-in-Err.ensures.used ∙ c.feed-fed.ensures.used)

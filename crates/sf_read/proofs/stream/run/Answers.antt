@@ -1,4 +1,5 @@
-use Rattle.std.proofs.Common.{◌∙◌}
+use Rattle.std.proofs.Common.{take, sym, ap, ◌∙◌}
+use Rattle.sf_read.specs.Counts.{lines_after}
 use Rattle.sf_run.specs.Scanner.{standing}
 use Rattle.sf_read.proofs.Endings.{has_report, count_failures, ends_at_end, scans, driven_by}
 use Rattle.sf_read.proofs.stream.run.Goals as goal
@@ -33,3 +34,6 @@ returns-clause-end g c e =
 
 pub returns-clause-bounded : goal.returns-clause-bounded
 returns-clause-bounded g c ds m after sum = c.in-Ok.ensures.memory ∙ (driven_by after c.drive.ensures.driven).bounded sum
+
+pub returns-clause-lines : goal.returns-clause-lines
+returns-clause-lines g c t e = c.drive.ensures.lines t e ∙ ap (λ n. lines_after c.args.lines.now (take n t)) (sym c.in-Ok.ensures.used)

@@ -1,0 +1,2 @@
+pub mod FormsApart
+pub mod PatternLemmas
