@@ -78,7 +78,9 @@ typed_escape (b ∷ rest) = if nat_lt 32 b && nat_lt b 127 then 92 ∷ b ∷ cod
 
 -- what is done about white space that stands in front of a record
 abbrev pub left_white_sentence : List ℕ
-left_white_sentence = codes "the record begins with white space: a blank at the format's front passes over it, and %*1[\\n] at its end takes the line end behind a record"
+left_white_sentence =
+    codes
+    "the record begins with white space: a blank at the format's front passes over it, and %*1[\\n] at its end takes the line end behind a record"
 
 -- what is done about a line end that was a record of its own
 abbrev pub lone_newline_sentence : List ℕ

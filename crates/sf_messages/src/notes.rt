@@ -1,6 +1,10 @@
 //! What is said behind the line of a fault, where more is asked for.
 ghost use Rattle.std.specs.Prelude.{◌≡◌, ◌+◌, ◌++◌, OnOk, IfOk, drop};
-ghost use Rattle.sf_messages.specs.Notes.{begins_white, blanks, byte_notes, cure_notes, directive_note, end_note, escape_notes, failed_notes, format_notes, input_notes, is_left_white, is_lone_newline, line_notes, line_rest, note, pair_notes, part_note, place_notes, print_side, rest_notes, scan_side, stood_notes, value_note, value_notes};
+ghost use Rattle.sf_messages.specs.Notes.{begins_white, blanks, byte_notes, cure_notes, directive_note, end_note};
+ghost use Rattle.sf_messages.specs.Notes.{escape_notes, failed_notes, format_notes, input_notes, is_left_white};
+ghost use Rattle.sf_messages.specs.Notes.{is_lone_newline, line_notes, line_rest, note, pair_notes, part_note};
+ghost use Rattle.sf_messages.specs.Notes.{place_notes, print_side, rest_notes, scan_side, stood_notes, value_note};
+ghost use Rattle.sf_messages.specs.Notes.{value_notes};
 
 use crate::facing::{faced, push_unit};
 use crate::fault::FormatName;
@@ -115,11 +119,7 @@ fn value_note(
 }
 
 /// What is said of a word that is no value of a print format.
-pub fn value_notes(
-    alloc: Global,
-    word: &[u8],
-    fault: ArgumentFault,
-) -> Result<Vec<u8>, AllocError>
+pub fn value_notes(alloc: Global, word: &[u8], fault: ArgumentFault) -> Result<Vec<u8>, AllocError>
     ensures { IfOk result (λ notes. notes.items ≡ value_notes word.now fault) }
 {
     match fault {
@@ -195,8 +195,8 @@ fn push_print_side(
     push_part(alloc, output, FormatName::Print, number, &shown)
 }
 
-/// What is said of why a pair is refused, by the units of the print format and the directives of the scan format; `told` is how
-/// the directive at the fault is told.
+/// What is said of why a pair is refused, by the units of the print format and the directives of the scan format;
+/// `told` is how the directive at the fault is told.
 pub fn pair_notes(
     alloc: Global,
     units: &[Unit],
@@ -339,8 +339,8 @@ fn push_cure(
     }
 }
 
-/// What is said of a record that is no match: its number, the directive at which it failed, as it is shown, the place in the
-/// input where the run stopped, where it is known, and the bytes that the run left.
+/// What is said of a record that is no match: its number, the directive at which it failed, as it is shown, the place
+/// in the input where the run stopped, where it is known, and the bytes that the run left.
 pub fn failed_notes(
     alloc: Global,
     shown: &[u8],
@@ -366,8 +366,9 @@ fn line_rest(line: &[u8], used: u32) -> &[u8]
     &line[(used as usize).min(line.len())..]
 }
 
-/// What is said of a line of an input that is no match, by what was read of it, and why it is none: what is said of a run that
-/// had the line alone for its input, but for the place. `shown` is how the directive is shown at which the run failed.
+/// What is said of a line of an input that is no match, by what was read of it, and why it is none: what is said of a
+/// run that had the line alone for its input, but for the place. `shown` is how the directive is shown at which the run
+/// failed.
 pub fn line_notes(
     alloc: Global,
     shown: &[u8],

@@ -1,6 +1,8 @@
 //! A sentence for each fault, said behind its line where more is asked for.
 ghost use Rattle.std.specs.Prelude.{◌≡◌, ◌++◌, OnOk};
-ghost use Rattle.sf_messages.specs.Sentences.{escape_sentence, left_out_sentence, left_white_sentence, lone_newline_sentence, pair_sentence, range_text, typed_escape, typed_text, why_sentence};
+ghost use Rattle.sf_messages.specs.Sentences.{escape_sentence, left_out_sentence, left_white_sentence};
+ghost use Rattle.sf_messages.specs.Sentences.{lone_newline_sentence, pair_sentence, range_text, typed_escape};
+ghost use Rattle.sf_messages.specs.Sentences.{typed_text, why_sentence};
 
 use sf_base::Kind;
 use sf_format::FormatWhy;

@@ -40,7 +40,8 @@ abbrev pub state : Held → Waiting → ℕ → Walk
 state held waiting position = record { held = held; waiting = waiting; position = position; is_trailing = false; stopped = None }
 
 module _ (word : Text) (fact : NoFlag word) (h : Held) where
-  met : (c : List Rule) (waiting : Waiting) (position : ℕ) → is_calm waiting ≡ true → word_met c [] false waiting position word h ≡ (h, value)
+  met : (c : List Rule) (waiting : Waiting) (position : ℕ) → is_calm waiting ≡ true
+      → word_met c [] false waiting position word h ≡ (h, value)
   met c idle position calm =
       ap (λ b. cond b (h, trailing position) (long_or_other c idle word (long_of word) h)) fact.dashes
       ∙ ap (λ l. long_or_other c idle word l h) fact.long
@@ -66,9 +67,11 @@ module _ (word : Text) (fact : NoFlag word) (h : Held) where
   step : (c : List Rule) (waiting : Waiting) (position : ℕ) → is_calm waiting ≡ true
       → walked c [] (state h waiting position) word ≡ to_positional c (arg_by_index c position) word (state h waiting position) h
   unfolding walked
-  step c waiting position calm = ap (λ (m : Held × Step). after_step c word (state h waiting position) m.0 m.1) (met c waiting position calm)
+  step c waiting position calm = ap (λ (m : Held × Step). after_step c word (state h waiting position) m.0 m.1)
+      (met c waiting position calm)
 
-  turn : (s : Shape) (waiting : Waiting) (position : ℕ) → is_calm waiting ≡ true → step_fault s position h value ≡ [] → turn_fault s [] (state h waiting position) word ≡ []
+  turn : (s : Shape) (waiting : Waiting) (position : ℕ) → is_calm waiting ≡ true → step_fault s position h value ≡ []
+      → turn_fault s [] (state h waiting position) word ≡ []
   turn s waiting position calm goes =
       nothing (word_fault s [] false waiting word h) _ (fine s waiting calm)
       (subst (λ (m : Held × Step). step_fault s position m.0 m.1 ≡ []) (sym (met s.rules waiting position calm)) goes)
@@ -86,7 +89,14 @@ level Check = level_of check_app.top
 level Copy = level_of copy_app.top
 
 abbrev stopped_at : Verb → List Text → Walk
-stopped_at verb words = record { held = nothing_held; waiting = idle; position = 1; is_trailing = false; stopped = Some (verb_text verb, words) }
+stopped_at verb words = record {
+  held = nothing_held;
+  waiting = idle;
+  position = 1;
+  is_trailing = false;
+  stopped =
+      Some (verb_text verb, words);
+}
 
 first : (verb : Verb) → walked top.rules names (walk_from nothing_held) (verb_text verb) ≡ stopped_at verb []
 unfolding clap_on_literals
@@ -106,13 +116,15 @@ first_fine Copy = refl
 
 top_walk : (verb : Verb) (words : List Text) → walk top.rules names nothing_held (verb_text verb ∷ words) ≡ stopped_at verb words
 top_walk verb words =
-    ap (λ w. fold (walked top.rules names) w words) (first verb) ∙ sym (walk_stopped top.rules names (walk_from nothing_held) (verb_text verb) [] words)
+    ap (λ w. fold (walked top.rules names) w words) (first verb) ∙ sym
+    (walk_stopped top.rules names (walk_from nothing_held) (verb_text verb) [] words)
 
 top_fine : (verb : Verb) (words : List Text) → walk_fault top names (walk_from nothing_held) (verb_text verb ∷ words) ≡ []
 unfolding walk_fault
 top_fine verb words =
     nothing (turn_fault top names (walk_from nothing_held) (verb_text verb)) _ (first_fine verb)
-    (subst (λ w. walk_fault top names w words ≡ []) (sym (first verb)) (stopped_fault top names (walk_from nothing_held) (verb_text verb, []) words))
+    (subst (λ w. walk_fault top names w words ≡ []) (sym (first verb))
+    (stopped_fault top names (walk_from nothing_held) (verb_text verb, []) words))
 
 top_checks : (verb : Verb) (words : List Text) → checks_after top true (stopped_at verb words) ≡ []
 unfolding clap_on_literals
@@ -125,7 +137,8 @@ enters Print words = refl
 enters Check words = refl
 enters Copy words = refl
 
-enters_fine : (verb : Verb) (words : List Text) → level_fault (level verb) [] nothing_held words false [] ≡ [] → entered_fault (built sf_app) (Some (verb_text verb, words)) ≡ []
+enters_fine : (verb : Verb) (words : List Text) → level_fault (level verb) [] nothing_held words false [] ≡ []
+    → entered_fault (built sf_app) (Some (verb_text verb, words)) ≡ []
 enters_fine Show words e = e
 enters_fine Scan words e = e
 enters_fine Print words e = e
@@ -133,7 +146,8 @@ enters_fine Check words e = e
 enters_fine Copy words e = e
 
 -- a level whose walk is fine, and so are its checks
-level_fine : (s : Shape) (words : List Text) (end : Walk) → walk s.rules [] nothing_held words ≡ end → walk_fault s [] (walk_from nothing_held) words ≡ []
+level_fine : (s : Shape) (words : List Text) (end : Walk) → walk s.rules [] nothing_held words ≡ end
+    → walk_fault s [] (walk_from nothing_held) words ≡ []
     → checks_after s false end ≡ [] → level_fault s [] nothing_held words false [] ≡ []
 level_fine s words end is walk_fine checks =
     nothing (walk_fault s [] (walk_from nothing_held) words) _ walk_fine (subst (λ w. checks_after s false w ≡ []) (sym is) checks)
@@ -147,13 +161,16 @@ pub fine_by : (verb : Verb) (words : List Text) (end : Walk) → walk (level ver
     → fault_of sf_app (codes "sf" ∷ verb_text verb ∷ words) ≡ []
 fine_by verb words end is walk_fine checks =
     nothing (walk_fault top names (walk_from nothing_held) (verb_text verb ∷ words)) _ (top_fine verb words)
-    (subst (λ w. or_else (entered_fault (built sf_app) w.stopped) (checks_after top (is_some (entered (built sf_app) w.stopped)) w) ≡ []) (sym (top_walk verb words))
-    (nothing (entered_fault (built sf_app) (Some (verb_text verb, words))) _ (enters_fine verb words (level_fine (level verb) words end is walk_fine checks))
+    (subst (λ w. or_else (entered_fault (built sf_app) w.stopped) (checks_after top (is_some (entered (built sf_app) w.stopped)) w) ≡ [])
+    (sym (top_walk verb words))
+    (nothing (entered_fault (built sf_app) (Some (verb_text verb, words))) _
+    (enters_fine verb words (level_fine (level verb) words end is walk_fine checks))
     (subst (λ o. checks_after top (is_some o) (stopped_at verb words) ≡ []) (sym (enters verb words)) (top_checks verb words))))
 
 -- and its rows are those of its walk
 pub entered_by : (verb : Verb) (words : List Text) (end : Walk) (rows : List Row) → walk (level verb).rules [] nothing_held words ≡ end
-    → rows_named verb (finished (level verb).rules end.held) rows → subcommand_of sf_app (codes "sf" ∷ verb_text verb ∷ words) ≡ Some (verb_text verb, rows)
+    → rows_named verb (finished (level verb).rules end.held) rows
+    → subcommand_of sf_app (codes "sf" ∷ verb_text verb ∷ words) ≡ Some (verb_text verb, rows)
 entered_by verb words end rows is named =
     ap (λ w. entered (built sf_app) w.stopped) (top_walk verb words)
     ∙ enters verb words
@@ -165,7 +182,8 @@ taken_by : (verb : Verb) (words texts : List Text) (end : Walk) (rows : List Row
     → rows_named verb (finished (level verb).rules end.held) rows → own_faults (verb_text verb) rows ≡ [] → texts_by verb rows ≡ texts
     → clap_words (verb_text verb ∷ words) ≡ verb_text verb ∷ words → IsTakenAs (verb_text verb ∷ words) verb texts
 taken_by verb words texts end rows is walk_fine checks named own are same =
-    let entered = subst (λ ws. subcommand_of sf_app (codes "sf" ∷ ws) ≡ Some (verb_text verb, rows)) (sym same) (entered_by verb words end rows is named) in
+    let entered = subst (λ ws. subcommand_of sf_app (codes "sf" ∷ ws) ≡ Some (verb_text verb, rows)) (sym same)
+    (entered_by verb words end rows is named) in
     let fine = subst (λ ws. fault_of sf_app (codes "sf" ∷ ws) ≡ []) (sym same) (fine_by verb words end is walk_fine checks) in
     record {
       taken = none_at_fault (verb_text verb ∷ words) verb rows fine entered own;
@@ -193,7 +211,8 @@ show_walk w fact = step w fact nothing_held (level Show).rules idle 1 refl
 
 show_fine : (w : Text) → NoFlag w → walk_fault (level Show) [] (walk_from nothing_held) (w ∷ []) ≡ []
 unfolding walk_fault
-show_fine w fact = nothing (turn_fault (level Show) [] (walk_from nothing_held) w) [] (turn w fact nothing_held (level Show) idle 1 refl refl) refl
+show_fine w fact = nothing (turn_fault (level Show) [] (walk_from nothing_held) w) []
+    (turn w fact nothing_held (level Show) idle 1 refl refl) refl
 
 show_plain : (w : Text) → NoFlag w → IsTakenAs (codes "show" ∷ w ∷ []) Show (w ∷ [])
 unfolding clap_on_literals
@@ -206,7 +225,8 @@ scan_walk w fact = step w fact nothing_held (level Scan).rules idle 1 refl
 
 scan_fine : (w : Text) → NoFlag w → walk_fault (level Scan) [] (walk_from nothing_held) (w ∷ []) ≡ []
 unfolding walk_fault
-scan_fine w fact = nothing (turn_fault (level Scan) [] (walk_from nothing_held) w) [] (turn w fact nothing_held (level Scan) idle 1 refl refl) refl
+scan_fine w fact = nothing (turn_fault (level Scan) [] (walk_from nothing_held) w) []
+    (turn w fact nothing_held (level Scan) idle 1 refl refl) refl
 
 scan_plain : (w : Text) → NoFlag w → IsTakenAs (codes "scan" ∷ w ∷ []) Scan (w ∷ [])
 unfolding clap_on_literals
@@ -264,42 +284,51 @@ print_walk w fact = step w fact nothing_held (level Print).rules idle 1 refl
 
 print_fine : (w : Text) → NoFlag w → walk_fault (level Print) [] (walk_from nothing_held) (w ∷ []) ≡ []
 unfolding walk_fault
-print_fine w fact = nothing (turn_fault (level Print) [] (walk_from nothing_held) w) [] (turn w fact nothing_held (level Print) idle 1 refl refl) refl
+print_fine w fact = nothing (turn_fault (level Print) [] (walk_from nothing_held) w) []
+    (turn w fact nothing_held (level Print) idle 1 refl refl) refl
 
 format_plain : (w : Text) → NoFlag w → IsTakenAs (codes "print" ∷ w ∷ []) Print (w ∷ [])
 unfolding clap_on_literals
 format_plain w fact =
     taken_by Print (w ∷ []) (w ∷ []) (one_pending (codes "FORMAT") w [] 2)
-    (finished (level Print).rules (one_pending (codes "FORMAT") w [] 2).held) (print_walk w fact) (print_fine w fact) refl refl refl refl refl
+    (finished (level Print).rules (one_pending (codes "FORMAT") w [] 2).held) (print_walk w fact)
+    (print_fine w fact) refl refl refl refl refl
 
 abbrev values_held : Text → List Text → Held
 values_held format values = record { rows = row (codes "FORMAT") (format ∷ []) ∷ []; pending = Some (codes "VALUES", values); skip = 0 }
 
 more : (format : Text) (values rest : List Text) → AllByRecursion NoFlag rest
-    → fold (walked (level Print).rules []) (state (values_held format values) positional 2) rest ≡ state (values_held format (values ++ rest)) positional 2
+    → fold (walked (level Print).rules []) (state (values_held format values) positional 2) rest
+    ≡ state (values_held format (values ++ rest)) positional 2
 more format values [] facts = ap (λ vs. state (values_held format vs) positional 2) (sym (append-nil values))
 more format values (word ∷ rest) facts =
-    ap (λ w. fold (walked (level Print).rules []) w rest) (step word facts.0 (values_held format values) (level Print).rules positional 2 refl)
+    ap (λ w. fold (walked (level Print).rules []) w rest) (step word facts.0 (values_held format values)
+    (level Print).rules positional 2 refl)
     ∙ more format (values ++ word ∷ []) rest facts.1
     ∙ ap (λ vs. state (values_held format vs) positional 2) (append_assoc values (word ∷ []) rest)
 
-more_fine : (format : Text) (values rest : List Text) → AllByRecursion NoFlag rest → walk_fault (level Print) [] (state (values_held format values) positional 2) rest ≡ []
+more_fine : (format : Text) (values rest : List Text) → AllByRecursion NoFlag rest
+    → walk_fault (level Print) [] (state (values_held format values) positional 2) rest ≡ []
 unfolding walk_fault
 more_fine format values [] facts = refl
 more_fine format values (word ∷ rest) facts =
     nothing (turn_fault (level Print) [] (state (values_held format values) positional 2) word) _
     (turn word facts.0 (values_held format values) (level Print) positional 2 refl refl)
-    (subst (λ w. walk_fault (level Print) [] w rest ≡ []) (sym (step word facts.0 (values_held format values) (level Print).rules positional 2 refl))
+    (subst (λ w. walk_fault (level Print) [] w rest ≡ []) (sym (step word facts.0 (values_held format values)
+    (level Print).rules positional 2 refl))
     (more_fine format (values ++ word ∷ []) rest facts.1))
 
 values_walk : (f v : Text) (rest : List Text) → NoFlag f → NoFlag v → AllByRecursion NoFlag rest
     → walk (level Print).rules [] nothing_held (f ∷ v ∷ rest) ≡ state (values_held f (v ∷ rest)) positional 2
 values_walk f v rest format first_value others =
-    ap (λ w. fold (walked (level Print).rules []) (walked (level Print).rules [] w v) rest) (step f format nothing_held (level Print).rules idle 1 refl)
-    ∙ ap (λ w. fold (walked (level Print).rules []) w rest) (step v first_value (one_pending (codes "FORMAT") f [] 2).held (level Print).rules idle 2 refl)
+    ap (λ w. fold (walked (level Print).rules []) (walked (level Print).rules [] w v) rest)
+    (step f format nothing_held (level Print).rules idle 1 refl)
+    ∙ ap (λ w. fold (walked (level Print).rules []) w rest) (step v first_value (one_pending (codes "FORMAT") f [] 2).held
+    (level Print).rules idle 2 refl)
     ∙ more f (v ∷ []) rest others
 
-values_fine : (f v : Text) (rest : List Text) → NoFlag f → NoFlag v → AllByRecursion NoFlag rest → walk_fault (level Print) [] (walk_from nothing_held) (f ∷ v ∷ rest) ≡ []
+values_fine : (f v : Text) (rest : List Text) → NoFlag f → NoFlag v → AllByRecursion NoFlag rest
+    → walk_fault (level Print) [] (walk_from nothing_held) (f ∷ v ∷ rest) ≡ []
 unfolding walk_fault
 values_fine f v rest format first_value others =
     nothing (turn_fault (level Print) [] (walk_from nothing_held) f) _ (turn f format nothing_held (level Print) idle 1 refl refl)
@@ -307,14 +336,16 @@ values_fine f v rest format first_value others =
     (sym (step f format nothing_held (level Print).rules idle 1 refl))
     (nothing (turn_fault (level Print) [] (one_pending (codes "FORMAT") f [] 2) v) _
     (turn v first_value (one_pending (codes "FORMAT") f [] 2).held (level Print) idle 2 refl refl)
-    (subst (λ w. walk_fault (level Print) [] w rest ≡ []) (sym (step v first_value (one_pending (codes "FORMAT") f [] 2).held (level Print).rules idle 2 refl))
+    (subst (λ w. walk_fault (level Print) [] w rest ≡ []) (sym (step v first_value (one_pending (codes "FORMAT") f [] 2).held
+    (level Print).rules idle 2 refl))
     (more_fine f (v ∷ []) rest others))))
 
 values_plain : (f v : Text) (rest : List Text) → NoFlag f → NoFlag v → AllByRecursion NoFlag rest → length (f ∷ v ∷ rest) < 2 ^ 64
     → IsTakenAs (codes "print" ∷ f ∷ v ∷ rest) Print (f ∷ v ∷ rest)
 values_plain f v rest format first_value others few =
     taken_by Print (f ∷ v ∷ rest) (f ∷ v ∷ rest) (state (values_held f (v ∷ rest)) positional 2)
-    (finished (level Print).rules (values_held f (v ∷ rest))) (values_walk f v rest format first_value others) (values_fine f v rest format first_value others) (values_checks f v rest (omega (arith, few))) refl
+    (finished (level Print).rules (values_held f (v ∷ rest))) (values_walk f v rest format first_value others)
+    (values_fine f v rest format first_value others) (values_checks f v rest (omega (arith, few))) refl
     (values_own f v rest) (texts_of_values f v rest) refl
 
 -- ---- all of them

@@ -18,7 +18,8 @@ pub record IsTakenAs (words : List Text) (verb : Verb) (texts : List Text) : Typ
 -- behind `--`, any texts
 abbrev pub TakesBehindDashes : Type 0
 TakesBehindDashes =
-    (verb : Verb) (texts : List Text) → HasTexts verb texts → length texts < 2 ^ 64 → IsTakenAs (verb_text verb ∷ codes "--" ∷ texts) verb texts
+    (verb : Verb) (texts : List Text) → HasTexts verb texts → length texts < 2 ^ 64
+    → IsTakenAs (verb_text verb ∷ codes "--" ∷ texts) verb texts
 
 -- the text doesn't begin with a hyphen (45)
 abbrev pub IsPlain : Text → Type 0
@@ -40,4 +41,5 @@ with_flags (text ∷ rest) = codes "-e" ∷ text ∷ with_flags rest
 abbrev pub TakesFormats : Type 0
 TakesFormats =
     (format : Text) (more : List Text) → AllByRecursion IsPlain (format ∷ more)
-    → (taken : IsTakenAs (codes "scan" ∷ codes "--lines" ∷ with_flags (format ∷ more)) Scan (format ∷ more)) × (is_set (codes "lines") taken.given ≡ true)
+    → (taken : IsTakenAs (codes "scan" ∷ codes "--lines" ∷ with_flags (format ∷ more)) Scan (format ∷ more))
+    × (is_set (codes "lines") taken.given ≡ true)

@@ -123,7 +123,8 @@ abbrev pub sf_app : App
 sf_app =
     with_subcommand
     (with_subcommand
-    (with_subcommand (with_subcommand (with_subcommand (wanting_subcommand (new_app (codes "sf"))) show_app.top) scan_app.top) print_app.top)
+    (with_subcommand (with_subcommand (with_subcommand (wanting_subcommand (new_app (codes "sf"))) show_app.top) scan_app.top)
+    print_app.top)
     check_app.top)
     copy_app.top
 

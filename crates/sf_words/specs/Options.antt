@@ -18,7 +18,12 @@ use Rattle.sf_words.specs.declared.order.Verb.TheVariants as verb
 abbrev pub value_rule : OptionValue → Rule → Rule
 value_rule Nothing rule = record rule { action = Some SetTrue }
 value_rule (Number least most None) rule = record rule { value_names = 1; parser = Some (Signed least most) }
-value_rule (Number least most (Some text)) rule = record rule { value_names = 1; parser = Some (Signed least most); defaults = text.now ∷ [] }
+value_rule (Number least most (Some text)) rule = record rule {
+  value_names = 1;
+  parser = Some (Signed least most);
+  defaults =
+      text.now ∷ [];
+}
 value_rule (OneText name default) rule = record rule { value_names = 1; defaults = default.now ∷ [] }
 value_rule (Texts name) rule = record rule { value_names = 1; action = Some Append }
 
@@ -30,7 +35,8 @@ abbrev pub long_rule : Text → Bool → Rule → Rule
 long_rule name has_long rule = if has_long then record rule { long = Some name } else rule
 
 abbrev pub option_rule : CommandOption → Rule
-option_rule option = value_rule option.value (long_rule option.name.now option.has_long (short_rule option.short (new_rule option.name.now)))
+option_rule option = value_rule option.value (long_rule option.name.now option.has_long
+    (short_rule option.short (new_rule option.name.now)))
 
 -- the command has such an option
 abbrev pub is_of : OptionOf → Verb → Bool

@@ -1,4 +1,5 @@
-//! A format that begins with a hyphen, after `-e`: `clap` takes such a word for options, so it gets `-e=FORMAT` in one word.
+//! A format that begins with a hyphen, after `-e`: `clap` takes such a word for options, so it gets `-e=FORMAT` in one
+//! word.
 ghost use Rattle.std.specs.Prelude.{◌≡◌, ◌∷◌, ◌++◌, [], List, Some, None, IfOk, OnOk, codes, map, string_bytes};
 ghost use Rattle.clap.specs.Words.{Text};
 ghost use Rattle.sf_words.specs.Hyphens.{asks_format, begins_with_hyphen, clap_words, joined, left_of, letters_ask};
@@ -60,7 +61,8 @@ fn push_joined(
     format: &str,
     out: &mut Vec<String>,
 ) -> Result<(), AllocError>
-    ensures { OnOk result (map string_bytes out.new.items ≡ map string_bytes out.old.items ++ (asking.now ++ codes "=" ++ format.now) ∷ []) }
+    ensures { OnOk result (map string_bytes out.new.items
+        ≡ map string_bytes out.old.items ++ (asking.now ++ codes "=" ++ format.now) ∷ []) }
 {
     let mut word = String::from_str(alloc, asking)?;
     word.push_str("=")?;

@@ -1,7 +1,8 @@
 //! The command line of `sf`, as `clap` has it.
 ghost use Rattle.std.specs.Prelude.{◌≡◌, IfOk, false, codes, fold};
 ghost use Rattle.clap.specs.Words.{App, new_app, rule_of};
-ghost use Rattle.sf_words.specs.Line.{IsLine, check_app, copy_app, format_rule, options_of, print_app, scan_app, sf_app, show_app, word_rule, words_rule};
+ghost use Rattle.sf_words.specs.Line.{IsLine, check_app, copy_app, format_rule, options_of, print_app, scan_app};
+ghost use Rattle.sf_words.specs.Line.{sf_app, show_app, word_rule, words_rule};
 ghost use Rattle.sf_words.specs.Options.{with_option};
 
 use crate::help;

@@ -3,7 +3,8 @@ ghost use Rattle.std.specs.Prelude.{◌≡◌, [], ◌∷◌, is_some};
 ghost use Rattle.clap.specs.Words.{found_of, rows_of};
 ghost use Rattle.sf_words.specs.Misuses.{misuse_kind, misuse_kinds};
 ghost use Rattle.sf_words.specs.Options.{is_given_by};
-ghost use Rattle.sf_words.specs.Orders.{IsRefusal, form_given, format_faults, has_line_option, has_texts, is_set, own_faults, verb_text};
+ghost use Rattle.sf_words.specs.Orders.{IsRefusal, form_given, format_faults, has_line_option, has_texts, is_set};
+ghost use Rattle.sf_words.specs.Orders.{own_faults, verb_text};
 
 use crate::help;
 use crate::options::{CommandOption, OptionOf, OptionValue, all_options};

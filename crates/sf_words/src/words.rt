@@ -2,7 +2,9 @@
 ghost use Rattle.std.specs.Prelude.{◌≡◌, ◌≤◌, true, [], ◌∷◌, ◌++◌, IfErr, IfOk, OnOk, codes, map, string_bytes};
 ghost use Rattle.clap.specs.Words.{found_of, one_of, rows_of, subcommand_rows_of};
 ghost use Rattle.clap.specs.Walk.{texts};
-ghost use Rattle.sf_words.specs.Orders.{HasLines, IsOrder, IsOrderOf, IsRefusal, IsRefusalOf, entered_faults, faults_of, form_given, is_form, is_set, number_by, output_text, profile_number, texts_by, values_at, verb_text};
+ghost use Rattle.sf_words.specs.Orders.{HasLines, IsOrder, IsOrderOf, IsRefusal, IsRefusalOf, entered_faults};
+ghost use Rattle.sf_words.specs.Orders.{faults_of, form_given, is_form, is_set, number_by, output_text};
+ghost use Rattle.sf_words.specs.Orders.{profile_number, texts_by, values_at, verb_text};
 ghost use Rattle.sf_words.specs.Taken.{IsTaken, IsVerb, IsWithin};
 
 use crate::hyphens::clap_words;
@@ -80,7 +82,8 @@ fn push_given(
     id: &str,
     out: &mut Vec<String>,
 ) -> Result<(), AllocError>
-    ensures { OnOk result (map string_bytes out.new.items ≡ map string_bytes out.old.items ++ values_at id.now (rows_of (found_of given.now))) }
+    ensures { OnOk result (map string_bytes out.new.items
+        ≡ map string_bytes out.old.items ++ values_at id.now (rows_of (found_of given.now))) }
 {
     match given.get_strs(id) {
         Some(values) => push_all(alloc, values, out),

@@ -10,5 +10,6 @@ loop-word-preserved c =
     let all = map string_bytes c.loop-word.all.items in
     let word = ap (λ w. all ++ left_of c.loop-word.next (w ∷ rest)) c.as_str.ensures.value in
     let item = ap (λ w. all ++ left_of c.loop-word.next (string_bytes w ∷ rest)) c.word-item.is in
-    let left = at_drop_more (λ ws. all ++ left_of c.loop-word.next (map string_bytes ws)) words c.loop-word.word-index _ c.loop-word-test.true in
+    let left = at_drop_more (λ ws. all ++ left_of c.loop-word.next (map string_bytes ws)) words c.loop-word.word-index _
+    c.loop-word-test.true in
     c.in_ok-next.ensures rest ∙ word ∙ item ∙ sym left ∙ c.loop-word.invariant

@@ -15,4 +15,5 @@ returns c =
       local = ap (λ f. f.has_globals) c.override_usage.ensures ∙ c.in_ok-with_options.ensures.local;
     } in
     IfOk-weaker c.arg.result _ _
-    (λ m. with_one_arg app format_rule c.override_usage.result m c.format.result bare c.format.ensures.rule c.format.ensures.local) c.arg.ensures
+    (λ m. with_one_arg app format_rule c.override_usage.result m c.format.result bare c.format.ensures.rule c.format.ensures.local)
+    c.arg.ensures

@@ -8,4 +8,5 @@ use Rattle.sf_words.proofs.line.with_each.Given as goal
 abbrev pub invariant-loop-option : goal.invariant-loop-option
 invariant-loop-option l =
     (app : App) → IsLine app l.fn.bare
-    → (before : App) × IsLine before l.command × (fold (with_option l.verb) before (drop l.option-index l.options) ≡ fold (with_option l.verb) app l.options)
+    → (before : App) × IsLine before l.command × (fold (with_option l.verb) before (drop l.option-index l.options)
+    ≡ fold (with_option l.verb) app l.options)

@@ -22,7 +22,8 @@ order_of-requires c =
     let words = ap texts c.as_slice.ensures.value ∙ c.in_ok-all.ensures ∙ ap (λ ws. codes "sf" ∷ ws) joined in
     let entered = (c.in-Ok.ensures.matches (subst (λ a. is_simple a ≡ true) (sym c.in_ok-line.ensures.is) simple)).1 in
     let none = c.in-Ok.ensures.kinds (subst (λ a. is_simple_and_free a ≡ true) (sym c.in_ok-line.ensures.is) free) in
-    let taken = taken_is (codes "sf" ∷ clap_words (map string_bytes c.args.words.now)) (sym (ap₂ fault_of c.in_ok-line.ensures.is words) ∙ none) in
+    let taken = taken_is (codes "sf" ∷ clap_words (map string_bytes c.args.words.now))
+    (sym (ap₂ fault_of c.in_ok-line.ensures.is words) ∙ none) in
     subst IsTaken (sym (entered ∙ ap₂ subcommand_of c.in_ok-line.ensures.is words)) taken
 
 pub returns-in-Ok-clause-order : goal.returns-in-Ok-clause-order
@@ -38,8 +39,11 @@ returns-in-Ok-clause-taken c =
     let words = ap texts c.as_slice.ensures.value ∙ c.in_ok-all.ensures ∙ ap (λ ws. codes "sf" ∷ ws) joined in
     let entered = (c.in-Ok.ensures.matches (subst (λ a. is_simple a ≡ true) (sym c.in_ok-line.ensures.is) simple)).1 in
     let none = c.in-Ok.ensures.kinds (subst (λ a. is_simple_and_free a ≡ true) (sym c.in_ok-line.ensures.is) free) in
-    let own = subst (λ e. IfOk c.order_of.result (λ _. entered_faults e ≡ [])) (entered ∙ ap₂ subcommand_of c.in_ok-line.ensures.is words) c.order_of.ensures.taken in
-    subst (λ kinds. IfOk c.order_of.result (λ _. or_else kinds (entered_faults (subcommand_of sf_app (codes "sf" ∷ clap_words (map string_bytes c.args.words.now)))) ≡ [])) (sym (sym (ap₂ fault_of c.in_ok-line.ensures.is words) ∙ none)) own
+    let own = subst (λ e. IfOk c.order_of.result (λ _. entered_faults e ≡ []))
+    (entered ∙ ap₂ subcommand_of c.in_ok-line.ensures.is words) c.order_of.ensures.taken in
+    subst (λ kinds. IfOk c.order_of.result (λ _. or_else kinds (entered_faults
+    (subcommand_of sf_app (codes "sf" ∷ clap_words (map string_bytes c.args.words.now)))) ≡ []))
+    (sym (sym (ap₂ fault_of c.in_ok-line.ensures.is words) ∙ none)) own
 
 pub returns-in-Ok-clause-refused : goal.returns-in-Ok-clause-refused
 returns-in-Ok-clause-refused c =
@@ -47,8 +51,11 @@ returns-in-Ok-clause-refused c =
     let words = ap texts c.as_slice.ensures.value ∙ c.in_ok-all.ensures ∙ ap (λ ws. codes "sf" ∷ ws) joined in
     let entered = (c.in-Ok.ensures.matches (subst (λ a. is_simple a ≡ true) (sym c.in_ok-line.ensures.is) simple)).1 in
     let none = c.in-Ok.ensures.kinds (subst (λ a. is_simple_and_free a ≡ true) (sym c.in_ok-line.ensures.is) free) in
-    let own = subst (λ e. IfErr c.order_of.result (IsRefusal (entered_faults e))) (entered ∙ ap₂ subcommand_of c.in_ok-line.ensures.is words) c.order_of.ensures.refused in
-    subst (λ kinds. IfErr c.order_of.result (IsRefusal (or_else kinds (entered_faults (subcommand_of sf_app (codes "sf" ∷ clap_words (map string_bytes c.args.words.now))))))) (sym (sym (ap₂ fault_of c.in_ok-line.ensures.is words) ∙ none)) own
+    let own = subst (λ e. IfErr c.order_of.result (IsRefusal (entered_faults e)))
+    (entered ∙ ap₂ subcommand_of c.in_ok-line.ensures.is words) c.order_of.ensures.refused in
+    subst (λ kinds. IfErr c.order_of.result (IsRefusal (or_else kinds
+    (entered_faults (subcommand_of sf_app (codes "sf" ∷ clap_words (map string_bytes c.args.words.now)))))))
+    (sym (sym (ap₂ fault_of c.in_ok-line.ensures.is words) ∙ none)) own
 
 pub returns-clause-refused : goal.returns-clause-refused
 returns-clause-refused c =
