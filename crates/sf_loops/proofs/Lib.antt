@@ -1,0 +1,3 @@
+pub mod InTurn
+pub mod Rows
+pub mod Taking

@@ -1,0 +1,40 @@
+-- The run of a record that is held whole.
+use Rattle.std.proofs.Common.{◌≡◌, ℕ, ◌≤◌, inl, true, cond, List, [], ◌++◌, length, take, drop, Option, None, refl, sym, ap, ◌∙◌, arith}
+use Rattle.std.proofs.lemmas.List.{take-append-drop, take-append-le, length-take-le}
+use Rattle.std.specs.Io.KnownBytes.{IsAtEnd}
+use Rattle.sf_format.specs.declared.directive.Directive.{Directive}
+use Rattle.sf_run.specs.outcome.Ending.{Ending}
+use Rattle.sf_run.specs.outcome.Ending.TheVariants.{End}
+use Rattle.sf_run.specs.outcome.Status.TheVariants.{Done}
+use Rattle.sf_run.specs.Limits.{RunWithin}
+use Rattle.sf_run.specs.Runs.{RunReport}
+use Rattle.sf_run.specs.Stopping.{is_memory_status}
+use Rattle.sf_read.specs.Ahead.{Ahead}
+use Rattle.sf_read.specs.Counts.{counted_on, lines_after}
+use Rattle.sf_read.specs.Scan.{is_fault}
+use Rattle.sf_read.proofs.Blocks.{no_reads}
+use Rattle.sf_read.proofs.Holding.{held_scan}
+use Rattle.sf_read.proofs.Reading.{known_parts}
+use Rattle.sf_loops.specs.Runs.{IsNextRun}
+
+pub held_run : {S : Type 0} (to_come : S → Option (List ℕ)) (reads failures : S → ℕ) (N : ℕ) (ds : List Directive) (m : ℕ) (old new : Ahead S)
+    (lines lines' : ℕ) (report : RunReport) → ((z : List ℕ) (ending : Ending) → RunWithin ds m (old.held ++ z) ending report) → report.status ≡ Done
+    → report.met ≡ None → report.used ≤ length old.held → new.held ≡ drop report.used old.held → new.source ≡ old.source → new.at_end ≡ old.at_end
+    → (new.at_end ≡ true → IsAtEnd (to_come new.source)) → lines' ≡ lines_after lines (take report.used old.held)
+    → IsNextRun to_come reads failures N ds m old new lines lines' report
+held_run to_come reads failures N ds m old new lines lines' report run done met fits held source at_end told counted = record {
+  scan = λ t e. held_scan to_come ds m old new report run met fits held source at_end told t e;
+  told = (old.held ++ [], End, inl (run [] End));
+  bounded = λ _. ap is_memory_status done;
+  failed = ap failures source ∙ ap (λ met. cond (is_fault met) (counted_on (failures old.source)) (failures old.source)) (sym met);
+  end = λ e. absurd cc;
+  count = let same : reads new.source ≡ reads old.source = ap reads source in omega (arith, same);
+  waited = (
+    take report.used old.held,
+    sym (length-take-le report.used old.held fits),
+    no_reads (take report.used old.held) new (rw (held, take-append-drop) refl) source,
+  );
+  lines_are = λ t e.
+      let (z, coming, whole) = known_parts old.held (to_come old.source) t e in
+      counted ∙ ap (lines_after lines) (sym (ap (take report.used) whole ∙ take-append-le report.used old.held z fits));
+}

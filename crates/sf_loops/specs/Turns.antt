@@ -1,0 +1,38 @@
+-- What a loop over records does after the run of each: where fscanf would return EOF at the end of the input (C11 7.21.6.2p16), there is
+-- no further record.
+use Rattle.std.specs.Prelude.{nat_eq, if◌then◌else◌, Option, Some}
+use Rattle.sf_run.specs.outcome.Ending.{Ending}
+use Rattle.sf_run.specs.outcome.Ending.TheVariants.{End, Fault}
+use Rattle.sf_run.specs.outcome.Outcome.{Outcome}
+use Rattle.sf_run.specs.outcome.Status.{Status}
+use Rattle.sf_run.specs.outcome.Status.TheVariants.{Done, InputFailure, NoMemory}
+use Rattle.sf_run.specs.Runs.{RunReport}
+use Rattle.sf_loops.specs.declared.fault.RecordWhy.TheVariants as why
+use Rattle.sf_loops.specs.declared.turn.Turn.{Turn}
+use Rattle.sf_loops.specs.declared.turn.Turn.TheVariants.{Goes, Cut, Ends, Stops}
+
+-- by the status and what the run met
+abbrev pub turn_for : Outcome → Status → Option Ending → Turn
+turn_for outcome NoMemory met = Stops why.NoMemory
+turn_for outcome Done (Some Fault) = if nat_eq outcome.used 0 then Stops why.Read else Cut
+turn_for outcome _ (Some Fault) = Stops why.Read
+turn_for outcome Done met = if nat_eq outcome.used 0 then Stops why.Stalled else Goes
+turn_for outcome InputFailure (Some End) = if nat_eq outcome.converted 0 then Ends else Stops (why.Failed outcome)
+turn_for outcome _ met = Stops (why.Failed outcome)
+
+abbrev pub turn_by : Outcome → Turn
+turn_by outcome = turn_for outcome outcome.status outcome.met
+
+-- what a run came to, but for its values
+abbrev pub outcome_of : RunReport → Outcome
+outcome_of r = record {
+  status = r.status;
+  at = r.at;
+  assigned = r.assigned;
+  converted = r.converted;
+  used = r.used;
+  met = r.met;
+}
+
+abbrev pub turn_of : RunReport → Turn
+turn_of r = turn_by (outcome_of r)

@@ -1,0 +1,56 @@
+//! The run of one record: at once where it is held, and else by a scanner.
+ghost use Rattle.std.specs.Prelude.{◌≡◌, ◌≤◌, ◌+◌, length, None, IfSome, IsNone, unwrap_or};
+ghost use Rattle.sf_base.specs.Kept.{buffer_of};
+ghost use Rattle.sf_format.specs.Widths.{width_sum};
+ghost use Rattle.sf_run.specs.outcome.Status.TheVariants as status;
+ghost use Rattle.sf_run.specs.Memory.{HoldsValues, capacity_of};
+ghost use Rattle.sf_run.specs.Views.{report_by};
+ghost use Rattle.sf_loops.specs.Runs.{IsNextRun};
+
+use sf_base::HeapStore;
+use sf_format::ScanFormat;
+use sf_read::{Lookahead, Source, count_newlines, fscan_counting};
+use sf_run::{Outcome, Scanned, quick_run};
+use std::alloc::Global;
+
+/// Runs the format over a record that is held whole, as `sf_read::fscan_held` does, and counts the newlines that the run
+/// consumes. None where the record isn't seen to be Done: then nothing was consumed.
+#[inline(always)]
+pub(crate) fn take_held<S: Source, const N: usize>(
+    store: &mut HeapStore,
+    from: &mut Lookahead<S, N>,
+    format: &ScanFormat,
+    limit: u32,
+    lines: &mut u64,
+) -> Option<Outcome>
+    ensures run { IfSome result (λ outcome. IsNextRun S.to_come S.reads S.failures N format.now limit from.old from.new lines.old lines.new (report_by outcome store.new.values)) }
+    ensures room { capacity_of store.old ≤ capacity_of store.new }
+    ensures none { IsNone result → from.new ≡ from.old }
+    ensures uncounted { IsNone result → lines.new ≡ lines.old }
+{
+    let outcome = quick_run(store, format, limit, from.held())?;
+    let (front, _) = from.held().split_at(outcome.used as usize);
+    count_newlines(lines, front);
+    from.consume(outcome.used as usize);
+    Some(outcome)
+}
+
+/// Runs the format over the next record by a scanner, and counts the newlines that the run consumes.
+pub(crate) fn take_next<S: Source, const N: usize>(
+    alloc: Global,
+    store: HeapStore,
+    from: &mut Lookahead<S, N>,
+    format: &ScanFormat,
+    limit: u32,
+    lines: &mut u64,
+) -> Scanned<HeapStore>
+    requires limit { limit ≤ 2147483647 }
+    requires room { unwrap_or (width_sum format.now) 0 ≤ capacity_of store }
+    ensures run { IsNextRun S.to_come S.reads S.failures N format.now limit from.old from.new lines.old lines.new result.report }
+    ensures room { capacity_of store ≤ capacity_of result.kept }
+{
+    match fscan_counting(alloc, store, from, format, limit, lines) {
+        Ok(scanned) => scanned,
+        Err(_) => unreachable!(),
+    }
+}

@@ -1,0 +1,88 @@
+//! The records of an input, one after the other, as rows.
+ghost use Rattle.std.specs.Prelude.{◌≡◌, ◌≤◌, ◌↔◌, [], Option, None, Some, IfOk, IsErrOf};
+ghost use Rattle.sf_read.specs.RowScans.{HasShape};
+ghost use Rattle.sf_loops.specs.Loops.{IsNextRow, ended_with};
+
+use crate::fault::RecordFault;
+use crate::reports::Reports;
+use sf_format::ScanFormat;
+use sf_read::{Row, RowFault, ScanRowFault, Source, has_shape};
+use std::alloc::Global;
+use std::marker::{Model, PhantomData};
+
+/// A loop over the records of an input as rows: tuples of one to six values, or a type of the caller's. It ends where fscanf
+/// would return EOF at the end of the input (C11 7.21.6.2p16), or at the first record that is no match.
+///
+/// `N` is how many bytes are read at once, at least 1. The store of a record is used again for the next one.
+#[derive(Drop)]
+pub struct Records<'f, T: Row, S: Source, const N: usize> {
+    reports: Reports<'f, S, N>,
+    of: PhantomData<T>,
+}
+
+impl<'f, T: Row, S: Source, const N: usize> Model for Records<'f, T, S, N> {
+    ghost use Rattle.sf_read.specs.RowScans.{HasShape};
+    ghost use Rattle.sf_loops.specs.Loops.{Loop};
+
+    ghost Value = { Loop S };
+
+    ghost view = { λ r. r.reports };
+
+    ghost invariant = { λ r. HasShape T.kinds r.reports.format };
+}
+
+impl<'f, T: Row, S: Source, const N: usize> Records<'f, T, S, N> {
+    /// The loop before the first record. Each run uses at most `limit` bytes.
+    ///
+    /// Refuses with ShapeDiffers where the slots of the row and their kinds are not the destinations of the format and theirs;
+    /// then with Start: a limit above 2147483647 with BadLimit, and NoMemory where memory was refused.
+    pub fn new(
+        alloc: Global,
+        source: S,
+        format: &'f ScanFormat,
+        limit: u32,
+    ) -> Result<Self, ScanRowFault>
+        requires { 1 ≤ N }
+        ensures held { IfOk result (λ r. r.ahead.held ≡ []) }
+        ensures source { IfOk result (λ r. r.ahead.source ≡ source) }
+        ensures format { IfOk result (λ r. (r.format ≡ format.entry.now) × (r.limit ≡ limit)) }
+        ensures none_yet { IfOk result (λ r. (r.answered ≡ 0) × (r.lines ≡ 0) × (r.over ≡ None)) }
+        ensures shape { IsErrOf result ScanRowFault.ShapeDiffers ↔ (HasShape T.kinds format.entry.now → ⊥) }
+    {
+        if !has_shape::<T>(format) {
+            return Err(ScanRowFault::ShapeDiffers);
+        }
+        match Reports::new(alloc, source, format, limit) {
+            Ok(reports) => Ok(Records {
+                reports,
+                of: PhantomData,
+            }),
+            Err(fault) => Err(ScanRowFault::Start(fault)),
+        }
+    }
+
+    /// The row of the next record; None at the end of the input. After None, or a fault, it answers the same again. A record
+    /// that was complete when a read failed is answered, and the fault comes next.
+    pub fn next(&mut self) -> Result<Option<T>, RecordFault>
+        ensures over { (end : Option RecordFault) → self.old.over ≡ Some end → (self.new ≡ self.old) × (result ≡ ended_with None end) }
+        ensures next { self.old.over ≡ None → IsNextRow S.to_come S.reads S.failures N T.kinds T.listed self.old self.new result }
+    {
+        match self.reports.advance() {
+            Ok(true) => {}
+            Ok(false) => return Ok(None),
+            Err(fault) => return Err(fault),
+        }
+        let alloc = self.reports.allocator();
+        match T::from_report(alloc, &self.reports.report()) {
+            Ok(row) => Ok(Some(row)),
+            Err(RowFault::NoMemory) => Err(self.reports.refuse_row()),
+        }
+    }
+
+    /// How many records there were.
+    pub fn records(&self) -> u64
+        ensures { result ≡ self.now.answered }
+    {
+        self.reports.records()
+    }
+}
