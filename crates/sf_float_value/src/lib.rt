@@ -2,4 +2,6 @@
 #![tactic(auto)]
 
 mod form;
+mod nearest;
 mod value;
+pub use nearest::FloatKind;
