@@ -1,8 +1,8 @@
 -- From the whole number that is kept to the pattern of the nearest float.
-use Rattle.std.proofs.Common.{◌≡◌, ℕ, zero, suc, ◌+◌, ◌-◌, ◌*◌, ◌/◌, ◌%◌, ◌^◌, ◌<◌, ◌≤◌, Bool, true, false, sym, ap, ◌∙◌, subst, inl, inr, arith, pow-suc, mul-le-mul_right, mul-le-mul_left, mul-lt-mul_of_pos_right, mul-pos, pow_pos, pow_mono, eq-zero-or-pos, lt_of_lt_of_le, div-lt_iff_lt-mul, le-div_iff_mul-le, min, true≢false}
-use Rattle.std.proofs.Math.Nat.{lt_of_not-le, not-le_of_lt, le_trans, lt_of_le_of_lt, le_of_lt}
+use Rattle.std.proofs.Common.{◌≡◌, ℕ, suc, ◌+◌, ◌-◌, ◌*◌, ◌/◌, ◌^◌, ◌<◌, ◌≤◌, Bool, true, false, sym, ap, ◌∙◌, subst, inl, inr, arith, pow-suc, mul-le-mul_right, mul-lt-mul_of_pos_right, mul-pos, pow_pos, pow_mono, eq-zero-or-pos, lt_of_lt_of_le, div-lt_iff_lt-mul, le-div_iff_mul-le}
+use Rattle.std.proofs.Math.Nat.{lt_of_not-le, not-le_of_lt, le_of_lt}
 use Rattle.std.proofs.lemmas.Nat.{pow-add}
-use lib.Ieee.{Format, prec, low, hid, ones, size, units, round}
+use lib.Ieee.{Format, prec, low, hid, size, units, round}
 use lib.Ieee.Digits.{size-lt, size-le}
 use lib.Ieee.Fits.{round_is}
 use lib.Ieee.Nearest.{closest}

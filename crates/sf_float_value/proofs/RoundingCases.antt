@@ -1,5 +1,5 @@
 -- The two cases of a rounding: the lowest digit that is kept is above the least number, or is it.
-use Rattle.std.proofs.Common.{◌≡◌, ℕ, zero, suc, ◌+◌, ◌-◌, ◌*◌, ◌/◌, ◌^◌, ◌<◌, ◌≤◌, Bool, true, false, refl, sym, ap, ◌∙◌, subst, inl, inr, arith, pow_pos, pow_mono, eq-zero-or-pos, min, true≢false, lt_of_lt_of_le, mul-le-mul_right, div-lt_iff_lt-mul}
+use Rattle.std.proofs.Common.{◌≡◌, ℕ, ◌+◌, ◌-◌, ◌*◌, ◌/◌, ◌^◌, ◌<◌, ◌≤◌, Bool, true, false, refl, sym, ap, ◌∙◌, subst, arith, pow_pos, pow_mono, lt_of_lt_of_le, mul-le-mul_right, div-lt_iff_lt-mul}
 use Rattle.std.proofs.Math.Nat.{lt_of_le_of_lt, lt_of_not-le, not-le_of_lt}
 use Rattle.std.proofs.Math.Pow.{shl_lt}
 use Rattle.std.proofs.lemmas.Nat.{pow-add}
@@ -58,8 +58,8 @@ module _ (f : Format) (n m up down s k : ℕ) (lost : Bool) (q : IsQuotient n (2
       let lo : hid f * (2 ^ down * 2 ^ k) ≡ 2 ^ (prec f - 1 + (down + k)) = ap (λ t. 2 ^ (prec f - 1) * t) step ∙ sym (pow-add 2 (prec f - 1) (down + k)) in
       let hi : 2 ^ prec f * (2 ^ down * 2 ^ k) ≡ 2 ^ (prec f + (down + k)) = ap (λ t. 2 ^ prec f * t) step ∙ sym (pow-add 2 (prec f) (down + k)) in
       nearest_at f n (2 ^ down) k (pow_pos down)
-          (λ _. subst (λ t. t ≤ n * 2 ^ low f) (sym lo) (at_least (n * 2 ^ low f) m (up + low f) s lost above S from below (prec f - 1 + (down + k)) (omega (arith, p.digits.0))))
-          (subst (λ t. n * 2 ^ low f < t) (sym hi) (less_than (n * 2 ^ low f) m (up + low f) s lost above S from below (prec f + (down + k)) (omega arith)))
+      (λ _. subst (λ t. t ≤ n * 2 ^ low f) (sym lo) (at_least (n * 2 ^ low f) m (up + low f) s lost above S from below (prec f - 1 + (down + k)) (omega (arith, p.digits.0))))
+      (subst (λ t. n * 2 ^ low f < t) (sym hi) (less_than (n * 2 ^ low f) m (up + low f) s lost above S from below (prec f + (down + k)) (omega arith)))
 
   pub normal_cut : (whole : ℕ) → 0 < k → s + (up + low f) ≡ k + (prec f + down) → prec f < s → closest (n * 2 ^ low f) (2 ^ (up + low f) * 2 ^ (s - prec f)) ≡ whole
       → IsNearestBits f n (2 ^ down) (scaled_bits f whole k)

@@ -1,4 +1,4 @@
-use Rattle.std.proofs.Common.{◌≡◌, ℕ, ◌+◌, ◌-◌, ◌*◌, ◌^◌, ◌<◌, sym, ap, ◌∙◌, subst, arith}
+use Rattle.std.proofs.Common.{◌≡◌, ℕ, ◌+◌, ◌-◌, ◌*◌, ◌^◌, ◌<◌, sym, ◌∙◌, subst, arith}
 use Rattle.std.specs.Float.Ieee.{prec, low}
 use Rattle.std.specs.Float.Ieee.Nearest.{closest}
 use Rattle.fast_float.specs.Rounding.{IsNearestBits}
@@ -16,7 +16,7 @@ returns-then-size-above c n q =
     let s = size_of c.ilog2-size.result c.args.m c.ilog2-size.ensures.power_le c.ilog2-size.ensures.next_power_gt c.requires.some.1 in
     c.nearest_least.ensures n
     (subst (λ (t : ℕ). IsQuotient (n * 2 ^ low f) (2 ^ (c.args.up + t)) c.args.m c.args.lost) (sym c.least.ensures.value)
-        (above f n c.args.m c.args.up c.args.down (c.ilog2-size.result + 1) 0 c.args.lost q s.0 s.2 s.3))
+    (above f n c.args.m c.args.up c.args.down (c.ilog2-size.result + 1) 0 c.args.lost q s.0 s.2 s.3))
 
 pub returns-then-k-gt2100 : goal.returns-then-k-gt2100
 returns-then-k-gt2100 c n q =

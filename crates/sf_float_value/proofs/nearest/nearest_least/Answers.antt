@@ -1,7 +1,6 @@
-use Rattle.std.proofs.Common.{◌≡◌, ℕ, ◌+◌, ◌-◌, ◌*◌, ◌/◌, ◌^◌, ◌<◌, ◌≤◌, sym, ap, ◌∙◌, subst, arith, pow_pos}
-use Rattle.std.specs.Float.Ieee.{prec, low}
-use Rattle.std.specs.Float.Ieee.Nearest.{closest}
-use Rattle.fast_float.specs.Rounding.{IsNearestBits, scaled_bits}
+use Rattle.std.proofs.Common.{◌-◌, ◌*◌, ◌^◌, ◌<◌, sym, ap, subst, arith, pow_pos}
+use Rattle.std.specs.Float.Ieee.{low}
+use Rattle.fast_float.specs.Rounding.{IsNearestBits}
 use Rattle.sf_float_value.specs.Formats.{format_of}
 use Rattle.sf_float_value.proofs.RoundingCases.{least_none, least_cut, least_exact, grown_few, few_kept}
 use Rattle.sf_float_value.proofs.nearest.nearest_least.Goals as goal
@@ -13,7 +12,7 @@ returns-then-down-up c n q =
 pub returns-then-down-up-2 : goal.returns-then-down-up-2
 returns-then-down-up-2 c n q =
     least_cut (format_of c.args.kind) n c.args.m c.args.up c.args.down c.args.size c.args.lost q c.requires.size.0 c.requires.size.2 c.requires.size.3 c.requires.range.0 c.rounded.result c.if-down-up-2.true
-        (c.rounded.ensures.value (n * 2 ^ low (format_of c.args.kind)) (2 ^ c.args.up) (pow_pos c.args.up) q)
+    (c.rounded.ensures.value (n * 2 ^ low (format_of c.args.kind)) (2 ^ c.args.up) (pow_pos c.args.up) q)
 
 pub overflow_mul-result : goal.overflow_mul-result
 overflow_mul-result c =

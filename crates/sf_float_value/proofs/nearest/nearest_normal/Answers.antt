@@ -1,4 +1,4 @@
-use Rattle.std.proofs.Common.{◌≡◌, ℕ, ◌+◌, ◌-◌, ◌*◌, ◌/◌, ◌^◌, ◌<◌, ◌≤◌, sym, ap, ◌∙◌, subst, arith, pow_pos}
+use Rattle.std.proofs.Common.{◌≡◌, ◌+◌, ◌-◌, ◌*◌, ◌/◌, ◌^◌, ◌<◌, ◌≤◌, sym, ap, ◌∙◌, subst, arith, pow_pos}
 use Rattle.std.specs.Float.Ieee.{prec, low}
 use Rattle.std.specs.Float.Ieee.Nearest.{closest}
 use Rattle.fast_float.specs.Rounding.{IsNearestBits, scaled_bits}

@@ -1,4 +1,4 @@
-use Rattle.std.proofs.Common.{ℕ, Bool, arith, subst}
+use Rattle.std.proofs.Common.{Bool, arith, subst}
 use Rattle.sf_float.specs.Quotient.{IsQuotient}
 use Rattle.sf_float_value.proofs.Cutting.{rounded_down, rounded_up, lost_up, tie_even}
 use Rattle.sf_float_value.proofs.nearest.rounded.Goals as goal
