@@ -104,7 +104,7 @@ signed_from sign t (inl e) h = subst (λ s. IsSignedDecimal (s ++ t)) (sym e) (u
 signed_from sign t (inr (inl e)) h = subst (λ s. IsSignedDecimal (s ++ t)) (sym e) (inl (refl, h))
 signed_from sign t (inr (inr e)) h = subst (λ s. IsSignedDecimal (s ++ t)) (sym e) (inl (refl, h))
 
-exponent_from : (radix : Radix) (t : List ℕ) → ((t ≡ []) ⊎ IsExponent radix t) → IsExponentPart radix t
+pub exponent_from : (radix : Radix) (t : List ℕ) → ((t ≡ []) ⊎ IsExponent radix t) → IsExponentPart radix t
 exponent_from radix t (inl e) = subst (IsExponentPart radix) (sym e) tt
 exponent_from radix t (inr e) = subst (IsExponentPart radix) (sym e.joined) (e.opens, signed_from e.sign e.digits e.signed (decimal_from e.digits e.some e.all))
 

@@ -1,9 +1,9 @@
 -- The first bytes of a matching sequence tell its form.
-use Rattle.std.proofs.Common.{◌≡◌, ◌⊎◌, ℕ, ◌+◌, ◌≤◌, ◌<◌, Bool, true, false, ◌||◌, ◌&&◌, cond, nat_lt, List, [], ◌∷◌, ◌++◌, refl, sym, ap, ◌∙◌, subst, inl, inr, arith, lt-ltb, length, drop, slice_index}
+use Rattle.std.proofs.Common.{◌≡◌, ◌⊎◌, ℕ, ◌≤◌, ◌<◌, true, ◌||◌, List, [], ◌∷◌, refl, sym, ap, ◌∙◌, subst, inl, inr, arith, lt-ltb, length, drop, slice_index}
 use Rattle.std.specs.Prelude.{◌==◌}
 use Rattle.std.specs.Char.{is_ascii_digit, to_ascii_lowercase}
 use Rattle.sf_float_item.specs.declared.reached.Radix.TheVariants.{Ten, Sixteen}
-use Rattle.sf_float_item.specs.Sequences.{is_digit, IsWhole, IsNumber, IsUnsigned, IsZeroTail, IsInfinityTail, IsNanTail, Begins, is_sign, IsFloat}
+use Rattle.sf_float_item.specs.Sequences.{is_digit, IsWhole, IsNumber, IsUnsigned, IsFloat}
 use Rattle.sf_float_item.specs.Parts.{IsInfinity, IsNan}
 use Rattle.sf_float_item.proofs.Apart.{either}
 use Rattle.sf_float_item.proofs.Joined.{infinity_of, nan_of}

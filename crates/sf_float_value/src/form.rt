@@ -7,7 +7,7 @@ ghost use Rattle.sf_float_value.specs.Forms.{IsForm, IsSplit};
 
 /// The form of what follows the sign.
 #[derive(Clone, Copy, Debug, PartialEq, Eq)]
-pub enum Form {
+pub(crate) enum Form {
     Decimal,
     Hexadecimal,
     Infinity,

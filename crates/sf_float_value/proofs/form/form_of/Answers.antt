@@ -11,4 +11,4 @@ returns-in-110 c = nan_at c.args.size.now c.requires (sym c.to_ascii_lowercase.e
 pub returns-in-48 : goal.returns-in-48
 returns-in-48 c =
     prefix_at c.args.size.now c.if-size-gt1.true c.requires (sym c.to_ascii_lowercase.ensures.value ∙ c.in-48.is)
-        (sym c.to_ascii_lowercase-then-size-gt1.ensures.value ∙ c.if-to_ascii_lowercase-eq120.true)
+    (sym c.to_ascii_lowercase-then-size-gt1.ensures.value ∙ c.if-to_ascii_lowercase-eq120.true)
