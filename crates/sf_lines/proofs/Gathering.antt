@@ -189,8 +189,8 @@ module _ {S : Type 0} {to_come : S → Option (List ℕ)} {old now : Ahead S} {l
     line_now = line_append g.seen now.held g.is_line (subst IsLine piece_is is_piece)
 
     -- the source failed
-    pub failed : new.at_end ≡ false → (x : List ℕ) × TookPart to_come old new x × (old.at_end ≡ false) × (new.at_end ≡ false)
-    failed at_end = (g.seen ++ now.held, record { is_line = line_now; bytes = seen_now }, not_before open', at_end)
+    pub failed : (new.at_end ≡ false) × (new.held ≡ []) → (x : List ℕ) × TookPart to_come old new x × (old.at_end ≡ false) × (new.at_end ≡ false) × (new.held ≡ [])
+    failed (at_end, nothing) = (g.seen ++ now.held, record { is_line = line_now; bytes = seen_now }, not_before open', at_end, nothing)
 
     -- a block was read
     pub more : (gathered : List ℕ) (size : ℕ) (longer : Bool) → size ≡ length line

@@ -1,5 +1,5 @@
 -- The loop over the lines of a source: how it goes on, and what holds where it stops.
-use Rattle.std.proofs.Common.{◌≡◌, ℕ, ◌+◌, ◌<◌, ◌≤◌, Bool, true, false, cond, List, [], ◌∷◌, ◌++◌, length, take, drop, Option, Some, None, Ok, ◌⊎◌, inl, inr, refl, sym, ap, subst, ◌∙◌, arith, append_assoc, append-nil, length-append, count_by, true≢false}
+use Rattle.std.proofs.Common.{◌≡◌, ℕ, ◌+◌, ◌<◌, ◌≤◌, Bool, true, false, cond, List, [], ◌∷◌, ◌++◌, length, take, drop, Option, Some, None, Result, Ok, Err, is_err, ◌⊎◌, inl, inr, refl, sym, ap, subst, ◌∙◌, arith, append_assoc, append-nil, length-append, count_by, true≢false}
 use Rattle.std.specs.List.{AllByRecursion}
 use Rattle.std.specs.Io.KnownBytes.{Appends, IsAtEnd}
 use Rattle.sf_format.specs.Proper.{AreProper}
@@ -16,9 +16,13 @@ use Rattle.sf_lines.specs.declared.line.LineRead.{LineRead}
 use Rattle.sf_lines.specs.declared.line.LineRead.TheVariants as reads
 use Rattle.sf_lines.specs.Reading.{Took, TookPart, Reads, endless, is_failed}
 use Rattle.sf_lines.specs.Turns.{LineWork, Turn, Comes}
-use Rattle.sf_lines.specs.Loops.{AreLines, AreLinesAndPart, AreTurns, IsBegun, IsCutShort, TellsLines, goes_on, tellings, telling_of, texts, text_of, is_written, fault_after, ended, status_by, most_lines}
+use Rattle.sf_lines.specs.Loops.{is_write, AreLines, AreLinesAndPart, AreTurns, IsBegun, IsCutShort, TellsLines, goes_on, tellings, telling_of, texts, text_of, is_written, fault_after, ended, status_by, most_lines}
 use Rattle.sf_lines.specs.Loops as turns
-use Rattle.sf_lines.specs.Judging.{TakesPart}
+use Rattle.sf_base.specs.Kept.{Kept}
+use Rattle.sf_lines.specs.declared.judge.Judged.{Judged}
+use Rattle.sf_lines.specs.declared.judge.Judged.TheVariants.{Skipped, Written, Failed, Stopped, Unread}
+use Rattle.sf_lines.specs.Coming.{StopsAt, Turns, counted, is_read_fault, next_by}
+use Rattle.sf_lines.specs.Judging.{TakesPart, is_write_fault}
 use Rattle.sf_lines.specs.Telling.{Tells}
 use Rattle.sf_lines.proofs.Telling.{all_said, tells_nothing, tells_then}
 use Rattle.sf_lines.proofs.Reading.{Lined, begins, took, gone_all, are_lines, consumed, lines_and_part, failed_in, at_end}
@@ -55,6 +59,20 @@ end_is : (answer : LinesEnd) (written failed : ℕ) (fault : Option LinesFault) 
     → written ≡ count_by is_written done → failed ≡ count_by turns.is_failed done → answer ≡ ended done fault
 end_is answer written failed fault done is p q = is ∙ rw (p, q) refl
 
+-- the fault in an answer
+abbrev fault_in : Option LinesFault → Result Kept (Option LinesFault) → Option LinesFault
+fault_in other (Err fault) = fault
+fault_in other (Ok kept) = other
+
+-- behind a line that is no match
+kept_going : (keep_going : Bool) (number : ℕ) (store kept : Kept) → next_by keep_going number (Failed store) ≡ Ok kept → keep_going ≡ true
+kept_going true number store kept e = refl
+kept_going false number store kept e = absurd (true≢false (ap is_err e))
+
+stopped_by : (keep_going : Bool) (number : ℕ) (store : Kept) (fault : Option LinesFault) → next_by keep_going number (Failed store) ≡ Err fault → (keep_going ≡ false) × (fault ≡ None)
+stopped_by true number store fault e = absurd (true≢false (sym (ap is_err e)))
+stopped_by false number store fault e = (refl, ap (fault_in None) (sym e))
+
 module _ {S : Type 0} {w : LineWork} {to_come : S → Option (List ℕ)} {t : List ℕ} {now : Ahead S} {was is : Option (List ℕ)} {dumb silent : Bool} {told told' : Option (List ℕ)} {written failed n : ℕ}
     (one : EachHasOneReport) (proper : AllByRecursion AreProper w.formats) (some : 0 < length w.formats) (g : Going w to_come t now was is dumb silent told told' written failed n) where
   lines_count : length g.front ≡ n
@@ -66,12 +84,13 @@ module _ {S : Type 0} {w : LineWork} {to_come : S → Option (List ℕ)} {t : Li
 
   -- the loop is ended before: what it did is the front of what comes of all lines
   cut_short : {new : Ahead S} (consumed : ℕ) → input_of to_come new ≡ Some (drop consumed t) → (more : List (List ℕ)) → lines_of t ≡ g.front ++ more → (later : List Turn) → AreTurns w (length g.front) more later
-      → (part : List ℕ) (after : Option (List ℕ)) → Appends is after part → (failures mid : ℕ) → mid ≡ failures → (answer : LinesEnd) → IsCutShort g.done part later t consumed answer
+      → (part : List ℕ) (after : Option (List ℕ)) → Appends is after part → (failures mid : ℕ) → mid ≡ failures → (answer : LinesEnd) → IsCutShort w g.done part later t consumed answer
       → TellsLines w to_come t new failures mid was after dumb silent told told' answer
   cut_short consumed rest more all later are part after wrote failures mid same answer why = (
     record {
       failed = false;
       failures_are = same;
+      nothing_held = λ e. absurd (true≢false (sym e));
       consumed = consumed;
       rest = rest;
       turns = g.done ++ later;
@@ -89,7 +108,7 @@ module _ {S : Type 0} {w : LineWork} {to_come : S → Option (List ℕ)} {t : Li
 
   -- no line was read, for want of memory or since it is endless
   pub unread : {new : Ahead S} (part : List ℕ) → TookPart to_come now new part → (failures mid : ℕ) → mid ≡ failures → (fault : LinesFault) (answer : LinesEnd) → answer ≡ record { status = status_by failed (Some fault); written = written; failed = failed; fault = Some fault }
-      → (fault ≡ Memory) ⊎ (fault ≡ TooMany) × (endless ≤ length part) → TellsLines w to_come t new failures mid was is dumb silent told told' answer
+      → (fault ≡ Memory) × (w.options.skip < n + 1) ⊎ (fault ≡ TooMany) × (endless ≤ length part) → TellsLines w to_come t new failures mid was is dumb silent told told' answer
   unread {new} part lost failures mid same fault answer answer_is why =
       let (k, rest, behind) = lines_and_part g.lined new part lost in
       let more = turns_behind one w proper some (length g.front) (lines_of g.lined.left) in
@@ -97,8 +116,8 @@ module _ {S : Type 0} {w : LineWork} {to_come : S → Option (List ℕ)} {t : Li
       cut_short k rest (lines_of g.lined.left) g.lined.whole more.0 more.1 [] is (Appends-none is) failures mid same answer
       (by k end (subst (λ (lines : ℕ). AreLinesAndPart t k lines part) (sym (passed_length w 0 g.front g.done g.passed)) behind) more.0 why)
     where
-      by : (k : ℕ) → answer ≡ ended g.done (Some fault) → AreLinesAndPart t k (length g.done) part → (later : List Turn) → (fault ≡ Memory) ⊎ (fault ≡ TooMany) × (endless ≤ length part) → IsCutShort g.done [] later t k answer
-      by k end behind later (inl memory) = inr (inl (end ∙ ap (λ f. ended g.done (Some f)) memory, refl, inr (part, behind)))
+      by : (k : ℕ) → answer ≡ ended g.done (Some fault) → AreLinesAndPart t k (length g.done) part → (later : List Turn) → (fault ≡ Memory) × (w.options.skip < n + 1) ⊎ (fault ≡ TooMany) × (endless ≤ length part) → IsCutShort w g.done [] later t k answer
+      by k end behind later (inl (memory, counts)) = inr (inl (end ∙ ap (λ f. ended g.done (Some f)) memory, refl, inr (omega (arith, counts, g.count), inr (part, behind))))
       by k end behind later (inr (many, long)) = inr (inr (end ∙ ap (λ f. ended g.done (Some f)) many, refl, inr (part, behind, long)))
 
   -- the most lines were read
@@ -123,6 +142,7 @@ module _ {S : Type 0} {w : LineWork} {to_come : S → Option (List ℕ)} {t : Li
         record {
           failed = false;
           failures_are = same;
+          nothing_held = λ e. absurd (true≢false (sym e));
           consumed = length g.lined.gone;
           rest = rest;
           turns = g.done;
@@ -139,13 +159,14 @@ module _ {S : Type 0} {w : LineWork} {to_come : S → Option (List ℕ)} {t : Li
       )
 
   -- the source failed in the next line
-  pub read_failed : {new : Ahead S} (part : List ℕ) → TookPart to_come now new part → now.at_end ≡ false → (failures mid before : ℕ) → before ≡ failures → mid ≡ counted_on before → (answer : LinesEnd)
+  pub read_failed : {new : Ahead S} (part : List ℕ) → TookPart to_come now new part → now.at_end ≡ false → new.held ≡ [] → (failures mid before : ℕ) → before ≡ failures → mid ≡ counted_on before → (answer : LinesEnd)
       → answer ≡ record { status = status_by failed (Some (Read (n + 1))); written = written; failed = failed; fault = Some (Read (n + 1)) } → TellsLines w to_come t new failures mid was is dumb silent told told' answer
-  read_failed {new} part lost open' failures mid before same counts answer answer_is =
+  read_failed {new} part lost open' held failures mid before same counts answer answer_is =
       let (k, _, rest, gone, _) = consumed g.lined new part lost.bytes in (
         record {
           failed = true;
           failures_are = counts ∙ ap counted_on same;
+          nothing_held = λ e. held;
           consumed = k;
           rest = rest;
           turns = g.done;
@@ -167,14 +188,14 @@ module _ {S : Type 0} {w : LineWork} {to_come : S → Option (List ℕ)} {t : Li
       )
 
   -- no line was read
-  pub no_line : {new : Ahead S} (r : LineRead) → (r ≡ reads.Line → ⊥) → (r ≡ reads.TooLong → ⊥) → (limit : ℕ) (items : List ℕ) → Reads to_come now new limit items r → (failures before mid : ℕ) → before ≡ failures → mid ≡ cond (is_failed r) (counted_on before) before
+  pub no_line : {new : Ahead S} (r : LineRead) → (r ≡ reads.Line → ⊥) → (r ≡ reads.TooLong → ⊥) → (r ≡ reads.NoMemory → w.options.skip < n + 1) → (limit : ℕ) (items : List ℕ) → Reads to_come now new limit items r → (failures before mid : ℕ) → before ≡ failures → mid ≡ cond (is_failed r) (counted_on before) before
       → (answer : LinesEnd) → answer ≡ record { status = status_by failed (fault_after (n + 1) r); written = written; failed = failed; fault = fault_after (n + 1) r } → TellsLines w to_come t new failures mid was is dumb silent told told' answer
-  no_line reads.Line not_line not_long limit items h failures before mid same counts answer answer_is = absurd (not_line refl)
-  no_line reads.TooLong not_line not_long limit items h failures before mid same counts answer answer_is = absurd (not_long refl)
-  no_line reads.End not_line not_long limit items h failures before mid same counts answer answer_is = at_last h.0 h.2 failures mid (counts ∙ same) answer answer_is
-  no_line reads.Fault not_line not_long limit items h failures before mid same counts answer answer_is = read_failed h.0 h.1 h.2 failures mid before same counts answer answer_is
-  no_line reads.Endless not_line not_long limit items h failures before mid same counts answer answer_is = unread h.0 h.1 failures mid (counts ∙ same) TooMany answer answer_is (inr (refl, h.2))
-  no_line reads.NoMemory not_line not_long limit items h failures before mid same counts answer answer_is = unread h.0 h.1 failures mid (counts ∙ same) Memory answer answer_is (inl refl)
+  no_line reads.Line not_line not_long unskipped limit items h failures before mid same counts answer answer_is = absurd (not_line refl)
+  no_line reads.TooLong not_line not_long unskipped limit items h failures before mid same counts answer answer_is = absurd (not_long refl)
+  no_line reads.End not_line not_long unskipped limit items h failures before mid same counts answer answer_is = at_last h.0 h.2 failures mid (counts ∙ same) answer answer_is
+  no_line reads.Fault not_line not_long unskipped limit items h failures before mid same counts answer answer_is = read_failed h.0 h.1 h.2 h.4 failures mid before same counts answer answer_is
+  no_line reads.Endless not_line not_long unskipped limit items h failures before mid same counts answer answer_is = unread h.0 h.1 failures mid (counts ∙ same) TooMany answer answer_is (inr (refl, h.2))
+  no_line reads.NoMemory not_line not_long unskipped limit items h failures before mid same counts answer answer_is = unread h.0 h.1 failures mid (counts ∙ same) Memory answer answer_is (inl (refl, unskipped refl))
 
   module _ {new : Ahead S} (line : List ℕ) (read : Took to_come now new line) where
     lined : Lined to_come t new (g.front ++ line ∷ [])
@@ -223,6 +244,7 @@ module _ {S : Type 0} {w : LineWork} {to_come : S → Option (List ℕ)} {t : Li
         record {
           failed = false;
           failures_are = same;
+          nothing_held = λ e. absurd (true≢false (sym e));
           consumed = length lined.gone;
           rest = rest_is;
           turns = g.done ++ turn ∷ [];
@@ -247,12 +269,12 @@ module _ {S : Type 0} {w : LineWork} {to_come : S → Option (List ℕ)} {t : Li
       )
 
     -- memory was refused, and nothing was written
-    pub no_memory : (after : Option (List ℕ)) → Appends is after [] → (failures mid : ℕ) → mid ≡ failures → (answer : LinesEnd) → answer ≡ record { status = status_by failed (Some Memory); written = written; failed = failed; fault = Some Memory }
+    pub no_memory : w.options.skip < n + 1 → (after : Option (List ℕ)) → Appends is after [] → (failures mid : ℕ) → mid ≡ failures → (answer : LinesEnd) → answer ≡ record { status = status_by failed (Some Memory); written = written; failed = failed; fault = Some Memory }
         → TellsLines w to_come t new failures mid was after dumb silent told told' answer
-    no_memory after nothing failures mid same answer answer_is =
+    no_memory counts after nothing failures mid same answer answer_is =
         let later = turns_behind one w proper some (length g.front) (line ∷ lines_of lined.left) in
         cut_short (length lined.gone) rest_is (line ∷ lines_of lined.left) all_lines later.0 later.1 [] after nothing failures mid same answer
-        (inr (inl (end_is answer written failed (Some Memory) g.done answer_is g.did.written_are g.did.failed_are, refl, inl lines_taken)))
+        (inr (inl (end_is answer written failed (Some Memory) g.done answer_is g.did.written_are g.did.failed_are, refl, inr (omega (arith, counts, g.count), inl lines_taken))))
 
     -- the sink failed within the text
     pub unwritten : (after : Option (List ℕ)) (text : List ℕ) → Comes w (n + 1) line (Some (Ok text)) → TakesPart is after text → (failures mid : ℕ) → mid ≡ failures → (answer : LinesEnd)
@@ -264,9 +286,95 @@ module _ {S : Type 0} {w : LineWork} {to_come : S → Option (List ℕ)} {t : Li
         (inl (end_is answer written failed (Some Write) g.done answer_is g.did.written_are g.did.failed_are, (missing, rest, later.0, ap (λ (y : List ℕ). Some (Ok y) ∷ later.0) begun), lines_taken))
 
     -- either of these
-    pub interrupted : (after : Option (List ℕ)) (fault : LinesFault) → (fault ≡ Memory) × Appends is after [] ⊎ (fault ≡ Write) × ((text : List ℕ) × Comes w (n + 1) line (Some (Ok text)) × TakesPart is after text)
+    pub interrupted : (after : Option (List ℕ)) (fault : LinesFault) → StopsAt w (n + 1) line is after fault
         → (failures mid : ℕ) → mid ≡ failures → (answer : LinesEnd) → answer ≡ record { status = status_by failed (Some fault); written = written; failed = failed; fault = Some fault } → TellsLines w to_come t new failures mid was after dumb silent told told' answer
-    interrupted after fault (inl (memory, nothing)) failures mid same answer answer_is =
-        no_memory after nothing failures mid same answer (answer_is ∙ ap (λ (f : LinesFault). record { status = status_by failed (Some f); written = written; failed = failed; fault = Some f }) memory)
+    interrupted after fault (inl (memory, counts, nothing)) failures mid same answer answer_is =
+        no_memory counts after nothing failures mid same answer (answer_is ∙ ap (λ (f : LinesFault). record { status = status_by failed (Some f); written = written; failed = failed; fault = Some f }) memory)
     interrupted after fault (inr (write, (text, comes, part))) failures mid same answer answer_is =
         unwritten after text comes part failures mid same answer (answer_is ∙ ap (λ (f : LinesFault). record { status = status_by failed (Some f); written = written; failed = failed; fault = Some f }) write)
+
+  -- ---- the next turn
+
+  module _ {new : Ahead S} {after : Option (List ℕ)} {silent' : Bool} {told'' : Option (List ℕ)} where
+    -- the loop goes on behind it
+    pub moves_on : (judged : Judged) → Turns to_come now new w (n + 1) is after silent silent' told' told'' judged → (kept : Kept) → next_by w.options.keep_going (n + 1) judged ≡ Ok kept
+        → Going w to_come t new was after dumb silent' told told'' (counted judged (record { written = written; failed = failed })).written (counted judged (record { written = written; failed = failed })).failed (n + 1)
+    moves_on (Skipped store) (line, read, (turn, none, comes, wrote, tells)) kept e =
+        next line read turn comes after silent' told'' written failed wrote tells (omega (arith, ap {B = ℕ} (λ x. cond (is_written x) 1 0) none)) (omega (arith, ap {B = ℕ} (λ x. cond (turns.is_failed x) 1 0) none)) (ap (goes_on w) none)
+    moves_on (Written store) (line, read, (turn, (text, some), comes, wrote, tells)) kept e =
+        next line read turn comes after silent' told'' (written + 1) failed wrote tells (omega (arith, ap {B = ℕ} (λ x. cond (is_written x) 1 0) some)) (omega (arith, ap {B = ℕ} (λ x. cond (turns.is_failed x) 1 0) some)) (ap (goes_on w) some)
+    moves_on (Failed store) (line, read, (turn, (miss, some), comes, wrote, tells)) kept e =
+        next line read turn comes after silent' told'' written (failed + 1) wrote tells (omega (arith, ap {B = ℕ} (λ x. cond (is_written x) 1 0) some)) (omega (arith, ap {B = ℕ} (λ x. cond (turns.is_failed x) 1 0) some))
+        (ap (goes_on w) some ∙ kept_going w.options.keep_going (n + 1) store kept e)
+    moves_on (Stopped fault) h kept e = absurd (true≢false (ap is_err e))
+    moves_on (Unread why) h kept e = absurd (true≢false (ap is_err e))
+
+    -- it stops there
+    pub stops_at : (judged : Judged) → Turns to_come now new w (n + 1) is after silent silent' told' told'' judged → (fault : Option LinesFault) → next_by w.options.keep_going (n + 1) judged ≡ Err fault
+        → (failures before mid : ℕ) → before ≡ failures → mid ≡ cond (is_read_fault judged) (counted_on before) before → (answer : LinesEnd)
+        → answer ≡ record { status = status_by (counted judged (record { written = written; failed = failed })).failed fault; written = (counted judged (record { written = written; failed = failed })).written; failed = (counted judged (record { written = written; failed = failed })).failed; fault = fault }
+        → TellsLines w to_come t new failures mid was after dumb silent' told told'' answer
+    stops_at (Skipped store) h fault e failures before mid same count answer answer_is = absurd (true≢false (sym (ap is_err e)))
+    stops_at (Written store) h fault e failures before mid same count answer answer_is = absurd (true≢false (sym (ap is_err e)))
+    stops_at (Failed store) (line, read, (turn, (miss, some), comes, wrote, tells)) fault e failures before mid same count answer answer_is =
+        let stopped = stopped_by w.options.keep_going (n + 1) store fault e in
+        stops line read turn comes after silent' told'' written (failed + 1) wrote tells (omega (arith, ap {B = ℕ} (λ x. cond (is_written x) 1 0) some)) (omega (arith, ap {B = ℕ} (λ x. cond (turns.is_failed x) 1 0) some))
+        (ap (goes_on w) some ∙ stopped.0) failures mid (count ∙ same) answer (answer_is ∙ ap (λ f. record { status = status_by (failed + 1) f; written = written; failed = failed + 1; fault = f }) stopped.1)
+    stops_at (Stopped why) (line, read, (stops_so, quiet, untold)) fault e failures before mid same count answer answer_is =
+        let here : TellsLines w to_come t new failures mid was after dumb silent told told' answer =
+        interrupted line read after why stops_so failures mid (count ∙ same) answer (answer_is ∙ ap (λ f. record { status = status_by failed f; written = written; failed = failed; fault = f }) (ap (fault_in None) (sym e))) in
+        subst (λ s. TellsLines w to_come t new failures mid was after dumb s told told'' answer) (sym quiet) (subst (λ y. TellsLines w to_come t new failures mid was after dumb silent told y answer) (sym untold) here)
+    stops_at (Unread why) (none, unwritten_is, quiet, untold) fault e failures before mid same count answer answer_is =
+        let here : TellsLines w to_come t new failures mid was is dumb silent told told' answer =
+        no_line why none.no_line none.no_long none.unskipped none.limit none.part none.told failures before mid same count answer
+        (answer_is ∙ ap (λ f. record { status = status_by failed f; written = written; failed = failed; fault = f }) (ap (fault_in None) (sym e))) in
+        subst (λ s. TellsLines w to_come t new failures mid was after dumb s told told'' answer) (sym quiet) (subst (λ y. TellsLines w to_come t new failures mid was after dumb silent told y answer) (sym untold)
+        (subst (λ a. TellsLines w to_come t new failures mid was a dumb silent told told' answer) (sym unwritten_is) here))
+
+-- no store could be had
+pub no_store : {S : Type 0} → EachHasOneReport → (w : LineWork) → AllByRecursion AreProper w.formats → 0 < length w.formats → (to_come : S → Option (List ℕ)) (t : List ℕ) (now : Ahead S) (was : Option (List ℕ)) (dumb : Bool) (told : Option (List ℕ))
+    → input_of to_come now ≡ Some t → (failures : ℕ) (answer : LinesEnd) → answer ≡ record { status = status_by 0 (Some Memory); written = 0; failed = 0; fault = Some Memory } → TellsLines w to_come t now failures failures was was dumb dumb told told answer
+unfolding starts
+no_store one w proper some to_come t now was dumb told input failures answer answer_is =
+    let more = turns_behind one w proper some 0 (lines_of t) in
+    cut_short one proper some (starts w to_come t now was dumb told input) 0 input (lines_of t) refl more.0 more.1 [] was (Appends-none was) failures failures refl answer (inr (inl (answer_is, refl, inl (refl, refl))))
+
+-- ---- what a turn says of the sink and the source
+
+pub quiet_on : (keep_going : Bool) (number : ℕ) (judged : Judged) (kept : Kept) → next_by keep_going number judged ≡ Ok kept → (is_read_fault judged ≡ false) × (is_write_fault judged ≡ false)
+quiet_on keep_going number (Skipped store) kept e = (refl, refl)
+quiet_on keep_going number (Written store) kept e = (refl, refl)
+quiet_on keep_going number (Failed store) kept e = (refl, refl)
+quiet_on keep_going number (Stopped fault) kept e = absurd (true≢false (ap is_err e))
+quiet_on keep_going number (Unread why) kept e = absurd (true≢false (ap is_err e))
+
+pub write_told : (keep_going : Bool) (number : ℕ) (judged : Judged) (fault : Option LinesFault) → next_by keep_going number judged ≡ Err fault → is_write fault ≡ is_write_fault judged
+write_told keep_going number (Skipped store) fault e = absurd (true≢false (sym (ap is_err e)))
+write_told keep_going number (Written store) fault e = absurd (true≢false (sym (ap is_err e)))
+write_told true number (Failed store) fault e = absurd (true≢false (sym (ap is_err e)))
+write_told false number (Failed store) fault e = ap is_write (ap (fault_in None) (sym e))
+write_told keep_going number (Stopped why) fault e = ap is_write (ap (fault_in None) (sym e)) ∙ by why
+  where
+    by : (why : LinesFault) → is_write (Some why) ≡ is_write_fault (Stopped why)
+    by (Read line) = refl
+    by Write = refl
+    by Memory = refl
+    by TooMany = refl
+write_told keep_going number (Unread why) fault e = ap is_write (ap (fault_in None) (sym e)) ∙ by why
+  where
+    by : (why : LineRead) → is_write (fault_after number why) ≡ false
+    by reads.Line = refl
+    by reads.TooLong = refl
+    by reads.End = refl
+    by reads.Fault = refl
+    by reads.Endless = refl
+    by reads.NoMemory = refl
+
+-- each line is counted once
+pub counted_within : (judged : Judged) (written failed n : ℕ) → written ≤ n → failed ≤ n
+    → ((counted judged (record { written = written; failed = failed })).written ≤ n + 1) × ((counted judged (record { written = written; failed = failed })).failed ≤ n + 1)
+counted_within (Skipped kept) written failed n p q = (omega (arith, p), omega (arith, q))
+counted_within (Written kept) written failed n p q = (omega (arith, p), omega (arith, q))
+counted_within (Failed kept) written failed n p q = (omega (arith, p), omega (arith, q))
+counted_within (Stopped fault) written failed n p q = (omega (arith, p), omega (arith, q))
+counted_within (Unread why) written failed n p q = (omega (arith, p), omega (arith, q))

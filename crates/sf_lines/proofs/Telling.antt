@@ -2,7 +2,8 @@
 use Rattle.std.proofs.Common.{◌≡◌, ◌∙◌, ℕ, Bool, true, false, List, [], ◌∷◌, ◌++◌, Option, Result, Ok, Err, OnOk, OnErr, is_err, inl, inr, refl, sym, ap, append_assoc, append-nil, true≢false}
 use Rattle.std.specs.Io.KnownBytes.{Appends}
 use Rattle.sf_print.proofs.Appending.{Appends-none, Appends-then, Appends-same}
-use Rattle.sf_lines.specs.Telling.{Tells, faults_by}
+use Rattle.sf_lines.specs.declared.end.LineFault.{LineFault}
+use Rattle.sf_lines.specs.Telling.{Stays, Tells, faults_by}
 
 -- what holds where it answers Ok, and where it answers Err
 pub on_ok : {A E P : Type 0} (r : Result A E) → is_err r ≡ false → OnOk r P → P
@@ -48,3 +49,17 @@ faults_then false true false stays on n k l p q = absurd (true≢false (sym (on 
 faults_then false true true stays on n k l p q = q ∙ p
 faults_then true false c stays on n k l p q = absurd (true≢false (sym (stays refl)))
 faults_then true true c stays on n k l p q = q ∙ p
+
+-- ---- what stays of a teller
+
+module _ {E Kept : Type 0} {says : E → (ℕ → List ℕ → LineFault → List ℕ) → Type 0} {kept : E → Kept} {failed : E → Bool} {faults : E → ℕ} where
+  pub as_it_was : (teller : E) → Stays says kept failed faults teller teller
+  as_it_was teller = record { same = λ telling said. said; keeps = refl; silent = λ e. e; counts = no_faults (failed teller) (faults teller) }
+
+  pub stays_then : (a b c : E) → Stays says kept failed faults a b → Stays says kept failed faults b c → Stays says kept failed faults a c
+  stays_then a b c p q = record {
+    same = λ telling said. q.same telling (p.same telling said);
+    keeps = q.keeps ∙ p.keeps;
+    silent = λ e. q.silent (p.silent e);
+    counts = faults_then (failed a) (failed b) (failed c) p.silent q.silent (faults a) (faults b) (faults c) p.counts q.counts;
+  }

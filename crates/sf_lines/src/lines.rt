@@ -11,8 +11,7 @@ ghost use Rattle.sf_lines.specs.Telling.{faults_by};
 ghost use Rattle.sf_lines.specs.Turns.{LineWork, work_of};
 ghost use Rattle.sf_lines.specs.declared.end.LineFault.{LineFault};
 
-use crate::end::{Counts, LinesEnd, LinesFault, read_fault};
-use crate::judge::Judged;
+use crate::end::{Counts, LinesEnd, LinesFault, next_step};
 use crate::options::LinesOptions;
 use crate::turn::turn;
 use crate::writer::{RecordWriter, Teller};
@@ -106,26 +105,12 @@ pub fn run_lines<R: RecordWriter, E: Teller, S: Source, K: Sink, const N: usize>
     let mut line = Vec::new(alloc);
     for before in 0..MOST_LINES {
         let judged = turn(
-            alloc, from, &mut line, store, to, writer, formats, options, before,
+            alloc, from, &mut line, store, to, writer, teller, formats, options, before,
         );
-        match judged {
-            Judged::Skipped(kept) => store = kept,
-            Judged::Written(kept) => {
-                counts.written += 1;
-                store = kept;
-            }
-            Judged::Failed(kept, fault) => {
-                if teller.tell(before + 1, &line, fault).is_err() {
-                    return counts.ended(Some(LinesFault::Memory));
-                }
-                counts.failed += 1;
-                if !options.keep_going {
-                    return counts.ended(None);
-                }
-                store = kept;
-            }
-            Judged::Stopped(fault) => return counts.ended(Some(fault)),
-            Judged::Unread(read) => return counts.ended(read_fault(read, before + 1)),
+        counts = counts.with(&judged);
+        match next_step(judged, options.keep_going, before + 1) {
+            Ok(kept) => store = kept,
+            Err(fault) => return counts.ended(fault),
         }
     }
     counts.ended(Some(LinesFault::TooMany))

@@ -57,7 +57,7 @@ pub returns-then-is_err-clause-reads : goal.returns-then-is_err-clause-reads
 returns-then-is_err-clause-reads g c =
     let going = c.loop-block.invariant.going in
     failed going c.piece_of-piece.result.len (rw c.held-held.ensures.held at c.piece_of-piece.ensures.line) (sym c.is_at_end.ensures.is ∙ c.if-is_at_end.false) (rw c.held-held.ensures.held at (c.piece_of-piece.ensures.all c.if-piece.false)) c.consume-in-loop-block.new.self c.refill.new.self
-    c.consume-in-loop-block.ensures.held c.consume-in-loop-block.ensures.source c.refill.ensures.bytes ((if_err c.refill.result (sym c.is_err.ensures.value ∙ c.if-is_err.true) c.refill.ensures.failed).0)
+    c.consume-in-loop-block.ensures.held c.consume-in-loop-block.ensures.source c.refill.ensures.bytes (if_err c.refill.result (sym c.is_err.ensures.value ∙ c.if-is_err.true) c.refill.ensures.failed)
 
 pub returns-then-is_err-clause-failures : goal.returns-then-is_err-clause-failures
 returns-then-is_err-clause-failures g c =
