@@ -34,11 +34,14 @@ StopsAt w number line is after fault =
 
 -- What came of the line with this number. The sink held the bytes `is`, and then `after`; what was told before and afterwards,
 -- and whether the teller had failed then.
-abbrev pub Came : LineWork → ℕ → List ℕ → Option (List ℕ) → Option (List ℕ) → Bool → Bool → Option (List ℕ) → Option (List ℕ) → Judged → Type 0
-Came w number line is after silent silent' told told' (Stopped fault) = StopsAt w number line is after fault × (silent' ≡ silent) × (told' ≡ told)
+abbrev pub Came : LineWork → ℕ → List ℕ → Option (List ℕ) → Option (List ℕ) → Bool → Bool → Option (List ℕ) → Option (List ℕ) → Judged
+    → Type 0
+Came w number line is after silent silent' told told' (Stopped fault) = StopsAt w number line is after fault × (silent' ≡ silent)
+    × (told' ≡ told)
 Came w number line is after silent silent' told told' (Unread why) = ⊥
 Came w number line is after silent silent' told told' judged =
-    (turn : Turn) × IsOf judged turn × Comes w number line turn × Appends is after (text_of turn) × Tells silent silent' told told' (telling_of w number turn)
+    (turn : Turn) × IsOf judged turn × Comes w number line turn × Appends is after (text_of turn)
+    × Tells silent silent' told told' (telling_of w number turn)
 
 -- the line was told as one that is no match; or memory for that was refused, and nothing was said
 abbrev pub IsTold : Bool → Bool → Option (List ℕ) → Option (List ℕ) → List ℕ → Judged → Type 0
@@ -60,13 +63,17 @@ pub record IsUnread {S : Type 0} (to_come : S → Option (List ℕ)) (old new : 
 -- a line was passed over, or none was read, and memory for none was refused
 abbrev pub Passes : {S : Type 0} → (S → Option (List ℕ)) → Ahead S → Ahead S → Judged → Type 0
 Passes to_come old new (Skipped kept) = (line : List ℕ) × Took to_come old new line
-Passes to_come old new (Unread why) = (limit : ℕ) × (part : List ℕ) × Reads to_come old new limit part why × (why ≡ reads.Line → ⊥) × (why ≡ reads.TooLong → ⊥) × (why ≡ reads.NoMemory → ⊥)
+Passes to_come old new (Unread why) = (limit : ℕ) × (part : List ℕ) × Reads to_come old new limit part why × (why ≡ reads.Line → ⊥)
+    × (why ≡ reads.TooLong → ⊥) × (why ≡ reads.NoMemory → ⊥)
 Passes to_come old new _ = ⊥
 
 -- the line with this number was taken from the input, and this came of it; or no line was read
-abbrev pub Turns : {S : Type 0} → (S → Option (List ℕ)) → Ahead S → Ahead S → LineWork → ℕ → Option (List ℕ) → Option (List ℕ) → Bool → Bool → Option (List ℕ) → Option (List ℕ) → Judged → Type 0
-Turns to_come old new w number is after silent silent' told told' (Unread why) = IsUnread to_come old new w.options.skip number why × (after ≡ is) × (silent' ≡ silent) × (told' ≡ told)
-Turns to_come old new w number is after silent silent' told told' judged = (line : List ℕ) × Took to_come old new line × Came w number line is after silent silent' told told' judged
+abbrev pub Turns : {S : Type 0} → (S → Option (List ℕ)) → Ahead S → Ahead S → LineWork → ℕ → Option (List ℕ) → Option (List ℕ) → Bool
+    → Bool → Option (List ℕ) → Option (List ℕ) → Judged → Type 0
+Turns to_come old new w number is after silent silent' told told' (Unread why) = IsUnread to_come old new w.options.skip number why
+    × (after ≡ is) × (silent' ≡ silent) × (told' ≡ told)
+Turns to_come old new w number is after silent silent' told told' judged = (line : List ℕ) × Took to_come old new line
+    × Came w number line is after silent silent' told told' judged
 
 abbrev pub is_read_fault : Judged → Bool
 is_read_fault (Unread read) = is_failed read

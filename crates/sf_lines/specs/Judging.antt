@@ -40,7 +40,8 @@ BeginsWith ended line = (behind : List ℕ) × (ended ≡ line ++ behind)
 
 -- the run of the format on the line, whose report tells this, but for what it met, by which the line is a match
 abbrev pub Fits : LinesOptions → List Directive → List ℕ → RunReport → Type 0
-Fits o ds line report = (met : Option Ending) × RunWithin ds o.limit line End (with_met report met) × (fault_of o line (with_met report met) ≡ None)
+Fits o ds line report = (met : Option Ending) × RunWithin ds o.limit line End (with_met report met)
+    × (fault_of o line (with_met report met) ≡ None)
 
 -- The format is Done on these bytes, which begin with the line, before one of them is lacking, or one that the limit allows; a
 -- store of this capacity has room for its texts; and the line is a match by it.
@@ -51,7 +52,8 @@ pub record IsSeen (o : LinesOptions) (ds : List Directive) (line ended : List �
 
 -- the line is a match by the format, and a writer was to write its text; or it is none, for this; or memory was refused
 abbrev pub Tries : LinesOptions → List Directive → (RunReport → List ℕ) → List ℕ → Option (List ℕ) → Option (List ℕ) → Tried → Type 0
-Tries o ds text line old new (Matched kept wrote) = (r : RunReport) × RunWithin ds o.limit line End r × (fault_of o line r ≡ None) × WritesRecord (text r) old new wrote
+Tries o ds text line old new (Matched kept wrote) = (r : RunReport) × RunWithin ds o.limit line End r × (fault_of o line r ≡ None)
+    × WritesRecord (text r) old new wrote
 Tries o ds text line old new (Missed kept fault) = (r : RunReport) × RunWithin ds o.limit line End r × (fault_of o line r ≡ Some fault)
 Tries o ds text line old new Refused = Unit {0}
 
@@ -68,9 +70,12 @@ is_matched _ = false
 -- ---- a line and the formats in turn
 
 -- the same by the formats in turn: the first by which it is a match counts, or the last
-abbrev pub TriesEach : LinesOptions → List (List Directive) → (List Directive → RunReport → List ℕ) → List ℕ → Option (List ℕ) → Option (List ℕ) → Tried → Type 0
-TriesEach o formats text line old new (Matched kept wrote) = (ds : List Directive) × (r : RunReport) × Picks o formats line ds r × (fault_of o line r ≡ None) × WritesRecord (text ds r) old new wrote
-TriesEach o formats text line old new (Missed kept fault) = (ds : List Directive) × (r : RunReport) × Picks o formats line ds r × (fault_of o line r ≡ Some fault)
+abbrev pub TriesEach : LinesOptions → List (List Directive) → (List Directive → RunReport → List ℕ) → List ℕ → Option (List ℕ)
+    → Option (List ℕ) → Tried → Type 0
+TriesEach o formats text line old new (Matched kept wrote) = (ds : List Directive) × (r : RunReport) × Picks o formats line ds r
+    × (fault_of o line r ≡ None) × WritesRecord (text ds r) old new wrote
+TriesEach o formats text line old new (Missed kept fault) = (ds : List Directive) × (r : RunReport) × Picks o formats line ds r
+    × (fault_of o line r ≡ Some fault)
 TriesEach o formats text line old new Refused = Unit {0}
 
 -- what comes of a match, as the writer answered

@@ -1,5 +1,6 @@
 -- What comes of the lines of an input, and how the loop over them ends.
-use Rattle.std.specs.Prelude.{◌≡◌, ◌≤◌, ◌+◌, ◌-◌, ◌^◌, ◌++◌, ◌∷◌, ◌⊎◌, ℕ, nat_eq, Bool, true, false, if◌then◌else◌, List, [], length, take, drop, Option, Some, None, Ok, Err}
+use Rattle.std.specs.Prelude.{◌≡◌, ◌≤◌, ◌+◌, ◌-◌, ◌^◌, ◌++◌, ◌∷◌, ◌⊎◌, ℕ, nat_eq, Bool, true, false, if◌then◌else◌, List, [], length, take}
+use Rattle.std.specs.Prelude.{drop, Option, Some, None, Ok, Err}
 use Rattle.std.specs.List.{AllByRecursion, flat_map, count_by}
 use Rattle.std.specs.Io.KnownBytes.{Appends}
 use Rattle.sf_run.specs.outcome.Ending.{Ending}
@@ -127,7 +128,8 @@ IsRefusedAt w t consumed lines =
 
 -- the bytes of the most lines; or of these, and too many of the next one
 abbrev pub AreTooMany : List ℕ → ℕ → ℕ → Type 0
-AreTooMany t consumed lines = (lines ≡ most_lines) × AreLines t consumed lines ⊎ ((part : List ℕ) × AreLinesAndPart t consumed lines part × (endless ≤ length part))
+AreTooMany t consumed lines = (lines ≡ most_lines) × AreLines t consumed lines
+    ⊎ ((part : List ℕ) × AreLinesAndPart t consumed lines part × (endless ≤ length part))
 
 -- The loop was ended before, behind these turns, where so many bytes of t were consumed: the sink failed within the text of
 -- the next line, which was taken whole; memory was refused; or there are too many lines, or too many bytes of one.
@@ -173,6 +175,8 @@ pub record Loops {S : Type 0} (w : LineWork) (to_come : S → Option (List ℕ))
 
 -- the same, with what was told of these lines: all of it, or a part where the teller failed within it. `dumb`: whether it had
 -- failed before.
-abbrev pub TellsLines : {S : Type 0} → LineWork → (S → Option (List ℕ)) → List ℕ → Ahead S → ℕ → ℕ → Option (List ℕ) → Option (List ℕ) → Bool → Bool → Option (List ℕ) → Option (List ℕ) → LinesEnd → Type 0
+abbrev pub TellsLines : {S : Type 0} → LineWork → (S → Option (List ℕ)) → List ℕ → Ahead S → ℕ → ℕ → Option (List ℕ) → Option (List ℕ)
+    → Bool → Bool → Option (List ℕ) → Option (List ℕ) → LinesEnd → Type 0
 TellsLines w to_come t now failures failures' before after dumb silent told told' answer =
-    (all : Loops w to_come t now failures failures' before after silent told told' answer) × Tells dumb silent told told' (tellings w 0 all.done)
+    (all : Loops w to_come t now failures failures' before after silent told told' answer)
+    × Tells dumb silent told told' (tellings w 0 all.done)

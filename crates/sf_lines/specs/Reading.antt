@@ -37,7 +37,8 @@ abbrev pub Reads : {S : Type 0} → (S → Option (List ℕ)) → Ahead S → Ah
 Reads to_come old new limit line Line = Took to_come old new line × (length line ≤ limit)
 Reads to_come old new limit line TooLong = (long : List ℕ) × Took to_come old new long × (limit < length long) × (line ≡ take limit long)
 Reads to_come old new limit line End = TookPart to_come old new [] × (new.at_end ≡ true) × IsAtEnd (input_of to_come new)
-Reads to_come old new limit line Fault = (part : List ℕ) × TookPart to_come old new part × (old.at_end ≡ false) × (new.at_end ≡ false) × (new.held ≡ [])
+Reads to_come old new limit line Fault = (part : List ℕ) × TookPart to_come old new part × (old.at_end ≡ false) × (new.at_end ≡ false)
+    × (new.held ≡ [])
 Reads to_come old new limit line Endless = (part : List ℕ) × TookPart to_come old new part × (endless ≤ length part)
 Reads to_come old new limit line NoMemory = (part : List ℕ) × TookPart to_come old new part
 

@@ -19,7 +19,8 @@ faults_by failed failed' faults = if not failed && failed' then counted_on fault
 
 -- What stays of a teller after it was told of lines: what it says of them, what it keeps, and that it has failed. Its faults are
 -- those of what it said.
-pub record Stays {E Kept : Type 0} (says : E → (ℕ → List ℕ → LineFault → List ℕ) → Type 0) (kept : E → Kept) (failed : E → Bool) (faults : E → ℕ) (old new : E) : Type 0 where
+pub record Stays {E Kept : Type 0} (says : E → (ℕ → List ℕ → LineFault → List ℕ) → Type 0) (kept : E → Kept) (failed : E → Bool)
+    (faults : E → ℕ) (old new : E) : Type 0 where
   pub same : (telling : ℕ → List ℕ → LineFault → List ℕ) → says old telling → says new telling
   pub keeps : kept new ≡ kept old
   pub silent : failed old ≡ true → failed new ≡ true

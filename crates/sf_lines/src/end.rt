@@ -126,7 +126,13 @@ impl Counts {
 
     /// The end of the loop after these.
     pub(crate) fn ended(self, fault: Option<LinesFault>) -> LinesEnd
-        ensures { result ≡ record { status = status_by self.failed fault; written = self.written; failed = self.failed; fault = fault } }
+        ensures { result ≡ record {
+          status = status_by self.failed fault;
+          written = self.written;
+          failed =
+              self.failed;
+          fault = fault;
+        } }
     {
         LinesEnd {
             status: status(self.failed, fault),

@@ -7,7 +7,8 @@ ghost use Rattle.sf_run.specs.Memory.{capacity_of};
 ghost use Rattle.sf_run.specs.Stopping.{is_memory_status};
 ghost use Rattle.sf_run.specs.Views.{report_by};
 ghost use Rattle.sf_lines.specs.Coming.{Came, IsTold, is_read_fault};
-ghost use Rattle.sf_lines.specs.Judging.{BeginsWith, Fits, IsSeen, Tries, TriesEach, is_matched, is_unwritten, is_write_fault, judged_by};
+ghost use Rattle.sf_lines.specs.Judging.{BeginsWith, Fits, IsSeen, Tries, TriesEach, is_matched, is_unwritten};
+ghost use Rattle.sf_lines.specs.Judging.{is_write_fault, judged_by};
 ghost use Rattle.sf_lines.specs.Telling.{Stays};
 ghost use Rattle.sf_lines.specs.Turns.{fault_of, work_of};
 ghost use Rattle.sf_lines.specs.declared.end.LineFault.{LineFault};
@@ -86,7 +87,8 @@ fn ran_out<T: Store>(report: &Report<'_, T>) -> bool
     matches!(report.outcome().status, Status::NoMemory)
 }
 
-/// Scans the line at once where it stands, in front of these bytes. It answers wherever the format is Done on them before one
+/// Scans the line at once where it stands, in front of these bytes. It answers wherever the format is Done on them
+/// before one
 /// is lacking, the store has room for the texts, and the line is a match; else None, and the store may keep something.
 #[inline(always)]
 fn seen_match(
@@ -128,7 +130,8 @@ fn try_format<R: RecordWriter, K: Sink>(
     requires front { BeginsWith ended.now line.now }
     requires proper { AreProper format.now }
     ensures same { R.text writer.new ≡ R.text writer.old }
-    ensures tried { Tries options format.now (R.text writer.old format.now) line.now (K.contents to.old) (K.contents to.new) result }
+    ensures tried { Tries options format.now (R.text writer.old format.now) line.now (K.contents to.old)
+        (K.contents to.new) result }
     ensures failures { K.failures to.new
         ≡ (if is_unwritten result then counted_on (K.failures to.old) else K.failures to.old) }
     ensures untouched { is_matched result ≡ false → to.new ≡ to.old }
@@ -166,7 +169,8 @@ fn try_each<R: RecordWriter, K: Sink>(
     requires front { BeginsWith ended.now line.now }
     requires proper { AllByRecursion AreProper formats.now }
     ensures same { R.text writer.new ≡ R.text writer.old }
-    ensures tried { TriesEach options formats.now (R.text writer.old) line.now (K.contents to.old) (K.contents to.new) result }
+    ensures tried { TriesEach options formats.now (R.text writer.old) line.now (K.contents to.old) (K.contents to.new)
+        result }
     ensures failures { K.failures to.new
         ≡ (if is_unwritten result then counted_on (K.failures to.old) else K.failures to.old) }
     ensures untouched { is_matched result ≡ false → to.new ≡ to.old }
@@ -195,7 +199,8 @@ pub(crate) fn tell<E: Teller>(
     fault: LineFault,
 ) -> Judged
     ensures told { (telling : ℕ → List ℕ → LineFault → List ℕ) → E.says teller.old telling
-        → IsTold (E.failed teller.old) (E.failed teller.new) (E.told teller.old) (E.told teller.new) (telling number read.now fault) result }
+        → IsTold (E.failed teller.old) (E.failed teller.new) (E.told teller.old) (E.told teller.new)
+        (telling number read.now fault) result }
     ensures stays { Stays E.says E.kept E.failed E.faults teller.old teller.new }
     ensures read { is_read_fault result ≡ false }
     ensures sound { is_write_fault result ≡ false }
@@ -206,7 +211,8 @@ pub(crate) fn tell<E: Teller>(
     }
 }
 
-/// Scans the line with this number, which stands in front of these bytes; writes what is made of it if it is a match, and else
+/// Scans the line with this number, which stands in front of these bytes; writes what is made of it if it is a match,
+/// and else
 /// tells of it.
 #[inline(always)]
 pub(crate) fn judge<R: RecordWriter, E: Teller, K: Sink>(
@@ -227,7 +233,8 @@ pub(crate) fn judge<R: RecordWriter, E: Teller, K: Sink>(
     requires counts { options.skip < number }
     ensures same { R.text writer.new ≡ R.text writer.old }
     ensures came { (telling : ℕ → List ℕ → LineFault → List ℕ) → E.says teller.old telling
-        → Came (work_of options formats.now (R.text writer.old) telling) number line.now (K.contents to.old) (K.contents to.new)
+        → Came (work_of options formats.now (R.text writer.old) telling) number line.now (K.contents to.old)
+        (K.contents to.new)
         (E.failed teller.old) (E.failed teller.new) (E.told teller.old) (E.told teller.new) result }
     ensures stays { Stays E.says E.kept E.failed E.faults teller.old teller.new }
     ensures failures { K.failures to.new

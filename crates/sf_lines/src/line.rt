@@ -1,5 +1,6 @@
 //! Lines of a source.
-ghost use Rattle.std.specs.Prelude.{◌≡◌, ◌≤◌, ◌<◌, ◌+◌, ◌++◌, ◌∷◌, ◌⊎◌, true, false, length, take, drop, vec_len, IfOk, IsOk, if◌then◌else◌};
+ghost use Rattle.std.specs.Prelude.{◌≡◌, ◌≤◌, ◌<◌, ◌+◌, ◌++◌, ◌∷◌, ◌⊎◌, true, false, length, take, drop, vec_len, IfOk};
+ghost use Rattle.std.specs.Prelude.{IsOk, if◌then◌else◌};
 ghost use Rattle.sf_read.specs.Counts.{counted_on};
 ghost use Rattle.sf_lines.specs.Cut.{IsLine};
 ghost use Rattle.sf_lines.specs.Reading.{Reads, is_failed};
@@ -34,7 +35,8 @@ pub(crate) struct Piece {
     pub(crate) ended: bool,
 }
 
-/// Appends the first bytes of what is held to a line that was gathered so far, up to the limit, and says whether the line is
+/// Appends the first bytes of what is held to a line that was gathered so far, up to the limit, and says whether the
+/// line is
 /// longer.
 fn gather(
     line: &mut Vec<u8>,
@@ -89,8 +91,10 @@ pub(crate) fn piece_of(held: &[u8]) -> Piece
     }
 }
 
-/// Reads the next line of what the lookahead holds and its source gives, without its line end, in place of what was read
-/// last. Of a line of more than `limit` bytes these first ones are read, and the others passed over; by the limit 0 each line is
+/// Reads the next line of what the lookahead holds and its source gives, without its line end, in place of what was
+/// read
+/// last. Of a line of more than `limit` bytes these first ones are read, and the others passed over; by the limit 0
+/// each line is
 /// passed over, and no memory is taken.
 pub fn next_line<S: Source, const N: usize>(
     from: &mut Lookahead<S, N>,

@@ -62,15 +62,22 @@ fn store_for(alloc: Global, formats: &[ScanFormat]) -> Result<HeapStore, AllocEr
     HeapStore::new(alloc, room_for(formats))
 }
 
-/// Scans each line of what the lookahead holds and its source gives as an input of its own, as C programs do with fgets and
-/// sscanf (C11 7.21.7.2, 7.21.6.7): up to byte 10, which is no part of it, or to the end of the input. The first of the
-/// formats that the line matches counts: that is Done on it, and, with `whole`, uses all of it. The writer writes what is
-/// made of that; the teller is told of a line that matches none, by what the last format comes to, or that has more than
-/// `limit` bytes, of which it is handed the first, and the loop stops there, unless it is to keep going; and where the teller
-/// is refused memory, it ends with that fault, and the line isn't counted. What is behind the lines that were read stays held or
+/// Scans each line of what the lookahead holds and its source gives as an input of its own, as C programs do with
+/// fgets and
+/// sscanf (C11 7.21.7.2, 7.21.6.7): up to byte 10, which is no part of it, or to the end of the input. The first of
+/// the
+/// formats that the line matches counts: that is Done on it, and, with `whole`, uses all of it. The writer writes what
+/// is
+/// made of that; the teller is told of a line that matches none, by what the last format comes to, or that has more
+/// than
+/// `limit` bytes, of which it is handed the first, and the loop stops there, unless it is to keep going; and where the
+/// teller
+/// is refused memory, it ends with that fault, and the line isn't counted. What is behind the lines that were read
+/// stays held or
 /// unread.
 ///
-/// The status is 0 where each line is a match, 1 where one isn't, 3 where a read or the sink failed, and 4 where memory was
+/// The status is 0 where each line is a match, 1 where one isn't, 3 where a read or the sink failed, and 4 where
+/// memory was
 /// refused.
 pub fn run_lines<R: RecordWriter, E: Teller, S: Source, K: Sink, const N: usize>(
     alloc: Global,
@@ -83,10 +90,16 @@ pub fn run_lines<R: RecordWriter, E: Teller, S: Source, K: Sink, const N: usize>
 ) -> LinesEnd
     requires limit { options.limit ≤ 2147483647 }
     requires some { 0 < length formats.now }
-    ensures loops { (telling : ℕ → List ℕ → LineFault → List ℕ) (t : List ℕ) → E.says teller.old telling → input_of S.to_come from.old ≡ Some t
-        → Loops (work_of options formats.now (R.text writer.old) telling) S.to_come t from.new (S.failures from.old.source) (S.failures from.new.source) (K.contents to.old) (K.contents to.new) (E.failed teller.new) (E.told teller.old) (E.told teller.new) result }
-    ensures tells { (telling : ℕ → List ℕ → LineFault → List ℕ) (t : List ℕ) → E.says teller.old telling → input_of S.to_come from.old ≡ Some t
-        → TellsLines (work_of options formats.now (R.text writer.old) telling) S.to_come t from.new (S.failures from.old.source) (S.failures from.new.source) (K.contents to.old) (K.contents to.new) (E.failed teller.old) (E.failed teller.new) (E.told teller.old) (E.told teller.new) result }
+    ensures loops { (telling : ℕ → List ℕ → LineFault → List ℕ) (t : List ℕ) → E.says teller.old telling
+        → input_of S.to_come from.old ≡ Some t
+        → Loops (work_of options formats.now (R.text writer.old) telling) S.to_come t from.new
+        (S.failures from.old.source) (S.failures from.new.source) (K.contents to.old) (K.contents to.new)
+        (E.failed teller.new) (E.told teller.old) (E.told teller.new) result }
+    ensures tells { (telling : ℕ → List ℕ → LineFault → List ℕ) (t : List ℕ) → E.says teller.old telling
+        → input_of S.to_come from.old ≡ Some t
+        → TellsLines (work_of options formats.now (R.text writer.old) telling) S.to_come t from.new
+        (S.failures from.old.source) (S.failures from.new.source) (K.contents to.old) (K.contents to.new)
+        (E.failed teller.old) (E.failed teller.new) (E.told teller.old) (E.told teller.new) result }
     ensures kept { E.kept teller.new ≡ E.kept teller.old }
     ensures faults { E.faults teller.new ≡ faults_by (E.failed teller.old) (E.failed teller.new) (E.faults teller.old) }
     ensures status { result.status ≡ status_by result.failed result.fault }

@@ -1,5 +1,6 @@
 //! What comes of the next line of an input.
-ghost use Rattle.std.specs.Prelude.{◌≡◌, ◌≤◌, ◌<◌, ◌+◌, ◌-◌, ◌^◌, ◌++◌, ◌∷◌, false, ℕ, List, Some, IfSome, true, length, take, if◌then◌else◌};
+ghost use Rattle.std.specs.Prelude.{◌≡◌, ◌≤◌, ◌<◌, ◌+◌, ◌-◌, ◌^◌, ◌++◌, ◌∷◌, false, ℕ, List, Some, IfSome, true};
+ghost use Rattle.std.specs.Prelude.{length, take, if◌then◌else◌};
 ghost use Rattle.std.specs.List.{AllByRecursion};
 ghost use Rattle.sf_format.specs.Proper.{AreProper};
 ghost use Rattle.sf_print.specs.Sinks.{counted_on};
@@ -64,7 +65,8 @@ fn take_held<R: RecordWriter, E: Teller, S: Source, K: Sink, const N: usize>(
     ensures same { R.text writer.new ≡ R.text writer.old }
     ensures turns { (telling : ℕ → List ℕ → LineFault → List ℕ) → E.says teller.old telling
         → Turns S.to_come from.old from.new (work_of options formats.now (R.text writer.old) telling) number
-        (K.contents to.old) (K.contents to.new) (E.failed teller.old) (E.failed teller.new) (E.told teller.old) (E.told teller.new) result }
+        (K.contents to.old) (K.contents to.new) (E.failed teller.old) (E.failed teller.new) (E.told teller.old)
+        (E.told teller.new) result }
     ensures stays { Stays E.says E.kept E.failed E.faults teller.old teller.new }
     ensures source { S.failures from.new.source
         ≡ (if is_read_fault result then counted_on (S.failures from.old.source) else S.failures from.old.source) }
@@ -101,7 +103,8 @@ fn read_line<R: RecordWriter, E: Teller, S: Source, K: Sink, const N: usize>(
     ensures same { R.text writer.new ≡ R.text writer.old }
     ensures turns { (telling : ℕ → List ℕ → LineFault → List ℕ) → E.says teller.old telling
         → Turns S.to_come from.old from.new (work_of options formats.now (R.text writer.old) telling) number
-        (K.contents to.old) (K.contents to.new) (E.failed teller.old) (E.failed teller.new) (E.told teller.old) (E.told teller.new) result }
+        (K.contents to.old) (K.contents to.new) (E.failed teller.old) (E.failed teller.new) (E.told teller.old)
+        (E.told teller.new) result }
     ensures stays { Stays E.says E.kept E.failed E.faults teller.old teller.new }
     ensures source { S.failures from.new.source
         ≡ (if is_read_fault result then counted_on (S.failures from.old.source) else S.failures from.old.source) }
@@ -140,7 +143,8 @@ fn pass_line<S: Source, const N: usize>(
     }
 }
 
-/// Takes the line behind the first `before`. One that is to be skipped is passed over, and takes no memory. Any other is judged,
+/// Takes the line behind the first `before`. One that is to be skipped is passed over, and takes no memory. Any other
+/// is judged,
 /// where it stands if it is held whole: then it is not copied.
 pub(crate) fn turn<R: RecordWriter, E: Teller, S: Source, K: Sink, const N: usize>(
     alloc: Global,
@@ -159,7 +163,8 @@ pub(crate) fn turn<R: RecordWriter, E: Teller, S: Source, K: Sink, const N: usiz
     ensures same { R.text writer.new ≡ R.text writer.old }
     ensures turns { (telling : ℕ → List ℕ → LineFault → List ℕ) → E.says teller.old telling
         → Turns S.to_come from.old from.new (work_of options formats.now (R.text writer.old) telling) (before + 1)
-        (K.contents to.old) (K.contents to.new) (E.failed teller.old) (E.failed teller.new) (E.told teller.old) (E.told teller.new) result }
+        (K.contents to.old) (K.contents to.new) (E.failed teller.old) (E.failed teller.new) (E.told teller.old)
+        (E.told teller.new) result }
     ensures stays { Stays E.says E.kept E.failed E.faults teller.old teller.new }
     ensures source { S.failures from.new.source
         ≡ (if is_read_fault result then counted_on (S.failures from.old.source) else S.failures from.old.source) }
@@ -167,7 +172,8 @@ pub(crate) fn turn<R: RecordWriter, E: Teller, S: Source, K: Sink, const N: usiz
         ≡ (if is_write_fault result then counted_on (K.failures to.old) else K.failures to.old) }
     ensures no_read { from.old.at_end ≡ true → from.new.source ≡ from.old.source }
     ensures ended { from.old.at_end ≡ true → from.new.at_end ≡ true }
-    ensures uncopied { (whole rest : List ℕ) → IsLine whole → from.old.held ≡ whole ++ 10 ∷ rest → length whole ≤ options.limit
+    ensures uncopied { (whole rest : List ℕ) → IsLine whole → from.old.held ≡ whole ++ 10 ∷ rest
+        → length whole ≤ options.limit
         → options.skip ≤ before → line.new ≡ line.old }
 {
     if before < options.skip {

@@ -7,12 +7,15 @@ use Rattle.sf_lines.proofs.judge.seen_match.Goals as goal
 
 pub returns-then-used-line-clause-answers : goal.returns-then-used-line-clause-answers
 returns-then-used-line-clause-answers c seen =
-    let alone = used_alone c.args.options c.args.format.now c.requires.proper c.args.line.now c.args.ended.now (report_by c.in_ok-outcome.outcome c.quick_run.new.store.values) c.in_ok-outcome.ensures.run told.one_report _ seen in
+    let alone = used_alone c.args.options c.args.format.now c.requires.proper c.args.line.now c.args.ended.now
+    (report_by c.in_ok-outcome.outcome c.quick_run.new.store.values) c.in_ok-outcome.ensures.run told.one_report _ seen in
     absurd (omega (arith, alone, c.if-used-line.true))
 
 pub returns-then-used-line-2-clause-answers : goal.returns-then-used-line-2-clause-answers
 returns-then-used-line-2-clause-answers c seen =
-    let all = nothing_left c.args.options c.args.format.now c.requires.proper c.args.line.now c.args.ended.now (report_by c.in_ok-outcome.outcome c.quick_run.new.store.values) c.in_ok-outcome.ensures.run told.one_report _ seen c.if-options.true in
+    let all = nothing_left c.args.options c.args.format.now c.requires.proper c.args.line.now c.args.ended.now
+    (report_by c.in_ok-outcome.outcome c.quick_run.new.store.values) c.in_ok-outcome.ensures.run told.one_report _ seen
+    c.if-options.true in
     absurd (omega (arith, all, c.if-used-line-2.true))
 
 pub returns-clause-fits : goal.returns-clause-fits
@@ -21,5 +24,6 @@ returns-clause-fits c =
       | else-options-via-then-options+else-used-line-2 w ↦ λ e. omega (arith, w.if-used-line-2.false)
       | else-options-via-else-options w ↦ λ e. absurd (true≢false (sym e ∙ w.if-options.false))
     ] in
-    fits c.args.options c.args.format.now c.requires.proper c.args.line.now c.args.ended.now (report_by c.in_ok-outcome.outcome c.quick_run.new.store.values) c.in_ok-outcome.ensures.run
+    fits c.args.options c.args.format.now c.requires.proper c.args.line.now c.args.ended.now
+    (report_by c.in_ok-outcome.outcome c.quick_run.new.store.values) c.in_ok-outcome.ensures.run
     c.done_runs_stay.ensures c.requires.front c.in_ok-outcome.ensures.done (omega (arith, c.if-used-line.false)) whole

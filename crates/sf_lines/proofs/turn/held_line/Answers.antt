@@ -8,8 +8,14 @@ pub returns-then-piece-limit-clause-answers : goal.returns-then-piece-limit-clau
 returns-then-piece-limit-clause-answers g c line rest is_line whole short =
     let held : List ℕ = c.args.from.now.held in
     let len : ℕ = c.piece_of-piece.result.len in
-    let front : line ≡ take len held = one_front line rest _ _ is_line (rw c.held.ensures.held at c.piece_of-piece.ensures.line) (sym whole ∙ rw c.held.ensures.held at (c.piece_of-piece.ensures.ended c.if-piece.true)) in
-    let size : len ≡ length line = omega (arith, ap length front, length-take-le len held (rw c.held.ensures.held at c.piece_of-piece.ensures.within)) in
+    let front : line ≡ take len held = one_front line rest _ _ is_line (rw c.held.ensures.held at c.piece_of-piece.ensures.line)
+    (sym whole ∙ rw c.held.ensures.held at (c.piece_of-piece.ensures.ended c.if-piece.true)) in
+    let size : len ≡ length line = omega (
+      arith,
+      ap length front,
+      length-take-le len held
+          (rw c.held.ensures.held at c.piece_of-piece.ensures.within),
+    ) in
     ap (λ (n : ℕ). Some n) size
 
 pub returns-else-piece-clause-answers : goal.returns-else-piece-clause-answers
@@ -18,10 +24,18 @@ returns-else-piece-clause-answers g c line rest is_line whole short =
     let len : ℕ = c.piece_of-piece.result.len in
     elim c.else-piece.branch [
       | else-piece-via-else-piece w ↦
-          absurd (no_line_end held line rest len whole (rw c.held.ensures.held at c.piece_of-piece.ensures.line) (rw c.held.ensures.held at (c.piece_of-piece.ensures.all w.if-piece.false)))
+          absurd (no_line_end held line rest len whole (rw c.held.ensures.held at c.piece_of-piece.ensures.line)
+          (rw c.held.ensures.held at (c.piece_of-piece.ensures.all w.if-piece.false)))
       | else-piece-via-then-piece+else-piece-limit w ↦
-          let front : line ≡ take len held = one_front line rest _ _ is_line (rw c.held.ensures.held at c.piece_of-piece.ensures.line) (sym whole ∙ rw c.held.ensures.held at (c.piece_of-piece.ensures.ended w.if-piece.true)) in
-          absurd (omega (arith, ap length front, length-take-le len held (rw c.held.ensures.held at c.piece_of-piece.ensures.within), short, w.if-piece-limit.false))
+          let front : line ≡ take len held = one_front line rest _ _ is_line (rw c.held.ensures.held at c.piece_of-piece.ensures.line)
+          (sym whole ∙ rw c.held.ensures.held at (c.piece_of-piece.ensures.ended w.if-piece.true)) in
+          absurd (omega (
+            arith,
+            ap length front,
+            length-take-le len held (rw c.held.ensures.held at c.piece_of-piece.ensures.within),
+            short,
+            w.if-piece-limit.false,
+          ))
     ]
 
 pub returns-then-is_at_end-clause-answers : goal.returns-then-is_at_end-clause-answers

@@ -10,27 +10,34 @@ pub returns-in-Line-clause-turns : goal.returns-in-Line-clause-turns
 returns-in-Line-clause-turns g c telling said =
     let w = work_of c.args.options c.args.formats.now (g.R.RecordWriter.text c.args.writer.now) telling in
     let (took, short) = rw c.in-Line.is at c.next_line-read.ensures.reads in
-    turned g.S.Source.to_come c.args.from.now c.next_line-read.new.from w c.args.number _ _ _ _ _ _ c.next_line-read.new.line.items took c.judge.result
-    (subst (λ (y : List ℕ). Came w c.args.number y (g.K.Sink.contents c.args.to.now) (g.K.Sink.contents c.judge.new.to) (g.E.Teller.failed c.args.teller.now) (g.E.Teller.failed c.judge.new.teller) (g.E.Teller.told c.args.teller.now) (g.E.Teller.told c.judge.new.teller) c.judge.result)
+    turned g.S.Source.to_come c.args.from.now c.next_line-read.new.from w c.args.number _ _ _ _ _ _ c.next_line-read.new.line.items took
+    c.judge.result
+    (subst (λ (y : List ℕ). Came w c.args.number y (g.K.Sink.contents c.args.to.now) (g.K.Sink.contents c.judge.new.to)
+    (g.E.Teller.failed c.args.teller.now) (g.E.Teller.failed c.judge.new.teller) (g.E.Teller.told c.args.teller.now)
+    (g.E.Teller.told c.judge.new.teller) c.judge.result)
     c.deref.ensures.value (c.judge.ensures.came telling said))
 
 pub returns-in-Line-clause-source : goal.returns-in-Line-clause-source
 returns-in-Line-clause-source g c =
     c.next_line-read.ensures.failures
-    ∙ ap (λ b. cond b (counted_on (g.S.Source.failures c.args.from.now.source)) (g.S.Source.failures c.args.from.now.source)) (ap is_failed c.in-Line.is ∙ sym c.judge.ensures.read)
+    ∙ ap (λ b. cond b (counted_on (g.S.Source.failures c.args.from.now.source)) (g.S.Source.failures c.args.from.now.source))
+    (ap is_failed c.in-Line.is ∙ sym c.judge.ensures.read)
 
 pub returns-in-TooLong-clause-turns : goal.returns-in-TooLong-clause-turns
 returns-in-TooLong-clause-turns g c telling said =
     let w = work_of c.args.options c.args.formats.now (g.R.RecordWriter.text c.args.writer.now) telling in
     let (line, took, long, front) = rw c.in-TooLong.is at c.next_line-read.ensures.reads in
     turned g.S.Source.to_come c.args.from.now c.next_line-read.new.from w c.args.number _ _ _ _ _ _ line took c.tell.result
-    (came_long w c.args.number line c.deref-in-TooLong.result.now (g.K.Sink.contents c.args.to.now) (g.E.Teller.failed c.args.teller.now) (g.E.Teller.failed c.tell.new.teller) (g.E.Teller.told c.args.teller.now) (g.E.Teller.told c.tell.new.teller)
+    (came_long w c.args.number line c.deref-in-TooLong.result.now (g.K.Sink.contents c.args.to.now) (g.E.Teller.failed c.args.teller.now)
+    (g.E.Teller.failed c.tell.new.teller) (g.E.Teller.told c.args.teller.now) (g.E.Teller.told c.tell.new.teller)
     c.requires.counts long (c.deref-in-TooLong.ensures.value ∙ front) c.tell.result (c.tell.ensures.told telling said))
 
 pub returns-in-TooLong-clause-source : goal.returns-in-TooLong-clause-source
 returns-in-TooLong-clause-source g c =
     c.next_line-read.ensures.failures
-    ∙ ap (λ b. cond b (counted_on (g.S.Source.failures c.args.from.now.source)) (g.S.Source.failures c.args.from.now.source)) (ap is_failed c.in-TooLong.is ∙ sym c.tell.ensures.read)
+    ∙ ap (λ b. cond b (counted_on (g.S.Source.failures c.args.from.now.source)) (g.S.Source.failures c.args.from.now.source))
+    (ap is_failed c.in-TooLong.is ∙ sym c.tell.ensures.read)
 
 pub returns-in-TooLong-clause-sink : goal.returns-in-TooLong-clause-sink
-returns-in-TooLong-clause-sink g c = ap (λ b. cond b (counted_on (g.K.Sink.failures c.args.to.now)) (g.K.Sink.failures c.args.to.now)) (sym c.tell.ensures.sound)
+returns-in-TooLong-clause-sink g c = ap (λ b. cond b (counted_on (g.K.Sink.failures c.args.to.now)) (g.K.Sink.failures c.args.to.now))
+    (sym c.tell.ensures.sound)
