@@ -1,64 +1,30 @@
--- A line that was read, and what came of it.
-use Rattle.std.proofs.Common.{◌≡◌, ℕ, ◌<◌, ◌≤◌, Bool, true, false, not, cond, List, [], length, Option, Result, Ok, Err, ◌⊎◌, inl, inr, refl, sym, ap, subst, ◌∙◌, true≢false}
-use Rattle.std.specs.Io.KnownBytes.{Appends}
+-- What came of a line that was taken.
+use Rattle.std.proofs.Common.{◌≡◌, ℕ, ◌+◌, ◌<◌, ◌≤◌, Bool, true, false, cond, List, [], length, take, Option, Some, None, Result, Ok, Err}
+use Rattle.std.proofs.Common.{◌⊎◌, inl, inr, refl, sym, ap, subst, ◌∙◌, arith}
+use Rattle.std.specs.Io.KnownBytes.{Appends, Keeps}
 use Rattle.sf_base.specs.Kept.{Kept}
-use Rattle.sf_format.specs.declared.directive.Directive.{Directive}
-use Rattle.sf_run.specs.Runs.{RunReport}
-use Rattle.sf_print.proofs.Appending.{Appends-none}
+use Rattle.sf_print.proofs.Appending.{Appends-keeps, Appends-none}
 use Rattle.sf_read.specs.Ahead.{Ahead}
 use Rattle.sf_read.specs.Counts.{counted_on}
+use Rattle.sf_lines.specs.declared.end.LineFault.{LineFault}
 use Rattle.sf_lines.specs.declared.end.LineFault.TheVariants.{TooLong}
 use Rattle.sf_lines.specs.declared.end.LinesFault.TheVariants as faults
 use Rattle.sf_lines.specs.declared.judge.Judged.{Judged}
 use Rattle.sf_lines.specs.declared.judge.Judged.TheVariants.{Skipped, Written, Failed, Stopped, Unread}
+use Rattle.sf_lines.specs.declared.judge.Tried.TheVariants.{Matched, Missed}
 use Rattle.sf_lines.specs.declared.line.LineRead.{LineRead}
-use Rattle.sf_lines.specs.declared.options.LinesOptions.{LinesOptions}
+use Rattle.sf_lines.specs.declared.line.LineRead.TheVariants as reads
 use Rattle.sf_lines.specs.declared.writer.RecordFault.{RecordFault}
 use Rattle.sf_lines.specs.declared.writer.RecordFault.TheVariants as unwritten
-use Rattle.sf_lines.specs.declared.line.LineRead.TheVariants as reads
-use Rattle.sf_lines.specs.Reading.{Took, Reads, is_failed}
-use Rattle.sf_lines.specs.Turns.{LineWork, judged}
-use Rattle.sf_lines.specs.Judging.{Came, Judges, Turns, WritesMatch, is_read_fault, is_sink_fault, is_write_fault, judged_by}
+use Rattle.sf_lines.specs.Coming.{Came, IsTold, Passes, Turns, is_read_fault}
+use Rattle.sf_lines.specs.Judging.{TriesEach, is_sink_fault, is_write_fault, judged_by}
+use Rattle.sf_lines.specs.Loops.{telling_of}
+use Rattle.sf_lines.specs.Reading.{Reads, Took, is_failed}
+use Rattle.sf_lines.specs.Telling.{Tells}
+use Rattle.sf_lines.specs.Turns.{Comes, LineWork, judged}
+use Rattle.sf_lines.proofs.Telling.{tells_nothing}
 
--- no read failed
-pub quiet : (r : LineRead) → (r ≡ reads.Line) ⊎ (r ≡ reads.TooLong) → (before after : ℕ) → after ≡ cond (is_failed r) (counted_on before) before → after ≡ before
-quiet r (inl e) before after is = is ∙ rw e refl
-quiet r (inr e) before after is = is ∙ rw e refl
-
--- what comes of a line that was taken
-pub turned : {S : Type 0} (to_come : S → Option (List ℕ)) (now new : Ahead S) (w : LineWork) (number : ℕ) (is after : Option (List ℕ)) (line read : List ℕ) → Took to_come now new line
-    → (verdict : Judged) → Came w number line read is after verdict → Turns to_come now new w number read is after verdict
-turned to_come now new w number is after line read took (Skipped kept) h = (line, took, h)
-turned to_come now new w number is after line read took (Written kept) h = (line, took, h)
-turned to_come now new w number is after line read took (Failed kept fault) h = (line, took, h)
-turned to_come now new w number is after line read took (Stopped fault) h = (line, took, h)
-turned to_come now new w number is after line read took (Unread why) h = absurd h
-
--- a line that was read, or passed over
-pub line_read : {S : Type 0} (to_come : S → Option (List ℕ)) (now new : Ahead S) (limit : ℕ) (items : List ℕ) (r : LineRead) → (r ≡ reads.Line) ⊎ (r ≡ reads.TooLong) → Reads to_come now new limit items r
-    → (line : List ℕ) × Took to_come now new line
-line_read to_come now new limit items r (inl e) h = let k : Reads to_come now new limit items reads.Line = subst (Reads to_come now new limit items) e h in (items, k.0)
-line_read to_come now new limit items r (inr e) h = let k : Reads to_come now new limit items reads.TooLong = subst (Reads to_come now new limit items) e h in (k.0, k.1)
-
--- a line that is judged
-module _ (w : LineWork) (number : ℕ) (line : List ℕ) (is after : Option (List ℕ)) (counts : w.options.skip < number) (short : length line ≤ w.options.limit) where
-  pub came : (verdict : Judged) → Judges w.options w.formats w.text line is after verdict → Came w number line line is after verdict
-  came (Written kept) (ds, r, picks, none, wrote) = (w.text ds r, (counts, inr (short, (ds, r, picks, sym (ap (judged (w.text ds r) line) none)))), wrote)
-  came (Failed kept fault) ((ds, r, picks, some), same) =
-      ((counts, inr (short, (ds, r, picks, sym (ap (judged (w.text ds r) line) some)))), subst (λ (a : Option (List ℕ)). Appends is a []) (sym same) (Appends-none is))
-  came (Stopped faults.Write) (ds, r, picks, none, part) = inr (refl, (w.text ds r, (counts, inr (short, (ds, r, picks, sym (ap (judged (w.text ds r) line) none)))), part))
-  came (Stopped faults.Memory) nothing = inl (refl, nothing)
-  came (Stopped faults.TooMany) h = absurd h
-  came (Stopped (faults.Read at)) h = absurd h
-  came (Skipped kept) h = absurd h
-  came (Unread read) h = absurd h
-
--- what comes of a match
-pub judges_match : (o : LinesOptions) (formats : List (List Directive)) (text : List Directive → RunReport → List ℕ) (line : List ℕ) (old new : Option (List ℕ)) (kept : Kept) (wrote : Result (Unit {0}) RecordFault)
-    → WritesMatch o formats text line old new wrote → Judges o formats text line old new (judged_by kept wrote)
-judges_match o formats text line old new kept (Ok done) h = h
-judges_match o formats text line old new kept (Err unwritten.Write) h = h
-judges_match o formats text line old new kept (Err unwritten.Memory) (ds, r, picks, none, nothing) = nothing
+-- ---- a match
 
 pub sink_fault : (kept : Kept) (wrote : Result (Unit {0}) RecordFault) → is_write_fault (judged_by kept wrote) ≡ is_sink_fault wrote
 sink_fault kept (Ok done) = refl
@@ -70,43 +36,95 @@ no_read_fault kept (Ok done) = refl
 no_read_fault kept (Err unwritten.Write) = refl
 no_read_fault kept (Err unwritten.Memory) = refl
 
--- whatever was read of it, since nothing is told of a match
-came_match : (w : LineWork) (number : ℕ) (line read : List ℕ) (is after : Option (List ℕ)) → w.options.skip < number → length line ≤ w.options.limit
-    → (kept : Kept) (wrote : Result (Unit {0}) RecordFault) → WritesMatch w.options w.formats w.text line is after wrote → Came w number line read is after (judged_by kept wrote)
-came_match w number line read is after counts short kept (Ok done) h = came w number line is after counts short (Written kept) h
-came_match w number line read is after counts short kept (Err unwritten.Write) h = came w number line is after counts short (Stopped faults.Write) h
-came_match w number line read is after counts short kept (Err unwritten.Memory) (ds, r, picks, none, nothing) = came w number line is after counts short (Stopped faults.Memory) nothing
+-- ---- a line that is judged
 
--- what comes of a line that was taken at once
-pub turned_match : {S : Type 0} (to_come : S → Option (List ℕ)) (now new : Ahead S) (w : LineWork) (number : ℕ) (is after : Option (List ℕ)) (line read : List ℕ) → Took to_come now new line → w.options.skip < number → length line ≤ w.options.limit
-    → (kept : Kept) (wrote : Result (Unit {0}) RecordFault) → WritesMatch w.options w.formats w.text line is after wrote → Turns to_come now new w number read is after (judged_by kept wrote)
-turned_match to_come now new w number is after line read took counts short kept wrote h =
-    turned to_come now new w number is after line read took (judged_by kept wrote) (came_match w number line read is after counts short kept wrote h)
+module _ (w : LineWork) (number : ℕ) (line : List ℕ) (is after : Option (List ℕ)) (silent : Bool) (told : Option (List ℕ))
+    (counts : w.options.skip < number) (short : length line ≤ w.options.limit) where
+  -- it is a match
+  pub came_match : (kept : Kept) (wrote : Result (Unit {0}) RecordFault)
+      → TriesEach w.options w.formats w.text line is after (Matched kept wrote)
+      → Came w number line is after silent silent told told (judged_by kept wrote)
+  came_match kept (Ok done) (ds, r, picks, none, wrote) = (
+    Some (Ok (w.text ds r)),
+    (w.text ds r, refl),
+    (counts, inr (short, (ds, r, picks, sym (ap (judged (w.text ds r) line) none)))),
+    wrote,
+    tells_nothing silent told,
+  )
+  came_match kept (Err unwritten.Write) (ds, r, picks, none, part) =
+      (inr (refl, (w.text ds r, (counts, inr (short, (ds, r, picks, sym (ap (judged (w.text ds r) line) none)))), part)), refl, refl)
+  came_match kept (Err unwritten.Memory) (ds, r, picks, none, nothing) = (inl (refl, counts, nothing), refl, refl)
 
--- ---- what comes of a line that was read
+  -- it is none; the teller was lent the sink, which kept what it had taken
+  pub came_miss : (silent' : Bool) (told' : Option (List ℕ)) (kept : Kept) (fault : LineFault)
+      → TriesEach w.options w.formats w.text line is after (Missed kept fault) → after ≡ is
+      → (ends : Option (List ℕ)) → Keeps after ends
+      → (judged : Judged) → IsTold silent silent' told told' (w.telling number line fault) judged
+      → Came w number line is ends silent silent' told told' judged
+  came_miss silent' told' kept fault (ds, r, picks, some) same ends keeps (Failed store) tells = (
+    Some (Err (line, fault)),
+    ((line, fault), refl),
+    (counts, inr (short, (ds, r, picks, sym (ap (judged (w.text ds r) line) some)))),
+    Appends-keeps is after ends [] (subst (λ a. Appends is a []) (sym same) (Appends-none is)) keeps,
+    tells,
+  )
+  came_miss silent' told' kept fault h same ends keeps (Stopped why) (memory, silent_is, told_is) = (
+    inl (memory, counts, Appends-keeps is after ends [] (subst (λ a. Appends is a []) (sym same) (Appends-none is)) keeps),
+    silent_is,
+    told_is,
+  )
+  came_miss silent' told' kept fault h same ends keeps (Written store) tells = absurd tells
+  came_miss silent' told' kept fault h same ends keeps (Skipped store) tells = absurd tells
+  came_miss silent' told' kept fault h same ends keeps (Unread why) tells = absurd tells
 
-module _ {S : Type 0} (to_come : S → Option (List ℕ)) (now new : Ahead S) (items : List ℕ) (r : LineRead) (w : LineWork) (number : ℕ) (is after : Option (List ℕ))
-    (h : Reads to_come now new w.options.limit items r) where
-  pub turned_skipped : (kept : _) → (r ≡ reads.Line) ⊎ (r ≡ reads.TooLong) → number ≤ w.options.skip → after ≡ is → Turns to_come now new w number items is after (Skipped kept)
-  turned_skipped kept e few same = let k = line_read to_come now new w.options.limit items r e h in turned to_come now new w number is after k.0 items k.1 (Skipped kept) (few, same)
+  -- memory was refused
+  pub came_refused : after ≡ is → Came w number line is after silent silent told told (Stopped faults.Memory)
+  came_refused same = (inl (refl, counts, subst (λ a. Appends is a []) (sym same) (Appends-none is)), refl, refl)
 
-  pub turned_long : (kept : _) → r ≡ reads.TooLong → w.options.skip < number → after ≡ is → Turns to_come now new w number items is after (Failed kept TooLong)
-  turned_long kept e counts same =
-      let k : Reads to_come now new w.options.limit items reads.TooLong = subst (Reads to_come now new w.options.limit items) e h in
-      (k.0, k.1, ((counts, inl (k.2, ap (λ (y : List ℕ). Err (y, TooLong)) k.3)), subst (λ (a : Option (List ℕ)). Appends is a []) (sym same) (Appends-none is)))
+-- a line above the limit
+pub came_long : (w : LineWork) (number : ℕ) (line read : List ℕ) (is ends : Option (List ℕ)) (silent silent' : Bool)
+    (told told' : Option (List ℕ)) → w.options.skip < number → w.options.limit < length line → read ≡ take w.options.limit line
+    → Keeps is ends
+    → (judged : Judged) → IsTold silent silent' told told' (w.telling number read TooLong) judged
+    → Came w number line is ends silent silent' told told' judged
+came_long w number line read is ends silent silent' told told' counts long front keeps (Failed store) tells = (
+  Some (Err (read, TooLong)),
+  ((read, TooLong), refl),
+  (counts, inl (long, ap (λ (y : List ℕ). Err (y, TooLong)) front)),
+  Appends-keeps is is ends [] (Appends-none is) keeps,
+  tells,
+)
+came_long w number line read is ends silent silent' told told' counts long front keeps (Stopped why) (memory, silent_is, told_is) =
+    (inl (memory, counts, Appends-keeps is is ends [] (Appends-none is) keeps), silent_is, told_is)
+came_long w number line read is ends silent silent' told told' counts long front keeps (Written store) tells = absurd tells
+came_long w number line read is ends silent silent' told told' counts long front keeps (Skipped store) tells = absurd tells
+came_long w number line read is ends silent silent' told told' counts long front keeps (Unread why) tells = absurd tells
 
-  pub turned_short : (r ≡ reads.Line) ⊎ (r ≡ reads.TooLong) → (r ≡ reads.TooLong → ⊥) → w.options.skip < number → (line : List ℕ) → line ≡ items → (verdict : Judged) → Judges w.options w.formats w.text line is after verdict
-      → Turns to_come now new w number items is after verdict
-  turned_short (inr e) not_long counts line line_is verdict judges = absurd (not_long e)
-  turned_short (inl e) not_long counts line line_is verdict judges =
-      let k : Reads to_come now new w.options.limit items reads.Line = subst (Reads to_come now new w.options.limit items) e h in
-      let here : Judges w.options w.formats w.text items is after verdict = subst (λ (y : List ℕ). Judges w.options w.formats w.text y is after verdict) line_is judges in
-      turned to_come now new w number is after items items k.0 verdict (came w number items is after counts k.1 verdict here)
+-- ---- a line that was taken
 
-pub denied : (b : Bool) → not b ≡ true → b ≡ false
-denied true e = absurd (true≢false (sym e))
-denied false e = refl
+module _ {S : Type 0} (to_come : S → Option (List ℕ)) (now new : Ahead S) (w : LineWork) (number : ℕ) (is after : Option (List ℕ))
+    (silent silent' : Bool) (told told' : Option (List ℕ)) where
+  pub turned : (line : List ℕ) → Took to_come now new line → (judged : Judged)
+      → Came w number line is after silent silent' told told' judged → Turns to_come now new w number is after silent silent' told told'
+      judged
+  turned line took (Skipped kept) h = (line, took, h)
+  turned line took (Written kept) h = (line, took, h)
+  turned line took (Failed kept) h = (line, took, h)
+  turned line took (Stopped fault) h = (line, took, h)
+  turned line took (Unread why) h = absurd h
 
-pub affirmed : (b : Bool) → not b ≡ false → b ≡ true
-affirmed true e = refl
-affirmed false e = absurd (true≢false e)
+-- a line that was passed over
+pub turned_skipped : {S : Type 0} (to_come : S → Option (List ℕ)) (now new : Ahead S) (w : LineWork) (number : ℕ) (is : Option (List ℕ))
+    (silent : Bool) (told : Option (List ℕ)) → number ≤ w.options.skip
+    → (judged : Judged) → Passes to_come now new judged → Turns to_come now new w number is is silent silent told told judged
+turned_skipped to_come now new w number is silent told few (Skipped kept) (line, took) =
+    (line, took, (None, refl, few, Appends-none is, tells_nothing silent told))
+turned_skipped to_come now new w number is silent told few (Unread why) (limit, part, read, no_line, no_long, no_memory) = (
+  record { limit = limit; part = part; told = read; no_line = no_line; no_long = no_long; unskipped = λ e. absurd (no_memory e) },
+  refl,
+  refl,
+  refl,
+)
+turned_skipped to_come now new w number is silent told few (Written kept) h = absurd h
+turned_skipped to_come now new w number is silent told few (Failed kept) h = absurd h
+turned_skipped to_come now new w number is silent told few (Stopped fault) h = absurd h

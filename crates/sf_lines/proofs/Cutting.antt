@@ -1,5 +1,6 @@
 -- Texts cut into lines.
-use Rattle.std.proofs.Common.{◌≡◌, ◌==◌, ℕ, ◌<◌, Bool, true, false, List, [], ◌∷◌, ◌++◌, length, ◌⊎◌, inl, inr, refl, sym, ap, ◌∙◌, arith, append_assoc}
+use Rattle.std.proofs.Common.{◌≡◌, ◌==◌, ℕ, ◌<◌, Bool, true, false, List, [], ◌∷◌, ◌++◌, length, ◌⊎◌, inl, inr, refl, sym, ap, ◌∙◌, arith}
+use Rattle.std.proofs.Common.{append_assoc}
 use Rattle.std.proofs.lemmas.Bool.Decides.{nat_tests}
 use Rattle.std.specs.List.{AllByRecursion}
 use Rattle.sf_run.specs.outcome.Ending.{Ending}
@@ -31,14 +32,17 @@ cut_none (b ∷ part) h = rw (h.0, cut_none part h.1) refl
 pub cut_joined : (lines : List (List ℕ)) → AllByRecursion IsLine lines → lines_of (joined lines) ≡ lines
 cut_joined [] h = refl
 cut_joined (line ∷ lines) h =
-    ap lines_of (append_assoc line (10 ∷ []) (joined lines)) ∙ cut_line End line (joined lines) h.0 ∙ ap (λ (rest : List (List ℕ)). line ∷ rest) (cut_joined lines h.1)
+    ap lines_of (append_assoc line (10 ∷ []) (joined lines)) ∙ cut_line End line (joined lines) h.0
+    ∙ ap (λ (rest : List (List ℕ)). line ∷ rest) (cut_joined lines h.1)
 
 -- a byte before lines
-begun_are_lines : (b : ℕ) → (b == 10) ≡ false → (lines : List (List ℕ)) → AllByRecursion IsLine lines → AllByRecursion IsLine (begun_by b lines End)
+begun_are_lines : (b : ℕ) → (b == 10) ≡ false → (lines : List (List ℕ)) → AllByRecursion IsLine lines
+    → AllByRecursion IsLine (begun_by b lines End)
 begun_are_lines b e [] h = ((e, tt), tt)
 begun_are_lines b e (line ∷ lines) h = ((e, h.0), h.1)
 
-begun_joined : (b : ℕ) (text : List ℕ) (lines : List (List ℕ)) → (lines ≡ [] → text ≡ []) → (joined lines ≡ text) ⊎ (joined lines ≡ text ++ 10 ∷ [])
+begun_joined : (b : ℕ) (text : List ℕ) (lines : List (List ℕ)) → (lines ≡ [] → text ≡ []) → (joined lines ≡ text)
+    ⊎ (joined lines ≡ text ++ 10 ∷ [])
     → (joined (begun_by b lines End) ≡ b ∷ text) ⊎ (joined (begun_by b lines End) ≡ b ∷ text ++ 10 ∷ [])
 begun_joined b text [] q h = inr (ap (λ (y : List ℕ). b ∷ y ++ 10 ∷ []) (sym (q refl)))
 begun_joined b text (line ∷ lines) q (inl h) = inl (ap (λ (y : List ℕ). b ∷ y) h)
@@ -83,6 +87,7 @@ joined_cut (b ∷ rest) = elim (split_on (b == 10)) [
   | inr e ↦ rw e (begun_joined b rest (lines_of rest) (no_lines rest) (joined_cut rest))
 ]
   where
-    ended : (joined (lines_of rest) ≡ rest) ⊎ (joined (lines_of rest) ≡ rest ++ 10 ∷ []) → (10 ∷ joined (lines_of rest) ≡ 10 ∷ rest) ⊎ (10 ∷ joined (lines_of rest) ≡ 10 ∷ rest ++ 10 ∷ [])
+    ended : (joined (lines_of rest) ≡ rest) ⊎ (joined (lines_of rest) ≡ rest ++ 10 ∷ []) → (10 ∷ joined (lines_of rest) ≡ 10 ∷ rest)
+        ⊎ (10 ∷ joined (lines_of rest) ≡ 10 ∷ rest ++ 10 ∷ [])
     ended (inl h) = inl (ap (λ (y : List ℕ). 10 ∷ y) h)
     ended (inr h) = inr (ap (λ (y : List ℕ). 10 ∷ y) h)

@@ -1,5 +1,6 @@
 -- One thing comes of each line.
-use Rattle.std.proofs.Common.{◌≡◌, ℕ, ◌+◌, Bool, true, false, List, [], ◌∷◌, ◌++◌, Option, Some, None, Result, ◌⊎◌, inl, inr, refl, sym, ap, subst, ◌∙◌, arith, true≢false}
+use Rattle.std.proofs.Common.{◌≡◌, ℕ, ◌+◌, Bool, true, false, List, [], ◌∷◌, ◌++◌, Option, Some, None, Result, ◌⊎◌, inl, inr, refl, sym}
+use Rattle.std.proofs.Common.{ap, subst, ◌∙◌, arith, true≢false}
 use Rattle.std.specs.Prelude.{IsSome, is_some}
 use Rattle.std.specs.List.{AllByRecursion}
 use Rattle.sf_format.specs.declared.directive.Directive.{Directive}
@@ -16,12 +17,17 @@ none_is_some : (fault : Option LineFault) → fault ≡ None → IsSome fault �
 none_is_some fault e some = true≢false (sym some ∙ ap is_some e)
 
 module _ (one : EachHasOneReport) (w : LineWork) where
-  same_report : (ds : List Directive) → AreProper ds → (line : List ℕ) (r q : RunReport) → RunWithin ds w.options.limit line End r → RunWithin ds w.options.limit line End q → r ≡ q
+  same_report : (ds : List Directive) → AreProper ds → (line : List ℕ) (r q : RunReport) → RunWithin ds w.options.limit line End r
+      → RunWithin ds w.options.limit line End q → r ≡ q
   same_report ds proper line r q p o = let all = one ds proper w.options.limit line End in all.only r p ∙ sym (all.only q o)
 
   -- a format by which the line is no match counts only as the last
-  missed_is_last : (ds : List Directive) (line : List ℕ) (r : RunReport) → AreProper ds → Misses w.options line ds → RunWithin ds w.options.limit line End r → (rest : List (List Directive)) → (fault_of w.options line r ≡ None) ⊎ (rest ≡ []) → rest ≡ []
-  missed_is_last ds line r proper (q, ran', some) ran rest (inl none) = absurd (none_is_some (fault_of w.options line q) (ap (fault_of w.options line) (same_report ds proper line q r ran' ran) ∙ none) some)
+  missed_is_last : (ds : List Directive) (line : List ℕ) (r : RunReport) → AreProper ds → Misses w.options line ds
+      → RunWithin ds w.options.limit line End r → (rest : List (List Directive)) → (fault_of w.options line r ≡ None) ⊎ (rest ≡ [])
+      → rest ≡ []
+  missed_is_last ds line r proper (q, ran', some) ran rest (inl none) =
+      absurd (none_is_some (fault_of w.options line q) (ap (fault_of w.options line) (same_report ds proper line q r ran' ran) ∙ none)
+      some)
   missed_is_last ds line r proper missed ran rest (inr last) = last
 
   some_rest : (before after : List (List Directive)) (ds : List Directive) → before ++ ds ∷ after ≡ [] → ⊥
@@ -29,25 +35,32 @@ module _ (one : EachHasOneReport) (w : LineWork) where
   some_rest (x ∷ before) after ds e = cc
 
   -- the format and the report that count
-  same_pick : (line : List ℕ) (formats before before' after after' : List (List Directive)) (ds ds' : List Directive) (r r' : RunReport) → AllByRecursion AreProper formats → formats ≡ before ++ ds ∷ after → formats ≡ before' ++ ds' ∷ after'
-      → AllByRecursion (Misses w.options line) before → AllByRecursion (Misses w.options line) before' → RunWithin ds w.options.limit line End r → RunWithin ds' w.options.limit line End r'
+  same_pick : (line : List ℕ) (formats before before' after after' : List (List Directive)) (ds ds' : List Directive) (r r' : RunReport)
+      → AllByRecursion AreProper formats → formats ≡ before ++ ds ∷ after → formats ≡ before' ++ ds' ∷ after'
+      → AllByRecursion (Misses w.options line) before → AllByRecursion (Misses w.options line) before'
+      → RunWithin ds w.options.limit line End r → RunWithin ds' w.options.limit line End r'
       → (fault_of w.options line r ≡ None) ⊎ (after ≡ []) → (fault_of w.options line r' ≡ None) ⊎ (after' ≡ []) → (ds ≡ ds') × (r ≡ r')
   same_pick line [] before before' after after' ds ds' r r' proper e e' m m' ran ran' c c' = absurd (some_rest before after ds (sym e))
   same_pick line (f ∷ formats) [] [] after after' ds ds' r r' proper e e' m m' ran ran' c c' =
       let first : ds ≡ f = cc in
-      let other : ds' ≡ f = cc in
-      (first ∙ sym other, same_report f proper.0 line r r' (subst (λ (d : List Directive). RunWithin d w.options.limit line End r) first ran) (subst (λ (d : List Directive). RunWithin d w.options.limit line End r') other ran'))
+      let other : ds' ≡ f = cc in (
+        first ∙ sym other,
+        same_report f proper.0 line r r' (subst (λ (d : List Directive). RunWithin d w.options.limit line End r) first
+            ran) (subst (λ (d : List Directive). RunWithin d w.options.limit line End r') other ran'),
+      )
   same_pick line (f ∷ formats) [] (x ∷ before') after after' ds ds' r r' proper e e' m m' ran ran' c c' =
       let first : ds ≡ f = cc in
       let other : x ≡ f = cc in
       let rest : after ≡ before' ++ ds' ∷ after' = cc in
-      let last : after ≡ [] = missed_is_last f line r proper.0 (subst (Misses w.options line) other m'.0) (subst (λ (d : List Directive). RunWithin d w.options.limit line End r) first ran) after c in
+      let last : after ≡ [] = missed_is_last f line r proper.0 (subst (Misses w.options line) other m'.0)
+      (subst (λ (d : List Directive). RunWithin d w.options.limit line End r) first ran) after c in
       absurd (some_rest before' after' ds' (sym rest ∙ last))
   same_pick line (f ∷ formats) (x ∷ before) [] after after' ds ds' r r' proper e e' m m' ran ran' c c' =
       let first : ds' ≡ f = cc in
       let other : x ≡ f = cc in
       let rest : after' ≡ before ++ ds ∷ after = cc in
-      let last : after' ≡ [] = missed_is_last f line r' proper.0 (subst (Misses w.options line) other m.0) (subst (λ (d : List Directive). RunWithin d w.options.limit line End r') first ran') after' c' in
+      let last : after' ≡ [] = missed_is_last f line r' proper.0 (subst (Misses w.options line) other m.0)
+      (subst (λ (d : List Directive). RunWithin d w.options.limit line End r') first ran') after' c' in
       absurd (some_rest before after ds (sym rest ∙ last))
   same_pick line (f ∷ formats) (x ∷ before) (y ∷ before') after after' ds ds' r r' proper e e' m m' ran ran' c c' =
       let rest : formats ≡ before ++ ds ∷ after = cc in
@@ -60,8 +73,10 @@ module _ (one : EachHasOneReport) (w : LineWork) where
     same_judged line v u (inl p) (inr q) = absurd (omega (arith, p.0, q.0))
     same_judged line v u (inr p) (inl q) = absurd (omega (arith, p.0, q.0))
     same_judged line v u (inr (short, (ds, r, p, is))) (inr (short', (ds', r', q, is'))) =
-        let same = same_pick line w.formats p.before q.before p.after q.after ds ds' r r' proper p.among q.among p.missed q.missed p.ran q.ran p.counts q.counts in
-        is ∙ ap (λ (d : List Directive). judged (w.text d r) line (fault_of w.options line r)) same.0 ∙ ap (λ (x : RunReport). judged (w.text ds' x) line (fault_of w.options line x)) same.1 ∙ sym is'
+        let same = same_pick line w.formats p.before q.before p.after q.after ds ds' r r' proper p.among q.among p.missed q.missed p.ran
+        q.ran p.counts q.counts in
+        is ∙ ap (λ (d : List Directive). judged (w.text d r) line (fault_of w.options line r)) same.0
+        ∙ ap (λ (x : RunReport). judged (w.text ds' x) line (fault_of w.options line x)) same.1 ∙ sym is'
 
     same_turn : (number : ℕ) (line : List ℕ) (t u : Turn) → Comes w number line t → Comes w number line u → t ≡ u
     same_turn number line None None p q = refl
@@ -75,9 +90,12 @@ module _ (one : EachHasOneReport) (w : LineWork) where
     same_turns n (line ∷ lines) (t ∷ ts) [] p q = absurd q
     same_turns n (line ∷ lines) (t ∷ ts) (u ∷ us) p q =
         let first : t ≡ u = same_turn (n + 1) line t u p.0 q.0 in
-        let own : IfGoing (goes_on w t) (AreTurns w (n + 1) lines us) us = subst (λ (x : Turn). IfGoing (goes_on w x) (AreTurns w (n + 1) lines us) us) (sym first) q.1 in
-        ap (λ (x : Turn). x ∷ ts) first ∙ ap (λ (y : List Turn). u ∷ y) (by (goes_on w t) p.1 own (λ h k. same_turns (n + 1) lines ts us h k))
+        let own : IfGoing (goes_on w t) (AreTurns w (n + 1) lines us) us =
+        subst (λ (x : Turn). IfGoing (goes_on w x) (AreTurns w (n + 1) lines us) us) (sym first) q.1 in
+        ap (λ (x : Turn). x ∷ ts) first ∙ ap (λ (y : List Turn). u ∷ y)
+        (by (goes_on w t) p.1 own (λ h k. same_turns (n + 1) lines ts us h k))
       where
-        by : (b : Bool) → IfGoing b (AreTurns w (n + 1) lines ts) ts → IfGoing b (AreTurns w (n + 1) lines us) us → (AreTurns w (n + 1) lines ts → AreTurns w (n + 1) lines us → ts ≡ us) → ts ≡ us
+        by : (b : Bool) → IfGoing b (AreTurns w (n + 1) lines ts) ts → IfGoing b (AreTurns w (n + 1) lines us) us
+            → (AreTurns w (n + 1) lines ts → AreTurns w (n + 1) lines us → ts ≡ us) → ts ≡ us
         by true h k same = same h k
         by false h k same = h ∙ sym k

@@ -1,5 +1,6 @@
 -- The room for the texts of lines.
-use Rattle.std.proofs.Common.{◌≡◌, ℕ, ◌+◌, ◌<◌, max, List, [], ◌∷◌, ◌++◌, length, take, get_or, Option, Some, None, refl, sym, ap, ◌∙◌, arith}
+use Rattle.std.proofs.Common.{◌≡◌, ℕ, ◌+◌, ◌<◌, max, List, [], ◌∷◌, ◌++◌, length, take, get_or, Option, Some, None, refl, sym, ap, ◌∙◌}
+use Rattle.std.proofs.Common.{arith}
 use Rattle.std.specs.Prelude.{unwrap_or}
 use Rattle.std.proofs.lemmas.List.{take_more, take_all}
 use Rattle.std.proofs.Math.Nat.{le-max_left, le-max_right, max-le}
@@ -29,7 +30,9 @@ most_append [] ds = omega arith
 most_append (x ∷ xs) ds = ap (max (width_of x)) (most_append xs ds) ∙ omega arith
 
 -- the room for one more
-pub most_more : (xs : List (List Directive)) (i : ℕ) (ds : List Directive) (room width : ℕ) → i < length xs → ds ≡ get_or xs i ds → room ≡ most_width (take i xs) → width ≡ width_of ds
+pub most_more : (xs : List (List Directive)) (i : ℕ) (ds : List Directive) (room width : ℕ) → i < length xs → ds ≡ get_or xs i ds
+    → room ≡ most_width (take i xs) → width ≡ width_of ds
     → max room width ≡ most_width (take (i + 1) xs)
 most_more xs i ds room width lt is so_far one =
-    ap (λ r. max r width) so_far ∙ ap (max (most_width (take i xs))) (one ∙ ap width_of is) ∙ sym (most_append (take i xs) (get_or xs i ds)) ∙ ap most_width (sym (take_more xs i ds lt))
+    ap (λ r. max r width) so_far ∙ ap (max (most_width (take i xs))) (one ∙ ap width_of is)
+    ∙ sym (most_append (take i xs) (get_or xs i ds)) ∙ ap most_width (sym (take_more xs i ds lt))

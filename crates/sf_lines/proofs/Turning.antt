@@ -1,5 +1,6 @@
 -- What comes of lines: that it is told of each, and joined.
-use Rattle.std.proofs.Common.{◌≡◌, ℕ, zero, suc, ◌+◌, ◌<◌, ◌≤◌, Bool, true, false, cond, List, [], ◌∷◌, ◌++◌, length, take, Option, Some, None, Result, Err, ◌⊎◌, inl, inr, refl, sym, ap, subst, ◌∙◌, arith, append_assoc, append-nil}
+use Rattle.std.proofs.Common.{◌≡◌, ℕ, zero, suc, ◌+◌, ◌<◌, ◌≤◌, Bool, true, false, cond, List, [], ◌∷◌, ◌++◌, length, take, Option, Some}
+use Rattle.std.proofs.Common.{None, Result, Err, ◌⊎◌, inl, inr, refl, sym, ap, subst, ◌∙◌, arith, append_assoc, append-nil}
 use Rattle.std.specs.Prelude.{IsSome}
 use Rattle.std.specs.List.{AllByRecursion, count_by}
 use Rattle.std.proofs.lemmas.Grind.{flat_map-append}
@@ -42,29 +43,41 @@ if_stopped true rest turns e h = absurd (cc)
 if_stopped false rest turns e h = h
 
 -- what comes of these, and then of more
-pub passed_then : (w : LineWork) (n : ℕ) (front more : List (List ℕ)) (done later : List Turn) → Passed w n front done → AreTurns w (n + length front) more later → AreTurns w n (front ++ more) (done ++ later)
+pub passed_then : (w : LineWork) (n : ℕ) (front more : List (List ℕ)) (done later : List Turn) → Passed w n front done
+    → AreTurns w (n + length front) more later → AreTurns w n (front ++ more) (done ++ later)
 passed_then w n [] more done later p h =
     let here : AreTurns w n more later = subst (λ (k : ℕ). AreTurns w k more later) {x = n + 0} {y = n} (omega arith) h in
     subst (λ (y : List Turn). AreTurns w n more (y ++ later)) (sym p) here
 passed_then w n (line ∷ front) more [] later p h = absurd p
-passed_then w n (line ∷ front) more (turn ∷ done) later p h =
-    (p.0, if_going (goes_on w turn) (done ++ later) p.1 (passed_then w (n + 1) front more done later p.2 (subst (λ (k : ℕ). AreTurns w k more later) {x = n + suc (length front)} {y = n + 1 + length front} (omega arith) h)))
+passed_then w n (line ∷ front) more (turn ∷ done) later p h = (
+  p.0,
+  if_going (goes_on w turn) (done ++ later) p.1 (passed_then w (n + 1) front more done later p.2
+      (subst (λ (k : ℕ). AreTurns w k more later) {x = n + suc (length front)} {y = n + 1 + length front} (omega arith) h)),
+)
 
-pub passed_more : (w : LineWork) (n : ℕ) (front : List (List ℕ)) (done : List Turn) (line : List ℕ) (turn : Turn) → Passed w n front done → Comes w (n + length front + 1) line turn → goes_on w turn ≡ true
+pub passed_more : (w : LineWork) (n : ℕ) (front : List (List ℕ)) (done : List Turn) (line : List ℕ) (turn : Turn) → Passed w n front done
+    → Comes w (n + length front + 1) line turn → goes_on w turn ≡ true
     → Passed w n (front ++ line ∷ []) (done ++ turn ∷ [])
 passed_more w n [] done line turn p comes goes =
     let here : Comes w (n + 1) line turn = subst (λ (k : ℕ). Comes w k line turn) {x = n + 0 + 1} {y = n + 1} (omega arith) comes in
     subst (λ (y : List Turn). Passed w n (line ∷ []) (y ++ turn ∷ [])) (sym p) (here, goes, refl)
 passed_more w n (one ∷ front) [] line turn p comes goes = absurd p
-passed_more w n (one ∷ front) (first ∷ done) line turn p comes goes =
-    (p.0, p.1, passed_more w (n + 1) front done line turn p.2 (subst (λ (k : ℕ). Comes w k line turn) {x = n + suc (length front) + 1} {y = n + 1 + length front + 1} (omega arith) comes) goes)
+passed_more w n (one ∷ front) (first ∷ done) line turn p comes goes = (
+  p.0,
+  p.1,
+  passed_more w (n + 1) front done line turn p.2 (subst (λ (k : ℕ). Comes w k line turn) {x = n + suc (length front) + 1}
+      {y = n + 1 + length front + 1} (omega arith) comes) goes,
+)
 
 -- ---- sums
 
-pub tellings_append : (w : LineWork) (n : ℕ) (front later : List Turn) → tellings w n (front ++ later) ≡ tellings w n front ++ tellings w (n + length front) later
+pub tellings_append : (w : LineWork) (n : ℕ) (front later : List Turn)
+    → tellings w n (front ++ later) ≡ tellings w n front ++ tellings w (n + length front) later
 tellings_append w n [] later = ap (λ (k : ℕ). tellings w k later) {x = n} {y = n + 0} (omega arith)
 tellings_append w n (turn ∷ front) later =
-    ap (λ (y : List ℕ). telling_of w (n + 1) turn ++ y) (tellings_append w (n + 1) front later ∙ ap (λ (k : ℕ). tellings w (n + 1) front ++ tellings w k later) {x = n + 1 + length front} {y = n + suc (length front)} (omega arith))
+    ap (λ (y : List ℕ). telling_of w (n + 1) turn ++ y) (tellings_append w (n + 1) front later
+    ∙ ap (λ (k : ℕ). tellings w (n + 1) front ++ tellings w k later) {x = n + 1 + length front} {y = n + suc (length front)}
+    (omega arith))
     ∙ sym (append_assoc (telling_of w (n + 1) turn) (tellings w (n + 1) front) (tellings w (n + suc (length front)) later))
 
 pub texts_more : (done : List Turn) (turn : Turn) → texts (done ++ turn ∷ []) ≡ texts done ++ text_of turn
@@ -73,8 +86,10 @@ texts_more done turn = flat_map-append text_of done (turn ∷ []) ∙ ap (λ (y 
 count_append : (p : Turn → Bool) (xs ys : List Turn) → count_by p (xs ++ ys) ≡ count_by p xs + count_by p ys
 count_append p xs ys = sum_by-append _ xs ys
 
-pub count_more : (p : Turn → Bool) (done : List Turn) (turn : Turn) (k n : ℕ) → k ≡ n + cond (p turn) 1 0 → n ≡ count_by p done → k ≡ count_by p (done ++ turn ∷ [])
-count_more p done turn k n more is = let h : count_by p (done ++ turn ∷ []) ≡ count_by p done + (0 + cond (p turn) 1 0) = count_append p done (turn ∷ []) in omega (arith, h, more, is)
+pub count_more : (p : Turn → Bool) (done : List Turn) (turn : Turn) (k n : ℕ) → k ≡ n + cond (p turn) 1 0 → n ≡ count_by p done
+    → k ≡ count_by p (done ++ turn ∷ [])
+count_more p done turn k n more is = let h : count_by p (done ++ turn ∷ []) ≡ count_by p done + (0 + cond (p turn) 1 0) =
+    count_append p done (turn ∷ []) in omega (arith, h, more, is)
 
 -- ---- something comes of each line
 
@@ -89,7 +104,8 @@ none_or_some (Some fault) = inr refl
 
 module _ (one : EachHasOneReport) (w : LineWork) where
   -- among the formats behind those by which the line is no match, one counts
-  picked : (line : List ℕ) (before : List (List Directive)) (ds : List Directive) (rest : List (List Directive)) → w.formats ≡ before ++ ds ∷ rest → AllByRecursion AreProper (ds ∷ rest)
+  picked : (line : List ℕ) (before : List (List Directive)) (ds : List Directive) (rest : List (List Directive))
+      → w.formats ≡ before ++ ds ∷ rest → AllByRecursion AreProper (ds ∷ rest)
       → AllByRecursion (Misses w.options line) before → (ds' : List Directive) × (r : RunReport) × Picks w.options w.formats line ds' r
   picked line before ds [] among proper missed =
       let all = one ds proper.0 w.options.limit line End in
@@ -97,21 +113,39 @@ module _ (one : EachHasOneReport) (w : LineWork) where
   picked line before ds (next ∷ rest) among proper missed =
       let all = one ds proper.0 w.options.limit line End in
       elim (none_or_some (fault_of w.options line all.report)) [
-        | inl none ↦ (ds, all.report, record { before = before; after = next ∷ rest; among = among; missed = missed; ran = all.is; counts = inl none })
-        | inr some ↦ picked line (before ++ ds ∷ []) next rest (among ∙ sym (append_assoc before (ds ∷ []) (next ∷ rest))) proper.1 (all_append (Misses w.options line) before (ds ∷ []) missed ((all.report, all.is, some), tt))
+        | inl none ↦ (
+          ds,
+          all.report,
+          record {
+            before = before;
+            after = next ∷ rest;
+            among = among;
+            missed = missed;
+            ran = all.is;
+            counts =
+                inl none;
+          },
+        )
+        | inr some ↦ picked line (before ++ ds ∷ []) next rest (among ∙ sym (append_assoc before (ds ∷ []) (next ∷ rest))) proper.1
+            (all_append (Misses w.options line) before (ds ∷ []) missed ((all.report, all.is, some), tt))
       ]
 
   module _ (proper : AllByRecursion AreProper w.formats) (some : 0 < length w.formats) where
     has_pick : (line : List ℕ) → (ds : List Directive) × (r : RunReport) × Picks w.options w.formats line ds r
     has_pick line = by w.formats refl
       where
-        by : (formats : List (List Directive)) → w.formats ≡ formats → (ds : List Directive) × (r : RunReport) × Picks w.options w.formats line ds r
+        by : (formats : List (List Directive)) → w.formats ≡ formats → (ds : List Directive) × (r : RunReport)
+            × Picks w.options w.formats line ds r
         by [] e = absurd (omega (arith, some, ap length e))
         by (ds ∷ rest) e = picked line [] ds rest e (subst (AllByRecursion AreProper) e proper) tt
 
     is_judged : (line : List ℕ) → (verdict : Result (List ℕ) Miss) × IsJudged w line verdict
     is_judged line = elim (le_or_lt (length line) w.options.limit) [
-      | inl short ↦ (let p = has_pick line in (judged (w.text p.0 p.1) line (fault_of w.options line p.1), inr (short, (p.0, p.1, p.2, refl))))
+      | inl short ↦ (let p = has_pick line in (
+        judged (w.text p.0 p.1) line (fault_of w.options line p.1),
+        inr
+            (short, (p.0, p.1, p.2, refl)),
+      ))
       | inr long ↦ (Err (take w.options.limit line, TooLong), inl (long, refl))
     ]
 
@@ -128,6 +162,7 @@ module _ (one : EachHasOneReport) (w : LineWork) where
         let first = comes (n + 1) line in
         by (goes_on w first.0) first refl (turns_behind (n + 1) lines)
       where
-        by : (b : Bool) → (first : (turn : Turn) × Comes w (n + 1) line turn) → goes_on w first.0 ≡ b → ((turns : List Turn) × AreTurns w (n + 1) lines turns) → (turns : List Turn) × AreTurns w n (line ∷ lines) turns
+        by : (b : Bool) → (first : (turn : Turn) × Comes w (n + 1) line turn) → goes_on w first.0 ≡ b
+            → ((turns : List Turn) × AreTurns w (n + 1) lines turns) → (turns : List Turn) × AreTurns w n (line ∷ lines) turns
         by true first e rest = (first.0 ∷ rest.0, (first.1, if_going (goes_on w first.0) rest.0 e rest.1))
         by false first e rest = (first.0 ∷ [], (first.1, if_stopped (goes_on w first.0) (AreTurns w (n + 1) lines []) [] e refl))

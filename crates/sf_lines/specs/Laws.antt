@@ -21,7 +21,8 @@ abbrev pub LinesAreJoined : Type 0
 LinesAreJoined = (lines : List (List ℕ)) → AllByRecursion IsLine lines → lines_of (joined lines) ≡ lines
 
 abbrev pub TextsAreCut : Type 0
-TextsAreCut = (text : List ℕ) → AllByRecursion IsLine (lines_of text) × ((joined (lines_of text) ≡ text) ⊎ (joined (lines_of text) ≡ text ++ 10 ∷ []))
+TextsAreCut = (text : List ℕ) → AllByRecursion IsLine (lines_of text)
+    × ((joined (lines_of text) ≡ text) ⊎ (joined (lines_of text) ≡ text ++ 10 ∷ []))
 
 -- by formats that are accepted, of which there is one at least, something comes of these lines, and nothing else
 pub record HaveOneTurn (w : LineWork) (n : ℕ) (lines : List (List ℕ)) : Type 0 where
@@ -30,4 +31,5 @@ pub record HaveOneTurn (w : LineWork) (n : ℕ) (lines : List (List ℕ)) : Type
   pub only : (others : List Turn) → AreTurns w n lines others → others ≡ turns
 
 abbrev pub LinesHaveOneTurn : Type 0
-LinesHaveOneTurn = (w : LineWork) → AllByRecursion AreProper w.formats → 0 < length w.formats → (n : ℕ) (lines : List (List ℕ)) → HaveOneTurn w n lines
+LinesHaveOneTurn = (w : LineWork) → AllByRecursion AreProper w.formats → 0 < length w.formats → (n : ℕ) (lines : List (List ℕ))
+    → HaveOneTurn w n lines

@@ -1,3 +1,4 @@
+pub mod Coming
 pub mod Cut
 pub mod Judging
 pub mod Laws

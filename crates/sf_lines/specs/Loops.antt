@@ -1,5 +1,6 @@
 -- What comes of the lines of an input, and how the loop over them ends.
-use Rattle.std.specs.Prelude.{◌≡◌, ◌≤◌, ◌+◌, ◌-◌, ◌^◌, ◌++◌, ◌∷◌, ◌⊎◌, ℕ, nat_eq, Bool, true, false, if◌then◌else◌, List, [], length, take, drop, Option, Some, None, Ok, Err}
+use Rattle.std.specs.Prelude.{◌≡◌, ◌≤◌, ◌+◌, ◌-◌, ◌^◌, ◌++◌, ◌∷◌, ◌⊎◌, ℕ, nat_eq, Bool, true, false, if◌then◌else◌, List, [], length, take}
+use Rattle.std.specs.Prelude.{drop, Option, Some, None, Ok, Err}
 use Rattle.std.specs.List.{AllByRecursion, flat_map, count_by}
 use Rattle.std.specs.Io.KnownBytes.{Appends}
 use Rattle.sf_run.specs.outcome.Ending.{Ending}
@@ -118,20 +119,24 @@ pub record AreLinesAndPart (t : List ℕ) (consumed lines : ℕ) (part : List �
   pub is_line : IsLine part
   pub bytes : take consumed t ≡ take whole t ++ part
 
--- the bytes up to where memory was refused: once the line behind so many was read, or while it was
-abbrev pub IsRefusedAt : List ℕ → ℕ → ℕ → Type 0
-IsRefusedAt t consumed lines = AreLines t consumed (lines + 1) ⊎ ((part : List ℕ) × AreLinesAndPart t consumed lines part)
+-- The bytes up to where memory was refused: before the first line; or behind those that are passed over, once the line behind so
+-- many was read, or while it was.
+abbrev pub IsRefusedAt : LineWork → List ℕ → ℕ → ℕ → Type 0
+IsRefusedAt w t consumed lines =
+    (lines ≡ 0) × (consumed ≡ 0)
+    ⊎ (w.options.skip ≤ lines) × (AreLines t consumed (lines + 1) ⊎ ((part : List ℕ) × AreLinesAndPart t consumed lines part))
 
 -- the bytes of the most lines; or of these, and too many of the next one
 abbrev pub AreTooMany : List ℕ → ℕ → ℕ → Type 0
-AreTooMany t consumed lines = (lines ≡ most_lines) × AreLines t consumed lines ⊎ ((part : List ℕ) × AreLinesAndPart t consumed lines part × (endless ≤ length part))
+AreTooMany t consumed lines = (lines ≡ most_lines) × AreLines t consumed lines
+    ⊎ ((part : List ℕ) × AreLinesAndPart t consumed lines part × (endless ≤ length part))
 
 -- The loop was ended before, behind these turns, where so many bytes of t were consumed: the sink failed within the text of
 -- the next line, which was taken whole; memory was refused; or there are too many lines, or too many bytes of one.
-abbrev pub IsCutShort : List Turn → List ℕ → List Turn → List ℕ → ℕ → LinesEnd → Type 0
-IsCutShort done part later t consumed answer =
+abbrev pub IsCutShort : LineWork → List Turn → List ℕ → List Turn → List ℕ → ℕ → LinesEnd → Type 0
+IsCutShort w done part later t consumed answer =
     (answer ≡ ended done (Some Write)) × IsBegun part later × AreLines t consumed (length done + 1)
-    ⊎ (answer ≡ ended done (Some Memory)) × (part ≡ []) × IsRefusedAt t consumed (length done)
+    ⊎ (answer ≡ ended done (Some Memory)) × (part ≡ []) × IsRefusedAt w t consumed (length done)
     ⊎ (answer ≡ ended done (Some TooMany)) × (part ≡ []) × AreTooMany t consumed (length done)
 
 -- ---- the loop over a source
@@ -151,6 +156,7 @@ pub record Loops {S : Type 0} (w : LineWork) (to_come : S → Option (List ℕ))
   -- whether the source failed
   pub failed : Bool
   pub failures_are : failures' ≡ (if failed then counted_on failures else failures)
+  pub nothing_held : failed ≡ true → now.held ≡ []
   -- the bytes that were consumed; what is behind them is held or to come
   pub consumed : ℕ
   pub rest : input_of to_come now ≡ Some (drop consumed t)
@@ -165,10 +171,12 @@ pub record Loops {S : Type 0} (w : LineWork) (to_come : S → Option (List ℕ))
   pub appends : Appends before after (texts done ++ part)
   pub tells : silent ≡ false → Appends told told' (tellings w 0 done)
   pub ends : (later ≡ []) × (part ≡ []) × Concludes w failed done answer × (failed ≡ false → AreLines t consumed (length done))
-      ⊎ (failed ≡ false) × AllGoOn w done × IsCutShort done part later t consumed answer
+      ⊎ (failed ≡ false) × AllGoOn w done × IsCutShort w done part later t consumed answer
 
 -- the same, with what was told of these lines: all of it, or a part where the teller failed within it. `dumb`: whether it had
 -- failed before.
-abbrev pub TellsLines : {S : Type 0} → LineWork → (S → Option (List ℕ)) → List ℕ → Ahead S → ℕ → ℕ → Option (List ℕ) → Option (List ℕ) → Bool → Bool → Option (List ℕ) → Option (List ℕ) → LinesEnd → Type 0
+abbrev pub TellsLines : {S : Type 0} → LineWork → (S → Option (List ℕ)) → List ℕ → Ahead S → ℕ → ℕ → Option (List ℕ) → Option (List ℕ)
+    → Bool → Bool → Option (List ℕ) → Option (List ℕ) → LinesEnd → Type 0
 TellsLines w to_come t now failures failures' before after dumb silent told told' answer =
-    (all : Loops w to_come t now failures failures' before after silent told told' answer) × Tells dumb silent told told' (tellings w 0 all.done)
+    (all : Loops w to_come t now failures failures' before after silent told told' answer)
+    × Tells dumb silent told told' (tellings w 0 all.done)

@@ -1,5 +1,5 @@
 -- What the reading of a line takes from an input.
-use Rattle.std.specs.Prelude.{◌≡◌, ◌≤◌, ◌<◌, ◌^◌, ◌⊎◌, ℕ, List, [], ◌∷◌, ◌++◌, length, take, Bool, true, false, Option}
+use Rattle.std.specs.Prelude.{◌≡◌, ◌≤◌, ◌<◌, ◌^◌, ◌⊎◌, ◌+◌, ℕ, List, [], ◌∷◌, ◌++◌, length, take, drop, Bool, true, false, Option}
 use Rattle.std.specs.Io.KnownBytes.{Consumes, IsAtEnd}
 use Rattle.sf_read.specs.Ahead.{Ahead, input_of}
 use Rattle.sf_lines.specs.declared.line.LineRead.{LineRead}
@@ -22,6 +22,12 @@ pub record TookPart {S : Type 0} (to_come : S → Option (List ℕ)) (old new : 
   pub is_line : IsLine part
   pub bytes : Loses to_come old new part
 
+-- bytes that are held begin with a line of so many, and its line end
+pub record IsHeld (held : List ℕ) (len : ℕ) : Type 0 where
+  pub within : len < length held
+  pub is_line : IsLine (take len held)
+  pub ended : held ≡ take len held ++ 10 ∷ drop (len + 1) held
+
 -- the most bytes of a line that is counted
 abbrev pub endless : ℕ
 endless = 2 ^ 63
@@ -32,6 +38,7 @@ Reads to_come old new limit line Line = Took to_come old new line × (length lin
 Reads to_come old new limit line TooLong = (long : List ℕ) × Took to_come old new long × (limit < length long) × (line ≡ take limit long)
 Reads to_come old new limit line End = TookPart to_come old new [] × (new.at_end ≡ true) × IsAtEnd (input_of to_come new)
 Reads to_come old new limit line Fault = (part : List ℕ) × TookPart to_come old new part × (old.at_end ≡ false) × (new.at_end ≡ false)
+    × (new.held ≡ [])
 Reads to_come old new limit line Endless = (part : List ℕ) × TookPart to_come old new part × (endless ≤ length part)
 Reads to_come old new limit line NoMemory = (part : List ℕ) × TookPart to_come old new part
 

@@ -2,6 +2,7 @@
 use Rattle.std.specs.Prelude.{◌≡◌, ◌⊎◌, ◌&&◌, not, ℕ, Bool, true, false, if◌then◌else◌, List, [], Option}
 use Rattle.std.specs.Io.KnownBytes.{Appends}
 use Rattle.sf_print.specs.Sinks.{counted_on}
+use Rattle.sf_lines.specs.declared.end.LineFault.{LineFault}
 use Rattle.sf_lines.specs.Judging.{TakesPart}
 
 -- It said the text; or it failed within it, and said a part of it; or it had failed before, and said nothing. told and told':
@@ -15,3 +16,12 @@ Tells failed failed' told told' text =
 -- the faults of what it says it to, of which it makes one and no more
 abbrev pub faults_by : Bool → Bool → ℕ → ℕ
 faults_by failed failed' faults = if not failed && failed' then counted_on faults else faults
+
+-- What stays of a teller after it was told of lines: what it says of them, what it keeps, and that it has failed. Its faults are
+-- those of what it said.
+pub record Stays {E Kept : Type 0} (says : E → (ℕ → List ℕ → LineFault → List ℕ) → Type 0) (kept : E → Kept) (failed : E → Bool)
+    (faults : E → ℕ) (old new : E) : Type 0 where
+  pub same : (telling : ℕ → List ℕ → LineFault → List ℕ) → says old telling → says new telling
+  pub keeps : kept new ≡ kept old
+  pub silent : failed old ≡ true → failed new ≡ true
+  pub counts : faults new ≡ faults_by (failed old) (failed new) (faults old)

@@ -1,5 +1,6 @@
 -- What comes of one line.
-use Rattle.std.specs.Prelude.{◌≡◌, ◌≤◌, ◌<◌, ◌⊎◌, ◌++◌, ◌∷◌, ◌&&◌, ℕ, nat_lt, Bool, if◌then◌else◌, List, [], length, take, Option, Some, None, IsSome, Result, Ok, Err}
+use Rattle.std.specs.Prelude.{◌≡◌, ◌≤◌, ◌<◌, ◌⊎◌, ◌++◌, ◌∷◌, ◌&&◌, ℕ, nat_lt, Bool, if◌then◌else◌, List, [], length, take, Option, Some}
+use Rattle.std.specs.Prelude.{None, IsSome, Result, Ok, Err}
 use Rattle.std.specs.List.{AllByRecursion}
 use Rattle.sf_format.specs.declared.directive.Directive.{Directive}
 use Rattle.sf_run.specs.outcome.Ending.{Ending}
@@ -21,7 +22,8 @@ pub record LineWork : Type 0 where
   pub text : List Directive → RunReport → List ℕ
   pub telling : ℕ → List ℕ → LineFault → List ℕ
 
-abbrev pub work_of : LinesOptions → List (List Directive) → (List Directive → RunReport → List ℕ) → (ℕ → List ℕ → LineFault → List ℕ) → LineWork
+abbrev pub work_of : LinesOptions → List (List Directive) → (List Directive → RunReport → List ℕ) → (ℕ → List ℕ → LineFault → List ℕ)
+    → LineWork
 work_of options formats text telling = record { options = options; formats = formats; text = text; telling = telling }
 
 -- ---- a line and a format
@@ -83,7 +85,8 @@ judged text line (Some fault) = Err (line, fault)
 abbrev pub IsJudged : LineWork → List ℕ → Result (List ℕ) Miss → Type 0
 IsJudged w line verdict =
     (w.options.limit < length line) × (verdict ≡ Err (take w.options.limit line, TooLong))
-    ⊎ (length line ≤ w.options.limit) × ((ds : List Directive) × (r : RunReport) × Picks w.options w.formats line ds r × (verdict ≡ judged (w.text ds r) line (fault_of w.options line r)))
+    ⊎ (length line ≤ w.options.limit) × ((ds : List Directive) × (r : RunReport) × Picks w.options w.formats line ds r
+    × (verdict ≡ judged (w.text ds r) line (fault_of w.options line r)))
 
 -- the line with this number, counted from 1
 abbrev pub Comes : LineWork → ℕ → List ℕ → Turn → Type 0

@@ -1,9 +1,12 @@
 //! Why a line is no match, and how the loop over the lines of an input ends.
-ghost use Rattle.std.specs.Prelude.{◌≡◌, Some};
+ghost use Rattle.std.specs.Prelude.{◌≡◌, ◌<◌, ◌-◌, ◌^◌, Some};
+ghost use Rattle.sf_lines.specs.Coming.{counted, next_by};
 ghost use Rattle.sf_lines.specs.Loops.{fault_after, status_by};
 ghost use Rattle.sf_lines.specs.Texts.{line_fault_text, lines_fault_text};
 
+use crate::judge::Judged;
 use crate::line::LineRead;
+use sf_base::HeapStore;
 use sf_run::Outcome;
 use std::error::Error;
 use std::fmt;
@@ -106,9 +109,30 @@ pub(crate) fn status(failed: u64, fault: Option<LinesFault>) -> u8
 }
 
 impl Counts {
+    /// With what came of one more line.
+    pub(crate) fn with(self, judged: &Judged) -> Counts
+        requires written { self.written < 2 ^ 64 - 1 }
+        requires failed { self.failed < 2 ^ 64 - 1 }
+        ensures { result ≡ counted judged.now self }
+    {
+        let mut counts = self;
+        match judged {
+            Judged::Written(_) => counts.written += 1,
+            Judged::Failed(_) => counts.failed += 1,
+            Judged::Skipped(_) | Judged::Stopped(_) | Judged::Unread(_) => {}
+        }
+        counts
+    }
+
     /// The end of the loop after these.
     pub(crate) fn ended(self, fault: Option<LinesFault>) -> LinesEnd
-        ensures { result ≡ record { status = status_by self.failed fault; written = self.written; failed = self.failed; fault = fault } }
+        ensures { result ≡ record {
+          status = status_by self.failed fault;
+          written = self.written;
+          failed =
+              self.failed;
+          fault = fault;
+        } }
     {
         LinesEnd {
             status: status(self.failed, fault),
@@ -128,5 +152,21 @@ pub(crate) fn read_fault(read: LineRead, line: u64) -> Option<LinesFault>
         LineRead::Fault => Some(LinesFault::Read { line }),
         LineRead::Endless => Some(LinesFault::TooMany),
         LineRead::NoMemory => Some(LinesFault::Memory),
+    }
+}
+
+/// Whether the loop goes on behind the line with this number, with this store; else the fault with which it ends.
+pub(crate) fn next_step(
+    judged: Judged,
+    keep_going: bool,
+    number: u64,
+) -> Result<HeapStore, Option<LinesFault>>
+    ensures { result ≡ next_by keep_going number judged }
+{
+    match judged {
+        Judged::Skipped(kept) | Judged::Written(kept) => Ok(kept),
+        Judged::Failed(kept) => { if keep_going { Ok(kept) } else { Err(None) } }
+        Judged::Stopped(fault) => Err(Some(fault)),
+        Judged::Unread(read) => Err(read_fault(read, number)),
     }
 }

@@ -2,7 +2,6 @@
 #![tactic(auto)]
 
 mod end;
-mod held;
 mod judge;
 pub mod laws;
 mod line;

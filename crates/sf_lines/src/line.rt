@@ -1,5 +1,6 @@
 //! Lines of a source.
-ghost use Rattle.std.specs.Prelude.{◌≡◌, ◌≤◌, ◌<◌, ◌+◌, ◌++◌, ◌∷◌, ◌⊎◌, true, false, length, take, drop, vec_len, IfOk, if◌then◌else◌};
+ghost use Rattle.std.specs.Prelude.{◌≡◌, ◌≤◌, ◌<◌, ◌+◌, ◌++◌, ◌∷◌, ◌⊎◌, true, false, length, take, drop, vec_len, IfOk};
+ghost use Rattle.std.specs.Prelude.{IsOk, if◌then◌else◌};
 ghost use Rattle.sf_read.specs.Counts.{counted_on};
 ghost use Rattle.sf_lines.specs.Cut.{IsLine};
 ghost use Rattle.sf_lines.specs.Reading.{Reads, is_failed};
@@ -34,7 +35,8 @@ pub(crate) struct Piece {
     pub(crate) ended: bool,
 }
 
-/// Appends the first bytes of what is held to a line that was gathered so far, up to the limit, and says whether the line is
+/// Appends the first bytes of what is held to a line that was gathered so far, up to the limit, and says whether the
+/// line is
 /// longer.
 fn gather(
     line: &mut Vec<u8>,
@@ -48,8 +50,12 @@ fn gather(
     ensures longer { IfOk result (λ l. l ≡ true → (long ≡ true) ⊎ (limit < vec_len line.old + len)) }
     ensures short { IfOk result (λ l. l ≡ false → (long ≡ false) × (vec_len line.old + len ≤ limit)) }
     ensures front { IfOk result (λ _. line.new.items ≡ take limit (line.old.items ++ take len held.now)) }
+    ensures none { limit ≡ 0 → IsOk result }
 {
     let room = limit - line.len();
+    if room == 0 {
+        return Ok(long || len > 0);
+    }
     let (piece, _) = held.split_at(len.min(room));
     line.extend_from_slice(piece)?;
     Ok(long || len > room)
@@ -85,8 +91,11 @@ pub(crate) fn piece_of(held: &[u8]) -> Piece
     }
 }
 
-/// Reads the next line of what the lookahead holds and its source gives, without its line end, in place of what was read
-/// last. Of a line of more than `limit` bytes these first ones are read, and the others passed over.
+/// Reads the next line of what the lookahead holds and its source gives, without its line end, in place of what was
+/// read
+/// last. Of a line of more than `limit` bytes these first ones are read, and the others passed over; by the limit 0
+/// each line is
+/// passed over, and no memory is taken.
 pub fn next_line<S: Source, const N: usize>(
     from: &mut Lookahead<S, N>,
     line: &mut Vec<u8>,
@@ -95,6 +104,7 @@ pub fn next_line<S: Source, const N: usize>(
     ensures reads { Reads S.to_come from.old from.new limit line.new.items result }
     ensures failures { S.failures from.new.source
         ≡ (if is_failed result then counted_on (S.failures from.old.source) else S.failures from.old.source) }
+    ensures unkept { limit ≡ 0 → result ≡ LineRead.NoMemory → ⊥ }
     ensures no_read { from.old.at_end ≡ true → from.new.source ≡ from.old.source }
     ensures stays { from.old.at_end ≡ true → from.new.at_end ≡ true }
 {

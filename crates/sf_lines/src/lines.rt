@@ -11,8 +11,7 @@ ghost use Rattle.sf_lines.specs.Telling.{faults_by};
 ghost use Rattle.sf_lines.specs.Turns.{LineWork, work_of};
 ghost use Rattle.sf_lines.specs.declared.end.LineFault.{LineFault};
 
-use crate::end::{Counts, LinesEnd, LinesFault, read_fault};
-use crate::judge::Judged;
+use crate::end::{Counts, LinesEnd, LinesFault, next_step};
 use crate::options::LinesOptions;
 use crate::turn::turn;
 use crate::writer::{RecordWriter, Teller};
@@ -63,15 +62,22 @@ fn store_for(alloc: Global, formats: &[ScanFormat]) -> Result<HeapStore, AllocEr
     HeapStore::new(alloc, room_for(formats))
 }
 
-/// Scans each line of what the lookahead holds and its source gives as an input of its own, as C programs do with fgets and
-/// sscanf (C11 7.21.7.2, 7.21.6.7): up to byte 10, which is no part of it, or to the end of the input. The first of the
-/// formats that the line matches counts: that is Done on it, and, with `whole`, uses all of it. The writer writes what is
-/// made of that; the teller is told of a line that matches none, by what the last format comes to, or that has more than
-/// `limit` bytes, of which it is handed the first, and the loop stops there, unless it is to keep going; and where the teller
-/// is refused memory, it ends with that fault, and the line isn't counted. What is behind the lines that were read stays held or
+/// Scans each line of what the lookahead holds and its source gives as an input of its own, as C programs do with
+/// fgets and
+/// sscanf (C11 7.21.7.2, 7.21.6.7): up to byte 10, which is no part of it, or to the end of the input. The first of
+/// the
+/// formats that the line matches counts: that is Done on it, and, with `whole`, uses all of it. The writer writes what
+/// is
+/// made of that; the teller is told of a line that matches none, by what the last format comes to, or that has more
+/// than
+/// `limit` bytes, of which it is handed the first, and the loop stops there, unless it is to keep going; and where the
+/// teller
+/// is refused memory, it ends with that fault, and the line isn't counted. What is behind the lines that were read
+/// stays held or
 /// unread.
 ///
-/// The status is 0 where each line is a match, 1 where one isn't, 3 where a read or the sink failed, and 4 where memory was
+/// The status is 0 where each line is a match, 1 where one isn't, 3 where a read or the sink failed, and 4 where
+/// memory was
 /// refused.
 pub fn run_lines<R: RecordWriter, E: Teller<K>, S: Source, K: Sink, const N: usize>(
     alloc: Global,
@@ -84,10 +90,16 @@ pub fn run_lines<R: RecordWriter, E: Teller<K>, S: Source, K: Sink, const N: usi
 ) -> LinesEnd
     requires limit { options.limit ≤ 2147483647 }
     requires some { 0 < length formats.now }
-    ensures loops { (telling : ℕ → List ℕ → LineFault → List ℕ) (t : List ℕ) → E.says teller.old telling → input_of S.to_come from.old ≡ Some t
-        → Loops (work_of options formats.now (R.text writer.old) telling) S.to_come t from.new (S.failures from.old.source) (S.failures from.new.source) (K.contents to.old) (K.contents to.new) (E.failed teller.new) (E.told teller.old) (E.told teller.new) result }
-    ensures tells { (telling : ℕ → List ℕ → LineFault → List ℕ) (t : List ℕ) → E.says teller.old telling → input_of S.to_come from.old ≡ Some t
-        → TellsLines (work_of options formats.now (R.text writer.old) telling) S.to_come t from.new (S.failures from.old.source) (S.failures from.new.source) (K.contents to.old) (K.contents to.new) (E.failed teller.old) (E.failed teller.new) (E.told teller.old) (E.told teller.new) result }
+    ensures loops { (telling : ℕ → List ℕ → LineFault → List ℕ) (t : List ℕ) → E.says teller.old telling
+        → input_of S.to_come from.old ≡ Some t
+        → Loops (work_of options formats.now (R.text writer.old) telling) S.to_come t from.new
+        (S.failures from.old.source) (S.failures from.new.source) (K.contents to.old) (K.contents to.new)
+        (E.failed teller.new) (E.told teller.old) (E.told teller.new) result }
+    ensures tells { (telling : ℕ → List ℕ → LineFault → List ℕ) (t : List ℕ) → E.says teller.old telling
+        → input_of S.to_come from.old ≡ Some t
+        → TellsLines (work_of options formats.now (R.text writer.old) telling) S.to_come t from.new
+        (S.failures from.old.source) (S.failures from.new.source) (K.contents to.old) (K.contents to.new)
+        (E.failed teller.old) (E.failed teller.new) (E.told teller.old) (E.told teller.new) result }
     ensures kept { E.kept teller.new ≡ E.kept teller.old }
     ensures faults { E.faults teller.new ≡ faults_by (E.failed teller.old) (E.failed teller.new) (E.faults teller.old) }
     ensures status { result.status ≡ status_by result.failed result.fault }
@@ -106,26 +118,12 @@ pub fn run_lines<R: RecordWriter, E: Teller<K>, S: Source, K: Sink, const N: usi
     let mut line = Vec::new(alloc);
     for before in 0..MOST_LINES {
         let judged = turn(
-            alloc, from, &mut line, store, to, writer, formats, options, before,
+            alloc, from, &mut line, store, to, writer, teller, formats, options, before,
         );
-        match judged {
-            Judged::Skipped(kept) => store = kept,
-            Judged::Written(kept) => {
-                counts.written += 1;
-                store = kept;
-            }
-            Judged::Failed(kept, fault) => {
-                if teller.tell(to, before + 1, &line, fault).is_err() {
-                    return counts.ended(Some(LinesFault::Memory));
-                }
-                counts.failed += 1;
-                if !options.keep_going {
-                    return counts.ended(None);
-                }
-                store = kept;
-            }
-            Judged::Stopped(fault) => return counts.ended(Some(fault)),
-            Judged::Unread(read) => return counts.ended(read_fault(read, before + 1)),
+        counts = counts.with(&judged);
+        match next_step(judged, options.keep_going, before + 1) {
+            Ok(kept) => store = kept,
+            Err(fault) => return counts.ended(fault),
         }
     }
     counts.ended(Some(LinesFault::TooMany))

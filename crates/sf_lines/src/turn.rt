@@ -1,91 +1,208 @@
 //! What comes of the next line of an input.
-ghost use Rattle.std.specs.Prelude.{◌≡◌, ◌≤◌, ◌+◌, ℕ, List, true, if◌then◌else◌};
+ghost use Rattle.std.specs.Prelude.{◌≡◌, ◌≤◌, ◌<◌, ◌+◌, ◌-◌, ◌^◌, ◌++◌, ◌∷◌, false, ℕ, List, Some, IfSome, true};
+ghost use Rattle.std.specs.Prelude.{length, take, if◌then◌else◌};
 ghost use Rattle.std.specs.List.{AllByRecursion};
 ghost use Rattle.sf_format.specs.Proper.{AreProper};
 ghost use Rattle.sf_print.specs.Sinks.{counted_on};
-ghost use Rattle.sf_lines.specs.Judging.{Turns, is_read_fault, is_write_fault};
+ghost use Rattle.sf_lines.specs.Coming.{Passes, Turns, is_read_fault};
+ghost use Rattle.sf_lines.specs.Cut.{IsLine};
+ghost use Rattle.sf_lines.specs.Judging.{is_write_fault};
+ghost use Rattle.sf_lines.specs.Reading.{IsHeld};
+ghost use Rattle.sf_lines.specs.Telling.{Stays};
 ghost use Rattle.sf_lines.specs.Turns.{work_of};
 ghost use Rattle.sf_lines.specs.declared.end.LineFault.{LineFault};
 
 use crate::end::LineFault;
-use crate::held::take_at_once;
-use crate::judge::{Judged, after_write, judge};
-use crate::line::{LineRead, next_line};
+use crate::judge::{Judged, judge, tell};
+use crate::line::{LineRead, next_line, piece_of};
 use crate::options::LinesOptions;
-use crate::writer::RecordWriter;
+use crate::writer::{RecordWriter, Teller};
 use sf_base::HeapStore;
 use sf_format::ScanFormat;
 use sf_print::Sink;
 use sf_read::{Lookahead, Source};
 use std::alloc::Global;
 
-/// Reads the line behind the first `before`, and scans it, unless it is passed over.
-fn read_line<R: RecordWriter, S: Source, K: Sink, const N: usize>(
+/// How many bytes the next line has, where it is held whole, with its line end, and is within the limit.
+#[inline(always)]
+fn held_line<S: Source, const N: usize>(from: &Lookahead<S, N>, limit: u32) -> Option<usize>
+    ensures held { IfSome result (λ len. IsHeld from.now.held len) }
+    ensures open { IfSome result (λ len. from.now.at_end ≡ false) }
+    ensures short { IfSome result (λ len. len ≤ limit) }
+    ensures answers { (line rest : List ℕ) → IsLine line → from.now.held ≡ line ++ 10 ∷ rest → length line ≤ limit
+        → result ≡ Some (length line) }
+{
+    if from.is_at_end() {
+        return None;
+    }
+    let piece = piece_of(from.held());
+    if piece.ended && piece.len <= limit as usize {
+        Some(piece.len)
+    } else {
+        None
+    }
+}
+
+/// Takes the next line, of so many bytes, and judges it where it stands.
+#[inline(always)]
+fn take_held<R: RecordWriter, E: Teller<K>, S: Source, K: Sink, const N: usize>(
+    alloc: Global,
+    from: &mut Lookahead<S, N>,
+    len: usize,
+    store: HeapStore,
+    to: &mut K,
+    writer: &mut R,
+    teller: &mut E,
+    formats: &[ScanFormat],
+    options: LinesOptions,
+    number: u64,
+) -> Judged
+    requires proper { AllByRecursion AreProper formats.now }
+    requires open { from.old.at_end ≡ false }
+    requires held { IsHeld from.old.held len }
+    requires short { len ≤ options.limit }
+    requires counts { options.skip < number }
+    ensures same { R.text writer.new ≡ R.text writer.old }
+    ensures turns { (telling : ℕ → List ℕ → LineFault → List ℕ) → E.says teller.old telling
+        → Turns S.to_come from.old from.new (work_of options formats.now (R.text writer.old) telling) number
+        (K.contents to.old) (K.contents to.new) (E.failed teller.old) (E.failed teller.new) (E.told teller.old)
+        (E.told teller.new) result }
+    ensures stays { Stays E.says E.kept E.failed E.faults teller.old teller.new }
+    ensures source { S.failures from.new.source
+        ≡ (if is_read_fault result then counted_on (S.failures from.old.source) else S.failures from.old.source) }
+    ensures sink { K.failures to.new
+        ≡ (if is_write_fault result then counted_on (K.failures to.old) else K.failures to.old) }
+    ensures no_read { from.new.source ≡ from.old.source }
+    ensures ended { from.new.at_end ≡ from.old.at_end }
+{
+    let held = from.held();
+    let (ended, _) = held.split_at(len + 1);
+    let (line, _) = held.split_at(len);
+    let judged = judge(
+        alloc, store, line, ended, number, to, writer, teller, formats, options,
+    );
+    from.consume(len + 1);
+    judged
+}
+
+/// Reads the line with this number, and judges it.
+fn read_line<R: RecordWriter, E: Teller<K>, S: Source, K: Sink, const N: usize>(
     alloc: Global,
     from: &mut Lookahead<S, N>,
     line: &mut Vec<u8>,
     store: HeapStore,
     to: &mut K,
     writer: &mut R,
+    teller: &mut E,
     formats: &[ScanFormat],
     options: LinesOptions,
-    before: u64,
+    number: u64,
 ) -> Judged
+    requires proper { AllByRecursion AreProper formats.now }
+    requires counts { options.skip < number }
     ensures same { R.text writer.new ≡ R.text writer.old }
-    ensures turns { (telling : ℕ → List ℕ → LineFault → List ℕ) → Turns S.to_come from.old from.new (work_of options formats.now (R.text writer.old) telling) (before + 1) line.new.items (K.contents to.old) (K.contents to.new) result }
+    ensures turns { (telling : ℕ → List ℕ → LineFault → List ℕ) → E.says teller.old telling
+        → Turns S.to_come from.old from.new (work_of options formats.now (R.text writer.old) telling) number
+        (K.contents to.old) (K.contents to.new) (E.failed teller.old) (E.failed teller.new) (E.told teller.old)
+        (E.told teller.new) result }
+    ensures stays { Stays E.says E.kept E.failed E.faults teller.old teller.new }
     ensures source { S.failures from.new.source
         ≡ (if is_read_fault result then counted_on (S.failures from.old.source) else S.failures from.old.source) }
-    ensures no_read { from.old.at_end ≡ true → from.new.source ≡ from.old.source }
-    ensures stays { from.old.at_end ≡ true → from.new.at_end ≡ true }
     ensures sink { K.failures to.new
         ≡ (if is_write_fault result then counted_on (K.failures to.old) else K.failures to.old) }
+    ensures no_read { from.old.at_end ≡ true → from.new.source ≡ from.old.source }
+    ensures ended { from.old.at_end ≡ true → from.new.at_end ≡ true }
 {
     let read = next_line(from, line, options.limit as usize);
     match read {
-        LineRead::Line | LineRead::TooLong => {}
-        _ => return Judged::Unread(read),
-    }
-    if before < options.skip {
-        return Judged::Skipped(store);
-    }
-    match read {
-        LineRead::TooLong => Judged::Failed(store, LineFault::TooLong),
-        _ => judge(alloc, store, line, to, writer, formats, options),
+        LineRead::Line => judge(
+            alloc, store, line, line, number, to, writer, teller, formats, options,
+        ),
+        LineRead::TooLong => tell(store, to, teller, number, line, LineFault::TooLong),
+        _ => Judged::Unread(read),
     }
 }
 
-/// Takes the line behind the first `before`, and scans it, unless it is passed over: where it stands, if it is held whole and
-/// a match by the first format; else it is read.
-pub(crate) fn turn<R: RecordWriter, S: Source, K: Sink, const N: usize>(
+/// Passes over the next line.
+fn pass_line<S: Source, const N: usize>(
+    from: &mut Lookahead<S, N>,
+    line: &mut Vec<u8>,
+    store: HeapStore,
+) -> Judged
+    ensures passes { Passes S.to_come from.old from.new result }
+    ensures source { S.failures from.new.source
+        ≡ (if is_read_fault result then counted_on (S.failures from.old.source) else S.failures from.old.source) }
+    ensures sound { is_write_fault result ≡ false }
+    ensures no_read { from.old.at_end ≡ true → from.new.source ≡ from.old.source }
+    ensures ended { from.old.at_end ≡ true → from.new.at_end ≡ true }
+{
+    let read = next_line(from, line, 0);
+    match read {
+        LineRead::Line | LineRead::TooLong => Judged::Skipped(store),
+        _ => Judged::Unread(read),
+    }
+}
+
+/// Takes the line behind the first `before`. One that is to be skipped is passed over, and takes no memory. Any other
+/// is judged,
+/// where it stands if it is held whole: then it is not copied.
+pub(crate) fn turn<R: RecordWriter, E: Teller<K>, S: Source, K: Sink, const N: usize>(
     alloc: Global,
     from: &mut Lookahead<S, N>,
     line: &mut Vec<u8>,
-    mut store: HeapStore,
+    store: HeapStore,
     to: &mut K,
     writer: &mut R,
+    teller: &mut E,
     formats: &[ScanFormat],
     options: LinesOptions,
     before: u64,
 ) -> Judged
     requires proper { AllByRecursion AreProper formats.now }
+    requires few { before < 2 ^ 64 - 1 }
     ensures same { R.text writer.new ≡ R.text writer.old }
-    ensures turns { (telling : ℕ → List ℕ → LineFault → List ℕ) → Turns S.to_come from.old from.new (work_of options formats.now (R.text writer.old) telling) (before + 1) line.new.items (K.contents to.old) (K.contents to.new) result }
+    ensures turns { (telling : ℕ → List ℕ → LineFault → List ℕ) → E.says teller.old telling
+        → Turns S.to_come from.old from.new (work_of options formats.now (R.text writer.old) telling) (before + 1)
+        (K.contents to.old) (K.contents to.new) (E.failed teller.old) (E.failed teller.new) (E.told teller.old)
+        (E.told teller.new) result }
+    ensures stays { Stays E.says E.kept E.failed E.faults teller.old teller.new }
     ensures source { S.failures from.new.source
         ≡ (if is_read_fault result then counted_on (S.failures from.old.source) else S.failures from.old.source) }
-    ensures no_read { from.old.at_end ≡ true → from.new.source ≡ from.old.source }
-    ensures stays { from.old.at_end ≡ true → from.new.at_end ≡ true }
     ensures sink { K.failures to.new
         ≡ (if is_write_fault result then counted_on (K.failures to.old) else K.failures to.old) }
+    ensures no_read { from.old.at_end ≡ true → from.new.source ≡ from.old.source }
+    ensures ended { from.old.at_end ≡ true → from.new.at_end ≡ true }
+    ensures uncopied { (whole rest : List ℕ) → IsLine whole → from.old.held ≡ whole ++ 10 ∷ rest
+        → length whole ≤ options.limit
+        → options.skip ≤ before → line.new ≡ line.old }
 {
-    if options.skip > before {
-        return read_line(
-            alloc, from, line, store, to, writer, formats, options, before,
-        );
+    if before < options.skip {
+        return pass_line(from, line, store);
     }
-    match take_at_once(from, &mut store, to, writer, formats, options) {
-        Some(wrote) => after_write(store, wrote),
+    match held_line(from, options.limit) {
+        Some(len) => take_held(
+            alloc,
+            from,
+            len,
+            store,
+            to,
+            writer,
+            teller,
+            formats,
+            options,
+            before + 1,
+        ),
         None => read_line(
-            alloc, from, line, store, to, writer, formats, options, before,
+            alloc,
+            from,
+            line,
+            store,
+            to,
+            writer,
+            teller,
+            formats,
+            options,
+            before + 1,
         ),
     }
 }

@@ -42,17 +42,20 @@ pub trait RecordWriter {
         report: &Report<'_, T>,
     ) -> Result<(), RecordFault>
         ensures same { text self.new ≡ text self.old }
-        ensures written { WritesRecord (text self.old format.now report.now) (K.contents to.old) (K.contents to.new) result }
+        ensures written { WritesRecord (text self.old format.now report.now) (K.contents to.old) (K.contents to.new)
+            result }
         ensures failures { K.failures to.new
             ≡ (if is_sink_fault result then counted_on (K.failures to.old) else K.failures to.old) };
 
     // What the run met isn't written.
-    ghost unmet: { (writer : Self) (format : List Directive) (report : RunReport) (met : Option Ending) → text writer format (with_met report met) ≡ text writer format report };
+    ghost unmet: { (writer : Self) (format : List Directive) (report : RunReport) (met : Option Ending)
+        → text writer format (with_met report met) ≡ text writer format report };
 }
 
-/// Is told of the lines that are no match, beside a sink that takes the others. Once it has failed it says nothing more.
+/// Reports the lines that don't match, beside a sink that takes the others. Once it has failed it says nothing more.
 pub trait Teller<K: Sink> {
-    // Whether this is what it says of each line, by its number, counted from 1, what was read of it, and why it is no match.
+    // Whether this is what it says of each line, by its number, counted from 1, what was read of it, and why it doesn't
+    // match.
     ghost says: { Self → (ℕ → List ℕ → LineFault → List ℕ) → Type 0 };
 
     // There is something that it says of lines.
@@ -72,9 +75,10 @@ pub trait Teller<K: Sink> {
 
     ghost kept: { Self → Self.Kept };
 
-    /// Says that the line with this number, counted from 1, is no match. It is handed what was read of the line, without its
-    /// line end: all of it, or, where it is too long, as many bytes as the limit has; and the sink, so that what waits there can
-    /// be handed on first. Err where memory for what is to be said was refused; then nothing was said, and the sink is as it was.
+    /// Reports that the line with this number, counted from 1, doesn't match. It is handed what was read of the line,
+    /// without its newline: all of it, or, where it is too long, as many bytes as the limit has; and the sink, so that
+    /// what waits there can be handed on first. Err where memory for what is to be said was refused; then nothing was
+    /// said, and the sink is as it was.
     fn tell(
         &mut self,
         to: &mut K,
@@ -85,7 +89,8 @@ pub trait Teller<K: Sink> {
         ensures same { (telling : ℕ → List ℕ → LineFault → List ℕ) → says self.old telling → says self.new telling }
         ensures kept { kept self.new ≡ kept self.old }
         ensures told { (telling : ℕ → List ℕ → LineFault → List ℕ) → says self.old telling
-            → OnOk result (Tells (failed self.old) (failed self.new) (told self.old) (told self.new) (telling number line.now fault)) }
+            → OnOk result (Tells (failed self.old) (failed self.new) (told self.old) (told self.new)
+            (telling number line.now fault)) }
         ensures untold { OnErr result (self.new ≡ self.old) }
         ensures stays { failed self.old ≡ true → failed self.new ≡ true }
         ensures faults { faults self.new ≡ faults_by (failed self.old) (failed self.new) (faults self.old) }

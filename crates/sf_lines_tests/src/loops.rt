@@ -51,6 +51,14 @@ const SKIP_1: LinesOptions = LinesOptions {
     keep_going: false,
 };
 
+/// The first line is passed over; a line of more than three bytes is too long.
+const SHORT_SKIP_1: LinesOptions = LinesOptions {
+    limit: 3,
+    skip: 1,
+    whole: false,
+    keep_going: false,
+};
+
 const SKIP_2: LinesOptions = LinesOptions {
     limit: LIMIT,
     skip: 2,
@@ -127,7 +135,7 @@ type Row = (
     (u64, u64),
 );
 
-static ROWS: [Row; 22] = [
+static ROWS: [Row; 25] = [
     // Lines, and lines that don't match.
     (ONE, PLAIN, "", "", "", (0, 0)),
     (ONE, PLAIN, "ab\ncd\n", "ab\ncd\n", "", (2, 0)),
@@ -175,6 +183,8 @@ static ROWS: [Row; 22] = [
     ),
     (("%*d %s", ""), SKIP_1, "x\ny\n1 ab\n", "", "2my", (0, 1)),
     (ONE, SKIP_9, "ab\ncd\n", "", "", (0, 0)),
+    (ONE, SHORT_SKIP_1, "abcdefgh\nab\n", "ab\n", "", (1, 0)),
+    (ONE, SHORT_SKIP_1, "abcdefgh\nabcd\n", "", "2ta", (0, 1)),
     // Formats that have to use a line to its end.
     (ONE, WHOLE, "ab cd\nef\n", "ef\n", "1la", (1, 1)),
     (ONE, WHOLE, "ab\r\ncd\n", "cd\n", "1la", (1, 1)),
@@ -187,6 +197,14 @@ static ROWS: [Row; 22] = [
         "ab\ncd\n",
         "",
         (2, 0),
+    ),
+    (
+        ("%*d,%s", "%*d;%s"),
+        WHOLE,
+        "1;ab\n2,cd\n3;ef\n4.gh\n",
+        "ab\ncd\nef\n",
+        "4m4",
+        (3, 1),
     ),
     (("%s", "%*d %s"), PLAIN, "1 ab\ncd\n", "1\ncd\n", "", (2, 0)),
     (

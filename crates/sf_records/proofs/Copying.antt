@@ -1,5 +1,6 @@
 -- Joined texts of fitting rows, and copies of copies.
-use Rattle.std.proofs.Common.{◌≡◌, ℕ, ◌+◌, ◌<◌, ◌≤◌, Bool, true, false, ◌&&◌, nat_eq, cond, Option, Some, None, List, [], ◌∷◌, ◌++◌, map, length, drop, inl, inr, refl, sym, ap, ap₂, subst, ◌∙◌, arith, append-nil, length-append, true≢false}
+use Rattle.std.proofs.Common.{◌≡◌, ℕ, ◌+◌, ◌<◌, ◌≤◌, Bool, true, false, ◌&&◌, nat_eq, cond, Option, Some, None, List, [], ◌∷◌, ◌++◌, map}
+use Rattle.std.proofs.Common.{length, drop, inl, inr, refl, sym, ap, ap₂, subst, ◌∙◌, arith, append-nil, length-append, true≢false}
 use Rattle.std.specs.List.{AllByRecursion, filter_map, flat_map}
 use Rattle.std.proofs.lemmas.List.{drop_at}
 use Rattle.std.proofs.lemmas.Bool.{le-leb, ne_eqb}
@@ -35,7 +36,8 @@ use Rattle.sf_records.proofs.Passing.{fit_goes, other}
 abbrev pub RoundTrips : List PrintUnit → List Directive → Type 0
 RoundTrips units ds =
     (row : List Datum) → Fit units ds row → (m : ℕ) → length (printed units row) ≤ m → (z : List ℕ) (ending : Ending)
-    → (r : RunReport) × RunWithin ds m (printed units row ++ z) ending r × IsReadBack (length (destinations_of ds)) (printed units row) row r
+    → (r : RunReport) × RunWithin ds m (printed units row ++ z) ending r
+    × IsReadBack (length (destinations_of ds)) (printed units row) row r
 
 -- no such text is empty; and on the empty input the loop ends
 pub record CarriesOver (units : List PrintUnit) (ds : List Directive) : Type 0 where
@@ -43,14 +45,21 @@ pub record CarriesOver (units : List PrintUnit) (ds : List Directive) : Type 0 w
   pub some : (row : List Datum) → Fit units ds row → 0 < length (printed units row)
   pub ends : (m : ℕ) → (r : RunReport) × RunWithin ds m [] End r × (turn_of r ≡ Ends) × (r.used ≡ 0)
 
-pub carries_over : RoundTrip → AlignedSlotsAgree → PrintsSome → AlignedEndsOnNothing → (units : List PrintUnit) (ds : List Directive) → IsPair units ds → CarriesOver units ds
+pub carries_over : RoundTrip → AlignedSlotsAgree → PrintsSome → AlignedEndsOnNothing → (units : List PrintUnit) (ds : List Directive)
+    → IsPair units ds → CarriesOver units ds
 carries_over round_trip slots_agree prints_some ends_on_nothing units ds pair = record {
   back = λ row fit m short z ending.
       let run = round_trip units ds pair.printed pair.scanned pair.aligned row fit z ending in
       let agree = slots_agree units ds pair.printed pair.scanned pair.aligned row fit in (
         read_back units ds row,
         inl (short, run),
-        record { status = refl; met = refl; used = refl; values = subst (λ (n : ℕ). AreRowOf n row (read_back units ds row).values) agree.count agree.row },
+        record {
+          status = refl;
+          met = refl;
+          used = refl;
+          values = subst (λ (n : ℕ). AreRowOf n row (read_back units ds row).values)
+              agree.count agree.row;
+        },
       );
   some = λ row fit. prints_some units ds pair.printed pair.scanned pair.aligned row fit;
   ends = λ m.
@@ -123,7 +132,8 @@ fit_ends fit turn e = ap (fit_turn fit) e
 -- ---- joined texts
 
 module _ (units : List PrintUnit) (ds : List Directive) (pair : CarriesOver units ds) (w : Work) (m : ℕ)
-    (goes : (r : RunReport) (row : List Datum) → Fit units ds row → length (printed units row) ≤ m → IsReadBack (length (destinations_of ds)) (printed units row) row r → turn_in w r ≡ Goes)
+    (goes : (r : RunReport) (row : List Datum) → Fit units ds row → length (printed units row) ≤ m
+    → IsReadBack (length (destinations_of ds)) (printed units row) row r → turn_in w r ≡ Goes)
   where
     abbrev n : ℕ
     n = length (destinations_of ds)
@@ -143,7 +153,8 @@ module _ (units : List PrintUnit) (ds : List Directive) (pair : CarriesOver unit
     read (row ∷ rows) fit =
         let one = pair.back row fit.0.0 m fit.0.1 (join rows) End in
         let later = read rows fit.1 in
-        let rest : drop one.0.used (printed units row ++ join rows) ≡ join rows = drop_at (printed units row) (join rows) one.0.used (sym one.2.used) in
+        let rest : drop one.0.used (printed units row ++ join rows) ≡ join rows =
+        drop_at (printed units row) (join rows) one.0.used (sym one.2.used) in
         record {
           reports = one.0 ∷ later.reports;
           are = (one.2, later.are);
@@ -174,7 +185,8 @@ module _ (units : List PrintUnit) (ds : List Directive) (pair : CarriesOver unit
               stops = λ e. other {turn = Ends} refl (sym stops ∙ e);
               tail_is = ap (λ t. cond (writes t) (w.text last.0) []) (sym stops);
               spent_is = refl;
-              end_is = ap (λ k. ended k None) {x = length rows} {y = 0 + length all.reports} (omega (arith, all.count)) ∙ ap (λ t. end_by t (0 + length all.reports) last.0) (sym stops);
+              end_is = ap (λ k. ended k None) {x = length rows} {y = 0 + length all.reports} (omega (arith, all.count))
+                  ∙ ap (λ t. end_by t (0 + length all.reports) last.0) (sym stops);
             });
             output_is = sym (append-nil (texts w all.reports));
             used_is = omega (arith, all.uses_are, last.3);
@@ -196,24 +208,29 @@ module _ (tests : FitsIsFit) (units : List PrintUnit) (ds : List Directive) (pai
   back_goes : (r : RunReport) (row : List Datum) → Fit units ds row → IsReadBack slots (printed units row) row r → turn_of r ≡ Goes
   back_goes r row fit back = goes_back r back.status back.met (omega (arith, pair.some row fit, back.used))
 
-  scan_goes : (m : ℕ) (r : RunReport) (row : List Datum) → Fit units ds row → length (printed units row) ≤ m → IsReadBack slots (printed units row) row r → turn_in (scanning ds) r ≡ Goes
+  scan_goes : (m : ℕ) (r : RunReport) (row : List Datum) → Fit units ds row → length (printed units row) ≤ m
+      → IsReadBack slots (printed units row) row r → turn_in (scanning ds) r ≡ Goes
   scan_goes m r row fit short back = fit_is true (turn_of r) refl ∙ back_goes r row fit back
 
   is_copied_so : (row : List Datum) → Fit units ds row → length (printed units row) ≤ most_bytes → is_copied units ds row ≡ true
   is_copied_so row fit short = ap₂ (λ a b. a && b) ((tests units ds row).1 fit) (le-leb (length (printed units row)) most_bytes short)
 
-  copy_goes : (m : ℕ) → m ≤ most_bytes → (r : RunReport) (row : List Datum) → Fit units ds row → length (printed units row) ≤ m → IsReadBack slots (printed units row) row r → turn_in copies r ≡ Goes
+  copy_goes : (m : ℕ) → m ≤ most_bytes → (r : RunReport) (row : List Datum) → Fit units ds row → length (printed units row) ≤ m
+      → IsReadBack slots (printed units row) row r → turn_in copies r ≡ Goes
   copy_goes m most r row fit short back =
-      fit_is (copies.fits r) (turn_of r) (ap (is_copied units ds) (row_is slots row r.values back.values) ∙ is_copied_so row fit (omega arith)) ∙ back_goes r row fit back
+      fit_is (copies.fits r) (turn_of r) (ap (is_copied units ds) (row_is slots row r.values back.values)
+      ∙ is_copied_so row fit (omega arith)) ∙ back_goes r row fit back
 
-  copied_texts : (rows : List (List Datum)) (rs : List RunReport) → AreReadBack slots units rows rs → texts copies rs ≡ flat_map (printed units) rows
+  copied_texts : (rows : List (List Datum)) (rs : List RunReport) → AreReadBack slots units rows rs
+      → texts copies rs ≡ flat_map (printed units) rows
   copied_texts [] [] are = refl
   copied_texts [] (r ∷ rs) are = absurd are
   copied_texts (row ∷ rows) [] are = absurd are
   copied_texts (row ∷ rows) (r ∷ rs) are =
       ap₂ (λ t u. t ++ u) (ap (printed units) (row_is slots row r.values are.0.values)) (copied_texts rows rs are.1)
 
-  pub gives_rows : (m : ℕ) → m ≤ most_bytes → (rows : List (List Datum)) → length rows < most_records → AreFitting units ds m rows → GivesRows units ds m rows
+  pub gives_rows : (m : ℕ) → m ≤ most_bytes → (rows : List (List Datum)) → length rows < most_records → AreFitting units ds m rows
+      → GivesRows units ds m rows
   gives_rows m most rows few fit =
       let copied = reads_rows units ds pair copies m (copy_goes m most) rows few fit in
       record {
@@ -231,8 +248,13 @@ module _ (tests : FitsIsFit) (units : List PrintUnit) (ds : List Directive) (pai
   fitting : (m most : ℕ) (ending : Ending) (x y : List ℕ) (rs : List RunReport) → Passed copies ds m x ending rs y
       → AllByRecursion (λ r. length (copies.text r) ≤ most) rs → AreFitting units ds most (map given rs)
   fitting m most ending x y [] passed short = tt
-  fitting m most ending x y (r ∷ rs) passed short =
-      (((tests units ds (given r)).0 (and_left (fits units ds (given r)) _ (fit_goes (copies.fits r) (turn_of r) passed.1).1), short.0), fitting m most ending (drop r.used x) y rs passed.2 short.1)
+  fitting m most ending x y (r ∷ rs) passed short = (
+    (
+      (tests units ds (given r)).0 (and_left (fits units ds (given r)) _ (fit_goes (copies.fits r) (turn_of r) passed.1).1),
+      short.0,
+    ),
+    fitting m most ending (drop r.used x) y rs passed.2 short.1,
+  )
 
   texts_are : (rs : List RunReport) → texts copies rs ≡ flat_map (printed units) (map given rs)
   texts_are [] = refl
@@ -242,8 +264,10 @@ module _ (tests : FitsIsFit) (units : List PrintUnit) (ds : List Directive) (pai
   as_many [] = refl
   as_many (r ∷ rs) = omega (arith, as_many rs)
 
-  pub twice : (m : ℕ) (x output : List ℕ) (ending : Ending) (used : ℕ) (end : ToolEnd) (h : EndsWith copies ds m x ending output used end) → end.fault ≡ None
-      → (most : ℕ) → most ≤ most_bytes → AllByRecursion (λ r. length (copies.text r) ≤ most) h.written → EndsWith copies ds most output End output (length output) end
+  pub twice : (m : ℕ) (x output : List ℕ) (ending : Ending) (used : ℕ) (end : ToolEnd)
+      (h : EndsWith copies ds m x ending output used end) → end.fault ≡ None
+      → (most : ℕ) → most ≤ most_bytes → AllByRecursion (λ r. length (copies.text r) ≤ most) h.written
+      → EndsWith copies ds most output End output (length output) end
   twice m x output ending used end h none most within short = elim h.stops [
     | inl full ↦ no_fault (sym (ap (λ (e : ToolEnd). e.fault) full.end_is) ∙ none)
     | inr stops ↦
@@ -251,12 +275,17 @@ module _ (tests : FitsIsFit) (units : List PrintUnit) (ds : List Directive) (pai
         let ends : turn ≡ Ends = clean turn (0 + length h.written) stops.last (sym (ap (λ (e : ToolEnd). e.fault) stops.end_is) ∙ none) in
         let nothing : h.tail ≡ [] = stops.tail_is ∙ ap (λ t. cond (writes t) (copies.text stops.last) []) ends in
         let rows : List (List Datum) = map given h.written in
-        let is : output ≡ flat_map (printed units) rows = h.output_is ∙ ap (λ t. texts copies h.written ++ t) nothing ∙ append-nil (texts copies h.written) ∙ texts_are h.written in
+        let is : output ≡ flat_map (printed units) rows = h.output_is ∙ ap (λ t. texts copies h.written ++ t) nothing
+        ∙ append-nil (texts copies h.written) ∙ texts_are h.written in
         let clean_end : end ≡ ended (length rows) None =
-        stops.end_is ∙ ap (λ t. end_by t (0 + length h.written) stops.last) ends ∙ ap (λ k. ended k None) {x = 0 + length h.written} {y = length rows} (omega (arith, as_many h.written)) in
-        let again = gives_rows most within rows (omega (arith, stops.few, as_many h.written)) (fitting m most ending x h.left h.written h.passed short) in
-        let whole : EndsWith copies ds most (flat_map (printed units) rows) End (flat_map (printed units) rows) (length (flat_map (printed units) rows)) (ended (length rows) None) =
-        subst (λ (o : List ℕ). EndsWith copies ds most (flat_map (printed units) rows) End o (length (flat_map (printed units) rows)) (ended (length rows) None)) again.same again.copied.ends in
+        stops.end_is ∙ ap (λ t. end_by t (0 + length h.written) stops.last) ends
+        ∙ ap (λ k. ended k None) {x = 0 + length h.written} {y = length rows} (omega (arith, as_many h.written)) in
+        let again = gives_rows most within rows (omega (arith, stops.few, as_many h.written))
+        (fitting m most ending x h.left h.written h.passed short) in
+        let whole : EndsWith copies ds most (flat_map (printed units) rows) End (flat_map (printed units) rows)
+        (length (flat_map (printed units) rows)) (ended (length rows) None) =
+        subst (λ (o : List ℕ). EndsWith copies ds most (flat_map (printed units) rows) End o (length (flat_map (printed units) rows))
+        (ended (length rows) None)) again.same again.copied.ends in
         subst (λ (e : ToolEnd). EndsWith copies ds most output End output (length output) e) (sym clean_end)
         (subst (λ (o : List ℕ). EndsWith copies ds most o End o (length o) (ended (length rows) None)) (sym is) whole)
   ]

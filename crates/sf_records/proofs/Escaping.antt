@@ -1,5 +1,6 @@
 -- Texts of which each byte is written by itself, and plain texts, which stand as they are.
-use Rattle.std.proofs.Common.{◌≡◌, ℕ, suc, ◌+◌, ◌<◌, ◌≤◌, Bool, true, false, ◌&&◌, not, nat_eq, nat_le, cond, List, [], ◌∷◌, ◌++◌, length, refl, ap, ◌∙◌, arith}
+use Rattle.std.proofs.Common.{◌≡◌, ℕ, suc, ◌+◌, ◌<◌, ◌≤◌, Bool, true, false, ◌&&◌, not, nat_eq, nat_le, cond, List, [], ◌∷◌, ◌++◌, length}
+use Rattle.std.proofs.Common.{refl, ap, ◌∙◌, arith}
 use Rattle.std.proofs.lemmas.Bool.{and_parts, not-true, leb-true, ne_eqb, le-ltb}
 use Rattle.std.specs.List.{AllByRecursion, flat_map, prefix_len}
 use Rattle.sf_records.specs.JsonStrings.{json_escaped}
@@ -26,11 +27,13 @@ plainness b e =
     }
 
 -- a writer that leaves plain bytes as they are leaves a plain text as it is
-pub plain_text : (escape : ℕ → List ℕ) → ((b : ℕ) → is_plain b ≡ true → escape b ≡ b ∷ []) → (xs : List ℕ) → prefix_len is_plain xs ≡ length xs → flat_map escape xs ≡ xs
+pub plain_text : (escape : ℕ → List ℕ) → ((b : ℕ) → is_plain b ≡ true → escape b ≡ b ∷ []) → (xs : List ℕ)
+    → prefix_len is_plain xs ≡ length xs → flat_map escape xs ≡ xs
 plain_text escape keeps [] e = refl
 plain_text escape keeps (x ∷ xs) e = go (is_plain x) refl e (λ rest. plain_text escape keeps xs rest)
   where
-    go : (t : Bool) → is_plain x ≡ t → cond t (1 + prefix_len is_plain xs) 0 ≡ suc (length xs) → (prefix_len is_plain xs ≡ length xs → flat_map escape xs ≡ xs) → flat_map escape (x ∷ xs) ≡ x ∷ xs
+    go : (t : Bool) → is_plain x ≡ t → cond t (1 + prefix_len is_plain xs) 0 ≡ suc (length xs)
+        → (prefix_len is_plain xs ≡ length xs → flat_map escape xs ≡ xs) → flat_map escape (x ∷ xs) ≡ x ∷ xs
     go true is all h = ap (λ (t : List ℕ). t ++ flat_map escape xs) (keeps x is) ∙ ap (λ (t : List ℕ). x ∷ t) (h (omega (arith, all)))
     go false is all h = absurd (omega (arith, all))
 
@@ -39,16 +42,30 @@ pub all_plain : (xs : List ℕ) → prefix_len is_plain xs ≡ length xs → All
 all_plain [] e = tt
 all_plain (x ∷ xs) e = go (is_plain x) refl e (λ rest. all_plain xs rest)
   where
-    go : (t : Bool) → is_plain x ≡ t → cond t (1 + prefix_len is_plain xs) 0 ≡ suc (length xs) → (prefix_len is_plain xs ≡ length xs → AllByRecursion (λ b. b < 128) xs) → AllByRecursion (λ b. b < 128) (x ∷ xs)
+    go : (t : Bool) → is_plain x ≡ t → cond t (1 + prefix_len is_plain xs) 0 ≡ suc (length xs)
+        → (prefix_len is_plain xs ≡ length xs → AllByRecursion (λ b. b < 128) xs) → AllByRecursion (λ b. b < 128) (x ∷ xs)
     go true is all h = (omega (arith, (plainness x is).below), h (omega (arith, all)))
     go false is all h = absurd (omega (arith, all))
 
 pub tsv_keeps : (b : ℕ) → is_plain b ≡ true → tsv_escaped b ≡ b ∷ []
 tsv_keeps b e =
     let p = plainness b e in
-    rw (p.no_backslash, ne_eqb b 9 (λ is. omega (arith, is, p.above)), ne_eqb b 10 (λ is. omega (arith, is, p.above)), ne_eqb b 13 (λ is. omega (arith, is, p.above))) refl
+    rw (
+      p.no_backslash,
+      ne_eqb b 9 (λ is. omega (arith, is, p.above)),
+      ne_eqb b 10 (λ is. omega (arith, is, p.above)),
+      ne_eqb b 13
+          (λ is. omega (arith, is, p.above)),
+    ) refl
 
 pub json_keeps : (b : ℕ) → is_plain b ≡ true → json_escaped b ≡ b ∷ []
 json_keeps b e =
     let p = plainness b e in
-    rw (p.no_quote, p.no_backslash, ne_eqb b 10 (λ is. omega (arith, is, p.above)), ne_eqb b 13 (λ is. omega (arith, is, p.above)), ne_eqb b 9 (λ is. omega (arith, is, p.above)), le-ltb b 32 p.above) refl
+    rw (
+      p.no_quote,
+      p.no_backslash,
+      ne_eqb b 10 (λ is. omega (arith, is, p.above)),
+      ne_eqb b 13 (λ is. omega (arith, is, p.above)),
+      ne_eqb b 9 (λ is. omega (arith, is, p.above)),
+      le-ltb b 32 p.above,
+    ) refl

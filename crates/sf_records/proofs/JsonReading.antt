@@ -1,5 +1,6 @@
 -- What arrays of JSON read as.
-use Rattle.std.proofs.Common.{◌≡◌, ℕ, zero, suc, ◌+◌, ◌-◌, ◌*◌, ◌/◌, ◌%◌, ◌<◌, ◌≤◌, Bool, true, false, cond, nat_eq, nat_le, nat_lt, List, [], ◌∷◌, ◌++◌, length, map, take, ◌^◌, ℤ, pos, negsuc, unsigned_abs, append_assoc, refl, sym, ap, ◌∙◌, arith}
+use Rattle.std.proofs.Common.{◌≡◌, ℕ, zero, suc, ◌+◌, ◌-◌, ◌*◌, ◌/◌, ◌%◌, ◌<◌, ◌≤◌, Bool, true, false, cond, nat_eq, nat_le, nat_lt, List}
+use Rattle.std.proofs.Common.{[], ◌∷◌, ◌++◌, length, map, take, ◌^◌, ℤ, pos, negsuc, unsigned_abs, append_assoc, refl, sym, ap, ◌∙◌, arith}
 use Rattle.std.proofs.lemmas.Bool.{and_from, eqb-true, ne_eqb, le-leb, le-ltb, lt-ltb, ltb-true, ltb-false}
 use Rattle.std.proofs.lemmas.Fmt.{decimal_is_IsNumeral}
 use Rattle.std.proofs.lemmas.List.{append-nil}
@@ -14,7 +15,8 @@ use Rattle.sf_base.specs.Bytes.{AreBytes}
 use Rattle.sf_base.specs.Data.{Datum, Number, Bytes}
 use Rattle.sf_records.specs.declared.form.OutputForm.TheVariants.{Json}
 use Rattle.sf_records.specs.Forms.{json_value, row_text}
-use Rattle.sf_records.specs.JsonReading.{Element, Integer, Outside, Opened, Awaiting, Closed, InNumber, InString, InCode, Reader, after, at, begins, element_of, goes_on, is_digit, rows_in, step_at, with_code, with_element}
+use Rattle.sf_records.specs.JsonReading.{Element, Integer, Outside, Opened, Awaiting, Closed, InNumber, InString, InCode, Reader, after}
+use Rattle.sf_records.specs.JsonReading.{at, begins, element_of, goes_on, is_digit, rows_in, step_at, with_code, with_element}
 use Rattle.sf_records.specs.JsonStrings.{json_escaped, json_from, stray}
 use Rattle.sf_records.specs.Quotes.{hex_digit}
 use Rattle.sf_records.specs.ReadingBack.{AreRows, IsValue, JsonReadsBack}
@@ -56,7 +58,8 @@ number_read : (s : Reader) → IsReady s → (z : ℤ) → unsigned_abs z < 2 ^ 
 unfolding IsReady
 number_read s ready (pos n) few = first_digit s ready (decimal n) (decimal_is_IsNumeral n few).0.0 (digits_of_decimal n few)
 number_read s ready (negsuc n) few =
-    ap (λ (r : Reader). after r (decimal (suc n))) (ready 45 (λ e. omega (arith, e))) ∙ more_digits s (45 ∷ []) (decimal (suc n)) (digits_of_decimal (suc n) few)
+    ap (λ (r : Reader). after r (decimal (suc n))) (ready 45 (λ e. omega (arith, e)))
+    ∙ more_digits s (45 ∷ []) (decimal (suc n)) (digits_of_decimal (suc n) few)
 
 -- ---- characters
 
@@ -64,7 +67,8 @@ hex_back : (k : ℕ) → k < 16 → digit_value (hex_digit k) ≡ k
 hex_back k few = digit_value-digit_char k (omega (arith, few))
 
 code_step : (s : Reader) (t : List ℕ) (more code k : ℕ) → k < 16
-    → step_at (InCode t more code) s (hex_digit k) ≡ cond (nat_eq more 0) (with_code t s (code * 16 + k)) (at (InCode t (more - 1) (code * 16 + k)) s)
+    → step_at (InCode t more code) s (hex_digit k) ≡ cond (nat_eq more 0) (with_code t s (code * 16 + k))
+    (at (InCode t (more - 1) (code * 16 + k)) s)
 code_step s t more code k few = rw (hex_back k few, lt-ltb k 16 few) refl
 
 -- the last two digits of a code
@@ -79,11 +83,19 @@ control_code s t b few =
     let is : (0 * 16 + b / 16) * 16 + b % 16 ≡ b = omega arith in
     rw (is, lt-ltb b 128 (omega (arith, few))) refl
 
-stray_code : (s : Reader) (t : List ℕ) (b : ℕ) → 128 ≤ b → b < 256 → with_code t s ((220 * 16 + b / 16) * 16 + b % 16) ≡ at (InString (t ++ b ∷ [])) s
+stray_code : (s : Reader) (t : List ℕ) (b : ℕ) → 128 ≤ b → b < 256 → with_code t s ((220 * 16 + b / 16) * 16 + b % 16) ≡ at
+    (InString (t ++ b ∷ [])) s
 stray_code s t b high few =
     let is : (220 * 16 + b / 16) * 16 + b % 16 ≡ 56320 + b = omega arith in
     let back : 56320 + b - 56320 ≡ b = omega arith in
-    rw (is, le-ltb (56320 + b) 128 (omega arith), le-leb 56448 (56320 + b) (omega (arith, high)), le-leb (56320 + b) 56575 (omega (arith, few)), back) refl
+    rw (
+      is,
+      le-ltb (56320 + b) 128 (omega arith),
+      le-leb 56448 (56320 + b) (omega (arith, high)),
+      le-leb (56320 + b) 56575
+          (omega (arith, few)),
+      back,
+    ) refl
 
 stray_read : (s : Reader) (t : List ℕ) (b : ℕ) → 128 ≤ b → b < 256 → after (at (InString t) s) (stray b) ≡ at (InString (t ++ b ∷ [])) s
 stray_read s t b high few = two_digits s t 220 b few ∙ stray_code s t b high few
@@ -95,7 +107,8 @@ character_read s t b = go (nat_eq b 34) (nat_eq b 92) (nat_eq b 10) (nat_eq b 13
     known k e = ap (λ (c : ℕ). at (InString (t ++ c ∷ [])) s) (sym (eqb-true b k e))
 
     go : (p q r u v w : Bool) → nat_eq b 34 ≡ p → nat_eq b 92 ≡ q → nat_eq b 10 ≡ r → nat_eq b 13 ≡ u → nat_eq b 9 ≡ v → nat_lt b 32 ≡ w
-        → after (at (InString t) s) (cond p (92 ∷ 34 ∷ []) (cond q (92 ∷ 92 ∷ []) (cond r (92 ∷ 110 ∷ []) (cond u (92 ∷ 114 ∷ []) (cond v (92 ∷ 116 ∷ [])
+        → after (at (InString t) s) (cond p (92 ∷ 34 ∷ []) (cond q (92 ∷ 92 ∷ [])
+        (cond r (92 ∷ 110 ∷ []) (cond u (92 ∷ 114 ∷ []) (cond v (92 ∷ 116 ∷ [])
         (cond w (92 ∷ 117 ∷ 48 ∷ 48 ∷ hex_digit (b / 16) ∷ hex_digit (b % 16) ∷ []) (b ∷ []))))))) ≡ at (InString (t ++ b ∷ [])) s
     go true q r u v w e f g h i j = known 34 e
     go false true r u v w e f g h i j = known 92 f
@@ -127,25 +140,35 @@ stray_is_high b bytes none = go (nat_lt b 128) refl
     go false e = ltb-false b 128 e
 
 -- the bytes so far, one more and the others
-one_by_one : (s : Reader) (t : List ℕ) (b : ℕ) (bytes character rest : List ℕ) → after (at (InString t) s) character ≡ at (InString (t ++ b ∷ [])) s
-    → after (at (InString (t ++ b ∷ [])) s) rest ≡ at (InString ((t ++ b ∷ []) ++ bytes)) s → after (at (InString t) s) (character ++ rest) ≡ at (InString (t ++ b ∷ bytes)) s
+one_by_one : (s : Reader) (t : List ℕ) (b : ℕ) (bytes character rest : List ℕ)
+    → after (at (InString t) s) character ≡ at (InString (t ++ b ∷ [])) s
+    → after (at (InString (t ++ b ∷ [])) s) rest ≡ at (InString ((t ++ b ∷ []) ++ bytes)) s
+    → after (at (InString t) s) (character ++ rest) ≡ at (InString (t ++ b ∷ bytes)) s
 one_by_one s t b bytes character rest one others =
-    after_append (at (InString t) s) character rest ∙ ap (λ (r : Reader). after r rest) one ∙ others ∙ ap (λ (x : List ℕ). at (InString x) s) (append_assoc t (b ∷ []) bytes)
+    after_append (at (InString t) s) character rest ∙ ap (λ (r : Reader). after r rest) one ∙ others
+    ∙ ap (λ (x : List ℕ). at (InString x) s) (append_assoc t (b ∷ []) bytes)
 
-characters_read : (s : Reader) (t : List ℕ) (known : ℕ) (bytes : List ℕ) → AreBytes bytes → after (at (InString t) s) (json_from known bytes) ≡ at (InString (t ++ bytes)) s
+characters_read : (s : Reader) (t : List ℕ) (known : ℕ) (bytes : List ℕ) → AreBytes bytes
+    → after (at (InString t) s) (json_from known bytes) ≡ at (InString (t ++ bytes)) s
 characters_read s t known [] are = ap (λ (x : List ℕ). at (InString x) s) (sym (append-nil t))
 characters_read s t (suc known) (b ∷ bytes) are =
-    one_by_one s t b bytes (json_escaped b) (json_from known bytes) (character_read s t b) (characters_read s (t ++ b ∷ []) known bytes are.1)
+    one_by_one s t b bytes (json_escaped b) (json_from known bytes) (character_read s t b)
+    (characters_read s (t ++ b ∷ []) known bytes are.1)
 characters_read s t zero (b ∷ bytes) are =
-    go (nat_eq (utf8_valid_len (b ∷ bytes)) 0) refl (characters_read s (t ++ b ∷ []) 0 bytes are.1) (characters_read s (t ++ b ∷ []) (utf8_valid_len (b ∷ bytes) - 1) bytes are.1)
+    go (nat_eq (utf8_valid_len (b ∷ bytes)) 0) refl (characters_read s (t ++ b ∷ []) 0 bytes are.1)
+    (characters_read s (t ++ b ∷ []) (utf8_valid_len (b ∷ bytes) - 1) bytes are.1)
   where
     v : ℕ
     v = utf8_valid_len (b ∷ bytes)
 
-    go : (none : Bool) → nat_eq (utf8_valid_len (b ∷ bytes)) 0 ≡ none → after (at (InString (t ++ b ∷ [])) s) (json_from 0 bytes) ≡ at (InString ((t ++ b ∷ []) ++ bytes)) s
-        → after (at (InString (t ++ b ∷ [])) s) (json_from (utf8_valid_len (b ∷ bytes) - 1) bytes) ≡ at (InString ((t ++ b ∷ []) ++ bytes)) s
-        → after (at (InString t) s) (cond none (stray b ++ json_from 0 bytes) (json_escaped b ++ json_from (utf8_valid_len (b ∷ bytes) - 1) bytes)) ≡ at (InString (t ++ b ∷ bytes)) s
-    go true e h i = one_by_one s t b bytes (stray b) (json_from 0 bytes) (stray_read s t b (stray_is_high b bytes (eqb-true (utf8_valid_len (b ∷ bytes)) 0 e)) are.0) h
+    go : (none : Bool) → nat_eq (utf8_valid_len (b ∷ bytes)) 0 ≡ none
+        → after (at (InString (t ++ b ∷ [])) s) (json_from 0 bytes) ≡ at (InString ((t ++ b ∷ []) ++ bytes)) s
+        → after (at (InString (t ++ b ∷ [])) s) (json_from (utf8_valid_len (b ∷ bytes) - 1) bytes) ≡ at
+        (InString ((t ++ b ∷ []) ++ bytes)) s
+        → after (at (InString t) s) (cond none (stray b ++ json_from 0 bytes)
+        (json_escaped b ++ json_from (utf8_valid_len (b ∷ bytes) - 1) bytes)) ≡ at (InString (t ++ b ∷ bytes)) s
+    go true e h i = one_by_one s t b bytes (stray b) (json_from 0 bytes)
+        (stray_read s t b (stray_is_high b bytes (eqb-true (utf8_valid_len (b ∷ bytes)) 0 e)) are.0) h
     go false e h i = one_by_one s t b bytes (json_escaped b) (json_from (utf8_valid_len (b ∷ bytes) - 1) bytes) (character_read s t b) i
 
 -- ---- elements
@@ -155,13 +178,16 @@ element_read : (s : Reader) → IsReady s → (d : Datum) → IsValue d → (e :
 unfolding IsReady
 element_read s ready (Number kind n) is e no_digit rest =
     after_append s (signed_decimal n) (e ∷ rest) ∙ ap (λ (r : Reader). after r (e ∷ rest)) (number_read s ready n (bounded kind n is))
-    ∙ ap (λ (r : Reader). after r rest) ended ∙ ap (λ (z : ℤ). after (goes_on (with_element (Integer z) s) e) rest) (number_back n (bounded kind n is))
+    ∙ ap (λ (r : Reader). after r rest) ended ∙ ap (λ (z : ℤ). after (goes_on (with_element (Integer z) s) e) rest)
+    (number_back n (bounded kind n is))
   where
-    ended : step_at (InNumber (signed_decimal n)) (at (InNumber (signed_decimal n)) s) e ≡ goes_on (with_element (Integer (signed_digits_value 10 (signed_decimal n))) s) e
+    ended : step_at (InNumber (signed_decimal n)) (at (InNumber (signed_decimal n)) s) e ≡ goes_on
+        (with_element (Integer (signed_digits_value 10 (signed_decimal n))) s) e
     ended = rw no_digit refl
 element_read s ready (Bytes bytes) is e no_digit rest =
     ap (λ (r : Reader). after r ((json_from 0 bytes ++ 34 ∷ []) ++ e ∷ rest)) (ready 34 (λ e. omega (arith, e)))
-    ∙ ap (after (at (InString []) s)) (append_assoc (json_from 0 bytes) (34 ∷ []) (e ∷ rest)) ∙ after_append (at (InString []) s) (json_from 0 bytes) (34 ∷ e ∷ rest)
+    ∙ ap (after (at (InString []) s)) (append_assoc (json_from 0 bytes) (34 ∷ []) (e ∷ rest))
+    ∙ after_append (at (InString []) s) (json_from 0 bytes) (34 ∷ e ∷ rest)
     ∙ ap (λ (r : Reader). after r (34 ∷ e ∷ rest)) (characters_read s [] 0 bytes is)
 
 -- ---- arrays
@@ -179,7 +205,8 @@ elements_read s ready d (e ∷ row) are rest =
     let next : Reader = at Awaiting (with_element (element_of d) s) in
     ap (after s) (append_assoc (json_value d) (44 ∷ others) (93 ∷ rest)) ∙ element_read s ready d are.0 44 refl (others ++ (93 ∷ rest))
     ∙ elements_read next (λ b no. refl) e row are.1 rest
-    ∙ ap (λ (t : List Element). after (record { rows = s.rows; row = t; place = Closed }) rest) (append_assoc s.row (element_of d ∷ []) (map element_of (e ∷ row)))
+    ∙ ap (λ (t : List Element). after (record { rows = s.rows; row = t; place = Closed }) rest)
+    (append_assoc s.row (element_of d ∷ []) (map element_of (e ∷ row)))
 
 -- the reader that has read these arrays
 done : List (List Element) → Reader
@@ -194,7 +221,8 @@ array_read rows (d ∷ row) are text =
     ap (after opened) (append_assoc (join_with_byte 44 (map json_value (d ∷ row))) (93 ∷ 10 ∷ []) text)
     ∙ elements_read opened (λ b no. rw (ne_eqb b 93 no) refl) d row are (10 ∷ text)
 
-arrays_read : (rows : List (List Element)) (more : List (List Datum)) → AreRows more → after (done rows) (flat_map (row_text Json) more) ≡ done (rows ++ map (map element_of) more)
+arrays_read : (rows : List (List Element)) (more : List (List Datum)) → AreRows more
+    → after (done rows) (flat_map (row_text Json) more) ≡ done (rows ++ map (map element_of) more)
 unfolding done
 arrays_read rows [] are = ap (λ (t : List (List Element)). done t) (sym (append-nil rows))
 arrays_read rows (row ∷ more) are =

@@ -1,5 +1,6 @@
 -- Arrays of JSON are UTF-8.
-use Rattle.std.proofs.Common.{◌≡◌, ℕ, zero, suc, ◌+◌, ◌/◌, ◌%◌, ◌<◌, ◌≤◌, Bool, true, false, cond, nat_eq, nat_lt, List, [], ◌∷◌, ◌++◌, length, map, take, drop, append-nil, refl, sym, ap, subst, ◌∙◌, arith}
+use Rattle.std.proofs.Common.{◌≡◌, ℕ, zero, suc, ◌+◌, ◌/◌, ◌%◌, ◌<◌, ◌≤◌, Bool, true, false, cond, nat_eq, nat_lt, List, [], ◌∷◌, ◌++◌}
+use Rattle.std.proofs.Common.{length, map, take, drop, append-nil, refl, sym, ap, subst, ◌∙◌, arith}
 use Rattle.std.proofs.lemmas.Bool.{and_parts, eqb-false, ne_eqb, le-ltb, ltb-true, ltb-false}
 use Rattle.std.proofs.lemmas.Grind.{flat_map-append}
 use Rattle.std.proofs.lemmas.List.{length-drop}
@@ -30,7 +31,19 @@ digit_ascii k few = go (nat_lt k 10) refl
 
 stray_ascii : (b : ℕ) → b < 256 → IsUtf8 (stray b)
 stray_ascii b few =
-    ascii_utf8 (stray b) (omega arith, (omega arith, (omega arith, (omega arith, (digit_ascii (b / 16) (omega (arith, few)), (digit_ascii (b % 16) (omega arith), tt))))))
+    ascii_utf8 (stray b) (
+      omega arith,
+      (
+        omega arith,
+        (
+          omega arith,
+          (
+            omega arith,
+            (digit_ascii (b / 16) (omega (arith, few)), (digit_ascii (b % 16) (omega arith), tt)),
+          ),
+        ),
+      ),
+    )
 
 escaped_ascii : (b : ℕ) → b < 128 → IsUtf8 (json_escaped b)
 escaped_ascii b few = go (nat_eq b 34) (nat_eq b 92) (nat_eq b 10) (nat_eq b 13) (nat_eq b 9) (nat_lt b 32) refl
@@ -59,7 +72,16 @@ high_kept [] all = refl
 high_kept (x ∷ xs) all = ap (λ (t : List ℕ). t ++ flat_map json_escaped xs) (kept all.0) ∙ ap (λ (t : List ℕ). x ∷ t) (high_kept xs all.1)
   where
     kept : 128 ≤ x → json_escaped x ≡ x ∷ []
-    kept high = rw (ne_eqb x 34 (λ e. omega (arith, e, high)), ne_eqb x 92 (λ e. omega (arith, e, high)), ne_eqb x 10 (λ e. omega (arith, e, high)), ne_eqb x 13 (λ e. omega (arith, e, high)), ne_eqb x 9 (λ e. omega (arith, e, high)), le-ltb x 32 (omega (arith, high))) refl
+    kept high = rw (
+      ne_eqb x 34 (λ e. omega (arith, e, high)),
+      ne_eqb x 92 (λ e. omega (arith, e, high)),
+      ne_eqb x 10
+          (λ e. omega (arith, e, high)),
+      ne_eqb x 13 (λ e. omega (arith, e, high)),
+      ne_eqb x 9 (λ e. omega (arith, e, high)),
+      le-ltb x
+          32 (omega (arith, high)),
+    ) refl
 
 -- beyond ASCII a character has no ASCII byte
 encode_high : (c : ℕ) → 128 ≤ c → AllByRecursion (λ b. 128 ≤ b) (encode c)
@@ -69,7 +91,8 @@ encode_high c high = rw (le-ltb c 128 high) (go (nat_lt c 2048) (nat_lt c 65536)
     next : ℕ → ℕ
     next bits = 128 + bits % 64
 
-    go : (p q : Bool) → AllByRecursion (λ b. 128 ≤ b) (cond p ((192 + c / 64) ∷ (128 + c % 64) ∷ []) (cond q ((224 + c / 4096) ∷ (128 + c / 64 % 64) ∷ (128 + c % 64) ∷ [])
+    go : (p q : Bool) → AllByRecursion (λ b. 128 ≤ b) (cond p ((192 + c / 64) ∷ (128 + c % 64) ∷ [])
+        (cond q ((224 + c / 4096) ∷ (128 + c / 64 % 64) ∷ (128 + c % 64) ∷ [])
         ((240 + c / 262144) ∷ (128 + c / 4096 % 64) ∷ (128 + c / 64 % 64) ∷ (128 + c % 64) ∷ [])))
     go true q = (omega arith, (omega arith, tt))
     go false true = (omega arith, (omega arith, (omega arith, tt)))
@@ -81,7 +104,8 @@ character_written c is = go (nat_lt c 128) refl
     go : (t : Bool) → nat_lt c 128 ≡ t → IsUtf8 (flat_map json_escaped (encode c))
     go true e =
         let few = ltb-true c 128 e in
-        subst (λ (t : List ℕ). IsUtf8 (flat_map json_escaped t)) (sym (encode_ascii c few)) (subst IsUtf8 (sym (append-nil (json_escaped c))) (escaped_ascii c few))
+        subst (λ (t : List ℕ). IsUtf8 (flat_map json_escaped t)) (sym (encode_ascii c few))
+        (subst IsUtf8 (sym (append-nil (json_escaped c))) (escaped_ascii c few))
     go false e = subst IsUtf8 (sym (high_kept (encode c) (encode_high c (ltb-false c 128 e)))) (IsUtf8-encode c is)
 
 characters_written : (cs : List ℕ) → scalars cs ≡ true → IsUtf8 (flat_map json_escaped (encodes cs))
@@ -89,7 +113,8 @@ characters_written [] are = IsUtf8-nil
 characters_written (c ∷ cs) are =
     let both = and_parts (scalar c) (scalars cs) are in
     subst IsUtf8 (sym (flat_map-append json_escaped (encode c) (encodes cs)))
-    (IsUtf8-append (flat_map json_escaped (encode c)) (flat_map json_escaped (encodes cs)) (character_written c both.0) (characters_written cs both.1))
+    (IsUtf8-append (flat_map json_escaped (encode c)) (flat_map json_escaped (encodes cs)) (character_written c both.0)
+    (characters_written cs both.1))
 
 front_written : (xs : List ℕ) → IsUtf8 xs → IsUtf8 (flat_map json_escaped xs)
 front_written xs (cs, (are, is)) = subst (λ (t : List ℕ). IsUtf8 (flat_map json_escaped t)) is (characters_written cs are)
@@ -100,7 +125,8 @@ valid_front : (bs : List ℕ) (n : ℕ) → IsUtf8 (take (valid_len_up_to bs n) 
 valid_front bs zero = IsUtf8-nil
 valid_front bs (suc n) = go (is_utf8 (take (suc n) bs)) refl (valid_front bs n)
   where
-    go : (t : Bool) → is_utf8 (take (suc n) bs) ≡ t → IsUtf8 (take (valid_len_up_to bs n) bs) → IsUtf8 (take (cond t (suc n) (valid_len_up_to bs n)) bs)
+    go : (t : Bool) → is_utf8 (take (suc n) bs) ≡ t → IsUtf8 (take (valid_len_up_to bs n) bs)
+        → IsUtf8 (take (cond t (suc n) (valid_len_up_to bs n)) bs)
     go true e h = IsUtf8-from_is_utf8 (take (suc n) bs) e
     go false e h = h
 
@@ -117,15 +143,18 @@ written : (most : ℕ) (bs : List ℕ) → length bs ≤ most → AreBytes bs �
 written most [] few are = IsUtf8-nil
 written zero (b ∷ bs) few are = absurd (omega (arith, few))
 written (suc most) (b ∷ bs) few are =
-    go (nat_eq (utf8_valid_len (b ∷ bs)) 0) refl (written most bs (omega (arith, few)) are.1) (λ short. written most (drop (utf8_valid_len (b ∷ bs)) (b ∷ bs)) short (bytes_left (utf8_valid_len (b ∷ bs)) (b ∷ bs) are))
+    go (nat_eq (utf8_valid_len (b ∷ bs)) 0) refl (written most bs (omega (arith, few)) are.1)
+    (λ short. written most (drop (utf8_valid_len (b ∷ bs)) (b ∷ bs)) short (bytes_left (utf8_valid_len (b ∷ bs)) (b ∷ bs) are))
   where
-    go : (t : Bool) → nat_eq (utf8_valid_len (b ∷ bs)) 0 ≡ t → IsUtf8 (json_from 0 bs) → (length (drop (utf8_valid_len (b ∷ bs)) (b ∷ bs)) ≤ most → IsUtf8 (json_from 0 (drop (utf8_valid_len (b ∷ bs)) (b ∷ bs))))
+    go : (t : Bool) → nat_eq (utf8_valid_len (b ∷ bs)) 0 ≡ t → IsUtf8 (json_from 0 bs)
+        → (length (drop (utf8_valid_len (b ∷ bs)) (b ∷ bs)) ≤ most → IsUtf8 (json_from 0 (drop (utf8_valid_len (b ∷ bs)) (b ∷ bs))))
         → IsUtf8 (json_from 0 (b ∷ bs))
     go true e h i = subst IsUtf8 (rw e refl) (IsUtf8-append (stray b) (json_from 0 bs) (stray_ascii b are.0) h)
     go false e h i =
         let some = eqb-false (utf8_valid_len (b ∷ bs)) 0 e in
         subst IsUtf8 (sym (longest_kept (b ∷ bs) (utf8_valid_len_le (b ∷ bs)) some))
-        (IsUtf8-append (flat_map json_escaped (take (utf8_valid_len (b ∷ bs)) (b ∷ bs))) (json_from 0 (drop (utf8_valid_len (b ∷ bs)) (b ∷ bs)))
+        (IsUtf8-append (flat_map json_escaped (take (utf8_valid_len (b ∷ bs)) (b ∷ bs)))
+        (json_from 0 (drop (utf8_valid_len (b ∷ bs)) (b ∷ bs)))
         (front_written (take (utf8_valid_len (b ∷ bs)) (b ∷ bs)) (longest_is (b ∷ bs)))
         (i (omega (arith, few, some, length-drop (utf8_valid_len (b ∷ bs)) (b ∷ bs)))))
 
@@ -151,8 +180,10 @@ values_utf8 (d ∷ e ∷ row) are =
 row_utf8 : (row : List Datum) → AllByRecursion IsValue row → IsUtf8 (row_text Json row)
 row_utf8 row are =
     IsUtf8-append (91 ∷ []) (join_with_byte 44 (map json_value row) ++ (93 ∷ 10 ∷ [])) (ascii_byte 91 (omega arith))
-    (IsUtf8-append (join_with_byte 44 (map json_value row)) (93 ∷ 10 ∷ []) (values_utf8 row are) (ascii_utf8 (93 ∷ 10 ∷ []) (omega arith, (omega arith, tt))))
+    (IsUtf8-append (join_with_byte 44 (map json_value row)) (93 ∷ 10 ∷ []) (values_utf8 row are)
+    (ascii_utf8 (93 ∷ 10 ∷ []) (omega arith, (omega arith, tt))))
 
 pub arrays_utf8 : JsonIsUtf8
 arrays_utf8 [] are = IsUtf8-nil
-arrays_utf8 (row ∷ rows) are = IsUtf8-append (row_text Json row) (flat_map (row_text Json) rows) (row_utf8 row are.0) (arrays_utf8 rows are.1)
+arrays_utf8 (row ∷ rows) are = IsUtf8-append (row_text Json row) (flat_map (row_text Json) rows) (row_utf8 row are.0)
+    (arrays_utf8 rows are.1)

@@ -1,5 +1,6 @@
 -- What stands for bytes in a string of JSON, byte by byte.
-use Rattle.std.proofs.Common.{◌≡◌, ℕ, zero, suc, ◌+◌, ◌-◌, ◌<◌, ◌≤◌, nat_eq, cond, List, [], ◌∷◌, ◌++◌, length, take, drop, append_assoc, refl, sym, ap, subst, ◌∙◌, arith}
+use Rattle.std.proofs.Common.{◌≡◌, ℕ, zero, suc, ◌+◌, ◌-◌, ◌<◌, ◌≤◌, nat_eq, cond, List, [], ◌∷◌, ◌++◌, length, take, drop, append_assoc}
+use Rattle.std.proofs.Common.{refl, sym, ap, subst, ◌∙◌, arith}
 use Rattle.std.proofs.lemmas.Bool.{ne_eqb}
 use Rattle.std.proofs.lemmas.List.{append-nil, drop-drop, take_all, length-take, length-drop}
 use Rattle.std.proofs.lemmas.Str.{IsUtf8-append, IsUtf8-encode, IsUtf8-nil, encode_ascii, utf8_valid_len-IsUtf8}
@@ -26,7 +27,8 @@ pub longest_kept : (xs : List ℕ) → utf8_valid_len xs ≤ length xs → (utf8
 longest_kept [] few some = absurd (some (omega (arith, few)))
 longest_kept (x ∷ xs) few some = go (utf8_valid_len (x ∷ xs)) some ∙ known_front (utf8_valid_len (x ∷ xs)) (x ∷ xs) few
   where
-    go : (v : ℕ) → (v ≡ 0 → ⊥) → cond (nat_eq v 0) (stray x ++ json_from 0 xs) (json_escaped x ++ json_from (v - 1) xs) ≡ json_from v (x ∷ xs)
+    go : (v : ℕ) → (v ≡ 0 → ⊥) → cond (nat_eq v 0) (stray x ++ json_from 0 xs) (json_escaped x ++ json_from (v - 1) xs) ≡ json_from v
+        (x ∷ xs)
     go zero none = absurd (none refl)
     go (suc v) none =
         rw (ne_eqb (suc v) 0 none) (ap (λ (k : ℕ). json_escaped x ++ json_from k xs) {x = suc v - 1} {y = v} (omega arith))
@@ -36,7 +38,8 @@ longest_kept (x ∷ xs) few some = go (utf8_valid_len (x ∷ xs)) some ∙ known
 rest_of : (xs : List ℕ) (d : ℕ) → d ≤ length xs → slice_range xs d (length xs) ≡ drop d xs
 rest_of xs d within = take_all (length xs - d) (drop d xs) (omega (arith, within, length-drop d xs))
 
-pub kept_written : (xs out new : List ℕ) (d k : ℕ) → d < length xs → k ≡ utf8_valid_len (slice_range xs d (length xs)) → k ≤ length (slice_range xs d (length xs)) → (k ≡ 0 → ⊥)
+pub kept_written : (xs out new : List ℕ) (d k : ℕ) → d < length xs → k ≡ utf8_valid_len (slice_range xs d (length xs))
+    → k ≤ length (slice_range xs d (length xs)) → (k ≡ 0 → ⊥)
     → new ≡ out ++ flat_map json_escaped (slice_range xs d (d + k)) → new ++ json_from 0 (drop (d + k) xs) ≡ out ++ json_from 0 (drop d xs)
 kept_written xs out new d k within count few some e =
     let all : slice_range xs d (length xs) ≡ drop d xs = rest_of xs d (omega (arith, within)) in
@@ -44,7 +47,8 @@ kept_written xs out new d k within count few some e =
     let front : slice_range xs d (d + k) ≡ take k (drop d xs) = ap (λ (k : ℕ). take k (drop d xs)) {x = d + k - d} {y = k} (omega arith) in
     let rest : drop (d + k) xs ≡ drop k (drop d xs) = sym (drop-drop k d xs) in
     let fits : utf8_valid_len (drop d xs) ≤ length (drop d xs) = omega (arith, few, ap length all, n) in
-    let kept : json_from 0 (drop d xs) ≡ flat_map json_escaped (take k (drop d xs)) ++ json_from 0 (drop k (drop d xs)) = rw n (longest_kept (drop d xs) fits (λ none. some (n ∙ none))) in
+    let kept : json_from 0 (drop d xs) ≡ flat_map json_escaped (take k (drop d xs)) ++ json_from 0 (drop k (drop d xs)) =
+    rw n (longest_kept (drop d xs) fits (λ none. some (n ∙ none))) in
     rw (e, front, rest, kept) (append_assoc out (flat_map json_escaped (take k (drop d xs))) (json_from 0 (drop k (drop d xs))))
 
 -- how far the loop has come
@@ -76,6 +80,7 @@ pub whole_plain : (xs : List ℕ) → prefix_len is_plain xs ≡ length xs → j
 whole_plain xs e = whole_kept xs (ascii_utf8 xs (all_plain xs e)) ∙ plain_text json_escaped json_keeps xs e
 
 -- a string with its quotes
-pub string_is : (out begun written new xs text : List ℕ) → begun ≡ out ++ 34 ∷ [] → written ≡ begun ++ text → text ≡ json_from 0 xs → new ≡ written ++ 34 ∷ [] → new ≡ out ++ json_string xs
+pub string_is : (out begun written new xs text : List ℕ) → begun ≡ out ++ 34 ∷ [] → written ≡ begun ++ text → text ≡ json_from 0 xs
+    → new ≡ written ++ 34 ∷ [] → new ≡ out ++ json_string xs
 string_is out begun written new xs text first middle is last =
     rw (last, middle, first, ← is) (append_assoc (out ++ 34 ∷ []) text (34 ∷ []) ∙ append_assoc out (34 ∷ []) (text ++ 34 ∷ []))

@@ -1,6 +1,7 @@
 pub mod Copying
 pub mod Decimals
 pub mod Escaping
+pub mod Growing
 pub mod Joining
 pub mod JsonReading
 pub mod JsonUtf8

@@ -1,5 +1,6 @@
 -- The loop over the records of a source: how it goes on, and what holds where it stops.
-use Rattle.std.proofs.Common.{◌≡◌, ℕ, ◌+◌, ◌<◌, ◌≤◌, Bool, true, false, cond, List, [], ◌∷◌, ◌++◌, length, take, drop, Option, Some, ◌⊎◌, inl, inr, refl, sym, ap, subst, ◌∙◌, arith, append_assoc, append-nil, length-append, true≢false}
+use Rattle.std.proofs.Common.{◌≡◌, ℕ, ◌+◌, ◌<◌, ◌≤◌, Bool, true, false, cond, List, [], ◌∷◌, ◌++◌, length, take, drop, Option, Some, ◌⊎◌}
+use Rattle.std.proofs.Common.{inl, inr, refl, sym, ap, subst, ◌∙◌, arith, append_assoc, append-nil, length-append, true≢false}
 use Rattle.std.proofs.lemmas.List.{take-append-drop, length-take-le}
 use Rattle.std.proofs.lemmas.Grind.{flat_map-append}
 use Rattle.std.proofs.Math.Seq.{take-append-add, drop-append-add, drop-append_seam}
@@ -26,13 +27,16 @@ use Rattle.sf_records.specs.declared.end.ToolFault.TheVariants as faults
 use Rattle.sf_records.specs.Judging.{TakesPart, Interrupts, Concludes}
 use Rattle.sf_records.specs.Turns.{writes}
 use Rattle.sf_records.specs.Works.{Work, turn_in, texts, last_text}
-use Rattle.sf_records.specs.Records.{Passed, EndsWith, IsCutShort, IsRefusedBehind, Loops, uses, ended, end_by, input_by, ending_by, most_records}
-use Rattle.sf_records.proofs.Passing.{is_ran_out, not_ran_out, ran_out_status, within_fine, told_refused, unbounded_by, goes_is_no_fault, written_is_no_memory, passed_more, uses_append}
+use Rattle.sf_records.specs.Records.{Passed, EndsWith, IsCutShort, IsRefusedBehind, Loops, uses, ended, end_by, input_by, ending_by}
+use Rattle.sf_records.specs.Records.{most_records}
+use Rattle.sf_records.proofs.Passing.{is_ran_out, not_ran_out, ran_out_status, within_fine, told_refused, unbounded_by, goes_is_no_fault}
+use Rattle.sf_records.proofs.Passing.{written_is_no_memory, passed_more, uses_append}
 use Rattle.sf_records.proofs.OneEnd.{has_end, has_end_after, joined}
 
 -- After n records of the input t. What they say rests on the bytes that were read alone, so that it stands also where the
 -- source fails later. The sink held the bytes `was`, and now `is`.
-pub record Going {S : Type 0} (w : Work) (to_come : S → Option (List ℕ)) (ds : List Directive) (m : ℕ) (t : List ℕ) (now : Ahead S) (was is : Option (List ℕ)) (failures failures' : ℕ) (n : ℕ) : Type 0 where
+pub record Going {S : Type 0} (w : Work) (to_come : S → Option (List ℕ)) (ds : List Directive) (m : ℕ) (t : List ℕ) (now : Ahead S)
+    (was is : Option (List ℕ)) (failures failures' : ℕ) (n : ℕ) : Type 0 where
   pub front : List RunReport
   pub count : length front ≡ n
   pub used_up : List ℕ
@@ -41,11 +45,13 @@ pub record Going {S : Type 0} (w : Work) (to_come : S → Option (List ℕ)) (ds
   pub parts : t ≡ used_up ++ left
   pub used : length used_up ≡ uses front
   pub whole : Passed w ds m t End front left
-  pub passed : (z : List ℕ) (ending : Ending) → MayFollow now z ending → Passed w ds m (used_up ++ (now.held ++ z)) ending front (now.held ++ z)
+  pub passed : (z : List ℕ) (ending : Ending) → MayFollow now z ending
+      → Passed w ds m (used_up ++ (now.held ++ z)) ending front (now.held ++ z)
   pub appends : Appends was is (texts w front)
   pub no_failure : failures' ≡ failures
 
-pub begins : {S : Type 0} (w : Work) (to_come : S → Option (List ℕ)) (ds : List Directive) (m : ℕ) (t : List ℕ) (now : Ahead S) (was : Option (List ℕ)) (failures : ℕ)
+pub begins : {S : Type 0} (w : Work) (to_come : S → Option (List ℕ)) (ds : List Directive) (m : ℕ) (t : List ℕ) (now : Ahead S)
+    (was : Option (List ℕ)) (failures : ℕ)
     → input_of to_come now ≡ Some t → Going w to_come ds m t now was was failures failures 0
 begins w to_come ds m t now was failures e = record {
   front = [];
@@ -62,12 +68,15 @@ begins w to_come ds m t now was failures e = record {
 }
 
 -- a lookahead that is as before
-pub same_ahead : {S : Type 0} {w : Work} {to_come : S → Option (List ℕ)} {ds : List Directive} {m : ℕ} {t : List ℕ} {now new : Ahead S} {was is : Option (List ℕ)} {failures n : ℕ}
-    (failures_of : S → ℕ) → new ≡ now → Going w to_come ds m t now was is failures (failures_of now.source) n → Going w to_come ds m t new was is failures (failures_of new.source) n
+pub same_ahead : {S : Type 0} {w : Work} {to_come : S → Option (List ℕ)} {ds : List Directive} {m : ℕ} {t : List ℕ}
+    {now new : Ahead S} {was is : Option (List ℕ)} {failures n : ℕ}
+    (failures_of : S → ℕ) → new ≡ now → Going w to_come ds m t now was is failures (failures_of now.source) n
+    → Going w to_come ds m t new was is failures (failures_of new.source) n
 same_ahead failures_of e g = rw e g
 
 -- a scan whose report is known by another name
-pub scan_as : {S : Type 0} {to_come : S → Option (List ℕ)} {ds : List Directive} {m : ℕ} {t : List ℕ} {old new : Ahead S} {r named : RunReport} → named ≡ r → Scan to_come ds m t old new r → Scan to_come ds m t old new named
+pub scan_as : {S : Type 0} {to_come : S → Option (List ℕ)} {ds : List Directive} {m : ℕ} {t : List ℕ} {old new : Ahead S}
+    {r named : RunReport} → named ≡ r → Scan to_come ds m t old new r → Scan to_come ds m t old new named
 scan_as e scan = rw e scan
 
 -- ---- lists
@@ -88,9 +97,12 @@ drop_front a h z u e = rw (← e, append_assoc) (drop-append_seam a (h ++ z))
 -- ---- where the loop is ended before
 
 -- memory was refused behind the records that were passed
-short_of_memory : (one : EachHasOneReport) (w : Work) (ds : List Directive) → AreProper ds → (m : ℕ) (x left : List ℕ) (ending : Ending) (front : List RunReport) (spent : ℕ) (answer : ToolEnd)
-    → length front ≤ most_records → Passed w ds m x ending front left → IsRefusedBehind front w ds m left ending spent → answer ≡ ended (length front) (Some faults.Memory)
-    → (output : List ℕ) × (used : ℕ) × (end : ToolEnd) × EndsWith w ds m x ending output used end × ((missing : List ℕ) × (output ≡ texts w front ++ missing))
+short_of_memory : (one : EachHasOneReport) (w : Work) (ds : List Directive) → AreProper ds
+    → (m : ℕ) (x left : List ℕ) (ending : Ending) (front : List RunReport) (spent : ℕ) (answer : ToolEnd)
+    → length front ≤ most_records → Passed w ds m x ending front left → IsRefusedBehind front w ds m left ending spent
+    → answer ≡ ended (length front) (Some faults.Memory)
+    → (output : List ℕ) × (used : ℕ) × (end : ToolEnd) × EndsWith w ds m x ending output used end
+    × ((missing : List ℕ) × (output ≡ texts w front ++ missing))
     × IsCutShort w ds m x ending (texts w front) (uses front + spent) answer
 short_of_memory one w ds proper m x left ending front spent answer few passed refused is =
     let h = has_end one w ds proper m ending (0 + length front) (omega (arith, few)) left in (
@@ -112,10 +124,13 @@ short_of_memory one w ds proper m x left ending front spent answer few passed re
     )
 
 -- the sink failed within the line of the next run
-cut_in_line : (one : EachHasOneReport) (w : Work) (ds : List Directive) → AreProper ds → (m : ℕ) (x left : List ℕ) (ending : Ending) (front : List RunReport) (answer : ToolEnd)
-    → length front < most_records → Passed w ds m x ending front left → (next : RunReport) → RunWithin ds m left ending next → writes (turn_in w next) ≡ true
+cut_in_line : (one : EachHasOneReport) (w : Work) (ds : List Directive) → AreProper ds
+    → (m : ℕ) (x left : List ℕ) (ending : Ending) (front : List RunReport) (answer : ToolEnd)
+    → length front < most_records → Passed w ds m x ending front left → (next : RunReport) → RunWithin ds m left ending next
+    → writes (turn_in w next) ≡ true
     → (part rest : List ℕ) (missing : ℕ) → w.text next ≡ part ++ missing ∷ rest → answer ≡ ended (length front) (Some faults.Write)
-    → (output : List ℕ) × (used : ℕ) × (end : ToolEnd) × EndsWith w ds m x ending output used end × ((missing : List ℕ) × (output ≡ texts w front ++ part ++ missing))
+    → (output : List ℕ) × (used : ℕ) × (end : ToolEnd) × EndsWith w ds m x ending output used end
+    × ((missing : List ℕ) × (output ≡ texts w front ++ part ++ missing))
     × IsCutShort w ds m x ending (texts w front ++ part) (uses front + next.used) answer
 cut_in_line one w ds proper m x left ending front answer few passed next ran due part rest missing begun is =
     let h = has_end_after one w ds proper m ending (0 + length front) (omega (arith, few)) left next ran in
@@ -124,7 +139,12 @@ cut_in_line one w ds proper m x left ending front answer few passed next ran due
       uses front + h.used,
       h.end,
       joined 0 w ds m x left ending front (last_text w next ++ h.more) h.used h.end passed h.is,
-      (missing ∷ rest ++ h.more, ap (λ (t : List ℕ). texts w front ++ (t ++ h.more)) text ∙ ap (λ (t : List ℕ). texts w front ++ t) (append_assoc part (missing ∷ rest) h.more) ∙ sym (append_assoc (texts w front) part (missing ∷ rest ++ h.more))),
+      (
+        missing ∷ rest ++ h.more,
+        ap (λ (t : List ℕ). texts w front ++ (t ++ h.more)) text
+            ∙ ap (λ (t : List ℕ). texts w front ++ t) (append_assoc part (missing ∷ rest) h.more)
+            ∙ sym (append_assoc (texts w front) part (missing ∷ rest ++ h.more)),
+      ),
       record {
         before = front;
         left = left;
@@ -140,8 +160,10 @@ cut_in_line one w ds proper m x left ending front answer few passed next ran due
 -- ---- the loop
 
 -- no store could be had
-pub no_memory : {S : Type 0} (one : EachHasOneReport) (w : Work) (to_come : S → Option (List ℕ)) (ds : List Directive) → AreProper ds → (m : ℕ) (t : List ℕ) (now : Ahead S) (was : Option (List ℕ)) (failures : ℕ)
-    → input_of to_come now ≡ Some t → (answer : ToolEnd) → answer ≡ ended 0 (Some faults.Memory) → Loops w to_come ds m t now failures failures was was answer
+pub no_memory : {S : Type 0} (one : EachHasOneReport) (w : Work) (to_come : S → Option (List ℕ)) (ds : List Directive) → AreProper ds
+    → (m : ℕ) (t : List ℕ) (now : Ahead S) (was : Option (List ℕ)) (failures : ℕ)
+    → input_of to_come now ≡ Some t → (answer : ToolEnd) → answer ≡ ended 0 (Some faults.Memory)
+    → Loops w to_come ds m t now failures failures was was answer
 no_memory one w to_come ds proper m t now was failures input answer is_end =
     let s = short_of_memory one w ds proper m t t End [] 0 answer (omega arith) refl (inr (inr (refl, refl))) is_end in
     record {
@@ -159,10 +181,12 @@ no_memory one w to_come ds proper m t now was failures input answer is_end =
       told = inr (s.4, s.5);
     }
 
-module _ {S : Type 0} {w : Work} {to_come : S → Option (List ℕ)} {ds : List Directive} {m : ℕ} {t : List ℕ} {now : Ahead S} {was is : Option (List ℕ)} {failures mid n : ℕ}
+module _ {S : Type 0} {w : Work} {to_come : S → Option (List ℕ)} {ds : List Directive} {m : ℕ} {t : List ℕ} {now : Ahead S}
+    {was is : Option (List ℕ)} {failures mid n : ℕ}
     (one : EachHasOneReport) (proper : AreProper ds) (g : Going w to_come ds m t now was is failures mid n) where
   -- there were as many records as there may be
-  pub too_many : n ≡ most_records → (answer : ToolEnd) → answer ≡ ended most_records (Some faults.TooMany) → Loops w to_come ds m t now failures mid was is answer
+  pub too_many : n ≡ most_records → (answer : ToolEnd) → answer ≡ ended most_records (Some faults.TooMany)
+      → Loops w to_come ds m t now failures mid was is answer
   too_many full answer is_end = record {
     failed = false;
     failures_are = g.no_failure;
@@ -178,7 +202,13 @@ module _ {S : Type 0} {w : Work} {to_come : S → Option (List ℕ)} {ds : List 
       tail = [];
       spent = 0;
       passed = g.whole;
-      stops = inl (record { full = omega (arith, full, g.count); nothing = refl; unused = refl; end_is = is_end ∙ ap (λ (k : ℕ). ended k (Some faults.TooMany)) {x = most_records} {y = 0 + length g.front} (omega (arith, full, g.count)) });
+      stops = inl (record {
+        full = omega (arith, full, g.count);
+        nothing = refl;
+        unused = refl;
+        end_is = is_end
+            ∙ ap (λ (k : ℕ). ended k (Some faults.TooMany)) {x = most_records} {y = 0 + length g.front} (omega (arith, full, g.count));
+      });
       output_is = sym (append-nil (texts w g.front));
       used_is = refl;
     };
@@ -187,14 +217,19 @@ module _ {S : Type 0} {w : Work} {to_come : S → Option (List ℕ)} {ds : List 
     told = inl (refl, refl, refl);
   }
 
-  module _ {new : Ahead S} {after : ℕ} (r : RunReport) (scan : Scan to_come ds m g.left now new r) (stays : now.at_end ≡ true → new.at_end ≡ true)
-      (count : after ≡ cond (is_fault r.met) (counted_on mid) mid) (bounded : IsSome (width_sum ds) → is_memory_status r.status ≡ false) where
+  module _ {new : Ahead S} {after : ℕ} (r : RunReport) (scan : Scan to_come ds m g.left now new r)
+      (stays : now.at_end ≡ true → new.at_end ≡ true)
+      (count : after ≡ cond (is_fault r.met) (counted_on mid) mid) (bounded : IsSome (width_sum ds)
+      → is_memory_status r.status ≡ false) where
     -- the records before, on an input that goes on as this record's
-    on_input : (z : List ℕ) (ending : Ending) → MayFollow new z ending → Passed w ds m (g.used_up ++ (take r.used g.left ++ new.held ++ z)) ending g.front (take r.used g.left ++ new.held ++ z)
+    on_input : (z : List ℕ) (ending : Ending) → MayFollow new z ending
+        → Passed w ds m (g.used_up ++ (take r.used g.left ++ new.held ++ z)) ending g.front (take r.used g.left ++ new.held ++ z)
     on_input z ending follows =
         let u : List ℕ = scan.read.0 in
-        let all : now.held ++ (u ++ z) ≡ take r.used g.left ++ new.held ++ z = sym (append_assoc now.held u z) ∙ ap (λ (y : List ℕ). y ++ z) (sym scan.read.1) in
-        let h : Passed w ds m (g.used_up ++ (now.held ++ (u ++ z))) ending g.front (now.held ++ (u ++ z)) = g.passed (u ++ z) ending (λ e. (rw (scan.read.2 e, (follows (stays e)).0) refl, (follows (stays e)).1)) in
+        let all : now.held ++ (u ++ z) ≡ take r.used g.left ++ new.held ++ z = sym (append_assoc now.held u z)
+        ∙ ap (λ (y : List ℕ). y ++ z) (sym scan.read.1) in
+        let h : Passed w ds m (g.used_up ++ (now.held ++ (u ++ z))) ending g.front (now.held ++ (u ++ z)) =
+        g.passed (u ++ z) ending (λ e. (rw (scan.read.2 e, (follows (stays e)).0) refl, (follows (stays e)).1)) in
         subst (λ (y : List ℕ). Passed w ds m (g.used_up ++ y) ending g.front y) all h
 
     -- this run, on the input as far as it goes
@@ -205,11 +240,18 @@ module _ {S : Type 0} {w : Work} {to_come : S → Option (List ℕ)} {ds : List 
       pub told : b ≡ false → RunTold ds m left End r
 
     reaches : (b : Bool) → is_fault r.met ≡ b → Reached b
-    reaches false f = record { left = g.left; passed = g.whole; ran = λ fine. told_within ds m g.left End r (scan.whole f) fine; told = λ e. scan.whole f }
+    reaches false f = record {
+      left = g.left;
+      passed = g.whole;
+      ran =
+          λ fine. told_within ds m g.left End r (scan.whole f) fine;
+      told = λ e. scan.whole f;
+    }
     reaches true f =
         let h = on_input [] Fault (λ e. absurd (let k = (scan.nothing_held f).1 in cc)) in
         let bytes : take r.used g.left ++ new.held ++ [] ≡ take r.used g.left = rw ((scan.nothing_held f).0, append-nil, append-nil) refl in
-        let k : Passed w ds m (g.used_up ++ take r.used g.left) Fault g.front (take r.used g.left) = subst (λ (y : List ℕ). Passed w ds m (g.used_up ++ y) Fault g.front y) bytes h in
+        let k : Passed w ds m (g.used_up ++ take r.used g.left) Fault g.front (take r.used g.left) =
+        subst (λ (y : List ℕ). Passed w ds m (g.used_up ++ y) Fault g.front y) bytes h in
         record {
           left = take r.used g.left;
           passed = rw (cut_front t g.used_up g.left (uses g.front) r.used g.parts g.used) k;
@@ -226,7 +268,8 @@ module _ {S : Type 0} {w : Work} {to_come : S → Option (List ℕ)} {ds : List 
     failures_are : after ≡ cond (is_fault r.met) (counted_on failures) failures
     failures_are = count ∙ ap (λ (k : ℕ). cond (is_fault r.met) (counted_on k) k) g.no_failure
 
-    pub next : (wrote : Option (List ℕ)) → turn_in w r ≡ Goes → Appends is wrote (w.text r) → Going w to_come ds m t new was wrote failures after (n + 1)
+    pub next : (wrote : Option (List ℕ)) → turn_in w r ≡ Goes → Appends is wrote (w.text r)
+        → Going w to_come ds m t new was wrote failures after (n + 1)
     next wrote goes wrote_is =
         let f : is_fault r.met ≡ false = goes_is_no_fault w r goes in
         let fine : is_memory_status r.status ≡ false = not_ran_out w r Goes goes refl in
@@ -244,27 +287,43 @@ module _ {S : Type 0} {w : Work} {to_come : S → Option (List ℕ)} {ds : List 
               let seen = told_within ds m _ ending r (scan.seen f z ending follows) fine in
               let h = passed_more w ds m ending _ _ g.front r (on_input z ending follows) seen goes in
               rw (← regroup g.used_up (take r.used g.left) new.held z, ← drop_front (take r.used g.left) new.held z r.used took) h;
-          appends = Appends-same _ _ _ _ (ap (λ (y : List ℕ). texts w g.front ++ y) (sym (append-nil (w.text r))) ∙ sym (flat_map-append w.text g.front (r ∷ []))) (Appends-then _ _ _ _ _ g.appends wrote_is);
+          appends = Appends-same _ _ _ _ (ap (λ (y : List ℕ). texts w g.front ++ y) (sym (append-nil (w.text r)))
+              ∙ sym (flat_map-append w.text g.front (r ∷ []))) (Appends-then _ _ _ _ _ g.appends wrote_is);
           no_failure = count ∙ rw f g.no_failure;
         }
 
     -- where the storing of a byte was refused, the source has not failed
-    refused_by : (b : Bool) → is_fault r.met ≡ b → (at : Reached b) → is_memory_status r.status ≡ true → IsRefusedBehind g.front w ds m at.left (ending_by b) r.used
-    refused_by false f at out = inr (inl (record { unbounded = unbounded_by (width_sum ds) (is_memory_status r.status) bounded out; next = r; ran = told_refused ds proper m at.left End r (at.told refl) out; spent_is = refl }))
+    refused_by : (b : Bool) → is_fault r.met ≡ b → (at : Reached b) → is_memory_status r.status ≡ true
+        → IsRefusedBehind g.front w ds m at.left (ending_by b) r.used
+    refused_by false f at out = inr (inl (record {
+      unbounded = unbounded_by (width_sum ds) (is_memory_status r.status) bounded out;
+      next = r;
+      ran = told_refused ds proper m at.left End r (at.told refl) out;
+      spent_is = refl;
+    }))
     refused_by true f at out = absurd (true≢false (sym out ∙ within_fine ds proper m (take r.used g.left) Fault r (scan.cut f)))
 
     unstored : is_memory_status r.status ≡ true → IsRefusedBehind g.front w ds m reached.left (ending_by (is_fault r.met)) r.used
     unstored out = refused_by (is_fault r.met) refl reached out
 
     unmade : writes (turn_in w r) ≡ true → IsRefusedBehind g.front w ds m reached.left (ending_by (is_fault r.met)) r.used
-    unmade due = inl (record { next = r; ran = reached.ran (not_ran_out w r (turn_in w r) refl (written_is_no_memory (turn_in w r) due)); spent_is = refl; due = due })
+    unmade due = inl (record {
+      next = r;
+      ran = reached.ran (not_ran_out w r (turn_in w r) refl
+          (written_is_no_memory (turn_in w r) due));
+      spent_is = refl;
+      due = due;
+    })
 
     -- memory was refused, for a text or for the record
-    ran_out : n ≤ most_records → (answer : ToolEnd) (wrote : Option (List ℕ)) → IsRefusedBehind g.front w ds m reached.left (ending_by (is_fault r.met)) r.used
+    ran_out : n ≤ most_records → (answer : ToolEnd) (wrote : Option (List ℕ))
+        → IsRefusedBehind g.front w ds m reached.left (ending_by (is_fault r.met)) r.used
         → Appends is wrote [] → answer ≡ ended n (Some faults.Memory) → Loops w to_come ds m t new failures after was wrote answer
     ran_out few answer wrote refused nothing is_end =
         let at = reached in
-        let s = short_of_memory one w ds proper m (input_by (is_fault r.met) (uses g.front + r.used) t) at.left (ending_by (is_fault r.met)) g.front r.used answer (omega (arith, few, g.count)) at.passed refused (is_end ∙ ap (λ (k : ℕ). ended k (Some faults.Memory)) (sym g.count)) in
+        let s = short_of_memory one w ds proper m (input_by (is_fault r.met) (uses g.front + r.used) t) at.left
+        (ending_by (is_fault r.met)) g.front r.used answer (omega (arith, few, g.count)) at.passed refused
+        (is_end ∙ ap (λ (k : ℕ). ended k (Some faults.Memory)) (sym g.count)) in
         record {
           failed = is_fault r.met;
           failures_are = failures_are;
@@ -281,12 +340,15 @@ module _ {S : Type 0} {w : Work} {to_come : S → Option (List ℕ)} {ds : List 
         }
 
     -- the sink failed within the line
-    pub unwritten : n < most_records → (answer : ToolEnd) (wrote : Option (List ℕ)) → writes (turn_in w r) ≡ true → is_ran_out (turn_in w r) ≡ false
+    pub unwritten : n < most_records → (answer : ToolEnd) (wrote : Option (List ℕ)) → writes (turn_in w r) ≡ true
+        → is_ran_out (turn_in w r) ≡ false
         → TakesPart is wrote (w.text r) → answer ≡ ended n (Some faults.Write) → Loops w to_come ds m t new failures after was wrote answer
     unwritten few answer wrote due fine (part, missing, rest, begun, took) is_end =
         let at = reached in
-        let s = cut_in_line one w ds proper m (input_by (is_fault r.met) (uses g.front + r.used) t) at.left (ending_by (is_fault r.met)) g.front answer (omega (arith, few, g.count)) at.passed
-        r (at.ran (not_ran_out w r (turn_in w r) refl fine)) due part rest missing begun (is_end ∙ ap (λ (k : ℕ). ended k (Some faults.Write)) (sym g.count)) in
+        let s = cut_in_line one w ds proper m (input_by (is_fault r.met) (uses g.front + r.used) t) at.left
+        (ending_by (is_fault r.met)) g.front answer (omega (arith, few, g.count)) at.passed
+        r (at.ran (not_ran_out w r (turn_in w r) refl fine)) due part rest missing begun
+        (is_end ∙ ap (λ (k : ℕ). ended k (Some faults.Write)) (sym g.count)) in
         record {
           failed = is_fault r.met;
           failures_are = failures_are;
@@ -303,7 +365,8 @@ module _ {S : Type 0} {w : Work} {to_come : S → Option (List ℕ)} {ds : List 
         }
 
     -- the loop stops here
-    pub stopped : n < most_records → (answer : ToolEnd) (wrote : Option (List ℕ)) → (turn_in w r ≡ Goes → ⊥) → is_ran_out (turn_in w r) ≡ false
+    pub stopped : n < most_records → (answer : ToolEnd) (wrote : Option (List ℕ)) → (turn_in w r ≡ Goes → ⊥)
+        → is_ran_out (turn_in w r) ≡ false
         → Appends is wrote (last_text w r) → answer ≡ end_by (turn_in w r) n r → Loops w to_come ds m t new failures after was wrote answer
     stopped few answer wrote stops fine took is_end =
         let at = reached in
@@ -341,17 +404,21 @@ module _ {S : Type 0} {w : Work} {to_come : S → Option (List ℕ)} {ds : List 
 
     -- the loop stops, in whichever way
     pub ends_at : n < most_records → (answer : ToolEnd) (wrote : Option (List ℕ))
-        → Concludes n (w.text r) (turn_in w r) r is wrote answer ⊎ Interrupts n (w.text r) (turn_in w r) is wrote answer → Loops w to_come ds m t new failures after was wrote answer
+        → Concludes n (w.text r) (turn_in w r) r is wrote answer ⊎ Interrupts n (w.text r) (turn_in w r) is wrote answer
+        → Loops w to_come ds m t new failures after was wrote answer
     ends_at few answer wrote (inl (stops, took, is_end)) = by (turn_in w r) refl
       where
         by : (turn : Turn) → turn_in w r ≡ turn → Loops w to_come ds m t new failures after was wrote answer
         by Goes e = absurd (stops e)
         by RanOut e =
-            ran_out (omega (arith, few)) answer wrote (unstored (ran_out_status w r e)) (subst (λ (text : List ℕ). Appends is wrote text) (ap (λ v. cond (writes v) (w.text r) []) e) took) (is_end ∙ ap (λ v. end_by v n r) e)
+            ran_out (omega (arith, few)) answer wrote (unstored (ran_out_status w r e))
+            (subst (λ (text : List ℕ). Appends is wrote text) (ap (λ v. cond (writes v) (w.text r) []) e) took)
+            (is_end ∙ ap (λ v. end_by v n r) e)
         by Ends e = stopped few answer wrote stops (ap is_ran_out e) took is_end
         by (Cut written) e = stopped few answer wrote stops (ap is_ran_out e) took is_end
         by Failed e = stopped few answer wrote stops (ap is_ran_out e) took is_end
         by Unfit e = stopped few answer wrote stops (ap is_ran_out e) took is_end
         by Stalled e = stopped few answer wrote stops (ap is_ran_out e) took is_end
-    ends_at few answer wrote (inr (due, inl (is_end, took))) = unwritten few answer wrote due (written_is_no_memory (turn_in w r) due) took is_end
+    ends_at few answer wrote (inr (due, inl (is_end, took))) = unwritten few answer wrote due (written_is_no_memory (turn_in w r) due)
+        took is_end
     ends_at few answer wrote (inr (due, inr (is_end, nothing))) = ran_out (omega (arith, few)) answer wrote (unmade due) nothing is_end

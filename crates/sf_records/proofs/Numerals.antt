@@ -1,5 +1,6 @@
 -- A number's text is its minus and its digits.
-use Rattle.std.proofs.Common.{◌≡◌, ℕ, zero, suc, ◌^◌, ◌<◌, Bool, true, false, ◌&&◌, nat_lt, nat_le, ◌++◌, List, Option, Some, Result, OnOk, subst, refl, sym, ap, ◌∙◌, arith, true≢false}
+use Rattle.std.proofs.Common.{◌≡◌, ℕ, zero, suc, ◌^◌, ◌<◌, Bool, true, false, ◌&&◌, nat_lt, nat_le, ◌++◌, List, Option, Some, Result, OnOk}
+use Rattle.std.proofs.Common.{subst, refl, sym, ap, ◌∙◌, arith, true≢false}
 use Rattle.std.proofs.lemmas.Bool.{ltb-true}
 use Rattle.std.specs.Fmt.{decimal, signed_decimal}
 use Rattle.std.specs.Option.{option_map_or}
@@ -43,9 +44,11 @@ text_of_number Tsv n = signed_text n.negative n.magnitude (some_below n.kind n.n
 text_of_number Json n = signed_text n.negative n.magnitude (some_below n.kind n.negative n.magnitude n.held)
 
 -- what is written of a slot that was given a number, in every form
-pub number_at : (form : OutputForm) (given : Option Datum) (n : Number) → Some (datum_of_number n) ≡ given → minus n.negative ++ decimal n.magnitude ≡ option_map_or (value_text form) given (absent_text form)
+pub number_at : (form : OutputForm) (given : Option Datum) (n : Number) → Some (datum_of_number n) ≡ given
+    → minus n.negative ++ decimal n.magnitude ≡ option_map_or (value_text form) given (absent_text form)
 number_at form given n is = sym (text_of_number form n) ∙ ap (λ (d : Option Datum). option_map_or (value_text form) d (absent_text form)) is
 
 -- what was appended, by another name
-pub appended_as : {A E : Type 0} (r : Result A E) (new old text same : List ℕ) → text ≡ same → OnOk r (new ≡ old ++ text) → OnOk r (new ≡ old ++ same)
+pub appended_as : {A E : Type 0} (r : Result A E) (new old text same : List ℕ) → text ≡ same → OnOk r (new ≡ old ++ text)
+    → OnOk r (new ≡ old ++ same)
 appended_as r new old text same e written = subst (λ (t : List ℕ). OnOk r (new ≡ old ++ t)) e written

@@ -1,5 +1,6 @@
 -- Records after which the loop goes on.
-use Rattle.std.proofs.Common.{◌≡◌, ℕ, ◌+◌, Bool, true, false, cond, nat_eq, List, [], ◌∷◌, ◌++◌, drop, Option, Some, None, ◌⊎◌, inl, inr, refl, sym, ap, ◌∙◌, arith, true≢false}
+use Rattle.std.proofs.Common.{◌≡◌, ℕ, ◌+◌, Bool, true, false, cond, nat_eq, List, [], ◌∷◌, ◌++◌, drop, Option, Some, None, ◌⊎◌, inl, inr}
+use Rattle.std.proofs.Common.{refl, sym, ap, ◌∙◌, arith, true≢false}
 use Rattle.std.specs.Prelude.{IsSome}
 use Rattle.sf_format.specs.declared.directive.Directive.{Directive}
 use Rattle.sf_format.specs.Proper.{AreProper}
@@ -48,7 +49,8 @@ of_two test true x y p q = p
 of_two test false x y p q = q
 
 -- just where memory was refused, the turn says so
-pub ran_out_by : (status : Status) (met : Option Ending) (used converted : ℕ) → is_ran_out (turn_by status met used converted) ≡ is_memory_status status
+pub ran_out_by : (status : Status) (met : Option Ending) (used converted : ℕ)
+    → is_ran_out (turn_by status met used converted) ≡ is_memory_status status
 ran_out_by NoMemory None used converted = refl
 ran_out_by NoMemory (Some End) used converted = refl
 ran_out_by NoMemory (Some Fault) used converted = refl
@@ -82,7 +84,8 @@ fit_ran_out true Unfit = refl
 fit_ran_out false Unfit = refl
 fit_ran_out fits RanOut = refl
 
-pub not_ran_out : (w : Work) (r : RunReport) (turn : Turn) → turn_in w r ≡ turn → is_ran_out turn ≡ false → is_memory_status r.status ≡ false
+pub not_ran_out : (w : Work) (r : RunReport) (turn : Turn) → turn_in w r ≡ turn → is_ran_out turn ≡ false
+    → is_memory_status r.status ≡ false
 not_ran_out w r turn is fine =
     sym (ran_out_by r.status r.met r.used r.converted) ∙ sym (fit_ran_out (w.fits r) (turn_of r)) ∙ ap is_ran_out is ∙ fine
 
@@ -91,12 +94,14 @@ ran_out_status w r is =
     sym (ran_out_by r.status r.met r.used r.converted) ∙ sym (fit_ran_out (w.fits r) (turn_of r)) ∙ ap is_ran_out is
 
 -- no run by the definitions ends for want of memory
-pub within_fine : (ds : List Directive) → AreProper ds → (m : ℕ) (x : List ℕ) (ending : Ending) (r : RunReport) → RunWithin ds m x ending r → is_memory_status r.status ≡ false
+pub within_fine : (ds : List Directive) → AreProper ds → (m : ℕ) (x : List ℕ) (ending : Ending) (r : RunReport)
+    → RunWithin ds m x ending r → is_memory_status r.status ≡ false
 within_fine ds proper m x ending r ran =
     ap (λ (q : RunReport). is_memory_status q.status) (report_only ds proper m x ending r ran) ∙ run_fine (Some m) ds 1 nothing_yet x
 
 -- a report that tells of a refusal is that of a run for which a storing was refused
-pub told_refused : (ds : List Directive) → AreProper ds → (m : ℕ) (x : List ℕ) (ending : Ending) (r : RunReport) → RunTold ds m x ending r → is_memory_status r.status ≡ true → RunRefused ds m x r
+pub told_refused : (ds : List Directive) → AreProper ds → (m : ℕ) (x : List ℕ) (ending : Ending) (r : RunReport)
+    → RunTold ds m x ending r → is_memory_status r.status ≡ true → RunRefused ds m x r
 told_refused ds proper m x ending r (inl ran) out = absurd (true≢false (sym out ∙ within_fine ds proper m x ending r ran))
 told_refused ds proper m x ending r (inr refused) out = refused
 
@@ -150,7 +155,8 @@ passed_append w ds m ending x y z [] rest p q = rw p q
 passed_append w ds m ending x y z (r ∷ rs) rest p q = (p.0, p.1, passed_append w ds m ending (drop r.used x) y z rs rest p.2 q)
 
 pub passed_more : (w : Work) (ds : List Directive) (m : ℕ) (ending : Ending) (x y : List ℕ) (front : List RunReport) (r : RunReport)
-    → Passed w ds m x ending front y → RunWithin ds m y ending r → turn_in w r ≡ Goes → Passed w ds m x ending (front ++ r ∷ []) (drop r.used y)
+    → Passed w ds m x ending front y → RunWithin ds m y ending r → turn_in w r ≡ Goes
+    → Passed w ds m x ending (front ++ r ∷ []) (drop r.used y)
 passed_more w ds m ending x y front r p ran goes = passed_append w ds m ending x y (drop r.used y) front (r ∷ []) p (ran, goes, refl)
 
 pub uses_append : (front rest : List RunReport) → uses (front ++ rest) ≡ uses front + uses rest

@@ -20,7 +20,8 @@ same_slots : (f : ℕ → List ℕ) (place n : ℕ) → map f (range_with_len pl
 same_slots f place zero = refl
 same_slots f place (suc n) = ap (λ (t : List (List ℕ)). f place ∷ t) (same_slots f (place + 1) n)
 
-through : (form : OutputForm) (r : RunReport) (slots : List ℕ) → map (slot_text form r) slots ≡ map (text_of_some form) (map (given_at r) slots)
+through : (form : OutputForm) (r : RunReport) (slots : List ℕ) → map (slot_text form r) slots ≡ map (text_of_some form)
+    (map (given_at r) slots)
 through form r [] = refl
 through form r (slot ∷ slots) = ap (λ (t : List (List ℕ)). slot_text form r slot ∷ t) (through form r slots)
 
@@ -30,4 +31,5 @@ of_row form (d ∷ row) = ap (λ (t : List (List ℕ)). value_text form d ∷ t)
 
 pub record_is_row : RecordsAreRows
 record_is_row form n row r is =
-    ap (framed form) (same_slots (slot_text form r) 1 n ∙ through form r (slots_from 1 n) ∙ ap (map (text_of_some form)) (sym is) ∙ of_row form row)
+    ap (framed form) (same_slots (slot_text form r) 1 n ∙ through form r (slots_from 1 n) ∙ ap (map (text_of_some form)) (sym is)
+    ∙ of_row form row)

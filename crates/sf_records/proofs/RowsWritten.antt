@@ -1,5 +1,7 @@
 -- The records that a loop wrote are those of its runs' values.
-use Rattle.std.proofs.Common.{◌≡◌, ℕ, zero, suc, ◌+◌, Bool, true, false, cond, nat_eq, nat_lt, List, [], ◌∷◌, ◌++◌, map, length, take, drop, ◌⊎◌, Option, Some, None, inl, inr, refl, sym, ap, ap₂, subst, ◌∙◌, arith, append_assoc, append-nil, length-append, true≢false}
+use Rattle.std.proofs.Common.{◌≡◌, ℕ, zero, suc, ◌+◌, Bool, true, false, cond, nat_eq, nat_lt, List, [], ◌∷◌, ◌++◌, map, length, take}
+use Rattle.std.proofs.Common.{drop, ◌⊎◌, Option, Some, None, inl, inr, refl, sym, ap, ap₂, subst, ◌∙◌, arith, append_assoc, append-nil}
+use Rattle.std.proofs.Common.{length-append, true≢false}
 use Rattle.std.specs.List.{AllByRecursion, flat_map}
 use Rattle.std.proofs.lemmas.Grind.{flat_map-append}
 use Rattle.sf_base.specs.Bytes.{AreBytes}
@@ -23,7 +25,8 @@ use Rattle.sf_records.specs.declared.turn.Turn.{Turn}
 use Rattle.sf_records.specs.declared.turn.Turn.TheVariants.{Goes, Ends, Cut, Failed, Stalled, Unfit, RanOut}
 use Rattle.sf_records.specs.Forms.{row_text, writing}
 use Rattle.sf_records.specs.Judging.{is_write}
-use Rattle.sf_records.specs.ReadingBack.{AreDone, AreRows, AreRowsOf, HaveKinds, JsonReadsBack, ReadsAsRows, RecordsAreRows, TsvReadsBack, WrittenReadsBack}
+use Rattle.sf_records.specs.ReadingBack.{AreDone, AreRows, AreRowsOf, HaveKinds, JsonReadsBack, ReadsAsRows, RecordsAreRows, TsvReadsBack}
+use Rattle.sf_records.specs.ReadingBack.{WrittenReadsBack}
 use Rattle.sf_records.specs.JsonReading.{element_of, json_rows}
 use Rattle.sf_records.specs.Tables.{tsv_rows}
 use Rattle.sf_records.specs.Records.{EndsWith, IsCutShort, Loops, Passed, StopsAt, end_by, ended, ending_by, input_by}
@@ -75,7 +78,8 @@ counted Stalled n r stops = omega arith
 counted Unfit n r stops = omega arith
 counted RanOut n r stops = omega arith
 
-module _ (have_rows : EachDoneRunHasItsRow) (are_rows : RecordsAreRows) (tsv_back : TsvReadsBack) (json_back : JsonReadsBack) (form : OutputForm) (ds : List Directive) (accepted : IsAccepted ds) (m : ℕ) (ending : Ending) where
+module _ (have_rows : EachDoneRunHasItsRow) (are_rows : RecordsAreRows) (tsv_back : TsvReadsBack) (json_back : JsonReadsBack)
+    (form : OutputForm) (ds : List Directive) (accepted : IsAccepted ds) (m : ℕ) (ending : Ending) where
   abbrev w : Work
   w = writing form ds
 
@@ -92,9 +96,15 @@ module _ (have_rows : EachDoneRunHasItsRow) (are_rows : RecordsAreRows) (tsv_bac
   passed_done x y [] passed = tt
   passed_done x y (r ∷ rs) passed = (passed.0, written_done r (ap writes passed.1), passed_done (drop r.used x) y rs passed.2)
 
-  passed_last : (x y : List ℕ) (rs : List RunReport) (last : RunReport) → Passed w ds m x ending rs y → RunWithin ds m y ending last → last.status ≡ Done → AreDone ds m x ending (rs ++ last ∷ [])
+  passed_last : (x y : List ℕ) (rs : List RunReport) (last : RunReport) → Passed w ds m x ending rs y → RunWithin ds m y ending last
+      → last.status ≡ Done → AreDone ds m x ending (rs ++ last ∷ [])
   passed_last x y [] last passed ran done = (subst (λ z. RunWithin ds m z ending last) (sym passed) ran, done, tt)
-  passed_last x y (r ∷ rs) last passed ran done = (passed.0, written_done r (ap writes passed.1), passed_last (drop r.used x) y rs last passed.2 ran done)
+  passed_last x y (r ∷ rs) last passed ran done = (
+    passed.0,
+    written_done r (ap writes passed.1),
+    passed_last (drop r.used x) y rs
+        last passed.2 ran done,
+  )
 
   record Rowed (rs : List RunReport) : Type 0 where
     pub rows : List (List Datum)
@@ -118,7 +128,8 @@ module _ (have_rows : EachDoneRunHasItsRow) (are_rows : RecordsAreRows) (tsv_bac
         text = ap₂ (λ a b. a ++ b) (are_rows form slots has.row r has.is_row) later.text;
       }
 
-  reads : (x : List ℕ) → AreBytes x → (rs : List RunReport) → AreDone ds m x ending rs → (text part : List ℕ) → text ≡ texts w rs ++ part → (answer : ToolEnd) → answer.records ≡ length rs
+  reads : (x : List ℕ) → AreBytes x → (rs : List RunReport) → AreDone ds m x ending rs → (text part : List ℕ)
+      → text ≡ texts w rs ++ part → (answer : ToolEnd) → answer.records ≡ length rs
       → (is_write answer.fault ≡ false → part ≡ []) → ReadsAsRows form ds m x ending text answer
   reads x bytes rs done text part is answer count whole =
       let all = rowed x bytes rs done in
@@ -133,55 +144,76 @@ module _ (have_rows : EachDoneRunHasItsRow) (are_rows : RecordsAreRows) (tsv_bac
         part = part;
         text_is = is ∙ ap (λ t. t ++ part) all.text;
         whole = whole;
-        tsv = λ e. ap (λ f. tsv_rows (kinds_of ds) (flat_map (row_text f) all.rows)) e ∙ tsv_back (kinds_of ds) all.rows all.values all.kinds;
+        tsv = λ e. ap (λ f. tsv_rows (kinds_of ds) (flat_map (row_text f) all.rows)) e
+            ∙ tsv_back (kinds_of ds) all.rows all.values all.kinds;
         json = λ e. ap (λ f. json_rows (flat_map (row_text f) all.rows)) e ∙ json_back all.rows all.values;
       }
 
   -- where the loop stopped at a run
-  stopped_so : (x : List ℕ) → AreBytes x → (output : List ℕ) (end : ToolEnd) (front : List RunReport) (left : List ℕ) → Passed w ds m x ending front left → (last : RunReport) → RunWithin ds m left ending last
-      → (turn_in w last ≡ Goes → ⊥) → output ≡ texts w front ++ last_text w last → (n : ℕ) → n ≡ length front → end ≡ end_by (turn_in w last) n last → (b : Bool) → writes (turn_in w last) ≡ b → ReadsAsRows form ds m x ending output end
+  stopped_so : (x : List ℕ) → AreBytes x → (output : List ℕ) (end : ToolEnd) (front : List RunReport) (left : List ℕ)
+      → Passed w ds m x ending front left → (last : RunReport) → RunWithin ds m left ending last
+      → (turn_in w last ≡ Goes → ⊥) → output ≡ texts w front ++ last_text w last → (n : ℕ) → n ≡ length front
+      → end ≡ end_by (turn_in w last) n last → (b : Bool) → writes (turn_in w last) ≡ b
+      → ReadsAsRows form ds m x ending output end
   stopped_so x bytes output end front left passed last ran stops is n count end_is true due =
       let text : last_text w last ≡ w.text last = ap (λ b. cond b (w.text last) []) due in
       let one : texts w (last ∷ []) ≡ w.text last = append-nil (w.text last) in
       let all : output ≡ texts w (front ++ last ∷ []) ++ [] =
-      is ∙ ap (λ t. texts w front ++ t) (text ∙ sym one) ∙ sym (flat_map-append w.text front (last ∷ [])) ∙ sym (append-nil (texts w (front ++ last ∷ []))) in
-      let records : end.records ≡ n + 1 = ap (λ e. e.records) end_is ∙ counted (turn_in w last) n last stops ∙ ap (λ b. n + cond b 1 0) due in
-      reads x bytes (front ++ last ∷ []) (passed_last x left front last passed ran (written_done last due)) output [] all end (omega (arith, records, count, length-append front (last ∷ []))) (λ e. refl)
+      is ∙ ap (λ t. texts w front ++ t) (text ∙ sym one) ∙ sym (flat_map-append w.text front (last ∷ []))
+      ∙ sym (append-nil (texts w (front ++ last ∷ []))) in
+      let records : end.records ≡ n + 1 = ap (λ e. e.records) end_is ∙ counted (turn_in w last) n last stops
+      ∙ ap (λ b. n + cond b 1 0) due in
+      reads x bytes (front ++ last ∷ []) (passed_last x left front last passed ran (written_done last due)) output [] all end
+      (omega (arith, records, count, length-append front (last ∷ []))) (λ e. refl)
   stopped_so x bytes output end front left passed last ran stops is n count end_is false due =
-      let records : end.records ≡ n + 0 = ap (λ e. e.records) end_is ∙ counted (turn_in w last) n last stops ∙ ap (λ b. n + cond b 1 0) due in
-      reads x bytes front (passed_done x left front passed) output [] (is ∙ ap (λ b. texts w front ++ cond b (w.text last) []) due) end (omega (arith, records, count)) (λ e. refl)
+      let records : end.records ≡ n + 0 = ap (λ e. e.records) end_is ∙ counted (turn_in w last) n last stops
+      ∙ ap (λ b. n + cond b 1 0) due in
+      reads x bytes front (passed_done x left front passed) output [] (is ∙ ap (λ b. texts w front ++ cond b (w.text last) []) due)
+      end (omega (arith, records, count)) (λ e. refl)
 
   -- where the loop came to its end
-  pub ended_so : (x : List ℕ) → AreBytes x → (output : List ℕ) (used : ℕ) (end : ToolEnd) → EndsWith w ds m x ending output used end → ReadsAsRows form ds m x ending output end
+  pub ended_so : (x : List ℕ) → AreBytes x → (output : List ℕ) (used : ℕ) (end : ToolEnd) → EndsWith w ds m x ending output used end
+      → ReadsAsRows form ds m x ending output end
   ended_so x bytes output used end h = elim h.stops [
     | inl full ↦
-        reads x bytes h.written (passed_done x h.left h.written h.passed) output [] (h.output_is ∙ ap (λ t. texts w h.written ++ t) full.nothing) end
+        reads x bytes h.written (passed_done x h.left h.written h.passed) output []
+        (h.output_is ∙ ap (λ t. texts w h.written ++ t) full.nothing) end
         (omega (arith, ap (λ e. e.records) full.end_is)) (λ e. refl)
     | inr stops ↦
-        stopped_so x bytes output end h.written h.left h.passed stops.last stops.ran stops.stops (h.output_is ∙ ap (λ t. texts w h.written ++ t) stops.tail_is) (0 + length h.written) (omega arith) stops.end_is
+        stopped_so x bytes output end h.written h.left h.passed stops.last stops.ran stops.stops
+        (h.output_is ∙ ap (λ t. texts w h.written ++ t) stops.tail_is) (0 + length h.written) (omega arith) stops.end_is
         (writes (turn_in w stops.last)) refl
   ]
 
   -- where it was ended before
-  pub cut_so : (x : List ℕ) → AreBytes x → (text : List ℕ) (consumed : ℕ) (answer : ToolEnd) → IsCutShort w ds m x ending text consumed answer → ReadsAsRows form ds m x ending text answer
+  pub cut_so : (x : List ℕ) → AreBytes x → (text : List ℕ) (consumed : ℕ) (answer : ToolEnd)
+      → IsCutShort w ds m x ending text consumed answer → ReadsAsRows form ds m x ending text answer
   cut_so x bytes text consumed answer h = elim h.why [
-    | inl write ↦ reads x bytes h.before (passed_done x h.left h.before h.passed) text h.part h.written_is answer (ap (λ e. e.records) write.0) (λ e. absurd (true≢false (sym (ap (λ a. is_write a.fault) write.0) ∙ e)))
-    | inr memory ↦ reads x bytes h.before (passed_done x h.left h.before h.passed) text h.part h.written_is answer (ap (λ e. e.records) memory.0) (λ e. memory.1)
+    | inl write ↦ reads x bytes h.before (passed_done x h.left h.before h.passed) text h.part h.written_is answer
+        (ap (λ e. e.records) write.0) (λ e. absurd (true≢false (sym (ap (λ a. is_write a.fault) write.0) ∙ e)))
+    | inr memory ↦ reads x bytes h.before (passed_done x h.left h.before h.passed) text h.part h.written_is answer
+        (ap (λ e. e.records) memory.0) (λ e. memory.1)
   ]
 
-pub reads_back : {S : Type 0} (to_come : S → Option (List ℕ)) → EachDoneRunHasItsRow → RecordsAreRows → TsvReadsBack → JsonReadsBack → WrittenReadsBack to_come
-reads_back to_come have_rows are_rows tsv_back json_back form ds accepted m t bytes now failures failures' before after answer loop = by loop.told
+pub reads_back : {S : Type 0} (to_come : S → Option (List ℕ)) → EachDoneRunHasItsRow → RecordsAreRows → TsvReadsBack → JsonReadsBack
+    → WrittenReadsBack to_come
+reads_back to_come have_rows are_rows tsv_back json_back form ds accepted m t bytes now failures failures' before after answer loop =
+    by loop.told
   where
     bytes_in : (failed : Bool) → AreBytes (input_by failed loop.consumed t)
     bytes_in true = bytes_taken t loop.consumed bytes
     bytes_in false = bytes
 
     by : (loop.written ≡ loop.output) × (loop.consumed ≡ loop.used) × (answer ≡ loop.end)
-        ⊎ ((missing : List ℕ) × (loop.output ≡ loop.written ++ missing)) × IsCutShort (writing form ds) ds m (input_by loop.failed loop.consumed t) (ending_by loop.failed) loop.written loop.consumed answer
+        ⊎ ((missing : List ℕ) × (loop.output ≡ loop.written ++ missing))
+        × IsCutShort (writing form ds) ds m (input_by loop.failed loop.consumed t) (ending_by loop.failed) loop.written
+        loop.consumed answer
         → ReadsAsRows form ds m (input_by loop.failed loop.consumed t) (ending_by loop.failed) loop.written answer
     by (inl (text, used, end)) =
         subst (λ a. ReadsAsRows form ds m (input_by loop.failed loop.consumed t) (ending_by loop.failed) loop.written a) (sym end)
         (subst (λ y. ReadsAsRows form ds m (input_by loop.failed loop.consumed t) (ending_by loop.failed) y loop.end) (sym text)
-        (ended_so have_rows are_rows tsv_back json_back form ds accepted m (ending_by loop.failed) (input_by loop.failed loop.consumed t) (bytes_in loop.failed) loop.output loop.used loop.end loop.is))
+        (ended_so have_rows are_rows tsv_back json_back form ds accepted m (ending_by loop.failed)
+        (input_by loop.failed loop.consumed t) (bytes_in loop.failed) loop.output loop.used loop.end loop.is))
     by (inr (missing, cut)) =
-        cut_so have_rows are_rows tsv_back json_back form ds accepted m (ending_by loop.failed) (input_by loop.failed loop.consumed t) (bytes_in loop.failed) loop.written loop.consumed answer cut
+        cut_so have_rows are_rows tsv_back json_back form ds accepted m (ending_by loop.failed) (input_by loop.failed loop.consumed t)
+        (bytes_in loop.failed) loop.written loop.consumed answer cut

@@ -1,5 +1,6 @@
 -- What a table's text reads as.
-use Rattle.std.proofs.Common.{◌≡◌, ℕ, ◌≤◌, Bool, true, false, cond, nat_eq, List, [], ◌∷◌, ◌++◌, map, append_assoc, refl, sym, ap, subst, ◌∙◌, arith}
+use Rattle.std.proofs.Common.{◌≡◌, ℕ, ◌≤◌, Bool, true, false, cond, nat_eq, List, [], ◌∷◌, ◌++◌, map, append_assoc, refl, sym, ap, subst}
+use Rattle.std.proofs.Common.{◌∙◌, arith}
 use Rattle.std.proofs.lemmas.Bool.{eqb-true, ne_eqb}
 use Rattle.std.specs.Fmt.{signed_decimal}
 use Rattle.std.specs.List.{AllByRecursion, flat_map, join_with_byte}
@@ -21,7 +22,8 @@ byte_read b text = go (nat_eq b 92) (nat_eq b 9) (nat_eq b 10) (nat_eq b 13) ref
     known k e = ap (λ (c : ℕ). with_byte c (table_from false text)) (sym (eqb-true b k e))
 
     go : (p q r s : Bool) → nat_eq b 92 ≡ p → nat_eq b 9 ≡ q → nat_eq b 10 ≡ r → nat_eq b 13 ≡ s
-        → table_from false (cond p (92 ∷ 92 ∷ []) (cond q (92 ∷ 116 ∷ []) (cond r (92 ∷ 110 ∷ []) (cond s (92 ∷ 114 ∷ []) (b ∷ [])))) ++ text) ≡ with_byte b (table_from false text)
+        → table_from false (cond p (92 ∷ 92 ∷ []) (cond q (92 ∷ 116 ∷ []) (cond r (92 ∷ 110 ∷ []) (cond s (92 ∷ 114 ∷ []) (b ∷ []))))
+        ++ text) ≡ with_byte b (table_from false text)
     go true q r s e f g h = known 92 e
     go false true r s e f g h = known 9 f
     go false false true s e f g h = known 10 g
@@ -40,7 +42,8 @@ bytes_read (b ∷ bytes) text =
     ap (table_from false) (append_assoc (tsv_escaped b) (tsv_text bytes) text) ∙ byte_read b (tsv_text bytes ++ text)
     ∙ ap (with_byte b) (bytes_read bytes text)
 
-first_field : (bytes : List ℕ) (fields : List (List ℕ)) (records : Table) → with_bytes bytes (([] ∷ fields) ∷ records) ≡ (bytes ∷ fields) ∷ records
+first_field : (bytes : List ℕ) (fields : List (List ℕ)) (records : Table)
+    → with_bytes bytes (([] ∷ fields) ∷ records) ≡ (bytes ∷ fields) ∷ records
 unfolding with_bytes
 first_field [] fields records = refl
 first_field (b ∷ bytes) fields records = ap (with_byte b) (first_field bytes fields records)
@@ -58,11 +61,19 @@ number_kept (b ∷ bytes) all =
     ap (λ (t : List ℕ). t ++ tsv_text bytes) (kept (all.0.0) (all.0.1)) ∙ ap (λ (t : List ℕ). b ∷ t) (number_kept bytes all.1)
   where
     kept : 45 ≤ b → b ≤ 57 → tsv_escaped b ≡ b ∷ []
-    kept low high = rw (ne_eqb b 92 (λ e. omega (arith, e, high)), ne_eqb b 9 (λ e. omega (arith, e, low)), ne_eqb b 10 (λ e. omega (arith, e, low)), ne_eqb b 13 (λ e. omega (arith, e, low))) refl
+    kept low high = rw (
+      ne_eqb b 92 (λ e. omega (arith, e, high)),
+      ne_eqb b 9 (λ e. omega (arith, e, low)),
+      ne_eqb b 10
+          (λ e. omega (arith, e, low)),
+      ne_eqb b 13 (λ e. omega (arith, e, low)),
+    ) refl
 
-field_read : (d : Datum) → IsValue d → (text : List ℕ) → table_from false (tsv_field d ++ text) ≡ with_bytes (field_of d) (table_from false text)
+field_read : (d : Datum) → IsValue d → (text : List ℕ) → table_from false (tsv_field d ++ text) ≡ with_bytes (field_of d)
+    (table_from false text)
 field_read (Number kind n) is text =
-    ap (λ (t : List ℕ). table_from false (t ++ text)) (sym (number_kept (signed_decimal n) (number_bytes n (bounded kind n is)))) ∙ bytes_read (signed_decimal n) text
+    ap (λ (t : List ℕ). table_from false (t ++ text)) (sym (number_kept (signed_decimal n) (number_bytes n (bounded kind n is))))
+    ∙ bytes_read (signed_decimal n) text
 field_read (Bytes bytes) is text = bytes_read bytes text
 
 -- ---- records
@@ -91,7 +102,8 @@ datum_back (Number Text n) is = absurd is
 values_back : (row : List Datum) → AllByRecursion IsValue row → values_of (map kind_of row) (map field_of row) ≡ row
 values_back [] are = refl
 values_back (d ∷ row) are =
-    ap (λ (v : Datum). v ∷ values_of (map kind_of row) (map field_of row)) (datum_back d are.0) ∙ ap (λ (vs : List Datum). d ∷ vs) (values_back row are.1)
+    ap (λ (v : Datum). v ∷ values_of (map kind_of row) (map field_of row)) (datum_back d are.0)
+    ∙ ap (λ (vs : List Datum). d ∷ vs) (values_back row are.1)
 
 -- a record in front of a text
 record Leads (row : List Datum) (text : List ℕ) : Type 0 where

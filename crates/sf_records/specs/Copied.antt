@@ -66,7 +66,8 @@ pub record GivesRows (units : List PrintUnit) (ds : List Directive) (m : ℕ) (r
 
 abbrev pub JoinedTextsGiveTheirRows : Type 0
 JoinedTextsGiveTheirRows =
-    (units : List PrintUnit) (ds : List Directive) → IsPair units ds → (m : ℕ) → m ≤ most_bytes → (rows : List (List Datum)) → length rows < most_records
+    (units : List PrintUnit) (ds : List Directive) → IsPair units ds → (m : ℕ) → m ≤ most_bytes → (rows : List (List Datum))
+    → length rows < most_records
     → AreFitting units ds m rows → GivesRows units ds m rows
 
 -- ---- copies of copies
@@ -76,6 +77,7 @@ JoinedTextsGiveTheirRows =
 abbrev pub CopyingTwiceIsCopyingOnce : Type 0
 CopyingTwiceIsCopyingOnce =
     (units : List PrintUnit) (ds : List Directive) → IsPair units ds
-    → (m : ℕ) (x output : List ℕ) (ending : Ending) (used : ℕ) (end : ToolEnd) (copied : EndsWith (copying units ds) ds m x ending output used end) → end.fault ≡ None
+    → (m : ℕ) (x output : List ℕ) (ending : Ending) (used : ℕ) (end : ToolEnd)
+    (copied : EndsWith (copying units ds) ds m x ending output used end) → end.fault ≡ None
     → (most : ℕ) → most ≤ most_bytes → AllByRecursion (λ r. length ((copying units ds).text r) ≤ most) copied.written
     → EndsWith (copying units ds) ds most output End output (length output) end

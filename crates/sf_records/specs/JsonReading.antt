@@ -1,5 +1,6 @@
 -- What a text of arrays of JSON (RFC 8259), one a line, reads as: integers as numbers, strings as the bytes that they stand for.
-use Rattle.std.specs.Prelude.{ℕ, ◌+◌, ◌-◌, ◌*◌, Bool, ◌&&◌, ◌||◌, nat_eq, nat_lt, nat_le, if◌then◌else◌, List, [], ◌∷◌, ◌++◌, ℤ, Option, Some, None}
+use Rattle.std.specs.Prelude.{ℕ, ◌+◌, ◌-◌, ◌*◌, Bool, ◌&&◌, ◌||◌, nat_eq, nat_lt, nat_le, if◌then◌else◌, List, [], ◌∷◌, ◌++◌, ℤ, Option}
+use Rattle.std.specs.Prelude.{Some, None}
 use Rattle.std.specs.Char.{digit_value}
 use Rattle.std.specs.Str.Parse.{signed_digits_value}
 use Rattle.sf_base.specs.Data.{Datum, Number, Bytes}
@@ -104,7 +105,8 @@ step_at (InString bytes) s b =
 step_at (InEscape bytes) s b = escapes bytes s b
 step_at (InCode bytes more code) s b =
     if nat_lt (digit_value b) 16
-    then (if nat_eq more 0 then with_code bytes s (code * 16 + digit_value b) else at (InCode bytes (more - 1) (code * 16 + digit_value b)) s)
+    then (if nat_eq more 0 then with_code bytes s (code * 16 + digit_value b) else at
+    (InCode bytes (more - 1) (code * 16 + digit_value b)) s)
     else at Wrong s
 step_at Behind s b = goes_on s b
 step_at Closed s b =

@@ -54,7 +54,8 @@ is_write _ = false
 -- the record was to be written, and was not, or not in full
 abbrev pub Interrupts : ℕ → List ℕ → Turn → Option (List ℕ) → Option (List ℕ) → ToolEnd → Type 0
 Interrupts n text turn old new end =
-    (writes turn ≡ true) × ((end ≡ ended n (Some faults.Write)) × TakesPart old new text ⊎ (end ≡ ended n (Some faults.Memory)) × Appends old new [])
+    (writes turn ≡ true) × ((end ≡ ended n (Some faults.Write)) × TakesPart old new text ⊎ (end ≡ ended n (Some faults.Memory))
+    × Appends old new [])
 
 -- the loop stops at the run by its turn, and the record was written where it is due
 abbrev pub Concludes : ℕ → List ℕ → Turn → RunReport → Option (List ℕ) → Option (List ℕ) → ToolEnd → Type 0

@@ -1,6 +1,7 @@
 pub mod Copied
 pub mod Copies
 pub mod Forms
+pub mod Growing
 pub mod JsonReading
 pub mod JsonStrings
 pub mod Judging

@@ -32,11 +32,13 @@ HaveKinds kinds rows = AllByRecursion (λ row. map kind_of row ≡ kinds) rows
 
 -- the record of a report is that of its row
 abbrev pub RecordsAreRows : Type 0
-RecordsAreRows = (form : OutputForm) (n : ℕ) (row : List Datum) (r : RunReport) → AreRowOf n row r.values → record_text form n r ≡ row_text form row
+RecordsAreRows = (form : OutputForm) (n : ℕ) (row : List Datum) (r : RunReport) → AreRowOf n row r.values
+    → record_text form n r ≡ row_text form row
 
 -- a table of rows of the same kinds gives them back
 abbrev pub TsvReadsBack : Type 0
-TsvReadsBack = (kinds : List Kind) (rows : List (List Datum)) → AreRows rows → HaveKinds kinds rows → tsv_rows kinds (flat_map (row_text Tsv) rows) ≡ rows
+TsvReadsBack = (kinds : List Kind) (rows : List (List Datum)) → AreRows rows → HaveKinds kinds rows
+    → tsv_rows kinds (flat_map (row_text Tsv) rows) ≡ rows
 
 -- arrays give their values back, without the kinds
 abbrev pub JsonReadsBack : Type 0
@@ -61,7 +63,8 @@ AreDone ds m x ending (r ∷ rs) = RunWithin ds m x ending r × (r.status ≡ Do
 
 -- The text is that of full records, as many as the answer tells, and of a part of one more, where the sink failed within it. The
 -- full records are those of the values of the input's runs, and as tables or arrays read back as these.
-pub record ReadsAsRows (form : OutputForm) (ds : List Directive) (m : ℕ) (x : List ℕ) (ending : Ending) (text : List ℕ) (answer : ToolEnd) : Type 0 where
+pub record ReadsAsRows (form : OutputForm) (ds : List Directive) (m : ℕ) (x : List ℕ) (ending : Ending) (text : List ℕ)
+    (answer : ToolEnd) : Type 0 where
   pub reports : List RunReport
   pub done : AreDone ds m x ending reports
   pub rows : List (List Datum)
@@ -79,5 +82,6 @@ pub record ReadsAsRows (form : OutputForm) (ds : List Directive) (m : ℕ) (x : 
 abbrev pub WrittenReadsBack : {S : Type 0} → (S → Option (List ℕ)) → Type 0
 WrittenReadsBack {S} to_come =
     (form : OutputForm) (ds : List Directive) → IsAccepted ds → (m : ℕ) (t : List ℕ) → AreBytes t
-    → (now : Ahead S) (failures failures' : ℕ) (before after : Option (List ℕ)) (answer : ToolEnd) (loop : Loops (writing form ds) to_come ds m t now failures failures' before after answer)
+    → (now : Ahead S) (failures failures' : ℕ) (before after : Option (List ℕ)) (answer : ToolEnd)
+    (loop : Loops (writing form ds) to_come ds m t now failures failures' before after answer)
     → ReadsAsRows form ds m (input_by loop.failed loop.consumed t) (ending_by loop.failed) loop.written answer

@@ -77,7 +77,8 @@ pub record IsFull (n : ℕ) (tail : List ℕ) (spent : ℕ) (end : ToolEnd) : Ty
   pub end_is : end ≡ ended n (Some faults.TooMany)
 
 -- The loop stops at the run over y. tail: the line that is written then. spent: the bytes that this run uses.
-pub record StopsAt (w : Work) (ds : List Directive) (m : ℕ) (y : List ℕ) (ending : Ending) (n : ℕ) (tail : List ℕ) (spent : ℕ) (end : ToolEnd) : Type 0 where
+pub record StopsAt (w : Work) (ds : List Directive) (m : ℕ) (y : List ℕ) (ending : Ending) (n : ℕ) (tail : List ℕ) (spent : ℕ)
+    (end : ToolEnd) : Type 0 where
   pub few : n < most_records
   pub last : RunReport
   pub ran : RunWithin ds m y ending last
@@ -88,7 +89,8 @@ pub record StopsAt (w : Work) (ds : List Directive) (m : ℕ) (y : List ℕ) (en
 
 -- The records of the input x with its ending, by runs of at most m bytes, n records having been written before: their
 -- lines, the bytes that the runs use, and how the loop ends.
-pub record EndsFrom (n : ℕ) (w : Work) (ds : List Directive) (m : ℕ) (x : List ℕ) (ending : Ending) (output : List ℕ) (used : ℕ) (end : ToolEnd) : Type 0 where
+pub record EndsFrom (n : ℕ) (w : Work) (ds : List Directive) (m : ℕ) (x : List ℕ) (ending : Ending) (output : List ℕ) (used : ℕ)
+    (end : ToolEnd) : Type 0 where
   pub written : List RunReport
   pub left : List ℕ
   pub tail : List ℕ
@@ -135,7 +137,8 @@ IsRefusedBehind before w ds m y ending spent = IsUnmade w ds m y ending spent �
 
 -- The loop was ended before: by the sink, or by want of memory. Only full lines count as records. consumed: the bytes that
 -- the runs of these records used, and the run at which it was ended.
-pub record IsCutShort (w : Work) (ds : List Directive) (m : ℕ) (x : List ℕ) (ending : Ending) (written : List ℕ) (consumed : ℕ) (end : ToolEnd) : Type 0 where
+pub record IsCutShort (w : Work) (ds : List Directive) (m : ℕ) (x : List ℕ) (ending : Ending) (written : List ℕ) (consumed : ℕ)
+    (end : ToolEnd) : Type 0 where
   pub before : List RunReport
   pub left : List ℕ
   pub part : List ℕ
@@ -174,4 +177,5 @@ pub record Loops {S : Type 0} (w : Work) (to_come : S → Option (List ℕ)) (ds
   pub written : List ℕ
   pub appends : Appends before after written
   pub told : (written ≡ output) × (consumed ≡ used) × (answer ≡ end)
-      ⊎ ((missing : List ℕ) × (output ≡ written ++ missing)) × IsCutShort w ds m (input_by failed consumed t) (ending_by failed) written consumed answer
+      ⊎ ((missing : List ℕ) × (output ≡ written ++ missing)) × IsCutShort w ds m (input_by failed consumed t) (ending_by failed)
+      written consumed answer

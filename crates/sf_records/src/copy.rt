@@ -122,11 +122,13 @@ impl Recorder for Copier<'_, '_> {
 }
 
 /// Copies record after record of what the lookahead holds and its source gives, by runs of at most `limit` bytes: scans
-/// it by the pair's scan format, and prints its values by the print format. A record whose values don't fit the pair ends
+/// it by the pair's scan format, and prints its values by the print format. A record whose values don't fit the
+/// pair ends
 /// the copy, and nothing is written for it. It ends cleanly where fscanf would return EOF at the end of the input (C11
 /// 7.21.6.2p16); else it says why, and the records before stand. What the runs did not use stays held or unread.
 ///
-/// A copy that ended cleanly is read back: copied again, by a limit that no text of its records passes, it stays as it is.
+/// A copy that ended cleanly is read back: copied again, by a limit that no text of its records passes, it stays
+/// as it is.
 pub fn run_copy<S: Source, K: Sink, const N: usize>(
     alloc: Global,
     from: &mut Lookahead<S, N>,
@@ -136,7 +138,9 @@ pub fn run_copy<S: Source, K: Sink, const N: usize>(
 ) -> ToolEnd
     requires { limit ≤ 2147483647 }
     ensures loops { (t : List ℕ) → input_of S.to_come from.old ≡ Some t
-        → Loops (copying pair.now.print pair.now.scan) S.to_come pair.now.scan limit t from.new (S.failures from.old.source) (S.failures from.new.source) (K.contents to.old) (K.contents to.new) result }
+        → Loops (copying pair.now.print pair.now.scan) S.to_come pair.now.scan limit t from.new
+        (S.failures from.old.source) (S.failures from.new.source) (K.contents to.old) (K.contents to.new)
+        result }
     ensures status { result.status ≡ status_by result.fault }
     ensures sink { K.failures to.new
         ≡ (if is_write result.fault then counted_on (K.failures to.old) else K.failures to.old) }

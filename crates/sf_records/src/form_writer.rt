@@ -71,7 +71,8 @@ impl FormWriter {
         }
     }
 
-    /// Writes the record of a format that has so many destinations, by the report of a run. A plain line of at most 1,023 bytes
+    /// Writes the record of a format that has so many destinations, by the report of a run. A plain line of at
+    /// most 1,023 bytes
     /// whose texts are plain takes no memory.
     #[inline(always)]
     pub fn write<K: Sink, T: Store>(
@@ -81,7 +82,8 @@ impl FormWriter {
         destinations: u8,
     ) -> Result<(), RecordFault>
         ensures same { self.new ≡ self.old }
-        ensures written { WritesText (record_text self.old destinations report.now) (K.contents to.old) (K.contents to.new) result }
+        ensures written { WritesText (record_text self.old destinations report.now) (K.contents to.old)
+            (K.contents to.new) result }
         ensures failures { K.failures to.new
             ≡ (if is_sink_fault result then counted_on (K.failures to.old) else K.failures to.old) }
         ensures short { self.old ≡ OutputForm.Plain → has_plain_texts destinations report.now ≡ true

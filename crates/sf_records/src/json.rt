@@ -1,14 +1,16 @@
 //! Strings of JSON.
-ghost use Rattle.std.specs.Prelude.{◌≡◌, ◌++◌, ◌≤◌, length, OnOk};
+ghost use Rattle.std.specs.Prelude.{◌≡◌, ◌++◌, ◌≤◌, length, OnErr, OnOk};
 ghost use Rattle.std.specs.List.{flat_map};
 ghost use Rattle.std.specs.Str.Lossy.{utf8_valid_len};
+ghost use Rattle.sf_records.specs.Growing.{IsGrown};
 ghost use Rattle.sf_records.specs.JsonStrings.{json_escaped, json_from, json_string, stray};
 
 use crate::quote::{hex_digit, plain_run};
 use std::alloc::AllocError;
 
 fn push_escaped(output: &mut Vec<u8>, b: u8) -> Result<(), AllocError>
-    ensures { OnOk result (output.new.items ≡ output.old.items ++ json_escaped b) }
+    ensures pushed { OnOk result (output.new.items ≡ output.old.items ++ json_escaped b) }
+    ensures refused { OnErr result (output.new.items ≡ output.old.items) }
 {
     match b {
         b'"' => output.extend_from_slice(b"\\\""),
@@ -26,7 +28,8 @@ fn push_escaped(output: &mut Vec<u8>, b: u8) -> Result<(), AllocError>
 
 /// Appends a byte that is no part of UTF-8.
 fn push_stray(output: &mut Vec<u8>, b: u8) -> Result<(), AllocError>
-    ensures { OnOk result (output.new.items ≡ output.old.items ++ stray b) }
+    ensures pushed { OnOk result (output.new.items ≡ output.old.items ++ stray b) }
+    ensures refused { OnErr result (output.new.items ≡ output.old.items) }
 {
     output.extend_from_slice(&[
         b'\\',
@@ -40,7 +43,8 @@ fn push_stray(output: &mut Vec<u8>, b: u8) -> Result<(), AllocError>
 
 /// Appends bytes that are UTF-8.
 fn push_kept(output: &mut Vec<u8>, bytes: &[u8]) -> Result<(), AllocError>
-    ensures { OnOk result (output.new.items ≡ output.old.items ++ flat_map json_escaped bytes.now) }
+    ensures pushed { OnOk result (output.new.items ≡ output.old.items ++ flat_map json_escaped bytes.now) }
+    ensures refused { OnErr result (IsGrown output.old.items output.new.items) }
 {
     for b in bytes {
         push_escaped(output, *b)?;
@@ -62,7 +66,8 @@ fn utf8_front(bytes: &[u8]) -> usize
 /// Appends the characters that stand for the bytes.
 #[inline(never)]
 fn push_characters(output: &mut Vec<u8>, bytes: &[u8]) -> Result<(), AllocError>
-    ensures { OnOk result (output.new.items ≡ output.old.items ++ json_from 0 bytes.now) }
+    ensures pushed { OnOk result (output.new.items ≡ output.old.items ++ json_from 0 bytes.now) }
+    ensures refused { OnErr result (IsGrown output.old.items output.new.items) }
 {
     let mut done = 0;
     while done < bytes.len() {
@@ -78,10 +83,12 @@ fn push_characters(output: &mut Vec<u8>, bytes: &[u8]) -> Result<(), AllocError>
     Ok(())
 }
 
-/// Appends the bytes as a string of JSON (RFC 8259, 7): what is UTF-8 is kept, but for quotes, backslashes and bytes below
+/// Appends the bytes as a string of JSON (RFC 8259, 7): what is UTF-8 is kept, but for quotes, backslashes and
+/// bytes below
 /// the blank, which are escaped; each other byte stands as a lone surrogate, `\udc80` to `\udcff`.
 pub(crate) fn push_json_string(output: &mut Vec<u8>, bytes: &[u8]) -> Result<(), AllocError>
-    ensures { OnOk result (output.new.items ≡ output.old.items ++ json_string bytes.now) }
+    ensures pushed { OnOk result (output.new.items ≡ output.old.items ++ json_string bytes.now) }
+    ensures refused { OnErr result (IsGrown output.old.items output.new.items) }
 {
     output.push(b'"')?;
     if plain_run(bytes) == bytes.len() {

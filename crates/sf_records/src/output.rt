@@ -10,7 +10,8 @@ use sf_print::{Sink, SinkFault};
 #[inline(never)]
 fn write_rest<K: Sink>(to: &mut K, rest: &[u8]) -> Result<(), SinkFault>
     ensures took { IfOk result (λ _. Appends (K.contents to.old) (K.contents to.new) rest.now) }
-    ensures failed { IfErr result (λ _. (front : List ℕ) × (missing : ℕ) × (after : List ℕ) × (rest.now ≡ front ++ missing ∷ after) × Appends (K.contents to.old) (K.contents to.new) front) }
+    ensures failed { IfErr result (λ _. (front : List ℕ) × (missing : ℕ) × (after : List ℕ)
+        × (rest.now ≡ front ++ missing ∷ after) × Appends (K.contents to.old) (K.contents to.new) front) }
     ensures failures { K.failures to.new
         ≡ (if is_err result then counted_on (K.failures to.old) else K.failures to.old) }
 {
@@ -28,7 +29,8 @@ fn write_rest<K: Sink>(to: &mut K, rest: &[u8]) -> Result<(), SinkFault>
 #[inline(always)]
 pub fn write_whole<K: Sink>(to: &mut K, bytes: &[u8]) -> Result<(), SinkFault>
     ensures took { IfOk result (λ _. Appends (K.contents to.old) (K.contents to.new) bytes.now) }
-    ensures failed { IfErr result (λ _. (front : List ℕ) × (missing : ℕ) × (rest : List ℕ) × (bytes.now ≡ front ++ missing ∷ rest) × Appends (K.contents to.old) (K.contents to.new) front) }
+    ensures failed { IfErr result (λ _. (front : List ℕ) × (missing : ℕ) × (rest : List ℕ)
+        × (bytes.now ≡ front ++ missing ∷ rest) × Appends (K.contents to.old) (K.contents to.new) front) }
     ensures failures { K.failures to.new
         ≡ (if is_err result then counted_on (K.failures to.old) else K.failures to.old) }
 {

@@ -1,6 +1,8 @@
 //! Bytes between quotes.
-ghost use Rattle.std.specs.Prelude.{◌≡◌, ◌++◌, ◌+◌, ◌<◌, ◌≤◌, [], ◌∷◌, length, map, take, drop, true, not, IfSome, IsSome, OnOk};
+ghost use Rattle.std.specs.Prelude.{◌≡◌, ◌++◌, ◌+◌, ◌<◌, ◌≤◌, [], ◌∷◌, length, map, take, drop, true, not, IfSome};
+ghost use Rattle.std.specs.Prelude.{IsSome, OnErr, OnOk};
 ghost use Rattle.std.specs.List.{flat_map, list_all, prefix_len};
+ghost use Rattle.sf_records.specs.Growing.{IsGrown};
 ghost use Rattle.sf_records.specs.Quotes.{hex_digit, escaped, is_plain, quoted};
 ghost use lib.Lanes.{mask_l, chunk};
 
@@ -65,7 +67,8 @@ pub(crate) fn plain_run(bytes: &[u8]) -> usize
 
 #[inline(never)]
 fn push_escaped(output: &mut Vec<u8>, b: u8) -> Result<(), AllocError>
-    ensures { OnOk result (output.new.items ≡ output.old.items ++ escaped b) }
+    ensures pushed { OnOk result (output.new.items ≡ output.old.items ++ escaped b) }
+    ensures refused { OnErr result (output.new.items ≡ output.old.items) }
 {
     match b {
         b'\\' => output.extend_from_slice(b"\\\\"),
@@ -78,7 +81,8 @@ fn push_escaped(output: &mut Vec<u8>, b: u8) -> Result<(), AllocError>
 /// Appends the bytes as they stand between quotes.
 #[inline(never)]
 fn push_mixed(output: &mut Vec<u8>, bytes: &[u8]) -> Result<(), AllocError>
-    ensures { OnOk result (output.new.items ≡ output.old.items ++ flat_map escaped bytes.now) }
+    ensures pushed { OnOk result (output.new.items ≡ output.old.items ++ flat_map escaped bytes.now) }
+    ensures refused { OnErr result (IsGrown output.old.items output.new.items) }
 {
     let mut done = 0;
     while done < bytes.len() {
@@ -96,7 +100,8 @@ fn push_mixed(output: &mut Vec<u8>, bytes: &[u8]) -> Result<(), AllocError>
 /// Appends the bytes between quotes.
 #[inline(never)]
 fn push_long(output: &mut Vec<u8>, bytes: &[u8]) -> Result<(), AllocError>
-    ensures { OnOk result (output.new.items ≡ output.old.items ++ quoted bytes.now) }
+    ensures pushed { OnOk result (output.new.items ≡ output.old.items ++ quoted bytes.now) }
+    ensures refused { OnErr result (IsGrown output.old.items output.new.items) }
 {
     output.push(b'"')?;
     if plain_run(bytes) == bytes.len() {
@@ -161,7 +166,8 @@ pub(crate) fn write_quoted(bytes: &[u8], buf: &mut [u8], at: usize) -> Option<us
     requires { at ≤ length buf.old }
     ensures within { IfSome result (λ end. end ≤ length buf.new) }
     ensures written { IfSome result (λ end. take end buf.new ≡ take at buf.old ++ quoted bytes.now) }
-    ensures answers { list_all is_plain bytes.now ≡ true → at + length (quoted bytes.now) ≤ length buf.old → IsSome result }
+    ensures answers { list_all is_plain bytes.now ≡ true → at + length (quoted bytes.now) ≤ length buf.old
+        → IsSome result }
 {
     if buf.len() - at < bytes.len() + 2 {
         return None;
@@ -180,7 +186,8 @@ pub(crate) fn write_quoted(bytes: &[u8], buf: &mut [u8], at: usize) -> Option<us
 #[inline(always)]
 fn push_short(output: &mut Vec<u8>, bytes: &[u8]) -> Result<(), AllocError>
     requires { length bytes.now ≤ 16 }
-    ensures { OnOk result (output.new.items ≡ output.old.items ++ (34 ∷ (bytes.now ++ 34 ∷ []))) }
+    ensures pushed { OnOk result (output.new.items ≡ output.old.items ++ (34 ∷ (bytes.now ++ 34 ∷ []))) }
+    ensures refused { OnErr result (output.new.items ≡ output.old.items) }
 {
     let start = output.len() + 1;
     output.extend_from_slice(&QUOTES_AND_ROOM)?;
@@ -190,12 +197,20 @@ fn push_short(output: &mut Vec<u8>, bytes: &[u8]) -> Result<(), AllocError>
 }
 
 /// Appends the bytes between quotes: printable ones as they are, a quote and a backslash behind a backslash, and every
-/// other by its two digits of base 16.
+/// other by its two digits of base 16. Where memory is refused, nothing is appended.
 pub fn push_quoted(output: &mut Vec<u8>, bytes: &[u8]) -> Result<(), AllocError>
-    ensures { OnOk result (output.new.items ≡ output.old.items ++ quoted bytes.now) }
+    ensures pushed { OnOk result (output.new.items ≡ output.old.items ++ quoted bytes.now) }
+    ensures refused { OnErr result (output.new.items ≡ output.old.items) }
 {
     if bytes.len() <= LANES && is_short_plain(bytes) {
         return push_short(output, bytes);
     }
-    push_long(output, bytes)
+    let start = output.len();
+    match push_long(output, bytes) {
+        Ok(()) => Ok(()),
+        Err(AllocError) => {
+            output.truncate(start);
+            Err(AllocError)
+        }
+    }
 }

@@ -31,7 +31,8 @@ pub(crate) trait Recorder {
         report: &Report<'_, T>,
     ) -> Result<(), Unwritten>
         ensures same { work self.new ≡ work self.old }
-        ensures written { Writes ((work self.old).fits report.now) ((work self.old).text report.now) (K.contents to.old) (K.contents to.new) result }
+        ensures written { Writes ((work self.old).fits report.now) ((work self.old).text report.now)
+            (K.contents to.old) (K.contents to.new) result }
         ensures failures { K.failures to.new
             ≡ (if sink_failed result then counted_on (K.failures to.old) else K.failures to.old) };
 }

@@ -1,5 +1,6 @@
 //! The loop over the records of an input.
-ghost use Rattle.std.specs.Prelude.{◌≡◌, ◌≢◌, ◌<◌, ◌≤◌, ℕ, List, Some, None, true, if◌then◌else◌, IfOk, IfErr, IfSome, MatchOption};
+ghost use Rattle.std.specs.Prelude.{◌≡◌, ◌≢◌, ◌<◌, ◌≤◌, ℕ, List, Some, None, true, if◌then◌else◌, IfOk, IfErr, IfSome};
+ghost use Rattle.std.specs.Prelude.{MatchOption};
 ghost use Rattle.std.specs.Result.{result_err};
 ghost use Rattle.sf_format.specs.Proper.{AreProper};
 ghost use Rattle.sf_print.specs.Sinks.{counted_on};
@@ -37,7 +38,8 @@ fn fault_by(why: Unwritten, number: u32) -> ToolFault
 #[inline(never)]
 fn end_after<T: Store>(turn: Turn, report: &Report<'_, T>, records: u32) -> Option<ToolEnd>
     requires { records < 2147483647 }
-    ensures { MatchOption result (turn ≡ Turn.Goes) (λ end. (turn ≢ Turn.Goes) × (end ≡ end_by turn records report.now)) }
+    ensures { MatchOption result (turn ≡ Turn.Goes) (λ end. (turn ≢ Turn.Goes)
+        × (end ≡ end_by turn records report.now)) }
 {
     let outcome = report.outcome();
     let number = records + 1;
@@ -59,7 +61,8 @@ fn end_after<T: Store>(turn: Turn, report: &Report<'_, T>, records: u32) -> Opti
     }
 }
 
-/// Writes the record of a run where one is due, and answers the loop's end where it stops. `records` were written before.
+/// Writes the record of a run where one is due, and answers the loop's end where it stops. `records` were written
+/// before.
 #[inline(always)]
 fn judge<R: Recorder, K: Sink, T: Store>(
     recorder: &mut R,
@@ -69,7 +72,8 @@ fn judge<R: Recorder, K: Sink, T: Store>(
 ) -> Option<ToolEnd>
     requires { records < 2147483647 }
     ensures same { R.work recorder.new ≡ R.work recorder.old }
-    ensures judged { Judges records ((R.work recorder.old).text report.now) (turn_in (R.work recorder.old) report.now) report.now (K.contents to.old) (K.contents to.new) result }
+    ensures judged { Judges records ((R.work recorder.old).text report.now)
+        (turn_in (R.work recorder.old) report.now) report.now (K.contents to.old) (K.contents to.new) result }
     ensures status { IfSome result (λ end. end.status ≡ status_by end.fault) }
     ensures failures { K.failures to.new
         ≡ (if is_write (fault_of result) then counted_on (K.failures to.old) else K.failures to.old) }
@@ -86,7 +90,8 @@ fn judge<R: Recorder, K: Sink, T: Store>(
     }
 }
 
-/// Writes the record of a run that is Done, met nothing and used a byte: as `judge`, where the loop goes on behind the record
+/// Writes the record of a run that is Done, met nothing and used a byte: as `judge`, where the loop goes on
+/// behind the record
 /// unless that can't be written in full.
 #[inline(always)]
 fn write_held<R: Recorder, K: Sink, T: Store>(
@@ -100,8 +105,11 @@ fn write_held<R: Recorder, K: Sink, T: Store>(
     requires met { report.now.met ≡ None }
     requires used { 0 < report.now.used }
     ensures same { R.work recorder.new ≡ R.work recorder.old }
-    ensures written { IfOk result (λ _. Judges records ((R.work recorder.old).text report.now) (turn_in (R.work recorder.old) report.now) report.now (K.contents to.old) (K.contents to.new) None) }
-    ensures unwritten { IfErr result (λ fault. Judges records ((R.work recorder.old).text report.now) (turn_in (R.work recorder.old) report.now) report.now (K.contents to.old) (K.contents to.new) (Some (ended records (Some fault)))) }
+    ensures written { IfOk result (λ _. Judges records ((R.work recorder.old).text report.now)
+        (turn_in (R.work recorder.old) report.now) report.now (K.contents to.old) (K.contents to.new) None) }
+    ensures unwritten { IfErr result (λ fault. Judges records ((R.work recorder.old).text report.now)
+        (turn_in (R.work recorder.old) report.now) report.now (K.contents to.old) (K.contents to.new)
+        (Some (ended records (Some fault)))) }
     ensures failures { K.failures to.new
         ≡ (if is_write (result_err result) then counted_on (K.failures to.old) else K.failures to.old) }
 {
@@ -111,7 +119,8 @@ fn write_held<R: Recorder, K: Sink, T: Store>(
     }
 }
 
-/// Scans record after record of what the lookahead holds and its source gives, by runs of at most `limit` bytes, and has
+/// Scans record after record of what the lookahead holds and its source gives, by runs of at most `limit` bytes,
+/// and has
 /// each written. It ends cleanly where fscanf would return EOF at the end of the input (C11 7.21.6.2p16); else it says
 /// why, and the records before stand. What the runs did not use stays held or unread.
 pub(crate) fn run_records<R: Recorder, S: Source, K: Sink, const N: usize>(
@@ -125,7 +134,8 @@ pub(crate) fn run_records<R: Recorder, S: Source, K: Sink, const N: usize>(
     requires limit { limit ≤ 2147483647 }
     requires proper { AreProper format.now }
     ensures loops { (t : List ℕ) → input_of S.to_come from.old ≡ Some t
-        → Loops (R.work recorder.old) S.to_come format.now limit t from.new (S.failures from.old.source) (S.failures from.new.source) (K.contents to.old) (K.contents to.new) result }
+        → Loops (R.work recorder.old) S.to_come format.now limit t from.new (S.failures from.old.source)
+        (S.failures from.new.source) (K.contents to.old) (K.contents to.new) result }
     ensures status { result.status ≡ status_by result.fault }
     ensures sink { K.failures to.new
         ≡ (if is_write result.fault then counted_on (K.failures to.old) else K.failures to.old) }

@@ -17,8 +17,10 @@ use sf_read::{Lookahead, Source};
 use std::alloc::Global;
 
 /// Scans record after record of what the lookahead holds and its source gives, by runs of at most `limit` bytes, and
-/// writes a line for each: the values of its slots, joined by blanks. It ends cleanly where fscanf would return EOF at the
-/// end of the input (C11 7.21.6.2p16); else it says why, and the lines of the records before stand. What the runs did not
+/// writes a line for each: the values of its slots, joined by blanks. It ends cleanly where fscanf would return
+/// EOF at the
+/// end of the input (C11 7.21.6.2p16); else it says why, and the lines of the records before stand. What the runs
+/// did not
 /// use stays held or unread.
 pub fn run_scan<S: Source, K: Sink, const N: usize>(
     alloc: Global,
@@ -29,7 +31,8 @@ pub fn run_scan<S: Source, K: Sink, const N: usize>(
 ) -> ToolEnd
     requires { limit ≤ 2147483647 }
     ensures loops { (t : List ℕ) → input_of S.to_come from.old ≡ Some t
-        → Loops (scanning format.now) S.to_come format.now limit t from.new (S.failures from.old.source) (S.failures from.new.source) (K.contents to.old) (K.contents to.new) result }
+        → Loops (scanning format.now) S.to_come format.now limit t from.new (S.failures from.old.source)
+        (S.failures from.new.source) (K.contents to.old) (K.contents to.new) result }
     ensures status { result.status ≡ status_by result.fault }
     ensures sink { K.failures to.new
         ≡ (if is_write result.fault then counted_on (K.failures to.old) else K.failures to.old) }
@@ -50,7 +53,8 @@ pub fn run_scan_as<S: Source, K: Sink, const N: usize>(
 ) -> ToolEnd
     requires { limit ≤ 2147483647 }
     ensures loops { (t : List ℕ) → input_of S.to_come from.old ≡ Some t
-        → Loops (writing form format.now) S.to_come format.now limit t from.new (S.failures from.old.source) (S.failures from.new.source) (K.contents to.old) (K.contents to.new) result }
+        → Loops (writing form format.now) S.to_come format.now limit t from.new (S.failures from.old.source)
+        (S.failures from.new.source) (K.contents to.old) (K.contents to.new) result }
     ensures status { result.status ≡ status_by result.fault }
     ensures sink { K.failures to.new
         ≡ (if is_write result.fault then counted_on (K.failures to.old) else K.failures to.old) }

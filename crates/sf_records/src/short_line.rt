@@ -16,7 +16,8 @@ pub(crate) const LINE_BYTES: usize = 1044;
 /// A blank, a minus and the digits of any number.
 const NUMBER_BYTES: usize = 22;
 
-/// Writes what a slot was given from a place on, and answers where it ends. None where it is a text that is not plain, or
+/// Writes what a slot was given from a place on, and answers where it ends. None where it is a text that is not
+/// plain, or
 /// there is no room for it.
 #[inline(always)]
 fn write_slot<S: Store>(
@@ -28,7 +29,8 @@ fn write_slot<S: Store>(
     requires { at + 21 ≤ length buf.old }
     ensures within { IfSome result (λ end. end ≤ length buf.new) }
     ensures written { IfSome result (λ end. take end buf.new ≡ take at buf.old ++ slot_text Plain report.now slot) }
-    ensures answers { is_plain_slot report.now slot ≡ true → at + length (slot_text Plain report.now slot) ≤ length buf.old → IsSome result }
+    ensures answers { is_plain_slot report.now slot ≡ true
+        → at + length (slot_text Plain report.now slot) ≤ length buf.old → IsSome result }
 {
     match report.shown(slot) {
         Some(Shown::Number(number)) => {
@@ -50,7 +52,8 @@ fn write_byte(byte: u8, buf: &mut [u8], at: usize) -> usize
     at + 1
 }
 
-/// Writes the plain line of a record, and answers where it ends. None where a text of it is not plain, or there is no room.
+/// Writes the plain line of a record, and answers where it ends. None where a text of it is not plain, or there
+/// is no room.
 #[inline(always)]
 fn write_plain<S: Store>(report: &Report<'_, S>, destinations: u8, buf: &mut [u8]) -> Option<usize>
     ensures within { IfSome result (λ end. end ≤ length buf.new) }
@@ -73,7 +76,8 @@ fn write_plain<S: Store>(report: &Report<'_, S>, destinations: u8, buf: &mut [u8
     Some(write_byte(b'\n', buf, end))
 }
 
-/// Writes the record, in this form, of a format that has so many destinations, by the report of a run, and answers where it
+/// Writes the record, in this form, of a format that has so many destinations, by the report of a run, and
+/// answers where it
 /// ends. None where it isn't known to be a short line whose texts are plain.
 #[inline(always)]
 pub(crate) fn write_line<S: Store>(

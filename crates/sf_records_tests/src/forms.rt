@@ -2,6 +2,7 @@
 ghost use Rattle.std.specs.Prelude.{◌≤◌};
 
 use crate::copies::{LIMIT, is};
+use crate::reading_back::write_table;
 use sf_base::Store;
 use sf_format::{Profile, ScanFormat};
 use sf_print::{ListSink, ScriptSink, WriteStep};
@@ -163,5 +164,21 @@ fn one_record(rt: HostRuntime) -> Result<(), Fail> {
     is_pushed(&rt, &report);
     is_written_twice(&rt, &report);
     is_cut(&rt, &report);
+    Ok(())
+}
+
+/// Two records of a number and a text, one with a tab.
+#[test]
+fn a_table(rt: HostRuntime) -> Result<(), Fail> {
+    let format = ScanFormat::parse(rt.alloc(), Profile::One, b"%d,%9[^\n]%*1[\n]")?;
+    let mut out = ListSink::new(rt.alloc());
+    let end = write_table(rt.alloc(), b"7,a\tb\n-8,c\n", &format, &mut out);
+    is(&rt, &end.fault, &None, &"a table");
+    is(
+        &rt,
+        &out.bytes(),
+        &b"7\ta\\tb\n-8\tc\n".as_slice(),
+        &"a table",
+    );
     Ok(())
 }

@@ -15,5 +15,6 @@ mod memory;
 mod numbers;
 #[cfg(test)]
 mod random;
+pub mod reading_back;
 #[cfg(test)]
 mod texts;

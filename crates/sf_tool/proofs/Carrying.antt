@@ -190,6 +190,7 @@ module _ {T S K E : Type 0} (f : T → S) (to_come : S → Option (List ℕ)) (f
   line_loops w t now n k before after silent told told' end l = record {
     failed = l.failed;
     failures_are = l.failures_are;
+    nothing_held = l.nothing_held;
     consumed = l.consumed;
     rest = l.rest;
     turns = l.turns;

@@ -11,8 +11,10 @@ pub loop-format-preserved : goal.loop-format-preserved
 loop-format-preserved c =
     let l = c.loop-format in
     record {
-      proper = all_more AreProper c.args.formats.now l.format-index c.format-item.result c.loop-format-test.true c.format-item.is l.invariant.proper c.width_of.ensures.proper;
-      most = c.wider-room.ensures ∙ most_more c.args.formats.now l.format-index c.format-item.result l.room _ c.loop-format-test.true c.format-item.is l.invariant.most c.width_of.ensures.width;
+      proper = all_more AreProper c.args.formats.now l.format-index c.format-item.result c.loop-format-test.true c.format-item.is
+          l.invariant.proper c.width_of.ensures.proper;
+      most = c.wider-room.ensures ∙ most_more c.args.formats.now l.format-index c.format-item.result l.room _ c.loop-format-test.true
+          c.format-item.is l.invariant.most c.width_of.ensures.width;
     }
 
 pub returns : goal.returns

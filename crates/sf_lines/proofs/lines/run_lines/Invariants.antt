@@ -1,7 +1,7 @@
 use Rattle.std.proofs.Common.{◌≡◌, ◌≤◌, true, ℕ, List, Some}
 use Rattle.sf_read.specs.Ahead.{input_of}
 use Rattle.sf_lines.specs.declared.end.LineFault.{LineFault}
-use Rattle.sf_lines.specs.Telling.{faults_by}
+use Rattle.sf_lines.specs.Telling.{Stays}
 use Rattle.sf_lines.specs.Turns.{work_of}
 use Rattle.sf_lines.proofs.Looping.{Going}
 use Rattle.sf_lines.proofs.lines.run_lines.Given as goal
@@ -10,13 +10,13 @@ use Rattle.sf_lines.proofs.lines.run_lines.Given as goal
 -- end nothing was read
 abbrev pub invariant-loop-before : goal.invariant-loop-before
 invariant-loop-before g l = record {
-  going : (telling : ℕ → List ℕ → LineFault → List ℕ) (t : List ℕ) → g.E.Teller.says l.fn.teller telling → input_of g.S.Source.to_come l.fn.from ≡ Some t
-      → Going (work_of l.options l.formats (g.R.RecordWriter.text l.fn.writer) telling) g.S.Source.to_come t l.from (g.K.Sink.contents l.fn.to) (g.K.Sink.contents l.to) (g.E.Teller.failed l.fn.teller) (g.E.Teller.failed l.teller) (g.E.Teller.told l.fn.teller) (g.E.Teller.told l.teller) l.counts.written l.counts.failed l.before;
+  going : (telling : ℕ → List ℕ → LineFault → List ℕ) (t : List ℕ) → g.E.Teller.says l.fn.teller telling
+      → input_of g.S.Source.to_come l.fn.from ≡ Some t
+      → Going (work_of l.options l.formats (g.R.RecordWriter.text l.fn.writer) telling) g.S.Source.to_come t l.from
+      (g.K.Sink.contents l.fn.to) (g.K.Sink.contents l.to) (g.E.Teller.failed l.fn.teller) (g.E.Teller.failed l.teller)
+      (g.E.Teller.told l.fn.teller) (g.E.Teller.told l.teller) l.counts.written l.counts.failed l.before;
   text : g.R.RecordWriter.text l.writer ≡ g.R.RecordWriter.text l.fn.writer;
-  says : (telling : ℕ → List ℕ → LineFault → List ℕ) → g.E.Teller.says l.fn.teller telling → g.E.Teller.says l.teller telling;
-  kept : g.E.Teller.kept l.teller ≡ g.E.Teller.kept l.fn.teller;
-  stays : g.E.Teller.failed l.fn.teller ≡ true → g.E.Teller.failed l.teller ≡ true;
-  faults : g.E.Teller.faults l.teller ≡ faults_by (g.E.Teller.failed l.fn.teller) (g.E.Teller.failed l.teller) (g.E.Teller.faults l.fn.teller);
+  teller : Stays g.E.Teller.says g.E.Teller.kept g.E.Teller.failed g.E.Teller.faults l.fn.teller l.teller;
   written : l.counts.written ≤ l.before;
   failed : l.counts.failed ≤ l.before;
   source : g.S.Source.failures l.from.source ≡ g.S.Source.failures l.fn.from.source;

@@ -1,17 +1,44 @@
-use Rattle.std.proofs.Common.{◌+◌, refl, arith}
+use Rattle.std.proofs.Common.{◌∙◌, ℕ, List, cond, sym, ap, subst}
+use Rattle.sf_print.specs.Sinks.{counted_on}
+use Rattle.sf_lines.specs.Coming.{Came}
+use Rattle.sf_lines.specs.Reading.{is_failed}
 use Rattle.sf_lines.specs.Turns.{work_of}
-use Rattle.sf_lines.proofs.Coming.{turned_long, turned_short, turned_skipped}
+use Rattle.sf_lines.proofs.Coming.{came_long, turned}
 use Rattle.sf_lines.proofs.turn.read_line.Goals as goal
 
-pub returns-in_default-clause-turns : goal.returns-in_default-clause-turns
-returns-in_default-clause-turns g c telling = (record { part = c.next_line-read.new.line.items; told = c.next_line-read.ensures.reads; no_line = c.in_default.not-Line; no_long = c.in_default.not-TooLong }, refl)
+pub returns-in-Line-clause-turns : goal.returns-in-Line-clause-turns
+returns-in-Line-clause-turns g c telling said =
+    let w = work_of c.args.options c.args.formats.now (g.R.RecordWriter.text c.args.writer.now) telling in
+    let (took, short) = rw c.in-Line.is at c.next_line-read.ensures.reads in
+    turned g.S.Source.to_come c.args.from.now c.next_line-read.new.from w c.args.number _ _ _ _ _ _ c.next_line-read.new.line.items took
+    c.judge.result
+    (subst (λ (y : List ℕ). Came w c.args.number y (g.K.Sink.contents c.args.to.now) (g.K.Sink.contents c.judge.new.to)
+    (g.E.Teller.failed c.args.teller.now) (g.E.Teller.failed c.judge.new.teller) (g.E.Teller.told c.args.teller.now)
+    (g.E.Teller.told c.judge.new.teller) c.judge.result)
+    c.deref.ensures.value (c.judge.ensures.came telling said))
 
-pub returns-then-before-options-clause-turns : goal.returns-then-before-options-clause-turns
-returns-then-before-options-clause-turns g c telling = turned_skipped g.S.Source.to_come c.args.from.now c.next_line-read.new.from c.next_line-read.new.line.items c.next_line-read.result (work_of c.args.options c.args.formats.now (g.R.RecordWriter.text c.args.writer.now) telling) (c.args.before + 1) _ _ c.next_line-read.ensures.reads c.args.store c.in-Line.is (omega (arith, c.if-before-options.true)) refl
+pub returns-in-Line-clause-source : goal.returns-in-Line-clause-source
+returns-in-Line-clause-source g c =
+    c.next_line-read.ensures.failures
+    ∙ ap (λ b. cond b (counted_on (g.S.Source.failures c.args.from.now.source)) (g.S.Source.failures c.args.from.now.source))
+    (ap is_failed c.in-Line.is ∙ sym c.judge.ensures.read)
 
 pub returns-in-TooLong-clause-turns : goal.returns-in-TooLong-clause-turns
-returns-in-TooLong-clause-turns g c telling = turned_long g.S.Source.to_come c.args.from.now c.next_line-read.new.from c.next_line-read.new.line.items c.next_line-read.result (work_of c.args.options c.args.formats.now (g.R.RecordWriter.text c.args.writer.now) telling) (c.args.before + 1) _ _ c.next_line-read.ensures.reads c.args.store c.in-TooLong.is (omega (arith, c.if-before-options.false)) refl
+returns-in-TooLong-clause-turns g c telling said =
+    let w = work_of c.args.options c.args.formats.now (g.R.RecordWriter.text c.args.writer.now) telling in
+    let (line, took, long, front) = rw c.in-TooLong.is at c.next_line-read.ensures.reads in
+    turned g.S.Source.to_come c.args.from.now c.next_line-read.new.from w c.args.number _ _ _ _ _ _ line took c.tell.result
+    (came_long w c.args.number line c.deref-in-TooLong.result.now (g.K.Sink.contents c.args.to.now) (g.K.Sink.contents c.tell.new.to)
+    (g.E.Teller.failed c.args.teller.now)
+    (g.E.Teller.failed c.tell.new.teller) (g.E.Teller.told c.args.teller.now) (g.E.Teller.told c.tell.new.teller)
+    c.requires.counts long (c.deref-in-TooLong.ensures.value ∙ front) c.tell.ensures.taken c.tell.result (c.tell.ensures.told telling said))
 
-pub returns-in_default-read-clause-turns : goal.returns-in_default-read-clause-turns
-returns-in_default-read-clause-turns g c telling =
-    turned_short g.S.Source.to_come c.args.from.now c.next_line-read.new.from c.next_line-read.new.line.items c.next_line-read.result (work_of c.args.options c.args.formats.now (g.R.RecordWriter.text c.args.writer.now) telling) (c.args.before + 1) (g.K.Sink.contents c.args.to.now) (g.K.Sink.contents c.judge.new.to) c.next_line-read.ensures.reads c.in-Line.is c.in_default-read.not-TooLong (omega (arith, c.if-before-options.false)) c.deref.result.now c.deref.ensures.value c.judge.result c.judge.ensures.judged
+pub returns-in-TooLong-clause-source : goal.returns-in-TooLong-clause-source
+returns-in-TooLong-clause-source g c =
+    c.next_line-read.ensures.failures
+    ∙ ap (λ b. cond b (counted_on (g.S.Source.failures c.args.from.now.source)) (g.S.Source.failures c.args.from.now.source))
+    (ap is_failed c.in-TooLong.is ∙ sym c.tell.ensures.read)
+
+pub returns-in-TooLong-clause-sink : goal.returns-in-TooLong-clause-sink
+returns-in-TooLong-clause-sink g c = c.tell.ensures.sink ∙ ap (λ b. cond b (counted_on (g.K.Sink.failures c.args.to.now)) (g.K.Sink.failures c.args.to.now))
+    (sym c.tell.ensures.sound)

@@ -11,11 +11,13 @@ loop-before-preserved g c =
     elim c.match-value.branch [
       | in-Some w ↦ record {
         few = omega (arith, ap array_vec_len w.values-is, w.push.ensures.len, l.invariant.few);
-        are = with_value l.before c.args.report.now.values l.values.items c.match-value.values.items w.in-Some.value l.invariant.are w.in-Some.ensures
+        are = with_value l.before c.args.report.now.values l.values.items c.match-value.values.items w.in-Some.value l.invariant.are
+            w.in-Some.ensures
             (ap (λ v. v.items) w.values-is ∙ w.push.ensures.items);
       }
       | in-None w ↦ record {
         few = omega (arith, ap array_vec_len w.values-is, l.invariant.few);
-        are = ap (λ v. map datum_of v.items) w.values-is ∙ with_none l.before c.args.report.now.values l.values.items l.invariant.are w.in-None.ensures;
+        are = ap (λ v. map datum_of v.items) w.values-is ∙ with_none l.before c.args.report.now.values l.values.items l.invariant.are
+            w.in-None.ensures;
       }
     ]

@@ -1,4 +1,5 @@
 use Rattle.std.proofs.Common.{◌∙◌}
+use Rattle.sf_records.proofs.Growing.{grown_by, grown_then}
 use Rattle.sf_records.proofs.JsonWriting.{kept_within, kept_written}
 use Rattle.sf_records.proofs.json.push_characters.Goals as goal
 
@@ -8,6 +9,8 @@ loop-done-preserved c =
     let bytes = c.args.bytes.now in
     let kept = c.utf8_front-kept in
     record {
+      grown = grown_then l.invariant.grown (grown_by _ c.in_ok-push_kept.ensures.pushed);
       within = kept_within bytes l.done kept.result c.loop-done-test.true kept.ensures.within;
-      so_far = kept_written bytes l.output.items _ l.done kept.result c.loop-done-test.true kept.ensures.count kept.ensures.within (λ none. c.if-kept-eq0.false none) c.in_ok-push_kept.ensures ∙ l.invariant.so_far;
+      so_far = kept_written bytes l.output.items _ l.done kept.result c.loop-done-test.true kept.ensures.count kept.ensures.within
+          (λ none. c.if-kept-eq0.false none) c.in_ok-push_kept.ensures.pushed ∙ l.invariant.so_far;
     }

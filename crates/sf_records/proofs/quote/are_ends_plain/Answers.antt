@@ -7,5 +7,7 @@ pub returns : goal.returns
 returns c =
     let xs = c.args.bytes.now in
     let w = c.args.width in
-    plain_by_ends xs c.copy_from_slice.new.self c.copy_from_slice-2.new.self w (w + w - w) c.odd_mask.result c.requires.width.0 c.requires.width.1 c.requires.width.2 (omega arith)
-    c.copy_from_slice.ensures.after (c.copy_from_slice-2.ensures.after ∙ take_all _ (drop (length xs - w) xs) (omega (arith, length-drop (length xs - w) xs))) c.odd_mask.ensures
+    plain_by_ends xs c.copy_from_slice.new.self c.copy_from_slice-2.new.self w (w + w - w) c.odd_mask.result c.requires.width.0
+    c.requires.width.1 c.requires.width.2 (omega arith)
+    c.copy_from_slice.ensures.after (c.copy_from_slice-2.ensures.after
+    ∙ take_all _ (drop (length xs - w) xs) (omega (arith, length-drop (length xs - w) xs))) c.odd_mask.ensures

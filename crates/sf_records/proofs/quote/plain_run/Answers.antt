@@ -7,13 +7,15 @@ use Rattle.sf_records.proofs.quote.plain_run.Goals as goal
 pub returns-then-odd-ne0-clause-count : goal.returns-then-odd-ne0-clause-count
 returns-then-odd-ne0-clause-count c =
     let room : c.loop-at.at + 16 ≤ length c.args.bytes.now = omega (arith, c.loop-at-test.true) in
-    let r = ends_at (λ b. not (is_plain b)) is_plain (not_not is_plain) c.args.bytes.now c.loop-at.at c.odd_mask-odd.result room c.odd_mask-odd.ensures c.if-odd-ne0.true in
+    let r = ends_at (λ b. not (is_plain b)) is_plain (not_not is_plain) c.args.bytes.now c.loop-at.at c.odd_mask-odd.result room
+    c.odd_mask-odd.ensures c.if-odd-ne0.true in
     omega (arith, c.loop-at.invariant.front, r)
 
 pub loop-at-preserved : goal.loop-at-preserved
 loop-at-preserved c =
     let room : c.loop-at.at + 16 ≤ length c.args.bytes.now = omega (arith, c.loop-at-test.true) in
-    let r = goes_on (λ b. not (is_plain b)) is_plain (not_not is_plain) c.args.bytes.now c.loop-at.at c.odd_mask-odd.result room c.odd_mask-odd.ensures c.if-odd-ne0.false in
+    let r = goes_on (λ b. not (is_plain b)) is_plain (not_not is_plain) c.args.bytes.now c.loop-at.at c.odd_mask-odd.result room
+    c.odd_mask-odd.ensures c.if-odd-ne0.false in
     record {
       within = room;
       front = omega (arith, c.loop-at.invariant.front, r);

@@ -1,11 +1,13 @@
 use Rattle.std.proofs.Common.{◌≡◌, ◌≤◌, ◌-◌, ◌++◌, drop, length}
 use Rattle.std.specs.List.{flat_map}
 use Rattle.sf_records.specs.Quotes.{escaped}
+use Rattle.sf_records.specs.Growing.{IsGrown}
 use Rattle.sf_records.proofs.quote.push_mixed.Given as goal
 
 -- with the bytes that are left, the output is what it is to be
 abbrev pub invariant-loop-done : goal.invariant-loop-done
 invariant-loop-done l = record {
+  grown : IsGrown l.fn.output.items l.output.items;
   within : l.done ≤ length l.bytes;
   so_far : l.output.items ++ flat_map escaped (drop l.done l.bytes) ≡ l.fn.output.items ++ flat_map escaped l.bytes;
 }

@@ -4,7 +4,8 @@ use Rattle.sf_records.proofs.quote.write_quoted.Goals as goal
 
 pub returns-clause-written : goal.returns-clause-written
 returns-clause-written c =
-    quoted_in_place c.args.buf.now (set c.args.buf.now c.args.at 34) c.copy_over.new.buf c.args.bytes.now c.args.at _ (omega arith) (omega arith) refl c.copy_over.ensures (plain_all c.args.bytes.now (sym c.are_plain.ensures ∙ c.if-not-are_plain.false))
+    quoted_in_place c.args.buf.now (set c.args.buf.now c.args.at 34) c.copy_over.new.buf c.args.bytes.now c.args.at _ (omega arith)
+    (omega arith) refl c.copy_over.ensures (plain_all c.args.bytes.now (sym c.are_plain.ensures ∙ c.if-not-are_plain.false))
 
 pub returns-then-buf-at-clause-answers : goal.returns-then-buf-at-clause-answers
 returns-then-buf-at-clause-answers c plain room = absurd (omega (arith, room, plain_quoted c.args.bytes.now plain, c.if-buf-at.true))

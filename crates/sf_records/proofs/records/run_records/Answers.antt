@@ -29,7 +29,8 @@ enough_still low high = omega (arith, low, high)
 
 pub loop-records-init : goal.loop-records-init
 loop-records-init g c = record {
-  going = λ t e. begins (g.R.Recorder.work c.args.recorder.now) g.S.Source.to_come c.args.format.now c.args.limit t c.args.from.now (g.K.Sink.contents c.args.to.now) (g.S.Source.failures c.args.from.now.source) e;
+  going = λ t e. begins (g.R.Recorder.work c.args.recorder.now) g.S.Source.to_come c.args.format.now c.args.limit t c.args.from.now
+      (g.K.Sink.contents c.args.to.now) (g.S.Source.failures c.args.from.now.source) e;
   same = refl;
   roomy = fresh_roomy _ _ _ c.in-Ok.ensures (c.unwrap_or.ensures ∙ ap (λ sum. unwrap_or sum 0) c.width_sum.ensures);
   unread = λ at_end. refl;
@@ -39,7 +40,8 @@ loop-records-init g c = record {
 
 pub returns-in_default-clause-loops : goal.returns-in_default-clause-loops
 returns-in_default-clause-loops g c t e =
-    no_memory told.one_report (g.R.Recorder.work c.args.recorder.now) g.S.Source.to_come c.args.format.now c.requires.proper c.args.limit t c.args.from.now (g.K.Sink.contents c.args.to.now) (g.S.Source.failures c.args.from.now.source) e
+    no_memory told.one_report (g.R.Recorder.work c.args.recorder.now) g.S.Source.to_come c.args.format.now c.requires.proper
+    c.args.limit t c.args.from.now (g.K.Sink.contents c.args.to.now) (g.S.Source.failures c.args.from.now.source) e
     c.ended_by.result c.ended_by.ensures
 
 pub loop-records-preserved-in-Ok-write_held : goal.loop-records-preserved-in-Ok-write_held
@@ -47,8 +49,11 @@ loop-records-preserved-in-Ok-write_held g c = record {
   going = λ t e.
       let going = c.loop-records.invariant.going t e in
       let judged = c.in-Ok-write_held.ensures.written in
-      next told.one_report c.requires.proper going c.new-report.result (scan_as c.new-report.ensures (c.in-Some.ensures.scan going.left going.input)) (λ at_end. c.fscan_held.ensures.stays ∙ at_end)
-      (quiet _ (ap (λ r. r.met) c.new-report.ensures ∙ c.in-Some.ensures.met) (ap g.S.Source.failures c.fscan_held.ensures.no_read)) (λ _. done_fine _ (ap (λ r. r.status) c.new-report.ensures ∙ c.in-Some.ensures.done)) _
+      next told.one_report c.requires.proper going c.new-report.result
+      (scan_as c.new-report.ensures (c.in-Some.ensures.scan going.left going.input))
+      (λ at_end. c.fscan_held.ensures.stays ∙ at_end)
+      (quiet _ (ap (λ r. r.met) c.new-report.ensures ∙ c.in-Some.ensures.met) (ap g.S.Source.failures c.fscan_held.ensures.no_read))
+      (λ _. done_fine _ (ap (λ r. r.status) c.new-report.ensures ∙ c.in-Some.ensures.done)) _
       (rw (← c.loop-records.invariant.same) judged.0) (rw (← c.loop-records.invariant.same) judged.1);
   same = c.write_held.ensures.same ∙ c.loop-records.invariant.same;
   roomy = enough_still c.loop-records.invariant.roomy c.fscan_held.ensures.room;
@@ -60,16 +65,22 @@ loop-records-preserved-in-Ok-write_held g c = record {
 pub returns-in-Err-clause-loops : goal.returns-in-Err-clause-loops
 returns-in-Err-clause-loops g c t e =
     let going = c.loop-records.invariant.going t e in
-    ends_at told.one_report c.requires.proper going c.new-report.result (scan_as c.new-report.ensures (c.in-Some.ensures.scan going.left going.input)) (λ at_end. c.fscan_held.ensures.stays ∙ at_end)
-    (quiet _ (ap (λ r. r.met) c.new-report.ensures ∙ c.in-Some.ensures.met) (ap g.S.Source.failures c.fscan_held.ensures.no_read)) (λ _. done_fine _ (ap (λ r. r.status) c.new-report.ensures ∙ c.in-Some.ensures.done)) c.loop-records-test.true c.ended_by-in-Err.result _
+    ends_at told.one_report c.requires.proper going c.new-report.result
+    (scan_as c.new-report.ensures (c.in-Some.ensures.scan going.left going.input)) (λ at_end. c.fscan_held.ensures.stays ∙ at_end)
+    (quiet _ (ap (λ r. r.met) c.new-report.ensures ∙ c.in-Some.ensures.met) (ap g.S.Source.failures c.fscan_held.ensures.no_read))
+    (λ _. done_fine _ (ap (λ r. r.status) c.new-report.ensures ∙ c.in-Some.ensures.done)) c.loop-records-test.true
+    c.ended_by-in-Err.result _
     (rw (← c.loop-records.invariant.same, c.ended_by-in-Err.ensures) c.in-Err.ensures.unwritten)
 
 pub returns-in-Some-judge-clause-loops : goal.returns-in-Some-judge-clause-loops
 returns-in-Some-judge-clause-loops g c t e =
     let going = c.loop-records.invariant.going t e in
     let judged = c.in-Some-judge.ensures.judged in
-    ends_at told.one_report c.requires.proper going c.new-report.result (scan_as c.new-report.ensures (c.in-Some.ensures.scan going.left going.input)) (λ at_end. c.fscan_held.ensures.stays ∙ at_end)
-    (quiet _ (ap (λ r. r.met) c.new-report.ensures ∙ c.in-Some.ensures.met) (ap g.S.Source.failures c.fscan_held.ensures.no_read)) (λ _. done_fine _ (ap (λ r. r.status) c.new-report.ensures ∙ c.in-Some.ensures.done)) c.loop-records-test.true c.in-Some-judge.end _
+    ends_at told.one_report c.requires.proper going c.new-report.result
+    (scan_as c.new-report.ensures (c.in-Some.ensures.scan going.left going.input)) (λ at_end. c.fscan_held.ensures.stays ∙ at_end)
+    (quiet _ (ap (λ r. r.met) c.new-report.ensures ∙ c.in-Some.ensures.met) (ap g.S.Source.failures c.fscan_held.ensures.no_read))
+    (λ _. done_fine _ (ap (λ r. r.status) c.new-report.ensures ∙ c.in-Some.ensures.done)) c.loop-records-test.true
+    c.in-Some-judge.end _
     (rw (← c.loop-records.invariant.same) judged)
 
 pub loop-records-preserved-in-Some : goal.loop-records-preserved-in-Some
@@ -77,8 +88,11 @@ loop-records-preserved-in-Some g c = record {
   going = λ t e.
       let going = c.loop-records.invariant.going t e in
       let judged = c.in_default-judge.ensures.judged in
-      next told.one_report c.requires.proper going c.new-report.result (scan_as c.new-report.ensures (c.in-Some.ensures.scan going.left going.input)) (λ at_end. c.fscan_held.ensures.stays ∙ at_end)
-      (quiet _ (ap (λ r. r.met) c.new-report.ensures ∙ c.in-Some.ensures.met) (ap g.S.Source.failures c.fscan_held.ensures.no_read)) (λ _. done_fine _ (ap (λ r. r.status) c.new-report.ensures ∙ c.in-Some.ensures.done)) _
+      next told.one_report c.requires.proper going c.new-report.result
+      (scan_as c.new-report.ensures (c.in-Some.ensures.scan going.left going.input))
+      (λ at_end. c.fscan_held.ensures.stays ∙ at_end)
+      (quiet _ (ap (λ r. r.met) c.new-report.ensures ∙ c.in-Some.ensures.met) (ap g.S.Source.failures c.fscan_held.ensures.no_read))
+      (λ _. done_fine _ (ap (λ r. r.status) c.new-report.ensures ∙ c.in-Some.ensures.done)) _
       (rw (← c.loop-records.invariant.same) judged.0) (rw (← c.loop-records.invariant.same) judged.1);
   same = c.in_default-judge.ensures.same ∙ c.loop-records.invariant.same;
   roomy = enough_still c.loop-records.invariant.roomy c.fscan_held.ensures.room;
@@ -89,13 +103,16 @@ loop-records-preserved-in-Some g c = record {
 
 pub returns-in_default-fscan_over-clause-loops : goal.returns-in_default-fscan_over-clause-loops
 returns-in_default-fscan_over-clause-loops g c t e =
-    absurd (true≢false (sym (c.in_default-fscan_over.ensures.enough c.requires.limit (enough_still c.loop-records.invariant.roomy c.in_default-fscan_held.ensures.room))))
+    absurd (true≢false (sym (c.in_default-fscan_over.ensures.enough c.requires.limit
+    (enough_still c.loop-records.invariant.roomy c.in_default-fscan_held.ensures.room))))
 
 pub returns-in-Some-judge-2-clause-loops : goal.returns-in-Some-judge-2-clause-loops
 returns-in-Some-judge-2-clause-loops g c t e =
     let going = same_ahead g.S.Source.failures (c.in_default-fscan_held.ensures.none refl) (c.loop-records.invariant.going t e) in
     let judged = c.in-Some-judge-2.ensures.judged in
-    ends_at told.one_report c.requires.proper going c.in-Ok-fscan_over.scanned.report (c.in-Ok-fscan_over.ensures.scan going.left going.input) c.in-Ok-fscan_over.ensures.stays c.in-Ok-fscan_over.ensures.failures c.in-Ok-fscan_over.ensures.bounded c.loop-records-test.true c.in-Some-judge-2.end _
+    ends_at told.one_report c.requires.proper going c.in-Ok-fscan_over.scanned.report
+    (c.in-Ok-fscan_over.ensures.scan going.left going.input) c.in-Ok-fscan_over.ensures.stays c.in-Ok-fscan_over.ensures.failures
+    c.in-Ok-fscan_over.ensures.bounded c.loop-records-test.true c.in-Some-judge-2.end _
     (rw (← c.report.ensures, ← c.loop-records.invariant.same) judged)
 
 pub loop-records-preserved : goal.loop-records-preserved
@@ -103,12 +120,16 @@ loop-records-preserved g c = record {
   going = λ t e.
       let going = same_ahead g.S.Source.failures (c.in_default-fscan_held.ensures.none refl) (c.loop-records.invariant.going t e) in
       let judged = c.in_default-judge-2.ensures.judged in
-      next told.one_report c.requires.proper going c.in-Ok-fscan_over.scanned.report (c.in-Ok-fscan_over.ensures.scan going.left going.input) c.in-Ok-fscan_over.ensures.stays c.in-Ok-fscan_over.ensures.failures c.in-Ok-fscan_over.ensures.bounded _
-      (rw (← c.report.ensures, ← c.loop-records.invariant.same) judged.0) (rw (← c.report.ensures, ← c.loop-records.invariant.same) judged.1);
+      next told.one_report c.requires.proper going c.in-Ok-fscan_over.scanned.report
+      (c.in-Ok-fscan_over.ensures.scan going.left going.input) c.in-Ok-fscan_over.ensures.stays
+      c.in-Ok-fscan_over.ensures.failures c.in-Ok-fscan_over.ensures.bounded _
+      (rw (← c.report.ensures, ← c.loop-records.invariant.same) judged.0)
+      (rw (← c.report.ensures, ← c.loop-records.invariant.same) judged.1);
   same = c.in_default-judge-2.ensures.same ∙ c.loop-records.invariant.same;
   roomy = rw (c.into_store-store.ensures.kept) c.in-Ok-fscan_over.ensures.room;
   unread = λ at_end.
-      c.in-Ok-fscan_over.ensures.no_read (c.in_default-fscan_held.ensures.stays ∙ c.loop-records.invariant.ended at_end) ∙ c.in_default-fscan_held.ensures.no_read ∙ c.loop-records.invariant.unread at_end;
+      c.in-Ok-fscan_over.ensures.no_read (c.in_default-fscan_held.ensures.stays ∙ c.loop-records.invariant.ended at_end)
+      ∙ c.in_default-fscan_held.ensures.no_read ∙ c.loop-records.invariant.unread at_end;
   ended = λ at_end. c.in-Ok-fscan_over.ensures.stays (c.in_default-fscan_held.ensures.stays ∙ c.loop-records.invariant.ended at_end);
   sound = c.in_default-judge-2.ensures.failures ∙ c.loop-records.invariant.sound;
 }

@@ -11,7 +11,8 @@ use Rattle.sf_records.proofs.records.run_records.Given as goal
 abbrev pub invariant-loop-records : goal.invariant-loop-records
 invariant-loop-records g l = record {
   going : (t : List ℕ) → input_of g.S.Source.to_come l.fn.from ≡ Some t
-      → Going (g.R.Recorder.work l.fn.recorder) g.S.Source.to_come l.format l.limit t l.from (g.K.Sink.contents l.fn.to) (g.K.Sink.contents l.to) (g.S.Source.failures l.fn.from.source) (g.S.Source.failures l.from.source) l.records;
+      → Going (g.R.Recorder.work l.fn.recorder) g.S.Source.to_come l.format l.limit t l.from (g.K.Sink.contents l.fn.to)
+      (g.K.Sink.contents l.to) (g.S.Source.failures l.fn.from.source) (g.S.Source.failures l.from.source) l.records;
   same : g.R.Recorder.work l.recorder ≡ g.R.Recorder.work l.fn.recorder;
   roomy : unwrap_or (width_sum l.format) 0 ≤ capacity_of l.store;
   unread : l.fn.from.at_end ≡ true → l.from.source ≡ l.fn.from.source;

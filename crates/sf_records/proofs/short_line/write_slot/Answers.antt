@@ -7,7 +7,8 @@ use Rattle.sf_records.proofs.short_line.write_slot.Goals as goal
 pub returns-in-Some-Number-clause-written : goal.returns-in-Some-Number-clause-written
 returns-in-Some-Number-clause-written g c =
     c.write_number.ensures.written
-    ∙ ap (λ (t : List ℕ). take c.args.at c.args.buf.now ++ t) (number_at Plain _ c.in-Some-Number.number (rw c.in-Some-Number.field-0-is at c.in-Some-Number.ensures))
+    ∙ ap (λ (t : List ℕ). take c.args.at c.args.buf.now ++ t) (number_at Plain _ c.in-Some-Number.number
+    (rw c.in-Some-Number.field-0-is at c.in-Some-Number.ensures))
 
 pub returns-in-Some-Text-clause-answers : goal.returns-in-Some-Text-clause-answers
 returns-in-Some-Text-clause-answers g c plain room =

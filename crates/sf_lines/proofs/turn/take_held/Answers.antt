@@ -1,0 +1,45 @@
+use Rattle.std.proofs.Common.{◌≡◌, ◌≤◌, ◌+◌, ◌++◌, ◌∷◌, ◌∙◌, ℕ, List, [], cond, length, take, sym, ap, subst, arith}
+use Rattle.std.proofs.lemmas.List.{length-take-le}
+use Rattle.sf_print.specs.Sinks.{counted_on}
+use Rattle.sf_lines.specs.Coming.{Came}
+use Rattle.sf_lines.specs.Turns.{work_of}
+use Rattle.sf_lines.proofs.Coming.{turned}
+use Rattle.sf_lines.proofs.Holding.{takes, with_line_end}
+use Rattle.sf_lines.proofs.turn.take_held.Goals as goal
+
+pub judge-judged-requires : goal.judge-judged-requires
+judge-judged-requires g c =
+    let held : List ℕ = c.args.from.now.held in
+    let len : ℕ = c.args.len in
+    let within : len ≤ length held = let low = c.requires.held.within in omega (arith, low) in
+    let line : c.split_at-2.result.0.now ≡ take len held = c.split_at-2.ensures.front ∙ ap (take len) c.held-held.ensures.held in
+    record {
+      front = (
+        10 ∷ [],
+        c.split_at.ensures.front ∙ ap (take (len + 1)) c.held-held.ensures.held
+            ∙ with_line_end held len within c.requires.held.ended ∙ ap (λ (y : List ℕ). y ++ 10 ∷ []) (sym line),
+      );
+      proper = c.requires.proper;
+      short = omega (arith, ap length line, length-take-le len held within, c.requires.short);
+      counts = c.requires.counts;
+    }
+
+pub returns-clause-turns : goal.returns-clause-turns
+returns-clause-turns g c telling said =
+    let held : List ℕ = c.args.from.now.held in
+    let len : ℕ = c.args.len in
+    let w = work_of c.args.options c.args.formats.now (g.R.RecordWriter.text c.args.writer.now) telling in
+    let line : c.split_at-2.result.0.now ≡ take len held = c.split_at-2.ensures.front ∙ ap (take len) c.held-held.ensures.held in
+    turned g.S.Source.to_come c.args.from.now c.consume.new.self w c.args.number _ _ _ _ _ _ (take len held)
+    (takes g.S.Source.to_come c.args.from.now c.consume.new.self len c.requires.held c.requires.open c.consume.ensures.held
+    c.consume.ensures.source) c.judge-judged.result
+    (subst (λ (y : List ℕ). Came w c.args.number y (g.K.Sink.contents c.args.to.now) (g.K.Sink.contents c.judge-judged.new.to)
+    (g.E.Teller.failed c.args.teller.now) (g.E.Teller.failed c.judge-judged.new.teller) (g.E.Teller.told c.args.teller.now)
+    (g.E.Teller.told c.judge-judged.new.teller) c.judge-judged.result)
+    line (c.judge-judged.ensures.came telling said))
+
+pub returns-clause-source : goal.returns-clause-source
+returns-clause-source g c =
+    ap g.S.Source.failures c.consume.ensures.source
+    ∙ ap (λ b. cond b (counted_on (g.S.Source.failures c.args.from.now.source)) (g.S.Source.failures c.args.from.now.source))
+    (sym c.judge-judged.ensures.read)
