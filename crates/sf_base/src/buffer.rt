@@ -36,6 +36,20 @@ fn move_over(bytes: &mut [u8], at: usize, piece: &[u8])
     bytes[at..at + piece.len()].copy_from_slice(piece);
 }
 
+/// How many bytes may be moved to the place: those for which there is room, or, where the block grows anyway, as many as are
+/// moved at once.
+#[inline(always)]
+fn room_at(place: usize, end: usize, capacity: usize) -> usize
+    requires { place ≤ end }
+    ensures { end ≤ capacity → place + result ≤ capacity }
+{
+    if end <= capacity {
+        capacity - place
+    } else {
+        MOVED
+    }
+}
+
 impl Buffer {
     /// No bytes, and room for so many.
     pub(crate) fn with_capacity(alloc: Global, capacity: usize) -> Result<Buffer, AllocError>
@@ -105,11 +119,11 @@ impl Buffer {
         ensures full { OnErr result (self.old.capacity < length self.old.bytes + count) }
     {
         let end = self.len + count;
-        if count <= self.block.len() - self.len {
-            move_over(&mut self.block, self.len, &piece[..count]);
+        let room = room_at(self.len, end, self.block.capacity());
+        let moved = room.min(piece.len()).min(MOVED).max(count);
+        if moved <= self.block.len() - self.len {
+            move_over(&mut self.block, self.len, &piece[..moved]);
         } else {
-            let most = self.block.capacity() - self.len;
-            let moved = most.min(piece.len()).min(MOVED).max(count);
             self.block.truncate(self.len);
             self.block.extend_from_slice(&piece[..moved])?;
         }

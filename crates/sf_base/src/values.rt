@@ -58,13 +58,14 @@ impl Kind {
         ensures { option_map datum_of_number result ≡ option_map (NumberOf self) (value_of self negative magnitude) }
     {
         let (signed, greatest) = self.bounds()?;
-        if signed {
-            if magnitude > greatest + negative as u64 {
+        let below = negative && magnitude > 0;
+        if signed && below {
+            if magnitude - 1 > greatest {
                 return None;
             }
             return Some(Number {
                 kind: self,
-                negative: negative & (magnitude > 0),
+                negative: true,
                 magnitude,
             });
         }
@@ -74,7 +75,7 @@ impl Kind {
         Some(Number {
             kind: self,
             negative: false,
-            magnitude: if negative && magnitude > 0 {
+            magnitude: if below {
                 greatest - magnitude + 1
             } else {
                 magnitude
