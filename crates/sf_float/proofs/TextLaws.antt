@@ -88,7 +88,7 @@ some_exponent : (b : Bool) (e : ℕ) → (if b then fixed_digits 2 e else fixed_
 some_exponent true e h = absurd (omega (arith, ap length h))
 some_exponent false e h = absurd (omega (arith, ap length h))
 
-pointless : (alt : Bool) (decimals n : ℕ) → (nat_lt 0 decimals || alt) ≡ false → fixed_digits decimals n ≡ []
+pub pointless : (alt : Bool) (decimals n : ℕ) → (nat_lt 0 decimals || alt) ≡ false → fixed_digits decimals n ≡ []
 pointless alt zero n h = refl
 pointless alt (suc b) n h = absurd (true≢false (sym (ap (λ t. t || alt) (lt-ltb 0 (suc b) (omega arith))) ∙ h))
 
@@ -150,7 +150,7 @@ worth alt decimals n power i j h few I J =
 
 -- ---- what it is read as
 
-finite_of : (x : Float) → is_nonzero x → float_is_finite x ≡ true
+pub finite_of : (x : Float) → is_nonzero x → float_is_finite x ≡ true
 unfolding float_is_finite
 finite_of nan h = absurd h
 finite_of (inf s) h = absurd h
@@ -162,11 +162,11 @@ sign_of_value nan a c h = absurd h
 sign_of_value (inf s) a c h = absurd h
 sign_of_value (fin s m e) a c h = (h.0, ap not h.0)
 
-sign_is : (x y : Float) (negative : Bool) (a c : ℕ) → (if negative then neg y else y) ≡ x → HasValue y false a c → negative ≡ is_sign_negative x
+pub sign_is : (x y : Float) (negative : Bool) (a c : ℕ) → (if negative then neg y else y) ≡ x → HasValue y false a c → negative ≡ is_sign_negative x
 sign_is x y true a c e v = sym (sym (ap is_sign_negative e) ∙ (sign_of_value y a c v).1)
 sign_is x y false a c e v = sym (sym (ap is_sign_negative e) ∙ (sign_of_value y a c v).0)
 
-enough : 2 ^ 53 < 10 ^ 16
+pub enough : 2 ^ 53 < 10 ^ 16
 enough = lit< tt
 
 pub scientific_back : (x : Float) (alt : Bool) (decimals n power : ℕ) → T (fits binary64 x) → is_nonzero x → 16 ≤ decimals → power < 1000 → IsSignificant x (decimals + 1) n power
@@ -208,7 +208,7 @@ of_no_bits : of_bits binary64 0 ≡ fin false 0 (pos 0)
 unfolding of_bits
 of_no_bits = refl
 
-zero_round : (s : Bool) (den : ℕ) → 0 < den → round binary64 s 0 den ≡ fin s 0 (pos 0)
+pub zero_round : (s : Bool) (den : ℕ) → 0 < den → round binary64 s 0 den ≡ fin s 0 (pos 0)
 unfolding neg
 zero_round false den D = sym (nearest_of_zero binary64 0 den D refl).0 ∙ of_no_bits
 zero_round true den D = sym (neg-round binary64 0 den) ∙ ap neg (sym (nearest_of_zero binary64 0 den D refl).0 ∙ of_no_bits)

@@ -1,11 +1,12 @@
 -- What is printed of a float is read as that float.
-use Rattle.std.specs.Prelude.{◌≡◌, ℕ, ◌+◌, ◌<◌, ◌≤◌, Bool, true, ◌++◌, Some, T, pos}
+use Rattle.std.specs.Prelude.{◌≡◌, ℕ, ◌+◌, ◌<◌, ◌≤◌, Bool, true, List, ◌++◌, Some, T, pos}
 use Rattle.std.specs.Float.{is_sign_negative}
 use Rattle.std.specs.Float.Ieee.{Float, fin, fits, binary64}
 use Rattle.std.specs.Float.Parse.{parse_float}
 use Rattle.std.specs.Fmt.{sign_text}
 use Rattle.ryu.specs.Plain.{text_with}
 use Rattle.sf_float.specs.Scaled.{IsSignificant, is_nonzero}
+use Rattle.sf_float.specs.General.{IsGeneralOf}
 use Rattle.sf_float.specs.Texts.{scientific}
 
 -- a float in the style d.ddde+dd, with at least 16 digits after the point
@@ -16,3 +17,12 @@ ScientificReadsBack = (x : Float) (alt : Bool) (decimals n power : ℕ) → T (f
 -- 0 with either sign, with any number of digits
 abbrev pub ZeroReadsBack : Type 0
 ZeroReadsBack = (negative alt : Bool) (decimals : ℕ) → parse_float binary64 (sign_text negative ++ text_with true (scientific alt decimals 0 400)) ≡ Some (fin negative 0 (pos 0))
+
+-- a float in the style of `%g` with at least 17 significant digits
+abbrev pub GeneralReadsBack : Type 0
+GeneralReadsBack = (x : Float) (alt : Bool) (digits n power : ℕ) (t : List ℕ) → T (fits binary64 x) → is_nonzero x → 17 ≤ digits → power < 1000 → IsSignificant x digits n power
+    → IsGeneralOf alt digits n power t → parse_float binary64 (sign_text (is_sign_negative x) ++ t) ≡ Some x
+
+-- 0 with either sign, in the style of `%g`
+abbrev pub GeneralZeroReadsBack : Type 0
+GeneralZeroReadsBack = (negative alt : Bool) (digits : ℕ) (t : List ℕ) → 0 < digits → IsGeneralOf alt digits 0 400 t → parse_float binary64 (sign_text negative ++ t) ≡ Some (fin negative 0 (pos 0))

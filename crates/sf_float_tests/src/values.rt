@@ -1,0 +1,193 @@
+//! Values of matching sequences, as glibc's strtod and strtof read them, and input items.
+use sf_float_item::{FloatScan, is_float};
+use sf_float_value::{value_f32, value_f64};
+use std::test::Fail;
+
+/// A matching sequence and its patterns; none where it is out of range.
+type Row = (&'static [u8], Option<u64>, Option<u32>);
+
+/// Ties, subnormals, the greatest numbers, and numbers that by way of an `f64` would be rounded twice.
+static VALUES: [Row; 35] = [
+    (b"1e23", Some(0x44b5_2d02_c7e1_4af6), Some(0x65a9_6816)),
+    (
+        b"9007199254740993",
+        Some(0x4340_0000_0000_0000),
+        Some(0x5a00_0000),
+    ),
+    (
+        b"9007199254740992.9999999999",
+        Some(0x4340_0000_0000_0000),
+        Some(0x5a00_0000),
+    ),
+    (
+        b"2.2250738585072011e-308",
+        Some(0x000f_ffff_ffff_ffff),
+        Some(0x0000_0000),
+    ),
+    (b"4.9e-324", Some(0x0000_0000_0000_0001), Some(0x0000_0000)),
+    (
+        b"2.4703282292062327e-324",
+        Some(0x0000_0000_0000_0000),
+        Some(0x0000_0000),
+    ),
+    (
+        b"2.4703282292062328e-324",
+        Some(0x0000_0000_0000_0001),
+        Some(0x0000_0000),
+    ),
+    (b"-0", Some(0x8000_0000_0000_0000), Some(0x8000_0000)),
+    (b"1.7976931348623158e308", Some(0x7fef_ffff_ffff_ffff), None),
+    (b"1.7976931348623159e308", None, None),
+    (b"16777217", Some(0x4170_0000_1000_0000), Some(0x4b80_0000)),
+    (
+        b"16777217.0000001",
+        Some(0x4170_0000_1000_001b),
+        Some(0x4b80_0001),
+    ),
+    (
+        b"1.00000017881393432617187499",
+        Some(0x3ff0_0000_3000_0000),
+        Some(0x3f80_0001),
+    ),
+    (
+        b"1.00000017881393432617187500",
+        Some(0x3ff0_0000_3000_0000),
+        Some(0x3f80_0002),
+    ),
+    (
+        b"1.00000017881393432617187501",
+        Some(0x3ff0_0000_3000_0000),
+        Some(0x3f80_0002),
+    ),
+    (b"0x1p-1074", Some(0x0000_0000_0000_0001), Some(0x0000_0000)),
+    (
+        b"0x1.8p-1075",
+        Some(0x0000_0000_0000_0001),
+        Some(0x0000_0000),
+    ),
+    (b"0x1p-1075", Some(0x0000_0000_0000_0000), Some(0x0000_0000)),
+    (
+        b"0x1.00000000000008p0",
+        Some(0x3ff0_0000_0000_0000),
+        Some(0x3f80_0000),
+    ),
+    (
+        b"0x1.00000000000018p0",
+        Some(0x3ff0_0000_0000_0002),
+        Some(0x3f80_0000),
+    ),
+    (
+        b"0x1.000001p0",
+        Some(0x3ff0_0000_1000_0000),
+        Some(0x3f80_0000),
+    ),
+    (
+        b"0x1.000001000000000000001p0",
+        Some(0x3ff0_0000_1000_0000),
+        Some(0x3f80_0001),
+    ),
+    (b"0xA.Bp4", Some(0x4065_6000_0000_0000), Some(0x432b_0000)),
+    (b"-0X.8P+1", Some(0xbff0_0000_0000_0000), Some(0xbf80_0000)),
+    (b"0x1p1024", None, None),
+    (
+        b"3.4028235677973366e38",
+        Some(0x47ef_ffff_f000_0000),
+        Some(0x7f7f_ffff),
+    ),
+    (
+        b"3.4028235677973365e38",
+        Some(0x47ef_ffff_f000_0000),
+        Some(0x7f7f_ffff),
+    ),
+    (b"inf", Some(0x7ff0_0000_0000_0000), Some(0x7f80_0000)),
+    (b"-INFINITY", Some(0xfff0_0000_0000_0000), Some(0xff80_0000)),
+    (b"1e-400", Some(0x0000_0000_0000_0000), Some(0x0000_0000)),
+    (b"0x1p99999999999999999999", None, None),
+    (
+        b"0x1p-99999999999999999999",
+        Some(0x0000_0000_0000_0000),
+        Some(0x0000_0000),
+    ),
+    (
+        b"0x0p99999999999999999999",
+        Some(0x0000_0000_0000_0000),
+        Some(0x0000_0000),
+    ),
+    (b"1e999999999999999999999", None, None),
+    (
+        b"0e999999999999",
+        Some(0x0000_0000_0000_0000),
+        Some(0x0000_0000),
+    ),
+];
+
+#[test]
+fn values_are_those_of_strtod() -> Result<(), Fail> {
+    for row in &VALUES {
+        let right = is_float(row.0) && value_f64(row.0) == row.1 && value_f32(row.0) == row.2;
+        if !right {
+            return Err(Fail::new(format_args!("{:?}", row.0)));
+        }
+    }
+    Ok(())
+}
+
+/// Exponents that do not fit 64 bits count exactly, and so does one that many zeros take back.
+#[test]
+fn long_exponents_count() -> Result<(), Fail> {
+    let mut text = [b'0'; 700];
+    text[0] = b'1';
+    text[695] = b'e';
+    text[696] = b'-';
+    text[697] = b'6';
+    text[698] = b'9';
+    text[699] = b'4';
+    if is_float(&text) && value_f64(&text) == Some(0x3ff0_0000_0000_0000) {
+        return Ok(());
+    }
+    Err(Fail::new(format_args!("not 1")))
+}
+
+/// An input, how many bytes of it are the item, and whether that is a matching sequence (C11 7.21.6.2p9, and its example `100ergs`).
+type Item = (&'static [u8], usize, bool);
+
+static ITEMS: [Item; 20] = [
+    (b"100ergs", 4, false),
+    (b"1e+x", 3, false),
+    (b".", 1, false),
+    (b"-", 1, false),
+    (b"0x", 2, false),
+    (b"0x.p", 3, false),
+    (b"0x1p", 4, false),
+    (b"infi", 4, false),
+    (b"nan(a b", 5, false),
+    (b"1.5.2", 3, true),
+    (b"1e5e5", 3, true),
+    (b"info", 3, true),
+    (b"0x1g", 3, true),
+    (b"+.5,", 3, true),
+    (b"5.;", 2, true),
+    (b"INFINITYx", 8, true),
+    (b"nan(_1)2", 7, true),
+    (b"NaN ", 3, true),
+    (b"0X.8P-1 ", 7, true),
+    (b"x", 0, false),
+];
+
+#[test]
+fn items_are_the_longest_fronts() -> Result<(), Fail> {
+    for row in &ITEMS {
+        let mut scan = FloatScan::start();
+        let mut taken = 0usize;
+        for b in row.0 {
+            if !scan.step(*b) {
+                break;
+            }
+            taken = taken.saturating_add(1);
+        }
+        if taken != row.1 || scan.is_match() != row.2 {
+            return Err(Fail::new(format_args!("{:?}", row.0)));
+        }
+    }
+    Ok(())
+}
