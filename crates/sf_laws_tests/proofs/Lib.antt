@@ -1,0 +1,3 @@
+pub mod DoneRuns
+pub mod Faults
+pub mod PairRuns

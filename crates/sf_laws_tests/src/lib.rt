@@ -1,0 +1,18 @@
+//! Each law of the libraries, applied once to what public calls answered: what these functions ensure follows only where a caller
+//! can use the law.
+#![tactic(auto)]
+
+mod formats;
+mod pairs;
+mod prints;
+mod runs;
+mod scans;
+
+pub use formats::{
+    both_profiles, faulted_twice, has_slot, in_their_order, one_profile, parsed_again,
+    parsed_and_refused, parsed_twice, print_parsed_twice, spelled_or_faulty,
+};
+pub use pairs::{read_again, read_back, refused_pair};
+pub use prints::{refused_print, written_number};
+pub use runs::{computed, has_row, on_longer_inputs, open_is_used, scanned_twice};
+pub use scans::two_scans;

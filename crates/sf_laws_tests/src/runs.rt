@@ -1,0 +1,100 @@
+//! Laws of runs.
+ghost use Rattle.std.specs.Prelude.{◌≡◌, ◌≤◌, ◌++◌, ◌∷◌, ℕ, List, [], length, None, IfSome, IsSome};
+ghost use Rattle.sf_format.specs.declared.directive.Directive.{Directive};
+ghost use Rattle.sf_format.specs.Widths.{width_sum};
+ghost use Rattle.sf_report.specs.Computed.{part_of, ran_of, step_of};
+ghost use Rattle.sf_report.specs.Limits.{RunWithin};
+ghost use Rattle.sf_report.specs.Machine.{Skipping};
+ghost use Rattle.sf_report.specs.Residual.{nothing_yet, one_from, run_of};
+ghost use Rattle.sf_report.specs.Rows.{HasRow};
+ghost use Rattle.sf_report.specs.Runs.{IsOpen, report_of, values};
+ghost use Rattle.sf_run.specs.outcome.Status.TheVariants.{Done};
+
+use sf_base::HeapStore;
+use sf_format::ScanFormat;
+use sf_read::sscan;
+use sf_report::laws::{
+    closed_inputs_stay, done_runs_have_rows, one_report, open_inputs_are_used, runs_are_computed,
+    steps_are_computed,
+};
+use sf_report::{Ending, Scanned};
+use std::alloc::Global;
+
+/// The limit of these runs.
+const LIMIT: u32 = 1000;
+
+/// A text that is scanned twice has the same report twice.
+pub fn scanned_twice(
+    alloc: Global,
+    format: &ScanFormat,
+    text: &[u8],
+) -> Option<(Scanned<HeapStore>, Scanned<HeapStore>)>
+    ensures { IsSome (width_sum format.now) → IfSome result (λ both. both.0.report ≡ both.1.report) }
+{
+    one_report();
+    let _directives = format.directives();
+    let Ok(first) = sscan(alloc, text, format, LIMIT) else {
+        return None;
+    };
+    let Ok(second) = sscan(alloc, text, format, LIMIT) else {
+        return None;
+    };
+    Some((first, second))
+}
+
+/// What is told of a text after which no byte would be consumed is told of every longer one.
+pub fn on_longer_inputs(
+    alloc: Global,
+    format: &ScanFormat,
+    text: &[u8],
+) -> Option<Scanned<HeapStore>>
+    ensures { IsSome (width_sum format.now) → (IsOpen format.now text.now → ⊥) → (z : List ℕ) (ending : Ending)
+        → IfSome result (λ s. RunWithin format.now 1000 (text.now ++ z) ending s.report) }
+{
+    closed_inputs_stay();
+    let _directives = format.directives();
+    let Ok(scanned) = sscan(alloc, text, format, LIMIT) else {
+        return None;
+    };
+    Some(scanned)
+}
+
+/// A text after which some byte would be consumed is used, where the limit lets it be.
+pub fn open_is_used(alloc: Global, format: &ScanFormat, text: &[u8]) -> Option<Scanned<HeapStore>>
+    ensures { IsSome (width_sum format.now) → IsOpen format.now text.now → IfSome result (λ s. s.report.status ≡ Done → s.report.used ≡ length text.now) }
+{
+    open_inputs_are_used();
+    let _directives = format.directives();
+    let Ok(scanned) = sscan(alloc, text, format, LIMIT) else {
+        return None;
+    };
+    Some(scanned)
+}
+
+/// A Done report has a row.
+pub fn has_row(alloc: Global, format: &ScanFormat, text: &[u8]) -> Option<Scanned<HeapStore>>
+    ensures { IfSome result (λ s. s.report.status ≡ Done → HasRow format.now s.report.values) }
+{
+    done_runs_have_rows();
+    let _directives = format.directives();
+    let Ok(scanned) = sscan(alloc, text, format, LIMIT) else {
+        return None;
+    };
+    Some(scanned)
+}
+
+/// A Done report is that of the steps that are computed, and that of the running totals.
+pub fn computed(alloc: Global, format: &ScanFormat, text: &[u8]) -> Option<Scanned<HeapStore>>
+    ensures values { IsSome (width_sum format.now) → IfSome result (λ s. s.report.status ≡ Done → s.report.values ≡ values (ran_of format.now text.now 0)) }
+    ensures told { run_of None format.now 1 nothing_yet text.now ≡ report_of (ran_of format.now text.now 0) None }
+    ensures step { (d : Directive) → format.now ≡ d ∷ [] → one_from d Skipping 0 text.now ≡ part_of 0 text.now (step_of d text.now 0) }
+    ensures within { (d : Directive) → format.now ≡ d ∷ [] → (step_of d text.now 0).0 ≤ length text.now }
+{
+    steps_are_computed();
+    runs_are_computed();
+    let _directives = format.directives();
+    let Ok(scanned) = sscan(alloc, text, format, LIMIT) else {
+        return None;
+    };
+    Some(scanned)
+}
