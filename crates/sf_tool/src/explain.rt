@@ -150,7 +150,7 @@ fn shown_at(alloc: Global, format: &ScanFormat, number: u16) -> Result<Vec<u8>, 
         .directives()
         .get(usize::from(number).saturating_sub(1))
     {
-        push_directive(&mut shown, directive)?;
+        push_directive(alloc, &mut shown, directive)?;
     }
     Ok(shown)
 }
