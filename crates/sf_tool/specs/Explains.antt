@@ -1,6 +1,6 @@
 -- What is said behind the line of a fault, where the words ask for more.
 use Rattle.std.specs.Prelude.{◌≡◌, ◌⊎◌, ◌-◌, ◌++◌, ℕ, Bool, true, false, List, [], ◌∷◌, Option, Some, None, Ok, Err, codes, slice_get, unwrap_or}
-use Rattle.std.specs.Option.{option_map_or}
+use Rattle.std.specs.Option.{option_and_then, option_map_or}
 use Rattle.sf_format.specs.declared.directive.Directive.{Directive}
 use Rattle.sf_format.specs.declared.directive.Profile.{Profile}
 use Rattle.sf_format.specs.declared.fault.FormatFault.{FormatFault}
@@ -13,10 +13,10 @@ use Rattle.sf_format.specs.Pieces.{Piece, text_at, text_of}
 use Rattle.sf_lines.specs.declared.end.LineFault.{LineFault}
 use Rattle.sf_lines.specs.declared.end.LineFault.TheVariants as line
 use Rattle.sf_messages.specs.declared.fault.CommandFault.{CommandFault}
-use Rattle.sf_messages.specs.declared.fault.CommandFault.TheVariants.{BadEscape, Format, PrintFormat, Record, Pair}
+use Rattle.sf_messages.specs.declared.fault.CommandFault.TheVariants.{BadEscape, Format, PrintFormat, Values, Record, Pair}
 use Rattle.sf_messages.specs.declared.fault.FormatName.{FormatName}
 use Rattle.sf_messages.specs.declared.fault.FormatName.TheVariants as name
-use Rattle.sf_messages.specs.Notes.{escape_notes, failed_notes, format_notes, input_notes, line_notes, pair_notes}
+use Rattle.sf_messages.specs.Notes.{escape_notes, failed_notes, format_notes, input_notes, line_notes, pair_notes, value_notes}
 use Rattle.sf_pair.specs.declared.fault.PairFault.{PairFault}
 use Rattle.sf_places.specs.declared.place.Place.{Place}
 use Rattle.sf_records.specs.declared.end.ToolFault.TheVariants.{Failed, Stalled, Unfit, Read}
@@ -26,6 +26,8 @@ use Rattle.sf_words.specs.declared.order.Verb.{Verb}
 use Rattle.sf_words.specs.declared.order.Verb.TheVariants as verb
 use Rattle.sf_tool.specs.Answers.{Answer}
 use Rattle.sf_tool.specs.Checks.{IsPrintWord, IsVerdict}
+use Rattle.sf_arguments.specs.declared.argument_fault.ArgumentFault.{ArgumentFault}
+use Rattle.sf_arguments.specs.declared.argument_fault.ArgumentFault.TheVariants as argument
 use Rattle.sf_arguments.specs.Escapes.{IsBadEscape, Unescapes}
 use Rattle.sf_messages.specs.Shown.{directive_text}
 
@@ -41,6 +43,17 @@ word_place _ _ = 0
 abbrev pub OfWord : (List ℕ → List ℕ → Type 0) → Option (List ℕ) → List ℕ → Type 0
 OfWord says None notes = notes ≡ []
 OfWord says (Some word) notes = says word notes
+
+-- the number of the value at fault, where one is
+abbrev pub value_number : ArgumentFault → Option ℕ
+value_number (argument.NotInKind at kind) = Some at
+value_number (argument.NotOneByte at) = Some at
+value_number (argument.BadEscape at offset) = Some at
+value_number _ = None
+
+-- its word, which stands after that of the format
+abbrev pub value_word : List (List ℕ) → ArgumentFault → Option (List ℕ)
+value_word texts fault = option_and_then (λ at. slice_get texts at) (value_number fault)
 
 -- ---- faults
 
@@ -133,6 +146,8 @@ Explains profile verb texts place rest (Record (Failed number outcome)) notes =
 Explains profile verb texts place rest (Record (Stalled number)) notes = notes ≡ input_notes place
 Explains profile verb texts place rest (Record (Unfit number)) notes = notes ≡ input_notes place
 Explains profile verb texts place rest (Record (Read number)) notes = notes ≡ input_notes place
+Explains profile verb texts place rest (Values fault) notes =
+    OfWord (λ word said. said ≡ value_notes word fault) (value_word texts fault) notes
 Explains profile verb texts place rest (Pair fault) notes = OfBoth (SaysPair profile) texts notes
 Explains profile verb texts place rest _ notes = notes ≡ []
 

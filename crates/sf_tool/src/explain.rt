@@ -3,9 +3,9 @@ ghost use Rattle.std.specs.Prelude.{◌≡◌, ℕ, Err, List, IfOk, map, option
 ghost use Rattle.sf_format.specs.Language.{Scan};
 ghost use Rattle.sf_format.specs.Grammar.{IsFormat};
 ghost use Rattle.sf_format.specs.Pieces.{Piece, text_of};
-ghost use Rattle.sf_messages.specs.Notes.{escape_notes};
+ghost use Rattle.sf_messages.specs.Notes.{escape_notes, value_notes};
 ghost use Rattle.sf_tool.specs.Commands.{grammar_of};
-ghost use Rattle.sf_tool.specs.Explains.{Explains, OfBoth, OfWord, SaysClean, SaysFailed, SaysFailedText, SaysFormat, SaysMore, SaysPair, SaysVerdict, IsMoreOfLine, shown_at, told_at, told_of_line, word_place};
+ghost use Rattle.sf_tool.specs.Explains.{Explains, OfBoth, OfWord, SaysClean, SaysFailed, SaysFailedText, SaysFormat, SaysMore, SaysPair, SaysVerdict, IsMoreOfLine, shown_at, told_at, told_of_line, value_number, value_word, word_place};
 ghost use Rattle.sf_tool.specs.Lines.{IsFirstRefused, SaysMoreOfLines, SaysOfLines};
 
 use crate::check::verdict_of;
@@ -15,8 +15,8 @@ use sf_arguments::{EscapeFault, unescape};
 use sf_format::{FormatFault, FormatWhy, PrintFormat, Profile, ScanFormat, directive_text};
 use sf_lines::LineFault;
 use sf_messages::{
-    CommandFault, FormatName, escape_notes, failed_notes, format_notes, input_notes, line_notes,
-    pair_notes, push_directive,
+    ArgumentFault, CommandFault, FormatName, escape_notes, failed_notes, format_notes, input_notes,
+    line_notes, pair_notes, push_directive, value_notes,
 };
 use sf_places::Place;
 use sf_records::{ToolFault, push_quoted};
@@ -48,6 +48,40 @@ fn word_of<'o>(order: &'o Order, name: FormatName) -> Option<&'o str>
     match order.texts.get(word_place(order.verb, name)) {
         Some(text) => Some(text.as_str()),
         None => None,
+    }
+}
+
+/// The number of the value at fault, where one is.
+fn value_number(fault: ArgumentFault) -> Option<u8>
+    ensures { result ≡ value_number fault }
+{
+    match fault {
+        ArgumentFault::NotInKind { at, .. }
+        | ArgumentFault::NotOneByte { at }
+        | ArgumentFault::BadEscape { at, .. } => Some(at),
+        _ => None,
+    }
+}
+
+/// The word of the value at fault, which stands after that of the format.
+fn value_word(order: &Order, fault: ArgumentFault) -> Option<&str>
+    ensures { option_map (λ given. given.now) result ≡ value_word (map string_bytes order.entry.now.texts.items) fault }
+{
+    let number = value_number(fault)?;
+    match order.texts.get(usize::from(number)) {
+        Some(text) => Some(text.as_str()),
+        None => None,
+    }
+}
+
+/// What is said of a value that isn't what is expected of it.
+fn of_value(alloc: Global, word: Option<&str>, fault: ArgumentFault) -> Result<Vec<u8>, AllocError>
+    ensures { IfOk result (λ notes. OfWord (λ word said. said ≡ value_notes word fault)
+        (option_map (λ given. given.now) word.entry) notes.items) }
+{
+    match word {
+        Some(word) => value_notes(alloc, word.as_bytes(), fault),
+        None => Ok(Vec::new(alloc)),
     }
 }
 
@@ -116,7 +150,7 @@ fn shown_at(alloc: Global, format: &ScanFormat, number: u16) -> Result<Vec<u8>, 
         .directives()
         .get(usize::from(number).saturating_sub(1))
     {
-        push_directive(&mut shown, directive)?;
+        push_directive(alloc, &mut shown, directive)?;
     }
     Ok(shown)
 }
@@ -313,6 +347,7 @@ fn of_fault(
         CommandFault::Record(
             ToolFault::Stalled { .. } | ToolFault::Unfit { .. } | ToolFault::Read { .. },
         ) => input_notes(alloc, left.place),
+        CommandFault::Values(fault) => of_value(alloc, value_word(order, fault), fault),
         CommandFault::Pair(_) => of_both(alloc, profile, &order.texts),
         _ => Ok(Vec::new(alloc)),
     }
