@@ -1,15 +1,8 @@
 //! The program `sf`.
 #![tactic(auto)]
 
-mod telling;
-
-use crate::telling::{Behind, Shared};
-use sf_blocks::BlockSink;
-use sf_print::StdSink;
 use sf_read::StdSource;
-use sf_tool::{CommandFault, read_words, tool};
-use std::alloc::Global;
-use std::cell::RefCell;
+use sf_tool::{CommandFault, run_program};
 use std::env;
 use std::io::{self, ErrorKind, IsTerminal};
 use std::process::ExitCode;
@@ -31,17 +24,6 @@ fn unread_words(rt: &impl Eprint, error: &io::Error) -> ExitCode {
     ExitCode::from(USAGE)
 }
 
-/// Whether somebody waits for each record: the output is a terminal, or the words say so.
-fn is_awaited(rt: &HostRuntime, alloc: Global, words: &[String]) -> bool {
-    if rt.stdout().is_terminal() {
-        return true;
-    }
-    match read_words(alloc, words) {
-        Ok(order) => order.line_buffered,
-        Err(_) => false,
-    }
-}
-
 fn main(rt: HostRuntime) -> ExitCode {
     let alloc = rt.alloc();
     let args = match env::args(&rt) {
@@ -52,21 +34,8 @@ fn main(rt: HostRuntime) -> ExitCode {
         Ok(words) => words,
         Err(_) => return stopped(&rt, CommandFault::Memory),
     };
-    let opened = if is_awaited(&rt, alloc, &words) {
-        Ok(BlockSink::at_once(alloc, rt.stdout()))
-    } else {
-        BlockSink::in_blocks(alloc, rt.stdout())
-    };
-    let Ok(output) = opened else {
-        return stopped(&rt, CommandFault::Memory);
-    };
-    let output = RefCell::new(output);
-    let mut out = Shared::new(&output);
-    let mut err = StdSink::new(Behind::new(&output, rt.stderr()));
+    let terminal = rt.stdout().is_terminal();
     let from = StdSource::new(rt.stdin());
-    let status = tool(alloc, &words, from, &mut out, &mut err);
-    if err.into_writer().is_flushed() {
-        return ExitCode::from(status);
-    }
-    ExitCode::from(CommandFault::Write.status())
+    let ended = run_program(alloc, &words, terminal, from, rt.stdout(), rt.stderr());
+    ExitCode::from(ended.status)
 }

@@ -3,6 +3,7 @@ use Rattle.std.specs.Prelude.{◌≡◌, ℕ, ◌+◌, ◌-◌, Bool, true, ◌�
 use Rattle.std.specs.Io.KnownBytes.{append_known}
 use Rattle.std.specs.declared.io.traits.Write as write
 use Rattle.sf_blocks.specs.declared.block_sink.BlockSink.{BlockSink}
+use Rattle.sf_blocks.specs.declared.unblocked.Unblocked.{Unblocked}
 
 module _ {W : Type 0} {w : write.Ghosts W} where
   -- the writer
@@ -37,3 +38,16 @@ module _ {W : Type 0} {w : write.Ghosts W} where
   -- none of its bytes waits for the writer; or a flush failed, which the sink remembers
   abbrev pub IsHandedOn : BlockSink W w → Type 0
   IsHandedOn s = (waiting_in s ≡ []) ⊎ (has_failed_flush s ≡ true)
+
+  -- how often a write of the sink failed
+  abbrev pub write_failures : BlockSink W w → ℕ
+  write_failures s = s.failures
+
+module _ {W : Type 0} (w : write.Ghosts W) where
+  -- of a sink without a block: what its writer took
+  abbrev pub handed_to : Unblocked W → Option (List ℕ)
+  handed_to s = w.contents s.writer
+
+-- and how often it failed
+abbrev pub faults_of : {W : Type 0} → Unblocked W → ℕ
+faults_of s = s.failures

@@ -1,18 +1,16 @@
 //! A writer with a block of bytes in front of it.
-ghost use Rattle.std.specs.Prelude.{◌≡◌, ◌≤◌, ◌<◌, ◌+◌, ◌||◌, false, true, [], length, Option, List, ℕ, None, Ok, OnOk, IfOk, is_err};
+ghost use Rattle.std.specs.Prelude.{◌≡◌, ◌≤◌, ◌<◌, ◌+◌, ◌||◌, false, true, [], length, Option, List, ℕ, None, Ok, OnOk, IfOk, IfErr, is_err};
 ghost use Rattle.std.specs.Bool.{OnTrue, OnFalse};
 ghost use Rattle.std.specs.Io.{WritesAtMost};
 ghost use Rattle.std.specs.Io.KnownBytes.{Appends, Keeps, WriteAppends};
 
+use crate::writing::write_some;
 use sf_print::{Sink, SinkFault, copy_over};
 use std::alloc::{AllocError, Global};
-use std::io::{ErrorKind, Write};
+use std::io::Write;
 
 /// How many bytes the block has.
 const BLOCK_BYTES: usize = 8192;
-
-/// How often the writer is asked anew where a write is interrupted.
-const TRIES: u64 = u64::MAX;
 
 /// A writer, and in front of it a block that short texts are copied into without a call. What it took is told as far as
 /// the writer tells its bytes.
@@ -30,22 +28,6 @@ pub struct BlockSink<W: Write + Drop> {
     unflushed: bool,
     ghost ordered: { start ≤ end },
     ghost within: { end ≤ length block.items },
-}
-
-/// What the writer takes of the bytes: some, or it fails. A write that is interrupted is tried again.
-fn write_some<W: Write>(writer: &mut W, bytes: &[u8]) -> Result<usize, SinkFault>
-    ensures most { WritesAtMost result bytes.now }
-    ensures some { IfOk result (λ n. 0 < n) }
-    ensures took { WriteAppends (W.contents writer.old) (W.contents writer.new) result bytes.now }
-{
-    for _ in 0..TRIES {
-        match writer.write(bytes) {
-            Ok(count) if count > 0 => return Ok(count),
-            Err(error) if error.kind() == ErrorKind::Interrupted => {}
-            _ => return Err(SinkFault),
-        }
-    }
-    Err(SinkFault)
 }
 
 impl<W: Write + Drop> BlockSink<W> {
@@ -89,6 +71,24 @@ impl<W: Write + Drop> BlockSink<W> {
     {
         let block = vec![in alloc; 0; BLOCK_BYTES]?;
         Ok(BlockSink::over(writer, block))
+    }
+
+    /// A sink of the one kind or of the other. Err gives the writer back where there is no memory for the block.
+    pub fn open(alloc: Global, at_once: bool, writer: W) -> Result<BlockSink<W>, W>
+        ensures contents { IfOk result (λ sink. taken_by sink ≡ W.contents writer) }
+        ensures nothing { at_once ≡ true → IfOk result HoldsNothing }
+        ensures room { at_once ≡ false → IfOk result (λ sink. room_of sink ≡ 8192) }
+        ensures failures { IfOk result (λ sink. ⟦<BlockSink<W> as Sink>⟧.failures sink ≡ 0) }
+        ensures flushed { IfOk result (λ sink. has_failed_flush sink ≡ false) }
+        ensures back { IfErr result (λ given. given ≡ writer) }
+    {
+        if at_once {
+            return Ok(BlockSink::at_once(alloc, writer));
+        }
+        match vec![in alloc; 0; BLOCK_BYTES] {
+            Ok(block) => Ok(BlockSink::over(writer, block)),
+            Err(_) => Err(writer),
+        }
     }
 
     /// The writer, which has all that was taken but what is held back.

@@ -1,8 +1,11 @@
-//! A sink that hands its bytes on in blocks, for outputs of many short texts.
+//! Sinks over the streams of a program: one that hands its bytes on in blocks, for many short texts, and one that doesn't.
 #![tactic(auto)]
 
 mod block_sink;
 #[cfg(test)]
 mod tests;
+mod unblocked;
+mod writing;
 
 pub use block_sink::BlockSink;
+pub use unblocked::Unblocked;

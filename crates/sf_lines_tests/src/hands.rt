@@ -80,7 +80,7 @@ pub(crate) struct Notes {
     pub(crate) refuses: bool,
 }
 
-impl Teller for Notes {
+impl<K: Sink> Teller<K> for Notes {
     ghost says = { λ notes telling. telling ≡ note_of };
 
     ghost some = { λ notes. ∣ (note_of, refl) ∣₁ };
@@ -93,7 +93,13 @@ impl Teller for Notes {
 
     ghost kept = { λ notes. tt };
 
-    fn tell(&mut self, number: u64, line: &[u8], fault: LineFault) -> Result<(), AllocError> {
+    fn tell(
+        &mut self,
+        _to: &mut K,
+        number: u64,
+        line: &[u8],
+        fault: LineFault,
+    ) -> Result<(), AllocError> {
         if self.failed {
             return Ok(());
         }

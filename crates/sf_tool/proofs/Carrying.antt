@@ -21,10 +21,9 @@ use Rattle.sf_words.specs.declared.order.LineOptions.{LineOptions}
 use Rattle.sf_words.specs.declared.order.Order.{Order}
 use Rattle.sf_words.specs.declared.order.Verb.{Verb}
 use Rattle.sf_words.specs.declared.order.Verb.TheVariants as verb
-use Rattle.sf_words.specs.declared.order.WordsFault.{WordsFault}
 use Rattle.sf_tool.specs.Answers.{Answer}
 use Rattle.sf_tool.specs.Commands.{CarriesOut, Copies, CopiesBoth, CopiesWords, IsRefusedText, ScansBy, ScansText, ScansWord, Unread}
-use Rattle.sf_tool.specs.Exits.{Does, DoesOrder, EndsLines, Exits, unread_of}
+use Rattle.sf_tool.specs.Exits.{DoesOrder, EndsLines, unread_of}
 use Rattle.sf_tool.specs.Lines.{RunsLines, ScansLines, scanning}
 
 -- what is held, and the source that is stood for
@@ -226,34 +225,19 @@ module _ {T S K E : Type 0} (f : T → S) (to_come : S → Option (List ℕ)) (f
   scans_lines profile form options explain limit words from from' out out' err err' answer (inl (bad, same, written, silent)) = inl (bad, ap (over f) same, written, silent)
   scans_lines profile form options explain limit words from from' out out' err err' answer (inr (formats, telling, are, is, r)) = inr (formats, telling, are, is, runs_lines form options limit formats telling from from' out out' err err' answer r)
 
-  pub ends_lines : (options : LineOptions) (order : Order) (from from' : Ahead T) (out out' : K) (err err' : E) (status : ℕ)
-      → EndsLines (λ s. to_come (f s)) (λ s. faults (f s)) contents write_faults said unsaid options order from from' out out' err err' status
-      → EndsLines to_come faults contents write_faults said unsaid options order (over f from) (over f from') out out' err err' status
-  ends_lines options order from from' out out' err err' status (answer, (between, done, ends)) =
-      (answer, (between, scans_lines _ _ options order.explain order.limit _ from from' out out' err between answer done, ends))
-
 -- ---- the command
 
-module _ {T S K E : Type 0} (f : T → S) (to_come : S → Option (List ℕ)) (faults : S → ℕ) (contents : K → Option (List ℕ)) (write_faults : K → ℕ)
-    (said : E → Option (List ℕ)) (unsaid : E → ℕ) (place : Option Place) (from from' : Ahead T) (out out' : K) (err err' : E) (status : ℕ) where
-  does_order : (lines : Option LineOptions) (order : Order)
-      → DoesOrder (λ s. to_come (f s)) (λ s. faults (f s)) contents write_faults said unsaid lines order place from from' out out' err err' status
-      → DoesOrder to_come faults contents write_faults said unsaid lines order place (over f from) (over f from') out out' err err' status
-  does_order None order (answer, done, more) = (answer, carries f to_come faults contents write_faults _ _ order.verb order.limit _ from from' out out' answer done, more)
-  does_order (Some options) order done = ends_lines f to_come faults contents write_faults said unsaid options order from from' out out' err err' status done
+module _ {T S K E : Type 0} (f : T → S) (contents : K → Option (List ℕ)) (write_faults : K → ℕ) (hands : K → K → Type 0)
+    (said : E → Option (List ℕ)) (unsaid : E → ℕ) (to_come : S → Option (List ℕ)) (faults : S → ℕ) where
+  ends_lines : (options : LineOptions) (order : Order) (from from' : Ahead T) (out out' : K) (err err' : E) (status : ℕ)
+      → EndsLines contents write_faults hands said unsaid (λ s. to_come (f s)) (λ s. faults (f s)) options order from from' out out' err err' status
+      → EndsLines contents write_faults hands said unsaid to_come faults options order (over f from) (over f from') out out' err err' status
+  ends_lines options order from from' out out' err err' status (answer, (mid, (between, done, ends))) =
+      (answer, (mid, (between, scans_lines f to_come faults contents write_faults said unsaid _ _ options order.explain order.limit _ from from' out mid err between answer done, ends)))
 
-  does : (asked : Result Order WordsFault)
-      → Does (λ s. to_come (f s)) (λ s. faults (f s)) contents write_faults said unsaid asked place from from' out out' err err' status
-      → Does to_come faults contents write_faults said unsaid asked place (over f from) (over f from') out out' err err' status
-  does (Ok order) done = does_order order.lines order done
-  does (Err fault) (same, declined) = (ap (over f) same, declined)
-
-  pub exits_over : (words : List (List ℕ)) → Exits (λ s. to_come (f s)) (λ s. faults (f s)) contents write_faults said unsaid words place from from' out out' err err' status
-      → Exits to_come faults contents write_faults said unsaid words place (over f from) (over f from') out out' err err' status
-  exits_over words e = record {
-    asked = e.asked;
-    read = e.read;
-    taken = e.taken;
-    refused = e.refused;
-    done = does e.asked e.done;
-  }
+  pub does_order : (lines : Option LineOptions) (order : Order) (place : Option Place) (from from' : Ahead T) (out out' : K) (err err' : E) (status : ℕ)
+      → DoesOrder contents write_faults hands said unsaid (λ s. to_come (f s)) (λ s. faults (f s)) lines order place from from' out out' err err' status
+      → DoesOrder contents write_faults hands said unsaid to_come faults lines order place (over f from) (over f from') out out' err err' status
+  does_order None order place from from' out out' err err' status (answer, (mid, done, more)) =
+      (answer, (mid, carries f to_come faults contents write_faults _ _ order.verb order.limit _ from from' out mid answer done, more))
+  does_order (Some options) order place from from' out out' err err' status done = ends_lines options order from from' out out' err err' status done

@@ -1,4 +1,5 @@
 pub mod Answering
+pub mod Asking
 pub mod Carrying
 pub mod Checking
 pub mod Lining

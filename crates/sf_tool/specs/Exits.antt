@@ -1,5 +1,5 @@
 -- What one run of the command writes, says and answers.
-use Rattle.std.specs.Prelude.{◌≡◌, ◌++◌, ℕ, List, [], ◌∷◌, false, Option, Some, None, Result, Ok, Err, IfErr, IfOk, IfSome, map, string_bytes}
+use Rattle.std.specs.Prelude.{◌≡◌, ◌≤◌, ◌++◌, ℕ, List, [], ◌∷◌, false, Option, Some, None, Result, Ok, Err, IfErr, IfOk, IfSome, map, string_bytes}
 use Rattle.std.specs.Io.KnownBytes.{Appends}
 use Rattle.sf_places.specs.Behind.{IsBehind}
 use Rattle.sf_places.specs.declared.place.Place.{Place}
@@ -9,7 +9,7 @@ use Rattle.sf_words.specs.declared.order.LineOptions.{LineOptions}
 use Rattle.sf_words.specs.declared.order.Order.{Order}
 use Rattle.sf_words.specs.declared.order.WordsFault.{WordsFault}
 use Rattle.sf_words.specs.declared.order.WordsFault.TheVariants.{Help, Usage, NoMemory}
-use Rattle.sf_words.specs.Orders.{IsOrder, IsRefusal, faults_of}
+use Rattle.sf_words.specs.Orders.{HasTextsFor, IsOrder, IsRefusal, faults_of}
 use Rattle.sf_messages.specs.declared.fault.CommandFault.TheVariants.{Write, Memory}
 use Rattle.sf_tool.specs.Answers.{Answer}
 use Rattle.sf_tool.specs.Commands.{CarriesOut, Counts, form_of, grammar_of}
@@ -43,6 +43,11 @@ pub record IsRead (words : List (List ℕ)) (asked : Result Order WordsFault) : 
   pub read : IfOk asked (IsOrder words)
   pub taken : IfOk asked (λ _. faults_of words ≡ [])
   pub refused : IfErr asked (IsRefusal (faults_of words))
+
+-- what each order of the words has: a limit on each record, and the texts that its verb takes
+abbrev pub CanRun : Result Order WordsFault → Type 0
+CanRun (Ok order) = (order.limit ≤ 2147483647) × HasTextsFor order.lines order.verb (map string_bytes order.texts.items)
+CanRun (Err fault) = Unit {0}
 
 -- nothing is held yet
 abbrev pub unread_of : {S : Type 0} → S → Ahead S
@@ -84,19 +89,24 @@ module _ {K E : Type 0} (contents : K → Option (List ℕ)) (write_faults : K �
     Does (Ok order) place from from' out out' err err' status = DoesOrder order.lines order place from from' out out' err err' status
     Does (Err fault) place from from' out out' err err' status = (from' ≡ from) × Declines fault out out' err err' status
 
-    -- What the command of the words comes to. `hands` says what becomes of the output where a message comes; `said` and
-    -- `unsaid` tell of the error output what `contents` and `write_faults` tell of the output. place: where in the input the
-    -- run stopped, if that is known.
-    pub record Exits (words : List (List ℕ)) (place : Option Place) (from from' : Ahead S) (out out' : K) (err err' : E) (status : ℕ) : Type 0 where
-      pub asked : Result Order WordsFault
+    -- What the command comes to by what was read of the words. `hands` says what becomes of the output where a message comes;
+    -- `said` and `unsaid` tell of the error output what `contents` and `write_faults` tell of the output. place: where in the
+    -- input the run stopped, if that is known.
+    pub record ExitsBy (words : List (List ℕ)) (asked : Result Order WordsFault) (place : Option Place) (from from' : Ahead S) (out out' : K) (err err' : E) (status : ℕ) : Type 0 where
       pub read : IsRead words asked
       pub done : Does asked place from from' out out' err err' status
 
-    -- The same on what a source gives. left: what is held afterwards, and the source then, which is the one that is given back.
-    -- Where the source tells its bytes, the place is that after the bytes which are neither held nor to come then.
-    pub record ExitsOn (words : List (List ℕ)) (from from' : S) (out out' : K) (err err' : E) (status : ℕ) : Type 0 where
+    -- what the command of the words comes to
+    abbrev pub Exits : List (List ℕ) → Option Place → Ahead S → Ahead S → K → K → E → E → ℕ → Type 0
+    Exits words place from from' out out' err err' status = (asked : Result Order WordsFault) × ExitsBy words asked place from from' out out' err err' status
+
+    -- The same on what a source gives. left: what is held afterwards, and the source then. Where the source tells its bytes, the
+    -- place is that after the bytes which are neither held nor to come then.
+    pub record ExitsOnBy (words : List (List ℕ)) (asked : Result Order WordsFault) (from : S) (out out' : K) (err err' : E) (status : ℕ) : Type 0 where
       pub left : Ahead S
-      pub back : left.source ≡ from'
       pub place : Option Place
-      pub exits : Exits words place (unread_of from) left out out' err err' status
+      pub exits : ExitsBy words asked place (unread_of from) left out out' err err' status
       pub placed : IfSome place (λ p. (c z : List ℕ) → to_come from ≡ Some (c ++ z) → input_of to_come left ≡ Some z → IsBehind c p)
+
+    abbrev pub ExitsOn : List (List ℕ) → S → K → K → E → E → ℕ → Type 0
+    ExitsOn words from out out' err err' status = (asked : Result Order WordsFault) × ExitsOnBy words asked from out out' err err' status

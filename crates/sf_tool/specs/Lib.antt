@@ -5,4 +5,5 @@ pub mod Exits
 pub mod Explains
 pub mod Laws
 pub mod Lines
+pub mod Programs
 pub mod Saying

@@ -3,6 +3,7 @@
 
 mod check;
 mod command;
+mod console;
 mod copy;
 mod error_output;
 mod explain;
@@ -10,9 +11,11 @@ mod formats;
 mod invocation;
 pub mod laws;
 mod lines;
+mod program;
 
 pub use command::carry_out;
 pub use invocation::{run_words, tool};
+pub use program::{Ended, run_program};
 pub use sf_arguments::{ArgumentFault, print_values};
 pub use sf_messages::{CommandFault, FormatName};
 pub use sf_records::{ToolEnd, ToolFault, run_copy, run_scan};

@@ -9,6 +9,7 @@ ghost use Rattle.sf_tool.specs.Explains.{OfWord};
 ghost use Rattle.sf_tool.specs.Lines.{AreScanWords, IsFirstRefused, RunsLines, SaysLines, ScansLines, SomeIsSaid, answer_by, line_text};
 
 use crate::command::{form_of, grammar_of};
+use crate::console::Console;
 use crate::error_output::write_told;
 use crate::explain::more_of_line;
 use crate::formats::{RefusedWord, read_scan};
@@ -23,6 +24,7 @@ use sf_records::{FormWriter, OutputForm};
 use sf_run::Report;
 use sf_words::{LineOptions, Order};
 use std::alloc::{AllocError, Global};
+use std::marker::PhantomData;
 
 /// Writes the record of each line, in a form.
 #[derive(Drop)]
@@ -52,9 +54,10 @@ impl RecordWriter for LineRecords {
 /// Says of each line that is no match what is to be said, as it comes, unless nothing is. Where the error output has failed,
 /// nothing more is said.
 #[derive(Drop)]
-struct LineNotes<'e, 't, 'f, E: Sink> {
+struct LineNotes<'e, 't, 'f, K: Sink, E, C: Console<K, E>> {
     alloc: Global,
     err: &'e mut E,
+    of: PhantomData<(K, C)>,
     quiet: bool,
     failed: bool,
     /// Whether more is said of a line, by the last format and its bytes.
@@ -65,22 +68,28 @@ struct LineNotes<'e, 't, 'f, E: Sink> {
     ghost some: { SomeIsSaid profile quiet explain text.now format.now },
 }
 
-impl<E: Sink> Teller for LineNotes<'_, '_, '_, E> {
+impl<K: Sink, E, C: Console<K, E>> Teller<K> for LineNotes<'_, '_, '_, K, E, C> {
     ghost says = { λ notes telling. SaysLines notes.profile notes.quiet notes.explain notes.text.now notes.format.now telling };
 
     ghost some = { λ notes. notes.some };
 
-    ghost told = { λ notes. E.contents notes.err.now };
+    ghost told = { λ notes. C.said notes.err.now };
 
     ghost failed = { λ notes. notes.failed };
 
-    ghost faults = { λ notes. E.failures notes.err.now };
+    ghost faults = { λ notes. C.unsaid notes.err.now };
 
     ghost Kept = { GName };
 
     ghost kept = { λ notes. notes.err.ghost_name };
 
-    fn tell(&mut self, number: u64, line: &[u8], fault: LineFault) -> Result<(), AllocError> {
+    fn tell(
+        &mut self,
+        to: &mut K,
+        number: u64,
+        line: &[u8],
+        fault: LineFault,
+    ) -> Result<(), AllocError> {
         if self.quiet || self.failed {
             return Ok(());
         }
@@ -94,7 +103,7 @@ impl<E: Sink> Teller for LineNotes<'_, '_, '_, E> {
             fault,
         )?;
         let told = line_fault_line(number, fault);
-        self.failed = write_told(self.err, told.as_str().as_bytes(), &more);
+        self.failed = write_told::<K, E, C>(to, self.err, told.as_str().as_bytes(), &more);
         Ok(())
     }
 }
@@ -134,7 +143,7 @@ fn answer_by(end: LinesEnd) -> Result<u8, CommandFault>
 }
 
 /// Scans the lines by the formats; the notes say what is said of them.
-fn loop_lines<S: Source, K: Sink, E: Sink, const N: usize>(
+fn loop_lines<S: Source, K: Sink, E, C: Console<K, E>, const N: usize>(
     alloc: Global,
     formats: &[ScanFormat],
     form: OutputForm,
@@ -142,13 +151,13 @@ fn loop_lines<S: Source, K: Sink, E: Sink, const N: usize>(
     limit: u32,
     from: &mut Lookahead<S, N>,
     out: &mut K,
-    notes: &mut LineNotes<'_, '_, '_, E>,
+    notes: &mut LineNotes<'_, '_, '_, K, E, C>,
 ) -> Result<u8, CommandFault>
     requires limit { limit ≤ 2147483647 }
     requires some { 0 < length formats.now }
     requires fresh { notes.old.failed ≡ false }
     ensures runs { (telling : ℕ → List ℕ → LineFault → List ℕ) → SaysLines notes.old.profile notes.old.quiet notes.old.explain notes.old.text.now notes.old.format.now telling
-        → RunsLines S.to_come S.failures K.contents K.failures E.contents E.failures form options limit formats.now telling from.old from.new out.old out.new notes.old.err.now notes.new.err.now result }
+        → RunsLines S.to_come S.failures K.contents K.failures C.said C.unsaid form options limit formats.now telling from.old from.new out.old out.new notes.old.err.now notes.new.err.now result }
     ensures kept { notes.new.err.ghost_name ≡ notes.old.err.ghost_name }
 {
     let writer = FormWriter::new(alloc, form);
@@ -191,7 +200,7 @@ fn text_of_last(alloc: Global, explain: bool, word: Option<&str>) -> Result<Vec<
 }
 
 /// Scans the lines by the formats; `text` has the bytes of the last one where more is said of lines.
-fn lines_by<S: Source, K: Sink, E: Sink, const N: usize>(
+fn lines_by<S: Source, K: Sink, E, C: Console<K, E>, const N: usize>(
     alloc: Global,
     formats: &[ScanFormat],
     text: &[u8],
@@ -206,11 +215,12 @@ fn lines_by<S: Source, K: Sink, E: Sink, const N: usize>(
     requires said { (ds : List Directive) → slice_get formats.now (length formats.now - 1) ≡ Some ds → SomeIsSaid (grammar_of order.now.profile) options.quiet order.now.explain text.now ds }
     ensures { (ds : List Directive) (telling : ℕ → List ℕ → LineFault → List ℕ) → slice_get formats.now (length formats.now - 1) ≡ Some ds
         → SaysLines (grammar_of order.now.profile) options.quiet order.now.explain text.now ds telling
-        → RunsLines S.to_come S.failures K.contents K.failures E.contents E.failures (form_of order.now.output) options order.now.limit formats.now telling from.old from.new out.old out.new err.old err.new result }
+        → RunsLines S.to_come S.failures K.contents K.failures C.said C.unsaid (form_of order.now.output) options order.now.limit formats.now telling from.old from.new out.old out.new err.old err.new result }
 {
-    let mut notes = LineNotes {
+    let mut notes = LineNotes::<K, E, C> {
         alloc,
         err,
+        of: PhantomData,
         quiet: options.quiet,
         failed: false,
         explain: order.explain,
@@ -234,7 +244,7 @@ fn lines_by<S: Source, K: Sink, E: Sink, const N: usize>(
 /// Scans the lines of what the lookahead holds and its source gives, by the formats of an order's words, and answers the exit
 /// status. What is to be said of lines that are no match is said as they come; where that fails, nothing more is said of lines.
 /// Err says why the lines stopped before the end of the input.
-pub(crate) fn scan_lines<S: Source, K: Sink, E: Sink, const N: usize>(
+pub(crate) fn scan_lines<S: Source, K: Sink, E, C: Console<K, E>, const N: usize>(
     alloc: Global,
     formats: &[ScanFormat],
     order: &Order,
@@ -246,9 +256,9 @@ pub(crate) fn scan_lines<S: Source, K: Sink, E: Sink, const N: usize>(
     requires limit { order.now.limit ≤ 2147483647 }
     requires some { 0 < length order.now.texts.items }
     requires are { AreScanWords (grammar_of order.now.profile) (map string_bytes order.now.texts.items) formats.now }
-    ensures { ScansLines S.to_come S.failures K.contents K.failures E.contents E.failures (grammar_of order.now.profile) (form_of order.now.output) options order.now.explain order.now.limit
+    ensures { ScansLines S.to_come S.failures K.contents K.failures C.said C.unsaid (grammar_of order.now.profile) (form_of order.now.output) options order.now.explain order.now.limit
         (map string_bytes order.now.texts.items) from.old from.new out.old out.new err.old err.new result }
 {
     let text = text_of_last(alloc, order.explain, last_word(&order.texts))?;
-    lines_by(alloc, formats, &text, order, options, from, out, err)
+    lines_by::<S, K, E, C, N>(alloc, formats, &text, order, options, from, out, err)
 }

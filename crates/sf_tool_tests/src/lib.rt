@@ -12,6 +12,8 @@ mod memory;
 #[cfg(test)]
 mod places;
 #[cfg(test)]
+mod program;
+#[cfg(test)]
 mod shared;
 #[cfg(test)]
 mod values;

@@ -25,7 +25,7 @@ returns g c ds telling last says =
     subst (λ p. SaysLines p c.args.options.quiet c.args.order.now.explain c.args.text.now by telling) (sym c.grammar_of.ensures)
     (subst (λ d. SaysLines (grammar_of c.args.order.now.profile) c.args.options.quiet c.args.order.now.explain c.args.text.now d telling) same says) in
     let ran = subst (λ (form : OutputForm).
-    RunsLines g.S.Source.to_come g.S.Source.failures g.K.Sink.contents g.K.Sink.failures g.E.Sink.contents g.E.Sink.failures form c.args.options c.args.order.now.limit formats telling
+    RunsLines g.S.Source.to_come g.S.Source.failures g.K.Sink.contents g.K.Sink.failures g.C.Console.said g.C.Console.unsaid form c.args.options c.args.order.now.limit formats telling
     c.args.from.now c.loop_lines.new.from c.args.out.now c.loop_lines.new.out c.args.err.now c.loop_lines.new.notes.err.now c.loop_lines.result) c.form_of-form.ensures
     (c.loop_lines.ensures.runs telling told) in
     search (rules, ran, c.loop_lines.ensures.kept)

@@ -1,0 +1,144 @@
+//! The program: the command of its words, on its streams.
+ghost use Rattle.std.specs.Prelude.{◌≡◌, ◌↔◌, ℕ, List, map, string_bytes, true};
+ghost use Rattle.sf_blocks.specs.Blocks.{faults_of, handed_to, has_failed_flush, taken_by, write_failures, writer_of};
+ghost use Rattle.sf_messages.specs.Texts.{error_line};
+ghost use Rattle.sf_tool.specs.Exits.{CanRun, ExitsOnBy, IsRead};
+ghost use Rattle.sf_tool.specs.Programs.{Closes, HandsOn, IsAwaited, Reports, RunsOn, RunsProgram};
+ghost use Rattle.sf_tool.specs.Saying.{SaysText};
+
+use crate::console::InOrder;
+use crate::invocation::{Asked, run_asked};
+use sf_blocks::{BlockSink, Unblocked};
+use sf_messages::{CommandFault, error_line};
+use sf_read::Source;
+use sf_records::write_whole;
+use sf_words::read_words;
+use std::alloc::Global;
+use std::io::Write;
+
+/// The exit status of the program, and the writers of its output and its error output.
+#[derive(Drop)]
+pub struct Ended<W: Write + Drop, E: Write + Drop> {
+    pub status: u8,
+    pub output: W,
+    pub errors: E,
+}
+
+/// Whether somebody waits for each record: the output is a terminal, or the words say so.
+fn is_awaited(terminal: bool, asked: &Asked) -> bool
+    ensures { result ≡ true ↔ IsAwaited terminal asked.now }
+{
+    match asked {
+        Ok(order) => terminal || order.line_buffered,
+        Err(_) => terminal,
+    }
+}
+
+/// Hands the error output the line of a fault. A fault of it is ignored.
+fn say_fault<E: Write + Drop>(errors: &mut Unblocked<E>, fault: CommandFault)
+    ensures { SaysText (handed_to ⟦<E as Write>⟧) faults_of (error_line fault) errors.old errors.new }
+{
+    match write_whole(errors, error_line(fault).as_str().as_bytes()) {
+        Ok(()) => {}
+        Err(_) => {}
+    }
+}
+
+/// Reports a flush that failed, unless the line of a write that failed has done so.
+fn report<E: Write + Drop>(failures: u64, errors: &mut Unblocked<E>)
+    ensures { Reports ⟦<E as Write>⟧ failures errors.old errors.new }
+{
+    match failures {
+        0 => say_fault(errors, CommandFault::Write),
+        _ => {}
+    }
+}
+
+/// Flushes the output after the command has ended with this status. The status of the program is 3 where that or an earlier
+/// flush failed, which is reported once.
+fn close<W: Write + Drop, E: Write + Drop>(
+    output: &mut BlockSink<W>,
+    errors: &mut Unblocked<E>,
+    status: u8,
+) -> u8
+    ensures { Closes ⟦<W as Write>⟧ ⟦<E as Write>⟧ output.old output.new errors.old errors.new status result }
+{
+    let _ = output.flush();
+    if !output.has_failed_flush() {
+        return status;
+    }
+    report(output.failures(), errors);
+    CommandFault::Write.status()
+}
+
+/// The exit status of the program, and the writer of its output.
+#[derive(Drop)]
+struct Closed<W: Write + Drop> {
+    status: u8,
+    output: W,
+}
+
+/// Runs the command on the streams, and flushes its output.
+fn run_open<S: Source, W: Write + Drop, E: Write + Drop>(
+    alloc: Global,
+    asked: &Asked,
+    from: S,
+    output: BlockSink<W>,
+    errors: &mut Unblocked<E>,
+) -> Closed<W>
+    requires { CanRun asked.now }
+    ensures { (words : List (List ℕ)) → IsRead words asked.now → (ran : BlockSink W ⟦<W as Write>⟧) × ((closed : BlockSink W ⟦<W as Write>⟧) × ((said : Unblocked E) × ((answer : ℕ)
+        × ExitsOnBy taken_by write_failures HandsOn (handed_to ⟦<E as Write>⟧) faults_of S.to_come S.failures words asked.now from output ran errors.old said answer
+        × Closes ⟦<W as Write>⟧ ⟦<E as Write>⟧ ran closed said errors.new answer result.status
+        × (result.output ≡ writer_of closed)))) }
+{
+    let mut output = output;
+    let ended = run_asked::<S, BlockSink<W>, Unblocked<E>, InOrder>(
+        alloc,
+        asked,
+        from,
+        &mut output,
+        errors,
+    );
+    let status = close(&mut output, errors, ended);
+    Closed {
+        status,
+        output: output.into_writer(),
+    }
+}
+
+/// Runs the program of the words, which are those after its name, on its streams, and gives its writers back with its exit status. A
+/// message goes to the error output at once, after all that was written to the output before it. At a terminal, or where the
+/// words ask for it, each record goes to the output at once; else they go in blocks. The output is flushed before the end; where
+/// that or an earlier flush fails, the status is 3, and one line reports it. The other statuses are those of `tool`.
+pub fn run_program<S: Source, W: Write + Drop, E: Write + Drop>(
+    alloc: Global,
+    words: &[String],
+    terminal: bool,
+    from: S,
+    output: W,
+    errors: E,
+) -> Ended<W, E>
+    ensures { RunsProgram ⟦<W as Write>⟧ ⟦<E as Write>⟧ S.to_come S.failures (map string_bytes words.now) terminal from output result.output errors result.errors result.status }
+{
+    let asked = read_words(alloc, words);
+    let mut errors = Unblocked::new(errors);
+    match BlockSink::open(alloc, is_awaited(terminal, &asked), output) {
+        Ok(opened) => {
+            let closed = run_open(alloc, &asked, from, opened, &mut errors);
+            Ended {
+                status: closed.status,
+                output: closed.output,
+                errors: errors.into_writer(),
+            }
+        }
+        Err(output) => {
+            say_fault(&mut errors, CommandFault::Memory);
+            Ended {
+                status: CommandFault::Memory.status(),
+                output,
+                errors: errors.into_writer(),
+            }
+        }
+    }
+}

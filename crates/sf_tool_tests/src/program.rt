@@ -1,0 +1,164 @@
+//! The program on streams of its own: what each took, and in which order.
+use crate::shared::{is, words_of};
+use sf_read::SliceSource;
+use sf_tool::run_program;
+use std::alloc::Global;
+use std::cell::RefCell;
+use std::io::{self, ErrorKind, Write};
+use std::process::Abort;
+use std::test::Fail;
+
+/// Where two streams write to: each write is one line, after the letter of its stream.
+struct Log {
+    text: Vec<u8>,
+    /// How many writes to the output come before those that fail.
+    before_failures: u64,
+}
+
+/// One of the streams.
+#[derive(Drop)]
+struct Stream<'l> {
+    log: &'l RefCell<Log>,
+    letter: u8,
+}
+
+impl Stream<'_> {
+    fn put(&self, log: &mut Log, bytes: &[u8]) -> io::Result<usize> {
+        if self.letter == b'o' {
+            if log.before_failures == 0 {
+                return Err(io::Error::from(ErrorKind::Other));
+            }
+            log.before_failures -= 1;
+        }
+        log.text.push(self.letter)?;
+        log.text.extend_from_slice(bytes)?;
+        Ok(bytes.len())
+    }
+}
+
+impl Write for Stream<'_> {
+    fn write(&mut self, bytes: &[u8]) -> io::Result<usize> {
+        match self.log.try_borrow_mut() {
+            Ok(mut log) => self.put(&mut log, bytes),
+            Err(_) => Err(io::Error::from(ErrorKind::Other)),
+        }
+    }
+
+    fn flush(&mut self) -> io::Result<()> {
+        Ok(())
+    }
+}
+
+/// The words, what is read, how many writes to the output succeed, what is written (`o`: to the output, `e`: to the error
+/// output), and the status.
+struct Case {
+    words: &'static str,
+    terminal: bool,
+    input: &'static [u8],
+    writes: u64,
+    log: &'static str,
+    status: u8,
+}
+
+static CASES: [Case; 8] = [
+    // the lines before a message go before it
+    Case {
+        words: "scan/--lines/--keep-going/%d",
+        terminal: false,
+        input: b"1\n2\nx\n3\n",
+        writes: u64::MAX,
+        log: "o1\n2\nesf: line 3: matching failure at 1, used 0, assigned 0\no3\n",
+        status: 1,
+    },
+    // nobody waits: one block
+    Case {
+        words: "scan/%d",
+        terminal: false,
+        input: b"1\n2\n3\n",
+        writes: u64::MAX,
+        log: "o1\n2\n3\n",
+        status: 0,
+    },
+    // each record is awaited
+    Case {
+        words: "scan/--line-buffered/%d",
+        terminal: false,
+        input: b"1\n2\n3\n",
+        writes: u64::MAX,
+        log: "o1\no2\no3\n",
+        status: 0,
+    },
+    Case {
+        words: "scan/%d",
+        terminal: true,
+        input: b"1\n2\n3\n",
+        writes: u64::MAX,
+        log: "o1\no2\no3\n",
+        status: 0,
+    },
+    // a flush that fails is reported, once
+    Case {
+        words: "scan/%d",
+        terminal: false,
+        input: b"1\n2\n3\n",
+        writes: 0,
+        log: "esf: write fault\n",
+        status: 3,
+    },
+    // the line of a write that failed has reported it
+    Case {
+        words: "scan/%d",
+        terminal: true,
+        input: b"1\n2\n3\n",
+        writes: 1,
+        log: "o1\nesf: write fault\n",
+        status: 3,
+    },
+    // a flush before a message failed
+    Case {
+        words: "scan/--lines/--keep-going/%d",
+        terminal: false,
+        input: b"1\nx\n",
+        writes: 0,
+        log: "esf: line 2: matching failure at 1, used 0, assigned 0\nesf: write fault\n",
+        status: 3,
+    },
+    Case {
+        words: "check/%d/%d",
+        terminal: false,
+        input: b"",
+        writes: u64::MAX,
+        log: "oaccepted\n",
+        status: 0,
+    },
+];
+
+fn run_case(rt: &impl Abort, alloc: Global, case: &Case) -> Result<(), Fail> {
+    let words = words_of(alloc, case.words)?;
+    let log = RefCell::new(Log {
+        text: Vec::new(alloc),
+        before_failures: case.writes,
+    });
+    let output = Stream {
+        log: &log,
+        letter: b'o',
+    };
+    let errors = Stream {
+        log: &log,
+        letter: b'e',
+    };
+    let from = SliceSource::new(case.input);
+    let ended = run_program(alloc, &words, case.terminal, from, output, errors);
+    is(rt, &ended.status, &case.status, &case.words);
+    let found = log.into_inner();
+    is(rt, &found.text.as_slice(), &case.log.as_bytes(), &case.words);
+    Ok(())
+}
+
+#[test]
+fn streams_in_order(rt: HostRuntime) -> Result<(), Fail> {
+    for case in &CASES {
+        run_case(&rt, rt.alloc(), case)?;
+    }
+    Ok(())
+}
