@@ -61,7 +61,7 @@ closest_whole : (q u : ℕ) → 0 < u → closest (q * u) u ≡ q
 closest_whole q u U = closest_below (q * u) u q (omega arith) (omega arith) (omega arith)
 
 -- more
-pub many_digits : (m d : ℕ) → 13 < d → m * 16 ^ (d - 13) ≡ closest (m * 16 ^ d) (2 ^ 52)
+pub many_digits : (m d : ℕ) → 13 ≤ d → m * 16 ^ (d - 13) ≡ closest (m * 16 ^ d) (2 ^ 52)
 many_digits m d h =
     let e : d ≡ d - 13 + 13 = omega arith in
     let p : 16 ^ d ≡ 16 ^ (d - 13) * 2 ^ 52 = ap (λ t. 16 ^ t) e ∙ pow-add 16 (d - 13) 13 in

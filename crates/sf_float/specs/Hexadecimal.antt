@@ -20,6 +20,7 @@ pub record IsBinary (x : Float) (m power : ℕ) : Type 0 where
   pub negative : Bool
   pub value : HasValue x negative (m * 2 ^ power) (2 ^ 1074)
   pub most : m < 2 ^ 53
+  pub few : power < 2046
   pub normal : 0 < power → 2 ^ 52 ≤ m
 
 -- the exponent of 0 is 0

@@ -1,5 +1,6 @@
 //! Texts of floats, as glibc's printf writes them.
 use sf_float::{FloatConv, ROOM, Style, write_float};
+use std::num::f64_from_bits_with_nan;
 use std::test::Fail;
 
 /// Flags, width, precision and letter of a conversion; a pattern, and its text.
@@ -170,7 +171,7 @@ fn is_joined(text: &[u8], parts: &[(&[u8], usize, u8)]) -> bool {
 fn texts_are_those_of_printf() -> Result<(), Fail> {
     for row in &ROWS {
         let mut out = [0u8; ROOM];
-        let (field, len) = write_float(&conv_of(row), f64::from_bits(row.4), &mut out);
+        let (field, len) = write_float(&conv_of(row), f64_from_bits_with_nan(row.4), &mut out);
         let digits = out.get(..len).unwrap_or(&out);
         let parts = [
             (b"".as_slice(), field.left as usize, b' '),

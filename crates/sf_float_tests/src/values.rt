@@ -142,7 +142,8 @@ fn long_exponents_count() -> Result<(), Fail> {
     text[697] = b'6';
     text[698] = b'9';
     text[699] = b'4';
-    if is_float(&text) && value_f64(&text) == Some(0x3ff0_0000_0000_0000) {
+    let text = text.as_slice();
+    if is_float(text) && value_f64(text) == Some(0x3ff0_0000_0000_0000) {
         return Ok(());
     }
     Err(Fail::new(format_args!("not 1")))

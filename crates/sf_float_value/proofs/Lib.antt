@@ -1,6 +1,7 @@
 pub mod Cutting
 pub mod FormsApart
 pub mod Fronts
+mod HexBack
 pub mod HexParts
 pub mod HexRounding
 pub mod PatternLemmas

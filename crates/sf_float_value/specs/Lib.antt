@@ -1,4 +1,5 @@
 pub mod Formats
 pub mod Forms
 pub mod Hexadecimals
+pub mod Laws
 pub mod Values

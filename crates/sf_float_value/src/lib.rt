@@ -4,6 +4,7 @@
 mod digits;
 mod form;
 mod hexadecimal;
+pub mod laws;
 mod nearest;
 mod value;
 

@@ -1,5 +1,5 @@
 use Rattle.std.proofs.Common.{◌≡◌, ◌-◌, ◌+◌, ◌*◌, ◌/◌, ◌%◌, ◌^◌, ◌++◌, [], ◌∷◌, ◌||◌, if◌then◌else◌, take, replicate, sym, ap, ◌∙◌, arith, lt-ltb}
-use Rattle.std.proofs.Math.Nat.{div-one}
+use Rattle.std.proofs.Math.Nat.{div-one, le_of_lt}
 use Rattle.std.specs.Float.Ieee.Nearest.{closest}
 use Rattle.sf_float.specs.Hexadecimal.{hex_digit, hex_digits}
 use Rattle.sf_float.proofs.Hexadecimals.{many_digits, whole_of_many, hex_with_zeros}
@@ -20,5 +20,5 @@ returns-clause-written c =
     ∙ ap (λ t. t ++ replicate w 48) digits
     ∙ ap (λ t. hex_digit (m / 16 ^ 13 % 16) ∷ 46 ∷ t) (sym (hex_with_zeros 13 w m) ∙ ap (λ k. hex_digits k wide) e)
     ∙ ap (λ q. hex_digit (q % 16) ∷ 46 ∷ hex_digits d wide) (whole_of_many m d h)
-    ∙ ap (λ n. hex_digit (n / 16 ^ d % 16) ∷ 46 ∷ hex_digits d n) (many_digits m d h)
+    ∙ ap (λ n. hex_digit (n / 16 ^ d % 16) ∷ 46 ∷ hex_digits d n) (many_digits m d (le_of_lt h))
     ∙ ap (λ b. hex_digit (closest (m * 16 ^ d) (2 ^ 52) / 16 ^ d % 16) ∷ (if b || c.args.alt then 46 ∷ hex_digits d (closest (m * 16 ^ d) (2 ^ 52)) else [])) (sym (lt-ltb 0 d (omega arith)))

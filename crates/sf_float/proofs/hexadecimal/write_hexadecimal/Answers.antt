@@ -19,6 +19,7 @@ returns-clause-text c =
         negative = s.result.0;
         value = value_of_size binary64 c.args.x s.result.0 s.result.1 _ _ s.ensures b.ensures.value;
         most = b.ensures.most.0;
+        few = b.ensures.most.1;
         normal = b.ensures.normal;
       },
       (take n.result n.new.out, e.0, n.ensures.written, e.1, e.2),
