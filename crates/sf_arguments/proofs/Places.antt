@@ -74,7 +74,8 @@ module _ (units : List PrintUnit) (words : List (List ℕ)) where
       by : (k ≡ at) ⊎ (k < at) → (v : Datum) × StandsAt units (k + 1) other v
       by (inr less) = all k other less is_other
       by (inl e) =
-          let same : word ≡ other = some_same word other (slice_get words at) is (subst (λ n. slice_get words n ≡ Some other) e is_other) in (
+          let same : word ≡ other = some_same word other (slice_get words at) is
+          (subst (λ n. slice_get words n ≡ Some other) e is_other) in (
             value,
             subst (λ n. StandsAt units (n + 1) other value) (sym e)
                 (subst (λ (w : List ℕ). StandsAt units (at + 1) w value) same stands),

@@ -27,10 +27,20 @@ word_has-with_bit ws b k inside =
       | inl here ↦ elim (cases_eq (k % 64) (b % 64)) [
         | inr other ↦
             let ne : k ≡ b → ⊥ = λ e. other (ap (λ n. n % 64) e) in
-            rw (here, get_or-set_same ws (b / 64) (bit_or (get_or ws (b / 64) 0) (1 * 2 ^ (b % 64) % 2 ^ 64)) 0 inside, bit_at_set_other w64 (get_or ws (b / 64) 0) (b % 64) (within b) (k % 64) other, ne_eqb k b ne) refl
+            rw (
+              here,
+              get_or-set_same ws (b / 64) (bit_or (get_or ws (b / 64) 0) (1 * 2 ^ (b % 64) % 2 ^ 64)) 0 inside,
+              bit_at_set_other w64 (get_or ws (b / 64) 0) (b % 64) (within b) (k % 64) other,
+              ne_eqb k b ne,
+            ) refl
         | inl same ↦
             let e : k ≡ b = same_place k b here same in
-            rw (e, get_or-set_same ws (b / 64) (bit_or (get_or ws (b / 64) 0) (1 * 2 ^ (b % 64) % 2 ^ 64)) 0 inside, bit_at_set_same w64 (get_or ws (b / 64) 0) (b % 64) (within b), eq-eqb b b refl) refl
+            rw (
+              e,
+              get_or-set_same ws (b / 64) (bit_or (get_or ws (b / 64) 0) (1 * 2 ^ (b % 64) % 2 ^ 64)) 0 inside,
+              bit_at_set_same w64 (get_or ws (b / 64) 0) (b % 64) (within b),
+              eq-eqb b b refl,
+            ) refl
       ]
     ]
 
@@ -41,8 +51,10 @@ turned zero h = refl
 turned (suc zero) h = refl
 turned (suc (suc x)) h = absurd (omega arith)
 
-pub word_has-not : (ws vs : List ℕ) (k : ℕ) → get_or vs (k / 64) 0 ≡ bit_not w64 (get_or ws (k / 64) 0) → get_or ws (k / 64) 0 < 2 ^ 64 → word_has vs k ≡ not (word_has ws k)
-word_has-not ws vs k e fits = rw (e, bit_at_not w64 (get_or ws (k / 64) 0) (k % 64) fits (within k)) (turned (bit_at (get_or ws (k / 64) 0) (k % 64)) (bit_at-lt (get_or ws (k / 64) 0) (k % 64)))
+pub word_has-not : (ws vs : List ℕ) (k : ℕ) → get_or vs (k / 64) 0 ≡ bit_not w64 (get_or ws (k / 64) 0) → get_or ws (k / 64) 0 < 2 ^ 64
+    → word_has vs k ≡ not (word_has ws k)
+word_has-not ws vs k e fits = rw (e, bit_at_not w64 (get_or ws (k / 64) 0) (k % 64) fits (within k))
+    (turned (bit_at (get_or ws (k / 64) 0) (k % 64)) (bit_at-lt (get_or ws (k / 64) 0) (k % 64)))
 
 -- ---- common bits
 
@@ -74,7 +86,8 @@ pub word_has_bit : (ws : List ℕ) (k : ℕ) → word_has ws k ≡ true → bit_
 word_has_bit ws k h = eqb-true (bit_at (get_or ws (k / 64) 0) (k % 64)) 1 h
 
 -- a bit of a that b does not have
-pub other_bit : (ws vs : List ℕ) (i : ℕ) → (bit_and (get_or ws i 0) (bit_not w64 (get_or vs i 0)) ≡ 0 → ⊥) → get_or ws i 0 < 2 ^ 64 → get_or vs i 0 < 2 ^ 64 → i < 4
+pub other_bit : (ws vs : List ℕ) (i : ℕ) → (bit_and (get_or ws i 0) (bit_not w64 (get_or vs i 0)) ≡ 0 → ⊥) → get_or ws i 0 < 2 ^ 64
+    → get_or vs i 0 < 2 ^ 64 → i < 4
     → ((b : ℕ) → b < 256 → word_has ws b ≡ true → word_has vs b ≡ true) → ⊥
 other_bit ws vs i some small small' at all =
     let x = get_or ws i 0 in
@@ -87,7 +100,8 @@ other_bit ws vs i some small small' at all =
     omega (arith, bit_at_not w64 y bit.0 small' bit.1, bit.3, one)
 
 -- where there is none, each bit of a is one of b
-pub same_bit : (ws vs : List ℕ) (k : ℕ) → bit_and (get_or ws (k / 64) 0) (bit_not w64 (get_or vs (k / 64) 0)) ≡ 0 → get_or vs (k / 64) 0 < 2 ^ 64 → word_has ws k ≡ true → word_has vs k ≡ true
+pub same_bit : (ws vs : List ℕ) (k : ℕ) → bit_and (get_or ws (k / 64) 0) (bit_not w64 (get_or vs (k / 64) 0)) ≡ 0
+    → get_or vs (k / 64) 0 < 2 ^ 64 → word_has ws k ≡ true → word_has vs k ≡ true
 same_bit ws vs k none small has =
     let y = get_or vs (k / 64) 0 in
     let j = k % 64 in
@@ -142,7 +156,11 @@ range_has : (w lo hi i j : ℕ) → j < 64
 range_has w lo hi i j small =
     let upto = min (hi + 1 - 64 * i) 64 in
     let below = min (lo - 64 * i) 64 in
-    rw (bit_at_or w (range_bits lo hi i) j, bit_at_and (2 ^ upto - 1) (bit_not w64 (2 ^ below - 1)) j, bit_at_not w64 (2 ^ below - 1) j (below_word below (omega arith)) small)
+    rw (
+      bit_at_or w (range_bits lo hi i) j,
+      bit_at_and (2 ^ upto - 1) (bit_not w64 (2 ^ below - 1)) j,
+      bit_at_not w64 (2 ^ below - 1) j (below_word below (omega arith)) small,
+    )
     (in_range (bit_at w j) (bit_at (2 ^ upto - 1) j) (bit_at (2 ^ below - 1) j) lo hi (64 * i + j) (bit_at-lt w j)
     (λ h. bit_at_ones upto j (omega (arith, h, small)))
     (λ h. bit_at_ones_above upto j (omega (arith, h)))
@@ -151,7 +169,8 @@ range_has w lo hi i j small =
 
 -- word i with the bits of a range, of words of which that is so before it
 pub word_has-range : (ws vs : List ℕ) (lo hi i k : ℕ) → i < length vs
-    → (k < 64 * i → word_has vs k ≡ ((nat_le lo k && nat_le k hi) || word_has ws k)) → (64 * i ≤ k → word_has vs k ≡ word_has ws k) → k < 64 * (i + 1)
+    → (k < 64 * i → word_has vs k ≡ ((nat_le lo k && nat_le k hi) || word_has ws k)) → (64 * i ≤ k → word_has vs k ≡ word_has ws k)
+    → k < 64 * (i + 1)
     → word_has (set vs i (bit_or (get_or vs i 0) (range_bits lo hi i))) k ≡ ((nat_le lo k && nat_le k hi) || word_has ws k)
 word_has-range ws vs lo hi i k inside before behind below =
     let word = bit_or (get_or vs i 0) (range_bits lo hi i) in
@@ -168,7 +187,8 @@ word_has-range ws vs lo hi i k inside before behind below =
     ]
 
 -- the words behind it stay
-pub word_has-others : (ws vs : List ℕ) (i k word : ℕ) → word_has vs k ≡ word_has ws k → 64 * (i + 1) ≤ k → word_has (set vs i word) k ≡ word_has ws k
+pub word_has-others : (ws vs : List ℕ) (i k word : ℕ) → word_has vs k ≡ word_has ws k → 64 * (i + 1) ≤ k
+    → word_has (set vs i word) k ≡ word_has ws k
 word_has-others ws vs i k word same behind =
     let apart : k / 64 ≡ i → ⊥ = λ e. omega (arith, behind, e) in
     rw (get_or-set_other vs i (k / 64) word 0 apart) same

@@ -19,14 +19,18 @@ use Rattle.sf_base.specs.declared.entries.Cell.TheVariants as cell
 use Rattle.sf_base.specs.declared.entries.Entry.{Entry}
 
 -- what was not found is not among the rest
-absent_step : (b : Bool) (a : Assigned) (rest : Option Assigned) (any : Bool) → (option_map (λ x. x.datum) rest ≡ None → any ≡ false) → option_map (λ x. x.datum) (cond b (Some a) rest) ≡ None → (b || any) ≡ false
+absent_step : (b : Bool) (a : Assigned) (rest : Option Assigned) (any : Bool) → (option_map (λ x. x.datum) rest ≡ None → any ≡ false)
+    → option_map (λ x. x.datum) (cond b (Some a) rest) ≡ None → (b || any) ≡ false
 absent_step true a rest any f h = cc
 absent_step false a rest any f h = f h
 
 -- a slot with no value has no entry
-pub IsAbsent-from_datum : (closed : List ℕ) (slot : ℕ) (es : List Entry) → datum_at slot (map (assigned_in closed) es) ≡ None → IsAbsent slot (slots_of es)
+pub IsAbsent-from_datum : (closed : List ℕ) (slot : ℕ) (es : List Entry) → datum_at slot (map (assigned_in closed) es) ≡ None
+    → IsAbsent slot (slots_of es)
 IsAbsent-from_datum closed slot [] h = refl
-IsAbsent-from_datum closed slot (e ∷ es) h = absent_step (nat_eq slot e.slot) (assigned_in closed e) (find (λ a. nat_eq slot a.slot) (map (assigned_in closed) es)) (list_any (nat_eq slot) (slots_of es)) (IsAbsent-from_datum closed slot es) h
+IsAbsent-from_datum closed slot (e ∷ es) h = absent_step (nat_eq slot e.slot) (assigned_in closed e)
+    (find (λ a. nat_eq slot a.slot) (map (assigned_in closed) es)) (list_any (nat_eq slot) (slots_of es))
+    (IsAbsent-from_datum closed slot es) h
 
 -- numbers that are all below n
 below : (n : ℕ) (xs : List ℕ) → All (λ x. x < n) xs → (q : ℕ) → list_any (nat_eq q) xs ≡ true → q < n
@@ -45,7 +49,8 @@ no_zero n (x ∷ xs) all =
     rw differs (no_zero n xs (All-tail (IsSlot n) x xs all))
 
 -- as long as a slot has no entry there are fewer entries than slots
-pub length-lt-slots : (n : ℕ) (xs : List ℕ) (slot : ℕ) → IsDistinct nat_eq xs → All (IsSlot n) xs → IsSlot n slot → IsAbsent slot xs → length xs < n
+pub length-lt-slots : (n : ℕ) (xs : List ℕ) (slot : ℕ) → IsDistinct nat_eq xs → All (IsSlot n) xs → IsSlot n slot → IsAbsent slot xs
+    → length xs < n
 length-lt-slots n xs slot apart in_range is_slot absent =
     let more = xs ++ slot ∷ [] in
     let more_in : All (IsSlot n) more = All-push (IsSlot n) xs slot in_range is_slot in
@@ -62,11 +67,15 @@ IsWithin-le m n le (cell.Number number) h = h
 IsWithin-le m n le (cell.Text from to) h = (h.0, omega (arith, h.1))
 
 -- one entry more, which may be a text that ends where the closed ones now do
-pub IsSound-push : (slots : ℕ) (es : List Entry) (closed closed' len : ℕ) (opened opened' : Option ℕ) (e : Entry) → IsSound slots es closed len opened → closed ≤ closed' → closed' ≤ len → IsSlot slots e.slot → IsAbsent e.slot (slots_of es) → IsWithin closed' e.cell → IsUnderWay slots (slots_of es ++ e.slot ∷ []) closed' len opened' → IsSound slots (es ++ e ∷ []) closed' len opened'
+pub IsSound-push : (slots : ℕ) (es : List Entry) (closed closed' len : ℕ) (opened opened' : Option ℕ) (e : Entry)
+    → IsSound slots es closed len opened → closed ≤ closed' → closed' ≤ len → IsSlot slots e.slot → IsAbsent e.slot (slots_of es)
+    → IsWithin closed' e.cell → IsUnderWay slots (slots_of es ++ e.slot ∷ []) closed' len opened'
+    → IsSound slots (es ++ e ∷ []) closed' len opened'
 IsSound-push slots es closed closed' len opened opened' e sound rises held is_slot absent within under_way =
     let slots_more : slots_of (es ++ e ∷ []) ≡ slots_of es ++ e.slot ∷ [] = map-append (λ (x : Entry). x.slot) es (e ∷ []) in
     let wider : All (λ (x : Entry). IsWithin closed' x.cell) es =
-    All-weaker (λ (x : Entry). IsWithin closed x.cell) (λ (x : Entry). IsWithin closed' x.cell) (λ x w. IsWithin-le closed closed' rises x.cell w) es sound.within in
+    All-weaker (λ (x : Entry). IsWithin closed x.cell) (λ (x : Entry). IsWithin closed' x.cell)
+    (λ x w. IsWithin-le closed closed' rises x.cell w) es sound.within in
     record {
       apart = rw slots_more (IsDistinct-push nat_eq_equiv (slots_of es) e.slot sound.apart absent);
       in_range = rw slots_more (All-push (IsSlot slots) (slots_of es) e.slot sound.in_range is_slot);
@@ -76,14 +85,17 @@ IsSound-push slots es closed closed' len opened opened' e sound rises held is_sl
     }
 
 -- a text under way goes on beside an entry for another slot
-pub IsUnderWay-push : (slots : ℕ) (taken : List ℕ) (closed len : ℕ) (opened : Option ℕ) (text : List ℕ) (slot : ℕ) → IsUnderWay slots taken closed len opened → is_opened slot (opened_at text opened) ≡ false → IsUnderWay slots (taken ++ slot ∷ []) closed len opened
+pub IsUnderWay-push : (slots : ℕ) (taken : List ℕ) (closed len : ℕ) (opened : Option ℕ) (text : List ℕ) (slot : ℕ)
+    → IsUnderWay slots taken closed len opened → is_opened slot (opened_at text opened) ≡ false
+    → IsUnderWay slots (taken ++ slot ∷ []) closed len opened
 IsUnderWay-push slots taken closed len None text slot h other = h
 IsUnderWay-push slots taken closed len (Some s) text slot h other =
     let differs : nat_eq s slot ≡ false = ne_eqb s slot (λ e. eqb-false slot s other (sym e)) in
     (h.0, rw (list_any-append (nat_eq s) taken (slot ∷ []), h.1, differs) refl)
 
 -- where there is no text under way, all bytes are closed
-pub closed-all : (slots : ℕ) (taken : List ℕ) (closed len : ℕ) (opened : Option ℕ) (text : List ℕ) → IsUnderWay slots taken closed len opened → opened_at text opened ≡ None → closed ≡ len
+pub closed-all : (slots : ℕ) (taken : List ℕ) (closed len : ℕ) (opened : Option ℕ) (text : List ℕ)
+    → IsUnderWay slots taken closed len opened → opened_at text opened ≡ None → closed ≡ len
 closed-all slots taken closed len None text h none = h
 closed-all slots taken closed len (Some s) text h none = cc
 
@@ -93,7 +105,8 @@ datum_in-take all n (cell.Number number) h = refl
 datum_in-take all n (cell.Text from to) h =
     ap Bytes (between_is all from to ∙ (ap (drop from) (sym (take-take to n all h.1)) ∙ sym (between_is (take n all) from to)))
 
-pub assigned_in-take : (all : List ℕ) (n : ℕ) (es : List Entry) → All (λ (e : Entry). IsWithin n e.cell) es → map (assigned_in all) es ≡ map (assigned_in (take n all)) es
+pub assigned_in-take : (all : List ℕ) (n : ℕ) (es : List Entry) → All (λ (e : Entry). IsWithin n e.cell) es
+    → map (assigned_in all) es ≡ map (assigned_in (take n all)) es
 assigned_in-take all n [] within = refl
 assigned_in-take all n (e ∷ es) within =
     let first = datum_in-take all n e.cell (All-head (λ (x : Entry). IsWithin n x.cell) e es within) in
@@ -101,14 +114,18 @@ assigned_in-take all n (e ∷ es) within =
     cc
 
 -- what is kept after the text from n on is closed
-pub kept_of-close : (es : List Entry) (all : List ℕ) (n len slot room : ℕ) → len ≡ length all → All (λ (e : Entry). IsWithin n e.cell) es → kept_of (es ++ record { slot = slot; cell = cell.Text n len } ∷ []) all len None room ≡ with_closed (kept_of es all n (Some slot) room)
+pub kept_of-close : (es : List Entry) (all : List ℕ) (n len slot room : ℕ) → len ≡ length all → All (λ (e : Entry). IsWithin n e.cell) es
+    → kept_of (es ++ record { slot = slot; cell = cell.Text n len } ∷ []) all len None room
+    ≡ with_closed (kept_of es all n (Some slot) room)
 kept_of-close es all n len slot room is_len within =
     let e : Entry = record { slot = slot; cell = cell.Text n len } in
     let whole : take len all ≡ all = rw is_len (take-length all) in
     let text : slice_range all n len ≡ drop n all = between_to_end all n len (omega (arith, is_len)) in
-    let entries : map (assigned_in all) (es ++ e ∷ []) ≡ map (assigned_in all) es ++ assigned slot (Bytes (slice_range all n len)) ∷ [] = map-append (assigned_in all) es (e ∷ []) in
+    let entries : map (assigned_in all) (es ++ e ∷ []) ≡ map (assigned_in all) es ++ assigned slot (Bytes (slice_range all n len)) ∷ [] =
+    map-append (assigned_in all) es (e ∷ []) in
     let before = assigned_in-take all n es within in
-    let values : map (assigned_in (take len all)) (es ++ e ∷ []) ≡ map (assigned_in (take n all)) es ++ assigned slot (Bytes (drop n all)) ∷ [] =
+    let values : map (assigned_in (take len all)) (es ++ e ∷ []) ≡ map (assigned_in (take n all)) es ++ assigned slot
+    (Bytes (drop n all)) ∷ [] =
     rw (whole, entries, before, text) refl in
     let closed : take len all ≡ take n all ++ drop n all = whole ∙ sym (take-append-drop n all) in
     cc
@@ -118,21 +135,26 @@ none_opened text None h = refl
 none_opened text (Some slot) h = cc
 
 -- what is kept after a text is put behind the closed ones, where none is opened
-kept_of-put_none : (es : List Entry) (all text : List ℕ) (n len slot room room' : ℕ) → n ≡ length all → len ≡ length (all ++ text) → All (λ (e : Entry). IsWithin n e.cell) es
-    → kept_of (es ++ record { slot = slot; cell = cell.Text n len } ∷ []) (all ++ text) len None room' ≡ with_text slot text room' (kept_of es all n None room)
+kept_of-put_none : (es : List Entry) (all text : List ℕ) (n len slot room room' : ℕ) → n ≡ length all → len ≡ length (all ++ text)
+    → All (λ (e : Entry). IsWithin n e.cell) es
+    → kept_of (es ++ record { slot = slot; cell = cell.Text n len } ∷ []) (all ++ text) len None room'
+    ≡ with_text slot text room' (kept_of es all n None room)
 kept_of-put_none es all text n len slot room room' is_n is_len within =
     let front : take n (all ++ text) ≡ all = rw is_n (take-append_seam all text) in
     let rest : drop n (all ++ text) ≡ text = rw is_n (drop-append_seam all text) in
     let whole : take n all ≡ all = rw is_n (take-length all) in
     rw (kept_of-close es (all ++ text) n len slot room' is_len within, front, rest, whole) refl
 
-pub kept_of-put : (es : List Entry) (all text : List ℕ) (n len slot room room' : ℕ) (opened : Option ℕ) → opened_at (drop n all) opened ≡ None → n ≡ length all → len ≡ length (all ++ text) → All (λ (e : Entry). IsWithin n e.cell) es
-    → kept_of (es ++ record { slot = slot; cell = cell.Text n len } ∷ []) (all ++ text) len opened room' ≡ with_text slot text room' (kept_of es all n opened room)
+pub kept_of-put : (es : List Entry) (all text : List ℕ) (n len slot room room' : ℕ) (opened : Option ℕ)
+    → opened_at (drop n all) opened ≡ None → n ≡ length all → len ≡ length (all ++ text) → All (λ (e : Entry). IsWithin n e.cell) es
+    → kept_of (es ++ record { slot = slot; cell = cell.Text n len } ∷ []) (all ++ text) len opened room'
+    ≡ with_text slot text room' (kept_of es all n opened room)
 kept_of-put es all text n len slot room room' opened none is_n is_len within =
     rw (none_opened (drop n all) opened none) (kept_of-put_none es all text n len slot room room' is_n is_len within)
 
 -- the same of the entries
-pub length-lt-entries : (slots : ℕ) (es : List Entry) (closed len : ℕ) (opened : Option ℕ) (slot : ℕ) → IsSound slots es closed len opened → IsSlot slots slot → IsAbsent slot (slots_of es) → length es < slots
+pub length-lt-entries : (slots : ℕ) (es : List Entry) (closed len : ℕ) (opened : Option ℕ) (slot : ℕ) → IsSound slots es closed len opened
+    → IsSlot slots slot → IsAbsent slot (slots_of es) → length es < slots
 length-lt-entries slots es closed len opened slot sound is_slot absent =
     omega (arith, length-lt-slots slots (slots_of es) slot sound.apart sound.in_range is_slot absent, length-map es (λ (x : Entry). x.slot))
 
@@ -148,7 +170,8 @@ IsSound-none slots = record {
 }
 
 -- a text begins
-pub IsSound-open : (slots : ℕ) (es : List Entry) (closed len : ℕ) (opened : Option ℕ) (slot : ℕ) → IsSound slots es closed len opened → IsSlot slots slot → IsAbsent slot (slots_of es) → IsSound slots es closed len (Some slot)
+pub IsSound-open : (slots : ℕ) (es : List Entry) (closed len : ℕ) (opened : Option ℕ) (slot : ℕ) → IsSound slots es closed len opened
+    → IsSlot slots slot → IsAbsent slot (slots_of es) → IsSound slots es closed len (Some slot)
 IsSound-open slots es closed len opened slot sound is_slot absent = record {
   apart = sound.apart;
   in_range = sound.in_range;
@@ -158,13 +181,15 @@ IsSound-open slots es closed len opened slot sound is_slot absent = record {
 }
 
 -- the slot of an entry differs from one that differs from all
-differs_at : (k slot i : ℕ) (es : List Entry) (d : Entry) → AllByRecursion (λ y. nat_eq k y ≡ false) (slots_of es) → i < length es → (get_or es i d).slot ≡ slot → nat_eq k slot ≡ false
+differs_at : (k slot i : ℕ) (es : List Entry) (d : Entry) → AllByRecursion (λ y. nat_eq k y ≡ false) (slots_of es) → i < length es
+    → (get_or es i d).slot ≡ slot → nat_eq k slot ≡ false
 differs_at k slot i [] d all below is = absurd (omega (arith, below))
 differs_at k slot zero (e ∷ es) d all below is = ap (nat_eq k) (sym is) ∙ all.0
 differs_at k slot (suc i) (e ∷ es) d all below is = differs_at k slot i es d all.1 (omega (arith, below)) is
 
 -- an entry for the slot is the one that is found, as no two are for one slot
-pub found_at : (closed : List ℕ) (slot i : ℕ) (es : List Entry) (d : Entry) → IsDistinct nat_eq (slots_of es) → i < length es → (get_or es i d).slot ≡ slot
+pub found_at : (closed : List ℕ) (slot i : ℕ) (es : List Entry) (d : Entry) → IsDistinct nat_eq (slots_of es) → i < length es
+    → (get_or es i d).slot ≡ slot
     → Some (datum_in closed (get_or es i d).cell) ≡ datum_at slot (map (assigned_in closed) es)
 unfolding IsDistinct
 found_at closed slot i [] d apart below is = absurd (omega (arith, below))
@@ -175,7 +200,8 @@ found_at closed slot (suc i) (e ∷ es) d apart below is =
     rw other (found_at closed slot i es d apart.1 (omega (arith, below)) is)
 
 -- a text is put behind the closed ones, where none is opened
-pub IsSound-put : (slots : ℕ) (es : List Entry) (closed len len' : ℕ) (opened : Option ℕ) (text : List ℕ) (slot : ℕ) → IsSound slots es closed len opened → opened_at text opened ≡ None → len ≤ len' → IsSlot slots slot → IsAbsent slot (slots_of es)
+pub IsSound-put : (slots : ℕ) (es : List Entry) (closed len len' : ℕ) (opened : Option ℕ) (text : List ℕ) (slot : ℕ)
+    → IsSound slots es closed len opened → opened_at text opened ≡ None → len ≤ len' → IsSlot slots slot → IsAbsent slot (slots_of es)
     → IsSound slots (es ++ record { slot = slot; cell = cell.Text closed len' } ∷ []) len' len' opened
 IsSound-put slots es closed len len' opened text slot sound none more is_slot absent =
     let held : closed ≤ len' = omega (arith, sound.closed_held, more) in
@@ -187,9 +213,11 @@ IsSound-put slots es closed len len' opened text slot sound none more is_slot ab
       under_way = (is_slot, absent);
     } in
     rw (none_opened text opened none)
-    (IsSound-push slots es closed len' len' (Some slot) None (record { slot = slot; cell = cell.Text closed len' }) longer held (omega arith) is_slot absent (held, omega arith) refl)
+    (IsSound-push slots es closed len' len' (Some slot) None (record { slot = slot; cell = cell.Text closed len' }) longer held
+    (omega arith) is_slot absent (held, omega arith) refl)
 
 -- of more bytes that were appended at once, the first n stay
-pub front_moved : (all piece : List ℕ) (n more end : ℕ) → n ≤ more → end ≡ length all + n → take end (all ++ take more piece) ≡ all ++ take n piece
+pub front_moved : (all piece : List ℕ) (n more end : ℕ) → n ≤ more → end ≡ length all + n
+    → take end (all ++ take more piece) ≡ all ++ take n piece
 front_moved all piece n more end fewer is_end =
     rw (is_end, take-append-add all (take more piece) n, take-take n more piece fewer) refl

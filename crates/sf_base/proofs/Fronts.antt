@@ -15,7 +15,8 @@ front_passes : (test : ℕ → Bool) (x : List ℕ) → AllByRecursion (λ b. te
 front_passes test [] = tt
 front_passes test (b ∷ x) = go (test b) refl (front_passes test x)
   where
-    go : (t : Bool) → test b ≡ t → AllByRecursion (λ c. test c ≡ true) (take (prefix_len test x) x) → AllByRecursion (λ c. test c ≡ true) (take (cond t (1 + prefix_len test x) 0) (b ∷ x))
+    go : (t : Bool) → test b ≡ t → AllByRecursion (λ c. test c ≡ true) (take (prefix_len test x) x)
+        → AllByRecursion (λ c. test c ≡ true) (take (cond t (1 + prefix_len test x) 0) (b ∷ x))
     go true e h = rw (one_more (prefix_len test x)) (e, h)
       where
         one_more : (n : ℕ) → 1 + n ≡ suc n

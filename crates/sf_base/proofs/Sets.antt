@@ -48,25 +48,30 @@ IsOnly None n test = (k : ℕ) → k < n → test k ≡ false
 IsOnly (Some b) n test = (b < n) × ((k : ℕ) → k < n → test k ≡ (k == b))
 
 -- the members of a set with one member turned round
-pub LacksOnly-not : (only : Option ℕ) (had has : ℕ → Bool) → IfSome only (λ b. (k : ℕ) → k < 256 → had k ≡ (k == b)) → ((k : ℕ) → k < 256 → has k ≡ not (had k)) → LacksOnly only has
+pub LacksOnly-not : (only : Option ℕ) (had has : ℕ → Bool) → IfSome only (λ b. (k : ℕ) → k < 256 → had k ≡ (k == b))
+    → ((k : ℕ) → k < 256 → has k ≡ not (had k)) → LacksOnly only has
 LacksOnly-not None had has is turned = tt
 LacksOnly-not (Some b) had has is turned = λ k below. turned k below ∙ ap not (is k below)
 
 -- the same of the set that the words stand for
-pub lacking : (words : List ℕ) (set : List Bool) (lacks : Option ℕ) (end : ℕ) → marks_of words ≡ set → lacks ≡ Some end → LacksOnly lacks (word_has words) → (k : ℕ) → k < 256 → has_byte set k ≡ not (k == end)
+pub lacking : (words : List ℕ) (set : List Bool) (lacks : Option ℕ) (end : ℕ) → marks_of words ≡ set → lacks ≡ Some end
+    → LacksOnly lacks (word_has words) → (k : ℕ) → k < 256 → has_byte set k ≡ not (k == end)
 lacking words set lacks end held is h k below = let only = rw is at h in has_byte-held words set k held below ∙ only k below
 
 -- the longest front of such a set's members ends before that byte
-pub run_to : (test : ℕ → Bool) (end : ℕ) (x : List ℕ) → ((k : ℕ) → k < 256 → test k ≡ not (k == end)) → ((k : ℕ) → Fits w8 (get_or x k 0)) → (n : ℕ) → n ≤ length x
+pub run_to : (test : ℕ → Bool) (end : ℕ) (x : List ℕ) → ((k : ℕ) → k < 256 → test k ≡ not (k == end)) → ((k : ℕ) → Fits w8 (get_or x k 0))
+    → (n : ℕ) → n ≤ length x
     → ((k : ℕ) → k < n → (get_or x k 0 == end) ≡ true → ⊥) → (n < length x → (get_or x n 0 == end) ≡ true) → n ≡ prefix_len test x
 run_to test end x lacks fits n within before at =
-    sym (prefix_len_is test x n 0 within (λ k below. lacks (get_or x k 0) (fits k).fits ∙ other (get_or x k 0 == end) (before k below)) (λ below. lacks (get_or x n 0) (fits n).fits ∙ ap not (at below)))
+    sym (prefix_len_is test x n 0 within (λ k below. lacks (get_or x k 0) (fits k).fits ∙ other (get_or x k 0 == end) (before k below))
+    (λ below. lacks (get_or x n 0) (fits n).fits ∙ ap not (at below)))
   where
     other : (b : Bool) → (b ≡ true → ⊥) → not b ≡ true
     other true f = absurd (f refl)
     other false f = refl
 
 -- tests that agree on the bytes have the same longest front
-pub same_front : (p q : ℕ → Bool) → ((k : ℕ) → k < 256 → p k ≡ q k) → (x : List ℕ) → ((k : ℕ) → Fits w8 (get_or x k 0)) → prefix_len p x ≡ prefix_len q x
+pub same_front : (p q : ℕ → Bool) → ((k : ℕ) → k < 256 → p k ≡ q k) → (x : List ℕ) → ((k : ℕ) → Fits w8 (get_or x k 0))
+    → prefix_len p x ≡ prefix_len q x
 same_front p q same [] fits = refl
 same_front p q same (b ∷ x) fits = ap₂ (λ t n. cond t (1 + n) 0) (same b (fits 0).fits) (same_front p q same x (λ k. fits (suc k)))

@@ -4,11 +4,12 @@ ghost use Rattle.std.specs.Prelude.{◌≡◌, ◌≤◌, ◌<◌, ◌+◌, ◌+
 use std::alloc::{AllocError, Global};
 use std::marker::Model;
 
-/// How many bytes of a piece are moved at once, those of a short text and what stands after them: by a constant it takes no call.
+/// How many bytes of a piece are moved at once, those of a short text and what stands after them: by a constant it
+/// takes no call.
 pub(crate) const MOVED: usize = 16;
 
-/// Bytes, which are the first of a block. The others are of no account: they stay where bytes are taken away, so that new
-/// ones are moved over them.
+/// Bytes, which are the first of a block. The others are of no account: they stay where bytes are taken away, so that
+/// new ones are moved over them.
 #[derive(Debug, Drop)]
 pub(crate) struct Buffer {
     block: Vec<u8>,
@@ -36,8 +37,8 @@ fn move_over(bytes: &mut [u8], at: usize, piece: &[u8])
     bytes[at..at + piece.len()].copy_from_slice(piece);
 }
 
-/// How many bytes may be moved to the place: those for which there is room, or, where the block grows anyway, as many as are
-/// moved at once.
+/// How many bytes may be moved to the place: those for which there is room, or, where the block grows anyway, as many
+/// as are moved at once.
 #[inline(always)]
 fn room_at(place: usize, end: usize, capacity: usize) -> usize
     requires { place ≤ end }

@@ -49,7 +49,8 @@ impl ByteSet {
     /// Makes each byte from `lo` to `hi` a member, both among them.
     pub fn insert_range(&mut self, lo: u8, hi: u8)
         requires { lo ≤ hi }
-        ensures members { (k : ℕ) → k < 256 → has_byte self.new k ≡ ((nat_le lo k && nat_le k hi) || has_byte self.old k) }
+        ensures members { (k : ℕ) → k < 256 → has_byte self.new k
+            ≡ ((nat_le lo k && nat_le k hi) || has_byte self.old k) }
         ensures sized { length self.new ≡ 256 }
     {
         let mut words = self.words;

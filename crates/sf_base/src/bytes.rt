@@ -10,8 +10,8 @@ pub fn is_space(b: u8) -> bool
     b == 32 || (9 <= b && b <= 13)
 }
 
-/// The value of the byte as a digit of the base, which is 2 to 16, letters in either case. None if it is no digit of that
-/// base (C11 6.4.4.1).
+/// The value of the byte as a digit of the base, which is 2 to 16, letters in either case. None if it is no digit of
+/// that base (C11 6.4.4.1).
 pub fn digit_value(b: u8, base: u8) -> Option<u8>
     requires high { base ≤ 16 }
     ensures { SomeIff result (digit_value b < base) (digit_value b) }

@@ -44,7 +44,8 @@ pub(crate) fn number_of(value: Value<'_>) -> Number
     }
 }
 
-/// The value of a cell. A number is read field by field, as it was written: reads of other sizes would wait for the writes.
+/// The value of a cell. A number is read field by field, as it was written: reads of other sizes would wait for the
+/// writes.
 #[inline(always)]
 fn shown_in<'a>(cell: &Cell, closed: &'a [u8]) -> Shown<'a>
     requires { IsWithin (length closed.now) cell.now }

@@ -29,7 +29,8 @@ impl<const CAP: usize, const SLOTS: usize> Model for FixedStore<CAP, SLOTS> {
 
     ghost view = { λ s. kept_of s.entries.items s.bytes.items s.closed s.opened (CAP - length s.bytes.items) };
 
-    ghost invariant = { λ s. IsSound SLOTS s.entries.items s.closed (length s.bytes.items) s.opened × (length s.bytes.items ≤ CAP) };
+    ghost invariant = { λ s. IsSound SLOTS s.entries.items s.closed (length s.bytes.items) s.opened
+        × (length s.bytes.items ≤ CAP) };
 }
 
 impl<const CAP: usize, const SLOTS: usize> FixedStore<CAP, SLOTS> {

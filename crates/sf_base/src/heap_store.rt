@@ -32,7 +32,8 @@ impl Model for HeapStore {
 
     ghost view = { λ s. kept_of s.entries.items s.bytes.bytes s.closed s.opened (s.sure - length s.bytes.bytes) };
 
-    ghost invariant = { λ s. IsSound 32 s.entries.items s.closed (length s.bytes.bytes) s.opened × HasRoom 32 (length s.bytes.bytes) s.sure s.bytes.capacity (vec_capacity s.entries) };
+    ghost invariant = { λ s. IsSound 32 s.entries.items s.closed (length s.bytes.bytes) s.opened
+        × HasRoom 32 (length s.bytes.bytes) s.sure s.bytes.capacity (vec_capacity s.entries) };
 }
 
 impl HeapStore {
@@ -69,7 +70,8 @@ fn append(bytes: &mut Buffer, sure: &mut usize, piece: &[u8], count: usize) -> R
     requires within { count ≤ length piece.now }
     requires held { length bytes.old.bytes ≤ sure.old }
     requires fits { sure.old ≤ bytes.old.capacity }
-    ensures items { bytes.new.bytes ≡ (if is_ok result then bytes.old.bytes ++ take count piece.now else bytes.old.bytes) }
+    ensures items { bytes.new.bytes ≡ (if is_ok result then bytes.old.bytes ++ take count piece.now else
+        bytes.old.bytes) }
     ensures sure { sure.old ≤ sure.new }
     ensures same { OnErr result (sure.new ≡ sure.old) }
     ensures held { length bytes.new.bytes ≤ sure.new }

@@ -19,8 +19,8 @@ pub trait ScanInt: Sized {
         ensures { result ≡ own_kind };
 
     /// The value of a sign (true: a minus) and a magnitude. None if the type does not hold it, where C leaves open what
-    /// is stored (C11 7.21.6.2p10), or if the magnitude is above `u64::MAX`, which `overflowed` tells. A minus before an
-    /// unsigned value negates it in its type (C11 7.22.1.4p5).
+    /// is stored (C11 7.21.6.2p10), or if the magnitude is above `u64::MAX`, which `overflowed` tells. A minus before
+    /// an unsigned value negates it in its type (C11 7.22.1.4p5).
     fn from_parts(negative: bool, magnitude: u64, overflowed: bool) -> Option<Self>
         ensures { option_map integer result ≡ (if overflowed then None else value_of own_kind negative magnitude) };
 }
@@ -41,7 +41,8 @@ fn signed<T: NumCast>(negative: bool, magnitude: u64) -> Option<T>
 // the type does not hold the magnitude.
 fn unsigned<T: NumCast + WrappingNeg>(negative: bool, magnitude: u64) -> Option<T>
     ensures held { IsSome result ↔ T.fits (pos magnitude) }
-    ensures value { IfSome result (λ x. T.value x ≡ (if negative then T.wrap (neg_ℤ (pos magnitude)) else pos magnitude)) }
+    ensures value { IfSome result (λ x. T.value x ≡ (if negative then T.wrap
+        (neg_ℤ (pos magnitude)) else pos magnitude)) }
 {
     let value = cast::<u64, T>(magnitude)?;
     Some(if negative {

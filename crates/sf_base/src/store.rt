@@ -89,15 +89,16 @@ pub trait Store: Drop {
         self.set(slot, number.value());
     }
 
-    /// Gives the slot a text, the first `count` bytes of the piece: opens it, appends them and closes it. Where it is refused
-    /// the store is as before.
+    /// Gives the slot a text, the first `count` bytes of the piece: opens it, appends them and closes it. Where it is
+    /// refused the store is as before.
     fn put_text(&mut self, slot: u8, piece: &[u8], count: usize) -> Result<(), StoreFull>
         requires at_least_one { 1 ≤ slot }
         requires in_range { slot ≤ slots }
         requires absent { datum_at slot (kept self.old).values ≡ None }
         requires none_opened { (kept self.old).opened ≡ None }
         requires within { count ≤ length piece.now }
-        ensures ok { OnOk result (kept self.new ≡ with_text slot (take count piece.now) (kept self.new).room (kept self.old)) }
+        ensures ok { OnOk result (kept self.new ≡ with_text slot (take count piece.now) (kept self.new).room
+            (kept self.old)) }
         ensures room { (kept self.old).room ≤ (kept self.new).room + count }
         ensures err { OnErr result (kept self.new ≡ kept self.old) }
         ensures full { OnErr result ((kept self.old).room < count) }

@@ -50,8 +50,9 @@ impl Kind {
         Some((signed, GREATEST[self as usize]))
     }
 
-    /// The number that the kind gives a sign (true: a minus) and a magnitude. None if the kind does not hold it, where C leaves
-    /// open what is stored (C11 7.21.6.2p10); a text holds none. A minus before an unsigned number negates it in its kind (C11
+    /// The number that the kind gives a sign (true: a minus) and a magnitude. None if the kind does not hold it, where
+    /// C leaves open what is stored (C11 7.21.6.2p10); a text holds none. A minus before an unsigned number negates it
+    /// in its kind (C11
     /// 7.22.1.4p5). The number keeps a sign and a magnitude, so nothing is converted here: `Number::value` converts.
     #[inline(always)]
     pub fn number(self, negative: bool, magnitude: u64) -> Option<Number>

@@ -10,15 +10,18 @@ length-range block start end e = let l = length-drop start block in length-take-
 
 -- Bytes that are copied behind the waiting ones wait behind them.
 pub waits_behind : (block bytes : List ℕ) (start end : ℕ) → start ≤ end → end ≤ length block
-    → slice_range (take end block ++ (bytes ++ drop (end + length bytes) block)) start (end + length bytes) ≡ slice_range block start end ++ bytes
+    → slice_range (take end block ++ (bytes ++ drop (end + length bytes) block)) start (end + length bytes)
+    ≡ slice_range block start end ++ bytes
 waits_behind block bytes start end s e =
     let rest : List ℕ = drop (end + length bytes) block in
     let whole = length-take-le end block e in
     let waits : drop start (take end block) ≡ slice_range block start end =
     ap (λ (n : ℕ). drop start (take n block)) {x = end} {y = start + (end - start)} (omega arith) ∙ drop-take start (end - start) block in
     let count = length-range block start end e in
-    ap (λ (t : List ℕ). take (end + length bytes - start) t) (drop-append-le start (take end block) (bytes ++ rest) (omega arith) ∙ ap (λ (t : List ℕ). t ++ (bytes ++ rest)) waits)
-    ∙ ap (λ (n : ℕ). take n (slice_range block start end ++ (bytes ++ rest))) {x = end + length bytes - start} {y = length (slice_range block start end) + length bytes} (omega arith)
+    ap (λ (t : List ℕ). take (end + length bytes - start) t) (drop-append-le start (take end block) (bytes ++ rest) (omega arith)
+    ∙ ap (λ (t : List ℕ). t ++ (bytes ++ rest)) waits)
+    ∙ ap (λ (n : ℕ). take n (slice_range block start end ++ (bytes ++ rest))) {x = end + length bytes - start}
+    {y = length (slice_range block start end) + length bytes} (omega arith)
     ∙ take-append-add (slice_range block start end) (bytes ++ rest) (length bytes)
     ∙ ap (λ (t : List ℕ). slice_range block start end ++ t) (take-append_seam bytes rest)
 
@@ -34,19 +37,23 @@ others_wait block start end n s e most =
     ∙ ap (λ (t : List ℕ). take (end - (start + n)) t) (drop-drop n start block))
 
 -- What is known of the bytes stays, where a writer takes a front of those that wait.
-pub kept_on : (k old new : Option (List ℕ)) (waiting front rest : List ℕ) → waiting ≡ front ++ rest → Keeps k (append_known old waiting) → Appends old new front → Keeps k (append_known new rest)
+pub kept_on : (k old new : Option (List ℕ)) (waiting front rest : List ℕ) → waiting ≡ front ++ rest → Keeps k (append_known old waiting)
+    → Appends old new front → Keeps k (append_known new rest)
 kept_on None old new waiting front rest cut kept took = tt
 kept_on (Some k) None new waiting front rest cut kept took = absurd kept
 kept_on (Some k) (Some old) None waiting front rest cut kept took = absurd took
-kept_on (Some k) (Some old) (Some new) waiting front rest cut kept took = ap (λ (t : List ℕ). t ++ rest) took ∙ append_assoc old front rest ∙ ap (λ (t : List ℕ). old ++ t) (sym cut) ∙ kept
+kept_on (Some k) (Some old) (Some new) waiting front rest cut kept took =
+    ap (λ (t : List ℕ). t ++ rest) took ∙ append_assoc old front rest ∙ ap (λ (t : List ℕ). old ++ t) (sym cut) ∙ kept
 
 -- What is known of the bytes, with more behind it.
-pub waits_too : (old : Option (List ℕ)) (waiting bytes now : List ℕ) → now ≡ waiting ++ bytes → Appends (append_known old waiting) (append_known old now) bytes
+pub waits_too : (old : Option (List ℕ)) (waiting bytes now : List ℕ) → now ≡ waiting ++ bytes
+    → Appends (append_known old waiting) (append_known old now) bytes
 waits_too None waiting bytes now more = tt
 waits_too (Some old) waiting bytes now more = ap (λ (t : List ℕ). old ++ t) more ∙ sym (append_assoc old waiting bytes)
 
 -- A block in which bytes were written over others has its length.
-pub length-over : (block bytes : List ℕ) (at : ℕ) → at + length bytes ≤ length block → length (take at block ++ (bytes ++ drop (at + length bytes) block)) ≡ length block
+pub length-over : (block bytes : List ℕ) (at : ℕ) → at + length bytes ≤ length block
+    → length (take at block ++ (bytes ++ drop (at + length bytes) block)) ≡ length block
 length-over block bytes at fits =
     let rest : List ℕ = drop (at + length bytes) block in
     let a = length-take-le at block (omega arith) in
@@ -56,9 +63,11 @@ length-over block bytes at fits =
     omega arith
 
 -- Where nothing is held back and nothing waits, the bytes are the writer's.
-pub writer_has_all : (known given : Option (List ℕ)) (held : List ℕ) → known ≡ given → held ≡ [] → append_known (append_known known held) [] ≡ given
+pub writer_has_all : (known given : Option (List ℕ)) (held : List ℕ) → known ≡ given → held ≡ []
+    → append_known (append_known known held) [] ≡ given
 writer_has_all None given held same none = same
-writer_has_all (Some known) given held same none = ap (λ (t : List ℕ). Some t) (append-nil (known ++ held) ∙ ap (λ (t : List ℕ). known ++ t) none ∙ append-nil known) ∙ same
+writer_has_all (Some known) given held same none = ap (λ (t : List ℕ). Some t)
+    (append-nil (known ++ held) ∙ ap (λ (t : List ℕ). known ++ t) none ∙ append-nil known) ∙ same
 
 -- What is known of the bytes stayed, and then more came.
 pub keeps_then : (old mid new : Option (List ℕ)) (bytes : List ℕ) → Keeps old mid → Appends mid new bytes → Appends old new bytes

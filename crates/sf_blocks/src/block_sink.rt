@@ -138,8 +138,8 @@ impl<W: Write + Drop> BlockSink<W> {
         Ok(())
     }
 
-    /// Hands on all bytes that are held back: then none waits, and the writer has all that was taken. Where it fails, no byte
-    /// is lost, and the sink remembers it.
+    /// Hands on all bytes that are held back: then none waits, and the writer has all that was taken. Where it fails,
+    /// no byte is lost, and the sink remembers it.
     pub fn flush(&mut self) -> Result<(), SinkFault>
         ensures contents { Keeps (taken_by self.old) (taken_by self.new) }
         ensures all { OnOk result (taken_by self.new ≡ W.contents (writer_of self.new)) }
@@ -175,8 +175,8 @@ impl<W: Write + Drop> BlockSink<W> {
         true
     }
 
-    /// Hands on the block, and then takes the bytes, or some: into the block where they have room there, and else to the
-    /// writer. No bytes are taken at once.
+    /// Hands on the block, and then takes the bytes, or some: into the block where they have room there, and else to
+    /// the writer. No bytes are taken at once.
     #[inline(never)]
     fn take_behind(&mut self, bytes: &[u8]) -> Result<usize, SinkFault>
         ensures most { WritesAtMost result bytes.now }

@@ -1,4 +1,5 @@
-//! Sinks over the streams of a program: one that hands its bytes on in blocks, for many short texts, and one that doesn't.
+//! Sinks over the streams of a program: one that hands its bytes on in blocks, for many short texts, and one that
+//! doesn't.
 #![tactic(auto)]
 
 mod block_sink;

@@ -18,7 +18,8 @@ unfolding limb_weight
 weight-add i k = pow-add 1000000000 i k
 
 -- the limbs below i, that one, and those above
-parted : (xs : List ℕ) (i k : ℕ) → (h : ℕ) × (value_below xs (i + 1 + k) ≡ value_below xs i + get_or xs i 0 * limb_weight i + h * (limb_weight i * 1000000000))
+parted : (xs : List ℕ) (i k : ℕ) → (h : ℕ) × (value_below xs (i + 1 + k)
+    ≡ value_below xs i + get_or xs i 0 * limb_weight i + h * (limb_weight i * 1000000000))
 parted xs i zero =
     let e : i + 1 + 0 ≡ i + 1 = omega arith in
     (0, ap (value_below xs) e ∙ omega (arith, value_below-suc xs i))
@@ -26,7 +27,8 @@ parted xs i (suc k) =
     let r = parted xs i k in
     let n = i + 1 + k in
     let e : i + 1 + suc k ≡ n + 1 = omega arith in
-    let w : limb_weight n ≡ limb_weight i * 1000000000 * limb_weight k = weight-add (i + 1) k ∙ ap (λ t. t * limb_weight k) (limb_weight-suc i) in (
+    let w : limb_weight n ≡ limb_weight i * 1000000000 * limb_weight k =
+    weight-add (i + 1) k ∙ ap (λ t. t * limb_weight k) (limb_weight-suc i) in (
       r.0 + get_or xs n 0 * limb_weight k,
       ap (value_below xs) e ∙ omega (arith, value_below-suc xs n, r.1, ap (λ t. get_or xs n 0 * t) w),
     )
@@ -50,14 +52,16 @@ digit_of_parts low x h w t l s =
     ∙ ap (λ k. k / 10 ^ t % 10) (div-mul-add (x + h * 1000000000) w low l)
     ∙ digit_in x h t s
 
-pub digit_is : (xs : List ℕ) (len n : ℕ) → AreZeroFrom xs len → AreNines xs → get_or xs (n / 9) 0 / 10 ^ (n % 9) % 10 ≡ value_below xs len / 10 ^ n % 10
+pub digit_is : (xs : List ℕ) (len n : ℕ) → AreZeroFrom xs len → AreNines xs
+    → get_or xs (n / 9) 0 / 10 ^ (n % 9) % 10 ≡ value_below xs len / 10 ^ n % 10
 digit_is xs len n z h =
     let i = n / 9 in
     let t = n % 9 in
     let r = parted xs i len in
     let whole : value_below xs (i + 1 + len) ≡ value_below xs len = value_below_zeros xs len (i + 1 + len) z (omega arith) in
     let split : i * 9 + t ≡ n = div-add-mod' n 9 in
-    let p : 10 ^ n ≡ limb_weight i * 10 ^ t = ap (λ k. 10 ^ k) (sym split) ∙ pow-add 10 (i * 9) t ∙ ap (λ k. k * 10 ^ t) (sym (weight_is i)) in
+    let p : 10 ^ n ≡ limb_weight i * 10 ^ t = ap (λ k. 10 ^ k) (sym split) ∙ pow-add 10 (i * 9) t
+    ∙ ap (λ k. k * 10 ^ t) (sym (weight_is i)) in
     sym (digit_of_parts (value_below xs i) (get_or xs i 0) r.0 (limb_weight i) t (value_below-lt xs i h) (mod-lt n (lit< tt)))
     ∙ (λ j. sym r.1 j / (sym p j) % 10)
     ∙ ap (λ k. k / 10 ^ n % 10) whole
@@ -79,11 +83,13 @@ count_below xs i d p h l =
     let v : value_below xs i ≡ value_below xs (i - 1) + get_or xs (i - 1) 0 * w = rw e at (value_below-suc xs (i - 1)) in
     omega (arith, s, v, value_below-lt xs (i - 1) h, mul-le-mul_left w l)
 
-pub count_from : (xs : List ℕ) (i d : ℕ) → 0 < i → 0 < d → 10 ^ (d - 1) ≤ get_or xs (i - 1) 0 → 10 ^ ((i - 1) * 9 + d - 1) ≤ value_below xs i
+pub count_from : (xs : List ℕ) (i d : ℕ) → 0 < i → 0 < d → 10 ^ (d - 1) ≤ get_or xs (i - 1) 0
+    → 10 ^ ((i - 1) * 9 + d - 1) ≤ value_below xs i
 count_from xs i d p q l =
     let e : i - 1 + 1 ≡ i = omega arith in
     let w = limb_weight (i - 1) in
     let f : (i - 1) * 9 + d - 1 ≡ (i - 1) * 9 + (d - 1) = omega arith in
-    let s : 10 ^ ((i - 1) * 9 + d - 1) ≡ w * 10 ^ (d - 1) = ap (λ t. 10 ^ t) f ∙ pow-add 10 ((i - 1) * 9) (d - 1) ∙ ap (λ t. t * 10 ^ (d - 1)) (sym (weight_is (i - 1))) in
+    let s : 10 ^ ((i - 1) * 9 + d - 1) ≡ w * 10 ^ (d - 1) = ap (λ t. 10 ^ t) f ∙ pow-add 10 ((i - 1) * 9) (d - 1)
+    ∙ ap (λ t. t * 10 ^ (d - 1)) (sym (weight_is (i - 1))) in
     let v : value_below xs i ≡ value_below xs (i - 1) + get_or xs (i - 1) 0 * w = rw e at (value_below-suc xs (i - 1)) in
     omega (arith, s, v, mul-le-mul_left w l)

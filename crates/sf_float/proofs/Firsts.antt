@@ -13,7 +13,8 @@ use Rattle.sf_float.proofs.Limbs.{power_pos}
 use Rattle.sf_float.proofs.Values.{fixed_room}
 use Rattle.sf_float.proofs.Powers.{at_least, at_most, closest_ge, closest_le, tenth_up, tenth_down}
 
-module _ (x : Float) (X D d p : ℕ) (P : 0 < D) (some : 0 < d) (at : (i j : ℕ) → scaled x i j ≡ closest (X * 10 ^ i) (D * 10 ^ j)) (from : 10 ^ p * D ≤ 10 ^ 400 * X) (below : 10 ^ 400 * X < 2 * 10 ^ (p + 1) * D) where
+module _ (x : Float) (X D d p : ℕ) (P : 0 < D) (some : 0 < d) (at : (i j : ℕ) → scaled x i j ≡ closest (X * 10 ^ i) (D * 10 ^ j))
+    (from : 10 ^ p * D ≤ 10 ^ 400 * X) (below : 10 ^ 400 * X < 2 * 10 ^ (p + 1) * D) where
   step : (j : ℕ) → 0 < D * 10 ^ j
   step j = mul-pos P (power_pos 10 j (lit< tt))
 
@@ -23,7 +24,8 @@ module _ (x : Float) (X D d p : ℕ) (P : 0 < D) (some : 0 < d) (at : (i j : ℕ
       let j = q - (d + 399) in
       let e : i + (q + 1) ≡ 400 + (d + j) = omega arith in
       let a : 10 ^ (q + 1) ≤ 10 ^ p = pow-le-pow_right (lit< tt) (omega arith) in
-      rw (at i j) (closest_ge (10 ^ d) (X * 10 ^ i) (D * 10 ^ j) (step j) (at_least (10 ^ 400) X D i j d (q + 1) refl e (le_trans (mul-le-mul_right D a) from)))
+      rw (at i j) (closest_ge (10 ^ d) (X * 10 ^ i) (D * 10 ^ j) (step j)
+      (at_least (10 ^ 400) X D i j d (q + 1) refl e (le_trans (mul-le-mul_right D a) from)))
 
   full : 10 ^ (d - 1) ≤ scaled_at x d p
   full =
@@ -73,7 +75,11 @@ module _ (x : Float) (X D d p : ℕ) (P : 0 < D) (some : 0 < d) (at : (i j : ℕ
         is = e;
         fits = rw e next_fits;
         full = rw e (next_full many);
-        least = λ q l. elim (eq-zero-or-pos (p - q)) [ inl z ↦ (let s : p ≡ q = omega arith in subst (λ k. 10 ^ d ≤ scaled_at x d k) s many) | inr k ↦ less q (omega arith) ];
+        least = λ q l. elim (eq-zero-or-pos (p - q)) [
+          | inl z ↦ (let s : p ≡ q = omega arith in
+              subst (λ k. 10 ^ d ≤ scaled_at x d k) s many)
+          | inr k ↦ less q (omega arith)
+        ];
       }
 
 -- ---- room
@@ -82,7 +88,8 @@ most : 4 * 10 ^ 256 * 2 ^ 1074 < limb_weight 65
 unfolding limb_weight
 most = lit< tt
 
-pub scaled_room : (m u v i j d q : ℕ) → m < 2 ^ 53 → u < 972 → v ≤ 1074 → d ≤ 256 → (0 < i → j ≡ 0) → i + q ≡ 400 + (d + j) → 10 ^ 400 * (m * 2 ^ u) < 2 * 10 ^ q * 2 ^ v → m * 2 ^ (u + 1) * 10 ^ i < limb_weight 65
+pub scaled_room : (m u v i j d q : ℕ) → m < 2 ^ 53 → u < 972 → v ≤ 1074 → d ≤ 256 → (0 < i → j ≡ 0) → i + q ≡ 400 + (d + j)
+    → 10 ^ 400 * (m * 2 ^ u) < 2 * 10 ^ q * 2 ^ v → m * 2 ^ (u + 1) * 10 ^ i < limb_weight 65
 scaled_room m u v i j d q M U V N one e h =
     elim (eq-zero-or-pos i) [
       | inl z ↦ rw z (fixed_room m u 0 M U (omega arith))

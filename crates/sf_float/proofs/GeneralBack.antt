@@ -25,8 +25,10 @@ use Rattle.sf_float.proofs.TextLaws.{finite_of, sign_is, enough, fixed_all, fixe
 use Rattle.sf_float.proofs.Values.{at_pattern}
 
 -- the parts stand for more than 2 ^ 53 steps of x, rounded
-pub text_back : (x : Float) (p : Parts) (i j : ℕ) → T (fits binary64 x) → is_nonzero x → IsWellFormed p → 0 < length p.whole → 2 ^ 53 < scaled x i j
-    → numeral_digits p * 10 ^ tens_up p * 10 ^ i ≡ scaled x i j * 10 ^ j * 10 ^ tens_down p → parse_float binary64 (sign_text (is_sign_negative x) ++ text_with true p) ≡ Some x
+pub text_back : (x : Float) (p : Parts) (i j : ℕ) → T (fits binary64 x) → is_nonzero x → IsWellFormed p → 0 < length p.whole
+    → 2 ^ 53 < scaled x i j
+    → numeral_digits p * 10 ^ tens_up p * 10 ^ i ≡ scaled x i j * 10 ^ j * 10 ^ tens_down p
+    → parse_float binary64 (sign_text (is_sign_negative x) ++ text_with true p) ≡ Some x
 text_back x p i j f some formed whole many same_worth =
     let raw = to_bits binary64 x in
     let finite = finite_of x some in
@@ -36,7 +38,8 @@ text_back x p i j f some formed whole many same_worth =
     let bound = split.finite.0 finite in
     let read = parse_float-text_with binary64 negative p formed whole in
     let same : nearest_float binary64 negative p ≡ x =
-    round_same binary64 negative _ _ (scaled x i j * 10 ^ j) (10 ^ i) (power_pos 10 (tens_down p) (lit< tt)) (power_pos 10 i (lit< tt)) same_worth
+    round_same binary64 negative _ _ (scaled x i j * 10 ^ j) (10 ^ i) (power_pos 10 (tens_down p) (lit< tt))
+    (power_pos 10 i (lit< tt)) same_worth
     ∙ reads_back binary64 x negative bits i j split bound many in
     let sign : negative ≡ is_sign_negative x = sign_is x (of_bits binary64 bits) negative _ _ split.same (at_pattern bits bound) in
     ap (λ b. parse_float binary64 (sign_text b ++ text_with true p)) (sym sign) ∙ read ∙ ap Some same
@@ -78,8 +81,10 @@ plain_worth alt kept m count decimals n h l e =
 
 -- ---- the style of `%e`
 
-raised_worth : (alt : Bool) (kept m power digits n : ℕ) → m < 10 ^ (kept + 1) → power < 1000 → kept + 1 ≤ digits → n ≡ m * 10 ^ (digits - 1 - kept)
-    → let p = scientific alt kept m power in numeral_digits p * 10 ^ tens_up p * 10 ^ (digits + 399 - power) ≡ n * 10 ^ (power - (digits + 399)) * 10 ^ tens_down p
+raised_worth : (alt : Bool) (kept m power digits n : ℕ) → m < 10 ^ (kept + 1) → power < 1000 → kept + 1 ≤ digits
+    → n ≡ m * 10 ^ (digits - 1 - kept)
+    → let p = scientific alt kept m power in numeral_digits p * 10 ^ tens_up p * 10 ^ (digits + 399 - power)
+    ≡ n * 10 ^ (power - (digits + 399)) * 10 ^ tens_down p
 raised_worth alt kept m power digits n h few l e =
     let p = scientific alt kept m power in
     let a = numeral_digits p * 10 ^ tens_up p in
@@ -89,7 +94,8 @@ raised_worth alt kept m power digits n h few l e =
     let q = power - (kept + 1 + 399) in
     let w = digits - 1 - kept in
     let s : q + i ≡ w + (j + k) = omega arith in
-    let t : 10 ^ q * 10 ^ i ≡ 10 ^ w * (10 ^ j * 10 ^ k) = sym (pow-add 10 q i) ∙ ap (λ x. 10 ^ x) s ∙ pow-add 10 w (j + k) ∙ ap (λ x. 10 ^ w * x) (pow-add 10 j k) in
+    let t : 10 ^ q * 10 ^ i ≡ 10 ^ w * (10 ^ j * 10 ^ k) = sym (pow-add 10 q i) ∙ ap (λ x. 10 ^ x) s ∙ pow-add 10 w (j + k)
+    ∙ ap (λ x. 10 ^ w * x) (pow-add 10 j k) in
     let b : a * 10 ^ k ≡ m * 10 ^ q * 10 ^ tens_down p = worth alt kept m power k q h few refl refl in
     eq_of_mul-eq-mul_right (10 ^ k) (power_pos 10 k (lit< tt)) (a * 10 ^ i) (n * 10 ^ j * 10 ^ tens_down p)
     (joined a m n (10 ^ tens_down p) (10 ^ i) (10 ^ j) (10 ^ k) (10 ^ q) (10 ^ w) b t e)
@@ -99,7 +105,8 @@ raised_worth alt kept m power digits n h few l e =
 
 -- ---- both
 
-module _ (x : Float) (digits n power : ℕ) (f : T (fits binary64 x)) (some : is_nonzero x) (many : 17 ≤ digits) (few : power < 1000) (s : IsSignificant x digits n power) where
+module _ (x : Float) (digits n power : ℕ) (f : T (fits binary64 x)) (some : is_nonzero x) (many : 17 ≤ digits) (few : power < 1000)
+    (s : IsSignificant x digits n power) where
   long : 2 ^ 53 < n
   long = let l : 16 ≤ digits - 1 = omega arith in lt_of_lt_of_le enough (le_trans (pow-le-pow_right (lit< tt) l) s.full)
 
@@ -111,12 +118,14 @@ module _ (x : Float) (digits n power : ℕ) (f : T (fits binary64 x)) (some : is
       let p : 10 ^ digits ≡ 10 ^ (kept + 1) * 10 ^ (digits - 1 - kept) = ap (λ t. 10 ^ t) e ∙ pow-add 10 (kept + 1) (digits - 1 - kept) in
       lt_of_mul-lt-mul_right (10 ^ (digits - 1 - kept)) (omega (arith, k.same, p, s.fits))
 
-  raised : (alt : Bool) (kept m : ℕ) → IsShortened 10 alt (digits - 1) n kept m → parse_float binary64 (sign_text (is_sign_negative x) ++ text_with true (scientific alt kept m power)) ≡ Some x
+  raised : (alt : Bool) (kept m : ℕ) → IsShortened 10 alt (digits - 1) n kept m
+      → parse_float binary64 (sign_text (is_sign_negative x) ++ text_with true (scientific alt kept m power)) ≡ Some x
   raised alt kept m k =
       let less : kept ≤ digits - 1 = k.fewer in
       let w = raised_worth alt kept m power digits n (short alt kept m k) few (omega arith) k.same in
       let p = scientific alt kept m power in
-      text_back x p (digits + 399 - power) (power - (digits + 399)) f some (well_formed alt kept m power) (lit< tt) (subst (λ t. 2 ^ 53 < t) s.is long)
+      text_back x p (digits + 399 - power) (power - (digits + 399)) f some (well_formed alt kept m power) (lit< tt)
+      (subst (λ t. 2 ^ 53 < t) s.is long)
       (w ∙ ap (λ t. t * 10 ^ (power - (digits + 399)) * 10 ^ tens_down p) s.is)
 
   plain : (alt : Bool) (kept m count : ℕ) → power < 400 + digits → IsShortened 10 alt (digits + 399 - power) n kept m → IsCount kept m count
@@ -129,13 +138,16 @@ module _ (x : Float) (digits n power : ℕ) (f : T (fits binary64 x)) (some : is
       let w = plain_worth alt kept m count i n c.fits k.fewer k.same in
       let some_digits : 0 < length (fixed_digits count (m / 10 ^ kept)) = omega (arith, fixed_length count (m / 10 ^ kept), c.some) in
       ap (λ t. parse_float binary64 (sign_text (is_sign_negative x) ++ t)) (plain_text alt kept m count)
-      ∙ text_back x p i 0 f some (plain_formed alt kept m count) some_digits (subst (λ t. 2 ^ 53 < t) is long) (w ∙ ap (λ t. t * 10 ^ 0 * 10 ^ tens_down p) is)
+      ∙ text_back x p i 0 f some (plain_formed alt kept m count) some_digits (subst (λ t. 2 ^ 53 < t) is long)
+      (w ∙ ap (λ t. t * 10 ^ 0 * 10 ^ tens_down p) is)
 
 pub general_back : GeneralReadsBack
 general_back x alt digits n power t f some many few s (inl g) =
-    ap (λ u. parse_float binary64 (sign_text (is_sign_negative x) ++ u)) g.1.5 ∙ plain x digits n power f some many few s alt g.1.0 g.1.1 g.1.2 g.0.1 g.1.3 g.1.4
+    ap (λ u. parse_float binary64 (sign_text (is_sign_negative x) ++ u)) g.1.5
+    ∙ plain x digits n power f some many few s alt g.1.0 g.1.1 g.1.2 g.0.1 g.1.3 g.1.4
 general_back x alt digits n power t f some many few s (inr g) =
-    ap (λ u. parse_float binary64 (sign_text (is_sign_negative x) ++ u)) g.1.3 ∙ raised x digits n power f some many few s alt g.1.0 g.1.1 g.1.2
+    ap (λ u. parse_float binary64 (sign_text (is_sign_negative x) ++ u)) g.1.3
+    ∙ raised x digits n power f some many few s alt g.1.0 g.1.1 g.1.2
 
 -- ---- zero
 
@@ -150,8 +162,10 @@ general_zero negative alt digits t D (inl g) =
     let count = g.1.2 in
     let c = g.1.4 in
     let p = plain_parts alt kept m count in
-    let none : numeral_digits p * 10 ^ tens_up p ≡ 0 = ap (λ k. k * 10 ^ tens_up p) (plain_digits alt kept m count c.fits ∙ none_left m (digits + 399 - 400 - kept) g.1.3.same) ∙ zero-mul (10 ^ tens_up p) in
+    let none : numeral_digits p * 10 ^ tens_up p ≡ 0 = ap (λ k. k * 10 ^ tens_up p)
+    (plain_digits alt kept m count c.fits ∙ none_left m (digits + 399 - 400 - kept) g.1.3.same) ∙ zero-mul (10 ^ tens_up p) in
     let some : 0 < length (fixed_digits count (m / 10 ^ kept)) = omega (arith, fixed_length count (m / 10 ^ kept), c.some) in
     ap (λ u. parse_float binary64 (sign_text negative ++ u)) (g.1.5 ∙ plain_text alt kept m count)
     ∙ parse_float-text_with binary64 negative p (plain_formed alt kept m count) some
-    ∙ ap Some (ap (λ k. round binary64 negative k (10 ^ tens_down p)) none ∙ zero_round negative (10 ^ tens_down p) (power_pos 10 (tens_down p) (lit< tt)))
+    ∙ ap Some (ap (λ k. round binary64 negative k (10 ^ tens_down p)) none
+    ∙ zero_round negative (10 ^ tens_down p) (power_pos 10 (tens_down p) (lit< tt)))

@@ -15,7 +15,8 @@ zero_scaled (inf s) i j h = absurd h
 zero_scaled (fin s m e) i j h =
     let u = down e * 10 ^ j in
     let v : m * up e * 10 ^ i ≡ 0 = ap (λ t. t * up e * 10 ^ i) h ∙ omega arith in
-    let l : closest (m * up e * 10 ^ i) u ≤ 0 = closest_le 0 (m * up e * 10 ^ i) u (mul-pos (down_pos e) (power_pos 10 j (lit< tt))) (omega arith) in
+    let l : closest (m * up e * 10 ^ i) u ≤ 0 = closest_le 0 (m * up e * 10 ^ i) u (mul-pos (down_pos e) (power_pos 10 j (lit< tt)))
+    (omega arith) in
     omega arith
 
 pub plain_is_fixed : PlainIsFixed

@@ -20,11 +20,13 @@ sixteens (suc k) =
     ap (λ t. 2 ^ t) e ∙ pow-add 2 (4 * k) 4 ∙ ap (λ t. t * 16) (sixteens k) ∙ sym (pow-suc 16 k)
 
 -- one digit more
-pub grown : (v f k : ℕ) → 0 < k → k ≤ f → hex_digits (f - k) (v / 16 ^ k) ++ hex_digit (v / 16 ^ (k - 1) % 16) ∷ [] ≡ hex_digits (f - (k - 1)) (v / 16 ^ (k - 1))
+pub grown : (v f k : ℕ) → 0 < k → k ≤ f → hex_digits (f - k) (v / 16 ^ k) ++ hex_digit (v / 16 ^ (k - 1) % 16) ∷ []
+    ≡ hex_digits (f - (k - 1)) (v / 16 ^ (k - 1))
 grown v f k p l =
     let e : f - (k - 1) ≡ suc (f - k) = omega arith in
     let s : k ≡ suc (k - 1) = omega arith in
-    let d : v / 16 ^ k ≡ v / 16 ^ (k - 1) / 16 = ap (λ t. v / t) (ap (λ t. 16 ^ t) s ∙ pow-suc 16 (k - 1)) ∙ sym (div-div-eq-div-mul v (16 ^ (k - 1)) 16) in
+    let d : v / 16 ^ k ≡ v / 16 ^ (k - 1) / 16 = ap (λ t. v / t) (ap (λ t. 16 ^ t) s ∙ pow-suc 16 (k - 1))
+    ∙ sym (div-div-eq-div-mul v (16 ^ (k - 1)) 16) in
     ap (λ t. hex_digits (f - k) t ++ hex_digit (v / 16 ^ (k - 1) % 16) ∷ []) d ∙ ap (λ t. hex_digits t (v / 16 ^ (k - 1))) (sym e)
 
 -- zeros after the digits
@@ -51,8 +53,10 @@ hex_with_zeros k (suc w) m =
 pub few_digits : (m d : ℕ) → d ≤ 13 → closest m (2 ^ (52 - 4 * d)) ≡ closest (m * 16 ^ d) (2 ^ 52)
 few_digits m d h =
     let e : 4 * d + (52 - 4 * d) ≡ 52 = omega arith in
-    let p : 16 ^ d * 2 ^ (52 - 4 * d) ≡ 2 ^ 52 = ap (λ t. t * 2 ^ (52 - 4 * d)) (sym (sixteens d)) ∙ sym (pow-add 2 (4 * d) (52 - 4 * d)) ∙ ap (λ t. 2 ^ t) e in
-    closest_same m (2 ^ (52 - 4 * d)) (m * 16 ^ d) (2 ^ 52) (pow_pos (52 - 4 * d)) (pow_pos 52) (ap (λ t. m * t) (sym p) ∙ regroup m (16 ^ d) (2 ^ (52 - 4 * d)))
+    let p : 16 ^ d * 2 ^ (52 - 4 * d) ≡ 2 ^ 52 = ap (λ t. t * 2 ^ (52 - 4 * d)) (sym (sixteens d)) ∙ sym (pow-add 2 (4 * d) (52 - 4 * d))
+    ∙ ap (λ t. 2 ^ t) e in
+    closest_same m (2 ^ (52 - 4 * d)) (m * 16 ^ d) (2 ^ 52) (pow_pos (52 - 4 * d)) (pow_pos 52)
+    (ap (λ t. m * t) (sym p) ∙ regroup m (16 ^ d) (2 ^ (52 - 4 * d)))
   where
     regroup : (x y w : ℕ) → x * (y * w) ≡ x * y * w
     regroup x y w = omega arith
@@ -65,7 +69,8 @@ pub many_digits : (m d : ℕ) → 13 ≤ d → m * 16 ^ (d - 13) ≡ closest (m 
 many_digits m d h =
     let e : d ≡ d - 13 + 13 = omega arith in
     let p : 16 ^ d ≡ 16 ^ (d - 13) * 2 ^ 52 = ap (λ t. 16 ^ t) e ∙ pow-add 16 (d - 13) 13 in
-    sym (closest_whole (m * 16 ^ (d - 13)) (2 ^ 52) (pow_pos 52)) ∙ ap (λ t. closest t (2 ^ 52)) (regroup m (16 ^ (d - 13)) (2 ^ 52) ∙ ap (λ t. m * t) (sym p))
+    sym (closest_whole (m * 16 ^ (d - 13)) (2 ^ 52) (pow_pos 52))
+    ∙ ap (λ t. closest t (2 ^ 52)) (regroup m (16 ^ (d - 13)) (2 ^ 52) ∙ ap (λ t. m * t) (sym p))
   where
     regroup : (x y w : ℕ) → x * y * w ≡ x * (y * w)
     regroup x y w = omega arith
@@ -86,6 +91,7 @@ value_neg nan a c h = h
 value_neg (inf s) a c h = h
 value_neg (fin s m e) a c h = (ap not h.0, h.1)
 
-pub value_of_size : (f : Format) (x : Float) (negative : Bool) (bits a c : ℕ) → IsSignAndSize f x negative bits → HasValue (of_bits f bits) false a c → HasValue x negative a c
+pub value_of_size : (f : Format) (x : Float) (negative : Bool) (bits a c : ℕ) → IsSignAndSize f x negative bits
+    → HasValue (of_bits f bits) false a c → HasValue x negative a c
 value_of_size f x true bits a c p h = subst (λ y. HasValue y true a c) p.same (value_neg (of_bits f bits) a c h)
 value_of_size f x false bits a c p h = subst (λ y. HasValue y false a c) p.same h

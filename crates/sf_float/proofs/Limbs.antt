@@ -30,20 +30,27 @@ value_below_same xs ys (suc n) h = λ j. value_below_same xs ys n (λ i l. h i (
 pub value_below-set : (xs : List ℕ) (i v : ℕ) → i < length xs → value_below (set xs i v) (i + 1) ≡ value_below xs i + v * limb_weight i
 value_below-set xs i v h =
     value_below-suc (set xs i v) i
-    ∙ (λ j. value_below_same (set xs i v) xs i (λ k l. get_or-set_other xs i k v 0 (λ e. omega arith)) j + get_or-set_same xs i v 0 h j * limb_weight i)
+    ∙ (λ j. value_below_same (set xs i v) xs i (λ k l. get_or-set_other xs i k v 0 (λ e. omega arith)) j + get_or-set_same xs i v 0 h j *
+    limb_weight i)
 
 -- a limb that is changed, among n
-pub value_below-set_at : (xs : List ℕ) (i v n : ℕ) → i < length xs → i < n → value_below (set xs i v) n + get_or xs i 0 * limb_weight i ≡ value_below xs n + v * limb_weight i
+pub value_below-set_at : (xs : List ℕ) (i v n : ℕ) → i < length xs → i < n
+    → value_below (set xs i v) n + get_or xs i 0 * limb_weight i ≡ value_below xs n + v * limb_weight i
 unfolding value_below
 value_below-set_at xs i v zero h l = absurd (omega arith)
 value_below-set_at xs i v (suc n) h l =
     elim (eq-zero-or-pos (n - i)) [
       | inl z ↦
           let e : n ≡ i = omega arith in
-          let below : value_below (set xs i v) i ≡ value_below xs i = value_below_same (set xs i v) xs i (λ k m. get_or-set_other xs i k v 0 (λ q. omega arith)) in
+          let below : value_below (set xs i v) i ≡ value_below xs i =
+          value_below_same (set xs i v) xs i (λ k m. get_or-set_other xs i k v 0 (λ q. omega arith)) in
           rw e (omega (arith, below, ap (λ t. t * limb_weight i) (get_or-set_same xs i v 0 h)))
       | inr p ↦
-          omega (arith, value_below-set_at xs i v n h (omega arith), ap (λ t. t * limb_weight n) (get_or-set_other xs i n v 0 (λ q. omega arith)))
+          omega (
+            arith,
+            value_below-set_at xs i v n h (omega arith),
+            ap (λ t. t * limb_weight n) (get_or-set_other xs i n v 0 (λ q. omega arith)),
+          )
     ]
 
 pub value_below-lt : (xs : List ℕ) (n : ℕ) → AreNines xs → value_below xs n < limb_weight n
@@ -110,7 +117,8 @@ zero_from-set xs n v z i h = get_or-set_other xs n i v 0 (λ e. omega arith) ∙
 
 -- limbs without their last, which is 0
 pub value_below_short : (xs : List ℕ) (n : ℕ) → 0 < n → get_or xs (n - 1) 0 ≡ 0 → value_below xs n ≡ value_below xs (n - 1)
-value_below_short xs n p z = let e : n - 1 + 1 ≡ n = omega arith in omega (arith, rw e at (value_below-suc xs (n - 1)), ap (λ t. t * limb_weight (n - 1)) z)
+value_below_short xs n p z = let e : n - 1 + 1 ≡ n = omega arith in
+    omega (arith, rw e at (value_below-suc xs (n - 1)), ap (λ t. t * limb_weight (n - 1)) z)
 
 pub zero_from_short : (xs : List ℕ) (n : ℕ) → get_or xs (n - 1) 0 ≡ 0 → AreZeroFrom xs n → AreZeroFrom xs (n - 1)
 zero_from_short xs n z h i l =

@@ -48,7 +48,12 @@ module _ (t r up down m w s g h : ℕ) (e : t + down ≡ r + up + 1074) (W : 2 ^
 
   pub size_from : g * w ≤ s * 2 ^ t → 2 ^ r ≤ m → g * 2 ^ down ≤ s * (m * 2 ^ up)
   size_from a b =
-      le_of_mul-le-mul_right {k = w} (omega (arith, mul-le-mul_right (2 ^ down) a, ap (λ k. s * k) split, mul-le-mul_left s (mul-le-mul_right (2 ^ up * w) b))) P
+      le_of_mul-le-mul_right {k = w} (omega (
+        arith,
+        mul-le-mul_right (2 ^ down) a,
+        ap (λ k. s * k) split,
+        mul-le-mul_left s (mul-le-mul_right (2 ^ up * w) b),
+      )) P
 
   pub size_below : 0 < s → s * 2 ^ t < h * w → m < 2 * 2 ^ r → s * (m * 2 ^ up) < 2 * h * 2 ^ down
   size_below S a b =
@@ -99,7 +104,8 @@ tenth_up n v u U h =
     let b = bounds v u U in
     elim (eq-zero-or-pos (n - closest v u)) [
       | inl z ↦ omega arith
-      | inr p ↦ let l : closest v u + 1 ≤ n = omega arith in absurd (omega (arith, a.from, b.to, mul-le-mul_right u l, mul-le-mul_right u h))
+      | inr p ↦ let l : closest v u + 1 ≤ n = omega arith in absurd
+          (omega (arith, a.from, b.to, mul-le-mul_right u l, mul-le-mul_right u h))
     ]
 
 pub tenth_down : (n v u : ℕ) → 0 < u → 10 * n ≤ closest v u → n ≤ closest v (10 * u)
@@ -108,7 +114,8 @@ tenth_down n v u U h =
     let b = bounds v (10 * u) (omega arith) in
     elim (eq-zero-or-pos (n - closest v (10 * u))) [
       | inl z ↦ omega arith
-      | inr p ↦ let l : closest v (10 * u) + 1 ≤ n = omega arith in absurd (omega (arith, a.from, b.to, mul-le-mul_right u l, mul-le-mul_right u h))
+      | inr p ↦ let l : closest v (10 * u) + 1 ≤ n = omega arith in
+          absurd (omega (arith, a.from, b.to, mul-le-mul_right u l, mul-le-mul_right u h))
     ]
 
 pub few_digits : (r m : ℕ) → 2 ^ r ≤ m → m < 2 ^ 53 → r < 53
@@ -126,6 +133,7 @@ fixed_most m u d p M U =
     let a : m * 2 ^ u ≤ 2 ^ 1024 = le_of_lt (lt_of_lt_of_le (shl_lt 53 u M) (pow_mono k)) in
     let b : m * 2 ^ u * 10 ^ p ≤ 2 ^ 1024 * 10 ^ p = mul-le-mul_right (10 ^ p) a in
     let c : 2 ^ 1024 * 10 ^ p * 1 ≤ 2 ^ 1024 * 10 ^ p * (2 ^ d * 10 ^ 0) = mul-le-mul_left (2 ^ 1024 * 10 ^ p) step in
-    let l : closest (m * 2 ^ u * 10 ^ p) (2 ^ d * 10 ^ 0) ≤ 2 ^ 1024 * 10 ^ p = closest_le (2 ^ 1024 * 10 ^ p) _ _ step (omega (arith, b, c)) in
+    let l : closest (m * 2 ^ u * 10 ^ p) (2 ^ d * 10 ^ 0) ≤ 2 ^ 1024 * 10 ^ p =
+    closest_le (2 ^ 1024 * 10 ^ p) _ _ step (omega (arith, b, c)) in
     let g : 2 ^ 1024 * 10 ^ p < 10 ^ 309 * 10 ^ p = mul-lt-mul_of_pos_right greatest (power_pos 10 p (lit< tt)) in
     rw (pow-add 10 309 p) (lt_of_le_of_lt l g)

@@ -33,7 +33,8 @@ kept_all b all decimals n h =
       needed = λ k. absurd (true≢false (sym h ∙ k));
     }
 
-pub kept_some : (b : ℕ) (all : Bool) (decimals n z : ℕ) → all ≡ false → z ≤ decimals → n ≡ n / b ^ z * b ^ z → (z < decimals → n / b ^ z % b ≢ 0)
+pub kept_some : (b : ℕ) (all : Bool) (decimals n z : ℕ) → all ≡ false → z ≤ decimals → n ≡ n / b ^ z * b ^ z
+    → (z < decimals → n / b ^ z % b ≢ 0)
     → IsShortened b all decimals n (decimals - z) (n / b ^ z)
 kept_some b all decimals n z h l c next =
     let e : decimals - (decimals - z) ≡ z = omega arith in
@@ -86,14 +87,16 @@ below_power n k h l = lt_of_lt_of_le h (pow-le-pow_right (lit< tt) l)
 exponent_is : (power : ℕ) → exponent_text power ≡ exponent_with true (nat_lt power 400) (exponent_digits (exponent_size power))
 exponent_is power = go (nat_lt power 400) (nat_lt (exponent_size power) 100)
   where
-    go : (b l : Bool) → 101 ∷ (if b then 45 else 43) ∷ (if l then fixed_digits 2 (exponent_size power) else fixed_digits 3 (exponent_size power))
+    go : (b l : Bool) → 101 ∷ (if b then 45 else 43) ∷ (if l then fixed_digits 2 (exponent_size power) else fixed_digits 3
+        (exponent_size power))
         ≡ exponent_with true b (if l then fixed_digits 2 (exponent_size power) else fixed_digits 3 (exponent_size power))
     go true true = refl
     go true false = refl
     go false true = refl
     go false false = refl
 
-pub raised_text : (alt : Bool) (kept m power : ℕ) → (fixed_digits 1 (m / 10 ^ kept) ++ point_text alt kept m) ++ exponent_text power ≡ text_with true (scientific alt kept m power)
+pub raised_text : (alt : Bool) (kept m power : ℕ) → (fixed_digits 1 (m / 10 ^ kept) ++ point_text alt kept m) ++ exponent_text power
+    ≡ text_with true (scientific alt kept m power)
 raised_text alt kept m power =
     append_assoc (fixed_digits 1 (m / 10 ^ kept)) (point_text alt kept m) (exponent_text power)
     ∙ ap (λ t. fixed_digits 1 (m / 10 ^ kept) ++ (point_text alt kept m ++ t)) (exponent_is power)

@@ -6,19 +6,22 @@ use Rattle.std.specs.Float.Ieee.{Float, nan, inf, fin}
 use Rattle.sf_float.specs.declared.text.Style.{Style}
 use Rattle.sf_float.specs.Printed.{IsDigitsText, IsSizeText}
 
-pub nan_text : (style : Style) (alt : Bool) (precision : Option ℕ) (x : Float) (t : List ℕ) → is_nan x ≡ true → t ≡ codes "nan" → IsSizeText style alt precision x t
+pub nan_text : (style : Style) (alt : Bool) (precision : Option ℕ) (x : Float) (t : List ℕ) → is_nan x ≡ true → t ≡ codes "nan"
+    → IsSizeText style alt precision x t
 unfolding is_nan
 nan_text style alt precision nan t h e = e
 nan_text style alt precision (inf s) t h e = absurd (true≢false (sym h))
 nan_text style alt precision (fin s m d) t h e = absurd (true≢false (sym h))
 
-pub infinite_text : (style : Style) (alt : Bool) (precision : Option ℕ) (x : Float) (t : List ℕ) → float_is_infinite x ≡ true → t ≡ codes "inf" → IsSizeText style alt precision x t
+pub infinite_text : (style : Style) (alt : Bool) (precision : Option ℕ) (x : Float) (t : List ℕ) → float_is_infinite x ≡ true
+    → t ≡ codes "inf" → IsSizeText style alt precision x t
 unfolding float_is_infinite
 infinite_text style alt precision nan t h e = absurd (true≢false (sym h))
 infinite_text style alt precision (inf s) t h e = e
 infinite_text style alt precision (fin s m d) t h e = absurd (true≢false (sym h))
 
-pub finite_text : (style : Style) (alt : Bool) (precision : Option ℕ) (x : Float) (t : List ℕ) → float_is_finite x ≡ true → IsDigitsText style alt precision x t → IsSizeText style alt precision x t
+pub finite_text : (style : Style) (alt : Bool) (precision : Option ℕ) (x : Float) (t : List ℕ) → float_is_finite x ≡ true
+    → IsDigitsText style alt precision x t → IsSizeText style alt precision x t
 unfolding float_is_finite
 finite_text style alt precision nan t h e = absurd (true≢false (sym h))
 finite_text style alt precision (inf s) t h e = absurd (true≢false (sym h))

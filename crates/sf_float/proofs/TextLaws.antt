@@ -41,7 +41,8 @@ AllDigits-push (c ∷ cs) d h l = (h.0, AllDigits-push cs d h.1 l)
 
 pub fixed_all : (k n : ℕ) → AllDigits 10 (fixed_digits k n)
 fixed_all zero n = tt
-fixed_all (suc k) n = AllDigits-push (fixed_digits k (n / 10)) (48 + n % 10) (fixed_all k (n / 10)) (rw (digit_is (n % 10) (mod-lt n (lit< tt))) (mod-lt n (lit< tt)))
+fixed_all (suc k) n = AllDigits-push (fixed_digits k (n / 10)) (48 + n % 10) (fixed_all k (n / 10))
+    (rw (digit_is (n % 10) (mod-lt n (lit< tt))) (mod-lt n (lit< tt)))
 
 pub fixed_length : (k n : ℕ) → length (fixed_digits k n) ≡ k
 fixed_length zero n = refl
@@ -62,7 +63,8 @@ pub fixed_split : (k b n : ℕ) → fixed_digits k (n / 10 ^ b) ++ fixed_digits 
 fixed_split k zero n = append-nil (fixed_digits k (n / 1)) ∙ (λ i. fixed_digits (sym (add-zero k) i) (div-one n i))
 fixed_split k (suc b) n =
     let d = (48 + n % 10) ∷ [] in
-    let e : n / 10 ^ suc b ≡ n / 10 / 10 ^ b = ap (λ t. n / t) (pow-suc 10 b ∙ mul_comm (10 ^ b) 10) ∙ sym (div-div-eq-div-mul n 10 (10 ^ b)) in
+    let e : n / 10 ^ suc b ≡ n / 10 / 10 ^ b = ap (λ t. n / t) (pow-suc 10 b ∙ mul_comm (10 ^ b) 10)
+    ∙ sym (div-div-eq-div-mul n 10 (10 ^ b)) in
     ap (λ t. fixed_digits k t ++ (fixed_digits b (n / 10) ++ d)) e
     ∙ sym (append_assoc (fixed_digits k (n / 10 / 10 ^ b)) (fixed_digits b (n / 10)) d)
     ∙ ap (λ t. t ++ d) (fixed_split k b (n / 10))
@@ -130,7 +132,8 @@ no_down : (alt : Bool) (decimals n power : ℕ) → 400 ≤ power → tens_down 
 no_down alt decimals n power l = rw (le-ltb power 400 l) (omega (arith, fixed_length decimals n))
 
 -- the parts stand for n * 10 ^ j / 10 ^ i
-pub worth : (alt : Bool) (decimals n power i j : ℕ) → n < 10 ^ (decimals + 1) → power < 1000 → i ≡ decimals + 1 + 399 - power → j ≡ power - (decimals + 1 + 399)
+pub worth : (alt : Bool) (decimals n power i j : ℕ) → n < 10 ^ (decimals + 1) → power < 1000 → i ≡ decimals + 1 + 399 - power
+    → j ≡ power - (decimals + 1 + 399)
     → let p = scientific alt decimals n power in numeral_digits p * 10 ^ tens_up p * 10 ^ i ≡ n * 10 ^ j * 10 ^ tens_down p
 worth alt decimals n power i j h few I J =
     let p = scientific alt decimals n power in
@@ -162,14 +165,16 @@ sign_of_value nan a c h = absurd h
 sign_of_value (inf s) a c h = absurd h
 sign_of_value (fin s m e) a c h = (h.0, ap not h.0)
 
-pub sign_is : (x y : Float) (negative : Bool) (a c : ℕ) → (if negative then neg y else y) ≡ x → HasValue y false a c → negative ≡ is_sign_negative x
+pub sign_is : (x y : Float) (negative : Bool) (a c : ℕ) → (if negative then neg y else y) ≡ x → HasValue y false a c
+    → negative ≡ is_sign_negative x
 sign_is x y true a c e v = sym (sym (ap is_sign_negative e) ∙ (sign_of_value y a c v).1)
 sign_is x y false a c e v = sym (sym (ap is_sign_negative e) ∙ (sign_of_value y a c v).0)
 
 pub enough : 2 ^ 53 < 10 ^ 16
 enough = lit< tt
 
-pub scientific_back : (x : Float) (alt : Bool) (decimals n power : ℕ) → T (fits binary64 x) → is_nonzero x → 16 ≤ decimals → power < 1000 → IsSignificant x (decimals + 1) n power
+pub scientific_back : (x : Float) (alt : Bool) (decimals n power : ℕ) → T (fits binary64 x) → is_nonzero x → 16 ≤ decimals → power < 1000
+    → IsSignificant x (decimals + 1) n power
     → parse_float binary64 (sign_text (is_sign_negative x) ++ text_with true (scientific alt decimals n power)) ≡ Some x
 scientific_back x alt decimals n power f some many few s =
     let raw = to_bits binary64 x in
@@ -182,10 +187,12 @@ scientific_back x alt decimals n power f some many few s =
     let i = decimals + 1 + 399 - power in
     let j = power - (decimals + 1 + 399) in
     let long : 10 ^ decimals ≤ n = subst (λ k. 10 ^ k ≤ n) (less_one decimals) s.full in
-    let digits : 2 ^ 53 < scaled x i j = subst (λ k. 2 ^ 53 < k) s.is (lt_of_lt_of_le enough (le_trans (pow-le-pow_right (lit< tt) many) long)) in
+    let digits : 2 ^ 53 < scaled x i j = subst (λ k. 2 ^ 53 < k) s.is
+    (lt_of_lt_of_le enough (le_trans (pow-le-pow_right (lit< tt) many) long)) in
     let read = parse_float-text_with binary64 negative p (well_formed alt decimals n power) (lit< tt) in
     let same : nearest_float binary64 negative p ≡ x =
-    round_same binary64 negative _ _ (n * 10 ^ j) (10 ^ i) (power_pos 10 (tens_down p) (lit< tt)) (power_pos 10 i (lit< tt)) (worth alt decimals n power i j s.fits few refl refl)
+    round_same binary64 negative _ _ (n * 10 ^ j) (10 ^ i) (power_pos 10 (tens_down p) (lit< tt)) (power_pos 10 i (lit< tt))
+    (worth alt decimals n power i j s.fits few refl refl)
     ∙ ap (λ k. round binary64 negative (k * 10 ^ j) (10 ^ i)) s.is
     ∙ reads_back binary64 x negative bits i j split bound digits in
     let sign : negative ≡ is_sign_negative x = sign_is x (of_bits binary64 bits) negative _ _ split.same (at_pattern bits bound) in
@@ -195,11 +202,13 @@ scientific_back x alt decimals n power f some many few s =
     less_one b = omega arith
 
 -- one digit more
-pub grown : (v f k : ℕ) → 0 < k → k ≤ f → fixed_digits (f - k) (v / 10 ^ k) ++ (48 + v / 10 ^ (k - 1) % 10) ∷ [] ≡ fixed_digits (f - (k - 1)) (v / 10 ^ (k - 1))
+pub grown : (v f k : ℕ) → 0 < k → k ≤ f → fixed_digits (f - k) (v / 10 ^ k) ++ (48 + v / 10 ^ (k - 1) % 10) ∷ []
+    ≡ fixed_digits (f - (k - 1)) (v / 10 ^ (k - 1))
 grown v f k p l =
     let e : f - (k - 1) ≡ suc (f - k) = omega arith in
     let s : k ≡ suc (k - 1) = omega arith in
-    let d : v / 10 ^ k ≡ v / 10 ^ (k - 1) / 10 = ap (λ t. v / t) (ap (λ t. 10 ^ t) s ∙ pow-suc 10 (k - 1)) ∙ sym (div-div-eq-div-mul v (10 ^ (k - 1)) 10) in
+    let d : v / 10 ^ k ≡ v / 10 ^ (k - 1) / 10 = ap (λ t. v / t) (ap (λ t. 10 ^ t) s ∙ pow-suc 10 (k - 1))
+    ∙ sym (div-div-eq-div-mul v (10 ^ (k - 1)) 10) in
     ap (λ t. fixed_digits (f - k) t ++ (48 + v / 10 ^ (k - 1) % 10) ∷ []) d ∙ ap (λ t. fixed_digits t (v / 10 ^ (k - 1))) (sym e)
 
 -- ---- zero
@@ -213,9 +222,12 @@ unfolding neg
 zero_round false den D = sym (nearest_of_zero binary64 0 den D refl).0 ∙ of_no_bits
 zero_round true den D = sym (neg-round binary64 0 den) ∙ ap neg (sym (nearest_of_zero binary64 0 den D refl).0 ∙ of_no_bits)
 
-pub zero_back : (negative alt : Bool) (decimals : ℕ) → parse_float binary64 (sign_text negative ++ text_with true (scientific alt decimals 0 400)) ≡ Some (fin negative 0 (pos 0))
+pub zero_back : (negative alt : Bool) (decimals : ℕ) → parse_float binary64
+    (sign_text negative ++ text_with true (scientific alt decimals 0 400)) ≡ Some (fin negative 0 (pos 0))
 zero_back negative alt decimals =
     let p = scientific alt decimals 0 400 in
-    let none : numeral_digits p * 10 ^ tens_up p ≡ 0 = ap (λ t. t * 10 ^ tens_up p) (digits_are alt decimals 0 400 (power_pos 10 (decimals + 1) (lit< tt))) ∙ zero-mul (10 ^ tens_up p) in
+    let none : numeral_digits p * 10 ^ tens_up p ≡ 0 = ap (λ t. t * 10 ^ tens_up p)
+    (digits_are alt decimals 0 400 (power_pos 10 (decimals + 1) (lit< tt))) ∙ zero-mul (10 ^ tens_up p) in
     parse_float-text_with binary64 negative p (well_formed alt decimals 0 400) (lit< tt)
-    ∙ ap Some (ap (λ t. round binary64 negative t (10 ^ tens_down p)) none ∙ zero_round negative (10 ^ tens_down p) (power_pos 10 (tens_down p) (lit< tt)))
+    ∙ ap Some (ap (λ t. round binary64 negative t (10 ^ tens_down p)) none
+    ∙ zero_round negative (10 ^ tens_down p) (power_pos 10 (tens_down p) (lit< tt)))

@@ -21,34 +21,44 @@ value_as (fin t m z) s a c b d C e h =
 abbrev hidden : ℕ
 hidden = 4503599627370496
 
-pub at_pattern : (bits : ℕ) → bits < 9218868437227405312 → HasValue (of_bits binary64 bits) false (field_units binary64 (bits / hidden) (bits % hidden)) (2 ^ 1074)
+pub at_pattern : (bits : ℕ) → bits < 9218868437227405312 → HasValue (of_bits binary64 bits) false
+    (field_units binary64 (bits / hidden) (bits % hidden)) (2 ^ 1074)
 at_pattern bits h =
-    subst (λ b. HasValue (of_bits binary64 b) false (field_units binary64 (bits / hidden) (bits % hidden)) (2 ^ 1074)) (div-add-mod' bits hidden)
+    subst (λ b. HasValue (of_bits binary64 b) false (field_units binary64 (bits / hidden) (bits % hidden)) (2 ^ 1074))
+    (div-add-mod' bits hidden)
     (of_bits_value binary64 (bits / hidden) (bits % hidden) (omega arith) (mod-lt bits (lit< tt)))
 
-pub least_field : (bits : ℕ) → bits < 9218868437227405312 → bits / hidden ≡ 0 → HasValue (of_bits binary64 bits) false (bits % hidden * 1) (2 ^ 1074)
-least_field bits h e = subst (λ x. HasValue (of_bits binary64 bits) false (field_units binary64 x (bits % hidden)) (2 ^ 1074)) e (at_pattern bits h)
+pub least_field : (bits : ℕ) → bits < 9218868437227405312 → bits / hidden ≡ 0
+    → HasValue (of_bits binary64 bits) false (bits % hidden * 1) (2 ^ 1074)
+least_field bits h e = subst (λ x. HasValue (of_bits binary64 bits) false (field_units binary64 x (bits % hidden)) (2 ^ 1074)) e
+    (at_pattern bits h)
 
-pub at_field : (bits j : ℕ) → bits < 9218868437227405312 → bits / hidden ≡ suc j → HasValue (of_bits binary64 bits) false ((hidden + bits % hidden) * 2 ^ j) (2 ^ 1074)
-at_field bits j h e = subst (λ x. HasValue (of_bits binary64 bits) false (field_units binary64 x (bits % hidden)) (2 ^ 1074)) e (at_pattern bits h)
+pub at_field : (bits j : ℕ) → bits < 9218868437227405312 → bits / hidden ≡ suc j
+    → HasValue (of_bits binary64 bits) false ((hidden + bits % hidden) * 2 ^ j) (2 ^ 1074)
+at_field bits j h e = subst (λ x. HasValue (of_bits binary64 bits) false (field_units binary64 x (bits % hidden)) (2 ^ 1074)) e
+    (at_pattern bits h)
 
-pub high_field : (bits : ℕ) → bits < 9218868437227405312 → 1075 < bits / hidden → HasValue (of_bits binary64 bits) false ((hidden + bits % hidden) * 2 ^ (bits / hidden - 1075)) (2 ^ 0)
+pub high_field : (bits : ℕ) → bits < 9218868437227405312 → 1075 < bits / hidden
+    → HasValue (of_bits binary64 bits) false ((hidden + bits % hidden) * 2 ^ (bits / hidden - 1075)) (2 ^ 0)
 high_field bits h l =
     let j = bits / hidden - 1 in
     let i = bits / hidden - 1075 in
     let e : bits / hidden ≡ suc j = omega arith in
     let k : j ≡ i + 1074 = omega arith in
     let p : 2 ^ j ≡ 2 ^ i * 2 ^ 1074 = ap (λ t. 2 ^ t) k ∙ pow-add 2 i 1074 in
-    value_as (of_bits binary64 bits) false ((hidden + bits % hidden) * 2 ^ j) (2 ^ 1074) ((hidden + bits % hidden) * 2 ^ i) (2 ^ 0) (pow_pos 1074) (omega (arith, ap (λ t. (hidden + bits % hidden) * t) p)) (at_field bits j h e)
+    value_as (of_bits binary64 bits) false ((hidden + bits % hidden) * 2 ^ j) (2 ^ 1074) ((hidden + bits % hidden) * 2 ^ i) (2 ^ 0)
+    (pow_pos 1074) (omega (arith, ap (λ t. (hidden + bits % hidden) * t) p)) (at_field bits j h e)
 
-pub low_field : (bits : ℕ) → bits < 9218868437227405312 → 0 < bits / hidden → bits / hidden ≤ 1075 → HasValue (of_bits binary64 bits) false ((hidden + bits % hidden) * 1) (2 ^ (1075 - bits / hidden))
+pub low_field : (bits : ℕ) → bits < 9218868437227405312 → 0 < bits / hidden → bits / hidden ≤ 1075
+    → HasValue (of_bits binary64 bits) false ((hidden + bits % hidden) * 1) (2 ^ (1075 - bits / hidden))
 low_field bits h s l =
     let j = bits / hidden - 1 in
     let i = 1075 - bits / hidden in
     let e : bits / hidden ≡ suc j = omega arith in
     let k : j + i ≡ 1074 = omega arith in
     let p : 2 ^ j * 2 ^ i ≡ 2 ^ 1074 = sym (pow-add 2 j i) ∙ ap (λ t. 2 ^ t) k in
-    value_as (of_bits binary64 bits) false ((hidden + bits % hidden) * 2 ^ j) (2 ^ 1074) ((hidden + bits % hidden) * 1) (2 ^ i) (pow_pos 1074) (omega (arith, ap (λ t. (hidden + bits % hidden) * t) p)) (at_field bits j h e)
+    value_as (of_bits binary64 bits) false ((hidden + bits % hidden) * 2 ^ j) (2 ^ 1074) ((hidden + bits % hidden) * 1) (2 ^ i)
+    (pow_pos 1074) (omega (arith, ap (λ t. (hidden + bits % hidden) * t) p)) (at_field bits j h e)
 
 -- a size times a power of ten has room
 most : 2 ^ 1025 * 10 ^ 255 < limb_weight 65

@@ -16,11 +16,14 @@ pub record IsShortened (base : ℕ) (all : Bool) (decimals n kept m : ℕ) : Typ
 abbrev pub IsPlainPower : ℕ → ℕ → Type 0
 IsPlainPower digits power = (396 ≤ power) × (power < 400 + digits)
 
--- n has so many significant digits, of which digits - 1 - X stand after the point in the style of `%f`, where X is the exponent; `#` keeps the zeros
+-- n has so many significant digits, of which digits - 1 - X stand after the point in the style of `%f`, where X is the exponent; `#` keeps
+-- the zeros
 abbrev pub IsGeneralOf : Bool → ℕ → ℕ → ℕ → List ℕ → Type 0
 IsGeneralOf alt digits n power t =
-    (IsPlainPower digits power × ((kept : ℕ) × (m : ℕ) × (count : ℕ) × IsShortened 10 alt (digits + 399 - power) n kept m × IsCount kept m count × (t ≡ fixed_text alt kept m count)))
-    ⊎ ((power < 396) ⊎ (400 + digits ≤ power)) × ((kept : ℕ) × (m : ℕ) × IsShortened 10 alt (digits - 1) n kept m × (t ≡ text_with true (scientific alt kept m power)))
+    (IsPlainPower digits power × ((kept : ℕ) × (m : ℕ) × (count : ℕ) × IsShortened 10 alt (digits + 399 - power) n kept m
+    × IsCount kept m count × (t ≡ fixed_text alt kept m count)))
+    ⊎ ((power < 396) ⊎ (400 + digits ≤ power)) × ((kept : ℕ) × (m : ℕ) × IsShortened 10 alt (digits - 1) n kept m
+    × (t ≡ text_with true (scientific alt kept m power)))
 
 -- x with so many significant digits
 abbrev pub IsGeneralText : Bool → ℕ → Float → List ℕ → Type 0
@@ -28,4 +31,5 @@ IsGeneralText alt digits x t = (n : ℕ) × (power : ℕ) × IsScientific x (dig
 
 -- in the style of `%f` the digits are x, rounded to so many after the point
 abbrev pub PlainIsFixed : Type 0
-PlainIsFixed = (x : Float) (digits n power : ℕ) → 0 < digits → IsScientific x (digits - 1) n power → IsPlainPower digits power → n ≡ scaled x (digits + 399 - power) 0
+PlainIsFixed = (x : Float) (digits n power : ℕ) → 0 < digits → IsScientific x (digits - 1) n power → IsPlainPower digits power
+    → n ≡ scaled x (digits + 399 - power) 0

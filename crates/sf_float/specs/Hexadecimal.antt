@@ -15,7 +15,8 @@ abbrev pub hex_digits : ℕ → ℕ → List ℕ
 hex_digits zero n = []
 hex_digits (suc k) n = hex_digits k (n / 16) ++ hex_digit (n % 16) ∷ []
 
--- the size of x is m / 2 ^ 52 * 2 ^ (power - 1022): the digit before the point is 1, or 0 below the least normal double (ours: p8 leaves that open)
+-- the size of x is m / 2 ^ 52 * 2 ^ (power - 1022): the digit before the point is 1, or 0 below the least normal double (ours: p8 leaves
+-- that open)
 pub record IsBinary (x : Float) (m power : ℕ) : Type 0 where
   pub negative : Bool
   pub value : HasValue x negative (m * 2 ^ power) (2 ^ 1074)
@@ -40,11 +41,13 @@ hex_point alt decimals n = if nat_lt 0 decimals || alt then 46 ∷ hex_digits de
 abbrev pub hex_text : Bool → ℕ → ℕ → List ℕ
 hex_text alt decimals n = hex_digits 1 (n / 16 ^ decimals) ++ hex_point alt decimals n
 
--- with a precision m / 2 ^ 52 is rounded to so many digits after the point, a tie to the even one; without, all digits stand that are needed
+-- with a precision m / 2 ^ 52 is rounded to so many digits after the point, a tie to the even one; without, all digits stand that are
+-- needed
 abbrev pub IsHexNumeral : Bool → Option ℕ → ℕ → List ℕ → Type 0
 IsHexNumeral alt None m t = (kept : ℕ) × (n : ℕ) × IsShortened 16 false 13 m kept n × (t ≡ hex_text alt kept n)
 IsHexNumeral alt (Some decimals) m t = t ≡ hex_text alt decimals (closest (m * 16 ^ decimals) (2 ^ 52))
 
 abbrev pub IsHexadecimalText : Bool → Option ℕ → Float → List ℕ → Type 0
 IsHexadecimalText alt precision x t = (m : ℕ) × (power : ℕ) × IsBinary x m power
-    × ((numeral : List ℕ) × (exponent : List ℕ) × IsHexNumeral alt precision m numeral × IsBinaryExponent (binary_power m power) exponent × (t ≡ numeral ++ exponent))
+    × ((numeral : List ℕ) × (exponent : List ℕ) × IsHexNumeral alt precision m numeral × IsBinaryExponent (binary_power m power) exponent
+    × (t ≡ numeral ++ exponent))

@@ -11,18 +11,22 @@ use Rattle.sf_float.specs.Texts.{scientific}
 
 -- a float in the style d.ddde+dd, with at least 16 digits after the point
 abbrev pub ScientificReadsBack : Type 0
-ScientificReadsBack = (x : Float) (alt : Bool) (decimals n power : ℕ) → T (fits binary64 x) → is_nonzero x → 16 ≤ decimals → power < 1000 → IsSignificant x (decimals + 1) n power
+ScientificReadsBack = (x : Float) (alt : Bool) (decimals n power : ℕ) → T (fits binary64 x) → is_nonzero x → 16 ≤ decimals → power < 1000
+    → IsSignificant x (decimals + 1) n power
     → parse_float binary64 (sign_text (is_sign_negative x) ++ text_with true (scientific alt decimals n power)) ≡ Some x
 
 -- 0 with either sign, with any number of digits
 abbrev pub ZeroReadsBack : Type 0
-ZeroReadsBack = (negative alt : Bool) (decimals : ℕ) → parse_float binary64 (sign_text negative ++ text_with true (scientific alt decimals 0 400)) ≡ Some (fin negative 0 (pos 0))
+ZeroReadsBack = (negative alt : Bool) (decimals : ℕ) → parse_float binary64
+    (sign_text negative ++ text_with true (scientific alt decimals 0 400)) ≡ Some (fin negative 0 (pos 0))
 
 -- a float in the style of `%g` with at least 17 significant digits
 abbrev pub GeneralReadsBack : Type 0
-GeneralReadsBack = (x : Float) (alt : Bool) (digits n power : ℕ) (t : List ℕ) → T (fits binary64 x) → is_nonzero x → 17 ≤ digits → power < 1000 → IsSignificant x digits n power
+GeneralReadsBack = (x : Float) (alt : Bool) (digits n power : ℕ) (t : List ℕ) → T (fits binary64 x) → is_nonzero x → 17 ≤ digits
+    → power < 1000 → IsSignificant x digits n power
     → IsGeneralOf alt digits n power t → parse_float binary64 (sign_text (is_sign_negative x) ++ t) ≡ Some x
 
 -- 0 with either sign, in the style of `%g`
 abbrev pub GeneralZeroReadsBack : Type 0
-GeneralZeroReadsBack = (negative alt : Bool) (digits : ℕ) (t : List ℕ) → 0 < digits → IsGeneralOf alt digits 0 400 t → parse_float binary64 (sign_text negative ++ t) ≡ Some (fin negative 0 (pos 0))
+GeneralZeroReadsBack = (negative alt : Bool) (digits : ℕ) (t : List ℕ) → 0 < digits → IsGeneralOf alt digits 0 400 t
+    → parse_float binary64 (sign_text negative ++ t) ≡ Some (fin negative 0 (pos 0))

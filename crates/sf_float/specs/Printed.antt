@@ -16,11 +16,13 @@ use Rattle.sf_float.specs.Hexadecimal.{IsHexadecimalText}
 
 -- `f` with so many digits after the point; one digit stands before it at least (paragraph 8)
 abbrev pub IsFixedText : Bool → ℕ → Float → List ℕ → Type 0
-IsFixedText alt decimals x t = (count : ℕ) × IsCount decimals (scaled x decimals 0) count × (t ≡ fixed_text alt decimals (scaled x decimals 0) count)
+IsFixedText alt decimals x t = (count : ℕ) × IsCount decimals (scaled x decimals 0) count
+    × (t ≡ fixed_text alt decimals (scaled x decimals 0) count)
 
 -- `e` with so many
 abbrev pub IsExponentText : Bool → ℕ → Float → List ℕ → Type 0
-IsExponentText alt decimals x t = (n : ℕ) × (power : ℕ) × IsScientific x decimals n power × (t ≡ text_with true (scientific alt decimals n power))
+IsExponentText alt decimals x t = (n : ℕ) × (power : ℕ) × IsScientific x decimals n power
+    × (t ≡ text_with true (scientific alt decimals n power))
 
 -- without a precision `f`, `e` and `g` have 6, and `a` as many digits as are needed; for `g` a precision of 0 is one of 1 (paragraph 8)
 abbrev pub IsDigitsText : Style → Bool → Option ℕ → Float → List ℕ → Type 0
@@ -80,7 +82,8 @@ right_blanks c x size = if c.minus then c.width - bare_len c x size else 0
 
 abbrev pub field_text : FloatConv → Float → List ℕ → List ℕ
 field_text c x size =
-    replicate (left_blanks c x size) 32 ++ sign c x ++ mark c x ++ replicate (inner_zeros c x size) 48 ++ size ++ replicate (right_blanks c x size) 32
+    replicate (left_blanks c x size) 32 ++ sign c x ++ mark c x ++ replicate (inner_zeros c x size) 48 ++ size ++ replicate
+    (right_blanks c x size) 32
 
 -- the text of a float by a conversion
 abbrev pub IsFloatText : FloatConv → Float → List ℕ → Type 0

@@ -29,7 +29,8 @@ guessed t = (t * 78913 + 20105038) / 262144
 abbrev pub scaled_at : Float → ℕ → ℕ → ℕ
 scaled_at x digits power = scaled x (digits + 399 - power) (power - (digits + 399))
 
--- n is x rounded to so many significant digits, the first of which is that of 10 ^ (power - 400): the least power at which there are no more digits
+-- n is x rounded to so many significant digits, the first of which is that of 10 ^ (power - 400): the least power at which there are no
+-- more digits
 pub record IsSignificant (x : Float) (digits n power : ℕ) : Type 0 where
   pub is : n ≡ scaled_at x digits power
   pub fits : n < 10 ^ digits

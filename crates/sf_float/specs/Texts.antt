@@ -15,7 +15,8 @@ exponent_digits e = if nat_lt e 100 then fixed_digits 2 e else fixed_digits 3 e
 abbrev pub exponent_size : ℕ → ℕ
 exponent_size power = (power - 400) + (400 - power)
 
--- the parts of a number in the style d.ddde+dd, without their length; n has `decimals` + 1 digits, and `#` keeps a point with no digit after it
+-- the parts of a number in the style d.ddde+dd, without their length; n has `decimals` + 1 digits, and `#` keeps a point with no digit
+-- after it
 abbrev pub scientific_parts : Bool → ℕ → ℕ → ℕ → ℕ → Parts
 scientific_parts alt decimals n power len = record {
   whole = fixed_digits 1 (n / 10 ^ decimals);

@@ -48,7 +48,8 @@ fn put_fraction(
 ) -> usize
     requires few { (left_out ≤ decimals) × (decimals ≤ 258) × (at + 259 ≤ 565) }
     ensures end { (at ≤ result) × (result ≤ at + 259) }
-    ensures written { take result out.new ≡ take at out.old ++ point_text alt (decimals - left_out) (n.now / 10 ^ left_out) }
+    ensures written { take result out.new ≡ take at out.old ++ point_text alt (decimals - left_out)
+        (n.now / 10 ^ left_out) }
 {
     if decimals == left_out && !alt {
         return at;
@@ -97,8 +98,8 @@ fn put_general(n: &Natural, power: u32, digits: u32, alt: bool, out: &mut [u8; R
     }
 }
 
-/// Writes the size of a finite float in the style of `%g`, with so many significant digits, 0 counting as 1, and answers how long the text
-/// is (C11 7.21.6.1p8).
+/// Writes the size of a finite float in the style of `%g`, with so many significant digits, 0 counting as 1, and
+/// answers how long the text is (C11 7.21.6.1p8).
 pub fn write_general(x: f64, precision: u8, alt: bool, out: &mut [u8; ROOM]) -> usize
     requires { IsTrue (float_is_finite x) }
     ensures end { result ≤ 565 }

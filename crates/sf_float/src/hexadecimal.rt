@@ -180,7 +180,8 @@ fn put_numeral(m: u64, precision: Option<u8>, alt: bool, out: &mut [u8; ROOM]) -
 fn put_binary_exponent(m: u64, power: u32, out: &mut [u8; ROOM], at: usize) -> usize
     requires { (power < 2046) × (at ≤ 257) }
     ensures end { result ≤ 565 }
-    ensures text { (t : List ℕ) × IsBinaryExponent (binary_power m power) t × (take result out.new ≡ take at out.old ++ t) }
+    ensures text { (t : List ℕ) × IsBinaryExponent (binary_power m power) t
+        × (take result out.new ≡ take at out.old ++ t) }
 {
     let power = if m == 0 { 1022 } else { power };
     let end = put(b'p', out, at);
@@ -191,8 +192,8 @@ fn put_binary_exponent(m: u64, power: u32, out: &mut [u8; ROOM], at: usize) -> u
     put_digits(&digits, count, 0, out, end)
 }
 
-/// Writes the size of a finite float in the style of `%a`, without its `0x`, and answers how long the text is (C11 7.21.6.1p8). Without a
-/// precision it has as many digits as are needed.
+/// Writes the size of a finite float in the style of `%a`, without its `0x`, and answers how long the text is (C11
+/// 7.21.6.1p8). Without a precision it has as many digits as are needed.
 pub fn write_hexadecimal(x: f64, precision: Option<u8>, alt: bool, out: &mut [u8; ROOM]) -> usize
     requires { IsTrue (float_is_finite x) }
     ensures end { result ≤ 565 }

@@ -87,7 +87,8 @@ fn put_scientific(
     put_exponent(power, out, end)
 }
 
-/// Writes the size of a finite float, rounded to so many digits after the point of the style d.ddde+dd, and answers how long the text is.
+/// Writes the size of a finite float, rounded to so many digits after the point of the style d.ddde+dd, and answers how
+/// long the text is.
 pub fn write_scientific(x: f64, decimals: u8, alt: bool, out: &mut [u8; ROOM]) -> usize
     requires { IsTrue (float_is_finite x) }
     ensures end { result ≤ 565 }

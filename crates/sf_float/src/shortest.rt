@@ -7,8 +7,8 @@ ghost use Rattle.sf_float.specs.Shortest.{word_of};
 
 use ryu::{Buffer, Float};
 
-/// A text of a float that reads back as it, in its own kind: of a finite one `1.5`, `100.0` or `1e-7`, else `inf`, `-inf` or `nan`. That no
-/// shorter one does is ryu's, and in no clause.
+/// A text of a float that reads back as it, in its own kind: of a finite one `1.5`, `100.0` or `1e-7`, else `inf`,
+/// `-inf` or `nan`. That no shorter one does is ryu's, and in no clause.
 pub fn shortest_text<F: Float>(x: F, buffer: &mut Buffer) -> &str
     ensures parses { parse_float F.format result.now ≡ Some (F.value x) }
     ensures layout { IsTrue (float_is_finite (F.value x)) → IsLaidOutNumber F.WHOLE_DIGITS F.LEADING_ZEROS result.now }

@@ -142,7 +142,8 @@ pub struct FloatField {
 fn field_around(conv: &FloatConv, x: f64, len: usize) -> FloatField
     requires { len ≤ 565 }
     ensures { (size : List ℕ) → length size ≡ len →
-        replicate result.left 32 ++ result.sign.now ++ result.mark.now ++ replicate result.zeros 48 ++ size ++ replicate result.right 32 ≡ field_text conv.now x size }
+        replicate result.left 32 ++ result.sign.now ++ result.mark.now ++ replicate result.zeros 48 ++ size ++
+        replicate result.right 32 ≡ field_text conv.now x size }
 {
     let sign = sign_of(conv, x);
     let mark = mark_of(conv, x);
@@ -157,10 +158,12 @@ fn field_around(conv: &FloatConv, x: f64, len: usize) -> FloatField
     }
 }
 
-/// Writes the digits of a float by a conversion, and answers what stands around them and how many bytes they are (C11 7.21.6.1).
+/// Writes the digits of a float by a conversion, and answers what stands around them and how many bytes they are (C11
+/// 7.21.6.1).
 pub fn write_float(conv: &FloatConv, x: f64, out: &mut [u8; ROOM]) -> (FloatField, usize)
     ensures end { result.1 ≤ 565 }
-    ensures text { IsFloatText conv.now x (replicate result.0.left 32 ++ result.0.sign.now ++ result.0.mark.now ++ replicate result.0.zeros 48
+    ensures text { IsFloatText conv.now x (replicate result.0.left 32 ++ result.0.sign.now ++ result.0.mark.now ++
+        replicate result.0.zeros 48
         ++ take result.1 out.new ++ replicate result.0.right 32) }
 {
     let len = write_size(conv, x, out);

@@ -29,14 +29,39 @@ pub record IsSomeDecimal (t : List ℕ) : Type 0 where
 signed_of : (t : List ℕ) → IsSignedDecimal t → IsSomeDecimal t
 signed_of [] h = absurd h
 signed_of (b ∷ []) (inl s) = absurd s.1
-signed_of (b ∷ c ∷ u) (inl s) = record { sign = b ∷ []; digits = c ∷ u; signed = sign_of b s.0; all = (s.1.0, digits_of u s.1.1); some = omega arith; joined = refl }
-signed_of (b ∷ t) (inr d) = record { sign = []; digits = b ∷ t; signed = inl refl; all = (d.0, digits_of t d.1); some = omega arith; joined = refl }
+signed_of (b ∷ c ∷ u) (inl s) = record {
+  sign = b ∷ [];
+  digits = c ∷ u;
+  signed = sign_of b s.0;
+  all = (s.1.0, digits_of u s.1.1);
+  some =
+      omega arith;
+  joined = refl;
+}
+signed_of (b ∷ t) (inr d) = record {
+  sign = [];
+  digits = b ∷ t;
+  signed = inl refl;
+  all = (d.0, digits_of t d.1);
+  some = omega arith;
+  joined = refl;
+}
 
 exponent_of : (radix : Radix) (t : List ℕ) → IsExponentPart radix t → (t ≡ []) ⊎ IsExponent radix t
 exponent_of radix [] h = inl refl
 exponent_of radix (b ∷ t) h =
     let s = signed_of t h.1 in
-    inr (record { letter = b; sign = s.sign; digits = s.digits; opens = h.0; signed = s.signed; all = s.all; some = s.some; joined = ap (λ x. b ∷ x) s.joined })
+    inr (record {
+      letter = b;
+      sign = s.sign;
+      digits = s.digits;
+      opens = h.0;
+      signed = s.signed;
+      all = s.all;
+      some = s.some;
+      joined =
+          ap (λ x. b ∷ x) s.joined;
+    })
 
 pub record IsTail (radix : Radix) (t : List ℕ) : Type 0 where
   pub fraction : List ℕ
@@ -49,7 +74,14 @@ tail_of : (radix : Radix) (t : List ℕ) → IsFraction radix t → IsTail radix
 tail_of radix [] h = record { fraction = []; exponent = []; digits = tt; raised = inl refl; joined = refl }
 tail_of radix (b ∷ t) (inl d) =
     let r = tail_of radix t d.1 in
-    record { fraction = b ∷ r.fraction; exponent = r.exponent; digits = (d.0, r.digits); raised = r.raised; joined = ap (λ x. b ∷ x) r.joined }
+    record {
+      fraction = b ∷ r.fraction;
+      exponent = r.exponent;
+      digits = (d.0, r.digits);
+      raised = r.raised;
+      joined =
+          ap (λ x. b ∷ x) r.joined;
+    }
 tail_of radix (b ∷ t) (inr e) = record { fraction = []; exponent = b ∷ t; digits = tt; raised = exponent_of radix (b ∷ t) e; joined = refl }
 
 -- as `IsNumeral`, but it may have no digit
@@ -65,25 +97,89 @@ pub record IsRest (radix : Radix) (t : List ℕ) : Type 0 where
   pub joined : t ≡ whole ++ (point ++ (fraction ++ exponent))
 
 rest_of : (radix : Radix) (t : List ℕ) → IsWhole radix t → IsRest radix t
-rest_of radix [] h = record { whole = []; point = []; fraction = []; exponent = []; whole_digits = tt; fraction_digits = tt; pointed = inl (refl, refl); raised = inl refl; joined = refl }
+rest_of radix [] h = record {
+  whole = [];
+  point = [];
+  fraction = [];
+  exponent = [];
+  whole_digits = tt;
+  fraction_digits = tt;
+  pointed =
+      inl (refl, refl);
+  raised = inl refl;
+  joined = refl;
+}
 rest_of radix (b ∷ t) (inl d) =
     let r = rest_of radix t d.1 in
-    record { whole = b ∷ r.whole; point = r.point; fraction = r.fraction; exponent = r.exponent; whole_digits = (d.0, r.whole_digits); fraction_digits = r.fraction_digits; pointed = r.pointed; raised = r.raised; joined = ap (λ x. b ∷ x) r.joined }
+    record {
+      whole = b ∷ r.whole;
+      point = r.point;
+      fraction = r.fraction;
+      exponent = r.exponent;
+      whole_digits = (d.0, r.whole_digits);
+      fraction_digits = r.fraction_digits;
+      pointed = r.pointed;
+      raised = r.raised;
+      joined = ap (λ x. b ∷ x) r.joined;
+    }
 rest_of radix (b ∷ t) (inr (inl p)) =
     let r = tail_of radix t p.1 in
-    record { whole = []; point = 46 ∷ []; fraction = r.fraction; exponent = r.exponent; whole_digits = tt; fraction_digits = r.digits; pointed = inr refl; raised = r.raised; joined = λ i. p.0 i ∷ r.joined i }
+    record {
+      whole = [];
+      point = 46 ∷ [];
+      fraction = r.fraction;
+      exponent = r.exponent;
+      whole_digits = tt;
+      fraction_digits = r.digits;
+      pointed = inr refl;
+      raised = r.raised;
+      joined = λ i. p.0 i ∷ r.joined i;
+    }
 rest_of radix (b ∷ t) (inr (inr e)) =
-    record { whole = []; point = []; fraction = []; exponent = b ∷ t; whole_digits = tt; fraction_digits = tt; pointed = inl (refl, refl); raised = exponent_of radix (b ∷ t) e; joined = refl }
+    record {
+      whole = [];
+      point = [];
+      fraction = [];
+      exponent = b ∷ t;
+      whole_digits = tt;
+      fraction_digits = tt;
+      pointed = inl (refl, refl);
+      raised = exponent_of radix (b ∷ t) e;
+      joined = refl;
+    }
 
 pub numeral_of : (radix : Radix) (t : List ℕ) → IsNumber radix t → IsNumeral radix t
 numeral_of radix [] h = absurd h
 numeral_of radix (b ∷ t) (inl d) =
     let r = rest_of radix t d.1 in
-    record { whole = b ∷ r.whole; point = r.point; fraction = r.fraction; exponent = r.exponent; whole_digits = (d.0, r.whole_digits); fraction_digits = r.fraction_digits; some = omega arith; pointed = r.pointed; raised = r.raised; joined = ap (λ x. b ∷ x) r.joined }
+    record {
+      whole = b ∷ r.whole;
+      point = r.point;
+      fraction = r.fraction;
+      exponent = r.exponent;
+      whole_digits = (d.0, r.whole_digits);
+      fraction_digits = r.fraction_digits;
+      some = omega arith;
+      pointed = r.pointed;
+      raised = r.raised;
+      joined = ap (λ x. b ∷ x) r.joined;
+    }
 numeral_of radix (b ∷ []) (inr p) = absurd p.1
 numeral_of radix (b ∷ c ∷ u) (inr p) =
     let r = tail_of radix u p.1.1 in
-    record { whole = []; point = 46 ∷ []; fraction = c ∷ r.fraction; exponent = r.exponent; whole_digits = tt; fraction_digits = (p.1.0, r.digits); some = omega arith; pointed = inr refl; raised = r.raised; joined = λ i. p.0 i ∷ c ∷ r.joined i }
+    record {
+      whole = [];
+      point = 46 ∷ [];
+      fraction = c ∷ r.fraction;
+      exponent = r.exponent;
+      whole_digits = tt;
+      fraction_digits =
+          (p.1.0, r.digits);
+      some = omega arith;
+      pointed = inr refl;
+      raised = r.raised;
+      joined = λ i. p.0 i ∷ c ∷ r.joined i;
+    }
 
 -- ---- from parts to the left
 
@@ -106,9 +202,11 @@ signed_from sign t (inr (inr e)) h = subst (λ s. IsSignedDecimal (s ++ t)) (sym
 
 pub exponent_from : (radix : Radix) (t : List ℕ) → ((t ≡ []) ⊎ IsExponent radix t) → IsExponentPart radix t
 exponent_from radix t (inl e) = subst (IsExponentPart radix) (sym e) tt
-exponent_from radix t (inr e) = subst (IsExponentPart radix) (sym e.joined) (e.opens, signed_from e.sign e.digits e.signed (decimal_from e.digits e.some e.all))
+exponent_from radix t (inr e) = subst (IsExponentPart radix) (sym e.joined)
+    (e.opens, signed_from e.sign e.digits e.signed (decimal_from e.digits e.some e.all))
 
-fraction_from : (radix : Radix) (fraction exponent : List ℕ) → AreDigits radix fraction → IsExponentPart radix exponent → IsFraction radix (fraction ++ exponent)
+fraction_from : (radix : Radix) (fraction exponent : List ℕ) → AreDigits radix fraction → IsExponentPart radix exponent
+    → IsFraction radix (fraction ++ exponent)
 fraction_from radix [] [] d h = tt
 fraction_from radix [] (b ∷ t) d h = inr h
 fraction_from radix (b ∷ t) exponent d h = inl (d.0, fraction_from radix t exponent d.1 h)
@@ -121,27 +219,37 @@ whole_from : (radix : Radix) (whole t : List ℕ) → AreDigits radix whole → 
 whole_from radix [] t d h = h
 whole_from radix (b ∷ w) t d h = inl (d.0, whole_from radix w t d.1 h)
 
-after_whole : (radix : Radix) (point fraction exponent : List ℕ) → ((point ≡ []) × (fraction ≡ []) ⊎ (point ≡ 46 ∷ [])) → AreDigits radix fraction → IsExponentPart radix exponent
+after_whole : (radix : Radix) (point fraction exponent : List ℕ) → ((point ≡ []) × (fraction ≡ []) ⊎ (point ≡ 46 ∷ []))
+    → AreDigits radix fraction → IsExponentPart radix exponent
     → IsWhole radix (point ++ (fraction ++ exponent))
-after_whole radix point fraction exponent (inl e) d h = subst (λ p. IsWhole radix (p ++ (fraction ++ exponent))) (sym e.0) (subst (λ f. IsWhole radix (f ++ exponent)) (sym e.1) (ended radix exponent h))
-after_whole radix point fraction exponent (inr e) d h = subst (λ p. IsWhole radix (p ++ (fraction ++ exponent))) (sym e) (inr (inl (refl, fraction_from radix fraction exponent d h)))
+after_whole radix point fraction exponent (inl e) d h = subst (λ p. IsWhole radix (p ++ (fraction ++ exponent))) (sym e.0)
+    (subst (λ f. IsWhole radix (f ++ exponent)) (sym e.1) (ended radix exponent h))
+after_whole radix point fraction exponent (inr e) d h = subst (λ p. IsWhole radix (p ++ (fraction ++ exponent))) (sym e)
+    (inr (inl (refl, fraction_from radix fraction exponent d h)))
 
-pointed_from : (radix : Radix) (fraction exponent : List ℕ) → 0 < length fraction → AreDigits radix fraction → IsExponentPart radix exponent → IsNumber radix (46 ∷ (fraction ++ exponent))
+pointed_from : (radix : Radix) (fraction exponent : List ℕ) → 0 < length fraction → AreDigits radix fraction
+    → IsExponentPart radix exponent → IsNumber radix (46 ∷ (fraction ++ exponent))
 pointed_from radix [] exponent s d h = absurd (omega arith)
 pointed_from radix (b ∷ t) exponent s d h = inr (refl, (d.0, fraction_from radix t exponent d.1 h))
 
-number_from : (radix : Radix) (whole point fraction exponent : List ℕ) → 0 < length whole + length fraction → ((point ≡ []) × (fraction ≡ []) ⊎ (point ≡ 46 ∷ []))
-    → AreDigits radix whole → AreDigits radix fraction → IsExponentPart radix exponent → IsNumber radix (whole ++ (point ++ (fraction ++ exponent)))
-number_from radix (b ∷ w) point fraction exponent s p d f h = inl (d.0, whole_from radix w (point ++ (fraction ++ exponent)) d.1 (after_whole radix point fraction exponent p f h))
+number_from : (radix : Radix) (whole point fraction exponent : List ℕ) → 0 < length whole + length fraction
+    → ((point ≡ []) × (fraction ≡ []) ⊎ (point ≡ 46 ∷ []))
+    → AreDigits radix whole → AreDigits radix fraction → IsExponentPart radix exponent
+    → IsNumber radix (whole ++ (point ++ (fraction ++ exponent)))
+number_from radix (b ∷ w) point fraction exponent s p d f h = inl
+    (d.0, whole_from radix w (point ++ (fraction ++ exponent)) d.1 (after_whole radix point fraction exponent p f h))
 number_from radix [] point fraction exponent s (inl e) d f h = absurd (omega (arith, ap length e.1))
-number_from radix [] point fraction exponent s (inr e) d f h = subst (λ p. IsNumber radix (p ++ (fraction ++ exponent))) (sym e) (pointed_from radix fraction exponent (omega arith) f h)
+number_from radix [] point fraction exponent s (inr e) d f h = subst (λ p. IsNumber radix (p ++ (fraction ++ exponent))) (sym e)
+    (pointed_from radix fraction exponent (omega arith) f h)
 
 pub number_of : (radix : Radix) (t : List ℕ) → IsNumeral radix t → IsNumber radix t
-number_of radix t n = subst (IsNumber radix) (sym n.joined) (number_from radix n.whole n.point n.fraction n.exponent n.some n.pointed n.whole_digits n.fraction_digits (exponent_from radix n.exponent n.raised))
+number_of radix t n = subst (IsNumber radix) (sym n.joined) (number_from radix n.whole n.point n.fraction n.exponent n.some n.pointed
+    n.whole_digits n.fraction_digits (exponent_from radix n.exponent n.raised))
 
 -- ---- words
 
-begun : (ws t : List ℕ) (P : List ℕ → Type 0) → Begins ws P t → (name : List ℕ) × (rest : List ℕ) × (t ≡ name ++ rest) × Spells ws name × P rest
+begun : (ws t : List ℕ) (P : List ℕ → Type 0) → Begins ws P t → (name : List ℕ) × (rest : List ℕ) × (t ≡ name ++ rest) × Spells ws name
+    × P rest
 begun [] t P h = ([], t, refl, tt, h)
 begun (w ∷ ws) [] P h = absurd h
 begun (w ∷ ws) (b ∷ t) P h = let r = begun ws t P h.1 in (b ∷ r.0, r.1, ap (λ x. b ∷ x) r.2, (h.0, r.3), r.4)
@@ -169,7 +277,8 @@ infinity_of ws t h =
     let r = begun ws t IsInfinityTail h in
     elim r.4 [
       | inl e ↦ inl (subst (Spells ws) (sym r.2) (spells_alone ws r.0 r.1 r.3 e))
-      | inr s ↦ inr (subst (Spells (ws ++ 105 ∷ 110 ∷ 105 ∷ 116 ∷ 121 ∷ [])) (sym r.2) (spells_join ws (105 ∷ 110 ∷ 105 ∷ 116 ∷ 121 ∷ []) r.0 r.1 r.3 s))
+      | inr s ↦ inr (subst (Spells (ws ++ 105 ∷ 110 ∷ 105 ∷ 116 ∷ 121 ∷ [])) (sym r.2)
+          (spells_join ws (105 ∷ 110 ∷ 105 ∷ 116 ∷ 121 ∷ []) r.0 r.1 r.3 s))
     ]
 
 short_from : (ws t : List ℕ) → Spells ws t → Begins ws IsInfinityTail t
@@ -207,7 +316,8 @@ pub nan_of : (t : List ℕ) → Begins (110 ∷ 97 ∷ 110 ∷ []) IsNanTail t �
 nan_of t h = let r = begun (110 ∷ 97 ∷ 110 ∷ []) t IsNanTail h in (r.0, r.1, r.3, sequence_of r.1 r.4, r.2)
 
 nan_from : (t : List ℕ) → IsNan t → Begins (110 ∷ 97 ∷ 110 ∷ []) IsNanTail t
-nan_from t n = subst (Begins (110 ∷ 97 ∷ 110 ∷ []) IsNanTail) (sym n.4) (begins_from (110 ∷ 97 ∷ 110 ∷ []) n.0 n.1 IsNanTail n.2 (sequence_from n.1 n.3))
+nan_from t n = subst (Begins (110 ∷ 97 ∷ 110 ∷ []) IsNanTail) (sym n.4)
+    (begins_from (110 ∷ 97 ∷ 110 ∷ []) n.0 n.1 IsNanTail n.2 (sequence_from n.1 n.3))
 
 -- ---- all four, and the sign
 

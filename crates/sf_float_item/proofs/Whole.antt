@@ -18,7 +18,8 @@ pub one_more : (t : List ℕ) (i : ℕ) → i < length t → take (i + 1) t ≡ 
 one_more t i h = ap (λ k. take k t) (add-one i) ∙ take-suc t i 0 h
 
 -- each front of a matching sequence begins one
-pub begins_at : (t : List ℕ) (i : ℕ) → i < length t → ((k : ℕ) → get_or t k 0 < 256) → IsFloat t → BeginsFloat (take i t ++ get_or t i 0 ∷ [])
+pub begins_at : (t : List ℕ) (i : ℕ) → i < length t → ((k : ℕ) → get_or t k 0 < 256) → IsFloat t
+    → BeginsFloat (take i t ++ get_or t i 0 ∷ [])
 begins_at t i h bytes f =
     let e = ap (λ s. s ++ drop (i + 1) t) (sym (one_more t i h)) ∙ take-append-drop (i + 1) t in
     (drop (i + 1) t, drop_bytes t (i + 1) bytes, subst IsFloat (sym e) f)

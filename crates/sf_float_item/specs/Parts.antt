@@ -48,7 +48,8 @@ IsInfinity t = Spells (105 ∷ 110 ∷ 102 ∷ []) t ⊎ Spells (105 ∷ 110 ∷
 
 -- nothing, or letters, digits and underscores in parentheses, or none in them (7.22.1.3p3: n-char-sequence)
 abbrev pub IsCharSequence : List ℕ → Type 0
-IsCharSequence t = (t ≡ []) ⊎ ((chars : List ℕ) × AllByRecursion (λ b. is_ascii_alphanumeric b || b == 95 ≡ true) chars × (t ≡ 40 ∷ (chars ++ 41 ∷ [])))
+IsCharSequence t = (t ≡ []) ⊎ ((chars : List ℕ) × AllByRecursion (λ b. is_ascii_alphanumeric b || b == 95 ≡ true) chars
+    × (t ≡ 40 ∷ (chars ++ 41 ∷ [])))
 
 -- `nan`, in either case, and such a sequence or none
 abbrev pub IsNan : List ℕ → Type 0
@@ -56,7 +57,8 @@ IsNan t = (name : List ℕ) × (chars : List ℕ) × Spells (110 ∷ 97 ∷ 110 
 
 -- a sign or none, and one of the four
 abbrev pub IsFloatInParts : List ℕ → Type 0
-IsFloatInParts f = (sign : List ℕ) × (size : List ℕ) × IsSign sign × (f ≡ sign ++ size) × (IsNumeral Ten size ⊎ IsHexadecimal size ⊎ IsInfinity size ⊎ IsNan size)
+IsFloatInParts f = (sign : List ℕ) × (size : List ℕ) × IsSign sign × (f ≡ sign ++ size)
+    × (IsNumeral Ten size ⊎ IsHexadecimal size ⊎ IsInfinity size ⊎ IsNan size)
 
 -- both relations say the same
 abbrev pub PartsAreSequences : Type 0

@@ -1,4 +1,5 @@
--- The matching sequences of `a e f g` (C11 7.21.6.2p12, 7.22.1.3p3, in the C locale), read from the left. Each definition says what may stand from a place on.
+-- The matching sequences of `a e f g` (C11 7.21.6.2p12, 7.22.1.3p3, in the C locale), read from the left. Each definition says what may
+-- stand from a place on.
 use Rattle.std.specs.Prelude.{◌≡◌, ◌⊎◌, ℕ, Bool, true, ◌||◌, ◌==◌, List, [], ◌∷◌, ⊤}
 use Rattle.std.specs.Char.{is_ascii_digit, is_ascii_hexdigit, is_ascii_alphanumeric, to_ascii_lowercase}
 use Rattle.sf_float_item.specs.declared.reached.Radix.{Radix}

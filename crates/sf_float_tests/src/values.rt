@@ -149,7 +149,8 @@ fn long_exponents_count() -> Result<(), Fail> {
     Err(Fail::new(format_args!("not 1")))
 }
 
-/// An input, how many bytes of it are the item, and whether that is a matching sequence (C11 7.21.6.2p9, and its example `100ergs`).
+/// An input, how many bytes of it are the item, and whether that is a matching sequence (C11 7.21.6.2p9, and its
+/// example `100ergs`).
 type Item = (&'static [u8], usize, bool);
 
 static ITEMS: [Item; 20] = [

@@ -66,12 +66,16 @@ module _ (n w m cut c : ℕ) (lost : Bool) (C : 0 < cut) (W : 0 < w) (power : c 
   pub rounded_up : c < 2 * (m % c) → closest n (w * 2 ^ cut) ≡ m / c + 1
   rounded_up h = at _ (cut_above n w m (m / c) (2 ^ (cut - 1)) (m % c) bounds.0 W bounds.1 bounds.2 parts small (omega (arith, h, twice)))
 
-pub lost_up : (n w m cut c : ℕ) → 0 < cut → 0 < w → c ≡ 2 ^ cut → IsQuotient n w m true → 2 * (m % c) ≡ c → closest n (w * 2 ^ cut) ≡ m / c + 1
+pub lost_up : (n w m cut c : ℕ) → 0 < cut → 0 < w → c ≡ 2 ^ cut → IsQuotient n w m true → 2 * (m % c) ≡ c
+    → closest n (w * 2 ^ cut) ≡ m / c + 1
 lost_up n w m cut c C W power p h =
     at n w m cut c true C W power p _
-    (cut_more n w m (m / c) (2 ^ (cut - 1)) (m % c) p.0 W p.1 p.3 (parts n w m cut c true C W power p) (small n w m cut c true C W power p) (omega (arith, h, twice n w m cut c true C W power p)) p.2)
+    (cut_more n w m (m / c) (2 ^ (cut - 1)) (m % c) p.0 W p.1 p.3 (parts n w m cut c true C W power p) (small n w m cut c true C W power p)
+    (omega (arith, h, twice n w m cut c true C W power p)) p.2)
 
-pub tie_even : (n w m cut c : ℕ) → 0 < cut → 0 < w → c ≡ 2 ^ cut → IsQuotient n w m false → 2 * (m % c) ≡ c → closest n (w * 2 ^ cut) ≡ m / c + m / c % 2
+pub tie_even : (n w m cut c : ℕ) → 0 < cut → 0 < w → c ≡ 2 ^ cut → IsQuotient n w m false → 2 * (m % c) ≡ c
+    → closest n (w * 2 ^ cut) ≡ m / c + m / c % 2
 tie_even n w m cut c C W power p h =
     at n w m cut c false C W power p _
-    (cut_tie n w m (m / c) (2 ^ (cut - 1)) (m % c) 0 W (p ∙ omega arith) W (parts n w m cut c false C W power p) (small n w m cut c false C W power p) (omega (arith, h, twice n w m cut c false C W power p)) (omega arith))
+    (cut_tie n w m (m / c) (2 ^ (cut - 1)) (m % c) 0 W (p ∙ omega arith) W (parts n w m cut c false C W power p)
+    (small n w m cut c false C W power p) (omega (arith, h, twice n w m cut c false C W power p)) (omega arith))

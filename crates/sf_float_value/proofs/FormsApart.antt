@@ -50,7 +50,8 @@ no_number c u e (inr (inr x)) =
       | inr k ↦ absurd (omega (arith, sym (subst (λ b. to_ascii_lowercase b ≡ 120) k e)))
     ]
 
-is_prefix : (b : ℕ) (c : ℕ) (u : List ℕ) → to_ascii_lowercase b ≡ 48 → to_ascii_lowercase c ≡ 120 → IsUnsigned (b ∷ c ∷ u) → (b ≡ 48) × ((c ≡ 120) ⊎ (c ≡ 88)) × IsNumber Sixteen u
+is_prefix : (b : ℕ) (c : ℕ) (u : List ℕ) → to_ascii_lowercase b ≡ 48 → to_ascii_lowercase c ≡ 120 → IsUnsigned (b ∷ c ∷ u)
+    → (b ≡ 48) × ((c ≡ 120) ⊎ (c ≡ 88)) × IsNumber Sixteen u
 is_prefix b c u e f (inl (z, inl w)) = absurd (no_number c u f w)
 is_prefix b c u e f (inl (z, inr x)) = (z, either 120 88 c x.0, x.1)
 is_prefix b c u e f (inr (inl (inl d))) = absurd (no_number c u f d.1)
@@ -63,15 +64,21 @@ pub prefix_first : (b : ℕ) (c : ℕ) (u : List ℕ) → to_ascii_lowercase b �
 prefix_first b c u e f h = let r = is_prefix b c u e f h in (c, u, r.1, ap (λ k. k ∷ c ∷ u) r.0, r.2)
 
 marked : (c : ℕ) → (c == 120 || c == 88) ≡ true → to_ascii_lowercase c ≡ 120
-marked c h = elim (either 120 88 c h) [ inl k ↦ subst (λ b. to_ascii_lowercase b ≡ 120) (sym k) refl | inr k ↦ subst (λ b. to_ascii_lowercase b ≡ 120) (sym k) refl ]
+marked c h = elim (either 120 88 c h) [
+  | inl k ↦ subst (λ b. to_ascii_lowercase b ≡ 120) (sym k) refl
+  | inr k ↦ subst
+      (λ b. to_ascii_lowercase b ≡ 120) (sym k) refl
+]
 
-pub decimal_alone : (b : ℕ) → IsUnsigned (b ∷ []) → (to_ascii_lowercase b ≡ 105 → ⊥) → (to_ascii_lowercase b ≡ 110 → ⊥) → IsNumber Ten (b ∷ [])
+pub decimal_alone : (b : ℕ) → IsUnsigned (b ∷ []) → (to_ascii_lowercase b ≡ 105 → ⊥) → (to_ascii_lowercase b ≡ 110 → ⊥)
+    → IsNumber Ten (b ∷ [])
 decimal_alone b (inl z) i n = inl (ap (is_digit Ten) z.0, tt)
 decimal_alone b (inr (inl k)) i n = k
 decimal_alone b (inr (inr (inl k))) i n = absurd (i k.0)
 decimal_alone b (inr (inr (inr k))) i n = absurd (n k.0)
 
-pub decimal_first : (b c : ℕ) (u : List ℕ) → IsUnsigned (b ∷ c ∷ u) → (to_ascii_lowercase b ≡ 105 → ⊥) → (to_ascii_lowercase b ≡ 110 → ⊥) → (to_ascii_lowercase b ≡ 48 → to_ascii_lowercase c ≡ 120 → ⊥)
+pub decimal_first : (b c : ℕ) (u : List ℕ) → IsUnsigned (b ∷ c ∷ u) → (to_ascii_lowercase b ≡ 105 → ⊥) → (to_ascii_lowercase b ≡ 110 → ⊥)
+    → (to_ascii_lowercase b ≡ 48 → to_ascii_lowercase c ≡ 120 → ⊥)
     → IsNumber Ten (b ∷ c ∷ u)
 decimal_first b c u (inl (z, inl w)) i n x = inl (ap (is_digit Ten) z, w)
 decimal_first b c u (inl (z, inr k)) i n x = absurd (x (lower b (omega (arith, z)) ∙ z) (marked c k.0))
@@ -89,7 +96,8 @@ pub nan_at : (t : List ℕ) → IsUnsigned t → to_ascii_lowercase (slice_index
 nan_at [] h e = absurd h
 nan_at (b ∷ t) h e = nan_first b t h e
 
-pub prefix_at : (t : List ℕ) → 1 < length t → IsUnsigned t → to_ascii_lowercase (slice_index t 0) ≡ 48 → to_ascii_lowercase (slice_index t 1) ≡ 120
+pub prefix_at : (t : List ℕ) → 1 < length t → IsUnsigned t → to_ascii_lowercase (slice_index t 0) ≡ 48
+    → to_ascii_lowercase (slice_index t 1) ≡ 120
     → (x : ℕ) × (numeral : List ℕ) × ((x ≡ 120) ⊎ (x ≡ 88)) × (t ≡ 48 ∷ x ∷ numeral) × IsNumber Sixteen numeral
 prefix_at [] l h e f = absurd h
 prefix_at (b ∷ []) l h e f = absurd (omega arith)

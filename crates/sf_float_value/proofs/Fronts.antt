@@ -20,7 +20,12 @@ pub skipped_zero : (v m cut : ℕ) (lost : Bool) → 2 ^ 56 ≤ m → IsFront v 
 skipped_zero v m cut true h f =
     let q = f.quotient in
     record {
-      quotient = (q.0 * 16, (omega (arith, q.1, one_more cut, ap (λ k. m * k) (one_more cut))), (omega (arith, q.2)), (omega (arith, q.3, one_more cut)));
+      quotient = (
+        q.0 * 16,
+        (omega (arith, q.1, one_more cut, ap (λ k. m * k) (one_more cut))),
+        (omega (arith, q.2)),
+        (omega (arith, q.3, one_more cut)),
+      );
       few = f.few;
       long = λ _. h;
       known = λ _. omega arith;
@@ -33,7 +38,8 @@ skipped_zero v m cut false h f =
       known = λ _. omega arith;
     }
 
-pub skipped_more : (v m cut d : ℕ) (lost : Bool) → 2 ^ 56 ≤ m → 0 < d → d < 16 → IsFront v m cut lost → IsFront (v * 16 + d) m (cut + 1) true
+pub skipped_more : (v m cut d : ℕ) (lost : Bool) → 2 ^ 56 ≤ m → 0 < d → d < 16 → IsFront v m cut lost
+    → IsFront (v * 16 + d) m (cut + 1) true
 skipped_more v m cut d true h s l f =
     let q = f.quotient in
     record {
@@ -56,13 +62,16 @@ skipped_more v m cut d false h s l f =
 -- ---- a byte of the text
 
 pub at_digit : (text : List ℕ) (at v p : ℕ) (after : Bool) → at < length text → is_ascii_hexdigit (get_or text at 0) ≡ true
-    → digits_read v p after (drop at text) ≡ digits_read (v * 16 + digit_value (get_or text at 0)) (if after then suc p else p) after (drop (at + 1) text)
+    → digits_read v p after (drop at text) ≡ digits_read (v * 16 + digit_value (get_or text at 0)) (if after then suc p else p) after
+    (drop (at + 1) text)
 at_digit text at v p after l h =
     ap (digits_read v p after) (drop-cons text at 0 l)
-    ∙ ap (λ k. if k then digits_read (v * 16 + digit_value (get_or text at 0)) (if after then suc p else p) after (drop (suc at) text) else (if get_or text at 0 == 46 then digits_read v p true (drop (suc at) text) else (v, p, get_or text at 0 ∷ drop (suc at) text))) h
+    ∙ ap (λ k. if k then digits_read (v * 16 + digit_value (get_or text at 0)) (if after then suc p else p) after (drop (suc at) text) else
+    (if get_or text at 0 == 46 then digits_read v p true (drop (suc at) text) else (v, p, get_or text at 0 ∷ drop (suc at) text))) h
     ∙ ap (λ k. digits_read (v * 16 + digit_value (get_or text at 0)) (if after then suc p else p) after (drop k text)) (sym (add-one at))
 
-pub at_point : (text : List ℕ) (at v p : ℕ) (after : Bool) → at < length text → get_or text at 0 ≡ 46 → digits_read v p after (drop at text) ≡ digits_read v p true (drop (at + 1) text)
+pub at_point : (text : List ℕ) (at v p : ℕ) (after : Bool) → at < length text → get_or text at 0 ≡ 46
+    → digits_read v p after (drop at text) ≡ digits_read v p true (drop (at + 1) text)
 at_point text at v p after l e =
     ap (digits_read v p after) (drop-cons text at 0 l)
     ∙ ap (λ b. digits_read v p after (b ∷ drop (suc at) text)) e
@@ -98,7 +107,8 @@ full v r d h c =
       most = c.most;
     }
 
-pub value_more : (t : List ℕ) (i : ℕ) → AllDecimal t → i < length t → digits_value 10 (take i t) * 10 + (get_or t i 0 - 48) ≡ digits_value 10 (take (i + 1) t)
+pub value_more : (t : List ℕ) (i : ℕ) → AllDecimal t → i < length t
+    → digits_value 10 (take i t) * 10 + (get_or t i 0 - 48) ≡ digits_value 10 (take (i + 1) t)
 value_more t i h l =
     let b = get_or t i 0 in
     ap (λ k. digits_value 10 (take i t) * 10 + k) (sym (digit_is b (digit_at t i h l)))

@@ -34,10 +34,13 @@ pub one_hex_value : OneHexValue
 one_hex_value f negative t x y v w =
     let n = v.0 in
     let k = w.0 in
-    let same : ◌≡◌ {A = ℕ × ℕ × List ℕ} (digits_value 16 (n.whole ++ n.fraction), length n.fraction, n.exponent) (digits_value 16 (k.whole ++ k.fraction), length k.fraction, k.exponent) = sym (read_parts t n) ∙ read_parts t k in
+    let same : ◌≡◌ {A = ℕ × ℕ × List ℕ} (digits_value 16 (n.whole ++ n.fraction), length n.fraction, n.exponent)
+    (digits_value 16 (k.whole ++ k.fraction), length k.fraction, k.exponent) = sym (read_parts t n) ∙ read_parts t k in
     let e : n.exponent ≡ k.exponent = ap (λ r. r.2) same in
-    let ups = up_by n.exponent n.raised ∙ ap (λ s. if (exponent_read s).0 then 0 else (exponent_read s).1) e ∙ sym (up_by k.exponent k.raised) in
-    let downs = down_by n.exponent n.raised ∙ ap (λ s. if (exponent_read s).0 then (exponent_read s).1 else 0) e ∙ sym (down_by k.exponent k.raised) in
+    let ups = up_by n.exponent n.raised ∙ ap (λ s. if (exponent_read s).0 then 0 else (exponent_read s).1) e
+    ∙ sym (up_by k.exponent k.raised) in
+    let downs = down_by n.exponent n.raised ∙ ap (λ s. if (exponent_read s).0 then (exponent_read s).1 else 0) e
+    ∙ sym (down_by k.exponent k.raised) in
     v.1 ∙ (λ i. round f negative ((same i).0 * 2 ^ ups i) (2 ^ (4 * (same i).1 + downs i))) ∙ sym w.1
 
 -- ---- digits, each tried
@@ -98,7 +101,8 @@ all_hex (suc k) n = push_hex (hex_digits k (n / 16)) (hex_digit (n % 16)) (all_h
 
 all_decimal : (k n : ℕ) → AreDigits Ten (fixed_digits k n)
 all_decimal zero n = tt
-all_decimal (suc k) n = push_decimal (fixed_digits k (n / 10)) (48 + n % 10) (all_decimal k (n / 10)) (decimal_is (n % 10) (mod-lt n (lit< tt)))
+all_decimal (suc k) n = push_decimal (fixed_digits k (n / 10)) (48 + n % 10) (all_decimal k (n / 10))
+    (decimal_is (n % 10) (mod-lt n (lit< tt)))
 
 hex_length : (k n : ℕ) → length (hex_digits k n) ≡ k
 hex_length zero n = refl
@@ -118,7 +122,8 @@ hex_split : (k b n : ℕ) → hex_digits k (n / 16 ^ b) ++ hex_digits b n ≡ he
 hex_split k zero n = append-nil (hex_digits k (n / 1)) ∙ (λ i. hex_digits (sym (add-zero k) i) (div-one n i))
 hex_split k (suc b) n =
     let d = hex_digit (n % 16) ∷ [] in
-    let e : n / 16 ^ suc b ≡ n / 16 / 16 ^ b = ap (λ t. n / t) (pow-suc 16 b ∙ mul_comm (16 ^ b) 16) ∙ sym (div-div-eq-div-mul n 16 (16 ^ b)) in
+    let e : n / 16 ^ suc b ≡ n / 16 / 16 ^ b = ap (λ t. n / t) (pow-suc 16 b ∙ mul_comm (16 ^ b) 16)
+    ∙ sym (div-div-eq-div-mul n 16 (16 ^ b)) in
     ap (λ t. hex_digits k t ++ (hex_digits b (n / 16) ++ d)) e
     ∙ sym (append_assoc (hex_digits k (n / 16 / 16 ^ b)) (hex_digits b (n / 16)) d)
     ∙ ap (λ t. t ++ d) (hex_split k b (n / 16))
@@ -237,7 +242,8 @@ parts_of alt kept n power e r = go (nat_lt 0 kept || alt) refl
 
 -- ---- the value
 
-bits_of_value : (f : Format) (x : Float) (s : Bool) (a : ℕ) → HasValue x s a (2 ^ low f) → to_bits f x ≡ cond s (top f) 0 + (size a - prec f) * hid f + a / 2 ^ (size a - prec f)
+bits_of_value : (f : Format) (x : Float) (s : Bool) (a : ℕ) → HasValue x s a (2 ^ low f)
+    → to_bits f x ≡ cond s (top f) 0 + (size a - prec f) * hid f + a / 2 ^ (size a - prec f)
 unfolding to_bits
 bits_of_value f nan s a v = absurd v
 bits_of_value f (inf t) s a v = absurd v
@@ -245,17 +251,22 @@ bits_of_value f (fin t m e) s a v =
     let n : m * up e * 2 ^ low f / down e ≡ a = ap (λ (k : ℕ). k / down e) v.1 ∙ mul-div_cancel a (down_pos e) in
     λ i. cond (v.0 i) (top f) 0 + (size (n i) - prec f) * hid f + n i / 2 ^ (size (n i) - prec f)
 
-same_value : (f : Format) (x y : Float) (s : Bool) (a : ℕ) → T (fits f x) → T (fits f y) → HasValue x s a (2 ^ low f) → HasValue y s a (2 ^ low f) → x ≡ y
-same_value f x y s a p q v w = sym (of_bits-to_bits f x p) ∙ ap (of_bits f) (bits_of_value f x s a v ∙ sym (bits_of_value f y s a w)) ∙ of_bits-to_bits f y q
+same_value : (f : Format) (x y : Float) (s : Bool) (a : ℕ) → T (fits f x) → T (fits f y) → HasValue x s a (2 ^ low f)
+    → HasValue y s a (2 ^ low f) → x ≡ y
+same_value f x y s a p q v w = sym (of_bits-to_bits f x p) ∙ ap (of_bits f) (bits_of_value f x s a v ∙ sym (bits_of_value f y s a w))
+    ∙ of_bits-to_bits f y q
 
-exact : (x : Float) (negative : Bool) (m power : ℕ) → T (fits binary64 x) → HasValue x negative (m * 2 ^ power) (2 ^ 1074) → m < 2 ^ 53 → power < 2046 → round binary64 negative (m * 2 ^ power) (2 ^ 1074) ≡ x
+exact : (x : Float) (negative : Bool) (m power : ℕ) → T (fits binary64 x) → HasValue x negative (m * 2 ^ power) (2 ^ 1074) → m < 2 ^ 53
+    → power < 2046 → round binary64 negative (m * 2 ^ power) (2 ^ 1074) ≡ x
 exact x negative m power f v most few =
     let l : 53 + power ≤ 2098 = omega arith in
     let below : m * 2 ^ power < 2 ^ 2098 = lt_of_lt_of_le (shl_lt 53 power most) (pow_mono l) in
-    same_value binary64 (round binary64 negative (m * 2 ^ power) (2 ^ 1074)) x negative (m * 2 ^ power) (round-fits binary64 negative (m * 2 ^ power) (2 ^ 1074)) f
+    same_value binary64 (round binary64 negative (m * 2 ^ power) (2 ^ 1074)) x negative (m * 2 ^ power)
+    (round-fits binary64 negative (m * 2 ^ power) (2 ^ 1074)) f
     (round_exact binary64 negative (m * 2 ^ power) (2 ^ 1074) m power (pow_pos 1074) most below refl) v
 
-cross : (m n power kept : ℕ) → n * 2 ^ 52 ≡ m * 16 ^ kept → n * 2 ^ (power - 1022) * 2 ^ 1074 ≡ m * 2 ^ power * 2 ^ (4 * kept + (1022 - power))
+cross : (m n power kept : ℕ) → n * 2 ^ 52 ≡ m * 16 ^ kept → n * 2 ^ (power - 1022) * 2 ^ 1074
+    ≡ m * 2 ^ power * 2 ^ (4 * kept + (1022 - power))
 cross m n power kept h =
     let u = power - 1022 in
     let d = 1022 - power in
@@ -271,24 +282,29 @@ cross m n power kept h =
     joined : (n m u a b k p d : ℕ) → n * a ≡ m * k → u * b ≡ p * d → n * u * (a * b) ≡ m * p * (k * d)
     joined n m u a b k p d h e = omega (arith, ap (λ t. t * (u * b)) h, ap (λ t. m * k * t) e)
 
-back : (x : Float) (negative : Bool) (m n power kept : ℕ) → T (fits binary64 x) → HasValue x negative (m * 2 ^ power) (2 ^ 1074) → m < 2 ^ 53 → power < 2046 → n * 2 ^ 52 ≡ m * 16 ^ kept
+back : (x : Float) (negative : Bool) (m n power kept : ℕ) → T (fits binary64 x) → HasValue x negative (m * 2 ^ power) (2 ^ 1074)
+    → m < 2 ^ 53 → power < 2046 → n * 2 ^ 52 ≡ m * 16 ^ kept
     → round binary64 negative (n * 2 ^ (binary_power m power - 1022)) (2 ^ (4 * kept + (1022 - binary_power m power))) ≡ x
 back x negative m n power kept f v most few h =
     let p = binary_power m power in
-    round_same binary64 negative _ _ (m * 2 ^ power) (2 ^ 1074) (pow_pos (4 * kept + (1022 - p))) (pow_pos 1074) crossed ∙ exact x negative m power f v most few
+    round_same binary64 negative _ _ (m * 2 ^ power) (2 ^ 1074) (pow_pos (4 * kept + (1022 - p))) (pow_pos 1074) crossed
+    ∙ exact x negative m power f v most few
   where
     crossed : n * 2 ^ (binary_power m power - 1022) * 2 ^ 1074 ≡ m * 2 ^ power * 2 ^ (4 * kept + (1022 - binary_power m power))
     crossed =
         elim (eq-zero-or-pos m) [
-          | inr M ↦ subst (λ q. n * 2 ^ (q - 1022) * 2 ^ 1074 ≡ m * 2 ^ power * 2 ^ (4 * kept + (1022 - q))) (ap (λ b. if b then power else 1022) (sym (lt-ltb 0 m M))) (cross m n power kept h)
+          | inr M ↦ subst (λ q. n * 2 ^ (q - 1022) * 2 ^ 1074 ≡ m * 2 ^ power * 2 ^ (4 * kept + (1022 - q)))
+              (ap (λ b. if b then power else 1022) (sym (lt-ltb 0 m M))) (cross m n power kept h)
           | inl z ↦
               let none : n ≡ 0 = eq_of_mul-eq-mul_right (2 ^ 52) (pow_pos 52) n 0 (h ∙ ap (λ k. k * 16 ^ kept) z ∙ omega arith) in
-              ap (λ k. k * 2 ^ (binary_power m power - 1022) * 2 ^ 1074) none ∙ omega arith ∙ ap (λ k. k * 2 ^ power * 2 ^ (4 * kept + (1022 - binary_power m power))) (sym z)
+              ap (λ k. k * 2 ^ (binary_power m power - 1022) * 2 ^ 1074) none ∙ omega arith
+              ∙ ap (λ k. k * 2 ^ power * 2 ^ (4 * kept + (1022 - binary_power m power))) (sym z)
         ]
 
 -- ---- what is printed
 
-long_numeral : (alt : Bool) (precision : Option ℕ) (m : ℕ) (t : List ℕ) → IsLong precision → IsHexNumeral alt precision m t → (kept : ℕ) × (n : ℕ) × (t ≡ hex_text alt kept n) × (n * 2 ^ 52 ≡ m * 16 ^ kept)
+long_numeral : (alt : Bool) (precision : Option ℕ) (m : ℕ) (t : List ℕ) → IsLong precision → IsHexNumeral alt precision m t
+    → (kept : ℕ) × (n : ℕ) × (t ≡ hex_text alt kept n) × (n * 2 ^ 52 ≡ m * 16 ^ kept)
 long_numeral alt None m t l h =
     let less : h.0 ≤ 13 = h.2.fewer in
     let e : 13 - h.0 + h.0 ≡ 13 = omega arith in
@@ -299,8 +315,13 @@ long_numeral alt None m t l h =
     regroup x y z = omega arith
 long_numeral alt (Some d) m t l h =
     let e : d - 13 + 13 ≡ d = omega arith in
-    let p : 16 ^ (d - 13) * 2 ^ 52 ≡ 16 ^ d = sym (pow-add 16 (d - 13) 13) ∙ ap (λ k. 16 ^ k) e in
-    (d, closest (m * 16 ^ d) (2 ^ 52), h, ap (λ k. k * 2 ^ 52) (sym (many_digits m d l)) ∙ regroup m (16 ^ (d - 13)) (2 ^ 52) ∙ ap (λ k. m * k) p)
+    let p : 16 ^ (d - 13) * 2 ^ 52 ≡ 16 ^ d = sym (pow-add 16 (d - 13) 13) ∙ ap (λ k. 16 ^ k) e in (
+      d,
+      closest (m * 16 ^ d) (2 ^ 52),
+      h,
+      ap (λ k. k * 2 ^ 52) (sym (many_digits m d l)) ∙ regroup m (16 ^ (d - 13)) (2 ^ 52)
+          ∙ ap (λ k. m * k) p,
+    )
   where
     regroup : (x y z : ℕ) → x * y * z ≡ x * (y * z)
     regroup x y z = omega arith
@@ -328,8 +349,10 @@ hexadecimal_back x alt precision t f long h =
     let kept = r.0 in
     let n = r.1 in
     let p = parts_of alt kept n q h.3.1 (exponent_of q h.3.1 h.3.3) in
-    let value : n ≡ digits_value 16 (p.numeral.whole ++ p.numeral.fraction) = sym (both_value kept n (few_digits_of m n kept b.most r.3)) ∙ (λ i. digits_value 16 (sym p.whole_is i ++ sym p.fraction_is i)) in
+    let value : n ≡ digits_value 16 (p.numeral.whole ++ p.numeral.fraction) =
+    sym (both_value kept n (few_digits_of m n kept b.most r.3)) ∙ (λ i. digits_value 16 (sym p.whole_is i ++ sym p.fraction_is i)) in
     let places : kept ≡ length p.numeral.fraction = sym (hex_length kept n) ∙ ap length (sym p.fraction_is) in
-    let is = sym (back x b.negative m n power kept f b.value b.most b.few r.3) ∙ (λ i. round binary64 b.negative (value i * 2 ^ sym p.up_is i) (2 ^ (4 * places i + sym p.down_is i))) in
+    let is = sym (back x b.negative m n power kept f b.value b.most b.few r.3)
+    ∙ (λ i. round binary64 b.negative (value i * 2 ^ sym p.up_is i) (2 ^ (4 * places i + sym p.down_is i))) in
     subst (λ s. IsHexValue binary64 s t x) (sign_of_value x b.negative _ _ b.value)
     (subst (λ s. IsHexValue binary64 b.negative s x) (sym (h.3.4 ∙ ap (λ s. s ++ h.3.1) r.2)) (p.numeral, is))

@@ -32,7 +32,8 @@ read_digits : (ds rest : List ℕ) (v p : ℕ) (after : Bool) → AreDigits Sixt
     → digits_read v p after (ds ++ rest) ≡ digits_read (digits_value_after 16 v ds) (counted after p (length ds)) after rest
 read_digits [] rest v p after h = ap (λ k. digits_read v k after rest) (none after p)
 read_digits (b ∷ t) rest v p after h =
-    ap (λ k. if k then digits_read (v * 16 + digit_value b) (if after then suc p else p) after (t ++ rest) else (if b == 46 then digits_read v p true (t ++ rest) else (v, p, b ∷ (t ++ rest)))) h.0
+    ap (λ k. if k then digits_read (v * 16 + digit_value b) (if after then suc p else p) after (t ++ rest) else
+    (if b == 46 then digits_read v p true (t ++ rest) else (v, p, b ∷ (t ++ rest)))) h.0
     ∙ read_digits t rest (v * 16 + digit_value b) (if after then suc p else p) after h.1
     ∙ ap (λ k. digits_read (digits_value_after 16 (v * 16 + digit_value b) t) k after rest) (one_more after p (length t))
 
@@ -42,7 +43,8 @@ value_join (b ∷ t) es v = value_join t es (v * 16 + digit_value b)
 
 -- ---- what follows them
 
-letter_ends : (letter : ℕ) (t : List ℕ) (v p : ℕ) (after : Bool) → opens_exponent Sixteen letter ≡ true → digits_read v p after (letter ∷ t) ≡ (v, p, letter ∷ t)
+letter_ends : (letter : ℕ) (t : List ℕ) (v p : ℕ) (after : Bool) → opens_exponent Sixteen letter ≡ true
+    → digits_read v p after (letter ∷ t) ≡ (v, p, letter ∷ t)
 letter_ends letter t v p after h =
     elim (either 112 80 letter h) [
       | inl e ↦ subst (λ k. digits_read v p after (k ∷ t) ≡ (v, p, k ∷ t)) (sym e) refl
@@ -51,12 +53,15 @@ letter_ends letter t v p after h =
 
 read_end : (e : List ℕ) (v p : ℕ) (after : Bool) → ((e ≡ []) ⊎ IsExponent Sixteen e) → digits_read v p after e ≡ (v, p, e)
 read_end e v p after (inl z) = subst (λ k. digits_read v p after k ≡ (v, p, k)) (sym z) refl
-read_end e v p after (inr x) = subst (λ k. digits_read v p after k ≡ (v, p, k)) (sym x.joined) (letter_ends x.letter (x.sign ++ x.digits) v p after x.opens)
+read_end e v p after (inr x) = subst (λ k. digits_read v p after k ≡ (v, p, k)) (sym x.joined)
+    (letter_ends x.letter (x.sign ++ x.digits) v p after x.opens)
 
-read_rest : (point fraction e : List ℕ) (v : ℕ) → ((point ≡ []) × (fraction ≡ []) ⊎ (point ≡ 46 ∷ [])) → AreDigits Sixteen fraction → ((e ≡ []) ⊎ IsExponent Sixteen e)
+read_rest : (point fraction e : List ℕ) (v : ℕ) → ((point ≡ []) × (fraction ≡ []) ⊎ (point ≡ 46 ∷ [])) → AreDigits Sixteen fraction
+    → ((e ≡ []) ⊎ IsExponent Sixteen e)
     → digits_read v 0 false (point ++ (fraction ++ e)) ≡ (digits_value_after 16 v fraction, length fraction, e)
 read_rest point fraction e v (inl z) d x =
-    (λ i. digits_read v 0 false (z.0 i ++ (z.1 i ++ e))) ∙ read_end e v 0 false x ∙ (λ i. (digits_value_after 16 v (sym z.1 i), length (sym z.1 i), e))
+    (λ i. digits_read v 0 false (z.0 i ++ (z.1 i ++ e))) ∙ read_end e v 0 false x
+    ∙ (λ i. (digits_value_after 16 v (sym z.1 i), length (sym z.1 i), e))
 read_rest point fraction e v (inr z) d x =
     ap (λ k. digits_read v 0 false (k ++ (fraction ++ e))) z
     ∙ read_digits fraction e v 0 true d
@@ -66,7 +71,8 @@ read_rest point fraction e v (inr z) d x =
     no_more : 0 + length fraction ≡ length fraction
     no_more = omega arith
 
-pub read_parts : (t : List ℕ) (n : IsNumeral Sixteen t) → digits_read 0 0 false t ≡ (digits_value 16 (n.whole ++ n.fraction), length n.fraction, n.exponent)
+pub read_parts : (t : List ℕ) (n : IsNumeral Sixteen t) → digits_read 0 0 false t
+    ≡ (digits_value 16 (n.whole ++ n.fraction), length n.fraction, n.exponent)
 read_parts t n =
     ap (digits_read 0 0 false) n.joined
     ∙ read_digits n.whole (n.point ++ (n.fraction ++ n.exponent)) 0 0 false n.whole_digits
@@ -79,14 +85,17 @@ no_sign : (ds : List ℕ) → 0 < length ds → AreDigits Ten ds → (slice_inde
 no_sign [] l h = absurd (omega arith)
 no_sign (b ∷ t) l h = let k = digit_from b h.0 in (ne_eqb b 45 (omega (arith, k)), ne_eqb b 43 (omega (arith, k)))
 
-after_letter : (letter : ℕ) (sign ds : List ℕ) → IsSign sign → 0 < length ds → AreDigits Ten ds → exponent_read (letter ∷ (sign ++ ds)) ≡ (is_minus sign, digits_value 10 ds)
+after_letter : (letter : ℕ) (sign ds : List ℕ) → IsSign sign → 0 < length ds → AreDigits Ten ds
+    → exponent_read (letter ∷ (sign ++ ds)) ≡ (is_minus sign, digits_value 10 ds)
 after_letter letter sign ds (inl z) l h =
     let k = no_sign ds l h in
     ap (λ s. exponent_read (letter ∷ (s ++ ds))) z
     ∙ (λ i. (k.0 i, digits_value 10 (drop (if k.0 i || k.1 i then 1 else 0) ds)))
     ∙ ap (λ s. (is_minus s, digits_value 10 ds)) (sym z)
-after_letter letter sign ds (inr (inl z)) l h = ap (λ s. exponent_read (letter ∷ (s ++ ds))) z ∙ ap (λ s. (is_minus s, digits_value 10 ds)) (sym z)
-after_letter letter sign ds (inr (inr z)) l h = ap (λ s. exponent_read (letter ∷ (s ++ ds))) z ∙ ap (λ s. (is_minus s, digits_value 10 ds)) (sym z)
+after_letter letter sign ds (inr (inl z)) l h = ap (λ s. exponent_read (letter ∷ (s ++ ds))) z
+    ∙ ap (λ s. (is_minus s, digits_value 10 ds)) (sym z)
+after_letter letter sign ds (inr (inr z)) l h = ap (λ s. exponent_read (letter ∷ (s ++ ds))) z
+    ∙ ap (λ s. (is_minus s, digits_value 10 ds)) (sym z)
 
 pub up_by : (e : List ℕ) (r : (e ≡ []) ⊎ IsExponent Sixteen e) → raised_by e r ≡ (if (exponent_read e).0 then 0 else (exponent_read e).1)
 up_by e (inl z) = subst (λ t. 0 ≡ (if (exponent_read t).0 then 0 else (exponent_read t).1)) (sym z) refl
@@ -112,15 +121,24 @@ module _ (f : Format) (t s : List ℕ) (n : IsNumeral Sixteen t) (v p : ℕ) (re
   pub exponent_rest : n.exponent ≡ s
   exponent_rest = ap (λ x. x.2) same
 
-  pub of_raised : (x : Float) → (exponent_read s).0 ≡ false → x ≡ round f false (v * 2 ^ (exponent_read s).1) (2 ^ (4 * p)) → IsHexValue f false t x
+  pub of_raised : (x : Float) → (exponent_read s).0 ≡ false → x ≡ round f false (v * 2 ^ (exponent_read s).1) (2 ^ (4 * p))
+      → IsHexValue f false t x
   of_raised x minus h =
-      let up = up_by n.exponent n.raised ∙ ap (λ e. if (exponent_read e).0 then 0 else (exponent_read e).1) exponent_rest ∙ ap (λ b. if b then 0 else (exponent_read s).1) minus in
-      let down = down_by n.exponent n.raised ∙ ap (λ e. if (exponent_read e).0 then (exponent_read e).1 else 0) exponent_rest ∙ ap (λ b. if b then (exponent_read s).1 else 0) minus in
-      let none : 4 * p ≡ 4 * p + 0 = omega arith in
-      (n, h ∙ ap (λ k. round f false (v * 2 ^ (exponent_read s).1) (2 ^ k)) none ∙ (λ i. round f false ((sym same i).0 * 2 ^ sym up i) (2 ^ (4 * (sym same i).1 + sym down i))))
+      let up = up_by n.exponent n.raised ∙ ap (λ e. if (exponent_read e).0 then 0 else (exponent_read e).1) exponent_rest
+      ∙ ap (λ b. if b then 0 else (exponent_read s).1) minus in
+      let down = down_by n.exponent n.raised ∙ ap (λ e. if (exponent_read e).0 then (exponent_read e).1 else 0) exponent_rest
+      ∙ ap (λ b. if b then (exponent_read s).1 else 0) minus in
+      let none : 4 * p ≡ 4 * p + 0 = omega arith in (
+        n,
+        h ∙ ap (λ k. round f false (v * 2 ^ (exponent_read s).1) (2 ^ k)) none
+            ∙ (λ i. round f false ((sym same i).0 * 2 ^ sym up i) (2 ^ (4 * (sym same i).1 + sym down i))),
+      )
 
-  pub of_lowered : (x : Float) → (exponent_read s).0 ≡ true → x ≡ round f false (v * 2 ^ 0) (2 ^ (4 * p + (exponent_read s).1)) → IsHexValue f false t x
+  pub of_lowered : (x : Float) → (exponent_read s).0 ≡ true → x ≡ round f false (v * 2 ^ 0) (2 ^ (4 * p + (exponent_read s).1))
+      → IsHexValue f false t x
   of_lowered x minus h =
-      let up = up_by n.exponent n.raised ∙ ap (λ e. if (exponent_read e).0 then 0 else (exponent_read e).1) exponent_rest ∙ ap (λ b. if b then 0 else (exponent_read s).1) minus in
-      let down = down_by n.exponent n.raised ∙ ap (λ e. if (exponent_read e).0 then (exponent_read e).1 else 0) exponent_rest ∙ ap (λ b. if b then (exponent_read s).1 else 0) minus in
+      let up = up_by n.exponent n.raised ∙ ap (λ e. if (exponent_read e).0 then 0 else (exponent_read e).1) exponent_rest
+      ∙ ap (λ b. if b then 0 else (exponent_read s).1) minus in
+      let down = down_by n.exponent n.raised ∙ ap (λ e. if (exponent_read e).0 then (exponent_read e).1 else 0) exponent_rest
+      ∙ ap (λ b. if b then (exponent_read s).1 else 0) minus in
       (n, h ∙ (λ i. round f false ((sym same i).0 * 2 ^ sym up i) (2 ^ (4 * (sym same i).1 + sym down i))))

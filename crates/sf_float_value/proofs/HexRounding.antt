@@ -23,7 +23,8 @@ front_zero v m cut lost z f =
   where
     go : (b : Bool) → lost ≡ b → v ≡ 0
     go true h = elim (eq-zero-or-pos cut) [ inr p ↦ absurd (omega (arith, f.long p)) | inl e ↦ absurd (omega (arith, f.known h)) ]
-    go false h = let q : v ≡ m * 16 ^ cut = subst (λ (b : Bool). IsQuotient v (16 ^ cut) m b) h f.quotient in q ∙ ap (λ k. k * 16 ^ cut) z ∙ omega arith
+    go false h = let q : v ≡ m * 16 ^ cut = subst (λ (b : Bool). IsQuotient v (16 ^ cut) m b) h f.quotient in
+        q ∙ ap (λ k. k * 16 ^ cut) z ∙ omega arith
 
 pub front_scaled : (v m cut u : ℕ) (lost : Bool) → IsFront v m cut lost → IsQuotient (v * 2 ^ u) (2 ^ (4 * cut + u)) m lost
 front_scaled v m cut u lost f =
@@ -48,7 +49,8 @@ size_few m h = size-le m 60 h
 
 -- ---- exponents beyond the bound
 
-pub huge : (f : Format) (n m up down : ℕ) (lost : Bool) → 0 < m → IsQuotient n (2 ^ up) m lost → 2 ^ 100 ≤ up → down < 2 ^ 70 → IsNearestBits f n (2 ^ down) (ones f * hid f)
+pub huge : (f : Format) (n m up down : ℕ) (lost : Bool) → 0 < m → IsQuotient n (2 ^ up) m lost → 2 ^ 100 ≤ up → down < 2 ^ 70
+    → IsNearestBits f n (2 ^ down) (ones f * hid f)
 huge f n m up down lost M q h l =
     let p = shape f in
     let s = size m in
@@ -58,10 +60,12 @@ huge f n m up down lost M q h l =
     subst (IsNearestBits f n (2 ^ down)) (infinite_at f (closest (n * 2 ^ low f) (2 ^ down * 2 ^ k)) k g)
     (normal f n m up down s k lost q (size_some m M) (size_from m M) (size-lt m) (omega arith) (omega arith))
 
-pub tiny : (f : Format) (n m up down : ℕ) (lost : Bool) → 0 < m → m < 2 ^ 60 → IsQuotient n (2 ^ up) m lost → up < 2 ^ 70 → 2 ^ 100 ≤ down → IsNearestBits f n (2 ^ down) 0
+pub tiny : (f : Format) (n m up down : ℕ) (lost : Bool) → 0 < m → m < 2 ^ 60 → IsQuotient n (2 ^ up) m lost → up < 2 ^ 70 → 2 ^ 100 ≤ down
+    → IsNearestBits f n (2 ^ down) 0
 tiny f n m up down lost M F q h l =
     let p = shape f in
     let s = size m in
     let far : 2 ^ 70 + 10000 < 2 ^ 100 = lit< tt in
-    least_none f n m (up + low f) down s lost (above f n m up down s 0 lost q (size_some m M) (size_from m M) (size-lt m)) (size_some m M) (size_from m M) (size-lt m)
+    least_none f n m (up + low f) down s lost (above f n m up down s 0 lost q (size_some m M) (size_from m M) (size-lt m)) (size_some m M)
+    (size_from m M) (size-lt m)
     (omega (arith, size_few m F, p.least.1)) (size_few m F) (omega (arith, p.least.1))

@@ -45,13 +45,15 @@ minus_stored f (fin s m e) a c h =
     let P : Bool → Type 0 = λ b. top f + (cond b (top f) 0 + k * hid f + n / 2 ^ k) ≡ cond (not b) (top f) 0 + k * hid f + n / 2 ^ k in
     ap Some (subst P (sym h.0) (omega arith))
 
-finite_value : (f : Format) (bits : ℕ) → bits < ones f * hid f → HasValue (of_bits f bits) false (field_units f (bits / hid f) (bits % hid f)) (2 ^ low f)
+finite_value : (f : Format) (bits : ℕ) → bits < ones f * hid f → HasValue (of_bits f bits) false
+    (field_units f (bits / hid f) (bits % hid f)) (2 ^ low f)
 finite_value f bits h =
     let s = shape f in
     let some : 0 < hid f = omega arith in
     let x = bits / hid f in
     let t = bits % hid f in
-    subst (λ b. HasValue (of_bits f b) false (field_units f x t) (2 ^ low f)) (div-add-mod' bits (hid f)) (of_bits_value f x t ((div-lt_iff_lt-mul some).1 h) (mod-lt bits some))
+    subst (λ b. HasValue (of_bits f b) false (field_units f x t) (2 ^ low f)) (div-add-mod' bits (hid f))
+    (of_bits_value f x t ((div-lt_iff_lt-mul some).1 h) (mod-lt bits some))
 
 same_bits : (f : Format) (bits : ℕ) → bits < ones f * hid f → to_bits f (of_bits f bits) ≡ bits
 same_bits f bits h = to_bits-of_bits f bits (omega arith) (number_of (of_bits f bits) _ (2 ^ low f) (finite_value f bits h))
@@ -60,7 +62,8 @@ pub bits_stored : (f : Format) (bits : ℕ) → bits < ones f * hid f → Some b
 bits_stored f bits h = ap Some (sym (same_bits f bits h)) ∙ plain_stored f (of_bits f bits) _ (2 ^ low f) (finite_value f bits h)
 
 pub minus_bits_stored : (f : Format) (bits : ℕ) → bits < ones f * hid f → Some (top f + bits) ≡ stored f (neg (of_bits f bits))
-minus_bits_stored f bits h = ap (λ b. Some (top f + b)) (sym (same_bits f bits h)) ∙ minus_stored f (of_bits f bits) _ (2 ^ low f) (finite_value f bits h)
+minus_bits_stored f bits h = ap (λ b. Some (top f + b)) (sym (same_bits f bits h))
+    ∙ minus_stored f (of_bits f bits) _ (2 ^ low f) (finite_value f bits h)
 
 -- ---- infinities
 

@@ -23,23 +23,28 @@ regroup a b d = omega arith
 
 dropped : (p k n den : ℕ) → 0 < p → 0 < den → (0 < k → 2 ^ (p - 1) * (den * 2 ^ k) ≤ n) → n < 2 ^ p * (den * 2 ^ k) → size (n / den) - p ≡ k
 dropped p k n den P D lo hi =
-    let joined : (j : ℕ) → 2 ^ j * (den * 2 ^ k) ≡ 2 ^ (j + k) * den = λ j. regroup (2 ^ j) (2 ^ k) den ∙ ap (λ x. x * den) (sym (pow-add 2 j k)) in
+    let joined : (j : ℕ) → 2 ^ j * (den * 2 ^ k) ≡ 2 ^ (j + k) * den =
+    λ j. regroup (2 ^ j) (2 ^ k) den ∙ ap (λ x. x * den) (sym (pow-add 2 j k)) in
     let most : size (n / den) ≤ p + k = size-le (n / den) (p + k) ((div-lt_iff_lt-mul D).1 (subst (λ x. n < x) (joined p) hi)) in
     elim (eq-zero-or-pos k) [
       | inl z ↦ omega arith
       | inr K ↦
-          let least : p - 1 + k < size (n / den) = size-gt (n / den) (p - 1 + k) ((le-div_iff_mul-le D).1 (subst (λ x. x ≤ n) (joined (p - 1)) (lo K))) in
+          let least : p - 1 + k < size (n / den) = size-gt (n / den) (p - 1 + k)
+          ((le-div_iff_mul-le D).1 (subst (λ x. x ≤ n) (joined (p - 1)) (lo K))) in
           omega arith
     ]
 
-round_at : (f : Format) (num den k : ℕ) → 0 < den → (0 < k → hid f * (den * 2 ^ k) ≤ num * 2 ^ low f) → num * 2 ^ low f < 2 ^ prec f * (den * 2 ^ k)
+round_at : (f : Format) (num den k : ℕ) → 0 < den → (0 < k → hid f * (den * 2 ^ k) ≤ num * 2 ^ low f)
+    → num * 2 ^ low f < 2 ^ prec f * (den * 2 ^ k)
     → round f false num den ≡ units f false (closest (num * 2 ^ low f) (den * 2 ^ k)) k
 round_at f num den k D lo hi =
     let s = shape f in
-    round_is f false num den ∙ ap (λ x. units f false (closest (num * 2 ^ low f) (den * 2 ^ x)) x) (dropped (prec f) k (num * 2 ^ low f) den (omega arith) D lo hi)
+    round_is f false num den ∙ ap (λ x. units f false (closest (num * 2 ^ low f) (den * 2 ^ x)) x)
+    (dropped (prec f) k (num * 2 ^ low f) den (omega arith) D lo hi)
 
 -- between 2 ^ (prec - 1) and 2 ^ prec steps, or below where the step is the least number
-pub nearest_at : (f : Format) (num den k : ℕ) → 0 < den → (0 < k → hid f * (den * 2 ^ k) ≤ num * 2 ^ low f) → num * 2 ^ low f < 2 ^ prec f * (den * 2 ^ k)
+pub nearest_at : (f : Format) (num den k : ℕ) → 0 < den → (0 < k → hid f * (den * 2 ^ k) ≤ num * 2 ^ low f)
+    → num * 2 ^ low f < 2 ^ prec f * (den * 2 ^ k)
     → IsNearestBits f num den (scaled_bits f (closest (num * 2 ^ low f) (den * 2 ^ k)) k)
 nearest_at f num den k D lo hi =
     let u = den * 2 ^ k in

@@ -45,37 +45,49 @@ infinite_at f m k h =
     let p : ones f * hid f ≤ k * hid f = mul-le-mul_right (hid f) l in
     omega arith
 
-module _ (f : Format) (n m up down s k : ℕ) (lost : Bool) (q : IsQuotient n (2 ^ up) m lost) (S : 0 < s) (from : 2 ^ (s - 1) ≤ m) (below : m < 2 ^ s) where
+module _ (f : Format) (n m up down s k : ℕ) (lost : Bool) (q : IsQuotient n (2 ^ up) m lost) (S : 0 < s) (from : 2 ^ (s - 1) ≤ m)
+    (below : m < 2 ^ s) where
   pub above : IsQuotient (n * 2 ^ low f) (2 ^ (up + low f)) m lost
-  above = subst (λ w. IsQuotient (n * 2 ^ low f) w m lost) (sym (pow-add 2 up (low f))) (scaled_quotient n (2 ^ up) m (2 ^ low f) lost (pow_pos (low f)) q)
+  above = subst (λ w. IsQuotient (n * 2 ^ low f) w m lost) (sym (pow-add 2 up (low f)))
+      (scaled_quotient n (2 ^ up) m (2 ^ low f) lost (pow_pos (low f)) q)
 
   step : 2 ^ down * 2 ^ k ≡ 2 ^ (down + k)
   step = sym (pow-add 2 down k)
 
-  pub normal : 0 < k → s + (up + low f) ≡ k + (prec f + down) → IsNearestBits f n (2 ^ down) (scaled_bits f (closest (n * 2 ^ low f) (2 ^ down * 2 ^ k)) k)
+  pub normal : 0 < k → s + (up + low f) ≡ k + (prec f + down) → IsNearestBits f n (2 ^ down)
+      (scaled_bits f (closest (n * 2 ^ low f) (2 ^ down * 2 ^ k)) k)
   normal K e =
       let p = shape f in
-      let lo : hid f * (2 ^ down * 2 ^ k) ≡ 2 ^ (prec f - 1 + (down + k)) = ap (λ t. 2 ^ (prec f - 1) * t) step ∙ sym (pow-add 2 (prec f - 1) (down + k)) in
-      let hi : 2 ^ prec f * (2 ^ down * 2 ^ k) ≡ 2 ^ (prec f + (down + k)) = ap (λ t. 2 ^ prec f * t) step ∙ sym (pow-add 2 (prec f) (down + k)) in
+      let lo : hid f * (2 ^ down * 2 ^ k) ≡ 2 ^ (prec f - 1 + (down + k)) =
+      ap (λ t. 2 ^ (prec f - 1) * t) step ∙ sym (pow-add 2 (prec f - 1) (down + k)) in
+      let hi : 2 ^ prec f * (2 ^ down * 2 ^ k) ≡ 2 ^ (prec f + (down + k)) =
+      ap (λ t. 2 ^ prec f * t) step ∙ sym (pow-add 2 (prec f) (down + k)) in
       nearest_at f n (2 ^ down) k (pow_pos down)
-      (λ _. subst (λ t. t ≤ n * 2 ^ low f) (sym lo) (at_least (n * 2 ^ low f) m (up + low f) s lost above S from below (prec f - 1 + (down + k)) (omega (arith, p.digits.0))))
-      (subst (λ t. n * 2 ^ low f < t) (sym hi) (less_than (n * 2 ^ low f) m (up + low f) s lost above S from below (prec f + (down + k)) (omega arith)))
+      (λ _. subst (λ t. t ≤ n * 2 ^ low f) (sym lo) (at_least (n * 2 ^ low f) m (up + low f) s lost above S from below
+      (prec f - 1 + (down + k)) (omega (arith, p.digits.0))))
+      (subst (λ t. n * 2 ^ low f < t) (sym hi) (less_than (n * 2 ^ low f) m (up + low f) s lost above S from below (prec f + (down + k))
+      (omega arith)))
 
-  pub normal_cut : (whole : ℕ) → 0 < k → s + (up + low f) ≡ k + (prec f + down) → prec f < s → closest (n * 2 ^ low f) (2 ^ (up + low f) * 2 ^ (s - prec f)) ≡ whole
+  pub normal_cut : (whole : ℕ) → 0 < k → s + (up + low f) ≡ k + (prec f + down) → prec f < s
+      → closest (n * 2 ^ low f) (2 ^ (up + low f) * 2 ^ (s - prec f)) ≡ whole
       → IsNearestBits f n (2 ^ down) (scaled_bits f whole k)
   normal_cut whole K e l c =
       let d : down + k ≡ up + low f + (s - prec f) = omega arith in
       let u : 2 ^ down * 2 ^ k ≡ 2 ^ (up + low f) * 2 ^ (s - prec f) = step ∙ ap (λ t. 2 ^ t) d ∙ pow-add 2 (up + low f) (s - prec f) in
       subst (λ t. IsNearestBits f n (2 ^ down) (scaled_bits f t k)) (ap (closest (n * 2 ^ low f)) u ∙ c) (normal K e)
 
-  pub normal_exact : (lost ≡ true → 2 ^ 56 ≤ m) → 0 < k → s + (up + low f) ≡ k + (prec f + down) → s ≤ prec f → IsNearestBits f n (2 ^ down) (scaled_bits f (m * 2 ^ (prec f - s)) k)
+  pub normal_exact : (lost ≡ true → 2 ^ 56 ≤ m) → 0 < k → s + (up + low f) ≡ k + (prec f + down) → s ≤ prec f
+      → IsNearestBits f n (2 ^ down) (scaled_bits f (m * 2 ^ (prec f - s)) k)
   normal_exact known K e l =
       let p = shape f in
       let d : up + low f ≡ prec f - s + (down + k) = omega arith in
-      let x : n * 2 ^ low f ≡ m * 2 ^ (up + low f) = exact_of (n * 2 ^ low f) (2 ^ (up + low f)) m s (prec f) lost known below l p.digits.1 above in
-      subst (λ t. IsNearestBits f n (2 ^ down) (scaled_bits f t k)) (ap (closest (n * 2 ^ low f)) step ∙ closest_exact (n * 2 ^ low f) m (up + low f) (down + k) (prec f - s) x d) (normal K e)
+      let x : n * 2 ^ low f ≡ m * 2 ^ (up + low f) = exact_of (n * 2 ^ low f) (2 ^ (up + low f)) m s
+      (prec f) lost known below l p.digits.1 above in
+      subst (λ t. IsNearestBits f n (2 ^ down) (scaled_bits f t k))
+      (ap (closest (n * 2 ^ low f)) step ∙ closest_exact (n * 2 ^ low f) m (up + low f) (down + k) (prec f - s) x d) (normal K e)
 
-module _ (f : Format) (n m a down s : ℕ) (lost : Bool) (q : IsQuotient (n * 2 ^ low f) (2 ^ a) m lost) (S : 0 < s) (from : 2 ^ (s - 1) ≤ m) (below : m < 2 ^ s) (range : s + a ≤ prec f + down) where
+module _ (f : Format) (n m a down s : ℕ) (lost : Bool) (q : IsQuotient (n * 2 ^ low f) (2 ^ a) m lost) (S : 0 < s) (from : 2 ^ (s - 1) ≤ m)
+    (below : m < 2 ^ s) (range : s + a ≤ prec f + down) where
   one : 2 ^ down * 2 ^ 0 ≡ 2 ^ down
   one = omega arith
 
@@ -93,7 +105,8 @@ module _ (f : Format) (n m a down s : ℕ) (lost : Bool) (q : IsQuotient (n * 2 
       (nearest_at f n (2 ^ down) 0 (pow_pos down) (λ z. absurd (omega arith)) (subst (λ t. n * 2 ^ low f < t) (sym hi) few))
 
   pub least_none : s ≤ 60 → a + 62 < down → IsNearestBits f n (2 ^ down) 0
-  least_none few far = least 0 (closest_none (n * 2 ^ low f) down (s + a) (less_than (n * 2 ^ low f) m a s lost q S from below (s + a) (omega arith)) (omega arith))
+  least_none few far = least 0 (closest_none (n * 2 ^ low f) down (s + a)
+      (less_than (n * 2 ^ low f) m a s lost q S from below (s + a) (omega arith)) (omega arith))
 
   pub least_cut : (whole : ℕ) → a < down → closest (n * 2 ^ low f) (2 ^ a * 2 ^ (down - a)) ≡ whole → IsNearestBits f n (2 ^ down) whole
   least_cut whole l c =
@@ -109,7 +122,8 @@ module _ (f : Format) (n m a down s : ℕ) (lost : Bool) (q : IsQuotient (n * 2 
       least (m * 2 ^ (a - down)) (closest_exact (n * 2 ^ low f) m a down (a - down) x e)
 
 -- r is one less than the number of binary digits
-pub size_of : (r m : ℕ) → 2 ^ r ≤ m → m < 2 * 2 ^ r → m < 2 ^ 60 → (0 < r + 1) × (r + 1 ≤ 60) × (2 ^ (r + 1 - 1) ≤ m) × (m < 2 ^ (r + 1)) × (m < 2 ^ 60)
+pub size_of : (r m : ℕ) → 2 ^ r ≤ m → m < 2 * 2 ^ r → m < 2 ^ 60
+    → (0 < r + 1) × (r + 1 ≤ 60) × (2 ^ (r + 1 - 1) ≤ m) × (m < 2 ^ (r + 1)) × (m < 2 ^ 60)
 size_of r m a b h =
     let e : r ≡ r + 1 - 1 = omega arith in
     let few : r < 60 = few_bits r m a h in

@@ -16,4 +16,5 @@ IsLong (Some decimals) = 13 ≤ decimals
 
 -- what stands after its sign and `0x` is a numeral that has its value
 abbrev pub HexadecimalReadsBack : Type 0
-HexadecimalReadsBack = (x : Float) (alt : Bool) (precision : Option ℕ) (t : List ℕ) → T (fits binary64 x) → IsLong precision → IsHexadecimalText alt precision x t → IsHexValue binary64 (is_sign_negative x) t x
+HexadecimalReadsBack = (x : Float) (alt : Bool) (precision : Option ℕ) (t : List ℕ) → T (fits binary64 x) → IsLong precision
+    → IsHexadecimalText alt precision x t → IsHexValue binary64 (is_sign_negative x) t x

@@ -33,7 +33,8 @@ fn digit_of(b: u8) -> u8
 /// With one digit more.
 fn push(so_far: Digits, digit: u8) -> Digits
     requires { (digit < 16) × (so_far.cut < 18446744073709551615) }
-    ensures front { (value : ℕ) → IsFront value so_far.m so_far.cut so_far.lost → IsFront (value * 16 + digit) result.m result.cut result.lost }
+    ensures front { (value : ℕ) → IsFront value so_far.m so_far.cut so_far.lost
+        → IsFront (value * 16 + digit) result.m result.cut result.lost }
     ensures cut { result.cut ≤ so_far.cut + 1 }
     ensures places { result.places ≡ so_far.places }
 {

@@ -1,4 +1,5 @@
-//! What a conversion stores of a matching sequence: the pattern of the nearest float, or nothing where that is out of range.
+//! What a conversion stores of a matching sequence: the pattern of the nearest float, or nothing where that is out of
+//! range.
 #![tactic(auto)]
 
 mod digits;

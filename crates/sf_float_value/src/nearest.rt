@@ -1,4 +1,5 @@
-//! A whole number times a power of two, rounded once to a format. Of the number the first 60 binary digits are known, and whether more follow.
+//! A whole number times a power of two, rounded once to a format. Of the number the first 60 binary digits are known,
+//! and whether more follow.
 ghost use Rattle.std.specs.Prelude.{◌≡◌, ℕ, ◌+◌, ◌-◌, ◌*◌, ◌/◌, ◌^◌, ◌<◌, ◌≤◌, true};
 ghost use Rattle.std.specs.Float.Ieee.{prec, low, hid, ones};
 ghost use Rattle.std.specs.Float.Ieee.Nearest.{closest};
@@ -98,7 +99,8 @@ fn nearest_normal(m: u64, lost: bool, size: u32, k: u64, kind: FloatKind) -> u64
     requires size { (0 < size) × (size ≤ 60) × (2 ^ (size - 1) ≤ m) × (m < 2 ^ size) × (m < 2 ^ 60) }
     requires known { lost ≡ true → 2 ^ 56 ≤ m }
     requires range { (0 < k) × (k ≤ 2100) }
-    ensures { (n up down : ℕ) → IsQuotient n (2 ^ up) m lost → size + (up + low (format_of kind)) ≡ k + (prec (format_of kind) + down)
+    ensures { (n up down : ℕ) → IsQuotient n (2 ^ up) m lost
+        → size + (up + low (format_of kind)) ≡ k + (prec (format_of kind) + down)
         → IsNearestBits (format_of kind) n (2 ^ down) result }
 {
     let kept = digits(kind);
@@ -114,7 +116,8 @@ fn nearest_least(m: u64, lost: bool, size: u32, up: u128, down: u128, kind: Floa
     requires size { (0 < size) × (size ≤ 60) × (2 ^ (size - 1) ≤ m) × (m < 2 ^ size) × (m < 2 ^ 60) }
     requires known { lost ≡ true → 2 ^ 56 ≤ m }
     requires range { (size + up ≤ prec (format_of kind) + down) × (up < 2 ^ 120) }
-    ensures { (n : ℕ) → IsQuotient (n * 2 ^ low (format_of kind)) (2 ^ up) m lost → IsNearestBits (format_of kind) n (2 ^ down) result }
+    ensures { (n : ℕ) → IsQuotient (n * 2 ^ low (format_of kind)) (2 ^ up) m lost
+        → IsNearestBits (format_of kind) n (2 ^ down) result }
 {
     if down > up + 62 {
         return 0;

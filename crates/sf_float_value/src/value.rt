@@ -113,8 +113,9 @@ fn hexadecimal_f32(negative: bool, numeral: &[u8]) -> Option<u32>
     Some(if negative { SIGN_F32 + bits } else { bits })
 }
 
-/// What a conversion to `f64` stores of a matching sequence, as a pattern: the nearest number, rounded once. Nothing where a finite number
-/// rounds to an infinity, which is out of range. Of `nan` the one NaN (C11 7.21.6.2p10, 7.22.1.3).
+/// What a conversion to `f64` stores of a matching sequence, as a pattern: the nearest number, rounded once. Nothing
+/// where a finite number rounds to an infinity, which is out of range. Of `nan` the one NaN (C11 7.21.6.2p10,
+/// 7.22.1.3).
 pub fn value_f64(item: &[u8]) -> Option<u64>
     requires { IsFloat item.now }
     ensures { IsStored binary64 item.now result }

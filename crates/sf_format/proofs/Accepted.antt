@@ -49,13 +49,15 @@ some_member list is byte =
 -- ---- each directive
 
 plain_good : (letter : Letter) (s : Shape) (ds : List ℕ) (size : Length) (k : Kind) → shape_of letter s → kind_of letter size ≡ Some k
-    → IsOptionalNumber 65535 ds → let width = width_of letter ds in IsProperShape s × IsProperWidth width × HasItsWidth s width × HasItsKind s k
+    → IsOptionalNumber 65535 ds → let width = width_of letter ds in
+    IsProperShape s × IsProperWidth width × HasItsWidth s width × HasItsKind s k
 plain_good letter s ds size k h is number = grind (arith, text_kinded size k)
 
 abbrev IsGoodDirective : Directive → Type 0
 IsGoodDirective d = IsProper d × IsSized d × IsKinded d
 
-good_one : (profile : Profile) (place : ℕ) (piece : Piece) (d : Directive) → IsScanPiece profile piece → Means profile place piece d → IsGoodDirective d
+good_one : (profile : Profile) (place : ℕ) (piece : Piece) (d : Directive) → IsScanPiece profile piece → Means profile place piece d
+    → IsGoodDirective d
 good_one profile place (Ordinary b) d is h = rw h (is.0, tt, tt)
 good_one profile place (Plain o b) d is h =
     let good = plain_good h.0 h.1.shape o.width o.size h.1.kind h.4 h.3.kind is.1.2.width in
@@ -85,7 +87,8 @@ proper profile text ds (pieces, is, e, means) =
 -- ---- letters
 
 -- a flag that the letter doesn't have is none of those that it has
-unset : (letter : PrintLetter) (flag : ℕ) (flags : List ℕ) → AllByRecursion (λ b. has_flag letter b ≡ true) flags → has_flag letter flag ≡ false
+unset : (letter : PrintLetter) (flag : ℕ) (flags : List ℕ) → AllByRecursion (λ b. has_flag letter b ≡ true) flags
+    → has_flag letter flag ≡ false
     → is_set_flag flag flags ≡ false
 unset letter flag [] had e = refl
 unset letter flag (b ∷ flags) had e = grind (arith, nat_tests, unset letter flag flags had.1 e)

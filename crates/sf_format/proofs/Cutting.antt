@@ -136,7 +136,8 @@ sized_stops _ letter x last = refl
 
 -- what stands behind the % of an opening
 abbrev pub inside : Opening → List ℕ → List ℕ
-inside o y = number_text o.number ++ (star_text o.star ++ (o.flags ++ (o.width ++ (precision_text o.precision ++ (length_text o.size ++ y)))))
+inside o y = number_text o.number ++ (star_text o.star ++ (o.flags ++
+    (o.width ++ (precision_text o.precision ++ (length_text o.size ++ y)))))
 
 -- its parts have these bytes
 pub record HasParts (o : Opening) : Type 0 where
@@ -151,7 +152,8 @@ parts_inside star flags width h k = by_star star
   where
     inside : AllPass is_inside (flags ++ width)
     inside =
-        all_append (λ b. is_inside b ≡ true) flags width (all_map (λ b. is_flag b ≡ true) (λ b. is_inside b ≡ true) (λ b e. grind arith) flags h)
+        all_append (λ b. is_inside b ≡ true) flags width (all_map (λ b. is_flag b ≡ true) (λ b. is_inside b ≡ true)
+        (λ b e. grind arith) flags h)
         (all_map (λ b. is_decimal b ≡ true) (λ b. is_inside b ≡ true) (λ b e. rw e) width k)
 
     by_star : (v : Bool) → AllPass is_inside (star_text v ++ (flags ++ width))
@@ -218,7 +220,8 @@ cut_behind (Print profile) o letter x parts is last number =
 
 -- it begins with no %, and is cut where it was joined
 pub cut_of : (language : Language) (o : Opening) (letter : ℕ) (x : List ℕ) → HasParts o → IsIn language o → IsLast letter
-    → (begins (37 ∷ []) (inside o (letter ∷ x)) ≡ false) × (cut language (inside o (letter ∷ x)) ≡ record { opening = o; rest = letter ∷ x })
+    → (begins (37 ∷ []) (inside o (letter ∷ x)) ≡ false) × (cut language (inside o (letter ∷ x))
+    ≡ record { opening = o; rest = letter ∷ x })
 cut_of language o letter x parts is last =
     let sized = length_text o.size ++ letter ∷ x in
     let z = precision_text o.precision ++ sized in
@@ -245,7 +248,8 @@ pub cut_joined : (language : Language) (x : List ℕ) → inside (cut language x
 cut_joined (Scan profile) x =
     let number = number_at x in
     let star = mark_at 42 number.1 in
-    rw (length_whole (behind is_decimal star.1), front_behind is_decimal star.1, mark_joined star_text 42 number.1 refl refl) (number_whole x)
+    rw (length_whole (behind is_decimal star.1), front_behind is_decimal star.1, mark_joined star_text 42 number.1 refl refl)
+    (number_whole x)
 cut_joined (Print profile) x =
     let number = number_at x in
     let wide = behind is_flag number.1 in
@@ -299,7 +303,8 @@ number_text_longer : (number : List ℕ) → length number ≤ length (number_te
 number_text_longer [] = omega arith
 number_text_longer (d ∷ ds) = omega (arith, length-append ds (36 ∷ []))
 
-pub length-cut : (language : Language) (x : List ℕ) → length (opening_text (cut language x).opening) + length (cut language x).rest ≡ 1 + length x
+pub length-cut : (language : Language) (x : List ℕ) → length (opening_text (cut language x).opening) + length (cut language x).rest
+    ≡ 1 + length x
 length-cut language x =
     let cut = cut language x in
     let e = opening_regroup cut.opening cut.rest ∙ ap (λ t. 37 ∷ t) (cut_joined language x) in

@@ -24,7 +24,8 @@ are_now o (a ∷ es) e = grind (arith, are_now o es)
 
 with_one : (P : Opening → Type 0) (o : Opening) (es : List Opening) → ((a : Opening) → is_written a.number ≡ is_written o.number → P a)
     → list_any (λ e. not (alike e o)) es ≡ false → AllByRecursion P (es ++ o ∷ [])
-with_one P o es all same = all_append P es (o ∷ []) (all_map (λ a. is_written a.number ≡ is_written o.number) P all es (are_now o es same)) (all o refl, tt)
+with_one P o es all same = all_append P es (o ∷ []) (all_map (λ a. is_written a.number ≡ is_written o.number) P all es (are_now o es same))
+    (all o refl, tt)
 
 none_differs : (P : Opening → Type 0) (o : Opening) (es : List Opening) → ((a : Opening) → P a → is_written a.number ≡ is_written o.number)
     → AllByRecursion P es → list_any (λ e. not (alike e o)) es ≡ false
@@ -35,14 +36,19 @@ none_differs P o (e ∷ es) same all = grind (arith, same e all.0, none_differs 
 pub assigned_alike : (earlier : List Opening) (p : ℕ) (o : Opening) → AreAlike earlier → Quiet (slot_rules earlier p o)
     → AreAlike (earlier ++ assigned_opening o [])
 assigned_alike earlier p o before quiet =
-    by_test o.star (λ v. AreAlike (earlier ++ cond v [] (o ∷ []))) (λ t. rw append-nil before) (λ plain. by_number plain (is_written o.number) refl)
+    by_test o.star (λ v. AreAlike (earlier ++ cond v [] (o ∷ []))) (λ t. rw append-nil before)
+    (λ plain. by_number plain (is_written o.number) refl)
   where
     by_number : o.star ≡ false → (v : Bool) → is_written o.number ≡ v → AreAlike (earlier ++ o ∷ [])
     by_number plain true e = inr (with_one (λ a. a.number ≢ []) o earlier (λ a same. grind arith) (grind arith))
     by_number plain false e =
-        inl (with_one (λ a. a.number ≡ []) o earlier (λ a same. grind arith) (grind arith), grind (arith, nat_tests, length-append earlier (o ∷ [])))
+        inl (
+          with_one (λ a. a.number ≡ []) o earlier (λ a same. grind arith) (grind arith),
+          grind (arith, nat_tests, length-append earlier (o ∷ [])),
+        )
 
-pub slot_quiet : (earlier : List Opening) (p : ℕ) (o : Opening) → AreAlike (earlier ++ assigned_opening o []) → Quiet (slot_rules earlier p o)
+pub slot_quiet : (earlier : List Opening) (p : ℕ) (o : Opening) → AreAlike (earlier ++ assigned_opening o [])
+    → Quiet (slot_rules earlier p o)
 slot_quiet earlier p o h = by_star o.star refl h
   where
     tests : AreAlike (earlier ++ o ∷ []) → Quiet (slot_rules earlier p o)
@@ -50,12 +56,14 @@ slot_quiet earlier p o h = by_star o.star refl h
         elim h [
           | inl placed ↦
               let here = (all_back (λ a. a.number ≡ []) earlier (o ∷ []) placed.0).0 in
-              let same = none_differs (λ a. a.number ≡ []) o earlier (λ a none. rw (none, here) refl) (all_front (λ a. a.number ≡ []) earlier (o ∷ []) placed.0) in
+              let same = none_differs (λ a. a.number ≡ []) o earlier (λ a none. rw (none, here) refl)
+              (all_front (λ a. a.number ≡ []) earlier (o ∷ []) placed.0) in
               let room = length-append earlier (o ∷ []) in
               grind (arith, nat_tests)
           | inr others ↦
               let here = (all_back (λ a. a.number ≢ []) earlier (o ∷ []) others).0 in
-              let same = none_differs (λ a. a.number ≢ []) o earlier (λ a some. grind arith) (all_front (λ a. a.number ≢ []) earlier (o ∷ []) others) in
+              let same = none_differs (λ a. a.number ≢ []) o earlier (λ a some. grind arith)
+              (all_front (λ a. a.number ≢ []) earlier (o ∷ []) others) in
               grind (arith, nat_tests)
         ]
 
@@ -73,7 +81,8 @@ alike_front earlier later h =
 
 -- ---- destinations of parts
 
-pub destinations_cons : (piece : Piece) (pieces : List Piece) → destinations (piece ∷ pieces) ≡ destinations (piece ∷ []) ++ destinations pieces
+pub destinations_cons : (piece : Piece) (pieces : List Piece) → destinations (piece ∷ pieces)
+    ≡ destinations (piece ∷ []) ++ destinations pieces
 destinations_cons (Plain o letter) pieces = grind arith
 destinations_cons (Bracket o list) pieces = grind arith
 destinations_cons _ pieces = refl
@@ -82,7 +91,8 @@ pub regroup : (earlier : List Opening) (piece : Piece) (pieces : List Piece)
     → earlier ++ destinations (piece ∷ pieces) ≡ (earlier ++ destinations (piece ∷ [])) ++ destinations pieces
 regroup earlier piece pieces = rw (destinations_cons piece pieces, append_assoc)
 
-pub destinations_push : (done : List Piece) (piece : Piece) → destinations (done ++ piece ∷ []) ≡ destinations done ++ destinations (piece ∷ [])
+pub destinations_push : (done : List Piece) (piece : Piece) → destinations (done ++ piece ∷ [])
+    ≡ destinations done ++ destinations (piece ∷ [])
 destinations_push [] piece = refl
 destinations_push (first ∷ done) piece =
     destinations_cons first (done ++ piece ∷ []) ∙ simp (destinations_push done piece, destinations_cons first done, append_assoc)
@@ -117,13 +127,15 @@ written_from_empty : (number : List ℕ) (empty : Bool) → empty ≡ (length nu
 written_from_empty [] empty e = grind (arith, nat_tests)
 written_from_empty (d ∷ ds) empty e = grind (arith, nat_tests)
 
-pub held_more : (slots : Slots) (o : Opening) (empty : Bool) (earlier : List Opening) (p : ℕ) → o.star ≡ false → empty ≡ (length o.number == 0)
+pub held_more : (slots : Slots) (o : Opening) (empty : Bool) (earlier : List Opening) (p : ℕ) → o.star ≡ false
+    → empty ≡ (length o.number == 0)
     → Holds slots earlier → None ≡ first_of (slot_rules earlier p o)
     → (first_of (slot_rules earlier p o) ≡ None)
     × Holds (record { count = slots.count + 1; numbered = not empty }) (earlier ++ assigned_opening o [])
 held_more slots o empty earlier p plain is holds none =
     let same = are_now o earlier (rw plain at (quiet_is (slot_rules earlier p o) (sym none)).0) in
-    let after : List Opening → Type 0 = λ os. Holds (record { count = slots.count + 1; numbered = is_written o.number }) (earlier ++ os) in (
+    let after : List Opening → Type 0 =
+    λ os. Holds (record { count = slots.count + 1; numbered = is_written o.number }) (earlier ++ os) in (
       sym none,
       rw (written_from_empty o.number empty is)
           (subst (λ v. after (cond v [] (o ∷ []))) (sym plain)

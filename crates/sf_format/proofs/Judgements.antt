@@ -66,14 +66,16 @@ format_judged language pieces is =
     ∙ rw (slots_quiet pieces is.slots)
 
 -- a fault of a text is judged so
-pub fault_judged : (language : Language) (text : List ℕ) (at : ℕ) (why : FormatWhy) → FaultIn language text at why → judged language text ≡ Err (why, at)
+pub fault_judged : (language : Language) (text : List ℕ) (at : ℕ) (why : FormatWhy) → FaultIn language text at why
+    → judged language text ≡ Err (why, at)
 fault_judged language text at why h =
     elim h [
       | inl much ↦ rw (is_above 4096 (length text) much.0, much.1, much.2)
       | inr few ↦
           elim few.1 [
             | inl part ↦ read_judged language text (Err (why, at)) few.0 (fault_read language text (why, at) part)
-            | inr (done, good, is, first) ↦ read_judged language text (Ok done) few.0 (rw is (parts_read language done good.each good.apart good.alike)) ∙ rw first
+            | inr (done, good, is, first) ↦ read_judged language text (Ok done) few.0
+                (rw is (parts_read language done good.each good.apart good.alike)) ∙ rw first
           ]
     ]
 
@@ -108,7 +110,8 @@ some_spelled : {D : Type 0} {language : Language} {means : ℕ → Piece → D �
     → (text : List ℕ) (pieces : List Piece) → Judges language text (Ok pieces) → (ds : List D) × SpellsAs language means text ds
 some_spelled m text pieces h = let ds = some_meanings m 1 pieces h.0.each in (ds.0, (pieces, h.0, h.1, ds.1))
 
-pub either : {D : Type 0} {language : Language} {means : ℕ → Piece → D → Type 0} → IsMeaning D language means → (text : List ℕ) → AreBytes text
+pub either : {D : Type 0} {language : Language} {means : ℕ → Piece → D → Type 0} → IsMeaning D language means → (text : List ℕ)
+    → AreBytes text
     → ((ds : List D) × SpellsAs language means text ds) ⊎ ((at : ℕ) × (why : FormatWhy) × FaultIn language text at why)
 either {D} {language} {means} m text bytes = by_judgement (judged language text) (judged_tells language text bytes)
   where
@@ -139,7 +142,8 @@ read_same : (language : Language) (text : List ℕ) (pieces others : List Piece)
 read_same language text pieces others e f =
     let both = sym (read_judged language text (Ok others) (judged_short language text pieces e) f) ∙ e in grind arith
 
-pub gathers_spells : {D : Type 0} {language : Language} {means : ℕ → Piece → D → Type 0} {text : List ℕ} {ds : List D} (count : ℕ) → AreBytes text
+pub gathers_spells : {D : Type 0} {language : Language} {means : ℕ → Piece → D → Type 0} {text : List ℕ} {ds : List D} (count : ℕ)
+    → AreBytes text
     → Judged language text (Ok count) → Gathers language means text ds → SpellsCounted language means text ds count
 gathers_spells {language = language} {text = text} count bytes judges h =
     let is = tells language text (Ok judges.0) bytes judges.1 in
@@ -148,7 +152,8 @@ gathers_spells {language = language} {text = text} count bytes judges h =
 -- ---- a text that is refused
 
 pub judged_fault : {D : Type 0} {language : Language} {means : ℕ → Piece → D → Type 0} → IsMeaning D language means
-    → (text : List ℕ) (fault : FormatFault) → AreBytes text → judged language text ≡ Err (fault_of fault) → IsRefusedAs language means text fault
+    → (text : List ℕ) (fault : FormatFault) → AreBytes text → judged language text ≡ Err (fault_of fault)
+    → IsRefusedAs language means text fault
 judged_fault {language = language} m text fault bytes e = inl (tells language text (Err (fault_of fault)) bytes e)
 
 pub hindered : {D : Type 0} {language : Language} {means : ℕ → Piece → D → Type 0} → IsMeaning D language means

@@ -103,14 +103,17 @@ set_same list a b h k =
 abbrev made : Shape → Kind → Option ℕ → Option ℕ → Conversion
 made s k w n = record { shape = s; kind = k; width = w; slot = n }
 
-conversion_same : (place : ℕ) (o : Opening) (letter : Letter) (c d : Conversion) → IsConversion place o letter c → IsConversion place o letter d
+conversion_same : (place : ℕ) (o : Opening) (letter : Letter) (c d : Conversion) → IsConversion place o letter c
+    → IsConversion place o letter d
     → c.shape ≡ d.shape → c ≡ d
 conversion_same place o letter c d h k same =
     let kinds : c.kind ≡ d.kind = let e = sym h.kind ∙ k.kind in cc in
-    let all : made c.shape c.kind c.width c.slot ≡ made d.shape d.kind d.width d.slot = rw (same, kinds, h.width, k.width, h.slot, k.slot) in
+    let all : made c.shape c.kind c.width c.slot ≡ made d.shape d.kind d.width d.slot =
+    rw (same, kinds, h.width, k.width, h.slot, k.slot) in
     all
 
-means_one : (profile : Profile) (place : ℕ) (piece : Piece) (d e : Directive) → Means profile place piece d → Means profile place piece e → d ≡ e
+means_one : (profile : Profile) (place : ℕ) (piece : Piece) (d e : Directive) → Means profile place piece d → Means profile place piece e
+    → d ≡ e
 means_one profile place (Plain o b) d e h k =
     let same : h.0 ≡ k.0 = let f = sym h.2 ∙ k.2 in cc in
     let shape = rw same at h.4 in
@@ -178,7 +181,8 @@ told_by o letter k = record {
   precision = option_map (λ ds. magnitude 10 ds) o.precision;
 }
 
-is_told : (place : ℕ) (o : Opening) (letter : PrintLetter) (c : PrintConv) → IsPrintConv place o letter c → c ≡ told_by o letter (c.kind, c.slot)
+is_told : (place : ℕ) (o : Opening) (letter : PrintLetter) (c : PrintConv) → IsPrintConv place o letter c
+    → c ≡ told_by o letter (c.kind, c.slot)
 is_told place o letter c h =
     rw (← h.prints, ← h.minus, ← h.plus, ← h.blank, ← h.alt, ← h.zero, ← h.width, ← h.precision) refl
 
@@ -189,7 +193,8 @@ print_conversion_same place o letter c d h k =
     let slots : c.slot ≡ d.slot = let e = sym h.slot ∙ k.slot in cc in
     is_told place o letter c h ∙ ap (told_by o letter) (rw (kinds, slots)) ∙ sym (is_told place o letter d k)
 
-prints_one : (profile : Profile) (place : ℕ) (piece : Piece) (u v : PrintUnit) → Prints profile place piece u → Prints profile place piece v → u ≡ v
+prints_one : (profile : Profile) (place : ℕ) (piece : Piece) (u v : PrintUnit) → Prints profile place piece u
+    → Prints profile place piece v → u ≡ v
 prints_one profile place (Ordinary b) u v h k = h ∙ sym k
 prints_one profile place Percents u v h k = h ∙ sym k
 prints_one profile place (Plain o b) u v h k =

@@ -50,7 +50,8 @@ told_push : (why : FormatWhy) (before : Option ℕ) (rules : List Rule) (applies
 told_push why before rules applies at e =
     rw (first_append rules (record { why = why; applies = applies; at = at } ∷ []), ← e) (one before applies)
   where
-    one : (found : Option ℕ) (v : Bool) → told why (first_place found v at) ≡ or_else (told why found) (first_of (record { why = why; applies = v; at = at } ∷ []))
+    one : (found : Option ℕ) (v : Bool) → told why (first_place found v at)
+        ≡ or_else (told why found) (first_of (record { why = why; applies = v; at = at } ∷ []))
     one found v = grind arith
 
 pub notes_more : (count : ℕ) (ns : List (ℕ × ℕ)) (old new : Noted) (n at : ℕ) (used high : Bool) → Notes count ns old → n < 256
@@ -58,7 +59,8 @@ pub notes_more : (count : ℕ) (ns : List (ℕ × ℕ)) (old new : Noted) (n at 
     → ((k : ℕ) → k < 256 → has_byte new.used k ≡ (k == n || has_byte old.used k)) → Notes count (ns ++ (n, at) ∷ []) new
 notes_more count ns old new n at used high notes byte is_used is_high twice gap put = record {
   used = λ m below.
-      rw (put m below, same_test m n, notes.used m below, map-append (λ (a : ℕ × ℕ). a.0) ns ((n, at) ∷ [])) (sym (any_push (numbers ns) n m));
+      rw (put m below, same_test m n, notes.used m below, map-append (λ (a : ℕ × ℕ). a.0) ns ((n, at) ∷ []))
+      (sym (any_push (numbers ns) n m));
   twice =
       rw (twice, is_used, notes.used n byte, repeated_push [] ns (n, at))
       (told_push NumberTwice old.twice (repeated [] ns) (is_any_of (numbers ns) n) at notes.twice);
@@ -115,13 +117,15 @@ noting_more {language} {at = at} {rest = rest} {slot = slot} h passes is notes =
       same = λ written.
           let all = rw (destinations_push done piece) at written in
           let before = h.same (all_front (λ (o : Opening). o.number ≢ []) (destinations done) here all) in
-          let placed = part_placed (1 + length (destinations done)) at piece (all_back (λ (o : Opening). o.number ≢ []) (destinations done) here all) in
+          let placed = part_placed (1 + length (destinations done)) at piece
+          (all_back (λ (o : Opening). o.number ≢ []) (destinations done) here all) in
           let place : 0 + length (text_of done) ≡ at = omega (arith, h.passing.place) in
           rw (numbered_push 0 done piece, place, before, is, placed);
     }
 
 -- the rules of the numbers of a whole text
-pub noting_all : {language : Language} {text : List ℕ} {at : ℕ} {rest : List ℕ} {earlier : Slots} {empty : Bool} (slots : Slots) {noted : Noted}
+pub noting_all : {language : Language} {text : List ℕ} {at : ℕ} {rest : List ℕ} {earlier : Slots} {empty : Bool} (slots : Slots)
+    {noted : Noted}
     (pieces : List Piece) (h : Noting language text at rest earlier slots.count noted) → empty ≡ (length rest == 0) → empty ≡ true
     → slots.numbered ≡ true → Walked language text (Ok slots) → read (length text) language [] 0 text ≡ Ok pieces
     → first_of (repeated [] h.ns ++ beyond slots.count h.ns) ≡ first_of (number_rules pieces)
@@ -129,7 +133,8 @@ noting_all {language} {text} slots {noted} pieces h is_empty none numbers walked
     let first : walked.0 ≡ pieces = let both = sym walked.1 ∙ e in cc in
     let last : h.passing.done ≡ pieces = let both = sym (passing_all h.passing is_empty none) ∙ e in cc in
     let holds = subst (λ ps. Holds slots (destinations ps)) first walked.2 in
-    let written = all_numbered (destinations pieces) (subst (λ v. AllByRecursion (λ o. is_written o.number ≡ v) (destinations pieces)) numbers holds.same) in
+    let written = all_numbered (destinations pieces) (subst (λ v. AllByRecursion (λ o. is_written o.number ≡ v) (destinations pieces))
+    numbers holds.same) in
     let same = h.same (subst (λ ps. AreWritten (destinations ps)) (sym last) written) ∙ ap (numbered 0) last in
     rw (all_written (destinations pieces) written, same, holds.count)
   where
@@ -143,4 +148,5 @@ pub unnumbered_none : (language : Language) (text : List ℕ) (slots : Slots) (p
 unnumbered_none language text slots pieces none walked e =
     let first : walked.0 ≡ pieces = let both = sym walked.1 ∙ e in cc in
     let holds = subst (λ ps. Holds slots (destinations ps)) first walked.2 in
-    sym (unnumbered_rules pieces (subst (λ v. AllByRecursion (λ (o : Opening). is_written o.number ≡ v) (destinations pieces)) none holds.same))
+    sym (unnumbered_rules pieces (subst (λ v. AllByRecursion (λ (o : Opening). is_written o.number ≡ v) (destinations pieces)) none
+    holds.same))

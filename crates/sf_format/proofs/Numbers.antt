@@ -31,7 +31,13 @@ numbers_placed p (o ∷ os) = rw (numbers_placed p os)
 numbered_is : (p : ℕ) (pieces : List Piece) → numbers (numbered p pieces) ≡ map number_of (destinations pieces)
 numbered_is p [] = refl
 numbered_is p (piece ∷ pieces) =
-    simp (destinations_cons piece pieces, map-append (λ (n : ℕ × ℕ). n.0), map-append number_of, numbers_placed p, numbered_is (p + length (piece_text piece)) pieces)
+    simp (
+      destinations_cons piece pieces,
+      map-append (λ (n : ℕ × ℕ). n.0),
+      map-append number_of,
+      numbers_placed p,
+      numbered_is (p + length (piece_text piece)) pieces,
+    )
 
 -- ---- numbers that stand twice
 
@@ -53,7 +59,8 @@ distinct_is earlier (n ∷ ns) h =
     let split = new_is n.0 earlier (numbers ns) rest.1 in
     ((split.0, rest.0), (h.0, split.1))
 
-distinct_quiet : (earlier : List ℕ) (ns : List (ℕ × ℕ)) → AreDistinct (numbers ns) → AreNew earlier (numbers ns) → Quiet (repeated earlier ns)
+distinct_quiet : (earlier : List ℕ) (ns : List (ℕ × ℕ)) → AreDistinct (numbers ns) → AreNew earlier (numbers ns)
+    → Quiet (repeated earlier ns)
 distinct_quiet earlier [] distinct fresh = tt
 distinct_quiet earlier (n ∷ ns) distinct fresh =
     (fresh.0, distinct_quiet (n.0 ∷ earlier) ns distinct.1 (new_from n.0 earlier (numbers ns) distinct.0 fresh.1))
@@ -88,7 +95,8 @@ pub all_written : (os : List Opening) → AreWritten os → list_all (λ o. is_w
 all_written [] h = refl
 all_written (o ∷ os) h = grind (arith, all_written os h.1)
 
-not_both : (os : List Opening) → AllByRecursion (λ o. is_written o.number ≡ false) os → list_all (λ o. is_written o.number) os ≡ true → os ≡ []
+not_both : (os : List Opening) → AllByRecursion (λ o. is_written o.number ≡ false) os → list_all (λ o. is_written o.number) os ≡ true
+    → os ≡ []
 not_both [] h e = refl
 not_both (o ∷ os) h e = absurd (grind arith)
 
@@ -120,10 +128,12 @@ pub slots_from : (pieces : List Piece) → AreAlike (destinations pieces) → fi
 slots_from pieces alike e =
     elim alike [
       | inl placed ↦ inl placed
-      | inr written ↦ inr (numbered_from pieces written (quiet_is (written_rules pieces) (rw (all_written (destinations pieces) written) at e)))
+      | inr written ↦ inr (numbered_from pieces written (quiet_is (written_rules pieces)
+          (rw (all_written (destinations pieces) written) at e)))
     ]
 
-pub slots_alike : (pieces : List Piece) → ArePlaced (destinations pieces) ⊎ AreNumbered (destinations pieces) → AreAlike (destinations pieces)
+pub slots_alike : (pieces : List Piece) → ArePlaced (destinations pieces) ⊎ AreNumbered (destinations pieces)
+    → AreAlike (destinations pieces)
 slots_alike pieces slots =
     elim slots [
       | inl placed ↦ inl placed
@@ -145,11 +155,13 @@ unnumbered_rules pieces none = by_written (list_all (λ o. is_written o.number) 
         let empty = not_both (destinations pieces) none e in
         rw (e, no_numbers (numbered 0 pieces) (rw empty at (numbered_is 0 pieces)))
 
-pub slots_quiet : (pieces : List Piece) → ArePlaced (destinations pieces) ⊎ AreNumbered (destinations pieces) → first_of (number_rules pieces) ≡ None
+pub slots_quiet : (pieces : List Piece) → ArePlaced (destinations pieces) ⊎ AreNumbered (destinations pieces)
+    → first_of (number_rules pieces) ≡ None
 slots_quiet pieces slots =
     elim slots [
       | inl placed ↦
-          unnumbered_rules pieces (all_map (λ o. o.number ≡ []) (λ o. is_written o.number ≡ false) (λ o e. rw e refl) (destinations pieces) placed.0)
+          unnumbered_rules pieces (all_map (λ o. o.number ≡ []) (λ o. is_written o.number ≡ false) (λ o e. rw e refl)
+          (destinations pieces) placed.0)
       | inr h ↦
           rw (all_written (destinations pieces) (numbered_low (length (destinations pieces)) (destinations pieces) h.0).0)
           (quiet_from (written_rules pieces) (numbered_quiet pieces h))

@@ -30,7 +30,8 @@ part_slot place piece os =
     by_destination (λ here. cons_option (slot_at place here) (slots_named (place + length here) os) ≡ slots_named place (here ++ os)) piece
     (let same : place + 0 ≡ place = omega arith in ap (λ n. slots_named n os) same) (λ o plain. grind arith)
 
-numbers_cons : (o : Option Slotted) (entries : List Slotted) → numbers (cons_option o entries) ≡ cons_option (option_map (λ e. e.0) o) (numbers entries)
+numbers_cons : (o : Option Slotted) (entries : List Slotted) → numbers (cons_option o entries)
+    ≡ cons_option (option_map (λ e. e.0) o) (numbers entries)
 numbers_cons o entries = grind arith
 
 slots_all : {D : Type 0} {means : ℕ → Piece → D → Type 0} {slotted : D → Option Slotted} → HasSlots D means slotted
@@ -87,7 +88,8 @@ within count (o ∷ os) h k = let rest = within count os h.1 k.1 in (((low.0, h.
 
 -- ---- without numbers
 
-slots_placed : (place : ℕ) (os : List Opening) → AllByRecursion (λ o. o.number ≡ []) os → slots_named place os ≡ slots_from place (length os)
+slots_placed : (place : ℕ) (os : List Opening) → AllByRecursion (λ o. o.number ≡ []) os
+    → slots_named place os ≡ slots_from place (length os)
 slots_placed place [] h = refl
 slots_placed place (o ∷ os) h = rw (h.0, slots_placed (place + 1) os h.1)
 
@@ -137,9 +139,11 @@ named_good language pieces is =
 pub slots_count : {D : Type 0} {means : ℕ → Piece → D → Type 0} {slotted : D → Option Slotted} → HasSlots D means slotted
     → (pieces : List Piece) (ds : List D) → MeanAll means 1 pieces ds → length (filter_map slotted ds) ≡ length (destinations pieces)
 slots_count {slotted = slotted} m pieces ds h =
-    sym (length-map (filter_map slotted ds) (λ (e : Slotted). e.0)) ∙ ap length (slots_all m 1 pieces ds h) ∙ named_length 1 (destinations pieces)
+    sym (length-map (filter_map slotted ds) (λ (e : Slotted). e.0)) ∙ ap length (slots_all m 1 pieces ds h)
+    ∙ named_length 1 (destinations pieces)
 
-pub slots_good : {D : Type 0} {language : Language} {means : ℕ → Piece → D → Type 0} {slotted : D → Option Slotted} → HasSlots D means slotted
+pub slots_good : {D : Type 0} {language : Language} {means : ℕ → Piece → D → Type 0} {slotted : D → Option Slotted}
+    → HasSlots D means slotted
     → (pieces : List Piece) (ds : List D) → IsFormat language pieces → MeanAll means 1 pieces ds → AreSlots (filter_map slotted ds)
 slots_good {language = language} m pieces ds is h =
     let good = rw (← slots_all m 1 pieces ds h, ← slots_count m pieces ds h) at (named_good language pieces is) in

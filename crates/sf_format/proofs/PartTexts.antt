@@ -13,7 +13,8 @@ use Rattle.sf_format.proofs.Walks.{Passing, PassesFirst, passing_more, passing_a
 
 -- ---- the parts that were passed are the first of the text's
 
-begin_put : (done : List Piece) (r : Judgement) (pieces : List Piece) → put_all done r ≡ Ok pieces → (more : List Piece) × (pieces ≡ done ++ more)
+begin_put : (done : List Piece) (r : Judgement) (pieces : List Piece) → put_all done r ≡ Ok pieces
+    → (more : List Piece) × (pieces ≡ done ++ more)
 begin_put done (Ok more) pieces e = (more, cc)
 begin_put done (Err fault) pieces e = absurd (cc)
 
@@ -49,7 +50,8 @@ counting_more {language} {rest = rest} h passes more = record {
 }
 
 -- the part in front of the rest is the one with the number
-pub text_found : {language : Language} {text : List ℕ} {at : ℕ} {rest after : List ℕ} {slots new : Slots} {number left : ℕ} (pieces : List Piece)
+pub text_found : {language : Language} {text : List ℕ} {at : ℕ} {rest after : List ℕ} {slots new : Slots} {number left : ℕ}
+    (pieces : List Piece)
     (h : Counting language text at rest slots number left) → PassesFirst h.passing after new → left ≡ 1
     → read (length text) language [] 0 text ≡ Ok pieces → Some (take (length rest - length after) rest) ≡ text_at number pieces
 text_found {language} {rest = rest} {after = after} {number = number} pieces h passes one e =
@@ -64,7 +66,8 @@ text_found {language} {rest = rest} {after = after} {number = number} pieces h p
     ∙ rw (← counted, more.1) (sym (text_behind done part.piece more.0))
 
 -- no part has the number
-pub text_none : {language : Language} {text : List ℕ} {at : ℕ} {rest : List ℕ} {slots : Slots} {number left : ℕ} {empty : Bool} (pieces : List Piece)
+pub text_none : {language : Language} {text : List ℕ} {at : ℕ} {rest : List ℕ} {slots : Slots} {number left : ℕ} {empty : Bool}
+    (pieces : List Piece)
     → Counting language text at rest slots number left → empty ≡ (length rest == 0) → empty ≡ true
     → read (length text) language [] 0 text ≡ Ok pieces → None ≡ text_at number pieces
 text_none {number = number} pieces h is_empty none e =

@@ -100,16 +100,19 @@ percent_part (Print profile) x other = rw other
 plain_text : (o : Opening) (letter : ℕ) (y : List ℕ) → piece_text (Plain o letter) ++ y ≡ 37 ∷ inside o (letter ∷ y)
 plain_text o letter y = append_assoc (opening_text o) (letter ∷ []) y ∙ opening_regroup o (letter ∷ y)
 
-bracket_text : (o : Opening) (list : Scanlist) (y : List ℕ) → piece_text (Bracket o list) ++ y ≡ 37 ∷ inside o (91 ∷ (scanlist_text list ++ y))
+bracket_text : (o : Opening) (list : Scanlist) (y : List ℕ) → piece_text (Bracket o list) ++ y
+    ≡ 37 ∷ inside o (91 ∷ (scanlist_text list ++ y))
 bracket_text o list y = append_assoc (opening_text o) (91 ∷ scanlist_text list) y ∙ opening_regroup o (91 ∷ (scanlist_text list ++ y))
 
 -- what stands behind an opening of bytes are bytes
 inside_bytes : (o : Opening) (y : List ℕ) → AreBytes (inside o y) → AreBytes y
-inside_bytes o y h = let whole : inside o y ≡ inside o [] ++ y = simp append_assoc in all_back (λ b. b < 256) (inside o []) y (rw whole at h)
+inside_bytes o y h = let whole : inside o y ≡ inside o [] ++ y = simp append_assoc in
+    all_back (λ b. b < 256) (inside o []) y (rw whole at h)
 
 -- ---- from the text to the part
 
-letter_begins : (language : Language) (earlier : List Opening) (p : ℕ) (o : Opening) (q : ℕ) (rest x : List ℕ) → inside o rest ≡ x → AreBytes x
+letter_begins : (language : Language) (earlier : List Opening) (p : ℕ) (o : Opening) (q : ℕ) (rest x : List ℕ) → inside o rest ≡ x
+    → AreBytes x
     → HasParts o → IsIn language o → Quiet (opening_rules language p o) → Quiet (rest_rules language earlier p o q rest)
     → BeginsWith language earlier (37 ∷ x) (letter_at o rest)
 letter_begins language earlier p o q [] x e bytes parts own opening quiet = absurd (let h = quiet.0 in cc)
@@ -119,7 +122,8 @@ letter_begins (Scan profile) earlier p o q (letter ∷ y) x e bytes parts own op
     by_bracket (nat_eq letter 91) refl rules.0 rules.1 (λ k. assigned_alike earlier p o k split.1)
   where
     by_bracket : (v : Bool) → nat_eq letter 91 ≡ v → Quiet (letter_rules profile o letter q) → Quiet (bracket_rules v q y)
-        → (AreAlike earlier → AreAlike (earlier ++ assigned_opening o [])) → BeginsWith (Scan profile) earlier (37 ∷ x) (letter_at o (letter ∷ y))
+        → (AreAlike earlier → AreAlike (earlier ++ assigned_opening o []))
+        → BeginsWith (Scan profile) earlier (37 ∷ x) (letter_at o (letter ∷ y))
     by_bracket false other rules list alike =
         let l = letter_some (letter_of profile letter) rules.1.1.0 in
         rw other
@@ -152,7 +156,8 @@ letter_begins (Print profile) earlier p o q (b ∷ y) x e bytes parts own openin
       apart = tt;
     })
 
-conversion_begins : (language : Language) (earlier : List Opening) (p : ℕ) (x : List ℕ) → AreBytes x → Quiet (conversion_rules language earlier p x)
+conversion_begins : (language : Language) (earlier : List Opening) (p : ℕ) (x : List ℕ) → AreBytes x
+    → Quiet (conversion_rules language earlier p x)
     → BeginsWith language earlier (37 ∷ x) (conversion_at language x)
 conversion_begins language earlier p x bytes quiet =
     let o = (cut language x).opening in
@@ -167,7 +172,8 @@ begins_with (Scan profile) earlier p b x bytes quiet = by_white (is_white b) ref
   where
     by_white : (v : Bool) → is_white b ≡ v → BeginsWith (Scan profile) earlier (b ∷ x) (part_at (Scan profile) (b ∷ x))
     by_white true white =
-        let run : BeginsWith (Scan profile) earlier (b ∷ x) (record { piece = WhiteSpace (front is_white (b ∷ x)); rest = behind is_white (b ∷ x) }) = record {
+        let run : BeginsWith (Scan profile) earlier (b ∷ x) (record
+        { piece = WhiteSpace (front is_white (b ∷ x)); rest = behind is_white (b ∷ x) }) = record {
           text = sym (front_behind is_white (b ∷ x));
           is = (rw white (omega arith), front_passes is_white (b ∷ x));
           alike = nothing_more earlier;
@@ -179,12 +185,14 @@ begins_with (Scan profile) earlier p b x bytes quiet = by_white (is_white b) ref
         (byte_begins (Scan profile) earlier p b x (λ other percent. (bytes.0, other, percent, black))
         (conversion_begins (Scan profile) earlier p x bytes.1) quiet)
 begins_with (Print profile) earlier p b x bytes quiet =
-    byte_begins (Print profile) earlier p b x (λ other percent. (bytes.0, other, percent)) (conversion_begins (Print profile) earlier p x bytes.1) quiet
+    byte_begins (Print profile) earlier p b x (λ other percent. (bytes.0, other, percent))
+    (conversion_begins (Print profile) earlier p x bytes.1) quiet
 
 -- ---- from the part to the text
 
 -- no rule refuses a specification, and it is what its text begins with
-specification_is : (language : Language) (earlier : List Opening) (p : ℕ) (o : Opening) (letter : ℕ) (y : List ℕ) → HasParts o → IsIn language o
+specification_is : (language : Language) (earlier : List Opening) (p : ℕ) (o : Opening) (letter : ℕ) (y : List ℕ) → HasParts o
+    → IsIn language o
     → IsLast letter → Quiet (opening_rules language p o) → ((q : ℕ) → Quiet (ending_rules language p o q letter y))
     → AreAlike (earlier ++ assigned_opening o [])
     → Quiet (part_rules language earlier p (37 ∷ inside o (letter ∷ y)))
@@ -195,7 +203,8 @@ specification_is language earlier p o letter y parts own last opening ending ali
     let rest = quiet_join (ending_rules language p o q letter y) (slot_rules earlier p o) (ending q) (slot_quiet earlier p o alike) in (
       percent_quiet language earlier p (inside o (letter ∷ y)) other
           (subst
-          (λ (c : Cut). Quiet (opening_rules language p c.opening ++ rest_rules language earlier p c.opening (p + length (opening_text c.opening)) c.rest))
+          (λ (c : Cut). Quiet (opening_rules language p c.opening ++ rest_rules language earlier p c.opening
+          (p + length (opening_text c.opening)) c.rest))
           (sym is_cut) (quiet_join (opening_rules language p o) (rest_rules language earlier p o q (letter ∷ y)) opening rest)),
       percent_part language (inside o (letter ∷ y)) other ∙ ap (λ (c : Cut). letter_at c.opening c.rest) is_cut,
     )
@@ -205,7 +214,8 @@ abbrev IsPartOf : Language → List Opening → ℕ → Piece → List ℕ → L
 IsPartOf language earlier p piece rest x =
     Quiet (part_rules language earlier p x) × (part_at language x ≡ record { piece = piece; rest = rest })
 
-pub part_of : (language : Language) (earlier : List Opening) (p : ℕ) (piece : Piece) (rest : List ℕ) → IsPiece language piece → StopsAfter piece rest
+pub part_of : (language : Language) (earlier : List Opening) (p : ℕ) (piece : Piece) (rest : List ℕ) → IsPiece language piece
+    → StopsAfter piece rest
     → AreAlike (earlier ++ destinations (piece ∷ [])) → IsPartOf language earlier p piece rest (piece_text piece ++ rest)
 part_of (Scan profile) earlier p (WhiteSpace []) rest is stops alike = absurd (omega (arith, is.0))
 part_of (Scan profile) earlier p (WhiteSpace (b ∷ bs)) rest is stops alike = (
@@ -221,7 +231,8 @@ part_of (Scan profile) earlier p (Plain o b) rest is stops alike =
     let other = byte_differs b 91 is.0 in
     let all = specification_is (Scan profile) earlier p o b rest (suits_parts letter o suits) (suits.flags, suits.precision)
     (letter_is profile b letter found).last (opening_quiet profile letter o p suits)
-    (λ q. quiet_join (letter_rules profile o b q) (scanlist_rules b q rest) (letter_quiet profile letter o b q found suits) (rw other tt)) alike in
+    (λ q. quiet_join (letter_rules profile o b q) (scanlist_rules b q rest) (letter_quiet profile letter o b q found suits) (rw other tt))
+    alike in
     subst (IsPartOf (Scan profile) earlier p (Plain o b) rest) (sym (plain_text o b rest)) (all.0, all.1 ∙ rw other)
 part_of (Scan profile) earlier p (Bracket o list) rest is stops alike =
     let y = scanlist_text list ++ rest in
@@ -229,7 +240,8 @@ part_of (Scan profile) earlier p (Bracket o list) rest is stops alike =
     (letter_is profile 91 Set refl).last (opening_quiet profile Set o p is.0)
     (λ q. quiet_join (letter_rules profile o 91 q) (scanlist_rules 91 q y) (letter_quiet profile Set o 91 q refl is.0)
     (rw (marked list rest is.1) (quiet_list q _ list rest is.1))) alike in
-    subst (IsPartOf (Scan profile) earlier p (Bracket o list) rest) (sym (bracket_text o list rest)) (all.0, all.1 ∙ bracket_of o list rest is.1)
+    subst (IsPartOf (Scan profile) earlier p (Bracket o list) rest) (sym (bracket_text o list rest))
+    (all.0, all.1 ∙ bracket_of o list rest is.1)
 part_of (Print profile) earlier p (Ordinary b) rest is stops alike =
     let byte = byte_differs b 37 is.2 in
     (byte_quiet (Print profile) earlier p b rest (byte_differs b 0 is.1) byte, rw byte)

@@ -52,7 +52,8 @@ rest_first profile earlier p o q b x letter rules found =
 pub letter_rest : (o : Opening) (letter : ℕ) (x : List ℕ) → (letter_at o (letter ∷ x)).rest ≡ rest_behind (nat_eq letter 91) x
 letter_rest o letter x = grind arith
 
-pub letter_destination : (o : Opening) (letter : ℕ) (x : List ℕ) → destinations ((letter_at o (letter ∷ x)).piece ∷ []) ≡ assigned_opening o []
+pub letter_destination : (o : Opening) (letter : ℕ) (x : List ℕ)
+    → destinations ((letter_at o (letter ∷ x)).piece ∷ []) ≡ assigned_opening o []
 letter_destination o letter x = grind arith
 
 -- ---- the conversion by a letter
@@ -75,12 +76,15 @@ made_by true profile place q b x o letter listed c set same found none is conver
 made_by false profile place q b x o letter listed c set other found none is conversion shape =
     rw other (letter, c, found, conversion, shape, refl)
 
-pub match_map : {A : Type 0} (N : Type 0) (P Q : A → Type 0) → ((a : A) → P a → Q a) → (o : Option A) → MatchOption o N P → MatchOption o N Q
+pub match_map : {A : Type 0} (N : Type 0) (P Q : A → Type 0) → ((a : A) → P a → Q a) → (o : Option A) → MatchOption o N P
+    → MatchOption o N Q
 match_map N P Q f o h = grind arith
 
 -- the conversion that was made is what the part stands for
-pub made_means : (profile : Profile) (place q b : ℕ) (x : List ℕ) (o : Opening) (letter : Letter) (kind : Kind) (slot : Option ℕ) (listed : Listed)
-    (d : Directive) → letter_of profile b ≡ Some letter → kind_of letter o.size ≡ Some kind → first_of (bracket_rules (is_set letter) q x) ≡ None
+pub made_means : (profile : Profile) (place q b : ℕ) (x : List ℕ) (o : Opening) (letter : Letter) (kind : Kind) (slot : Option ℕ)
+    (listed : Listed)
+    (d : Directive) → letter_of profile b ≡ Some letter → kind_of letter o.size ≡ Some kind
+    → first_of (bracket_rules (is_set letter) q x) ≡ None
     → IsListed (is_set letter) x listed → slot ≡ slot_of place o → IsMade letter kind o.width slot listed d
     → Means profile place (letter_at o (b ∷ x)).piece d
 made_means profile place q b x o letter kind slot listed (directive.Conv c) found known none is placed h =
@@ -88,7 +92,8 @@ made_means profile place q b x o letter kind slot listed (directive.Conv c) foun
     (record { kind = known ∙ ap Some (sym h.0); width = h.1; slot = h.2 ∙ placed }) h.3
 made_means profile place q b x o letter kind slot listed _ found known none is placed h = absurd h
 
-pub number_low : (ds : List ℕ) → (is_written ds && (nat_eq (magnitude 10 ds) 0 || nat_lt 32 (magnitude 10 ds))) ≡ false → magnitude 10 ds ≤ 32
+pub number_low : (ds : List ℕ) → (is_written ds && (nat_eq (magnitude 10 ds) 0 || nat_lt 32 (magnitude 10 ds))) ≡ false
+    → magnitude 10 ds ≤ 32
 number_low [] e = omega arith
 number_low (d ∷ ds) e = grind (arith, nat_tests)
 
@@ -108,7 +113,8 @@ behind_mark [] found = absurd (cc)
 behind_mark (b ∷ x) found = grind arith
 
 -- behind an opening without a fault
-pub passes_behind : {D : Type 0} (wanted : Bool) (means : ℕ → Piece → D → Type 0) (opening rest : List Rule) (earlier : List Opening) (part : Part)
+pub passes_behind : {D : Type 0} (wanted : Bool) (means : ℕ → Piece → D → Type 0) (opening rest : List Rule) (earlier : List Opening)
+    (part : Part)
     (r : Result (Passed D) FormatFault) → first_of opening ≡ None → PassesBy wanted means rest earlier part r
     → PassesBy wanted means (opening ++ rest) earlier part r
 passes_behind wanted means opening rest earlier part (Ok passed) quiet h = (rw (first_append opening rest, quiet) h.0, h.1, h.2, h.3, h.4)
@@ -119,7 +125,8 @@ pub first_and_rest : (x : List ℕ) → 1 ≤ length x → get_or x 0 0 ∷ take
 first_and_rest [] h = absurd (omega (arith, h))
 first_and_rest (b ∷ x) h = ap (λ y. b ∷ y) (take_rest (b ∷ x) 1)
 
-pub cut_fault : (language : Language) (earlier : List Opening) (p : ℕ) (x : List ℕ) (o : Opening) (f : FormatWhy × ℕ) → o ≡ (cut language x).opening
+pub cut_fault : (language : Language) (earlier : List Opening) (p : ℕ) (x : List ℕ) (o : Opening) (f : FormatWhy × ℕ)
+    → o ≡ (cut language x).opening
     → first_of (opening_rules language p o) ≡ Some f → first_of (conversion_rules language earlier p x) ≡ Some f
 cut_fault language earlier p x o f same first =
     first_left (opening_rules language p (cut language x).opening)
@@ -137,14 +144,16 @@ cut_passes wanted means language earlier p q x rest o r same behind place quiet 
     subst (λ a. by a (p + length (opening_text a)) (cut language x).rest) same
     (subst (by o (p + length (opening_text o))) behind
     (subst (λ n. by o n rest) place
-    (passes_behind wanted means (opening_rules language p o) (rest_rules language earlier p o q rest) earlier (letter_at o rest) r quiet passes)))
+    (passes_behind wanted means (opening_rules language p o) (rest_rules language earlier p o q rest) earlier
+    (letter_at o rest) r quiet passes)))
 
 -- what holds of a precision that is there
 pub if_point : (P : List ℕ → Type 0) (point : Bool) (ds : List ℕ) → IfSome (precision_of point ds) P → point ≡ true → P ds
 if_point P point ds h e = grind arith
 
 -- behind a letter that has no fault itself, what stands before it decides
-pub flags_first : (profile : Profile) (p : ℕ) (o : Opening) (q b : ℕ) (letter : PrintLetter) → first_of (print_letter_rules profile o b q) ≡ None
+pub flags_first : (profile : Profile) (p : ℕ) (o : Opening) (q b : ℕ) (letter : PrintLetter)
+    → first_of (print_letter_rules profile o b q) ≡ None
     → print_letter_of profile b ≡ Some letter
     → first_of (print_letter_rules profile o b q ++ flag_rules p o (print_letter_of profile b)) ≡ first_of (flag_rules p o (Some letter))
 flags_first profile p o q b letter rules found =

@@ -29,7 +29,8 @@ use Rattle.sf_format.proofs.Meanings.{mean_each}
 -- what holds of each part holds of the whole
 all_through : {D : Type 0} (p q : Language) (mean means : ℕ → Piece → D → Type 0) (f : D → D) (P : D → Type 0)
     → ((place : ℕ) (piece : Piece) (d : D) → IsPiece p piece → mean place piece d → P d → IsPiece q piece × means place piece (f d))
-    → (place : ℕ) (pieces : List Piece) (ds : List D) → AllByRecursion (IsPiece p) pieces → MeanAll mean place pieces ds → AllByRecursion P ds
+    → (place : ℕ) (pieces : List Piece) (ds : List D) → AllByRecursion (IsPiece p) pieces → MeanAll mean place pieces ds
+    → AllByRecursion P ds
     → AllByRecursion (IsPiece q) pieces × MeanAll means place pieces (map f ds)
 all_through p q mean means f P one place [] [] each h has = (tt, h)
 all_through p q mean means f P one place (piece ∷ pieces) (d ∷ ds) each h has =
@@ -89,8 +90,17 @@ scan_part p q other P in_other place (Plain o b) d (plain, (l, known, suits)) (l
         ap (directive_with other) told,
       ),
     )
-scan_part p q other P in_other place (Bracket o list) d piece (c, members, is, set, takes, told) has =
-    (piece, (conversion_with other c, members, is_with other place o Set c is, set, ap (shape_with other) takes, ap (directive_with other) told))
+scan_part p q other P in_other place (Bracket o list) d piece (c, members, is, set, takes, told) has = (
+  piece,
+  (
+    conversion_with other c,
+    members,
+    is_with other place o Set c is,
+    set,
+    ap (shape_with other) takes,
+    ap (directive_with other) told,
+  ),
+)
 scan_part p q other P in_other place _ d is h has = (is, ap (directive_with other) h)
 
 means_old : (place : ℕ) (piece : Piece) (d : Directive) → IsScanPiece One piece → Means One place piece d → DirectiveHas IsOfOne d
@@ -108,7 +118,8 @@ two_spells_one text ds h =
     spells_through (Scan One) (Scan Two) (Means One) (Means Two) (directive_with base_in_two) (DirectiveHas IsOfOne)
     (scan_part One Two base_in_two IsOfOne in_two) text ds h (one_has_old_bases text ds h)
   where
-    in_two : (b : ℕ) (letter : Letter) → letter_of One b ≡ Some letter → LetterHas IsOfOne letter → letter_of Two b ≡ Some (letter_with base_in_two letter)
+    in_two : (b : ℕ) (letter : Letter) → letter_of One b ≡ Some letter → LetterHas IsOfOne letter
+        → letter_of Two b ≡ Some (letter_with base_in_two letter)
     in_two b letter e =
         found (λ b l. LetterHas IsOfOne l → letter_of Two b ≡ Some (letter_with base_in_two l)) (letters One) (assumption) b letter e
 
@@ -120,13 +131,16 @@ one_spells_two =
     no_bin : IsNotBin Bin → letter_of One 98 ≡ Some (letter_with base_in_one (Unsigned Bin))
     no_bin h = absurd h
 
-    in_one : (b : ℕ) (letter : Letter) → letter_of Two b ≡ Some letter → LetterHas IsNotBin letter → letter_of One b ≡ Some (letter_with base_in_one letter)
+    in_one : (b : ℕ) (letter : Letter) → letter_of Two b ≡ Some letter → LetterHas IsNotBin letter
+        → letter_of One b ≡ Some (letter_with base_in_one letter)
     in_one b letter e =
-        found (λ b l. LetterHas IsNotBin l → letter_of One b ≡ Some (letter_with base_in_one l)) (letters Two) (assumption no_bin) b letter e
+        found (λ b l. LetterHas IsNotBin l → letter_of One b ≡ Some (letter_with base_in_one l)) (letters Two)
+        (assumption no_bin) b letter e
 
 -- ---- print formats
 
-print_part : (p q : Profile) → ((b : ℕ) (letter : PrintLetter) → print_letter_of p b ≡ Some letter → IsNotBinary letter → print_letter_of q b ≡ Some letter)
+print_part : (p q : Profile) → ((b : ℕ) (letter : PrintLetter) → print_letter_of p b ≡ Some letter → IsNotBinary letter
+    → print_letter_of q b ≡ Some letter)
     → (place : ℕ) (piece : Piece) (u : PrintUnit) → IsPrintPiece p piece → Prints p place piece u → UnitIsNotBinary u
     → IsPrintPiece q piece × Prints q place piece u
 print_part p q in_other place (Ordinary b) u is h has = (is, h)
@@ -144,11 +158,13 @@ prints_old place (Plain o b) u piece (letter, c, e, is, told) =
     rw (told, is.prints) (printed (λ b l. IsNotBinary l) (print_letters One) (assumption) b letter e)
 prints_old place _ u piece h = absurd h
 
-print_through : (p q : Profile) → ((b : ℕ) (letter : PrintLetter) → print_letter_of p b ≡ Some letter → IsNotBinary letter → print_letter_of q b ≡ Some letter)
+print_through : (p q : Profile) → ((b : ℕ) (letter : PrintLetter) → print_letter_of p b ≡ Some letter → IsNotBinary letter
+    → print_letter_of q b ≡ Some letter)
     → (text : List ℕ) (us : List PrintUnit) → SpellsAs (Print p) (Prints p) text us → AllByRecursion UnitIsNotBinary us
     → SpellsAs (Print q) (Prints q) text us
 print_through p q in_other text us h has =
-    rw (map-id us) at (spells_through (Print p) (Print q) (Prints p) (Prints q) (λ u. u) UnitIsNotBinary (print_part p q in_other) text us h has)
+    rw (map-id us) at (spells_through (Print p) (Print q) (Prints p) (Prints q) (λ u. u) UnitIsNotBinary
+    (print_part p q in_other) text us h has)
 
 pub two_prints_one : TwoPrintsOne
 two_prints_one text us h =

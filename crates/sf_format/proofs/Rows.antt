@@ -107,7 +107,11 @@ formats : AreJudged (Scan One) (
     ∷ (codes "%010d", parts (Plain (sized (codes "010") NoLength) 100 ∷ []))
     ∷ (codes "%3d,%*s", parts (Plain (sized (codes "3") NoLength) 100 ∷ Ordinary 44 ∷ Plain suppressed 115 ∷ []))
     ∷ (codes "%2$d %1$s", parts (Plain (numbered (codes "2")) 100 ∷ WhiteSpace (32 ∷ []) ∷ Plain (numbered (codes "1")) 115 ∷ []))
-    ∷ (codes "%hhd%lu%llx%hn", parts (Plain (sized [] HH) 100 ∷ Plain (sized [] L) 117 ∷ Plain (sized [] LL) 120 ∷ Plain (sized [] H) 110 ∷ []))
+    ∷ (
+      codes "%hhd%lu%llx%hn",
+      parts (Plain (sized [] HH) 100 ∷ Plain (sized [] L) 117 ∷ Plain (sized [] LL) 120 ∷ Plain
+          (sized [] H) 110 ∷ []),
+    )
     ∷ (codes "%%%d", parts (Percents ∷ Plain plain 100 ∷ []))
     ∷ (codes "%[]a-c]", parts (Bracket plain (listed false 93 (codes "a-c")) ∷ []))
     ∷ (codes "%[^]]x", parts (Bracket plain (listed true 93 []) ∷ Ordinary 120 ∷ []))
@@ -161,7 +165,11 @@ print_formats : AreJudged (Print One) (
     ∷ (codes "%100d", parts (Plain (opened [] [] (codes "100") None NoLength) 100 ∷ []))
     ∷ (codes "%#.o", parts (Plain (opened [] (codes "#") [] (Some []) NoLength) 111 ∷ []))
     ∷ (codes "%1$ +08.003hhi", parts (Plain (opened (codes "1") (codes " +0") (codes "8") (Some (codes "003")) HH) 105 ∷ []))
-    ∷ (codes "%2$s-%1$d", parts (Plain (opened (codes "2") [] [] None NoLength) 115 ∷ Ordinary 45 ∷ Plain (opened (codes "1") [] [] None NoLength) 100 ∷ []))
+    ∷ (
+      codes "%2$s-%1$d",
+      parts (Plain (opened (codes "2") [] [] None NoLength) 115 ∷ Ordinary 45 ∷ Plain
+          (opened (codes "1") [] [] None NoLength) 100 ∷ []),
+    )
     ∷ [])
 print_formats = refl
 
@@ -201,7 +209,25 @@ spelled = (
   Plain plain 100 ∷ [],
   record {
     short = lit≤ tt;
-    each = ((differs, (Signed Dec, refl, record { number = tt; suppressed = λ e. absurd (cc); flags = refl; width = tt; precision = refl; size = refl; count = tt })), tt);
+    each = (
+      (
+        differs,
+        (
+          Signed Dec,
+          refl,
+          record {
+            number = tt;
+            suppressed = λ e. absurd (cc);
+            flags = refl;
+            width = tt;
+            precision = refl;
+            size = refl;
+            count = tt;
+          },
+        ),
+      ),
+      tt,
+    );
     apart = tt;
     slots = inl ((refl, tt), lit≤ tt);
   },
@@ -216,5 +242,11 @@ unknown : Fault One (codes " %k") 2 UnknownLetter
 unknown =
     inr (
       lit≤ tt,
-      inl (WhiteSpace (32 ∷ []) ∷ [], codes "%k", record { each = ((lit< tt, (refl, tt)), tt); apart = tt; alike = inl (tt, lit≤ tt) }, refl, refl),
+      inl (
+        WhiteSpace (32 ∷ []) ∷ [],
+        codes "%k",
+        record { each = ((lit< tt, (refl, tt)), tt); apart = tt; alike = inl (tt, lit≤ tt) },
+        refl,
+        refl,
+      ),
     )

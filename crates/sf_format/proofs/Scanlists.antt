@@ -64,7 +64,8 @@ forward_range xs long dash e =
 
 -- ---- sets
 
-listed_single : (k : ℕ) (xs : List ℕ) → 1 ≤ length xs → IsSingle xs → is_listed xs k ≡ (nat_eq (get_or xs 0 0) k || is_listed (after 1 xs) k)
+listed_single : (k : ℕ) (xs : List ℕ) → 1 ≤ length xs → IsSingle xs
+    → is_listed xs k ≡ (nat_eq (get_or xs 0 0) k || is_listed (after 1 xs) k)
 listed_single k [] some single = absurd (omega (arith, some))
 listed_single k (a ∷ []) some single = grind arith
 listed_single k (a ∷ b ∷ []) some single = refl
@@ -107,7 +108,8 @@ range_more old new xs members long dash has put = λ k byte.
 
 -- the split of a scanlist behind its members
 pub members_split : (text others : List ℕ) → 0 < length text → others ≡ front is_inner (drop 1 text)
-    → (1 + length others ≤ length text) × (take (1 + length others) text ≡ members_at text) × (drop (1 + length others) text ≡ close_at text)
+    → (1 + length others ≤ length text) × (take (1 + length others) text ≡ members_at text)
+    × (drop (1 + length others) text ≡ close_at text)
 members_split [] others some e = absurd (omega (arith, some))
 members_split (b ∷ x) others some e =
     let whole : others ++ behind is_inner x ≡ x = rw e (front_behind is_inner x) in
@@ -178,7 +180,8 @@ listed q m y bytes = by_members (mark_at 94 y).0 (mark_at 94 y).1 (no_mark 94 y)
 abbrev inner_text : Scanlist → List ℕ → List ℕ
 inner_text list rest = list.first ∷ (list.others ++ 93 ∷ rest)
 
-pub marked : (list : Scanlist) (rest : List ℕ) → IsScanlist list → mark_at 94 (scanlist_text list ++ rest) ≡ (list.complemented, inner_text list rest)
+pub marked : (list : Scanlist) (rest : List ℕ) → IsScanlist list
+    → mark_at 94 (scanlist_text list ++ rest) ≡ (list.complemented, inner_text list rest)
 marked list rest is =
     rw (append_assoc (caret_text list.complemented) (list.first ∷ (list.others ++ 93 ∷ [])) rest, append_assoc list.others (93 ∷ []) rest)
     (caret_of list.complemented list.first (list.others ++ 93 ∷ rest) is.first)
@@ -186,7 +189,11 @@ marked list rest is =
 pub bracket_of : (o : Opening) (list : Scanlist) (rest : List ℕ) → IsScanlist list
     → bracket_at o (mark_at 94 (scanlist_text list ++ rest)) ≡ record { piece = Bracket o list; rest = rest }
 bracket_of o list rest is =
-    rw (marked list rest is, front_of is_inner list.others (93 ∷ rest) is.others refl, behind_of is_inner list.others (93 ∷ rest) is.others refl)
+    rw (
+      marked list rest is,
+      front_of is_inner list.others (93 ∷ rest) is.others refl,
+      behind_of is_inner list.others (93 ∷ rest) is.others refl,
+    )
 
 pub quiet_list : (q m : ℕ) (list : Scanlist) (rest : List ℕ) → IsScanlist list → Quiet (list_rules q m (inner_text list rest))
 quiet_list q m list rest is =
@@ -196,7 +203,8 @@ quiet_list q m list rest is =
 
 -- ---- what is read of a scanlist
 
-pub list_forward : (q m : ℕ) (x members : List ℕ) → members ≡ members_at x → first_of (list_rules q m x) ≡ None → backward_range 0 members ≡ None
+pub list_forward : (q m : ℕ) (x members : List ℕ) → members ≡ members_at x → first_of (list_rules q m x) ≡ None
+    → backward_range 0 members ≡ None
 list_forward q m x members e none =
     let quiet = quiet_is (list_rules q m x) none in
     rw e (no_backward m 0 (members_at x) (none_from _ quiet.1.1.0))

@@ -24,7 +24,8 @@ within_of n q (x ∷ xs) within e = grind (arith, nat_tests, within_of n q xs wi
 pub pigeonhole : (n : ℕ) (xs : List ℕ) → AreDistinct xs → AreWithin n xs → length xs ≤ n
 pigeonhole n xs distinct within =
     let apart = all_map (λ x. (1 ≤ x) × (x ≤ n)) (λ x. x ≢ 0) (λ x h e. absurd (omega (arith, h.0, e))) xs within in
-    let below : (q : ℕ) → list_any (nat_eq q) (0 ∷ xs) ≡ true → q < n + 1 = λ q e. (let h = within_of n q xs within in grind (arith, nat_tests)) in
+    let below : (q : ℕ) → list_any (nat_eq q) (0 ∷ xs) ≡ true → q < n + 1 =
+    λ q e. (let h = within_of n q xs within in grind (arith, nat_tests)) in
     omega (arith, length-le_from_distinct_below (0 ∷ xs) (n + 1) (distinct_of (0 ∷ xs) (apart, distinct)) below)
 
 -- the slots of what is listed

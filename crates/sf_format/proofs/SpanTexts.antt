@@ -21,7 +21,8 @@ use Rattle.sf_format.proofs.WholeTexts.{parts_read}
 
 -- ---- one more part
 
-pub spans_push : (p : ℕ) (done : List Piece) (piece : Piece) (from to : ℕ) → from ≡ p + length (text_of done) → to ≡ from + length (piece_text piece)
+pub spans_push : (p : ℕ) (done : List Piece) (piece : Piece) (from to : ℕ) → from ≡ p + length (text_of done)
+    → to ≡ from + length (piece_text piece)
     → spans_of p (done ++ piece ∷ []) ≡ spans_of p done ++ record { start = from; end = to } ∷ []
 spans_push p [] piece from to begins ends =
     let same : from ≡ p = omega (arith, begins) in
@@ -86,7 +87,8 @@ text_at_none (suc n) pieces spans are none = no_span n 0 pieces (ap (λ x. slice
 
 pub text_at_span : (number : ℕ) (pieces : List Piece) (spans : List Span) (text : List ℕ) (span : Span) (found : Option (Bor (List ℕ)))
     → spans ≡ spans_of 0 pieces → text ≡ text_of pieces → span_at number spans ≡ Some span
-    → PartBy (λ (x : Bor (List ℕ)). x.now) text span.start span.end found → option_map (λ (t : Bor (List ℕ)). t.now) found ≡ text_at number pieces
+    → PartBy (λ (x : Bor (List ℕ)). x.now) text span.start span.end found
+    → option_map (λ (t : Bor (List ℕ)). t.now) found ≡ text_at number pieces
 text_at_span zero pieces spans text span found are is some part = absurd (cc)
 text_at_span (suc n) pieces spans text span None are is some part =
     let stands = text_spanned n 0 pieces [] span refl (ap (λ x. slice_get x n) (sym are) ∙ some) in

@@ -83,7 +83,8 @@ pub any_of : (P : ℕ → Type 0) (bytes : List ℕ) (b : ℕ) → AllByRecursio
 any_of P [] b all e = absurd (cc)
 any_of P (a ∷ bytes) b all e = grind (arith, nat_tests, any_of P bytes b all.1)
 
-pub found : {L : Type 0} (P : ℕ → L → Type 0) (rows : List (List ℕ × L)) → ForRows P rows → (b : ℕ) (letter : L) → find_letter rows b ≡ Some letter
+pub found : {L : Type 0} (P : ℕ → L → Type 0) (rows : List (List ℕ × L)) → ForRows P rows → (b : ℕ) (letter : L)
+    → find_letter rows b ≡ Some letter
     → P b letter
 found P [] all b letter e = absurd (cc)
 found P (row ∷ rows) all b letter e = grind (arith, any_of (λ a. P a row.1) row.0 b all.0, found P rows all.1 b letter)
@@ -109,7 +110,8 @@ pub number_from : (limit : ℕ) (ds : List ℕ) → AllPass is_decimal ds → (i
 number_from limit ds digits low high = grind (arith, nat_tests)
 
 -- the test of a slot's number
-pub slot_from : (ds : List ℕ) → AllPass is_decimal ds → (is_written ds && (nat_eq (magnitude 10 ds) 0 || nat_lt 32 (magnitude 10 ds))) ≡ false
+pub slot_from : (ds : List ℕ) → AllPass is_decimal ds → (is_written ds && (nat_eq (magnitude 10 ds) 0 || nat_lt 32 (magnitude 10 ds)))
+    ≡ false
     → IsOptionalNumber 32 ds
 slot_from ds digits e = grind (arith, nat_tests)
 
@@ -240,7 +242,8 @@ had_quiet letter n (b ∷ flags) h = rw h.0 (had_quiet letter (n + 1) flags h.1)
 -- ---- both
 
 pub suits_print_from : (p : Profile) (letter : PrintLetter) (o : Opening) (b place q : ℕ) → print_letter_of p b ≡ Some letter → HasParts o
-    → IsIn (Print p) o → Quiet (opening_rules (Print p) place o) → Quiet (print_letter_rules p o b q) → Quiet (flag_rules place o (Some letter)) → SuitsPrint letter o
+    → IsIn (Print p) o → Quiet (opening_rules (Print p) place o) → Quiet (print_letter_rules p o b q)
+    → Quiet (flag_rules place o (Some letter)) → SuitsPrint letter o
 suits_print_from p letter o b place q e parts own opening rules flags = record {
   number = slot_from o.number parts.number opening.0;
   star = own.0;
@@ -253,7 +256,8 @@ suits_print_from p letter o b place q e parts own opening rules flags = record {
   size = (print_letter_is p b letter e).allowed o q rules;
 }
 
-pub print_opening_quiet : (p : Profile) (letter : PrintLetter) (o : Opening) (place : ℕ) → SuitsPrint letter o → Quiet (opening_rules (Print p) place o)
+pub print_opening_quiet : (p : Profile) (letter : PrintLetter) (o : Opening) (place : ℕ) → SuitsPrint letter o
+    → Quiet (opening_rules (Print p) place o)
 print_opening_quiet p letter o place suits = (
   (number_tests 32 o.number suits.number).slot,
   ((number_tests 65535 o.width suits.width).high, ((precision_test o.precision suits.precision).0, tt)),

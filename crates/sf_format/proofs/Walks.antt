@@ -37,7 +37,8 @@ pub record Passing (language : Language) (text : List ℕ) (at : ℕ) (rest : Li
   pub enough : length rest ≤ fuel
   pub decides : read (length text) language [] 0 text ≡ put_all done (read fuel language (destinations done) at rest)
 
-abbrev pub passing_none : (language : Language) (text : List ℕ) (slots : Slots) → AreBytes text → Holds slots [] → Passing language text 0 text slots
+abbrev pub passing_none : (language : Language) (text : List ℕ) (slots : Slots) → AreBytes text → Holds slots []
+    → Passing language text 0 text slots
 passing_none language text slots bytes holds = record {
   done = [];
   whole = omega arith;
@@ -54,7 +55,8 @@ pub put_push : (done : List Piece) (piece : Piece) (r : Judgement) → put_all d
 put_push done piece (Ok pieces) = rw (append_assoc done (piece ∷ []) pieces)
 put_push done piece (Err fault) = refl
 
-pub text_push : (done : List Piece) (piece : Piece) → length (text_of (done ++ piece ∷ [])) ≡ length (text_of done) + length (piece_text piece)
+pub text_push : (done : List Piece) (piece : Piece) → length (text_of (done ++ piece ∷ []))
+    ≡ length (text_of done) + length (piece_text piece)
 text_push done piece =
     rw (flat_map-append piece_text done (piece ∷ []), append-nil) (length-append (text_of done) (piece_text piece))
 
@@ -79,7 +81,8 @@ is_part language earlier p (b ∷ x) some bytes quiet =
     }
 
 -- the part in front of the rest was passed, and something is left behind it
-pub record PassesFirst {language : Language} {text : List ℕ} {at : ℕ} {rest : List ℕ} {slots : Slots} (h : Passing language text at rest slots)
+pub record PassesFirst {language : Language} {text : List ℕ} {at : ℕ} {rest : List ℕ} {slots : Slots}
+    (h : Passing language text at rest slots)
     (after : List ℕ) (new : Slots) : Type 0 where
   pub some : 0 < length rest
   pub none : first_of (part_rules language (destinations h.done) at rest) ≡ None
@@ -88,7 +91,8 @@ pub record PassesFirst {language : Language} {text : List ℕ} {at : ℕ} {rest 
   pub part : IsPart language rest
 
 -- whatever the part stands for
-pub passes_on : {language : Language} {text : List ℕ} {at : ℕ} {rest after : List ℕ} {slots new : Slots} {M S : List Opening → Type 0} {empty : Bool}
+pub passes_on : {language : Language} {text : List ℕ} {at : ℕ} {rest after : List ℕ} {slots new : Slots} {M S : List Opening → Type 0}
+    {empty : Bool}
     → (h : Passing language text at rest slots) → empty ≡ (length rest == 0) → empty ≡ false
     → ((earlier : List Opening) → Holds slots earlier
     → (first_of (part_rules language earlier at rest) ≡ None) × (after ≡ (part_at language rest).rest) × M earlier
@@ -106,11 +110,14 @@ passes_on {language} {at = at} {rest = rest} h is_empty more ensures =
     }
 
 -- what follows a part is shorter
-pub rest_shorter : {language : Language} {text : List ℕ} {at : ℕ} {rest after : List ℕ} {slots new : Slots} {h : Passing language text at rest slots}
+pub rest_shorter : {language : Language} {text : List ℕ} {at : ℕ} {rest after : List ℕ} {slots new : Slots}
+    {h : Passing language text at rest slots}
     → PassesFirst h after new → (length after < length rest) × (length after ≤ length text)
 rest_shorter {h = h} passes =
-    let part = passes.part in
-    (omega (arith, part.some, part.lengths, ap length passes.behind), omega (arith, part.some, part.lengths, ap length passes.behind, h.whole))
+    let part = passes.part in (
+      omega (arith, part.some, part.lengths, ap length passes.behind),
+      omega (arith, part.some, part.lengths, ap length passes.behind, h.whole),
+    )
 
 abbrev pub passing_more : {language : Language} {text : List ℕ} {at : ℕ} {rest after : List ℕ} {slots new : Slots}
     → {h : Passing language text at rest slots} → PassesFirst h after new → Passing language text (length text - length after) after new
@@ -151,7 +158,8 @@ passing_fault {language} {at = at} {rest = rest} fault h first =
     h.decides ∙ ap (put_all h.done) (read_fault h.fuel language (destinations h.done) at rest (fault_of fault) h.enough first)
 
 pub passing_all : {language : Language} {text : List ℕ} {at : ℕ} {rest : List ℕ} {slots : Slots} {empty : Bool}
-    → (h : Passing language text at rest slots) → empty ≡ (length rest == 0) → empty ≡ true → read (length text) language [] 0 text ≡ Ok h.done
+    → (h : Passing language text at rest slots) → empty ≡ (length rest == 0) → empty ≡ true
+    → read (length text) language [] 0 text ≡ Ok h.done
 passing_all {language} {at = at} {rest = rest} h is_empty none =
     let over = no_bytes rest (let none : (length rest == 0) ≡ true = sym is_empty ∙ none in grind (arith, nat_tests)) in
     h.decides
@@ -160,7 +168,8 @@ passing_all {language} {at = at} {rest = rest} h is_empty none =
 
 -- ---- with what the parts so far stand for
 
-pub record Gathering (D : Type 0) (language : Language) (means : ℕ → Piece → D → Type 0) (text : List ℕ) (at : ℕ) (rest : List ℕ) (slots : Slots)
+pub record Gathering (D : Type 0) (language : Language) (means : ℕ → Piece → D → Type 0) (text : List ℕ) (at : ℕ) (rest : List ℕ)
+    (slots : Slots)
     (ds : List D) : Type 0 where
   pub passing : Passing language text at rest slots
   pub meaning : MeanAll means 1 passing.done ds

@@ -31,7 +31,8 @@ apart_more : (language : Language) (piece : Piece) (pieces : List Piece) (rest :
 apart_more language (WhiteSpace a) pieces rest each stops apart = run_apart language a pieces rest each stops apart
 apart_more language _ pieces rest each stops apart = apart
 
-stops_after : (language : Language) (piece : Piece) (pieces : List Piece) (rest : List ℕ) → AllByRecursion (IsPiece language) (piece ∷ pieces)
+stops_after : (language : Language) (piece : Piece) (pieces : List Piece) (rest : List ℕ)
+    → AllByRecursion (IsPiece language) (piece ∷ pieces)
     → RunsApart (piece ∷ pieces) → Stops is_white rest → StopsAfter piece (text_of pieces ++ rest)
 stops_after (Print profile) (WhiteSpace a) pieces rest each apart stops = absurd each.0
 stops_after (Scan profile) (WhiteSpace a) [] rest each apart stops = stops
@@ -118,12 +119,19 @@ read_tells (suc n) language earlier p (b ∷ x) short bytes alike =
     let part = part_at language (b ∷ x) in
     let after = earlier ++ destinations (part.piece ∷ []) in
     let q = p + length (piece_text part.piece) in
-    tells_unless language earlier p (b ∷ x) (put part.piece (read n language after q part.rest)) (first_of (part_rules language earlier p (b ∷ x)))
+    tells_unless language earlier p (b ∷ x) (put part.piece (read n language after q part.rest))
+    (first_of (part_rules language earlier p (b ∷ x)))
     alike refl
     (λ e.
     let begins = begins_with language earlier p b x bytes (quiet_is (part_rules language earlier p (b ∷ x)) e) in
     let shorter : length part.rest ≤ n
-    = omega (arith, short, ap length begins.text, length-append (piece_text part.piece) part.rest, empty_text language part.piece begins.is) in
+    = omega (
+      arith,
+      short,
+      ap length begins.text,
+      length-append (piece_text part.piece) part.rest,
+      empty_text language part.piece begins.is,
+    ) in
     tells_put language earlier p (b ∷ x) part (read n language after q part.rest) begins
     (read_tells n language after q part.rest shorter
     (all_back (λ c. c < 256) (piece_text part.piece) part.rest (subst AreBytes begins.text bytes)) (begins.alike alike)))
@@ -132,11 +140,13 @@ read_tells (suc n) language earlier p (b ∷ x) short bytes alike =
 
 -- what is read behind a part that no rule refuses
 abbrev pub read_behind : ℕ → Language → List Opening → ℕ → Part → Result (List Piece) (FormatWhy × ℕ)
-read_behind n language earlier p part = read n language (earlier ++ destinations (part.piece ∷ [])) (p + length (piece_text part.piece)) part.rest
+read_behind n language earlier p part = read n language (earlier ++ destinations (part.piece ∷ []))
+    (p + length (piece_text part.piece)) part.rest
 
 pub read_part : (n : ℕ) (language : Language) (earlier : List Opening) (p : ℕ) (x : List ℕ) → 0 < length x → length x ≤ n
     → first_of (part_rules language earlier p x) ≡ None
-    → (m : ℕ) × (n ≡ suc m) × (read n language earlier p x ≡ put (part_at language x).piece (read_behind m language earlier p (part_at language x)))
+    → (m : ℕ) × (n ≡ suc m) × (read n language earlier p x ≡ put (part_at language x).piece
+    (read_behind m language earlier p (part_at language x)))
 read_part n language earlier p [] some enough quiet = absurd (omega (arith, some))
 read_part zero language earlier p (b ∷ x) some enough quiet = absurd (omega (arith, enough))
 read_part (suc n) language earlier p (b ∷ x) some enough quiet = (n, refl, rw quiet)
@@ -165,7 +175,8 @@ put_first : (language : Language) (earlier : List Opening) (p : ℕ) (piece : Pi
     ≡ put_all (piece ∷ done) (read m language (earlier ++ destinations (piece ∷ done)) (p + length (text_of (piece ∷ done))) rest)
 put_first language earlier p piece done rest m =
     let text = piece_text piece in
-    let places : p + length (text ++ text_of done) ≡ (p + length text) + length (text_of done) = omega (arith, length-append text (text_of done)) in
+    let places : p + length (text ++ text_of done) ≡ (p + length text) + length (text_of done) =
+    omega (arith, length-append text (text_of done)) in
     rw (places, regroup earlier piece done) (one (read m language _ _ rest))
   where
     one : (r : Result (List Piece) (FormatWhy × ℕ)) → put piece (put_all done r) ≡ put_all (piece ∷ done) r
@@ -176,7 +187,8 @@ read_done : (n : ℕ) (language : Language) (earlier : List Opening) (p : ℕ) (
     → AllByRecursion (IsPiece language) done → RunsApart done → Stops is_white rest → AreAlike (earlier ++ destinations done)
     → length (text_of done ++ rest) ≤ n
     → (m : ℕ) × (length rest ≤ m)
-    × (read n language earlier p (text_of done ++ rest) ≡ put_all done (read m language (earlier ++ destinations done) (p + length (text_of done)) rest))
+    × (read n language earlier p (text_of done ++ rest) ≡ put_all done
+    (read m language (earlier ++ destinations done) (p + length (text_of done)) rest))
 read_done n language earlier p [] rest each apart stops alike enough =
     let zero_more : p + 0 ≡ p = omega arith in
     (n, enough, rw (zero_more, append-nil) (put_none (read n language earlier p rest)))
@@ -185,11 +197,14 @@ read_done n language earlier p (piece ∷ done) rest each apart stops alike enou
     let x = text_of done ++ rest in
     let whole = append_assoc text (text_of done) rest in
     let before = rw (regroup earlier piece done) at alike in
-    let part = part_of language earlier p piece x each.0 (stops_after language piece done rest each apart stops) (alike_front _ (destinations done) before) in
+    let part = part_of language earlier p piece x each.0 (stops_after language piece done rest each apart stops)
+    (alike_front _ (destinations done) before) in
     let lengths : length (text ++ x) ≡ length text + length x = length-append text x in
     let long : length (text ++ x) ≤ n = rw (← whole) enough in
-    let first = read_part n language earlier p (text ++ x) (omega (arith, lengths, empty_text language piece each.0)) long (quiet_from _ part.0) in
-    let later = read_done first.0 language (earlier ++ destinations (piece ∷ [])) (p + length text) done rest each.1 (apart_tail piece done apart) stops before
+    let first = read_part n language earlier p (text ++ x) (omega (arith, lengths, empty_text language piece each.0)) long
+    (quiet_from _ part.0) in
+    let later = read_done first.0 language (earlier ++ destinations (piece ∷ [])) (p + length text) done rest each.1
+    (apart_tail piece done apart) stops before
     (omega (arith, long, lengths, empty_text language piece each.0, first.1)) in (
       later.0,
       later.1,

@@ -22,7 +22,8 @@ SpellOne {D} spells = (profile : Profile) (text : List ℕ) (ds es : List D) →
 -- a text has at most one fault
 abbrev pub HaveOneFault : (Profile → List ℕ → ℕ → FormatWhy → Type 0) → Type 0
 HaveOneFault faults =
-    (profile : Profile) (text : List ℕ) (at place : ℕ) (why reason : FormatWhy) → faults profile text at why → faults profile text place reason
+    (profile : Profile) (text : List ℕ) (at place : ℕ) (why reason : FormatWhy) → faults profile text at why
+    → faults profile text place reason
     → (at ≡ place) × (why ≡ reason)
 
 -- no spelled text has a fault
@@ -62,7 +63,8 @@ EachUnnumberedPrintIsInOrder =
 
 -- of the slots of a format, just those from 1 to their count have a kind
 abbrev pub JustSlotsHaveKinds : Type 0
-JustSlotsHaveKinds = (slot : ℕ) (entries : List Slotted) → AreSlots entries → IsSome (kind_with slot entries) ↔ ((1 ≤ slot) × (slot ≤ length entries))
+JustSlotsHaveKinds = (slot : ℕ) (entries : List Slotted) → AreSlots entries
+    → IsSome (kind_with slot entries) ↔ ((1 ≤ slot) × (slot ≤ length entries))
 
 -- ---- both profiles
 

@@ -126,7 +126,8 @@ literal_piece literal.Percent = Percents
 
 -- no fault by the rules, and what the part stands for, which was made if it is wanted, its slot, what follows it, and the destinations
 -- with it; or the first fault by the rules
-abbrev pub PassesBy : {D : Type 0} → Bool → (ℕ → Piece → D → Type 0) → List Rule → List Opening → Part → Result (Passed D) FormatFault → Type 0
+abbrev pub PassesBy : {D : Type 0} → Bool → (ℕ → Piece → D → Type 0) → List Rule → List Opening → Part → Result (Passed D) FormatFault
+    → Type 0
 PassesBy wanted means rules earlier part (Ok passed) =
     (first_of rules ≡ None) × (passed.rest.now ≡ part.rest)
     × MatchOption passed.part (wanted ≡ false) (λ made. means (1 + length earlier) part.piece made)

@@ -42,7 +42,8 @@ added_print_letters Two = letter.Binary ∷ []
 
 abbrev pub print_letters : Profile → List PrintLetter
 print_letters profile =
-    letter.Signed ∷ letter.Unsigned ∷ letter.Octal ∷ letter.HexLower ∷ letter.HexUpper ∷ letter.Text ∷ letter.One ∷ added_print_letters profile
+    letter.Signed ∷ letter.Unsigned ∷ letter.Octal ∷ letter.HexLower ∷ letter.HexUpper ∷ letter.Text ∷ letter.One ∷ added_print_letters
+    profile
 
 -- what the byte prints as a letter
 abbrev pub print_letter_of : Profile → ℕ → Option PrintLetter

@@ -15,8 +15,8 @@ use crate::opening::Written;
 use crate::slots::{NO_SLOTS, Slots};
 use std::alloc::Global;
 
-/// A part that was passed: what it stands for, where that is wanted, its slot, if it has one, what follows the part, and the
-/// destinations or values with it.
+/// A part that was passed: what it stands for, where that is wanted, its slot, if it has one, what follows the part,
+/// and the destinations or values with it.
 #[derive(Drop)]
 pub struct Passed<'a, P> {
     pub part: Option<P>,
@@ -45,7 +45,8 @@ pub trait Grammar: Copy {
     /// What a run of white space stands for that begins with the byte, where such a run is one part.
     fn run(self, first: u8) -> Option<Self::Part>
         ensures { MatchOption result (joins_run (language self) first ≡ false)
-            (λ part. (joins_run (language self) first ≡ true) × ((place : ℕ) (bs : List ℕ) → means self place (WhiteSpace bs) part)) };
+            (λ part. (joins_run (language self) first ≡ true)
+            × ((place : ℕ) (bs : List ℕ) → means self place (WhiteSpace bs) part)) };
 
     /// What an ordinary byte or `%%` stands for.
     fn literal(self, literal: Literal) -> Self::Part
@@ -59,14 +60,16 @@ pub trait Grammar: Copy {
     /// The first fault of an opening whose `%` stands at the place.
     fn opening_fault(self, at: u16, written: &Written) -> Option<FormatFault>
         requires place { at ≤ 4096 }
-        requires parts { length written.now.number.now + length written.now.flags.now + length written.now.width.now ≤ 4096 }
+        requires parts { length written.now.number.now + length written.now.flags.now + length written.now.width.now
+            ≤ 4096 }
         requires number { AllByRecursion (λ b. is_decimal b ≡ true) written.now.number.now }
         requires width { AllByRecursion (λ b. is_decimal b ≡ true) written.now.width.now }
-        requires precision { written.now.point ≡ true → AllByRecursion (λ b. is_decimal b ≡ true) written.now.precision.now }
+        requires precision { written.now.point ≡ true → AllByRecursion
+            (λ b. is_decimal b ≡ true) written.now.precision.now }
         ensures { fault_in result ≡ first_of (opening_rules (language self) at (opening_of written.now)) };
 
-    /// Passes a specification from its letter on, which stands at the second place. Its `%` stands at the first. What it stands
-    /// for is made only where it is wanted.
+    /// Passes a specification from its letter on, which stands at the second place. Its `%` stands at the first. What
+    /// it stands for is made only where it is wanted.
     fn pass_letter<'a>(
         self,
         written: &Written,
@@ -80,14 +83,17 @@ pub trait Grammar: Copy {
         requires percent { percent ≤ 4096 }
         requires place { at + 1 + length text.now ≤ 4096 }
         requires count { slots.count ≤ 4096 }
-        requires parts { length written.now.number.now + length written.now.flags.now + length written.now.width.now ≤ 4096 }
+        requires parts { length written.now.number.now + length written.now.flags.now + length written.now.width.now
+            ≤ 4096 }
         requires number { AllByRecursion (λ b. is_decimal b ≡ true) written.now.number.now }
         requires width { AllByRecursion (λ b. is_decimal b ≡ true) written.now.width.now }
-        requires precision { written.now.point ≡ true → AllByRecursion (λ b. is_decimal b ≡ true) written.now.precision.now }
+        requires precision { written.now.point ≡ true → AllByRecursion
+            (λ b. is_decimal b ≡ true) written.now.precision.now }
         requires own { IsIn (language self) (opening_of written.now) }
         requires opening { first_of (opening_rules (language self) percent (opening_of written.now)) ≡ None }
         ensures { (earlier : List Opening) → Holds slots earlier
-            → PassesBy wanted (means self) (rest_rules (language self) earlier percent (opening_of written.now) at (letter ∷ text.now)) earlier
+            → PassesBy wanted (means self) (rest_rules (language self) earlier percent (opening_of written.now) at
+            (letter ∷ text.now)) earlier
             (letter_at (opening_of written.now) (letter ∷ text.now)) result };
 }
 
@@ -95,7 +101,8 @@ pub trait Grammar: Copy {
 fn opening<G: Grammar>(grammar: G, text: &[u8]) -> (Written, &[u8])
     ensures opening { opening_of result.0 ≡ (cut (G.language grammar) text.now).opening }
     ensures rest { result.1.now ≡ (cut (G.language grammar) text.now).rest }
-    ensures parts { length result.0.number.now + length result.0.flags.now + length result.0.width.now ≤ length text.now }
+    ensures parts { length result.0.number.now + length result.0.flags.now + length result.0.width.now
+        ≤ length text.now }
     ensures number { AllByRecursion (λ b. is_decimal b ≡ true) result.0.number.now }
     ensures width { AllByRecursion (λ b. is_decimal b ≡ true) result.0.width.now }
     ensures precision { result.0.point ≡ true → AllByRecursion (λ b. is_decimal b ≡ true) result.0.precision.now }
@@ -105,8 +112,8 @@ fn opening<G: Grammar>(grammar: G, text: &[u8]) -> (Written, &[u8])
     grammar.cut_opening(text)
 }
 
-/// Passes the conversion specification whose `%` stands at the place, after these destinations or values. The text is what
-/// follows the `%`.
+/// Passes the conversion specification whose `%` stands at the place, after these destinations or values. The text is
+/// what follows the `%`.
 fn pass_conversion<'a, G: Grammar>(
     grammar: G,
     text: &'a [u8],
@@ -117,7 +124,8 @@ fn pass_conversion<'a, G: Grammar>(
     requires place { at + 1 + length text.now ≤ 4096 }
     requires count { slots.count ≤ 4096 }
     ensures { (earlier : List Opening) → Holds slots earlier
-        → PassesBy wanted (G.means grammar) (conversion_rules (G.language grammar) earlier at text.now) earlier (conversion_at (G.language grammar) text.now) result }
+        → PassesBy wanted (G.means grammar) (conversion_rules (G.language grammar) earlier at text.now) earlier
+        (conversion_at (G.language grammar) text.now) result }
 {
     let (written, rest) = opening(grammar, text);
     if let Some(fault) = grammar.opening_fault(at, &written) {
@@ -146,7 +154,8 @@ fn pass_specification<'a, G: Grammar>(
     requires place { at + 1 + length text.now ≤ 4096 }
     requires count { slots.count ≤ 4096 }
     ensures { (earlier : List Opening) → Holds slots earlier
-        → PassesBy wanted (G.means grammar) (percent_rules (G.language grammar) earlier at text.now) earlier (specification_at (G.language grammar) text.now) result }
+        → PassesBy wanted (G.means grammar) (percent_rules (G.language grammar) earlier at text.now) earlier
+        (specification_at (G.language grammar) text.now) result }
 {
     let (found, rest) = mark(b'%', text);
     if found {
@@ -172,7 +181,8 @@ pub fn pass<'a, G: Grammar>(
     requires place { at + length text.now ≤ 4096 }
     requires count { slots.count ≤ 4096 }
     ensures { (earlier : List Opening) → Holds slots earlier
-        → PassesBy wanted (G.means grammar) (part_rules (G.language grammar) earlier at text.now) earlier (part_at (G.language grammar) text.now) result }
+        → PassesBy wanted (G.means grammar) (part_rules (G.language grammar) earlier at text.now) earlier
+        (part_at (G.language grammar) text.now) result }
 {
     let first = text[0];
     if first == 0 {
@@ -202,8 +212,8 @@ pub fn pass<'a, G: Grammar>(
     })
 }
 
-/// The destinations or values of a text without a fault in its parts, or the first such fault. It takes no memory, and makes nothing
-/// of the conversion specifications.
+/// The destinations or values of a text without a fault in its parts, or the first such fault. It takes no memory, and
+/// makes nothing of the conversion specifications.
 pub fn walk<G: Grammar>(grammar: G, text: &[u8]) -> Result<Slots, FormatFault>
     requires { length text.now ≤ 4096 }
     ensures { Walked (G.language grammar) text.now result }

@@ -26,15 +26,16 @@ pub fn judge<G: Grammar>(grammar: G, text: &[u8]) -> Result<u8, FormatFault>
     }
 }
 
-/// What the parts of a text stand for, and the count of its destinations or values. Memory is taken only for a text without a
-/// fault.
+/// What the parts of a text stand for, and the count of its destinations or values. Memory is taken only for a text
+/// without a fault.
 pub fn parse<G: Grammar>(
     alloc: Global,
     grammar: G,
     text: &[u8],
 ) -> Result<(Vec<G::Part>, u8), FormatFault>
     requires { IsMeaning G.Part (G.language grammar) (G.means grammar) }
-    ensures spelled { IfOk result (λ read. SpellsCounted (G.language grammar) (G.means grammar) text.now read.0.items read.1) }
+    ensures spelled { IfOk result (λ read. SpellsCounted (G.language grammar)
+        (G.means grammar) text.now read.0.items read.1) }
     ensures refused { IfErr result (IsRefusedAs (G.language grammar) (G.means grammar) text.now) }
     ensures fault { TellsFault (FaultIn (G.language grammar) text.now) result }
     ensures accepted { (ds : List G.Part) → SpellsAs (G.language grammar) (G.means grammar) text.now ds

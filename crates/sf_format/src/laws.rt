@@ -48,8 +48,9 @@ pub fn slots_have_kinds()
     ensures { JustSlotsHaveKinds }
 {}
 
-/// A text that profile 1 spells, profile 2 spells as well, with `AutoBin` for `Auto`; one that profile 2 spells without `Bin` and
-/// without `Binary`, profile 1 spells as well, with `Auto` for `AutoBin`. What profile 1 spells has nothing of profile 2.
+/// A text that profile 1 spells, profile 2 spells as well, with `AutoBin` for `Auto`; one that profile 2 spells without
+/// `Bin` and without `Binary`, profile 1 spells as well, with `Auto` for `AutoBin`. What profile 1 spells has nothing
+/// of profile 2.
 pub fn profiles()
     ensures scan_two { TwoSpellsOne }
     ensures scan_one { OneSpellsTwo }

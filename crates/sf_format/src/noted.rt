@@ -46,7 +46,8 @@ fn note(noted: &mut Noted, slot: Option<u8>, at: u16, count: u16)
 
 /// The first fault of what was noted.
 fn noted_fault(noted: &Noted) -> Option<FormatFault>
-    ensures { (count : ℕ) (ns : List (ℕ × ℕ)) → Notes count ns noted.now → fault_in result ≡ first_of (repeated [] ns ++ beyond count ns) }
+    ensures { (count : ℕ) (ns : List (ℕ × ℕ)) → Notes count ns noted.now
+        → fault_in result ≡ first_of (repeated [] ns ++ beyond count ns) }
 {
     match (noted.twice, noted.gap) {
         (Some(at), _) => Some(FormatFault {

@@ -37,7 +37,8 @@ pub fn capped(digits: &[u8]) -> u32
 /// Whether a number is written that is no slot's: those are 1 to 32.
 pub fn is_no_slot(number: &[u8]) -> bool
     requires { AllByRecursion (λ b. is_decimal b ≡ true) number.now }
-    ensures { result ≡ (is_written number.now && (nat_eq (magnitude 10 number.now) 0 || nat_lt 32 (magnitude 10 number.now))) }
+    ensures { result ≡ (is_written number.now && (nat_eq (magnitude 10 number.now) 0
+        || nat_lt 32 (magnitude 10 number.now))) }
 {
     let slot = capped(number);
     !number.is_empty() && (slot == 0 || slot > 32)

@@ -42,9 +42,9 @@ fn part_text<G: Grammar>(grammar: G, text: &[u8], number: u16) -> Option<&[u8]>
     None
 }
 
-/// The text of the directive with the number, as it stands in a scan format: the part of the format's text that the directive
-/// comes from (C11 7.21.6.2p3). Directives are counted from 1, as `Outcome::at` of a report counts them. None where none has the
-/// number, and where the text is no format. It takes no memory.
+/// The text of the directive with the number, as it stands in a scan format: the part of the format's text that the
+/// directive comes from (C11 7.21.6.2p3). Directives are counted from 1, as `Outcome::at` of a report counts them. None
+/// where none has the number, and where the text is no format. It takes no memory.
 pub fn directive_text(profile: Profile, text: &[u8], number: u16) -> Option<&[u8]>
     ensures text { (pieces : List Piece) → IsFormat (Scan profile) pieces → text.now ≡ text_of pieces
         → option_map (λ t. t.now) result ≡ text_at number pieces }

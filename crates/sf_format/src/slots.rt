@@ -43,8 +43,10 @@ fn is_beyond(slots: Slots, written: &Written) -> bool
 
 /// The first fault of one more destination, whose `%` stands at the place.
 fn slot_fault(slots: Slots, written: &Written, at: u16) -> Option<FormatFault>
-    ensures first { (earlier : List Opening) → Holds slots earlier → fault_in result ≡ first_of (slot_rules earlier at (opening_of written.now)) }
-    ensures room { result ≡ None → (not written.now.star && not (is_written written.now.number.now) && nat_lt 31 slots.count) ≡ false }
+    ensures first { (earlier : List Opening) → Holds slots earlier
+        → fault_in result ≡ first_of (slot_rules earlier at (opening_of written.now)) }
+    ensures room { result ≡ None → (not written.now.star && not (is_written written.now.number.now)
+        && nat_lt 31 slots.count) ≡ false }
 {
     fault_by(&[
         rule(FormatWhy::MixedNumbering, at, mixes(slots, written)),
@@ -56,14 +58,15 @@ fn slot_fault(slots: Slots, written: &Written, at: u16) -> Option<FormatFault>
     ])
 }
 
-/// The slot of one more destination, whose `%` stands at the place, and the destinations with it; or its first fault. A suppressed
-/// one has no slot.
+/// The slot of one more destination, whose `%` stands at the place, and the destinations with it; or its first fault. A
+/// suppressed one has no slot.
 pub fn pushed(slots: Slots, written: &Written, at: u16) -> Result<(Option<u8>, Slots), FormatFault>
     requires count { slots.count ≤ 4096 }
     requires digits { AllByRecursion (λ b. is_decimal b ≡ true) written.now.number.now }
     requires bound { magnitude 10 written.now.number.now ≤ 32 }
     ensures slot { IfOk result (λ pushed. pushed.0 ≡ slot_of (1 + slots.count) (opening_of written.now)) }
-    ensures pushed { (earlier : List Opening) → Holds slots earlier → PushesBy earlier at (opening_of written.now) result }
+    ensures pushed { (earlier : List Opening) → Holds slots earlier
+        → PushesBy earlier at (opening_of written.now) result }
 {
     if let Some(fault) = slot_fault(slots, written, at) {
         return Err(fault);

@@ -79,8 +79,8 @@ impl Spans {
         Ok(Spans { spans })
     }
 
-    /// Where the directive with the number stands. Directives are counted from 1, as `Outcome::at` of a report counts them.
-    /// None where no directive has the number.
+    /// Where the directive with the number stands. Directives are counted from 1, as `Outcome::at` of a report counts
+    /// them. None where no directive has the number.
     pub fn span(&self, number: u16) -> Option<Span>
         ensures { result ≡ span_at number self.now }
     {
@@ -90,8 +90,8 @@ impl Spans {
         self.spans.get(number as usize - 1).copied()
     }
 
-    /// The text of the directive with the number, as it stands in the text of its scan format, from which the spans were
-    /// made (C11 7.21.6.2p3). None where no directive has the number. Of another text, None or some part of it.
+    /// The text of the directive with the number, as it stands in the text of its scan format, from which the spans
+    /// were made (C11 7.21.6.2p3). None where no directive has the number. Of another text, None or some part of it.
     pub fn text_of<'a>(&self, text: &'a [u8], number: u16) -> Option<&'a [u8]>
         ensures { (pieces : List Piece) → self.now ≡ spans_of 0 pieces → text.now ≡ text_of pieces
             → option_map (λ t. t.now) result ≡ text_at number pieces }

@@ -49,7 +49,8 @@ read_radix base (Some p) (b ∷ f) h = read_radix base (advance base p b) f (nex
 known : (base : Base) (f : List ℕ) → Known base (read base (Some Start) f) f
 known base f = known_all base (Some Start) [] f (IsAfter-start base)
 
-pub integer_at_is : (base : Base) (f : List ℕ) (negative : Bool) (m : ℕ) → IsInteger base f negative m → integer_at base f ≡ Some (negative, m)
+pub integer_at_is : (base : Base) (f : List ℕ) (negative : Bool) (m : ℕ) → IsInteger base f negative m
+    → integer_at base f ≡ Some (negative, m)
 integer_at_is base f negative m i = by_case (read base (Some Start) f) (known base f)
   where
     whole : IsInteger base (f ++ []) negative m
@@ -59,7 +60,8 @@ integer_at_is base f negative m i = by_case (read base (Some Start) f) (known ba
     by_case None h = absurd (h [] negative m whole)
     by_case (Some p) h = integer_next base p negative m ((h [] negative m).0 whole)
 
-pub integer_from_at : (base : Base) (f : List ℕ) (negative : Bool) (m : ℕ) → integer_at base f ≡ Some (negative, m) → IsInteger base f negative m
+pub integer_from_at : (base : Base) (f : List ℕ) (negative : Bool) (m : ℕ) → integer_at base f ≡ Some (negative, m)
+    → IsInteger base f negative m
 integer_from_at base f negative m = by_case (read base (Some Start) f) (known base f)
   where
     by_case : (o : Option Progress) → Known base o f → integer_in o ≡ Some (negative, m) → IsInteger base f negative m
@@ -135,7 +137,8 @@ tests_shape : (shape : Shape) (width : Option ℕ) (s : List ℕ) → Tests (sha
 tests_shape (Int base) width s = tests_integer base width s
 tests_shape Text width s = tests_both (tests_less 0 (length s)) (tests_all _ is_ink tests_ink s)
 tests_shape (Set members) width s =
-    tests_both (tests_less 0 (length s)) (tests_all (λ b. has_byte members b ≡ true) (has_byte members) (λ b. tests_itself (has_byte members b)) s)
+    tests_both (tests_less 0 (length s)) (tests_all (λ b. has_byte members b ≡ true) (has_byte members)
+    (λ b. tests_itself (has_byte members b)) s)
 tests_shape Chars width s = tests_same (length s) (unwrap_or width 1)
 tests_shape Count width s = record { from = λ e. absurd (true≢false (sym e)); to = λ h. absurd h }
 
@@ -196,7 +199,8 @@ count_begins f w = record {
   to = λ h. let long = length-append f h.0 in let whole = h.2 in (tests_most (length f) w).to (omega (arith, long, whole));
 }
 
-pub tests_begins : (shape : Shape) (width : Option ℕ) → IsProperShape shape → (f : List ℕ) → Tests (shape_begins shape width f) (ShapeBegins shape width f)
+pub tests_begins : (shape : Shape) (width : Option ℕ) → IsProperShape shape → (f : List ℕ)
+    → Tests (shape_begins shape width f) (ShapeBegins shape width f)
 tests_begins (Int base) width proper f = integer_begins base width f
 tests_begins Text width proper f = each_begins (λ b. is_white b ≡ false) is_ink 65 (lit≤ tt) refl tests_ink f
 tests_begins (Set members) width proper f =

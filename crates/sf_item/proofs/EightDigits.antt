@@ -51,7 +51,8 @@ worth_of : (j k : ℕ) → k < 8 → j ≡ 7 - k → get_or WORTHS j 0 ≡ 10 ^ 
 worth_of j k below is = ap (λ (n : ℕ). get_or WORTHS n 0) is ∙ tens_below 8 k tt below
 
 worth_behind : (j : ℕ) → 8 ≤ j → j < 16 → get_or WORTHS j 0 ≡ 0
-worth_behind j low high = let is : j ≡ 8 + (j - 8) = omega (arith, low) in ap (λ (n : ℕ). get_or WORTHS n 0) is ∙ nothing_below 8 (j - 8) tt (omega (arith, low, high))
+worth_behind j low high = let is : j ≡ 8 + (j - 8) = omega (arith, low) in
+    ap (λ (n : ℕ). get_or WORTHS n 0) is ∙ nothing_below 8 (j - 8) tt (omega (arith, low, high))
 
 -- ---- the sum
 
@@ -69,10 +70,13 @@ digit_left : (b : ℕ) → is_ascii_digit b ≡ true → (48 ≤ b) × (b ≤ 57
 digit_left b h = (grind (arith, nat_tests, h), grind (arith, nat_tests, h))
 
 pub at_most_eight : (piece : List ℕ) (count : ℕ) → 8 ≤ length piece → count ≤ prefix_len is_ascii_digit (take 8 piece) → count ≤ 8
-at_most_eight piece count room digits = let le = prefix_len-le-length is_ascii_digit (take 8 piece) in let long = length-take-le 8 piece room in omega (arith, digits, le, long)
+at_most_eight piece count room digits = let le = prefix_len-le-length is_ascii_digit (take 8 piece) in let long =
+    length-take-le 8 piece room in omega (arith, digits, le, long)
 
-module _ (piece : List ℕ) (count i number weight digit : ℕ) (room : 8 ≤ length piece) (digits : count ≤ prefix_len is_ascii_digit (take 8 piece)) (at : i < 8)
-    (worth : weight ≡ get_or WORTHS (8 - count + i) 0) (left : digit ≡ (get_or piece i 0 + 208) % 256) (before : Weighed piece count i number) where
+module _ (piece : List ℕ) (count i number weight digit : ℕ) (room : 8 ≤ length piece)
+    (digits : count ≤ prefix_len is_ascii_digit (take 8 piece)) (at : i < 8)
+    (worth : weight ≡ get_or WORTHS (8 - count + i) 0) (left : digit ≡ (get_or piece i 0 + 208) % 256)
+    (before : Weighed piece count i number) where
   most : count ≤ 8
   most = at_most_eight piece count room digits
 
@@ -80,13 +84,16 @@ module _ (piece : List ℕ) (count i number weight digit : ℕ) (room : 8 ≤ le
   more_within below =
       let b = get_or piece i 0 in
       let passes : is_ascii_digit b ≡ true =
-      ap is_ascii_digit (sym (get_or-take 8 piece i 0 at)) ∙ prefix_len_passes is_ascii_digit (take 8 piece) i 0 (omega (arith, digits, below)) in
+      ap is_ascii_digit (sym (get_or-take 8 piece i 0 at)) ∙ prefix_len_passes is_ascii_digit (take 8 piece) i 0
+      (omega (arith, digits, below)) in
       let (low, high) = digit_left b passes in
       let value = decimal_value b low high in
       let same : digit ≡ b - 48 = omega (arith, left, low, high) in
-      let w : weight ≡ 10 ^ (count - (i + 1)) = worth ∙ worth_of (8 - count + i) (count - (i + 1)) (omega (arith, most)) (omega (arith, below, most)) in
+      let w : weight ≡ 10 ^ (count - (i + 1)) = worth ∙ worth_of (8 - count + i) (count - (i + 1)) (omega (arith, most))
+      (omega (arith, below, most)) in
       let front : before.front ≡ i = (let e = before.least in omega (arith, e, below)) in
-      let step : 10 ^ (count - i) ≡ 10 * 10 ^ (count - (i + 1)) = (let e : count - i ≡ suc (count - (i + 1)) = omega (arith, below) in ap (λ n. 10 ^ n) e ∙ pow-succ' 10 (count - (i + 1))) in
+      let step : 10 ^ (count - i) ≡ 10 * 10 ^ (count - (i + 1)) = (let e : count - i ≡ suc (count - (i + 1)) = omega (arith, below) in
+      ap (λ n. 10 ^ n) e ∙ pow-succ' 10 (count - (i + 1))) in
       let is = before.is in
       let product : weight * digit ≡ 10 ^ (count - (i + 1)) * digit = ap (λ n. n * digit) w in
       let tenfold : before.taken * 10 ^ (count - i) ≡ before.taken * (10 * 10 ^ (count - (i + 1))) = ap (λ n. before.taken * n) step in
@@ -94,8 +101,10 @@ module _ (piece : List ℕ) (count i number weight digit : ℕ) (room : 8 ≤ le
         front = i + 1;
         taken = before.taken * 10 + digit;
         least = omega (arith, below);
-        read = λ base sign. decimal_read base sign piece i 0 before.taken digit (omega (arith, at, room)) (omega (arith, value, high, low)) (same ∙ sym value)
-            (subst (λ n. read base (Some (Digits sign 10 0)) (take n piece) ≡ Some (Digits sign 10 before.taken)) front (before.read base sign));
+        read = λ base sign. decimal_read base sign piece i 0 before.taken digit (omega (arith, at, room)) (omega (arith, value, high, low))
+            (same ∙ sym value)
+            (subst (λ n. read base (Some (Digits sign 10 0)) (take n piece) ≡ Some (Digits sign 10 before.taken)) front
+            (before.read base sign));
         small = ten_more i before.taken digit (subst (λ n. before.taken < 10 ^ n) front before.small) (omega (arith, same, high));
         is = omega (arith, is, product, tenfold);
       }
@@ -130,9 +139,11 @@ module _ (piece : List ℕ) (count i number weight digit : ℕ) (room : 8 ≤ le
       weight_small : weight ≤ 10000000
       weight_small =
           elim (eq-zero-or-pos (count - i)) [
-            | inl z ↦ (let w : weight ≡ 0 = worth ∙ worth_behind (8 - count + i) (omega (arith, z, most)) (omega (arith, at)) in omega (arith, w))
+            | inl z ↦ (let w : weight ≡ 0 = worth ∙ worth_behind (8 - count + i) (omega (arith, z, most)) (omega (arith, at)) in
+                omega (arith, w))
             | inr g ↦
-                (let w : weight ≡ 10 ^ (count - (i + 1)) = worth ∙ worth_of (8 - count + i) (count - (i + 1)) (omega (arith, most)) (omega (arith, g, most)) in
+                (let w : weight ≡ 10 ^ (count - (i + 1)) = worth ∙ worth_of (8 - count + i) (count - (i + 1)) (omega (arith, most))
+                (omega (arith, g, most)) in
                 let h = pow-le-pow_right {n = 10} (omega arith) {i = count - (i + 1)} {j = 7} (omega (arith, most)) in omega (arith, w, h))
           ]
 
@@ -161,7 +172,8 @@ weighed_all piece count number most w =
     (subst (λ n. read base (Some (Digits sign 10 0)) (take n piece) ≡ Some (Digits sign 10 w.taken)) front (w.read base sign))
 
 -- how far a byte is above `0`
-pub value_at : (piece values : List ℕ) (i : ℕ) → 8 ≤ length piece → i < 8 → values ≡ map (λ b. (b + 208) % 256) (chunk 0 8 piece) → get_or values i 0 ≡ (get_or piece i 0 + 208) % 256
+pub value_at : (piece values : List ℕ) (i : ℕ) → 8 ≤ length piece → i < 8 → values ≡ map (λ b. (b + 208) % 256) (chunk 0 8 piece)
+    → get_or values i 0 ≡ (get_or piece i 0 + 208) % 256
 value_at piece values i room below is =
     let long = length-chunk 0 8 piece room in
     ap (λ (v : List ℕ). get_or v i 0) is
@@ -175,7 +187,8 @@ agreeing p q all [] fits = refl
 agreeing p q all (x ∷ v) fits = ap₂ (λ b bs. b ∷ bs) (agree_below_at p q 256 x all fits.0.fits) (agreeing p q all v fits.1)
 
 -- the mask of eight lanes, where f says for each byte what its lane holds
-pub mask_of_eight : (p : ℕ → Bool) (f : ℕ → ℕ) (d : List ℕ) (z : List ℕ) → 8 ≤ length d → ((k : ℕ) → Fits w8 (get_or d k 0)) → z ≡ map f (chunk 0 8 d) → agree_below (λ x. top 7 (f x)) p 256 ≡ true
+pub mask_of_eight : (p : ℕ → Bool) (f : ℕ → ℕ) (d : List ℕ) (z : List ℕ) → 8 ≤ length d → ((k : ℕ) → Fits w8 (get_or d k 0))
+    → z ≡ map f (chunk 0 8 d) → agree_below (λ x. top 7 (f x)) p 256 ≡ true
     → mask_l (map (top 7) z) % 2 ^ 64 ≡ mask_l (map p (chunk 0 8 d))
 mask_of_eight p f d z room fits lanes all =
     let v = chunk 0 8 d in
@@ -185,7 +198,8 @@ mask_of_eight p f d z room fits lanes all =
     ∙ ap mask_l (agreeing (λ x. top 7 (f x)) p all v (chunk-fits w8 0 8 d fits))
 
 -- where no bit is set, all eight are digits
-pub all_digits : (d : List ℕ) (m : ℕ) → 8 ≤ length d → m ≡ mask_l (map (λ b. not (is_ascii_digit b)) (chunk 0 8 d)) → m ≡ 0 → 8 ≡ prefix_len is_ascii_digit (take 8 d)
+pub all_digits : (d : List ℕ) (m : ℕ) → 8 ≤ length d → m ≡ mask_l (map (λ b. not (is_ascii_digit b)) (chunk 0 8 d)) → m ≡ 0
+    → 8 ≡ prefix_len is_ascii_digit (take 8 d)
 all_digits d m room mask none =
     let long = length-chunk 0 8 d room in
     let run = leading_from_mask_l (λ b. not (is_ascii_digit b)) (chunk 0 8 d) (sym mask ∙ none) in
@@ -193,16 +207,20 @@ all_digits d m room mask none =
     omega (arith, long, run, same)
 
 -- else as many as bits that are not set come before the first that is
-pub some_digits : (d : List ℕ) (m : ℕ) → 8 ≤ length d → m ≡ mask_l (map (λ b. not (is_ascii_digit b)) (chunk 0 8 d)) → (m ≡ 0 → ⊥) → count_trailing_zeros 64 m ≡ prefix_len is_ascii_digit (take 8 d)
+pub some_digits : (d : List ℕ) (m : ℕ) → 8 ≤ length d → m ≡ mask_l (map (λ b. not (is_ascii_digit b)) (chunk 0 8 d)) → (m ≡ 0 → ⊥)
+    → count_trailing_zeros 64 m ≡ prefix_len is_ascii_digit (take 8 d)
 some_digits d m room mask some =
     let long = length-chunk 0 8 d room in
     let ne : mask_l (map (λ b. not (is_ascii_digit b)) (chunk 0 8 d)) ≡ 0 → ⊥ = λ z. some (mask ∙ z) in
-    ap (count_trailing_zeros 64) mask ∙ trailing_mask_l (λ b. not (is_ascii_digit b)) 64 (chunk 0 8 d) (omega (arith, long)) (omega (arith, ne)) ∙ not_not is_ascii_digit (chunk 0 8 d)
+    ap (count_trailing_zeros 64) mask ∙ trailing_mask_l (λ b. not (is_ascii_digit b)) 64 (chunk 0 8 d) (omega (arith, long))
+    (omega (arith, ne)) ∙ not_not is_ascii_digit (chunk 0 8 d)
 
 -- behind fewer than eight digits stands another byte
-pub digits_end : (d : List ℕ) (count : ℕ) → 8 ≤ length d → count ≡ prefix_len is_ascii_digit (take 8 d) → count < 8 → 10 ≤ digit_value (get_or d count 0)
+pub digits_end : (d : List ℕ) (count : ℕ) → 8 ≤ length d → count ≡ prefix_len is_ascii_digit (take 8 d) → count < 8
+    → 10 ≤ digit_value (get_or d count 0)
 digits_end d count room is below =
     let long = length-take-le 8 d room in
     let stops = prefix_len_stops is_ascii_digit (take 8 d) 0 (omega (arith, is, below, long)) in
-    let at : is_ascii_digit (get_or d count 0) ≡ false = ap is_ascii_digit (sym (get_or-take 8 d count 0 below)) ∙ ap (λ n. is_ascii_digit (get_or (take 8 d) n 0)) is ∙ stops in
+    let at : is_ascii_digit (get_or d count 0) ≡ false = ap is_ascii_digit (sym (get_or-take 8 d count 0 below))
+    ∙ ap (λ n. is_ascii_digit (get_or (take 8 d) n 0)) is ∙ stops in
     no_decimal (get_or d count 0) at

@@ -132,7 +132,8 @@ zero_read : (base : Base) (o : Option Progress) → MayHaveRadix o → is_some o
 zero_read base None h some = some
 zero_read base (Some p) h some = let (q, is) = goes_on base p h in ap (λ o. is_some (read base o [])) is
 
-pub zero_begins : (base : Base) (f : List ℕ) → is_some (read base (Some Start) f) ≡ true → is_some (read base (Some Start) (f ++ 48 ∷ [])) ≡ true
+pub zero_begins : (base : Base) (f : List ℕ) → is_some (read base (Some Start) f) ≡ true
+    → is_some (read base (Some Start) (f ++ 48 ∷ [])) ≡ true
 zero_begins base f some =
     ap is_some (read_more base (Some Start) f (48 ∷ []))
     ∙ zero_read base (read base (Some Start) f) (read_radix base (Some Start) f tt) some
@@ -154,7 +155,8 @@ integer_goes_on c f int can room =
 -- ---- the bytes of a piece
 
 -- what was read of a piece, with its next byte
-pub one_more : (f piece : List ℕ) (i d : ℕ) → i < length piece → (f ++ take i piece) ++ slice_index_or piece i d ∷ [] ≡ f ++ take (i + 1) piece
+pub one_more : (f piece : List ℕ) (i d : ℕ) → i < length piece → (f ++ take i piece) ++ slice_index_or piece i d ∷ []
+    ≡ f ++ take (i + 1) piece
 one_more f piece i d below = grind (arith, common_steps, below)
 
 -- the fronts of what can be taken can be taken

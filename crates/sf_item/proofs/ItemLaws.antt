@@ -16,7 +16,8 @@ use Rattle.sf_item.proofs.Fronts.{tests_item, shape_front, item_can_take_nothing
 
 -- ---- fronts
 
-front_begins : (shape : Shape) (width : Option ℕ) (f t : List ℕ) → shape_begins shape width (f ++ t) ≡ true → shape_begins shape width f ≡ true
+front_begins : (shape : Shape) (width : Option ℕ) (f t : List ℕ) → shape_begins shape width (f ++ t) ≡ true
+    → shape_begins shape width f ≡ true
 front_begins shape width f [] h = ap (shape_begins shape width) (sym (append-nil f)) ∙ h
 front_begins shape width f (b ∷ t) h =
     shape_front shape width f b (front_begins shape width (f ++ b ∷ []) t (ap (shape_begins shape width) (append_assoc f (b ∷ []) t) ∙ h))
@@ -29,7 +30,8 @@ shorter_begins : (c : Conversion) → IsProperShape c.shape → (x : List ℕ) (
 shorter_begins c proper x i j small h =
     let tests = tests_begins c.shape c.width proper in
     let whole = ap (shape_begins c.shape c.width) (take-append-drop i (take j x)) ∙ (tests (take j x)).to h in
-    subst (Begins c) (take-take i j x small) ((tests (take i (take j x))).from (front_begins c.shape c.width (take i (take j x)) (drop i (take j x)) whole))
+    subst (Begins c) (take-take i j x small) ((tests (take i (take j x))).from
+    (front_begins c.shape c.width (take i (take j x)) (drop i (take j x)) whole))
 
 shorter_within : (width : Option ℕ) (i j : ℕ) → i ≤ j → IfSome width (λ w. j ≤ w) → IfSome width (λ w. i ≤ w)
 shorter_within None i j small h = tt
@@ -42,7 +44,8 @@ not_above j k none = elim (nat_lt k j) as (λ v. nat_lt k j ≡ v → j ≤ k) [
 ] refl
 
 -- the item of an input in which the first k bytes can be taken, and those with the next one can't
-pub item_ends : (c : Conversion) → IsProperShape c.shape → (x : List ℕ) (k : ℕ) → k < length x → can_take c (take k x) ≡ true → can_take c (take (k + 1) x) ≡ false → IsItem c x k
+pub item_ends : (c : Conversion) → IsProperShape c.shape → (x : List ℕ) (k : ℕ) → k < length x → can_take c (take k x) ≡ true
+    → can_take c (take (k + 1) x) ≡ false → IsItem c x k
 item_ends c proper x k inside can cannot =
     let front = (tests_can_take c proper (take k x)).from can in
     record {
@@ -54,11 +57,16 @@ item_ends c proper x k inside can cannot =
     too_long j m longer =
         let fits : IsWithin c (k + 1) = shorter_within c.width (k + 1) j (omega (arith, longer)) m.1 in
         let begins : Begins c (take (k + 1) x) = shorter_begins c proper x (k + 1) j (omega (arith, longer)) m.2 in
-        let taken = (tests_can_take c proper (take (k + 1) x)).to (subst (IsWithin c) (sym (length-take-le (k + 1) x (omega (arith, inside)))) fits, begins) in
+        let taken = (tests_can_take c proper (take (k + 1) x)).to (
+          subst (IsWithin c)
+              (sym (length-take-le (k + 1) x (omega (arith, inside)))) fits,
+          begins,
+        ) in
         true≢false (sym taken ∙ cannot)
 
 -- the item of an input all of which can be taken
-pub item_whole : (c : Conversion) → IsProperShape c.shape → (x : List ℕ) (k : ℕ) → k ≡ length x → can_take c (take k x) ≡ true → IsItem c x k
+pub item_whole : (c : Conversion) → IsProperShape c.shape → (x : List ℕ) (k : ℕ) → k ≡ length x → can_take c (take k x) ≡ true
+    → IsItem c x k
 item_whole c proper x k all can =
     let front = (tests_can_take c proper (take k x)).from can in
     let fits : k ≤ length x = omega (arith, all) in
@@ -128,7 +136,11 @@ last_up_to p start (suc n) = by_case (p (suc n)) refl (last_up_to p start n)
           k,
           record {
             holds = (omega (arith, fits), most.holds.1);
-            above = λ j h. most.above j (let other : j ≢ suc n = λ is. true≢false (sym h.1 ∙ ap p is ∙ e) in let fits' = h.0 in omega (arith, fits', other), h.1);
+            above = λ j h. most.above j (
+              let other : j ≢ suc n = λ is. true≢false (sym h.1 ∙ ap p is ∙ e) in let fits' = h.0 in
+                  omega (arith, fits', other),
+              h.1,
+            );
           },
         )
 
@@ -149,8 +161,13 @@ one_item c takes proper x =
         let front = (tests_can_take c proper (take k x)).from most.holds.1 in
         record {
           holds = (most.holds.0, subst (IsWithin c) (length-take-le k x most.holds.0) front.0, front.1);
-          above = λ j h. most.above j (h.0, (tests_can_take c proper (take j x)).to (subst (IsWithin c) (sym (length-take-le j x h.0)) h.1, h.2));
+          above = λ j h. most.above j (
+            h.0,
+            (tests_can_take c proper (take j x)).to
+                (subst (IsWithin c) (sym (length-take-le j x h.0)) h.1, h.2),
+          );
         }
 
-pub same_item : (c : Conversion) → has_item c.shape ≡ true → IsProperShape c.shape → (x : List ℕ) (j k : ℕ) → IsItem c x j → IsItem c x k → j ≡ k
+pub same_item : (c : Conversion) → has_item c.shape ≡ true → IsProperShape c.shape → (x : List ℕ) (j k : ℕ) → IsItem c x j → IsItem c x k
+    → j ≡ k
 same_item c takes proper x j k first second = let one = one_item c takes proper x in one.only j first ∙ sym (one.only k second)

@@ -53,7 +53,8 @@ module _ (old new : ItemScan) (piece : List ℕ) (n : ℕ) (within : n ≤ lengt
       ((tests_can_take_more (conversion_of old) (f ++ take k piece) (slice_index_or piece k 0)).from
       (subst (λ g. can_take (conversion_of old) g ≡ true) (sym more)
       (can_take_fronts (conversion_of old) (f ++ take (k + 1) piece) (drop (k + 1) (take n piece))
-      (subst (λ g. can_take (conversion_of old) g ≡ true) (sym (cut k below)) (subst (λ c. can_take c (f ++ take n piece) ≡ true) same (taken_fits new (f ++ take n piece) (taken f h)))))))
+      (subst (λ g. can_take (conversion_of old) g ≡ true) (sym (cut k below))
+      (subst (λ c. can_take c (f ++ take n piece) ≡ true) same (taken_fits new (f ++ take n piece) (taken f h)))))))
     where
       cut : (k : ℕ) → k < n → (f ++ take (k + 1) piece) ++ drop (k + 1) (take n piece) ≡ f ++ take n piece
       cut k below =
@@ -62,10 +63,12 @@ module _ (old new : ItemScan) (piece : List ℕ) (n : ℕ) (within : n ≤ lengt
           ∙ ap (λ t. f ++ t) (take-append-drop (k + 1) (take n piece))
 
   -- the next cannot, if it does not go on with the reading, or nothing is left
-  pub next_refused : shape_of new.reading ≡ shape_of old.reading → n < length piece → ReadsNext old.reading None (f ++ take (n + 1) piece) ⊎ (new.left ≡ Some 0)
+  pub next_refused : shape_of new.reading ≡ shape_of old.reading → n < length piece
+      → ReadsNext old.reading None (f ++ take (n + 1) piece) ⊎ (new.left ≡ Some 0)
       → CanTake (conversion_of old) (f ++ take (n + 1) piece) → ⊥
   next_refused shape below why can =
-      by_case why (subst (λ c. CanTake c ((f ++ take n piece) ++ slice_index_or piece n 0 ∷ [])) (sym same) (subst (CanTake (conversion_of old)) (sym more) can))
+      by_case why (subst (λ c. CanTake c ((f ++ take n piece) ++ slice_index_or piece n 0 ∷ [])) (sym same)
+      (subst (CanTake (conversion_of old)) (sym more) can))
     where
       more : (f ++ take n piece) ++ slice_index_or piece n 0 ∷ [] ≡ f ++ take (n + 1) piece
       more = one_more f piece n 0 below
@@ -74,7 +77,8 @@ module _ (old new : ItemScan) (piece : List ℕ) (n : ℕ) (within : n ≤ lengt
           → CanTake (conversion_of new) ((f ++ take n piece) ++ slice_index_or piece n 0 ∷ []) → ⊥
       by_case (inl next) =
           cannot_take new (f ++ take n piece) (slice_index_or piece n 0) (taken f h)
-          (λ width. ap (λ s. shape_begins s width ((f ++ take n piece) ++ slice_index_or piece n 0 ∷ [])) shape ∙ ap (shape_begins (shape_of old.reading) width) more ∙ next width)
+          (λ width. ap (λ s. shape_begins s width ((f ++ take n piece) ++ slice_index_or piece n 0 ∷ [])) shape
+          ∙ ap (shape_begins (shape_of old.reading) width) more ∙ next width)
       by_case (inr full) = cannot_go_on new (f ++ take n piece) (slice_index_or piece n 0) (taken f h) full
 
 -- the scan reads the first n bytes of a part, which is a front of the piece
@@ -110,7 +114,8 @@ module _ (scan : ItemScan) (piece part : List ℕ) (n : ℕ) (r : Reading) (afte
 
       none_left : (left after : Option ℕ) → left ≡ Some n → HasLeft left after n → after ≡ Some 0
       none_left left None is less = absurd (subst (λ l. HasLeft l None n) is less)
-      none_left left (Some m) is less = let sum = subst (λ l. HasLeft l (Some m) n) is less in let none : m ≡ 0 = omega (arith, sum) in ap Some none
+      none_left left (Some m) is less = let sum = subst (λ l. HasLeft l (Some m) n) is less in let none : m ≡ 0 = omega (arith, sum) in
+          ap Some none
 
       full : length part ≤ n → ReadsNext scan.reading None (f ++ take (n + 1) piece) ⊎ (after ≡ Some 0)
       full above =

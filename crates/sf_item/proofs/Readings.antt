@@ -39,7 +39,8 @@ module _ (base : Base) (piece : List ℕ) (i : ℕ) (p : Progress) (now : Reache
   byte_read below then =
       let b = slice_index_or piece i 0 in
       subst (λ t. ShowsNext after (read base (Some p) t)) (one_more [] piece i 0 below)
-      (behind base p (take i piece) (b ∷ []) now after before (λ q shows. subst (ShowsNext after) (sym (read_nothing base (advance base q b))) (then q shows)))
+      (behind base p (take i piece) (b ∷ []) now after before (λ q shows. subst (ShowsNext after)
+      (sym (read_nothing base (advance base q b))) (then q shows)))
 
   -- with k bytes of the rest, which is `&piece[i..]`
   pub bytes_read : (k : ℕ) → ((q : Progress) → Shows now q → ShowsNext after (read base (Some q) (take k (rest piece i))))
@@ -67,7 +68,8 @@ decimal_read base sign piece i before value digit below is_digit same is =
     (read_more base (Some (Digits sign 10 before)) (take i piece) (b ∷ [])
     ∙ ap (λ o. read base o (b ∷ [])) is
     ∙ read_nothing base (with_digit sign 10 value b)
-    ∙ by_lt (digit_value b) 10 (λ v. cond v (Some (Digits sign 10 (value * 10 + digit_value b))) None ≡ Some (Digits sign 10 (value * 10 + digit_value b)))
+    ∙ by_lt (digit_value b) 10 (λ v. cond v (Some (Digits sign 10 (value * 10 + digit_value b))) None
+    ≡ Some (Digits sign 10 (value * 10 + digit_value b)))
     (λ _. refl) (λ above. absurd (omega (arith, is_digit, above)))
     ∙ ap (λ d. Some (Digits sign 10 (value * 10 + d))) (sym same))
 
@@ -79,6 +81,7 @@ module _ (base : Base) (before : Reached) (f t : List ℕ) (h : HasRead (reading
       let (q, is, shows) = shows_some after (read base (Some h.0) t) (then h.0 h.1) in
       (refl, (q, shows, read_more base (Some Start) f t ∙ ap (λ o. read base o t) h.2 ∙ is))
 
-  pub integer_ends : ((p : Progress) → Shows before p → ShowsNext None (read base (Some p) t)) → ReadsNext (reading.Integer base before) None (f ++ t)
+  pub integer_ends : ((p : Progress) → Shows before p → ShowsNext None (read base (Some p) t))
+      → ReadsNext (reading.Integer base before) None (f ++ t)
   integer_ends then = λ width.
       ap is_some (read_more base (Some Start) f t ∙ ap (λ o. read base o t) h.2 ∙ shows_none (read base (Some h.0) t) (then h.0 h.1))

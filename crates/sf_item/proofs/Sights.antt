@@ -16,7 +16,8 @@ module _ {A : Type 0} (p : A → Bool) where
   prefix_take (suc n) (x ∷ xs) = more (p x) n (prefix_len p (take n xs)) (prefix_len p xs) (prefix_take n xs)
 
   -- so it is told by the run of a longer front
-  pub run_by_longer : (front longer piece : List A) → front ≡ take (length front) piece → longer ≡ take (length longer) piece → length front ≤ length longer
+  pub run_by_longer : (front longer piece : List A) → front ≡ take (length front) piece → longer ≡ take (length longer) piece
+      → length front ≤ length longer
       → prefix_len p front ≡ min (length front) (prefix_len p longer)
   run_by_longer front longer piece is long le =
       ap (prefix_len p) (is ∙ sym (take-take (length front) (length longer) piece le) ∙ ap (take (length front)) (sym long))

@@ -46,7 +46,8 @@ ReadsTo sign m o = (p : Progress) × (o ≡ Some p) × IsDecimal sign m p
 first_digit : (sign : Bool) (b : ℕ) → digit_value b < 10 → ReadsTo sign (0 * 10 + digit_value b) (with_first_digit Dec sign b)
 first_digit sign b low =
     by_eq b 48 (λ v. ReadsTo sign (0 * 10 + digit_value b) (cond v (Some (Zero sign)) (with_digit sign 10 0 b)))
-    (λ is. subst (λ c. ReadsTo sign (0 * 10 + digit_value c) (Some (Zero sign))) (sym is) (Zero sign, refl, record { integer = refl; goes = λ c. plain_zero Dec sign c refl refl }))
+    (λ is. subst (λ c. ReadsTo sign (0 * 10 + digit_value c) (Some (Zero sign))) (sym is)
+    (Zero sign, refl, record { integer = refl; goes = λ c. plain_zero Dec sign c refl refl }))
     (λ other.
     by_lt (digit_value b) 10 (λ v. ReadsTo sign (0 * 10 + digit_value b) (cond v (Some (Digits sign 10 (0 * 10 + digit_value b))) None))
     (λ below. (Digits sign 10 (0 * 10 + digit_value b), refl, record { integer = refl; goes = λ c. refl }))
@@ -54,7 +55,8 @@ first_digit sign b low =
 
 digit_more : (sign : Bool) (m b : ℕ) → digit_value b < 10 → with_digit sign 10 m b ≡ Some (Digits sign 10 (m * 10 + digit_value b))
 digit_more sign m b low =
-    by_lt (digit_value b) 10 (λ v. ◌≡◌ {A = Option Progress} (cond v (Some (Digits sign 10 (m * 10 + digit_value b))) None) (Some (Digits sign 10 (m * 10 + digit_value b))))
+    by_lt (digit_value b) 10 (λ v. ◌≡◌ {A = Option Progress} (cond v (Some (Digits sign 10 (m * 10 + digit_value b))) None)
+    (Some (Digits sign 10 (m * 10 + digit_value b))))
     (λ below. refl)
     (λ above. absurd (omega (arith, low, above)))
 
@@ -65,9 +67,11 @@ digit_ends sign radix m b high =
     (λ above. refl)
 
 -- what goes on as digits begins with one
-begins_low : (base : Base) (sign : Bool) (radix m n b : ℕ) (t : List ℕ) → read base (Some (Digits sign radix m)) (b ∷ t) ≡ Some (Digits sign radix n) → digit_value b < radix
+begins_low : (base : Base) (sign : Bool) (radix m n b : ℕ) (t : List ℕ)
+    → read base (Some (Digits sign radix m)) (b ∷ t) ≡ Some (Digits sign radix n) → digit_value b < radix
 begins_low base sign radix m n b t reads =
-    by_lt (digit_value b) radix (λ v. read base (cond v (Some (Digits sign radix (m * radix + digit_value b))) None) t ≡ Some (Digits sign radix n) → digit_value b < radix)
+    by_lt (digit_value b) radix (λ v. read base (cond v (Some (Digits sign radix (m * radix + digit_value b))) None) t
+    ≡ Some (Digits sign radix n) → digit_value b < radix)
     (λ below h. below)
     (λ above h. absurd (nothing h))
     reads
@@ -77,7 +81,8 @@ begins_low base sign radix m n b t reads =
 
 -- a first byte that is no sign
 bare_first : (base : Base) (b : ℕ) → b ≢ 43 → b ≢ 45 → advance base Start b ≡ with_first_digit base false b
-bare_first base b no_plus no_minus = by_sign base b (λ o. o ≡ with_first_digit base false b) (λ is. absurd (no_plus is)) (λ is. absurd (no_minus is)) (λ _ _. refl)
+bare_first base b no_plus no_minus = by_sign base b (λ o. o ≡ with_first_digit base false b) (λ is. absurd (no_plus is))
+    (λ is. absurd (no_minus is)) (λ _ _. refl)
 
 plain_first : (base : Base) (b : ℕ) → digit_value b < 16 → advance base Start b ≡ with_first_digit base false b
 plain_first base b low = bare_first base b no_plus no_minus
@@ -89,16 +94,20 @@ plain_first base b low = bare_first base b no_plus no_minus
     no_minus is = let high : digit_value 45 < 16 = subst (λ c. digit_value c < 16) is low in omega (arith, high)
 
 -- a byte that is no digit is no first digit
-first_ends : (base : Base) (sign : Bool) (b : ℕ) → 0 < first_radix base → first_radix base ≤ digit_value b → with_first_digit base sign b ≡ None
+first_ends : (base : Base) (sign : Bool) (b : ℕ) → 0 < first_radix base → first_radix base ≤ digit_value b
+    → with_first_digit base sign b ≡ None
 first_ends base sign b some high =
     by_eq b 48 (λ v. ◌≡◌ {A = Option Progress} (cond v (Some (Zero sign)) (with_digit sign (first_radix base) 0 b)) None)
-    (λ is. absurd (let none : first_radix base ≤ digit_value 48 = subst (λ c. first_radix base ≤ digit_value c) is high in omega (arith, none, some)))
+    (λ is. absurd (let none : first_radix base ≤ digit_value 48 = subst (λ c. first_radix base ≤ digit_value c) is high in
+    omega (arith, none, some)))
     (λ other. digit_ends sign (first_radix base) 0 b high)
 
 -- nor does it follow a sign
-sign_ends : (base : Base) (count : ℕ) (sign : Bool) (b : ℕ) → 0 < first_radix base → first_radix base ≤ digit_value b → (count ≡ 0 → (b ≢ 43) × (b ≢ 45))
+sign_ends : (base : Base) (count : ℕ) (sign : Bool) (b : ℕ) → 0 < first_radix base → first_radix base ≤ digit_value b
+    → (count ≡ 0 → (b ≢ 43) × (b ≢ 45))
     → advance base (signed_as count sign) b ≡ None
-sign_ends base zero sign b some high bare = let (no_plus, no_minus) = bare refl in bare_first base b no_plus no_minus ∙ first_ends base false b some high
+sign_ends base zero sign b some high bare = let (no_plus, no_minus) = bare refl in
+    bare_first base b no_plus no_minus ∙ first_ends base false b some high
 sign_ends base (suc k) sign b some high bare = first_ends base sign b some high
 
 -- ---- digits behind what was read
@@ -106,17 +115,23 @@ sign_ends base (suc k) sign b some high bare = first_ends base sign b some high
 same_number : (sign : Bool) (radix m n : ℕ) → ◌≡◌ {A = Option Progress} (Some (Digits sign radix m)) (Some (Digits sign radix n)) → m ≡ n
 same_number sign radix m n h = cc
 
-decimal_goes : (sign : Bool) (m n : ℕ) (p : Progress) (t : List ℕ) → IsDecimal sign m p → read Dec (Some (Digits sign 10 m)) t ≡ Some (Digits sign 10 n)
+decimal_goes : (sign : Bool) (m n : ℕ) (p : Progress) (t : List ℕ) → IsDecimal sign m p
+    → read Dec (Some (Digits sign 10 m)) t ≡ Some (Digits sign 10 n)
     → ReadsTo sign n (read Dec (Some p) t)
 decimal_goes sign m n p [] is reads = (p, refl, subst (λ k. IsDecimal sign k p) (same_number sign 10 m n reads) is)
-decimal_goes sign m n p (b ∷ t) is reads = (Digits sign 10 n, ap (λ o. read Dec o t) (is.goes b) ∙ reads, record { integer = refl; goes = λ c. refl })
+decimal_goes sign m n p (b ∷ t) is reads = (
+  Digits sign 10 n,
+  ap (λ o. read Dec o t) (is.goes b) ∙ reads,
+  record { integer = refl; goes = λ c. refl },
+)
 
 signed_goes : (sign : Bool) (n b : ℕ) (t : List ℕ) → read Dec (Some (Digits sign 10 0)) (b ∷ t) ≡ Some (Digits sign 10 n)
     → ReadsTo sign n (read Dec (with_first_digit Dec sign b) t)
 signed_goes sign n b t reads =
     let low = begins_low Dec sign 10 0 n b t reads in
     let (p, is, decimal) = first_digit sign b low in
-    let next : read Dec (Some (Digits sign 10 (0 * 10 + digit_value b))) t ≡ Some (Digits sign 10 n) = ap (λ o. read Dec o t) (sym (digit_more sign 0 b low)) ∙ reads in
+    let next : read Dec (Some (Digits sign 10 (0 * 10 + digit_value b))) t ≡ Some (Digits sign 10 n) =
+    ap (λ o. read Dec o t) (sym (digit_more sign 0 b low)) ∙ reads in
     let (q, goes, ends) = decimal_goes sign (0 * 10 + digit_value b) n p t decimal next in
     (q, ap (λ o. read Dec o t) is ∙ goes, ends)
 
@@ -126,8 +141,11 @@ digits_go : (start : ℕ) (sign : Bool) (t : List ℕ) (n : ℕ) → (start ≡ 
 digits_go start sign [] n plain some reads = absurd (omega (arith, some))
 digits_go zero sign (b ∷ t) n plain some reads =
     let low = begins_low Dec sign 10 0 n b t reads in
-    let (q, goes, ends) = signed_goes sign n b t reads in
-    (q, ap (λ o. read Dec o t) (plain_first Dec b (omega (arith, low)) ∙ ap (λ s. with_first_digit Dec s b) (sym (plain refl))) ∙ goes, ends)
+    let (q, goes, ends) = signed_goes sign n b t reads in (
+      q,
+      ap (λ o. read Dec o t) (plain_first Dec b (omega (arith, low)) ∙ ap (λ s. with_first_digit Dec s b) (sym (plain refl))) ∙ goes,
+      ends,
+    )
 digits_go (suc k) sign (b ∷ t) n plain some reads = signed_goes sign n b t reads
 
 -- ---- the opening
@@ -137,7 +155,8 @@ pub record Goes (base : Base) (radix : ℕ) (front : List ℕ) (state : Progress
   pub p : Progress
   pub reads : read base (Some state) (take count (rest front start)) ≡ Some p
   pub told : integer_of p ≡ Some (sign, n)
-  pub ends : start + count < length front → radix ≤ digit_value (get_or front (start + count) 0) → advance base p (get_or front (start + count) 0) ≡ None
+  pub ends : start + count < length front → radix ≤ digit_value (get_or front (start + count) 0)
+      → advance base p (get_or front (start + count) 0) ≡ None
 
 -- so many bytes were read, which are no integer, and what follows them goes on with digits of the radix or not at all
 pub record Opened (base : Base) (radix : ℕ) (front : List ℕ) (start : ℕ) (sign : Bool) : Type 0 where
@@ -146,7 +165,8 @@ pub record Opened (base : Base) (radix : ℕ) (front : List ℕ) (start : ℕ) (
   pub taken : read base (Some Start) (take start front) ≡ Some state
   pub untold : integer_of state ≡ None
   pub empty : start < length front → radix ≤ digit_value (get_or front start 0) → advance base state (get_or front start 0) ≡ None
-  pub goes : (count n : ℕ) → 0 < count → count ≤ length (rest front start) → ReadsIn radix 0 (take count (rest front start)) n → Goes base radix front state start count n sign
+  pub goes : (count n : ℕ) → 0 < count → count ≤ length (rest front start) → ReadsIn radix 0 (take count (rest front start)) n
+      → Goes base radix front state start count n sign
 
 sign_untold : (count : ℕ) (sign : Bool) → integer_of (signed_as count sign) ≡ None
 sign_untold zero sign = refl
@@ -154,7 +174,8 @@ sign_untold (suc k) sign = refl
 
 -- a sign or none, before a byte that is no digit
 signed_ends : (base : Base) (front : List ℕ) (start : ℕ) (sign : Bool) → SignOf front start sign → 0 < first_radix base
-    → start < length front → first_radix base ≤ digit_value (get_or front start 0) → advance base (signed_as start sign) (get_or front start 0) ≡ None
+    → start < length front → first_radix base ≤ digit_value (get_or front start 0)
+    → advance base (signed_as start sign) (get_or front start 0) ≡ None
 signed_ends base front start sign s some below high = sign_ends base start sign (get_or front start 0) some high bare
   where
     bare : start ≡ 0 → (get_or front start 0 ≢ 43) × (get_or front start 0 ≢ 45)
@@ -170,7 +191,8 @@ decimal_opened front start sign s = record {
   goes = goes;
 }
   where
-    goes : (count n : ℕ) → 0 < count → count ≤ length (rest front start) → ReadsIn 10 0 (take count (rest front start)) n → Goes Dec 10 front (signed_as start sign) start count n sign
+    goes : (count n : ℕ) → 0 < count → count ≤ length (rest front start) → ReadsIn 10 0 (take count (rest front start)) n
+        → Goes Dec 10 front (signed_as start sign) start count n sign
     goes count n some most reads =
         let t = take count (rest front start) in
         let (q, is, decimal) = digits_go start sign t n s.plain (rw (length-take-le count (rest front start) most) some) (reads Dec sign) in
@@ -214,21 +236,25 @@ module _ (piece front : List ℕ) (width : Option ℕ) (cut : front ≡ take (le
     no_more : k < length piece → (is_within width (k + 1) && shape_begins shape width (take (k + 1) piece)) ≡ false
     no_more behind =
         by_lt k (length front) (λ v. (is_within width (k + 1) && shape_begins shape width (take (k + 1) piece)) ≡ false)
-        (λ below. by_second (is_within width (k + 1)) (ap (shape_begins shape width) (sym (same_front (k + 1) (omega (arith, below)))) ∙ stops below))
+        (λ below. by_second (is_within width (k + 1)) (ap (shape_begins shape width) (sym (same_front (k + 1) (omega (arith, below))))
+        ∙ stops below))
         (λ above.
         let all : k ≡ length front = omega (arith, fits, above) in
-        ap (λ v. v && shape_begins shape width (take (k + 1) piece)) (beyond width k (subst (λ n. width ≡ Some n) (sym all) (whole (omega (arith, all, behind))))))
+        ap (λ v. v && shape_begins shape width (take (k + 1) piece))
+        (beyond width k (subst (λ n. width ≡ Some n) (sym all) (whole (omega (arith, all, behind))))))
       where
         by_second : (a : Bool) {b : Bool} → b ≡ false → (a && b) ≡ false
         by_second true e = e
         by_second false e = refl
 
-    can_take_is : (c : Conversion) → c.shape ≡ shape → c.width ≡ width → (g : List ℕ) → can_take c g ≡ (is_within width (length g) && shape_begins shape width g)
+    can_take_is : (c : Conversion) → c.shape ≡ shape → c.width ≡ width → (g : List ℕ)
+        → can_take c g ≡ (is_within width (length g) && shape_begins shape width g)
     can_take_is c same same_width g = rw (same, same_width) refl
 
     can : (c : Conversion) → c.shape ≡ shape → c.width ≡ width → can_take c (take k piece) ≡ true
     can c same same_width =
-        can_take_is c same same_width (take k piece) ∙ rw (length-take-le k piece (omega (arith, fits, short)), within) (ap (shape_begins shape width) (sym (same_front k fits)) ∙ begins)
+        can_take_is c same same_width (take k piece) ∙ rw (length-take-le k piece (omega (arith, fits, short)), within)
+        (ap (shape_begins shape width) (sym (same_front k fits)) ∙ begins)
 
     cannot : (c : Conversion) → c.shape ≡ shape → c.width ≡ width → k < length piece → can_take c (take (k + 1) piece) ≡ false
     cannot c same same_width behind =
@@ -241,14 +267,16 @@ module _ (piece front : List ℕ) (width : Option ℕ) (cut : front ≡ take (le
         (λ behind. item_ends c proper piece k behind (can c same same_width) (cannot c same same_width behind))
         (λ above. item_whole c proper piece k (omega (arith, above, fits, short)) (can c same same_width))
 
-    pub item_within : k < length piece → (c : Conversion) → c.shape ≡ shape → c.width ≡ width → IsProperShape shape → (z : List ℕ) → IsItem c (piece ++ z) k
+    pub item_within : k < length piece → (c : Conversion) → c.shape ≡ shape → c.width ≡ width → IsProperShape shape → (z : List ℕ)
+        → IsItem c (piece ++ z) k
     item_within behind c same same_width proper z = item_stays c own piece z k (item_is c same same_width own) behind
       where
         own : IsProperShape c.shape
         own = subst IsProperShape (sym same) proper
 
     -- and no other item is
-    pub only_item : has_item shape ≡ true → IsProperShape shape → (n : ℕ) → ((c : Conversion) → c.shape ≡ shape → c.width ≡ width → (z : List ℕ) → IsItem c (piece ++ z) n) → n ≡ k
+    pub only_item : has_item shape ≡ true → IsProperShape shape → (n : ℕ)
+        → ((c : Conversion) → c.shape ≡ shape → c.width ≡ width → (z : List ℕ) → IsItem c (piece ++ z) n) → n ≡ k
     only_item takes proper n item =
         let c : Conversion = a_conversion shape width in
         same_item c takes proper piece n k (subst (λ x. IsItem c x n) (append-nil piece) (item c refl refl [])) (item_is c refl refl proper)
@@ -258,12 +286,14 @@ module _ (piece front : List ℕ) (width : Option ℕ) (cut : front ≡ take (le
       (ends : k < length front → advance base q (get_or front k 0) ≡ None) where
     stops : k < length front → shape_begins (Int base) width (take (k + 1) front) ≡ false
     stops below =
-        ap is_some (ap (read base (Some Start)) (sym (one_more [] front k 0 below)) ∙ read_push base (take k front) (get_or front k 0) q taken ∙ ends below)
+        ap is_some (ap (read base (Some Start)) (sym (one_more [] front k 0 below))
+        ∙ read_push base (take k front) (get_or front k 0) q taken ∙ ends below)
 
     told_is : integer_at base (take k piece) ≡ integer_of q
     told_is = ap (integer_at base) (sym (same_front k fits)) ∙ ap integer_in taken
 
-    pub ends_within : (sign : Bool) (m : ℕ) → integer_of q ≡ Some (sign, m) → k < length piece → EndsWithin base width piece (record { bytes = k; negative = sign; magnitude = m })
+    pub ends_within : (sign : Bool) (m : ℕ) → integer_of q ≡ Some (sign, m) → k < length piece
+        → EndsWithin base width piece (record { bytes = k; negative = sign; magnitude = m })
     ends_within sign m told behind = record {
       behind = behind;
       item = λ c shape same_width. item_within (Int base) k fits (ap is_some taken) stops behind c shape same_width tt;
@@ -273,11 +303,15 @@ module _ (piece front : List ℕ) (width : Option ℕ) (cut : front ≡ take (le
     -- no other integer ends within the piece
     pub only_end : (w : WholeInteger) → EndsWithin base width piece w → (w.bytes ≡ k) × (integer_of q ≡ Some (w.negative, w.magnitude))
     only_end w is =
-        let same = only_item (Int base) k fits (ap is_some taken) stops refl tt w.bytes is.item in
-        (same, sym told_is ∙ ap (λ n. integer_at base (take n piece)) (sym same) ∙ integer_at_is base (take w.bytes piece) w.negative w.magnitude is.integer)
+        let same = only_item (Int base) k fits (ap is_some taken) stops refl tt w.bytes is.item in (
+          same,
+          sym told_is ∙ ap (λ n. integer_at base (take n piece)) (sym same)
+              ∙ integer_at_is base (take w.bytes piece) w.negative w.magnitude is.integer,
+        )
 
   -- digits behind an opening
-  module _ (base : Base) (radix start count number : ℕ) (sign : Bool) (opened : Opened base radix front start sign) (digits : DigitsOf radix (rest front start) count number) where
+  module _ (base : Base) (radix start count number : ℕ) (sign : Bool) (opened : Opened base radix front start sign)
+      (digits : DigitsOf radix (rest front start) count number) where
     far : start + count ≤ length front
     far = let long = length_rest front start in let most = digits.within in let inside = opened.inside in omega (arith, most, long, inside)
 
@@ -317,7 +351,8 @@ module _ (piece front : List ℕ) (width : Option ℕ) (cut : front ≡ take (le
         let g = opened.goes count number some digits.within digits.read in
         record {
           q = g.p;
-          taken = ap (read base (Some Start)) parts ∙ read_more base (Some Start) (take start front) (take count (rest front start)) ∙ ap (λ o. read base o (take count (rest front start))) opened.taken ∙ g.reads;
+          taken = ap (read base (Some Start)) parts ∙ read_more base (Some Start) (take start front) (take count (rest front start))
+              ∙ ap (λ o. read base o (take count (rest front start))) opened.taken ∙ g.reads;
           told = λ _. g.told;
           untold = λ none. absurd (omega (arith, none, some));
           ends = λ below. g.ends below (next below);
@@ -326,10 +361,13 @@ module _ (piece front : List ℕ) (width : Option ℕ) (cut : front ≡ take (le
     is_read : IsRead
     is_read = elim (eq-zero-or-pos count) [ inl none ↦ no_digits none | inr some ↦ some_digits some ]
 
-    pub whole_integer : 0 < count → start + count < length piece → EndsWithin base width piece (record { bytes = start + count; negative = sign; magnitude = number })
-    whole_integer some behind = ends_within base (start + count) far is_read.q is_read.taken is_read.ends sign number (is_read.told some) behind
+    pub whole_integer : 0 < count → start + count < length piece → EndsWithin base width piece
+        (record { bytes = start + count; negative = sign; magnitude = number })
+    whole_integer some behind = ends_within base (start + count) far is_read.q is_read.taken is_read.ends sign number
+        (is_read.told some) behind
 
-    pub only_integer : (w : WholeInteger) → EndsWithin base width piece w → (start + count < length piece) × (0 < count) × (w.magnitude ≡ number)
+    pub only_integer : (w : WholeInteger) → EndsWithin base width piece w
+        → (start + count < length piece) × (0 < count) × (w.magnitude ≡ number)
     only_integer w is = by_count (eq-zero-or-pos count)
       where
         end : (w.bytes ≡ start + count) × (integer_of is_read.q ≡ Some (w.negative, w.magnitude))
@@ -369,7 +407,8 @@ zero_goes sign [] n reads = (Zero sign, refl, inr (refl, refl, sym (same_number 
 zero_goes sign (b ∷ t) n reads =
     let low = begins_low Hex sign 16 0 n b t reads in (
       Digits sign 16 n,
-      by_prefix Hex b (λ o. read Hex (after_zero sign 16 b o) t ≡ Some (Digits sign 16 n)) (λ x. absurd (no_letter b low x)) (λ other. reads) reads,
+      by_prefix Hex b (λ o. read Hex (after_zero sign 16 b o) t ≡ Some (Digits sign 16 n)) (λ x. absurd (no_letter b low x))
+          (λ other. reads) reads,
       inl refl,
     )
 
@@ -383,7 +422,8 @@ first_goes sign b t n reads =
     (λ other. (Digits sign 16 n, reads, inl refl))
 
 -- behind a sign or none
-hex_digits_go : (start : ℕ) (sign : Bool) (t : List ℕ) (n : ℕ) → (start ≡ 0 → sign ≡ false) → 0 < length t → read Hex (Some (Digits sign 16 0)) t ≡ Some (Digits sign 16 n)
+hex_digits_go : (start : ℕ) (sign : Bool) (t : List ℕ) (n : ℕ) → (start ≡ 0 → sign ≡ false) → 0 < length t
+    → read Hex (Some (Digits sign 16 0)) t ≡ Some (Digits sign 16 n)
     → (p : Progress) × (read Hex (Some (signed_as start sign)) t ≡ Some p) × HexRead sign t n p
 hex_digits_go start sign [] n plain some reads = absurd (omega (arith, some))
 hex_digits_go zero sign (b ∷ t) n plain some reads =
@@ -393,11 +433,13 @@ hex_digits_go zero sign (b ∷ t) n plain some reads =
 hex_digits_go (suc k) sign (b ∷ t) n plain some reads = first_goes sign b t n reads
 
 -- what ends them
-hex_read_ends : (sign : Bool) (t : List ℕ) (n : ℕ) (p : Progress) (b : ℕ) → HexRead sign t n p → 16 ≤ digit_value b → (t ≡ 48 ∷ [] → (b ≡ 120) ⊎ (b ≡ 88) → ⊥) → advance Hex p b ≡ None
+hex_read_ends : (sign : Bool) (t : List ℕ) (n : ℕ) (p : Progress) (b : ℕ) → HexRead sign t n p → 16 ≤ digit_value b
+    → (t ≡ 48 ∷ [] → (b ≡ 120) ⊎ (b ≡ 88) → ⊥) → advance Hex p b ≡ None
 hex_read_ends sign t n p b (inl is) high plain = ap (λ q. advance Hex q b) is ∙ digit_ends sign 16 n b high
 hex_read_ends sign t n p b (inr zero_digit) high plain =
     ap (λ q. advance Hex q b) zero_digit.1
-    ∙ by_prefix Hex b (λ o. after_zero sign 16 b o ≡ None) (λ x. absurd (plain zero_digit.0 x)) (λ other. digit_ends sign 16 0 b high) (digit_ends sign 16 0 b high)
+    ∙ by_prefix Hex b (λ o. after_zero sign 16 b o ≡ None) (λ x. absurd (plain zero_digit.0 x)) (λ other. digit_ends sign 16 0 b high)
+    (digit_ends sign 16 0 b high)
 
 hex_told : (sign : Bool) (t : List ℕ) (n : ℕ) (p : Progress) → HexRead sign t n p → integer_of p ≡ Some (sign, n)
 hex_told sign t n p (inl is) = ap integer_of is
@@ -421,7 +463,8 @@ module _ (front : List ℕ) (start : ℕ) (sign : Bool) where
           ap (λ n. get_or front n 0) (sym same) ∙ sym (get_or-drop start front 0 0) ∙ ap (λ d. get_or d 0 0) (sym (rest_is front start))
           ∙ sym (get_or-take count (rest front start) 0 0 some) ∙ ap (λ f. get_or f 0 0) one
 
-      goes : (count n : ℕ) → 0 < count → count ≤ length (rest front start) → ReadsIn 16 0 (take count (rest front start)) n → Goes Hex 16 front (signed_as start sign) start count n sign
+      goes : (count n : ℕ) → 0 < count → count ≤ length (rest front start) → ReadsIn 16 0 (take count (rest front start)) n
+          → Goes Hex 16 front (signed_as start sign) start count n sign
       goes count n some most reads =
           let t = take count (rest front start) in
           let long : length t ≡ count = length-take-le count (rest front start) most in
@@ -433,10 +476,15 @@ module _ (front : List ℕ) (start : ℕ) (sign : Bool) where
             ends = λ below high. hex_read_ends sign t n p (get_or front (start + count) 0) read high
                 (λ one letter.
                 let single : count ≡ 1 = sym long ∙ ap length one in
-                plain (omega (arith, below, single), zero_at count some one, subst (λ n. (get_or front (start + n) 0 ≡ 120) ⊎ (get_or front (start + n) 0 ≡ 88)) single letter));
+                plain (
+                  omega (arith, below, single),
+                  zero_at count some one,
+                  subst (λ n. (get_or front (start + n) 0 ≡ 120) ⊎ (get_or front (start + n) 0 ≡ 88)) single letter,
+                ));
           }
 
-  behind_prefix : (t : List ℕ) (n : ℕ) → 0 < length t → read Hex (Some (Digits sign 16 0)) t ≡ Some (Digits sign 16 n) → read Hex (Some (Prefix sign 16)) t ≡ Some (Digits sign 16 n)
+  behind_prefix : (t : List ℕ) (n : ℕ) → 0 < length t → read Hex (Some (Digits sign 16 0)) t ≡ Some (Digits sign 16 n)
+      → read Hex (Some (Prefix sign 16)) t ≡ Some (Digits sign 16 n)
   behind_prefix [] n some is = absurd (omega (arith, some))
   behind_prefix (b ∷ t) n some is = is
 
@@ -461,13 +509,17 @@ module _ (front : List ℕ) (start : ℕ) (sign : Bool) where
   hex_opened (inr h) = plain_opened h.0 h.1
 
 -- the prefix behind a sign or none
-prefix_read : (start letter : ℕ) (sign : Bool) → (start ≡ 0 → sign ≡ false) → (letter ≡ 120) ⊎ (letter ≡ 88) → read Hex (Some (signed_as start sign)) (48 ∷ letter ∷ []) ≡ Some (Prefix sign 16)
-prefix_read zero letter sign plain (inl is) = ap (λ s. read Hex (Some (Zero s)) (letter ∷ [])) (sym (plain refl)) ∙ ap (λ b. read Hex (Some (Zero sign)) (b ∷ [])) is
-prefix_read zero letter sign plain (inr is) = ap (λ s. read Hex (Some (Zero s)) (letter ∷ [])) (sym (plain refl)) ∙ ap (λ b. read Hex (Some (Zero sign)) (b ∷ [])) is
+prefix_read : (start letter : ℕ) (sign : Bool) → (start ≡ 0 → sign ≡ false) → (letter ≡ 120) ⊎ (letter ≡ 88)
+    → read Hex (Some (signed_as start sign)) (48 ∷ letter ∷ []) ≡ Some (Prefix sign 16)
+prefix_read zero letter sign plain (inl is) = ap (λ s. read Hex (Some (Zero s)) (letter ∷ [])) (sym (plain refl))
+    ∙ ap (λ b. read Hex (Some (Zero sign)) (b ∷ [])) is
+prefix_read zero letter sign plain (inr is) = ap (λ s. read Hex (Some (Zero s)) (letter ∷ [])) (sym (plain refl))
+    ∙ ap (λ b. read Hex (Some (Zero sign)) (b ∷ [])) is
 prefix_read (suc k) letter sign plain (inl is) = ap (λ b. read Hex (Some (Zero sign)) (b ∷ [])) is
 prefix_read (suc k) letter sign plain (inr is) = ap (λ b. read Hex (Some (Zero sign)) (b ∷ [])) is
 
-pub opens_prefixed : (bytes : List ℕ) (start : ℕ) (sign : Bool) → SignOf bytes start sign → HasPrefixAt bytes start → HexOpening bytes (start + 2) sign
+pub opens_prefixed : (bytes : List ℕ) (start : ℕ) (sign : Bool) → SignOf bytes start sign → HasPrefixAt bytes start
+    → HexOpening bytes (start + 2) sign
 opens_prefixed bytes start sign s at =
     let below = at.0 in
     let letter = get_or bytes (start + 1) 0 in
@@ -480,7 +532,8 @@ opens_prefixed bytes start sign s at =
     ∙ ap (λ f. f ++ letter ∷ []) first ∙ second ∙ ap (λ n. take n bytes) (sym two) in
     inl (
       omega (arith, below),
-      ap (read Hex (Some Start)) (sym parts) ∙ read_more Hex (Some Start) (take start bytes) (48 ∷ letter ∷ []) ∙ ap (λ o. read Hex o (48 ∷ letter ∷ [])) (s.read Hex)
+      ap (read Hex (Some Start)) (sym parts) ∙ read_more Hex (Some Start) (take start bytes) (48 ∷ letter ∷ [])
+          ∙ ap (λ o. read Hex o (48 ∷ letter ∷ [])) (s.read Hex)
           ∙ prefix_read start letter sign s.plain at.2,
     )
 
@@ -495,18 +548,22 @@ hex_read base sign piece i before value digit below is_digit same is =
     ∙ read_more base (Some (Digits sign 16 before)) (take i piece) (b ∷ [])
     ∙ ap (λ o. read base o (b ∷ [])) is
     ∙ read_nothing base (with_digit sign 16 value b)
-    ∙ by_lt (digit_value b) 16 (λ v. cond v (Some (Digits sign 16 (value * 16 + digit_value b))) None ≡ Some (Digits sign 16 (value * 16 + digit_value b)))
+    ∙ by_lt (digit_value b) 16 (λ v. cond v (Some (Digits sign 16 (value * 16 + digit_value b))) None
+    ≡ Some (Digits sign 16 (value * 16 + digit_value b)))
     (λ _. refl) (λ above. absurd (omega (arith, is_digit, above)))
     ∙ ap (λ d. Some (Digits sign 16 (value * 16 + d))) (sym same)
 
 -- ---- items of bytes
 
-matched : (shape : Shape) (width : Option ℕ) (piece : List ℕ) (n : ℕ) → shape_matches shape width (take n piece) ≡ true → (c : Conversion) → c.shape ≡ shape → c.width ≡ width → Matches c (take n piece)
+matched : (shape : Shape) (width : Option ℕ) (piece : List ℕ) (n : ℕ) → shape_matches shape width (take n piece) ≡ true → (c : Conversion)
+    → c.shape ≡ shape → c.width ≡ width → Matches c (take n piece)
 matched shape width piece n is c same same_width = (tests_matches c (take n piece)).from (rw (same, same_width) is)
 
 -- a run of bytes that pass the test of the shape
-module _ (shape : Shape) (width : Option ℕ) (piece front : List ℕ) (cut : front ≡ take (length front) piece) (room : (k : ℕ) → k ≤ length front → FitsLeft width k)
-    (whole : length front < length piece → width ≡ Some (length front)) (test : ℕ → Bool) (begins : (f : List ℕ) → shape_begins shape width f ≡ list_all test f)
+module _ (shape : Shape) (width : Option ℕ) (piece front : List ℕ) (cut : front ≡ take (length front) piece)
+    (room : (k : ℕ) → k ≤ length front → FitsLeft width k)
+    (whole : length front < length piece → width ≡ Some (length front)) (test : ℕ → Bool)
+    (begins : (f : List ℕ) → shape_begins shape width f ≡ list_all test f)
     (n : ℕ) (is : n ≡ prefix_len test front) where
   short : length front ≤ length piece
   short = let long = ap length cut in omega (arith, long, length-take (length front) piece)
@@ -520,37 +577,44 @@ module _ (shape : Shape) (width : Option ℕ) (piece front : List ℕ) (cut : fr
   run_ends : n < length front → shape_begins shape width (take (n + 1) front) ≡ false
   run_ends below = begins (take (n + 1) front) ∙ run_stops test front n is [] refl below
 
-  pub run_item : ((f : List ℕ) → shape_matches shape width f ≡ (nat_lt 0 (length f) && list_all test f)) → 0 < n → n < length piece → ItemWithin shape width piece n
+  pub run_item : ((f : List ℕ) → shape_matches shape width f ≡ (nat_lt 0 (length f) && list_all test f)) → 0 < n → n < length piece
+      → ItemWithin shape width piece n
   run_item matches some behind = record {
     some = some;
     behind = behind;
     item = item_within piece front width cut short room whole shape n fits (begins (take n front) ∙ passes) run_ends behind;
     matches =
         matched shape width piece n (matches (take n piece)
-        ∙ rw (length-take-le n piece (omega (arith, behind)), sym (same_front piece front width cut short room whole n fits), passes) (grind (arith, nat_tests, some)));
+        ∙ rw (length-take-le n piece (omega (arith, behind)), sym (same_front piece front width cut short room whole n fits), passes)
+        (grind (arith, nat_tests, some)));
   }
 
   -- the item is none that ends within the piece, where no byte passes or all do
-  pub no_run : has_item shape ≡ true → ((k : ℕ) → ItemWithin shape width piece k → IsProperShape shape) → (0 < n → n < length piece → ⊥) → NoItemWithin shape width piece
+  pub no_run : has_item shape ≡ true → ((k : ℕ) → ItemWithin shape width piece k → IsProperShape shape) → (0 < n → n < length piece → ⊥)
+      → NoItemWithin shape width piece
   no_run takes proper none k h =
       let is_proper = proper k h in
-      let same = only_item piece front width cut short room whole shape n fits (begins (take n front) ∙ passes) run_ends takes is_proper k (λ c shape_is width_is z. h.item c shape_is width_is is_proper z) in
+      let same = only_item piece front width cut short room whole shape n fits (begins (take n front) ∙ passes) run_ends takes is_proper k
+      (λ c shape_is width_is z. h.item c shape_is width_is is_proper z) in
       let some = h.some in
       let behind = h.behind in
       absurd (none (omega (arith, same, some)) (omega (arith, same, behind)))
 
 -- a set with such an item has a member
-pub set_proper : (members : List Bool) (width : Option ℕ) (piece : List ℕ) → ((i : ℕ) → get_or piece i 0 < 256) → (k : ℕ) → ItemWithin (Set members) width piece k → IsProperShape (Set members)
+pub set_proper : (members : List Bool) (width : Option ℕ) (piece : List ℕ) → ((i : ℕ) → get_or piece i 0 < 256) → (k : ℕ)
+    → ItemWithin (Set members) width piece k → IsProperShape (Set members)
 set_proper members width [] bytes k h = let behind = h.behind in absurd (omega (arith, behind))
 set_proper members width (b ∷ piece) bytes zero h = let some = h.some in absurd (omega (arith, some))
 set_proper members width (b ∷ piece) bytes (suc k) h = (b, bytes 0, (h.matches (a_conversion (Set members) width) refl refl).1.0)
 
 -- as many bytes as the width says
-pub chars_item : (width : Option ℕ) (piece : List ℕ) (n : ℕ) → 0 < n → n < length piece → n ≡ unwrap_or width 1 → ItemWithin Chars width piece n
+pub chars_item : (width : Option ℕ) (piece : List ℕ) (n : ℕ) → 0 < n → n < length piece → n ≡ unwrap_or width 1
+    → ItemWithin Chars width piece n
 chars_item width piece n some behind is = record {
   some = some;
   behind = behind;
-  item = λ c same same_width proper z. item_stays c (subst IsProperShape (sym same) proper) piece z n (item c same same_width (subst IsProperShape (sym same) proper)) behind;
+  item = λ c same same_width proper z. item_stays c (subst IsProperShape (sym same) proper) piece z n
+      (item c same same_width (subst IsProperShape (sym same) proper)) behind;
   matches = matched Chars width piece n (rw (length-take-le n piece (omega (arith, behind))) (grind (arith, nat_tests, is)));
 }
   where
@@ -566,9 +630,11 @@ chars_item width piece n some behind is = record {
     item c same same_width proper =
         item_ends c proper piece n behind
         (rw (same, same_width, length-take-le n piece (omega (arith, behind)), within width is) (grind (arith, nat_tests, is)))
-        (rw (same, same_width, length-take-le (n + 1) piece (omega (arith, behind))) (by_first (is_within width (n + 1)) (nat_le (n + 1) (unwrap_or width 1)) (grind (arith, nat_tests, is))))
+        (rw (same, same_width, length-take-le (n + 1) piece (omega (arith, behind)))
+        (by_first (is_within width (n + 1)) (nat_le (n + 1) (unwrap_or width 1)) (grind (arith, nat_tests, is))))
 
-pub no_chars : (width : Option ℕ) (piece : List ℕ) (n : ℕ) → n ≡ unwrap_or width 1 → (0 < n → n < length piece → ⊥) → NoItemWithin Chars width piece
+pub no_chars : (width : Option ℕ) (piece : List ℕ) (n : ℕ) → n ≡ unwrap_or width 1 → (0 < n → n < length piece → ⊥)
+    → NoItemWithin Chars width piece
 no_chars width piece n is none k h =
     let some = h.some in
     let behind = h.behind in
@@ -578,7 +644,8 @@ no_chars width piece n is none k h =
 
 pub no_bytes : (shape : Shape) (width : Option ℕ) (piece : List ℕ) → IsInt shape ⊎ (shape ≡ Count) → NoItemWithin shape width piece
 no_bytes shape width piece (inl int) k h = int
-no_bytes shape width piece (inr is) k h = absurd (subst (λ s. ItemWithin s width piece k → ⊥) (sym is) (λ none. none.matches (a_conversion Count width) refl refl) h)
+no_bytes shape width piece (inr is) k h = absurd (subst (λ s. ItemWithin s width piece k → ⊥) (sym is)
+    (λ none. none.matches (a_conversion Count width) refl refl) h)
 
 -- ---- digits, of whichever number
 
@@ -591,7 +658,8 @@ digits_stay base s radix v [] q is = (v, same is, λ b sign. refl)
 digits_stay base s radix v (b ∷ t) q reads =
     by_lt (digit_value b) radix
     (λ o. read base (cond o (Some (Digits s radix (v * radix + digit_value b))) None) t ≡ Some q
-    → (n : ℕ) × (q ≡ Digits s radix n) × ((other : Base) (sign : Bool) → read other (cond o (Some (Digits sign radix (v * radix + digit_value b))) None) t ≡ Some (Digits sign radix n)))
+    → (n : ℕ) × (q ≡ Digits s radix n) × ((other : Base) (sign : Bool)
+    → read other (cond o (Some (Digits sign radix (v * radix + digit_value b))) None) t ≡ Some (Digits sign radix n)))
     (λ below is. digits_stay base s radix (v * radix + digit_value b) t q is)
     (λ above is. absurd (nothing is))
     reads
@@ -601,7 +669,8 @@ digits_stay base s radix v (b ∷ t) q reads =
 
 digits_stop : (s : Bool) (radix v b : ℕ) → with_digit s radix v b ≡ None → radix ≤ digit_value b
 digits_stop s radix v b =
-    by_lt (digit_value b) radix (λ o. ◌≡◌ {A = Option Progress} (cond o (Some (Digits s radix (v * radix + digit_value b))) None) None → radix ≤ digit_value b)
+    by_lt (digit_value b) radix (λ o. ◌≡◌ {A = Option Progress} (cond o (Some (Digits s radix (v * radix + digit_value b))) None) None
+    → radix ≤ digit_value b)
     (λ below h. absurd (something h))
     (λ above h. above)
   where
@@ -657,23 +726,29 @@ module _ (bytes : List ℕ) (radix count : ℕ) (after : Taken) (within : count 
 
 tens_more : (k i : ℕ) → 10 ^ i ≤ 10 ^ (k + i)
 tens_more zero i = let same : i ≡ 0 + i = omega arith in subst (λ n. 10 ^ i ≤ 10 ^ n) same (omega arith)
-tens_more (suc k) i = let same : suc (k + i) ≡ suc k + i = omega arith in subst (λ n. 10 ^ i ≤ 10 ^ n) same (let less = tens_more k i in let more : 10 ^ suc (k + i) ≡ 10 * 10 ^ (k + i) = pow-succ' 10 (k + i) in omega (arith, less, more))
+tens_more (suc k) i = let same : suc (k + i) ≡ suc k + i = omega arith in
+    subst (λ n. 10 ^ i ≤ 10 ^ n) same (let less = tens_more k i in let more : 10 ^ suc (k + i) ≡ 10 * 10 ^ (k + i) =
+    pow-succ' 10 (k + i) in omega (arith, less, more))
 
 pub tens : (i : ℕ) → i < 19 → 10 ^ i ≤ 1000000000000000000
 tens i below = let all : 18 - i + i ≡ 18 = omega (arith, below) in subst (λ n. 10 ^ i ≤ 10 ^ n) all (tens_more (18 - i) i)
 
 pub ten_more : (i n d : ℕ) → n < 10 ^ i → d < 10 → n * 10 + d < 10 ^ (i + 1)
-ten_more i n d small low = let one : i + 1 ≡ suc i = omega arith in subst (λ k. n * 10 + d < 10 ^ k) (sym one) (let more : 10 ^ suc i ≡ 10 * 10 ^ i = pow-succ' 10 i in omega (arith, more, small, low))
+ten_more i n d small low = let one : i + 1 ≡ suc i = omega arith in
+    subst (λ k. n * 10 + d < 10 ^ k) (sym one) (let more : 10 ^ suc i ≡ 10 * 10 ^ i = pow-succ' 10 i in omega (arith, more, small, low))
 
 sixteens_more : (k i : ℕ) → 16 ^ i ≤ 16 ^ (k + i)
 sixteens_more zero i = let same : i ≡ 0 + i = omega arith in subst (λ n. 16 ^ i ≤ 16 ^ n) same (omega arith)
-sixteens_more (suc k) i = let same : suc (k + i) ≡ suc k + i = omega arith in subst (λ n. 16 ^ i ≤ 16 ^ n) same (let less = sixteens_more k i in let more : 16 ^ suc (k + i) ≡ 16 * 16 ^ (k + i) = pow-succ' 16 (k + i) in omega (arith, less, more))
+sixteens_more (suc k) i = let same : suc (k + i) ≡ suc k + i = omega arith in
+    subst (λ n. 16 ^ i ≤ 16 ^ n) same (let less = sixteens_more k i in let more : 16 ^ suc (k + i) ≡ 16 * 16 ^ (k + i) =
+    pow-succ' 16 (k + i) in omega (arith, less, more))
 
 pub sixteens : (i : ℕ) → i < 16 → 16 ^ i ≤ 1152921504606846976
 sixteens i below = let all : 15 - i + i ≡ 15 = omega (arith, below) in subst (λ n. 16 ^ i ≤ 16 ^ n) all (sixteens_more (15 - i) i)
 
 pub sixteen_more : (i n d : ℕ) → n < 16 ^ i → d < 16 → n * 16 + d < 16 ^ (i + 1)
-sixteen_more i n d small low = let one : i + 1 ≡ suc i = omega arith in subst (λ k. n * 16 + d < 16 ^ k) (sym one) (let more : 16 ^ suc i ≡ 16 * 16 ^ i = pow-succ' 16 i in omega (arith, more, small, low))
+sixteen_more i n d small low = let one : i + 1 ≡ suc i = omega arith in
+    subst (λ k. n * 16 + d < 16 ^ k) (sym one) (let more : 16 ^ suc i ≡ 16 * 16 ^ i = pow-succ' 16 i in omega (arith, more, small, low))
 
 -- ---- the opening of a decimal integer whose first digit is no 0, where a 0 would show another radix
 
@@ -683,16 +758,19 @@ unless_so test a = let no = test a in absurd (cc)
 module _ (base : Base) (ten : first_radix base ≡ 10) where
   plain_digit : (sign : Bool) (b : ℕ) → b ≢ 48 → with_first_digit base sign b ≡ with_digit sign 10 0 b
   plain_digit sign b other =
-      by_eq b 48 (λ v. ◌≡◌ {A = Option Progress} (cond v (Some (Zero sign)) (with_digit sign (first_radix base) 0 b)) (with_digit sign 10 0 b))
+      by_eq b 48 (λ v. ◌≡◌ {A = Option Progress} (cond v (Some (Zero sign)) (with_digit sign (first_radix base) 0 b))
+      (with_digit sign 10 0 b))
       (λ is. absurd (other is))
       (λ _. ap (λ r. with_digit sign r 0 b) ten)
 
   digits_follow : (start : ℕ) (sign : Bool) (t : List ℕ) (n : ℕ) → (start ≡ 0 → sign ≡ false) → 0 < length t → get_or t 0 0 ≢ 48
-      → read base (Some (Digits sign 10 0)) t ≡ Some (Digits sign 10 n) → read base (Some (signed_as start sign)) t ≡ Some (Digits sign 10 n)
+      → read base (Some (Digits sign 10 0)) t ≡ Some (Digits sign 10 n)
+      → read base (Some (signed_as start sign)) t ≡ Some (Digits sign 10 n)
   digits_follow start sign [] n plain some other reads = absurd (omega (arith, some))
   digits_follow zero sign (b ∷ t) n plain some other reads =
       let low = begins_low base sign 10 0 n b t reads in
-      ap (λ o. read base o t) (plain_first base b (omega (arith, low)) ∙ ap (λ s. with_first_digit base s b) (sym (plain refl)) ∙ plain_digit sign b other)
+      ap (λ o. read base o t) (plain_first base b (omega (arith, low)) ∙ ap (λ s. with_first_digit base s b) (sym (plain refl))
+      ∙ plain_digit sign b other)
       ∙ reads
   digits_follow (suc k) sign (b ∷ t) n plain some other reads = ap (λ o. read base o t) (plain_digit sign b other) ∙ reads
 

@@ -17,7 +17,8 @@ zeros_read (b ∷ bytes) (suc z) le are base sign =
     (zeros_read bytes z (omega (arith, le)) (λ k below. are (suc k) (omega (arith, below))) base sign)
 
 -- the digits behind zeros have their number
-pub behind_zeros : (bytes : List ℕ) (z n number : ℕ) → z ≤ length bytes → ((k : ℕ) → k < z → get_or bytes k 0 ≡ 48) → DigitsOf 10 (drop z bytes) n number → DigitsOf 10 bytes (z + n) number
+pub behind_zeros : (bytes : List ℕ) (z n number : ℕ) → z ≤ length bytes → ((k : ℕ) → k < z → get_or bytes k 0 ≡ 48)
+    → DigitsOf 10 (drop z bytes) n number → DigitsOf 10 bytes (z + n) number
 behind_zeros bytes z n number le are own =
     let left : length (drop z bytes) + z ≡ length bytes = omega (arith, length-drop z bytes, le) in
     let within = own.within in
@@ -32,11 +33,13 @@ behind_zeros bytes z n number le are own =
     }
 
 -- the digits that are the front of a piece stand in the piece
-pub front_at : (digits piece : List ℕ) (n : ℕ) → digits ≡ take (length digits) piece → n < length digits → get_or digits n 0 ≡ get_or piece n 0
+pub front_at : (digits piece : List ℕ) (n : ℕ) → digits ≡ take (length digits) piece → n < length digits
+    → get_or digits n 0 ≡ get_or piece n 0
 front_at digits piece n front below = ap (λ l. get_or l n 0) front ∙ get_or-take (length digits) piece n 0 below
 
 -- and are read from it
-pub front_digits : (digits piece : List ℕ) (n number : ℕ) → digits ≡ take (length digits) piece → n ≤ length digits → ReadsIn 10 0 (take n piece) number
+pub front_digits : (digits piece : List ℕ) (n number : ℕ) → digits ≡ take (length digits) piece → n ≤ length digits
+    → ReadsIn 10 0 (take n piece) number
     → (n < length digits → 10 ≤ digit_value (get_or digits n 0)) → DigitsOf 10 digits n number
 front_digits digits piece n number front within reads stops =
     let same : take n digits ≡ take n piece = ap (take n) front ∙ take-take n (length digits) piece within in

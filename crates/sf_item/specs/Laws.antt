@@ -35,7 +35,8 @@ FrontsCanBeTaken = (c : Conversion) (f t : List ℕ) → can_take c (f ++ t) ≡
 
 -- within the width, an integer can always go on with a 0
 abbrev pub IntegersGoOn : Type 0
-IntegersGoOn = (c : Conversion) (base : Base) (f : List ℕ) → c.shape ≡ Int base → can_take c f ≡ true → is_within c.width (length f + 1) ≡ true
+IntegersGoOn = (c : Conversion) (base : Base) (f : List ℕ) → c.shape ≡ Int base → can_take c f ≡ true
+    → is_within c.width (length f + 1) ≡ true
     → can_take c (f ++ 48 ∷ []) ≡ true
 
 -- an integer is read one part after the other

@@ -13,8 +13,8 @@ use Rattle.sf_item.specs.Progress.{Progress, Start, Signed, Prefix, Digits}
 use Rattle.sf_item.specs.Taking.{IsInt}
 use Rattle.sf_item.specs.Tests.{read}
 
--- The input item of each conversion with the base and the width ends before a byte of the piece, whatever follows the piece, and it is an integer
--- with this sign and number.
+-- The input item of each conversion with the base and the width ends before a byte of the piece, whatever follows the piece, and it is an
+-- integer with this sign and number.
 pub record EndsWithin (base : Base) (width : Option ℕ) (piece : List ℕ) (w : WholeInteger) : Type 0 where
   pub behind : w.bytes < length piece
   pub item : (c : Conversion) → c.shape ≡ Int base → c.width ≡ width → (z : List ℕ) → IsItem c (piece ++ z) w.bytes
@@ -24,8 +24,8 @@ pub record EndsWithin (base : Base) (width : Option ℕ) (piece : List ℕ) (w :
 abbrev pub NoneEndsWithin : Base → Option ℕ → List ℕ → Type 0
 NoneEndsWithin base width piece = (w : WholeInteger) → EndsWithin base width piece w → 2 ^ 64 ≤ w.magnitude
 
--- The input item of each conversion with the shape and the width has n bytes, whatever follows the piece, ends before a byte of the piece, and is a
--- matching sequence.
+-- The input item of each conversion with the shape and the width has n bytes, whatever follows the piece, ends before a byte of the piece,
+-- and is a matching sequence.
 pub record ItemWithin (shape : Shape) (width : Option ℕ) (piece : List ℕ) (n : ℕ) : Type 0 where
   pub some : 0 < n
   pub behind : n < length piece
@@ -69,7 +69,8 @@ pub record SignOf (bytes : List ℕ) (count : ℕ) (negative : Bool) : Type 0 wh
 
 -- 0 and the letter of the prefix of a hexadecimal integer stand at the place
 abbrev pub HasPrefixAt : List ℕ → ℕ → Type 0
-HasPrefixAt bytes at = (at + 1 < length bytes) × (get_or bytes at 0 ≡ 48) × ((get_or bytes (at + 1) 0 ≡ 120) ⊎ (get_or bytes (at + 1) 0 ≡ 88))
+HasPrefixAt bytes at = (at + 1 < length bytes) × (get_or bytes at 0 ≡ 48)
+    × ((get_or bytes (at + 1) 0 ≡ 120) ⊎ (get_or bytes (at + 1) 0 ≡ 88))
 
 -- so many bytes are a sign and a prefix, or a sign behind which no prefix stands
 abbrev pub HexOpening : List ℕ → ℕ → Bool → Type 0

@@ -3,7 +3,8 @@ ghost use Rattle.std.specs.Prelude.{◌≡◌, ◌<◌, ◌≤◌, ◌^◌, leng
 ghost use Rattle.std.specs.Char.{digit_value};
 ghost use Rattle.sf_item.specs.Wholes.{ReadsIn};
 
-/// How many hexadecimal digits are looked at by a loop whose length is known: those of 32 bits, and the byte that ends them.
+/// How many hexadecimal digits are looked at by a loop whose length is known: those of 32 bits, and the byte that ends
+/// them.
 pub(crate) const FIRST_HEX: usize = 9;
 
 /// The value of each byte as a digit or a letter, in either case: 0 to 35, and 36 where it is neither.
@@ -29,8 +30,8 @@ pub(crate) fn value_of(b: u8) -> u8
     VALUES[b as usize]
 }
 
-/// The hexadecimal digits that the piece begins with, nine at most: their number, and how many. Of fewer than nine bytes
-/// none are taken.
+/// The hexadecimal digits that the piece begins with, nine at most: their number, and how many. Of fewer than nine
+/// bytes none are taken.
 #[inline(always)]
 pub(crate) fn first_hex_digits(piece: &[u8]) -> (u64, usize)
     ensures within { result.1 ≤ length piece.now }

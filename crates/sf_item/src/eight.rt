@@ -65,8 +65,8 @@ fn weighed(piece: &[u8], count: usize) -> u32
     number
 }
 
-/// The decimal digits that the piece begins with, eight and so many at most: their number, and how many. Of fewer than eight
-/// bytes none are taken.
+/// The decimal digits that the piece begins with, eight and so many at most: their number, and how many. Of fewer than
+/// eight bytes none are taken.
 #[inline(always)]
 pub(crate) fn first_digits(piece: &[u8], most: usize) -> (u64, usize)
     ensures within { result.1 ≤ length piece.now }

@@ -110,7 +110,8 @@ fn second_byte(base: Base, negative: bool, b: u8, reached: &mut Reached) -> bool
 
 // Takes one byte more of an integer of the base, and tells so, if one begins so.
 pub fn advance(base: Base, reached: &mut Reached, b: u8) -> bool
-    ensures next { (p : Progress) → Shows reached.old p → ShowsNext (if result then Some reached.new else None) (advance base p b) }
+    ensures next { (p : Progress) → Shows reached.old p → ShowsNext (if result then Some reached.new else None)
+        (advance base p b) }
     ensures refused { result ≡ false → reached.new ≡ reached.old }
 {
     match reached {
@@ -122,11 +123,13 @@ pub fn advance(base: Base, reached: &mut Reached, b: u8) -> bool
     }
 }
 
-// Takes decimal digits of the piece, one after the other, as long as their number stays within 64 bits, and answers how many.
+// Takes decimal digits of the piece, one after the other, as long as their number stays within 64 bits, and answers how
+// many.
 pub fn decimal_front(number: &mut u64, piece: &[u8]) -> usize
     ensures within { result ≤ length piece.now }
     ensures read { ReadsDecimal number.old (take result piece.now) number.new }
-    ensures stops { result < length piece.now → (10 ≤ digit_value (slice_index piece.now result)) ⊎ (QUICK ≤ number.new) }
+    ensures stops { result < length piece.now → (10 ≤ digit_value (slice_index piece.now result))
+        ⊎ (QUICK ≤ number.new) }
     ensures nothing { result ≡ 0 → number.new ≡ number.old }
 {
     let mut value = *number;
@@ -175,7 +178,8 @@ pub fn digit_front(digits: &mut Digits, piece: &[u8]) -> usize
 // Reads the bytes of the piece up to the first digit that settles the radix, and answers how many.
 fn opening(base: Base, reached: &mut Reached, piece: &[u8]) -> usize
     ensures within { result ≤ length piece.now }
-    ensures read { (p : Progress) → Shows reached.old p → ShowsNext (Some reached.new) (read base (Some p) (take result piece.now)) }
+    ensures read { (p : Progress) → Shows reached.old p → ShowsNext (Some reached.new)
+        (read base (Some p) (take result piece.now)) }
     ensures stops { result < length piece.now → HasDigits reached.new ⊎ ((p : Progress) → Shows reached.old p
         → ShowsNext None (read base (Some p) (take (result + 1) piece.now))) }
     ensures nothing { result ≡ 0 → reached.new ≡ reached.old }
@@ -191,10 +195,12 @@ fn opening(base: Base, reached: &mut Reached, piece: &[u8]) -> usize
     piece.len()
 }
 
-// Reads the bytes of the piece, one after the other, as long as an integer of the base goes on with them, and answers how many.
+// Reads the bytes of the piece, one after the other, as long as an integer of the base goes on with them, and answers
+// how many.
 pub fn integer_front(base: Base, reached: &mut Reached, piece: &[u8]) -> usize
     ensures within { result ≤ length piece.now }
-    ensures read { (p : Progress) → Shows reached.old p → ShowsNext (Some reached.new) (read base (Some p) (take result piece.now)) }
+    ensures read { (p : Progress) → Shows reached.old p → ShowsNext (Some reached.new)
+        (read base (Some p) (take result piece.now)) }
     ensures stops { result < length piece.now → (p : Progress) → Shows reached.old p
         → ShowsNext None (read base (Some p) (take (result + 1) piece.now)) }
     ensures nothing { result ≡ 0 → reached.new ≡ reached.old }

@@ -165,8 +165,8 @@ impl<'c> ItemScan<'c> {
         Step::Taken
     }
 
-    /// Takes the bytes of the piece, one after the other, as long as the item goes on with them, and answers how many: as
-    /// many `step`s take the same. A byte that is refused stays with the input.
+    /// Takes the bytes of the piece, one after the other, as long as the item goes on with them, and answers how many:
+    /// as many `step`s take the same. A byte that is refused stays with the input.
     pub fn take_run(&mut self, piece: &[u8]) -> usize
         ensures conversion { conversion_of self.new ≡ conversion_of self.old }
         ensures within { result ≤ length piece.now }
@@ -199,8 +199,8 @@ impl<'c> ItemScan<'c> {
         self.take_run(piece)
     }
 
-    /// Whether `step` would take no byte, whichever it is. Of a set without a member, which no format has, it tells only
-    /// whether the width is used up.
+    /// Whether `step` would take no byte, whichever it is. Of a set without a member, which no format has, it tells
+    /// only whether the width is used up.
     pub fn is_full(&self) -> bool
         ensures { (f : List ℕ) → HasTaken self.now f → IsProperShape (conversion_of self.now).shape
             → (IsTrue result ↔ ((b : ℕ) → b < 256 → CanTake (conversion_of self.now) (f ++ b ∷ []) → ⊥)) }

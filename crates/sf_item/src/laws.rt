@@ -16,8 +16,8 @@ pub fn widths_cut_items()
     ensures { WidthsCutItems }
 {}
 
-/// Each front of what can be taken can be taken; within the width an integer can always go on with a 0; and it is read one part after the
-/// other.
+/// Each front of what can be taken can be taken; within the width an integer can always go on with a 0; and it is read
+/// one part after the other.
 pub fn fronts_go_on()
     ensures front { FrontsCanBeTaken }
     ensures zero { IntegersGoOn }

@@ -38,7 +38,8 @@ pub fn reading_of(shape: &Shape) -> Reading<'_>
 
 // Reads one byte more, and tells so, if the item goes on with it.
 pub fn read_on(reading: &mut Reading<'_>, b: u8) -> bool
-    ensures next { (f : List ℕ) → HasRead reading.old f → ReadsNext reading.old (if result then Some reading.new else None) (f ++ b ∷ []) }
+    ensures next { (f : List ℕ) → HasRead reading.old f → ReadsNext reading.old
+        (if result then Some reading.new else None) (f ++ b ∷ []) }
     ensures refused { result ≡ false → reading.new ≡ reading.old }
 {
     match reading {
@@ -52,7 +53,8 @@ pub fn read_on(reading: &mut Reading<'_>, b: u8) -> bool
 // Reads the bytes of the piece, one after the other, as long as the item goes on with them, and answers how many.
 pub fn read_all(reading: &mut Reading<'_>, piece: &[u8]) -> usize
     ensures within { result ≤ length piece.now }
-    ensures read { (f : List ℕ) → HasRead reading.old f → ReadsNext reading.old (Some reading.new) (f ++ take result piece.now) }
+    ensures read { (f : List ℕ) → HasRead reading.old f → ReadsNext reading.old (Some reading.new)
+        (f ++ take result piece.now) }
     ensures stops { (f : List ℕ) → HasRead reading.old f → result < length piece.now
         → ReadsNext reading.old None (f ++ take (result + 1) piece.now) }
     ensures nothing { result ≡ 0 → reading.new ≡ reading.old }

@@ -35,8 +35,8 @@ pub struct WholeInteger {
     pub magnitude: u64,
 }
 
-/// How many bytes of a sign the bytes begin with, and whether it is a minus. Signs come unforeseen, so that a branch on them
-/// would cost more than both tests.
+/// How many bytes of a sign the bytes begin with, and whether it is a minus. Signs come unforeseen, so that a branch on
+/// them would cost more than both tests.
 #[inline(always)]
 fn sign(bytes: &[u8]) -> (usize, bool)
     ensures { SignOf bytes.now result.0 result.1 }
@@ -119,8 +119,8 @@ fn zeros_before(digits: &[u8]) -> usize
     digits.len()
 }
 
-/// Takes the decimal digits that the piece begins with, so many at most, and as many as surely fit in 64 bits: their number,
-/// and how many.
+/// Takes the decimal digits that the piece begins with, so many at most, and as many as surely fit in 64 bits: their
+/// number, and how many.
 #[inline(always)]
 fn decimal_digits(piece: &[u8], most: usize) -> (u64, usize)
     requires { most ≤ length piece.now }
@@ -172,13 +172,15 @@ fn decimal_number(digits: &[u8], piece: &[u8]) -> Option<(u64, usize)>
     Some((number, count))
 }
 
-/// Takes the hexadecimal digits that the piece begins with, as many as surely fit in 64 bits: their number, and how many.
+/// Takes the hexadecimal digits that the piece begins with, as many as surely fit in 64 bits: their number, and how
+/// many.
 #[inline(always)]
 fn hex_digits(piece: &[u8]) -> (u64, usize)
     ensures within { result.1 ≤ length piece.now }
     ensures read { ReadsIn 16 0 (take result.1 piece.now) result.0 }
     ensures few { result.1 ≤ SURE_HEX }
-    ensures stops { result.1 < SURE_HEX → result.1 < length piece.now → 16 ≤ digit_value (slice_index piece.now result.1) }
+    ensures stops { result.1 < SURE_HEX → result.1 < length piece.now
+        → 16 ≤ digit_value (slice_index piece.now result.1) }
 {
     let (mut number, first) = first_hex_digits(piece);
     if 0 < first && first < FIRST_HEX {
@@ -207,11 +209,11 @@ fn hex_number(digits: &[u8]) -> Option<(u64, usize)>
     Some((number, count))
 }
 
-/// The decimal integer that the piece begins with, of so many bytes at most, where it ends before a byte of the piece, so
-/// that what follows the piece does not matter. It is what as many `step`s take, and what `finish` then tells.
+/// The decimal integer that the piece begins with, of so many bytes at most, where it ends before a byte of the piece,
+/// so that what follows the piece does not matter. It is what as many `step`s take, and what `finish` then tells.
 ///
-/// None only where the piece begins with no integer, where it may go on behind the piece, and where its number is not below
-/// 2^64.
+/// None only where the piece begins with no integer, where it may go on behind the piece, and where its number is not
+/// below 2^64.
 #[inline(always)]
 pub fn whole_decimal(width: Option<u16>, piece: &[u8]) -> Option<WholeInteger>
     ensures { MatchOption result (NoneEndsWithin Dec width piece.now) (EndsWithin Dec width piece.now) }
@@ -261,12 +263,13 @@ fn is_zero_at(bytes: &[u8], at: usize) -> bool
     at < bytes.len() && bytes[at] == b'0'
 }
 
-/// As `whole_decimal`, of an integer whose radix its first digits show (C11 7.22.1.4p3), and which is decimal. None also
-/// where the first digit is a zero.
+/// As `whole_decimal`, of an integer whose radix its first digits show (C11 7.22.1.4p3), and which is decimal. None
+/// also where the first digit is a zero.
 #[inline(always)]
 pub fn whole_auto(base: Base, width: Option<u16>, piece: &[u8]) -> Option<WholeInteger>
     requires { first_radix base ≡ 10 }
-    ensures { MatchOption result (NoneEndsWithin base width piece.now ⊎ ZeroFirst piece.now) (EndsWithin base width piece.now) }
+    ensures { MatchOption result (NoneEndsWithin base width piece.now ⊎ ZeroFirst piece.now)
+        (EndsWithin base width piece.now) }
 {
     let front = cut(piece, width);
     let (start, negative) = sign(front);
@@ -287,8 +290,8 @@ pub fn whole_auto(base: Base, width: Option<u16>, piece: &[u8]) -> Option<WholeI
     })
 }
 
-/// How many bytes of the front of the piece stand before its first white space. Of a short front sixteen bytes of the piece
-/// are looked at, at once.
+/// How many bytes of the front of the piece stand before its first white space. Of a short front sixteen bytes of the
+/// piece are looked at, at once.
 #[inline(always)]
 fn text_within(front: &[u8], piece: &[u8]) -> usize
     requires { front.now ≡ take (length front.now) piece.now }
@@ -300,8 +303,8 @@ fn text_within(front: &[u8], piece: &[u8]) -> usize
     text_run(cut(piece, Some(SIGHT))).min(front.len())
 }
 
-/// How many bytes the item of a text, of members of a set or of characters has with which the piece begins, where it ends
-/// before a byte of the piece, so that what follows the piece does not matter. It is a matching sequence.
+/// How many bytes the item of a text, of members of a set or of characters has with which the piece begins, where it
+/// ends before a byte of the piece, so that what follows the piece does not matter. It is a matching sequence.
 ///
 /// None only where the piece begins with no such item, where it may go on behind the piece, and for an integer.
 #[inline(always)]

@@ -30,23 +30,30 @@ module _ (us : List PrintUnit) (ds : List Directive) (checked : IsChecked us ds)
       → (report ≡ read_back us ds values) × AreRowOf (length values) values report.values
   back within agree values z text fit low is report run =
       let own : RunWithin ds 1000 (printed us values ++ z) End report = subst (λ x. RunWithin ds 1000 x End report) is run in
-      let same : report ≡ read_back us ds values = within us ds checked.printed checked.scanned aligned values fit 1000 low z End report own in
-      (same, subst (λ (r : RunReport). AreRowOf (length values) values r.values) (sym same) (agree us ds checked.printed checked.scanned aligned values fit).row)
+      let same : report ≡ read_back us ds values = within us ds checked.printed checked.scanned aligned values fit 1000 low z End report
+      own in (
+        same,
+        subst (λ (r : RunReport). AreRowOf (length values) values r.values) (sym same)
+            (agree us ds checked.printed checked.scanned aligned values fit).row,
+      )
 
   pub some : PrintsSome → (values : List Datum) (z text : List ℕ) → Fit us ds values → text ≡ printed us values ++ z → 0 < length text
   some law values z text fit is =
       omega (arith, law us ds checked.printed checked.scanned aligned values fit, ap length is, length-append (printed us values) z)
 
-  pub nothing : AlignedEndsOnNothing → EachHasOneReport → (text : List ℕ) → text ≡ [] → (report : RunReport) → RunWithin ds 1000 text End report
+  pub nothing : AlignedEndsOnNothing → EachHasOneReport → (text : List ℕ) → text ≡ [] → (report : RunReport)
+      → RunWithin ds 1000 text End report
       → (report.status ≡ InputFailure) × (report.met ≡ Some End)
   nothing law one text is report run =
       let ends = law us ds checked.scanned aligned in
       let own = one ds checked.scanned.proper 1000 [] End in
       let same : report ≡ ends.report =
-      own.only report (subst (λ x. RunWithin ds 1000 x End report) is run) ∙ sym (own.only ends.report (inl (omega (arith, ends.used), ends.run))) in
+      own.only report (subst (λ x. RunWithin ds 1000 x End report) is run)
+      ∙ sym (own.only ends.report (inl (omega (arith, ends.used), ends.run))) in
       (ap (λ (r : RunReport). r.status) same ∙ ends.status, ap (λ (r : RunReport). r.met) same ∙ ends.met)
 
-  pub again : RoundTrip → EachHasOneReport → (values : List Datum) (text : List ℕ) → Fit us ds values → text ≡ printed us values → length text ≤ 1000
+  pub again : RoundTrip → EachHasOneReport → (values : List Datum) (text : List ℕ) → Fit us ds values → text ≡ printed us values
+      → length text ≤ 1000
       → (report : RunReport) → RunWithin ds 1000 text End report → report ≡ read_back us ds values
   again law one values text fit is low report run =
       let trip = law us ds checked.printed checked.scanned aligned values fit [] End in

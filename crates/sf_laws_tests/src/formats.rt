@@ -86,7 +86,8 @@ pub fn parsed_and_refused(alloc: Global, profile: Profile, text: &[u8]) -> Optio
 
 /// A text is parsed, or has a fault, or memory is refused.
 pub fn spelled_or_faulty(profile: Profile, text: &[u8])
-    ensures { ((ds : List Directive) × Spells profile text.now ds) ⊎ ((at : ℕ) × (why : FormatWhy) × Fault profile text.now at why) }
+    ensures { ((ds : List Directive) × Spells profile text.now ds)
+        ⊎ ((at : ℕ) × (why : FormatWhy) × Fault profile text.now at why) }
 {
     either();
 }
@@ -104,7 +105,8 @@ pub fn parsed_again(alloc: Global, profile: Profile, text: &[u8]) -> Option<Scan
 
 /// The slots of what was parsed are in order, where the text has no numbers.
 pub fn in_their_order(alloc: Global, profile: Profile, text: &[u8]) -> Option<ScanFormat>
-    ensures { IfSome result (λ format. (pieces : List Piece) × (text.now ≡ text_of pieces) × (ArePlaced (destinations pieces) → AreInOrder format)) }
+    ensures { IfSome result (λ format. (pieces : List Piece) × (text.now ≡ text_of pieces)
+        × (ArePlaced (destinations pieces) → AreInOrder format)) }
 {
     in_order();
     let Ok(format) = ScanFormat::parse(alloc, profile, text) else {

@@ -1,5 +1,5 @@
-//! Each law of the libraries, applied once to what public calls answered: what these functions ensure follows only where a caller
-//! can use the law.
+//! Each law of the libraries, applied once to what public calls answered: what these functions ensure follows only
+//! where a caller can use the law.
 #![tactic(auto)]
 
 mod formats;

@@ -29,13 +29,20 @@ use std::alloc::Global;
 /// The limit of these runs.
 const LIMIT: u32 = 1000;
 
-/// A text that begins with what the pair prints of values that fit is read back as these, and not one byte more is used.
+/// A text that begins with what the pair prints of values that fit is read back as these, and not one byte more is
+/// used.
 pub fn read_back(alloc: Global, pair: &Pair<'_>, text: &[u8]) -> Option<Scanned<HeapStore>>
-    ensures back { (values : List Datum) (z : List ℕ) → Fit pair.now.print pair.now.scan values → length (printed pair.now.print values) ≤ 1000
-        → text.now ≡ printed pair.now.print values ++ z → IfSome result (λ s. (s.report ≡ read_back pair.now.print pair.now.scan values) × AreRowOf (length values) values s.report.values) }
-    ensures some { (values : List Datum) (z : List ℕ) → Fit pair.now.print pair.now.scan values → text.now ≡ printed pair.now.print values ++ z → 0 < length text.now }
-    ensures held { IfSome result (λ s. (n : ℕ) → width_sum pair.now.scan ≡ Some n → length (texts_in s.report.values) ≤ n) }
-    ensures end { text.now ≡ [] → IfSome result (λ s. (s.report.status ≡ status.InputFailure) × (s.report.met ≡ Some ending.End)) }
+    ensures back { (values : List Datum) (z : List ℕ) → Fit pair.now.print pair.now.scan values
+        → length (printed pair.now.print values) ≤ 1000
+        → text.now ≡ printed pair.now.print values ++ z → IfSome result
+        (λ s. (s.report ≡ read_back pair.now.print pair.now.scan values)
+        × AreRowOf (length values) values s.report.values) }
+    ensures some { (values : List Datum) (z : List ℕ) → Fit pair.now.print pair.now.scan values
+        → text.now ≡ printed pair.now.print values ++ z → 0 < length text.now }
+    ensures held { IfSome result (λ s. (n : ℕ) → width_sum pair.now.scan ≡ Some n
+        → length (texts_in s.report.values) ≤ n) }
+    ensures end { text.now ≡ [] → IfSome result (λ s. (s.report.status ≡ status.InputFailure)
+        × (s.report.met ≡ Some ending.End)) }
 {
     aligned_is_accepted();
     aligned_is_bounded();
@@ -52,11 +59,13 @@ pub fn read_back(alloc: Global, pair: &Pair<'_>, text: &[u8]) -> Option<Scanned<
     Some(scanned)
 }
 
-/// Formats that no pair is made of, for an open end or a literal that is read on into: some byte is taken too, at one place.
+/// Formats that no pair is made of, for an open end or a literal that is read on into: some byte is taken too, at one
+/// place.
 pub fn refused_pair(print: &PrintFormat, scan: &ScanFormat) -> Option<PairFault>
     ensures open { IfSome result (λ fault. fault.why ≡ PairWhy.OpenEnd → IsOpenAt print.now scan.now fault.at) }
     ensures into { IfSome result (λ fault. fault.why ≡ PairWhy.RunsOn → IsRunInto print.now scan.now fault.at) }
-    ensures one { IfSome result (λ fault. (d e : Directive) (left other : List PrintUnit) → StopsAt print.now scan.now fault.at d left → StopsAt print.now scan.now fault.at e other → d ≡ e) }
+    ensures one { IfSome result (λ fault. (d e : Directive) (left other : List PrintUnit)
+        → StopsAt print.now scan.now fault.at d left → StopsAt print.now scan.now fault.at e other → d ≡ e) }
 {
     open_ends_are_open();
     literals_are_run_into();
@@ -69,8 +78,8 @@ pub fn refused_pair(print: &PrintFormat, scan: &ScanFormat) -> Option<PairFault>
     Some(fault)
 }
 
-/// Values that fit are read back by a run of their text alone: what the test of the pair says of them is the premise of the
-/// law.
+/// Values that fit are read back by a run of their text alone: what the test of the pair says of them is the premise of
+/// the law.
 pub fn read_again(
     alloc: Global,
     pair: &Pair<'_>,

@@ -61,7 +61,8 @@ pub fn on_longer_inputs(
 
 /// A text after which some byte would be consumed is used, where the limit lets it be.
 pub fn open_is_used(alloc: Global, format: &ScanFormat, text: &[u8]) -> Option<Scanned<HeapStore>>
-    ensures { IsSome (width_sum format.now) → IsOpen format.now text.now → IfSome result (λ s. s.report.status ≡ Done → s.report.used ≡ length text.now) }
+    ensures { IsSome (width_sum format.now) → IsOpen format.now text.now
+        → IfSome result (λ s. s.report.status ≡ Done → s.report.used ≡ length text.now) }
 {
     open_inputs_are_used();
     let _directives = format.directives();
@@ -85,9 +86,11 @@ pub fn has_row(alloc: Global, format: &ScanFormat, text: &[u8]) -> Option<Scanne
 
 /// A Done report is that of the steps that are computed, and that of the running totals.
 pub fn computed(alloc: Global, format: &ScanFormat, text: &[u8]) -> Option<Scanned<HeapStore>>
-    ensures values { IsSome (width_sum format.now) → IfSome result (λ s. s.report.status ≡ Done → s.report.values ≡ values (ran_of format.now text.now 0)) }
+    ensures values { IsSome (width_sum format.now) → IfSome result
+        (λ s. s.report.status ≡ Done → s.report.values ≡ values (ran_of format.now text.now 0)) }
     ensures told { run_of None format.now 1 nothing_yet text.now ≡ report_of (ran_of format.now text.now 0) None }
-    ensures step { (d : Directive) → format.now ≡ d ∷ [] → one_from d Skipping 0 text.now ≡ part_of 0 text.now (step_of d text.now 0) }
+    ensures step { (d : Directive) → format.now ≡ d ∷ []
+        → one_from d Skipping 0 text.now ≡ part_of 0 text.now (step_of d text.now 0) }
     ensures within { (d : Directive) → format.now ≡ d ∷ [] → (step_of d text.now 0).0 ≤ length text.now }
 {
     steps_are_computed();

@@ -20,8 +20,10 @@ pub fn two_scans<S: Source, const N: usize>(
     first: &ScanFormat,
     second: &ScanFormat,
 ) -> Option<(Scanned<HeapStore>, Scanned<HeapStore>)>
-    ensures { (t : List ℕ) → input_of S.to_come from.old ≡ Some t → IfSome result (λ both. (left : List ℕ) × (input_of S.to_come from.new ≡ Some left)
-        × RunsInTurn t (record { directives = first.now; limit = 1000; report = both.0.report } ∷ record { directives = second.now; limit = 1000; report = both.1.report } ∷ []) left) }
+    ensures { (t : List ℕ) → input_of S.to_come from.old ≡ Some t
+        → IfSome result (λ both. (left : List ℕ) × (input_of S.to_come from.new ≡ Some left)
+        × RunsInTurn t (record { directives = first.now; limit = 1000; report = both.0.report } ∷ record
+        { directives = second.now; limit = 1000; report = both.1.report } ∷ []) left) }
 {
     scans_are_runs::<S>();
     let Ok(before) = fscan(alloc, from, first, LIMIT) else {

@@ -89,8 +89,8 @@ fn ran_out<T: Store>(report: &Report<'_, T>) -> bool
 }
 
 /// Scans the line at once where it stands, in front of these bytes. It answers wherever the format is Done on them
-/// before one
-/// is lacking, the store has room for the texts, and the line is a match; else None, and the store may keep something.
+/// before one is lacking, the store has room for the texts, and the line is a match; else None, and the store may keep
+/// something.
 #[inline(always)]
 fn seen_match(
     store: &mut HeapStore,
@@ -216,8 +216,7 @@ pub(crate) fn tell<E: Teller<K>, K: Sink>(
 }
 
 /// Scans the line with this number, which stands in front of these bytes; writes what is made of it if it is a match,
-/// and else
-/// tells of it.
+/// and else tells of it.
 #[inline(always)]
 pub(crate) fn judge<R: RecordWriter, E: Teller<K>, K: Sink>(
     alloc: Global,

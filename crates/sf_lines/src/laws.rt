@@ -1,10 +1,8 @@
-//! Laws of lines.
-//! None of these functions does anything: its contract is the law.
+//! Laws of lines. None of these functions does anything: its contract is the law.
 ghost use Rattle.sf_lines.specs.Laws.{EachLineIsCut, LinesAreJoined, LinesHaveOneTurn, TextsAreCut};
 
 /// A text that begins with a line and its line end has that line first, and then the lines of the rest; a last line
-/// needs no
-/// line end, unless a read failed behind it.
+/// needs no line end, unless a read failed behind it.
 pub fn lines_are_cut()
     ensures { EachLineIsCut }
 {}
@@ -20,8 +18,7 @@ pub fn texts_are_cut()
 {}
 
 /// By formats that are accepted, something comes of the lines of an input, and nothing else: what `run_lines` writes,
-/// tells
-/// and answers is one thing for each input.
+/// tells and answers is one thing for each input.
 pub fn lines_have_one_turn()
     ensures { LinesHaveOneTurn }
 {}

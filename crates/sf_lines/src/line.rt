@@ -36,8 +36,7 @@ pub(crate) struct Piece {
 }
 
 /// Appends the first bytes of what is held to a line that was gathered so far, up to the limit, and says whether the
-/// line is
-/// longer.
+/// line is longer.
 fn gather(
     line: &mut Vec<u8>,
     held: &[u8],
@@ -92,10 +91,8 @@ pub(crate) fn piece_of(held: &[u8]) -> Piece
 }
 
 /// Reads the next line of what the lookahead holds and its source gives, without its line end, in place of what was
-/// read
-/// last. Of a line of more than `limit` bytes these first ones are read, and the others passed over; by the limit 0
-/// each line is
-/// passed over, and no memory is taken.
+/// read last. Of a line of more than `limit` bytes these first ones are read, and the others passed over; by the limit
+/// 0 each line is passed over, and no memory is taken.
 pub fn next_line<S: Source, const N: usize>(
     from: &mut Lookahead<S, N>,
     line: &mut Vec<u8>,

@@ -62,23 +62,16 @@ fn store_for(alloc: Global, formats: &[ScanFormat]) -> Result<HeapStore, AllocEr
     HeapStore::new(alloc, room_for(formats))
 }
 
-/// Scans each line of what the lookahead holds and its source gives as an input of its own, as C programs do with
-/// fgets and
-/// sscanf (C11 7.21.7.2, 7.21.6.7): up to byte 10, which is no part of it, or to the end of the input. The first of
-/// the
-/// formats that the line matches counts: that is Done on it, and, with `whole`, uses all of it. The writer writes what
-/// is
-/// made of that; the teller is told of a line that matches none, by what the last format comes to, or that has more
-/// than
-/// `limit` bytes, of which it is handed the first, and the loop stops there, unless it is to keep going; and where the
-/// teller
-/// is refused memory, it ends with that fault, and the line isn't counted. What is behind the lines that were read
-/// stays held or
-/// unread.
+/// Scans each line of what the lookahead holds and its source gives as an input of its own, as C programs do with fgets
+/// and sscanf (C11 7.21.7.2, 7.21.6.7): up to byte 10, which is no part of it, or to the end of the input. The first of
+/// the formats that the line matches counts: that is Done on it, and, with `whole`, uses all of it. The writer writes
+/// what is made of that; the teller is told of a line that matches none, by what the last format comes to, or that has
+/// more than `limit` bytes, of which it is handed the first, and the loop stops there, unless it is to keep going; and
+/// where the teller is refused memory, it ends with that fault, and the line isn't counted. What is behind the lines
+/// that were read stays held or unread.
 ///
-/// The status is 0 where each line is a match, 1 where one isn't, 3 where a read or the sink failed, and 4 where
-/// memory was
-/// refused.
+/// The status is 0 where each line is a match, 1 where one isn't, 3 where a read or the sink failed, and 4 where memory
+/// was refused.
 pub fn run_lines<R: RecordWriter, E: Teller<K>, S: Source, K: Sink, const N: usize>(
     alloc: Global,
     from: &mut Lookahead<S, N>,

@@ -144,8 +144,7 @@ fn pass_line<S: Source, const N: usize>(
 }
 
 /// Takes the line behind the first `before`. One that is to be skipped is passed over, and takes no memory. Any other
-/// is judged,
-/// where it stands if it is held whole: then it is not copied.
+/// is judged, where it stands if it is held whole: then it is not copied.
 pub(crate) fn turn<R: RecordWriter, E: Teller<K>, S: Source, K: Sink, const N: usize>(
     alloc: Global,
     from: &mut Lookahead<S, N>,

@@ -30,12 +30,14 @@ goes_by old new (Stops why) result a e = let never = sym e ∙ a.1.over_is in ab
 
 -- a row is that of the last run
 row_of : {S T : Type 0} (kinds : List Kind) (listed : T → List Datum) (advanced new : Loop S) (turn : Result Bool RecordFault) (row : T)
-    → RowAnswers kinds listed advanced new turn (Ok (Some row)) → (new ≡ advanced) × AreRowOf (length kinds) (listed row) advanced.report.values
+    → RowAnswers kinds listed advanced new turn (Ok (Some row)) → (new ≡ advanced)
+    × AreRowOf (length kinds) (listed row) advanced.report.values
 row_of kinds listed advanced new (Ok true) row a = a
 row_of kinds listed advanced new (Ok false) row a = absurd a
 row_of kinds listed advanced new (Err fault) row a = absurd a
 
-pub answers_are_records : {S T : Type 0} (to_come : S → Option (List ℕ)) (reads failures : S → ℕ) (N : ℕ) (kinds : List Kind) (listed : T → List Datum)
+pub answers_are_records : {S T : Type 0} (to_come : S → Option (List ℕ)) (reads failures : S → ℕ) (N : ℕ) (kinds : List Kind)
+    (listed : T → List Datum)
     → AnswersAreRecords to_come reads failures N kinds listed
 answers_are_records {S} to_come reads failures N kinds listed old new [] is t e =
     (t, refl, ap (λ (l : Loop S). input_of to_come l.ahead) (sym is) ∙ e)
@@ -45,8 +47,10 @@ answers_are_records {S} to_come reads failures N kinds listed old new (row ∷ r
     let goes = goes_by old after (turn_of after.report) next.turn next.is.advances (ap (λ (l : Loop S). l.over) (sym own.0) ∙ open') in
     let fine : is_fault after.report.met ≡ false = goes_on (outcome_of after.report) after.report.status after.report.met goes.0 in
     let scan = next.is.run.scan t e in
-    let rest : input_of to_come mid.ahead ≡ Some (drop after.report.used t) = ap (λ (l : Loop S). input_of to_come l.ahead) own.0 ∙ scan.rest in
-    let (left, records, last) = answers_are_records to_come reads failures N kinds listed mid new rows more (drop after.report.used t) rest in
+    let rest : input_of to_come mid.ahead ≡ Some (drop after.report.used t) =
+    ap (λ (l : Loop S). input_of to_come l.ahead) own.0 ∙ scan.rest in
+    let (left, records, last) = answers_are_records to_come reads failures N kinds listed mid new rows more
+    (drop after.report.used t) rest in
     let format : mid.format ≡ old.format = ap (λ (l : Loop S). l.format) own.0 ∙ goes.1 in
     let limit : mid.limit ≡ old.limit = ap (λ (l : Loop S). l.limit) own.0 ∙ goes.2 in
     let here : AreRecords kinds listed old.format old.limit (drop after.report.used t) rows left =

@@ -30,7 +30,8 @@ goes_done o status met e = grind arith
 cut_done : (o : Outcome) (status : Status) (met : Option Ending) → turn_for o status met ≡ Cut → status ≡ Done
 cut_done o status met e = grind arith
 
-true_done : {S : Type 0} (old new : Loop S) (turn : Turn) (result : Result Bool RecordFault) → Advances old new turn result → result ≡ Ok true
+true_done : {S : Type 0} (old new : Loop S) (turn : Turn) (result : Result Bool RecordFault) → Advances old new turn result
+    → result ≡ Ok true
     → (turn ≡ Goes) ⊎ (turn ≡ Cut)
 true_done old new Goes result a e = inl refl
 true_done old new Cut result a e = inr refl
@@ -38,7 +39,8 @@ true_done old new Ends result a e = absurd (true≢false (ok_is true false (sym 
 true_done old new (Stops why) result a e = let never = sym e ∙ a.0 in absurd cc
 
 -- the answer true comes of a run that is Done
-pub done_of : {S : Type 0} {to_come : S → Option (List ℕ)} {reads failures : S → ℕ} {N : ℕ} (old new : Loop S) (result : Result Bool RecordFault)
+pub done_of : {S : Type 0} {to_come : S → Option (List ℕ)} {reads failures : S → ℕ} {N : ℕ} (old new : Loop S)
+    (result : Result Bool RecordFault)
     → ((end : Option RecordFault) → old.over ≡ Some end → (new ≡ old) × (result ≡ ended_with false end))
     → (old.over ≡ None → IsNext to_come reads failures N old new result) → result ≡ Ok true
     → IsNext to_come reads failures N old new result × (new.report.status ≡ Done)
@@ -57,7 +59,8 @@ done_of {to_come = to_come} {reads = reads} {failures = failures} {N = N} old ne
     by (Some (Some fault)) ended = let never = sym e ∙ (over (Some fault) ended).1 in absurd cc
 
 -- its report has a value of its kind for each slot of the row
-pub given_row : {S : Type 0} {to_come : S → Option (List ℕ)} {reads failures : S → ℕ} {N : ℕ} (kinds : List Kind) (old new : Loop S) (result : Result Bool RecordFault)
+pub given_row : {S : Type 0} {to_come : S → Option (List ℕ)} {reads failures : S → ℕ} {N : ℕ} (kinds : List Kind) (old new : Loop S)
+    (result : Result Bool RecordFault)
     → ((end : Option RecordFault) → old.over ≡ Some end → (new ≡ old) × (result ≡ ended_with false end))
     → (old.over ≡ None → IsNext to_come reads failures N old new result) → result ≡ Ok true
     → new.format ≡ old.format → AreKinded new.format → HasShape kinds old.format → AreGiven kinds new.report.values
@@ -70,7 +73,8 @@ given_row {to_come = to_come} {reads = reads} {failures = failures} {N = N} kind
 
 pub as_row : {S T : Type 0} (to_come : S → Option (List ℕ)) (reads failures : S → ℕ) (N : ℕ) (kinds : List Kind) (listed : T → List Datum)
     (was old advanced new : Loop S) (turn : Result Bool RecordFault) (result : Result (Option T) RecordFault) → was ≡ old
-    → (was.over ≡ None → IsNext to_come reads failures N was advanced turn) → RowAnswers kinds listed advanced new turn result → old.over ≡ None
+    → (was.over ≡ None → IsNext to_come reads failures N was advanced turn) → RowAnswers kinds listed advanced new turn result
+    → old.over ≡ None
     → IsNextRow to_come reads failures N kinds listed old new result
 as_row {S = S} to_come reads failures N kinds listed was old advanced new turn result e next answers open' = record {
   advanced = advanced;
@@ -85,15 +89,19 @@ abbrev StaysOver : {S : Type 0} → Loop S → Loop S → Result Bool RecordFaul
 StaysOver was new result = (end : Option RecordFault) → was.over ≡ Some end → (new ≡ was) × (result ≡ ended_with false end)
 
 -- answers as it did
-pub over_false : {S T : Type 0} (was old new : Loop S) (result : Result Bool RecordFault) → was ≡ old → StaysOver was new result → result ≡ Ok false
-    → (end : Option RecordFault) → old.over ≡ Some end → (new ≡ old) × (let told : Result (Option T) RecordFault = Ok None in told ≡ ended_with None end)
+pub over_false : {S T : Type 0} (was old new : Loop S) (result : Result Bool RecordFault) → was ≡ old → StaysOver was new result
+    → result ≡ Ok false
+    → (end : Option RecordFault) → old.over ≡ Some end → (new ≡ old)
+    × (let told : Result (Option T) RecordFault = Ok None in told ≡ ended_with None end)
 over_false {S} was old new result same over e None h =
     ((over None (ap (λ (l : Loop S). l.over) same ∙ h)).0 ∙ same, refl)
 over_false {S} was old new result same over e (Some fault) h =
     let never = sym e ∙ (over (Some fault) (ap (λ (l : Loop S). l.over) same ∙ h)).1 in absurd cc
 
-pub over_fault : {S T : Type 0} (was old new : Loop S) (result : Result Bool RecordFault) (fault : RecordFault) → was ≡ old → StaysOver was new result → result ≡ Err fault
-    → (end : Option RecordFault) → old.over ≡ Some end → (new ≡ old) × (let told : Result (Option T) RecordFault = Err fault in told ≡ ended_with None end)
+pub over_fault : {S T : Type 0} (was old new : Loop S) (result : Result Bool RecordFault) (fault : RecordFault) → was ≡ old
+    → StaysOver was new result → result ≡ Err fault
+    → (end : Option RecordFault) → old.over ≡ Some end → (new ≡ old)
+    × (let told : Result (Option T) RecordFault = Err fault in told ≡ ended_with None end)
 over_fault {S} was old new result fault same over e None h =
     let never = sym e ∙ (over None (ap (λ (l : Loop S). l.over) same ∙ h)).1 in absurd cc
 over_fault {S} was old new result fault same over e (Some own) h =
@@ -102,7 +110,8 @@ over_fault {S} was old new result fault same over e (Some own) h =
     (both.0 ∙ same, ap Err is)
 
 -- and has no record
-pub over_never : {S : Type 0} (was old new : Loop S) (result : Result Bool RecordFault) → was ≡ old → StaysOver was new result → result ≡ Ok true
+pub over_never : {S : Type 0} (was old new : Loop S) (result : Result Bool RecordFault) → was ≡ old → StaysOver was new result
+    → result ≡ Ok true
     → (end : Option RecordFault) → old.over ≡ Some end → ⊥
 over_never {S} was old new result same over e None h =
     true≢false (ok_is true false (sym e ∙ (over None (ap (λ (l : Loop S). l.over) same ∙ h)).1))

@@ -17,9 +17,12 @@ use Rattle.sf_read.proofs.Holding.{held_scan}
 use Rattle.sf_read.proofs.Reading.{known_parts}
 use Rattle.sf_loops.specs.Runs.{IsNextRun}
 
-pub held_run : {S : Type 0} (to_come : S → Option (List ℕ)) (reads failures : S → ℕ) (N : ℕ) (ds : List Directive) (m : ℕ) (old new : Ahead S)
-    (lines lines' : ℕ) (report : RunReport) → ((z : List ℕ) (ending : Ending) → RunWithin ds m (old.held ++ z) ending report) → report.status ≡ Done
-    → report.met ≡ None → report.used ≤ length old.held → new.held ≡ drop report.used old.held → new.source ≡ old.source → new.at_end ≡ old.at_end
+pub held_run : {S : Type 0} (to_come : S → Option (List ℕ)) (reads failures : S → ℕ) (N : ℕ) (ds : List Directive) (m : ℕ)
+    (old new : Ahead S)
+    (lines lines' : ℕ) (report : RunReport) → ((z : List ℕ) (ending : Ending) → RunWithin ds m (old.held ++ z) ending report)
+    → report.status ≡ Done
+    → report.met ≡ None → report.used ≤ length old.held → new.held ≡ drop report.used old.held → new.source ≡ old.source
+    → new.at_end ≡ old.at_end
     → (new.at_end ≡ true → IsAtEnd (to_come new.source)) → lines' ≡ lines_after lines (take report.used old.held)
     → IsNextRun to_come reads failures N ds m old new lines lines' report
 held_run to_come reads failures N ds m old new lines lines' report run done met fits held source at_end told counted = record {

@@ -13,7 +13,8 @@ use Rattle.sf_loops.specs.Loops.{IsNextRow, Loop}
 use Rattle.sf_loops.specs.Turns.{turn_of}
 
 -- these rows were answered, one after the other, and the loop goes on
-abbrev pub AnswersInTurn : {S T : Type 0} → (S → Option (List ℕ)) → (S → ℕ) → (S → ℕ) → ℕ → List Kind → (T → List Datum) → Loop S → List T → Loop S → Type 0
+abbrev pub AnswersInTurn : {S T : Type 0} → (S → Option (List ℕ)) → (S → ℕ) → (S → ℕ) → ℕ → List Kind → (T → List Datum) → Loop S → List T
+    → Loop S → Type 0
 AnswersInTurn to_come reads failures N kinds listed old [] new = old ≡ new
 AnswersInTurn {S} to_come reads failures N kinds listed old (row ∷ rows) new =
     (mid : Loop S) × IsNextRow to_come reads failures N kinds listed old mid (Ok (Some row)) × (mid.over ≡ None)

@@ -51,13 +51,15 @@ pub record IsLoop {S : Type 0} (old new : Loop S) (answered : ℕ) (over : Optio
 -- By what the loop does after a run: whether there is a record, and how the loop goes on.
 abbrev pub Advances : {S : Type 0} → Loop S → Loop S → Turn → Result Bool RecordFault → Type 0
 Advances old new Goes result = (result ≡ Ok true) × IsLoop old new (counted_on old.answered) None
-Advances old new Cut result = (result ≡ Ok true) × IsLoop old new (counted_on old.answered) (Some (Some (fault_of old.answered new.lines why.Read)))
+Advances old new Cut result = (result ≡ Ok true) × IsLoop old new (counted_on old.answered)
+    (Some (Some (fault_of old.answered new.lines why.Read)))
 Advances old new Ends result = (result ≡ Ok false) × IsLoop old new old.answered (Some None)
 Advances old new (Stops why) result =
     (result ≡ Err (fault_of old.answered new.lines why)) × IsLoop old new old.answered (Some (Some (fault_of old.answered new.lines why)))
 
 -- there was one run, and the loop goes on or ends by it
-pub record IsNext {S : Type 0} (to_come : S → Option (List ℕ)) (reads failures : S → ℕ) (N : ℕ) (old new : Loop S) (result : Result Bool RecordFault) : Type 0 where
+pub record IsNext {S : Type 0} (to_come : S → Option (List ℕ)) (reads failures : S → ℕ) (N : ℕ) (old new : Loop S)
+    (result : Result Bool RecordFault) : Type 0 where
   pub run : IsNextRun to_come reads failures N old.format old.limit old.ahead new.ahead old.lines new.lines new.report
   pub advances : Advances old new (turn_of new.report) result
 
@@ -70,15 +72,18 @@ IsRowRefused advanced new fault =
     × (new ≡ record advanced { over = Some (Some fault) })
 
 -- by whether there is a record: its row, or memory for that was refused; or what the loop has ended with
-abbrev pub RowAnswers : {S T : Type 0} → List Kind → (T → List Datum) → Loop S → Loop S → Result Bool RecordFault → Result (Option T) RecordFault → Type 0
-RowAnswers kinds listed advanced new (Ok true) (Ok (Some row)) = (new ≡ advanced) × AreRowOf (length kinds) (listed row) advanced.report.values
+abbrev pub RowAnswers : {S T : Type 0} → List Kind → (T → List Datum) → Loop S → Loop S → Result Bool RecordFault
+    → Result (Option T) RecordFault → Type 0
+RowAnswers kinds listed advanced new (Ok true) (Ok (Some row)) =
+    (new ≡ advanced) × AreRowOf (length kinds) (listed row) advanced.report.values
 RowAnswers kinds listed advanced new (Ok true) (Err fault) = IsRowRefused advanced new fault
 RowAnswers kinds listed advanced new (Ok false) (Ok None) = new ≡ advanced
 RowAnswers kinds listed advanced new (Err fault) (Err told) = (told ≡ fault) × (new ≡ advanced)
 RowAnswers kinds listed advanced new _ _ = ⊥
 
 -- the next record as a row
-pub record IsNextRow {S T : Type 0} (to_come : S → Option (List ℕ)) (reads failures : S → ℕ) (N : ℕ) (kinds : List Kind) (listed : T → List Datum)
+pub record IsNextRow {S T : Type 0} (to_come : S → Option (List ℕ)) (reads failures : S → ℕ) (N : ℕ) (kinds : List Kind)
+    (listed : T → List Datum)
     (old new : Loop S) (result : Result (Option T) RecordFault) : Type 0 where
   pub advanced : Loop S
   pub turn : Result Bool RecordFault

@@ -13,7 +13,8 @@ use Rattle.sf_read.specs.Reads.{WaitedFor}
 use Rattle.sf_read.specs.Scan.{Scan, is_fault}
 
 -- A run by the format, under a limit, of what is held and to come; `lines` and `lines'` are the counts of newlines before and after.
-pub record IsNextRun {S : Type 0} (to_come : S → Option (List ℕ)) (reads failures : S → ℕ) (N : ℕ) (ds : List Directive) (m : ℕ) (old new : Ahead S)
+pub record IsNextRun {S : Type 0} (to_come : S → Option (List ℕ)) (reads failures : S → ℕ) (N : ℕ) (ds : List Directive) (m : ℕ)
+    (old new : Ahead S)
     (lines lines' : ℕ) (report : RunReport) : Type 0 where
   pub scan : (t : List ℕ) → input_of to_come old ≡ Some t → Scan to_come ds m t old new report
   -- the report is that of some input, also where the source doesn't tell its own

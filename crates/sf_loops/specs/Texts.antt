@@ -13,4 +13,5 @@ why_text why.Read = codes "read fault"
 why_text why.NoMemory = codes "out of memory"
 
 abbrev pub fault_text : RecordFault → List ℕ
-fault_text fault = codes "record " ++ (decimal fault.number ++ (codes ", line " ++ (decimal fault.line ++ (codes ": " ++ why_text fault.why))))
+fault_text fault = codes "record " ++ (decimal fault.number ++ (codes ", line " ++
+    (decimal fault.line ++ (codes ": " ++ why_text fault.why))))

@@ -13,8 +13,8 @@ use sf_read::{Lookahead, Source, count_newlines, fscan_counting};
 use sf_run::{Outcome, Scanned, quick_run};
 use std::alloc::Global;
 
-/// Runs the format over a record that is held whole, as `sf_read::fscan_held` does, and counts the newlines that the run
-/// consumes. None where the record isn't seen to be Done: then nothing was consumed.
+/// Runs the format over a record that is held whole, as `sf_read::fscan_held` does, and counts the newlines that the
+/// run consumes. None where the record isn't seen to be Done: then nothing was consumed.
 #[inline(always)]
 pub(crate) fn take_held<S: Source, const N: usize>(
     store: &mut HeapStore,
@@ -23,7 +23,8 @@ pub(crate) fn take_held<S: Source, const N: usize>(
     limit: u32,
     lines: &mut u64,
 ) -> Option<Outcome>
-    ensures run { IfSome result (λ outcome. IsNextRun S.to_come S.reads S.failures N format.now limit from.old from.new lines.old lines.new (report_by outcome store.new.values)) }
+    ensures run { IfSome result (λ outcome. IsNextRun S.to_come S.reads S.failures N format.now limit from.old from.new
+        lines.old lines.new (report_by outcome store.new.values)) }
     ensures room { capacity_of store.old ≤ capacity_of store.new }
     ensures none { IsNone result → from.new ≡ from.old }
     ensures uncounted { IsNone result → lines.new ≡ lines.old }
@@ -46,7 +47,8 @@ pub(crate) fn take_next<S: Source, const N: usize>(
 ) -> Scanned<HeapStore>
     requires limit { limit ≤ 2147483647 }
     requires room { unwrap_or (width_sum format.now) 0 ≤ capacity_of store }
-    ensures run { IsNextRun S.to_come S.reads S.failures N format.now limit from.old from.new lines.old lines.new result.report }
+    ensures run { IsNextRun S.to_come S.reads S.failures N format.now limit from.old from.new lines.old lines.new
+        result.report }
     ensures room { capacity_of store ≤ capacity_of result.kept }
 {
     match fscan_counting(alloc, store, from, format, limit, lines) {

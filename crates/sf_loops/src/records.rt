@@ -10,8 +10,8 @@ use sf_read::{Row, RowFault, ScanRowFault, Source, has_shape};
 use std::alloc::Global;
 use std::marker::{Model, PhantomData};
 
-/// A loop over the records of an input as rows: tuples of one to six values, or a type of the caller's. It ends where fscanf
-/// would return EOF at the end of the input (C11 7.21.6.2p16), or at the first record that is no match.
+/// A loop over the records of an input as rows: tuples of one to six values, or a type of the caller's. It ends where
+/// fscanf would return EOF at the end of the input (C11 7.21.6.2p16), or at the first record that is no match.
 ///
 /// `N` is how many bytes are read at once, at least 1. The store of a record is used again for the next one.
 #[derive(Drop)]
@@ -34,8 +34,8 @@ impl<'f, T: Row, S: Source, const N: usize> Model for Records<'f, T, S, N> {
 impl<'f, T: Row, S: Source, const N: usize> Records<'f, T, S, N> {
     /// The loop before the first record. Each run uses at most `limit` bytes.
     ///
-    /// Refuses with ShapeDiffers where the slots of the row and their kinds are not the destinations of the format and theirs;
-    /// then with Start: a limit above 2147483647 with BadLimit, and NoMemory where memory was refused.
+    /// Refuses with ShapeDiffers where the slots of the row and their kinds are not the destinations of the format and
+    /// theirs; then with Start: a limit above 2147483647 with BadLimit, and NoMemory where memory was refused.
     pub fn new(
         alloc: Global,
         source: S,
@@ -61,11 +61,13 @@ impl<'f, T: Row, S: Source, const N: usize> Records<'f, T, S, N> {
         }
     }
 
-    /// The row of the next record; None at the end of the input. After None, or a fault, it answers the same again. A record
-    /// that was complete when a read failed is answered, and the fault comes next.
+    /// The row of the next record; None at the end of the input. After None, or a fault, it answers the same again. A
+    /// record that was complete when a read failed is answered, and the fault comes next.
     pub fn next(&mut self) -> Result<Option<T>, RecordFault>
-        ensures over { (end : Option RecordFault) → self.old.over ≡ Some end → (self.new ≡ self.old) × (result ≡ ended_with None end) }
-        ensures next { self.old.over ≡ None → IsNextRow S.to_come S.reads S.failures N T.kinds T.listed self.old self.new result }
+        ensures over { (end : Option RecordFault) → self.old.over ≡ Some end
+            → (self.new ≡ self.old) × (result ≡ ended_with None end) }
+        ensures next { self.old.over ≡ None → IsNextRow S.to_come S.reads S.failures N T.kinds T.listed self.old
+            self.new result }
     {
         match self.reports.advance() {
             Ok(true) => {}

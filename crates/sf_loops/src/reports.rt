@@ -16,8 +16,8 @@ use sf_run::{MOST_BYTES, Outcome, Report, StartFault, Status};
 use std::alloc::Global;
 use std::marker::Model;
 
-/// A loop over the records of an input, by a format: each run is of what the one before it left. It ends where fscanf would
-/// return EOF at the end of the input (C11 7.21.6.2p16), or at the first record that is no match.
+/// A loop over the records of an input, by a format: each run is of what the one before it left. It ends where fscanf
+/// would return EOF at the end of the input (C11 7.21.6.2p16), or at the first record that is no match.
 ///
 /// `N` is how many bytes are read at once, at least 1. The store of a record is used again for the next one.
 #[derive(Drop)]
@@ -105,7 +105,8 @@ impl<'f, S: Source, const N: usize> Reports<'f, S, N> {
 
     /// Runs the format over the next record.
     fn scan(&mut self) -> Outcome
-        ensures run { IsNextRun S.to_come S.reads S.failures N self.old.format self.old.limit self.old.ahead self.new.ahead self.old.lines self.new.lines self.new.report }
+        ensures run { IsNextRun S.to_come S.reads S.failures N self.old.format self.old.limit self.old.ahead
+            self.new.ahead self.old.lines self.new.lines self.new.report }
         ensures outcome { result ≡ outcome_of self.new.report }
         ensures format { self.new.format ≡ self.old.format }
         ensures limit { self.new.limit ≡ self.old.limit }
@@ -151,10 +152,11 @@ impl<'f, S: Source, const N: usize> Reports<'f, S, N> {
         }
     }
 
-    /// Goes on to the next record, and says whether there is one; `report` has it then. After the end, or a fault, it answers
-    /// the same again. A record that was complete when a read failed is there, and the fault comes next.
+    /// Goes on to the next record, and says whether there is one; `report` has it then. After the end, or a fault, it
+    /// answers the same again. A record that was complete when a read failed is there, and the fault comes next.
     pub fn advance(&mut self) -> Result<bool, RecordFault>
-        ensures over { (end : Option RecordFault) → self.old.over ≡ Some end → (self.new ≡ self.old) × (result ≡ ended_with false end) }
+        ensures over { (end : Option RecordFault) → self.old.over ≡ Some end
+            → (self.new ≡ self.old) × (result ≡ ended_with false end) }
         ensures next { self.old.over ≡ None → IsNext S.to_come S.reads S.failures N self.old self.new result }
         ensures format { self.new.format ≡ self.old.format }
         ensures limit { self.new.limit ≡ self.old.limit }
@@ -201,7 +203,12 @@ impl<'f, S: Source, const N: usize> Reports<'f, S, N> {
 
     /// Ends the loop after a record whose row was refused for want of memory.
     pub(crate) fn refuse_row(&mut self) -> RecordFault
-        ensures fault { result ≡ record { number = self.old.answered; line = counted_on self.old.lines; why = RecordWhy.NoMemory } }
+        ensures fault { result ≡ record {
+          number = self.old.answered;
+          line = counted_on self.old.lines;
+          why =
+              RecordWhy.NoMemory;
+        } }
         ensures over { self.new ≡ record self.old { over = Some (Some result) } }
     {
         let fault = RecordFault {

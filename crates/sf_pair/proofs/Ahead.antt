@@ -88,7 +88,8 @@ at_unskipped d x y none (inr h) = absurd (true≢false (sym h.0 ∙ none))
 
 -- a run of white-space literals
 pub space_run : (values : List Datum) (group rest : List PrintUnit) (z : List ℕ) → AreSpace group
-    → drop (skip (printed (group ++ rest) values ++ z)) (printed (group ++ rest) values ++ z) ≡ drop (skip (printed rest values ++ z)) (printed rest values ++ z)
+    → drop (skip (printed (group ++ rest) values ++ z)) (printed (group ++ rest) values ++ z)
+    ≡ drop (skip (printed rest values ++ z)) (printed rest values ++ z)
 space_run values [] rest z h = refl
 space_run values (unit.Conv c ∷ group) rest z h = absurd h
 space_run values (unit.Byte b ∷ group) rest z h =
@@ -98,10 +99,12 @@ space_run values (unit.Byte b ∷ group) rest z h =
 -- ---- the first byte of what is to come
 
 -- the text of a group's conversion
-pub paired_text : (values : List Datum) (s : Conversion) (group rest : List PrintUnit) (next : Option Directive) (p : PairedReads values s group rest next)
+pub paired_text : (values : List Datum) (s : Conversion) (group rest : List PrintUnit) (next : Option Directive)
+    (p : PairedReads values s group rest next)
     → printed (group ++ rest) values ≡ value_text p.conversion p.value ++ printed rest values
 paired_text values s group rest next p =
-    ap (λ (g : List PrintUnit). printed (g ++ rest) values) p.group_is ∙ ap (λ (o : Option Datum). text_or_none p.conversion o ++ printed rest values) p.at
+    ap (λ (g : List PrintUnit). printed (g ++ rest) values) p.group_is
+    ∙ ap (λ (o : Option Datum). text_or_none p.conversion o ++ printed rest values) p.at
 
 pub record Begins (u : PrintUnit) (next : Option Directive) (xs : List ℕ) : Type 0 where
   pub first : FirstIn (first_of u next) xs
@@ -120,16 +123,19 @@ module _ (tried : EachByteIsTried) (values : List Datum) (z : List ℕ) where
   conv_space c us (unit.Byte b ∷ g) later e some h = cc
   conv_space c us (unit.Conv a ∷ g) later e some h = h
 
-  paired_begins : (s : Conversion) (c : PrintConv) (us group later : List PrintUnit) (next : Option Directive) → unit.Conv c ∷ us ≡ group ++ later → PairedReads values s group later next
+  paired_begins : (s : Conversion) (c : PrintConv) (us group later : List PrintUnit) (next : Option Directive)
+      → unit.Conv c ∷ us ≡ group ++ later → PairedReads values s group later next
       → Begins (unit.Conv c) (Some (directive.Conv s)) (printed (unit.Conv c ∷ us) values ++ z)
   paired_begins s c us group later next parts p =
       let e : unit.Conv c ∷ us ≡ unit.Conv p.conversion ∷ later = parts ∙ ap (λ (g : List PrintUnit). g ++ later) p.group_is in
       let same : p.conversion ≡ c = cc in
       let text : List ℕ = value_text p.conversion p.value in
       let whole : printed (unit.Conv c ∷ us) values ++ z ≡ text ++ (printed later values ++ z) =
-      ap (λ (us : List PrintUnit). printed us values ++ z) parts ∙ ap (λ (t : List ℕ). t ++ z) (paired_text values s group later next p) ∙ append_assoc text (printed later values) z in
+      ap (λ (us : List PrintUnit). printed us values ++ z) parts ∙ ap (λ (t : List ℕ). t ++ z) (paired_text values s group later next p)
+      ∙ append_assoc text (printed later values) z in
       let set : first_of (unit.Conv c) (Some (directive.Conv s)) ≡ first_by_letter p.conversion.letter p.conversion s.shape =
-      ap (λ (h : Shape). first_by_letter c.letter c h) (reads_assigned s p.conversion.slot p.slot) ∙ ap (λ (a : PrintConv). first_by_letter a.letter a s.shape) (sym same) in
+      ap (λ (h : Shape). first_by_letter c.letter c h) (reads_assigned s p.conversion.slot p.slot)
+      ∙ ap (λ (a : PrintConv). first_by_letter a.letter a s.shape) (sym same) in
       let F : ByteTest → Type 0 = λ t. FirstIn t (text ++ (printed later values ++ z)) in
       let G : List ℕ → Type 0 = λ xs. FirstIn (first_of (unit.Conv c) (Some (directive.Conv s))) xs in
       record {
@@ -137,15 +143,21 @@ module _ (tried : EachByteIsTried) (values : List Datum) (z : List ℕ) where
         byte = subst FirstByte (sym whole) (byte_append text (printed later values ++ z) _ p.back.first p.back.first_byte);
       }
 
-  literal_not_conv : (c : PrintConv) (us group later : List PrintUnit) (b : ℕ) → unit.Conv c ∷ us ≡ group ++ later → group ≡ unit.Byte b ∷ [] → ⊥
-  literal_not_conv c us group later b parts is = let e : unit.Conv c ∷ us ≡ unit.Byte b ∷ later = parts ∙ ap (λ (g : List PrintUnit). g ++ later) is in cc
+  literal_not_conv : (c : PrintConv) (us group later : List PrintUnit) (b : ℕ) → unit.Conv c ∷ us ≡ group ++ later
+      → group ≡ unit.Byte b ∷ [] → ⊥
+  literal_not_conv c us group later b parts is = let e : unit.Conv c ∷ us ≡ unit.Byte b ∷ later =
+      parts ∙ ap (λ (g : List PrintUnit). g ++ later) is in cc
 
-  pub rest_begins : (ds : List Directive) (u : PrintUnit) (us : List PrintUnit) → IsProperUnit u → FitCut values ds (u ∷ us) → Begins u (next_of ds) (printed (u ∷ us) values ++ z)
+  pub rest_begins : (ds : List Directive) (u : PrintUnit) (us : List PrintUnit) → IsProperUnit u → FitCut values ds (u ∷ us)
+      → Begins u (next_of ds) (printed (u ∷ us) values ++ z)
   rest_begins ds (unit.Byte b) us proper cut = record { first = eq-eqb b b refl; byte = proper }
   rest_begins [] (unit.Conv c) us proper cut = absurd cc
-  rest_begins (directive.Space ∷ ds) (unit.Conv c) us proper (group, later, parts, is, more) = absurd (conv_space c us group later parts is.0 is.1)
-  rest_begins (directive.Byte b ∷ ds) (unit.Conv c) us proper (group, later, parts, is, more) = absurd (literal_not_conv c us group later is.0 parts is.1)
-  rest_begins (directive.Percent ∷ ds) (unit.Conv c) us proper (group, later, parts, is, more) = absurd (literal_not_conv c us group later is.0 parts is.1)
+  rest_begins (directive.Space ∷ ds) (unit.Conv c) us proper (group, later, parts, is, more) =
+      absurd (conv_space c us group later parts is.0 is.1)
+  rest_begins (directive.Byte b ∷ ds) (unit.Conv c) us proper (group, later, parts, is, more) =
+      absurd (literal_not_conv c us group later is.0 parts is.1)
+  rest_begins (directive.Percent ∷ ds) (unit.Conv c) us proper (group, later, parts, is, more) =
+      absurd (literal_not_conv c us group later is.0 parts is.1)
   rest_begins (directive.Conv s ∷ ds) (unit.Conv c) us proper (group, later, parts, is, more) =
       elim is [
         | inl p ↦ paired_begins s c us group later (next_of ds) parts p
@@ -154,7 +166,8 @@ module _ (tried : EachByteIsTried) (values : List Datum) (z : List ℕ) where
 
   -- ---- what ends an item
 
-  pub closed_by : (c : PrintConv) (s : Conversion) (ds : List Directive) (rest : List PrintUnit) → AreProperUnits rest → FitCut values ds rest → closing_fault c s rest (reads (next_of ds)) ≡ None
+  pub closed_by : (c : PrintConv) (s : Conversion) (ds : List Directive) (rest : List PrintUnit) → AreProperUnits rest
+      → FitCut values ds rest → closing_fault c s rest (reads (next_of ds)) ≡ None
       → (always_full c s ≡ true) ⊎ FirstOut (stop_set s.shape c) (printed rest values ++ z)
   closed_by c s ds rest proper cut e = by (always_full c s) refl rest proper cut e
     where
@@ -162,21 +175,25 @@ module _ (tried : EachByteIsTried) (values : List Datum) (z : List ℕ) where
       apart true e = cc
       apart false e = refl
 
-      by : (t : Bool) → always_full c s ≡ t → (rest : List PrintUnit) → AreProperUnits rest → FitCut values ds rest → cond t None (follow_fault (stop_set s.shape c) rest (reads (next_of ds))) ≡ None
+      by : (t : Bool) → always_full c s ≡ t → (rest : List PrintUnit) → AreProperUnits rest → FitCut values ds rest
+          → cond t None (follow_fault (stop_set s.shape c) rest (reads (next_of ds))) ≡ None
           → (always_full c s ≡ true) ⊎ FirstOut (stop_set s.shape c) (printed rest values ++ z)
       by true is rest proper cut e = inl is
       by false is [] proper cut e = absurd cc
       by false is (u ∷ us) proper cut e =
           let b = rest_begins ds u us proper.0 cut in
-          inr (first_out tried (first_of u (next_of ds)) (stop_set s.shape c) (printed (u ∷ us) values ++ z) (apart (meet (first_of u (next_of ds)) (stop_set s.shape c)) e) b.byte b.first)
+          inr (first_out tried (first_of u (next_of ds)) (stop_set s.shape c) (printed (u ∷ us) values ++ z)
+          (apart (meet (first_of u (next_of ds)) (stop_set s.shape c)) e) b.byte b.first)
 
   -- ---- after white space
 
-  literal_unskipped : (group later us : List PrintUnit) (b : ℕ) → us ≡ group ++ later → group ≡ unit.Byte b ∷ [] → starts_with_space us ≡ false → skip (printed us values ++ z) ≡ 0
+  literal_unskipped : (group later us : List PrintUnit) (b : ℕ) → us ≡ group ++ later → group ≡ unit.Byte b ∷ []
+      → starts_with_space us ≡ false → skip (printed us values ++ z) ≡ 0
   literal_unskipped group later us b parts is start =
       let first : us ≡ unit.Byte b ∷ later = parts ∙ ap (λ (g : List PrintUnit). g ++ later) is in
       let ink : is_white b ≡ false = sym (ap starts_with_space first) ∙ start in
-      ap (λ (us : List PrintUnit). skip (printed us values ++ z)) first ∙ ap (λ (t : Bool). cond t (suc (skip (printed later values ++ z))) 0) ink
+      ap (λ (us : List PrintUnit). skip (printed us values ++ z)) first
+      ∙ ap (λ (t : Bool). cond t (suc (skip (printed later values ++ z))) 0) ink
 
   unskipped : (d : Directive) (xs : List ℕ) → skip xs ≡ 0 → At (Some d) (drop (skip xs) xs) xs
   unskipped d xs none = inl (ap (λ (k : ℕ). drop k xs) none)
@@ -193,7 +210,8 @@ module _ (tried : EachByteIsTried) (values : List Datum) (z : List ℕ) where
   not_met false m e h = absurd cc
 
   -- no white space stands first, or the next directive skips it
-  pub next_ready : (ds : List Directive) (rest : List PrintUnit) → AreProperUnits rest → FitCut values ds rest → starts_with_space rest ≡ false → space_fault rest (reads (next_of ds)) ≡ None
+  pub next_ready : (ds : List Directive) (rest : List PrintUnit) → AreProperUnits rest → FitCut values ds rest
+      → starts_with_space rest ≡ false → space_fault rest (reads (next_of ds)) ≡ None
       → At (next_of ds) (drop (skip (printed rest values ++ z)) (printed rest values ++ z)) (printed rest values ++ z)
   next_ready ds [] proper cut start fault = absurd cc
   next_ready [] (u ∷ us) proper cut start fault = absurd cc
@@ -207,10 +225,14 @@ module _ (tried : EachByteIsTried) (values : List Datum) (z : List ℕ) where
         | inr l ↦ unskipped (directive.Conv s) _ (literal_unskipped group later (u ∷ us) l.byte parts l.group_is start)
       ]
     where
-      paired : PairedReads values s group later (next_of ds) → (t : Bool) → shape_skips s.shape ≡ t → At (Some (directive.Conv s)) (drop (skip (printed (u ∷ us) values ++ z)) (printed (u ∷ us) values ++ z)) (printed (u ∷ us) values ++ z)
+      paired : PairedReads values s group later (next_of ds) → (t : Bool) → shape_skips s.shape ≡ t
+          → At (Some (directive.Conv s)) (drop (skip (printed (u ∷ us) values ++ z)) (printed (u ∷ us) values ++ z))
+          (printed (u ∷ us) values ++ z)
       paired p true e = inr (e, refl)
       paired p false e =
           let b = rest_begins (directive.Conv s ∷ ds) u us proper.0 (group, later, parts, is, more) in
-          let keeps_it : keeps_space (reads (Some (directive.Conv s))) ≡ true = ap keeps_space (reads_assigned s p.conversion.slot p.slot) ∙ keeps s.shape e p.no_count in
+          let keeps_it : keeps_space (reads (Some (directive.Conv s))) ≡ true =
+          ap keeps_space (reads_assigned s p.conversion.slot p.slot) ∙ keeps s.shape e p.no_count in
           let none : meet (first_of u (Some (directive.Conv s))) is_white ≡ false = not_met _ _ keeps_it fault in
-          unskipped (directive.Conv s) _ (first_unskipped (printed (u ∷ us) values ++ z) (first_out tried (first_of u (Some (directive.Conv s))) is_white (printed (u ∷ us) values ++ z) none b.byte b.first))
+          unskipped (directive.Conv s) _ (first_unskipped (printed (u ∷ us) values ++ z)
+          (first_out tried (first_of u (Some (directive.Conv s))) is_white (printed (u ∷ us) values ++ z) none b.byte b.first))

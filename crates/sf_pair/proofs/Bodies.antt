@@ -20,7 +20,14 @@ below_digits : (b : ℕ) → b < 48 → digit_value b ≡ 36
 below_digits b h = rw (lt-ltb b 48 h) refl
 
 above_letters : (b : ℕ) → 123 ≤ b → digit_value b ≡ 36
-above_letters b h = rw (le-ltb b 48 (omega arith), le-ltb b 58 (omega arith), le-ltb b 65 (omega arith), le-ltb b 91 (omega arith), le-ltb b 97 (omega arith), le-ltb b 123 h) refl
+above_letters b h = rw (
+  le-ltb b 48 (omega arith),
+  le-ltb b 58 (omega arith),
+  le-ltb b 65 (omega arith),
+  le-ltb b 91 (omega arith),
+  le-ltb b 97 (omega arith),
+  le-ltb b 123 h,
+) refl
 
 pub digit_above : (b : ℕ) → digit_value b < 16 → 48 ≤ b
 digit_above b h = by (ltb b 48) refl
@@ -154,7 +161,8 @@ pub record Body (c : PrintConv) (z : ℤ) : Type 0 where
   pub size : length body ≡ inner_zeros c (counted_length c z) + (lead + length (digits_of c z))
   pub enough : least_digits c ≤ lead + length (digits_of c z)
   pub of_zero : unsigned_abs z ≡ 0 → lead + length (digits_of c z) ≡ least_digits c
-  pub counted : counted_length c z ≡ hidden c z + length (bare_sign c z) + length (mark c (unsigned_abs z)) + (lead + length (digits_of c z))
+  pub counted : counted_length c z ≡ hidden c z + length (bare_sign c z) + length
+      (mark c (unsigned_abs z)) + (lead + length (digits_of c z))
 
 small_base : (l : PrintLetter) → (2 ≤ base_of l) × (base_of l ≤ 16)
 small_base letter.Octal = (omega arith, omega arith)
@@ -166,12 +174,19 @@ small_base _ = (omega arith, omega arith)
 no_padding : (c : PrintConv) (len : ℕ) → pads_with_zeros c ≡ false → inner_zeros c len ≡ 0
 no_padding c len e = ap (λ (t : Bool). cond t (c.width - len) 0) e
 
-counted_is : (c : PrintConv) (z : ℤ) (f : Filled c (unsigned_abs z)) → counted_length c z ≡ hidden c z + length (bare_sign c z) + length (mark c (unsigned_abs z)) + (f.lead + length (digits_of c z))
+counted_is : (c : PrintConv) (z : ℤ) (f : Filled c (unsigned_abs z))
+    → counted_length c z ≡ hidden c z + length (bare_sign c z) + length (mark c (unsigned_abs z)) + (f.lead + length (digits_of c z))
 counted_is c z f =
     let m : ℕ = unsigned_abs z in
     let signs : length (sign c z ++ mark c m) ≡ hidden c z + length (bare_sign c z) + length (mark c m) =
-    ap (λ (xs : List ℕ). length (xs ++ mark c m)) (sign_is c z) ∙ omega (arith, length-append (blanks (hidden c z) ++ bare_sign c z) (mark c m), length-append (blanks (hidden c z)) (bare_sign c z), length-replicate {A = ℕ} (hidden c z) 32) in
-    let ds : length (all_digits c m) ≡ f.lead + length (digits_of c z) = ap length f.is ∙ omega (arith, length-append (zeros f.lead) (digits_of c z), length-replicate {A = ℕ} f.lead 48) in
+    ap (λ (xs : List ℕ). length (xs ++ mark c m)) (sign_is c z) ∙ omega (
+      arith,
+      length-append (blanks (hidden c z) ++ bare_sign c z) (mark c m),
+      length-append (blanks (hidden c z)) (bare_sign c z),
+      length-replicate {A = ℕ} (hidden c z) 32,
+    ) in
+    let ds : length (all_digits c m) ≡ f.lead + length (digits_of c z) =
+    ap length f.is ∙ omega (arith, length-append (zeros f.lead) (digits_of c z), length-replicate {A = ℕ} f.lead 48) in
     omega (arith, signs, ds)
 
 pub body_of : LawsBelow → (c : PrintConv) (z : ℤ) → c.minus ≡ false → 0 < least_digits c → unsigned_abs z < 2 ^ 64 → Body c z
@@ -184,9 +199,14 @@ body_of laws c z right some small =
     let k : ℕ = inner_zeros c (counted_length c z) + f.lead in
     let body : List ℕ = zeros k ++ digits_of c z in
     let all : AllDigits (base_of c.letter) body = AllDigits-zeros (base_of c.letter) k (digits_of c z) (omega (arith, b.0)) n.numeral.1 in
-    let size : length body ≡ k + length (digits_of c z) = omega (arith, length-append (zeros k) (digits_of c z), length-replicate {A = ℕ} k 48) in
+    let size : length body ≡ k + length (digits_of c z) = omega (
+      arith,
+      length-append (zeros k) (digits_of c z),
+      length-replicate {A = ℕ} k 48,
+    ) in
     let t = parts_of c z f right in
-    let ink : StartsInk (bare_sign c z ++ (mark c m ++ body)) = sign_ink c z _ (mark_by _ c.letter body (numeral_ink (base_of c.letter) body b.1 (omega (arith, size, any)) all)) in
+    let ink : StartsInk (bare_sign c z ++ (mark c m ++ body)) = sign_ink c z _
+    (mark_by _ c.letter body (numeral_ink (base_of c.letter) body b.1 (omega (arith, size, any)) all)) in
     record {
       before = left_blanks c (counted_length c z) + hidden c z;
       before_is = refl;
@@ -195,9 +215,11 @@ body_of laws c z right some small =
       body = body;
       body_is = refl;
       text_is = t;
-      visible_is = ap without_blanks t ∙ without_some (left_blanks c (counted_length c z) + hidden c z) (bare_sign c z ++ (mark c m ++ body)) ink;
+      visible_is = ap without_blanks t ∙ without_some (left_blanks c (counted_length c z) + hidden c z)
+          (bare_sign c z ++ (mark c m ++ body)) ink;
       ink = ink;
-      first_byte = subst FirstByte (sym t) (blanks_byte (left_blanks c (counted_length c z) + hidden c z) _ (sign_byte c z _ (mark_byte _ c.letter body (numeral_byte (base_of c.letter) body b.1 all))));
+      first_byte = subst FirstByte (sym t) (blanks_byte (left_blanks c (counted_length c z) + hidden c z) _
+          (sign_byte c z _ (mark_byte _ c.letter body (numeral_byte (base_of c.letter) body b.1 all))));
       all = all;
       some = omega (arith, size, any);
       value = value-zeros (base_of c.letter) k (digits_of c z) ∙ n.value;

@@ -18,7 +18,8 @@ use Rattle.sf_pair.proofs.Whole.{round_trip}
 pub read_within : LawsBelow → ReadWithin
 read_within laws us ds accepted proper aligned values fit m fits z ending report run =
     let o = laws.reports ds proper.proper m _ ending in
-    o.only report run ∙ sym (o.only (read_back us ds values) (inl (fits, round_trip laws us ds accepted proper aligned values fit z ending)))
+    o.only report run ∙ sym (o.only (read_back us ds values) (inl
+    (fits, round_trip laws us ds accepted proper aligned values fit z ending)))
 
 both_some : (a b : Option ℕ) → IsSome a → IsSome b → IsSome (add_widths a b)
 both_some (Some m) (Some n) h k = refl
@@ -28,20 +29,23 @@ both_some (Some m) None h k = absurd cc
 some_of : (o : Option ℕ) (w : ℕ) → o ≡ Some w → IsSome o
 some_of o w e = ap is_some e
 
-by_shape : (s : Conversion) (h : Shape) → s.shape ≡ h → (is_chars h ≡ false → IsSome s.width) → HasItsWidth h s.width → IsSome (text_width h s.width)
+by_shape : (s : Conversion) (h : Shape) → s.shape ≡ h → (is_chars h ≡ false → IsSome s.width) → HasItsWidth h s.width
+    → IsSome (text_width h s.width)
 by_shape s (shape.Int base) e wide sized = refl
 by_shape s shape.Count e wide sized = refl
 by_shape s shape.Text e wide sized = wide refl
 by_shape s (shape.Set members) e wide sized = wide refl
 by_shape s shape.Chars e wide sized = sized
 
-stored_some : (d : Directive) (group rest : List PrintUnit) (next : Option Directive) → IsSized d → IsGroup d group rest next → IsSome (stored_width d)
+stored_some : (d : Directive) (group rest : List PrintUnit) (next : Option Directive) → IsSized d → IsGroup d group rest next
+    → IsSome (stored_width d)
 stored_some directive.Space group rest next sized is = refl
 stored_some (directive.Byte b) group rest next sized is = refl
 stored_some directive.Percent group rest next sized is = refl
 stored_some (directive.Conv s) group rest next sized is = by (is_count s.shape) s.slot refl is
   where
-    by : (count : Bool) (o : Option ℕ) → s.slot ≡ o → IsConversionGroup count (is_some o) s group rest next → IsSome {T = ℕ} (elim o [ None ↦ Some 0 | Some slot ↦ text_width s.shape s.width ])
+    by : (count : Bool) (o : Option ℕ) → s.slot ≡ o → IsConversionGroup count (is_some o) s group rest next
+        → IsSome {T = ℕ} (elim o [ None ↦ Some 0 | Some slot ↦ text_width s.shape s.width ])
     by count None e h = refl
     by true (Some k) e h = absurd h
     by false (Some k) e (c, group_is, pairing, closing) =
@@ -50,7 +54,8 @@ stored_some (directive.Conv s) group rest next sized is = by (is_count s.shape) 
 
 bounded : (ds : List Directive) (us : List PrintUnit) → AreSized ds → AreCut ds us → IsSome (width_sum ds)
 bounded [] us sized cut = refl
-bounded (d ∷ ds) us sized (group, rest, parts, is, more) = both_some (stored_width d) (width_sum ds) (stored_some d group rest (next_of ds) sized.0 is) (bounded ds rest sized.1 more)
+bounded (d ∷ ds) us sized (group, rest, parts, is, more) = both_some (stored_width d) (width_sum ds)
+    (stored_some d group rest (next_of ds) sized.0 is) (bounded ds rest sized.1 more)
 
 pub aligned_is_bounded : AlignedIsBounded
 aligned_is_bounded us ds proper aligned = bounded ds us proper.sized aligned.cut

@@ -33,7 +33,8 @@ digits_first r [] some all = absurd (omega arith)
 digits_first r (d ∷ ds) some all = lt-ltb (digit_value d) r all.0
 
 -- also behind the mark of a base
-marked_first : (t : Bool) (l : PrintLetter) (xs : List ℕ) → FirstIn (digits_in (base_of l)) xs → FirstIn (digits_in (base_of l)) (cond t (base_mark l) [] ++ xs)
+marked_first : (t : Bool) (l : PrintLetter) (xs : List ℕ) → FirstIn (digits_in (base_of l)) xs
+    → FirstIn (digits_in (base_of l)) (cond t (base_mark l) [] ++ xs)
 marked_first false l xs f = f
 marked_first true letter.HexLower xs f = refl
 marked_first true letter.HexUpper xs f = refl
@@ -50,7 +51,8 @@ plus_sign = 43 ∷ []
 abbrev by_flags : Bool → Bool → Bytes
 by_flags p b = cond p (only 43) (cond b (only 32) (digits_in 10))
 
-signed_first : (c : PrintConv) (z : ℤ) (xs : List ℕ) → FirstIn (digits_in 10) xs → FirstIn (or (only 45) (sign_or_digit c)) (blanks (hidden c z) ++ (bare_sign c z ++ xs))
+signed_first : (c : PrintConv) (z : ℤ) (xs : List ℕ) → FirstIn (digits_in 10) xs
+    → FirstIn (or (only 45) (sign_or_digit c)) (blanks (hidden c z) ++ (bare_sign c z ++ xs))
 signed_first c (negsuc n) xs f = refl
 signed_first c (pos n) xs f = by c.plus c.blank
   where
@@ -66,7 +68,8 @@ pub record NoSign (c : PrintConv) (z : ℤ) : Type 0 where
   pub number : ℕ
   pub value : z ≡ pos number
 
-unsigned_first : (set : Bytes) (c : PrintConv) (z : ℤ) (xs : List ℕ) → NoSign c z → FirstIn set xs → FirstIn set (blanks (hidden c z) ++ (bare_sign c z ++ xs))
+unsigned_first : (set : Bytes) (c : PrintConv) (z : ℤ) (xs : List ℕ) → NoSign c z → FirstIn set xs
+    → FirstIn set (blanks (hidden c z) ++ (bare_sign c z ++ xs))
 unsigned_first set c z xs n f =
     let G : ℤ → Type 0 = λ z. FirstIn set (blanks (hidden c z) ++ (bare_sign c z ++ xs)) in
     subst G (sym n.value) (by c.plus c.blank n.plus n.blank)
@@ -80,7 +83,8 @@ unsigned_first set c z xs n f =
 abbrev pub SignFits : PrintConv → ℤ → Type 0
 SignFits c z = (c.letter ≡ letter.Signed) ⊎ NoSign c z
 
-visible_first : (l : PrintLetter) (c : PrintConv) (z : ℤ) (xs : List ℕ) → (l ≡ letter.Signed) ⊎ NoSign c z → FirstIn (digits_in (base_of l)) xs → FirstIn (number_first l c) (blanks (hidden c z) ++ (bare_sign c z ++ xs))
+visible_first : (l : PrintLetter) (c : PrintConv) (z : ℤ) (xs : List ℕ) → (l ≡ letter.Signed) ⊎ NoSign c z
+    → FirstIn (digits_in (base_of l)) xs → FirstIn (number_first l c) (blanks (hidden c z) ++ (bare_sign c z ++ xs))
 visible_first letter.Signed c z xs s f = signed_first c z xs f
 visible_first letter.Unsigned c z xs (inr n) f = unsigned_first (digits_in 10) c z xs n f
 visible_first letter.Octal c z xs (inr n) f = unsigned_first (digits_in 8) c z xs n f
@@ -104,10 +108,12 @@ blank_padded c len k e = by c.minus (pads_with_zeros c) e
     some : (w : ℕ) → w - len ≡ suc k → ltb 0 w ≡ true
     some w e = lt-ltb 0 w (omega arith)
 
-    by : (m p : Bool) → cond m 0 (cond p 0 (c.width - len)) ≡ suc k → cond (ltb 0 c.width && not p) (or (only 32) (number_first c.letter c)) (number_first c.letter c) 32 ≡ true
+    by : (m p : Bool) → cond m 0 (cond p 0 (c.width - len)) ≡ suc k
+        → cond (ltb 0 c.width && not p) (or (only 32) (number_first c.letter c)) (number_first c.letter c) 32 ≡ true
     by true p e = absurd (omega arith)
     by false true e = absurd (omega arith)
-    by false false e = ap (λ (t : Bool). cond (t && true) (or (only 32) (number_first c.letter c)) (number_first c.letter c) 32) (some c.width e)
+    by false false e = ap (λ (t : Bool). cond (t && true) (or (only 32) (number_first c.letter c)) (number_first c.letter c) 32)
+        (some c.width e)
 
 pub integer_text_first : (c : PrintConv) (z : ℤ) (b : Body c z) → SignFits c z → FirstIn (integer_first c) (integer_text c z)
 integer_text_first c z b s =
@@ -115,9 +121,15 @@ integer_text_first c z b s =
     let xs : List ℕ = mark c m ++ b.body in
     let F : List ℕ → Type 0 = λ t. FirstIn (integer_first c) t in
     let G : ℕ → Type 0 = λ k. FirstIn (integer_first c) (blanks k ++ (bare_sign c z ++ xs)) in
-    let all : FirstIn (digits_in (base_of c.letter)) xs = marked_first _ c.letter b.body (digits_first (base_of c.letter) b.body b.some b.all) in
-    subst F (sym b.text_is) (subst G (sym b.before_is) (by xs (visible_first c.letter c z xs s all) (left_blanks c (counted_length c z)) refl))
+    let all : FirstIn (digits_in (base_of c.letter)) xs = marked_first _ c.letter b.body
+    (digits_first (base_of c.letter) b.body b.some b.all) in
+    subst F (sym b.text_is) (subst G (sym b.before_is) (by xs (visible_first c.letter c z xs s all)
+    (left_blanks c (counted_length c z)) refl))
   where
-    by : (xs : List ℕ) → FirstIn (number_first c.letter c) (blanks (hidden c z) ++ (bare_sign c z ++ xs)) → (l : ℕ) → left_blanks c (counted_length c z) ≡ l → FirstIn (integer_first c) (blanks (l + hidden c z) ++ (bare_sign c z ++ xs))
-    by xs f (suc l) e = let G : ℕ → Type 0 = λ k. FirstIn (integer_first c) (blanks k ++ (bare_sign c z ++ xs)) in let same : suc (l + hidden c z) ≡ suc l + hidden c z = omega arith in subst G same (blank_padded c _ l e)
-    by xs f zero e = let G : ℕ → Type 0 = λ k. FirstIn (integer_first c) (blanks k ++ (bare_sign c z ++ xs)) in let same : hidden c z ≡ zero + hidden c z = omega arith in subst G same (first_weaker (number_first c.letter c) (integer_first c) _ (number_then_integer c) f)
+    by : (xs : List ℕ) → FirstIn (number_first c.letter c) (blanks (hidden c z) ++ (bare_sign c z ++ xs)) → (l : ℕ)
+        → left_blanks c (counted_length c z) ≡ l → FirstIn (integer_first c) (blanks (l + hidden c z) ++ (bare_sign c z ++ xs))
+    by xs f (suc l) e = let G : ℕ → Type 0 = λ k. FirstIn (integer_first c) (blanks k ++ (bare_sign c z ++ xs)) in
+        let same : suc (l + hidden c z) ≡ suc l + hidden c z = omega arith in subst G same (blank_padded c _ l e)
+    by xs f zero e = let G : ℕ → Type 0 = λ k. FirstIn (integer_first c) (blanks k ++ (bare_sign c z ++ xs)) in
+        let same : hidden c z ≡ zero + hidden c z = omega arith in subst G same
+        (first_weaker (number_first c.letter c) (integer_first c) _ (number_then_integer c) f)

@@ -54,7 +54,8 @@ GroupReads values (directive.Conv s) group rest next = PairedReads values s grou
 
 abbrev pub FitCut : List Datum → List Directive → List PrintUnit → Type 0
 FitCut values [] us = us ≡ []
-FitCut values (d ∷ ds) us = (group : List PrintUnit) × (rest : List PrintUnit) × (us ≡ group ++ rest) × GroupReads values d group rest (next_of ds) × FitCut values ds rest
+FitCut values (d ∷ ds) us = (group : List PrintUnit) × (rest : List PrintUnit) × (us ≡ group ++ rest)
+    × GroupReads values d group rest (next_of ds) × FitCut values ds rest
 
 -- ---- lists of units
 
@@ -77,7 +78,8 @@ no_slot : (o : Option ℕ) → is_some o ≡ false → o ≡ None
 no_slot None e = refl
 no_slot (Some k) e = absurd cc
 
-suppressed_reads : (s : Conversion) (group : List PrintUnit) → is_some s.slot ≡ false → IsLiteral (suppressed_by s.shape s.width) group → LiteralReads s group
+suppressed_reads : (s : Conversion) (group : List PrintUnit) → is_some s.slot ≡ false → IsLiteral (suppressed_by s.shape s.width) group
+    → LiteralReads s group
 suppressed_reads s group slot (b, group_is, wanted) = by (is_width_one s.width) refl wanted
   where
     members : (h : Shape) → s.shape ≡ h → s.width ≡ Some 1 → members_of h b ≡ true → LiteralReads s group
@@ -114,26 +116,34 @@ module _ (laws : LawsBelow) (values : List Datum) where
       let G : List PrintConv → Type 0 = λ cs. AllFit values cs (assigned_conversions (d ∷ ds)) in
       subst F none (subst G e h)
 
-  literal_none : (d : Directive) (ds : List Directive) (group rest : List PrintUnit) (b : ℕ) → group ≡ unit.Byte b ∷ [] → assigned_by d ≡ None
-      → AllFit values (conversions (group ++ rest)) (assigned_conversions (d ∷ ds)) → AllFit values (conversions rest) (assigned_conversions ds)
-  literal_none d ds group rest b e none h = none_taken d ds (group ++ rest) rest (ap (λ (g : List PrintUnit). conversions (g ++ rest)) e) none h
+  literal_none : (d : Directive) (ds : List Directive) (group rest : List PrintUnit) (b : ℕ) → group ≡ unit.Byte b ∷ []
+      → assigned_by d ≡ None
+      → AllFit values (conversions (group ++ rest)) (assigned_conversions (d ∷ ds))
+      → AllFit values (conversions rest) (assigned_conversions ds)
+  literal_none d ds group rest b e none h = none_taken d ds (group ++ rest) rest
+      (ap (λ (g : List PrintUnit). conversions (g ++ rest)) e) none h
 
-  assigned_so : (s : Conversion) (o : Option ℕ) → is_some o ≡ true → ◌≡◌ {A = Option Conversion} (elim o [ None ↦ None | Some slot ↦ Some s ]) (Some s)
+  assigned_so : (s : Conversion) (o : Option ℕ) → is_some o ≡ true
+      → ◌≡◌ {A = Option Conversion} (elim o [ None ↦ None | Some slot ↦ Some s ]) (Some s)
   assigned_so s None e = absurd cc
   assigned_so s (Some k) e = refl
 
-  unassigned_so : (s : Conversion) (o : Option ℕ) → o ≡ None → ◌≡◌ {A = Option Conversion} (elim o [ None ↦ None | Some slot ↦ Some s ]) None
+  unassigned_so : (s : Conversion) (o : Option ℕ) → o ≡ None → ◌≡◌ {A = Option Conversion}
+      (elim o [ None ↦ None | Some slot ↦ Some s ]) None
   unassigned_so s None e = refl
   unassigned_so s (Some k) e = absurd cc
 
-  paired_reads : (s : Conversion) (ds : List Directive) (group rest : List PrintUnit) → is_some s.slot ≡ true → is_count s.shape ≡ false → IsPaired s group rest (next_of ds) → AreProperUnits (group ++ rest)
-      → IsProperWidth s.width → HasItsWidth s.shape s.width → AllFit values (conversions (group ++ rest)) (assigned_conversions (directive.Conv s ∷ ds))
+  paired_reads : (s : Conversion) (ds : List Directive) (group rest : List PrintUnit) → is_some s.slot ≡ true → is_count s.shape ≡ false
+      → IsPaired s group rest (next_of ds) → AreProperUnits (group ++ rest)
+      → IsProperWidth s.width → HasItsWidth s.shape s.width → AllFit values (conversions (group ++ rest))
+      (assigned_conversions (directive.Conv s ∷ ds))
       → PairedReads values s group rest (next_of ds) × AllFit values (conversions rest) (assigned_conversions ds)
   paired_reads s ds group rest assigned no_count (c, group_is, pairing, closing) units width sized fit =
       let F : Option Conversion → Type 0 = λ o. AllFit values (c ∷ conversions rest) (cons_option o (assigned_conversions ds)) in
       let G : List PrintUnit → Type 0 = λ g. AllFit values (conversions (g ++ rest)) (assigned_conversions (directive.Conv s ∷ ds)) in
       let H : List PrintUnit → Type 0 = λ g. AreProperUnits (g ++ rest) in
-      let all : FitsAt values c s × AllFit values (conversions rest) (assigned_conversions ds) = subst F (assigned_so s s.slot assigned) (subst G group_is fit) in
+      let all : FitsAt values c s × AllFit values (conversions rest) (assigned_conversions ds) =
+      subst F (assigned_so s s.slot assigned) (subst G group_is fit) in
       let proper : IsProperConv c × AreProperUnits rest = subst H group_is units in
       let p : Pairs c s = pairs c s pairing in (
         record {
@@ -150,20 +160,28 @@ module _ (laws : LawsBelow) (values : List Datum) where
         all.1,
       )
 
-  group_reads : (d : Directive) (ds : List Directive) (group rest : List PrintUnit) → IsProper d → IsSized d → AreProperUnits (group ++ rest) → IsGroup d group rest (next_of ds)
-      → AllFit values (conversions (group ++ rest)) (assigned_conversions (d ∷ ds)) → GroupReads values d group rest (next_of ds) × AllFit values (conversions rest) (assigned_conversions ds)
-  group_reads directive.Space ds group rest proper sized units is fit = (is, none_taken directive.Space ds (group ++ rest) rest (space_prints_none group rest is.1) refl fit)
-  group_reads (directive.Byte b) ds group rest proper sized units is fit = (is, literal_none (directive.Byte b) ds group rest is.0 is.1 refl fit)
-  group_reads directive.Percent ds group rest proper sized units is fit = (is, literal_none directive.Percent ds group rest is.0 is.1 refl fit)
+  group_reads : (d : Directive) (ds : List Directive) (group rest : List PrintUnit) → IsProper d → IsSized d
+      → AreProperUnits (group ++ rest) → IsGroup d group rest (next_of ds)
+      → AllFit values (conversions (group ++ rest)) (assigned_conversions (d ∷ ds))
+      → GroupReads values d group rest (next_of ds) × AllFit values (conversions rest) (assigned_conversions ds)
+  group_reads directive.Space ds group rest proper sized units is fit =
+      (is, none_taken directive.Space ds (group ++ rest) rest (space_prints_none group rest is.1) refl fit)
+  group_reads (directive.Byte b) ds group rest proper sized units is fit =
+      (is, literal_none (directive.Byte b) ds group rest is.0 is.1 refl fit)
+  group_reads directive.Percent ds group rest proper sized units is fit =
+      (is, literal_none directive.Percent ds group rest is.0 is.1 refl fit)
   group_reads (directive.Conv s) ds group rest proper sized units is fit = by (is_count s.shape) (is_some s.slot) refl refl is
     where
-      by : (count assigned : Bool) → is_count s.shape ≡ count → is_some s.slot ≡ assigned → IsConversionGroup count assigned s group rest (next_of ds)
+      by : (count assigned : Bool) → is_count s.shape ≡ count → is_some s.slot ≡ assigned
+          → IsConversionGroup count assigned s group rest (next_of ds)
           → GroupReads values (directive.Conv s) group rest (next_of ds) × AllFit values (conversions rest) (assigned_conversions ds)
       by true assigned c a h = absurd h
       by false true c a h = let r = paired_reads s ds group rest a c h units proper.1 sized fit in (inl r.0, r.1)
-      by false false c a h = let r = suppressed_reads s group a h in (inr r, literal_none (directive.Conv s) ds group rest r.byte r.group_is (unassigned_so s s.slot r.slot) fit)
+      by false false c a h = let r = suppressed_reads s group a h in
+          (inr r, literal_none (directive.Conv s) ds group rest r.byte r.group_is (unassigned_so s s.slot r.slot) fit)
 
-  pub fit_cut : (ds : List Directive) (us : List PrintUnit) → AreProper ds → AreSized ds → AreProperUnits us → AreCut ds us → AllFit values (conversions us) (assigned_conversions ds) → FitCut values ds us
+  pub fit_cut : (ds : List Directive) (us : List PrintUnit) → AreProper ds → AreSized ds → AreProperUnits us → AreCut ds us
+      → AllFit values (conversions us) (assigned_conversions ds) → FitCut values ds us
   fit_cut [] us proper sized units cut fit = cut
   fit_cut (d ∷ ds) us proper sized units (group, rest, parts, is, more) fit =
       let P : List PrintUnit → Type 0 = λ us. AreProperUnits us in

@@ -73,7 +73,8 @@ item_is test P each width bytes = (
       let k = and_both (nat_lt 0 (length bytes)) (nat_le (length bytes) width) h.0 in
       (lt_so 0 (length bytes) k.0, (all_is test P each bytes).0 h.1, le_so (length bytes) width k.1),
   λ h. and_so (nat_lt 0 (length bytes) && nat_le (length bytes) width) (list_all test bytes)
-      (and_so (nat_lt 0 (length bytes)) (nat_le (length bytes) width) (lt_true 0 (length bytes) h.0) (le_true (length bytes) width h.2)) ((all_is test P each bytes).1 h.1),
+      (and_so (nat_lt 0 (length bytes)) (nat_le (length bytes) width) (lt_true 0 (length bytes) h.0) (le_true (length bytes) width h.2))
+      ((all_is test P each bytes).1 h.1),
 )
 
 text_is : (read : Shape) (width : ℕ) (bytes : List ℕ) → text_fits read width bytes ≡ true ↔ TextFits read width bytes
@@ -106,13 +107,15 @@ value_is c s (Number k z) = (
       let g = and_both (same_kind k c.kind) (is_of_kind k z) h.0 in
       (kinds_are k c.kind g.0, (number_so (value_of k (is_negative z) (unsigned_abs z)) z).0 g.1, le_so _ _ h.1),
   λ h. and_so (same_kind k c.kind && is_of_kind k z) (nat_le (length (visible c z)) (width_of s))
-      (and_so (same_kind k c.kind) (is_of_kind k z) (ap (same_kind k) (sym h.0) ∙ same_itself k) ((number_so (value_of k (is_negative z) (unsigned_abs z)) z).1 h.1))
+      (and_so (same_kind k c.kind) (is_of_kind k z) (ap (same_kind k) (sym h.0) ∙ same_itself k)
+      ((number_so (value_of k (is_negative z) (unsigned_abs z)) z).1 h.1))
       (le_true _ _ h.2),
 )
 value_is c s (Bytes bytes) = (
   λ e. let h = and_both (list_all is_byte bytes) (text_fits s.shape (width_of s) bytes) e in
       ((all_is is_byte (λ b. b < 256) byte_is bytes).0 h.0, (text_is s.shape (width_of s) bytes).0 h.1),
-  λ h. and_so (list_all is_byte bytes) (text_fits s.shape (width_of s) bytes) ((all_is is_byte (λ b. b < 256) byte_is bytes).1 h.0) ((text_is s.shape (width_of s) bytes).1 h.1),
+  λ h. and_so (list_all is_byte bytes) (text_fits s.shape (width_of s) bytes) ((all_is is_byte (λ b. b < 256) byte_is bytes).1 h.0)
+      ((text_is s.shape (width_of s) bytes).1 h.1),
 )
 
 -- ---- the whole
@@ -122,21 +125,31 @@ at_is values c s = by (value_at values c.slot)
   where
     by : (o : Option Datum) → fits_or_not c s o ≡ true ↔ ((v : Datum) × (o ≡ Some v) × ValueFits c s v)
     by None = (λ e. absurd cc, λ h. absurd (let wrong : None ≡ Some h.0 = h.1 in cc))
-    by (Some v) = (λ e. (v, refl, (value_is c s v).0 e), λ h. (value_is c s v).1 (subst (ValueFits c s) (let same : h.0 ≡ v = (let e = h.1 in cc) in same) h.2))
+    by (Some v) = (
+      λ e. (v, refl, (value_is c s v).0 e),
+      λ h. (value_is c s v).1
+          (subst (ValueFits c s) (let same : h.0 ≡ v = (let e = h.1 in cc) in same) h.2),
+    )
 
 all_fit_is : (values : List Datum) (cs : List PrintConv) (ss : List Conversion) → all_fit values cs ss ≡ true ↔ AllFit values cs ss
 all_fit_is values [] [] = (λ e. tt, λ h. refl)
 all_fit_is values [] (s ∷ ss) = (λ e. absurd cc, λ h. absurd h)
 all_fit_is values (c ∷ cs) [] = (λ e. absurd cc, λ h. absurd h)
 all_fit_is values (c ∷ cs) (s ∷ ss) = (
-  λ e. let h = and_both (fits_or_not c s (value_at values c.slot)) (all_fit values cs ss) e in ((at_is values c s).0 h.0, (all_fit_is values cs ss).0 h.1),
-  λ h. and_so (fits_or_not c s (value_at values c.slot)) (all_fit values cs ss) ((at_is values c s).1 h.0) ((all_fit_is values cs ss).1 h.1),
+  λ e. let h = and_both (fits_or_not c s (value_at values c.slot)) (all_fit values cs ss) e in
+      ((at_is values c s).0 h.0, (all_fit_is values cs ss).0 h.1),
+  λ h. and_so (fits_or_not c s (value_at values c.slot)) (all_fit values cs ss) ((at_is values c s).1 h.0)
+      ((all_fit_is values cs ss).1 h.1),
 )
 
 pub fits_is_fit : FitsIsFit
 fits_is_fit us ds values = (
   λ e. let h = and_both (nat_eq (length values) (length (values_of us))) (all_fit values (conversions us) (assigned_conversions ds)) e in
-      record { count = eqb-true (length values) (length (values_of us)) h.0; each = (all_fit_is values (conversions us) (assigned_conversions ds)).0 h.1 },
+      record {
+        count = eqb-true (length values) (length (values_of us)) h.0;
+        each =
+            (all_fit_is values (conversions us) (assigned_conversions ds)).0 h.1;
+      },
   λ h. and_so (nat_eq (length values) (length (values_of us))) (all_fit values (conversions us) (assigned_conversions ds))
       (eq_true _ _ h.count) ((all_fit_is values (conversions us) (assigned_conversions ds)).1 h.each),
 )
@@ -145,31 +158,40 @@ fits_is_fit us ds values = (
 
 assigned_next : (ds : List Directive) (i : ℕ) (d : Directive) (o : Option Conversion) → drop i ds ≡ d ∷ drop (i + 1) ds → assigned_by d ≡ o
     → assigned_conversions (drop i ds) ≡ cons_option o (assigned_conversions (drop (i + 1) ds))
-assigned_next ds i d o e a = ap assigned_conversions e ∙ ap (λ (o : Option Conversion). cons_option o (assigned_conversions (drop (i + 1) ds))) a
+assigned_next ds i d o e a = ap assigned_conversions e ∙ ap (λ (o : Option Conversion). cons_option o
+    (assigned_conversions (drop (i + 1) ds))) a
 
-pub one_fits : (values : List Datum) (left rest : List PrintUnit) (c : PrintConv) (ds : List Directive) (i : ℕ) (d : Directive) (s : Conversion) → drop i ds ≡ d ∷ drop (i + 1) ds
+pub one_fits : (values : List Datum) (left rest : List PrintUnit) (c : PrintConv) (ds : List Directive) (i : ℕ) (d : Directive)
+    (s : Conversion) → drop i ds ≡ d ∷ drop (i + 1) ds
     → assigned_by d ≡ Some s → conversions left ≡ c ∷ conversions rest
-    → all_fit values (conversions left) (assigned_conversions (drop i ds)) ≡ (fits_or_not c s (value_at values c.slot) && all_fit values (conversions rest) (assigned_conversions (drop (i + 1) ds)))
+    → all_fit values (conversions left) (assigned_conversions (drop i ds))
+    ≡ (fits_or_not c s (value_at values c.slot) && all_fit values (conversions rest) (assigned_conversions (drop (i + 1) ds)))
 one_fits values left rest c ds i d s e a u = ap₂ (all_fit values) u (assigned_next ds i d (Some s) e a)
 
-pub none_left : (values : List Datum) (left : List PrintUnit) (ds : List Directive) (i : ℕ) (d : Directive) (s : Conversion) → drop i ds ≡ d ∷ drop (i + 1) ds
+pub none_left : (values : List Datum) (left : List PrintUnit) (ds : List Directive) (i : ℕ) (d : Directive) (s : Conversion)
+    → drop i ds ≡ d ∷ drop (i + 1) ds
     → assigned_by d ≡ Some s → conversions left ≡ [] → all_fit values (conversions left) (assigned_conversions (drop i ds)) ≡ false
 none_left values left ds i d s e a u = ap₂ (all_fit values) u (assigned_next ds i d (Some s) e a)
 
-pub none_assigned : (values : List Datum) (left : List PrintUnit) (ds : List Directive) (i : ℕ) (d : Directive) → drop i ds ≡ d ∷ drop (i + 1) ds → assigned_by d ≡ None
-    → all_fit values (conversions left) (assigned_conversions (drop i ds)) ≡ all_fit values (conversions left) (assigned_conversions (drop (i + 1) ds))
+pub none_assigned : (values : List Datum) (left : List PrintUnit) (ds : List Directive) (i : ℕ) (d : Directive)
+    → drop i ds ≡ d ∷ drop (i + 1) ds → assigned_by d ≡ None
+    → all_fit values (conversions left) (assigned_conversions (drop i ds))
+    ≡ all_fit values (conversions left) (assigned_conversions (drop (i + 1) ds))
 none_assigned values left ds i d e a = ap (all_fit values (conversions left)) (assigned_next ds i d None e a)
 
-pub none_fit : (values : List Datum) (cs : List PrintConv) (ss : List Conversion) (c : PrintConv) (s : Conversion) (x : Bool) → x ≡ fits_or_not c s (value_at values c.slot) → x ≡ false
+pub none_fit : (values : List Datum) (cs : List PrintConv) (ss : List Conversion) (c : PrintConv) (s : Conversion) (x : Bool)
+    → x ≡ fits_or_not c s (value_at values c.slot) → x ≡ false
     → (fits_or_not c s (value_at values c.slot) && all_fit values cs ss) ≡ false
 none_fit values cs ss c s x e f = ap (λ (t : Bool). t && all_fit values cs ss) (sym e ∙ f)
 
-pub some_fit : (values : List Datum) (cs : List PrintConv) (ss : List Conversion) (c : PrintConv) (s : Conversion) (x : Bool) → x ≡ fits_or_not c s (value_at values c.slot) → x ≡ true
+pub some_fit : (values : List Datum) (cs : List PrintConv) (ss : List Conversion) (c : PrintConv) (s : Conversion) (x : Bool)
+    → x ≡ fits_or_not c s (value_at values c.slot) → x ≡ true
     → (fits_or_not c s (value_at values c.slot) && all_fit values cs ss) ≡ all_fit values cs ss
 some_fit values cs ss c s x e f = ap (λ (t : Bool). t && all_fit values cs ss) (sym e ∙ f)
 
 -- no directive is left
-pub last : {A : Type 0} (o : Option A) (P : A → Type 0) (values : List Datum) (cs : List PrintConv) (r : Bool) → is_some o ≡ not r → MatchOption o (cs ≡ []) P
+pub last : {A : Type 0} (o : Option A) (P : A → Type 0) (values : List Datum) (cs : List PrintConv) (r : Bool) → is_some o ≡ not r
+    → MatchOption o (cs ≡ []) P
     → ((x : A) → P x → (c : PrintConv) × (rest : List PrintConv) × (cs ≡ c ∷ rest)) → r ≡ all_fit values cs []
 last None P values cs true e m h = sym (ap (λ (cs : List PrintConv). all_fit values cs []) m)
 last None P values cs false e m h = absurd cc
@@ -177,10 +199,12 @@ last (Some x) P values cs true e m h = absurd cc
 last (Some x) P values cs false e m h = sym (ap (λ (cs : List PrintConv). all_fit values cs []) (h x m).2)
 
 -- what the code tests, as the contract of a pair sees it
-pub fits_when : (us : List PrintUnit) (ds : List Directive) (f : Formats) (values : List Datum) (r : Bool) → record { print = us; scan = ds } ≡ f → length values ≡ length (values_of us)
+pub fits_when : (us : List PrintUnit) (ds : List Directive) (f : Formats) (values : List Datum) (r : Bool)
+    → record { print = us; scan = ds } ≡ f → length values ≡ length (values_of us)
     → r ≡ all_fit values (conversions us) (assigned_conversions ds) → (r ≡ true) ↔ Fit f.print f.scan values
 fits_when us ds f values r same count e =
-    let is : r ≡ fits us ds values = e ∙ sym (ap (λ (t : Bool). t && all_fit values (conversions us) (assigned_conversions ds)) (eq_true (length values) (length (values_of us)) count)) in
+    let is : r ≡ fits us ds values = e ∙ sym (ap (λ (t : Bool). t && all_fit values (conversions us) (assigned_conversions ds))
+    (eq_true (length values) (length (values_of us)) count)) in
     let d = fits_is_fit us ds values in (
       λ h. subst (λ (f : Formats). Fit f.print f.scan values) same (d.0 (sym is ∙ h)),
       λ h. is ∙ d.1 (subst (λ (f : Formats). Fit f.print f.scan values) (sym same) h),

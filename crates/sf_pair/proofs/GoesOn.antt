@@ -17,19 +17,25 @@ use Rattle.sf_pair.proofs.Numbers.{EndsIn}
 
 -- it is a digit; or the letter of a prefix, which may stand behind a lone 0 alone, or a 0 behind which the base isn't known yet
 abbrev pub Stops : Base → PrintConv → ℕ → Type 0
-Stops base c b = (is_digit b (first_radix base) ≡ true) ⊎ ((prefix_letters base b ≡ true) × ((is_auto (shape.Int base) ≡ true) ⊎ (length (least c) ≡ 1)))
+Stops base c b = (is_digit b (first_radix base) ≡ true) ⊎ ((prefix_letters base b ≡ true)
+    × ((is_auto (shape.Int base) ≡ true) ⊎ (length (least c) ≡ 1)))
 
 either_so : (x y : Bool) → (x || y) ≡ true → (x ≡ true) ⊎ (y ≡ true)
 either_so true y e = inl refl
 either_so false y e = inr e
 
 pub stops_so : (base : Base) (c : PrintConv) (b : ℕ) → stop_set (shape.Int base) c b ≡ true → Stops base c b
-stops_so base c b e = elim (either_so ((eqb (length (least c)) 1 || is_auto_base base) && prefix_letters base b) (is_digit b (first_radix base)) e) [
-  | inl h ↦ (
-      let k = both_so (eqb (length (least c)) 1 || is_auto_base base) (prefix_letters base b) h in
-      inr (k.1, elim (either_so (eqb (length (least c)) 1) (is_auto_base base) k.0) [ inl one ↦ inr (eqb-true (length (least c)) 1 one) | inr auto ↦ inl auto ]))
-  | inr h ↦ inl h
-]
+stops_so base c b e = elim (either_so ((eqb (length (least c)) 1 || is_auto_base base) && prefix_letters base b)
+    (is_digit b (first_radix base)) e) [
+      | inl h ↦ (
+          let k = both_so (eqb (length (least c)) 1 || is_auto_base base) (prefix_letters base b) h in
+          inr (
+            k.1,
+            elim (either_so (eqb (length (least c)) 1) (is_auto_base base) k.0)
+                [ inl one ↦ inr (eqb-true (length (least c)) 1 one) | inr auto ↦ inl auto ],
+          ))
+      | inr h ↦ inl h
+    ]
   where
     both_so : (x y : Bool) → (x && y) ≡ true → (x ≡ true) × (y ≡ true)
     both_so true y e = (refl, e)
@@ -37,7 +43,8 @@ stops_so base c b e = elim (either_so ((eqb (length (least c)) 1 || is_auto_base
 
 -- a 0 goes on after each integer
 pub zero_stops : (base : Base) (c : PrintConv) → stop_set (shape.Int base) c 48 ≡ true
-zero_stops base c = or_so ((eqb (length (least c)) 1 || is_auto_base base) && prefix_letters base 48) (is_digit 48 (first_radix base)) (zero_digit base)
+zero_stops base c = or_so ((eqb (length (least c)) 1 || is_auto_base base) && prefix_letters base 48) (is_digit 48 (first_radix base))
+    (zero_digit base)
   where
     or_so : (x y : Bool) → y ≡ true → (x || y) ≡ true
     or_so true y e = refl
@@ -66,17 +73,25 @@ digit_goes : (s : Bool) (r v b : ℕ) → is_digit b r ≡ true → is_some (wit
 digit_goes s r v b e = ap (λ (t : Bool). is_some (cond t (Some (Digits s r (v * r + digit_value b))) None)) e
 
 -- behind one 0: a letter of a prefix, or a digit of the radix that the base then has
-pub zero_goes : (base : Base) (s : Bool) (b : ℕ) → (prefix_letters base b ≡ true) ⊎ (is_digit b (zero_radix base) ≡ true) → is_some (advance base (Zero s) b) ≡ true
+pub zero_goes : (base : Base) (s : Bool) (b : ℕ) → (prefix_letters base b ≡ true) ⊎ (is_digit b (zero_radix base) ≡ true)
+    → is_some (advance base (Zero s) b) ≡ true
 zero_goes base s b h = by (prefix_radix base b) refl
   where
     by : (o : Option ℕ) → prefix_radix base b ≡ o → is_some (after_zero s (zero_radix base) b o) ≡ true
     by (Some r) e = refl
-    by None e = elim h [ inl letter ↦ (let wrong : true ≡ false = sym letter ∙ ap is_some e in absurd cc) | inr digit ↦ digit_goes s (zero_radix base) 0 b digit ]
+    by None e = elim h [
+      | inl letter ↦ (let wrong : true ≡ false = sym letter ∙ ap is_some e in absurd cc)
+      | inr digit ↦ digit_goes s
+          (zero_radix base) 0 b digit
+    ]
 
-pub digits_go : (base : Base) (s : Bool) (v : ℕ) (p : Progress) → p ≡ Digits s (first_radix base) v → (b : ℕ) → is_digit b (first_radix base) ≡ true → is_some (advance base p b) ≡ true
+pub digits_go : (base : Base) (s : Bool) (v : ℕ) (p : Progress) → p ≡ Digits s (first_radix base) v → (b : ℕ)
+    → is_digit b (first_radix base) ≡ true → is_some (advance base p b) ≡ true
 digits_go base s v p e b digit = ap (λ (q : Progress). is_some (advance base q b)) e ∙ digit_goes s (first_radix base) v b digit
 
 -- a digit is taken behind each end, where a 0 doesn't change the radix
-pub end_goes : (base : Base) (s : Bool) (p : Progress) → EndsIn base s p → zero_radix base ≡ first_radix base → (b : ℕ) → is_digit b (first_radix base) ≡ true → is_some (advance base p b) ≡ true
-end_goes base s p (inl e) same b digit = ap (λ (q : Progress). is_some (advance base q b)) e ∙ zero_goes base s b (inr (ap (is_digit b) same ∙ digit))
+pub end_goes : (base : Base) (s : Bool) (p : Progress) → EndsIn base s p → zero_radix base ≡ first_radix base → (b : ℕ)
+    → is_digit b (first_radix base) ≡ true → is_some (advance base p b) ≡ true
+end_goes base s p (inl e) same b digit = ap (λ (q : Progress). is_some (advance base q b)) e
+    ∙ zero_goes base s b (inr (ap (is_digit b) same ∙ digit))
 end_goes base s p (inr (v, e)) same b digit = digits_go base s v p e b digit

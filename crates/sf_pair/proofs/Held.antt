@@ -32,22 +32,27 @@ number_none : (c : Conversion) (at : ℕ) (o : Option ℤ) (slot : ℕ) (v : Dat
 number_none c at None slot v e = absurd cc
 number_none c at (Some z) slot v e = let same : v ≡ Number c.kind z = cc in ap (λ (v : Datum). length (text_in v)) same
 
-bytes_within : (o : Option ℕ) (at slot : ℕ) (item : List ℕ) (v : Datum) (a : ℕ) → Stores slot v ≡ Stores at (Bytes item) → o ≡ Some a → IfSome o (λ w. length item ≤ w) → length (text_in v) ≤ a
+bytes_within : (o : Option ℕ) (at slot : ℕ) (item : List ℕ) (v : Datum) (a : ℕ) → Stores slot v ≡ Stores at (Bytes item) → o ≡ Some a
+    → IfSome o (λ w. length item ≤ w) → length (text_in v) ≤ a
 bytes_within o at slot item v a e wide within =
     let same : v ≡ Bytes item = cc in
     let low : length item ≤ a = subst (λ (o : Option ℕ). IfSome o (λ w. length item ≤ w)) wide within in
     omega (arith, ap (λ (v : Datum). length (text_in v)) same)
 
-stored_within : (c : Conversion) (h : Shape) (at : ℕ) (item : List ℕ) (slot : ℕ) (v : Datum) (a : ℕ) → is_count h ≡ false → ItemStored c at h item (Stores slot v) → text_width h c.width ≡ Some a
+stored_within : (c : Conversion) (h : Shape) (at : ℕ) (item : List ℕ) (slot : ℕ) (v : Datum) (a : ℕ) → is_count h ≡ false
+    → ItemStored c at h item (Stores slot v) → text_width h c.width ≡ Some a
     → IfSome c.width (λ w. length item ≤ w) → length (text_in v) ≤ a
-stored_within c (shape.Int base) at item slot v a no_count (negative, m, is, stored) wide within = omega (arith, number_none c at (value_of c.kind negative m) slot v stored)
+stored_within c (shape.Int base) at item slot v a no_count (negative, m, is, stored) wide within =
+    omega (arith, number_none c at (value_of c.kind negative m) slot v stored)
 stored_within c shape.Count at item slot v a no_count e wide within = absurd cc
 stored_within c shape.Text at item slot v a no_count e wide within = bytes_within c.width at slot item v a e wide within
 stored_within c (shape.Set members) at item slot v a no_count e wide within = bytes_within c.width at slot item v a e wide within
 stored_within c shape.Chars at item slot v a no_count e wide within = bytes_within c.width at slot item v a e wide within
 
-passes_within : (c : Conversion) (o : Option ℕ) (item : List ℕ) (slot : ℕ) (v : Datum) (a : ℕ) → is_count c.shape ≡ false → ItemPasses c o item (Stores slot v)
-    → ◌≡◌ {A = Option ℕ} (elim o [ None ↦ Some 0 | Some at ↦ text_width c.shape c.width ]) (Some a) → IfSome c.width (λ w. length item ≤ w) → length (text_in v) ≤ a
+passes_within : (c : Conversion) (o : Option ℕ) (item : List ℕ) (slot : ℕ) (v : Datum) (a : ℕ) → is_count c.shape ≡ false
+    → ItemPasses c o item (Stores slot v)
+    → ◌≡◌ {A = Option ℕ} (elim o [ None ↦ Some 0 | Some at ↦ text_width c.shape c.width ]) (Some a) → IfSome c.width (λ w. length item ≤ w)
+    → length (text_in v) ≤ a
 passes_within c None item slot v a no_count e wide within = absurd cc
 passes_within c (Some at) item slot v a no_count stored wide within = stored_within c c.shape at item slot v a no_count stored wide within
 
@@ -60,29 +65,37 @@ empty_none [] slot v e = absurd cc
 empty_none (b ∷ y) slot v e = absurd cc
 
 ends_within : (c : Conversion) (y : List ℕ) (j slot : ℕ) (v : Datum) (a : ℕ) → is_count c.shape ≡ false → ItemEnds c y j (Stores slot v)
-    → ◌≡◌ {A = Option ℕ} (elim c.slot [ None ↦ Some 0 | Some at ↦ text_width c.shape c.width ]) (Some a) → IfSome c.width (λ w. j ≤ w) → length (text_in v) ≤ a
+    → ◌≡◌ {A = Option ℕ} (elim c.slot [ None ↦ Some 0 | Some at ↦ text_width c.shape c.width ]) (Some a) → IfSome c.width (λ w. j ≤ w)
+    → length (text_in v) ≤ a
 ends_within c y zero slot v a no_count is wide within = absurd (empty_none y slot v is)
-ends_within c y (suc j) slot v a no_count (inl is) wide within = passes_within c c.slot (take (suc j) y) slot v a no_count is.1 wide (shorter c.width y (suc j) within)
+ends_within c y (suc j) slot v a no_count (inl is) wide within =
+    passes_within c c.slot (take (suc j) y) slot v a no_count is.1 wide (shorter c.width y (suc j) within)
 ends_within c y (suc j) slot v a no_count (inr is) wide within = absurd (not_stored slot v (Fails _) is.1 tt)
 
 count_none : (c : Conversion) (o : Option ℕ) (n slot : ℕ) (v : Datum) → CountStep c o n (Stores slot v) → length (text_in v) ≡ 0
 count_none c None n slot v e = absurd cc
 count_none c (Some at) n slot v stored = number_none c at (value_of c.kind false n) slot v stored
 
-conversion_within : (c : Conversion) (h : Shape) (x : List ℕ) (n k slot : ℕ) (v : Datum) (a : ℕ) → c.shape ≡ h → ConversionStep c h x n k (Stores slot v)
+conversion_within : (c : Conversion) (h : Shape) (x : List ℕ) (n k slot : ℕ) (v : Datum) (a : ℕ) → c.shape ≡ h
+    → ConversionStep c h x n k (Stores slot v)
     → ◌≡◌ {A = Option ℕ} (elim c.slot [ None ↦ Some 0 | Some at ↦ text_width c.shape c.width ]) (Some a) → length (text_in v) ≤ a
 conversion_within c shape.Count x n k slot v a e is wide = omega (arith, count_none c c.slot n slot v is.1)
-conversion_within c (shape.Int base) x n k slot v a e (s, j, skipped, item, k_is, ends) wide = ends_within c (drop s x) j slot v a (ap is_count e) ends wide item.holds.1
-conversion_within c shape.Text x n k slot v a e (s, j, skipped, item, k_is, ends) wide = ends_within c (drop s x) j slot v a (ap is_count e) ends wide item.holds.1
-conversion_within c (shape.Set members) x n k slot v a e (s, j, skipped, item, k_is, ends) wide = ends_within c (drop s x) j slot v a (ap is_count e) ends wide item.holds.1
-conversion_within c shape.Chars x n k slot v a e (s, j, skipped, item, k_is, ends) wide = ends_within c (drop s x) j slot v a (ap is_count e) ends wide item.holds.1
+conversion_within c (shape.Int base) x n k slot v a e (s, j, skipped, item, k_is, ends) wide =
+    ends_within c (drop s x) j slot v a (ap is_count e) ends wide item.holds.1
+conversion_within c shape.Text x n k slot v a e (s, j, skipped, item, k_is, ends) wide =
+    ends_within c (drop s x) j slot v a (ap is_count e) ends wide item.holds.1
+conversion_within c (shape.Set members) x n k slot v a e (s, j, skipped, item, k_is, ends) wide =
+    ends_within c (drop s x) j slot v a (ap is_count e) ends wide item.holds.1
+conversion_within c shape.Chars x n k slot v a e (s, j, skipped, item, k_is, ends) wide =
+    ends_within c (drop s x) j slot v a (ap is_count e) ends wide item.holds.1
 
 byte_none : (b : ℕ) (x : List ℕ) (k slot : ℕ) (v : Datum) → Step (directive.Byte b) x 0 k (Stores slot v) → ⊥
 byte_none b [] k slot v e = not_stored slot v (Fails _) e.1 tt
 byte_none b (y ∷ x) k slot v (inl e) = not_stored slot v Passes e.2 tt
 byte_none b (y ∷ x) k slot v (inr e) = not_stored slot v (Fails _) e.2 tt
 
-step_within : (d : Directive) (x : List ℕ) (n k slot : ℕ) (v : Datum) (a : ℕ) → Step d x n k (Stores slot v) → stored_width d ≡ Some a → length (text_in v) ≤ a
+step_within : (d : Directive) (x : List ℕ) (n k slot : ℕ) (v : Datum) (a : ℕ) → Step d x n k (Stores slot v) → stored_width d ≡ Some a
+    → length (text_in v) ≤ a
 step_within directive.Space x n k slot v a is wide = absurd (not_stored slot v Passes is.1 tt)
 step_within (directive.Byte b) x n k slot v a is wide = absurd (byte_none b x k slot v is)
 step_within directive.Percent x n k slot v a (s, j, skipped, is, k_is) wide = absurd (byte_none 37 (drop s x) j slot v is)
@@ -102,7 +115,8 @@ parts (Some m) (Some n) w e = record { first = m; rest = n; first_is = refl; res
 parts None p w e = absurd cc
 parts (Some m) None w e = absurd cc
 
-held : (ds : List Directive) (x : List ℕ) (n : ℕ) (ran : List Ran) → Steps ds x n ran → (w : ℕ) → width_sum ds ≡ Some w → length (texts_in (values ran)) ≤ w
+held : (ds : List Directive) (x : List ℕ) (n : ℕ) (ran : List Ran) → Steps ds x n ran → (w : ℕ) → width_sum ds ≡ Some w
+    → length (texts_in (values ran)) ≤ w
 held [] x n [] steps w e = omega arith
 held [] x n (r ∷ ran) steps w e = absurd steps
 held (d ∷ ds) x n [] steps w e = absurd steps
@@ -110,16 +124,27 @@ held (d ∷ ds) x n (r ∷ ran) (same, step, more) w e =
     let p = parts (stored_width d) (width_sum ds) w e in
     by p r.end refl step more (λ rest. held ds (drop r.bytes x) (n + r.bytes) ran rest p.rest p.rest_is)
   where
-    by : (p : Parts (stored_width d) (width_sum ds) w) (end : StepEnd) → r.end ≡ end → Step d x n r.bytes end → GoesOn end (Steps ds (drop r.bytes x) (n + r.bytes) ran) ran
+    by : (p : Parts (stored_width d) (width_sum ds) w) (end : StepEnd) → r.end ≡ end → Step d x n r.bytes end
+        → GoesOn end (Steps ds (drop r.bytes x) (n + r.bytes) ran) ran
         → (Steps ds (drop r.bytes x) (n + r.bytes) ran → length (texts_in (values ran)) ≤ p.rest) → length (texts_in (values (r ∷ ran))) ≤ w
     by p Passes is step more later =
-        let e = ap (λ (end : StepEnd). length (texts_in (values (record { directive = r.directive; bytes = r.bytes; end = end } ∷ ran)))) is in
+        let e = ap (λ (end : StepEnd). length (texts_in (values (record { directive = r.directive; bytes = r.bytes; end = end } ∷ ran))))
+        is in
         omega (arith, p.sum, later more, e)
     by p (Stores slot v) is step more later =
-        let e = ap (λ (end : StepEnd). length (texts_in (values (record { directive = r.directive; bytes = r.bytes; end = end } ∷ ran)))) is in
-        omega (arith, p.sum, later more, e, length-append (text_in v) (texts_in (values ran)), step_within d x n r.bytes slot v p.first step p.first_is)
+        let e = ap (λ (end : StepEnd). length (texts_in (values (record { directive = r.directive; bytes = r.bytes; end = end } ∷ ran))))
+        is in
+        omega (
+          arith,
+          p.sum,
+          later more,
+          e,
+          length-append (text_in v) (texts_in (values ran)),
+          step_within d x n r.bytes slot v p.first step p.first_is,
+        )
     by p (Fails status) is step more later =
-        let e = ap (λ (end : StepEnd). length (texts_in (values (record { directive = r.directive; bytes = r.bytes; end = end } ∷ ran)))) is in
+        let e = ap (λ (end : StepEnd). length (texts_in (values (record { directive = r.directive; bytes = r.bytes; end = end } ∷ ran))))
+        is in
         let none = ap (λ (ran : List Ran). length (texts_in (values ran))) more in
         omega (arith, e, none)
 
@@ -131,24 +156,37 @@ front_held (r ∷ before) more = by (value_stored r) (front_held before more)
     by : (o : Option Assigned) → length (texts_in (values before)) ≤ length (texts_in (values (before ++ more)))
         → length (texts_in (cons_option o (values before))) ≤ length (texts_in (cons_option o (values (before ++ more))))
     by None h = h
-    by (Some a) h = omega (arith, h, length-append (text_in a.datum) (texts_in (values before)), length-append (text_in a.datum) (texts_in (values (before ++ more))))
+    by (Some a) h = omega (
+      arith,
+      h,
+      length-append (text_in a.datum) (texts_in (values before)),
+      length-append (text_in a.datum) (texts_in (values (before ++ more))),
+    )
 
 abbrev values_held : RunReport → ℕ
 values_held report = length (texts_in report.values)
 
-cut_held : (ds : List Directive) (x : List ℕ) (k : ℕ) (before : List Ran) → IsCut ds x k before → (n : ℕ) → width_sum ds ≡ Some n → length (texts_in (values before)) ≤ n
-cut_held ds x k before cut n e = omega (arith, front_held before (cut.cut ∷ cut.rest), held ds x 0 (before ++ (cut.cut ∷ cut.rest)) cut.steps n e)
+cut_held : (ds : List Directive) (x : List ℕ) (k : ℕ) (before : List Ran) → IsCut ds x k before → (n : ℕ) → width_sum ds ≡ Some n
+    → length (texts_in (values before)) ≤ n
+cut_held ds x k before cut n e = omega (
+  arith,
+  front_held before (cut.cut ∷ cut.rest),
+  held ds x 0 (before ++ (cut.cut ∷ cut.rest)) cut.steps n e,
+)
 
-within_held : (ds : List Directive) (m : ℕ) (x : List ℕ) (ending : Ending) (report : RunReport) → RunWithin ds m x ending report → (n : ℕ) → width_sum ds ≡ Some n → values_held report ≤ n
+within_held : (ds : List Directive) (m : ℕ) (x : List ℕ) (ending : Ending) (report : RunReport) → RunWithin ds m x ending report → (n : ℕ)
+    → width_sum ds ≡ Some n → values_held report ≤ n
 within_held ds m x ending report (inl (short, run)) n e = omega (arith, held ds x 0 run.0 run.1 n e, ap values_held run.4)
 within_held ds m x ending report (inr (before, cut, is)) n e = omega (arith, cut_held ds x m before cut n e, ap values_held is)
 
 pub held_is_bounded : HeldIsBounded
 held_is_bounded ds m x ending report (inl told) n e = within_held ds m x ending report told n e
-held_is_bounded ds m x ending report (inr (k, low, (before, cut, stores, is))) n e = omega (arith, cut_held ds x k before cut n e, ap values_held is)
+held_is_bounded ds m x ending report (inr (k, low, (before, cut, stores, is))) n e =
+    omega (arith, cut_held ds x k before cut n e, ap values_held is)
 
 -- as the contract of a pair sees it
-pub told_held : {E : Type 0} (r : Result StoredReport E) (ds : List Directive) (m : ℕ) → IfOk r (λ s. (x : List ℕ) × (ending : Ending) × RunTold ds m x ending s.report)
+pub told_held : {E : Type 0} (r : Result StoredReport E) (ds : List Directive) (m : ℕ)
+    → IfOk r (λ s. (x : List ℕ) × (ending : Ending) × RunTold ds m x ending s.report)
     → IfOk r (λ s. (n : ℕ) → width_sum ds ≡ Some n → length (texts_in s.report.values) ≤ n)
 told_held (Ok s) ds m told = λ n e. held_is_bounded ds m told.0 told.1 s.report told.2 n e
 told_held (Err f) ds m told = tt

@@ -48,7 +48,8 @@ count_pairs_none letter.Text e = cc
 count_pairs_none letter.One e = cc
 count_pairs_none _ e = cc
 
-module _ (laws : LawsBelow) (c : PrintConv) (s : Conversion) (proper : IsProperConv c) (scan : IsProper (directive.Conv s)) (sized : HasItsWidth s.shape s.width)
+module _ (laws : LawsBelow) (c : PrintConv) (s : Conversion) (proper : IsProperConv c) (scan : IsProper (directive.Conv s))
+    (sized : HasItsWidth s.shape s.width)
     (p : Pairs c s) (assigned : is_some s.slot ≡ true) (not_full : always_full c s ≡ false) where
   -- a text of that one byte goes on with it
   text_into : (no_integer : is_integer s.shape ≡ false) (no_chars : is_chars s.shape ≡ false) (b : ℕ) → b < 256 → StoresItem s.shape
@@ -56,15 +57,18 @@ module _ (laws : LawsBelow) (c : PrintConv) (s : Conversion) (proper : IsProperC
   text_into no_integer no_chars b small stores fits begins =
       let width : s.width ≡ Some (width_of s) = width_is s no_chars p.width in
       let low : 1 ≤ width_of s = proper_least s.width (width_of s) width scan.1 in
-      let not_one : eqb (width_of s) 1 ≡ false = sym (ap₂ (λ (i k : Bool). k || cond i (eqb (length (least c)) (width_of s)) (eqb (width_of s) 1)) no_integer no_chars) ∙ not_full in
+      let not_one : eqb (width_of s) 1 ≡ false = sym (ap₂ (λ (i k : Bool). k
+      || cond i (eqb (length (least c)) (width_of s)) (eqb (width_of s) 1)) no_integer no_chars) ∙ not_full in
       let two : 2 ≤ width_of s = within_two (width_of s) low not_one in
       let v : Datum = Bytes (b ∷ []) in
       let fit : ValueFits c s v = ((small, tt), fits (width_of s) low) in
       let r : ReadsBack c s v = reads_back laws c s v proper scan.1 sized p assigned fit in
       let t = r.takes [] (inr tt) in
-      let item : r.item ≡ b ∷ [] = stores s c.slot c.slot r.item (b ∷ []) (sym (ap (λ (o : Option ℕ). passed_end s o r.item) (slot_is c s p assigned)) ∙ r.stored) in
+      let item : r.item ≡ b ∷ [] = stores s c.slot c.slot r.item (b ∷ [])
+      (sym (ap (λ (o : Option ℕ). passed_end s o r.item) (slot_is c s p assigned)) ∙ r.stored) in
       let more : can_take s (r.item ++ b ∷ []) ≡ true = ap (λ (f : List ℕ). can_take s (f ++ b ∷ [])) item
-      ∙ and_so (is_within s.width 2) (shape_begins s.shape s.width (b ∷ b ∷ [])) (ap (λ (o : Option ℕ). is_within o 2) width ∙ le_so 2 (width_of s) two) begins in
+      ∙ and_so (is_within s.width 2) (shape_begins s.shape s.width (b ∷ b ∷ []))
+      (ap (λ (o : Option ℕ). is_within o 2) width ∙ le_so 2 (width_of s) two) begins in
       (v, fit, takes_too laws c s v scan r t.item b more)
 
   into_by : (b : ℕ) → b < 256 → (h : Shape) → s.shape ≡ h → stop_set h c b ≡ true → TakesInto c s b
@@ -72,11 +76,13 @@ module _ (laws : LawsBelow) (c : PrintConv) (s : Conversion) (proper : IsProperC
   into_by b small shape.Text e stops = text_into (ap is_integer e) (ap is_chars e) b small
       (subst StoresItem (sym e) (λ s k slot item bytes stored. let same : item ≡ bytes = cc in same))
       (λ w low. subst (λ (h : Shape). TextFits h w (b ∷ [])) (sym e) (lit≤ tt, ((ink_is b).0 stops, tt), low))
-      (ap (λ (h : Shape). shape_begins h s.width (b ∷ b ∷ [])) e ∙ and_so (is_ink b) (is_ink b && true) stops (and_so (is_ink b) true stops refl))
+      (ap (λ (h : Shape). shape_begins h s.width (b ∷ b ∷ [])) e ∙ and_so (is_ink b) (is_ink b && true) stops
+      (and_so (is_ink b) true stops refl))
   into_by b small (shape.Set members) e stops = text_into (ap is_integer e) (ap is_chars e) b small
       (subst StoresItem (sym e) (λ s k slot item bytes stored. let same : item ≡ bytes = cc in same))
       (λ w low. subst (λ (h : Shape). TextFits h w (b ∷ [])) (sym e) (lit≤ tt, (stops, tt), low))
-      (ap (λ (h : Shape). shape_begins h s.width (b ∷ b ∷ [])) e ∙ and_so (has_byte members b) (has_byte members b && true) stops (and_so (has_byte members b) true stops refl))
+      (ap (λ (h : Shape). shape_begins h s.width (b ∷ b ∷ [])) e ∙ and_so (has_byte members b) (has_byte members b && true) stops
+      (and_so (has_byte members b) true stops refl))
   into_by b small shape.Chars e stops = absurd cc
   into_by b small shape.Count e stops = absurd cc
 
@@ -88,7 +94,9 @@ module _ (laws : LawsBelow) (c : PrintConv) (s : Conversion) (proper : IsProperC
   some_stops (shape.Int base) e member = (48, lit≤ tt, zero_stops base c)
   some_stops shape.Text e member = (97, lit≤ tt, refl)
   some_stops (shape.Set members) e member = (member.0, member.1, member.2)
-  some_stops shape.Chars e member = absurd (let wrong : true ≡ false = sym (ap (λ (k : Bool). k || cond (is_integer s.shape) (eqb (length (least c)) (width_of s)) (eqb (width_of s) 1)) (ap is_chars e)) ∙ not_full in cc)
+  some_stops shape.Chars e member = absurd (let wrong : true ≡ false =
+      sym (ap (λ (k : Bool). k || cond (is_integer s.shape) (eqb (length (least c)) (width_of s)) (eqb (width_of s) 1)) (ap is_chars e))
+      ∙ not_full in cc)
   some_stops shape.Count e member = absurd (count_pairs_none c.letter (ap (letters_pair c.letter) (sym e) ∙ p.letters))
 
   -- so it runs past its text, whatever follows

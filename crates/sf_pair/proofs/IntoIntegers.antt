@@ -75,18 +75,23 @@ less_than m n h e = grind (arith, nat_tests)
 -- ---- what goes on
 
 -- the item is what is seen of the text
-item_is : (c : PrintConv) (s : Conversion) (k : Kind) (z : ℤ) (base : Base) → s.shape ≡ shape.Int base → (r : ReadsBack c s (Number k z)) → visible c z ≡ r.item
+item_is : (c : PrintConv) (s : Conversion) (k : Kind) (z : ℤ) (base : Base) → s.shape ≡ shape.Int base → (r : ReadsBack c s (Number k z))
+    → visible c z ≡ r.item
 item_is c s k z base e r =
     let ink : StartsInk r.item = subst (λ (h : Shape). SkipsSo (shape_skips h) r.before r.item) e r.skips in
     ap without_blanks r.text_is ∙ without_some r.before r.item ink
 
 -- an integer that is shorter than the width goes on where its reading does
-integer_goes : LawsBelow → (s : Conversion) (base : Base) (w : ℕ) (f : List ℕ) (p : Progress) (b : ℕ) → s.shape ≡ shape.Int base → s.width ≡ Some w → length f < w → read base (Some Start) f ≡ Some p → is_some (advance base p b) ≡ true
+integer_goes : LawsBelow → (s : Conversion) (base : Base) (w : ℕ) (f : List ℕ) (p : Progress) (b : ℕ) → s.shape ≡ shape.Int base
+    → s.width ≡ Some w → length f < w → read base (Some Start) f ≡ Some p → is_some (advance base p b) ≡ true
     → can_take s (f ++ b ∷ []) ≡ true
 integer_goes laws s base w f p b shape_is width short is goes =
     and_so (is_within s.width (length (f ++ b ∷ []))) (shape_begins s.shape s.width (f ++ b ∷ []))
-    (ap (λ (o : Option ℕ). is_within o (length (f ++ b ∷ []))) width ∙ ap (λ (k : ℕ). nat_le k w) (length-append f (b ∷ [])) ∙ room_for (length f) w short)
-    (ap (λ (h : Shape). shape_begins h s.width (f ++ b ∷ [])) shape_is ∙ ap is_some (laws.parts base (Some Start) f (b ∷ []) ∙ ap (λ (o : Option Progress). read base o (b ∷ [])) is ∙ one_byte (advance base p b)) ∙ goes)
+    (ap (λ (o : Option ℕ). is_within o (length (f ++ b ∷ []))) width ∙ ap (λ (k : ℕ). nat_le k w) (length-append f (b ∷ []))
+    ∙ room_for (length f) w short)
+    (ap (λ (h : Shape). shape_begins h s.width (f ++ b ∷ [])) shape_is
+    ∙ ap is_some (laws.parts base (Some Start) f (b ∷ []) ∙ ap (λ (o : Option Progress). read base o (b ∷ [])) is
+    ∙ one_byte (advance base p b)) ∙ goes)
   where
     one_byte : (o : Option Progress) → read base o [] ≡ o
     one_byte None = refl
@@ -114,7 +119,13 @@ module _ (laws : LawsBelow) (c : PrintConv) where
 
   -- one byte is 0 and no sign
   lone_unfilled : (o : Body c (pos 0)) → length (least c) ≡ 1 → o.filling ≡ 0
-  lone_unfilled o one = omega (arith, one, ap length (zero_seen o), length-append (bare_sign c (pos 0)) (zeros o.filling ++ 48 ∷ []), zeros_one o.filling 48)
+  lone_unfilled o one = omega (
+    arith,
+    one,
+    ap length (zero_seen o),
+    length-append (bare_sign c (pos 0)) (zeros o.filling ++ 48 ∷ []),
+    zeros_one o.filling 48,
+  )
 
   zero_unfilled : (o : Body c (pos 0)) → least_digits c ≡ 1 → pads_with_zeros c ≡ false → is_octal c.letter ≡ false → o.filling ≡ 0
   zero_unfilled o one pads octal =
@@ -136,9 +147,11 @@ module _ (laws : LawsBelow) (c : PrintConv) where
           absurd (omega (arith, short, ap length f, zeros_one (suc k) 49))
 
   -- where no zeros are asked for, 1 is as wide as 0
-  one_as_wide : (o : Body c (pos 0)) (i : Body c (pos 1)) → least_digits c ≡ 1 → pads_with_zeros c ≡ false → is_octal c.letter ≡ false → base_mark c.letter ≡ [] → length (visible c (pos 1)) ≡ length (least c)
+  one_as_wide : (o : Body c (pos 0)) (i : Body c (pos 1)) → least_digits c ≡ 1 → pads_with_zeros c ≡ false → is_octal c.letter ≡ false
+      → base_mark c.letter ≡ [] → length (visible c (pos 1)) ≡ length (least c)
   one_as_wide o i one pads octal unmarked =
-      ap length (i.visible_is ∙ ap₂ (λ (m ds : List ℕ). bare_sign c (pos 1) ++ (m ++ ds)) (none_marked c (pos 1) i unmarked) (one_body i ∙ ap (λ (k : ℕ). zeros k ++ 49 ∷ []) (one_unfilled i one pads octal)))
+      ap length (i.visible_is ∙ ap₂ (λ (m ds : List ℕ). bare_sign c (pos 1) ++ (m ++ ds)) (none_marked c (pos 1) i unmarked)
+      (one_body i ∙ ap (λ (k : ℕ). zeros k ++ 49 ∷ []) (one_unfilled i one pads octal)))
       ∙ same ∙ sym (ap length (unfilled o (zero_unfilled o one pads octal)))
     where
       same : length (bare_sign c (pos 0) ++ 49 ∷ []) ≡ length (bare_sign c (pos 0) ++ 48 ∷ [])
@@ -156,7 +169,8 @@ one_is_no_zero p s e value =
     magnitude_of None = 0
     magnitude_of (Some (s, m)) = m
 
-module _ (laws : LawsBelow) (c : PrintConv) (s : Conversion) (base : Base) (is_int : s.shape ≡ shape.Int base) (proper : IsProperConv c) (scan : IsProper (directive.Conv s)) (sized : HasItsWidth s.shape s.width)
+module _ (laws : LawsBelow) (c : PrintConv) (s : Conversion) (base : Base) (is_int : s.shape ≡ shape.Int base) (proper : IsProperConv c)
+    (scan : IsProper (directive.Conv s)) (sized : HasItsWidth s.shape s.width)
     (p : Pairs c s) (assigned : is_some s.slot ≡ true) (not_full : always_full c s ≡ false) (b : ℕ) where
   letters : letters_pair c.letter (shape.Int base) ≡ true
   letters = ap (letters_pair c.letter) (sym is_int) ∙ p.letters
@@ -165,7 +179,8 @@ module _ (laws : LawsBelow) (c : PrintConv) (s : Conversion) (base : Base) (is_i
   of_kind = small_of_kind c.kind (λ e. no_text c.letter base letters (ap (prints_kind c.letter) (sym e) ∙ proper.kind))
 
   wide : length (least c) ≤ width_of s
-  wide = at_most (length (least c)) (width_of s) (sym (ap (λ (t : Bool). t && nat_lt (width_of s) (length (least c))) (ap is_integer is_int)) ∙ p.wide)
+  wide = at_most (length (least c)) (width_of s) (sym (ap (λ (t : Bool). t && nat_lt (width_of s) (length (least c)))
+      (ap is_integer is_int)) ∙ p.wide)
 
   short : length (least c) < width_of s
   short = less_than (length (least c)) (width_of s) wide (sym (ap full_by is_int) ∙ not_full)
@@ -173,13 +188,15 @@ module _ (laws : LawsBelow) (c : PrintConv) (s : Conversion) (base : Base) (is_i
       full_by : Shape → Bool
       full_by h = is_chars h || cond (is_integer h) (eqb (length (least c)) (width_of s)) (eqb (width_of s) 1)
 
-  takes_into : (z : ℤ) → IsOfKind c.kind z → length (visible c z) ≡ length (least c) → (n : NumberRead base c z) → is_some (advance base n.progress b) ≡ true → TakesInto c s b
+  takes_into : (z : ℤ) → IsOfKind c.kind z → length (visible c z) ≡ length (least c) → (n : NumberRead base c z)
+      → is_some (advance base n.progress b) ≡ true → TakesInto c s b
   takes_into z of_kind same n goes =
       let fits : ValueFits c s (Number c.kind z) = (refl, of_kind, omega (arith, same, wide)) in
       let r : ReadsBack c s (Number c.kind z) = reads_back laws c s (Number c.kind z) proper scan.1 sized p assigned fits in
       let t = r.takes [] (inr tt) in
       let width : s.width ≡ Some (width_of s) = width_is s (ap is_chars is_int) p.width in
-      let more : can_take s (r.item ++ b ∷ []) ≡ true = ap (λ (f : List ℕ). can_take s (f ++ b ∷ [])) (sym (item_is c s c.kind z base is_int r))
+      let more : can_take s (r.item ++ b ∷ []) ≡ true = ap (λ (f : List ℕ). can_take s (f ++ b ∷ []))
+      (sym (item_is c s c.kind z base is_int r))
       ∙ integer_goes laws s base (width_of s) (visible c z) n.progress b is_int width (omega (arith, same, short)) n.is goes in
       (Number c.kind z, fits, takes_too laws c s (Number c.kind z) scan r t.item b more)
 
@@ -207,11 +224,13 @@ module _ (laws : LawsBelow) (c : PrintConv) (s : Conversion) (base : Base) (is_i
   digit_into digit = by (is_auto (shape.Int base)) refl
     where
       by : (t : Bool) → is_auto (shape.Int base) ≡ t → TakesInto c s b
-      by false e = let n = read_of (pos 0) of_kind.0 in takes_into (pos 0) of_kind.0 refl n (end_goes base false n.progress n.end (same_radix base e) b digit)
+      by false e = let n = read_of (pos 0) of_kind.0 in takes_into (pos 0) of_kind.0 refl n
+          (end_goes base false n.progress n.end (same_radix base e) b digit)
       by true e =
           let k = bare e in
           let n = read_of (pos 1) of_kind.1 in
-          takes_into (pos 1) of_kind.1 (one_as_wide laws c (body_of (pos 0) of_kind.0) (body_of (pos 1) of_kind.1) k.one k.pads k.octal k.unmarked) n (elim n.end [
+          takes_into (pos 1) of_kind.1 (one_as_wide laws c (body_of (pos 0) of_kind.0)
+          (body_of (pos 1) of_kind.1) k.one k.pads k.octal k.unmarked) n (elim n.end [
             | inl lone ↦ absurd (one_is_no_zero n.progress false lone n.value)
             | inr digits ↦ digits_go base false digits.0 n.progress digits.1 b digit
           ])
@@ -220,9 +239,14 @@ module _ (laws : LawsBelow) (c : PrintConv) (s : Conversion) (base : Base) (is_i
   letter_into : prefix_letters base b ≡ true → (is_auto (shape.Int base) ≡ true) ⊎ (length (least c) ≡ 1) → TakesInto c s b
   letter_into letter lone =
       let o = body_of (pos 0) of_kind.0 in
-      let none : o.filling ≡ 0 = elim lone [ inl auto ↦ (let k = bare auto in zero_unfilled laws c o k.one k.pads k.octal) | inr one ↦ lone_unfilled laws c o one ] in
+      let none : o.filling ≡ 0 = elim lone [
+        | inl auto ↦ (let k = bare auto in zero_unfilled laws c o k.one k.pads k.octal)
+        | inr one ↦
+            lone_unfilled laws c o one
+      ] in
       let n = read_of (pos 0) of_kind.0 in
-      let at : n.progress ≡ Zero false = (let e : Some n.progress ≡ Some (Zero false) = sym n.is ∙ lone_zero_read base c (pos 0) (visible c (pos 0)) (unfilled laws c o none) in cc) in
+      let at : n.progress ≡ Zero false = (let e : Some n.progress ≡ Some (Zero false) =
+      sym n.is ∙ lone_zero_read base c (pos 0) (visible c (pos 0)) (unfilled laws c o none) in cc) in
       takes_into (pos 0) of_kind.0 refl n (ap (λ (q : Progress). is_some (advance base q b)) at ∙ zero_goes base false b (inl letter))
 
   pub integer_into : stop_set (shape.Int base) c b ≡ true → TakesInto c s b

@@ -18,7 +18,8 @@ use Rattle.sf_pair.specs.Laws.{SlotsAgree, read_back}
 use Rattle.sf_pair.proofs.SlotCounts.{slots_agree}
 use Rattle.sf_pair.proofs.Whole.{round_trip}
 
-module _ (laws : LawsBelow) (us : List PrintUnit) (ds : List Directive) (accepted : AreAccepted us) (proper : IsAccepted ds) (aligned : IsAligned us ds) where
+module _ (laws : LawsBelow) (us : List PrintUnit) (ds : List Directive) (accepted : AreAccepted us) (proper : IsAccepted ds)
+    (aligned : IsAligned us ds) where
   runs_back : (rows : List (List Datum)) → AllByRecursion (Fit us ds) rows → (z : List ℕ) (ending : Ending)
       → RunsInTurn ds (joined us rows ++ z) ending (map (read_back us ds) rows) z
   runs_back [] fit z ending = refl
@@ -27,7 +28,8 @@ module _ (laws : LawsBelow) (us : List PrintUnit) (ds : List Directive) (accepte
       let parts : joined us (row ∷ rows) ++ z ≡ text ++ (joined us rows ++ z) = append_assoc text (joined us rows) z in
       let left : joined us rows ++ z ≡ drop (length text) (joined us (row ∷ rows) ++ z) =
       sym (drop_at text (joined us rows ++ z) (length text) refl) ∙ ap (drop (length text)) (sym parts) in (
-        subst (λ (x : List ℕ). Run ds x ending (read_back us ds row)) (sym parts) (round_trip laws us ds accepted proper aligned row fits (joined us rows ++ z) ending),
+        subst (λ (x : List ℕ). Run ds x ending (read_back us ds row)) (sym parts)
+            (round_trip laws us ds accepted proper aligned row fits (joined us rows ++ z) ending),
         subst (λ (x : List ℕ). RunsInTurn ds x ending (map (read_back us ds) rows) z) left (runs_back rows fit z ending),
       )
 

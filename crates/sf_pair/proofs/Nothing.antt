@@ -32,7 +32,8 @@ use Rattle.sf_pair.proofs.Whole.{round_trip}
 
 after : (d : Directive) (x : List ℕ) (k n : ℕ) (end : StepEnd) (ds : List Directive) → k ≡ length x → ((n : ℕ) → used (ran_of ds [] n) ≡ 0)
     → used (record { directive = d; bytes = k; end = end } ∷ go_on end (ran_of ds (drop k x) (n + k))) ≡ k
-after d x k n end ds e none = sum_by-cons (λ (r : Ran). r.bytes) (record { directive = d; bytes = k; end = end }) (go_on end (ran_of ds (drop k x) (n + k))) ∙ by end
+after d x k n end ds e none = sum_by-cons (λ (r : Ran). r.bytes) (record { directive = d; bytes = k; end = end })
+    (go_on end (ran_of ds (drop k x) (n + k))) ∙ by end
   where
     rest : used (ran_of ds (drop k x) (n + k)) ≡ 0
     rest = ap (λ (y : List ℕ). used (ran_of ds y (n + k))) (drop_all k x (omega (arith, e))) ∙ none (n + k)
@@ -107,19 +108,23 @@ one_taken s shape.Chars e no_count shaped wide = record {
 one_taken s shape.Count e no_count shaped wide = absurd cc
 
 -- a conversion other than n is the item behind what is skipped
-item_of : (s : Conversion) (x : List ℕ) (n : ℕ) → is_count s.shape ≡ false → step_of (directive.Conv s) x n ≡ item_part s x (skip_before s.shape x)
+item_of : (s : Conversion) (x : List ℕ) (n : ℕ) → is_count s.shape ≡ false
+    → step_of (directive.Conv s) x n ≡ item_part s x (skip_before s.shape x)
 item_of s x n e = by s.shape e
   where
     by : (h : Shape) → is_count h ≡ false → conversion_step s h x n ≡ item_part s x (skip_before s.shape x)
     by shape.Count e = absurd cc
     by _ e = refl
 
-conversion_takes : (s : Conversion) (n : ℕ) → is_count s.shape ≡ false → IsProperWidth s.width → (t : OneTaken s) → (step_of (directive.Conv s) (t.byte ∷ []) n).0 ≡ 1
+conversion_takes : (s : Conversion) (n : ℕ) → is_count s.shape ≡ false → IsProperWidth s.width → (t : OneTaken s)
+    → (step_of (directive.Conv s) (t.byte ∷ []) n).0 ≡ 1
 conversion_takes s n no_count wide t =
     ap (λ (r : ℕ × StepEnd). r.0) (item_of s (t.byte ∷ []) n no_count ∙ ap (item_part s (t.byte ∷ [])) t.unskipped)
-    ∙ ap (λ (k : ℕ). 0 + k) (takes_first s t.byte (and_so (is_within s.width 1) (shape_begins s.shape s.width (t.byte ∷ [])) (within_one s.width wide) t.takes))
+    ∙ ap (λ (k : ℕ). 0 + k) (takes_first s t.byte (and_so (is_within s.width 1) (shape_begins s.shape s.width (t.byte ∷ []))
+    (within_one s.width wide) t.takes))
 
-no_count_in : (s : Conversion) (group rest : List PrintUnit) (next : Option Directive) → IsConversionGroup (is_count s.shape) (is_some s.slot) s group rest next → is_count s.shape ≡ false
+no_count_in : (s : Conversion) (group rest : List PrintUnit) (next : Option Directive)
+    → IsConversionGroup (is_count s.shape) (is_some s.slot) s group rest next → is_count s.shape ≡ false
 no_count_in s group rest next is = by (is_count s.shape) is
   where
     by : (t : Bool) → IsConversionGroup t (is_some s.slot) s group rest next → t ≡ false
@@ -141,8 +146,15 @@ first_taken (directive.Conv s) ds us proper (group, rest, parts, is, more) =
 goes_on : LawsBelow → (ds : List Directive) (us : List PrintUnit) → AreProper ds → AreCut ds us → list_any assigns ds ≡ true → IsOpen ds []
 goes_on laws [] us proper cut some = absurd cc
 goes_on laws (d ∷ ds) us proper cut some =
-    let f = first_taken d ds us proper.0 cut in
-    (f.0, f.1, (ran_of (d ∷ ds) (f.0 ∷ []) 0, (laws.runs (d ∷ ds) proper (f.0 ∷ []) 0 (ran_of (d ∷ ds) (f.0 ∷ []) 0)).1 refl, one_used laws d ds f.0 f.2))
+    let f = first_taken d ds us proper.0 cut in (
+      f.0,
+      f.1,
+      (
+        ran_of (d ∷ ds) (f.0 ∷ []) 0,
+        (laws.runs (d ∷ ds) proper (f.0 ∷ []) 0 (ran_of (d ∷ ds) (f.0 ∷ []) 0)).1 refl,
+        one_used laws d ds f.0 f.2,
+      ),
+    )
 
 -- ---- the failure
 
@@ -160,18 +172,24 @@ conversion_fails s n no_count = item_of s [] n no_count ∙ ap (item_part s []) 
 fails_first : (ds : List Directive) (us : List PrintUnit) (n : ℕ) → AreCut ds us → list_any assigns ds ≡ true → FailsFirst (ran_of ds [] n)
 fails_first [] us n cut some = absurd cc
 fails_first (directive.Space ∷ ds) us n (group, rest, parts, is, more) some =
-    let h = fails_first ds rest (n + 0) more some in
-    (h.0, sum_by-cons (λ (r : Ran). cond (is_conversion r.directive && passed r.end) 1 0) (record { directive = directive.Space; bytes = 0; end = Passes }) (ran_of ds [] (n + 0)) ∙ zero-add (converted (ran_of ds [] (n + 0))) ∙ h.1)
+    let h = fails_first ds rest (n + 0) more some in (
+      h.0,
+      sum_by-cons (λ (r : Ran). cond (is_conversion r.directive && passed r.end) 1 0)
+          (record { directive = directive.Space; bytes = 0; end = Passes }) (ran_of ds [] (n + 0))
+          ∙ zero-add (converted (ran_of ds [] (n + 0))) ∙ h.1,
+    )
 fails_first (directive.Byte a ∷ ds) us n cut some = (refl, refl)
 fails_first (directive.Percent ∷ ds) us n cut some = (refl, refl)
 fails_first (directive.Conv s ∷ ds) us n (group, rest, parts, is, more) some =
-    subst (λ (r : ℕ × StepEnd). FailsFirst (record { directive = directive.Conv s; bytes = r.0; end = r.1 } ∷ go_on r.1 (ran_of ds (drop r.0 []) (n + r.0))))
+    subst (λ (r : ℕ × StepEnd). FailsFirst (record { directive = directive.Conv s; bytes = r.0; end = r.1 } ∷ go_on r.1
+    (ran_of ds (drop r.0 []) (n + r.0))))
     (sym (conversion_fails s n (no_count_in s group rest (next_of ds) is))) (refl, none_converted s)
   where
     none_converted : (s : Conversion) → converted (record { directive = directive.Conv s; bytes = 0; end = Fails InputFailure } ∷ []) ≡ 0
     none_converted s = by (is_conversion (directive.Conv s))
       where
-        by : (t : Bool) → sum_by (λ (r : Ran). cond (t && passed r.end) 1 0) (record { directive = directive.Conv s; bytes = 0; end = Fails InputFailure } ∷ []) ≡ 0
+        by : (t : Bool) → sum_by (λ (r : Ran). cond (t && passed r.end) 1 0)
+            (record { directive = directive.Conv s; bytes = 0; end = Fails InputFailure } ∷ []) ≡ 0
         by true = refl
         by false = refl
 
@@ -180,7 +198,13 @@ ends_on_nothing laws us ds proper aligned =
     let f = fails_first ds us 0 aligned.cut aligned.assigned in
     record {
       report = report_of (ran_of ds [] 0) (Some End);
-      run = (ran_of ds [] 0, (laws.runs ds proper.proper [] 0 (ran_of ds [] 0)).1 refl, Some End, (goes_on laws ds us proper.proper aligned.cut aligned.assigned, refl), refl);
+      run = (
+        ran_of ds [] 0,
+        (laws.runs ds proper.proper [] 0 (ran_of ds [] 0)).1 refl,
+        Some End,
+        (goes_on laws ds us proper.proper aligned.cut aligned.assigned, refl),
+        refl,
+      );
       status = f.0;
       converted = f.1;
       used = used_none laws ds 0;
@@ -203,8 +227,10 @@ prints_some laws us ds accepted proper aligned values fit = by (length (printed 
     by (suc n) e = omega arith
     by zero e =
         let e : printed us values ≡ [] = empty (printed us values) e in
-        let back : Run ds [] End (read_back us ds values) = subst (λ (x : List ℕ). Run ds x End (read_back us ds values)) (append-nil (printed us values) ∙ e) (round_trip laws us ds accepted proper aligned values fit [] End) in
+        let back : Run ds [] End (read_back us ds values) = subst (λ (x : List ℕ). Run ds x End (read_back us ds values))
+        (append-nil (printed us values) ∙ e) (round_trip laws us ds accepted proper aligned values fit [] End) in
         let n = ends_on_nothing laws us ds proper aligned in
         let o = laws.reports ds proper.proper 0 [] End in
         let short : length (printed us values) ≤ 0 = omega (arith, ap length e) in
-        absurd (no_failure (read_back us ds values) n.report (o.only (read_back us ds values) (inl (short, back)) ∙ sym (o.only n.report (inl (omega (arith, n.used), n.run)))) refl n.status)
+        absurd (no_failure (read_back us ds values) n.report (o.only (read_back us ds values) (inl (short, back))
+        ∙ sym (o.only n.report (inl (omega (arith, n.used), n.run)))) refl n.status)

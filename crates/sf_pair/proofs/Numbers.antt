@@ -32,7 +32,8 @@ record Opening (base : Base) (sign : List ℕ) (negative : Bool) : Type 0 where
 
 start_opens : (base : Base) (d : ℕ) → 48 ≤ d → advance base Start d ≡ with_first_digit base false d
 start_opens base d h =
-    (λ t. cond (ne_eqb d 43 (λ e. omega arith) t) (Some (Signed false)) (cond (ne_eqb d 45 (λ e. omega arith) t) (Some (Signed true)) (with_first_digit base false d)))
+    (λ t. cond (ne_eqb d 43 (λ e. omega arith) t) (Some (Signed false))
+    (cond (ne_eqb d 45 (λ e. omega arith) t) (Some (Signed true)) (with_first_digit base false d)))
 
 opening : (base : Base) (c : PrintConv) (z : ℤ) → Opening base (bare_sign c z) (is_negative z)
 opening base c (negsuc n) = record { progress = Signed true; goes = λ t. refl; opens = λ d h. refl }
@@ -46,14 +47,16 @@ opening base c (pos n) = by c.plus
     by false = record { progress = Start; goes = λ t. refl; opens = start_opens base }
 
 -- a lone 0 is read as such, behind a sign or none
-pub lone_zero_read : (base : Base) (c : PrintConv) (z : ℤ) (t : List ℕ) → t ≡ bare_sign c z ++ 48 ∷ [] → read base (Some Start) t ≡ Some (Zero (is_negative z))
+pub lone_zero_read : (base : Base) (c : PrintConv) (z : ℤ) (t : List ℕ) → t ≡ bare_sign c z ++ 48 ∷ []
+    → read base (Some Start) t ≡ Some (Zero (is_negative z))
 lone_zero_read base c z t e =
     let o = opening base c z in
     ap (read base (Some Start)) e ∙ o.goes (48 ∷ []) ∙ ap (λ (q : Option Progress). read base q []) (o.opens 48 (lit≤ tt))
 
 -- ---- digits after it
 
-read_body : (base : Base) (q : Progress) (s : Bool) (r : ℕ) (body : List ℕ) → ((d : ℕ) → 48 ≤ d → advance base q d ≡ with_first_digit base s d) → first_radix base ≡ r → r ≤ 16
+read_body : (base : Base) (q : Progress) (s : Bool) (r : ℕ) (body : List ℕ)
+    → ((d : ℕ) → 48 ≤ d → advance base q d ≡ with_first_digit base s d) → first_radix base ≡ r → r ≤ 16
     → (zero_radix base ≡ r) ⊎ (slice_index body 0 ≡ 48 → length body ≡ 1) → AllDigits r body → 0 < length body → DigitsRead base q s r body
 read_body base q s r [] opens first small second all some = absurd (omega arith)
 read_body base q s r (d ∷ ds) opens first small second all some =
@@ -68,13 +71,16 @@ read_body base q s r (d ∷ ds) opens first small second all some =
     by (inr h) = inr (λ e. none_left ds (h e))
 
 -- after the letter of a prefix
-marked_body : (base : Base) (s : Bool) (r : ℕ) (body : List ℕ) → AllDigits r body → 0 < length body → read base (Some (Prefix s r)) body ≡ Some (Digits s r (digits_value r body))
+marked_body : (base : Base) (s : Bool) (r : ℕ) (body : List ℕ) → AllDigits r body → 0 < length body
+    → read base (Some (Prefix s r)) body ≡ Some (Digits s r (digits_value r body))
 marked_body base s r [] all some = absurd (omega arith)
-marked_body base s r (d ∷ ds) all some = ap (λ (o : Option Progress). read base o ds) (digit_taken s r 0 d all.0) ∙ reads_on base s r (0 * r + digit_value d) ds all.1
+marked_body base s r (d ∷ ds) all some = ap (λ (o : Option Progress). read base o ds) (digit_taken s r 0 d all.0)
+    ∙ reads_on base s r (0 * r + digit_value d) ds all.1
 
 -- ---- the number
 
-integer_read : (s : Bool) (r m : ℕ) (body : List ℕ) (p : Progress) → IsRead s r body p → digits_value r body ≡ m → integer_of p ≡ Some (s, m)
+integer_read : (s : Bool) (r m : ℕ) (body : List ℕ) (p : Progress) → IsRead s r body p → digits_value r body ≡ m
+    → integer_of p ≡ Some (s, m)
 integer_read s r m body p (inl h) e =
     let none : m ≡ 0 = sym e ∙ ap (digits_value r) h.1 ∙ (let k : 0 * r + 0 ≡ 0 = omega arith in k) in
     ap integer_of h.0 ∙ ap (λ (k : ℕ). Some (s, k)) (sym none)
@@ -103,7 +109,8 @@ record Read (base : Base) (c : PrintConv) (z : ℤ) (body : List ℕ) (r : ℕ) 
   is : read base (Some Start) (visible c z) ≡ Some progress
   end : IsRead (is_negative z) r body progress
 
-unmarked : (base : Base) (c : PrintConv) (z : ℤ) (b : Body c z) → mark c (unsigned_abs z) ≡ [] → first_radix base ≡ base_of c.letter → base_of c.letter ≤ 16
+unmarked : (base : Base) (c : PrintConv) (z : ℤ) (b : Body c z) → mark c (unsigned_abs z) ≡ [] → first_radix base ≡ base_of c.letter
+    → base_of c.letter ≤ 16
     → (zero_radix base ≡ base_of c.letter) ⊎ (slice_index b.body 0 ≡ 48 → length b.body ≡ 1) → Read base c z b.body (base_of c.letter)
 unmarked base c z b none first small second =
     let o = opening base c z in
@@ -132,10 +139,12 @@ outside_digits : (base : Base) (lone : Bool) (b : ℕ) → integer_stops base lo
 outside_digits base lone b e = (or_none ((lone || is_auto_base base) && prefix_letters base b) (is_digit b (first_radix base)) e).1
 
 -- nor the letter of a prefix, where a 0 may be alone
-outside_letters : (base : Base) (lone : Bool) (b : ℕ) → (lone || is_auto_base base) ≡ true → integer_stops base lone b ≡ false → prefix_radix base b ≡ None
+outside_letters : (base : Base) (lone : Bool) (b : ℕ) → (lone || is_auto_base base) ≡ true → integer_stops base lone b ≡ false
+    → prefix_radix base b ≡ None
 outside_letters base lone b may e =
     no_radix (prefix_radix base b)
-    (sym (ap (λ (t : Bool). t && prefix_letters base b) may) ∙ (or_none ((lone || is_auto_base base) && prefix_letters base b) (is_digit b (first_radix base)) e).0)
+    (sym (ap (λ (t : Bool). t && prefix_letters base b) may) ∙ (or_none ((lone || is_auto_base base) && prefix_letters base b)
+    (is_digit b (first_radix base)) e).0)
 
 lower : (m n d : ℕ) → m ≤ n → ltb d n ≡ false → ltb d m ≡ false
 lower m n d h e = grind (arith, nat_tests)
@@ -156,7 +165,8 @@ read_stops base lone s body p (inl h) b none e =
     ∙ ap (after_zero s (zero_radix base) b) (none h.1)
     ∙ no_digit s (zero_radix base) 0 b (fewer_digits base b (outside_digits base lone b e))
 read_stops base lone s body p (inr h) b none e =
-    ap (λ (q : Progress). advance base q b) h ∙ no_digit s (first_radix base) (digits_value (first_radix base) body) b (outside_digits base lone b e)
+    ap (λ (q : Progress). advance base q b) h ∙ no_digit s (first_radix base) (digits_value (first_radix base) body) b
+    (outside_digits base lone b e)
 
 -- ---- with a mark
 
@@ -169,7 +179,8 @@ pub record HasMark (base : Base) (l : PrintLetter) : Type 0 where
   pub zero : zero_radix base ≡ base_of l
   pub small : base_of l ≤ 16
 
-marked : (c : PrintConv) (z : ℤ) (b : Body c z) (base : Base) → HasMark base c.letter → mark c (unsigned_abs z) ≡ base_mark c.letter → Read base c z b.body (base_of c.letter)
+marked : (c : PrintConv) (z : ℤ) (b : Body c z) (base : Base) → HasMark base c.letter → mark c (unsigned_abs z) ≡ base_mark c.letter
+    → Read base c z b.body (base_of c.letter)
 marked c z b base k is =
     let o = opening base c z in
     let s : Bool = is_negative z in
@@ -207,7 +218,8 @@ lone_zero c m b plus body zero_is =
 -- ---- each base
 
 module _ (c : PrintConv) (z : ℤ) (b : Body c z) where
-  mark_by : (P : List ℕ → Type 0) → (mark c (unsigned_abs z) ≡ [] → P []) → (mark c (unsigned_abs z) ≡ base_mark c.letter → P (base_mark c.letter)) → P (mark c (unsigned_abs z))
+  mark_by : (P : List ℕ → Type 0) → (mark c (unsigned_abs z) ≡ [] → P [])
+      → (mark c (unsigned_abs z) ≡ base_mark c.letter → P (base_mark c.letter)) → P (mark c (unsigned_abs z))
   mark_by P none some = by (c.alt && not (eqb (unsigned_abs z) 0)) refl
     where
       by : (t : Bool) → (c.alt && not (eqb (unsigned_abs z) 0)) ≡ t → P (cond t (base_mark c.letter) [])
@@ -220,7 +232,8 @@ module _ (c : PrintConv) (z : ℤ) (b : Body c z) where
   number_read : (base : Base) → first_radix base ≡ base_of c.letter → Read base c z b.body (base_of c.letter)
       → ((x : ℕ) → stop_set (shape.Int base) c x ≡ false → b.body ≡ 48 ∷ [] → prefix_radix base x ≡ None) → NumberRead base c z
   number_read base first r none =
-      let end : IsRead (is_negative z) (first_radix base) b.body r.progress = subst (λ (k : ℕ). IsRead (is_negative z) k b.body r.progress) (sym first) r.end in
+      let end : IsRead (is_negative z) (first_radix base) b.body r.progress =
+      subst (λ (k : ℕ). IsRead (is_negative z) k b.body r.progress) (sym first) r.end in
       record {
         progress = r.progress;
         is = r.is;
@@ -231,23 +244,28 @@ module _ (c : PrintConv) (z : ℤ) (b : Body c z) where
 
   pub read_decimal : base_of c.letter ≡ 10 → base_mark c.letter ≡ [] → NumberRead Dec c z
   read_decimal ten no_mark =
-      number_read Dec (sym ten) (unmarked Dec c z b (none_marked no_mark) (sym ten) (omega (arith, ten)) (inl (sym ten))) (λ x e lone. no_prefix_of_dec x)
+      number_read Dec (sym ten) (unmarked Dec c z b (none_marked no_mark) (sym ten) (omega (arith, ten)) (inl (sym ten)))
+      (λ x e lone. no_prefix_of_dec x)
 
   pub read_octal : base_of c.letter ≡ 8 → base_mark c.letter ≡ [] → NumberRead Oct c z
   read_octal eight no_mark =
-      number_read Oct (sym eight) (unmarked Oct c z b (none_marked no_mark) (sym eight) (omega (arith, eight)) (inl (sym eight))) (λ x e lone. no_prefix_of_oct x)
+      number_read Oct (sym eight) (unmarked Oct c z b (none_marked no_mark) (sym eight) (omega (arith, eight)) (inl (sym eight)))
+      (λ x e lone. no_prefix_of_oct x)
 
-  pub read_auto : (base : Base) → is_auto_base base ≡ true → first_radix base ≡ 10 → base_of c.letter ≡ 10 → base_mark c.letter ≡ [] → is_octal c.letter ≡ false
+  pub read_auto : (base : Base) → is_auto_base base ≡ true → first_radix base ≡ 10 → base_of c.letter ≡ 10 → base_mark c.letter ≡ []
+      → is_octal c.letter ≡ false
       → least_digits c ≡ 1 → pads_with_zeros c ≡ false → NumberRead base c z
   read_auto base auto first ten no_mark octal one pads =
-      number_read base (first ∙ sym ten) (unmarked base c z b (none_marked no_mark) (first ∙ sym ten) (omega (arith, ten)) (inr (b.bare one pads octal)))
+      number_read base (first ∙ sym ten) (unmarked base c z b (none_marked no_mark) (first ∙ sym ten) (omega (arith, ten))
+      (inr (b.bare one pads octal)))
       (λ x e lone. outside_letters base (eqb (length (least c)) 1) x (or_true (eqb (length (least c)) 1) (is_auto_base base) auto) e)
     where
       or_true : (x y : Bool) → y ≡ true → (x || y) ≡ true
       or_true true y e = refl
       or_true false y e = e
 
-pub read_marked : (c : PrintConv) (m : ℕ) (b : Body c (pos m)) (base : Base) → HasMark base c.letter → c.plus ≡ false → NumberRead base c (pos m)
+pub read_marked : (c : PrintConv) (m : ℕ) (b : Body c (pos m)) (base : Base) → HasMark base c.letter → c.plus ≡ false
+    → NumberRead base c (pos m)
 read_marked c m b base k plus =
     mark_by c (pos m) b (λ xs. NumberRead base c (pos m))
     (λ none. number_read c (pos m) b base k.first (unmarked base c (pos m) b none k.first k.small (inl k.zero)) letters)
@@ -255,7 +273,8 @@ read_marked c m b base k plus =
   where
     lone : b.body ≡ 48 ∷ [] → (eqb (length (least c)) 1 || is_auto_base base) ≡ true
     lone e =
-        let zero_is : m ≡ 0 = sym b.value ∙ ap (digits_value (base_of c.letter)) e ∙ (let none : 0 * base_of c.letter + 0 ≡ 0 = omega arith in none) in
+        let zero_is : m ≡ 0 = sym b.value ∙ ap (digits_value (base_of c.letter)) e
+        ∙ (let none : 0 * base_of c.letter + 0 ≡ 0 = omega arith in none) in
         ap (λ (t : Bool). t || is_auto_base base) (eq-eqb (length (least c)) 1 (lone_zero c m b plus e zero_is))
 
     letters : (x : ℕ) → stop_set (shape.Int base) c x ≡ false → b.body ≡ 48 ∷ [] → prefix_radix base x ≡ None

@@ -18,7 +18,8 @@ one_left (d ∷ ds) after us left other (group, rest, parts, is, more) (front, b
     one_left ds after behind left other (subst (λ (r : List PrintUnit). Leaves ds after r left) e more) later
   where
     took : (g r : List PrintUnit) → us ≡ g ++ r → IsGroup d g r (next_of (ds ++ after)) → take_group d us (next_of (ds ++ after)) ≡ Ok r
-    took g r parts is = ap (λ (t : List PrintUnit). take_group d t (next_of (ds ++ after))) parts ∙ units_back d g r (next_of (ds ++ after)) is
+    took g r parts is = ap (λ (t : List PrintUnit). take_group d t (next_of (ds ++ after))) parts
+        ∙ units_back d g r (next_of (ds ++ after)) is
 
 pub record Same (d e : Directive) (ds es after later : List Directive) : Type 0 where
   pub here : d ≡ e
@@ -26,7 +27,8 @@ pub record Same (d e : Directive) (ds es after later : List Directive) : Type 0 
   pub behind : after ≡ later
 
 -- two lists that are the same are so on both sides of a place
-same_sides : (ds es : List Directive) (d e : Directive) (after later : List Directive) → ds ++ d ∷ after ≡ es ++ e ∷ later → length ds ≡ length es → Same d e ds es after later
+same_sides : (ds es : List Directive) (d e : Directive) (after later : List Directive) → ds ++ d ∷ after ≡ es ++ e ∷ later
+    → length ds ≡ length es → Same d e ds es after later
 same_sides [] [] d e after later h n = record { here = cc; before = refl; behind = cc }
 same_sides [] (x ∷ es) d e after later h n = absurd (omega (arith, n))
 same_sides (x ∷ ds) [] d e after later h n = absurd (omega (arith, n))
@@ -41,5 +43,6 @@ stops_are_one us ds at d e left other h k =
     let s = same_sides h.before k.before d e h.after k.after (sym h.directives ∙ k.directives) (omega (arith, h.place, k.place)) in (
       s.here,
       one_left k.before (e ∷ k.after) us left other (subst (λ (t : List Directive). Leaves k.before (e ∷ t) us left) s.behind
-          (subst (λ (c : Directive). Leaves k.before (c ∷ h.after) us left) s.here (subst (λ (t : List Directive). Leaves t (d ∷ h.after) us left) s.before h.taken))) k.taken,
+          (subst (λ (c : Directive). Leaves k.before (c ∷ h.after) us left) s.here
+          (subst (λ (t : List Directive). Leaves t (d ∷ h.after) us left) s.before h.taken))) k.taken,
     )

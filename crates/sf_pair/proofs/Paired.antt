@@ -34,7 +34,8 @@ pub and_both : (x y : Bool) → (x && y) ≡ true → (x ≡ true) × (y ≡ tru
 and_both true y e = (refl, e)
 and_both false y e = absurd cc
 
-six : (a b c d e f : Bool) → first_reason (rule why.KindDiffers a ∷ rule why.NumberDiffers b ∷ rule why.BadFlagHere c ∷ rule why.NoWidth d ∷ rule why.TooNarrow e ∷ rule why.LeadingZero f ∷ []) ≡ None
+six : (a b c d e f : Bool) → first_reason (rule why.KindDiffers a ∷ rule why.NumberDiffers b ∷ rule why.BadFlagHere c ∷ rule why.NoWidth d
+    ∷ rule why.TooNarrow e ∷ rule why.LeadingZero f ∷ []) ≡ None
     → (a ≡ false) × (b ≡ false) × (c ≡ false) × (d ≡ false) × (e ≡ false) × (f ≡ false)
 six false false false false false false h = (refl, refl, refl, refl, refl, refl)
 six _ _ _ _ _ _ h = absurd cc
@@ -61,7 +62,8 @@ pub record Pairs (c : PrintConv) (s : Conversion) : Type 0 where
 pub pairs : (c : PrintConv) (s : Conversion) → pairing_fault c s ≡ None → Pairs c s
 pairs c s e =
     let a = six (kinds_differ c s) (numbers_differ c s) (bad_flag c s) (has_no_width s) (too_narrow c s) (leading_zero c s) e in
-    let k = five c.minus (is_integer s.shape && eqb (least_digits c) 0) (not (is_integer s.shape) && is_some c.precision) (not (is_integer s.shape) && not (is_text s.shape) && nat_lt 0 c.width) (is_one c.letter && not (eqb (width_of s) 1)) a.2 in
+    let k = five c.minus (is_integer s.shape && eqb (least_digits c) 0) (not (is_integer s.shape) && is_some c.precision)
+    (not (is_integer s.shape) && not (is_text s.shape) && nat_lt 0 c.width) (is_one c.letter && not (eqb (width_of s) 1)) a.2 in
     let kinds = and_both (same_kind c.kind s.kind) (letters_pair c.letter s.shape) (not_none _ a.0) in
     record {
       same = kinds.0;

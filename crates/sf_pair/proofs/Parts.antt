@@ -89,21 +89,37 @@ module _ (laws : LawsBelow) (c : PrintConv) where
   -- the numerals of 0 and 1 have one digit
   pub zero_digit : (m : ℕ) → m ≡ 0 → digits (base_of c.letter) (is_upper c.letter) m ≡ 48 ∷ []
   zero_digit m e =
-      let digit : IsNumeralOf (base_of c.letter) (is_upper c.letter) 0 (48 ∷ []) = record { numeral = (lit≤ tt, (omega (arith, low), tt)); value = none (base_of c.letter); in_case = (refl, tt); shortest = λ h. refl } in
-      ap (digits (base_of c.letter) (is_upper c.letter)) e ∙ sym (laws.only_numeral (base_of c.letter) (is_upper c.letter) 0 (48 ∷ []) low (at_most_sixteen c.letter) (lit≤ tt) digit)
+      let digit : IsNumeralOf (base_of c.letter) (is_upper c.letter) 0 (48 ∷ []) =
+      record {
+        numeral = (lit≤ tt, (omega (arith, low), tt));
+        value = none (base_of c.letter);
+        in_case = (refl, tt);
+        shortest =
+            λ h. refl;
+      } in
+      ap (digits (base_of c.letter) (is_upper c.letter)) e ∙ sym (laws.only_numeral (base_of c.letter) (is_upper c.letter) 0 (48 ∷ []) low
+      (at_most_sixteen c.letter) (lit≤ tt) digit)
     where
       none : (r : ℕ) → 0 * r + 0 ≡ 0
       none r = omega arith
 
   pub one_digit : digits (base_of c.letter) (is_upper c.letter) 1 ≡ 49 ∷ []
   one_digit =
-      let digit : IsNumeralOf (base_of c.letter) (is_upper c.letter) 1 (49 ∷ []) = record { numeral = (lit≤ tt, (omega (arith, low), tt)); value = one (base_of c.letter); in_case = (refl, tt); shortest = λ h. refl } in
+      let digit : IsNumeralOf (base_of c.letter) (is_upper c.letter) 1 (49 ∷ []) =
+      record {
+        numeral = (lit≤ tt, (omega (arith, low), tt));
+        value = one (base_of c.letter);
+        in_case = (refl, tt);
+        shortest =
+            λ h. refl;
+      } in
       sym (laws.only_numeral (base_of c.letter) (is_upper c.letter) 1 (49 ∷ []) low (at_most_sixteen c.letter) (lit≤ tt) digit)
     where
       one : (r : ℕ) → 0 * r + 1 ≡ 1
       one r = omega arith
 
-pub fill : LawsBelow → (c : PrintConv) (m : ℕ) → 0 < least_digits c → 0 < length (digits (base_of c.letter) (is_upper c.letter) m) → Filled c m
+pub fill : LawsBelow → (c : PrintConv) (m : ℕ) → 0 < least_digits c → 0 < length (digits (base_of c.letter) (is_upper c.letter) m)
+    → Filled c m
 fill laws c m some any = by test refl
   where
     ds : List ℕ
@@ -133,7 +149,8 @@ fill laws c m some any = by test refl
       is = ap (λ (t : Bool). cond t (48 ∷ filled c (numeral c m)) (filled c (numeral c m))) e ∙ ap (λ (xs : List ℕ). 48 ∷ xs) filled_is;
       few = λ one no. let wrong : true ≡ false = sym e ∙ not_octal no in cc;
       enough = omega (arith, same);
-      of_zero = λ z. let wrong : true ≡ false = sym e ∙ not_opened (ap opens_with_zero filled_is ∙ zeros_first before ds (zero_digit laws c m z)) in cc;
+      of_zero = λ z. let wrong : true ≡ false = sym e ∙ not_opened
+          (ap opens_with_zero filled_is ∙ zeros_first before ds (zero_digit laws c m z)) in cc;
     }
     by false e = record {
       lead = before;
@@ -153,11 +170,14 @@ abbrev pub counted_length : PrintConv → ℤ → ℕ
 counted_length c z = length (prefix c z) + length (all_digits c (unsigned_abs z))
 
 pub parts_of : (c : PrintConv) (z : ℤ) (f : Filled c (unsigned_abs z)) → c.minus ≡ false
-    → integer_text c z ≡ blanks (left_blanks c (counted_length c z) + hidden c z) ++ (bare_sign c z ++ (mark c (unsigned_abs z) ++ (zeros (inner_zeros c (counted_length c z) + f.lead) ++ digits_of c z)))
+    → integer_text c z ≡ blanks (left_blanks c (counted_length c z) + hidden c z) ++
+    (bare_sign c z ++ (mark c (unsigned_abs z) ++ (zeros (inner_zeros c (counted_length c z) + f.lead) ++ digits_of c z)))
 parts_of c z f right =
     let m : ℕ = unsigned_abs z in
     let len : ℕ = counted_length c z in
     let none : right_blanks c len ≡ 0 = ap (λ (b : Bool). cond b (c.width - len) 0) right in
     (λ t. blanks (left_blanks c len) ++ (sign_is c z t ++ mark c m) ++ zeros (inner_zeros c len) ++ f.is t ++ blanks (none t))
-    ∙ regroup (blanks (left_blanks c len)) (blanks (hidden c z)) (bare_sign c z) (mark c m) (zeros (inner_zeros c len)) (zeros f.lead) (digits_of c z)
-    ∙ (λ t. replicate-append-replicate (left_blanks c len) (hidden c z) 32 t ++ (bare_sign c z ++ (mark c m ++ (replicate-append-replicate (inner_zeros c len) f.lead 48 t ++ digits_of c z))))
+    ∙ regroup (blanks (left_blanks c len)) (blanks (hidden c z)) (bare_sign c z) (mark c m) (zeros (inner_zeros c len)) (zeros f.lead)
+    (digits_of c z)
+    ∙ (λ t. replicate-append-replicate (left_blanks c len) (hidden c z) 32 t ++
+    (bare_sign c z ++ (mark c m ++ (replicate-append-replicate (inner_zeros c len) f.lead 48 t ++ digits_of c z))))

@@ -60,7 +60,8 @@ zero_test n e = grind (arith, nat_tests)
 one_test : (n : ℕ) → 0 < n → nat_lt 1 n ≡ false → n ≡ 1
 one_test n some e = grind (arith, nat_tests)
 
-no_sign : (c : PrintConv) (z : ℤ) → IsProperConv c → IsOfKind c.kind z → (l : PrintLetter) → c.letter ≡ l → has_flag l 43 ≡ false → has_flag l 32 ≡ false → ((k : Kind) → prints_kind l k ≡ true → is_unsigned k ≡ true) → NoSign c z
+no_sign : (c : PrintConv) (z : ℤ) → IsProperConv c → IsOfKind c.kind z → (l : PrintLetter) → c.letter ≡ l → has_flag l 43 ≡ false
+    → has_flag l 32 ≡ false → ((k : Kind) → prints_kind l k ≡ true → is_unsigned k ≡ true) → NoSign c z
 no_sign c z proper kind l e plus blank unsigned =
     let n = unsigned_number c.kind (unsigned c.kind (ap (λ (l : PrintLetter). prints_kind l c.kind) (sym e) ∙ proper.kind)) z kind in
     record {
@@ -84,30 +85,54 @@ marked_reading c z b base k n =
 has_mark : (c : PrintConv) (base : Base) (l : PrintLetter) → c.letter ≡ l → HasMark base l → HasMark base c.letter
 has_mark c base l e k = subst (HasMark base) (sym e) k
 
-first_is : (c : PrintConv) (l : PrintLetter) → c.letter ≡ l → ((s : Shape) → first_by_letter l c s ≡ integer_first c) → (s : Shape) → first_by_letter c.letter c s ≡ integer_first c
+first_is : (c : PrintConv) (l : PrintLetter) → c.letter ≡ l → ((s : Shape) → first_by_letter l c s ≡ integer_first c) → (s : Shape)
+    → first_by_letter c.letter c s ≡ integer_first c
 first_is c l e h s = ap (λ (l : PrintLetter). first_by_letter l c s) e ∙ h s
 
-reading : (c : PrintConv) (z : ℤ) (b : Body c z) → IsProperConv c → IsOfKind c.kind z → (l : PrintLetter) (base : Base) → c.letter ≡ l → letters_pair l (shape.Int base) ≡ true
+reading : (c : PrintConv) (z : ℤ) (b : Body c z) → IsProperConv c → IsOfKind c.kind z → (l : PrintLetter) (base : Base) → c.letter ≡ l
+    → letters_pair l (shape.Int base) ≡ true
     → (is_auto (shape.Int base) ≡ true → (least_digits c ≡ 1) × (pads_with_zeros c ≡ false)) → Reading c base z
 reading c z b proper kind letter.Signed Dec e pair auto =
     record { number = read_decimal c z b (ap base_of e) (ap base_mark e); sign = inl e; first = first_is c letter.Signed e (λ s. refl) }
 reading c z b proper kind letter.Signed Auto e pair auto =
     let a = auto refl in
-    record { number = read_auto c z b Auto refl refl (ap base_of e) (ap base_mark e) (ap is_octal e) a.0 a.1; sign = inl e; first = first_is c letter.Signed e (λ s. refl) }
+    record {
+      number = read_auto c z b Auto refl refl (ap base_of e) (ap base_mark e) (ap is_octal e) a.0 a.1;
+      sign = inl e;
+      first =
+          first_is c letter.Signed e (λ s. refl);
+    }
 reading c z b proper kind letter.Signed AutoBin e pair auto =
     let a = auto refl in
-    record { number = read_auto c z b AutoBin refl refl (ap base_of e) (ap base_mark e) (ap is_octal e) a.0 a.1; sign = inl e; first = first_is c letter.Signed e (λ s. refl) }
+    record {
+      number = read_auto c z b AutoBin refl refl (ap base_of e) (ap base_mark e) (ap is_octal e) a.0 a.1;
+      sign = inl e;
+      first =
+          first_is c letter.Signed e (λ s. refl);
+    }
 reading c z b proper kind letter.Unsigned Dec e pair auto =
-    record { number = read_decimal c z b (ap base_of e) (ap base_mark e); sign = inr (no_sign c z proper kind letter.Unsigned e refl refl (λ k h. h)); first = first_is c letter.Unsigned e (λ s. refl) }
+    record {
+      number = read_decimal c z b (ap base_of e) (ap base_mark e);
+      sign =
+          inr (no_sign c z proper kind letter.Unsigned e refl refl (λ k h. h));
+      first = first_is c letter.Unsigned e (λ s. refl);
+    }
 reading c z b proper kind letter.Octal Oct e pair auto =
-    record { number = read_octal c z b (ap base_of e) (ap base_mark e); sign = inr (no_sign c z proper kind letter.Octal e refl refl (λ k h. h)); first = first_is c letter.Octal e (λ s. refl) }
+    record {
+      number = read_octal c z b (ap base_of e) (ap base_mark e);
+      sign =
+          inr (no_sign c z proper kind letter.Octal e refl refl (λ k h. h));
+      first = first_is c letter.Octal e (λ s. refl);
+    }
 reading c z b proper kind letter.HexLower Hex e pair auto =
     let n = no_sign c z proper kind letter.HexLower e refl refl (λ k h. h) in
-    let k = has_mark c Hex letter.HexLower e (record { byte = 120; mark = refl; radix = refl; first = refl; zero = refl; small = lit≤ tt }) in
+    let k = has_mark c Hex letter.HexLower e (record { byte = 120; mark = refl; radix = refl; first = refl; zero = refl; small = lit≤ tt })
+    in
     record { number = marked_reading c z b Hex k n; sign = inr n; first = first_is c letter.HexLower e (λ s. refl) }
 reading c z b proper kind letter.HexUpper Hex e pair auto =
     let n = no_sign c z proper kind letter.HexUpper e refl refl (λ k h. h) in
-    let k = has_mark c Hex letter.HexUpper e (record { byte = 88; mark = refl; radix = refl; first = refl; zero = refl; small = lit≤ tt }) in
+    let k = has_mark c Hex letter.HexUpper e (record { byte = 88; mark = refl; radix = refl; first = refl; zero = refl; small = lit≤ tt })
+    in
     record { number = marked_reading c z b Hex k n; sign = inr n; first = first_is c letter.HexUpper e (λ s. refl) }
 reading c z b proper kind letter.Binary Bin e pair auto =
     let n = no_sign c z proper kind letter.Binary e refl refl (λ k h. h) in
@@ -115,7 +140,8 @@ reading c z b proper kind letter.Binary Bin e pair auto =
     record { number = marked_reading c z b Bin k n; sign = inr n; first = first_is c letter.Binary e (λ s. refl) }
 reading c z b proper kind _ _ e pair auto = absurd cc
 
-module _ (laws : LawsBelow) (c : PrintConv) (s : Conversion) (proper : IsProperConv c) (p : Pairs c s) (assigned : is_some s.slot ≡ true) where
+module _ (laws : LawsBelow) (c : PrintConv) (s : Conversion) (proper : IsProperConv c) (p : Pairs c s)
+    (assigned : is_some s.slot ≡ true) where
   at_int : (base : Base) → s.shape ≡ shape.Int base → is_integer s.shape ≡ true
   at_int base e = ap is_integer e
 
@@ -125,10 +151,12 @@ module _ (laws : LawsBelow) (c : PrintConv) (s : Conversion) (proper : IsProperC
       full_by : Shape → Bool
       full_by h = is_chars h || cond (is_integer h) (eqb (length (least c)) (width_of s)) (eqb (width_of s) 1)
 
-  pub auto_bare : (base : Base) → s.shape ≡ shape.Int base → 0 < least_digits c → is_auto (shape.Int base) ≡ true → (least_digits c ≡ 1) × (pads_with_zeros c ≡ false)
+  pub auto_bare : (base : Base) → s.shape ≡ shape.Int base → 0 < least_digits c → is_auto (shape.Int base) ≡ true
+      → (least_digits c ≡ 1) × (pads_with_zeros c ≡ false)
   auto_bare base e some auto =
       let zeros = pads_with_zeros c || nat_lt 1 (least_digits c) in
-      let h = or_none (pads_with_zeros c) (nat_lt 1 (least_digits c)) (sym (ap (λ (t : Bool). t && zeros) (ap is_auto e ∙ auto)) ∙ p.no_zeros) in
+      let h = or_none (pads_with_zeros c) (nat_lt 1 (least_digits c))
+      (sym (ap (λ (t : Bool). t && zeros) (ap is_auto e ∙ auto)) ∙ p.no_zeros) in
       (one_test (least_digits c) some h.1, h.0)
 
   pub some_digits : (base : Base) → s.shape ≡ shape.Int base → 0 < least_digits c
@@ -140,12 +168,14 @@ module _ (laws : LawsBelow) (c : PrintConv) (s : Conversion) (proper : IsProperC
 
   reading_is : (base : Base) (e : s.shape ≡ shape.Int base) (z : ℤ) (of_kind : IsOfKind c.kind z) → Reading c base z
   reading_is base e z of_kind =
-      reading c z (body_is base e z of_kind) proper of_kind c.letter base refl (ap (letters_pair c.letter) (sym e) ∙ p.letters) (auto_bare base e (some_digits base e))
+      reading c z (body_is base e z of_kind) proper of_kind c.letter base refl (ap (letters_pair c.letter) (sym e) ∙ p.letters)
+      (auto_bare base e (some_digits base e))
 
   pub number_is : (base : Base) → s.shape ≡ shape.Int base → (z : ℤ) → IsOfKind c.kind z → NumberRead base c z
   number_is base e z of_kind = (reading_is base e z of_kind).number
 
-  pub integer_reads_back : (base : Base) → s.shape ≡ shape.Int base → (k : Kind) (z : ℤ) → ValueFits c s (Number k z) → ReadsBack c s (Number k z)
+  pub integer_reads_back : (base : Base) → s.shape ≡ shape.Int base → (k : Kind) (z : ℤ) → ValueFits c s (Number k z)
+      → ReadsBack c s (Number k z)
   integer_reads_back base e k z fits =
       let of_kind : IsOfKind c.kind z = subst (λ (k : Kind). IsOfKind k z) fits.0 fits.1 in
       let b : Body c z = body_is base e z of_kind in
@@ -158,11 +188,13 @@ module _ (laws : LawsBelow) (c : PrintConv) (s : Conversion) (proper : IsProperC
         item = visible c z;
         text_is = b.text_is ∙ ap (λ (xs : List ℕ). blanks b.before ++ xs) (sym b.visible_is);
         skips = subst (λ (h : Shape). SkipsSo (shape_skips h) b.before (visible c z)) (sym e) (subst StartsInk (sym b.visible_is) b.ink);
-        takes = λ rest closed. integer_takes laws c s z base (width_of s) c.slot rest e width (slot_is c s p assigned) r.number (visible_some c z b) fits.2 (elim closed [
-          | inl full ↦ inl (omega (arith, int_full base e full, short, fits.2))
-          | inr out ↦ inr (subst (λ (h : Shape). FirstOut (stop_set h c) rest) e out)
-        ]);
-        stored = integer_stored laws c s z base (width_of s) c.slot [] e width (slot_is c s p assigned) r.number (visible_some c z b) fits.2 (subst (λ (k : Kind). IsOfKind k z) (kinds_are c.kind s.kind p.same) of_kind)
+        takes = λ rest closed. integer_takes laws c s z base (width_of s) c.slot rest e width (slot_is c s p assigned) r.number
+            (visible_some c z b) fits.2 (elim closed [
+              | inl full ↦ inl (omega (arith, int_full base e full, short, fits.2))
+              | inr out ↦ inr (subst (λ (h : Shape). FirstOut (stop_set h c) rest) e out)
+            ]);
+        stored = integer_stored laws c s z base (width_of s) c.slot [] e width (slot_is c s p assigned) r.number
+            (visible_some c z b) fits.2 (subst (λ (k : Kind). IsOfKind k z) (kinds_are c.kind s.kind p.same) of_kind)
             ∙ ap (λ (k : Kind). Stores c.slot (Number k z)) (sym (kinds_are c.kind s.kind p.same) ∙ sym fits.0);
         first = subst (λ (set : ByteTest). FirstIn set (integer_text c z)) (sym (r.first s.shape)) (integer_text_first c z b r.sign);
         first_byte = b.first_byte;
@@ -191,7 +223,8 @@ ink_first [] some all = absurd (omega arith)
 ink_first (b ∷ bs) some all = ap not all.0
 
 -- blanks before a text, where a width pads
-padded_first : (w k : ℕ) (xs : List ℕ) → (0 < k → 0 < w) → FirstIn is_ink xs → FirstIn (cond (ltb 0 w) (or (only 32) is_ink) is_ink) (blanks k ++ xs)
+padded_first : (w k : ℕ) (xs : List ℕ) → (0 < k → 0 < w) → FirstIn is_ink xs
+    → FirstIn (cond (ltb 0 w) (or (only 32) is_ink) is_ink) (blanks k ++ xs)
 padded_first w zero xs more f = by (ltb 0 w)
   where
     by : (t : Bool) → FirstIn (cond t (or (only 32) is_ink) is_ink) xs
@@ -207,9 +240,11 @@ no_precision None e = refl
 no_precision (Some k) e = absurd cc
 
 module _ (c : PrintConv) (s : Conversion) (p : Pairs c s) (assigned : is_some s.slot ≡ true) where
-  bytes_part : (bytes : List ℕ) → is_integer s.shape ≡ false → (c.letter ≡ letter.Text) ⊎ (c.letter ≡ letter.One) → bytes_text c bytes ≡ blanks (c.width - length bytes) ++ bytes
+  bytes_part : (bytes : List ℕ) → is_integer s.shape ≡ false → (c.letter ≡ letter.Text) ⊎ (c.letter ≡ letter.One)
+      → bytes_text c bytes ≡ blanks (c.width - length bytes) ++ bytes
   bytes_part bytes no_int l =
-      let precision : c.precision ≡ None = no_precision c.precision (sym (ap (λ (t : Bool). not t && is_some c.precision) no_int) ∙ p.whole) in
+      let precision : c.precision ≡ None = no_precision c.precision
+      (sym (ap (λ (t : Bool). not t && is_some c.precision) no_int) ∙ p.whole) in
       let shown : shown_bytes c.letter c.precision bytes ≡ bytes = elim l [
         | inl e ↦ (λ t. shown_bytes (e t) (precision t) bytes)
         | inr e ↦ (λ t. shown_bytes (e t) (precision t) bytes)
@@ -221,14 +256,18 @@ module _ (c : PrintConv) (s : Conversion) (p : Pairs c s) (assigned : is_some s.
   unpadded_width : is_integer s.shape ≡ false → is_text s.shape ≡ false → c.width ≡ 0
   unpadded_width no_int no_text = none_padded c.width (sym (λ t. not (no_int t) && not (no_text t) && nat_lt 0 c.width) ∙ p.unpadded)
 
-  text_full : (bytes : List ℕ) → is_chars s.shape ≡ false → is_integer s.shape ≡ false → 0 < length bytes → length bytes ≤ width_of s → always_full c s ≡ true → length bytes ≡ width_of s
+  text_full : (bytes : List ℕ) → is_chars s.shape ≡ false → is_integer s.shape ≡ false → 0 < length bytes → length bytes ≤ width_of s
+      → always_full c s ≡ true → length bytes ≡ width_of s
   text_full bytes no_chars no_int some fits full =
-      let one : eqb (width_of s) 1 ≡ true = sym (λ t. no_chars t || cond (no_int t) (eqb (length (least c)) (width_of s)) (eqb (width_of s) 1)) ∙ full in
+      let one : eqb (width_of s) 1 ≡ true = sym (λ t. no_chars t || cond (no_int t) (eqb (length (least c)) (width_of s))
+      (eqb (width_of s) 1)) ∙ full in
       omega (arith, eqb-true (width_of s) 1 one, some, fits)
 
-  pub text_reads_back : c.letter ≡ letter.Text → s.shape ≡ shape.Text → (bytes : List ℕ) → ValueFits c s (Bytes bytes) → ReadsBack c s (Bytes bytes)
+  pub text_reads_back : c.letter ≡ letter.Text → s.shape ≡ shape.Text → (bytes : List ℕ) → ValueFits c s (Bytes bytes)
+      → ReadsBack c s (Bytes bytes)
   text_reads_back l e bytes fits =
-      let h : (0 < length bytes) × AllByRecursion (λ b. is_white b ≡ false) bytes × (length bytes ≤ width_of s) = subst (λ (h : Shape). TextFits h (width_of s) bytes) e fits.1 in
+      let h : (0 < length bytes) × AllByRecursion (λ b. is_white b ≡ false) bytes × (length bytes ≤ width_of s) =
+      subst (λ (h : Shape). TextFits h (width_of s) bytes) e fits.1 in
       let no_int : is_integer s.shape ≡ false = ap is_integer e in
       let no_chars : is_chars s.shape ≡ false = ap is_chars e in
       let width : s.width ≡ Some (width_of s) = width_is s no_chars p.width in
@@ -242,16 +281,24 @@ module _ (c : PrintConv) (s : Conversion) (p : Pairs c s) (assigned : is_some s.
           | inr out ↦ inr (subst (λ (h : Shape). FirstOut (stop_set h c) rest) e out)
         ]);
         stored = text_stored s c.slot bytes (slot_is c s p assigned) e;
-        first = (first_so l e (bytes_part bytes no_int (inl l)) (padded_first c.width (c.width - length bytes) bytes (λ k. omega (arith, k)) (ink_first bytes h.0 h.1)));
-        first_byte = subst FirstByte (sym (bytes_part bytes no_int (inl l))) (blanks_byte (c.width - length bytes) bytes (text_byte bytes fits.0));
+        first = (first_so l e (bytes_part bytes no_int (inl l)) (padded_first c.width (c.width - length bytes) bytes
+            (λ k. omega (arith, k)) (ink_first bytes h.0 h.1)));
+        first_byte = subst FirstByte (sym (bytes_part bytes no_int (inl l)))
+            (blanks_byte (c.width - length bytes) bytes (text_byte bytes fits.0));
       }
     where
-      first_so : c.letter ≡ letter.Text → s.shape ≡ shape.Text → bytes_text c bytes ≡ blanks (c.width - length bytes) ++ bytes → FirstIn (first_by_letter letter.Text c shape.Text) (blanks (c.width - length bytes) ++ bytes) → FirstIn (first_by_letter c.letter c s.shape) (bytes_text c bytes)
-      first_so l e t f = subst (λ (xs : List ℕ). FirstIn (first_by_letter c.letter c s.shape) xs) (sym t) (subst (λ (a : PrintLetter). FirstIn (first_by_letter a c s.shape) (blanks (c.width - length bytes) ++ bytes)) (sym l) (subst (λ (h : Shape). FirstIn (first_by_letter letter.Text c h) (blanks (c.width - length bytes) ++ bytes)) (sym e) f))
+      first_so : c.letter ≡ letter.Text → s.shape ≡ shape.Text → bytes_text c bytes ≡ blanks (c.width - length bytes) ++ bytes
+          → FirstIn (first_by_letter letter.Text c shape.Text) (blanks (c.width - length bytes) ++ bytes)
+          → FirstIn (first_by_letter c.letter c s.shape) (bytes_text c bytes)
+      first_so l e t f = subst (λ (xs : List ℕ). FirstIn (first_by_letter c.letter c s.shape) xs) (sym t)
+          (subst (λ (a : PrintLetter). FirstIn (first_by_letter a c s.shape) (blanks (c.width - length bytes) ++ bytes)) (sym l)
+          (subst (λ (h : Shape). FirstIn (first_by_letter letter.Text c h) (blanks (c.width - length bytes) ++ bytes)) (sym e) f))
 
-  pub set_reads_back : c.letter ≡ letter.Text → (members : List Bool) → s.shape ≡ shape.Set members → (bytes : List ℕ) → ValueFits c s (Bytes bytes) → ReadsBack c s (Bytes bytes)
+  pub set_reads_back : c.letter ≡ letter.Text → (members : List Bool) → s.shape ≡ shape.Set members → (bytes : List ℕ)
+      → ValueFits c s (Bytes bytes) → ReadsBack c s (Bytes bytes)
   set_reads_back l members e bytes fits =
-      let h : (0 < length bytes) × AllByRecursion (λ b. has_byte members b ≡ true) bytes × (length bytes ≤ width_of s) = subst (λ (h : Shape). TextFits h (width_of s) bytes) e fits.1 in
+      let h : (0 < length bytes) × AllByRecursion (λ b. has_byte members b ≡ true) bytes × (length bytes ≤ width_of s) =
+      subst (λ (h : Shape). TextFits h (width_of s) bytes) e fits.1 in
       let no_int : is_integer s.shape ≡ false = ap is_integer e in
       let no_chars : is_chars s.shape ≡ false = ap is_chars e in
       let none : c.width - length bytes ≡ 0 = omega (arith, unpadded_width no_int (ap is_text e)) in
@@ -267,11 +314,14 @@ module _ (c : PrintConv) (s : Conversion) (p : Pairs c s) (assigned : is_some s.
           | inr out ↦ inr (subst (λ (h : Shape). FirstOut (stop_set h c) rest) e out)
         ]);
         stored = set_stored s members c.slot bytes (slot_is c s p assigned) e;
-        first = subst (λ (xs : List ℕ). FirstIn (first_by_letter c.letter c s.shape) xs) (sym whole) (subst (λ (a : PrintLetter). FirstIn (first_by_letter a c s.shape) bytes) (sym l) (subst (λ (h : Shape). FirstIn (first_by_letter letter.Text c h) bytes) (sym e) (all_first (has_byte members) bytes h.0 h.1)));
+        first = subst (λ (xs : List ℕ). FirstIn (first_by_letter c.letter c s.shape) xs) (sym whole)
+            (subst (λ (a : PrintLetter). FirstIn (first_by_letter a c s.shape) bytes) (sym l)
+            (subst (λ (h : Shape). FirstIn (first_by_letter letter.Text c h) bytes) (sym e) (all_first (has_byte members) bytes h.0 h.1)));
         first_byte = subst FirstByte (sym whole) (text_byte bytes fits.0);
       }
 
-  pub chars_reads_back : (c.letter ≡ letter.Text) ⊎ (c.letter ≡ letter.One) → s.shape ≡ shape.Chars → IsProperWidth s.width → IsSome s.width → (bytes : List ℕ) → ValueFits c s (Bytes bytes) → ReadsBack c s (Bytes bytes)
+  pub chars_reads_back : (c.letter ≡ letter.Text) ⊎ (c.letter ≡ letter.One) → s.shape ≡ shape.Chars → IsProperWidth s.width
+      → IsSome s.width → (bytes : List ℕ) → ValueFits c s (Bytes bytes) → ReadsBack c s (Bytes bytes)
   chars_reads_back l e proper sized bytes fits =
       let full : length bytes ≡ width_of s = subst (λ (h : Shape). TextFits h (width_of s) bytes) e fits.1 in
       let no_int : is_integer s.shape ≡ false = ap is_integer e in
@@ -286,10 +336,11 @@ module _ (c : PrintConv) (s : Conversion) (p : Pairs c s) (assigned : is_some s.
         skips = subst (λ (h : Shape). SkipsSo (shape_skips h) 0 bytes) (sym e) refl;
         takes = λ rest closed. chars_takes s (width_of s) bytes rest e some_width.0 some full;
         stored = chars_stored s c.slot bytes (slot_is c s p assigned) e;
-        first = subst (λ (xs : List ℕ). FirstIn (first_by_letter c.letter c s.shape) xs) (sym whole) (subst (λ (h : Shape). FirstIn (first_by_letter c.letter c h) bytes) (sym e) (elim l [
-          | inl t ↦ subst (λ (a : PrintLetter). FirstIn (first_by_letter a c shape.Chars) bytes) (sym t) (any_first bytes some)
-          | inr t ↦ subst (λ (a : PrintLetter). FirstIn (first_by_letter a c shape.Chars) bytes) (sym t) (any_first bytes some)
-        ]));
+        first = subst (λ (xs : List ℕ). FirstIn (first_by_letter c.letter c s.shape) xs) (sym whole)
+            (subst (λ (h : Shape). FirstIn (first_by_letter c.letter c h) bytes) (sym e) (elim l [
+              | inl t ↦ subst (λ (a : PrintLetter). FirstIn (first_by_letter a c shape.Chars) bytes) (sym t) (any_first bytes some)
+              | inr t ↦ subst (λ (a : PrintLetter). FirstIn (first_by_letter a c shape.Chars) bytes) (sym t) (any_first bytes some)
+            ]));
         first_byte = subst FirstByte (sym whole) (text_byte bytes fits.0);
       }
     where
@@ -303,19 +354,25 @@ no_number : (k : Kind) (z : ℤ) → is_text_kind k ≡ true → IsOfKind k z �
 no_number kind.Text z e h = no_number_of_text z h
 no_number _ z e h = cc
 
-pub reads_back : LawsBelow → (c : PrintConv) (s : Conversion) (v : Datum) → IsProperConv c → IsProperWidth s.width → HasItsWidth s.shape s.width → Pairs c s → is_some s.slot ≡ true → ValueFits c s v → ReadsBack c s v
+pub reads_back : LawsBelow → (c : PrintConv) (s : Conversion) (v : Datum) → IsProperConv c → IsProperWidth s.width
+    → HasItsWidth s.shape s.width → Pairs c s → is_some s.slot ≡ true → ValueFits c s v → ReadsBack c s v
 reads_back laws c s v proper width sized p assigned fits = by c.letter s.shape refl refl p.letters v fits
   where
-    none_of : (l : PrintLetter) → c.letter ≡ l → ((k : Kind) → prints_kind l k ≡ true → is_text_kind k ≡ true) → (k : Kind) (z : ℤ) → ValueFits c s (Number k z) → ⊥
-    none_of l a text k z f = no_number c.kind z (text c.kind (ap (λ (l : PrintLetter). prints_kind l c.kind) (sym a) ∙ proper.kind)) (subst (λ (k : Kind). IsOfKind k z) f.0 f.1)
+    none_of : (l : PrintLetter) → c.letter ≡ l → ((k : Kind) → prints_kind l k ≡ true → is_text_kind k ≡ true) → (k : Kind) (z : ℤ)
+        → ValueFits c s (Number k z) → ⊥
+    none_of l a text k z f = no_number c.kind z (text c.kind (ap (λ (l : PrintLetter). prints_kind l c.kind) (sym a) ∙ proper.kind))
+        (subst (λ (k : Kind). IsOfKind k z) f.0 f.1)
 
-    by : (l : PrintLetter) (h : Shape) → c.letter ≡ l → s.shape ≡ h → letters_pair l h ≡ true → (v : Datum) → ValueFits c s v → ReadsBack c s v
+    by : (l : PrintLetter) (h : Shape) → c.letter ≡ l → s.shape ≡ h → letters_pair l h ≡ true → (v : Datum) → ValueFits c s v
+        → ReadsBack c s v
     by l (shape.Int base) a e pair (Number k z) f = integer_reads_back laws c s proper p assigned base e k z f
     by l (shape.Int base) a e pair (Bytes bytes) f = absurd (subst (λ (h : Shape). TextFits h (width_of s) bytes) e f.1)
     by letter.Text shape.Text a e pair (Bytes bytes) f = text_reads_back c s p assigned a e bytes f
     by letter.Text (shape.Set members) a e pair (Bytes bytes) f = set_reads_back c s p assigned a members e bytes f
-    by letter.Text shape.Chars a e pair (Bytes bytes) f = chars_reads_back c s p assigned (inl a) e width (subst (λ (h : Shape). HasItsWidth h s.width) e sized) bytes f
-    by letter.One shape.Chars a e pair (Bytes bytes) f = chars_reads_back c s p assigned (inr a) e width (subst (λ (h : Shape). HasItsWidth h s.width) e sized) bytes f
+    by letter.Text shape.Chars a e pair (Bytes bytes) f = chars_reads_back c s p assigned (inl a) e width
+        (subst (λ (h : Shape). HasItsWidth h s.width) e sized) bytes f
+    by letter.One shape.Chars a e pair (Bytes bytes) f = chars_reads_back c s p assigned (inr a) e width
+        (subst (λ (h : Shape). HasItsWidth h s.width) e sized) bytes f
     by letter.Text h a e pair (Number k z) f = absurd (none_of letter.Text a (λ k h. h) k z f)
     by letter.One h a e pair (Number k z) f = absurd (none_of letter.One a (λ k h. h) k z f)
     by _ _ a e pair v f = absurd cc

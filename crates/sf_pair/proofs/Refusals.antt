@@ -29,13 +29,23 @@ use Rattle.sf_pair.proofs.Stops.{follows, literal_never, unclosed, stops_by, sto
 
 space_skipped : (us : List PrintUnit) → AreSpace us → skip (printed us [] ++ 32 ∷ []) ≡ length (printed us []) + 1
 space_skipped [] h = refl
-space_skipped (unit.Byte b ∷ us) h = ap (λ (t : Bool). cond t (suc (skip (printed us [] ++ 32 ∷ []))) 0) h.0 ∙ (let e = space_skipped us h.1 in omega (arith, e))
+space_skipped (unit.Byte b ∷ us) h = ap (λ (t : Bool). cond t (suc (skip (printed us [] ++ 32 ∷ []))) 0) h.0
+    ∙ (let e = space_skipped us h.1 in omega (arith, e))
 space_skipped (unit.Conv c ∷ us) h = absurd h
 
 space_runs_past : LawsBelow → (us : List PrintUnit) → AreSpace us → RunsPast directive.Space us
 space_runs_past laws us h =
-    let x : List ℕ = printed us [] ++ 32 ∷ [] in
-    (printed us [], 32, lit≤ tt, refl, λ n. (Passes, subst (λ (k : ℕ). Step directive.Space x n k Passes) (space_skipped us h) ((laws.steps directive.Space tt x n (skip x) Passes).1 refl)))
+    let x : List ℕ = printed us [] ++ 32 ∷ [] in (
+      printed us [],
+      32,
+      lit≤ tt,
+      refl,
+      λ n. (
+        Passes,
+        subst (λ (k : ℕ). Step directive.Space x n k Passes) (space_skipped us h)
+            ((laws.steps directive.Space tt x n (skip x) Passes).1 refl),
+      ),
+    )
 
 none_left : (us kept : List PrintUnit) (read : Shape) → leaves (space_fault us read) kept ≡ Err why.OpenEnd → us ≡ []
 none_left [] kept read e = refl
@@ -48,7 +58,8 @@ none_left (u ∷ us) kept read e = by (keeps_space read && meet (first_by u read
 space_open : (us : List PrintUnit) (next : Option Directive) → take_space us next ≡ Err why.OpenEnd → AreSpace us
 space_open us next e = by (starts_with_space us) e
   where
-    by : (t : Bool) → cond t (leaves (space_fault (after_space us) (reads next)) (after_space us)) (Err why.NotAligned) ≡ Err why.OpenEnd → AreSpace us
+    by : (t : Bool) → cond t (leaves (space_fault (after_space us) (reads next)) (after_space us)) (Err why.NotAligned) ≡ Err why.OpenEnd
+        → AreSpace us
     by false e = absurd cc
     by true e =
         let f = space_front us in
@@ -57,10 +68,12 @@ space_open us next e = by (starts_with_space us) e
 
 -- ---- conversions
 
-closed_open : (c : PrintConv) (s : Conversion) (us : List PrintUnit) (read : Shape) → closing_fault c s us read ≡ Some why.OpenEnd → (always_full c s ≡ false) × (us ≡ [])
+closed_open : (c : PrintConv) (s : Conversion) (us : List PrintUnit) (read : Shape) → closing_fault c s us read ≡ Some why.OpenEnd
+    → (always_full c s ≡ false) × (us ≡ [])
 closed_open c s us read e = by (always_full c s) us e
   where
-    by : (t : Bool) (us : List PrintUnit) → cond t None (follow_fault (stop_set s.shape c) us read) ≡ Some why.OpenEnd → (t ≡ false) × (us ≡ [])
+    by : (t : Bool) (us : List PrintUnit) → cond t None (follow_fault (stop_set s.shape c) us read) ≡ Some why.OpenEnd
+        → (t ≡ false) × (us ≡ [])
     by true us e = absurd cc
     by false [] e = (refl, refl)
     by false (u ∷ us) e = met (meet (first_by u read) (stop_set s.shape c)) e
@@ -69,7 +82,8 @@ closed_open c s us read e = by (always_full c s) us e
         met true e = absurd cc
         met false e = absurd cc
 
-closed_on : (c : PrintConv) (s : Conversion) (b : ℕ) (us : List PrintUnit) (read : Shape) → closing_fault c s (unit.Byte b ∷ us) read ≡ Some why.RunsOn → (always_full c s ≡ false) × (meet (only b) (stop_set s.shape c) ≡ true)
+closed_on : (c : PrintConv) (s : Conversion) (b : ℕ) (us : List PrintUnit) (read : Shape)
+    → closing_fault c s (unit.Byte b ∷ us) read ≡ Some why.RunsOn → (always_full c s ≡ false) × (meet (only b) (stop_set s.shape c) ≡ true)
 closed_on c s b us read e = by (always_full c s) (meet (only b) (stop_set s.shape c)) e
   where
     by : (t m : Bool) → cond t None (cond m (Some why.RunsOn) None) ≡ Some why.RunsOn → (t ≡ false) × (m ≡ true)
@@ -77,7 +91,8 @@ closed_on c s b us read e = by (always_full c s) (meet (only b) (stop_set s.shap
     by false true e = (refl, refl)
     by false false e = absurd cc
 
-open_here : LawsBelow → (d : Directive) (us : List PrintUnit) (next : Option Directive) → IsProper d → IsSized d → AreProperUnits us → take_group d us next ≡ Err why.OpenEnd → RunsPast d us
+open_here : LawsBelow → (d : Directive) (us : List PrintUnit) (next : Option Directive) → IsProper d → IsSized d → AreProperUnits us
+    → take_group d us next ≡ Err why.OpenEnd → RunsPast d us
 open_here laws directive.Space us next proper sized units e = space_runs_past laws us (space_open us next e)
 open_here laws (directive.Byte b) us next proper sized units e = absurd (literal_never why.OpenEnd refl (only b) us e)
 open_here laws directive.Percent us next proper sized units e = absurd (literal_never why.OpenEnd refl (only 37) us e)
@@ -86,10 +101,12 @@ open_here laws (directive.Conv s) us next proper sized units e =
     let k = closed_open o.conversion s o.rest (reads next) o.closing in
     let units_are : us ≡ unit.Conv o.conversion ∷ [] = o.units_are ∙ ap (λ (t : List PrintUnit). unit.Conv o.conversion ∷ t) k.1 in
     let here : IsProperConv o.conversion × Unit {0} = subst AreProperUnits units_are units in
-    subst (RunsPast (directive.Conv s)) (sym units_are) (runs_past laws o.conversion s here.0 proper sized (pairs o.conversion s o.pairing) o.assigned k.0)
+    subst (RunsPast (directive.Conv s)) (sym units_are) (runs_past laws o.conversion s here.0 proper sized
+    (pairs o.conversion s o.pairing) o.assigned k.0)
 
 -- a literal that follows is taken too
-on_here : LawsBelow → (d : Directive) (us : List PrintUnit) (next : Option Directive) → IsProper d → IsSized d → AreProperUnits us → take_group d us next ≡ Err why.RunsOn → RunsInto d us
+on_here : LawsBelow → (d : Directive) (us : List PrintUnit) (next : Option Directive) → IsProper d → IsSized d → AreProperUnits us
+    → take_group d us next ≡ Err why.RunsOn → RunsInto d us
 on_here laws directive.Space us next proper sized units e = tt
 on_here laws (directive.Byte b) us next proper sized units e = tt
 on_here laws directive.Percent us next proper sized units e = tt
@@ -107,10 +124,20 @@ on_here laws (directive.Conv s) (unit.Conv c ∷ unit.Byte b ∷ us) next proper
 
 pub open_ends_are_open : LawsBelow → OpenEndsAreOpen
 open_ends_are_open laws us ds accepted proper f e is =
-    let m = stops_by us ds accepted proper f (ap follows is) e in
-    (m.stopper, m.left, stops_at us ds f m, open_here laws m.stopper m.left (next_of m.after) m.proper m.sized m.units (m.refused ∙ ap Err is))
+    let m = stops_by us ds accepted proper f (ap follows is) e in (
+      m.stopper,
+      m.left,
+      stops_at us ds f m,
+      open_here laws m.stopper m.left (next_of m.after) m.proper m.sized m.units
+          (m.refused ∙ ap Err is),
+    )
 
 pub literals_are_run_into : LawsBelow → LiteralsAreRunInto
 literals_are_run_into laws us ds accepted proper f e is =
-    let m = stops_by us ds accepted proper f (ap follows is) e in
-    (m.stopper, m.left, stops_at us ds f m, on_here laws m.stopper m.left (next_of m.after) m.proper m.sized m.units (m.refused ∙ ap Err is))
+    let m = stops_by us ds accepted proper f (ap follows is) e in (
+      m.stopper,
+      m.left,
+      stops_at us ds f m,
+      on_here laws m.stopper m.left (next_of m.after) m.proper m.sized m.units
+          (m.refused ∙ ap Err is),
+    )

@@ -19,7 +19,8 @@ use Rattle.sf_pair.proofs.Taken.{len_is, by_shape}
 use Rattle.sf_pair.proofs.ReadBack.{SkipsSo, ReadsBack}
 use Rattle.sf_pair.proofs.Ahead.{skip_blanks}
 
-module _ (laws : LawsBelow) (c : PrintConv) (s : Conversion) (v : Datum) (proper : IsProper (Conv s)) (r : ReadsBack c s v) (item : has_item s.shape ≡ true) (b : ℕ) (more : can_take s (r.item ++ b ∷ []) ≡ true) where
+module _ (laws : LawsBelow) (c : PrintConv) (s : Conversion) (v : Datum) (proper : IsProper (Conv s)) (r : ReadsBack c s v)
+    (item : has_item s.shape ≡ true) (b : ℕ) (more : can_take s (r.item ++ b ∷ []) ≡ true) where
   whole : value_text c v ++ b ∷ [] ≡ blanks r.before ++ (r.item ++ b ∷ [])
   whole = ap (λ (t : List ℕ). t ++ b ∷ []) r.text_is ∙ append_assoc (blanks r.before) r.item (b ∷ [])
 
@@ -33,17 +34,23 @@ module _ (laws : LawsBelow) (c : PrintConv) (s : Conversion) (v : Datum) (proper
       let x : List ℕ = value_text c v ++ b ∷ [] in
       let all_of : List ℕ = r.item ++ b ∷ [] in
       let before : skip_before s.shape x ≡ r.before = skipped_by s.shape r.skips in
-      let rest : drop (skip_before s.shape x) x ≡ all_of = (λ i. drop (before i) (whole i)) ∙ drop_at (blanks r.before) all_of r.before (length-replicate r.before 32) in
+      let rest : drop (skip_before s.shape x) x ≡ all_of = (λ i. drop (before i) (whole i))
+      ∙ drop_at (blanks r.before) all_of r.before (length-replicate r.before 32) in
       let all : len s [] all_of ≡ length all_of = ap (len s []) (sym (append-nil all_of)) ∙ len_is laws s [] all_of [] more tt in
       let taken : len s [] (drop (skip_before s.shape x) x) ≡ length all_of = ap (len s []) rest ∙ all in
-      let text : length (value_text c v) ≡ r.before + length r.item = ap length r.text_is ∙ omega (arith, length-append (blanks r.before) r.item, length-replicate {A = ℕ} r.before 32) in
+      let text : length (value_text c v) ≡ r.before + length r.item =
+      ap length r.text_is ∙ omega (arith, length-append (blanks r.before) r.item, length-replicate {A = ℕ} r.before 32) in
       ap (λ (k : ℕ × StepEnd). k.0) (by_shape s s.shape x 0 item) ∙ omega (arith, before, taken, text, length-append r.item (b ∷ []))
 
   takes_at : (n : ℕ) → (step_of (Conv s) (value_text c v ++ b ∷ []) n).0 ≡ (step_of (Conv s) (value_text c v ++ b ∷ []) 0).0
-  takes_at n = ap (λ (k : ℕ × StepEnd). k.0) (by_shape s s.shape (value_text c v ++ b ∷ []) n item ∙ sym (by_shape s s.shape (value_text c v ++ b ∷ []) 0 item))
+  takes_at n = ap (λ (k : ℕ × StepEnd). k.0) (by_shape s s.shape (value_text c v ++ b ∷ []) n item
+      ∙ sym (by_shape s s.shape (value_text c v ++ b ∷ []) 0 item))
 
   -- the step of the conversion takes the byte behind the text too
   pub takes_too : TakesToo (Conv s) (value_text c v) b
   takes_too n =
-      let x : List ℕ = value_text c v ++ b ∷ [] in
-      ((step_of (Conv s) x n).1, subst (λ (k : ℕ). Step (Conv s) x n k (step_of (Conv s) x n).1) (takes_at n ∙ takes_bytes) ((laws.steps (Conv s) proper x n (step_of (Conv s) x n).0 (step_of (Conv s) x n).1).1 refl))
+      let x : List ℕ = value_text c v ++ b ∷ [] in (
+        (step_of (Conv s) x n).1,
+        subst (λ (k : ℕ). Step (Conv s) x n k (step_of (Conv s) x n).1) (takes_at n ∙ takes_bytes)
+            ((laws.steps (Conv s) proper x n (step_of (Conv s) x n).0 (step_of (Conv s) x n).1).1 refl),
+      )

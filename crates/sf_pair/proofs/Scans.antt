@@ -34,7 +34,8 @@ use Rattle.sf_pair.proofs.Bounds.{read_within}
 take_past : (xs ys : List ℕ) (n : ℕ) → length xs ≤ n → take n (xs ++ ys) ≡ xs ++ take (n - length xs) ys
 take_past [] ys n h = ap (λ (k : ℕ). take k ys) {x = n} {y = n - 0} (omega arith)
 take_past (x ∷ xs) ys zero h = absurd (omega arith)
-take_past (x ∷ xs) ys (suc n) h = ap (λ (t : List ℕ). x ∷ t) (take_past xs ys n (omega arith)) ∙ ap (λ (k : ℕ). x ∷ (xs ++ take k ys)) {x = n - length xs} {y = suc n - length (x ∷ xs)} (omega arith)
+take_past (x ∷ xs) ys (suc n) h = ap (λ (t : List ℕ). x ∷ t) (take_past xs ys n (omega arith))
+    ∙ ap (λ (k : ℕ). x ∷ (xs ++ take k ys)) {x = n - length xs} {y = suc n - length (x ∷ xs)} (omega arith)
 
 take_at : (xs ys : List ℕ) → take (length xs) (xs ++ ys) ≡ xs
 take_at [] ys = refl
@@ -54,8 +55,11 @@ le_or_lt zero k = inl (omega arith)
 le_or_lt (suc n) zero = inr (omega arith)
 le_or_lt (suc n) (suc k) = elim (le_or_lt n k) [ inl h ↦ inl (omega arith) | inr h ↦ inr (omega arith) ]
 
-module _ (laws : LawsBelow) {S : Type 0} (to_come : S → Option (List ℕ)) (reads : S → ℕ) (N : ℕ) (us : List PrintUnit) (ds : List Directive) (accepted : AreAccepted us) (proper : IsAccepted ds) (aligned : IsAligned us ds) (values : List Datum) (fit : Fit us ds values)
-    (m : ℕ) (fits : length (printed us values) ≤ m) (z : List ℕ) (old new : Ahead S) (report : RunReport) (scan : Scan to_come ds m (printed us values ++ z) old new report) (stored : is_memory_status report.status ≡ false) where
+module _ (laws : LawsBelow) {S : Type 0} (to_come : S → Option (List ℕ)) (reads : S → ℕ) (N : ℕ) (us : List PrintUnit)
+    (ds : List Directive) (accepted : AreAccepted us) (proper : IsAccepted ds) (aligned : IsAligned us ds) (values : List Datum)
+    (fit : Fit us ds values)
+    (m : ℕ) (fits : length (printed us values) ≤ m) (z : List ℕ) (old new : Ahead S) (report : RunReport)
+    (scan : Scan to_come ds m (printed us values ++ z) old new report) (stored : is_memory_status report.status ≡ false) where
   -- the source didn't fail
   whole : is_fault report.met ≡ false → report ≡ read_back us ds values
   whole e = elim (scan.whole e) [
@@ -89,13 +93,16 @@ module _ (laws : LawsBelow) {S : Type 0} (to_come : S → Option (List ℕ)) (re
   pub rest_is : (is_fault report.met ≡ false) ⊎ (length (printed us values) ≤ report.used) → input_of to_come new ≡ Some z
   rest_is h =
       let used : report.used ≡ length (printed us values) = ap (λ (r : RunReport). r.used) (report_is h) in
-      scan.rest ∙ ap Some (ap (λ (k : ℕ). drop k (printed us values ++ z)) used ∙ drop_at (printed us values) z (length (printed us values)) refl)
+      scan.rest ∙ ap Some (ap (λ (k : ℕ). drop k (printed us values ++ z)) used
+      ∙ drop_at (printed us values) z (length (printed us values)) refl)
 
-  pub not_after : (h : (is_fault report.met ≡ false) ⊎ (length (printed us values) ≤ report.used)) → input_of to_come old ≡ Some (printed us values ++ z)
+  pub not_after : (h : (is_fault report.met ≡ false) ⊎ (length (printed us values) ≤ report.used))
+      → input_of to_come old ≡ Some (printed us values ++ z)
       → WaitedFor to_come reads N ds m old new report.used → NotReadAfter to_come reads N (printed us values) old new
   not_after h input (bytes, used, r) =
       let text : List ℕ = printed us values in
-      let whole : text ++ z ≡ bytes ++ z = input_is (to_come old.source) (to_come new.source) old.held new.held bytes (concat r.blocks) (text ++ z) z input (rest_is h) r.gave r.taken in
+      let whole : text ++ z ≡ bytes ++ z = input_is (to_come old.source) (to_come new.source) old.held new.held bytes (concat r.blocks)
+      (text ++ z) z input (rest_is h) r.gave r.taken in
       let is : text ≡ bytes = append_cancel_right text bytes z whole in
       let gave : text ++ new.held ≡ old.held ++ concat r.blocks = ap (λ (t : List ℕ). t ++ new.held) is ∙ r.gave in
       record {
@@ -107,8 +114,10 @@ module _ (laws : LawsBelow) {S : Type 0} (to_come : S → Option (List ℕ)) (re
         at_end = r.at_end;
         each = λ front block back e.
             let one = r.each front block back e in
-            let parts : text ++ new.held ≡ (old.held ++ concat front) ++ concat (block ∷ back) = gave ∙ ap (λ (bs : List (List ℕ)). old.held ++ concat bs) e
-            ∙ ap (λ (t : List ℕ). old.held ++ t) (concat-append front (block ∷ back)) ∙ sym (append_assoc old.held (concat front) (concat (block ∷ back))) in
+            let parts : text ++ new.held ≡ (old.held ++ concat front) ++ concat (block ∷ back) =
+            gave ∙ ap (λ (bs : List (List ℕ)). old.held ++ concat bs) e
+            ∙ ap (λ (t : List ℕ). old.held ++ t) (concat-append front (block ∷ back))
+            ∙ sym (append_assoc old.held (concat front) (concat (block ∷ back))) in
             record {
               few = one.few;
               waited = asked (old.held ++ concat front) (concat (block ∷ back)) parts one.waited.0;
@@ -117,7 +126,8 @@ module _ (laws : LawsBelow) {S : Type 0} (to_come : S → Option (List ℕ)) (re
             };
       }
 
-pub all_ok : {A E : Type 0} {P Q R T : A → Type 0} (r : Result A E) → IfOk r P → IfOk r Q → IfOk r R → ((a : A) → P a → Q a → R a → T a) → IfOk r T
+pub all_ok : {A E : Type 0} {P Q R T : A → Type 0} (r : Result A E) → IfOk r P → IfOk r Q → IfOk r R → ((a : A) → P a → Q a → R a → T a)
+    → IfOk r T
 all_ok (Ok a) p q r f = f a p q r
 all_ok (Err e) p q r f = tt
 
@@ -125,7 +135,8 @@ pub some_none : (o : Option ℕ) → IsSome o → o ≡ None → ⊥
 some_none o some e = let wrong : is_some {T = ℕ} None ≡ true = ap is_some (sym e) ∙ some in absurd cc
 
 -- what is known of a pair's formats, as a contract sees them
-pub checked_of : (us : List PrintUnit) (ds : List Directive) (f : Formats) → record { print = us; scan = ds } ≡ f → IsChecked us ds → IsChecked f.print f.scan
+pub checked_of : (us : List PrintUnit) (ds : List Directive) (f : Formats) → record { print = us; scan = ds } ≡ f → IsChecked us ds
+    → IsChecked f.print f.scan
 checked_of us ds f e h = subst (λ (f : Formats). IsChecked f.print f.scan) e h
 
 pub same_scan : (us : List PrintUnit) (ds : List Directive) (f : Formats) → record { print = us; scan = ds } ≡ f → ds ≡ f.scan
@@ -134,16 +145,21 @@ same_scan us ds f e = ap (λ (f : Formats). f.scan) e
 pub aligned_of : (us : List PrintUnit) (ds : List Directive) → IsChecked us ds → IsAligned us ds
 aligned_of us ds checked = (aligned_is_accepted us ds).0 checked.found
 
-pub reads_whole : LawsBelow → {S : Type 0} (to_come : S → Option (List ℕ)) (reads : S → ℕ) (N : ℕ) (us : List PrintUnit) (ds : List Directive) → IsChecked us ds → (values : List Datum) → Fit us ds values
-    → (m : ℕ) → length (printed us values) ≤ m → (z : List ℕ) (old new : Ahead S) (report : RunReport) → Scan to_come ds m (printed us values ++ z) old new report → is_memory_status report.status ≡ false
+pub reads_whole : LawsBelow → {S : Type 0} (to_come : S → Option (List ℕ)) (reads : S → ℕ) (N : ℕ) (us : List PrintUnit)
+    (ds : List Directive) → IsChecked us ds → (values : List Datum) → Fit us ds values
+    → (m : ℕ) → length (printed us values) ≤ m → (z : List ℕ) (old new : Ahead S) (report : RunReport)
+    → Scan to_come ds m (printed us values ++ z) old new report → is_memory_status report.status ≡ false
     → input_of to_come old ≡ Some (printed us values ++ z) → WaitedFor to_come reads N ds m old new report.used
     → ReadsBackWhole to_come reads N us ds values z old new report
 reads_whole laws to_come reads N us ds checked values fit m fits z old new report scan stored input waited = λ h.
     let aligned : IsAligned us ds = aligned_of us ds checked in
-    let is : report ≡ read_back us ds values = report_is laws to_come reads N us ds checked.printed checked.scanned aligned values fit m fits z old new report scan stored h in
+    let is : report ≡ read_back us ds values = report_is laws to_come reads N us ds checked.printed checked.scanned aligned values fit m
+    fits z old new report scan stored h in
     record {
       report_is = is;
-      row = subst (AreRowOf (length values) values) (sym (ap (λ (r : RunReport). r.values) is)) (row_of_printed laws us values checked.printed fit.count);
+      row = subst (AreRowOf (length values) values) (sym (ap (λ (r : RunReport). r.values) is))
+          (row_of_printed laws us values checked.printed fit.count);
       left = rest_is laws to_come reads N us ds checked.printed checked.scanned aligned values fit m fits z old new report scan stored h;
-      read = not_after laws to_come reads N us ds checked.printed checked.scanned aligned values fit m fits z old new report scan stored h input waited;
+      read = not_after laws to_come reads N us ds checked.printed checked.scanned aligned values fit m fits z old new report scan stored h
+          input waited;
     }

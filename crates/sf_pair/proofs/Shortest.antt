@@ -13,17 +13,21 @@ plus_sign = 43 ∷ []
 abbrev size_by : Bool → ℕ → ℕ → ℕ → ℕ → ℕ → ℕ
 size_by pads width h v k n = v + k + cond pads (width - (h + v + k + n)) 0 + n
 
-size_more : (pads : Bool) (w h v k n h' v' k' n' : ℕ) → h' + v' ≤ 1 → h + v ≤ 1 → v ≤ v' → h' ≤ h → k ≤ k' → n ≤ n' → size_by pads w h v k n ≤ size_by pads w h' v' k' n'
+size_more : (pads : Bool) (w h v k n h' v' k' n' : ℕ) → h' + v' ≤ 1 → h + v ≤ 1 → v ≤ v' → h' ≤ h → k ≤ k' → n ≤ n'
+    → size_by pads w h v k n ≤ size_by pads w h' v' k' n'
 size_more true w h v k n h' v' k' n' one' one a b d e = omega arith
 size_more false w h v k n h' v' k' n' one' one a b d e = omega arith
 
-pub visible_size : (c : PrintConv) (z : ℤ) (b : Body c z) → length (visible c z) ≡ size_by (pads_with_zeros c) c.width (hidden c z) (length (bare_sign c z)) (length (mark c (unsigned_abs z))) (b.lead + length (digits_of c z))
+pub visible_size : (c : PrintConv) (z : ℤ) (b : Body c z) → length (visible c z)
+    ≡ size_by (pads_with_zeros c) c.width (hidden c z) (length (bare_sign c z)) (length (mark c (unsigned_abs z)))
+    (b.lead + length (digits_of c z))
 visible_size c z b =
     let m : ℕ = unsigned_abs z in
     let n : ℕ = b.lead + length (digits_of c z) in
     let seen : length (visible c z) ≡ length (bare_sign c z) + (length (mark c m) + length b.body) =
     ap length b.visible_is ∙ omega (arith, length-append (bare_sign c z) (mark c m ++ b.body), length-append (mark c m) b.body) in
-    let inner : inner_zeros c (counted_length c z) ≡ cond (pads_with_zeros c) (c.width - (hidden c z + length (bare_sign c z) + length (mark c m) + n)) 0 = ap (inner_zeros c) b.counted in
+    let inner : inner_zeros c (counted_length c z) ≡ cond (pads_with_zeros c)
+    (c.width - (hidden c z + length (bare_sign c z) + length (mark c m) + n)) 0 = ap (inner_zeros c) b.counted in
     omega (arith, seen, b.size, inner)
 
 signs : (p b : Bool) → cond p 0 (cond b 1 0) + length (cond p plus_sign []) ≤ 1
@@ -49,8 +53,20 @@ pub record SignSizes (c : PrintConv) (z : ℤ) : Type 0 where
   pub no_blanker : hidden c z ≤ hidden c (pos 0)
 
 sign_sizes : (c : PrintConv) (z : ℤ) → SignSizes c z
-sign_sizes c (pos n) = record { here = signs c.plus c.blank; zero_here = signs c.plus c.blank; no_longer = omega arith; no_blanker = omega arith }
-sign_sizes c (negsuc n) = record { here = omega arith; zero_here = signs c.plus c.blank; no_longer = one_at_most c.plus; no_blanker = omega arith }
+sign_sizes c (pos n) = record {
+  here = signs c.plus c.blank;
+  zero_here = signs c.plus c.blank;
+  no_longer = omega arith;
+  no_blanker =
+      omega arith;
+}
+sign_sizes c (negsuc n) = record {
+  here = omega arith;
+  zero_here = signs c.plus c.blank;
+  no_longer = one_at_most c.plus;
+  no_blanker =
+      omega arith;
+}
 
 pub least_is_shortest : (c : PrintConv) (z : ℤ) (b : Body c z) (o : Body c (pos 0)) → length (least c) ≤ length (visible c z)
 least_is_shortest c z b o =
@@ -59,9 +75,17 @@ least_is_shortest c z b o =
     let fewer : o.lead + length (digits_of c (pos 0)) ≤ b.lead + length (digits_of c z) = omega (arith, o.of_zero refl, b.enough) in
     let e = visible_size c (pos 0) o in
     let f = visible_size c z b in
-    let g = size_more (pads_with_zeros c) c.width (hidden c (pos 0)) (length (bare_sign c (pos 0))) (length (mark c (unsigned_abs (pos 0)))) (o.lead + length (digits_of c (pos 0)))
-    (hidden c z) (length (bare_sign c z)) (length (mark c (unsigned_abs z))) (b.lead + length (digits_of c z)) m.here m.zero_here m.no_longer m.no_blanker (omega (arith, none)) fewer in
+    let g = size_more (pads_with_zeros c) c.width (hidden c (pos 0)) (length (bare_sign c (pos 0)))
+    (length (mark c (unsigned_abs (pos 0)))) (o.lead + length (digits_of c (pos 0)))
+    (hidden c z) (length (bare_sign c z)) (length (mark c (unsigned_abs z)))
+    (b.lead + length (digits_of c z)) m.here m.zero_here m.no_longer m.no_blanker (omega (arith, none)) fewer in
     omega (arith, e, f, g)
 
 pub visible_some : (c : PrintConv) (z : ℤ) (b : Body c z) → 0 < length (visible c z)
-visible_some c z b = omega (arith, ap length b.visible_is, b.some, length-append (bare_sign c z) (mark c (unsigned_abs z) ++ b.body), length-append (mark c (unsigned_abs z)) b.body)
+visible_some c z b = omega (
+  arith,
+  ap length b.visible_is,
+  b.some,
+  length-append (bare_sign c z) (mark c (unsigned_abs z) ++ b.body),
+  length-append (mark c (unsigned_abs z)) b.body,
+)

@@ -30,12 +30,14 @@ use Rattle.sf_pair.proofs.Ahead.{skip_blanks, At, at_same, at_skipped, at_unskip
 
 -- what the totals gain by a group
 abbrev pub Gains : List Datum → Directive → StepEnd → List PrintUnit → List PrintUnit → Type 0
-Gains values d Passes group rest = (length (values_of (group ++ rest)) ≡ length (values_of rest)) × (printed_values (group ++ rest) values ≡ printed_values rest values)
+Gains values d Passes group rest = (length (values_of (group ++ rest)) ≡ length (values_of rest))
+    × (printed_values (group ++ rest) values ≡ printed_values rest values)
 Gains values d (Stores slot v) group rest = (is_conversion d ≡ true) × (length (values_of (group ++ rest)) ≡ length (values_of rest) + 1)
     × (printed_values (group ++ rest) values ≡ record { slot = slot; datum = v } ∷ printed_values rest values)
 Gains values d (Fails status) group rest = ⊥
 
-pub record Move (values : List Datum) (d : Directive) (group rest : List PrintUnit) (next : Option Directive) (x z : List ℕ) (n : ℕ) : Type 0 where
+pub record Move (values : List Datum) (d : Directive) (group rest : List PrintUnit) (next : Option Directive) (x z : List ℕ)
+    (n : ℕ) : Type 0 where
   pub bytes : ℕ
   pub end : StepEnd
   pub is : step_of d x n ≡ (bytes, end)
@@ -47,15 +49,19 @@ space_gains values [] rest h = (refl, refl)
 space_gains values (unit.Byte b ∷ us) rest h = space_gains values us rest h.1
 space_gains values (unit.Conv c ∷ us) rest h = absurd h
 
-literal_gains : (values : List Datum) (d : Directive) (group rest : List PrintUnit) (b : ℕ) → group ≡ unit.Byte b ∷ [] → Gains values d Passes group rest
+literal_gains : (values : List Datum) (d : Directive) (group rest : List PrintUnit) (b : ℕ) → group ≡ unit.Byte b ∷ []
+    → Gains values d Passes group rest
 literal_gains values d group rest b e =
     (ap (λ (g : List PrintUnit). length (values_of (g ++ rest))) e, ap (λ (g : List PrintUnit). printed_values (g ++ rest) values) e)
 
-literal_text : (values : List Datum) (group rest : List PrintUnit) (z : List ℕ) (b : ℕ) → group ≡ unit.Byte b ∷ [] → printed (group ++ rest) values ++ z ≡ b ∷ (printed rest values ++ z)
+literal_text : (values : List Datum) (group rest : List PrintUnit) (z : List ℕ) (b : ℕ) → group ≡ unit.Byte b ∷ []
+    → printed (group ++ rest) values ++ z ≡ b ∷ (printed rest values ++ z)
 literal_text values group rest z b e = ap (λ (g : List PrintUnit). printed (g ++ rest) values ++ z) e
 
-module _ (laws : LawsBelow) (values : List Datum) (z : List ℕ) (ds : List Directive) (group rest : List PrintUnit) (x : List ℕ) (n : ℕ) (proper : AreProperUnits rest) (cut : FitCut values ds rest) where
-  byte_moves : (b : ℕ) → IsLiteral (only b) group → x ≡ printed (group ++ rest) values ++ z → Move values (directive.Byte b) group rest (next_of ds) x z n
+module _ (laws : LawsBelow) (values : List Datum) (z : List ℕ) (ds : List Directive) (group rest : List PrintUnit) (x : List ℕ) (n : ℕ)
+    (proper : AreProperUnits rest) (cut : FitCut values ds rest) where
+  byte_moves : (b : ℕ) → IsLiteral (only b) group → x ≡ printed (group ++ rest) values ++ z
+      → Move values (directive.Byte b) group rest (next_of ds) x z n
   byte_moves b (a, is, same) e =
       let f : x ≡ a ∷ (printed rest values ++ z) = e ∙ literal_text values group rest z a is in
       record {
@@ -66,10 +72,13 @@ module _ (laws : LawsBelow) (values : List Datum) (z : List ℕ) (ds : List Dire
         gains = literal_gains values (directive.Byte b) group rest a is;
       }
 
-  percent_moves : IsLiteral (only 37) group → At (Some directive.Percent) x (printed (group ++ rest) values ++ z) → Move values directive.Percent group rest (next_of ds) x z n
+  percent_moves : IsLiteral (only 37) group → At (Some directive.Percent) x (printed (group ++ rest) values ++ z)
+      → Move values directive.Percent group rest (next_of ds) x z n
   percent_moves (a, is, same) at =
-      let whole : printed (group ++ rest) values ++ z ≡ 37 ∷ (printed rest values ++ z) = literal_text values group rest z a is ∙ ap (λ (k : ℕ). k ∷ (printed rest values ++ z)) (eqb-true a 37 same) in
-      let f : drop (skip x) x ≡ 37 ∷ (printed rest values ++ z) = at_skipped directive.Percent x _ at ∙ ap (λ (t : List ℕ). drop (skip t) t) whole in
+      let whole : printed (group ++ rest) values ++ z ≡ 37 ∷ (printed rest values ++ z) =
+      literal_text values group rest z a is ∙ ap (λ (k : ℕ). k ∷ (printed rest values ++ z)) (eqb-true a 37 same) in
+      let f : drop (skip x) x ≡ 37 ∷ (printed rest values ++ z) = at_skipped directive.Percent x _ at
+      ∙ ap (λ (t : List ℕ). drop (skip t) t) whole in
       record {
         bytes = skip x + 1;
         end = Passes;
@@ -95,12 +104,15 @@ module _ (laws : LawsBelow) (values : List Datum) (z : List ℕ) (ds : List Dire
       by _ e = refl
 
   -- behind what is skipped stands the item
-  item_ahead : (s : Conversion) (before : ℕ) (item y : List ℕ) (t : Bool) → shape_skips s.shape ≡ t → SkipsSo t before item → At (Some (directive.Conv s)) x (blanks before ++ (item ++ y)) → drop (skip_before s.shape x) x ≡ item ++ y
+  item_ahead : (s : Conversion) (before : ℕ) (item y : List ℕ) (t : Bool) → shape_skips s.shape ≡ t → SkipsSo t before item
+      → At (Some (directive.Conv s)) x (blanks before ++ (item ++ y)) → drop (skip_before s.shape x) x ≡ item ++ y
   item_ahead s before item y true e ink at =
       ap (λ (k : ℕ). drop k x) (skip_before_is s e) ∙ at_skipped (directive.Conv s) x _ at
-      ∙ ap (λ (k : ℕ). drop k (blanks before ++ (item ++ y))) (skip_blanks before item y ink) ∙ drop_at (blanks before) (item ++ y) before (length-replicate before 32)
+      ∙ ap (λ (k : ℕ). drop k (blanks before ++ (item ++ y))) (skip_blanks before item y ink)
+      ∙ drop_at (blanks before) (item ++ y) before (length-replicate before 32)
   item_ahead s before item y false e none at =
-      ap (λ (k : ℕ). drop k x) (no_skip_before s e) ∙ at_unskipped (directive.Conv s) x _ e at ∙ ap (λ (k : ℕ). blanks k ++ (item ++ y)) none
+      ap (λ (k : ℕ). drop k x) (no_skip_before s e) ∙ at_unskipped (directive.Conv s) x _ e at
+      ∙ ap (λ (k : ℕ). blanks k ++ (item ++ y)) none
 
   converts : (s : Conversion) → is_count s.shape ≡ false → is_conversion (directive.Conv s) ≡ true
   converts s e = by s.shape e
@@ -109,44 +121,59 @@ module _ (laws : LawsBelow) (values : List Datum) (z : List ℕ) (ds : List Dire
       by shape.Count e = absurd cc
       by _ e = refl
 
-  conversion_moves : (s : Conversion) (item : List ℕ) (end : StepEnd) → drop (skip_before s.shape x) x ≡ item ++ (printed rest values ++ z) → Takes s item (printed rest values ++ z)
-      → (step_of (directive.Conv s) x n ≡ (skip_before s.shape x + length item, end)) → Gains values (directive.Conv s) end group rest → Move values (directive.Conv s) group rest (next_of ds) x z n
+  conversion_moves : (s : Conversion) (item : List ℕ) (end : StepEnd) → drop (skip_before s.shape x) x ≡ item ++ (printed rest values ++ z)
+      → Takes s item (printed rest values ++ z)
+      → (step_of (directive.Conv s) x n ≡ (skip_before s.shape x + length item, end)) → Gains values (directive.Conv s) end group rest
+      → Move values (directive.Conv s) group rest (next_of ds) x z n
   conversion_moves s item end e takes is gains = record {
     bytes = skip_before s.shape x + length item;
     end = end;
     is = is;
-    left = at_same (next_of ds) _ _ (sym (drop-drop (length item) (skip_before s.shape x) x) ∙ ap (drop (length item)) e ∙ drop_at item (printed rest values ++ z) (length item) refl);
+    left = at_same (next_of ds) _ _ (sym (drop-drop (length item) (skip_before s.shape x) x) ∙ ap (drop (length item)) e
+        ∙ drop_at item (printed rest values ++ z) (length item) refl);
     gains = gains;
   }
 
-  paired_moves : (s : Conversion) → PairedReads values s group rest (next_of ds) → At (Some (directive.Conv s)) x (printed (group ++ rest) values ++ z) → Move values (directive.Conv s) group rest (next_of ds) x z n
+  paired_moves : (s : Conversion) → PairedReads values s group rest (next_of ds)
+      → At (Some (directive.Conv s)) x (printed (group ++ rest) values ++ z) → Move values (directive.Conv s) group rest (next_of ds) x z n
   paired_moves s p at =
       let y : List ℕ = printed rest values ++ z in
       let b : ReadsBack p.conversion s p.value = p.back in
       let whole : printed (group ++ rest) values ++ z ≡ blanks b.before ++ (b.item ++ y) =
       ap (λ (t : List ℕ). t ++ z) (paired_text values s group rest (next_of ds) p ∙ ap (λ (t : List ℕ). t ++ printed rest values) b.text_is)
       ∙ append_assoc (blanks b.before ++ b.item) (printed rest values) z ∙ append_assoc (blanks b.before) b.item y in
-      let e : drop (skip_before s.shape x) x ≡ b.item ++ y = item_ahead s b.before b.item y (shape_skips s.shape) refl b.skips (subst (At (Some (directive.Conv s)) x) whole at) in
+      let e : drop (skip_before s.shape x) x ≡ b.item ++ y = item_ahead s b.before b.item y (shape_skips s.shape) refl b.skips
+      (subst (At (Some (directive.Conv s)) x) whole at) in
       let takes : Takes s b.item y = b.takes y (closed_by laws.tried values z p.conversion s ds rest proper cut p.closed) in
-      conversion_moves s b.item (Stores p.conversion.slot p.value) e takes (conversion_taken laws s x b.item y n e takes ∙ ap (λ (end : StepEnd). (skip_before s.shape x + length b.item, end)) b.stored) (
+      conversion_moves s b.item (Stores p.conversion.slot p.value) e takes
+      (conversion_taken laws s x b.item y n e takes ∙ ap (λ (end : StepEnd). (skip_before s.shape x + length b.item, end)) b.stored) (
         converts s p.no_count,
-        ap (λ (g : List PrintUnit). length (values_of (g ++ rest))) p.group_is ∙ (let k : suc (length (values_of rest)) ≡ length (values_of rest) + 1 = omega arith in k),
-        ap (λ (g : List PrintUnit). printed_values (g ++ rest) values) p.group_is ∙ ap (λ (o : Option Datum). cons_option (with_value p.conversion.slot o) (printed_values rest values)) p.at,
+        ap (λ (g : List PrintUnit). length (values_of (g ++ rest))) p.group_is
+            ∙ (let k : suc (length (values_of rest)) ≡ length (values_of rest) + 1 = omega arith in k),
+        ap (λ (g : List PrintUnit). printed_values (g ++ rest) values) p.group_is
+            ∙ ap (λ (o : Option Datum). cons_option (with_value p.conversion.slot o) (printed_values rest values)) p.at,
       )
 
-  literal_moves : (s : Conversion) → LiteralReads s group → At (Some (directive.Conv s)) x (printed (group ++ rest) values ++ z) → Move values (directive.Conv s) group rest (next_of ds) x z n
+  literal_moves : (s : Conversion) → LiteralReads s group → At (Some (directive.Conv s)) x (printed (group ++ rest) values ++ z)
+      → Move values (directive.Conv s) group rest (next_of ds) x z n
   literal_moves s l at =
       let y : List ℕ = printed rest values ++ z in
-      let e : drop (skip_before s.shape x) x ≡ (l.byte ∷ []) ++ y = ap (λ (k : ℕ). drop k x) (no_skip_before s l.skips_none) ∙ at_unskipped (directive.Conv s) x _ l.skips_none at ∙ literal_text values group rest z l.byte l.group_is in
-      conversion_moves s (l.byte ∷ []) Passes e (l.takes y) (conversion_taken laws s x (l.byte ∷ []) y n e (l.takes y) ∙ ap (λ (end : StepEnd). (skip_before s.shape x + 1, end)) (suppressed_passes s (l.byte ∷ []) l.slot))
+      let e : drop (skip_before s.shape x) x ≡ (l.byte ∷ []) ++ y =
+      ap (λ (k : ℕ). drop k x) (no_skip_before s l.skips_none) ∙ at_unskipped (directive.Conv s) x _ l.skips_none at
+      ∙ literal_text values group rest z l.byte l.group_is in
+      conversion_moves s (l.byte ∷ []) Passes e (l.takes y) (conversion_taken laws s x (l.byte ∷ []) y n e (l.takes y)
+      ∙ ap (λ (end : StepEnd). (skip_before s.shape x + 1, end)) (suppressed_passes s (l.byte ∷ []) l.slot))
       (literal_gains values (directive.Conv s) group rest l.byte l.group_is)
 
-  pub move : (d : Directive) → GroupReads values d group rest (next_of ds) → At (Some d) x (printed (group ++ rest) values ++ z) → Move values d group rest (next_of ds) x z n
+  pub move : (d : Directive) → GroupReads values d group rest (next_of ds) → At (Some d) x (printed (group ++ rest) values ++ z)
+      → Move values d group rest (next_of ds) x z n
   move directive.Space is at = record {
     bytes = skip x;
     end = Passes;
     is = refl;
-    left = subst (λ (t : List ℕ). At (next_of ds) t (printed rest values ++ z)) (sym (at_skipped directive.Space x _ at ∙ space_run values group rest z is.1)) (next_ready laws.tried values z ds rest proper cut is.2 is.3);
+    left = subst (λ (t : List ℕ). At (next_of ds) t (printed rest values ++ z))
+        (sym (at_skipped directive.Space x _ at ∙ space_run values group rest z is.1))
+        (next_ready laws.tried values z ds rest proper cut is.2 is.3);
     gains = space_gains values group rest is.1;
   }
   move (directive.Byte b) is (inl e) = byte_moves b is e

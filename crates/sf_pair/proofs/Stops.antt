@@ -42,7 +42,8 @@ pub record Unclosed (s : Conversion) (us : List PrintUnit) (next : Option Direct
   pub closing : closing_fault conversion s rest (reads next) ≡ Some w
 
 module _ (w : PairWhy) (is : follows w ≡ true) where
-  no_reason : (a b c d e f : Bool) → first_reason (rule why.KindDiffers a ∷ rule why.NumberDiffers b ∷ rule why.BadFlagHere c ∷ rule why.NoWidth d ∷ rule why.TooNarrow e ∷ rule why.LeadingZero f ∷ []) ≡ Some w → ⊥
+  no_reason : (a b c d e f : Bool) → first_reason (rule why.KindDiffers a ∷ rule why.NumberDiffers b ∷ rule why.BadFlagHere c ∷ rule
+      why.NoWidth d ∷ rule why.TooNarrow e ∷ rule why.LeadingZero f ∷ []) ≡ Some w → ⊥
   no_reason true b c d e f h = no_other why.KindDiffers w refl is h
   no_reason false true c d e f h = no_other why.NumberDiffers w refl is h
   no_reason false false true d e f h = no_other why.BadFlagHere w refl is h
@@ -60,15 +61,18 @@ module _ (w : PairWhy) (is : follows w ≡ true) where
       by true e = cc
       by false e = no_other_err why.NotAligned w refl is e
 
-  paired_unclosed : (s : Conversion) (us : List PrintUnit) (next : Option Directive) → is_some s.slot ≡ true → take_paired s us next ≡ Err w → Unclosed s us next w
+  paired_unclosed : (s : Conversion) (us : List PrintUnit) (next : Option Directive) → is_some s.slot ≡ true
+      → take_paired s us next ≡ Err w → Unclosed s us next w
   paired_unclosed s [] next assigned e = absurd (no_other_err why.NotAligned w refl is e)
   paired_unclosed s (unit.Byte b ∷ us) next assigned e = absurd (no_other_err why.NotAligned w refl is e)
   paired_unclosed s (unit.Conv c ∷ us) next assigned e = by (pairing_fault c s) (closing_fault c s us (reads next)) refl refl e
     where
-      by : (o k : Option PairWhy) → pairing_fault c s ≡ o → closing_fault c s us (reads next) ≡ k → unless o (leaves k us) ≡ Err w → Unclosed s (unit.Conv c ∷ us) next w
+      by : (o k : Option PairWhy) → pairing_fault c s ≡ o → closing_fault c s us (reads next) ≡ k → unless o (leaves k us) ≡ Err w
+          → Unclosed s (unit.Conv c ∷ us) next w
       by (Some v) k pairing closing e =
           let same : v ≡ w = cc in
-          absurd (no_reason (kinds_differ c s) (numbers_differ c s) (bad_flag c s) (has_no_width s) (too_narrow c s) (leading_zero c s) (pairing ∙ ap Some same))
+          absurd (no_reason (kinds_differ c s) (numbers_differ c s) (bad_flag c s) (has_no_width s) (too_narrow c s) (leading_zero c s)
+          (pairing ∙ ap Some same))
       by None None pairing closing e = absurd cc
       by None (Some v) pairing closing e =
           let same : v ≡ w = cc in
@@ -77,7 +81,8 @@ module _ (w : PairWhy) (is : follows w ≡ true) where
   pub unclosed : (s : Conversion) (us : List PrintUnit) (next : Option Directive) → take_conversion s us next ≡ Err w → Unclosed s us next w
   unclosed s us next e = by (is_count s.shape) (is_some s.slot) refl e
     where
-      by : (count assigned : Bool) → is_some s.slot ≡ assigned → cond count (Err why.NotWritten) (cond assigned (take_paired s us next) (take_literal (suppressed_by s.shape s.width) us)) ≡ Err w → Unclosed s us next w
+      by : (count assigned : Bool) → is_some s.slot ≡ assigned → cond count (Err why.NotWritten)
+          (cond assigned (take_paired s us next) (take_literal (suppressed_by s.shape s.width) us)) ≡ Err w → Unclosed s us next w
       by true assigned a e = absurd (no_other_err why.NotWritten w refl is e)
       by false false a e = absurd (literal_never (suppressed_by s.shape s.width) us e)
       by false true a e = paired_unclosed s us next a e
@@ -101,13 +106,16 @@ pub record StopsFrom (n : ℕ) (us : List PrintUnit) (ds : List Directive) (f : 
 same_fault : (f g : PairFault) → Some g ≡ Some f → g ≡ f
 same_fault f g e = cc
 
-walked : (ds : List Directive) (n : ℕ) (us : List PrintUnit) → AreProper ds → AreSized ds → AreProperUnits us → (f : PairFault) → follows f.why ≡ true → fault_from n ds us ≡ Some f → StopsFrom n us ds f
+walked : (ds : List Directive) (n : ℕ) (us : List PrintUnit) → AreProper ds → AreSized ds → AreProperUnits us → (f : PairFault)
+    → follows f.why ≡ true → fault_from n ds us ≡ Some f → StopsFrom n us ds f
 walked [] n [] proper sized units f is e = absurd cc
-walked [] n (u ∷ us) proper sized units f is e = absurd (no_other why.NotAligned f.why refl is (ap (λ (g : PairFault). Some g.why) (same_fault f (fault n why.NotAligned) e)))
+walked [] n (u ∷ us) proper sized units f is e = absurd (no_other why.NotAligned f.why refl is
+    (ap (λ (g : PairFault). Some g.why) (same_fault f (fault n why.NotAligned) e)))
 walked (d ∷ ds) n us proper sized units f is e = by (take_group d us (next_of ds)) refl e (λ rest. walked ds (n + 1) rest proper.1 sized.1)
   where
     by : (left : Left) → take_group d us (next_of ds) ≡ left → fault_after (λ rest. fault_from (n + 1) ds rest) n left ≡ Some f
-        → ((rest : List PrintUnit) → AreProperUnits rest → (f : PairFault) → follows f.why ≡ true → fault_from (n + 1) ds rest ≡ Some f → StopsFrom (n + 1) rest ds f) → StopsFrom n us (d ∷ ds) f
+        → ((rest : List PrintUnit) → AreProperUnits rest → (f : PairFault) → follows f.why ≡ true → fault_from (n + 1) ds rest ≡ Some f
+        → StopsFrom (n + 1) rest ds f) → StopsFrom n us (d ∷ ds) f
     by (Err w) taken e more =
         let same : fault n w ≡ f = same_fault f (fault n w) e in
         record {
@@ -141,7 +149,8 @@ walked (d ∷ ds) n us proper sized units f is e = by (take_group d us (next_of 
         }
 
 -- a fault that is told of what follows is one that the walk stops by
-pub stops_by : (us : List PrintUnit) (ds : List Directive) → AreAccepted us → IsAccepted ds → (f : PairFault) → follows f.why ≡ true → pair_fault us ds ≡ Some f → StopsFrom 1 us ds f
+pub stops_by : (us : List PrintUnit) (ds : List Directive) → AreAccepted us → IsAccepted ds → (f : PairFault) → follows f.why ≡ true
+    → pair_fault us ds ≡ Some f → StopsFrom 1 us ds f
 stops_by us ds accepted proper f is e = by (fault_from 1 ds us) refl e
   where
     no_values : (t : Bool) → cond t None (Some (fault 0 why.NoValues)) ≡ Some f → ⊥

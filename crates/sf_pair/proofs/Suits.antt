@@ -36,7 +36,8 @@ text_so kind.Text e = refl
 text_so _ e = absurd cc
 
 -- a conversion that is read as a text prints texts
-prints_texts : (l : PrintLetter) (k : Kind) (h : Shape) (w : ℕ) (bytes : List ℕ) → letters_pair l h ≡ true → TextFits h w bytes → prints_kind l k ≡ true → same_kind kind.Text k ≡ true
+prints_texts : (l : PrintLetter) (k : Kind) (h : Shape) (w : ℕ) (bytes : List ℕ) → letters_pair l h ≡ true → TextFits h w bytes
+    → prints_kind l k ≡ true → same_kind kind.Text k ≡ true
 prints_texts l k (shape.Int base) w bytes e fit is = absurd fit
 prints_texts l k shape.Count w bytes e fit is = absurd fit
 prints_texts letter.Text k h w bytes e fit is = text_so k is
@@ -48,14 +49,16 @@ prints_texts letter.HexLower k _ w bytes e fit is = absurd cc
 prints_texts letter.HexUpper k _ w bytes e fit is = absurd cc
 prints_texts letter.Binary k _ w bytes e fit is = absurd cc
 
-one_byte : (h : Shape) (w : ℕ) (bytes : List ℕ) → letters_pair letter.One h ≡ true → not (eqb w 1) ≡ false → TextFits h w bytes → nat_eq (length bytes) 1 ≡ true
+one_byte : (h : Shape) (w : ℕ) (bytes : List ℕ) → letters_pair letter.One h ≡ true → not (eqb w 1) ≡ false → TextFits h w bytes
+    → nat_eq (length bytes) 1 ≡ true
 one_byte shape.Chars w bytes e single fit =
     let one : w ≡ 1 = eqb-true w 1 (not_none (eqb w 1) single) in
     let many : length bytes ≡ w = fit in
     grind (arith, nat_tests)
 one_byte _ w bytes e single fit = absurd cc
 
-suits_so : (l : PrintLetter) (h : Shape) (w : ℕ) (bytes : List ℕ) → letters_pair l h ≡ true → (is_one l && not (eqb w 1)) ≡ false → TextFits h w bytes → suits l (Bytes bytes) ≡ true
+suits_so : (l : PrintLetter) (h : Shape) (w : ℕ) (bytes : List ℕ) → letters_pair l h ≡ true → (is_one l && not (eqb w 1)) ≡ false
+    → TextFits h w bytes → suits l (Bytes bytes) ≡ true
 suits_so letter.One h w bytes e single fit = one_byte h w bytes e single fit
 suits_so _ h w bytes e single fit = refl
 
@@ -69,6 +72,8 @@ no_fault c v e f =
     ∙ ap (λ (t : Bool). cond {A = Option PrintFault} (not t) (Some (fault.NotOneByte c.slot)) None) f
 
 pub fits_unfaulted : (c : PrintConv) (s : Conversion) (v : Datum) → IsProperConv c → Pairs c s → ValueFits c s v → value_fault c v ≡ None
-fits_unfaulted c s (Number k z) proper p fit = no_fault c (Number k z) (ap (λ (k : Kind). same_kind k c.kind) fit.0 ∙ itself c.kind) (suits_number c.letter k z)
+fits_unfaulted c s (Number k z) proper p fit = no_fault c (Number k z) (ap (λ (k : Kind). same_kind k c.kind) fit.0 ∙ itself c.kind)
+    (suits_number c.letter k z)
 fits_unfaulted c s (Bytes bytes) proper p fit =
-    no_fault c (Bytes bytes) (prints_texts c.letter c.kind s.shape (width_of s) bytes p.letters fit.1 proper.kind) (suits_so c.letter s.shape (width_of s) bytes p.letters p.single fit.1)
+    no_fault c (Bytes bytes) (prints_texts c.letter c.kind s.shape (width_of s) bytes p.letters fit.1 proper.kind)
+    (suits_so c.letter s.shape (width_of s) bytes p.letters p.single fit.1)

@@ -28,7 +28,8 @@ Ends c f [] = Unit {0}
 Ends c f (b ∷ rest) = can_take c (f ++ b ∷ []) ≡ false
 
 -- all of t is taken after f, and no more
-pub len_is : LawsBelow → (c : Conversion) (f t rest : List ℕ) → can_take c (f ++ t) ≡ true → Ends c (f ++ t) rest → len c f (t ++ rest) ≡ length t
+pub len_is : LawsBelow → (c : Conversion) (f t rest : List ℕ) → can_take c (f ++ t) ≡ true → Ends c (f ++ t) rest
+    → len c f (t ++ rest) ≡ length t
 len_is laws c f [] [] taken ends = refl
 len_is laws c f [] (b ∷ rest) taken ends =
     let no : can_take c (f ++ b ∷ []) ≡ false = ap (λ (g : List ℕ). can_take c (g ++ b ∷ [])) (sym (append-nil f)) ∙ ends in
@@ -51,7 +52,8 @@ pub record Takes (c : Conversion) (f rest : List ℕ) : Type 0 where
 ended : (c : Conversion) (f rest : List ℕ) → 0 < length f → matches c f ≡ true → item_ended c (f ++ rest) (length f) ≡ passed_end c c.slot f
 ended c [] rest some is = absurd (omega arith)
 ended c (b ∷ f) rest some is =
-    ap (item_end c) (take_at (b ∷ f) rest (length (b ∷ f)) refl) ∙ ap (λ (v : Bool). cond v (passed_end c c.slot (b ∷ f)) (Fails MatchingFailure)) is
+    ap (item_end c) (take_at (b ∷ f) rest (length (b ∷ f)) refl) ∙ ap
+    (λ (v : Bool). cond v (passed_end c c.slot (b ∷ f)) (Fails MatchingFailure)) is
 
 item_taken : LawsBelow → (c : Conversion) (x f rest : List ℕ) (s : ℕ) → drop s x ≡ f ++ rest → Takes c f rest
     → ◌≡◌ {A = ℕ × StepEnd} (s + len c [] (drop s x), item_ended c (drop s x) (len c [] (drop s x))) (s + length f, passed_end c c.slot f)
@@ -67,7 +69,8 @@ by_shape c shape.Chars x n h = refl
 by_shape c shape.Count x n h = absurd cc
 
 -- the step of a conversion that takes just the text in front
-pub conversion_taken : LawsBelow → (c : Conversion) (x f rest : List ℕ) (n : ℕ) → drop (skip_before c.shape x) x ≡ f ++ rest → Takes c f rest
+pub conversion_taken : LawsBelow → (c : Conversion) (x f rest : List ℕ) (n : ℕ) → drop (skip_before c.shape x) x ≡ f ++ rest
+    → Takes c f rest
     → step_of (Conv c) x n ≡ (skip_before c.shape x + length f, passed_end c c.slot f)
 conversion_taken laws c x f rest n e t = by_shape c c.shape x n t.item ∙ item_taken laws c x f rest (skip_before c.shape x) e t
 
@@ -94,38 +97,50 @@ pub full_ends : (c : Conversion) (f rest : List ℕ) (w : ℕ) → c.width ≡ S
 full_ends c f [] w e full = tt
 full_ends c f (b ∷ rest) w e full =
     and_none (is_within c.width (length (f ++ b ∷ []))) (shape_begins c.shape c.width (f ++ b ∷ []))
-    (inl (ap (λ (o : Option ℕ). is_within o (length (f ++ b ∷ []))) e ∙ ap (λ (k : ℕ). nat_le k w) (length-append f (b ∷ [])) ∙ too_long (length f) w full))
+    (inl (ap (λ (o : Option ℕ). is_within o (length (f ++ b ∷ []))) e ∙ ap (λ (k : ℕ). nat_le k w) (length-append f (b ∷ []))
+    ∙ too_long (length f) w full))
 
 -- or the next byte goes on with no matching sequence
-stopped_ends : (c : Conversion) (f rest : List ℕ) (set : ByteTest) → ((b : ℕ) → set b ≡ false → shape_begins c.shape c.width (f ++ b ∷ []) ≡ false) → FirstOut set rest → Ends c f rest
+stopped_ends : (c : Conversion) (f rest : List ℕ) (set : ByteTest)
+    → ((b : ℕ) → set b ≡ false → shape_begins c.shape c.width (f ++ b ∷ []) ≡ false) → FirstOut set rest → Ends c f rest
 stopped_ends c f [] set stops out = tt
-stopped_ends c f (b ∷ rest) set stops out = and_none (is_within c.width (length (f ++ b ∷ []))) (shape_begins c.shape c.width (f ++ b ∷ [])) (inr (stops b out))
+stopped_ends c f (b ∷ rest) set stops out = and_none (is_within c.width (length (f ++ b ∷ [])))
+    (shape_begins c.shape c.width (f ++ b ∷ [])) (inr (stops b out))
 
-pub either_ends : (c : Conversion) (f rest : List ℕ) (w : ℕ) (set : ByteTest) → c.width ≡ Some w → ((b : ℕ) → set b ≡ false → shape_begins c.shape c.width (f ++ b ∷ []) ≡ false)
+pub either_ends : (c : Conversion) (f rest : List ℕ) (w : ℕ) (set : ByteTest) → c.width ≡ Some w
+    → ((b : ℕ) → set b ≡ false → shape_begins c.shape c.width (f ++ b ∷ []) ≡ false)
     → (length f ≡ w) ⊎ FirstOut set rest → Ends c f rest
 either_ends c f rest w set e stops (inl full) = full_ends c f rest w e full
 either_ends c f rest w set e stops (inr out) = stopped_ends c f rest set stops out
 
-pub taken_within : (c : Conversion) (f : List ℕ) (w : ℕ) → c.width ≡ Some w → length f ≤ w → shape_begins c.shape c.width f ≡ true → can_take c f ≡ true
-taken_within c f w e fits begins = and_so (is_within c.width (length f)) (shape_begins c.shape c.width f) (ap (λ (o : Option ℕ). is_within o (length f)) e ∙ fits_in (length f) w fits) begins
+pub taken_within : (c : Conversion) (f : List ℕ) (w : ℕ) → c.width ≡ Some w → length f ≤ w → shape_begins c.shape c.width f ≡ true
+    → can_take c f ≡ true
+taken_within c f w e fits begins = and_so (is_within c.width (length f)) (shape_begins c.shape c.width f)
+    (ap (λ (o : Option ℕ). is_within o (length f)) e ∙ fits_in (length f) w fits) begins
 
 -- ---- integers
 
-integer_begins : (base : Base) (width : Option ℕ) (f : List ℕ) (p : Progress) → read base (Some Start) f ≡ Some p → shape_begins (shape.Int base) width f ≡ true
+integer_begins : (base : Base) (width : Option ℕ) (f : List ℕ) (p : Progress) → read base (Some Start) f ≡ Some p
+    → shape_begins (shape.Int base) width f ≡ true
 integer_begins base width f p e = ap is_some e
 
-integer_stops : LawsBelow → (base : Base) (width : Option ℕ) (f : List ℕ) (p : Progress) (b : ℕ) → read base (Some Start) f ≡ Some p → advance base p b ≡ None → shape_begins (shape.Int base) width (f ++ b ∷ []) ≡ false
-integer_stops laws base width f p b e none = ap is_some (laws.parts base (Some Start) f (b ∷ []) ∙ ap (λ (o : Option Progress). read base o (b ∷ [])) e ∙ ap (λ (o : Option Progress). read base o []) none)
+integer_stops : LawsBelow → (base : Base) (width : Option ℕ) (f : List ℕ) (p : Progress) (b : ℕ) → read base (Some Start) f ≡ Some p
+    → advance base p b ≡ None → shape_begins (shape.Int base) width (f ++ b ∷ []) ≡ false
+integer_stops laws base width f p b e none = ap is_some (laws.parts base (Some Start) f (b ∷ [])
+    ∙ ap (λ (o : Option Progress). read base o (b ∷ [])) e ∙ ap (λ (o : Option Progress). read base o []) none)
 
-module _ (laws : LawsBelow) (c : PrintConv) (s : Conversion) (z : ℤ) (base : Base) (w slot : ℕ) (rest : List ℕ) (is_int : s.shape ≡ shape.Int base) (width : s.width ≡ Some w) (at : s.slot ≡ Some slot)
+module _ (laws : LawsBelow) (c : PrintConv) (s : Conversion) (z : ℤ) (base : Base) (w slot : ℕ) (rest : List ℕ)
+    (is_int : s.shape ≡ shape.Int base) (width : s.width ≡ Some w) (at : s.slot ≡ Some slot)
     (number : NumberRead base c z) (some : 0 < length (visible c z)) (fits : length (visible c z) ≤ w) where
   pub integer_takes : (length (visible c z) ≡ w) ⊎ FirstOut (stop_set (shape.Int base) c) rest → Takes s (visible c z) rest
   integer_takes closed = record {
     some = some;
     item = ap has_item is_int;
-    taken = taken_within s (visible c z) w width fits (ap (λ (h : Shape). shape_begins h s.width (visible c z)) is_int ∙ integer_begins base s.width (visible c z) number.progress number.is);
+    taken = taken_within s (visible c z) w width fits (ap (λ (h : Shape). shape_begins h s.width (visible c z)) is_int
+        ∙ integer_begins base s.width (visible c z) number.progress number.is);
     ends = either_ends s (visible c z) rest w (stop_set (shape.Int base) c) width
-        (λ b out. ap (λ (h : Shape). shape_begins h s.width (visible c z ++ b ∷ [])) is_int ∙ integer_stops laws base s.width (visible c z) number.progress b number.is (number.stops b out)) closed;
+        (λ b out. ap (λ (h : Shape). shape_begins h s.width (visible c z ++ b ∷ [])) is_int
+        ∙ integer_stops laws base s.width (visible c z) number.progress b number.is (number.stops b out)) closed;
     matches_it = ap (λ (h : Shape). shape_matches h s.width (visible c z)) is_int ∙ ap is_some (ap integer_in number.is ∙ number.value);
   }
 

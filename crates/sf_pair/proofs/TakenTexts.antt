@@ -39,7 +39,8 @@ record Tested (shape : Shape) (p : ByteTest) : Type 0 where
   begins : (width : Option ℕ) (f : List ℕ) → shape_begins shape width f ≡ list_all p f
   matches_so : (width : Option ℕ) (f : List ℕ) → shape_matches shape width f ≡ (nat_lt 0 (length f) && list_all p f)
 
-tested_takes : (s : Conversion) (p : ByteTest) (w : ℕ) (f rest : List ℕ) → Tested s.shape p → s.width ≡ Some w → 0 < length f → list_all p f ≡ true → length f ≤ w
+tested_takes : (s : Conversion) (p : ByteTest) (w : ℕ) (f rest : List ℕ) → Tested s.shape p → s.width ≡ Some w → 0 < length f
+    → list_all p f ≡ true → length f ≤ w
     → (length f ≡ w) ⊎ FirstOut p rest → Takes s f rest
 tested_takes s p w f rest t width some all fits closed = record {
   some = some;
@@ -50,39 +51,50 @@ tested_takes s p w f rest t width some all fits closed = record {
 }
 
 at_text : (read : Shape) → read ≡ shape.Text → Tested read is_ink
-at_text read e = subst (λ (h : Shape). Tested h is_ink) (sym e) (record { item = refl; begins = λ width f. refl; matches_so = λ width f. refl })
+at_text read e = subst (λ (h : Shape). Tested h is_ink) (sym e)
+    (record { item = refl; begins = λ width f. refl; matches_so = λ width f. refl })
 
 at_set : (read : Shape) (members : List Bool) → read ≡ shape.Set members → Tested read (has_byte members)
-at_set read members e = subst (λ (h : Shape). Tested h (has_byte members)) (sym e) (record { item = refl; begins = λ width f. refl; matches_so = λ width f. refl })
+at_set read members e = subst (λ (h : Shape). Tested h (has_byte members)) (sym e)
+    (record { item = refl; begins = λ width f. refl; matches_so = λ width f. refl })
 
-pub text_takes : (s : Conversion) (w : ℕ) (f rest : List ℕ) → s.shape ≡ shape.Text → s.width ≡ Some w → 0 < length f → AllByRecursion (λ b. is_white b ≡ false) f → length f ≤ w
+pub text_takes : (s : Conversion) (w : ℕ) (f rest : List ℕ) → s.shape ≡ shape.Text → s.width ≡ Some w → 0 < length f
+    → AllByRecursion (λ b. is_white b ≡ false) f → length f ≤ w
     → (length f ≡ w) ⊎ FirstOut is_ink rest → Takes s f rest
 text_takes s w f rest e width some all fits closed =
     tested_takes s is_ink w f rest (at_text s.shape e) width some ((all_is is_ink (λ b. is_white b ≡ false) ink_is f).1 all) fits closed
 
-pub set_takes : (s : Conversion) (members : List Bool) (w : ℕ) (f rest : List ℕ) → s.shape ≡ shape.Set members → s.width ≡ Some w → 0 < length f → AllByRecursion (λ b. has_byte members b ≡ true) f → length f ≤ w
+pub set_takes : (s : Conversion) (members : List Bool) (w : ℕ) (f rest : List ℕ) → s.shape ≡ shape.Set members → s.width ≡ Some w
+    → 0 < length f → AllByRecursion (λ b. has_byte members b ≡ true) f → length f ≤ w
     → (length f ≡ w) ⊎ FirstOut (has_byte members) rest → Takes s f rest
 set_takes s members w f rest e width some all fits closed =
-    tested_takes s (has_byte members) w f rest (at_set s.shape members e) width some ((all_is (has_byte members) (λ b. has_byte members b ≡ true) (λ b. (λ h. h, λ h. h)) f).1 all) fits closed
+    tested_takes s (has_byte members) w f rest (at_set s.shape members e) width some
+    ((all_is (has_byte members) (λ b. has_byte members b ≡ true) (λ b. (λ h. h, λ h. h)) f).1 all) fits closed
 
-pub chars_takes : (s : Conversion) (w : ℕ) (f rest : List ℕ) → s.shape ≡ shape.Chars → s.width ≡ Some w → 0 < length f → length f ≡ w → Takes s f rest
+pub chars_takes : (s : Conversion) (w : ℕ) (f rest : List ℕ) → s.shape ≡ shape.Chars → s.width ≡ Some w → 0 < length f → length f ≡ w
+    → Takes s f rest
 chars_takes s w f rest e width some full = record {
   some = some;
   item = ap has_item e;
-  taken = taken_within s f w width (omega (arith, full)) (ap (λ (h : Shape). shape_begins h s.width f) e ∙ ap (λ (o : Option ℕ). nat_le (length f) (unwrap_or o 1)) width ∙ most_test (length f) w full);
+  taken = taken_within s f w width (omega (arith, full)) (ap (λ (h : Shape). shape_begins h s.width f) e
+      ∙ ap (λ (o : Option ℕ). nat_le (length f) (unwrap_or o 1)) width ∙ most_test (length f) w full);
   ends = full_ends s f rest w width full;
-  matches_it = ap (λ (h : Shape). shape_matches h s.width f) e ∙ ap (λ (o : Option ℕ). nat_eq (length f) (unwrap_or o 1)) width ∙ same_test (length f) w full;
+  matches_it = ap (λ (h : Shape). shape_matches h s.width f) e ∙ ap (λ (o : Option ℕ). nat_eq (length f) (unwrap_or o 1)) width
+      ∙ same_test (length f) w full;
 }
 
 -- ---- what is stored
 
-pub text_stored : (s : Conversion) (slot : ℕ) (f : List ℕ) → s.slot ≡ Some slot → s.shape ≡ shape.Text → passed_end s s.slot f ≡ Stores slot (Bytes f)
+pub text_stored : (s : Conversion) (slot : ℕ) (f : List ℕ) → s.slot ≡ Some slot → s.shape ≡ shape.Text
+    → passed_end s s.slot f ≡ Stores slot (Bytes f)
 text_stored s slot f at e = ap (λ (o : Option ℕ). passed_end s o f) at ∙ ap (λ (h : Shape). stored_end s slot h f) e
 
-pub set_stored : (s : Conversion) (members : List Bool) (slot : ℕ) (f : List ℕ) → s.slot ≡ Some slot → s.shape ≡ shape.Set members → passed_end s s.slot f ≡ Stores slot (Bytes f)
+pub set_stored : (s : Conversion) (members : List Bool) (slot : ℕ) (f : List ℕ) → s.slot ≡ Some slot → s.shape ≡ shape.Set members
+    → passed_end s s.slot f ≡ Stores slot (Bytes f)
 set_stored s members slot f at e = ap (λ (o : Option ℕ). passed_end s o f) at ∙ ap (λ (h : Shape). stored_end s slot h f) e
 
-pub chars_stored : (s : Conversion) (slot : ℕ) (f : List ℕ) → s.slot ≡ Some slot → s.shape ≡ shape.Chars → passed_end s s.slot f ≡ Stores slot (Bytes f)
+pub chars_stored : (s : Conversion) (slot : ℕ) (f : List ℕ) → s.slot ≡ Some slot → s.shape ≡ shape.Chars
+    → passed_end s s.slot f ≡ Stores slot (Bytes f)
 chars_stored s slot f at e = ap (λ (o : Option ℕ). passed_end s o f) at ∙ ap (λ (h : Shape). stored_end s slot h f) e
 
 pub suppressed_passes : (s : Conversion) (f : List ℕ) → s.slot ≡ None → passed_end s s.slot f ≡ Passes

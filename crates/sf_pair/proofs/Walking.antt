@@ -15,20 +15,26 @@ one_space : (us rest : List PrintUnit) (u : PrintUnit) → us ≡ u ∷ rest →
 one_space us rest (unit.Byte b) e start =
     let white = sym (ap starts_with_space e) ∙ start in
     ap after_space e ∙ ap (λ (t : Bool). cond t (after_space rest) (unit.Byte b ∷ rest)) white
-one_space us rest (unit.Conv c) e start = let wrong : starts_with_space (unit.Conv c ∷ rest) ≡ true = sym (ap starts_with_space e) ∙ start in absurd cc
+one_space us rest (unit.Conv c) e start = let wrong : starts_with_space (unit.Conv c ∷ rest) ≡ true =
+    sym (ap starts_with_space e) ∙ start in absurd cc
 
-pub space_on : (us : List PrintUnit) (i : ℕ) → i < length us → starts_with_space (drop i us) ≡ true → after_space (drop i us) ≡ after_space (drop (i + 1) us)
+pub space_on : (us : List PrintUnit) (i : ℕ) → i < length us → starts_with_space (drop i us) ≡ true
+    → after_space (drop i us) ≡ after_space (drop (i + 1) us)
 space_on us i below start = one_space (drop i us) (drop (i + 1) us) (get_or us i (unit.Byte 0)) (drop_next us i (unit.Byte 0) below) start
 
-pub walk_on : (ds : List Directive) (i : ℕ) (d : Directive) (units rest : List PrintUnit) → drop i ds ≡ d ∷ drop (i + 1) ds → take_group d units (next_of (drop (i + 1) ds)) ≡ Ok rest
+pub walk_on : (ds : List Directive) (i : ℕ) (d : Directive) (units rest : List PrintUnit) → drop i ds ≡ d ∷ drop (i + 1) ds
+    → take_group d units (next_of (drop (i + 1) ds)) ≡ Ok rest
     → fault_from (i + 1) (drop i ds) units ≡ fault_from (i + 1 + 1) (drop (i + 1) ds) rest
 walk_on ds i d units rest e taken =
-    ap (λ (ds : List Directive). fault_from (i + 1) ds units) e ∙ ap (λ (left : Left). fault_after (λ r. fault_from (i + 1 + 1) (drop (i + 1) ds) r) (i + 1) left) taken
+    ap (λ (ds : List Directive). fault_from (i + 1) ds units) e ∙ ap
+    (λ (left : Left). fault_after (λ r. fault_from (i + 1 + 1) (drop (i + 1) ds) r) (i + 1) left) taken
 
-pub assigned_on : (ds : List Directive) (i : ℕ) (d : Directive) (before after : Bool) → drop i ds ≡ d ∷ drop (i + 1) ds → after ≡ (before || assigns d)
+pub assigned_on : (ds : List Directive) (i : ℕ) (d : Directive) (before after : Bool) → drop i ds ≡ d ∷ drop (i + 1) ds
+    → after ≡ (before || assigns d)
     → (before || list_any assigns (drop i ds)) ≡ (after || list_any assigns (drop (i + 1) ds))
 assigned_on ds i d before after e is =
-    ap (λ (ds : List Directive). before || list_any assigns ds) e ∙ either before (assigns d) (list_any assigns (drop (i + 1) ds)) ∙ ap (λ (t : Bool). t || list_any assigns (drop (i + 1) ds)) (sym is)
+    ap (λ (ds : List Directive). before || list_any assigns ds) e ∙ either before (assigns d) (list_any assigns (drop (i + 1) ds))
+    ∙ ap (λ (t : Bool). t || list_any assigns (drop (i + 1) ds)) (sym is)
   where
     either : (a b c : Bool) → (a || (b || c)) ≡ ((a || b) || c)
     either true b c = refl

@@ -31,7 +31,8 @@ IsOfKind kind z = value_of kind (is_negative z) (unsigned_abs z) ≡ Some z
 -- a text that an item of the shape and width can be
 abbrev pub TextFits : Shape → ℕ → List ℕ → Type 0
 TextFits shape.Text width bytes = (0 < length bytes) × AllByRecursion (λ b. is_white b ≡ false) bytes × (length bytes ≤ width)
-TextFits (shape.Set members) width bytes = (0 < length bytes) × AllByRecursion (λ b. has_byte members b ≡ true) bytes × (length bytes ≤ width)
+TextFits (shape.Set members) width bytes = (0 < length bytes) × AllByRecursion (λ b. has_byte members b ≡ true) bytes
+    × (length bytes ≤ width)
 TextFits shape.Chars width bytes = length bytes ≡ width
 TextFits _ width bytes = ⊥
 

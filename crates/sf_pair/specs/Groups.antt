@@ -49,7 +49,8 @@ abbrev pub is_one : PrintLetter → Bool
 is_one letter.One = true
 is_one _ = false
 
--- `d i` with `d i`, `u` with `u`, `o` with `o`, `x X` with `x X`, `b` with `b`, `s` with `s`, `[` or `c`, `c` with `c`; the kinds tell `d` from `u`
+-- `d i` with `d i`, `u` with `u`, `o` with `o`, `x X` with `x X`, `b` with `b`, `s` with `s`, `[` or `c`, `c` with `c`; the kinds tell `d`
+-- from `u`
 abbrev pub letters_pair : PrintLetter → Shape → Bool
 letters_pair letter.Signed (shape.Int Dec) = true
 letters_pair letter.Signed (shape.Int Auto) = true
@@ -174,7 +175,8 @@ IsSpaceRun group rest next = (group ≢ []) × AreSpace group × (starts_with_sp
 
 -- one conversion that the scan's conversion reads back, closed by what follows
 abbrev pub IsPaired : Conversion → List PrintUnit → List PrintUnit → Option Directive → Type 0
-IsPaired s group rest next = (c : PrintConv) × (group ≡ unit.Conv c ∷ []) × (pairing_fault c s ≡ None) × (closing_fault c s rest (reads next) ≡ None)
+IsPaired s group rest next = (c : PrintConv) × (group ≡ unit.Conv c ∷ []) × (pairing_fault c s ≡ None)
+    × (closing_fault c s rest (reads next) ≡ None)
 
 abbrev pub IsConversionGroup : Bool → Bool → Conversion → List PrintUnit → List PrintUnit → Option Directive → Type 0
 IsConversionGroup true assigned s group rest next = ⊥
@@ -194,7 +196,8 @@ next_of (d ∷ ds) = Some d
 
 abbrev pub AreCut : List Directive → List PrintUnit → Type 0
 AreCut [] us = us ≡ []
-AreCut (d ∷ ds) us = (group : List PrintUnit) × (rest : List PrintUnit) × (us ≡ group ++ rest) × IsGroup d group rest (next_of ds) × AreCut ds rest
+AreCut (d ∷ ds) us = (group : List PrintUnit) × (rest : List PrintUnit) × (us ≡ group ++ rest) × IsGroup d group rest (next_of ds)
+    × AreCut ds rest
 
 abbrev pub assigns : Directive → Bool
 assigns (directive.Conv s) = is_some s.slot && not (is_count s.shape)

@@ -23,7 +23,8 @@ RunsInTurn ds x ending [] left = x ≡ left
 RunsInTurn ds x ending (report ∷ reports) left = Run ds x ending report × RunsInTurn ds (drop report.used x) ending reports left
 
 -- one after the other, the runs give the rows back and use just their texts, slot by slot; what follows is left
-pub record ReadsRowsBack (us : List PrintUnit) (ds : List Directive) (rows : List (List Datum)) (z : List ℕ) (ending : Ending) : Type 0 where
+pub record ReadsRowsBack (us : List PrintUnit) (ds : List Directive) (rows : List (List Datum)) (z : List ℕ)
+    (ending : Ending) : Type 0 where
   pub runs : RunsInTurn ds (joined us rows ++ z) ending (map (read_back us ds) rows) z
   pub values : AllByRecursion (SlotsAgree us ds) rows
 

@@ -54,12 +54,14 @@ read_back us ds values = record {
 -- the scan of a printed text, whatever follows it and however that ends, takes just that text and gives the values
 abbrev pub RoundTrip : Type 0
 RoundTrip = (us : List PrintUnit) (ds : List Directive) → AreAccepted us → IsAccepted ds → IsAligned us ds
-    → (values : List Datum) → Fit us ds values → (z : List ℕ) (ending : Ending) → Run ds (printed us values ++ z) ending (read_back us ds values)
+    → (values : List Datum) → Fit us ds values → (z : List ℕ) (ending : Ending)
+    → Run ds (printed us values ++ z) ending (read_back us ds values)
 
 -- within a limit that the text keeps to, no other report is given of it, whatever follows
 abbrev pub ReadWithin : Type 0
 ReadWithin = (us : List PrintUnit) (ds : List Directive) → AreAccepted us → IsAccepted ds → IsAligned us ds
-    → (values : List Datum) → Fit us ds values → (m : ℕ) → length (printed us values) ≤ m → (z : List ℕ) (ending : Ending) (report : RunReport)
+    → (values : List Datum) → Fit us ds values → (m : ℕ) → length (printed us values) ≤ m
+    → (z : List ℕ) (ending : Ending) (report : RunReport)
     → RunWithin ds m (printed us values ++ z) ending report → report ≡ read_back us ds values
 
 -- the texts that a scan of an aligned format stores are bounded
@@ -102,7 +104,8 @@ HeldIsBounded = (ds : List Directive) (m : ℕ) (x : List ℕ) (ending : Ending)
 -- the units are cut so that each of these directives has its group, and `left` is what is left where `after` come next
 abbrev pub Leaves : List Directive → List Directive → List PrintUnit → List PrintUnit → Type 0
 Leaves [] after us left = us ≡ left
-Leaves (d ∷ ds) after us left = (group : List PrintUnit) × (rest : List PrintUnit) × (us ≡ group ++ rest) × IsGroup d group rest (next_of (ds ++ after)) × Leaves ds after rest left
+Leaves (d ∷ ds) after us left = (group : List PrintUnit) × (rest : List PrintUnit) × (us ≡ group ++ rest)
+    × IsGroup d group rest (next_of (ds ++ after)) × Leaves ds after rest left
 
 -- the directive d has this number, from 1; those before it have their groups, and these units are left for it
 pub record StopsAt (us : List PrintUnit) (ds : List Directive) (at : ℕ) (d : Directive) (left : List PrintUnit) : Type 0 where
@@ -155,5 +158,6 @@ IsRunInto us ds at = (d : Directive) × (left : List PrintUnit) × StopsAt us ds
 
 -- where it is told that an item runs on and a literal follows, it does run on into that literal
 abbrev pub LiteralsAreRunInto : Type 0
-LiteralsAreRunInto = (us : List PrintUnit) (ds : List Directive) → AreAccepted us → IsAccepted ds → (f : PairFault) → pair_fault us ds ≡ Some f
+LiteralsAreRunInto = (us : List PrintUnit) (ds : List Directive) → AreAccepted us → IsAccepted ds → (f : PairFault)
+    → pair_fault us ds ≡ Some f
     → f.why ≡ why.RunsOn → IsRunInto us ds f.at

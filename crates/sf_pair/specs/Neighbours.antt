@@ -97,7 +97,8 @@ is_auto_base Auto = true
 is_auto_base AutoBin = true
 is_auto_base _ = false
 
--- an integer goes on with digits; and with the letter of a prefix where its text may be a 0 alone: under `i`, and where the least text is one byte
+-- an integer goes on with digits; and with the letter of a prefix where its text may be a 0 alone: under `i`, and where the least text is
+-- one byte
 abbrev pub integer_stops : Base → Bool → Bytes
 integer_stops base lone b = ((lone || is_auto_base base) && prefix_letters base b) || is_digit b (first_radix base)
 

@@ -38,7 +38,8 @@ after_space (unit.Byte b ∷ us) = if is_white b then after_space us else unit.B
 after_space (unit.Conv c ∷ us) = unit.Conv c ∷ us
 
 abbrev pub take_space : List PrintUnit → Option Directive → Left
-take_space us next = if starts_with_space us then leaves (space_fault (after_space us) (reads next)) (after_space us) else Err why.NotAligned
+take_space us next = if starts_with_space us then leaves (space_fault (after_space us) (reads next))
+    (after_space us) else Err why.NotAligned
 
 abbrev pub take_paired : Conversion → List PrintUnit → Option Directive → Left
 take_paired s (unit.Conv c ∷ us) next = unless (pairing_fault c s) (leaves (closing_fault c s us (reads next)) us)

@@ -78,7 +78,8 @@ fn slot_fits(conv: &PrintConv, scan: &Conversion, values: &[Value<'_>]) -> bool
 
 /// The first conversion of the units, and the units behind it.
 fn next_conversion(units: &[Unit]) -> Option<(&PrintConv, &[Unit])>
-    ensures { MatchOption result (conversions units.entry.now ≡ []) (λ next. conversions units.entry.now ≡ next.0.now ∷ conversions next.1.now) }
+    ensures { MatchOption result (conversions units.entry.now ≡ [])
+        (λ next. conversions units.entry.now ≡ next.0.now ∷ conversions next.1.now) }
 {
     for i in 0..units.len() {
         if let Unit::Conv(conv) = &units[i] {
@@ -90,7 +91,8 @@ fn next_conversion(units: &[Unit]) -> Option<(&PrintConv, &[Unit])>
 
 /// The conversion of the directive, where it assigns a value.
 fn assigned(directive: &Directive) -> Option<&Conversion>
-    ensures { MatchOption result (assigned_by directive.entry.now ≡ None) (λ scan. assigned_by directive.entry.now ≡ Some scan.now) }
+    ensures { MatchOption result (assigned_by directive.entry.now ≡ None)
+        (λ scan. assigned_by directive.entry.now ≡ Some scan.now) }
 {
     match directive {
         Directive::Conv(scan) if scan.slot.is_some() => Some(scan),

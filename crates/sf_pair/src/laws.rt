@@ -31,8 +31,8 @@ pub fn read_within()
     laws_below();
 }
 
-/// What is printed of rows that fit, one after the other, an aligned scan format reads back as these rows, one after the other,
-/// whatever follows.
+/// What is printed of rows that fit, one after the other, an aligned scan format reads back as these rows, one after
+/// the other, whatever follows.
 pub fn joined_round_trip()
     ensures { JoinedRoundTrip }
 {
@@ -77,8 +77,8 @@ pub fn open_ends_are_open()
     laws_below();
 }
 
-/// Where it is told that an item runs on and a literal comes next, the literal is taken too, behind the text of some value
-/// that fits.
+/// Where it is told that an item runs on and a literal comes next, the literal is taken too, behind the text of some
+/// value that fits.
 pub fn literals_are_run_into()
     ensures { LiteralsAreRunInto }
 {

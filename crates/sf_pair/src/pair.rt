@@ -100,13 +100,18 @@ impl<'f> Pair<'f> {
     /// Values that don't fit are refused with NotFitting; then a text that is too long, and a failing sink, as `fprint`
     /// refuses them. Where it refuses for anything but the sink, nothing was written.
     pub fn write<K: Sink>(&self, to: &mut K, values: &[Value<'_>]) -> Result<u32, WriteFault>
-        ensures unfit { IsErrOf result WriteFault.NotFitting ↔ (Fit self.now.print self.now.scan (map datum_of values.now) → ⊥) }
+        ensures unfit { IsErrOf result WriteFault.NotFitting ↔
+            (Fit self.now.print self.now.scan (map datum_of values.now) → ⊥) }
         ensures nothing { IsErrOf result WriteFault.NotFitting → to.new ≡ to.old }
-        ensures long { Fit self.now.print self.now.scan (map datum_of values.now) → 2147483647 < length (printed self.now.print (map datum_of values.now))
+        ensures long { Fit self.now.print self.now.scan (map datum_of values.now)
+            → 2147483647 < length (printed self.now.print (map datum_of values.now))
             → (result ≡ Err (WriteFault.Print TooLong)) × (to.new ≡ to.old) }
-        ensures written { Fit self.now.print self.now.scan (map datum_of values.now) → length (printed self.now.print (map datum_of values.now)) ≤ 2147483647
-            → WritesWhole (K.contents to.old) (K.contents to.new) (printed self.now.print (map datum_of values.now)) result }
-        ensures failures { K.failures to.new ≡ (if is_sink_failure result then sinks.counted_on (K.failures to.old) else K.failures to.old) }
+        ensures written { Fit self.now.print self.now.scan (map datum_of values.now)
+            → length (printed self.now.print (map datum_of values.now)) ≤ 2147483647
+            → WritesWhole (K.contents to.old) (K.contents to.new)
+            (printed self.now.print (map datum_of values.now)) result }
+        ensures failures { K.failures to.new ≡ (if is_sink_failure result then sinks.counted_on
+            (K.failures to.old) else K.failures to.old) }
     {
         laws_below();
         if !self.fits(values) {
@@ -125,16 +130,23 @@ impl<'f> Pair<'f> {
         from: &mut Lookahead<S, N>,
         limit: u32,
     ) -> Result<Scanned<HeapStore>, StartFault>
-        ensures scan { (t : List ℕ) → input_of S.to_come from.old ≡ Some t → IfOk result (λ s. Scan S.to_come self.now.scan limit t from.old from.new s.report) }
-        ensures told { IfOk result (λ s. (x : List ℕ) × (ending : Ending) × RunTold self.now.scan limit x ending s.report) }
+        ensures scan { (t : List ℕ) → input_of S.to_come from.old ≡ Some t
+            → IfOk result (λ s. Scan S.to_come self.now.scan limit t from.old from.new s.report) }
+        ensures told { IfOk result (λ s. (x : List ℕ) × (ending : Ending)
+            × RunTold self.now.scan limit x ending s.report) }
         ensures stored { IfOk result (λ s. is_memory_status s.report.status ≡ false) }
-        ensures held { IfOk result (λ s. (n : ℕ) → width_sum self.now.scan ≡ Some n → length (texts_in s.report.values) ≤ n) }
+        ensures held { IfOk result (λ s. (n : ℕ) → width_sum self.now.scan ≡ Some n
+            → length (texts_in s.report.values) ≤ n) }
         ensures back { (values : List Datum) → Fit self.now.print self.now.scan values → (z : List ℕ)
-            → input_of S.to_come from.old ≡ Some (printed self.now.print values ++ z) → length (printed self.now.print values) ≤ limit
-            → IfOk result (λ s. ReadsBackWhole S.to_come S.reads N self.now.print self.now.scan values z from.old from.new s.report) }
-        ensures failures { IfOk result (λ s. S.failures from.new.source ≡ (if is_fault s.report.met then counted_on (S.failures from.old.source) else S.failures from.old.source)) }
+            → input_of S.to_come from.old ≡ Some (printed self.now.print values ++ z)
+            → length (printed self.now.print values) ≤ limit
+            → IfOk result (λ s. ReadsBackWhole S.to_come S.reads N self.now.print self.now.scan values z from.old
+            from.new s.report) }
+        ensures failures { IfOk result (λ s. S.failures from.new.source
+            ≡ (if is_fault s.report.met then counted_on (S.failures from.old.source) else S.failures from.old.source)) }
         ensures reads { IfOk result (λ s. S.reads from.new.source ≤ S.reads from.old.source + s.report.used + 1) }
-        ensures waited { IfOk result (λ s. WaitedFor S.to_come S.reads N self.now.scan limit from.old from.new s.report.used) }
+        ensures waited { IfOk result (λ s. WaitedFor S.to_come S.reads N self.now.scan limit from.old from.new
+            s.report.used) }
         ensures end { IfOk result (λ s. s.report.met ≡ Some End → from.new.at_end ≡ true) }
         ensures no_read { from.old.at_end ≡ true → from.new.source ≡ from.old.source }
         ensures stays { from.old.at_end ≡ true → from.new.at_end ≡ true }
@@ -155,22 +167,30 @@ impl<'f> Pair<'f> {
         from: &mut Lookahead<S, N>,
         limit: u32,
     ) -> Result<Scanned<HeapStore>, StartFault>
-        ensures scan { (t : List ℕ) → input_of S.to_come from.old ≡ Some t → IfOk result (λ s. Scan S.to_come self.now.scan limit t from.old from.new s.report) }
-        ensures told { IfOk result (λ s. (x : List ℕ) × (ending : Ending) × RunTold self.now.scan limit x ending s.report) }
+        ensures scan { (t : List ℕ) → input_of S.to_come from.old ≡ Some t
+            → IfOk result (λ s. Scan S.to_come self.now.scan limit t from.old from.new s.report) }
+        ensures told { IfOk result (λ s. (x : List ℕ) × (ending : Ending)
+            × RunTold self.now.scan limit x ending s.report) }
         ensures stored { IfOk result (λ s. is_memory_status s.report.status ≡ false) }
-        ensures held { IfOk result (λ s. (n : ℕ) → width_sum self.now.scan ≡ Some n → length (texts_in s.report.values) ≤ n) }
+        ensures held { IfOk result (λ s. (n : ℕ) → width_sum self.now.scan ≡ Some n
+            → length (texts_in s.report.values) ≤ n) }
         ensures back { (values : List Datum) → Fit self.now.print self.now.scan values → (z : List ℕ)
-            → input_of S.to_come from.old ≡ Some (printed self.now.print values ++ z) → length (printed self.now.print values) ≤ limit
-            → IfOk result (λ s. ReadsBackWhole S.to_come S.reads N self.now.print self.now.scan values z from.old from.new s.report) }
-        ensures failures { IfOk result (λ s. S.failures from.new.source ≡ (if is_fault s.report.met then counted_on (S.failures from.old.source) else S.failures from.old.source)) }
+            → input_of S.to_come from.old ≡ Some (printed self.now.print values ++ z)
+            → length (printed self.now.print values) ≤ limit
+            → IfOk result (λ s. ReadsBackWhole S.to_come S.reads N self.now.print self.now.scan values z from.old
+            from.new s.report) }
+        ensures failures { IfOk result (λ s. S.failures from.new.source
+            ≡ (if is_fault s.report.met then counted_on (S.failures from.old.source) else S.failures from.old.source)) }
         ensures reads { IfOk result (λ s. S.reads from.new.source ≤ S.reads from.old.source + s.report.used + 1) }
-        ensures waited { IfOk result (λ s. WaitedFor S.to_come S.reads N self.now.scan limit from.old from.new s.report.used) }
+        ensures waited { IfOk result (λ s. WaitedFor S.to_come S.reads N self.now.scan limit from.old from.new
+            s.report.used) }
         ensures end { IfOk result (λ s. s.report.met ≡ Some End → from.new.at_end ≡ true) }
         ensures no_read { from.old.at_end ≡ true → from.new.source ≡ from.old.source }
         ensures stays { from.old.at_end ≡ true → from.new.at_end ≡ true }
         ensures limit { IsErrOf result StartFault.BadLimit ↔ (2147483647 < limit) }
         ensures memory { IfErr result (λ fault. (fault ≡ StartFault.BadLimit) ⊎ (fault ≡ StartFault.NoMemory)) }
-        ensures enough { limit ≤ 2147483647 → unwrap_or (width_sum self.now.scan) 0 ≤ store.room + length (buffer_of store) → IsOk result }
+        ensures enough { limit ≤ 2147483647 → unwrap_or (width_sum self.now.scan) 0
+            ≤ store.room + length (buffer_of store) → IsOk result }
         ensures as_much { IfOk result (λ s. capacity_of store ≤ capacity_of s.kept) }
         ensures room { IfOk result (λ s. unwrap_or (width_sum self.now.scan) 0 ≤ capacity_of s.kept) }
         ensures unread { IfErr result (λ _. from.new ≡ from.old) }
@@ -185,16 +205,23 @@ impl<'f> Pair<'f> {
         from: &mut Lookahead<S, N>,
         limit: u32,
     ) -> Result<Scanned<FixedStore<CAP, SLOTS>>, StartFault>
-        ensures scan { (t : List ℕ) → input_of S.to_come from.old ≡ Some t → IfOk result (λ s. Scan S.to_come self.now.scan limit t from.old from.new s.report) }
-        ensures told { IfOk result (λ s. (x : List ℕ) × (ending : Ending) × RunTold self.now.scan limit x ending s.report) }
+        ensures scan { (t : List ℕ) → input_of S.to_come from.old ≡ Some t
+            → IfOk result (λ s. Scan S.to_come self.now.scan limit t from.old from.new s.report) }
+        ensures told { IfOk result (λ s. (x : List ℕ) × (ending : Ending)
+            × RunTold self.now.scan limit x ending s.report) }
         ensures stored { IfOk result (λ s. is_memory_status s.report.status ≡ false) }
-        ensures held { IfOk result (λ s. (n : ℕ) → width_sum self.now.scan ≡ Some n → length (texts_in s.report.values) ≤ n) }
+        ensures held { IfOk result (λ s. (n : ℕ) → width_sum self.now.scan ≡ Some n
+            → length (texts_in s.report.values) ≤ n) }
         ensures back { (values : List Datum) → Fit self.now.print self.now.scan values → (z : List ℕ)
-            → input_of S.to_come from.old ≡ Some (printed self.now.print values ++ z) → length (printed self.now.print values) ≤ limit
-            → IfOk result (λ s. ReadsBackWhole S.to_come S.reads N self.now.print self.now.scan values z from.old from.new s.report) }
-        ensures failures { IfOk result (λ s. S.failures from.new.source ≡ (if is_fault s.report.met then counted_on (S.failures from.old.source) else S.failures from.old.source)) }
+            → input_of S.to_come from.old ≡ Some (printed self.now.print values ++ z)
+            → length (printed self.now.print values) ≤ limit
+            → IfOk result (λ s. ReadsBackWhole S.to_come S.reads N self.now.print self.now.scan values z from.old
+            from.new s.report) }
+        ensures failures { IfOk result (λ s. S.failures from.new.source
+            ≡ (if is_fault s.report.met then counted_on (S.failures from.old.source) else S.failures from.old.source)) }
         ensures reads { IfOk result (λ s. S.reads from.new.source ≤ S.reads from.old.source + s.report.used + 1) }
-        ensures waited { IfOk result (λ s. WaitedFor S.to_come S.reads N self.now.scan limit from.old from.new s.report.used) }
+        ensures waited { IfOk result (λ s. WaitedFor S.to_come S.reads N self.now.scan limit from.old from.new
+            s.report.used) }
         ensures end { IfOk result (λ s. s.report.met ≡ Some End → from.new.at_end ≡ true) }
         ensures no_read { from.old.at_end ≡ true → from.new.source ≡ from.old.source }
         ensures stays { from.old.at_end ≡ true → from.new.at_end ≡ true }

@@ -46,7 +46,8 @@ fn takes_literal(directive: &Directive, b: u8) -> bool
 
 /// The units behind the literal that the directive takes.
 fn take_literal<'a>(directive: &Directive, units: &'a [Unit]) -> Result<&'a [Unit], PairWhy>
-    ensures { MatchResult result (λ rest. take_literal (literals_of directive.now) units.entry.now ≡ Ok rest.now) (λ why. take_literal (literals_of directive.now) units.entry.now ≡ Err why) }
+    ensures { MatchResult result (λ rest. take_literal (literals_of directive.now) units.entry.now ≡ Ok rest.now)
+        (λ why. take_literal (literals_of directive.now) units.entry.now ≡ Err why) }
 {
     match units.split_first() {
         Some((Unit::Byte(b), rest)) if takes_literal(directive, *b) => Ok(rest),
@@ -111,7 +112,9 @@ fn space_fault(rest: &[Unit], next: &Shape) -> Option<PairWhy>
 }
 
 fn take_space<'a>(units: &'a [Unit], next: &Shape) -> Result<&'a [Unit], PairWhy>
-    ensures { (d : Option Directive) → reads d ≡ next.now → MatchResult result (λ rest. take_space units.entry.now d ≡ Ok rest.now) (λ why. take_space units.entry.now d ≡ Err why) }
+    ensures { (d : Option Directive) → reads d ≡ next.now
+        → MatchResult result (λ rest. take_space units.entry.now d ≡ Ok rest.now)
+        (λ why. take_space units.entry.now d ≡ Err why) }
 {
     if !starts_with_space(units) {
         return Err(PairWhy::NotAligned);
@@ -128,7 +131,9 @@ fn take_paired<'a>(
     units: &'a [Unit],
     next: &Shape,
 ) -> Result<&'a [Unit], PairWhy>
-    ensures { (d : Option Directive) → reads d ≡ next.now → MatchResult result (λ rest. take_paired scan.now units.entry.now d ≡ Ok rest.now) (λ why. take_paired scan.now units.entry.now d ≡ Err why) }
+    ensures { (d : Option Directive) → reads d ≡ next.now
+        → MatchResult result (λ rest. take_paired scan.now units.entry.now d ≡ Ok rest.now)
+        (λ why. take_paired scan.now units.entry.now d ≡ Err why) }
 {
     let Some((Unit::Conv(conv), rest)) = units.split_first() else {
         return Err(PairWhy::NotAligned);
@@ -148,7 +153,8 @@ fn take_group<'a>(
     after: &[Directive],
     units: &'a [Unit],
 ) -> Result<&'a [Unit], PairWhy>
-    ensures { MatchResult result (λ rest. take_group directive.now units.entry.now (next_of after.now) ≡ Ok rest.now) (λ why. take_group directive.now units.entry.now (next_of after.now) ≡ Err why) }
+    ensures { MatchResult result (λ rest. take_group directive.now units.entry.now (next_of after.now) ≡ Ok rest.now)
+        (λ why. take_group directive.now units.entry.now (next_of after.now) ≡ Err why) }
 {
     let none = Shape::Count;
     let next = reads(after, &none);

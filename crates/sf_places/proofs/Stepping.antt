@@ -16,7 +16,8 @@ behind_end before old next is at = record {
   ended = inr (before, refl);
   unended = tt;
   number =
-      let more : count_by (λ b. b == 10) (before ++ 10 ∷ []) ≡ count_by (λ b. b == 10) before + 1 = sum_by_push (λ b. cond (b == 10) 1 0) before 10 in
+      let more : count_by (λ b. b == 10) (before ++ 10 ∷ []) ≡ count_by (λ b. b == 10) before + 1 =
+      sum_by_push (λ b. cond (b == 10) 1 0) before 10 in
       let old_is = at.number in
       omega (arith, is, more, old_is);
   column = omega arith;

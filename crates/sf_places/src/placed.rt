@@ -70,7 +70,8 @@ impl<S: Source, I: Input> Placed<S, I> {
     /// The place before the bytes that it gave last. None where they are more than those of the last read.
     pub fn place_before(&self, held: &[u8]) -> Option<Place>
         ensures known { IsSome result ↔ (length held.now ≤ length self.now.last) }
-        ensures behind { IfSome result (λ place. (c z : List ℕ) → I.input ≡ Some (c ++ (held.now ++ z)) → S.to_come self.now.source ≡ Some z → IsBehind c place) }
+        ensures behind { IfSome result (λ place. (c z : List ℕ) → I.input ≡ Some (c ++ (held.now ++ z))
+            → S.to_come self.now.source ≡ Some z → IsBehind c place) }
     {
         let count = self.last.len().checked_sub(held.len())?;
         Some(self.place.behind(&self.last[..count]))
@@ -98,7 +99,8 @@ impl<S: Source, I: Input> Source for Placed<S, I> {
         ensures bound { ReadsAtMost result buf.new }
         ensures bytes { ReadConsumes (S.to_come self.old.source) (S.to_come self.new.source) result buf.new }
         ensures reads { S.reads self.new.source ≡ counted_on (S.reads self.old.source) }
-        ensures failures { S.failures self.new.source ≡ (if is_err result then counted_on (S.failures self.old.source) else S.failures self.old.source) }
+        ensures failures { S.failures self.new.source ≡ (if is_err result then counted_on
+            (S.failures self.old.source) else S.failures self.old.source) }
         ensures kept { IfOk result (λ count. self.new.last ≡ take count buf.new) }
         ensures failed { IfErr result (λ _. self.new.last ≡ []) }
     {

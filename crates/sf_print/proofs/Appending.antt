@@ -26,18 +26,22 @@ Appends-same a b p q e h = let F : List ℕ → Type 0 = λ t. Appends a b t in 
 pub take_on : (a n : ℕ) (xs : List ℕ) → a ≤ length xs → take (a + n) xs ≡ take a xs ++ take n (drop a xs)
 take_on zero n xs h = ap (λ (k : ℕ). take k xs) {x = zero + n} {y = n} (omega arith)
 take_on (suc a) n [] h = absurd (omega arith)
-take_on (suc a) n (x ∷ xs) h = ap (λ (k : ℕ). take k (x ∷ xs)) {x = suc a + n} {y = suc (a + n)} (omega arith) ∙ ap (λ (t : List ℕ). x ∷ t) (take_on a n xs (omega arith))
+take_on (suc a) n (x ∷ xs) h = ap (λ (k : ℕ). take k (x ∷ xs)) {x = suc a + n} {y = suc (a + n)} (omega arith)
+    ∙ ap (λ (t : List ℕ). x ∷ t) (take_on a n xs (omega arith))
 
 -- a front of the rest of a slice
-pub took_more : (xs : List ℕ) (done n : ℕ) → done ≤ length xs → n ≤ length (take (length xs - done) (drop done xs)) → (done + n ≤ length xs) × (take (done + n) xs ≡ take done xs ++ take n (take (length xs - done) (drop done xs)))
+pub took_more : (xs : List ℕ) (done n : ℕ) → done ≤ length xs → n ≤ length (take (length xs - done) (drop done xs))
+    → (done + n ≤ length xs) × (take (done + n) xs ≡ take done xs ++ take n (take (length xs - done) (drop done xs)))
 took_more xs done n h most =
     let rest = take_rest xs done in
     let len : length (take (length xs - done) (drop done xs)) ≡ length xs - done = ap length rest ∙ length-drop done xs in
     (omega arith, take_on done n xs h ∙ ap (λ (t : List ℕ). take done xs ++ take n t) (sym rest))
 
 -- a piece written over a buffer from a place on
-pub put_at : (at start end : ℕ) (piece old new : List ℕ) → start ≡ at → end ≡ at + length piece → at ≤ length new → drop start new ≡ piece ++ drop end old → take start new ≡ take start old → take end new ≡ take at old ++ piece
+pub put_at : (at start end : ℕ) (piece old new : List ℕ) → start ≡ at → end ≡ at + length piece → at ≤ length new
+    → drop start new ≡ piece ++ drop end old → take start new ≡ take start old → take end new ≡ take at old ++ piece
 put_at at start end piece old new s e within written before =
     ap (λ (n : ℕ). take n new) e ∙ take_on at (length piece) new within
-    ∙ (λ i. (ap (λ (n : ℕ). take n new) (sym s) ∙ before ∙ ap (λ (n : ℕ). take n old) s) i ++ take (length piece) ((ap (λ (n : ℕ). drop n new) (sym s) ∙ written) i))
+    ∙ (λ i. (ap (λ (n : ℕ). take n new) (sym s) ∙ before ∙ ap (λ (n : ℕ). take n old) s) i ++ take (length piece)
+    ((ap (λ (n : ℕ). drop n new) (sym s) ∙ written) i))
     ∙ ap (λ (t : List ℕ). take at old ++ t) (take-append_seam piece (drop end old))

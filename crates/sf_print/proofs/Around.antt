@@ -21,16 +21,22 @@ text_around c p ds = let len = length p + length ds in
 regroup : (b s m z l d r : List ℕ) → b ++ (s ++ (m ++ ((z ++ l) ++ (d ++ (r ++ []))))) ≡ b ++ (s ++ m) ++ z ++ (l ++ d) ++ r
 regroup b s m z l d r = simp (append_assoc, append-nil)
 
-pub laid : (c : PrintConv) (z : ℤ) (m : ℕ) (ds sgn mrk : List ℕ) (left inner lead right len : ℕ) → unsigned_abs z ≡ m → ds ≡ numeral c m → sgn ≡ sign c z → mrk ≡ mark c m
-    → replicate lead 48 ++ ds ≡ with_octal_zero c (filled c ds) → len ≡ length sgn + length mrk + lead + length ds → left ≡ left_blanks c len → inner ≡ inner_zeros c len → right ≡ right_blanks c len
+pub laid : (c : PrintConv) (z : ℤ) (m : ℕ) (ds sgn mrk : List ℕ) (left inner lead right len : ℕ) → unsigned_abs z ≡ m → ds ≡ numeral c m
+    → sgn ≡ sign c z → mrk ≡ mark c m
+    → replicate lead 48 ++ ds ≡ with_octal_zero c (filled c ds) → len ≡ length sgn + length mrk + lead + length ds
+    → left ≡ left_blanks c len → inner ≡ inner_zeros c len → right ≡ right_blanks c len
     → replicate left 32 ++ (sgn ++ (mrk ++ (replicate (inner + lead) 48 ++ (ds ++ (replicate right 32 ++ []))))) ≡ integer_text c z
 laid c z m ds sgn mrk left inner lead right len abs is_numeral is_sign is_mark leads is_len is_left is_inner is_right =
     let p : sgn ++ mrk ≡ prefix c z = (λ t. is_sign t ++ (is_mark ∙ ap (mark c) (sym abs)) t) in
-    let d : replicate lead 48 ++ ds ≡ all_digits c (unsigned_abs z) = leads ∙ ap (λ (xs : List ℕ). with_octal_zero c (filled c xs)) (is_numeral ∙ ap (numeral c) (sym abs)) in
-    let l : len ≡ length (sgn ++ mrk) + length (replicate lead 48 ++ ds) = omega (arith, is_len, length-append sgn mrk, length-append (replicate lead 48) ds, length-replicate {A = ℕ} lead 48) in
-    ap (λ (xs : List ℕ). replicate left 32 ++ (sgn ++ (mrk ++ (xs ++ (ds ++ (replicate right 32 ++ [])))))) (sym (replicate-append-replicate inner lead 48))
+    let d : replicate lead 48 ++ ds ≡ all_digits c (unsigned_abs z) =
+    leads ∙ ap (λ (xs : List ℕ). with_octal_zero c (filled c xs)) (is_numeral ∙ ap (numeral c) (sym abs)) in
+    let l : len ≡ length (sgn ++ mrk) + length (replicate lead 48 ++ ds) =
+    omega (arith, is_len, length-append sgn mrk, length-append (replicate lead 48) ds, length-replicate {A = ℕ} lead 48) in
+    ap (λ (xs : List ℕ). replicate left 32 ++ (sgn ++ (mrk ++ (xs ++ (ds ++ (replicate right 32 ++ []))))))
+    (sym (replicate-append-replicate inner lead 48))
     ∙ regroup (replicate left 32) sgn mrk (replicate inner 48) (replicate lead 48) ds (replicate right 32)
-    ∙ (λ t. blanks ((is_left ∙ ap (left_blanks c) l) t) ++ (sgn ++ mrk) ++ zeros ((is_inner ∙ ap (inner_zeros c) l) t) ++ (replicate lead 48 ++ ds) ++ blanks ((is_right ∙ ap (right_blanks c) l) t))
+    ∙ (λ t. blanks ((is_left ∙ ap (left_blanks c) l) t) ++ (sgn ++ mrk) ++ zeros
+    ((is_inner ∙ ap (inner_zeros c) l) t) ++ (replicate lead 48 ++ ds) ++ blanks ((is_right ∙ ap (right_blanks c) l) t))
     ∙ (λ t. text_around c (p t) (d t))
 
 -- other letters have decimal digits
@@ -46,7 +52,8 @@ pub at_end : (ds buf : List ℕ) → length buf ≡ 64 → ds ++ drop 64 buf ≡
 at_end ds buf e = ap (λ (t : List ℕ). ds ++ t) (drop_all 64 buf (omega arith)) ∙ append-nil ds
 
 -- what was written up to the end of the buffer, and from its start
-pub to_end : (start : ℕ) (ds new old : List ℕ) → start + length ds ≡ 64 → length old ≡ 64 → drop start new ≡ ds ++ drop 64 old → slice_range new start 64 ≡ ds
+pub to_end : (start : ℕ) (ds new old : List ℕ) → start + length ds ≡ 64 → length old ≡ 64 → drop start new ≡ ds ++ drop 64 old
+    → slice_range new start 64 ≡ ds
 to_end start ds new old e long is = ap (take (64 - start)) (is ∙ at_end ds old long) ∙ take_all (64 - start) ds (omega (arith, e))
 
 pub from_start : (end : ℕ) (ds new old : List ℕ) → take end new ≡ take 0 old ++ ds → slice_range new 0 end ≡ ds

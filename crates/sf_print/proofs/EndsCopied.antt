@@ -5,7 +5,8 @@ use Rattle.std.proofs.lemmas.Slice.{take-put_mid, drop-put_mid}
 use Rattle.std.proofs.Math.Seq.{take-append-add}
 use borrow.Rule.Slice.PartMut.{put_mid}
 
-pub ends_copied : (b xs p q : List ℕ) (at w k l : ℕ) → w ≤ length xs → length xs ≤ w + w → at + length xs ≤ length b → k ≡ w → l ≡ w → p ≡ take w xs → q ≡ drop (length xs - w) xs
+pub ends_copied : (b xs p q : List ℕ) (at w k l : ℕ) → w ≤ length xs → length xs ≤ w + w → at + length xs ≤ length b → k ≡ w → l ≡ w
+    → p ≡ take w xs → q ≡ drop (length xs - w) xs
     → put_mid (at + length xs - w) l (put_mid at k b p) q ≡ take at b ++ (xs ++ drop (at + length xs) b)
 ends_copied b xs p q at w k l low high room k_is l_is p_is q_is =
     let n : ℕ = length xs in
@@ -15,15 +16,25 @@ ends_copied b xs p q at w k l low high room k_is l_is p_is q_is =
     let whole : List ℕ = put_mid (at + n - w) l once q in
     let front : take (at + w) once ≡ take at b ++ p = take-put_mid at k b p (at + w) (omega arith) (omega arith) in
     let at_long : length (take at b) ≡ at = length-take-le at b (omega arith) in
-    let long : at + w ≤ length once = omega (arith, ap length front, length-take (at + w) once, length-append (take at b) p, at_long, long_p) in
+    let long : at + w ≤ length once = omega (
+      arith,
+      ap length front,
+      length-take (at + w) once,
+      length-append (take at b) p,
+      at_long,
+      long_p,
+    ) in
     let place : at + n - w ≡ length (take at b) + (n - w) = omega arith in
     let begun : take (at + n - w) once ≡ take at b ++ take (n - w) xs =
     sym (take-take (at + n - w) (at + w) once (omega arith)) ∙ ap (take (at + n - w)) front ∙ ap (λ (i : ℕ). take i (take at b ++ p)) place
-    ∙ take-append-add (take at b) p (n - w) ∙ ap (λ (t : List ℕ). take at b ++ take (n - w) t) p_is ∙ ap (λ (t : List ℕ). take at b ++ t) (take-take (n - w) w xs (omega arith)) in
+    ∙ take-append-add (take at b) p (n - w) ∙ ap (λ (t : List ℕ). take at b ++ take (n - w) t) p_is
+    ∙ ap (λ (t : List ℕ). take at b ++ t) (take-take (n - w) w xs (omega arith)) in
     let written : take (at + n) whole ≡ (take at b ++ take (n - w) xs) ++ drop (n - w) xs =
     take-put_mid (at + n - w) l once q (at + n) (omega arith) (omega arith) ∙ (λ i. begun i ++ q_is i) in
     let rest : drop (at + n) whole ≡ drop (at + n) b =
-    drop-put_mid (at + n - w) l once q (at + n) (omega arith) (omega arith) (omega arith) ∙ drop-put_mid at k b p (at + n) (omega arith) (omega arith) (omega arith) in
+    drop-put_mid (at + n - w) l once q (at + n) (omega arith) (omega arith) (omega arith)
+    ∙ drop-put_mid at k b p (at + n) (omega arith) (omega arith) (omega arith) in
     sym (take-append-drop (at + n) whole) ∙ (λ i. written i ++ rest i)
-    ∙ ap (λ (t : List ℕ). t ++ drop (at + n) b) (append_assoc (take at b) (take (n - w) xs) (drop (n - w) xs) ∙ ap (λ (t : List ℕ). take at b ++ t) (take-append-drop (n - w) xs))
+    ∙ ap (λ (t : List ℕ). t ++ drop (at + n) b) (append_assoc (take at b) (take (n - w) xs) (drop (n - w) xs)
+    ∙ ap (λ (t : List ℕ). take at b ++ t) (take-append-drop (n - w) xs))
     ∙ append_assoc (take at b) xs (drop (at + n) b)

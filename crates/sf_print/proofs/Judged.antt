@@ -42,9 +42,11 @@ unfolding is_of_sink
 unit_kept values (unit.Byte b) = refl
 unit_kept values (unit.Conv c) = some_kept c (value_at values c.slot)
 
-fold_kept : (values : List Datum) (units : List PrintUnit) (f : Option PrintFault) → is_of_sink f ≡ false → is_of_sink (fold (λ g u. lower g (unit_fault values u)) f units) ≡ false
+fold_kept : (values : List Datum) (units : List PrintUnit) (f : Option PrintFault) → is_of_sink f ≡ false
+    → is_of_sink (fold (λ g u. lower g (unit_fault values u)) f units) ≡ false
 fold_kept values [] f h = h
-fold_kept values (u ∷ us) f h = fold_kept values us (lower f (unit_fault values u)) (lower_kept f (unit_fault values u) h (unit_kept values u))
+fold_kept values (u ∷ us) f h = fold_kept values us (lower f (unit_fault values u))
+    (lower_kept f (unit_fault values u) h (unit_kept values u))
 
 length_kept : (f : Option PrintFault) (len : ℕ) → is_of_sink f ≡ false → is_sink_fault (length_or_fault f len) ≡ false
 unfolding is_of_sink
@@ -59,6 +61,7 @@ pub measured_kept : (units : List PrintUnit) (values : List Datum) → is_sink_f
 unfolding is_of_sink
 measured_kept units values = by (not (length values == length (values_of units)))
   where
-    by : (t : Bool) → is_sink_fault (cond t (Err fault.WrongCount) (length_or_fault (lowest_fault units values) (length (printed units values)))) ≡ false
+    by : (t : Bool) → is_sink_fault (cond t (Err fault.WrongCount)
+        (length_or_fault (lowest_fault units values) (length (printed units values)))) ≡ false
     by true = refl
     by false = length_kept (lowest_fault units values) (length (printed units values)) (fold_kept values units None refl)

@@ -44,7 +44,8 @@ abbrev slot_or : Option PrintFault → ℕ
 slot_or None = 0
 slot_or (Some g) = slot_of g
 
-least_of : (values : List Datum) (us : List PrintUnit) (a : Option PrintFault) (f : PrintFault) → fold (λ g u. lower g (unit_fault values u)) a us ≡ Some f → AtLeast f a × NoneIsLower values f us
+least_of : (values : List Datum) (us : List PrintUnit) (a : Option PrintFault) (f : PrintFault)
+    → fold (λ g u. lower g (unit_fault values u)) a us ≡ Some f → AtLeast f a × NoneIsLower values f us
 least_of values [] None f e = absurd cc
 least_of values [] (Some g) f e = let s : slot_of g ≡ slot_of f = ap (λ o. slot_or o) e in (omega arith, tt)
 least_of values (u ∷ us) a f e =
@@ -52,7 +53,8 @@ least_of values (u ∷ us) a f e =
     let two = both f a (unit_fault values u) rest.0 in
     (two.0, (two.1, rest.1))
 
-found_in : (values : List Datum) (us : List PrintUnit) (a : Option PrintFault) (f : PrintFault) → fold (λ g u. lower g (unit_fault values u)) a us ≡ Some f → (a ≡ Some f) ⊎ HasFault values f us
+found_in : (values : List Datum) (us : List PrintUnit) (a : Option PrintFault) (f : PrintFault)
+    → fold (λ g u. lower g (unit_fault values u)) a us ≡ Some f → (a ≡ Some f) ⊎ HasFault values f us
 found_in values [] a f e = inl e
 found_in values (u ∷ us) a f e =
     elim (found_in values us (lower a (unit_fault values u)) f e) [
@@ -60,7 +62,8 @@ found_in values (u ∷ us) a f e =
       | inr h ↦ inr (inr h)
     ]
 
-none_in : (values : List Datum) (us : List PrintUnit) (a : Option PrintFault) → fold (λ g u. lower g (unit_fault values u)) a us ≡ None → (a ≡ None) × AllByRecursion (λ u. unit_fault values u ≡ None) us
+none_in : (values : List Datum) (us : List PrintUnit) (a : Option PrintFault) → fold (λ g u. lower g (unit_fault values u)) a us ≡ None
+    → (a ≡ None) × AllByRecursion (λ u. unit_fault values u ≡ None) us
 none_in values [] a e = (e, tt)
 none_in values (u ∷ us) a e =
     let rest = none_in values us (lower a (unit_fault values u)) e in
@@ -68,5 +71,7 @@ none_in values (u ∷ us) a e =
     (two.0, (two.1, rest.1))
 
 pub lowest_is_told : LowestIsTold
-lowest_is_told units values =
-    (λ f e. (elim (found_in values units None f e) [ inl h ↦ absurd cc | inr h ↦ h ], (least_of values units None f e).1), λ e. (none_in values units None e).1)
+lowest_is_told units values = (
+  λ f e. (elim (found_in values units None f e) [ inl h ↦ absurd cc | inr h ↦ h ], (least_of values units None f e).1),
+  λ e. (none_in values units None e).1,
+)

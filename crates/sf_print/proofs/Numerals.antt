@@ -42,7 +42,11 @@ small_one base n low z = let pos : 0 < base = omega arith in let h : n < 1 * bas
 large_one : (base n : ℕ) → 2 ≤ base → 0 < n / base → base ≤ n
 large_one base n low p =
     let pos : 0 < base = omega arith in
-    elim (eq-zero-or-pos (base - n)) [ inl z ↦ omega arith | inr h ↦ absurd (let q : n / base < 1 = (div-lt_iff_lt-mul pos).1 (omega arith) in omega arith) ]
+    elim (eq-zero-or-pos (base - n)) [
+      | inl z ↦ omega arith
+      | inr h ↦ absurd
+          (let q : n / base < 1 = (div-lt_iff_lt-mul pos).1 (omega arith) in omega arith)
+    ]
 
 last_digit : (base n : ℕ) → 2 ≤ base → base ≤ 16 → n % base < 16
 last_digit base n low high = let h : n % base < base = mod-lt n (omega arith) in omega arith
@@ -56,15 +60,19 @@ in_one_case base upper zero n low high u64 fits =
     subst (IsInCase upper) (sym (digits_one base upper n low (omega arith))) (glyph_in_case upper n (omega arith))
 in_one_case base upper (suc k) n low high u64 fits =
     elim (eq-zero-or-pos (n / base)) [
-      | inl z ↦ let h = small_one base n low z in subst (IsInCase upper) (sym (digits_one base upper n low h)) (glyph_in_case upper n (omega arith))
+      | inl z ↦ let h = small_one base n low z in subst (IsInCase upper) (sym (digits_one base upper n low h))
+          (glyph_in_case upper n (omega arith))
       | inr p ↦
           let h = large_one base n low p in
           let less : n / base ≤ n = div-le_self n base in
           subst (IsInCase upper) (sym (digits_step base upper n low h u64))
-          (all_joined (λ c. c ≡ digit_glyph upper (digit_value c)) (digits base upper (n / base)) (digit_glyph upper (n % base) ∷ []) (in_one_case base upper k (n / base) low high (omega arith) (smaller base n k low fits)) (glyph_in_case upper (n % base) (last_digit base n low high)))
+          (all_joined (λ c. c ≡ digit_glyph upper (digit_value c)) (digits base upper (n / base)) (digit_glyph upper (n % base) ∷ [])
+          (in_one_case base upper k (n / base) low high (omega arith) (smaller base n k low fits))
+          (glyph_in_case upper (n % base) (last_digit base n low high)))
     ]
 
-no_zero_first : (base : ℕ) (upper : Bool) (k n : ℕ) → 2 ≤ base → base ≤ 16 → n < 2 ^ 64 → n < base ^ k → 0 < n → slice_index (digits base upper n) 0 ≡ 48 → ⊥
+no_zero_first : (base : ℕ) (upper : Bool) (k n : ℕ) → 2 ≤ base → base ≤ 16 → n < 2 ^ 64 → n < base ^ k → 0 < n
+    → slice_index (digits base upper n) 0 ≡ 48 → ⊥
 no_zero_first base upper zero n low high u64 fits some e = omega (arith, pow-zero base)
 no_zero_first base upper (suc k) n low high u64 fits some e =
     elim (eq-zero-or-pos (n / base)) [
@@ -77,7 +85,9 @@ no_zero_first base upper (suc k) n low high u64 fits some e =
           let h = large_one base n low p in
           let less : n / base ≤ n = div-le_self n base in
           no_zero_first base upper k (n / base) low high (omega arith) (smaller base n k low fits) p
-          (sym (first_joined (digits base upper (n / base)) (digit_glyph upper (n % base) ∷ []) (length_some base upper (n / base) low high (omega arith))) ∙ sym (ap (λ ds. slice_index ds 0) (digits_step base upper n low h u64)) ∙ e)
+          (sym (first_joined (digits base upper (n / base)) (digit_glyph upper (n % base) ∷ [])
+          (length_some base upper (n / base) low high (omega arith)))
+          ∙ sym (ap (λ ds. slice_index ds 0) (digits_step base upper n low h u64)) ∙ e)
     ]
 
 pub are_numerals : AreNumerals

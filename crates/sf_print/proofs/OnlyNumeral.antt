@@ -10,9 +10,11 @@ use Rattle.sf_print.proofs.Digits.{digits_one, digits_step}
 
 value_grows : (base n : ℕ) (ds : List ℕ) → 1 ≤ base → n ≤ digits_value_after base n ds
 value_grows base n [] low = omega arith
-value_grows base n (c ∷ cs) low = let more : n ≤ n * base = le-mul_of_pos_right n low in omega (arith, value_grows base (n * base + digit_value c) cs low)
+value_grows base n (c ∷ cs) low = let more : n ≤ n * base = le-mul_of_pos_right n low in
+    omega (arith, value_grows base (n * base + digit_value c) cs low)
 
-digits_after : (base : ℕ) (upper : Bool) (n : ℕ) (ds : List ℕ) → 2 ≤ base → 0 < n → AllDigits base ds → IsInCase upper ds → digits_value_after base n ds < 2 ^ 64 → digits base upper (digits_value_after base n ds) ≡ digits base upper n ++ ds
+digits_after : (base : ℕ) (upper : Bool) (n : ℕ) (ds : List ℕ) → 2 ≤ base → 0 < n → AllDigits base ds → IsInCase upper ds
+    → digits_value_after base n ds < 2 ^ 64 → digits base upper (digits_value_after base n ds) ≡ digits base upper n ++ ds
 digits_after base upper n [] low some d k small = sym (append-nil (digits base upper n))
 digits_after base upper n (c ∷ cs) low some d k small =
     let m : ℕ = n * base + digit_value c in
@@ -21,7 +23,8 @@ digits_after base upper n (c ∷ cs) low some d k small =
     let last : m % base ≡ digit_value c = mod-mul-add n base (digit_value c) d.0 in
     let glyph : digit_glyph upper (m % base) ≡ c = ap (digit_glyph upper) last ∙ sym k.0 in
     digits_after base upper m cs low (omega arith) d.1 k.1 small
-    ∙ ap (λ (xs : List ℕ). xs ++ cs) (digits_step base upper m low (omega arith) (omega (arith, value_grows base m cs (omega arith))) ∙ (λ t. digits base upper (front t) ++ (glyph t ∷ [])))
+    ∙ ap (λ (xs : List ℕ). xs ++ cs) (digits_step base upper m low (omega arith) (omega (arith, value_grows base m cs (omega arith)))
+    ∙ (λ t. digits base upper (front t) ++ (glyph t ∷ [])))
     ∙ append_assoc (digits base upper n) (c ∷ []) cs
 
 pub only_numeral : OnlyNumeral
@@ -30,12 +33,14 @@ only_numeral base upper number (c ∷ []) low high small is =
     let n : ℕ = 0 * base + digit_value c in
     let v : n ≡ digit_value c = omega arith in
     let e : n ≡ number = is.value in
-    ap (λ (x : ℕ). x ∷ []) is.in_case.0 ∙ sym (ap (digits base upper) (sym e) ∙ digits_one base upper n low (omega (arith, is.numeral.1.0)) ∙ ap (λ (d : ℕ). digit_glyph upper d ∷ []) v)
+    ap (λ (x : ℕ). x ∷ []) is.in_case.0 ∙ sym (ap (digits base upper) (sym e) ∙ digits_one base upper n low (omega (arith, is.numeral.1.0))
+    ∙ ap (λ (d : ℕ). digit_glyph upper d ∷ []) v)
 only_numeral base upper number (c ∷ e ∷ cs) low high small is =
     let n : ℕ = 0 * base + digit_value c in
     let v : n ≡ digit_value c = omega arith in
     let some : 0 < n = elim (eq-zero-or-pos n) [
-      | inl z ↦ let d : digit_value c ≡ 0 = omega arith in absurd (let two : length (c ∷ e ∷ cs) ≡ 1 = is.shortest (is.in_case.0 ∙ ap (digit_glyph upper) d) in omega arith)
+      | inl z ↦ let d : digit_value c ≡ 0 = omega arith in absurd (let two : length (c ∷ e ∷ cs) ≡ 1 =
+          is.shortest (is.in_case.0 ∙ ap (digit_glyph upper) d) in omega arith)
       | inr p ↦ p
     ] in
     let rest = digits_after base upper n (e ∷ cs) low some is.numeral.1.1 is.in_case.1 (omega (arith, is.value)) in

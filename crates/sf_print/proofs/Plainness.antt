@@ -36,10 +36,12 @@ unpadded c p ds w =
     let l : left_blanks c len ≡ 0 = none_left c.minus (pads_with_zeros c) (short_by c len) short in
     let n : inner_zeros c len ≡ 0 = none_of (pads_with_zeros c) (short_by c len) short in
     let r : right_blanks c len ≡ 0 = none_of c.minus (short_by c len) short in
-    (λ i. blanks (l i) ++ p ++ zeros (n i) ++ ds ++ blanks (r i)) ∙ append-nil ((p ++ []) ++ ds) ∙ ap (λ (t : List ℕ). t ++ ds) (append-nil p)
+    (λ i. blanks (l i) ++ p ++ zeros (n i) ++ ds ++ blanks (r i)) ∙ append-nil ((p ++ []) ++ ds)
+    ∙ ap (λ (t : List ℕ). t ++ ds) (append-nil p)
 
 -- what a decimal letter has
-decimal_letter : (l : PrintLetter) → is_decimal l ≡ true → (base_of l ≡ 10) × (is_upper l ≡ false) × (is_octal l ≡ false) × (base_mark l ≡ [])
+decimal_letter : (l : PrintLetter) → is_decimal l ≡ true → (base_of l ≡ 10) × (is_upper l ≡ false) × (is_octal l ≡ false)
+    × (base_mark l ≡ [])
 decimal_letter letter.Signed e = (refl, refl, refl, refl)
 decimal_letter letter.Unsigned e = (refl, refl, refl, refl)
 decimal_letter letter.Octal e = absurd cc
@@ -57,7 +59,8 @@ least_one : (p : Option ℕ) → is_none p ≡ true → unwrap_or p 1 ≡ 1
 least_one None e = refl
 least_one (Some n) e = absurd cc
 
-plain_prefix : (c : PrintConv) (negative : Bool) (m : ℕ) → (negative ≡ true → 0 < m) → c.plus ≡ false → c.blank ≡ false → base_mark c.letter ≡ [] → prefix c (with_sign negative m) ≡ minus negative
+plain_prefix : (c : PrintConv) (negative : Bool) (m : ℕ) → (negative ≡ true → 0 < m) → c.plus ≡ false → c.blank ≡ false
+    → base_mark c.letter ≡ [] → prefix c (with_sign negative m) ≡ minus negative
 plain_prefix c true zero h p b k = let lt : 0 < 0 = h refl in absurd (omega arith)
 plain_prefix c true (suc n) h p b k = ap (λ (t : List ℕ). 45 ∷ [] ++ t) (no_mark (c.alt && not (suc n == 0)) (base_mark c.letter) k)
 plain_prefix c false m h p b k =
@@ -89,7 +92,8 @@ parts true true false e f h = absurd cc
 parts true false d e f h = absurd cc
 parts false b d e f h = absurd cc
 
-plain_digits : (c : PrintConv) (m : ℕ) → m < 2 ^ 64 → base_of c.letter ≡ 10 → is_upper c.letter ≡ false → is_octal c.letter ≡ false → least_digits c ≡ 1 → all_digits c m ≡ decimal m
+plain_digits : (c : PrintConv) (m : ℕ) → m < 2 ^ 64 → base_of c.letter ≡ 10 → is_upper c.letter ≡ false → is_octal c.letter ≡ false
+    → least_digits c ≡ 1 → all_digits c m ≡ decimal m
 plain_digits c m small ten low octal least =
     let ds : List ℕ = digits (base_of c.letter) (is_upper c.letter) m in
     let e : ds ≡ decimal m = (λ i. digits (ten i) (low i) m) in
@@ -99,16 +103,20 @@ plain_digits c m small ten low octal least =
     let full : filled c (numeral c m) ≡ decimal m = ap (filled c) num ∙ ap (λ n. zeros n ++ decimal m) none in
     ap (with_octal_zero c) full ∙ octal_kept c (decimal m) octal
 
-pub plain_text : (c : PrintConv) (negative : Bool) (m : ℕ) → is_plain c ≡ true → (negative ≡ true → 0 < m) → m < 2 ^ 64 → integer_text c (with_sign negative m) ≡ minus negative ++ decimal m
+pub plain_text : (c : PrintConv) (negative : Bool) (m : ℕ) → is_plain c ≡ true → (negative ≡ true → 0 < m) → m < 2 ^ 64
+    → integer_text c (with_sign negative m) ≡ minus negative ++ decimal m
 plain_text c negative m plain proper small =
     let w = parts (is_decimal c.letter) (c.width == 0) (not c.plus) (not c.blank) (is_none c.precision) plain in
     let l = decimal_letter c.letter w.0 in
     let abs : unsigned_abs (with_sign negative m) ≡ m = abs_of negative m in
-    let p : prefix c (with_sign negative m) ≡ minus negative = plain_prefix c negative m proper (negated c.plus w.2) (negated c.blank w.3) l.3 in
-    let d : all_digits c (unsigned_abs (with_sign negative m)) ≡ decimal m = ap (all_digits c) abs ∙ plain_digits c m small l.0 l.1 l.2 (least_one c.precision w.4) in
+    let p : prefix c (with_sign negative m) ≡ minus negative = plain_prefix c negative m proper (negated c.plus w.2)
+    (negated c.blank w.3) l.3 in
+    let d : all_digits c (unsigned_abs (with_sign negative m)) ≡ decimal m =
+    ap (all_digits c) abs ∙ plain_digits c m small l.0 l.1 l.2 (least_one c.precision w.4) in
     (λ i. text_around c (p i) (d i)) ∙ unpadded c (minus negative) (decimal m) (eqb-true _ _ w.1)
 
-pub plain_value : (c : PrintConv) (negative : Bool) (m : ℕ) (value : Datum) → is_plain c ≡ true → IsOf (printable.Number negative m) value → value_text c value ≡ minus negative ++ decimal m
+pub plain_value : (c : PrintConv) (negative : Bool) (m : ℕ) (value : Datum) → is_plain c ≡ true → IsOf (printable.Number negative m) value
+    → value_text c value ≡ minus negative ++ decimal m
 plain_value c negative m (Number k z) plain (is, proper, small) = ap (integer_text c) is ∙ plain_text c negative m plain proper small
 plain_value c negative m (Bytes bytes) plain is = absurd is
 
@@ -138,5 +146,7 @@ number_length : (negative : Bool) (m : ℕ) → length (minus negative ++ decima
 number_length true m = omega arith
 number_length false m = omega arith
 
-pub length_seen : (negative : Bool) (m : ℕ) (text : List ℕ) → m < 2 ^ 64 → text ≡ minus negative ++ decimal m → length (without_blanks text) ≡ bool_byte negative + length (decimal m)
-length_seen negative m text small is = ap (λ (t : List ℕ). length (without_blanks t)) is ∙ ap length (number_seen negative m small) ∙ number_length negative m
+pub length_seen : (negative : Bool) (m : ℕ) (text : List ℕ) → m < 2 ^ 64 → text ≡ minus negative ++ decimal m
+    → length (without_blanks text) ≡ bool_byte negative + length (decimal m)
+length_seen negative m text small is = ap (λ (t : List ℕ). length (without_blanks t)) is ∙ ap length (number_seen negative m small)
+    ∙ number_length negative m

@@ -15,7 +15,19 @@ use Rattle.sf_print.specs.Printed.{printed, measured}
 
 -- a conversion with no flag
 abbrev plain : PrintLetter → Kind → ℕ → PrintConv
-plain l k slot = record { letter = l; kind = k; slot = slot; minus = false; plus = false; blank = false; alt = false; zero = false; width = 0; precision = None }
+plain l k slot = record {
+  letter = l;
+  kind = k;
+  slot = slot;
+  minus = false;
+  plus = false;
+  blank = false;
+  alt = false;
+  zero = false;
+  width =
+      0;
+  precision = None;
+}
 
 abbrev d : ℕ → PrintConv
 d slot = plain letter.Signed kind.I32 slot
@@ -33,7 +45,9 @@ abbrev s : PrintConv
 s = plain letter.Text kind.Text 1
 
 -- `%+5d|%-5d|` of 42, 42
-both_sides : printed (unit.Conv (record (d 1) { plus = true; width = 5 }) ∷ unit.Byte 124 ∷ unit.Conv (record (d 2) { minus = true; width = 5 }) ∷ unit.Byte 124 ∷ []) (Number kind.I32 (pos 42) ∷ Number kind.I32 (pos 42) ∷ []) ≡ codes "  +42|42   |"
+both_sides : printed (unit.Conv (record (d 1) { plus = true; width = 5 }) ∷ unit.Byte 124 ∷ unit.Conv
+    (record (d 2) { minus = true; width = 5 }) ∷ unit.Byte 124 ∷ []) (Number kind.I32 (pos 42) ∷ Number kind.I32 (pos 42) ∷ [])
+    ≡ codes "  +42|42   |"
 unfolding digits
 both_sides = refl
 
@@ -106,7 +120,8 @@ unfolding digits
 zeros_inside = refl
 
 -- `%2$s-%1$d` of 7, up
-by_number : printed (unit.Conv (record s { slot = 2 }) ∷ unit.Byte 45 ∷ unit.Conv (d 1) ∷ []) (Number kind.I32 (pos 7) ∷ Bytes (codes "up") ∷ []) ≡ codes "up-7"
+by_number : printed (unit.Conv (record s { slot = 2 }) ∷ unit.Byte 45 ∷ unit.Conv (d 1) ∷ [])
+    (Number kind.I32 (pos 7) ∷ Bytes (codes "up") ∷ []) ≡ codes "up-7"
 unfolding digits
 by_number = refl
 
@@ -114,7 +129,8 @@ by_number = refl
 abbrev one : PrintConv
 one = plain letter.One kind.Text 2
 
-not_one_byte : measured (unit.Conv (d 1) ∷ unit.Conv one ∷ []) (Number kind.I32 (pos 1) ∷ Bytes (codes "ab") ∷ []) ≡ Err (fault.NotOneByte 2)
+not_one_byte : measured (unit.Conv (d 1) ∷ unit.Conv one ∷ []) (Number kind.I32 (pos 1) ∷ Bytes (codes "ab") ∷ [])
+    ≡ Err (fault.NotOneByte 2)
 unfolding digits
 not_one_byte = refl
 

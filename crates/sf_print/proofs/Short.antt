@@ -31,13 +31,20 @@ one_of true xs ys most h k = h
 one_of false xs ys most h k = k
 
 length_five : (a b d e f : List ℕ) → length (a ++ b ++ d ++ e ++ f) ≡ length a + length b + length d + length e + length f
-length_five a b d e f = omega (arith, length-append a b, length-append (a ++ b) d, length-append (a ++ b ++ d) e, length-append (a ++ b ++ d ++ e) f)
+length_five a b d e f = omega (
+  arith,
+  length-append a b,
+  length-append (a ++ b) d,
+  length-append (a ++ b ++ d) e,
+  length-append (a ++ b ++ d ++ e) f,
+)
 
 -- ---- integers
 
 sign_short : (c : PrintConv) (z : ℤ) → length (sign c z) ≤ 1
 sign_short c (negsuc n) = omega arith
-sign_short c (pos n) = one_of c.plus (43 ∷ []) (cond c.blank (32 ∷ []) []) 1 (omega arith) (one_of c.blank (32 ∷ []) [] 1 (omega arith) (omega arith))
+sign_short c (pos n) = one_of c.plus (43 ∷ []) (cond c.blank (32 ∷ []) []) 1 (omega arith)
+    (one_of c.blank (32 ∷ []) [] 1 (omega arith) (omega arith))
 
 base_mark_short : (l : PrintLetter) → length (base_mark l) ≤ 2
 base_mark_short letter.HexLower = omega arith
@@ -51,7 +58,12 @@ base_mark_short letter.One = omega arith
 
 prefix_short : (c : PrintConv) (z : ℤ) → length (prefix c z) ≤ 3
 prefix_short c z =
-    omega (arith, length-append (sign c z) (mark c (unsigned_abs z)), sign_short c z, one_of (c.alt && not (unsigned_abs z == 0)) (base_mark c.letter) [] 2 (base_mark_short c.letter) (omega arith))
+    omega (
+      arith,
+      length-append (sign c z) (mark c (unsigned_abs z)),
+      sign_short c z,
+      one_of (c.alt && not (unsigned_abs z == 0)) (base_mark c.letter) [] 2 (base_mark_short c.letter) (omega arith),
+    )
 
 least_small : (p : Option ℕ) → IfSome p (λ n. n ≤ 255) → unwrap_or p 1 ≤ 255
 least_small None h = omega arith
@@ -59,10 +71,15 @@ least_small (Some n) h = h
 
 numeral_short : (c : PrintConv) (m : ℕ) → length (numeral c m) ≤ 64
 numeral_short c m =
-    one_of (m == 0 && least_digits c == 0) [] (digits (base_of c.letter) (is_upper c.letter) m) 64 (omega arith) (length_most (base_of c.letter) (is_upper c.letter) m)
+    one_of (m == 0 && least_digits c == 0) [] (digits (base_of c.letter) (is_upper c.letter) m) 64 (omega arith)
+    (length_most (base_of c.letter) (is_upper c.letter) m)
 
 filled_short : (c : PrintConv) (ds : List ℕ) → least_digits c ≤ 255 → length ds ≤ 64 → length (filled c ds) ≤ 319
-filled_short c ds h k = omega (arith, length-append (zeros (least_digits c - length ds)) ds, length-replicate {A = ℕ} (least_digits c - length ds) 48)
+filled_short c ds h k = omega (
+  arith,
+  length-append (zeros (least_digits c - length ds)) ds,
+  length-replicate {A = ℕ} (least_digits c - length ds) 48,
+)
 
 digits_short : (c : PrintConv) (m : ℕ) → least_digits c ≤ 255 → length (all_digits c m) ≤ 320
 digits_short c m h =
@@ -75,7 +92,8 @@ integer_short c z wide precise =
     let ds : List ℕ = all_digits c (unsigned_abs z) in
     let len : ℕ = length (prefix c z) + length ds in
     let w : short_by c len ≤ 65535 = omega arith in
-    let l : left_blanks c len ≤ 65535 = at_most c.minus 0 (cond (pads_with_zeros c) 0 (short_by c len)) 65535 (omega arith) (at_most (pads_with_zeros c) 0 (short_by c len) 65535 (omega arith) w) in
+    let l : left_blanks c len ≤ 65535 = at_most c.minus 0 (cond (pads_with_zeros c) 0 (short_by c len)) 65535 (omega arith)
+    (at_most (pads_with_zeros c) 0 (short_by c len) 65535 (omega arith) w) in
     let n : inner_zeros c len ≤ 65535 = at_most (pads_with_zeros c) (short_by c len) 0 65535 w (omega arith) in
     let r : right_blanks c len ≤ 65535 = at_most c.minus (short_by c len) 0 65535 w (omega arith) in
     omega (
@@ -127,7 +145,8 @@ value_short : (c : PrintConv) (value : Datum) → IsProperConv c → is_short va
 value_short c (Number k z) proper short = integer_short c z proper.width (least_small c.precision proper.precision)
 value_short c (Bytes bytes) proper short = bytes_short c bytes proper.width (leb-true (length bytes) 65536 short)
 
-found_short : (c : PrintConv) (value : Option Datum) → IsProperConv c → IfSome value (λ v. is_short v ≡ true) → length (text_or_none c value) ≤ 200000
+found_short : (c : PrintConv) (value : Option Datum) → IsProperConv c → IfSome value (λ v. is_short v ≡ true)
+    → length (text_or_none c value) ≤ 200000
 found_short c None proper short = omega arith
 found_short c (Some value) proper short = value_short c value proper short
 
@@ -147,12 +166,20 @@ unit_short : (values : List Datum) (u : PrintUnit) → IsProperUnit u → are_sh
 unit_short values (unit.Byte b) proper short = omega arith
 unit_short values (unit.Conv c) proper short = found_short c (value_at values c.slot) proper (at_short values c.slot short)
 
-units_short : (values : List Datum) (us : List PrintUnit) → AreProperUnits us → are_short values ≡ true → length (printed us values) ≤ length us * 200000
+units_short : (values : List Datum) (us : List PrintUnit) → AreProperUnits us → are_short values ≡ true
+    → length (printed us values) ≤ length us * 200000
 units_short values [] proper short = omega arith
 units_short values (u ∷ us) proper short =
-    omega (arith, ap length (flat_map-cons (unit_text values) u us), length-append (unit_text values u) (printed us values), unit_short values u proper.0 short, units_short values us proper.1 short)
+    omega (
+      arith,
+      ap length (flat_map-cons (unit_text values) u us),
+      length-append (unit_text values u) (printed us values),
+      unit_short values u proper.0 short,
+      units_short values us proper.1 short,
+    )
 
-pub short_printed : (us : List PrintUnit) (values : List Datum) → AreProperUnits us → length us ≤ 4096 → are_short values ≡ true → length (printed us values) ≤ 2147483647
+pub short_printed : (us : List PrintUnit) (values : List Datum) → AreProperUnits us → length us ≤ 4096 → are_short values ≡ true
+    → length (printed us values) ≤ 2147483647
 short_printed us values proper few short = omega (arith, units_short values us proper short)
 
 -- ---- what is told where nothing is measured
@@ -160,7 +187,8 @@ short_printed us values proper few short = omega (arith, units_short values us p
 fits : (n : ℕ) → n ≤ 2147483647 → length_or_fault None n ≡ Ok n
 fits n h = ap (λ (b : Bool). cond b (Ok n) (Err fault.TooLong)) (le-leb n most_bytes h)
 
-pub short_told : {A : Type 0} (r : Result A PrintFault) (m : Result ℕ PrintFault) (n : ℕ) → n ≤ 2147483647 → MatchResult r (λ x. m ≡ length_or_fault None n) (λ f. m ≡ Err f) → MatchResult r (λ x. m ≡ Ok n) (λ f. m ≡ Err f)
+pub short_told : {A : Type 0} (r : Result A PrintFault) (m : Result ℕ PrintFault) (n : ℕ) → n ≤ 2147483647
+    → MatchResult r (λ x. m ≡ length_or_fault None n) (λ f. m ≡ Err f) → MatchResult r (λ x. m ≡ Ok n) (λ f. m ≡ Err f)
 short_told (Ok x) m n h told = told ∙ fits n h
 short_told (Err f) m n h told = told
 

@@ -58,7 +58,8 @@ suits _ value = true
 -- what is wrong with a value: its kind, or the number of its bytes
 abbrev pub value_fault : PrintConv → Datum → Option PrintFault
 value_fault c value =
-    if not (same_kind (kind_of value) c.kind) then Some (fault.WrongKind c.slot) else (if not (suits c.letter value) then Some (fault.NotOneByte c.slot) else None)
+    if not (same_kind (kind_of value) c.kind) then Some (fault.WrongKind c.slot) else
+    (if not (suits c.letter value) then Some (fault.NotOneByte c.slot) else None)
 
 abbrev pub fault_or_none : PrintConv → Option Datum → Option PrintFault
 fault_or_none c None = None
@@ -93,7 +94,8 @@ length_or_fault None len = if nat_le len most_bytes then Ok len else Err fault.T
 
 -- the length of the printed text, or what is refused: the number of values, then the lowest slot at fault, then the length
 abbrev pub measured : List PrintUnit → List Datum → Result ℕ PrintFault
-measured units values = if not (length values == length (values_of units)) then Err fault.WrongCount else length_or_fault (lowest_fault units values) (length (printed units values))
+measured units values = if not (length values == length (values_of units)) then Err fault.WrongCount else length_or_fault
+    (lowest_fault units values) (length (printed units values))
 
 -- ---- what is written
 

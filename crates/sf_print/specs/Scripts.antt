@@ -15,7 +15,8 @@ ready [] = []
 ready (Accept n ∷ steps) = if n == 0 then ready steps else Accept n ∷ steps
 ready (Fail ∷ steps) = Fail ∷ steps
 
--- what a write leaves of a ready script: a step has as many bytes less as were taken; a step that failed is over; where the growth was refused, nothing is
+-- what a write leaves of a ready script: a step has as many bytes less as were taken; a step that failed is over; where the growth was
+-- refused, nothing is
 abbrev pub left_by : Option ℕ → List WriteStep → List WriteStep
 left_by (Some n) (Accept k ∷ steps) = ready (Accept (k - n) ∷ steps)
 left_by None (Fail ∷ steps) = ready steps

@@ -22,7 +22,8 @@ HoldsOrBroke old now s text (Err e) = Broke old now s.written text
 
 -- the piece was put after every text that was under way
 abbrev pub Puts : {A E : Type 0} → Option (List ℕ) → Stage → Option (List ℕ) → Stage → List ℕ → Result A E → Type 0
-Puts was s now t piece result = (old : Option (List ℕ)) (text : List ℕ) → Holds old was s.written (held s) text → HoldsOrBroke old now t (text ++ piece) result
+Puts was s now t piece result = (old : Option (List ℕ)) (text : List ℕ) → Holds old was s.written (held s) text
+    → HoldsOrBroke old now t (text ++ piece) result
 
 -- the sink took all of the text, or where it failed its first bytes, this many, and not all
 abbrev pub Writes : Option (List ℕ) → Option (List ℕ) → List ℕ → Result ℕ ℕ → Type 0

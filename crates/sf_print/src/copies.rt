@@ -1,8 +1,8 @@
 //! Copies of short texts.
 ghost use Rattle.std.specs.Prelude.{◌≡◌, ◌+◌, ◌≤◌, ◌++◌, length, take, drop};
 
-/// Copies the first and the last bytes, so many each, over a part of a buffer: all bytes, where there are at most twice as
-/// many. By a constant it takes no call.
+/// Copies the first and the last bytes, so many each, over a part of a buffer: all bytes, where there are at most twice
+/// as many. By a constant it takes no call.
 #[inline(always)]
 fn copy_ends(bytes: &[u8], width: usize, buf: &mut [u8], at: usize)
     requires width { (width ≤ length bytes.now) × (length bytes.now ≤ width + width) }

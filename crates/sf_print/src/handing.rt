@@ -161,7 +161,8 @@ pub(crate) fn put_number<K: Sink>(
     magnitude: u64,
 ) -> Result<(), SinkFault>
     requires { stage.old.written + stage.old.len < 2 ^ 32 }
-    ensures text { Puts (K.contents to.old) stage.old (K.contents to.new) stage.new (minus negative ++ decimal magnitude) result }
+    ensures text { Puts (K.contents to.old) stage.old (K.contents to.new) stage.new
+        (minus negative ++ decimal magnitude) result }
     ensures count { OnOk result (stage.new.written + stage.new.len
         ≡ stage.old.written + stage.old.len + length (minus negative ++ decimal magnitude)) }
     ensures failures { K.failures to.new

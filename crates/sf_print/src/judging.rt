@@ -41,7 +41,8 @@ fn fault_of(conv: &PrintConv, value: &Value<'_>) -> Option<PrintFault>
 
 /// The value of a slot, where there is one. Slots are counted from 1.
 pub fn value_of_slot<'a, 'b>(values: &'b [Value<'a>], slot: u8) -> Option<&'b Value<'a>>
-    ensures { MatchOption result (value_at (map datum_of values.entry.now) slot ≡ None) (λ v. value_at (map datum_of values.entry.now) slot ≡ Some (datum_of v.now)) }
+    ensures { MatchOption result (value_at (map datum_of values.entry.now) slot ≡ None)
+        (λ v. value_at (map datum_of values.entry.now) slot ≡ Some (datum_of v.now)) }
 {
     let place = slot as usize;
     if place == 0 || values.len() < place {

@@ -53,7 +53,8 @@ pub(crate) fn put_pieces<K: Sink>(
     pieces: &[Piece<'_>],
 ) -> Result<(), SinkFault>
     requires { stage.old.written + stage.old.len + length (flat_map piece_bytes pieces.now) < 2 ^ 32 }
-    ensures text { Puts (K.contents to.old) stage.old (K.contents to.new) stage.new (flat_map piece_bytes pieces.now) result }
+    ensures text { Puts (K.contents to.old) stage.old (K.contents to.new) stage.new
+        (flat_map piece_bytes pieces.now) result }
     ensures count { OnOk result (stage.new.written + stage.new.len
         ≡ stage.old.written + stage.old.len + length (flat_map piece_bytes pieces.now)) }
     ensures failures { K.failures to.new

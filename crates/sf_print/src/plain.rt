@@ -1,5 +1,5 @@
-//! Values whose text is not padded: numbers that are a minus and decimal digits alone, and bytes that are printed as they
-//! are.
+//! Values whose text is not padded: numbers that are a minus and decimal digits alone, and bytes that are printed as
+//! they are.
 ghost use Rattle.std.specs.Prelude.{◌≡◌, ◌≤◌, ◌<◌, ◌^◌, ◌++◌, length, IfSome};
 ghost use Rattle.std.specs.Fmt.{decimal};
 ghost use Rattle.sf_base.specs.Data.{datum_of};

@@ -37,7 +37,8 @@ fn put_padded<K: Sink>(
     value: &Value<'_>,
 ) -> Result<(), SinkFault>
     requires { stage.old.written + stage.old.len + length (value_text conv.now (datum_of value.now)) < 2 ^ 32 }
-    ensures text { Puts (K.contents to.old) stage.old (K.contents to.new) stage.new (value_text conv.now (datum_of value.now)) result }
+    ensures text { Puts (K.contents to.old) stage.old (K.contents to.new) stage.new
+        (value_text conv.now (datum_of value.now)) result }
     ensures count { OnOk result (stage.new.written + stage.new.len
         ≡ stage.old.written + stage.old.len + length (value_text conv.now (datum_of value.now))) }
     ensures failures { K.failures to.new
@@ -57,7 +58,8 @@ fn put_value<K: Sink>(
     value: &Value<'_>,
 ) -> Result<(), SinkFault>
     requires { stage.old.written + stage.old.len + length (value_text conv.now (datum_of value.now)) < 2 ^ 32 }
-    ensures text { Puts (K.contents to.old) stage.old (K.contents to.new) stage.new (value_text conv.now (datum_of value.now)) result }
+    ensures text { Puts (K.contents to.old) stage.old (K.contents to.new) stage.new
+        (value_text conv.now (datum_of value.now)) result }
     ensures count { OnOk result (stage.new.written + stage.new.len
         ≡ stage.old.written + stage.old.len + length (value_text conv.now (datum_of value.now))) }
     ensures failures { K.failures to.new
@@ -96,7 +98,8 @@ fn put_unit<K: Sink>(
     values: &[Value<'_>],
 ) -> Result<(), SinkFault>
     requires { stage.old.written + stage.old.len + length (unit_text (map datum_of values.now) unit.now) < 2 ^ 32 }
-    ensures text { Puts (K.contents to.old) stage.old (K.contents to.new) stage.new (unit_text (map datum_of values.now) unit.now) result }
+    ensures text { Puts (K.contents to.old) stage.old (K.contents to.new) stage.new
+        (unit_text (map datum_of values.now) unit.now) result }
     ensures count { OnOk result (stage.new.written + stage.new.len
         ≡ stage.old.written + stage.old.len + length (unit_text (map datum_of values.now) unit.now)) }
     ensures failures { K.failures to.new
@@ -119,7 +122,8 @@ fn put_units<K: Sink>(
     values: &[Value<'_>],
 ) -> Result<(), SinkFault>
     requires { stage.old.written + stage.old.len + length (printed units.now (map datum_of values.now)) < 2 ^ 32 }
-    ensures text { Puts (K.contents to.old) stage.old (K.contents to.new) stage.new (printed units.now (map datum_of values.now)) result }
+    ensures text { Puts (K.contents to.old) stage.old (K.contents to.new) stage.new
+        (printed units.now (map datum_of values.now)) result }
     ensures count { OnOk result (stage.new.written + stage.new.len
         ≡ stage.old.written + stage.old.len + length (printed units.now (map datum_of values.now))) }
     ensures failures { K.failures to.new
@@ -182,7 +186,8 @@ fn units_len(units: &[Unit], values: &[Value<'_>], most: u64) -> u64
 fn refuse_values(units: &[Unit], count: u8, values: &[Value<'_>]) -> Result<(), PrintFault>
     requires { count ≡ length (values_of units.now) }
     ensures { MatchResult result
-        (λ _. measured units.now (map datum_of values.now) ≡ length_or_fault None (length (printed units.now (map datum_of values.now))))
+        (λ _. measured units.now (map datum_of values.now)
+        ≡ length_or_fault None (length (printed units.now (map datum_of values.now))))
         (λ f. measured units.now (map datum_of values.now) ≡ Err f) }
 {
     if values.len() != count as usize {
@@ -235,7 +240,8 @@ fn are_short(values: &[Value<'_>]) -> bool
 /// Refuses what `printed_len` refuses. It measures the text only where it may be too long.
 fn refuse(format: &PrintFormat, values: &[Value<'_>]) -> Result<(), PrintFault>
     ensures told { MatchResult result
-        (λ _. measured format.now (map datum_of values.now) ≡ Ok (length (printed format.now (map datum_of values.now))))
+        (λ _. measured format.now (map datum_of values.now)
+        ≡ Ok (length (printed format.now (map datum_of values.now))))
         (λ f. measured format.now (map datum_of values.now) ≡ Err f) }
     ensures most { OnOk result (length (printed format.now (map datum_of values.now)) ≤ 2147483647) }
 {
@@ -258,7 +264,8 @@ pub fn fprint<K: Sink>(
     format: &PrintFormat,
     values: &[Value<'_>],
 ) -> Result<u32, PrintFault>
-    ensures refused { IfErr (measured format.now (map datum_of values.now)) (λ f. (result ≡ Err f) × (to.new ≡ to.old)) }
+    ensures refused { IfErr (measured format.now (map datum_of values.now))
+        (λ f. (result ≡ Err f) × (to.new ≡ to.old)) }
     ensures written { OnOk (measured format.now (map datum_of values.now))
         (WritesText (K.contents to.old) (K.contents to.new) (printed format.now (map datum_of values.now)) result) }
     ensures failures { K.failures to.new

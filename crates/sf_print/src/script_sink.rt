@@ -77,7 +77,12 @@ impl<'a> Model for ScriptSink<'a> {
 
     ghost Value = { Scripted };
 
-    ghost view = { λ s. record { bytes = s.list.items; failures = s.failures; script = Accept s.script.left ∷ s.script.steps.now } };
+    ghost view = { λ s. record {
+      bytes = s.list.items;
+      failures = s.failures;
+      script =
+          Accept s.script.left ∷ s.script.steps.now;
+    } };
 }
 
 impl<'a> ScriptSink<'a> {

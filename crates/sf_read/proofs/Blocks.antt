@@ -14,7 +14,8 @@ Blocks = List (List ℕ)
 
 -- a list with one more is cut at that one, or before it
 pub cut_of_more : (blocks : Blocks) (more : List ℕ) (front : Blocks) (block : List ℕ) (back : Blocks)
-    → blocks ++ more ∷ [] ≡ front ++ block ∷ back → ((front ≡ blocks) × (block ≡ more) × (back ≡ [])) ⊎ ((rest : Blocks) × (blocks ≡ front ++ block ∷ rest))
+    → blocks ++ more ∷ [] ≡ front ++ block ∷ back → ((front ≡ blocks) × (block ≡ more) × (back ≡ []))
+    ⊎ ((rest : Blocks) × (blocks ≡ front ++ block ∷ rest))
 cut_of_more [] more [] block back e = inl (refl, (let same = e in cc), (let same = e in cc))
 cut_of_more [] more (f ∷ front) block back e = absurd (omega (arith, ap length e, length-append front (block ∷ back)))
 cut_of_more (x ∷ blocks) more [] block back e = inr (blocks, ap (λ y. y ∷ blocks) (let same = e in cc))
@@ -75,7 +76,8 @@ module _ {S : Type 0} {to_come : S → Option (List ℕ)} {reads : S → ℕ} {N
             ∙ ap (λ (y : List ℕ). old.held ++ y) (sym joined);
         taken = subst (Consumes (to_come old.source) (to_come new.source)) (sym joined)
             (Consumes-trans (to_come old.source) (to_come now.source) (to_come new.source) (concat r.blocks) new.held r.taken bytes);
-        count = count ∙ ap counted_on r.count ∙ ap (λ (k : ℕ). counted_by k (reads old.source)) {x = suc (length r.blocks)} {y = length (r.blocks ++ new.held ∷ [])}
+        count = count ∙ ap counted_on r.count ∙ ap (λ (k : ℕ). counted_by k (reads old.source)) {x = suc (length r.blocks)}
+            {y = length (r.blocks ++ new.held ∷ [])}
             (omega (arith, length-append r.blocks (new.held ∷ [])));
         unread = λ e. absurd (omega (arith, ap length e, length-append r.blocks (new.held ∷ [])));
         at_end = λ e. absurd (open' e);
@@ -106,7 +108,8 @@ module _ {S : Type 0} {to_come : S → Option (List ℕ)} {reads : S → ℕ} {N
   ]
 
 -- the input is what was used, and then what is held and to come
-pub input_is : (o p : Option (List ℕ)) (held left bytes given t rest : List ℕ) → prepend_known held o ≡ Some t → prepend_known left p ≡ Some rest
+pub input_is : (o p : Option (List ℕ)) (held left bytes given t rest : List ℕ) → prepend_known held o ≡ Some t
+    → prepend_known left p ≡ Some rest
     → bytes ++ left ≡ held ++ given → Consumes o p given → t ≡ bytes ++ rest
 input_is None p held left bytes given t rest e f gave taken = absurd cc
 input_is (Some x) None held left bytes given t rest e f gave taken = absurd taken

@@ -27,7 +27,8 @@ item_within : (c : Conversion) (x : List ℕ) (k : ℕ) (end : StepEnd) → Item
 item_within c x k end (s, j, skip, item, bytes, ends) =
     omega (arith, bytes, skip_within c.shape x s skip, item.holds.0, length-drop s x)
 
-conversion_within : (c : Conversion) (shape : Shape) (x : List ℕ) (n k : ℕ) (end : StepEnd) → ConversionStep c shape x n k end → k ≤ length x
+conversion_within : (c : Conversion) (shape : Shape) (x : List ℕ) (n k : ℕ) (end : StepEnd) → ConversionStep c shape x n k end
+    → k ≤ length x
 conversion_within c (Int base) x n k end h = item_within c x k end h
 conversion_within c Text x n k end h = item_within c x k end h
 conversion_within c (Set members) x n k end h = item_within c x k end h
@@ -61,10 +62,17 @@ steps_within (d ∷ ds) x n (r ∷ ran) (is, step, goes_on) =
 -- a run that was cut off had more bytes than its limit
 pub cut_below : (ds : List Directive) (x : List ℕ) (m : ℕ) (before : List Ran) → IsCut ds x m before → m < length x
 cut_below ds x m before cut =
-    omega (arith, steps_within ds x 0 (before ++ (cut.cut ∷ cut.rest)) cut.steps, cut.high, sum_by-append (λ (q : Ran). q.bytes) before (cut.cut ∷ cut.rest), sum_by-cons (λ (q : Ran). q.bytes) cut.cut cut.rest)
+    omega (
+      arith,
+      steps_within ds x 0 (before ++ (cut.cut ∷ cut.rest)) cut.steps,
+      cut.high,
+      sum_by-append (λ (q : Ran). q.bytes) before (cut.cut ∷ cut.rest),
+      sum_by-cons (λ (q : Ran). q.bytes) cut.cut cut.rest,
+    )
 
 -- a report's bytes are among those of its input
-pub report_within : (ds : List Directive) (m : ℕ) (x : List ℕ) (ending : Ending) (report : RunReport) → RunWithin ds m x ending report → report.used ≤ length x
+pub report_within : (ds : List Directive) (m : ℕ) (x : List ℕ) (ending : Ending) (report : RunReport) → RunWithin ds m x ending report
+    → report.used ≤ length x
 report_within ds m x ending report (inl (few, (ran, steps, met, is_met, is))) =
     rw is (steps_within ds x 0 ran steps)
 report_within ds m x ending report (inr (before, cut, is)) =

@@ -36,12 +36,14 @@ not_fault ds m x r (inl (inl (few, (ran, steps, met, is_met, is)))) = rw is (met
 not_fault ds m x r (inl (inr (before, cut, is))) = rw is refl
 not_fault ds m x r (inr (k, low, (before, cut, stores, is))) = rw is refl
 
-is_the_fault : (ds : List Directive) (m : ℕ) (x : List ℕ) (r : RunReport) → IsOpen ds x × (length x ≤ m) → RunWithin ds m x Fault r → r.met ≡ Some Fault
+is_the_fault : (ds : List Directive) (m : ℕ) (x : List ℕ) (r : RunReport) → IsOpen ds x × (length x ≤ m) → RunWithin ds m x Fault r
+    → r.met ≡ Some Fault
 is_the_fault ds m x r h (inl (few, (ran, steps, met, is_met, is))) = rw is (met_fault _ met h.0 is_met)
 is_the_fault ds m x r h (inr (before, cut, is)) = absurd (omega (arith, h.1, cut_below ds x m before cut))
 
 not_the_end : (ds : List Directive) (m : ℕ) (x : List ℕ) (r : RunReport) → RunTold ds m x Fault r → r.met ≡ Some End → ⊥
-not_the_end ds m x r (inl (inl (few, (ran, steps, met, is_met, is)))) e = met_not_end _ met is_met (ap (λ (o : RunReport). o.met) (sym is) ∙ e)
+not_the_end ds m x r (inl (inl (few, (ran, steps, met, is_met, is)))) e =
+    met_not_end _ met is_met (ap (λ (o : RunReport). o.met) (sym is) ∙ e)
 not_the_end ds m x r (inl (inr (before, cut, is))) e = let f : r.met ≡ None = ap (λ (o : RunReport). o.met) is in cc
 not_the_end ds m x r (inr (k, low, (before, cut, stores, is))) e = let f : r.met ≡ None = ap (λ (o : RunReport). o.met) is in cc
 
@@ -63,18 +65,29 @@ back t bytes held z n is e = rw (is, e, append_assoc) (drop-append_seam bytes (h
 -- ---- the clauses of a scan
 
 -- a scanner is driven by its own format, under its own limit
-pub driven_by : {S : Type 0} {to_come : S → Option (List ℕ)} {reads failures : S → ℕ} {N : ℕ} {ds : List Directive} {m : ℕ} {old new : Ahead S} {from s : Standing}
-    → After ds m from [] → Driven to_come reads failures N from.directives from.limit old new s → Driven to_come reads failures N ds m old new s
-driven_by {to_come = to_come} {reads = reads} {failures = failures} {N = N} {m = m} {old = old} {new = new} {from = from} {s = s} after driven =
-    subst (λ e. Driven to_come reads failures N e m old new s) after.format (subst (λ n. Driven to_come reads failures N from.directives n old new s) after.limit driven)
+pub driven_by : {S : Type 0} {to_come : S → Option (List ℕ)} {reads failures : S → ℕ} {N : ℕ} {ds : List Directive} {m : ℕ}
+    {old new : Ahead S} {from s : Standing}
+    → After ds m from [] → Driven to_come reads failures N from.directives from.limit old new s
+    → Driven to_come reads failures N ds m old new s
+driven_by {to_come = to_come} {reads = reads} {failures = failures} {N = N} {m = m} {old = old} {new = new} {from = from}
+    {s = s} after driven =
+    subst (λ e. Driven to_come reads failures N e m old new s) after.format
+    (subst (λ n. Driven to_come reads failures N from.directives n old new s) after.limit driven)
 
 -- a run that was driven has ended
-pub has_report : {S : Type 0} {to_come : S → Option (List ℕ)} {reads failures : S → ℕ} {N : ℕ} {ds : List Directive} {m : ℕ} {old new : Ahead S} {s : Standing}
+pub has_report : {S : Type 0} {to_come : S → Option (List ℕ)} {reads failures : S → ℕ} {N : ℕ} {ds : List Directive} {m : ℕ}
+    {old new : Ahead S} {s : Standing}
     → Driven to_come reads failures N ds m old new s → (x : List ℕ) × (ending : Ending) × Gives ds m s x ending
-has_report {new = new} d = elim d.ends [ inl w ↦ (d.bytes ++ new.held ++ [], End, w.gives [] End (the_end new)) | inr w ↦ (d.bytes, Fault, w.gives) ]
+has_report {new = new} d = elim d.ends [
+  | inl w ↦ (d.bytes ++ new.held ++ [], End, w.gives [] End (the_end new))
+  | inr w ↦
+      (d.bytes, Fault, w.gives)
+]
 
-module _ {S : Type 0} {to_come : S → Option (List ℕ)} {reads failures : S → ℕ} {N : ℕ} {ds : List Directive} {m : ℕ} {old new : Ahead S} {s : Standing} (r : RunReport)
-    (d : Driven to_come reads failures N ds m old new s) (gives : (x : List ℕ) (ending : Ending) → Gives ds m s x ending → RunTold ds m x ending r) (used : r.used ≡ used_by s) (memory : is_memory_status r.status ≡ ran_out s) where
+module _ {S : Type 0} {to_come : S → Option (List ℕ)} {reads failures : S → ℕ} {N : ℕ} {ds : List Directive} {m : ℕ} {old new : Ahead S}
+    {s : Standing} (r : RunReport)
+    (d : Driven to_come reads failures N ds m old new s) (gives : (x : List ℕ) (ending : Ending) → Gives ds m s x ending
+    → RunTold ds m x ending r) (used : r.used ≡ used_by s) (memory : is_memory_status r.status ≡ ran_out s) where
   whole_met : Whole failures ds m old new d.bytes s → is_fault r.met ≡ false
   whole_met w = not_fault ds m (d.bytes ++ new.held ++ []) r (gives (d.bytes ++ new.held ++ []) End (w.gives [] End (the_end new)))
 
@@ -93,7 +106,8 @@ module _ {S : Type 0} {to_come : S → Option (List ℕ)} {reads failures : S �
     where
       by_flag : Whole failures ds m old new d.bytes s → (b : Bool) → new.at_end ≡ b → new.at_end ≡ true
       by_flag w true f = f
-      by_flag w false f = absurd (not_the_end ds m (d.bytes ++ new.held ++ []) r (gives (d.bytes ++ new.held ++ []) Fault (w.gives [] Fault (anything new [] Fault f))) e)
+      by_flag w false f = absurd (not_the_end ds m (d.bytes ++ new.held ++ []) r
+          (gives (d.bytes ++ new.held ++ []) Fault (w.gives [] Fault (anything new [] Fault f))) e)
 
   pub scans : (t : List ℕ) → input_of to_come old ≡ Some t → Scan to_come ds m t old new r
   scans t e =
@@ -102,11 +116,18 @@ module _ {S : Type 0} {to_come : S → Option (List ℕ)} {reads failures : S �
       let took : take r.used t ≡ d.bytes = front t d.bytes new.held w.0 r.used w.2 n in
       let left : drop r.used t ≡ new.held ++ w.0 = back t d.bytes new.held w.0 r.used w.2 n in
       record {
-        whole = λ f. elim d.ends [ inl v ↦ rw w.2 (gives (d.bytes ++ new.held ++ w.0) End (v.gives w.0 End (λ g. (d.told g w.0 w.1, refl)))) | inr v ↦ absurd (let g = cut_met v in cc) ];
+        whole = λ f. elim d.ends [
+          | inl v ↦ rw w.2 (gives (d.bytes ++ new.held ++ w.0) End
+              (v.gives w.0 End (λ g. (d.told g w.0 w.1, refl))))
+          | inr v ↦ absurd (let g = cut_met v in cc)
+        ];
         cut = λ f. elim d.ends [ inl v ↦ absurd (let g = whole_met v in cc) | inr v ↦ rw took (cut_within v) ];
         within = omega (arith, n, ap length w.2, length-append (d.bytes ++ new.held) w.0, length-append d.bytes new.held);
         rest = rw (left, w.1) refl;
-        seen = λ f z ending follows. elim d.ends [ inl v ↦ rw took (gives (d.bytes ++ new.held ++ z) ending (v.gives z ending follows)) | inr v ↦ absurd (let g = cut_met v in cc) ];
+        seen = λ f z ending follows. elim d.ends [
+          | inl v ↦ rw took (gives (d.bytes ++ new.held ++ z) ending (v.gives z ending follows))
+          | inr v ↦ absurd (let g = cut_met v in cc)
+        ];
         nothing_held = λ f. elim d.ends [ inl v ↦ absurd (let g = whole_met v in cc) | inr v ↦ (v.nothing, v.not_at_end) ];
         read = rw took (concat d.waited.blocks, d.waited.gave, λ e. ap concat (d.waited.at_end e));
         told = d.told;

@@ -15,16 +15,21 @@ use Rattle.sf_read.proofs.Reading.{at_end_some, known_parts}
 -- a report that stands however what is held goes on, of which so many bytes were consumed
 pub held_scan : {S : Type 0} (to_come : S → Option (List ℕ)) (ds : List Directive) (m : ℕ) (old new : Ahead S) (report : RunReport)
     → ((z : List ℕ) (ending : Ending) → RunWithin ds m (old.held ++ z) ending report) → report.met ≡ None → report.used ≤ length old.held
-    → new.held ≡ drop report.used old.held → new.source ≡ old.source → new.at_end ≡ old.at_end → (new.at_end ≡ true → IsAtEnd (to_come new.source))
+    → new.held ≡ drop report.used old.held → new.source ≡ old.source → new.at_end ≡ old.at_end
+    → (new.at_end ≡ true → IsAtEnd (to_come new.source))
     → (t : List ℕ) → input_of to_come old ≡ Some t → Scan to_come ds m t old new report
 held_scan to_come ds m old new report run met fits held source at_end told t e =
     let (z, coming, whole) = known_parts old.held (to_come old.source) t e in
     let used : List ℕ = take report.used old.held in
     let parts : used ++ drop report.used old.held ≡ old.held = take-append-drop report.used old.held in
     let long : length used ≡ report.used = length-take-le report.used old.held fits in
-    let input : t ≡ used ++ (drop report.used old.held ++ z) = whole ∙ ap (λ y. y ++ z) (sym parts) ∙ append_assoc used (drop report.used old.held) z in
-    let took : take report.used t ≡ used = ap (take report.used) input ∙ ap (λ n. take n (used ++ (drop report.used old.held ++ z))) (sym long) ∙ take-append_seam used (drop report.used old.held ++ z) in
-    let left : drop report.used t ≡ drop report.used old.held ++ z = ap (drop report.used) input ∙ ap (λ n. drop n (used ++ (drop report.used old.held ++ z))) (sym long) ∙ drop-append_seam used (drop report.used old.held ++ z) in
+    let input : t ≡ used ++ (drop report.used old.held ++ z) = whole ∙ ap (λ y. y ++ z) (sym parts)
+    ∙ append_assoc used (drop report.used old.held) z in
+    let took : take report.used t ≡ used = ap (take report.used) input
+    ∙ ap (λ n. take n (used ++ (drop report.used old.held ++ z))) (sym long) ∙ take-append_seam used (drop report.used old.held ++ z) in
+    let left : drop report.used t ≡ drop report.used old.held ++ z =
+    ap (drop report.used) input ∙ ap (λ n. drop n (used ++ (drop report.used old.held ++ z))) (sym long)
+    ∙ drop-append_seam used (drop report.used old.held ++ z) in
     let both : take report.used t ++ new.held ≡ old.held = ap (λ y. y ++ new.held) took ∙ ap (λ y. used ++ y) held ∙ parts in
     record {
       whole = λ _. inl (subst (λ y. RunWithin ds m y End report) (sym whole) (run z End));

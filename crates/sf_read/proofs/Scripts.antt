@@ -8,9 +8,11 @@ bytes_given [] left = refl
 bytes_given (b ∷ text) left = ap (λ (bytes : List ℕ). b ∷ bytes) (bytes_given text left)
 
 -- those of what is left, where a text was given
-pub bytes_left : (old : List (Option ℕ)) (present text rest : List ℕ) (later : List (Option ℕ)) → given present ++ later ≡ old → present ≡ text ++ rest → bytes_of old ≡ text ++ bytes_of (given rest ++ later)
+pub bytes_left : (old : List (Option ℕ)) (present text rest : List ℕ) (later : List (Option ℕ)) → given present ++ later ≡ old
+    → present ≡ text ++ rest → bytes_of old ≡ text ++ bytes_of (given rest ++ later)
 bytes_left old present text rest later is parts =
-    ap bytes_of (sym is) ∙ bytes_given present later ∙ ap (λ (bytes : List ℕ). bytes ++ bytes_of later) parts ∙ append_assoc text rest (bytes_of later)
+    ap bytes_of (sym is) ∙ bytes_given present later ∙ ap (λ (bytes : List ℕ). bytes ++ bytes_of later) parts
+    ∙ append_assoc text rest (bytes_of later)
     ∙ ap (λ (bytes : List ℕ). text ++ bytes) (sym (bytes_given rest later))
 
 -- nothing is left

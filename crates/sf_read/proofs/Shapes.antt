@@ -50,7 +50,8 @@ has_shape shape ds slots same each = (same, λ slot. by slot)
         let known = kinds_are slot (destinations_of ds) slots in
         by_test (is_some (kind_at slot ds)) (λ v. at_slot slot shape ≡ kind_at slot ds)
         (λ some. each slot (known.0 some).0 (known.0 some).1)
-        (λ none. no_kind shape slot (λ h. let some = known.1 (h.0, omega (arith, same, h.1)) in absurd cc) ∙ sym (none_is (kind_at slot ds) none))
+        (λ none. no_kind shape slot (λ h. let some = known.1 (h.0, omega (arith, same, h.1)) in absurd cc)
+        ∙ sym (none_is (kind_at slot ds) none))
 
 same_number : (a b : ℕ) → nat_eq a b ≡ true → a ≡ b
 same_number a b same = grind (arith, nat_tests)
@@ -58,7 +59,8 @@ same_number a b same = grind (arith, nat_tests)
 lower : (slot n : ℕ) → nat_eq slot (n + 1) ≡ false → slot ≤ n + 1 → slot ≤ n
 lower slot n other high = grind (arith, nat_tests)
 
-pub one_more_slot : (shape : List Kind) (ds : List Directive) (n : ℕ) → ((slot : ℕ) → 1 ≤ slot → slot ≤ n → at_slot slot shape ≡ kind_at slot ds)
+pub one_more_slot : (shape : List Kind) (ds : List Directive) (n : ℕ)
+    → ((slot : ℕ) → 1 ≤ slot → slot ≤ n → at_slot slot shape ≡ kind_at slot ds)
     → at_slot (n + 1) shape ≡ kind_at (n + 1) ds → (slot : ℕ) → 1 ≤ slot → slot ≤ n + 1 → at_slot slot shape ≡ kind_at slot ds
 one_more_slot shape ds n each last slot low high =
     by_test (nat_eq slot (n + 1)) (λ v. at_slot slot shape ≡ kind_at slot ds)
@@ -77,11 +79,13 @@ same_option eq same (Some a) (Some b) test is = ap Some (same a b (not_false (eq
     not_false false e = absurd cc
 
 -- where the shapes are the same, these are the values that a row is made of
-pub given : (shape : List Kind) (ds : List Directive) (m : ℕ) (x : List ℕ) (ending : Ending) (report : RunReport) → AreKinded ds → HasShape shape ds
+pub given : (shape : List Kind) (ds : List Directive) (m : ℕ) (x : List ℕ) (ending : Ending) (report : RunReport) → AreKinded ds
+    → HasShape shape ds
     → RunTold ds m x ending report → report.status ≡ Done → AreGiven shape report.values
 given shape ds m x ending report kinded same told done = λ slot. done_fills ds m x ending report kinded told done slot ∙ sym (same.1 slot)
 
 -- a run that was made isn't answered with a fault of its start
-pub no_start : {T : Type 0} (kinds : List Kind) (listed : T → List Datum) (report : RunReport) (r : Result T ScanRowFault) → Answers kinds listed report r
+pub no_start : {T : Type 0} (kinds : List Kind) (listed : T → List Datum) (report : RunReport) (r : Result T ScanRowFault)
+    → Answers kinds listed report r
     → (fault : StartFault) → r ≡ Err (Start fault) → ⊥
 no_start kinds listed report r answers fault e = subst (Answers kinds listed report) e answers

@@ -21,26 +21,30 @@ Leaves to_come old bytes now =
     (t : List ℕ) → input_of to_come old ≡ Some t → (z : List ℕ) × (to_come now.source ≡ Some z) × (t ≡ bytes ++ now.held ++ z)
 
 -- a run that waits, or is to be handed what is held
-pub record Reading {S : Type 0} (to_come : S → Option (List ℕ)) (reads failures : S → ℕ) (N : ℕ) (ds : List Directive) (m : ℕ) (old now : Ahead S) (s : Standing) : Type 0 where
+pub record Reading {S : Type 0} (to_come : S → Option (List ℕ)) (reads failures : S → ℕ) (N : ℕ) (ds : List Directive) (m : ℕ)
+    (old now : Ahead S) (s : Standing) : Type 0 where
   pub fed : List ℕ
   pub after : After ds m s fed
   pub used : used_by s ≡ length fed
   pub within : length fed ≤ m
   pub input : Leaves to_come old fed now
   pub waited : ReadsWhile to_come reads N (Waits ds m) old fed now
-  pub some : now.at_end ≡ false → (front : List (List ℕ)) (block : List ℕ) (back : List (List ℕ)) → waited.blocks ≡ front ++ block ∷ back → 0 < length block
+  pub some : now.at_end ≡ false → (front : List (List ℕ)) (block : List ℕ) (back : List (List ℕ)) → waited.blocks ≡ front ++ block ∷ back
+      → 0 < length block
   pub count : reads now.source ≤ reads old.source + length fed + 1
   pub no_block : now.held ≡ [] → now.at_end ≡ false → reads now.source ≤ reads old.source + length fed
   pub no_failure : failures now.source ≡ failures old.source
   pub quiet : old.at_end ≡ true → (now.source ≡ old.source) × (now.at_end ≡ true)
 
 -- the source did not fail: the report is that of every input that begins with what was used and is held
-pub record Whole {S : Type 0} (failures : S → ℕ) (ds : List Directive) (m : ℕ) (old new : Ahead S) (bytes : List ℕ) (s : Standing) : Type 0 where
+pub record Whole {S : Type 0} (failures : S → ℕ) (ds : List Directive) (m : ℕ) (old new : Ahead S) (bytes : List ℕ)
+    (s : Standing) : Type 0 where
   pub no_failure : failures new.source ≡ failures old.source
   pub gives : (z : List ℕ) (ending : Ending) → MayFollow new z ending → Gives ds m s (bytes ++ new.held ++ z) ending
 
 -- the source failed: the report is that of what was used
-pub record Cut {S : Type 0} (failures : S → ℕ) (ds : List Directive) (m : ℕ) (old new : Ahead S) (bytes : List ℕ) (s : Standing) : Type 0 where
+pub record Cut {S : Type 0} (failures : S → ℕ) (ds : List Directive) (m : ℕ) (old new : Ahead S) (bytes : List ℕ)
+    (s : Standing) : Type 0 where
   pub one_failure : failures new.source ≡ counted_on (failures old.source)
   pub nothing : new.held ≡ []
   pub not_at_end : new.at_end ≡ false
@@ -49,7 +53,8 @@ pub record Cut {S : Type 0} (failures : S → ℕ) (ds : List Directive) (m : �
   pub waits : IsOpen ds bytes × (length bytes ≤ m)
 
 -- a run that has ended
-pub record Driven {S : Type 0} (to_come : S → Option (List ℕ)) (reads failures : S → ℕ) (N : ℕ) (ds : List Directive) (m : ℕ) (old new : Ahead S) (s : Standing) : Type 0 where
+pub record Driven {S : Type 0} (to_come : S → Option (List ℕ)) (reads failures : S → ℕ) (N : ℕ) (ds : List Directive) (m : ℕ)
+    (old new : Ahead S) (s : Standing) : Type 0 where
   pub bytes : List ℕ
   pub used : used_by s ≡ length bytes
   pub input : Leaves to_come old bytes new

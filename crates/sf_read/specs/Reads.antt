@@ -12,8 +12,8 @@ abbrev pub counted_by : ℕ → ℕ → ℕ
 counted_by zero n = n
 counted_by (suc k) n = counted_on (counted_by k n)
 
--- A read of a call: it gave this block, and the reads after it gave the blocks `back`. All that was held at first and read before it is x: that
--- was used by then, and the call waited for more after it. A read that gave nothing is the last.
+-- A read of a call: it gave this block, and the reads after it gave the blocks `back`. All that was held at first and read before it is x:
+-- that was used by then, and the call waited for more after it. A read that gave nothing is the last.
 pub record IsRead (N : ℕ) (Waits : List ℕ → Type 0) (x : List ℕ) (used : ℕ) (block : List ℕ) (back : List (List ℕ)) : Type 0 where
   pub few : length block ≤ N
   pub waited : Waits x

@@ -41,7 +41,8 @@ Answers kinds listed report (Err (Failed outcome)) = (report.status ≢ Done) ×
 Answers kinds listed report (Err NoMemory) = report.status ≡ Done
 
 -- there was a run, and its one report is answered
-pub record RowScan {S T : Type 0} (to_come : S → Option (List ℕ)) (reads failures : S → ℕ) (N : ℕ) (kinds : List Kind) (listed : T → List Datum)
+pub record RowScan {S T : Type 0} (to_come : S → Option (List ℕ)) (reads failures : S → ℕ) (N : ℕ) (kinds : List Kind)
+    (listed : T → List Datum)
     (ds : List Directive) (m : ℕ) (old new : Ahead S) (result : Result T ScanRowFault) : Type 0 where
   pub report : RunReport
   pub answers : Answers kinds listed report result

@@ -22,7 +22,8 @@ abbrev pub IsHeldAndRead : {S : Type 0} → Ahead S → List ℕ → Ahead S →
 IsHeldAndRead old bytes now = (read : List ℕ) × (bytes ++ now.held ≡ old.held ++ read) × (old.at_end ≡ true → read ≡ [])
 
 -- A scan of the input t: its report, and what is then held and to come. old and new are the lookahead before and after it.
-pub record Scan {S : Type 0} (to_come : S → Option (List ℕ)) (ds : List Directive) (m : ℕ) (t : List ℕ) (old new : Ahead S) (report : RunReport) : Type 0 where
+pub record Scan {S : Type 0} (to_come : S → Option (List ℕ)) (ds : List Directive) (m : ℕ) (t : List ℕ) (old new : Ahead S)
+    (report : RunReport) : Type 0 where
   -- the source did not fail: the report of the input with its end, or of the run up to where a storing was refused
   pub whole : is_fault report.met ≡ false → RunTold ds m t End report
   -- it failed: the report of what was used, with the fault

@@ -97,16 +97,18 @@ impl<S: Source, const N: usize> Lookahead<S, N> {
         self.start += count;
     }
 
-    /// Reads a block, where nothing is held and the source has not told its end: afterwards it has, or some bytes are held.
-    /// Where the read fails, nothing is held, and the source may be read again.
+    /// Reads a block, where nothing is held and the source has not told its end: afterwards it has, or some bytes are
+    /// held. Where the read fails, nothing is held, and the source may be read again.
     pub fn refill(&mut self) -> Result<(), SourceFault>
         requires empty { self.old.held ≡ [] }
         requires open { self.old.at_end ≡ false }
         ensures reads { S.reads self.new.source ≡ counted_on (S.reads self.old.source) }
-        ensures failures { S.failures self.new.source ≡ (if is_err result then counted_on (S.failures self.old.source) else S.failures self.old.source) }
+        ensures failures { S.failures self.new.source ≡ (if is_err result then counted_on
+            (S.failures self.old.source) else S.failures self.old.source) }
         ensures bytes { Consumes (S.to_come self.old.source) (S.to_come self.new.source) self.new.held }
         ensures few { length self.new.held ≤ N }
-        ensures read { IfOk result (λ _. ((self.new.at_end ≡ false) × (0 < length self.new.held)) ⊎ ((self.new.at_end ≡ true) × (self.new.held ≡ []))) }
+        ensures read { IfOk result (λ _. ((self.new.at_end ≡ false) × (0 < length self.new.held))
+            ⊎ ((self.new.at_end ≡ true) × (self.new.held ≡ []))) }
         ensures failed { IfErr result (λ _. (self.new.at_end ≡ false) × (self.new.held ≡ [])) }
     {
         match self.source.read(&mut self.block) {

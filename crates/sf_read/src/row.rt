@@ -99,10 +99,12 @@ fn scan_with<S: Source, const N: usize>(
     format: &ScanFormat,
     limit: u32,
 ) -> Result<Scanned<HeapStore>, StartFault>
-    ensures scan { (t : List ℕ) → input_of S.to_come from.old ≡ Some t → IfOk result (λ s. Scan S.to_come format.now limit t from.old from.new s.report) }
+    ensures scan { (t : List ℕ) → input_of S.to_come from.old ≡ Some t
+        → IfOk result (λ s. Scan S.to_come format.now limit t from.old from.new s.report) }
     ensures told { IfOk result (λ s. (x : List ℕ) × (ending : Ending) × RunTold format.now limit x ending s.report) }
     ensures bounded { IsSome (width_sum format.now) → IfOk result (λ s. is_memory_status s.report.status ≡ false) }
-    ensures failures { IfOk result (λ s. S.failures from.new.source ≡ (if is_fault s.report.met then counted_on (S.failures from.old.source) else S.failures from.old.source)) }
+    ensures failures { IfOk result (λ s. S.failures from.new.source
+        ≡ (if is_fault s.report.met then counted_on (S.failures from.old.source) else S.failures from.old.source)) }
     ensures reads { IfOk result (λ s. S.reads from.new.source ≤ S.reads from.old.source + s.report.used + 1) }
     ensures waited { IfOk result (λ s. WaitedFor S.to_come S.reads N format.now limit from.old from.new s.report.used) }
     ensures end { IfOk result (λ s. s.report.met ≡ Some Ending.End → from.new.at_end ≡ true) }
@@ -110,7 +112,8 @@ fn scan_with<S: Source, const N: usize>(
     ensures stays { from.old.at_end ≡ true → from.new.at_end ≡ true }
     ensures limit { IsErrOf result StartFault.BadLimit ↔ (2147483647 < limit) }
     ensures memory { IfErr result (λ fault. (fault ≡ StartFault.BadLimit) ⊎ (fault ≡ StartFault.NoMemory)) }
-    ensures enough { IfSome store (λ s. limit ≤ 2147483647 → unwrap_or (width_sum format.now) 0 ≤ capacity_of s → IsOk result) }
+    ensures enough { IfSome store (λ s. limit ≤ 2147483647 → unwrap_or (width_sum format.now) 0 ≤ capacity_of s
+        → IsOk result) }
     ensures as_much { IfSome store (λ old. IfOk result (λ s. capacity_of old ≤ capacity_of s.kept)) }
     ensures unread { IfErr result (λ _. from.new ≡ from.old) }
 {
@@ -124,8 +127,8 @@ fn scan_with<S: Source, const N: usize>(
 ///
 /// Refuses with ShapeDiffers where the slots of the row and their kinds are not the destinations of the format and
 /// theirs; then with Start where `fscan` refuses; nothing was read then. A run that doesn't end as Done is told by
-/// Failed, and its bytes are consumed. Last comes NoMemory, where memory for the row was refused; its bytes are consumed
-/// too.
+/// Failed, and its bytes are consumed. Last comes NoMemory, where memory for the row was refused; its bytes are
+/// consumed too.
 pub fn scan_row<T: Row, S: Source, const N: usize>(
     alloc: Global,
     from: &mut Lookahead<S, N>,
@@ -133,10 +136,13 @@ pub fn scan_row<T: Row, S: Source, const N: usize>(
     limit: u32,
 ) -> Result<T, ScanRowFault>
     ensures shape { IsErrOf result ScanRowFault.ShapeDiffers ↔ (HasShape T.kinds format.now → ⊥) }
-    ensures limit { IsErrOf result (ScanRowFault.Start StartFault.BadLimit) ↔ (HasShape T.kinds format.now × (2147483647 < limit)) }
-    ensures start { (fault : StartFault) → IsErrOf result (ScanRowFault.Start fault) → (fault ≡ StartFault.BadLimit) ⊎ (fault ≡ StartFault.NoMemory) }
+    ensures limit { IsErrOf result (ScanRowFault.Start StartFault.BadLimit) ↔
+        (HasShape T.kinds format.now × (2147483647 < limit)) }
+    ensures start { (fault : StartFault) → IsErrOf result (ScanRowFault.Start fault)
+        → (fault ≡ StartFault.BadLimit) ⊎ (fault ≡ StartFault.NoMemory) }
     ensures unread { is_run result ≡ false → from.new ≡ from.old }
-    ensures run { is_run result ≡ true → RowScan S.to_come S.reads S.failures N T.kinds T.listed format.now limit from.old from.new result }
+    ensures run { is_run result ≡ true → RowScan S.to_come S.reads S.failures N T.kinds T.listed format.now limit
+        from.old from.new result }
     ensures no_read { from.old.at_end ≡ true → from.new.source ≡ from.old.source }
     ensures stays { from.old.at_end ≡ true → from.new.at_end ≡ true }
 {
@@ -144,8 +150,8 @@ pub fn scan_row<T: Row, S: Source, const N: usize>(
     scan_row_over(alloc, &mut store, from, format, limit)
 }
 
-/// As `scan_row`, over the store of a row before, whose memory is used again: `None` at first, and then what the call before
-/// left there. A call that scans leaves its store there.
+/// As `scan_row`, over the store of a row before, whose memory is used again: `None` at first, and then what the call
+/// before left there. A call that scans leaves its store there.
 pub fn scan_row_over<T: Row, S: Source, const N: usize>(
     alloc: Global,
     store: &mut Option<HeapStore>,
@@ -154,15 +160,20 @@ pub fn scan_row_over<T: Row, S: Source, const N: usize>(
     limit: u32,
 ) -> Result<T, ScanRowFault>
     ensures shape { IsErrOf result ScanRowFault.ShapeDiffers ↔ (HasShape T.kinds format.now → ⊥) }
-    ensures limit { IsErrOf result (ScanRowFault.Start StartFault.BadLimit) ↔ (HasShape T.kinds format.now × (2147483647 < limit)) }
-    ensures start { (fault : StartFault) → IsErrOf result (ScanRowFault.Start fault) → (fault ≡ StartFault.BadLimit) ⊎ (fault ≡ StartFault.NoMemory) }
+    ensures limit { IsErrOf result (ScanRowFault.Start StartFault.BadLimit) ↔
+        (HasShape T.kinds format.now × (2147483647 < limit)) }
+    ensures start { (fault : StartFault) → IsErrOf result (ScanRowFault.Start fault)
+        → (fault ≡ StartFault.BadLimit) ⊎ (fault ≡ StartFault.NoMemory) }
     ensures unread { is_run result ≡ false → from.new ≡ from.old }
-    ensures run { is_run result ≡ true → RowScan S.to_come S.reads S.failures N T.kinds T.listed format.now limit from.old from.new result }
+    ensures run { is_run result ≡ true → RowScan S.to_come S.reads S.failures N T.kinds T.listed format.now limit
+        from.old from.new result }
     ensures no_read { from.old.at_end ≡ true → from.new.source ≡ from.old.source }
     ensures stays { from.old.at_end ≡ true → from.new.at_end ≡ true }
-    ensures enough { IfSome store.old (λ s. unwrap_or (width_sum format.now) 0 ≤ capacity_of s → IsErrOf result (ScanRowFault.Start StartFault.NoMemory) → ⊥) }
+    ensures enough { IfSome store.old (λ s. unwrap_or (width_sum format.now) 0 ≤ capacity_of s
+        → IsErrOf result (ScanRowFault.Start StartFault.NoMemory) → ⊥) }
     ensures left { is_run result ≡ true → IsSome store.new }
-    ensures as_much { is_run result ≡ true → IfSome store.old (λ old. IfSome store.new (λ s. capacity_of old ≤ capacity_of s)) }
+    ensures as_much { is_run result ≡ true → IfSome store.old
+        (λ old. IfSome store.new (λ s. capacity_of old ≤ capacity_of s)) }
 {
     if !has_shape::<T>(format) {
         return Err(ScanRowFault::ShapeDiffers);

@@ -36,8 +36,8 @@ pub trait Row: Sized {
     fn shape(slot: u8) -> Option<Kind>
         ensures { result ≡ at_slot slot kinds };
 
-    /// The row of the values of a report. The report has to be Done, with values of these kinds in these slots and in no
-    /// others. Answers NoMemory where memory was refused.
+    /// The row of the values of a report. The report has to be Done, with values of these kinds in these slots and in
+    /// no others. Answers NoMemory where memory was refused.
     fn from_report<S: Store>(alloc: Global, report: &Report<'_, S>) -> Result<Self, RowFault>
         requires done { report.now.status ≡ Done }
         requires given { AreGiven kinds report.now.values }

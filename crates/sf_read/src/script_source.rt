@@ -32,7 +32,13 @@ impl<'a> Model for ScriptSource<'a> {
 
     ghost Value = { ScriptState };
 
-    ghost view = { λ s. record { present = s.present.now; later = events s.steps.now; reads = s.reads; failures = s.failures } };
+    ghost view = { λ s. record {
+      present = s.present.now;
+      later = events s.steps.now;
+      reads = s.reads;
+      failures =
+          s.failures;
+    } };
 }
 
 impl<'a> ScriptSource<'a> {
@@ -67,7 +73,8 @@ impl<'a> ScriptSource<'a> {
         ensures failed { IfErr result (λ _. left_of self.old ≡ None ∷ left_of self.new) }
         ensures ready { IfOk result (λ _. self.new.present ≡ [] → self.new.later ≡ []) }
         ensures reads { self.new.reads ≡ self.old.reads }
-        ensures failures { self.new.failures ≡ (if is_err result then counted_on self.old.failures else self.old.failures) }
+        ensures failures { self.new.failures ≡ (if is_err result then counted_on self.old.failures else
+            self.old.failures) }
         ensures stays { self.old.present ≢ [] → (self.new.present ≡ self.old.present) × IsOk result }
     {
         'steps: while self.present.is_empty() {
@@ -116,15 +123,19 @@ impl Source for ScriptSource<'_> {
 
     ghost failures = { λ s. s.failures };
 
-    /// Fails exactly where the script says so next. Else it gives as many bytes of the present text as the buffer holds.
+    /// Fails exactly where the script says so next. Else it gives as many bytes of the present text as the buffer
+    /// holds.
     fn read(&mut self, buf: &mut [u8]) -> Result<usize, SourceFault>
         ensures bound { ReadsAtMost result buf.new }
-        ensures bytes { ReadConsumes (Some (bytes_of (left_of self.old))) (Some (bytes_of (left_of self.new))) result buf.new }
+        ensures bytes { ReadConsumes (Some (bytes_of (left_of self.old)))
+            (Some (bytes_of (left_of self.new))) result buf.new }
         ensures reads { self.new.reads ≡ counted_on self.old.reads }
-        ensures failures { self.new.failures ≡ (if is_err result then counted_on self.old.failures else self.old.failures) }
+        ensures failures { self.new.failures ≡ (if is_err result then counted_on self.old.failures else
+            self.old.failures) }
         ensures gave { IfOk result (λ count. left_of self.old ≡ given (take count buf.new) ++ left_of self.new) }
         ensures end { IfOk result (λ count. count ≡ 0 → 0 < length buf.new → left_of self.old ≡ []) }
-        ensures count { self.old.present ≢ [] → IfOk result (λ count. count ≡ min (length buf.new) (length self.old.present)) }
+        ensures count { self.old.present ≢ [] → IfOk result
+            (λ count. count ≡ min (length buf.new) (length self.old.present)) }
         ensures filled { IfOk result (λ count. count < length buf.new → self.new.present ≡ []) }
         ensures failed { IfErr result (λ _. left_of self.old ≡ None ∷ left_of self.new) }
     {

@@ -27,7 +27,8 @@ pub trait Source: Drop {
         ensures bound { ReadsAtMost result buf.new }
         ensures bytes { ReadConsumes (to_come self.old) (to_come self.new) result buf.new }
         ensures reads { reads self.new ≡ counted_on (reads self.old) }
-        ensures failures { failures self.new ≡ (if is_err result then counted_on (failures self.old) else failures self.old) };
+        ensures failures { failures self.new ≡ (if is_err result then counted_on
+            (failures self.old) else failures self.old) };
 }
 
 impl<S: Source> Source for &mut S {

@@ -39,8 +39,10 @@ fn drive<S: Source, T: Store, const N: usize>(
     lines: &mut u64,
 )
     requires { IsFresh (standing scanner.old) }
-    ensures driven { Driven S.to_come S.reads S.failures N (standing scanner.old).directives (standing scanner.old).limit from.old from.new (standing scanner.new) }
-    ensures lines { (t : List ℕ) → input_of S.to_come from.old ≡ Some t → lines.new ≡ lines_after lines.old (take (used_by (standing scanner.new)) t) }
+    ensures driven { Driven S.to_come S.reads S.failures N (standing scanner.old).directives
+        (standing scanner.old).limit from.old from.new (standing scanner.new) }
+    ensures lines { (t : List ℕ) → input_of S.to_come from.old ≡ Some t
+        → lines.new ≡ lines_after lines.old (take (used_by (standing scanner.new)) t) }
     ensures room { capacity_of (kept_by scanner.old) ≤ capacity_of (kept_by scanner.new) }
 {
     let _before = *lines;
@@ -74,18 +76,23 @@ fn run<S: Source, T: Store, const N: usize>(
     lines: &mut u64,
 ) -> Scanned<T>
     requires { IsFresh (standing scanner) }
-    ensures scan { (ds : List Directive) (m : ℕ) (t : List ℕ) → After ds m (standing scanner.entry) [] → input_of S.to_come from.old ≡ Some t
+    ensures scan { (ds : List Directive) (m : ℕ) (t : List ℕ) → After ds m (standing scanner.entry) []
+        → input_of S.to_come from.old ≡ Some t
         → Scan S.to_come ds m t from.old from.new result.report }
-    ensures told { (ds : List Directive) (m : ℕ) → After ds m (standing scanner.entry) [] → (x : List ℕ) × (ending : Ending) × RunTold ds m x ending result.report }
-    ensures bounded { (ds : List Directive) (m : ℕ) → After ds m (standing scanner.entry) [] → IsSome (width_sum ds) → is_memory_status result.report.status ≡ false }
-    ensures failures { S.failures from.new.source ≡ (if is_fault result.report.met then counted_on (S.failures from.old.source) else S.failures from.old.source) }
+    ensures told { (ds : List Directive) (m : ℕ) → After ds m (standing scanner.entry) []
+        → (x : List ℕ) × (ending : Ending) × RunTold ds m x ending result.report }
+    ensures bounded { (ds : List Directive) (m : ℕ) → After ds m (standing scanner.entry) [] → IsSome (width_sum ds)
+        → is_memory_status result.report.status ≡ false }
+    ensures failures { S.failures from.new.source ≡ (if is_fault result.report.met then counted_on
+        (S.failures from.old.source) else S.failures from.old.source) }
     ensures reads { S.reads from.new.source ≤ S.reads from.old.source + result.report.used + 1 }
     ensures waited { (ds : List Directive) (m : ℕ) → After ds m (standing scanner.entry) []
         → WaitedFor S.to_come S.reads N ds m from.old from.new result.report.used }
     ensures end { result.report.met ≡ Some Ending.End → from.new.at_end ≡ true }
     ensures no_read { from.old.at_end ≡ true → from.new.source ≡ from.old.source }
     ensures stays { from.old.at_end ≡ true → from.new.at_end ≡ true }
-    ensures lines { (t : List ℕ) → input_of S.to_come from.old ≡ Some t → lines.new ≡ lines_after lines.old (take result.report.used t) }
+    ensures lines { (t : List ℕ) → input_of S.to_come from.old ≡ Some t
+        → lines.new ≡ lines_after lines.old (take result.report.used t) }
     ensures room { capacity_of (kept_by scanner.entry) ≤ capacity_of result.kept }
 {
     drive(&mut scanner, from, lines);
@@ -100,18 +107,20 @@ fn run<S: Source, T: Store, const N: usize>(
 /// held and the run waits, and never again once it has told its end. A failing read ends the input of this scan.
 ///
 /// Refuses a limit above 2147483647 with BadLimit; then it answers NoMemory where memory was refused. Where it refuses,
-/// nothing was read. Where memory for a text is refused later, the report tells it; a format with a width sum needs none
-/// then.
+/// nothing was read. Where memory for a text is refused later, the report tells it; a format with a width sum needs
+/// none then.
 pub fn fscan<S: Source, const N: usize>(
     alloc: Global,
     from: &mut Lookahead<S, N>,
     format: &ScanFormat,
     limit: u32,
 ) -> Result<Scanned<HeapStore>, StartFault>
-    ensures scan { (t : List ℕ) → input_of S.to_come from.old ≡ Some t → IfOk result (λ s. Scan S.to_come format.now limit t from.old from.new s.report) }
+    ensures scan { (t : List ℕ) → input_of S.to_come from.old ≡ Some t
+        → IfOk result (λ s. Scan S.to_come format.now limit t from.old from.new s.report) }
     ensures told { IfOk result (λ s. (x : List ℕ) × (ending : Ending) × RunTold format.now limit x ending s.report) }
     ensures bounded { IsSome (width_sum format.now) → IfOk result (λ s. is_memory_status s.report.status ≡ false) }
-    ensures failures { IfOk result (λ s. S.failures from.new.source ≡ (if is_fault s.report.met then counted_on (S.failures from.old.source) else S.failures from.old.source)) }
+    ensures failures { IfOk result (λ s. S.failures from.new.source
+        ≡ (if is_fault s.report.met then counted_on (S.failures from.old.source) else S.failures from.old.source)) }
     ensures reads { IfOk result (λ s. S.reads from.new.source ≤ S.reads from.old.source + s.report.used + 1) }
     ensures waited { IfOk result (λ s. WaitedFor S.to_come S.reads N format.now limit from.old from.new s.report.used) }
     ensures end { IfOk result (λ s. s.report.met ≡ Some Ending.End → from.new.at_end ≡ true) }
@@ -131,9 +140,9 @@ pub fn fscan<S: Source, const N: usize>(
     fscan_over(alloc, store, from, format, limit)
 }
 
-/// As `fscan`, over a store that was used before, as `Scanner::over` uses it: what it keeps is taken away, and its memory
-/// is used again. The store of a report is given back by `Scanned::into_store`. A record that is held whole is scanned
-/// without a scanner, as `fscan_held` scans it, where the store has room for the format's width sum.
+/// As `fscan`, over a store that was used before, as `Scanner::over` uses it: what it keeps is taken away, and its
+/// memory is used again. The store of a report is given back by `Scanned::into_store`. A record that is held whole is
+/// scanned without a scanner, as `fscan_held` scans it, where the store has room for the format's width sum.
 pub fn fscan_over<S: Source, const N: usize>(
     alloc: Global,
     mut store: HeapStore,
@@ -141,10 +150,12 @@ pub fn fscan_over<S: Source, const N: usize>(
     format: &ScanFormat,
     limit: u32,
 ) -> Result<Scanned<HeapStore>, StartFault>
-    ensures scan { (t : List ℕ) → input_of S.to_come from.old ≡ Some t → IfOk result (λ s. Scan S.to_come format.now limit t from.old from.new s.report) }
+    ensures scan { (t : List ℕ) → input_of S.to_come from.old ≡ Some t
+        → IfOk result (λ s. Scan S.to_come format.now limit t from.old from.new s.report) }
     ensures told { IfOk result (λ s. (x : List ℕ) × (ending : Ending) × RunTold format.now limit x ending s.report) }
     ensures bounded { IsSome (width_sum format.now) → IfOk result (λ s. is_memory_status s.report.status ≡ false) }
-    ensures failures { IfOk result (λ s. S.failures from.new.source ≡ (if is_fault s.report.met then counted_on (S.failures from.old.source) else S.failures from.old.source)) }
+    ensures failures { IfOk result (λ s. S.failures from.new.source
+        ≡ (if is_fault s.report.met then counted_on (S.failures from.old.source) else S.failures from.old.source)) }
     ensures reads { IfOk result (λ s. S.reads from.new.source ≤ S.reads from.old.source + s.report.used + 1) }
     ensures waited { IfOk result (λ s. WaitedFor S.to_come S.reads N format.now limit from.old from.new s.report.used) }
     ensures end { IfOk result (λ s. s.report.met ≡ Some Ending.End → from.new.at_end ≡ true) }
@@ -152,7 +163,8 @@ pub fn fscan_over<S: Source, const N: usize>(
     ensures stays { from.old.at_end ≡ true → from.new.at_end ≡ true }
     ensures limit { IsErrOf result StartFault.BadLimit ↔ (2147483647 < limit) }
     ensures memory { IfErr result (λ fault. (fault ≡ StartFault.BadLimit) ⊎ (fault ≡ StartFault.NoMemory)) }
-    ensures enough { limit ≤ 2147483647 → unwrap_or (width_sum format.now) 0 ≤ store.room + length (buffer_of store) → IsOk result }
+    ensures enough { limit ≤ 2147483647 → unwrap_or (width_sum format.now) 0 ≤ store.room + length (buffer_of store)
+        → IsOk result }
     ensures room { IfOk result (λ s. unwrap_or (width_sum format.now) 0 ≤ capacity_of s.kept) }
     ensures as_much { IfOk result (λ s. capacity_of store ≤ capacity_of s.kept) }
     ensures unread { IfErr result (λ _. from.new ≡ from.old) }
@@ -173,8 +185,8 @@ pub fn fscan_over<S: Source, const N: usize>(
     ))
 }
 
-/// As `fscan_over`, by a scanner whatever is held; the newlines that the run consumes are added to `lines`, which stays at
-/// 2^64 - 1.
+/// As `fscan_over`, by a scanner whatever is held; the newlines that the run consumes are added to `lines`, which stays
+/// at 2^64 - 1.
 pub fn fscan_counting<S: Source, const N: usize>(
     alloc: Global,
     store: HeapStore,
@@ -183,19 +195,23 @@ pub fn fscan_counting<S: Source, const N: usize>(
     limit: u32,
     lines: &mut u64,
 ) -> Result<Scanned<HeapStore>, StartFault>
-    ensures scan { (t : List ℕ) → input_of S.to_come from.old ≡ Some t → IfOk result (λ s. Scan S.to_come format.now limit t from.old from.new s.report) }
+    ensures scan { (t : List ℕ) → input_of S.to_come from.old ≡ Some t
+        → IfOk result (λ s. Scan S.to_come format.now limit t from.old from.new s.report) }
     ensures told { IfOk result (λ s. (x : List ℕ) × (ending : Ending) × RunTold format.now limit x ending s.report) }
     ensures bounded { IsSome (width_sum format.now) → IfOk result (λ s. is_memory_status s.report.status ≡ false) }
-    ensures failures { IfOk result (λ s. S.failures from.new.source ≡ (if is_fault s.report.met then counted_on (S.failures from.old.source) else S.failures from.old.source)) }
+    ensures failures { IfOk result (λ s. S.failures from.new.source
+        ≡ (if is_fault s.report.met then counted_on (S.failures from.old.source) else S.failures from.old.source)) }
     ensures reads { IfOk result (λ s. S.reads from.new.source ≤ S.reads from.old.source + s.report.used + 1) }
     ensures waited { IfOk result (λ s. WaitedFor S.to_come S.reads N format.now limit from.old from.new s.report.used) }
     ensures end { IfOk result (λ s. s.report.met ≡ Some Ending.End → from.new.at_end ≡ true) }
     ensures no_read { from.old.at_end ≡ true → from.new.source ≡ from.old.source }
     ensures stays { from.old.at_end ≡ true → from.new.at_end ≡ true }
-    ensures lines { (t : List ℕ) → input_of S.to_come from.old ≡ Some t → IfOk result (λ s. lines.new ≡ lines_after lines.old (take s.report.used t)) }
+    ensures lines { (t : List ℕ) → input_of S.to_come from.old ≡ Some t
+        → IfOk result (λ s. lines.new ≡ lines_after lines.old (take s.report.used t)) }
     ensures limit { IsErrOf result StartFault.BadLimit ↔ (2147483647 < limit) }
     ensures memory { IfErr result (λ fault. (fault ≡ StartFault.BadLimit) ⊎ (fault ≡ StartFault.NoMemory)) }
-    ensures enough { limit ≤ 2147483647 → unwrap_or (width_sum format.now) 0 ≤ store.room + length (buffer_of store) → IsOk result }
+    ensures enough { limit ≤ 2147483647 → unwrap_or (width_sum format.now) 0 ≤ store.room + length (buffer_of store)
+        → IsOk result }
     ensures room { IfOk result (λ s. unwrap_or (width_sum format.now) 0 ≤ capacity_of s.kept) }
     ensures as_much { IfOk result (λ s. capacity_of store ≤ capacity_of s.kept) }
     ensures unread { IfErr result (λ _. from.new ≡ from.old) }
@@ -205,12 +221,12 @@ pub fn fscan_counting<S: Source, const N: usize>(
 }
 
 /// Scans a record that is held whole, without a scanner: where it is Done before a byte of what the lookahead holds is
-/// lacking, it is consumed, and the store, which is emptied first, has its values; `Report::new` of both is the report of the
-/// scan. The run consumes at most `limit` bytes, and the source isn't read.
+/// lacking, it is consumed, and the store, which is emptied first, has its values; `Report::new` of both is the report
+/// of the scan. The run consumes at most `limit` bytes, and the source isn't read.
 ///
-/// It answers wherever the record is Done before a byte of what is held, or of the limit, is lacking, and the store has room for
-/// its texts. Where it answers None nothing was consumed, and the store may keep something; `fscan_over` with that store tells
-/// what the record comes to.
+/// It answers wherever the record is Done before a byte of what is held, or of the limit, is lacking, and the store has
+/// room for its texts. Where it answers None nothing was consumed, and the store may keep something; `fscan_over` with
+/// that store tells what the record comes to.
 pub fn fscan_held<S: Source, const N: usize>(
     store: &mut HeapStore,
     from: &mut Lookahead<S, N>,
@@ -218,8 +234,10 @@ pub fn fscan_held<S: Source, const N: usize>(
     limit: u32,
 ) -> Option<Outcome>
     ensures scan { (t : List ℕ) → input_of S.to_come from.old ≡ Some t
-        → IfSome result (λ outcome. Scan S.to_come format.now limit t from.old from.new (report_by outcome store.new.values)) }
-    ensures told { IfSome result (λ outcome. (x : List ℕ) × (ending : Ending) × RunTold format.now limit x ending (report_by outcome store.new.values)) }
+        → IfSome result (λ outcome. Scan S.to_come format.now limit t from.old from.new
+        (report_by outcome store.new.values)) }
+    ensures told { IfSome result (λ outcome. (x : List ℕ) × (ending : Ending)
+        × RunTold format.now limit x ending (report_by outcome store.new.values)) }
     ensures done { IfSome result (λ outcome. outcome.status ≡ status.Done) }
     ensures met { IfSome result (λ outcome. outcome.met ≡ None) }
     ensures answers { IsDoneWithin format.now limit from.old.held (capacity_of store.old) → IsSome result }
@@ -245,10 +263,12 @@ pub fn fscan_fixed<const CAP: usize, const SLOTS: usize, S: Source, const N: usi
     format: &ScanFormat,
     limit: u32,
 ) -> Result<Scanned<FixedStore<CAP, SLOTS>>, StartFault>
-    ensures scan { (t : List ℕ) → input_of S.to_come from.old ≡ Some t → IfOk result (λ s. Scan S.to_come format.now limit t from.old from.new s.report) }
+    ensures scan { (t : List ℕ) → input_of S.to_come from.old ≡ Some t
+        → IfOk result (λ s. Scan S.to_come format.now limit t from.old from.new s.report) }
     ensures told { IfOk result (λ s. (x : List ℕ) × (ending : Ending) × RunTold format.now limit x ending s.report) }
     ensures bounded { IfOk result (λ s. is_memory_status s.report.status ≡ false) }
-    ensures failures { IfOk result (λ s. S.failures from.new.source ≡ (if is_fault s.report.met then counted_on (S.failures from.old.source) else S.failures from.old.source)) }
+    ensures failures { IfOk result (λ s. S.failures from.new.source
+        ≡ (if is_fault s.report.met then counted_on (S.failures from.old.source) else S.failures from.old.source)) }
     ensures reads { IfOk result (λ s. S.reads from.new.source ≤ S.reads from.old.source + s.report.used + 1) }
     ensures waited { IfOk result (λ s. WaitedFor S.to_come S.reads N format.now limit from.old from.new s.report.used) }
     ensures end { IfOk result (λ s. s.report.met ≡ Some Ending.End → from.new.at_end ≡ true) }

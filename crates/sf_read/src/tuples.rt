@@ -191,7 +191,8 @@ impl<A: Field, B: Field, C: Field, D: Field, E: Field, F: Field> Row for (A, B, 
 
     ghost kinds = { A.own_kind ∷ B.own_kind ∷ C.own_kind ∷ D.own_kind ∷ E.own_kind ∷ F.own_kind ∷ [] };
 
-    ghost listed = { λ row. A.datum row.0 ∷ B.datum row.1 ∷ C.datum row.2 ∷ D.datum row.3 ∷ E.datum row.4 ∷ F.datum row.5 ∷ [] };
+    ghost listed = { λ row. A.datum row.0 ∷ B.datum row.1 ∷ C.datum row.2 ∷ D.datum row.3 ∷ E.datum row.4 ∷ F.datum
+        row.5 ∷ [] };
 
     fn slots() -> u8 {
         6

@@ -46,15 +46,17 @@ fn lay_down(text: &[u8], block: &mut [u8])
     block[text.len()] = b'\n';
 }
 
-/// Scans a whole text without a scanner, where it is seen at once to be Done. What a short text comes to with a newline after
-/// it tells what it comes to alone. None where that isn't so, or isn't known here: then the store may keep something.
+/// Scans a whole text without a scanner, where it is seen at once to be Done. What a short text comes to with a newline
+/// after it tells what it comes to alone. None where that isn't so, or isn't known here: then the store may keep
+/// something.
 fn scan_at_once(
     store: &mut HeapStore,
     text: &[u8],
     format: &ScanFormat,
     limit: u32,
 ) -> Option<Outcome>
-    ensures run { IfSome result (λ outcome. RunWithin format.now limit text.now Ending.End (report_by outcome store.new.values)) }
+    ensures run { IfSome result (λ outcome. RunWithin format.now limit text.now Ending.End
+        (report_by outcome store.new.values)) }
     ensures texts { IfSome result (λ _. HoldsValues store.new) }
     ensures room { capacity_of store.old ≤ capacity_of store.new }
 {
@@ -88,8 +90,10 @@ fn scan_at_once(
 /// What the run of the scanner comes to, over a whole text.
 fn run_over<S: Store>(mut scanner: Scanner<'_, S>, text: &[u8]) -> Scanned<S>
     requires { IsFresh (standing scanner) }
-    ensures told { (ds : List Directive) (m : ℕ) → After ds m (standing scanner.entry) [] → RunTold ds m text.now Ending.End result.report }
-    ensures bounded { (ds : List Directive) (m : ℕ) → After ds m (standing scanner.entry) [] → IsSome (width_sum ds) → RunWithin ds m text.now Ending.End result.report }
+    ensures told { (ds : List Directive) (m : ℕ) → After ds m (standing scanner.entry) []
+        → RunTold ds m text.now Ending.End result.report }
+    ensures bounded { (ds : List Directive) (m : ℕ) → After ds m (standing scanner.entry) [] → IsSome (width_sum ds)
+        → RunWithin ds m text.now Ending.End result.report }
     ensures room { capacity_of (kept_by scanner.entry) ≤ capacity_of result.kept }
 {
     scanner.feed(text);
@@ -111,7 +115,8 @@ pub fn sscan(
     limit: u32,
 ) -> Result<Scanned<HeapStore>, StartFault>
     ensures report { IfOk result (λ s. RunTold format.now limit text.now Ending.End s.report) }
-    ensures bounded { IsSome (width_sum format.now) → IfOk result (λ s. RunWithin format.now limit text.now Ending.End s.report) }
+    ensures bounded { IsSome (width_sum format.now) → IfOk result
+        (λ s. RunWithin format.now limit text.now Ending.End s.report) }
     ensures limit { IsErrOf result StartFault.BadLimit ↔ (2147483647 < limit) }
     ensures memory { IfErr result (λ fault. (fault ≡ StartFault.BadLimit) ⊎ (fault ≡ StartFault.NoMemory)) }
     ensures room { IfOk result (λ s. unwrap_or (width_sum format.now) 0 ≤ capacity_of s.kept) }
@@ -125,8 +130,8 @@ pub fn sscan(
     sscan_over(alloc, store, text, format, limit)
 }
 
-/// As `sscan`, over a store that was used before, as `Scanner::over` uses it: what it keeps is taken away, and its memory
-/// is used again. The store of a report is given back by `Scanned::into_store`.
+/// As `sscan`, over a store that was used before, as `Scanner::over` uses it: what it keeps is taken away, and its
+/// memory is used again. The store of a report is given back by `Scanned::into_store`.
 pub fn sscan_over(
     alloc: Global,
     mut store: HeapStore,
@@ -135,10 +140,12 @@ pub fn sscan_over(
     limit: u32,
 ) -> Result<Scanned<HeapStore>, StartFault>
     ensures report { IfOk result (λ s. RunTold format.now limit text.now Ending.End s.report) }
-    ensures bounded { IsSome (width_sum format.now) → IfOk result (λ s. RunWithin format.now limit text.now Ending.End s.report) }
+    ensures bounded { IsSome (width_sum format.now) → IfOk result
+        (λ s. RunWithin format.now limit text.now Ending.End s.report) }
     ensures limit { IsErrOf result StartFault.BadLimit ↔ (2147483647 < limit) }
     ensures memory { IfErr result (λ fault. (fault ≡ StartFault.BadLimit) ⊎ (fault ≡ StartFault.NoMemory)) }
-    ensures enough { limit ≤ 2147483647 → unwrap_or (width_sum format.now) 0 ≤ store.room + length (buffer_of store) → IsOk result }
+    ensures enough { limit ≤ 2147483647 → unwrap_or (width_sum format.now) 0 ≤ store.room + length (buffer_of store)
+        → IsOk result }
     ensures room { IfOk result (λ s. unwrap_or (width_sum format.now) 0 ≤ capacity_of s.kept) }
     ensures as_much { IfOk result (λ s. capacity_of store ≤ capacity_of s.kept) }
 {

@@ -105,8 +105,8 @@ fn by_all_blocks(alloc: Global, case: &Case<'_>, steps: &[ReadStep<'_>]) -> Resu
     over_both_stores::<4096>(alloc, case, steps)
 }
 
-/// The read after so many bytes fails. Where the run has ended by then, the report is the row's, and nothing has failed;
-/// else the run has met the failure, and used all before it: none of it is held.
+/// The read after so many bytes fails. Where the run has ended by then, the report is the row's, and nothing has
+/// failed; else the run has met the failure, and used all before it: none of it is held.
 fn meets_failure<S: Store>(
     row: &ScanRow,
     report: &Report<'_, S>,

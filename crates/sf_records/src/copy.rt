@@ -122,9 +122,9 @@ impl Recorder for Copier<'_, '_> {
 }
 
 /// Copies record after record of what the lookahead holds and its source gives, by runs of at most `limit` bytes: scans
-/// it by the pair's scan format, and prints its values by the print format. A record whose values don't fit the
-/// pair ends
-/// the copy, and nothing is written for it. It ends cleanly where fscanf would return EOF at the end of the input (C11
+/// it by the pair's scan format, and prints its values by the print format. A record whose values don't fit the pair
+/// ends the copy, and nothing is written for it. It ends cleanly where fscanf would return EOF at the end of the input
+/// (C11
 /// 7.21.6.2p16); else it says why, and the records before stand. What the runs did not use stays held or unread.
 ///
 /// A copy that ended cleanly is read back: copied again, by a limit that no text of its records passes, it stays

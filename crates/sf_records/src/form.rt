@@ -7,13 +7,11 @@ ghost use Rattle.sf_records.specs.Forms.{absent_text, separator};
 pub enum OutputForm {
     /// A line for each: numbers in decimal and texts between quotes, with a blank between each two.
     Plain,
-    /// A line for each, as tables have it: numbers in decimal and texts as they are, with a tab between each two.
-    /// In texts
-    /// a tab, a line end, a carriage return and a backslash stand as `\t`, `\n`, `\r` and `\\`.
+    /// A line for each, as tables have it: numbers in decimal and texts as they are, with a tab between each two. In
+    /// texts a tab, a line end, a carriage return and a backslash stand as `\t`, `\n`, `\r` and `\\`.
     Tsv,
-    /// A line for each, an array of JSON (RFC 8259): integers as numbers and texts as strings. What is UTF-8 of a
-    /// text stays
-    /// as it is, and each other byte stands as the lone surrogate U+DC00 + byte: `\udc80` to `\udcff`.
+    /// A line for each, an array of JSON (RFC 8259): integers as numbers and texts as strings. What is UTF-8 of a text
+    /// stays as it is, and each other byte stands as the lone surrogate U+DC00 + byte: `\udc80` to `\udcff`.
     Json,
 }
 

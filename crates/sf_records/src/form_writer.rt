@@ -71,9 +71,8 @@ impl FormWriter {
         }
     }
 
-    /// Writes the record of a format that has so many destinations, by the report of a run. A plain line of at
-    /// most 1,023 bytes
-    /// whose texts are plain takes no memory.
+    /// Writes the record of a format that has so many destinations, by the report of a run. A plain line of at most
+    /// 1,023 bytes whose texts are plain takes no memory.
     #[inline(always)]
     pub fn write<K: Sink, T: Store>(
         &mut self,

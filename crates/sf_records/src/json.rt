@@ -83,9 +83,8 @@ fn push_characters(output: &mut Vec<u8>, bytes: &[u8]) -> Result<(), AllocError>
     Ok(())
 }
 
-/// Appends the bytes as a string of JSON (RFC 8259, 7): what is UTF-8 is kept, but for quotes, backslashes and
-/// bytes below
-/// the blank, which are escaped; each other byte stands as a lone surrogate, `\udc80` to `\udcff`.
+/// Appends the bytes as a string of JSON (RFC 8259, 7): what is UTF-8 is kept, but for quotes, backslashes and bytes
+/// below the blank, which are escaped; each other byte stands as a lone surrogate, `\udc80` to `\udcff`.
 pub(crate) fn push_json_string(output: &mut Vec<u8>, bytes: &[u8]) -> Result<(), AllocError>
     ensures pushed { OnOk result (output.new.items ≡ output.old.items ++ json_string bytes.now) }
     ensures refused { OnErr result (IsGrown output.old.items output.new.items) }

@@ -1,5 +1,4 @@
-//! Laws of records.
-//! None of these functions does anything: its contract is the law.
+//! Laws of records. None of these functions does anything: its contract is the law.
 ghost use Rattle.sf_records.specs.Copied.{CopyingTwiceIsCopyingOnce, JoinedTextsGiveTheirRows};
 ghost use Rattle.sf_records.specs.Laws.{EachHasOneEnd};
 ghost use Rattle.sf_records.specs.ReadingBack.{JsonIsUtf8, JsonReadsBack, RecordsAreRows, TsvReadsBack};
@@ -16,9 +15,8 @@ pub fn one_end()
     one_report();
 }
 
-/// The records of the joined texts of values that fit a pair are these values, and the loop over them ends
-/// cleanly; a copy
-/// of the texts is the same texts.
+/// The records of the joined texts of values that fit a pair are these values, and the loop over them ends cleanly; a
+/// copy of the texts is the same texts.
 pub fn joined_texts()
     ensures { JoinedTextsGiveTheirRows }
 {
@@ -51,9 +49,8 @@ pub fn tsv_reads_back()
     ensures { TsvReadsBack }
 {}
 
-/// Arrays of JSON read as the values that they were written for: each number is an integer, and each string the
-/// bytes that it
-/// stands for.
+/// Arrays of JSON read as the values that they were written for: each number is an integer, and each string the bytes
+/// that it stands for.
 pub fn json_reads_back()
     ensures { JsonReadsBack }
 {}
@@ -63,11 +60,9 @@ pub fn json_is_utf8()
     ensures { JsonIsUtf8 }
 {}
 
-/// What `run_scan_as` wrote of the records of an input of bytes, by an accepted format, is the records of the
-/// values that the
-/// input's runs gave; as a table or as arrays of JSON it reads back as these values. Where the sink failed, a
-/// part of one more
-/// record follows.
+/// What `run_scan_as` wrote of the records of an input of bytes, by an accepted format, is the records of the values
+/// that the input's runs gave; as a table or as arrays of JSON it reads back as these values. Where the sink failed, a
+/// part of one more record follows.
 pub fn written_reads_back<S: Source>()
     ensures { WrittenReadsBack S.to_come }
 {

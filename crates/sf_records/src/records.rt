@@ -90,9 +90,8 @@ fn judge<R: Recorder, K: Sink, T: Store>(
     }
 }
 
-/// Writes the record of a run that is Done, met nothing and used a byte: as `judge`, where the loop goes on
-/// behind the record
-/// unless that can't be written in full.
+/// Writes the record of a run that is Done, met nothing and used a byte: as `judge`, where the loop goes on behind the
+/// record unless that can't be written in full.
 #[inline(always)]
 fn write_held<R: Recorder, K: Sink, T: Store>(
     recorder: &mut R,
@@ -119,10 +118,9 @@ fn write_held<R: Recorder, K: Sink, T: Store>(
     }
 }
 
-/// Scans record after record of what the lookahead holds and its source gives, by runs of at most `limit` bytes,
-/// and has
-/// each written. It ends cleanly where fscanf would return EOF at the end of the input (C11 7.21.6.2p16); else it says
-/// why, and the records before stand. What the runs did not use stays held or unread.
+/// Scans record after record of what the lookahead holds and its source gives, by runs of at most `limit` bytes, and
+/// has each written. It ends cleanly where fscanf would return EOF at the end of the input (C11 7.21.6.2p16); else it
+/// says why, and the records before stand. What the runs did not use stays held or unread.
 pub(crate) fn run_records<R: Recorder, S: Source, K: Sink, const N: usize>(
     alloc: Global,
     from: &mut Lookahead<S, N>,

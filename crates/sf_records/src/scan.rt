@@ -17,11 +17,9 @@ use sf_read::{Lookahead, Source};
 use std::alloc::Global;
 
 /// Scans record after record of what the lookahead holds and its source gives, by runs of at most `limit` bytes, and
-/// writes a line for each: the values of its slots, joined by blanks. It ends cleanly where fscanf would return
-/// EOF at the
-/// end of the input (C11 7.21.6.2p16); else it says why, and the lines of the records before stand. What the runs
-/// did not
-/// use stays held or unread.
+/// writes a line for each: the values of its slots, joined by blanks. It ends cleanly where fscanf would return EOF at
+/// the end of the input (C11 7.21.6.2p16); else it says why, and the lines of the records before stand. What the runs
+/// did not use stays held or unread.
 pub fn run_scan<S: Source, K: Sink, const N: usize>(
     alloc: Global,
     from: &mut Lookahead<S, N>,

@@ -16,9 +16,8 @@ pub(crate) const LINE_BYTES: usize = 1044;
 /// A blank, a minus and the digits of any number.
 const NUMBER_BYTES: usize = 22;
 
-/// Writes what a slot was given from a place on, and answers where it ends. None where it is a text that is not
-/// plain, or
-/// there is no room for it.
+/// Writes what a slot was given from a place on, and answers where it ends. None where it is a text that is not plain,
+/// or there is no room for it.
 #[inline(always)]
 fn write_slot<S: Store>(
     report: &Report<'_, S>,
@@ -76,9 +75,8 @@ fn write_plain<S: Store>(report: &Report<'_, S>, destinations: u8, buf: &mut [u8
     Some(write_byte(b'\n', buf, end))
 }
 
-/// Writes the record, in this form, of a format that has so many destinations, by the report of a run, and
-/// answers where it
-/// ends. None where it isn't known to be a short line whose texts are plain.
+/// Writes the record, in this form, of a format that has so many destinations, by the report of a run, and answers
+/// where it ends. None where it isn't known to be a short line whose texts are plain.
 #[inline(always)]
 pub(crate) fn write_line<S: Store>(
     form: OutputForm,

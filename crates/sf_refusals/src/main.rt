@@ -1,5 +1,5 @@
-//! Calls of the libraries, one after the other: what each answers is printed on a line. tests/refusals runs it with each
-//! growth refused in turn.
+//! Calls of the libraries, one after the other: what each answers is printed on a line. tests/refusals runs it with
+//! each growth refused in turn.
 #![tactic(auto)]
 
 mod answer;

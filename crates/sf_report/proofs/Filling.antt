@@ -52,7 +52,8 @@ count_fills : (c : Conversion) (slot : Option ℕ) (n : ℕ) (e : StepEnd) → c
 count_fills c None n e is h = rw h (unslotted c is)
 count_fills c (Some slot) n e is h = number_fills c slot (value_of c.kind false n) e is h
 
-stored_fills : (c : Conversion) (slot : ℕ) (shape : Shape) (item : List ℕ) (e : StepEnd) → c.slot ≡ Some slot → is_shape_converted shape ≡ true → HasItsKind shape c.kind
+stored_fills : (c : Conversion) (slot : ℕ) (shape : Shape) (item : List ℕ) (e : StepEnd) → c.slot ≡ Some slot
+    → is_shape_converted shape ≡ true → HasItsKind shape c.kind
     → ItemStored c slot shape item e → Fills (Conv c) e
 stored_fills c slot (Int base) item e is other kind (negative, m, number, h) = number_fills c slot (value_of c.kind negative m) e is h
 stored_fills c slot Text item e is other kind h = rw h (slotted c slot kinds.Text is kind)
@@ -60,7 +61,8 @@ stored_fills c slot (Set members) item e is other kind h = rw h (slotted c slot 
 stored_fills c slot Chars item e is other kind h = rw h (slotted c slot kinds.Text is kind)
 stored_fills c slot Count item e is other kind h = absurd cc
 
-passes_fills : (c : Conversion) (slot : Option ℕ) (item : List ℕ) (e : StepEnd) → c.slot ≡ slot → is_shape_converted c.shape ≡ true → HasItsKind c.shape c.kind
+passes_fills : (c : Conversion) (slot : Option ℕ) (item : List ℕ) (e : StepEnd) → c.slot ≡ slot → is_shape_converted c.shape ≡ true
+    → HasItsKind c.shape c.kind
     → ItemPasses c slot item e → Fills (Conv c) e
 passes_fills c None item e is other kind h = rw h (unslotted c is)
 passes_fills c (Some slot) item e is other kind h = stored_fills c slot c.shape item e is other kind h
@@ -69,12 +71,14 @@ empty_fills : (d : Directive) (x : List ℕ) (e : StepEnd) → EmptyItem x e →
 empty_fills d [] e h = not_done InputFailure e d (λ f. absurd cc) h
 empty_fills d (b ∷ x) e h = not_done MatchingFailure e d (λ f. absurd cc) h
 
-ends_fill : (c : Conversion) (x : List ℕ) (j : ℕ) (e : StepEnd) → is_shape_converted c.shape ≡ true → HasItsKind c.shape c.kind → ItemEnds c x j e → Fills (Conv c) e
+ends_fill : (c : Conversion) (x : List ℕ) (j : ℕ) (e : StepEnd) → is_shape_converted c.shape ≡ true → HasItsKind c.shape c.kind
+    → ItemEnds c x j e → Fills (Conv c) e
 ends_fill c x zero e other kind h = empty_fills (Conv c) x e h
 ends_fill c x (suc j) e other kind (inl h) = passes_fills c c.slot (take (suc j) x) e refl other kind h.1
 ends_fill c x (suc j) e other kind (inr h) = not_done MatchingFailure e (Conv c) (λ f. absurd cc) h.1
 
-item_fills : (c : Conversion) (shape : Shape) (x : List ℕ) (k : ℕ) (e : StepEnd) → c.shape ≡ shape → is_shape_converted shape ≡ true → HasItsKind shape c.kind
+item_fills : (c : Conversion) (shape : Shape) (x : List ℕ) (k : ℕ) (e : StepEnd) → c.shape ≡ shape → is_shape_converted shape ≡ true
+    → HasItsKind shape c.kind
     → ItemStep c x k e → Fills (Conv c) e
 item_fills c shape x k e is other kind (s, j, skip, item, bytes, ends) =
     ends_fill c (drop s x) j e (ap is_shape_converted is ∙ other) (subst (λ t. HasItsKind t c.kind) (sym is) kind) ends
@@ -99,16 +103,21 @@ eq_swapped : (a b : ℕ) → nat_eq a b ≡ nat_eq b a
 eq_swapped a b =
     by_test (nat_eq a b) (λ v. v ≡ nat_eq b a) (λ same. sym (grind (arith, nat_tests))) (λ other. sym (grind (arith, nat_tests)))
 
-next_given : (slot s : ℕ) (v : Datum) (values : List Assigned) (es : List Slotted) → option_map kind_of (datum_at slot values) ≡ kind_with slot es
+next_given : (slot s : ℕ) (v : Datum) (values : List Assigned) (es : List Slotted)
+    → option_map kind_of (datum_at slot values) ≡ kind_with slot es
     → option_map kind_of (datum_at slot (record { slot = s; datum = v } ∷ values)) ≡ kind_with slot ((s, kind_of v) ∷ es)
 next_given slot s v values es rest =
-    rw (eq_swapped s slot) (by_test (nat_eq slot s) (λ t. option_map kind_of (option_map (λ (a : Assigned). a.datum) (cond t (Some (record { slot = s; datum = v })) (find (λ (a : Assigned). nat_eq slot a.slot) values)))
-    ≡ option_map (λ (e : Slotted). e.1) (cond t (Some (s, kind_of v)) (find (λ (e : Slotted). nat_eq e.0 slot) es))) (λ same. refl) (λ other. rest))
+    rw (eq_swapped s slot) (by_test (nat_eq slot s) (λ t. option_map kind_of
+    (option_map (λ (a : Assigned). a.datum) (cond t (Some (record { slot = s; datum = v }))
+    (find (λ (a : Assigned). nat_eq slot a.slot) values)))
+    ≡ option_map (λ (e : Slotted). e.1) (cond t (Some (s, kind_of v)) (find (λ (e : Slotted). nat_eq e.0 slot) es))) (λ same. refl)
+    (λ other. rest))
 
 none_more : (d : Directive) (ds : List Directive) → destination_of d ≡ None → destinations_of (d ∷ ds) ≡ destinations_of ds
 none_more d ds is = rw is refl
 
-one_more : (d : Directive) (ds : List Directive) (e : Slotted) → destination_of d ≡ Some e → destinations_of (d ∷ ds) ≡ e ∷ destinations_of ds
+one_more : (d : Directive) (ds : List Directive) (e : Slotted) → destination_of d ≡ Some e
+    → destinations_of (d ∷ ds) ≡ e ∷ destinations_of ds
 one_more d ds e is = rw is refl
 
 next_fills : (d : Directive) (ds : List Directive) (b : ℕ) (e : StepEnd) (ran : List Ran) (Rest : Type 0) → Fills d e → GoesOn e Rest ran
@@ -116,21 +125,28 @@ next_fills : (d : Directive) (ds : List Directive) (b : ℕ) (e : StepEnd) (ran 
     → FillsSlots (d ∷ ds) (values (record { directive = d; bytes = b; end = e } ∷ ran))
 next_fills d ds b Passes ran Rest fills goes rest done slot = rest goes done slot ∙ sym (ap (kind_with slot) (none_more d ds fills))
 next_fills d ds b (Stores s v) ran Rest fills goes rest done slot =
-    next_given slot s v (values ran) (destinations_of ds) (rest goes done slot) ∙ sym (ap (kind_with slot) (one_more d ds (s, kind_of v) fills))
+    next_given slot s v (values ran) (destinations_of ds) (rest goes done slot)
+    ∙ sym (ap (kind_with slot) (one_more d ds (s, kind_of v) fills))
 next_fills d ds b (Fails status) ran Rest fills goes rest done slot = absurd (fills done)
 
-steps_fill : (ds : List Directive) (x : List ℕ) (n : ℕ) (ran : List Ran) → AreKinded ds → Steps ds x n ran → status_of ran ≡ Done → FillsSlots ds (values ran)
+steps_fill : (ds : List Directive) (x : List ℕ) (n : ℕ) (ran : List Ran) → AreKinded ds → Steps ds x n ran → status_of ran ≡ Done
+    → FillsSlots ds (values ran)
 steps_fill [] x n [] kinded steps done = λ slot. refl
 steps_fill [] x n (r ∷ ran) kinded steps done = absurd steps
 steps_fill (d ∷ ds) x n [] kinded steps done = absurd steps
 steps_fill (d ∷ ds) x n (r ∷ ran) kinded steps done =
-    next_fills d ds r.bytes r.end ran (Steps ds (drop r.bytes x) (n + r.bytes) ran) (step_fills d x n r.bytes r.end kinded.0 steps.1) steps.2
+    next_fills d ds r.bytes r.end ran (Steps ds (drop r.bytes x) (n + r.bytes) ran)
+    (step_fills d x n r.bytes r.end kinded.0 steps.1) steps.2
     (λ rest. steps_fill ds (drop r.bytes x) (n + r.bytes) ran kinded.1 rest) done
 
 -- a Done report has a value of its kind for each destination of the format, and no others
-pub done_fills : (ds : List Directive) (m : ℕ) (x : List ℕ) (ending : Ending) (report : RunReport) → AreKinded ds → RunTold ds m x ending report → report.status ≡ Done
+pub done_fills : (ds : List Directive) (m : ℕ) (x : List ℕ) (ending : Ending) (report : RunReport) → AreKinded ds
+    → RunTold ds m x ending report → report.status ≡ Done
     → FillsSlots ds report.values
 done_fills ds m x ending report kinded (inl (inl (few, (ran, steps, met, is_met, is)))) done =
-    subst (λ (o : RunReport). FillsSlots ds o.values) (sym is) (steps_fill ds x 0 ran kinded steps (ap (λ (o : RunReport). o.status) (sym is) ∙ done))
-done_fills ds m x ending report kinded (inl (inr (before, cut, is))) done = let e : report.status ≡ TooLong = ap (λ (o : RunReport). o.status) is in absurd cc
-done_fills ds m x ending report kinded (inr (k, low, (before, cut, stores, is))) done = let e : report.status ≡ NoMemory = ap (λ (o : RunReport). o.status) is in absurd cc
+    subst (λ (o : RunReport). FillsSlots ds o.values) (sym is) (steps_fill ds x 0 ran kinded steps
+    (ap (λ (o : RunReport). o.status) (sym is) ∙ done))
+done_fills ds m x ending report kinded (inl (inr (before, cut, is))) done = let e : report.status ≡ TooLong =
+    ap (λ (o : RunReport). o.status) is in absurd cc
+done_fills ds m x ending report kinded (inr (k, low, (before, cut, stores, is))) done = let e : report.status ≡ NoMemory =
+    ap (λ (o : RunReport). o.status) is in absurd cc

@@ -40,13 +40,16 @@ byte_front b x z k end ok le h = grind arith
 skip_before_front : (shape : Shape) (x z : List ℕ) (k : ℕ) → k ≤ length x → IsSkipBefore shape (x ++ z) k → IsSkipBefore shape x k
 skip_before_front shape x z k le h = grind (arith, skip_front)
 
-ends_front : (c : Conversion) (x z : List ℕ) (j : ℕ) (end : StepEnd) → HasPassed end → j ≤ length x → ItemEnds c (x ++ z) j end → ItemEnds c x j end
+ends_front : (c : Conversion) (x z : List ℕ) (j : ℕ) (end : StepEnd) → HasPassed end → j ≤ length x → ItemEnds c (x ++ z) j end
+    → ItemEnds c x j end
 ends_front c x z j end ok le h = grind (arith, take-append-le)
 
-item_front : (c : Conversion) (x z : List ℕ) (k : ℕ) (end : StepEnd) → HasPassed end → k ≤ length x → ItemStep c (x ++ z) k end → ItemStep c x k end
+item_front : (c : Conversion) (x z : List ℕ) (k : ℕ) (end : StepEnd) → HasPassed end → k ≤ length x → ItemStep c (x ++ z) k end
+    → ItemStep c x k end
 item_front c x z k end ok le h3 = grind (arith, drop-append-le, length-drop, skip_before_front, item_at_front, ends_front)
 
-conversion_front : (c : Conversion) (shape : Shape) (x z : List ℕ) (n k : ℕ) (end : StepEnd) → HasPassed end → k ≤ length x → ConversionStep c shape (x ++ z) n k end → ConversionStep c shape x n k end
+conversion_front : (c : Conversion) (shape : Shape) (x z : List ℕ) (n k : ℕ) (end : StepEnd) → HasPassed end → k ≤ length x
+    → ConversionStep c shape (x ++ z) n k end → ConversionStep c shape x n k end
 conversion_front c (Int base) x z n k end ok le h = item_front c x z k end ok le h
 conversion_front c Text x z n k end ok le h = item_front c x z k end ok le h
 conversion_front c (Set members) x z n k end ok le h = item_front c x z k end ok le h
@@ -54,7 +57,8 @@ conversion_front c Chars x z n k end ok le h = item_front c x z k end ok le h
 conversion_front c Count x z n k end ok le h = h
 
 -- a directive that passes makes the same step on every front that has the bytes which it consumed
-step_front : (d : Directive) (x z : List ℕ) (n k : ℕ) (end : StepEnd) → HasPassed end → k ≤ length x → Step d (x ++ z) n k end → Step d x n k end
+step_front : (d : Directive) (x z : List ℕ) (n k : ℕ) (end : StepEnd) → HasPassed end → k ≤ length x → Step d (x ++ z) n k end
+    → Step d x n k end
 step_front d x z n k end ok le h = grind (arith, skip_front, byte_front, drop-append-le, length-drop, conversion_front)
 
 -- ---- no directive fails as Done
@@ -63,27 +67,32 @@ step_front d x z n k end ok le h = grind (arith, skip_front, byte_front, drop-ap
 
 -- by the end of the first
 abbrev RestStays : List Directive → List ℕ → List ℕ → ℕ → ℕ → List Ran → Type 0
-RestStays ds x z n k ran = status_of ran ≡ Done → used ran ≤ length (drop k x) → Steps ds (drop k x ++ z) (n + k) ran → Steps ds (drop k x) (n + k) ran
+RestStays ds x z n k ran = status_of ran ≡ Done → used ran ≤ length (drop k x) → Steps ds (drop k x ++ z) (n + k) ran
+    → Steps ds (drop k x) (n + k) ran
 
 abbrev OneStep : Directive → List Directive → List ℕ → ℕ → ℕ → StepEnd → List Ran → Type 0
 OneStep d ds x n k end ran = Step d x n k end × GoesOn end (Steps ds (drop k x) (n + k) ran) ran
 
-first_front : (d : Directive) (ds : List Directive) (x z : List ℕ) (n k : ℕ) (end : StepEnd) (ran : List Ran) → status_of (record { directive = d; bytes = k; end = end } ∷ ran) ≡ Done → k + used ran ≤ length x
+first_front : (d : Directive) (ds : List Directive) (x z : List ℕ) (n k : ℕ) (end : StepEnd) (ran : List Ran)
+    → status_of (record { directive = d; bytes = k; end = end } ∷ ran) ≡ Done → k + used ran ≤ length x
     → RestStays ds x z n k ran → OneStep d ds (x ++ z) n k end ran → OneStep d ds x n k end ran
 first_front d ds x z n k end ran done le rest h4 = grind (arith, step_front, length-drop, drop-append-le)
 
-steps_front : (ds : List Directive) (x z : List ℕ) (n : ℕ) (ran : List Ran) → status_of ran ≡ Done → used ran ≤ length x → Steps ds (x ++ z) n ran → Steps ds x n ran
+steps_front : (ds : List Directive) (x z : List ℕ) (n : ℕ) (ran : List Ran) → status_of ran ≡ Done → used ran ≤ length x
+    → Steps ds (x ++ z) n ran → Steps ds x n ran
 steps_front [] x z n [] done le h = tt
 steps_front [] x z n (r ∷ ran) done le h = absurd h
 steps_front (d ∷ ds) x z n [] done le h = absurd h
 steps_front (d ∷ ds) x z n (r ∷ ran) done le h =
     let all : used (r ∷ ran) ≡ r.bytes + used ran = sum_by-cons (λ (s : Ran). s.bytes) r ran in
-    let first = first_front d ds x z n r.bytes r.end ran done (omega (arith, all, le)) (steps_front ds (drop r.bytes x) z (n + r.bytes) ran) (h.1, h.2) in
+    let first = first_front d ds x z n r.bytes r.end ran done (omega (arith, all, le))
+    (steps_front ds (drop r.bytes x) z (n + r.bytes) ran) (h.1, h.2) in
     (h.0, first.0, first.1)
 
 -- ---- the run
 
-told_front : (ds : List Directive) (m : ℕ) (x z : List ℕ) (report : RunReport) → report.status ≡ Done → report.used ≤ length x → TellsWithin ds m (x ++ z) report → TellsWithin ds m x report
+told_front : (ds : List Directive) (m : ℕ) (x z : List ℕ) (report : RunReport) → report.status ≡ Done → report.used ≤ length x
+    → TellsWithin ds m (x ++ z) report → TellsWithin ds m x report
 told_front ds m x z report done le h3 = grind (arith, steps_front)
 
 pub done_runs_stay : EachDoneRunStays

@@ -23,19 +23,26 @@ use Rattle.sf_report.proofs.Values.{done_given, found_given}
 abbrev AreThere : {A : Type 0} → (ℕ → Option A) → List ℕ → Type 0
 AreThere f slots = AllByRecursion (λ slot. IsSome (f slot)) slots
 
-there_from : {A : Type 0} (f : ℕ → Option A) (place n : ℕ) → ((slot : ℕ) → place ≤ slot → slot < place + n → IsSome (f slot)) → AreThere f (slots_from place n)
+there_from : {A : Type 0} (f : ℕ → Option A) (place n : ℕ) → ((slot : ℕ) → place ≤ slot → slot < place + n → IsSome (f slot))
+    → AreThere f (slots_from place n)
 there_from f place zero h = tt
-there_from f place (suc n) h = (h place (omega arith) (omega arith), there_from f (place + 1) n (λ slot low high. h slot (omega (arith, low)) (omega (arith, high))))
+there_from f place (suc n) h = (
+  h place (omega arith) (omega arith),
+  there_from f (place + 1) n (λ slot low high. h slot (omega (arith, low)) (omega (arith, high))),
+)
 
-listed_length : {A : Type 0} (f : ℕ → Option A) (place n : ℕ) → AreThere f (slots_from place n) → length (filter_map f (slots_from place n)) ≡ n
+listed_length : {A : Type 0} (f : ℕ → Option A) (place n : ℕ) → AreThere f (slots_from place n)
+    → length (filter_map f (slots_from place n)) ≡ n
 listed_length f place zero there = refl
 listed_length {A} f place (suc n) there = by (f place) there.0 (listed_length f (place + 1) n there.1)
   where
-    by : (o : Option A) → IsSome o → length (filter_map f (slots_from (place + 1) n)) ≡ n → length (cons_option o (filter_map f (slots_from (place + 1) n))) ≡ suc n
+    by : (o : Option A) → IsSome o → length (filter_map f (slots_from (place + 1) n)) ≡ n
+        → length (cons_option o (filter_map f (slots_from (place + 1) n))) ≡ suc n
     by None some rest = absurd cc
     by (Some a) some rest = ap suc rest
 
-listed_at : {A : Type 0} (f : ℕ → Option A) (place n k : ℕ) → AreThere f (slots_from place n) → k < n → slice_get (filter_map f (slots_from place n)) k ≡ f (place + k)
+listed_at : {A : Type 0} (f : ℕ → Option A) (place n k : ℕ) → AreThere f (slots_from place n) → k < n
+    → slice_get (filter_map f (slots_from place n)) k ≡ f (place + k)
 listed_at f place zero k there low = absurd (omega (arith, low))
 listed_at {A} f place (suc n) k there low = by (f place) there.0 refl (λ j less. listed_at f (place + 1) n j there.1 less) k low
   where
@@ -60,9 +67,11 @@ record Row (slots : List ℕ) (given : ℕ → Option Datum) (kinds : ℕ → Op
 row_of : (slots : List ℕ) (given : ℕ → Option Datum) (kinds : ℕ → Option Kind) → ((slot : ℕ) → option_map kind_of (given slot) ≡ kinds slot)
     → ((slot : ℕ) (v : Datum) → given slot ≡ Some v → IsValue v) → AreThere kinds slots → Row slots given kinds
 row_of [] given kinds same values there = record { row = []; is_row = refl; kinds_are = refl; are_values = tt }
-row_of (slot ∷ slots) given kinds same values there = by (given slot) (kinds slot) refl refl (same slot) there.0 (row_of slots given kinds same values there.1)
+row_of (slot ∷ slots) given kinds same values there = by (given slot) (kinds slot) refl refl (same slot) there.0
+    (row_of slots given kinds same values there.1)
   where
-    by : (o : Option Datum) (k : Option Kind) → given slot ≡ o → kinds slot ≡ k → option_map kind_of o ≡ k → IsSome k → Row slots given kinds → Row (slot ∷ slots) given kinds
+    by : (o : Option Datum) (k : Option Kind) → given slot ≡ o → kinds slot ≡ k → option_map kind_of o ≡ k → IsSome k
+        → Row slots given kinds → Row (slot ∷ slots) given kinds
     by None None is kind e some rest = absurd cc
     by None (Some k) is kind e some rest = absurd cc
     by (Some v) None is kind e some rest = absurd cc
@@ -98,7 +107,11 @@ module _ (ds : List Directive) (slots : AreSlots (destinations_of ds)) where
       by : 1 ≤ slot → slice_get (kinds_of ds) (slot - 1) ≡ kind_at slot ds
       by low = by_test (nat_lt (length (destinations_of ds)) slot) (λ t. slice_get (kinds_of ds) (slot - 1) ≡ kind_at slot ds)
           (λ above. let high : length (destinations_of ds) < slot = grind (arith, nat_tests) in
-          slice_get_past (kinds_of ds) (slot - 1) (omega (arith, high, listed_length (λ slot. kind_at slot ds) 1 (length (destinations_of ds)) kinds_there))
+          slice_get_past (kinds_of ds) (slot - 1) (omega (
+            arith,
+            high,
+            listed_length (λ slot. kind_at slot ds) 1 (length (destinations_of ds)) kinds_there,
+          ))
           ∙ sym (none_is (kind_at slot ds) (λ some. absurd (omega (arith, high, ((kinds_are slot (destinations_of ds) slots).0 some).1)))))
           (λ within. let high : slot ≤ length (destinations_of ds) = grind (arith, nat_tests) in
           listed_at (λ slot. kind_at slot ds) 1 (length (destinations_of ds)) (slot - 1) kinds_there (omega (arith, low, high))

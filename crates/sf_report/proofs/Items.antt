@@ -47,10 +47,12 @@ len_most c f (b ∷ y) start =
 
 -- ---- the item
 
-front_from : (c : Conversion) → IsProperShape c.shape → (x : List ℕ) (j : ℕ) → j ≤ length x → can_take c (take j x) ≡ true → IsWithin c j × Begins c (take j x)
+front_from : (c : Conversion) → IsProperShape c.shape → (x : List ℕ) (j : ℕ) → j ≤ length x → can_take c (take j x) ≡ true
+    → IsWithin c j × Begins c (take j x)
 front_from c proper x j fits e = grind (arith, (tests_can_take c proper (take j x)), (length-take-le j x fits))
 
-front_to : (c : Conversion) → IsProperShape c.shape → (x : List ℕ) (j : ℕ) → j ≤ length x → IsWithin c j × Begins c (take j x) → can_take c (take j x) ≡ true
+front_to : (c : Conversion) → IsProperShape c.shape → (x : List ℕ) (j : ℕ) → j ≤ length x → IsWithin c j × Begins c (take j x)
+    → can_take c (take j x) ≡ true
 front_to c proper x j fits h = grind (arith, (tests_can_take c proper (take j x)), (length-take-le j x fits))
 
 pub item_is : (c : Conversion) → IsProperShape c.shape → HasItem c.shape → (x : List ℕ) → IsItem c x (len c [] x)

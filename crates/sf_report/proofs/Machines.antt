@@ -91,7 +91,8 @@ pub item_byte-below : (shape : Shape) (proper : IsProperShape shape) → item_by
 unfolding item_byte
 item_byte-below shape proper = grind arith
 
-other_begins : (shape : Shape) (width : Option ℕ) → (IsInt shape → ⊥) → (proper : IsProperShape shape) → (f : List ℕ) (b : ℕ) → Begins shape width f b
+other_begins : (shape : Shape) (width : Option ℕ) → (IsInt shape → ⊥) → (proper : IsProperShape shape) → (f : List ℕ) (b : ℕ)
+    → Begins shape width f b
     → Begins shape width f (item_byte shape proper)
 unfolding item_byte
 other_begins shape width other proper f b h = grind (arith, all_with, same_length)
@@ -130,7 +131,8 @@ takes_one d q b r below e full = true≢false (sym full ∙ not_full d q b r bel
 same_test : (a : ℕ) → nat_eq a a ≡ true
 same_test a = (tests_same a a).to refl
 
-item_nothing : (c : Conversion) → IsProperShape c.shape → (q : Stage) (f : List ℕ) → ((b : ℕ) → stepped (Conv c) q b ≡ item_stepped c f b) → is_full (Conv c) q ≡ true → (b : ℕ) → item_stepped c f b ≡ None
+item_nothing : (c : Conversion) → IsProperShape c.shape → (q : Stage) (f : List ℕ) → ((b : ℕ) → stepped (Conv c) q b ≡ item_stepped c f b)
+    → is_full (Conv c) q ≡ true → (b : ℕ) → item_stepped c f b ≡ None
 item_nothing c proper q f is full b = by_case (can_take c (f ++ b ∷ [])) refl
   where
     by_case : (v : Bool) → can_take c (f ++ b ∷ []) ≡ v → cond v (Some (Item (f ++ b ∷ []))) None ≡ None
@@ -147,7 +149,8 @@ full_takes_nothing Percent proper q b full = grind (arith, (takes_one Percent Sk
 full_takes_nothing (Conv c) proper Skipping b full = by_skips (shape_skips c.shape) refl
   where
     by_skips : (v : Bool) → shape_skips c.shape ≡ v → cond (shape_skips c.shape && is_white b) (Some Skipping) (item_stepped c [] b) ≡ None
-    by_skips true e = absurd (takes_one (Conv c) Skipping 32 Skipping (lit< tt) (ap (λ v. cond (v && true) (Some Skipping) (item_stepped c [] 32)) e) full)
+    by_skips true e = absurd (takes_one (Conv c) Skipping 32 Skipping (lit< tt)
+        (ap (λ v. cond (v && true) (Some Skipping) (item_stepped c [] 32)) e) full)
     by_skips false e =
         ap (λ v. cond (v && is_white b) (Some Skipping) (item_stepped c [] b)) e
         ∙ item_nothing c proper.0 Skipping [] (λ o. ap (λ v. cond (v && is_white o) (Some Skipping) (item_stepped c [] o)) e) full b
@@ -175,11 +178,13 @@ first_begins Count width proper wide item = absurd item
 pub item_not_full : (c : Conversion) → IsProper (Conv c) → HasItem c.shape → is_full (Conv c) Skipping ≡ true → ⊥
 item_not_full c proper item full =
     let (e, byte, begins) = first_begins c.shape c.width proper.0 proper.1 item in
-    let can : can_take c (e ∷ []) ≡ true = and_from (is_within c.width 1) (shape_begins c.shape c.width (e ∷ [])) (within_one c.width proper.1) begins in
+    let can : can_take c (e ∷ []) ≡ true = and_from (is_within c.width 1) (shape_begins c.shape c.width (e ∷ []))
+    (within_one c.width proper.1) begins in
     by_skips e byte can (shape_skips c.shape && is_white e) refl
   where
     by_skips : (e : ℕ) → e < 256 → can_take c (e ∷ []) ≡ true → (v : Bool) → (shape_skips c.shape && is_white e) ≡ v → ⊥
-    by_skips e byte can true is = takes_one (Conv c) Skipping e Skipping byte (ap (λ v. cond v (Some Skipping) (item_stepped c [] e)) is) full
+    by_skips e byte can true is = takes_one (Conv c) Skipping e Skipping byte
+        (ap (λ v. cond v (Some Skipping) (item_stepped c [] e)) is) full
     by_skips e byte can false is =
         takes_one (Conv c) Skipping e (Item (e ∷ [])) byte
         (ap (λ v. cond v (Some Skipping) (item_stepped c [] e)) is ∙ ap (λ v. cond v (Some (Item (e ∷ []))) None) can) full
@@ -189,7 +194,8 @@ shape_full : (c : Conversion) (shape : Shape) (q : Stage) (n : ℕ) (more : Bool
 shape_full c shape q n more none = grind arith
 
 -- what follows a full directive makes no difference to its end
-pub full_finish : (d : Directive) → IsProper d → (q : Stage) (n : ℕ) (more : Bool) → is_full d q ≡ true → finished d q n more ≡ finished d q n true
+pub full_finish : (d : Directive) → IsProper d → (q : Stage) (n : ℕ) (more : Bool) → is_full d q ≡ true
+    → finished d q n more ≡ finished d q n true
 full_finish Space proper q n more full = refl
 full_finish (Byte a) proper q n more full = grind (arith, (takes_one (Byte a) Skipping a Taken proper (rw same_test refl)))
 full_finish Percent proper q n more full = grind (arith, (takes_one Percent Skipping 37 Taken (lit< tt) refl))
@@ -237,8 +243,11 @@ keeps_all d q n (b ∷ x) =
 pub item_takes : (c : Conversion) (proper : IsProperShape c.shape) (f : List ℕ) → is_full (Conv c) (Item f) ≡ false
     → (r : Stage) × (stepped (Conv c) (Item f) (item_byte c.shape proper) ≡ Some r)
 item_takes c proper f e =
-    let (b, below, r, is) = can_take_one (Conv c) (Item f) e in
-    (Item (f ++ item_byte c.shape proper ∷ []), ap (λ v. cond v (Some (Item (f ++ item_byte c.shape proper ∷ []))) None) (item_byte-taken c proper f b (can b r is)))
+    let (b, below, r, is) = can_take_one (Conv c) (Item f) e in (
+      Item (f ++ item_byte c.shape proper ∷ []),
+      ap (λ v. cond v (Some (Item (f ++ item_byte c.shape proper ∷ []))) None)
+          (item_byte-taken c proper f b (can b r is)),
+    )
   where
     can : (b : ℕ) (r : Stage) → item_stepped c f b ≡ Some r → can_take c (f ++ b ∷ []) ≡ true
     can b r h1 = grind arith

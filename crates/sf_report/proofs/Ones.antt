@@ -24,7 +24,8 @@ abbrev Skips : Directive → Type 0
 Skips d = (b : ℕ) → is_white b ≡ true → stepped d Skipping b ≡ Some Skipping
 
 -- it passes over the white space
-skips : (d : Directive) → Skips d → (x : List ℕ) (n p : ℕ) → p ≡ n + skip x → one_from d Skipping n x ≡ one_from d Skipping p (drop (skip x) x)
+skips : (d : Directive) → Skips d → (x : List ℕ) (n p : ℕ) → p ≡ n + skip x
+    → one_from d Skipping n x ≡ one_from d Skipping p (drop (skip x) x)
 skips d white [] n p e = grind arith
 skips d white (b ∷ x) n p e = grind (arith, skips d white x)
 
@@ -53,7 +54,8 @@ percent_taken n (b ∷ x) = refl
 
 -- by whether the byte is the one that has to stand there
 byte_part : (d : Directive) → IsTaken d → (v : Bool) (b : ℕ) (x : List ℕ) (n : ℕ)
-    → choose (cond v (Some Taken) None) (record { used = n; left = b ∷ x; end = nothing_end true }) (λ r. one_from d r (n + 1) x) ≡ part_of n (b ∷ x) (byte_choice v)
+    → choose (cond v (Some Taken) None) (record { used = n; left = b ∷ x; end = nothing_end true }) (λ r. one_from d r (n + 1) x)
+    ≡ part_of n (b ∷ x) (byte_choice v)
 byte_part d taken v b x n = grind arith
 
 byte_is : (a : ℕ) (x : List ℕ) (n : ℕ) → one_from (Byte a) Skipping n x ≡ part_of n x (byte_step a x)
@@ -76,15 +78,22 @@ module _ (c : Conversion) where
       → p ≡ n + cond v (suc (len c (f ++ b ∷ []) y)) 0
       → (p ≡ n + 1 + len c (f ++ b ∷ []) y → one_from (Conv c) (Item (f ++ b ∷ [])) (n + 1) y
       ≡ record { used = p; left = drop (len c (f ++ b ∷ []) y) y; end = item_end c ((f ++ b ∷ []) ++ take (len c (f ++ b ∷ []) y) y) })
-      → choose (cond v (Some (Item (f ++ b ∷ []))) None) (record { used = n; left = b ∷ y; end = finished (Conv c) (Item f) n true }) (λ r. one_from (Conv c) r (n + 1) y)
-      ≡ record { used = p; left = drop (cond v (suc (len c (f ++ b ∷ []) y)) 0) (b ∷ y); end = item_end c (f ++ take (cond v (suc (len c (f ++ b ∷ []) y)) 0) (b ∷ y)) }
+      → choose (cond v (Some (Item (f ++ b ∷ []))) None) (record { used = n; left = b ∷ y; end = finished (Conv c) (Item f) n true })
+      (λ r. one_from (Conv c) r (n + 1) y)
+      ≡ record {
+        used = p;
+        left = drop (cond v (suc (len c (f ++ b ∷ []) y)) 0) (b ∷ y);
+        end =
+            item_end c (f ++ take (cond v (suc (len c (f ++ b ∷ []) y)) 0) (b ∷ y));
+      }
   after_item ends f b y n p v e more = grind (arith, append_assoc, append-nil)
 
   -- after the front f of an item, the rest of the item is taken
   item_from : EndsItem → (f y : List ℕ) (n p : ℕ) → p ≡ n + len c f y
       → one_from (Conv c) (Item f) n y ≡ record { used = p; left = drop (len c f y) y; end = item_end c (f ++ take (len c f y) y) }
   item_from ends f [] n p e =
-      ap₂ (λ (u : ℕ) (end : StepEnd). record { used = u; left = []; end = end }) (let h : n ≡ p = omega arith in h) (ends (Item f) n false ∙ ap (item_end c) (sym (append-nil f)))
+      ap₂ (λ (u : ℕ) (end : StepEnd). record { used = u; left = []; end = end }) (let h : n ≡ p = omega arith in h)
+      (ends (Item f) n false ∙ ap (item_end c) (sym (append-nil f)))
   item_from ends f (b ∷ y) n p e =
       after_item ends f b y n p (can_take c (f ++ b ∷ [])) e (λ h. item_from ends (f ++ b ∷ []) y (n + 1) p h)
 
@@ -93,17 +102,20 @@ module _ (c : Conversion) where
   IsHere [] = Unit {0}
   IsHere (b ∷ y) = (shape_skips c.shape && is_white b) ≡ false
 
-  item_here : EndsItem → (y : List ℕ) (n : ℕ) → IsHere y → one_from (Conv c) Skipping n y ≡ part_of n y (len c [] y, item_ended c y (len c [] y))
+  item_here : EndsItem → (y : List ℕ) (n : ℕ) → IsHere y → one_from (Conv c) Skipping n y
+      ≡ part_of n y (len c [] y, item_ended c y (len c [] y))
   item_here ends y n here = grind (arith, item_from)
 
   starts_here : (y : List ℕ) → Starts y → IsHere y
   starts_here y s = grind arith
 
   -- white space is skipped, and then the item is taken
-  skipped_item : EndsItem → shape_skips c.shape ≡ true → (x : List ℕ) (n : ℕ) → one_from (Conv c) Skipping n x ≡ part_of n x (item_part c x (skip x))
+  skipped_item : EndsItem → shape_skips c.shape ≡ true → (x : List ℕ) (n : ℕ)
+      → one_from (Conv c) Skipping n x ≡ part_of n x (item_part c x (skip x))
   skipped_item ends does x n = grind (arith, skips, item_here, starts_here, starts, common_steps)
 
-  unskipped_item : EndsItem → shape_skips c.shape ≡ false → (x : List ℕ) (n : ℕ) → one_from (Conv c) Skipping n x ≡ part_of n x (item_part c x 0)
+  unskipped_item : EndsItem → shape_skips c.shape ≡ false → (x : List ℕ) (n : ℕ)
+      → one_from (Conv c) Skipping n x ≡ part_of n x (item_part c x 0)
   unskipped_item ends does x n = grind (arith, item_here)
 
   -- ---- %n
@@ -114,7 +126,8 @@ module _ (c : Conversion) where
 
   -- ---- each conversion
 
-  conversion_is : (shape : Shape) → c.shape ≡ shape → (x : List ℕ) (n : ℕ) → one_from (Conv c) Skipping n x ≡ part_of n x (conversion_step c shape x n)
+  conversion_is : (shape : Shape) → c.shape ≡ shape → (x : List ℕ) (n : ℕ)
+      → one_from (Conv c) Skipping n x ≡ part_of n x (conversion_step c shape x n)
   conversion_is shape e x n = grind (arith, skipped_item, unskipped_item)
 
 -- the machine makes the step: it leaves the rest of the input, and ends as the step does

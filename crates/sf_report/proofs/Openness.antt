@@ -17,17 +17,20 @@ use Rattle.sf_report.proofs.Machines.{can_take_one, full_refuses, never_too_long
 pub counted-used : (d : Directive) (o : StepEnd) (t : Tally) → (counted d o t).used ≡ t.used
 counted-used d o t = grind arith
 
-pub holds_by : (P : RunReport → Type 0) (o : StepEnd) (a : RunReport) (b : Status → RunReport) → P a → ((status : Status) → P (b status)) → P (by_end o a b)
+pub holds_by : (P : RunReport → Type 0) (o : StepEnd) (a : RunReport) (b : Status → RunReport) → P a → ((status : Status) → P (b status))
+    → P (by_end o a b)
 holds_by P o a b p q = grind arith
 
 -- ---- the bytes that a run uses
 
 -- with no input left nothing more is used
-pub uses_nothing : (m : Option ℕ) (ds : List Directive) (at : ℕ) (t : Tally) → is_over m t.used ≡ false → (run_of m ds at t []).used ≡ t.used
+pub uses_nothing : (m : Option ℕ) (ds : List Directive) (at : ℕ) (t : Tally) → is_over m t.used ≡ false
+    → (run_of m ds at t []).used ≡ t.used
 uses_nothing m [] at t h = refl
 uses_nothing m (d ∷ ds) at t h = grind (arith, uses_nothing m ds)
 
-pub rest_uses_nothing : (m : Option ℕ) (ds : List Directive) (q : Stage) (at : ℕ) (t : Tally) → is_over m t.used ≡ false → (run_from m ds q at t []).used ≡ t.used
+pub rest_uses_nothing : (m : Option ℕ) (ds : List Directive) (q : Stage) (at : ℕ) (t : Tally) → is_over m t.used ≡ false
+    → (run_from m ds q at t []).used ≡ t.used
 rest_uses_nothing m ds q at t h = grind (arith, uses_nothing)
 
 -- a run uses no more than there is
@@ -42,7 +45,8 @@ uses_more (d ∷ ds) at t x = grind (arith, grows, uses_more ds)
 -- ---- under a limit
 
 -- a run within the limit is the run
-pub within_limit : (m : ℕ) (ds : List Directive) (at : ℕ) (t : Tally) (x : List ℕ) → (run_of None ds at t x).used ≤ m → run_of (Some m) ds at t x ≡ run_of None ds at t x
+pub within_limit : (m : ℕ) (ds : List Directive) (at : ℕ) (t : Tally) (x : List ℕ) → (run_of None ds at t x).used ≤ m
+    → run_of (Some m) ds at t x ≡ run_of None ds at t x
 within_limit m [] at t x h = refl
 within_limit m (d ∷ ds) at t x h = grind (arith, uses_more, within_limit m ds)
 
@@ -52,16 +56,19 @@ run_not_too_long [] at t x h = cc
 run_not_too_long (d ∷ ds) at t x h = grind (arith, never_too_long, run_not_too_long ds)
 
 -- a run past the limit is too long
-pub over_is_too_long : (m : ℕ) (ds : List Directive) (at : ℕ) (t : Tally) (x : List ℕ) → t.used ≤ m → m < (run_of None ds at t x).used → (run_of (Some m) ds at t x).status ≡ TooLong
+pub over_is_too_long : (m : ℕ) (ds : List Directive) (at : ℕ) (t : Tally) (x : List ℕ) → t.used ≤ m → m < (run_of None ds at t x).used
+    → (run_of (Some m) ds at t x).status ≡ TooLong
 over_is_too_long m [] at t x le h = grind arith
 over_is_too_long m (d ∷ ds) at t x le h = grind (arith, over_is_too_long m ds)
 
 -- a run that is too long is so in one of its directives
-pub too_long_at : (m : Option ℕ) (ds : List Directive) (at : ℕ) (t : Tally) (x : List ℕ) → (run_of m ds at t x).status ≡ TooLong → at ≤ (run_of m ds at t x).at
+pub too_long_at : (m : Option ℕ) (ds : List Directive) (at : ℕ) (t : Tally) (x : List ℕ) → (run_of m ds at t x).status ≡ TooLong
+    → at ≤ (run_of m ds at t x).at
 too_long_at m [] at t x h = absurd cc
 too_long_at m (d ∷ ds) at t x h = grind (arith, too_long_at m ds)
 
-pub rest_too_long_at : (m : Option ℕ) (ds : List Directive) (q : Stage) (at : ℕ) (t : Tally) (x : List ℕ) → (run_from m ds q at t x).status ≡ TooLong
+pub rest_too_long_at : (m : Option ℕ) (ds : List Directive) (q : Stage) (at : ℕ) (t : Tally) (x : List ℕ)
+    → (run_from m ds q at t x).status ≡ TooLong
     → at ≤ (run_from m ds q at t x).at
 rest_too_long_at m [] q at t x h = absurd cc
 rest_too_long_at m (d ∷ ds) q at t x h = grind (arith, too_long_at)
@@ -72,11 +79,13 @@ abbrev more_left : Part → List ℕ → Part
 more_left p z = record { used = p.used; left = p.left ++ z; end = p.end }
 
 -- a directive that ended before a byte of x ends there on every longer input
-stops_early : (d : Directive) (q : Stage) (n : ℕ) (x z : List ℕ) → stepped_all d q x ≡ None → one_from d q n (x ++ z) ≡ more_left (one_from d q n x) z
+stops_early : (d : Directive) (q : Stage) (n : ℕ) (x z : List ℕ) → stepped_all d q x ≡ None
+    → one_from d q n (x ++ z) ≡ more_left (one_from d q n x) z
 stops_early d q n [] z e = absurd cc
 stops_early d q n (b ∷ x) z e = go (stepped d q b) e (λ r h. stops_early d r (n + 1) x z h)
   where
-    go : (o : Option Stage) → choose o None (λ r. stepped_all d r x) ≡ None → ((r : Stage) → stepped_all d r x ≡ None → one_from d r (n + 1) (x ++ z) ≡ more_left (one_from d r (n + 1) x) z)
+    go : (o : Option Stage) → choose o None (λ r. stepped_all d r x) ≡ None
+        → ((r : Stage) → stepped_all d r x ≡ None → one_from d r (n + 1) (x ++ z) ≡ more_left (one_from d r (n + 1) x) z)
         → choose o (record { used = n; left = b ∷ (x ++ z); end = finished d q n true }) (λ p. one_from d p (n + 1) (x ++ z))
         ≡ more_left (choose o (record { used = n; left = b ∷ x; end = finished d q n true }) (λ p. one_from d p (n + 1) x)) z
     go o h ih = grind arith
@@ -101,11 +110,14 @@ AfterEither o d ds at t n x k =
 
 -- by the end of the first directive
 by_first : (o : StepEnd) (d : Directive) (ds : List Directive) (at : ℕ) (t : Tally) (n : ℕ) (x : List ℕ) (k : ℕ) → n + length x ≡ k
-    → OpenAt ds (at + 1) (counted d o (with_used n t)) x ⊎ ClosedAt ds (at + 1) (counted d o (with_used n t)) x → AfterEither o d ds at t n x k
+    → OpenAt ds (at + 1) (counted d o (with_used n t)) x ⊎ ClosedAt ds (at + 1) (counted d o (with_used n t)) x
+    → AfterEither o d ds at t n x k
 by_first Passes d ds at t n x k e (inl w) = inl (w.next, w.is_byte, omega (arith, w.takes), omega (arith, w.all))
-by_first Passes d ds at t n x k e (inr w) = inr (λ m z. ap (λ (r : RunReport). cond (is_over m n) (out_of TooLong at (with_used (or_zero m) t)) r) (w m z))
+by_first Passes d ds at t n x k e (inr w) = inr (λ m z. ap (λ (r : RunReport). cond (is_over m n)
+    (out_of TooLong at (with_used (or_zero m) t)) r) (w m z))
 by_first (Stores slot v) d ds at t n x k e (inl w) = inl (w.next, w.is_byte, omega (arith, w.takes), omega (arith, w.all))
-by_first (Stores slot v) d ds at t n x k e (inr w) = inr (λ m z. ap (λ (r : RunReport). cond (is_over m n) (out_of TooLong at (with_used (or_zero m) t)) r) (w m z))
+by_first (Stores slot v) d ds at t n x k e (inr w) = inr (λ m z. ap
+    (λ (r : RunReport). cond (is_over m n) (out_of TooLong at (with_used (or_zero m) t)) r) (w m z))
 by_first (Fails status) d ds at t n x k e w = inr (λ m z. refl)
 
 abbrev Either : List Directive → ℕ → Tally → List ℕ → Type 0
@@ -122,8 +134,10 @@ early d ds at t x e ih =
     ]
 
 -- it takes all of x, and would take no more
-full_end : (d : Directive) (ds : List Directive) (at : ℕ) (t : Tally) (x : List ℕ) (r : Stage) → IsProper d → stepped_all d Skipping x ≡ Some r → is_full d r ≡ true
-    → (let o = finished d r (t.used + length x) true in Either ds (at + 1) (counted d o (with_used (t.used + length x) t)) []) → Either (d ∷ ds) at t x
+full_end : (d : Directive) (ds : List Directive) (at : ℕ) (t : Tally) (x : List ℕ) (r : Stage) → IsProper d
+    → stepped_all d Skipping x ≡ Some r → is_full d r ≡ true
+    → (let o = finished d r (t.used + length x) true in Either ds (at + 1) (counted d o (with_used (t.used + length x) t)) [])
+    → Either (d ∷ ds) at t x
 full_end d ds at t x r proper e full ih =
     let n : ℕ = t.used + length x in
     let o : StepEnd = finished d r n true in
@@ -137,7 +151,8 @@ full_end d ds at t x r proper e full ih =
     ]
 
 -- it takes all of x, and would take one more
-takes_more : (d : Directive) (ds : List Directive) (at : ℕ) (t : Tally) (x : List ℕ) (r : Stage) → stepped_all d Skipping x ≡ Some r → is_full d r ≡ false
+takes_more : (d : Directive) (ds : List Directive) (at : ℕ) (t : Tally) (x : List ℕ) (r : Stage) → stepped_all d Skipping x ≡ Some r
+    → is_full d r ≡ false
     → Either (d ∷ ds) at t x
 takes_more d ds at t x r e more =
     let n : ℕ = t.used + length x in
@@ -160,7 +175,8 @@ pub open_or_closed : (ds : List Directive) (at : ℕ) (t : Tally) (x : List ℕ)
 open_or_closed [] at t x proper = inr (λ m z. refl)
 open_or_closed (d ∷ ds) at t x proper = go (stepped_all d Skipping x) refl (λ u y. open_or_closed ds (at + 1) u y proper.1)
   where
-    full_or : (r : Stage) (c : Bool) → is_full d r ≡ c → stepped_all d Skipping x ≡ Some r → ((u : Tally) (y : List ℕ) → Either ds (at + 1) u y) → Either (d ∷ ds) at t x
+    full_or : (r : Stage) (c : Bool) → is_full d r ≡ c → stepped_all d Skipping x ≡ Some r
+        → ((u : Tally) (y : List ℕ) → Either ds (at + 1) u y) → Either (d ∷ ds) at t x
     full_or r true f e ih = full_end d ds at t x r proper.0 e f (ih _ _)
     full_or r false f e ih = takes_more d ds at t x r e f
 

@@ -23,7 +23,8 @@ pub record Reports (ds : List Directive) (m : ℕ) (x : List ℕ) (ending : Endi
   pub only : (other : RunReport) → RunWithin ds m x ending other → other ≡ told
 
 -- what is computed is the one report
-pub row_is : (ds : List Directive) → AreProper ds → (m : ℕ) (x : List ℕ) (ending : Ending) (told : RunReport) → report_within ds m x ending ≡ told → Reports ds m x ending told
+pub row_is : (ds : List Directive) → AreProper ds → (m : ℕ) (x : List ℕ) (ending : Ending) (told : RunReport)
+    → report_within ds m x ending ≡ told → Reports ds m x ending told
 row_is ds proper m x ending told e = record {
   is = subst (RunWithin ds m x ending) e (report_is ds proper m x ending);
   only = λ other h. report_only ds proper m x ending other h ∙ e;
@@ -147,7 +148,8 @@ abbrev listed : ℕ → Bool
 listed b = nat_eq b 93 || (nat_le 97 b && nat_le b 99)
 
 -- %[]a-c] on a]cd
-row_set : Reports (set listed 1 ∷ []) most (97 ∷ 93 ∷ 99 ∷ 100 ∷ []) End (report Done 0 1 1 3 None (given 1 (Bytes (97 ∷ 93 ∷ 99 ∷ [])) ∷ []))
+row_set : Reports (set listed 1 ∷ []) most (97 ∷ 93 ∷ 99 ∷ 100 ∷ []) End
+    (report Done 0 1 1 3 None (given 1 (Bytes (97 ∷ 93 ∷ 99 ∷ [])) ∷ []))
 unfolding is_open
 row_set = row_is _ (((93, lit< tt, refl), tt), tt) _ _ _ _ refl
 

@@ -16,10 +16,15 @@ goes_is (Fails status) P rest h = refl
 pub steps_is : (ds : List Directive) → AreProper ds → (x : List ℕ) (n : ℕ) → Steps ds x n (ran_of ds x n)
 steps_is [] proper x n = tt
 steps_is (d ∷ ds) proper x n =
-    let r = step_of d x n in
-    (refl, step_is d proper.0 x n, goes_is r.1 (Steps ds (drop r.0 x) (n + r.0)) (ran_of ds (drop r.0 x) (n + r.0)) (steps_is ds proper.1 (drop r.0 x) (n + r.0)))
+    let r = step_of d x n in (
+      refl,
+      step_is d proper.0 x n,
+      goes_is r.1 (Steps ds (drop r.0 x) (n + r.0)) (ran_of ds (drop r.0 x) (n + r.0))
+          (steps_is ds proper.1 (drop r.0 x) (n + r.0)),
+    )
 
-goes_only : (end : StepEnd) (P : List Ran → Type 0) (rest ran : List Ran) → ((other : List Ran) → P other → other ≡ rest) → GoesOn end (P ran) ran → ran ≡ go_on end rest
+goes_only : (end : StepEnd) (P : List Ran → Type 0) (rest ran : List Ran) → ((other : List Ran) → P other → other ≡ rest)
+    → GoesOn end (P ran) ran → ran ≡ go_on end rest
 goes_only Passes P rest ran only h = only ran h
 goes_only (Stores slot v) P rest ran only h = only ran h
 goes_only (Fails status) P rest ran only h = h
@@ -43,8 +48,10 @@ goes (Stores slot v) rest before cut more h = h
 goes (Fails status) rest [] cut more h = cc
 goes (Fails status) rest (r ∷ before) cut more h = cc
 
-pub ran_at : (ds : List Directive) (x : List ℕ) (n : ℕ) (before : List Ran) (cut : Ran) (more : List Ran) → Steps ds x n (before ++ cut ∷ more) → slice_get ds (length before) ≡ Some cut.directive
+pub ran_at : (ds : List Directive) (x : List ℕ) (n : ℕ) (before : List Ran) (cut : Ran) (more : List Ran)
+    → Steps ds x n (before ++ cut ∷ more) → slice_get ds (length before) ≡ Some cut.directive
 ran_at [] x n [] cut more h = absurd h
 ran_at [] x n (r ∷ before) cut more h = absurd h
 ran_at (d ∷ ds) x n [] cut more h = ap (λ (e : Directive). Some e) (sym h.0)
-ran_at (d ∷ ds) x n (r ∷ before) cut more h = ran_at ds (drop r.bytes x) (n + r.bytes) before cut more (goes r.end (Steps ds (drop r.bytes x) (n + r.bytes) (before ++ cut ∷ more)) before cut more h.2)
+ran_at (d ∷ ds) x n (r ∷ before) cut more h = ran_at ds (drop r.bytes x) (n + r.bytes) before cut more
+    (goes r.end (Steps ds (drop r.bytes x) (n + r.bytes) (before ++ cut ∷ more)) before cut more h.2)

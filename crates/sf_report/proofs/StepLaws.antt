@@ -37,7 +37,8 @@ number_only c slot v end h = grind arith
 count_is : (c : Conversion) (slot : Option ℕ) (n : ℕ) → CountStep c slot n (count_end c slot n)
 count_is c slot n = grind arith
 
-stored_is : (c : Conversion) (slot : ℕ) (shape : Shape) (width : Option ℕ) (item : List ℕ) → ShapeMatches shape width item → ItemStored c slot shape item (stored_end c slot shape item)
+stored_is : (c : Conversion) (slot : ℕ) (shape : Shape) (width : Option ℕ) (item : List ℕ) → ShapeMatches shape width item
+    → ItemStored c slot shape item (stored_end c slot shape item)
 stored_is c slot (Int base) width item h = (
   h.0,
   h.1,
@@ -50,7 +51,8 @@ stored_is c slot (Set members) width item h = refl
 stored_is c slot Chars width item h = refl
 stored_is c slot Count width item h = refl
 
-stored_only : (c : Conversion) (slot : ℕ) (shape : Shape) (item : List ℕ) (end : StepEnd) → ItemStored c slot shape item end → end ≡ stored_end c slot shape item
+stored_only : (c : Conversion) (slot : ℕ) (shape : Shape) (item : List ℕ) (end : StepEnd) → ItemStored c slot shape item end
+    → end ≡ stored_end c slot shape item
 stored_only c slot (Int base) item end h =
     number_only c slot (value_of c.kind h.0 h.1) end h.3 ∙ ap (integer_end c slot) (sym (integer_at_is base item h.0 h.1 h.2))
 stored_only c slot Text item end h = h
@@ -70,7 +72,8 @@ empty_is x = grind arith
 empty_only : (x : List ℕ) (end : StepEnd) → EmptyItem x end → end ≡ nothing_end (has_more x)
 empty_only x end h = grind arith
 
-by_match : (c : Conversion) (item : List ℕ) (P : Bool → Type 0) → (Matches c item → P true) → ((Matches c item → ⊥) → P false) → P (matches c item)
+by_match : (c : Conversion) (item : List ℕ) (P : Bool → Type 0) → (Matches c item → P true) → ((Matches c item → ⊥) → P false)
+    → P (matches c item)
 by_match c item P left right = grind (arith, (tests_matches c item))
 
 ends_is : (c : Conversion) (x : List ℕ) (j : ℕ) → ItemEnds c x j (item_ended c x j)
@@ -119,7 +122,8 @@ conversion_within c shape x n = grind (arith, item_step-le)
 pub step_is : (d : Directive) → IsProper d → (x : List ℕ) (n : ℕ) → Step d x n (step_of d x n).0 (step_of d x n).1
 step_is d proper x n = grind (arith, skip_is, conversion_is)
 
-pub step_only : (d : Directive) → IsProper d → (x : List ℕ) (n k : ℕ) (end : StepEnd) → Step d x n k end → (k ≡ (step_of d x n).0) × (end ≡ (step_of d x n).1)
+pub step_only : (d : Directive) → IsProper d → (x : List ℕ) (n k : ℕ) (end : StepEnd) → Step d x n k end
+    → (k ≡ (step_of d x n).0) × (end ≡ (step_of d x n).1)
 step_only d proper x n k end h = grind (arith, skip_only, conversion_only)
 
 percent_within : (x : List ℕ) → (percent_step x (skip x)).0 ≤ length x

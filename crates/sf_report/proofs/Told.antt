@@ -50,7 +50,8 @@ sums_step : (d : Directive) (end : StepEnd) (k : ℕ) (t : Tally) (ran : List Ra
 sums_step d end k t ran h = grind (arith, common_steps)
 
 sums_none : (t : Tally) → t ≡ sums t []
-sums_none t = same_tally _ _ _ _ (sym (add-zero t.used)) (sym (add-zero t.assigned)) (sym (add-zero t.converted)) (sym (append-nil t.values))
+sums_none t = same_tally _ _ _ _ (sym (add-zero t.used)) (sym (add-zero t.assigned)) (sym (add-zero t.converted))
+    (sym (append-nil t.values))
 
 -- ---- reports of a list of steps, where a directives passed before with the totals t
 
@@ -99,7 +100,8 @@ limited_over m d ds at t x over = first_step (Some m) d ds at t x ∙ cond-true 
 
 -- ---- without a limit
 
-told_first : (d : Directive) (end : StepEnd) (k a : ℕ) (t : Tally) (next : RunReport) (rest : List Ran) → next ≡ told_from (a + 1) (counted d end (with_used (t.used + k) t)) rest
+told_first : (d : Directive) (end : StepEnd) (k a : ℕ) (t : Tally) (next : RunReport) (rest : List Ran)
+    → next ≡ told_from (a + 1) (counted d end (with_used (t.used + k) t)) rest
     → by_end end next (λ status. out_of status (a + 1) (with_used (t.used + k) t)) ≡ told_from a t (ran_one d k end ∷ go_on end rest)
 told_first d end k a t next rest h = grind (arith, common_steps)
 
@@ -109,7 +111,8 @@ run_told_from (d ∷ ds) a t x =
     let k = (step_of d x t.used).0 in
     first_step None d ds (a + 1) t x
     ∙ told_first d (step_of d x t.used).1 k a t _ (later d ds x t.used) (run_told_from ds (a + 1) (next_tally d x t) (drop k x)
-    ∙ ap (λ n. told_from (a + 1) (next_tally d x t) (ran_of ds (drop k x) n)) (counted-used d (step_of d x t.used).1 (with_used (t.used + k) t)))
+    ∙ ap (λ n. told_from (a + 1) (next_tally d x t) (ran_of ds (drop k x) n))
+    (counted-used d (step_of d x t.used).1 (with_used (t.used + k) t)))
 
 sums_nothing : (ran : List Ran) → sums nothing_yet ran ≡ tally (used ran) (assigned ran) (converted ran) (values ran)
 sums_nothing ran = same_tally _ _ _ _ (zero-add (used ran)) (zero-add (assigned ran)) (zero-add (converted ran)) refl
@@ -123,7 +126,8 @@ cut_nothing before m = same_out TooLong _ _ _ _ (zero-add (length before + 1)) (
 pub run_is_told : (ds : List Directive) (x : List ℕ) → run_of None ds 1 nothing_yet x ≡ report_of (ran_of ds x 0) None
 run_is_told ds x = run_told_from ds 0 nothing_yet x ∙ told_nothing (ran_of ds x 0)
 
-pub run_told : (ds : List Directive) → AreProper ds → (x : List ℕ) (ran : List Ran) → Steps ds x 0 ran → run_of None ds 1 nothing_yet x ≡ report_of ran None
+pub run_told : (ds : List Directive) → AreProper ds → (x : List ℕ) (ran : List Ran) → Steps ds x 0 ran
+    → run_of None ds 1 nothing_yet x ≡ report_of ran None
 run_told ds proper x ran h = run_is_told ds x ∙ ap (λ (r : List Ran). report_of r None) (sym (steps_only ds proper x 0 ran h))
 
 pub uses_is : (ds : List Directive) → AreProper ds → (x : List ℕ) (k : ℕ) → Uses ds x k → (run_of None ds 1 nothing_yet x).used ≡ k
@@ -139,13 +143,15 @@ cut_first : (d : Directive) (end : StepEnd) (k a m : ℕ) (t : Tally) (before : 
     → by_end end next (λ status. out_of status (a + 1) (with_used (t.used + k) t)) ≡ cut_from a t (ran_one d k end ∷ before) m
 cut_first d end k a m t before next ok h = grind (arith, (cut_step d end k a m t before ok))
 
-gone_on : (end : StepEnd) (l before : List Ran) (cut : Ran) (rest : List Ran) → go_on end l ≡ before ++ cut ∷ rest → (passed end ≡ true) × (l ≡ before ++ cut ∷ rest)
+gone_on : (end : StepEnd) (l before : List Ran) (cut : Ran) (rest : List Ran) → go_on end l ≡ before ++ cut ∷ rest
+    → (passed end ≡ true) × (l ≡ before ++ cut ∷ rest)
 gone_on end l [] cut rest e = grind arith
 gone_on end l (r ∷ before) cut rest e = grind arith
 
 -- a run past the limit is cut off in the step in which it passes it
 cut_is : (ds : List Directive) (m a : ℕ) (t : Tally) (x : List ℕ) (before : List Ran) (cut : Ran) (rest : List Ran)
-    → ran_of ds x t.used ≡ before ++ cut ∷ rest → t.used + used before ≤ m → m < t.used + used before + cut.bytes → run_of (Some m) ds (a + 1) t x ≡ cut_from a t before m
+    → ran_of ds x t.used ≡ before ++ cut ∷ rest → t.used + used before ≤ m → m < t.used + used before + cut.bytes
+    → run_of (Some m) ds (a + 1) t x ≡ cut_from a t before m
 cut_is [] m a t x [] cut rest parts low high = cc
 cut_is [] m a t x (r ∷ before) cut rest parts low high = cc
 cut_is (d ∷ ds) m a t x [] cut rest parts low high = grind (arith, limited_over, sums_none)
@@ -160,7 +166,8 @@ cut_is (d ∷ ds) m a t x (r ∷ before) cut rest parts low high =
     let now = counted-used d end (with_used (t.used + k) t) in
     limited_step m d ds (a + 1) t x (omega (arith, low, size, all))
     ∙ cut_first d end k a m t before _ goes.0
-    (cut_is ds m (a + 1) (next_tally d x t) (drop k x) before cut rest (rw now goes.1) (omega (arith, low, size, all, now)) (omega (arith, high, size, all, now)))
+    (cut_is ds m (a + 1) (next_tally d x t) (drop k x) before cut rest (rw now goes.1) (omega (arith, low, size, all, now))
+    (omega (arith, high, size, all, now)))
     ∙ ap (λ (s : Ran). cut_from a t (s ∷ before) m) same
 
 -- the steps up to the one in which byte m + 1 falls
@@ -176,7 +183,8 @@ split : (ran : List Ran) (n m : ℕ) → n ≤ m → m < n + used ran → Split 
 split [] n m low high = absurd (omega (arith, low, high))
 split (r ∷ ran) n m low high = by_case (cases_lt m (n + r.bytes)) (split ran (n + r.bytes) m)
   where
-    by_case : (m < n + r.bytes) ⊎ (n + r.bytes ≤ m) → (n + r.bytes ≤ m → m < n + r.bytes + used ran → Split ran (n + r.bytes) m) → Split (r ∷ ran) n m
+    by_case : (m < n + r.bytes) ⊎ (n + r.bytes ≤ m) → (n + r.bytes ≤ m → m < n + r.bytes + used ran → Split ran (n + r.bytes) m)
+        → Split (r ∷ ran) n m
     by_case (inl over) more = record { before = []; cut = r; rest = ran; parts = refl; low = omega arith; high = omega arith }
     by_case (inr fits) more =
         let all = used-cons r ran in
@@ -212,15 +220,23 @@ told_exists ds proper m x = by_case (cases_lt m (used (ran_of ds x 0)))
           },
           cut_is ds m 0 nothing_yet x s.before s.cut s.rest s.parts low high ∙ cut_nothing s.before m,
         )
-    by_case (inr fits) = inl (ran_of ds x 0, steps_is ds proper x 0, fits, within_limit m ds 1 nothing_yet x (rw run_is_told fits) ∙ run_is_told ds x)
+    by_case (inr fits) = inl (
+      ran_of ds x 0,
+      steps_is ds proper x 0,
+      fits,
+      within_limit m ds 1 nothing_yet x (rw run_is_told fits) ∙ run_is_told ds x,
+    )
 
-pub told_is : (ds : List Directive) → AreProper ds → (m : ℕ) (x : List ℕ) (r : RunReport) → TellsWithin ds m x r → r ≡ run_of (Some m) ds 1 nothing_yet x
-told_is ds proper m x r (inl w) = let told = run_told ds proper x w.0 w.1 in w.3 ∙ sym told ∙ sym (within_limit m ds 1 nothing_yet x (rw told w.2))
+pub told_is : (ds : List Directive) → AreProper ds → (m : ℕ) (x : List ℕ) (r : RunReport) → TellsWithin ds m x r
+    → r ≡ run_of (Some m) ds 1 nothing_yet x
+told_is ds proper m x r (inl w) = let told = run_told ds proper x w.0 w.1 in
+    w.3 ∙ sym told ∙ sym (within_limit m ds 1 nothing_yet x (rw told w.2))
 told_is ds proper m x r (inr w) =
     let low : used w.0 ≤ m = w.1.low in
     let high : m < used w.0 + w.1.cut.bytes = w.1.high in
     w.2 ∙ sym (cut_nothing w.0 m)
-    ∙ sym (cut_is ds m 0 nothing_yet x w.0 w.1.cut w.1.rest (sym (steps_only ds proper x 0 _ w.1.steps)) (omega (arith, low)) (omega (arith, high)))
+    ∙ sym (cut_is ds m 0 nothing_yet x w.0 w.1.cut w.1.rest (sym (steps_only ds proper x 0 _ w.1.steps)) (omega (arith, low))
+    (omega (arith, high)))
 
 -- ---- what the run met
 
@@ -266,7 +282,8 @@ tests_below (suc n) P test tests = grind (arith, tests_below n P test tests)
 unfoldable pub is_open : List Directive → List ℕ → Bool
 is_open ds x = some_below 256 (λ b. nat_eq (run_of None ds 1 nothing_yet (x ++ b ∷ [])).used (length x + 1))
 
-tests_uses : (ds : List Directive) → AreProper ds → (x : List ℕ) (k : ℕ) → Tests (nat_eq (run_of None ds 1 nothing_yet x).used k) (Uses ds x k)
+tests_uses : (ds : List Directive) → AreProper ds → (x : List ℕ) (k : ℕ)
+    → Tests (nat_eq (run_of None ds 1 nothing_yet x).used k) (Uses ds x k)
 tests_uses ds proper x k = grind (arith, uses_from, run_told)
 
 pub tests_open : (ds : List Directive) → AreProper ds → (x : List ℕ) → Tests (is_open ds x) (IsOpen ds x)
@@ -278,7 +295,8 @@ tests_open ds proper x = tests_below 256 _ _ (λ b. tests_uses ds proper (x ++ b
 met_is : {P : Type 0} {test : Bool} (ending : Ending) → Tests test P → SomeIff (cond test (Some ending) None) P ending
 met_is ending tests = grind arith
 
-met_only : {P : Type 0} (test : Bool) (met : Option Ending) (ending : Ending) → Tests test P → SomeIff met P ending → met ≡ cond test (Some ending) None
+met_only : {P : Type 0} (test : Bool) (met : Option Ending) (ending : Ending) → Tests test P → SomeIff met P ending
+    → met ≡ cond test (Some ending) None
 met_only test met ending tests h = grind arith
 
 -- the run met the ending: its input is open, and it was not cut off
@@ -292,7 +310,8 @@ tests_meets ds proper m x = tests_both (tests_open ds proper x) (tests_most (use
 abbrev pub report_within : List Directive → ℕ → List ℕ → Ending → RunReport
 report_within ds m x ending = with_met (run_of (Some m) ds 1 nothing_yet x) (cond (meets ds m x) (Some ending) None)
 
-pub report_is : (ds : List Directive) → AreProper ds → (m : ℕ) (x : List ℕ) (ending : Ending) → RunWithin ds m x ending (report_within ds m x ending)
+pub report_is : (ds : List Directive) → AreProper ds → (m : ℕ) (x : List ℕ) (ending : Ending)
+    → RunWithin ds m x ending (report_within ds m x ending)
 report_is ds proper m x ending =
     told_met ds proper m x ending _ _ (told_exists ds proper m x) (met_is ending (tests_meets ds proper m x))
 

@@ -63,7 +63,8 @@ abbrev GivesValue : StepEnd → Type 0
 GivesValue (Stores slot v) = IsValue v
 GivesValue _ = Unit {0}
 
-number_given : (c : Conversion) (slot : ℕ) (negative : Bool) (m : ℕ) (v : Option ℤ) (e : StepEnd) → value_of c.kind negative m ≡ v → NumberStored c slot v e → GivesValue e
+number_given : (c : Conversion) (slot : ℕ) (negative : Bool) (m : ℕ) (v : Option ℤ) (e : StepEnd) → value_of c.kind negative m ≡ v
+    → NumberStored c slot v e → GivesValue e
 number_given c slot negative m None e is h = rw h tt
 number_given c slot negative m (Some z) e is h = rw h (value_in c.kind negative m z is)
 
@@ -71,7 +72,8 @@ count_given : (c : Conversion) (slot : Option ℕ) (n : ℕ) (e : StepEnd) → C
 count_given c None n e h = rw h tt
 count_given c (Some slot) n e h = number_given c slot false n (value_of c.kind false n) e refl h
 
-stored_given : (c : Conversion) (slot : ℕ) (shape : Shape) (item : List ℕ) (e : StepEnd) → AreBytes item → ItemStored c slot shape item e → GivesValue e
+stored_given : (c : Conversion) (slot : ℕ) (shape : Shape) (item : List ℕ) (e : StepEnd) → AreBytes item → ItemStored c slot shape item e
+    → GivesValue e
 stored_given c slot (Int base) item e bytes (negative, m, number, h) = number_given c slot negative m (value_of c.kind negative m) e refl h
 stored_given c slot Text item e bytes h = rw h bytes
 stored_given c slot (Set members) item e bytes h = rw h bytes
@@ -94,7 +96,8 @@ ends_given c x (suc j) e bytes (inr h) = rw h.1 tt
 item_given : (c : Conversion) (x : List ℕ) (k : ℕ) (e : StepEnd) → AreBytes x → ItemStep c x k e → GivesValue e
 item_given c x k e bytes (s, j, skip, item, length, ends) = ends_given c (drop s x) j e (bytes_from s x bytes) ends
 
-conversion_given : (c : Conversion) (shape : Shape) (x : List ℕ) (n k : ℕ) (e : StepEnd) → AreBytes x → ConversionStep c shape x n k e → GivesValue e
+conversion_given : (c : Conversion) (shape : Shape) (x : List ℕ) (n k : ℕ) (e : StepEnd) → AreBytes x → ConversionStep c shape x n k e
+    → GivesValue e
 conversion_given c Count x n k e bytes h = count_given c c.slot n e h.1
 conversion_given c (Int base) x n k e bytes h = item_given c x k e bytes h
 conversion_given c Text x n k e bytes h = item_given c x k e bytes h
@@ -117,7 +120,8 @@ step_given (Conv c) x n k e bytes h = conversion_given c c.shape x n k e bytes h
 abbrev pub AreStored : List Assigned → Type 0
 AreStored vs = AllByRecursion (λ (a : Assigned). IsValue a.datum) vs
 
-next_given : (d : Directive) (b : ℕ) (e : StepEnd) (ran : List Ran) (Rest : Type 0) → GivesValue e → GoesOn e Rest ran → (Rest → AreStored (values ran))
+next_given : (d : Directive) (b : ℕ) (e : StepEnd) (ran : List Ran) (Rest : Type 0) → GivesValue e → GoesOn e Rest ran
+    → (Rest → AreStored (values ran))
     → AreStored (values (record { directive = d; bytes = b; end = e } ∷ ran))
 next_given d b Passes ran Rest given goes rest = rest goes
 next_given d b (Stores s v) ran Rest given goes rest = (given, rest goes)
@@ -128,14 +132,17 @@ steps_given [] x n [] bytes steps = tt
 steps_given [] x n (r ∷ ran) bytes steps = absurd steps
 steps_given (d ∷ ds) x n [] bytes steps = absurd steps
 steps_given (d ∷ ds) x n (r ∷ ran) bytes steps =
-    next_given r.directive r.bytes r.end ran (Steps ds (drop r.bytes x) (n + r.bytes) ran) (step_given d x n r.bytes r.end bytes steps.1) steps.2
+    next_given r.directive r.bytes r.end ran (Steps ds (drop r.bytes x) (n + r.bytes) ran)
+    (step_given d x n r.bytes r.end bytes steps.1) steps.2
     (λ rest. steps_given ds (drop r.bytes x) (n + r.bytes) ran (bytes_from r.bytes x bytes) rest)
 
-pub done_given : (ds : List Directive) (m : ℕ) (x : List ℕ) (ending : Ending) (report : RunReport) → AreBytes x → RunTold ds m x ending report → report.status ≡ Done
+pub done_given : (ds : List Directive) (m : ℕ) (x : List ℕ) (ending : Ending) (report : RunReport) → AreBytes x
+    → RunTold ds m x ending report → report.status ≡ Done
     → AreStored report.values
 done_given ds m x ending report bytes (inl (inl (few, (ran, steps, met, is_met, is)))) done =
     subst (λ (o : RunReport). AreStored o.values) (sym is) (steps_given ds x 0 ran bytes steps)
-done_given ds m x ending report bytes (inl (inr (before, cut, is))) done = let e : report.status ≡ TooLong = ap (λ (o : RunReport). o.status) is in absurd cc
+done_given ds m x ending report bytes (inl (inr (before, cut, is))) done = let e : report.status ≡ TooLong =
+    ap (λ (o : RunReport). o.status) is in absurd cc
 done_given ds m x ending report bytes (inr (k, low, (before, cut, stores, is))) done =
     let e : report.status ≡ NoMemory = ap (λ (o : RunReport). o.status) is in absurd cc
 
@@ -143,5 +150,6 @@ done_given ds m x ending report bytes (inr (k, low, (before, cut, stores, is))) 
 pub found_given : (slot : ℕ) (vs : List Assigned) (v : Datum) → AreStored vs → datum_at slot vs ≡ Some v → IsValue v
 found_given slot [] v stored e = absurd cc
 found_given slot (a ∷ vs) v stored e =
-    by_test (nat_eq slot a.slot) (λ t. option_map (λ (b : Assigned). b.datum) (cond t (Some a) (find (λ (b : Assigned). nat_eq slot b.slot) vs)) ≡ Some v → IsValue v)
+    by_test (nat_eq slot a.slot) (λ t. option_map (λ (b : Assigned). b.datum)
+    (cond t (Some a) (find (λ (b : Assigned). nat_eq slot b.slot) vs)) ≡ Some v → IsValue v)
     (λ same first. let is : a.datum ≡ v = cc in subst IsValue is stored.0) (λ other later. found_given slot vs v stored.1 later) e

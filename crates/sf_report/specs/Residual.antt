@@ -29,7 +29,13 @@ count_on d n = if is_conversion d then n + 1 else n
 abbrev pub counted : Directive → StepEnd → Tally → Tally
 counted d Passes t = record { used = t.used; assigned = t.assigned; converted = count_on d t.converted; values = t.values }
 counted d (Stores slot v) t =
-    record { used = t.used; assigned = count_on d t.assigned; converted = count_on d t.converted; values = t.values ++ record { slot = slot; datum = v } ∷ [] }
+    record {
+      used = t.used;
+      assigned = count_on d t.assigned;
+      converted = count_on d t.converted;
+      values =
+          t.values ++ record { slot = slot; datum = v } ∷ [];
+    }
 counted d (Fails status) t = t
 
 abbrev pub out_of : Status → ℕ → Tally → RunReport

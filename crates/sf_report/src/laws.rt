@@ -28,19 +28,20 @@ pub fn open_inputs_are_used()
     ensures { EachOpenInputIsUsed }
 {}
 
-/// A run that is Done is Done with the same values on every front of its input that has the bytes which it used, with every
-/// ending.
+/// A run that is Done is Done with the same values on every front of its input that has the bytes which it used, with
+/// every ending.
 pub fn done_runs_stay()
     ensures { EachDoneRunStays }
 {}
 
-/// A run of an accepted format that is Done has given each slot, from 1 to the count of the destinations, a value of the slot's
-/// kind: a number that the kind holds, or the bytes of a text.
+/// A run of an accepted format that is Done has given each slot, from 1 to the count of the destinations, a value of
+/// the slot's kind: a number that the kind holds, or the bytes of a text.
 pub fn done_runs_have_rows()
     ensures { EachDoneRunHasItsRow }
 {}
 
-/// Each directive makes the step that `step_of` computes, and no other; so does its machine, which is handed the input byte by byte.
+/// Each directive makes the step that `step_of` computes, and no other; so does its machine, which is handed the input
+/// byte by byte.
 pub fn steps_are_computed()
     ensures step { EachStepIsComputed }
     ensures within { EachStepIsWithin }

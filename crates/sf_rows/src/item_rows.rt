@@ -291,8 +291,9 @@ pub fn items() -> &'static [ItemRow] {
     &ITEMS
 }
 
-/// A width, a text, and where its first bytes are a decimal integer that is told at once: how many bytes, whether a minus
-/// stands there, and the number. None is told where none ends within the text, or where it has more digits than surely fit.
+/// A width, a text, and where its first bytes are a decimal integer that is told at once: how many bytes, whether a
+/// minus stands there, and the number. None is told where none ends within the text, or where it has more digits than
+/// surely fit.
 pub type DecimalRow = (Option<u16>, &'static [u8], Option<(usize, bool, u64)>);
 
 static DECIMALS: [DecimalRow; 20] = [

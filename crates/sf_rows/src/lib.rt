@@ -1,5 +1,6 @@
 //! What the tests of the libraries share: rows of examples, known from C and from the rules of docs/FORMATS.md, and the
-//! comparison of what is found with what is wanted. Each table stands here once; each crate of tests drives it its own way.
+//! comparison of what is found with what is wanted. Each table stands here once; each crate of tests drives it its own
+//! way.
 #![tactic(auto)]
 
 mod binary_scans;

@@ -35,27 +35,34 @@ use Rattle.sf_report.proofs.Inputs.{open_all}
 -- ---- one directive
 
 -- the slot of what it gives is its own
-pub free_of : (f : Finished) (d : Directive) (values : List Assigned) → (is_failing f ≡ false → slot_given f ≡ slot_of d) → MayBeGiven (slot_of d) values → MayBeGiven (slot_given f) values
+pub free_of : (f : Finished) (d : Directive) (values : List Assigned) → (is_failing f ≡ false → slot_given f ≡ slot_of d)
+    → MayBeGiven (slot_of d) values → MayBeGiven (slot_given f) values
 free_of f d values own free = grind arith
 
-pub passes_within : (d : Directive) (n : ℕ) (piece : List ℕ) (e : Ended) (stores : Bool) (old new : Kept) → IsProper d → EndsAtOnce d n piece e
-    → GivesTo (end_of (take e.item (drop e.before piece)) e.finished) stores old new → PassesWithin d n piece (e.before + e.item) stores old new
+pub passes_within : (d : Directive) (n : ℕ) (piece : List ℕ) (e : Ended) (stores : Bool) (old new : Kept) → IsProper d
+    → EndsAtOnce d n piece e
+    → GivesTo (end_of (take e.item (drop e.before piece)) e.finished) stores old new
+    → PassesWithin d n piece (e.before + e.item) stores old new
 passes_within d n piece e stores old new proper is gives = grind arith
 
 -- one that passes surely, and ends so, is given to a store with so much room
-pub sure_given : (d : Directive) (n : ℕ) (piece : List ℕ) (room : ℕ) (e : Ended) → IsProper d → EndsAtOnce d n piece e → IsSure d n piece room
-    → (passed (end_of (take e.item (drop e.before piece)) e.finished) ≡ true → room < length (text_stored (end_of (take e.item (drop e.before piece)) e.finished))) → ⊥
+pub sure_given : (d : Directive) (n : ℕ) (piece : List ℕ) (room : ℕ) (e : Ended) → IsProper d → EndsAtOnce d n piece e
+    → IsSure d n piece room
+    → (passed (end_of (take e.item (drop e.before piece)) e.finished) ≡ true
+    → room < length (text_stored (end_of (take e.item (drop e.before piece)) e.finished))) → ⊥
 sure_given d n piece room e proper is sure full = grind arith
 
 -- a text that the store was given is what the directive gives
-pub text_given : (slot : ℕ) (text : List ℕ) (room : ℕ) (old new : Kept) → new ≡ with_text slot text room old → GivesTo (Stores slot (Bytes text)) true old new
+pub text_given : (slot : ℕ) (text : List ℕ) (room : ℕ) (old new : Kept) → new ≡ with_text slot text room old
+    → GivesTo (Stores slot (Bytes text)) true old new
 text_given slot text room old new is = grind (arith, joined_text)
 
 -- ---- directive after directive
 
 -- The directives before this place have passed within the front, in which the run has come so far, and the store was given what they gave.
 pub record Going (ds : List Directive) (front : List ℕ) (p : ℕ) (t : code.Tally) (kept : Kept) : Type 0 where
-  pub same : (z : List ℕ) → run_of None ds 1 nothing_yet (front ++ z) ≡ run_of None (drop p ds) (p + 1) (tally_of t kept.values) (drop t.used front ++ z)
+  pub same : (z : List ℕ) → run_of None ds 1 nothing_yet (front ++ z)
+      ≡ run_of None (drop p ds) (p + 1) (tally_of t kept.values) (drop t.used front ++ z)
   pub within : t.used ≤ length front
   pub given : slots_in kept.values ≡ slots_of (take p ds)
   pub opened : kept.opened ≡ None
@@ -69,17 +76,21 @@ passes_on : (d : Directive) (ds : List Directive) (at : ℕ) (t : Tally) (x y : 
     → run_of None (d ∷ ds) at t x ≡ run_of None ds (at + 1) (counted d end (with_used (t.used + taken) t)) y
 passes_on d ds at t x y taken end ok is = grind arith
 
-some_slot : (ds : List Directive) (p : ℕ) (d : Directive) (values : List Assigned) (end : StepEnd) → slice_get ds p ≡ Some d → slot_stored end ≡ slot_of d → passed end ≡ true
+some_slot : (ds : List Directive) (p : ℕ) (d : Directive) (values : List Assigned) (end : StepEnd) → slice_get ds p ≡ Some d
+    → slot_stored end ≡ slot_of d → passed end ≡ true
     → slots_in values ≡ slots_of (take p ds) → slots_in (values_with end values) ≡ slots_of (take (p + 1) ds)
 some_slot ds p d values end at own ok given = grind (arith, slots_none, slots_more)
 
-stores_own : (d : Directive) (end : StepEnd) (stores : Bool) → slot_stored end ≡ slot_of d → stored end ≡ stores → stores ≡ true → is_destination d ≡ true
+stores_own : (d : Directive) (end : StepEnd) (stores : Bool) → slot_stored end ≡ slot_of d → stored end ≡ stores → stores ≡ true
+    → is_destination d ≡ true
 stores_own d end stores own is some = grind arith
 
 -- the next directive has passed
-pub going_on : (ds : List Directive) (front : List ℕ) (p : ℕ) (d : Directive) (t u : code.Tally) (old new : Kept) (piece : List ℕ) (taken : ℕ) (stores : Bool) → slice_get ds p ≡ Some d
+pub going_on : (ds : List Directive) (front : List ℕ) (p : ℕ) (d : Directive) (t u : code.Tally) (old new : Kept) (piece : List ℕ)
+    (taken : ℕ) (stores : Bool) → slice_get ds p ≡ Some d
     → Going ds front p t old → piece ≡ drop t.used front → PassesWithin d t.used piece taken stores old new
-    → ((end : StepEnd) (values : List Assigned) → PassesSo end stores → tally_of u (values_with end values) ≡ counted d end (with_used (t.used + taken) (tally_of t values)))
+    → ((end : StepEnd) (values : List Assigned) → PassesSo end stores
+    → tally_of u (values_with end values) ≡ counted d end (with_used (t.used + taken) (tally_of t values)))
     → u.used ≡ t.used + taken → u.assigned ≤ t.assigned + cond stores 1 0 → u.converted ≤ t.converted + 1 → Going ds front (p + 1) u new
 going_on ds front p d t u old new piece taken stores at h is w tally used assigned' converted' =
     let end : StepEnd = w.end in
@@ -93,10 +104,12 @@ going_on ds front p d t u old new piece taken stores at h is w tally used assign
           let next : List ℕ = drop u.used front in
           let place : drop taken piece ≡ next = ap (drop taken) is ∙ drop-drop taken t.used front ∙ ap (λ n. drop n front) (sym used) in
           let step : one_from d Skipping t.used (rest ++ z) ≡ record { used = t.used + taken; left = next ++ z; end = end } =
-          ap (λ y. one_from d Skipping t.used (y ++ z)) (sym is) ∙ w.takes.takes z ∙ ap (λ (y : List ℕ). record { used = t.used + taken; left = y ++ z; end = end }) place in
+          ap (λ y. one_from d Skipping t.used (y ++ z)) (sym is) ∙ w.takes.takes z
+          ∙ ap (λ (y : List ℕ). record { used = t.used + taken; left = y ++ z; end = end }) place in
           h.same z ∙ ap (λ l. run_of None l (p + 1) (tally_of t old.values) (rest ++ z)) (drop_at ds p d at)
           ∙ passes_on d (drop (p + 1) ds) (p + 1) (tally_of t old.values) (rest ++ z) (next ++ z) taken end ok step
-          ∙ ap (λ v. run_of None (drop (p + 1) ds) (p + 1 + 1) v (next ++ z)) (sym (tally end old.values w.gives.passes) ∙ ap (tally_of u) (sym w.gives.values));
+          ∙ ap (λ v. run_of None (drop (p + 1) ds) (p + 1 + 1) v (next ++ z))
+          (sym (tally end old.values w.gives.passes) ∙ ap (tally_of u) (sym w.gives.values));
       within = omega (arith, used, behind, left, low);
       given = ap slots_in w.gives.values ∙ some_slot ds p d old.values end at w.own ok h.given;
       opened = w.gives.opened;
@@ -107,16 +120,23 @@ going_on ds front p d t u old new piece taken stores at h is w tally used assign
 
 -- the totals with a directive that has passed, which counts as a conversion or not, and stores or not
 abbrev totals : Bool → Bool → ℕ → code.Tally → code.Tally
-totals v stores taken t = record { used = t.used + taken; assigned = cond stores (cond v (t.assigned + 1) t.assigned) t.assigned; converted = cond v (t.converted + 1) t.converted }
+totals v stores taken t = record {
+  used = t.used + taken;
+  assigned = cond stores (cond v (t.assigned + 1) t.assigned) t.assigned;
+  converted = cond v (t.converted + 1) t.converted;
+}
 
 totals_counted : (d : Directive) (end : StepEnd) (stores : Bool) (taken : ℕ) (t : code.Tally) (values : List Assigned) → PassesSo end stores
-    → tally_of (totals (is_conversion d) stores taken t) (values_with end values) ≡ counted d end (with_used (t.used + taken) (tally_of t values))
+    → tally_of (totals (is_conversion d) stores taken t) (values_with end values)
+    ≡ counted d end (with_used (t.used + taken) (tally_of t values))
 totals_counted d end stores taken t values so = grind arith
 
-values_more : (end : StepEnd) (stores : Bool) (values : List Assigned) → PassesSo end stores → length (values_with end values) ≡ length values + cond stores 1 0
+values_more : (end : StepEnd) (stores : Bool) (values : List Assigned) → PassesSo end stores
+    → length (values_with end values) ≡ length values + cond stores 1 0
 values_more end stores values so = grind (arith, length-append)
 
--- The directives before this place have passed within the front; behind the bytes that they took is the rest, and the strays are those that they make.
+-- The directives before this place have passed within the front; behind the bytes that they took is the rest, and the strays are those that
+-- they make.
 pub record Counted (ds : List Directive) (front tail : List ℕ) (p : ℕ) (s : Strays) (kept : Kept) : Type 0 where
   pub tally : code.Tally
   pub going : Going ds front p tally kept
@@ -129,7 +149,8 @@ pub record Counted (ds : List Directive) (front tail : List ℕ) (p : ℕ) (s : 
 
 -- what a directive adds to the counts
 record Adds (v stores : Bool) (t : code.Tally) (s : Strays) : Type 0 where
-  pub assigned : cond stores (cond v (t.assigned + 1) t.assigned) t.assigned + (strayed v stores s).uncounted ≡ t.assigned + s.uncounted + cond stores 1 0
+  pub assigned : cond stores (cond v (t.assigned + 1) t.assigned) t.assigned + (strayed v stores s).uncounted
+      ≡ t.assigned + s.uncounted + cond stores 1 0
   pub converted : t.converted ≡ t.assigned + s.suppressed
       → cond v (t.converted + 1) t.converted ≡ cond stores (cond v (t.assigned + 1) t.assigned) t.assigned + (strayed v stores s).suppressed
   pub few : (strayed v stores s).uncounted ≤ s.uncounted + 1
@@ -137,14 +158,44 @@ record Adds (v stores : Bool) (t : code.Tally) (s : Strays) : Type 0 where
   pub less : cond v (t.converted + 1) t.converted ≤ t.converted + 1
 
 adds : (v stores : Bool) (t : code.Tally) (s : Strays) → Adds v stores t s
-adds true true t s = record { assigned = omega arith; converted = λ e. omega (arith, e); few = omega arith; most = omega arith; less = omega arith }
-adds true false t s = record { assigned = omega arith; converted = λ e. omega (arith, e); few = omega arith; most = omega arith; less = omega arith }
-adds false true t s = record { assigned = omega arith; converted = λ e. omega (arith, e); few = omega arith; most = omega arith; less = omega arith }
-adds false false t s = record { assigned = omega arith; converted = λ e. omega (arith, e); few = omega arith; most = omega arith; less = omega arith }
+adds true true t s = record {
+  assigned = omega arith;
+  converted = λ e. omega (arith, e);
+  few = omega arith;
+  most = omega arith;
+  less =
+      omega arith;
+}
+adds true false t s = record {
+  assigned = omega arith;
+  converted = λ e. omega (arith, e);
+  few = omega arith;
+  most = omega arith;
+  less =
+      omega arith;
+}
+adds false true t s = record {
+  assigned = omega arith;
+  converted = λ e. omega (arith, e);
+  few = omega arith;
+  most = omega arith;
+  less =
+      omega arith;
+}
+adds false false t s = record {
+  assigned = omega arith;
+  converted = λ e. omega (arith, e);
+  few = omega arith;
+  most = omega arith;
+  less =
+      omega arith;
+}
 
 -- the next directive has passed
-pub counting_on : (ds : List Directive) (front rest left : List ℕ) (p : ℕ) (d : Directive) (n : ℕ) (s after : Strays) (old new : Kept) (taken : ℕ) → slice_get ds p ≡ Some d
-    → (h : Counted ds front rest p s old) → n ≡ length front - length rest → PassesBy d n rest taken old new s after → left ≡ drop taken rest → Counted ds front left (p + 1) after new
+pub counting_on : (ds : List Directive) (front rest left : List ℕ) (p : ℕ) (d : Directive) (n : ℕ) (s after : Strays) (old new : Kept)
+    (taken : ℕ) → slice_get ds p ≡ Some d
+    → (h : Counted ds front rest p s old) → n ≡ length front - length rest → PassesBy d n rest taken old new s after
+    → left ≡ drop taken rest → Counted ds front left (p + 1) after new
 counting_on ds front rest left p d n s after old new taken at h begins w on =
     let t : code.Tally = h.tally in
     let v : Bool = is_conversion d in
@@ -164,24 +215,29 @@ counting_on ds front rest left p d n s after old new taken at h begins w on =
     let one = more.few in
     record {
       tally = u;
-      going = going_on ds front p d t u old new rest taken w.stores at h.going h.rest is (λ end values so. totals_counted d end w.stores taken t values so) refl most less;
+      going = going_on ds front p d t u old new rest taken w.stores at h.going h.rest is
+          (λ end values so. totals_counted d end w.stores taken t values so) refl most less;
       rest = on ∙ ap (drop taken) h.rest ∙ drop-drop taken t.used front;
       short = grind (arith, length-drop, rest, short);
       assigned = grind (arith, same);
       converted = more.converted h.converted ∙ ap (λ (r : Strays). u.assigned + r.suppressed) (sym same);
       few = grind (arith, same, few);
-      low = (let e = ap (λ (r : Strays). r.suppressed) same in let sum = more.converted h.converted in let before = h.going.converted in omega (arith, e, sum, before, less));
+      low = (let e = ap (λ (r : Strays). r.suppressed) same in let sum = more.converted h.converted in let before = h.going.converted in
+          omega (arith, e, sum, before, less));
     }
 
 -- past the last directive the destinations are the slots that have a value
-pub all_counted : (ds : List Directive) (front rest : List ℕ) (p : ℕ) (s : Strays) (kept : Kept) → length ds ≤ p → (h : Counted ds front rest p s kept)
+pub all_counted : (ds : List Directive) (front rest : List ℕ) (p : ℕ) (s : Strays) (kept : Kept) → length ds ≤ p
+    → (h : Counted ds front rest p s kept)
     → h.tally.assigned + s.uncounted ≡ length (destinations_of ds)
 all_counted ds front rest p s kept all h =
-    h.assigned ∙ sym (length-map kept.values (λ (a : Assigned). a.slot)) ∙ ap length h.going.given ∙ ap (λ l. length (slots_of l)) (take_all p ds all)
+    h.assigned ∙ sym (length-map kept.values (λ (a : Assigned). a.slot)) ∙ ap length h.going.given
+    ∙ ap (λ l. length (slots_of l)) (take_all p ds all)
     ∙ length-map (destinations_of ds) (λ (d : Slotted). d.0)
 
 -- the slot of the next directive is free
-pub free_at : (ds : List Directive) (p : ℕ) (d : Directive) (values : List Assigned) → slice_get ds p ≡ Some d → are_placed 32 ds ≡ true → are_apart (slots_of ds) ≡ true
+pub free_at : (ds : List Directive) (p : ℕ) (d : Directive) (values : List Assigned) → slice_get ds p ≡ Some d → are_placed 32 ds ≡ true
+    → are_apart (slots_of ds) ≡ true
     → slots_in values ≡ slots_of (take p ds) → MayBeGiven (slot_of d) values
 free_at ds p d values at placed apart given = grind (arith, slot_placed, slot_free)
 
@@ -192,69 +248,80 @@ all_passed : (ds : List Directive) (p : ℕ) (x : List ℕ) (t : Tally) → leng
 all_passed ds p x t h = grind (arith, common_steps)
 
 -- a run that is the same however the input goes on is the report
-pub done_is : (ds : List Directive) → AreProper ds → (m : ℕ) (x : List ℕ) (ending : Ending) (t : Tally) → ((z : List ℕ) → run_of None ds 1 nothing_yet (x ++ z) ≡ out_of Done 0 t)
+pub done_is : (ds : List Directive) → AreProper ds → (m : ℕ) (x : List ℕ) (ending : Ending) (t : Tally)
+    → ((z : List ℕ) → run_of None ds 1 nothing_yet (x ++ z) ≡ out_of Done 0 t)
     → t.used ≤ m → t.used ≤ length x → RunWithin ds m x ending (out_of Done 0 t)
 done_is ds proper m x ending t same fits within =
     let here : run_of None ds 1 nothing_yet x ≡ out_of Done 0 t = ap (run_of None ds 1 nothing_yet) (sym (append-nil x)) ∙ same [] in
     let used : (run_of None ds 1 nothing_yet x).used ≡ t.used = ap (λ (r : RunReport). r.used) here in
     let cut : run_of (Some m) ds 1 nothing_yet x ≡ out_of Done 0 t = within_limit m ds 1 nothing_yet x (omega (arith, used, fits)) ∙ here in
-    within_met open_all ds proper m x ending None (out_of Done 0 t) (subst (λ r. TellsWithin ds m x r) cut (told_exists ds proper m x)) closed
+    within_met open_all ds proper m x ending None (out_of Done 0 t)
+    (subst (λ r. TellsWithin ds m x r) cut (told_exists ds proper m x)) closed
   where
     closed : IsOpen ds x × (length x ≤ m) → ⊥
     closed o =
-        let long : (run_of None ds 1 nothing_yet (x ++ o.0.0 ∷ [])).used ≡ length x + 1 = uses_is ds proper (x ++ o.0.0 ∷ []) (length x + 1) o.0.2 in
+        let long : (run_of None ds 1 nothing_yet (x ++ o.0.0 ∷ [])).used ≡ length x + 1 =
+        uses_is ds proper (x ++ o.0.0 ∷ []) (length x + 1) o.0.2 in
         let short : (run_of None ds 1 nothing_yet (x ++ o.0.0 ∷ [])).used ≡ t.used = ap (λ (r : RunReport). r.used) (same (o.0.0 ∷ [])) in
         omega (arith, long, short, within)
 
 -- what was read within a front of a piece is the report of each input that begins with the piece
-pub quick_is : (ds : List Directive) → AreProper ds → (m most : ℕ) (piece front : List ℕ) (t : code.Tally) (kept : Kept) (p : ℕ) → length ds ≤ p → front ≡ take most piece → length front ≤ m
+pub quick_is : (ds : List Directive) → AreProper ds → (m most : ℕ) (piece front : List ℕ) (t : code.Tally) (kept : Kept) (p : ℕ)
+    → length ds ≤ p → front ≡ take most piece → length front ≤ m
     → Going ds front p t kept → (z : List ℕ) (ending : Ending) → RunWithin ds m (piece ++ z) ending (out_of Done 0 (tally_of t kept.values))
 quick_is ds proper m most piece front t kept p all is fits h z ending =
     let rest : List ℕ = drop most piece ++ z in
-    let whole : front ++ rest ≡ piece ++ z = ap (λ y. y ++ rest) is ∙ sym (append_assoc (take most piece) (drop most piece) z) ∙ ap (λ y. y ++ z) (take-append-drop most piece) in
+    let whole : front ++ rest ≡ piece ++ z = ap (λ y. y ++ rest) is ∙ sym (append_assoc (take most piece) (drop most piece) z)
+    ∙ ap (λ y. y ++ z) (take-append-drop most piece) in
     let low = h.within in
     let long : length (front ++ rest) ≡ length front + length rest = length-append front rest in
     subst (λ y. RunWithin ds m y ending (out_of Done 0 (tally_of t kept.values))) whole
     (done_is ds proper m (front ++ rest) ending (tally_of t kept.values)
-    (λ y. ap (run_of None ds 1 nothing_yet) (append_assoc front rest y) ∙ h.same (rest ++ y) ∙ all_passed ds p _ (tally_of t kept.values) all)
+    (λ y. ap (run_of None ds 1 nothing_yet) (append_assoc front rest y) ∙ h.same (rest ++ y)
+    ∙ all_passed ds p _ (tally_of t kept.values) all)
     (omega (arith, low, fits)) (omega (arith, low, long)))
 
 -- ---- what is counted
 
 -- the same of what is the same
-pub passes_as : (d : Directive) (n : ℕ) (rest : List ℕ) (t u : ℕ) (old before new after : Kept) (s r a b : Strays) → u ≡ t → before ≡ old → after ≡ new → r ≡ s → b ≡ a
+pub passes_as : (d : Directive) (n : ℕ) (rest : List ℕ) (t u : ℕ) (old before new after : Kept) (s r a b : Strays) → u ≡ t → before ≡ old
+    → after ≡ new → r ≡ s → b ≡ a
     → PassesBy d n rest t old new s a → PassesBy d n rest u before after r b
 passes_as d n rest t u old before new after s r a b e f g i j h = grind arith
 
 -- before the first directive
-pub nothing_counted : (ds : List Directive) (front : List ℕ) (kept : Kept) (room : ℕ) → kept ≡ nothing_kept room → length (destinations_of ds) ≤ 32
+pub nothing_counted : (ds : List Directive) (front : List ℕ) (kept : Kept) (room : ℕ) → kept ≡ nothing_kept room
+    → length (destinations_of ds) ≤ 32
     → Counted ds front front 0 (record { suppressed = 0; uncounted = 0 }) kept
-nothing_counted ds front kept room is few = subst (λ k. Counted ds front front 0 (record { suppressed = 0; uncounted = 0 }) k) (sym is) (record {
-  tally = record { used = 0; assigned = 0; converted = 0 };
-  going = record {
-    same = λ z. refl;
-    within = omega arith;
-    given = refl;
-    opened = refl;
-    joined = refl;
-    assigned = omega (arith, few);
-    converted = omega arith;
-  };
-  rest = refl;
-  short = omega arith;
-  assigned = refl;
-  converted = refl;
-  few = omega arith;
-  low = omega arith;
-})
+nothing_counted ds front kept room is few = subst (λ k. Counted ds front front 0 (record { suppressed = 0; uncounted = 0 }) k) (sym is)
+    (record {
+      tally = record { used = 0; assigned = 0; converted = 0 };
+      going = record {
+        same = λ z. refl;
+        within = omega arith;
+        given = refl;
+        opened = refl;
+        joined = refl;
+        assigned = omega (arith, few);
+        converted = omega arith;
+      };
+      rest = refl;
+      short = omega arith;
+      assigned = refl;
+      converted = refl;
+      few = omega arith;
+      low = omega arith;
+    })
 
 abbrev pub told : ℕ → ℕ → ℕ → List Assigned → RunReport
 told used assigned converted values = out_of Done 0 (record { used = used; assigned = assigned; converted = converted; values = values })
 
 -- past the last directive the run is the report with the counts that the strays leave
-pub counted_run : (ds : List Directive) → AreProper ds → (m most : ℕ) (piece front rest : List ℕ) (s : Strays) (kept : Kept) (p count : ℕ) → length ds ≤ p → front ≡ take most piece → length front ≤ m
+pub counted_run : (ds : List Directive) → AreProper ds → (m most : ℕ) (piece front rest : List ℕ) (s : Strays) (kept : Kept) (p count : ℕ)
+    → length ds ≤ p → front ≡ take most piece → length front ≤ m
     → Counted ds front rest p s kept → count ≡ length (destinations_of ds) → (z : List ℕ) (ending : Ending)
-    → RunWithin ds m (piece ++ z) ending (told (length front - length rest) (count - s.uncounted) (count - s.uncounted + s.suppressed) kept.values)
+    → RunWithin ds m (piece ++ z) ending (told (length front - length rest) (count - s.uncounted)
+    (count - s.uncounted + s.suppressed) kept.values)
 counted_run ds proper m most piece front rest s kept p count all is fits h counts z ending =
     let t : code.Tally = h.tally in
     let values : List Assigned = kept.values in

@@ -39,7 +39,8 @@ use Rattle.sf_run.proofs.Pieces.{parted, same_part}
 
 -- what has come so far, by the fields
 same_comes : (s : Standing) (ds : List Directive) (p : ℕ) (current : Phase) (opened : Option Opened) (n : ℕ) (x y : List ℕ)
-    → s.directives ≡ ds → s.passed ≡ p → s.phase ≡ current → s.opened ≡ opened → s.tally.used ≡ n → ComesBy ds p current opened n x y → Comes s x y
+    → s.directives ≡ ds → s.passed ≡ p → s.phase ≡ current → s.opened ≡ opened → s.tally.used ≡ n → ComesBy ds p current opened n x y
+    → Comes s x y
 same_comes s ds p current opened n x y e1 e2 e3 e4 e5 h = rw (e1, e2, e3, e4, e5) h
 
 -- ---- the first byte
@@ -60,7 +61,8 @@ comes_first ds = record {
   led = led_fresh ds;
 }
 
-pub first_comes : (ds : List Directive) (opened : Option Opened) (n : ℕ) → opened ≡ None → n ≡ 0 → ComesBy ds 0 phase.Skipping opened n [] []
+pub first_comes : (ds : List Directive) (opened : Option Opened) (n : ℕ) → opened ≡ None → n ≡ 0
+    → ComesBy ds 0 phase.Skipping opened n [] []
 first_comes ds opened n none nothing = rw (none, nothing) (comes_first ds)
 
 -- ---- bytes that follow
@@ -79,7 +81,8 @@ comes_on s x y h = record {
 
 -- ---- bytes that are taken
 
-module _ (ds : List Directive) (p : ℕ) (d : Directive) (at : slice_get ds p ≡ Some d) (current : Phase) (opened : Option Opened) (n : ℕ) (x y : List ℕ)
+module _ (ds : List Directive) (p : ℕ) (d : Directive) (at : slice_get ds p ≡ Some d) (current : Phase) (opened : Option Opened) (n : ℕ)
+    (x y : List ℕ)
     (h : ComesBy ds p current opened n x y) where
   -- the bytes that the directive under way has consumed
   abbrev left : List ℕ
@@ -107,10 +110,12 @@ module _ (ds : List Directive) (p : ℕ) (d : Directive) (at : slice_get ds p �
         consumed_is = (let c = h.consumed_is in omega (arith, c, length-append x front));
         within = (let w = h.within in omega (arith, w, length-append x front));
         steps = λ z.
-            ap (λ (l : List ℕ). ran_of ds l 0) (append_assoc x front (rest ++ z) ∙ ap (λ l. x ++ l) (sym (append_assoc front rest z) ∙ ap (λ l. l ++ z) (sym whole)))
+            ap (λ (l : List ℕ). ran_of ds l 0) (append_assoc x front (rest ++ z)
+            ∙ ap (λ l. x ++ l) (sym (append_assoc front rest z) ∙ ap (λ l. l ++ z) (sym whole)))
             ∙ h.steps z
             ∙ ap (λ (l : List ℕ). h.before ++ ran_of (drop p ds) l (used h.before))
-            (ap (λ l. left ++ l) (ap (λ l. l ++ z) whole ∙ append_assoc front rest z) ∙ sym (append_assoc left front (rest ++ z)) ∙ ap (λ l. l ++ (rest ++ z)) (sym on));
+            (ap (λ l. left ++ l) (ap (λ l. l ++ z) whole ∙ append_assoc front rest z) ∙ sym (append_assoc left front (rest ++ z))
+            ∙ ap (λ l. l ++ (rest ++ z)) (sym on));
         shown = subst (λ rest. ShowsFirst rest next (opened_with (slot_in next) g opened) b.stage) (sym (drop_at ds p d at))
             (b.shown, opened_grown d next h.stage b.stage g opened b.shown b.grown showing.1);
         led = subst (λ rest. LedFirst rest (drop (used h.before) (x ++ front)) b.stage) (sym (drop_at ds p d at))
@@ -127,23 +132,27 @@ go_ok (Fails status) rest ok = absurd (ok status refl)
 abbrev ran_one : Directive → ℕ → StepEnd → Ran
 ran_one d k f = record { directive = d; bytes = k; end = f }
 
-by_parts : (d : Directive) (ds : List Directive) (r : ℕ × StepEnd) (w l : List ℕ) (u k : ℕ) (f : StepEnd) → r.0 ≡ k → drop r.0 w ≡ l → r.1 ≡ f
+by_parts : (d : Directive) (ds : List Directive) (r : ℕ × StepEnd) (w l : List ℕ) (u k : ℕ) (f : StepEnd) → r.0 ≡ k → drop r.0 w ≡ l
+    → r.1 ≡ f
     → ran_one d r.0 r.1 ∷ go_on r.1 (ran_of ds (drop r.0 w) (u + r.0)) ≡ ran_one d k f ∷ go_on f (ran_of ds l (u + k))
 by_parts d ds r w l u k f size rest end =
     ap (λ (y : List ℕ). ran_one d r.0 r.1 ∷ go_on r.1 (ran_of ds y (u + r.0))) rest
     ∙ ap₂ (λ (n : ℕ) (e : StepEnd). ran_one d n e ∷ go_on e (ran_of ds l (u + n))) size end
 
 -- the step that the machine makes
-made_step : (d : Directive) (ds : List Directive) (w l : List ℕ) (u k : ℕ) (f : StepEnd) → one_from d Skipping u w ≡ record { used = u + k; left = l; end = f }
+made_step : (d : Directive) (ds : List Directive) (w l : List ℕ) (u k : ℕ) (f : StepEnd)
+    → one_from d Skipping u w ≡ record { used = u + k; left = l; end = f }
     → ran_of (d ∷ ds) w u ≡ ran_one d k f ∷ go_on f (ran_of ds l (u + k))
 made_step d ds w l u k f is =
     let same : part_of u w (step_of d w u) ≡ record { used = u + k; left = l; end = f } = sym (one_made d w u) ∙ is in
     let bytes : u + (step_of d w u).0 ≡ u + k = ap (λ (p : Part). p.used) same in
     by_parts d ds (step_of d w u) w l u k f (omega (arith, bytes)) (ap (λ (p : Part). p.left) same) (ap (λ (p : Part). p.end) same)
 
-pub passes_on : (ds : List Directive) (p : ℕ) (d : Directive) → slice_get ds p ≡ Some d → (current : Phase) (opened : Option Opened) (n : ℕ) (x y : List ℕ)
+pub passes_on : (ds : List Directive) (p : ℕ) (d : Directive) → slice_get ds p ≡ Some d
+    → (current : Phase) (opened : Option Opened) (n : ℕ) (x y : List ℕ)
     → ComesBy ds p current opened n x y → (k : ℕ) (f : StepEnd) → ((status : Status) → f ≡ Fails status → ⊥) → k ≤ length y
-    → ((q : Stage) → Shows d current q → opened ≡ opened_for (text_slot d) q → (z : List ℕ) → one_from d q n (y ++ z) ≡ record { used = n + k; left = drop k y ++ z; end = f })
+    → ((q : Stage) → Shows d current q → opened ≡ opened_for (text_slot d) q → (z : List ℕ)
+    → one_from d q n (y ++ z) ≡ record { used = n + k; left = drop k y ++ z; end = f })
     → ComesBy ds (p + 1) phase.Skipping None (n + k) (x ++ take k y) (drop k y)
 passes_on ds p d at current opened n x y h k f ok within takes = record {
   before = h.before ++ own ∷ [];
@@ -155,10 +164,12 @@ passes_on ds p d at current opened n x y h k f ok within takes = record {
       ap (λ (l : List ℕ). ran_of ds l 0) (append_assoc x (take k y) (drop k y ++ z) ∙ ap (λ l. x ++ l) (parted y k z))
       ∙ h.steps z
       ∙ ap (λ (rest : List Directive). h.before ++ ran_of rest (bytes ++ (y ++ z)) (used h.before)) (drop_at ds p d at)
-      ∙ ap (λ (l : List Ran). h.before ++ l) (made_step d (drop (p + 1) ds) (bytes ++ (y ++ z)) (drop k y ++ z) (used h.before) (length bytes + k) f (step z)
+      ∙ ap (λ (l : List Ran). h.before ++ l) (made_step d (drop (p + 1) ds) (bytes ++ (y ++ z)) (drop k y ++ z) (used h.before)
+      (length bytes + k) f (step z)
       ∙ ap (λ (l : List Ran). own ∷ l) (go_ok f _ ok))
       ∙ sym (append_assoc h.before (own ∷ []) (ran_of (drop (p + 1) ds) (drop k y ++ z) (used h.before + (length bytes + k))))
-      ∙ ap₂ (λ (l : List ℕ) (m : ℕ). (h.before ++ own ∷ []) ++ ran_of (drop (p + 1) ds) (l ++ (drop k y ++ z)) m) (sym nothing) (let a = all in let s = bytes_size in omega (arith, a, s));
+      ∙ ap₂ (λ (l : List ℕ) (m : ℕ). (h.before ++ own ∷ []) ++ ran_of (drop (p + 1) ds) (l ++ (drop k y ++ z)) m) (sym nothing)
+      (let a = all in let s = bytes_size in omega (arith, a, s));
   shown = shows_fresh (drop (p + 1) ds);
   led = subst (λ l. LedFirst (drop (p + 1) ds) l Skipping) (sym nothing) (led_fresh (drop (p + 1) ds));
 }
@@ -181,7 +192,8 @@ passes_on ds p d at current opened n x y h k f ok within takes = record {
     nothing : drop (used (h.before ++ own ∷ [])) (x ++ take k y) ≡ []
     nothing = drop_all (used (h.before ++ own ∷ [])) (x ++ take k y) (let a = all in let w = whole in omega (arith, a, w))
 
-    step : (z : List ℕ) → one_from d Skipping (used h.before) (bytes ++ (y ++ z)) ≡ record { used = used h.before + (length bytes + k); left = drop k y ++ z; end = f }
+    step : (z : List ℕ) → one_from d Skipping (used h.before) (bytes ++ (y ++ z))
+        ≡ record { used = used h.before + (length bytes + k); left = drop k y ++ z; end = f }
     step z =
         let shows = showing ds p d at current opened n x y h in
         one_from-all d Skipping h.stage (used h.before) bytes (y ++ z) (leading ds p d at current opened n x y h)
@@ -192,31 +204,40 @@ passes_on ds p d at current opened n x y h k f ok within takes = record {
 -- ---- moves
 
 -- the directive under way has used up what it was handed, and waits for more
-pub waits_advance : (new old : Standing) (d : Directive) (run : Run) (m : ℕ) (piece front item : List ℕ) → slice_get old.directives old.passed ≡ Some d → old.ended ≡ None → front ≡ take m piece → m ≤ length piece
-    → run.before + run.item ≡ length front → item ≡ take run.item (drop run.before front) → TakesAll new old run.phase (run.before + run.item) (opened_with (slot_in run.phase) item old.opened)
-    → ((q : Stage) → Shows d old.phase q → Brings d q front (take run.item (drop run.before front)) run.phase) → Advances new old piece (run.before + run.item)
+pub waits_advance : (new old : Standing) (d : Directive) (run : Run) (m : ℕ) (piece front item : List ℕ)
+    → slice_get old.directives old.passed ≡ Some d → old.ended ≡ None → front ≡ take m piece → m ≤ length piece
+    → run.before + run.item ≡ length front → item ≡ take run.item (drop run.before front)
+    → TakesAll new old run.phase (run.before + run.item) (opened_with (slot_in run.phase) item old.opened)
+    → ((q : Stage) → Shows d old.phase q → Brings d q front (take run.item (drop run.before front)) run.phase)
+    → Advances new old piece (run.before + run.item)
 unfolding Advances
 waits_advance new old d run m piece front item at waits is within all own takes brings x h still =
     let n : ℕ = run.before + run.item in
     let long : length front ≡ m = ap length is ∙ length-take-le m piece within in
     let same : n ≡ m = omega (arith, long, all) in
     let whole : piece ≡ front ++ drop m piece = sym (ap (λ l. l ++ drop m piece) is ∙ take-append-drop m piece) in
-    let goes = goes_on old.directives old.passed d at old.phase old.opened old.tally.used x piece h front item (drop m piece) run.phase whole
+    let goes = goes_on old.directives old.passed d at old.phase old.opened old.tally.used x piece h front item
+    (drop m piece) run.phase whole
     (λ q shows. subst (λ g. Brings d q front g run.phase) (sym own) (brings q shows)) in
-    let there : Comes new (x ++ front) (drop m piece) = same_comes new old.directives old.passed run.phase (opened_with (slot_in run.phase) item old.opened) (old.tally.used + length front) (x ++ front) (drop m piece)
-    takes.keeps.directives takes.passed takes.phase takes.opened (ap (λ (t : Tally). t.used) takes.tally ∙ ap (λ k. old.tally.used + k) all) goes in
+    let there : Comes new (x ++ front) (drop m piece) = same_comes new old.directives old.passed run.phase
+    (opened_with (slot_in run.phase) item old.opened) (old.tally.used + length front) (x ++ front) (drop m piece)
+    takes.keeps.directives takes.passed takes.phase takes.opened (ap (λ (t : Tally). t.used) takes.tally
+    ∙ ap (λ k. old.tally.used + k) all) goes in
     subst (λ k. Comes new (x ++ take k piece) (drop k piece)) (sym same) (subst (λ l. Comes new (x ++ l) (drop m piece)) is there)
 
 -- the directive under way has ended
-ends_advance : (new mid old : Standing) (d : Directive) (f : StepEnd) (y : List ℕ) (n : ℕ) → slice_get old.directives old.passed ≡ Some d → Reaches mid old → mid.tally.used ≡ old.tally.used + n → Ends new mid d f
+ends_advance : (new mid old : Standing) (d : Directive) (f : StepEnd) (y : List ℕ) (n : ℕ) → slice_get old.directives old.passed ≡ Some d
+    → Reaches mid old → mid.tally.used ≡ old.tally.used + n → Ends new mid d f
     → n ≤ length y
-    → ((q : Stage) → Shows d old.phase q → old.opened ≡ opened_for (text_slot d) q → (z : List ℕ) → one_from d q old.tally.used (y ++ z) ≡ record { used = old.tally.used + n; left = drop n y ++ z; end = f })
+    → ((q : Stage) → Shows d old.phase q → old.opened ≡ opened_for (text_slot d) q → (z : List ℕ)
+    → one_from d q old.tally.used (y ++ z) ≡ record { used = old.tally.used + n; left = drop n y ++ z; end = f })
     → Advances new old y n
 unfolding Advances
 ends_advance new mid old d f y n at here used ends within takes x h still = by f ends takes
   where
     passes : (g : StepEnd) → ((status : Status) → g ≡ Fails status → ⊥) → Passed new mid d g
-        → ((q : Stage) → Shows d old.phase q → old.opened ≡ opened_for (text_slot d) q → (z : List ℕ) → one_from d q old.tally.used (y ++ z) ≡ record { used = old.tally.used + n; left = drop n y ++ z; end = g })
+        → ((q : Stage) → Shows d old.phase q → old.opened ≡ opened_for (text_slot d) q → (z : List ℕ)
+        → one_from d q old.tally.used (y ++ z) ≡ record { used = old.tally.used + n; left = drop n y ++ z; end = g })
         → Comes new (x ++ take n y) (drop n y)
     passes g ok passed takes =
         same_comes new old.directives (old.passed + 1) phase.Skipping None (old.tally.used + n) (x ++ take n y) (drop n y)
@@ -225,22 +246,32 @@ ends_advance new mid old d f y n at here used ends within takes x h still = by f
         (passes_on old.directives old.passed d at old.phase old.opened old.tally.used x y h n g ok within takes)
 
     by : (g : StepEnd) → Ends new mid d g
-        → ((q : Stage) → Shows d old.phase q → old.opened ≡ opened_for (text_slot d) q → (z : List ℕ) → one_from d q old.tally.used (y ++ z) ≡ record { used = old.tally.used + n; left = drop n y ++ z; end = g })
+        → ((q : Stage) → Shows d old.phase q → old.opened ≡ opened_for (text_slot d) q → (z : List ℕ)
+        → one_from d q old.tally.used (y ++ z) ≡ record { used = old.tally.used + n; left = drop n y ++ z; end = g })
         → Comes new (x ++ take n y) (drop n y)
     by Passes ends takes = passes Passes (λ status e. cc) ends takes
     by (Stores slot v) ends takes = passes (Stores slot v) (λ status e. cc) ends takes
     by (Fails status) ends takes = let stopped = ends.ended in absurd cc
 
-pub answer_advances : (new mid old : Standing) (d : Directive) (run : Run) (end : Finished) (front y : List ℕ) → slice_get old.directives old.passed ≡ Some d
-    → TakesAll mid old run.phase (run.before + run.item) (opened_with (slot_in run.phase) (take run.item (drop run.before front)) old.opened) → Ends new mid d (end_of (text_of mid.opened) end)
+pub answer_advances : (new mid old : Standing) (d : Directive) (run : Run) (end : Finished) (front y : List ℕ)
+    → slice_get old.directives old.passed ≡ Some d
+    → TakesAll mid old run.phase (run.before + run.item) (opened_with (slot_in run.phase)
+    (take run.item (drop run.before front)) old.opened) → Ends new mid d (end_of (text_of mid.opened) end)
     → IsNextSlot (text_slot d) (slot_in old.phase) (slot_in run.phase) → IsEnd d run.phase end → run.before + run.item ≤ length y
     → ((q : Stage) → Shows d old.phase q → (z : List ℕ)
-    → one_from d q old.tally.used (y ++ z) ≡ record { used = old.tally.used + (run.before + run.item); left = drop (run.before + run.item) y ++ z; end = end_of (item_of q ++ take run.item (drop run.before front)) end })
+    → one_from d q old.tally.used (y ++ z) ≡ record {
+      used = old.tally.used + (run.before + run.item);
+      left =
+          drop (run.before + run.item) y ++ z;
+      end = end_of (item_of q ++ take run.item (drop run.before front)) end;
+    })
     → Advances new old y (run.before + run.item)
 answer_advances new mid old d run end front y at takes ends next own within parts =
-    ends_advance new mid old d (end_of (text_of mid.opened) end) y (run.before + run.item) at (reaches_taken mid old run.phase _ _ takes) (ap (λ (t : Tally). t.used) takes.tally) ends within
+    ends_advance new mid old d (end_of (text_of mid.opened) end) y (run.before + run.item) at (reaches_taken mid old run.phase _ _ takes)
+    (ap (λ (t : Tally). t.used) takes.tally) ends within
     (λ q shows is z. parts q shows z ∙ same_part refl refl
-    (sym (ap (λ o. end_of (text_of o) end) takes.opened ∙ closing_text d old.phase run.phase q old.opened (take run.item (drop run.before front)) end shows is next own)))
+    (sym (ap (λ o. end_of (text_of o) end) takes.opened ∙ closing_text d old.phase run.phase q old.opened
+    (take run.item (drop run.before front)) end shows is next own)))
 
 -- no byte was taken yet
 pub stays_put : (s : Standing) (y : List ℕ) → Advances s s y 0
@@ -253,14 +284,16 @@ unfolding Advances
 ended_advances new old y n ended x h still = absurd (true≢false (sym ended ∙ ap is_some still))
 
 -- it has come so far, where all of the piece was taken
-pub came : (new old : Standing) (x y : List ℕ) (n : ℕ) → Advances new old y n → n ≡ length y → Comes old x [] → new.ended ≡ None → Comes new (x ++ y) []
+pub came : (new old : Standing) (x y : List ℕ) (n : ℕ) → Advances new old y n → n ≡ length y → Comes old x [] → new.ended ≡ None
+    → Comes new (x ++ y) []
 unfolding Advances
 came new old x y n advances whole here still =
     subst (λ l. Comes new (x ++ l) []) (take_all n y (omega (arith, whole)))
     (subst (λ l. Comes new (x ++ take n y) l) (drop_all n y (omega (arith, whole))) (advances x (comes_on old x y here) still))
 
 -- one move after another
-pub advances_on : (old mid new : Standing) (y : List ℕ) (n k : ℕ) → mid.ended ≡ None → Advances mid old y n → Advances new mid (drop n y) k → Advances new old y (n + k)
+pub advances_on : (old mid new : Standing) (y : List ℕ) (n k : ℕ) → mid.ended ≡ None → Advances mid old y n → Advances new mid (drop n y) k
+    → Advances new old y (n + k)
 unfolding Advances
 advances_on old mid new y n k waits first second x h still =
     let there : Comes new ((x ++ take n y) ++ take k (drop n y)) (drop k (drop n y)) = second (x ++ take n y) (first x h waits) still in
@@ -282,24 +315,30 @@ skip_is_if shape y = grind arith
 
 item_stage : (c : Conversion) (f y : List ℕ) (q : Stage) → stepped_all (Conv c) (Item f) y ≡ Some q → q ≡ Item (f ++ y)
 item_stage c f [] q e = let same : Item f ≡ q = cc in sym same ∙ ap Item (sym (append-nil f))
-item_stage c f (b ∷ y) q e = by (can_take c (f ++ b ∷ [])) e (λ more. item_stage c (f ++ b ∷ []) y q more ∙ ap Item (append_assoc f (b ∷ []) y))
+item_stage c f (b ∷ y) q e = by (can_take c (f ++ b ∷ [])) e (λ more. item_stage c (f ++ b ∷ []) y q more
+    ∙ ap Item (append_assoc f (b ∷ []) y))
   where
-    by : (v : Bool) → choose (cond v (Some (Item (f ++ b ∷ []))) None) None (λ r. stepped_all (Conv c) r y) ≡ Some q → (stepped_all (Conv c) (Item (f ++ b ∷ [])) y ≡ Some q → q ≡ Item (f ++ b ∷ y)) → q ≡ Item (f ++ b ∷ y)
+    by : (v : Bool) → choose (cond v (Some (Item (f ++ b ∷ []))) None) None (λ r. stepped_all (Conv c) r y) ≡ Some q
+        → (stepped_all (Conv c) (Item (f ++ b ∷ [])) y ≡ Some q → q ≡ Item (f ++ b ∷ y)) → q ≡ Item (f ++ b ∷ y)
     by true e more = more e
     by false e more = absurd cc
 
-start_stage : (c : Conversion) (v : Bool) → shape_skips c.shape ≡ v → (y : List ℕ) (q : Stage) → stepped_all (Conv c) Skipping y ≡ Some q → q ≡ stage_of (drop (skip_if v y) y)
+start_stage : (c : Conversion) (v : Bool) → shape_skips c.shape ≡ v → (y : List ℕ) (q : Stage) → stepped_all (Conv c) Skipping y ≡ Some q
+    → q ≡ stage_of (drop (skip_if v y) y)
 start_stage c v is [] q e = by v
   where
     by : (v : Bool) → q ≡ stage_of (drop (skip_if v []) [])
     by true = cc
     by false = cc
 start_stage c v is (b ∷ y) q e =
-    by v (is_white b) (can_take c (b ∷ [])) (subst (λ t. choose (cond (t && is_white b) (Some Skipping) (item_stepped c [] b)) None (λ r. stepped_all (Conv c) r y) ≡ Some q) is e)
+    by v (is_white b) (can_take c (b ∷ [])) (subst (λ t. choose (cond (t && is_white b) (Some Skipping) (item_stepped c [] b)) None
+    (λ r. stepped_all (Conv c) r y) ≡ Some q) is e)
     (start_stage c v is y q) (item_stage c (b ∷ []) y q)
   where
-    by : (v w k : Bool) → choose (cond (v && w) (Some Skipping) (cond k (Some (Item (b ∷ []))) None)) None (λ r. stepped_all (Conv c) r y) ≡ Some q
-        → (stepped_all (Conv c) Skipping y ≡ Some q → q ≡ stage_of (drop (skip_if v y) y)) → (stepped_all (Conv c) (Item (b ∷ [])) y ≡ Some q → q ≡ Item (b ∷ y))
+    by : (v w k : Bool) → choose (cond (v && w) (Some Skipping) (cond k (Some (Item (b ∷ []))) None)) None (λ r. stepped_all (Conv c) r y)
+        ≡ Some q
+        → (stepped_all (Conv c) Skipping y ≡ Some q → q ≡ stage_of (drop (skip_if v y) y))
+        → (stepped_all (Conv c) (Item (b ∷ [])) y ≡ Some q → q ≡ Item (b ∷ y))
         → q ≡ stage_of (drop (cond v (cond w (suc (skip y)) 0) 0) (b ∷ y))
     by true true k e skipping taking = skipping e
     by true false true e skipping taking = taking e
@@ -335,15 +374,18 @@ same_front (r ∷ a) (s ∷ b) u v e f =
     ap₂ (λ (t : Ran) (l : List Ran). t ∷ l) first (same_front a b u v more rest)
 
 -- a run on x and more is cut off in the directive under way, after the steps that the others made
-module _ (ds : List Directive) (proper : AreProper ds) (p : ℕ) (d : Directive) (at : slice_get ds p ≡ Some d) (current : Phase) (opened : Option Opened) (n : ℕ) (x : List ℕ)
-    (h : ComesBy ds p current opened n x []) (b m : ℕ) (before : List Ran) (count : p ≡ length before) (cut : IsCut ds (x ++ b ∷ []) m before) where
+module _ (ds : List Directive) (proper : AreProper ds) (p : ℕ) (d : Directive) (at : slice_get ds p ≡ Some d) (current : Phase)
+    (opened : Option Opened) (n : ℕ) (x : List ℕ)
+    (h : ComesBy ds p current opened n x []) (b m : ℕ) (before : List Ran) (count : p ≡ length before)
+    (cut : IsCut ds (x ++ b ∷ []) m before) where
   own : cut.cut.directive ≡ d
   own = some_is _ _ (sym (ran_at ds (x ++ b ∷ []) 0 before cut.cut cut.rest cut.steps) ∙ ap (slice_get ds) (sym count) ∙ at)
 
   same : h.before ≡ before
   same =
       let c = h.count in
-      same_front h.before before _ _ (omega (arith, c, count)) (sym (h.steps (b ∷ [])) ∙ sym (steps_only ds proper (x ++ b ∷ []) 0 _ cut.steps))
+      same_front h.before before _ _ (omega (arith, c, count)) (sym (h.steps (b ∷ []))
+      ∙ sym (steps_only ds proper (x ++ b ∷ []) 0 _ cut.steps))
 
   shows : Shows d current h.stage × (opened ≡ opened_for (text_slot d) h.stage)
   shows = showing ds p d at current opened n x [] h

@@ -50,7 +50,8 @@ abbrev one_if : Bool → ℕ
 one_if true = 1
 one_if false = 0
 
-places_of : (d : Directive) (ds : List Directive) → length (destinations_of (d ∷ ds)) ≡ one_if (is_destination d) + length (destinations_of ds)
+places_of : (d : Directive) (ds : List Directive) → length (destinations_of (d ∷ ds))
+    ≡ one_if (is_destination d) + length (destinations_of ds)
 places_of d ds = grind arith
 
 -- one place less after a destination
@@ -70,7 +71,8 @@ pub shows_fresh : (ds : List Directive) → ShowsFirst ds phase.Skipping None Sk
 shows_fresh ds = grind arith
 
 -- the first directive takes so much of y, ends so and leaves z
-ended_part : (k : ℕ) (d : Directive) (ds : List Directive) (q : Stage) (at : ℕ) (t u : Tally) (y z : List ℕ) (f : StepEnd) → u.used ≤ k → u ≡ with_used u.used t
+ended_part : (k : ℕ) (d : Directive) (ds : List Directive) (q : Stage) (at : ℕ) (t u : Tally) (y z : List ℕ) (f : StepEnd) → u.used ≤ k
+    → u ≡ with_used u.used t
     → one_from d q t.used y ≡ record { used = u.used; left = z; end = f }
     → run_from (Some k) (d ∷ ds) q at t y ≡ by_end f (run_of (Some k) ds (at + 1) (counted d f u) z) (λ status. out_of status at u)
 ended_part k d ds q at t u y z f le same e = grind arith
@@ -80,7 +82,8 @@ over_limit : (k : ℕ) (d : Directive) (ds : List Directive) (q : Stage) (at : �
     → run_from (Some k) (d ∷ ds) q at t y ≡ out_of TooLong at (with_used k t)
 over_limit k d ds q at t y more = rw (lt-ltb _ _ more) refl
 
-module _ (ds : List Directive) (p : ℕ) (d : Directive) (at : slice_get ds p ≡ Some d) (current : Phase) (opened : Option Opened) (t : Tally) (k : ℕ) (y : List ℕ)
+module _ (ds : List Directive) (p : ℕ) (d : Directive) (at : slice_get ds p ≡ Some d) (current : Phase) (opened : Option Opened)
+    (t : Tally) (k : ℕ) (y : List ℕ)
     (report : RunReport) (does : DoesBy None ds p current opened t k y report) where
   -- the stage that the phase shows
   pub shows : Shows d current does.0 × (opened ≡ opened_for (text_slot d) does.0)
@@ -93,7 +96,8 @@ module _ (ds : List Directive) (p : ℕ) (d : Directive) (at : slice_get ds p �
   too_long more = went ∙ over_limit k d (drop (p + 1) ds) does.0 (p + 1) t y (more does.0 shows.0)
 
   module _ (u : Tally) (z : List ℕ) (f : StepEnd) (within : u.used ≤ k) (same : u ≡ with_used u.used t)
-      (takes : (q : Stage) → Shows d current q → opened ≡ opened_for (text_slot d) q → one_from d q t.used y ≡ record { used = u.used; left = z; end = f }) where
+      (takes : (q : Stage) → Shows d current q → opened ≡ opened_for (text_slot d) q
+      → one_from d q t.used y ≡ record { used = u.used; left = z; end = f }) where
     ended : report ≡ by_end f (run_of (Some k) (drop (p + 1) ds) (p + 1 + 1) (counted d f u) z) (λ status. out_of status (p + 1) u)
     ended = went ∙ ended_part k d (drop (p + 1) ds) does.0 (p + 1) t u y z f within same (takes does.0 shows.0 shows.1)
 
@@ -105,13 +109,15 @@ module _ (ds : List Directive) (p : ℕ) (d : Directive) (at : slice_get ds p �
     )
 
     pub close_fails : (status : Status) → f ≡ Fails status → report ≡ out_of status (p + 1) u
-    close_fails status e = ended ∙ ap (λ g. by_end g (run_of (Some k) (drop (p + 1) ds) (p + 1 + 1) (counted d f u) z) (λ s. out_of s (p + 1) u)) e
+    close_fails status e = ended ∙ ap (λ g. by_end g (run_of (Some k) (drop (p + 1) ds) (p + 1 + 1) (counted d f u) z)
+        (λ s. out_of s (p + 1) u)) e
 
 slice_get_none : {A : Type 0} (xs : List A) (i : ℕ) → slice_get xs i ≡ None → length xs ≤ i
 slice_get_none xs i h = elim (slice_get_cases xs i).1 [ inl w ↦ absurd (let e = w.2 in cc) | inr w ↦ w.0 ]
 
 -- every directive has passed
-pub conclude_same : (ds : List Directive) (p : ℕ) (current : Phase) (opened : Option Opened) (t : Tally) (k : ℕ) (z : List ℕ) (report : RunReport) → slice_get ds p ≡ None
+pub conclude_same : (ds : List Directive) (p : ℕ) (current : Phase) (opened : Option Opened) (t : Tally) (k : ℕ) (z : List ℕ)
+    (report : RunReport) → slice_get ds p ≡ None
     → DoesBy None ds p current opened t k z report → report ≡ out_of Done 0 t
 conclude_same ds p current opened t k z report h does = grind (arith, drop_all, slice_get_none)
 
@@ -120,43 +126,56 @@ pub waiting : (s : Standing) (k : ℕ) (z : List ℕ) (report : RunReport) → s
 waiting s k z report e does = subst (λ o. DoesBy o s.directives s.passed s.phase s.opened s.tally k z report) e does
 
 -- what is done by the fields
-pub same_does : (s : Standing) (o : Option Stop) (ds : List Directive) (p : ℕ) (current : Phase) (opened : Option Opened) (t : Tally) (k : ℕ) (z : List ℕ) (report : RunReport)
-    → s.ended ≡ o → s.directives ≡ ds → s.passed ≡ p → s.phase ≡ current → s.opened ≡ opened → s.tally ≡ t → DoesBy o ds p current opened t k z report → Does s k z report
+pub same_does : (s : Standing) (o : Option Stop) (ds : List Directive) (p : ℕ) (current : Phase) (opened : Option Opened) (t : Tally)
+    (k : ℕ) (z : List ℕ) (report : RunReport)
+    → s.ended ≡ o → s.directives ≡ ds → s.passed ≡ p → s.phase ≡ current → s.opened ≡ opened → s.tally ≡ t
+    → DoesBy o ds p current opened t k z report → Does s k z report
 same_does s o ds p current opened t k z report e1 e2 e3 e4 e5 e6 does = rw (e1, e2, e3, e4, e5, e6) does
 
-stopped_does : (s : Standing) (stop : Stop) (k : ℕ) (z : List ℕ) (report : RunReport) → s.ended ≡ Some stop → report ≡ out_of stop.status stop.at s.tally → Does s k z report
+stopped_does : (s : Standing) (stop : Stop) (k : ℕ) (z : List ℕ) (report : RunReport) → s.ended ≡ Some stop
+    → report ≡ out_of stop.status stop.at s.tally → Does s k z report
 stopped_does s stop k z report e is = subst (λ o. DoesBy o s.directives s.passed s.phase s.opened s.tally k z report) (sym e) is
 
 -- ---- bytes that are taken
 
-took : (k : ℕ) (ds : List Directive) (p : ℕ) (d : Directive) (q r : Stage) (t u : Tally) (b : ℕ) (z : List ℕ) → slice_get ds p ≡ Some d → stepped d q b ≡ Some r
+took : (k : ℕ) (ds : List Directive) (p : ℕ) (d : Directive) (q r : Stage) (t u : Tally) (b : ℕ) (z : List ℕ) → slice_get ds p ≡ Some d
+    → stepped d q b ≡ Some r
     → u ≡ with_used (t.used + 1) t → run_from (Some k) (drop p ds) q (p + 1) t (b ∷ z) ≡ run_from (Some k) (drop p ds) r (p + 1) u z
 took k ds p d q r t u b z at e is = rw (drop_at ds p d at, e, is) refl
 
-passed_limit : (k : ℕ) (ds : List Directive) (p : ℕ) (d : Directive) (q r : Stage) (t : Tally) (b : ℕ) (z : List ℕ) → slice_get ds p ≡ Some d → stepped d q b ≡ Some r
+passed_limit : (k : ℕ) (ds : List Directive) (p : ℕ) (d : Directive) (q r : Stage) (t : Tally) (b : ℕ) (z : List ℕ)
+    → slice_get ds p ≡ Some d → stepped d q b ≡ Some r
     → t.used ≡ k → run_from (Some k) (drop p ds) q (p + 1) t (b ∷ z) ≡ out_of TooLong (p + 1) t
 passed_limit k ds p d q r t b z at e full =
     let over : ltb k (one_from d r (t.used + 1) z).used ≡ true = lt-ltb _ _ (omega (arith, full, grows d r (t.used + 1) z)) in
     rw (drop_at ds p d at, e, over, ← full) refl
 
 -- what was opened is that of the stage that the bytes of the item lead to
-pub opened_grown : (d : Directive) (p : Phase) (q r : Stage) (g : List ℕ) (opened : Option Opened) → Shows d p r → GrowsBy q g r → opened ≡ opened_for (text_slot d) q
+pub opened_grown : (d : Directive) (p : Phase) (q r : Stage) (g : List ℕ) (opened : Option Opened) → Shows d p r → GrowsBy q g r
+    → opened ≡ opened_for (text_slot d) q
     → opened_with (slot_in p) g opened ≡ opened_for (text_slot d) r
 opened_grown d p q r g opened showing grown is = grind arith
 
-pub took_all : (k : ℕ) (ds : List Directive) (p : ℕ) (d : Directive) (q r : Stage) (t : Tally) (y z : List ℕ) → slice_get ds p ≡ Some d → stepped_all d q y ≡ Some r
+pub took_all : (k : ℕ) (ds : List Directive) (p : ℕ) (d : Directive) (q r : Stage) (t : Tally) (y z : List ℕ) → slice_get ds p ≡ Some d
+    → stepped_all d q y ≡ Some r
     → run_from (Some k) (drop p ds) q (p + 1) t (y ++ z) ≡ run_from (Some k) (drop p ds) r (p + 1) (with_used (t.used + length y) t) z
 took_all k ds p d q r t y z at e = rw (drop_at ds p d at, one_from-all d q r t.used y z e) refl
 
 -- bytes were taken at once
-pub takes_all_follows : (new old : Standing) (d : Directive) (n : ℕ) (y g : List ℕ) (p : Phase) → slice_get old.directives old.passed ≡ Some d → old.ended ≡ None → n ≡ length y
-    → TakesAll new old p n (opened_with (slot_in p) g old.opened) → ((q : Stage) → Shows d old.phase q → Brings d q y g p) → (z : List ℕ) → Follows new old z (y ++ z)
+pub takes_all_follows : (new old : Standing) (d : Directive) (n : ℕ) (y g : List ℕ) (p : Phase)
+    → slice_get old.directives old.passed ≡ Some d → old.ended ≡ None → n ≡ length y
+    → TakesAll new old p n (opened_with (slot_in p) g old.opened) → ((q : Stage) → Shows d old.phase q → Brings d q y g p) → (z : List ℕ)
+    → Follows new old z (y ++ z)
 takes_all_follows new old d n y g p at waits long takes brings z k report low high does =
-    let own : DoesBy None old.directives old.passed old.phase old.opened old.tally k (y ++ z) report = waiting old k (y ++ z) report waits does in
-    let here : Shows d old.phase own.0 × (old.opened ≡ opened_for (text_slot d) own.0) = subst (λ rest. ShowsFirst rest old.phase old.opened own.0) (drop_at old.directives old.passed d at) own.1 in
+    let own : DoesBy None old.directives old.passed old.phase old.opened old.tally k (y ++ z) report =
+    waiting old k (y ++ z) report waits does in
+    let here : Shows d old.phase own.0 × (old.opened ≡ opened_for (text_slot d) own.0) =
+    subst (λ rest. ShowsFirst rest old.phase old.opened own.0) (drop_at old.directives old.passed d at) own.1 in
     let b = brings own.0 here.0 in
-    same_does new None old.directives old.passed p (opened_with (slot_in p) g old.opened) (with_used (old.tally.used + length y) old.tally) k z report
-    (takes.ended ∙ waits) takes.keeps.directives takes.passed takes.phase takes.opened (takes.tally ∙ ap (λ m. with_used (old.tally.used + m) old.tally) long) (
+    same_does new None old.directives old.passed p (opened_with (slot_in p) g old.opened)
+    (with_used (old.tally.used + length y) old.tally) k z report
+    (takes.ended ∙ waits) takes.keeps.directives takes.passed takes.phase takes.opened
+    (takes.tally ∙ ap (λ m. with_used (old.tally.used + m) old.tally) long) (
       b.stage,
       subst (λ rest. ShowsFirst rest p (opened_with (slot_in p) g old.opened) b.stage) (sym (drop_at old.directives old.passed d at))
           (b.shown, opened_grown d p own.0 b.stage g old.opened b.shown b.grown here.1),
@@ -164,9 +183,12 @@ takes_all_follows new old d n y g p at waits long takes brings z k report low hi
     )
 
 -- the directive under way has used up what it was handed of the piece, and waits for more
-pub waits_follow : (new old : Standing) (d : Directive) (run : Run) (m : ℕ) (piece front item : List ℕ) → slice_get old.directives old.passed ≡ Some d → old.ended ≡ None → front ≡ take m piece → m ≤ length piece
-    → run.before + run.item ≡ length front → item ≡ take run.item (drop run.before front) → TakesAll new old run.phase (run.before + run.item) (opened_with (slot_in run.phase) item old.opened)
-    → ((q : Stage) → Shows d old.phase q → Brings d q front (take run.item (drop run.before front)) run.phase) → (z : List ℕ) → Follows new old (drop (run.before + run.item) piece ++ z) (piece ++ z)
+pub waits_follow : (new old : Standing) (d : Directive) (run : Run) (m : ℕ) (piece front item : List ℕ)
+    → slice_get old.directives old.passed ≡ Some d → old.ended ≡ None → front ≡ take m piece → m ≤ length piece
+    → run.before + run.item ≡ length front → item ≡ take run.item (drop run.before front)
+    → TakesAll new old run.phase (run.before + run.item) (opened_with (slot_in run.phase) item old.opened)
+    → ((q : Stage) → Shows d old.phase q → Brings d q front (take run.item (drop run.before front)) run.phase) → (z : List ℕ)
+    → Follows new old (drop (run.before + run.item) piece ++ z) (piece ++ z)
 waits_follow new old d run m piece front item at waits is within all own takes brings z =
     let long : length front ≡ m = ap length is ∙ length-take-le m piece within in
     let same : run.before + run.item ≡ m = omega (arith, long, all) in
@@ -193,56 +215,85 @@ reaches_taken new old p n text takes = record {
 }
 
 -- the directive has passed
-passes_follows : (new mid old : Standing) (d : Directive) (f : StepEnd) (y z : List ℕ) → slice_get old.directives old.passed ≡ Some d → old.ended ≡ None → Reaches mid old → Passed new mid d f
+passes_follows : (new mid old : Standing) (d : Directive) (f : StepEnd) (y z : List ℕ) → slice_get old.directives old.passed ≡ Some d
+    → old.ended ≡ None → Reaches mid old → Passed new mid d f
     → ((status : Status) → f ≡ Fails status → ⊥)
-    → ((q : Stage) → Shows d old.phase q → old.opened ≡ opened_for (text_slot d) q → one_from d q old.tally.used y ≡ record { used = mid.tally.used; left = z; end = f }) → Follows new old z y
+    → ((q : Stage) → Shows d old.phase q → old.opened ≡ opened_for (text_slot d) q
+    → one_from d q old.tally.used y ≡ record { used = mid.tally.used; left = z; end = f }) → Follows new old z y
 passes_follows new mid old d f y z at waits here passes ok takes k report low high does =
     let u : new.tally.used ≡ mid.tally.used = ap (λ (t : Tally). t.used) passes.tally ∙ counted-used d f mid.tally in
     same_does new None old.directives (old.passed + 1) phase.Skipping None (counted d f mid.tally) k z report
-    (passes.ended ∙ here.ended ∙ waits) (passes.keeps.directives ∙ here.keeps.directives) (passes.passed ∙ ap (λ n. n + 1) here.passed) passes.phase passes.opened passes.tally
-    (close_passes old.directives old.passed d at old.phase old.opened old.tally k y report (waiting old k y report waits does) mid.tally z f (omega (arith, low, u)) here.tally takes ok)
+    (passes.ended ∙ here.ended ∙ waits) (passes.keeps.directives ∙ here.keeps.directives)
+    (passes.passed ∙ ap (λ n. n + 1) here.passed) passes.phase passes.opened passes.tally
+    (close_passes old.directives old.passed d at old.phase old.opened old.tally k y report
+    (waiting old k y report waits does) mid.tally z f (omega (arith, low, u)) here.tally takes ok)
 
 -- the directive has failed
-fails_follows : (new mid old : Standing) (d : Directive) (status : Status) (y z : List ℕ) → slice_get old.directives old.passed ≡ Some d → old.ended ≡ None → Reaches mid old
+fails_follows : (new mid old : Standing) (d : Directive) (status : Status) (y z : List ℕ) → slice_get old.directives old.passed ≡ Some d
+    → old.ended ≡ None → Reaches mid old
     → Stops new mid (record { status = status; at = mid.passed + 1 })
-    → ((q : Stage) → Shows d old.phase q → old.opened ≡ opened_for (text_slot d) q → one_from d q old.tally.used y ≡ record { used = mid.tally.used; left = z; end = Fails status })
+    → ((q : Stage) → Shows d old.phase q → old.opened ≡ opened_for (text_slot d) q
+    → one_from d q old.tally.used y ≡ record { used = mid.tally.used; left = z; end = Fails status })
     → Follows new old z y
 fails_follows new mid old d status y z at waits here stops takes k report low high does =
     let u : new.tally.used ≡ mid.tally.used = ap (λ (t : Tally). t.used) stops.tally in
     stopped_does new (record { status = status; at = mid.passed + 1 }) k z report stops.ended
-    (close_fails old.directives old.passed d at old.phase old.opened old.tally k y report (waiting old k y report waits does) mid.tally z (Fails status) (omega (arith, low, u)) here.tally takes status refl
+    (close_fails old.directives old.passed d at old.phase old.opened old.tally k y report (waiting old k y report waits does) mid.tally z
+    (Fails status) (omega (arith, low, u)) here.tally takes status refl
     ∙ ap (λ n. out_of status (n + 1) mid.tally) (sym here.passed) ∙ ap (out_of status (mid.passed + 1)) (sym stops.tally))
 
 -- the directive has ended after some bytes, as it does on y
-pub ends_follows : (new mid old : Standing) (d : Directive) (f : StepEnd) (y z : List ℕ) → slice_get old.directives old.passed ≡ Some d → old.ended ≡ None → Reaches mid old → Ends new mid d f
-    → ((q : Stage) → Shows d old.phase q → old.opened ≡ opened_for (text_slot d) q → one_from d q old.tally.used y ≡ record { used = mid.tally.used; left = z; end = f }) → Follows new old z y
-ends_follows new mid old d Passes y z at waits here ends takes = passes_follows new mid old d Passes y z at waits here ends (λ status e. cc) takes
-ends_follows new mid old d (Stores slot v) y z at waits here ends takes = passes_follows new mid old d (Stores slot v) y z at waits here ends (λ status e. cc) takes
+pub ends_follows : (new mid old : Standing) (d : Directive) (f : StepEnd) (y z : List ℕ) → slice_get old.directives old.passed ≡ Some d
+    → old.ended ≡ None → Reaches mid old → Ends new mid d f
+    → ((q : Stage) → Shows d old.phase q → old.opened ≡ opened_for (text_slot d) q
+    → one_from d q old.tally.used y ≡ record { used = mid.tally.used; left = z; end = f }) → Follows new old z y
+ends_follows new mid old d Passes y z at waits here ends takes =
+    passes_follows new mid old d Passes y z at waits here ends (λ status e. cc) takes
+ends_follows new mid old d (Stores slot v) y z at waits here ends takes =
+    passes_follows new mid old d (Stores slot v) y z at waits here ends (λ status e. cc) takes
 ends_follows new mid old d (Fails status) y z at waits here ends takes = fails_follows new mid old d status y z at waits here ends takes
 
 -- where nothing follows
-pub last_follows : (new old : Standing) (d : Directive) (f : StepEnd) → slice_get old.directives old.passed ≡ Some d → old.ended ≡ None → Ends new old d f
-    → ((q : Stage) → Shows d old.phase q → old.opened ≡ opened_for (text_slot d) q → f ≡ finished d q old.tally.used false) → Follows new old [] []
+pub last_follows : (new old : Standing) (d : Directive) (f : StepEnd) → slice_get old.directives old.passed ≡ Some d → old.ended ≡ None
+    → Ends new old d f
+    → ((q : Stage) → Shows d old.phase q → old.opened ≡ opened_for (text_slot d) q → f ≡ finished d q old.tally.used false)
+    → Follows new old [] []
 last_follows new old d f at waits ends is =
-    ends_follows new old old d f [] [] at waits (record { keeps = record { directives = refl; limit = refl; met = refl; capacity = omega arith; room = omega arith }; ended = refl; passed = refl; tally = refl }) ends
+    ends_follows new old old d f [] [] at waits (record {
+      keeps =
+          record { directives = refl; limit = refl; met = refl; capacity = omega arith; room = omega arith };
+      ended = refl;
+      passed = refl;
+      tally = refl;
+    }) ends
     (λ q shows opened. ap (λ (e : StepEnd). record { used = old.tally.used; left = []; end = e }) (sym (is q shows opened)))
 
 -- what closes the text under way closes the whole item
-pub closing_text : (d : Directive) (current new : Phase) (q : Stage) (opened : Option Opened) (g : List ℕ) (end : Finished) → Shows d current q → opened ≡ opened_for (text_slot d) q
-    → IsNextSlot (text_slot d) (slot_in current) (slot_in new) → IsEnd d new end → end_of (text_of (opened_with (slot_in new) g opened)) end ≡ end_of (item_of q ++ g) end
+pub closing_text : (d : Directive) (current new : Phase) (q : Stage) (opened : Option Opened) (g : List ℕ) (end : Finished)
+    → Shows d current q → opened ≡ opened_for (text_slot d) q
+    → IsNextSlot (text_slot d) (slot_in current) (slot_in new) → IsEnd d new end
+    → end_of (text_of (opened_with (slot_in new) g opened)) end ≡ end_of (item_of q ++ g) end
 closing_text d current new q opened g end shows is next own = grind arith
 
 -- the directive under way has ended within the piece
-pub answer_follows : (new mid old : Standing) (d : Directive) (run : Run) (end : Finished) (front : List ℕ) (y z : List ℕ) → slice_get old.directives old.passed ≡ Some d → old.ended ≡ None
-    → TakesAll mid old run.phase (run.before + run.item) (opened_with (slot_in run.phase) (take run.item (drop run.before front)) old.opened) → Ends new mid d (end_of (text_of mid.opened) end)
+pub answer_follows : (new mid old : Standing) (d : Directive) (run : Run) (end : Finished) (front : List ℕ) (y z : List ℕ)
+    → slice_get old.directives old.passed ≡ Some d → old.ended ≡ None
+    → TakesAll mid old run.phase (run.before + run.item) (opened_with (slot_in run.phase)
+    (take run.item (drop run.before front)) old.opened) → Ends new mid d (end_of (text_of mid.opened) end)
     → IsNextSlot (text_slot d) (slot_in old.phase) (slot_in run.phase) → IsEnd d run.phase end
     → ((q : Stage) → Shows d old.phase q
-    → one_from d q old.tally.used y ≡ record { used = old.tally.used + (run.before + run.item); left = z; end = end_of (item_of q ++ take run.item (drop run.before front)) end })
+    → one_from d q old.tally.used y ≡ record {
+      used = old.tally.used + (run.before + run.item);
+      left = z;
+      end =
+          end_of (item_of q ++ take run.item (drop run.before front)) end;
+    })
     → Follows new old z y
 answer_follows new mid old d run end front y z at waits takes ends next own parts =
     ends_follows new mid old d (end_of (text_of mid.opened) end) y z at waits (reaches_taken mid old run.phase _ _ takes) ends
     (λ q shows is. parts q shows ∙ same_part (sym (ap (λ (t : Tally). t.used) takes.tally)) refl
-    (sym (ap (λ o. end_of (text_of o) end) takes.opened ∙ closing_text d old.phase run.phase q old.opened (take run.item (drop run.before front)) end shows is next own)))
+    (sym (ap (λ o. end_of (text_of o) end) takes.opened ∙ closing_text d old.phase run.phase q old.opened
+    (take run.item (drop run.before front)) end shows is next own)))
 
 -- ---- the limit, and memory that is refused
 
@@ -254,13 +305,16 @@ limit_follows new old d at waits stops full y more k report low high does =
     let u : new.tally.used ≡ old.tally.used = ap (λ (t : Tally). t.used) stops.tally in
     let same : k ≡ old.tally.used = omega (arith, low, high, full, u) in
     stopped_does new (record { status = TooLong; at = old.passed + 1 }) k y report stops.ended
-    (too_long old.directives old.passed d at old.phase old.opened old.tally k y report (waiting old k y report waits does) (λ q shows. let h = more q shows in omega (arith, same, h))
+    (too_long old.directives old.passed d at old.phase old.opened old.tally k y report (waiting old k y report waits does)
+    (λ q shows. let h = more q shows in omega (arith, same, h))
     ∙ ap (λ m. out_of TooLong (old.passed + 1) (with_used m old.tally)) same ∙ ap (out_of TooLong (old.passed + 1)) (sym stops.tally))
 
 -- the storing of a byte of the item was refused
-pub runs_out_refuses : (new old : Standing) (d : Directive) (before item : ℕ) (piece : List ℕ) → slice_get old.directives old.passed ≡ Some d → old.ended ≡ None → RunsOut new old before item
+pub runs_out_refuses : (new old : Standing) (d : Directive) (before item : ℕ) (piece : List ℕ)
+    → slice_get old.directives old.passed ≡ Some d → old.ended ≡ None → RunsOut new old before item
     → before + item ≤ length piece → old.tally.used + (before + item) ≤ old.limit
-    → ((q : Stage) → Shows d old.phase q → (z : List ℕ) → old.tally.used + (before + item) ≤ (one_from d q old.tally.used (piece ++ z)).used)
+    → ((q : Stage) → Shows d old.phase q → (z : List ℕ) → old.tally.used + (before + item)
+    ≤ (one_from d q old.tally.used (piece ++ z)).used)
     → ((q : Stage) → Shows d old.phase q → (j : ℕ) → j < item → StoresByte d (get_or piece (before + j) 0)) → RefusesIn new old piece
 runs_out_refuses new old d before item piece at waits r within limit uses stores = record {
   front = take i piece;
@@ -275,7 +329,8 @@ runs_out_refuses new old d before item piece at waits r within limit uses stores
     ended = r.ended;
     below = (let l = r.keeps.limit in let s = r.short in let u = used in omega (arith, limit, l, s, u));
     cut = λ report does.
-        let own : DoesBy None old.directives old.passed old.phase old.opened old.tally new.tally.used (piece ++ z) report = waiting old new.tally.used (piece ++ z) report waits does in
+        let own : DoesBy None old.directives old.passed old.phase old.opened old.tally new.tally.used (piece ++ z) report =
+        waiting old new.tally.used (piece ++ z) report waits does in
         let here = shows old.directives old.passed d at old.phase old.opened old.tally new.tally.used (piece ++ z) report own in (
           stores own.0 here.0 r.stored r.short,
           too_long old.directives old.passed d at old.phase old.opened old.tally new.tally.used (piece ++ z) report own
@@ -295,10 +350,12 @@ runs_out_refuses new old d before item piece at waits r within limit uses stores
     below = (let s = r.short in omega (arith, s, within))
 
 -- every directive has passed
-pub done_follows : (new old : Standing) → slice_get old.directives old.passed ≡ None → old.ended ≡ None → Stops new old (record { status = Done; at = 0 }) → (z : List ℕ) → Follows new old z z
+pub done_follows : (new old : Standing) → slice_get old.directives old.passed ≡ None → old.ended ≡ None
+    → Stops new old (record { status = Done; at = 0 }) → (z : List ℕ) → Follows new old z z
 done_follows new old at waits stops z k report low high does =
     stopped_does new (record { status = Done; at = 0 }) k z report stops.ended
-    (conclude_same old.directives old.passed old.phase old.opened old.tally k z report at (waiting old k z report waits does) ∙ ap (out_of Done 0) (sym stops.tally))
+    (conclude_same old.directives old.passed old.phase old.opened old.tally k z report at (waiting old k z report waits does)
+    ∙ ap (out_of Done 0) (sym stops.tally))
 
 -- ---- counting a directive that passed
 
@@ -314,20 +371,24 @@ one_more v n = grind arith
 
 -- ---- one move after another
 
-pub follows_on : (old mid new : Standing) (x y z : List ℕ) → mid.tally.used ≤ new.tally.used → mid.limit ≡ old.limit → Follows mid old y z → Follows new mid x y
+pub follows_on : (old mid new : Standing) (x y z : List ℕ) → mid.tally.used ≤ new.tally.used → mid.limit ≡ old.limit → Follows mid old y z
+    → Follows new mid x y
     → Follows new old x z
 follows_on old mid new x y z more same first second = grind arith
 
 -- one that is refused after others
-pub refuses_on : (old mid new : Standing) (b : ℕ) (y z : List ℕ) → mid.tally.used ≤ new.tally.used → new.limit ≡ old.limit → Follows mid old y z → Refuses new mid b y → Refuses new old b z
+pub refuses_on : (old mid new : Standing) (b : ℕ) (y z : List ℕ) → mid.tally.used ≤ new.tally.used → new.limit ≡ old.limit
+    → Follows mid old y z → Refuses new mid b y → Refuses new old b z
 refuses_on old mid new b y z more same first r = grind arith
 
 -- of no byte none is refused
-pub none_refused : (new old : Standing) (xs : List ℕ) → length xs ≡ 0 → (is_no_memory new.ended ≡ true → RefusesIn new old xs) → is_no_memory new.ended ≡ false
+pub none_refused : (new old : Standing) (xs : List ℕ) → length xs ≡ 0 → (is_no_memory new.ended ≡ true → RefusesIn new old xs)
+    → is_no_memory new.ended ≡ false
 none_refused new old xs none h = grind (arith, length-append)
 
 -- a byte that is refused behind the first of a piece
-pub refused_behind : (old mid new : Standing) (xs : List ℕ) (i : ℕ) → i ≤ length xs → new.limit ≡ old.limit → mid.tally.used ≡ old.tally.used + i → ((z : List ℕ) → Follows mid old (drop i xs ++ z) (xs ++ z))
+pub refused_behind : (old mid new : Standing) (xs : List ℕ) (i : ℕ) → i ≤ length xs → new.limit ≡ old.limit
+    → mid.tally.used ≡ old.tally.used + i → ((z : List ℕ) → Follows mid old (drop i xs ++ z) (xs ++ z))
     → RefusesIn new mid (drop i xs) → RefusesIn new old xs
 refused_behind old mid new xs i within limit used first w = record {
   front = take i xs ++ w.front;
@@ -350,11 +411,13 @@ pub if_none : {A : Type 0} (o : Option A) (P : Type 0) → P → IfNone o P
 if_none o P p = grind arith
 
 -- a directive that takes a byte has used one more, if nothing follows
-pub byte_took : (k : ℕ) (ds : List Directive) (p : ℕ) (d : Directive) (q r : Stage) (t : Tally) (b : ℕ) → slice_get ds p ≡ Some d → stepped d q b ≡ Some r
+pub byte_took : (k : ℕ) (ds : List Directive) (p : ℕ) (d : Directive) (q r : Stage) (t : Tally) (b : ℕ) → slice_get ds p ≡ Some d
+    → stepped d q b ≡ Some r
     → run_from (Some k) (drop p ds) q (p + 1) t (b ∷ []) ≡ run_from (Some k) (drop p ds) r (p + 1) (with_used (t.used + 1) t) []
 byte_took k ds p d q r t b at e = took k ds p d q r t (with_used (t.used + 1) t) b [] at e refl
 
-pub byte_past : (k : ℕ) (ds : List Directive) (p : ℕ) (d : Directive) (q r : Stage) (t : Tally) (b : ℕ) → slice_get ds p ≡ Some d → stepped d q b ≡ Some r
+pub byte_past : (k : ℕ) (ds : List Directive) (p : ℕ) (d : Directive) (q r : Stage) (t : Tally) (b : ℕ) → slice_get ds p ≡ Some d
+    → stepped d q b ≡ Some r
     → t.used ≡ k → run_from (Some k) (drop p ds) q (p + 1) t (b ∷ []) ≡ out_of TooLong (p + 1) t
 byte_past k ds p d q r t b at e full = passed_limit k ds p d q r t b [] at e full
 

@@ -50,7 +50,8 @@ next_is xs i z h = ap (λ (y : List ℕ). y ++ z) (drop_more xs i 0 h)
 pub parted : (xs : List ℕ) (i : ℕ) (z : List ℕ) → take i xs ++ (drop i xs ++ z) ≡ xs ++ z
 parted xs i z = sym (append_assoc (take i xs) (drop i xs) z) ∙ ap (λ (y : List ℕ). y ++ z) (take-append-drop i xs)
 
-pub same_part : {n m : ℕ} {x y : List ℕ} {e f : StepEnd} → n ≡ m → x ≡ y → e ≡ f → ◌≡◌ {A = Part} (record { used = n; left = x; end = e }) (record { used = m; left = y; end = f })
+pub same_part : {n m : ℕ} {x y : List ℕ} {e f : StepEnd} → n ≡ m → x ≡ y → e ≡ f
+    → ◌≡◌ {A = Part} (record { used = n; left = x; end = e }) (record { used = m; left = y; end = f })
 same_part p q r = (λ i. record { used = p i; left = q i; end = r i })
 
 pub none_first : (xs : List ℕ) → None ≡ slice_get xs 0 → 0 ≡ length xs
@@ -63,7 +64,8 @@ some_first xs b e = (slice_get_within xs 0 b (sym e), get_or_from_slice_get xs 0
 -- ---- where a directive ends
 
 -- it takes nothing of the rest where it doesn't take the next byte
-pub stays_next : (d : Directive) (q : Stage) (k : ℕ) (piece : List ℕ) → k < length piece → stepped d q (get_or piece k 0) ≡ None → StaysAt d q (drop k piece)
+pub stays_next : (d : Directive) (q : Stage) (k : ℕ) (piece : List ℕ) → k < length piece → stepped d q (get_or piece k 0) ≡ None
+    → StaysAt d q (drop k piece)
 stays_next d q k piece below none = grind (arith, next_is)
 
 -- and where it is full
@@ -71,20 +73,25 @@ pub stays_full : (d : Directive) (q : Stage) (rest : List ℕ) → IsProper d �
 stays_full d q rest proper full n z = full_refuses d proper q n (rest ++ z) full
 
 -- behind a front of the piece that it takes it ends
-ends_behind : (d : Directive) (q r : Stage) (n w k : ℕ) (piece : List ℕ) (end : StepEnd) → w ≤ length piece → stepped_all d q (take w piece) ≡ Some r
+ends_behind : (d : Directive) (q r : Stage) (n w k : ℕ) (piece : List ℕ) (end : StepEnd) → w ≤ length piece
+    → stepped_all d q (take w piece) ≡ Some r
     → EndsIn d r (n + w) (drop w piece) k end → EndsIn d q n piece (w + k) end
 ends_behind d q r n w k piece end within goes e = record {
   within = omega (arith, length-drop w piece, e.within, within);
   takes = λ z.
-      ap (one_from d q n) (sym (parted piece w z)) ∙ one_from-all d q r n (take w piece) (drop w piece ++ z) goes ∙ ap (λ m. one_from d r (n + m) (drop w piece ++ z)) (length-take-le w piece within)
+      ap (one_from d q n) (sym (parted piece w z)) ∙ one_from-all d q r n (take w piece) (drop w piece ++ z) goes
+      ∙ ap (λ m. one_from d r (n + m) (drop w piece ++ z)) (length-take-le w piece within)
       ∙ e.takes z ∙ same_part (omega arith) (ap (λ y. y ++ z) (drop-drop k w piece)) refl;
 }
 
 -- a front of the piece brings it to a stage at which it ends
-pub ends_in : (d : Directive) (q r : Stage) (n k : ℕ) (piece : List ℕ) (end : StepEnd) → k ≤ length piece → stepped_all d q (take k piece) ≡ Some r
-    → ((m : ℕ) (z : List ℕ) → one_from d r m (drop k piece ++ z) ≡ record { used = m; left = drop k piece ++ z; end = end }) → EndsIn d q n piece k end
+pub ends_in : (d : Directive) (q r : Stage) (n k : ℕ) (piece : List ℕ) (end : StepEnd) → k ≤ length piece
+    → stepped_all d q (take k piece) ≡ Some r
+    → ((m : ℕ) (z : List ℕ) → one_from d r m (drop k piece ++ z) ≡ record { used = m; left = drop k piece ++ z; end = end })
+    → EndsIn d q n piece k end
 ends_in d q r n k piece end within goes stays =
-    rw add-zero at (ends_behind d q r n k 0 piece end within goes (record { within = omega arith; takes = λ z. stays (n + k) z ∙ same_part (omega arith) refl refl }))
+    rw add-zero at (ends_behind d q r n k 0 piece end within goes
+    (record { within = omega arith; takes = λ z. stays (n + k) z ∙ same_part (omega arith) refl refl }))
 
 -- a front of the piece on which it ends
 ends_longer : (d : Directive) (q : Stage) (n k : ℕ) (x y : List ℕ) (end : StepEnd) → EndsIn d q n x k end → EndsIn d q n (x ++ y) k end
@@ -93,13 +100,15 @@ ends_longer d q n k x y end e = record {
   takes = λ z. rw (append_assoc x y z, drop-append-le k x y e.within, append_assoc (drop k x) y z) (e.takes (y ++ z));
 }
 
-pub front_ends : (d : Directive) (q : Stage) (n m k : ℕ) (piece front : List ℕ) (end : StepEnd) → front ≡ take m piece → EndsIn d q n front k end
+pub front_ends : (d : Directive) (q : Stage) (n m k : ℕ) (piece front : List ℕ) (end : StepEnd) → front ≡ take m piece
+    → EndsIn d q n front k end
     → (z : List ℕ) → one_from d q n (piece ++ z) ≡ record { used = n + k; left = drop k piece ++ z; end = end }
 front_ends d q n m k piece front end is e = (rw (is, take-append-drop) at (ends_longer d q n k front (drop m piece) end e)).takes
 
 -- ---- what the answer says is taken
 
-pub answers_use : (d : Directive) (q : Stage) (n : ℕ) (piece : List ℕ) (run : Run) → run.before + run.item ≤ length piece → Answers d q n piece run
+pub answers_use : (d : Directive) (q : Stage) (n : ℕ) (piece : List ℕ) (run : Run) → run.before + run.item ≤ length piece
+    → Answers d q n piece run
     → (z : List ℕ) → n + (run.before + run.item) ≤ (one_from d q n (piece ++ z)).used
 answers_use d q n piece run within a z = by_ends run.ends a.goes
   where
@@ -111,21 +120,25 @@ answers_use d q n piece run within a z = by_ends run.ends a.goes
     by_ends (Some end) h = let same = ap (λ (p : Part). p.used) (h.takes z) in omega (arith, same)
 
 -- of a piece of which the directive was handed a front
-module _ (d : Directive) (q : Stage) (n m : ℕ) (piece front : List ℕ) (run : Run) (is : front ≡ take m piece) (within : run.before + run.item ≤ length front) (a : Answers d q n front run) where
+module _ (d : Directive) (q : Stage) (n m : ℕ) (piece front : List ℕ) (run : Run) (is : front ≡ take m piece)
+    (within : run.before + run.item ≤ length front) (a : Answers d q n front run) where
   pub uses_front : (z : List ℕ) → n + (run.before + run.item) ≤ (one_from d q n (piece ++ z)).used
   uses_front z = grind (arith, parted, answers_use)
 
-  pub stores_front : (slot : Option ℕ) → slot_in run.phase ≡ slot → IsSome slot → (j : ℕ) → j < run.item → StoresByte d (get_or piece (run.before + j) 0)
+  pub stores_front : (slot : Option ℕ) → slot_in run.phase ≡ slot → IsSome slot → (j : ℕ) → j < run.item
+      → StoresByte d (get_or piece (run.before + j) 0)
   stores_front slot own some j below = grind (arith, length-take, get_or-take)
 
 -- ---- behind bytes that are skipped
 
-pub answers_behind : (d : Directive) (n w : ℕ) (piece : List ℕ) (run : Run) → w ≤ length piece → run.before + run.item ≤ length (drop w piece) → stepped_all d Skipping (take w piece) ≡ Some Skipping
+pub answers_behind : (d : Directive) (n w : ℕ) (piece : List ℕ) (run : Run) → w ≤ length piece
+    → run.before + run.item ≤ length (drop w piece) → stepped_all d Skipping (take w piece) ≡ Some Skipping
     → Answers d Skipping (n + w) (drop w piece) run → Answers d Skipping n piece (record run { before = w + run.before })
 answers_behind d n w piece run within fits skips a = record {
   goes = by_ends run.ends a.goes;
   stores = λ slot j own below.
-      let place : get_or (drop w piece) (run.before + j) 0 ≡ get_or piece (w + (run.before + j)) 0 = get_or-drop w piece (run.before + j) 0 in
+      let place : get_or (drop w piece) (run.before + j) 0 ≡ get_or piece (w + (run.before + j)) 0 =
+      get_or-drop w piece (run.before + j) 0 in
       let same : w + (run.before + j) ≡ w + run.before + j = omega arith in
       subst (StoresByte d) (place ∙ ap (λ i. get_or piece i 0) same) (a.stores slot j own below);
 }
@@ -133,10 +146,12 @@ answers_behind d n w piece run within fits skips a = record {
     item_is : take run.item (drop run.before (drop w piece)) ≡ take run.item (drop (w + run.before) piece)
     item_is = ap (take run.item) (drop-drop run.before w piece)
 
-    by_ends : (o : Option Finished) → AnswersBy o d Skipping (n + w) (drop w piece) run → AnswersBy o d Skipping n piece (record run { before = w + run.before })
+    by_ends : (o : Option Finished) → AnswersBy o d Skipping (n + w) (drop w piece) run
+        → AnswersBy o d Skipping n piece (record run { before = w + run.before })
     by_ends None h = record {
       stage = h.stage;
-      stepped = ap (stepped_all d Skipping) (sym (take-append-drop w piece)) ∙ all-append d Skipping Skipping (take w piece) (drop w piece) skips ∙ h.stepped;
+      stepped = ap (stepped_all d Skipping) (sym (take-append-drop w piece))
+          ∙ all-append d Skipping Skipping (take w piece) (drop w piece) skips ∙ h.stepped;
       shown = h.shown;
       grown = subst (λ g. GrowsBy Skipping g h.stage) item_is h.grown;
     }
@@ -145,7 +160,8 @@ answers_behind d n w piece run within fits skips a = record {
         rw (place, item_is) at (ends_behind d Skipping Skipping n w (run.before + run.item) piece _ within skips h)
 
 -- the byte behind them
-pub next_behind : (test : ℕ → Bool) (w : ℕ) (piece : List ℕ) → (w < length piece → test (get_or piece w 0) ≡ false) → 0 < length (drop w piece) → test (get_or (drop w piece) 0 0) ≡ false
+pub next_behind : (test : ℕ → Bool) (w : ℕ) (piece : List ℕ) → (w < length piece → test (get_or piece w 0) ≡ false)
+    → 0 < length (drop w piece) → test (get_or (drop w piece) 0 0) ≡ false
 next_behind test w piece next some = grind (arith, length-drop, get_or-drop)
 
 -- ---- directives without an item
@@ -154,7 +170,8 @@ pub plain_waits : (d : Directive) (n w : ℕ) (piece : List ℕ) → length piec
     → Answers d Skipping n piece (record { before = w; item = 0; phase = phase.Skipping; ends = None })
 plain_waits d n w piece all skips = grind (arith, take_all)
 
-pub plain_ends : (d : Directive) (n w : ℕ) (r : Stage) (piece : List ℕ) (end : Finished) → w ≤ length piece → stepped_all d Skipping (take w piece) ≡ Some r
+pub plain_ends : (d : Directive) (n w : ℕ) (r : Stage) (piece : List ℕ) (end : Finished) → w ≤ length piece
+    → stepped_all d Skipping (take w piece) ≡ Some r
     → ((m : ℕ) (z : List ℕ) → one_from d r m (drop w piece ++ z) ≡ record { used = m; left = drop w piece ++ z; end = end_of [] end })
     → Answers d Skipping n piece (record { before = w; item = 0; phase = phase.Skipping; ends = Some end })
 plain_ends d n w r piece end within goes stays = grind (arith, (ends_in d Skipping r n w piece (end_of [] end) within goes stays))
@@ -166,11 +183,14 @@ module _ (piece : List ℕ) (n w : ℕ) (within : w ≤ length piece) (white : (
   pub space_waits : length piece ≤ w → Answers Space Skipping n piece (record { before = w; item = 0; phase = phase.Skipping; ends = None })
   space_waits all = plain_waits Space n w piece all space_skips
 
-  pub space_ends : w < length piece → is_white (get_or piece w 0) ≡ false → Answers Space Skipping n piece (record { before = w; item = 0; phase = phase.Skipping; ends = Some finish.Passes })
-  space_ends below ink = plain_ends Space n w Skipping piece finish.Passes within space_skips (stays_next Space Skipping w piece below (ap (λ v. cond v (Some Skipping) None) ink))
+  pub space_ends : w < length piece → is_white (get_or piece w 0) ≡ false
+      → Answers Space Skipping n piece (record { before = w; item = 0; phase = phase.Skipping; ends = Some finish.Passes })
+  space_ends below ink = plain_ends Space n w Skipping piece finish.Passes within space_skips
+      (stays_next Space Skipping w piece below (ap (λ v. cond v (Some Skipping) None) ink))
 
   pub percent_skips : stepped_all Percent Skipping (take w piece) ≡ Some Skipping
-  percent_skips = skips_all Percent piece w within (λ k below. ap (λ v. cond v (Some Skipping) (stepped (Byte 37) Skipping (get_or piece k 0))) (white k below))
+  percent_skips = skips_all Percent piece w within (λ k below. ap
+      (λ v. cond v (Some Skipping) (stepped (Byte 37) Skipping (get_or piece k 0))) (white k below))
 
 -- ---- the byte that is due
 
@@ -183,14 +203,16 @@ pub percent_passes : (n : ℕ) (piece : List ℕ) → 0 < length piece → is_wh
 percent_passes n piece some ink is = grind (arith, stays_full, taken_full)
 
 -- n
-pub count_answers : (c : Conversion) (n : ℕ) (piece : List ℕ) (end : Finished) → IsProper (Conv c) → is_count c.shape ≡ true → end_of [] end ≡ count_end c c.slot n
+pub count_answers : (c : Conversion) (n : ℕ) (piece : List ℕ) (end : Finished) → IsProper (Conv c) → is_count c.shape ≡ true
+    → end_of [] end ≡ count_end c c.slot n
     → Answers (Conv c) Skipping n piece (record { before = 0; item = 0; phase = phase.Skipping; ends = Some end })
 count_answers c n piece end proper is e =
     let same : n ≡ n + (0 + 0) = omega arith in
     record {
       goes = record {
         within = omega arith;
-        takes = λ z. full_refuses (Conv c) proper Skipping n (piece ++ z) (sym (skipping_full (Conv c) proper) ∙ is) ∙ same_part same refl (count_finished c c.shape Skipping n true is ∙ sym e);
+        takes = λ z. full_refuses (Conv c) proper Skipping n (piece ++ z) (sym (skipping_full (Conv c) proper) ∙ is)
+            ∙ same_part same refl (count_finished c c.shape Skipping n true is ∙ sym e);
       };
       stores = λ slot j own below. absurd (omega (arith, below));
     }
@@ -198,10 +220,12 @@ count_answers c n piece end proper is e =
 -- ---- items
 
 -- the bytes of an item that is a text belong to it
-pub item_stores : (c : Conversion) (f y : List ℕ) (slot j : ℕ) → CanAll c f y → text_slot (Conv c) ≡ Some slot → j < length y → StoresByte (Conv c) (get_or y j 0)
+pub item_stores : (c : Conversion) (f y : List ℕ) (slot j : ℕ) → CanAll c f y → text_slot (Conv c) ≡ Some slot → j < length y
+    → StoresByte (Conv c) (get_or y j 0)
 item_stores c f y slot j can own below = grind (arith, common_steps)
 
-pub stores_behind : (c : Conversion) (f piece : List ℕ) (n slot j : ℕ) → n ≤ length piece → CanAll c f (take n piece) → text_slot (Conv c) ≡ Some slot → j < n → StoresByte (Conv c) (get_or piece j 0)
+pub stores_behind : (c : Conversion) (f piece : List ℕ) (n slot j : ℕ) → n ≤ length piece → CanAll c f (take n piece)
+    → text_slot (Conv c) ≡ Some slot → j < n → StoresByte (Conv c) (get_or piece j 0)
 stores_behind c f piece n slot j within can own below =
     let long = length-take-le n piece within in
     subst (StoresByte (Conv c)) (get_or-take n piece j 0 below) (item_stores c f (take n piece) slot j can own (omega (arith, below, long)))
@@ -211,14 +235,17 @@ pub scan_has_item : (scan : ItemScan) (f : List ℕ) → HasTaken scan f → is_
 scan_has_item scan f h = grind arith
 
 -- the item f with bytes of the piece ends where the next byte can't be taken
-pub over_next : (c : Conversion) (f piece : List ℕ) (n : ℕ) → IsProperShape c.shape → n < length piece → (CanTake c (f ++ take (n + 1) piece) → ⊥) → StaysAt (Conv c) (Item (f ++ take n piece)) (drop n piece)
+pub over_next : (c : Conversion) (f piece : List ℕ) (n : ℕ) → IsProperShape c.shape → n < length piece
+    → (CanTake c (f ++ take (n + 1) piece) → ⊥) → StaysAt (Conv c) (Item (f ++ take n piece)) (drop n piece)
 over_next c f piece n proper below never =
     let next : f ++ take (n + 1) piece ≡ (f ++ take n piece) ++ get_or piece n 0 ∷ [] = rw (take_more piece n 0 below, append_assoc) refl in
-    let no : can_take c ((f ++ take n piece) ++ get_or piece n 0 ∷ []) ≡ false = false_from_ne_true _ (λ e. never ((tests_can_take c proper (f ++ take (n + 1) piece)).from (ap (can_take c) next ∙ e))) in
+    let no : can_take c ((f ++ take n piece) ++ get_or piece n 0 ∷ []) ≡ false =
+    false_from_ne_true _ (λ e. never ((tests_can_take c proper (f ++ take (n + 1) piece)).from (ap (can_take c) next ∙ e))) in
     stays_next (Conv c) (Item (f ++ take n piece)) n piece below (rw no refl)
 
 -- the first bytes of an item
-begins : (c : Conversion) (piece : List ℕ) (n : ℕ) → 0 < n → n ≤ length piece → (shape_skips c.shape && is_white (get_or piece 0 0)) ≡ false → CanAll c [] (take n piece)
+begins : (c : Conversion) (piece : List ℕ) (n : ℕ) → 0 < n → n ≤ length piece
+    → (shape_skips c.shape && is_white (get_or piece 0 0)) ≡ false → CanAll c [] (take n piece)
     → stepped_all (Conv c) Skipping (take n piece) ≡ Some (Item (take n piece))
 begins c piece zero some within ink can = absurd (omega (arith, some))
 begins c [] (suc n) some within ink can = absurd (omega (arith, within))
@@ -228,13 +255,17 @@ some_taken : (piece : List ℕ) (n : ℕ) → 0 < n → n ≤ length piece → t
 some_taken piece n some within e = let long = length-take-le n piece within in let none = ap length e in omega (arith, long, none, some)
 
 -- an item that ends or waits behind so many bytes of the piece, which bring the directive to it
-item_answers : (d : Directive) (q : Stage) (h : List ℕ) (n item : ℕ) (piece : List ℕ) (current : Phase) (ends : Option Finished) → item ≤ length piece
+item_answers : (d : Directive) (q : Stage) (h : List ℕ) (n item : ℕ) (piece : List ℕ) (current : Phase) (ends : Option Finished)
+    → item ≤ length piece
     → stepped_all d q (take item piece) ≡ Some (Item h) → GrowsBy q (take item piece) (Item h) → item_of q ++ take item piece ≡ h
-    → ((slot j : ℕ) → slot_in current ≡ Some slot → j < item → StoresByte d (get_or piece j 0)) → (ends ≡ None → (item ≡ length piece) × Shows d current (Item h))
+    → ((slot j : ℕ) → slot_in current ≡ Some slot → j < item → StoresByte d (get_or piece j 0))
+    → (ends ≡ None → (item ≡ length piece) × Shows d current (Item h))
     → IfSome ends (EndsAt d h (drop item piece)) → Answers d q n piece (record { before = 0; item = item; phase = current; ends = ends })
-item_answers d q h n item piece current ends within goes grown text stores all over = record { goes = by_ends ends all over; stores = λ slot j own below. rw zero-add (stores slot j own below) }
+item_answers d q h n item piece current ends within goes grown text stores all over =
+    record { goes = by_ends ends all over; stores = λ slot j own below. rw zero-add (stores slot j own below) }
   where
-    by_ends : (o : Option Finished) → (o ≡ None → (item ≡ length piece) × Shows d current (Item h)) → IfSome o (EndsAt d h (drop item piece))
+    by_ends : (o : Option Finished) → (o ≡ None → (item ≡ length piece) × Shows d current (Item h))
+        → IfSome o (EndsAt d h (drop item piece))
         → AnswersBy o d q n piece (record { before = 0; item = item; phase = current; ends = ends })
     by_ends None all over = grind (arith, take_all, (all refl))
     by_ends (Some end) all over = rw (zero-add, text) (ends_in d q (Item h) n item piece (end_of h end) within goes over)
@@ -243,7 +274,8 @@ item_answers d q h n item piece current ends within goes grown text stores all o
 module _ (c : Conversion) (n : ℕ) (piece : List ℕ) (item : ℕ) (proper : IsProper (Conv c)) (some : 0 < item) (within : item ≤ length piece)
     (ink : (shape_skips c.shape && is_white (get_or piece 0 0)) ≡ false) (can : CanAll c [] (take item piece)) where
   pub item_begins : (current : Phase) (ends : Option Finished) → slot_in current ≡ text_slot (Conv c) → (ends ≡ None → item ≡ length piece)
-      → (take item piece ≢ [] → Shows (Conv c) current (Item (take item piece))) → (take item piece ≢ [] → IfSome ends (EndsAt (Conv c) (take item piece) (drop item piece)))
+      → (take item piece ≢ [] → Shows (Conv c) current (Item (take item piece)))
+      → (take item piece ≢ [] → IfSome ends (EndsAt (Conv c) (take item piece) (drop item piece)))
       → Answers (Conv c) Skipping n piece (record { before = 0; item = item; phase = current; ends = ends })
   item_begins current ends own all shows over =
       let begun = some_taken piece item some within in
@@ -251,30 +283,39 @@ module _ (c : Conversion) (n : ℕ) (piece : List ℕ) (item : ℕ) (proper : Is
       (λ slot j is below. stores_behind c [] piece item slot j within can (sym own ∙ is) below) (λ e. (all e, shows begun)) (over begun)
 
 -- an item that goes on with the piece
-pub item_goes_on : (d : Directive) (q : Stage) (slot : Option ℕ) (scan : ItemScan) (n item : ℕ) (piece : List ℕ) (current : Phase) (ends : Option Finished)
-    → (shows : ShowsItem d slot scan q) → item ≤ length piece → CanAll (conversion_of scan) shows.item (take item piece) → slot_in current ≡ slot → (ends ≡ None → item ≡ length piece)
+pub item_goes_on : (d : Directive) (q : Stage) (slot : Option ℕ) (scan : ItemScan) (n item : ℕ) (piece : List ℕ) (current : Phase)
+    (ends : Option Finished)
+    → (shows : ShowsItem d slot scan q) → item ≤ length piece → CanAll (conversion_of scan) shows.item (take item piece)
+    → slot_in current ≡ slot → (ends ≡ None → item ≡ length piece)
     → Shows d current (Item (shows.item ++ take item piece)) → IfSome ends (EndsAt d (shows.item ++ take item piece) (drop item piece))
     → Answers d q n piece (record { before = 0; item = item; phase = current; ends = ends })
 item_goes_on d q slot scan n item piece current ends shows within can own all now over =
     rw shows.stage (item_answers d (Item shows.item) (shows.item ++ take item piece) n item piece current ends within
     (rw shows.own (item_all (conversion_of scan) shows.item (take item piece) can)) refl refl
-    (λ s j is below. rw shows.own (stores_behind (conversion_of scan) shows.item piece item s j within can (ap text_slot (sym shows.own) ∙ shows.text ∙ sym own ∙ is) below))
+    (λ s j is below. rw shows.own (stores_behind (conversion_of scan) shows.item piece item s j within can
+    (ap text_slot (sym shows.own) ∙ shows.text ∙ sym own ∙ is) below))
     (λ e. (all e, now)) over)
 
-first_refused : (c : Conversion) (piece : List ℕ) → IsProperShape c.shape → 0 < length piece → (shape_skips c.shape && is_white (get_or piece 0 0)) ≡ false → (CanTake c (take 1 piece) → ⊥)
+first_refused : (c : Conversion) (piece : List ℕ) → IsProperShape c.shape → 0 < length piece
+    → (shape_skips c.shape && is_white (get_or piece 0 0)) ≡ false → (CanTake c (take 1 piece) → ⊥)
     → stepped (Conv c) Skipping (get_or piece 0 0) ≡ None
 first_refused c [] proper some ink never = absurd (omega arith)
-first_refused c (b ∷ piece) proper some ink never = let no = false_from_ne_true (can_take c (b ∷ [])) (λ e. never ((tests_can_take c proper (b ∷ [])).from e)) in rw (ink, no) refl
+first_refused c (b ∷ piece) proper some ink never = let no = false_from_ne_true (can_take c (b ∷ []))
+    (λ e. never ((tests_can_take c proper (b ∷ [])).from e)) in rw (ink, no) refl
 
 -- nothing of an item is taken where the first byte can't be
-pub nothing_taken : (c : Conversion) (n : ℕ) (piece : List ℕ) → IsProperShape c.shape → is_count c.shape ≡ false → 0 < length piece → (shape_skips c.shape && is_white (get_or piece 0 0)) ≡ false
-    → (CanTake c (take 1 piece) → ⊥) → Answers (Conv c) Skipping n piece (record { before = 0; item = 0; phase = phase.Skipping; ends = Some (finish.Fails MatchingFailure) })
+pub nothing_taken : (c : Conversion) (n : ℕ) (piece : List ℕ) → IsProperShape c.shape → is_count c.shape ≡ false → 0 < length piece
+    → (shape_skips c.shape && is_white (get_or piece 0 0)) ≡ false
+    → (CanTake c (take 1 piece) → ⊥) → Answers (Conv c) Skipping n piece
+    (record { before = 0; item = 0; phase = phase.Skipping; ends = Some (finish.Fails MatchingFailure) })
 nothing_taken c n piece proper other some ink never =
     plain_ends (Conv c) n 0 Skipping piece (finish.Fails MatchingFailure) (omega arith) refl
-    (λ m z. stays_next (Conv c) Skipping 0 piece some (first_refused c piece proper some ink never) m z ∙ same_part refl refl (other_finished c c.shape Skipping m true other))
+    (λ m z. stays_next (Conv c) Skipping 0 piece some (first_refused c piece proper some ink never) m z
+    ∙ same_part refl refl (other_finished c c.shape Skipping m true other))
 
 -- an item that is over ends as the code tells
-pub over_ends : (c k : Conversion) (h rest : List ℕ) (end : Finished) → k ≡ c → is_count c.shape ≡ false → StaysAt (Conv k) (Item h) rest → end_of h end ≡ item_end c h → EndsAt (Conv c) h rest end
+pub over_ends : (c k : Conversion) (h rest : List ℕ) (end : Finished) → k ≡ c → is_count c.shape ≡ false → StaysAt (Conv k) (Item h) rest
+    → end_of h end ≡ item_end c h → EndsAt (Conv c) h rest end
 over_ends c k h rest end same other stays is = grind arith
 
 -- ---- integers that were read in one go
@@ -288,13 +329,17 @@ fronts_of c x n proper below is = (can, cannot)
     item = subst (λ y. IsItem c y n) (append-nil x) (is [])
 
     whole : can_take c (take n x) ≡ true
-    whole = (tests_can_take c proper (take n x)).to (subst (IsWithin c) (sym (length-take-le n x (omega (arith, below)))) item.holds.1, item.holds.2)
+    whole = (tests_can_take c proper (take n x)).to (
+      subst (IsWithin c) (sym (length-take-le n x (omega (arith, below)))) item.holds.1,
+      item.holds.2,
+    )
 
     can : (k : ℕ) → k < n → CanTake c (take (k + 1) x)
     can k h =
         let parts : take (k + 1) x ++ drop (k + 1) (take n x) ≡ take n x =
         ap (λ f. f ++ drop (k + 1) (take n x)) (sym (take-take (k + 1) n x (omega (arith, h)))) ∙ take-append-drop (k + 1) (take n x) in
-        (tests_can_take c proper (take (k + 1) x)).from (can_take_prefix c (take (k + 1) x) (drop (k + 1) (take n x)) (ap (can_take c) parts ∙ whole))
+        (tests_can_take c proper (take (k + 1) x)).from (can_take_prefix c (take (k + 1) x) (drop (k + 1) (take n x))
+        (ap (can_take c) parts ∙ whole))
 
     cannot : CanTake c (take (n + 1) x) → ⊥
     cannot h = grind (arith, item, length-take-le)
@@ -303,31 +348,42 @@ some_bytes : (base : Base) (piece : List ℕ) (n : ℕ) (negative : Bool) (m : �
 some_bytes base piece n negative m is = grind arith
 
 -- an item that ends before a byte of the piece, looked at as a whole
-item_read : (c : Conversion) (n item : ℕ) (piece : List ℕ) (end : Finished) → IsProperShape c.shape → is_count c.shape ≡ false → 0 < item → item < length piece
-    → ((z : List ℕ) → IsItem c (piece ++ z) item) → (shape_skips c.shape && is_white (get_or piece 0 0)) ≡ false → end_of (take item piece) end ≡ item_end c (take item piece)
+item_read : (c : Conversion) (n item : ℕ) (piece : List ℕ) (end : Finished) → IsProperShape c.shape → is_count c.shape ≡ false → 0 < item
+    → item < length piece
+    → ((z : List ℕ) → IsItem c (piece ++ z) item) → (shape_skips c.shape && is_white (get_or piece 0 0)) ≡ false
+    → end_of (take item piece) end ≡ item_end c (take item piece)
     → Answers (Conv c) Skipping n piece (record { before = 0; item = item; phase = phase.Skipping; ends = Some end })
 item_read c n item piece end proper other some below is ink ends =
     let within : item ≤ length piece = omega arith in
     let fronts = fronts_of c piece item proper below is in
-    item_answers (Conv c) Skipping (take item piece) n item piece phase.Skipping (Some end) within (begins c piece item some within ink (can_all c [] piece item proper within fronts.0)) refl refl
+    item_answers (Conv c) Skipping (take item piece) n item piece phase.Skipping (Some end) within
+    (begins c piece item some within ink (can_all c [] piece item proper within fronts.0)) refl refl
     (λ slot j own less. absurd cc) (λ e. absurd cc)
     (over_ends c c (take item piece) (drop item piece) end refl other (over_next c [] piece item proper below fronts.1) ends)
 
-pub integer_read : (c : Conversion) (n : ℕ) (piece : List ℕ) (w : WholeInteger) (end : Finished) → IsWhole c.shape c.width piece w → (shape_skips c.shape && is_white (get_or piece 0 0)) ≡ false
+pub integer_read : (c : Conversion) (n : ℕ) (piece : List ℕ) (w : WholeInteger) (end : Finished) → IsWhole c.shape c.width piece w
+    → (shape_skips c.shape && is_white (get_or piece 0 0)) ≡ false
     → ((text : List ℕ) → end_of text end ≡ passed_number c c.slot (value_of c.kind w.negative w.magnitude))
     → Answers (Conv c) Skipping n piece (record { before = 0; item = w.bytes; phase = phase.Skipping; ends = Some end })
 integer_read c n piece w end is ink ends =
-    item_read c n w.bytes piece end (rw is.is tt) (ap is_count is.is) (some_bytes is.base piece w.bytes w.negative w.magnitude is.ends.integer) is.ends.behind (is.ends.item c is.is refl) ink
-    (ends (take w.bytes piece) ∙ integer_ends c (take w.bytes piece) w.negative w.magnitude false (is.base, w.magnitude, is.is, is.ends.integer, refl))
+    item_read c n w.bytes piece end (rw is.is tt) (ap is_count is.is)
+    (some_bytes is.base piece w.bytes w.negative w.magnitude is.ends.integer) is.ends.behind (is.ends.item c is.is refl) ink
+    (ends (take w.bytes piece) ∙ integer_ends c (take w.bytes piece) w.negative w.magnitude false
+    (is.base, w.magnitude, is.is, is.ends.integer, refl))
 
-pub bytes_read : (c : Conversion) (n item : ℕ) (piece : List ℕ) (end : Finished) → IsProper (Conv c) → ((slot : Option ℕ) → slot_of_text c.shape slot ≡ slot) → is_count c.shape ≡ false
-    → ItemWithin c.shape c.width piece item → (shape_skips c.shape && is_white (get_or piece 0 0)) ≡ false → (c.slot ≡ None → end ≡ finish.Passes)
-    → ((slot : ℕ) → c.slot ≡ Some slot → end ≡ finish.Closes slot) → Answers (Conv c) Skipping n piece (record { before = 0; item = item; phase = phase.Skipping; ends = Some end })
-bytes_read c n item piece end proper text other is ink none some = item_read c n item piece end proper.0 other is.some is.behind (is.item c refl refl proper.0) ink (by_slot c.slot refl)
+pub bytes_read : (c : Conversion) (n item : ℕ) (piece : List ℕ) (end : Finished) → IsProper (Conv c)
+    → ((slot : Option ℕ) → slot_of_text c.shape slot ≡ slot) → is_count c.shape ≡ false
+    → ItemWithin c.shape c.width piece item → (shape_skips c.shape && is_white (get_or piece 0 0)) ≡ false
+    → (c.slot ≡ None → end ≡ finish.Passes)
+    → ((slot : ℕ) → c.slot ≡ Some slot → end ≡ finish.Closes slot)
+    → Answers (Conv c) Skipping n piece (record { before = 0; item = item; phase = phase.Skipping; ends = Some end })
+bytes_read c n item piece end proper text other is ink none some =
+    item_read c n item piece end proper.0 other is.some is.behind (is.item c refl refl proper.0) ink (by_slot c.slot refl)
   where
     by_slot : (slot : Option ℕ) → c.slot ≡ slot → end_of (take item piece) end ≡ item_end c (take item piece)
     by_slot None e = ap (end_of (take item piece)) (none e) ∙ suppressed_end c (take item piece) e (is.matches c refl refl)
-    by_slot (Some slot) e = ap (end_of (take item piece)) (some slot e) ∙ text_end c (take item piece) slot (text c.slot ∙ e) (is.matches c refl refl)
+    by_slot (Some slot) e = ap (end_of (take item piece)) (some slot e)
+        ∙ text_end c (take item piece) slot (text c.slot ∙ e) (is.matches c refl refl)
 
 -- ---- what the answer does to the text under way
 
@@ -335,34 +391,42 @@ pub suits_waits : (d : Directive) (w : ℕ) (piece : List ℕ) → counts_bytes 
     → Suits d phase.Skipping piece (record { before = w; item = 0; phase = phase.Skipping; ends = None })
 suits_waits d w piece none all = grind (arith, skipping_full)
 
-pub end_is : (d : Directive) (current : Phase) (o : Option Finished) (end : Finished) → o ≡ Some end → IfSome o (IsEnd d current) → IsEnd d current end
+pub end_is : (d : Directive) (current : Phase) (o : Option Finished) (end : Finished) → o ≡ Some end → IfSome o (IsEnd d current)
+    → IsEnd d current end
 end_is d current o end e own = subst (λ (o : Option Finished). IfSome o (IsEnd d current)) e own
 
 -- ---- directives that end within the piece
 
-pub end_fits : (d : Directive) (piece : List ℕ) (run : Run) (e : Ended) → IsEndOf e run → Suits d phase.Skipping piece run → IsEndIn d piece e
+pub end_fits : (d : Directive) (piece : List ℕ) (run : Run) (e : Ended) → IsEndOf e run → Suits d phase.Skipping piece run
+    → IsEndIn d piece e
 end_fits d piece run e is suits = grind arith
 
 -- the end of an answer that fits the directive
-pub ended_by : (d : Directive) (n : ℕ) (piece : List ℕ) (run : Run) (o : Option Ended) → IfSome o (λ e. IsEndOf e run) → (IsProper d → Answers d Skipping n piece run)
+pub ended_by : (d : Directive) (n : ℕ) (piece : List ℕ) (run : Run) (o : Option Ended) → IfSome o (λ e. IsEndOf e run)
+    → (IsProper d → Answers d Skipping n piece run)
     → Suits d phase.Skipping piece run → IfSome o (EndsAtOnce d n piece)
 ended_by d n piece run o is answers suits = grind (arith, end_fits)
 
 -- a conversion behind white space that is skipped
 pub ended_behind : (c : Conversion) (n w : ℕ) (piece rest : List ℕ) (e : Ended) → rest ≡ drop w piece → w ≤ length piece
-    → ((k : ℕ) → k < w → (shape_skips c.shape && is_white (get_or piece k 0)) ≡ true) → (w < length piece → (shape_skips c.shape && is_white (get_or piece w 0)) ≡ false) → e.before ≡ 0
-    → (IsProper (Conv c) → (0 < length rest → (shape_skips c.shape && is_white (get_or rest 0 0)) ≡ false) → (n : ℕ) → Answers (Conv c) Skipping n rest (run_of e)) → IsEndIn (Conv c) rest e
+    → ((k : ℕ) → k < w → (shape_skips c.shape && is_white (get_or piece k 0)) ≡ true)
+    → (w < length piece → (shape_skips c.shape && is_white (get_or piece w 0)) ≡ false) → e.before ≡ 0
+    → (IsProper (Conv c) → (0 < length rest → (shape_skips c.shape && is_white (get_or rest 0 0)) ≡ false) → (n : ℕ)
+    → Answers (Conv c) Skipping n rest (run_of e)) → IsEndIn (Conv c) rest e
     → EndsAtOnce (Conv c) n piece (record e { before = w })
 ended_behind c n w piece rest e back within white next front answers is =
     let all = length-drop w piece in
     let long = ap length back in
     let fits = is.within in
-    let ink : 0 < length rest → (shape_skips c.shape && is_white (get_or rest 0 0)) ≡ false = rw back (next_behind (λ b. shape_skips c.shape && is_white b) w piece next) in
+    let ink : 0 < length rest → (shape_skips c.shape && is_white (get_or rest 0 0)) ≡ false =
+    rw back (next_behind (λ b. shape_skips c.shape && is_white b) w piece next) in
     record {
-      answers = λ proper. rw (front, add-zero) at (answers_behind (Conv c) n w piece (run_of e) within (omega (arith, long, fits)) (item_skips c piece w within white) (rw back at (answers proper ink (n + w))));
+      answers = λ proper. rw (front, add-zero) at (answers_behind (Conv c) n w piece (run_of e) within (omega (arith, long, fits))
+          (item_skips c piece w within white) (rw back at (answers proper ink (n + w))));
       fits = record { within = omega (arith, all, fits, front, long, within); given = is.given; number = is.number; memory = is.memory };
     }
 
 -- a directive that waits at the end of the piece doesn't pass before
-pub waits_late : (d : Directive) (n : ℕ) (piece : List ℕ) (room : ℕ) (run : Run) → run.ends ≡ None → Answers d Skipping n piece run → Suits d phase.Skipping piece run → IsSure d n piece room → ⊥
+pub waits_late : (d : Directive) (n : ℕ) (piece : List ℕ) (room : ℕ) (run : Run) → run.ends ≡ None → Answers d Skipping n piece run
+    → Suits d phase.Skipping piece run → IsSure d n piece room → ⊥
 waits_late d n piece room run none answers suits sure = grind (arith, answers_use)

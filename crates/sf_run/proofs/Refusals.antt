@@ -56,10 +56,12 @@ own_not_done : (end : StepEnd) (status : Status) → own_end end ≡ true → en
 unfolding own_end is_own
 own_not_done end status own is done = true≢false (sym own ∙ ap own_end is ∙ ap is_own done)
 
-pub never_done : (d : Directive) (q : Stage) (n : ℕ) (x : List ℕ) (status : Status) → (one_from d q n x).end ≡ Fails status → status ≡ Done → ⊥
+pub never_done : (d : Directive) (q : Stage) (n : ℕ) (x : List ℕ) (status : Status) → (one_from d q n x).end ≡ Fails status → status ≡ Done
+    → ⊥
 never_done d q n x status is done = own_not_done (one_from d q n x).end status (one_own d q n x) is done
 
-end_fine : (end : StepEnd) (y : RunReport) (f : Status → RunReport) → own_end end ≡ true → is_memory_status y.status ≡ false → ((status : Status) → (f status).status ≡ status)
+end_fine : (end : StepEnd) (y : RunReport) (f : Status → RunReport) → own_end end ≡ true → is_memory_status y.status ≡ false
+    → ((status : Status) → (f status).status ≡ status)
     → is_memory_status (by_end end y f).status ≡ false
 end_fine end y f own h same = grind (arith, own_status)
 
@@ -73,7 +75,8 @@ after_fine ds m s x h = by_case s.ended refl
   where
     by_case : (o : Option Stop) → s.ended ≡ o → is_no_memory o ≡ false
     by_case None e = refl
-    by_case (Some stop) e = ap (λ (r : RunReport). is_memory_status r.status) (sym (cut_here ds m s x h stop e)) ∙ run_fine (Some m) ds 1 nothing_yet x
+    by_case (Some stop) e = ap (λ (r : RunReport). is_memory_status r.status) (sym (cut_here ds m s x h stop e))
+        ∙ run_fine (Some m) ds 1 nothing_yet x
 
 -- ---- white space before a text
 
@@ -87,7 +90,8 @@ drop_front n u v h = grind (arith, common_steps)
 is_some_of : (o : Option ℕ) (n : ℕ) → o ≡ Some n → IsSome o
 is_some_of o n e = ap is_some e
 
-stores_shape : (shape : Shape) (slot : Option ℕ) (n : ℕ) (b : ℕ) (u v : List ℕ) (j : ℕ) → slot_of_text shape slot ≡ Some n → IsInText shape b → length u ≡ j
+stores_shape : (shape : Shape) (slot : Option ℕ) (n : ℕ) (b : ℕ) (u v : List ℕ) (j : ℕ) → slot_of_text shape slot ≡ Some n
+    → IsInText shape b → length u ≡ j
     → StoresShape shape slot (u ++ b ∷ v) j
 stores_shape (Int base) slot n b u v j e text all = cc
 stores_shape Count slot n b u v j e text all = cc
@@ -103,8 +107,10 @@ stores_at d b u v j h all = grind (arith, stores_shape)
 -- ---- the report
 
 -- what would be too long by the byte b of a text is refused there
-pub run_refused : (ds : List Directive) → AreProper ds → (m k : ℕ) (x u v : List ℕ) (b at : ℕ) (d : Directive) (t : Tally) → x ≡ u ++ b ∷ v → length u ≡ k → k < m
-    → slice_get ds at ≡ Some d → StoresByte d b → TellsWithin ds k x (out_of TooLong (at + 1) t) → RunRefused ds m x (out_of NoMemory (at + 1) t)
+pub run_refused : (ds : List Directive) → AreProper ds → (m k : ℕ) (x u v : List ℕ) (b at : ℕ) (d : Directive) (t : Tally) → x ≡ u ++ b ∷ v
+    → length u ≡ k → k < m
+    → slice_get ds at ≡ Some d → StoresByte d b → TellsWithin ds k x (out_of TooLong (at + 1) t)
+    → RunRefused ds m x (out_of NoMemory (at + 1) t)
 run_refused ds proper m k x u v b at d t is all below place stores (inl w) =
     let fits : used w.0 ≤ k = w.2 in
     let full : run_of None ds 1 nothing_yet x ≡ report_of w.0 None = run_told ds proper x w.0 w.1 in
@@ -126,19 +132,24 @@ run_refused ds proper m k x u v b at d t is all below place stores (inr w) =
         before,
         cut,
         subst (λ (e : Directive). StoresAt e (drop (used before) x) (k - used before)) (sym own)
-            (subst (λ y. StoresAt d y (k - used before)) (sym rest) (stores_at d b (drop (used before) u) v (k - used before) stores (omega (arith, left, all, low)))),
+            (subst (λ y. StoresAt d y (k - used before)) (sym rest) (stores_at d b (drop (used before) u) v (k - used before) stores
+            (omega (arith, left, all, low)))),
         ap (λ (r : RunReport). record r { status = NoMemory }) w.2,
       ),
     )
 
 -- a scanner for which a storing was refused has that report, however the input goes on
-pub refused_gives : (ds : List Directive) (m : ℕ) (old new : Standing) (x piece z : List ℕ) (ending : Ending) → After ds m old x → old.ended ≡ None → Keeps new old
+pub refused_gives : (ds : List Directive) (m : ℕ) (old new : Standing) (x piece z : List ℕ) (ending : Ending) → After ds m old x
+    → old.ended ≡ None → Keeps new old
     → RefusesIn new old piece → Gives ds m new ((x ++ piece) ++ z) ending
 refused_gives ds m old new x piece z ending h waits keeps w = record {
   report = out_of NoMemory (r.at + 1) new.tally;
-  is = ap (λ o. report_by o new.tally new.met) r.ended ∙ ap (λ o. report_by (Some (record { status = NoMemory; at = r.at + 1 })) new.tally o) (keeps.met ∙ h.fed);
+  is = ap (λ o. report_by o new.tally new.met) r.ended ∙ ap (λ o. report_by
+      (Some (record { status = NoMemory; at = r.at + 1 })) new.tally o) (keeps.met ∙ h.fed);
   right = inr (subst (λ y. RunRefused ds m y (out_of NoMemory (r.at + 1) new.tally)) (sym (append_assoc x piece z))
-      (run_refused ds h.proper m new.tally.used (x ++ (piece ++ z)) (x ++ w.front) (w.rest ++ z) w.byte r.at r.directive new.tally whole all below place (cut.0) (subst (TellsWithin ds new.tally.used (x ++ (piece ++ z))) cut.1 told.2)));
+      (run_refused ds h.proper m new.tally.used (x ++ (piece ++ z)) (x ++ w.front)
+      (w.rest ++ z) w.byte r.at r.directive new.tally whole all below place (cut.0)
+      (subst (TellsWithin ds new.tally.used (x ++ (piece ++ z))) cut.1 told.2)));
 }
   where
     r : Refuses new old w.byte (piece ++ z)
@@ -157,7 +168,8 @@ refused_gives ds m old new x piece z ending h waits keeps w = record {
     place = ap (λ l. slice_get l r.at) (sym (keeps.directives ∙ h.format)) ∙ r.under_way
 
     whole : x ++ (piece ++ z) ≡ (x ++ w.front) ++ w.byte ∷ (w.rest ++ z)
-    whole = ap (λ p. x ++ (p ++ z)) w.whole ∙ ap (λ p. x ++ p) (append_assoc w.front (w.byte ∷ w.rest) z) ∙ sym (append_assoc x w.front (w.byte ∷ (w.rest ++ z)))
+    whole = ap (λ p. x ++ (p ++ z)) w.whole ∙ ap (λ p. x ++ p) (append_assoc w.front (w.byte ∷ w.rest) z)
+        ∙ sym (append_assoc x w.front (w.byte ∷ (w.rest ++ z)))
 
     told : (report : RunReport) × Does old new.tally.used (piece ++ z) report × TellsWithin ds new.tally.used (x ++ (piece ++ z)) report
     told = h.same new.tally.used (piece ++ z) (let u = w.used in omega (arith, u)) (let b = below in omega (arith, b))

@@ -51,26 +51,33 @@ slots_split ds zero = refl
 slots_split [] (suc p) = refl
 slots_split (d ∷ ds) (suc p) = grind (arith, slots_split ds)
 
-slots_taken : (ds : List Directive) (p : ℕ) (d : Directive) → slice_get ds p ≡ Some d → slots_of (take (suc p) ds) ≡ slots_of (take p ds) ++ with_slot (slot_of d) []
+slots_taken : (ds : List Directive) (p : ℕ) (d : Directive) → slice_get ds p ≡ Some d
+    → slots_of (take (suc p) ds) ≡ slots_of (take p ds) ++ with_slot (slot_of d) []
 slots_taken [] p d at = cc
 slots_taken (x ∷ ds) zero d at = slots-cons x [] ∙ ap (λ (e : Directive). with_slot (slot_of e) []) (some_is x d at)
 slots_taken (x ∷ ds) (suc p) d at =
-    slots-cons x (take (suc p) ds) ∙ ap (with_slot (slot_of x)) (slots_taken ds p d at) ∙ with-append (slot_of x) (slots_of (take p ds)) (with_slot (slot_of d) [])
+    slots-cons x (take (suc p) ds) ∙ ap (with_slot (slot_of x)) (slots_taken ds p d at)
+    ∙ with-append (slot_of x) (slots_of (take p ds)) (with_slot (slot_of d) [])
     ∙ ap (λ l. l ++ with_slot (slot_of d) []) (sym (slots-cons x (take p ds)))
 
 one_more : (p : ℕ) → suc p ≡ p + 1
 one_more p = omega arith
 
-pub slots_none : (ds : List Directive) (p : ℕ) (d : Directive) (values : List Assigned) → slice_get ds p ≡ Some d → slot_of d ≡ None → slots_in values ≡ slots_of (take p ds)
+pub slots_none : (ds : List Directive) (p : ℕ) (d : Directive) (values : List Assigned) → slice_get ds p ≡ Some d → slot_of d ≡ None
+    → slots_in values ≡ slots_of (take p ds)
     → slots_in values ≡ slots_of (take (p + 1) ds)
 unfolding with_slot
-slots_none ds p d values at none is = is ∙ sym (append-nil _) ∙ ap (λ s. slots_of (take p ds) ++ with_slot s []) (sym none) ∙ sym (slots_taken ds p d at) ∙ ap (λ n. slots_of (take n ds)) (one_more p)
+slots_none ds p d values at none is = is ∙ sym (append-nil _) ∙ ap (λ s. slots_of (take p ds) ++ with_slot s []) (sym none)
+    ∙ sym (slots_taken ds p d at) ∙ ap (λ n. slots_of (take n ds)) (one_more p)
 
-pub slots_more : (ds : List Directive) (p : ℕ) (d : Directive) (values : List Assigned) (slot : ℕ) (v : Datum) → slice_get ds p ≡ Some d → slot_of d ≡ Some slot → slots_in values ≡ slots_of (take p ds)
+pub slots_more : (ds : List Directive) (p : ℕ) (d : Directive) (values : List Assigned) (slot : ℕ) (v : Datum) → slice_get ds p ≡ Some d
+    → slot_of d ≡ Some slot → slots_in values ≡ slots_of (take p ds)
     → slots_in (values ++ assigned slot v ∷ []) ≡ slots_of (take (p + 1) ds)
 unfolding with_slot
 slots_more ds p d values slot v at own is =
-    map-append (λ (a : Assigned). a.slot) values (assigned slot v ∷ []) ∙ ap (λ l. l ++ slot ∷ []) is ∙ ap (λ s. slots_of (take p ds) ++ with_slot s []) (sym own) ∙ sym (slots_taken ds p d at) ∙ ap (λ n. slots_of (take n ds)) (one_more p)
+    map-append (λ (a : Assigned). a.slot) values (assigned slot v ∷ []) ∙ ap (λ l. l ++ slot ∷ []) is
+    ∙ ap (λ s. slots_of (take p ds) ++ with_slot s []) (sym own) ∙ sym (slots_taken ds p d at)
+    ∙ ap (λ n. slots_of (take n ds)) (one_more p)
 
 -- those of the directive at a place are between those before and after it
 slots_at : (ds : List Directive) (p : ℕ) (d : Directive) (slot : ℕ) → slice_get ds p ≡ Some d → slot_of d ≡ Some slot
@@ -83,10 +90,12 @@ slots_at ds p d slot at own = grind (arith, (slots_split ds p), (drop_at ds p d 
 among : (test : ℕ → Bool) (xs : List ℕ) (n : ℕ) (ys : List ℕ) → list_all test (xs ++ n ∷ ys) ≡ true → test n ≡ true
 among test xs n ys h = grind (arith, common_steps)
 
-pub slot_placed : (slots : ℕ) (ds : List Directive) (p : ℕ) (d : Directive) (slot : ℕ) → are_placed slots ds ≡ true → slice_get ds p ≡ Some d → slot_of d ≡ Some slot
+pub slot_placed : (slots : ℕ) (ds : List Directive) (p : ℕ) (d : Directive) (slot : ℕ) → are_placed slots ds ≡ true
+    → slice_get ds p ≡ Some d → slot_of d ≡ Some slot
     → (1 ≤ slot) × (slot ≤ slots)
 slot_placed slots ds p d slot placed at own =
-    let e : (nat_le 1 slot && nat_le slot slots) ≡ true = among (λ n. nat_le 1 n && nat_le n slots) (slots_of (take p ds)) slot (slots_of (drop (p + 1) ds))
+    let e : (nat_le 1 slot && nat_le slot slots) ≡ true = among (λ n. nat_le 1 n && nat_le n slots) (slots_of (take p ds)) slot
+    (slots_of (drop (p + 1) ds))
     (subst (λ l. list_all (λ n. nat_le 1 n && nat_le n slots) l ≡ true) (slots_at ds p d slot at own) placed) in
     let low = (and_parts (nat_le 1 slot) (nat_le slot slots) e).0 in
     let high = (and_parts (nat_le 1 slot) (nat_le slot slots) e).1 in
@@ -105,11 +114,13 @@ no_datum : (slot : ℕ) (values : List Assigned) → list_any (nat_eq slot) (slo
 no_datum slot [] h = refl
 no_datum slot (a ∷ values) h = grind (arith, no_datum slot values)
 
-pub slot_free : (ds : List Directive) (p : ℕ) (d : Directive) (slot : ℕ) (values : List Assigned) → are_apart (slots_of ds) ≡ true → slots_in values ≡ slots_of (take p ds)
+pub slot_free : (ds : List Directive) (p : ℕ) (d : Directive) (slot : ℕ) (values : List Assigned) → are_apart (slots_of ds) ≡ true
+    → slots_in values ≡ slots_of (take p ds)
     → slice_get ds p ≡ Some d → slot_of d ≡ Some slot → datum_at slot values ≡ None
 slot_free ds p d slot values apart is at own =
     no_datum slot values (ap (list_any (nat_eq slot)) is
-    ∙ apart_before (slots_of (take p ds)) slot (slots_of (drop (p + 1) ds)) (subst (λ l. are_apart l ≡ true) (slots_at ds p d slot at own) apart))
+    ∙ apart_before (slots_of (take p ds)) slot (slots_of (drop (p + 1) ds))
+    (subst (λ l. are_apart l ≡ true) (slots_at ds p d slot at own) apart))
 
 -- ---- destinations
 
@@ -124,14 +135,17 @@ slot_of_own d slot e = grind arith
 pub texts-push : (values : List Assigned) (a : Assigned) → texts_in (values ++ a ∷ []) ≡ texts_in values ++ text_in a.datum
 texts-push values a = grind (arith, common_steps)
 
-pub joined_number : (closed : List ℕ) (values : List Assigned) (slot : ℕ) (n : Number) → closed ≡ texts_in values → closed ≡ texts_in (values ++ assigned slot (datum_of_number n) ∷ [])
-joined_number closed values slot n is = is ∙ sym (append-nil (texts_in values)) ∙ sym (texts-push values (assigned slot (datum_of_number n)))
+pub joined_number : (closed : List ℕ) (values : List Assigned) (slot : ℕ) (n : Number) → closed ≡ texts_in values
+    → closed ≡ texts_in (values ++ assigned slot (datum_of_number n) ∷ [])
+joined_number closed values slot n is = is ∙ sym (append-nil (texts_in values))
+    ∙ sym (texts-push values (assigned slot (datum_of_number n)))
 
 pub joined_text : (closed : List ℕ) (values : List Assigned) (slot : ℕ) (text : List ℕ) → closed ≡ texts_in values
     → closed ++ text ≡ texts_in (values ++ assigned slot (Bytes text) ∷ [])
 joined_text closed values slot text is = ap (λ l. l ++ text) is ∙ sym (texts-push values (assigned slot (Bytes text)))
 
-pub closed_values : (values : List Assigned) (opened : Option Opened) (slot : ℕ) → opened_slot opened ≡ Some slot → values_closed values opened ≡ values ++ assigned slot (Bytes (text_of opened)) ∷ []
+pub closed_values : (values : List Assigned) (opened : Option Opened) (slot : ℕ) → opened_slot opened ≡ Some slot
+    → values_closed values opened ≡ values ++ assigned slot (Bytes (text_of opened)) ∷ []
 closed_values values opened slot e = grind arith
 
 pub opened_none : (opened : Option Opened) → opened_slot opened ≡ None → opened ≡ None
@@ -142,10 +156,12 @@ opened_none opened e = grind arith
 plain_widths : (ds : List Directive) → widths_from ds phase.Skipping ≡ stored_widths ds
 plain_widths ds = grind (arith, common_steps)
 
-widths_at : (ds : List Directive) (p : ℕ) (d : Directive) (current : Phase) → slice_get ds p ≡ Some d → widths_from (drop p ds) current ≡ width_left d current + stored_widths (drop (p + 1) ds)
+widths_at : (ds : List Directive) (p : ℕ) (d : Directive) (current : Phase) → slice_get ds p ≡ Some d
+    → widths_from (drop p ds) current ≡ width_left d current + stored_widths (drop (p + 1) ds)
 widths_at ds p d current at = ap (λ rest. widths_from rest current) (drop_at ds p d at)
 
-pub room_passed : (ended : Option Stop) (ds : List Directive) (p : ℕ) (d : Directive) (current : Phase) (room : ℕ) → slice_get ds p ≡ Some d → still_stored ended ds p current ≤ room
+pub room_passed : (ended : Option Stop) (ds : List Directive) (p : ℕ) (d : Directive) (current : Phase) (room : ℕ)
+    → slice_get ds p ≡ Some d → still_stored ended ds p current ≤ room
     → still_stored ended ds (p + 1) phase.Skipping ≤ room
 room_passed ended ds p d current room at fits = grind (arith, plain_widths, widths_at, common_steps)
 
@@ -153,19 +169,24 @@ room_passed ended ds p d current room at fits = grind (arith, plain_widths, widt
 sum_some : (a b : Option ℕ) → is_some (add_widths a b) ≡ true → (is_some a ≡ true) × (is_some b ≡ true)
 sum_some a b e = grind arith
 
-width_at : (ds : List Directive) (p : ℕ) (d : Directive) → is_some (width_sum ds) ≡ true → slice_get ds p ≡ Some d → is_some (stored_width d) ≡ true
+width_at : (ds : List Directive) (p : ℕ) (d : Directive) → is_some (width_sum ds) ≡ true → slice_get ds p ≡ Some d
+    → is_some (stored_width d) ≡ true
 width_at [] p d h at = cc
-width_at (x ∷ ds) zero d h at = ap (λ (e : Directive). is_some (stored_width e)) (sym (some_is x d at)) ∙ (sum_some (stored_width x) (width_sum ds) h).0
+width_at (x ∷ ds) zero d h at = ap (λ (e : Directive). is_some (stored_width e)) (sym (some_is x d at))
+    ∙ (sum_some (stored_width x) (width_sum ds) h).0
 width_at (x ∷ ds) (suc p) d h at = width_at ds p d (sum_some (stored_width x) (width_sum ds) h).1 at
 
 -- the bytes of a text that begins
-first_left : (shape : Shape) (width slot : Option ℕ) (n : ℕ) → slot_of_text shape slot ≡ Some n → is_some (text_width shape width) ≡ true → most_bytes shape width ≡ text_width shape width
+first_left : (shape : Shape) (width slot : Option ℕ) (n : ℕ) → slot_of_text shape slot ≡ Some n → is_some (text_width shape width) ≡ true
+    → most_bytes shape width ≡ text_width shape width
 first_left shape width slot n e h = grind arith
 
-pub begins_with : (d : Directive) (current : Phase) (slot : ℕ) → slot_in current ≡ None → text_slot d ≡ Some slot → is_some (stored_width d) ≡ true → left_before d current ≡ stored_width d
+pub begins_with : (d : Directive) (current : Phase) (slot : ℕ) → slot_in current ≡ None → text_slot d ≡ Some slot
+    → is_some (stored_width d) ≡ true → left_before d current ≡ stored_width d
 begins_with d current slot none e h = grind arith
 
-module _ (ds : List Directive) (p : ℕ) (d : Directive) (current : Phase) (slot : ℕ) (scan : ItemScan) (at : slice_get ds p ≡ Some d) (none : slot_in current ≡ None)
+module _ (ds : List Directive) (p : ℕ) (d : Directive) (current : Phase) (slot : ℕ) (scan : ItemScan) (at : slice_get ds p ≡ Some d)
+    (none : slot_in current ≡ None)
     (text : text_slot d ≡ Some slot) (left : left_of scan ≡ left_before d current) (bounded : is_some (width_sum ds) ≡ true) where
   width : left_of scan ≡ stored_width d
   width = left ∙ begins_with d current slot none text (width_at ds p d bounded at)
@@ -173,28 +194,33 @@ module _ (ds : List Directive) (p : ℕ) (d : Directive) (current : Phase) (slot
   pub open_limited : is_some (left_of scan) ≡ true
   open_limited = ap is_some width ∙ width_at ds p d bounded at
 
-  pub room_opened : (ended : Option Stop) (room : ℕ) → still_stored ended ds p current ≤ room → still_stored ended ds p (phase.Text slot scan) ≤ room
+  pub room_opened : (ended : Option Stop) (room : ℕ) → still_stored ended ds p current ≤ room
+      → still_stored ended ds p (phase.Text slot scan) ≤ room
   room_opened ended room fits = grind (arith, widths_at, width)
 
 -- ---- the text under way is that of the directive
 
-pub own_text : (ds : List Directive) (p : ℕ) (d : Directive) (current : Phase) → slice_get ds p ≡ Some d → (is_text current ≡ true → first_slot (drop p ds) ≡ slot_in current)
+pub own_text : (ds : List Directive) (p : ℕ) (d : Directive) (current : Phase) → slice_get ds p ≡ Some d
+    → (is_text current ≡ true → first_slot (drop p ds) ≡ slot_in current)
     → (slot : ℕ) → slot_in current ≡ Some slot → text_slot d ≡ Some slot
 own_text ds p d current at own slot e = grind (arith, drop_at)
 
-pub text_own : (ds : List Directive) (p : ℕ) (d : Directive) (slot : ℕ) → slice_get ds p ≡ Some d → text_slot d ≡ Some slot → first_slot (drop p ds) ≡ Some slot
+pub text_own : (ds : List Directive) (p : ℕ) (d : Directive) (slot : ℕ) → slice_get ds p ≡ Some d → text_slot d ≡ Some slot
+    → first_slot (drop p ds) ≡ Some slot
 text_own ds p d slot at e = ap first_slot (drop_at ds p d at) ∙ e
 
 pub if_some : {A : Type 0} (o : Option A) (P : A → Type 0) → ((a : A) → o ≡ Some a → P a) → IfSome o P
 if_some o P f = grind arith
 
 -- nothing of the item was taken yet
-pub left_first : (d : Directive) (c : Conversion) (current : Phase) → d ≡ Conv c → slot_in current ≡ None → most_bytes c.shape c.width ≡ left_before d current
+pub left_first : (d : Directive) (c : Conversion) (current : Phase) → d ≡ Conv c → slot_in current ≡ None
+    → most_bytes c.shape c.width ≡ left_before d current
 left_first d c current e none = grind arith
 
 -- ---- what a format says of its slots
 
-pub placed_from : (count slots : ℕ) (ns : List ℕ) → count ≤ slots → AllByRecursion (λ n. (1 ≤ n) × (n ≤ count)) ns → list_all (λ n. nat_le 1 n && nat_le n slots) ns ≡ true
+pub placed_from : (count slots : ℕ) (ns : List ℕ) → count ≤ slots → AllByRecursion (λ n. (1 ≤ n) × (n ≤ count)) ns
+    → list_all (λ n. nat_le 1 n && nat_le n slots) ns ≡ true
 placed_from count slots [] fits h = refl
 placed_from count slots (n ∷ ns) fits h = grind (arith, placed_from count slots ns)
 
@@ -226,15 +252,20 @@ unwrapped (d ∷ ds) h =
 pub widths_are : (ds : List Directive) (n : ℕ) → width_sum ds ≡ Some n → widths_from ds phase.Skipping ≡ n
 widths_are ds n e = plain_widths ds ∙ unwrapped ds (ap is_some e) ∙ ap (λ o. unwrap_or o 0) e
 
-pub room_first : (ds : List Directive) (room : ℕ) → IfSome (width_sum ds) (λ n. n ≤ room) → is_some (width_sum ds) ≡ true → widths_from ds phase.Skipping ≤ room
+pub room_first : (ds : List Directive) (room : ℕ) → IfSome (width_sum ds) (λ n. n ≤ room) → is_some (width_sum ds) ≡ true
+    → widths_from ds phase.Skipping ≤ room
 room_first ds room fits bounded = grind (arith, widths_are)
 
 -- ---- how much a store holds of a format with a width sum
 
 -- the sum is at least what is held and what may still be stored
-pub size_passed : (ended : Option Stop) (ds : List Directive) (p : ℕ) (d : Directive) (current : Phase) (held sum : ℕ) → slice_get ds p ≡ Some d
+pub size_passed : (ended : Option Stop) (ds : List Directive) (p : ℕ) (d : Directive) (current : Phase) (held sum : ℕ)
+    → slice_get ds p ≡ Some d
     → held + still_stored ended ds p current ≤ sum → held + still_stored ended ds (p + 1) phase.Skipping ≤ sum
-size_passed ended ds p d current held sum at fits = grind (arith, (room_passed ended ds p d current (still_stored ended ds p current) at (omega arith)))
+size_passed ended ds p d current held sum at fits = grind (
+  arith,
+  (room_passed ended ds p d current (still_stored ended ds p current) at (omega arith)),
+)
 
 pub size_closed : (closed text : List ℕ) → length ((closed ++ text) ++ []) ≡ length (closed ++ text)
 size_closed closed text = ap length (append-nil (closed ++ text))

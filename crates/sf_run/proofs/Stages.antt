@@ -58,14 +58,17 @@ pub taken_full : (d : Directive) → true ≡ is_full d Taken
 taken_full d = grind (arith, full_of_none)
 
 pub item_full : (scan : ItemScan) (f : List ℕ) (full : Bool) → IsProperShape (conversion_of scan).shape
-    → (IsTrue full ↔ ((b : ℕ) → b < 256 → CanTake (conversion_of scan) (f ++ b ∷ []) → ⊥)) → full ≡ is_full (Conv (conversion_of scan)) (Item f)
+    → (IsTrue full ↔ ((b : ℕ) → b < 256 → CanTake (conversion_of scan) (f ++ b ∷ []) → ⊥))
+    → full ≡ is_full (Conv (conversion_of scan)) (Item f)
 item_full scan f full proper says = by_case (is_full (Conv (conversion_of scan)) (Item f)) refl
   where
-    taken : (b : ℕ) (r : Stage) → stepped (Conv (conversion_of scan)) (Item f) b ≡ Some r → can_take (conversion_of scan) (f ++ b ∷ []) ≡ true
+    taken : (b : ℕ) (r : Stage) → stepped (Conv (conversion_of scan)) (Item f) b ≡ Some r
+        → can_take (conversion_of scan) (f ++ b ∷ []) ≡ true
     taken b r is = grind arith
 
     by_case : (v : Bool) → is_full (Conv (conversion_of scan)) (Item f) ≡ v → full ≡ v
-    by_case true e = says.1 (λ b below can. true≢false (sym e ∙ not_full (Conv (conversion_of scan)) (Item f) b (Item (f ++ b ∷ [])) below (rw ((decides scan f b proper).to can) refl)))
+    by_case true e = says.1 (λ b below can. true≢false (sym e ∙ not_full (Conv (conversion_of scan)) (Item f) b (Item (f ++ b ∷ [])) below
+        (rw ((decides scan f b proper).to can) refl)))
     by_case false e =
         let (b, below, r, is) = can_take_one (Conv (conversion_of scan)) (Item f) e in
         false_from_ne_true full (λ on. says.0 on b below ((decides scan f b proper).from (taken b r is)))
@@ -84,7 +87,8 @@ matched_end : (c : Conversion) (f : List ℕ) → Matches c f → passed_end c c
 matched_end c f m = ap (λ v. cond v (passed_end c c.slot f) (Fails MatchingFailure)) (sym ((tests_matches c f).to m))
 
 -- an integer's item ends with its number
-pub integer_ends : (c : Conversion) (f : List ℕ) (negative : Bool) (magnitude : ℕ) (overflowed : Bool) (is : Ends c f (ends.Integer negative magnitude overflowed))
+pub integer_ends : (c : Conversion) (f : List ℕ) (negative : Bool) (magnitude : ℕ) (overflowed : Bool)
+    (is : Ends c f (ends.Integer negative magnitude overflowed))
     → passed_number c c.slot (value_of c.kind negative is.1) ≡ item_end c f
 integer_ends c f negative magnitude overflowed is = passes_is c.slot ∙ matched_end c f matching
   where
@@ -101,17 +105,20 @@ pub suppressed_end : (c : Conversion) (f : List ℕ) → c.slot ≡ None → Mat
 suppressed_end c f none m = ap (λ slot. passed_end c slot f) (sym none) ∙ matched_end c f m
 
 -- a text is stored as it stands
-pub text_end : (c : Conversion) (f : List ℕ) (slot : ℕ) → text_slot (Conv c) ≡ Some slot → Matches c f → Stores slot (Bytes f) ≡ item_end c f
+pub text_end : (c : Conversion) (f : List ℕ) (slot : ℕ) → text_slot (Conv c) ≡ Some slot → Matches c f
+    → Stores slot (Bytes f) ≡ item_end c f
 text_end c f slot text m = grind (arith, matched_end)
 
 -- a text that is no match
-pub text_fails : (c : Conversion) (f : List ℕ) (slot : ℕ) (e : ItemEnd) → text_slot (Conv c) ≡ Some slot → f ≢ [] → Ends c f e → (e ≡ ends.Matched → ⊥)
+pub text_fails : (c : Conversion) (f : List ℕ) (slot : ℕ) (e : ItemEnd) → text_slot (Conv c) ≡ Some slot → f ≢ [] → Ends c f e
+    → (e ≡ ends.Matched → ⊥)
     → Fails MatchingFailure ≡ item_end c f
 text_fails c f slot e text some h never = grind (arith, unmatched_end)
 
 -- an item that is not stored as it stands, and is no match
 pub item_fails : (c : Conversion) (f : List ℕ) (e : ItemEnd) → f ≢ [] → Ends c f e → (e ≡ ends.Matched → ⊥)
-    → ((negative : Bool) (magnitude : ℕ) (overflowed : Bool) → e ≡ ends.Integer negative magnitude overflowed → ⊥) → Fails MatchingFailure ≡ item_end c f
+    → ((negative : Bool) (magnitude : ℕ) (overflowed : Bool) → e ≡ ends.Integer negative magnitude overflowed → ⊥)
+    → Fails MatchingFailure ≡ item_end c f
 item_fails c f e some h never none = grind (arith, unmatched_end)
 
 -- ---- the end of a directive
@@ -119,10 +126,12 @@ item_fails c f e some h never none = grind (arith, unmatched_end)
 pub count_is : (c : Conversion) (slot : Option ℕ) (n : ℕ) → passed_number c slot (value_of c.kind false n) ≡ count_end c slot n
 count_is c slot n = grind arith
 
-pub count_finished : (c : Conversion) (shape : Shape) (q : Stage) (n : ℕ) (more : Bool) → is_count shape ≡ true → conversion_finished c shape q n more ≡ count_end c c.slot n
+pub count_finished : (c : Conversion) (shape : Shape) (q : Stage) (n : ℕ) (more : Bool) → is_count shape ≡ true
+    → conversion_finished c shape q n more ≡ count_end c c.slot n
 count_finished c shape q n more e = grind arith
 
-pub other_finished : (c : Conversion) (shape : Shape) (q : Stage) (n : ℕ) (more : Bool) → is_count shape ≡ false → conversion_finished c shape q n more ≡ item_finished c q more
+pub other_finished : (c : Conversion) (shape : Shape) (q : Stage) (n : ℕ) (more : Bool) → is_count shape ≡ false
+    → conversion_finished c shape q n more ≡ item_finished c q more
 other_finished c shape q n more e = grind arith
 
 pub conv_is : (a b : Conversion) → Conv a ≡ Conv b → a ≡ b
@@ -130,7 +139,8 @@ conv_is a b e = cc
 
 -- an item under way is full as its scan is
 pub shown_full : (d : Directive) (slot : Option ℕ) (scan : ItemScan) (q : Stage) (full : Bool) → IsProper d → ShowsItem d slot scan q
-    → ((f : List ℕ) → HasTaken scan f → IsProperShape (conversion_of scan).shape → (IsTrue full ↔ ((b : ℕ) → b < 256 → CanTake (conversion_of scan) (f ++ b ∷ []) → ⊥)))
+    → ((f : List ℕ) → HasTaken scan f → IsProperShape (conversion_of scan).shape
+    → (IsTrue full ↔ ((b : ℕ) → b < 256 → CanTake (conversion_of scan) (f ++ b ∷ []) → ⊥)))
     → full ≡ is_full d q
 shown_full d slot scan q full proper s says =
     let own : IsProper (Conv (conversion_of scan)) = subst IsProper s.own proper in

@@ -27,7 +27,8 @@ use Rattle.sf_report.proofs.Told.{run_told}
 texts_counted : (d : Directive) (end : StepEnd) (t : Tally) → texts_in (counted d end t).values ≡ texts_in t.values ++ text_stored end
 texts_counted d end t = grind (arith, append-nil, texts-push)
 
-texts_more : (ds : List Directive) (at : ℕ) (t : Tally) (x : List ℕ) → length (texts_in t.values) ≤ length (texts_in (run_of None ds at t x).values)
+texts_more : (ds : List Directive) (at : ℕ) (t : Tally) (x : List ℕ)
+    → length (texts_in t.values) ≤ length (texts_in (run_of None ds at t x).values)
 texts_more [] at t x = omega arith
 texts_more (d ∷ ds) at t x = grind (arith, texts_counted, length-append, texts_more ds)
 
@@ -41,21 +42,26 @@ record FirstOf (d : Directive) (t : Tally) (x : List ℕ) (r : RunReport) : Type
 
 -- the rest of a run behind its first directive, which ends so
 abbrev behind : Directive → List Directive → ℕ → Tally → Part → StepEnd → RunReport
-behind d ds at t p end = by_end end (run_of None ds (at + 1) (counted d end (with_used p.used t)) p.left) (λ status. out_of status at (with_used p.used t))
+behind d ds at t p end = by_end end (run_of None ds (at + 1) (counted d end (with_used p.used t)) p.left)
+    (λ status. out_of status at (with_used p.used t))
 
-first_of : (d : Directive) (ds : List Directive) (at : ℕ) (t : Tally) (x : List ℕ) → (run_of None (d ∷ ds) at t x).status ≡ Done → FirstOf d t x (run_of None (d ∷ ds) at t x)
+first_of : (d : Directive) (ds : List Directive) (at : ℕ) (t : Tally) (x : List ℕ) → (run_of None (d ∷ ds) at t x).status ≡ Done
+    → FirstOf d t x (run_of None (d ∷ ds) at t x)
 first_of d ds at t x done = by_case (one_from d Skipping t.used x).end refl
   where
     more : (end : StepEnd) → passed end ≡ true → (one_from d Skipping t.used x).end ≡ end
-        → behind d ds at t (one_from d Skipping t.used x) end ≡ run_of None ds (at + 1) (counted d end (with_used (one_from d Skipping t.used x).used t)) (one_from d Skipping t.used x).left
+        → behind d ds at t (one_from d Skipping t.used x) end ≡ run_of None ds (at + 1)
+        (counted d end (with_used (one_from d Skipping t.used x).used t)) (one_from d Skipping t.used x).left
         → FirstOf d t x (run_of None (d ∷ ds) at t x)
     more end ok is same =
         let p : Part = one_from d Skipping t.used x in
         let u : Tally = counted d end (with_used p.used t) in
         let whole : run_of None (d ∷ ds) at t x ≡ run_of None ds (at + 1) u p.left = ap (behind d ds at t p) is ∙ same in
         let used' : (run_of None (d ∷ ds) at t x).used ≡ (run_of None ds (at + 1) u p.left).used = ap (λ (r : RunReport). r.used) whole in
-        let texts' : length (texts_in (run_of None (d ∷ ds) at t x).values) ≡ length (texts_in (run_of None ds (at + 1) u p.left).values) = ap (λ (r : RunReport). length (texts_in r.values)) whole in
-        let same' : length (texts_in u.values) ≡ length (texts_in t.values ++ text_stored end) = ap length (texts_counted d end (with_used p.used t)) in
+        let texts' : length (texts_in (run_of None (d ∷ ds) at t x).values) ≡ length (texts_in (run_of None ds (at + 1) u p.left).values) =
+        ap (λ (r : RunReport). length (texts_in r.values)) whole in
+        let same' : length (texts_in u.values) ≡ length (texts_in t.values ++ text_stored end) =
+        ap length (texts_counted d end (with_used p.used t)) in
         let long = length-append (texts_in t.values) (text_stored end) in
         let own : length (text_stored p.end) ≡ length (text_stored end) = ap (λ (e : StepEnd). length (text_stored e)) is in
         let on = counted-used d end (with_used p.used t) in
@@ -71,9 +77,11 @@ first_of d ds at t x done = by_case (one_from d Skipping t.used x).end refl
     by_case end is = grind (arith, more, never_done)
 
 -- where the run on the front and what follows is Done within the front, the next directive passes within it
-pub sure_at : (ds : List Directive) (front rest : List ℕ) (p : ℕ) (d : Directive) (t : code.Tally) (kept : Kept) (capacity : ℕ) → slice_get ds p ≡ Some d → Going ds front p t kept
+pub sure_at : (ds : List Directive) (front rest : List ℕ) (p : ℕ) (d : Directive) (t : code.Tally) (kept : Kept) (capacity : ℕ)
+    → slice_get ds p ≡ Some d → Going ds front p t kept
     → (run_of None ds 1 nothing_yet (front ++ rest)).status ≡ Done → (run_of None ds 1 nothing_yet (front ++ rest)).used < length front
-    → length (texts_in (run_of None ds 1 nothing_yet (front ++ rest)).values) ≤ capacity → capacity ≤ capacity_of kept → IsSure d t.used (drop t.used front) kept.room
+    → length (texts_in (run_of None ds 1 nothing_yet (front ++ rest)).values) ≤ capacity → capacity ≤ capacity_of kept
+    → IsSure d t.used (drop t.used front) kept.room
 sure_at ds front rest p d t kept capacity at h done early fits roomy =
     let x : List ℕ = drop t.used front ++ rest in
     let u : Tally = tally_of t kept.values in
@@ -88,7 +96,8 @@ sure_at ds front rest p d t kept capacity at h done early fits roomy =
     let soon = first.early in
     let text = first.texts in
     let closed = ap length h.joined in
-    let held : length (buffer_of kept) ≡ length kept.closed = ap (λ (o : Option Opened). length (kept.closed ++ text_of o)) h.opened ∙ ap length (append-nil kept.closed) in
+    let held : length (buffer_of kept) ≡ length kept.closed = ap (λ (o : Option Opened). length (kept.closed ++ text_of o)) h.opened
+    ∙ ap length (append-nil kept.closed) in
     record {
       after = rest;
       passes = first.passes;
@@ -97,19 +106,24 @@ sure_at ds front rest p d t kept capacity at h done early fits roomy =
     }
 
 -- the run on the front of a piece that is Done before a byte of it is lacking
-pub done_on : (ds : List Directive) → AreProper ds → (limit : ℕ) (piece : List ℕ) (capacity : ℕ) → (h : IsDoneWithin ds limit piece capacity) → run_of None ds 1 nothing_yet piece ≡ record h.report { met = None }
+pub done_on : (ds : List Directive) → AreProper ds → (limit : ℕ) (piece : List ℕ) (capacity : ℕ)
+    → (h : IsDoneWithin ds limit piece capacity) → run_of None ds 1 nothing_yet piece ≡ record h.report { met = None }
 done_on ds proper limit piece capacity h = grind (arith, run_told)
 
 -- the next directive of a run on a piece that is Done before a byte of it is lacking
-pub sure_next : (ds : List Directive) → AreProper ds → (limit most n : ℕ) (piece front rest : List ℕ) (p : ℕ) (d : Directive) (s : Strays) (kept : Kept) (capacity : ℕ) → slice_get ds p ≡ Some d
-    → front ≡ take most piece → length front ≡ most → most ≡ min limit (length piece) → Counted ds front rest p s kept → n ≡ length front - length rest → capacity ≤ capacity_of kept
+pub sure_next : (ds : List Directive) → AreProper ds → (limit most n : ℕ) (piece front rest : List ℕ) (p : ℕ) (d : Directive) (s : Strays)
+    (kept : Kept) (capacity : ℕ) → slice_get ds p ≡ Some d
+    → front ≡ take most piece → length front ≡ most → most ≡ min limit (length piece) → Counted ds front rest p s kept
+    → n ≡ length front - length rest → capacity ≤ capacity_of kept
     → IsDoneWithin ds limit piece capacity → IsSure d n rest kept.room
 sure_next ds proper limit most n piece front rest p d s kept capacity at is long least h begins roomy done =
     let r : RunReport = record done.report { met = None } in
     let whole : front ++ drop most piece ≡ piece = ap (λ (y : List ℕ). y ++ drop most piece) is ∙ take-append-drop most piece in
-    let same : run_of None ds 1 nothing_yet (front ++ drop most piece) ≡ r = ap (run_of None ds 1 nothing_yet) whole ∙ done_on ds proper limit piece capacity done in
+    let same : run_of None ds 1 nothing_yet (front ++ drop most piece) ≡ r =
+    ap (run_of None ds 1 nothing_yet) whole ∙ done_on ds proper limit piece capacity done in
     let used' : (run_of None ds 1 nothing_yet (front ++ drop most piece)).used ≡ r.used = ap (λ (r : RunReport). r.used) same in
-    let texts' : length (texts_in (run_of None ds 1 nothing_yet (front ++ drop most piece)).values) ≡ length (texts_in r.values) = ap (λ (r : RunReport). length (texts_in r.values)) same in
+    let texts' : length (texts_in (run_of None ds 1 nothing_yet (front ++ drop most piece)).values) ≡ length (texts_in r.values) =
+    ap (λ (r : RunReport). length (texts_in r.values)) same in
     let early = done.early in
     let low = done.low in
     let fits = done.fits in
@@ -117,5 +131,6 @@ sure_next ds proper limit most n piece front rest p d s kept capacity at is long
     let short = ap length h.rest ∙ length-drop h.tally.used front in
     let here : h.tally.used ≡ n = omega (arith, begins, short, within) in
     let sure : IsSure d h.tally.used (drop h.tally.used front) kept.room =
-    sure_at ds front (drop most piece) p d h.tally kept capacity at h.going (ap (λ (r : RunReport). r.status) same ∙ done.done) (omega (arith, used', early, low, long, least)) (omega (arith, texts', fits)) roomy in
+    sure_at ds front (drop most piece) p d h.tally kept capacity at h.going (ap (λ (r : RunReport). r.status) same ∙ done.done)
+    (omega (arith, used', early, low, long, least)) (omega (arith, texts', fits)) roomy in
     subst (λ m. IsSure d m rest kept.room) here (subst (λ y. IsSure d h.tally.used y kept.room) (sym h.rest) sure)

@@ -12,11 +12,13 @@ use Rattle.sf_run.specs.Standing.{report_by}
 use Rattle.sf_run.specs.Stopping.{is_memory_status, is_no_memory}
 use Rattle.sf_report.proofs.Told.{one_report}
 
-same_status : (o : Option Stop) (t : Tally) (met : Option Ending) (r : RunReport) → report_by o t met ≡ Some r → is_memory_status r.status ≡ is_no_memory o
+same_status : (o : Option Stop) (t : Tally) (met : Option Ending) (r : RunReport) → report_by o t met ≡ Some r
+    → is_memory_status r.status ≡ is_no_memory o
 same_status None t met r e = cc
 same_status (Some stop) t met r e = ap (λ (p : RunReport). is_memory_status p.status) (sym (some_is _ r e))
 
-told_within : (ds : List Directive) (m : ℕ) (x : List ℕ) (ending : Ending) (r : RunReport) → RunTold ds m x ending r → is_memory_status r.status ≡ false → RunWithin ds m x ending r
+told_within : (ds : List Directive) (m : ℕ) (x : List ℕ) (ending : Ending) (r : RunReport) → RunTold ds m x ending r
+    → is_memory_status r.status ≡ false → RunWithin ds m x ending r
 told_within ds m x ending r (inl w) fine = w
 told_within ds m x ending r (inr w) fine = absurd (true≢false (sym (ap (λ (o : RunReport). is_memory_status o.status) w.2.3) ∙ fine))
 
@@ -24,5 +26,6 @@ pub stores_report_alike : EachStoreReportsAlike
 stores_report_alike ds proper m x ending one other g h fine fine' =
     let only = (one_report ds proper m x ending).only in
     let first = only g.report (told_within ds m x ending g.report g.right (same_status one.ended one.tally one.met g.report g.is ∙ fine)) in
-    let second = only h.report (told_within ds m x ending h.report h.right (same_status other.ended other.tally other.met h.report h.is ∙ fine')) in
+    let second = only h.report (told_within ds m x ending h.report h.right
+    (same_status other.ended other.tally other.met h.report h.is ∙ fine')) in
     g.is ∙ ap (λ (r : RunReport). Some r) (first ∙ sym second) ∙ sym h.is

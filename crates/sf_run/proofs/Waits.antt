@@ -50,7 +50,8 @@ pub record OneByteOf (d : Directive) (IsShown : Stage → Type 0) : Type 0 where
 abbrev OneByte : Directive → Phase → Type 0
 OneByte d current = OneByteOf d (Shows d current)
 
-item_one : (d : Directive) → IsProper d → (slot : Option ℕ) (scan : ItemScan) (q : Stage) → ShowsItem d slot scan q → ((p : Stage) → ShowsItem d slot scan p → is_full d p ≡ false)
+item_one : (d : Directive) → IsProper d → (slot : Option ℕ) (scan : ItemScan) (q : Stage) → ShowsItem d slot scan q
+    → ((p : Stage) → ShowsItem d slot scan p → is_full d p ≡ false)
     → OneByteOf d (ShowsItem d slot scan)
 item_one d proper slot scan q shows more =
     let own : IsProper (Conv (conversion_of scan)) = subst IsProper shows.own proper in
@@ -58,11 +59,16 @@ item_one d proper slot scan q shows more =
       byte = item_byte (conversion_of scan).shape own.0;
       is_byte = item_byte-below (conversion_of scan).shape own.0;
       taken = λ p e.
-          let (r, is) = item_takes (conversion_of scan) own.0 e.item (subst (λ s. is_full s (Item e.item) ≡ false) shows.own (subst (λ s. is_full d s ≡ false) e.stage (more p e))) in
-          (r, ap (λ s. stepped d s (item_byte (conversion_of scan).shape own.0)) e.stage ∙ ap (λ s. stepped s (Item e.item) (item_byte (conversion_of scan).shape own.0)) shows.own ∙ is);
+          let (r, is) = item_takes (conversion_of scan) own.0 e.item
+          (subst (λ s. is_full s (Item e.item) ≡ false) shows.own (subst (λ s. is_full d s ≡ false) e.stage (more p e))) in (
+            r,
+            ap (λ s. stepped d s (item_byte (conversion_of scan).shape own.0)) e.stage
+                ∙ ap (λ s. stepped s (Item e.item) (item_byte (conversion_of scan).shape own.0)) shows.own ∙ is,
+          );
     }
 
-one_byte : (d : Directive) → IsProper d → (current : Phase) (q : Stage) → Shows d current q → ((p : Stage) → Shows d current p → is_full d p ≡ false) → OneByte d current
+one_byte : (d : Directive) → IsProper d → (current : Phase) (q : Stage) → Shows d current q
+    → ((p : Stage) → Shows d current p → is_full d p ≡ false) → OneByte d current
 one_byte d proper phase.Skipping q shows more =
     let (b, below, r, is) = can_take_one d Skipping (more Skipping refl) in
     record { byte = b; is_byte = below; taken = λ p e. (r, ap (λ s. stepped d s b) e ∙ is) }
@@ -108,20 +114,24 @@ module _ (ds : List Directive) (m : ℕ) (s : Standing) (x : List ℕ) (h : Afte
     here = ap (λ l. slice_get l s.passed) (sym h.format) ∙ waits.current
 
     came_so : ComesBy ds s.passed s.phase s.opened s.tally.used x []
-    came_so = subst (λ l. ComesBy l s.passed s.phase s.opened s.tally.used x []) h.format (subst (λ (o : Option Stop). IfNone o (Comes s x [])) e h.come)
+    came_so = subst (λ l. ComesBy l s.passed s.phase s.opened s.tally.used x []) h.format
+        (subst (λ (o : Option Stop). IfNone o (Comes s x [])) e h.come)
 
     proper_own : IsProper waits.under_way
     proper_own = proper_at s.directives s.passed waits.under_way (subst AreProper (sym h.format) h.proper) waits.current
 
-    shown : (k : ℕ) (z : List ℕ) (report : RunReport) (does : DoesBy None s.directives s.passed s.phase s.opened s.tally k z report) → Shows waits.under_way s.phase does.0
+    shown : (k : ℕ) (z : List ℕ) (report : RunReport) (does : DoesBy None s.directives s.passed s.phase s.opened s.tally k z report)
+        → Shows waits.under_way s.phase does.0
     shown k z report does =
         let both : Shows waits.under_way s.phase does.0 × (s.opened ≡ opened_for (text_slot waits.under_way) does.0) =
-        subst (λ rest. ShowsFirst rest s.phase s.opened does.0) (drop_at s.directives s.passed waits.under_way waits.current) does.1 in both.0
+        subst (λ rest. ShowsFirst rest s.phase s.opened does.0) (drop_at s.directives s.passed waits.under_way waits.current) does.1 in
+        both.0
 
     one : OneByte waits.under_way s.phase
     one =
         let start = waiting s m [] (cut m ds (x ++ [])) e (does_cut []) in
-        one_byte waits.under_way proper_own s.phase start.0 (shown m [] (cut m ds (x ++ [])) start) (λ p shows. waits.can_take p proper_own shows)
+        one_byte waits.under_way proper_own s.phase start.0 (shown m [] (cut m ds (x ++ [])) start)
+        (λ p shows. waits.can_take p proper_own shows)
 
     next : DoesBy None s.directives s.passed s.phase s.opened s.tally m (one.byte ∷ []) (cut m ds (x ++ one.byte ∷ []))
     next = waiting s m (one.byte ∷ []) (cut m ds (x ++ one.byte ∷ [])) e (does_cut (one.byte ∷ []))
@@ -136,22 +146,27 @@ module _ (ds : List Directive) (m : ℕ) (s : Standing) (x : List ℕ) (h : Afte
     below : s.tally.used < m → (cut m ds (x ++ one.byte ∷ [])).used ≡ length x + 1
     below lt =
         let t : Tally = s.tally in
-        ap (λ (r : RunReport). r.used) (next.2 ∙ byte_took m s.directives s.passed waits.under_way next.0 taken_by.0 t one.byte waits.current taken_by.1)
-        ∙ rest_uses_nothing (Some m) (drop s.passed s.directives) taken_by.0 (s.passed + 1) (with_used (t.used + 1) t) (le-ltb m (t.used + 1) (omega arith))
+        ap (λ (r : RunReport). r.used) (next.2 ∙ byte_took m s.directives s.passed waits.under_way next.0 taken_by.0 t one.byte
+        waits.current taken_by.1)
+        ∙ rest_uses_nothing (Some m) (drop s.passed s.directives) taken_by.0 (s.passed + 1) (with_used (t.used + 1) t)
+        (le-ltb m (t.used + 1) (omega arith))
         ∙ ap (λ n. n + 1) used
 
     -- at the limit it is too much
     at_limit : s.tally.used ≡ m → (cut m ds (x ++ one.byte ∷ [])).status ≡ TooLong
     at_limit same =
-        ap (λ (r : RunReport). r.status) (next.2 ∙ byte_past m s.directives s.passed waits.under_way next.0 taken_by.0 s.tally one.byte waits.current taken_by.1 same)
+        ap (λ (r : RunReport). r.status) (next.2 ∙ byte_past m s.directives s.passed waits.under_way next.0 taken_by.0 s.tally one.byte
+        waits.current taken_by.1 same)
 
     long : (full ds (x ++ one.byte ∷ [])).used ≡ length x + 1
     long = elim (cases_lt m (full ds (x ++ one.byte ∷ [])).used) [
       | inl over ↦ (let top = upper in let here = used in let fits = low in omega (arith, over, top, here, fits))
-      | inr fits ↦ (let all : cut m ds (x ++ one.byte ∷ []) ≡ full ds (x ++ one.byte ∷ []) = within_limit m ds 1 nothing_yet (x ++ one.byte ∷ []) fits in
+      | inr fits ↦ (let all : cut m ds (x ++ one.byte ∷ []) ≡ full ds (x ++ one.byte ∷ []) =
+          within_limit m ds 1 nothing_yet (x ++ one.byte ∷ []) fits in
           elim (cases_lt s.tally.used m) [
             | inl lt ↦ ap (λ (r : RunReport). r.used) (sym all) ∙ below lt
-            | inr ge ↦ absurd (run_not_too_long ds 1 nothing_yet (x ++ one.byte ∷ []) (ap (λ (r : RunReport). r.status) (sym all) ∙ at_limit (let fits = low in omega (arith, ge, fits))))
+            | inr ge ↦ absurd (run_not_too_long ds 1 nothing_yet (x ++ one.byte ∷ [])
+                (ap (λ (r : RunReport). r.status) (sym all) ∙ at_limit (let fits = low in omega (arith, ge, fits))))
           ])
     ]
 
@@ -161,10 +176,12 @@ module _ (ds : List Directive) (m : ℕ) (s : Standing) (x : List ℕ) (h : Afte
         ((one.byte, one.is_byte, uses_from ds h.proper (x ++ one.byte ∷ []) (length x + 1) long), omega (arith, here, fits))
 
     -- under a limit at what it has used, that byte is too much for the directive under way
-    at_used : (report : RunReport) × (report ≡ out_of TooLong (s.passed + 1) s.tally) × TellsWithin ds (length x) (x ++ one.byte ∷ []) report
+    at_used : (report : RunReport) × (report ≡ out_of TooLong (s.passed + 1) s.tally)
+        × TellsWithin ds (length x) (x ++ one.byte ∷ []) report
     at_used =
         let (report, does, tells) = h.same s.tally.used (one.byte ∷ []) (omega arith) low in
-        let own : DoesBy None s.directives s.passed s.phase s.opened s.tally s.tally.used (one.byte ∷ []) report = waiting s s.tally.used (one.byte ∷ []) report e does in
+        let own : DoesBy None s.directives s.passed s.phase s.opened s.tally s.tally.used (one.byte ∷ []) report =
+        waiting s s.tally.used (one.byte ∷ []) report e does in
         let (r, takes) = one.taken own.0 (shown s.tally.used (one.byte ∷ []) report own) in (
           report,
           own.2 ∙ byte_past s.tally.used s.directives s.passed waits.under_way own.0 r s.tally one.byte waits.current takes refl,
@@ -175,11 +192,13 @@ module _ (ds : List Directive) (m : ℕ) (s : Standing) (x : List ℕ) (h : Afte
     no_sooner : (b : ℕ) (other : List Ran) → IsCut ds (x ++ b ∷ []) (length x) other → s.passed ≤ length other
     no_sooner b other is_cut =
         let (report, does, tells) = h.same s.tally.used (b ∷ []) (omega arith) low in
-        let own : DoesBy None s.directives s.passed s.phase s.opened s.tally s.tally.used (b ∷ []) report = waiting s s.tally.used (b ∷ []) report e does in
+        let own : DoesBy None s.directives s.passed s.phase s.opened s.tally s.tally.used (b ∷ []) report =
+        waiting s s.tally.used (b ∷ []) report e does in
         let here : TellsWithin ds s.tally.used (x ++ b ∷ []) (cut_report TooLong other (length x)) =
         subst (λ k. TellsWithin ds k (x ++ b ∷ []) (cut_report TooLong other (length x))) (sym used) (inr (other, is_cut, refl)) in
         let same : report ≡ cut_report TooLong other (length x) =
-        told_is ds h.proper s.tally.used (x ++ b ∷ []) report tells ∙ sym (told_is ds h.proper s.tally.used (x ++ b ∷ []) (cut_report TooLong other (length x)) here) in
+        told_is ds h.proper s.tally.used (x ++ b ∷ []) report tells
+        ∙ sym (told_is ds h.proper s.tally.used (x ++ b ∷ []) (cut_report TooLong other (length x)) here) in
         let rest : RunReport = run_from (Some s.tally.used) (drop s.passed s.directives) own.0 (s.passed + 1) s.tally (b ∷ []) in
         let long : rest.status ≡ TooLong = ap (λ (r : RunReport). r.status) (sym own.2 ∙ same) in
         let place : rest.at ≡ length other + 1 = ap (λ (r : RunReport). r.at) (sym own.2 ∙ same) in
@@ -210,8 +229,10 @@ module _ (ds : List Directive) (m : ℕ) (s : Standing) (x : List ℕ) (h : Afte
               converted_are = ap (λ (r : RunReport). r.converted) same;
               values_are = ap (λ (r : RunReport). r.values) same;
               used_are = used;
-              item_is = item_of_cut ds h.proper s.passed waits.under_way here s.phase s.opened s.tally.used x came_so one.byte (length x) w.0 (omega (arith, place)) w.1;
-              text_is = text_of_cut ds h.proper s.passed waits.under_way here s.phase s.opened s.tally.used x came_so one.byte (length x) w.0 (omega (arith, place)) w.1;
+              item_is = item_of_cut ds h.proper s.passed waits.under_way here s.phase s.opened s.tally.used x came_so one.byte
+                  (length x) w.0 (omega (arith, place)) w.1;
+              text_is = text_of_cut ds h.proper s.passed waits.under_way here s.phase s.opened s.tally.used x came_so one.byte
+                  (length x) w.0 (omega (arith, place)) w.1;
             }
 
   -- an ended one tells the same however the input goes on
@@ -232,8 +253,10 @@ module _ (ds : List Directive) (m : ℕ) (s : Standing) (x : List ℕ) (h : Afte
         let short : (full ds x).used ≤ m = omega (arith, uses_within ds 1 nothing_yet x, fits) in
         elim (cases_lt m (full ds (x ++ o.0 ∷ [])).used) [
           | inl over ↦ run_not_too_long ds 1 nothing_yet x (ap (λ (r : RunReport). r.status)
-              (sym (within_limit m ds 1 nothing_yet x short) ∙ cut_here ∙ sym (ended_is (o.0 ∷ []))) ∙ over_is_too_long m ds 1 nothing_yet (x ++ o.0 ∷ []) (omega arith) over)
-          | inr within ↦ (let same : (full ds (x ++ o.0 ∷ [])).used ≡ s.tally.used = ap (λ (r : RunReport). r.used) (sym (within_limit m ds 1 nothing_yet (x ++ o.0 ∷ []) within) ∙ ended_is (o.0 ∷ [])) in
+              (sym (within_limit m ds 1 nothing_yet x short) ∙ cut_here ∙ sym (ended_is (o.0 ∷ [])))
+              ∙ over_is_too_long m ds 1 nothing_yet (x ++ o.0 ∷ []) (omega arith) over)
+          | inr within ↦ (let same : (full ds (x ++ o.0 ∷ [])).used ≡ s.tally.used =
+              ap (λ (r : RunReport). r.used) (sym (within_limit m ds 1 nothing_yet (x ++ o.0 ∷ []) within) ∙ ended_is (o.0 ∷ [])) in
               absurd (omega (arith, same, long, h.within)))
         ]
 
@@ -275,7 +298,8 @@ after_more ds m s x z h ended = record {
     ended_all (Some stop) P i = tt
 
 -- an ended one has the report of every longer input, with every ending
-pub ended_gives : (ds : List Directive) (m : ℕ) (s : Standing) (x z : List ℕ) (ending : Ending) → After ds m s x → IsSome s.ended → Gives ds m s (x ++ z) ending
+pub ended_gives : (ds : List Directive) (m : ℕ) (s : Standing) (x z : List ℕ) (ending : Ending) → After ds m s x → IsSome s.ended
+    → Gives ds m s (x ++ z) ending
 ended_gives ds m s x z ending h ended = by_case s.ended refl ended
   where
     by_case : (o : Option Stop) → s.ended ≡ o → IsSome o → Gives ds m s (x ++ z) ending
@@ -288,9 +312,12 @@ none_before : {A : Type 0} (o p : Option A) → (IsSome o → IsSome p) → p �
 none_before o p h e = grind arith
 
 -- after a piece was pushed
-pub after_push : (ds : List Directive) (m : ℕ) (old new : Standing) (x piece : List ℕ) (n : ℕ) → After ds m old x → new.tally.used ≤ new.limit
-    → (AreProper old.directives → (z : List ℕ) → Follows new old z (piece ++ z)) → new.tally.used ≡ old.tally.used + n → n ≤ length piece → IfNone new.ended (n ≡ length piece)
-    → (IsSome old.ended → IsSome new.ended) → Keeps new old → (IsSettled old → IsSettled new) → (AreProper old.directives → Advances new old piece n) → After ds m new (x ++ piece)
+pub after_push : (ds : List Directive) (m : ℕ) (old new : Standing) (x piece : List ℕ) (n : ℕ) → After ds m old x
+    → new.tally.used ≤ new.limit
+    → (AreProper old.directives → (z : List ℕ) → Follows new old z (piece ++ z)) → new.tally.used ≡ old.tally.used + n → n ≤ length piece
+    → IfNone new.ended (n ≡ length piece)
+    → (IsSome old.ended → IsSome new.ended) → Keeps new old → (IsSettled old → IsSettled new)
+    → (AreProper old.directives → Advances new old piece n) → After ds m new (x ++ piece)
 after_push ds m old new x piece n h low follows used within all stays keeps settled advances = record {
   format = keeps.directives ∙ h.format;
   limit = keeps.limit ∙ h.limit;
@@ -298,8 +325,11 @@ after_push ds m old new x piece n h low follows used within all stays keeps sett
   low = grind (arith, low);
   same = λ k z below fits.
       let w = h.same k (piece ++ z) (omega (arith, below, used)) fits in
-      let limit = h.limit in
-      (w.0, follows (subst AreProper (sym h.format) h.proper) z k w.0 below (omega (arith, fits, limit)) w.1, subst (λ v. TellsWithin ds k v w.0) (sym (append_assoc x piece z)) w.2);
+      let limit = h.limit in (
+        w.0,
+        follows (subst AreProper (sym h.format) h.proper) z k w.0 below (omega (arith, fits, limit)) w.1,
+        subst (λ v. TellsWithin ds k v w.0) (sym (append_assoc x piece z)) w.2,
+      );
   settled = settled h.settled;
   all = go new.ended refl;
   come = comes new.ended refl;
@@ -332,7 +362,8 @@ run_out_gives ds m old new x ending h waiting follows used ended met = by_case n
         let fits = low ds m old x h in
         let limit = h.limit in
         let is : run.0 ≡ out_of stop.status stop.at new.tally =
-        subst (λ o. DoesBy o new.directives new.passed new.phase new.opened new.tally m [] run.0) e (follows m run.0 (omega (arith, fits, used)) (omega (arith, limit)) run.1) in
+        subst (λ o. DoesBy o new.directives new.passed new.phase new.opened new.tally m [] run.0) e
+        (follows m run.0 (omega (arith, fits, used)) (omega (arith, limit)) run.1) in
         record {
           report = record (out_of stop.status stop.at new.tally) { met = Some ending };
           is = ap (λ o. report_by o new.tally new.met) e ∙ ap (λ o. report_by (Some stop) new.tally o) met;
@@ -342,7 +373,8 @@ run_out_gives ds m old new x ending h waiting follows used ended met = by_case n
 
 -- one that was given nothing yet
 pub after_nothing : (ds : List Directive) (m : ℕ) (s : Standing) → s.directives ≡ ds → s.limit ≡ m → AreProper ds
-    → ((k : ℕ) (z : List ℕ) → k ≤ m → Does s k z (run_of (Some k) ds 1 nothing_yet z)) → IsSettled s → s.tally.used ≡ 0 → s.met ≡ None → (s.ended ≡ None → Comes s [] [])
+    → ((k : ℕ) (z : List ℕ) → k ≤ m → Does s k z (run_of (Some k) ds 1 nothing_yet z)) → IsSettled s → s.tally.used ≡ 0 → s.met ≡ None
+    → (s.ended ≡ None → Comes s [] [])
     → After ds m s []
 after_nothing ds m s format limit proper does settled used met come = record {
   format = format;
@@ -366,25 +398,30 @@ after_nothing ds m s format limit proper does settled used met come = record {
 
 -- ---- what is told of an ended one
 
-pub ended_gives_own : (ds : List Directive) (m : ℕ) (s : Standing) (x : List ℕ) (ending : Ending) → After ds m s x → IsSome s.ended → Gives ds m s x ending
+pub ended_gives_own : (ds : List Directive) (m : ℕ) (s : Standing) (x : List ℕ) (ending : Ending) → After ds m s x → IsSome s.ended
+    → Gives ds m s x ending
 ended_gives_own ds m s x ending h ended = subst (λ y. Gives ds m s y ending) (append-nil x) (ended_gives ds m s x [] ending h ended)
 
-pub gives_report : (ds : List Directive) (m : ℕ) (s : Standing) (x : List ℕ) (ending : Ending) (stop : Stop) → Gives ds m s x ending → s.ended ≡ Some stop
+pub gives_report : (ds : List Directive) (m : ℕ) (s : Standing) (x : List ℕ) (ending : Ending) (stop : Stop) → Gives ds m s x ending
+    → s.ended ≡ Some stop
     → RunTold ds m x ending (record (out_of stop.status stop.at s.tally) { met = s.met })
 gives_report ds m s x ending stop h e =
     subst (RunTold ds m x ending) (sym (some_is _ _ (ap (λ o. report_by o s.tally s.met) (sym e) ∙ h.is))) h.right
 
 -- the outcome of an ended one, with its values, is its report
-pub told_exactly : (s : Standing) (stop : Stop) (r : RunReport) → s.ended ≡ Some stop → r ≡ record (out_of stop.status stop.at s.tally) { met = s.met } → Some r ≡ report_of s
+pub told_exactly : (s : Standing) (stop : Stop) (r : RunReport) → s.ended ≡ Some stop
+    → r ≡ record (out_of stop.status stop.at s.tally) { met = s.met } → Some r ≡ report_of s
 told_exactly s stop r e is = ap Some is ∙ sym (ap (λ o. report_by o s.tally s.met) e)
 
 -- where no storing was refused it is that of the run under the limit
-pub after_report : (ds : List Directive) (m : ℕ) (s : Standing) (x : List ℕ) (ending : Ending) (stop : Stop) → After ds m s x → s.ended ≡ Some stop
+pub after_report : (ds : List Directive) (m : ℕ) (s : Standing) (x : List ℕ) (ending : Ending) (stop : Stop) → After ds m s x
+    → s.ended ≡ Some stop
     → RunWithin ds m x ending (record (out_of stop.status stop.at s.tally) { met = s.met })
 after_report ds m s x ending stop h e =
     subst (λ o. RunWithin ds m x ending (record (out_of stop.status stop.at s.tally) { met = o })) (sym h.fed)
     (within_met open_all ds h.proper m x ending None (out_of stop.status stop.at s.tally)
-    (subst (λ r. TellsWithin ds m x r) (cut_here ds m s x h stop e) (told_exists ds h.proper m x)) (λ o. ended_closed ds m s x h (ap is_some e) o.0 o.1))
+    (subst (λ r. TellsWithin ds m x r) (cut_here ds m s x h stop e) (told_exists ds h.proper m x))
+    (λ o. ended_closed ds m s x h (ap is_some e) o.0 o.1))
 
 pub none_is : {A : Type 0} (o : Option A) → is_some o ≡ false → o ≡ None
 none_is o h = grind arith
@@ -393,13 +430,16 @@ pub none_of : (s : Standing) → is_some s.ended ≡ false → s.ended ≡ None
 none_of s = none_is s.ended
 
 -- the report of what it was given says how many bytes it has used
-pub within_used : (ds : List Directive) (m : ℕ) (s : Standing) (x : List ℕ) (ending : Ending) (r : RunReport) → After ds m s x → RunWithin ds m x ending r → r.used ≡ s.tally.used
+pub within_used : (ds : List Directive) (m : ℕ) (s : Standing) (x : List ℕ) (ending : Ending) (r : RunReport) → After ds m s x
+    → RunWithin ds m x ending r → r.used ≡ s.tally.used
 within_used ds m s x ending r h run = used_is ds m s x h (record r { met = None }) (met_within open_all ds h.proper m x ending r run).0
 
 -- before the first byte
-pub start_does : (own ds : List Directive) (opened : Option Opened) (t : Tally) (k : ℕ) (z : List ℕ) → own ≡ ds → opened ≡ None → t ≡ nothing_yet
+pub start_does : (own ds : List Directive) (opened : Option Opened) (t : Tally) (k : ℕ) (z : List ℕ) → own ≡ ds → opened ≡ None
+    → t ≡ nothing_yet
     → DoesBy None own 0 phase.Skipping opened t k z (run_of (Some k) ds 1 nothing_yet z)
 start_does own ds opened t k z same none nothing = grind arith
 
-pub tally_nothing : (t : code.Tally) (values : List Assigned) → t.used ≡ 0 → t.assigned ≡ 0 → t.converted ≡ 0 → values ≡ [] → tally_of t values ≡ nothing_yet
+pub tally_nothing : (t : code.Tally) (values : List Assigned) → t.used ≡ 0 → t.assigned ≡ 0 → t.converted ≡ 0 → values ≡ []
+    → tally_of t values ≡ nothing_yet
 tally_nothing t values a b c d = rw (a, b, c, d) refl

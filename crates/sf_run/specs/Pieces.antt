@@ -25,14 +25,16 @@ item_of Skipping = []
 item_of Taken = []
 item_of (Item f) = f
 
--- From this stage, n bytes into the run, the directive takes so many bytes of the piece and no more, however the piece goes on, and ends so.
+-- From this stage, n bytes into the run, the directive takes so many bytes of the piece and no more, however the piece goes on, and ends
+-- so.
 pub record EndsIn (d : Directive) (q : Stage) (n : ℕ) (piece : List ℕ) (taken : ℕ) (end : StepEnd) : Type 0 where
   pub within : taken ≤ length piece
   pub takes : (z : List ℕ) → one_from d q n (piece ++ z) ≡ record { used = n + taken; left = drop taken piece ++ z; end = end }
 
 abbrev pub AnswersBy : Option Finished → Directive → Stage → ℕ → List ℕ → Run → Type 0
 AnswersBy None d q n piece run = Brings d q piece (take run.item (drop run.before piece)) run.phase
-AnswersBy (Some end) d q n piece run = EndsIn d q n piece (run.before + run.item) (end_of (item_of q ++ take run.item (drop run.before piece)) end)
+AnswersBy (Some end) d q n piece run = EndsIn d q n piece (run.before + run.item)
+    (end_of (item_of q ++ take run.item (drop run.before piece)) end)
 
 -- The answer is what the directive, which stands at this stage n bytes into the run, makes of the piece.
 pub record Answers (d : Directive) (q : Stage) (n : ℕ) (piece : List ℕ) (run : Run) : Type 0 where
@@ -46,8 +48,8 @@ pub record IsEnd (d : Directive) (current : Phase) (end : Finished) : Type 0 whe
   pub number : IsNumberGiven end
   pub memory : is_memory_failure end ≡ false
 
--- Whatever its stage, the answer fits a directive that has come so far: it uses the piece up where it waits, and would then take one byte more; the text
--- under way goes on.
+-- Whatever its stage, the answer fits a directive that has come so far: it uses the piece up where it waits, and would then take one byte
+-- more; the text under way goes on.
 pub record Suits (d : Directive) (current : Phase) (piece : List ℕ) (run : Run) : Type 0 where
   pub within : run.before + run.item ≤ length piece
   pub all : run.ends ≡ None → run.before + run.item ≡ length piece

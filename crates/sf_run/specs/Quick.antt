@@ -62,7 +62,8 @@ pub record PassesWithin (d : Directive) (n : ℕ) (piece : List ℕ) (taken : �
   pub gives : GivesTo end stores old new
   pub own : slot_stored end ≡ slot_of d
 
--- the counts of the directives that have passed otherwise than as a conversion that stores, with one more that counts as a conversion or not, and stores or not
+-- the counts of the directives that have passed otherwise than as a conversion that stores, with one more that counts as a conversion or
+-- not, and stores or not
 abbrev pub strayed : Bool → Bool → Strays → Strays
 strayed true false s = record s { suppressed = s.suppressed + 1 }
 strayed false true s = record s { uncounted = s.uncounted + 1 }

@@ -76,7 +76,8 @@ pub record ComesBy (ds : List Directive) (passed : ℕ) (phase : Phase) (opened 
   pub count : passed ≡ length before
   pub consumed_is : consumed ≡ length x
   pub within : used before ≤ length x
-  pub steps : (z : List ℕ) → ran_of ds (x ++ (y ++ z)) 0 ≡ before ++ ran_of (drop passed ds) (drop (used before) x ++ (y ++ z)) (used before)
+  pub steps : (z : List ℕ) → ran_of ds (x ++ (y ++ z)) 0 ≡ before ++ ran_of (drop passed ds) (drop (used before) x ++ (y ++ z))
+      (used before)
   pub shown : ShowsFirst (drop passed ds) phase opened stage
   pub led : LedFirst (drop passed ds) (drop (used before) x) stage
 
@@ -127,8 +128,8 @@ abbrev pub Ends : Standing → Standing → Directive → StepEnd → Type 0
 Ends new old d (Fails status) = Stops new old (record { status = status; at = old.passed + 1 })
 Ends new old d end = Passes new old d end
 
--- The run has stopped as the storing of a byte was refused: the directive under way has taken so many bytes before those of its item, and those of
--- the item that were stored, but not all.
+-- The run has stopped as the storing of a byte was refused: the directive under way has taken so many bytes before those of its item, and
+-- those of the item that were stored, but not all.
 pub record RunsOut (new old : Standing) (before item : ℕ) : Type 0 where
   pub stored : ℕ
   pub short : stored < item

@@ -165,7 +165,8 @@ pub(crate) fn skipped(shape: &Shape, piece: &[u8]) -> usize
 /// A conversion that matched a number; None where its kind doesn't hold it.
 #[inline(always)]
 pub(crate) fn finish_number(conversion: &Conversion, number: Option<Number>) -> Finished
-    ensures end { (text : List ℕ) (n : Option ℤ) → option_map datum_of_number number ≡ option_map (NumberOf conversion.now.kind) n
+    ensures end { (text : List ℕ) (n : Option ℤ) → option_map datum_of_number number
+        ≡ option_map (NumberOf conversion.now.kind) n
         → end_of text result ≡ passed_number conversion.now conversion.now.slot n }
     ensures closes { slot_closed result ≡ None }
     ensures given { is_failing result ≡ false → slot_given result ≡ conversion.now.slot }
@@ -200,7 +201,8 @@ fn finish_matched(slot: Option<u8>) -> Finished
 
 /// An item that is not stored as it stands.
 pub(crate) fn finish_item(conversion: &Conversion, scan: ItemScan<'_>) -> Finished
-    ensures end { (text f : List ℕ) → f ≢ [] → conversion.now ≡ conversion_of scan.entry → HasTaken scan.entry f → text_slot (directive.Conv conversion.now) ≡ None
+    ensures end { (text f : List ℕ) → f ≢ [] → conversion.now ≡ conversion_of scan.entry → HasTaken scan.entry f
+        → text_slot (directive.Conv conversion.now) ≡ None
         → end_of text result ≡ item_end conversion.now f }
     ensures closes { slot_closed result ≡ None }
     ensures given { is_failing result ≡ false → slot_given result ≡ conversion.now.slot }
@@ -223,7 +225,8 @@ pub(crate) fn finish_item(conversion: &Conversion, scan: ItemScan<'_>) -> Finish
 
 /// An item that is the text of the slot.
 pub(crate) fn finish_text(slot: u8, scan: ItemScan<'_>) -> Finished
-    ensures end { (f : List ℕ) → f ≢ [] → HasTaken scan.entry f → text_slot (directive.Conv (conversion_of scan.entry)) ≡ Some slot
+    ensures end { (f : List ℕ) → f ≢ [] → HasTaken scan.entry f
+        → text_slot (directive.Conv (conversion_of scan.entry)) ≡ Some slot
         → end_of f result ≡ item_end (conversion_of scan.entry) f }
     ensures text { is_failing result ≡ false → Some slot ≡ slot_closed result }
     ensures given { is_failing result ≡ false → slot_given result ≡ Some slot }
@@ -253,7 +256,8 @@ fn finish_count(conversion: &Conversion, used: u32) -> Finished
 /// An item that was taken, one byte at least; `slot` is that of its text.
 fn finish_taken(conversion: &Conversion, slot: Option<u8>, scan: ItemScan<'_>) -> Finished
     requires { IfSome slot (λ n. text_slot (directive.Conv conversion.now) ≡ Some n) }
-    ensures end { (f : List ℕ) → f ≢ [] → conversion.now ≡ conversion_of scan.entry → HasTaken scan.entry f → text_slot (directive.Conv conversion.now) ≡ slot
+    ensures end { (f : List ℕ) → f ≢ [] → conversion.now ≡ conversion_of scan.entry → HasTaken scan.entry f
+        → text_slot (directive.Conv conversion.now) ≡ slot
         → end_of f result ≡ item_end conversion.now f }
     ensures text { is_failing result ≡ false → slot ≡ slot_closed result }
     ensures given { is_failing result ≡ false → slot_given result ≡ conversion.now.slot }
@@ -270,7 +274,8 @@ fn finish_taken(conversion: &Conversion, slot: Option<u8>, scan: ItemScan<'_>) -
 fn finish_conversion(conversion: &Conversion, phase: Phase<'_>) -> Finished
     requires { IfSome (slot_in phase) (λ slot. text_slot (directive.Conv conversion.now) ≡ Some slot) }
     ensures end { (q : Stage) (opened : Option Opened) → Shows (directive.Conv conversion.now) phase.entry q
-        → opened ≡ opened_for (text_slot (directive.Conv conversion.now)) q → end_of (text_of opened) result ≡ item_finished conversion.now q false }
+        → opened ≡ opened_for (text_slot (directive.Conv conversion.now)) q
+        → end_of (text_of opened) result ≡ item_finished conversion.now q false }
     ensures is { IsEnd (directive.Conv conversion.now) phase.entry result }
 {
     match phase {
@@ -283,7 +288,8 @@ fn finish_conversion(conversion: &Conversion, phase: Phase<'_>) -> Finished
 /// How the directive ends, which waits, where the input ends.
 pub(crate) fn finish(directive: &Directive, phase: Phase<'_>, used: u32) -> Finished
     requires { IfSome (slot_in phase) (λ slot. text_slot directive.now ≡ Some slot) }
-    ensures end { (q : Stage) (opened : Option Opened) → Shows directive.now phase.entry q → opened ≡ opened_for (text_slot directive.now) q
+    ensures end { (q : Stage) (opened : Option Opened) → Shows directive.now phase.entry q
+        → opened ≡ opened_for (text_slot directive.now) q
         → end_of (text_of opened) result ≡ finished directive.now q used false }
     ensures is { IsEnd directive.now phase.entry result }
 {
@@ -341,7 +347,8 @@ fn run_space<'f>(piece: &[u8]) -> Run<'f>
 #[inline(always)]
 fn run_byte<'f>(due: u8, piece: &[u8]) -> Run<'f>
     ensures answers { (n : ℕ) → Answers (directive.Byte due) Skipping n piece.now result }
-    ensures percent { due ≡ 37 → (0 < length piece.now → is_white (get_or piece.now 0 0) ≡ false) → (n : ℕ) → Answers directive.Percent Skipping n piece.now result }
+    ensures percent { due ≡ 37 → (0 < length piece.now → is_white (get_or piece.now 0 0) ≡ false) → (n : ℕ)
+        → Answers directive.Percent Skipping n piece.now result }
     ensures suits { Suits (directive.Byte due) phase.Skipping piece.now result }
     ensures suits_percent { Suits directive.Percent phase.Skipping piece.now result }
 {
@@ -354,11 +361,14 @@ fn run_byte<'f>(due: u8, piece: &[u8]) -> Run<'f>
 
 /// Whether the item ends behind so many bytes of the piece, which it took.
 fn is_over(scan: &ItemScan<'_>, item: usize, piece: &[u8]) -> bool
-    ensures over { (f : List ℕ) → IsProper (directive.Conv (conversion_of scan.now)) → HasTaken scan.now (f ++ take item piece.now)
-        → (item < length piece.now → CanTake (conversion_of scan.now) (f ++ take (item + 1) piece.now) → ⊥) → result ≡ true
+    ensures over { (f : List ℕ) → IsProper (directive.Conv (conversion_of scan.now))
+        → HasTaken scan.now (f ++ take item piece.now)
+        → (item < length piece.now → CanTake (conversion_of scan.now) (f ++ take (item + 1) piece.now) → ⊥)
+        → result ≡ true
         → StaysAt (directive.Conv (conversion_of scan.now)) (Item (f ++ take item piece.now)) (drop item piece.now) }
     ensures all { result ≡ false → length piece.now ≤ item }
-    ensures more { (d : Directive) (slot : Option ℕ) (q : Stage) → IsProper d → ShowsItem d slot scan.now q → result ≡ false → is_full d q ≡ false }
+    ensures more { (d : Directive) (slot : Option ℕ) (q : Stage) → IsProper d → ShowsItem d slot scan.now q
+        → result ≡ false → is_full d q ≡ false }
 {
     item < piece.len() || scan.is_full()
 }
@@ -373,16 +383,21 @@ fn go_on<'f>(
     requires { IfSome slot (λ n. text_slot (directive.Conv conversion.now) ≡ Some n) }
     ensures before { result.before ≡ 0 }
     ensures within { result.item ≤ length piece.now }
-    ensures can { (f : List ℕ) → IsProperShape (conversion_of scan.entry).shape → HasTaken scan.entry f → CanAll (conversion_of scan.entry) f (take result.item piece.now) }
+    ensures can { (f : List ℕ) → IsProperShape (conversion_of scan.entry).shape → HasTaken scan.entry f
+        → CanAll (conversion_of scan.entry) f (take result.item piece.now) }
     ensures stops { (f : List ℕ) → HasTaken scan.entry f → result.item < length piece.now
         → CanTake (conversion_of scan.entry) (f ++ take (result.item + 1) piece.now) → ⊥ }
-    ensures shows { (d : Directive) (f : List ℕ) → d ≡ directive.Conv (conversion_of scan.entry) → text_slot d ≡ slot → HasTaken scan.entry f
+    ensures shows { (d : Directive) (f : List ℕ) → d ≡ directive.Conv (conversion_of scan.entry) → text_slot d ≡ slot
+        → HasTaken scan.entry f
         → f ++ take result.item piece.now ≢ [] → Shows d result.phase (Item (f ++ take result.item piece.now)) }
     ensures waits { result.ends ≡ None → result.item ≡ length piece.now }
-    ensures more { result.ends ≡ None → (d : Directive) (q : Stage) → IsProper d → Shows d result.phase q → is_full d q ≡ false }
-    ensures ends { (f : List ℕ) → IsProper (directive.Conv conversion.now) → conversion.now ≡ conversion_of scan.entry → HasTaken scan.entry f
+    ensures more { result.ends ≡ None → (d : Directive) (q : Stage) → IsProper d → Shows d result.phase q
+        → is_full d q ≡ false }
+    ensures ends { (f : List ℕ) → IsProper (directive.Conv conversion.now) → conversion.now ≡ conversion_of scan.entry
+        → HasTaken scan.entry f
         → text_slot (directive.Conv conversion.now) ≡ slot → f ++ take result.item piece.now ≢ []
-        → IfSome result.ends (EndsAt (directive.Conv conversion.now) (f ++ take result.item piece.now) (drop result.item piece.now)) }
+        → IfSome result.ends (EndsAt (directive.Conv conversion.now) (f ++ take result.item piece.now)
+        (drop result.item piece.now)) }
     ensures slot { slot_in result.phase ≡ slot }
     ensures left { FallsBy (left_of scan.entry) result.phase result.item }
     ensures is { IfSome result.ends (IsEnd (directive.Conv conversion.now) result.phase) }
@@ -405,7 +420,8 @@ fn go_on<'f>(
     }
 }
 
-/// The integer of the base that the piece begins with, where there is a quick way to read it and a byte of the piece follows.
+/// The integer of the base that the piece begins with, where there is a quick way to read it and a byte of the piece
+/// follows.
 #[inline(always)]
 fn whole_integer(base: Base, width: Option<u16>, piece: &[u8]) -> Option<WholeInteger>
     ensures { IfSome result (EndsWithin base width piece.now) }
@@ -422,7 +438,9 @@ fn whole_integer(base: Base, width: Option<u16>, piece: &[u8]) -> Option<WholeIn
 #[inline(always)]
 fn whole_number(conversion: &Conversion, base: Base, piece: &[u8]) -> Option<Ended>
     requires { conversion.now.shape ≡ Int base }
-    ensures answers { IsProper (directive.Conv conversion.now) → (0 < length piece.now → (shape_skips conversion.now.shape && is_white (get_or piece.now 0 0)) ≡ false) → (n : ℕ)
+    ensures answers { IsProper (directive.Conv conversion.now)
+        → (0 < length piece.now → (shape_skips conversion.now.shape && is_white (get_or piece.now 0 0)) ≡ false)
+        → (n : ℕ)
         → IfSome result (λ e. Answers (directive.Conv conversion.now) Skipping n piece.now (run_of e)) }
     ensures fits { IfSome result (IsEndIn (directive.Conv conversion.now) piece.now) }
     ensures before { IfSome result (λ e. e.before ≡ 0) }
@@ -440,7 +458,9 @@ fn whole_number(conversion: &Conversion, base: Base, piece: &[u8]) -> Option<End
 /// As `whole_number`, of a conversion of any shape: an item of no integer isn't read so.
 #[inline(always)]
 fn number_within(conversion: &Conversion, piece: &[u8]) -> Option<Ended>
-    ensures answers { IsProper (directive.Conv conversion.now) → (0 < length piece.now → (shape_skips conversion.now.shape && is_white (get_or piece.now 0 0)) ≡ false) → (n : ℕ)
+    ensures answers { IsProper (directive.Conv conversion.now)
+        → (0 < length piece.now → (shape_skips conversion.now.shape && is_white (get_or piece.now 0 0)) ≡ false)
+        → (n : ℕ)
         → IfSome result (λ e. Answers (directive.Conv conversion.now) Skipping n piece.now (run_of e)) }
     ensures fits { IfSome result (IsEndIn (directive.Conv conversion.now) piece.now) }
     ensures before { IfSome result (λ e. e.before ≡ 0) }
@@ -456,7 +476,9 @@ fn number_within(conversion: &Conversion, piece: &[u8]) -> Option<Ended>
 #[inline(always)]
 fn begin_item<'f>(conversion: &'f Conversion, piece: &[u8]) -> Run<'f>
     requires { is_count conversion.now.shape ≡ false }
-    ensures answers { IsProper (directive.Conv conversion.now) → (0 < length piece.now → (shape_skips conversion.now.shape && is_white (get_or piece.now 0 0)) ≡ false) → (n : ℕ)
+    ensures answers { IsProper (directive.Conv conversion.now)
+        → (0 < length piece.now → (shape_skips conversion.now.shape && is_white (get_or piece.now 0 0)) ≡ false)
+        → (n : ℕ)
         → Answers (directive.Conv conversion.now) Skipping n piece.now result }
     ensures suits { Suits (directive.Conv conversion.now) phase.Skipping piece.now result }
 {
@@ -495,7 +517,8 @@ fn behind<'f>(before: usize, run: Run<'f>) -> Run<'f>
 /// Hands a conversion that took nothing yet the piece, which comes so many bytes into the run.
 #[inline(always)]
 fn begin<'f>(conversion: &'f Conversion, piece: &[u8], used: u32) -> Run<'f>
-    ensures answers { IsProper (directive.Conv conversion.now) → Answers (directive.Conv conversion.now) Skipping used piece.now result }
+    ensures answers { IsProper (directive.Conv conversion.now)
+        → Answers (directive.Conv conversion.now) Skipping used piece.now result }
     ensures suits { Suits (directive.Conv conversion.now) phase.Skipping piece.now result }
 {
     if is_count(&conversion.shape) {
@@ -515,7 +538,8 @@ fn run_conversion<'f>(
     used: u32,
 ) -> Run<'f>
     requires { IfSome (slot_in phase) (λ slot. text_slot (directive.Conv conversion.now) ≡ Some slot) }
-    ensures answers { (q : Stage) → IsProper (directive.Conv conversion.now) → Shows (directive.Conv conversion.now) phase.entry q
+    ensures answers { (q : Stage) → IsProper (directive.Conv conversion.now)
+        → Shows (directive.Conv conversion.now) phase.entry q
         → Answers (directive.Conv conversion.now) q used piece.now result }
     ensures suits { Suits (directive.Conv conversion.now) phase.entry piece.now result }
 {
@@ -546,7 +570,8 @@ pub(crate) fn run_on<'f>(
     used: u32,
 ) -> Run<'f>
     requires { IfSome (slot_in phase) (λ slot. text_slot directive.now ≡ Some slot) }
-    ensures answers { (q : Stage) → IsProper directive.now → Shows directive.now phase.entry q → Answers directive.now q used piece.now result }
+    ensures answers { (q : Stage) → IsProper directive.now → Shows directive.now phase.entry q
+        → Answers directive.now q used piece.now result }
     ensures suits { Suits directive.now phase.entry piece.now result }
 {
     match directive {
@@ -577,7 +602,9 @@ fn finish_bytes(slot: Option<u8>) -> Finished
 fn whole_text(conversion: &Conversion, piece: &[u8]) -> Option<Ended>
     requires slot { (slot : Option ℕ) → slot_of_text conversion.now.shape slot ≡ slot }
     requires item { is_count conversion.now.shape ≡ false }
-    ensures answers { IsProper (directive.Conv conversion.now) → (0 < length piece.now → (shape_skips conversion.now.shape && is_white (get_or piece.now 0 0)) ≡ false) → (n : ℕ)
+    ensures answers { IsProper (directive.Conv conversion.now)
+        → (0 < length piece.now → (shape_skips conversion.now.shape && is_white (get_or piece.now 0 0)) ≡ false)
+        → (n : ℕ)
         → IfSome result (λ e. Answers (directive.Conv conversion.now) Skipping n piece.now (run_of e)) }
     ensures fits { IfSome result (IsEndIn (directive.Conv conversion.now) piece.now) }
     ensures before { IfSome result (λ e. e.before ≡ 0) }
@@ -623,8 +650,8 @@ fn text_behind_space(conversion: &Conversion, piece: &[u8]) -> Option<Ended>
     })
 }
 
-/// How a conversion ends that took nothing yet, where its item is looked at as a whole. It is compiled for each shape by
-/// itself, so that a run asks for the shape once.
+/// How a conversion ends that took nothing yet, where its item is looked at as a whole. It is compiled for each shape
+/// by itself, so that a run asks for the shape once.
 #[inline(always)]
 pub(crate) fn whole_conversion(conversion: &Conversion, piece: &[u8]) -> Option<Ended>
     ensures { (n : ℕ) → IfSome result (EndsAtOnce (directive.Conv conversion.now) n piece.now) }
@@ -684,7 +711,8 @@ pub(crate) fn whole_byte(due: u8, piece: &[u8]) -> Option<Ended>
     }
 }
 
-/// How the directive ends, which took nothing yet, where it does so within the piece, which comes so many bytes into the run.
+/// How the directive ends, which took nothing yet, where it does so within the piece, which comes so many bytes into
+/// the run.
 pub(crate) fn ended_within(directive: &Directive, piece: &[u8], used: u32) -> Option<Ended>
     ensures ends { IfSome result (EndsAtOnce directive.now used piece.now) }
     ensures waits { IsNone result → IsProper directive.now → (room : ℕ) → IsSure directive.now used piece.now room → ⊥ }

@@ -13,7 +13,8 @@ pub(crate) fn number_of(
     magnitude: u64,
     overflowed: bool,
 ) -> Option<Number>
-    ensures { option_map datum_of_number result ≡ option_map (NumberOf kind) (if overflowed then None else value_of kind negative magnitude) }
+    ensures { option_map datum_of_number result ≡ option_map (NumberOf kind)
+        (if overflowed then None else value_of kind negative magnitude) }
 {
     if overflowed {
         return None;

@@ -67,9 +67,11 @@ fn give(store: &mut HeapStore, ended: Ended, piece: &[u8]) -> Option<bool>
     requires free { MayBeGiven (slot_given ended.finished) store.old.values }
     requires number { IsNumberGiven ended.finished }
     requires within { ended.before + ended.item ≤ length piece.now }
-    ensures gives { IfSome result (λ stores. GivesTo (end_of (take ended.item (drop ended.before piece.now)) ended.finished) stores store.old store.new) }
+    ensures gives { IfSome result (λ stores. GivesTo (end_of
+        (take ended.item (drop ended.before piece.now)) ended.finished) stores store.old store.new) }
     ensures none { IsNone result → passed (end_of (take ended.item (drop ended.before piece.now)) ended.finished) ≡ true
-        → store.old.room < length (text_stored (end_of (take ended.item (drop ended.before piece.now)) ended.finished)) }
+        → store.old.room
+        < length (text_stored (end_of (take ended.item (drop ended.before piece.now)) ended.finished)) }
     ensures same { IsNone result → store.new ≡ store.old }
     ensures room { capacity_of store.old ≤ capacity_of store.new }
 {
@@ -100,8 +102,9 @@ fn give(store: &mut HeapStore, ended: Ended, piece: &[u8]) -> Option<bool>
     }
 }
 
-/// Passes a directive that ends so within the piece, and says how many bytes it took; `counts` says whether it counts as a
-/// conversion. None where it isn't said to end, where it fails, or where the storing is refused: then nothing has changed.
+/// Passes a directive that ends so within the piece, and says how many bytes it took; `counts` says whether it counts
+/// as a conversion. None where it isn't said to end, where it fails, or where the storing is refused: then nothing has
+/// changed.
 #[inline(always)]
 fn pass_so(
     store: &mut HeapStore,
@@ -118,9 +121,11 @@ fn pass_so(
     requires ends { IfSome ended (EndsAtOnce directive.now used piece.now) }
     requires suppressed { strays.old.suppressed < 2 ^ 16 - 1 }
     requires uncounted { strays.old.uncounted < 2 ^ 16 - 1 }
-    ensures passes { IsProper directive.now → IfSome result (λ taken. PassesBy directive.now used piece.now taken store.old store.new strays.old strays.new) }
+    ensures passes { IsProper directive.now → IfSome result
+        (λ taken. PassesBy directive.now used piece.now taken store.old store.new strays.old strays.new) }
     ensures within { IfSome result (λ taken. taken ≤ length piece.now) }
-    ensures sure { IsSome ended → IsProper directive.now → IsSure directive.now used piece.now store.old.room → IsSome result }
+    ensures sure { IsSome ended → IsProper directive.now → IsSure directive.now used piece.now store.old.room
+        → IsSome result }
     ensures same { IsNone result → store.new ≡ store.old }
     ensures strays { IsNone result → strays.new ≡ strays.old }
     ensures room { capacity_of store.old ≤ capacity_of store.new }
@@ -132,7 +137,8 @@ fn pass_so(
     Some(ended.before + ended.item)
 }
 
-/// As `pass`, of each directive. None only where it may go on behind the piece, where it fails, or where the storing is refused.
+/// As `pass`, of each directive. None only where it may go on behind the piece, where it fails, or where the storing is
+/// refused.
 #[cold]
 #[inline(never)]
 fn pass_later(
@@ -146,7 +152,8 @@ fn pass_later(
     requires free { MayBeGiven (slot_of directive.now) store.old.values }
     requires suppressed { strays.old.suppressed < 2 ^ 16 - 1 }
     requires uncounted { strays.old.uncounted < 2 ^ 16 - 1 }
-    ensures passes { IsProper directive.now → IfSome result (λ taken. PassesBy directive.now used piece.now taken store.old store.new strays.old strays.new) }
+    ensures passes { IsProper directive.now → IfSome result
+        (λ taken. PassesBy directive.now used piece.now taken store.old store.new strays.old strays.new) }
     ensures within { IfSome result (λ taken. taken ≤ length piece.now) }
     ensures sure { IsProper directive.now → IsSure directive.now used piece.now store.old.room → IsSome result }
     ensures room { capacity_of store.old ≤ capacity_of store.new }
@@ -156,8 +163,9 @@ fn pass_later(
     pass_so(store, strays, directive, counts, ended, piece, used)
 }
 
-/// Passes a directive that is seen at once to end within the piece, which comes so many bytes into the run: how many bytes it
-/// took. None where that isn't seen, where it fails, or where the storing is refused: then nothing has changed.
+/// Passes a directive that is seen at once to end within the piece, which comes so many bytes into the run: how many
+/// bytes it took. None where that isn't seen, where it fails, or where the storing is refused: then nothing has
+/// changed.
 #[inline(always)]
 fn pass(
     store: &mut HeapStore,
@@ -170,7 +178,8 @@ fn pass(
     requires free { MayBeGiven (slot_of directive.now) store.old.values }
     requires suppressed { strays.old.suppressed < 2 ^ 16 - 1 }
     requires uncounted { strays.old.uncounted < 2 ^ 16 - 1 }
-    ensures passes { IsProper directive.now → IfSome result (λ taken. PassesBy directive.now used piece.now taken store.old store.new strays.old strays.new) }
+    ensures passes { IsProper directive.now → IfSome result
+        (λ taken. PassesBy directive.now used piece.now taken store.old store.new strays.old strays.new) }
     ensures within { IfSome result (λ taken. taken ≤ length piece.now) }
     ensures same { IsNone result → store.new ≡ store.old }
     ensures strays { IsNone result → strays.new ≡ strays.old }
@@ -196,20 +205,21 @@ fn pass(
     }
 }
 
-/// Reads a record at once that begins and passes within a piece of the input: empties the store, which keeps its memory, and gives
-/// it the values. What it answers is what the run comes to on every input that begins with the piece, with every ending; the
-/// run consumes at most `limit` bytes. It answers wherever the run is Done before a byte of the piece or of the limit is
-/// lacking, and the store has room for its texts.
+/// Reads a record at once that begins and passes within a piece of the input: empties the store, which keeps its
+/// memory, and gives it the values. What it answers is what the run comes to on every input that begins with the piece,
+/// with every ending; the run consumes at most `limit` bytes. It answers wherever the run is Done before a byte of the
+/// piece or of the limit is lacking, and the store has room for its texts.
 ///
-/// None where the record isn't Done whatever follows the piece, where the limit may be passed or the storing of a text was
-/// refused: then nothing is said of the run, and the store may keep something.
+/// None where the record isn't Done whatever follows the piece, where the limit may be passed or the storing of a text
+/// was refused: then nothing is said of the run, and the store may keep something.
 pub fn quick_run(
     store: &mut HeapStore,
     format: &ScanFormat,
     limit: u32,
     piece: &[u8],
 ) -> Option<Outcome>
-    ensures run { IfSome result (λ outcome. (z : List ℕ) (ending : Ending) → RunWithin format.now limit (piece.now ++ z) ending (report_by outcome store.new.values)) }
+    ensures run { IfSome result (λ outcome. (z : List ℕ) (ending : Ending)
+        → RunWithin format.now limit (piece.now ++ z) ending (report_by outcome store.new.values)) }
     ensures done { IfSome result (λ outcome. outcome.status ≡ status.Done) }
     ensures met { IfSome result (λ outcome. outcome.met ≡ None) }
     ensures used { IfSome result (λ outcome. outcome.used ≤ length piece.now) }

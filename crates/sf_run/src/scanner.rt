@@ -92,8 +92,11 @@ pub struct Scanner<'f, S: Store> {
     // Nothing else is stored, and there is room for what will be.
     ghost joined: { (S.kept store).closed ≡ texts_in (S.kept store).values },
     ghost limited: { is_some (width_sum directives.now) ≡ true → is_limited phase ≡ true },
-    ghost roomy: { is_some (width_sum directives.now) ≡ true → still_stored ended directives.now passed phase ≤ (S.kept store).room },
-    ghost sized: { is_some (width_sum directives.now) ≡ true → length (buffer_of (S.kept store)) + still_stored ended directives.now passed phase ≤ unwrap_or (width_sum directives.now) 0 },
+    ghost roomy: { is_some (width_sum directives.now) ≡ true
+        → still_stored ended directives.now passed phase ≤ (S.kept store).room },
+    ghost sized: { is_some (width_sum directives.now) ≡ true
+        → length (buffer_of (S.kept store)) + still_stored ended directives.now passed phase
+        ≤ unwrap_or (width_sum directives.now) 0 },
     ghost healthy: { is_some (width_sum directives.now) ≡ true → is_no_memory ended ≡ false },
 
     // Once the run has ended, no text is opened.
@@ -128,7 +131,8 @@ impl<'f, S: Store> Scanner<'f, S> {
     /// The directive under way has failed.
     fn fail(&mut self, status: Status)
         requires current { self.old.passed < length self.old.directives.now }
-        requires healthy { is_some (width_sum self.old.directives.now) ≡ true → is_no_memory (Some (record { status = status; at = self.old.passed + 1 })) ≡ false }
+        requires healthy { is_some (width_sum self.old.directives.now) ≡ true
+            → is_no_memory (Some (record { status = status; at = self.old.passed + 1 })) ≡ false }
         ensures { Stops (standing self.new) (standing self.old) (record { status = status; at = self.old.passed + 1 }) }
     {
         let at = self.passed as u16 + 1;
@@ -154,7 +158,8 @@ impl<'f, S: Store> Scanner<'f, S> {
         requires current { slice_get self.old.directives.now self.old.passed ≡ Some directive.now }
         requires no_text { slot_in self.old.phase ≡ None }
         requires own { slot_of directive.now ≡ Some slot }
-        ensures { Passes (standing self.new) (standing self.old) directive.now (StepEnd.Stores slot (datum_of_number number)) }
+        ensures { Passes (standing self.new) (standing self.old) directive.now
+            (StepEnd.Stores slot (datum_of_number number)) }
     {
         let tally = self.tally.counted(directive, true);
         self.store.set_number(slot, number);
@@ -168,7 +173,8 @@ impl<'f, S: Store> Scanner<'f, S> {
         requires current { slice_get self.old.directives.now self.old.passed ≡ Some directive.now }
         requires text { slot_in self.old.phase ≡ Some slot }
         requires own { slot_of directive.now ≡ Some slot }
-        ensures { Passes (standing self.new) (standing self.old) directive.now (StepEnd.Stores slot (Bytes (text_of (kept_by self.old).opened))) }
+        ensures { Passes (standing self.new) (standing self.old) directive.now
+            (StepEnd.Stores slot (Bytes (text_of (kept_by self.old).opened))) }
     {
         let tally = self.tally.counted(directive, true);
         self.store.close_text();
@@ -182,7 +188,8 @@ impl<'f, S: Store> Scanner<'f, S> {
         requires current { slice_get self.old.directives.now self.old.passed ≡ Some directive.now }
         requires waits { self.old.ended ≡ None }
         requires is { IsEnd directive.now self.old.phase finished }
-        ensures ends { Ends (standing self.new) (standing self.old) directive.now (end_of (text_of (kept_by self.old).opened) finished) }
+        ensures ends { Ends (standing self.new) (standing self.old) directive.now
+            (end_of (text_of (kept_by self.old).opened) finished) }
         ensures used { self.new.tally.used ≡ self.old.tally.used }
         ensures keeps { Keeps (standing self.new) (standing self.old) }
         ensures fewer { turns_left (standing self.new) < turns_left (standing self.old) }
@@ -245,8 +252,8 @@ impl<'f, S: Store> Scanner<'f, S> {
         };
     }
 
-    /// Stores bytes of the text under way, after which the directive has come so far. Where the storing of one is refused,
-    /// the run ends before it.
+    /// Stores bytes of the text under way, after which the directive has come so far. Where the storing of one is
+    /// refused, the run ends before it.
     fn store_all(&mut self, directive: &Directive, run: Run<'f>, item: &[u8]) -> bool
         requires current { slice_get self.old.directives.now self.old.passed ≡ Some directive.now }
         requires waits { self.old.ended ≡ None }
@@ -255,8 +262,10 @@ impl<'f, S: Store> Scanner<'f, S> {
         requires below { self.old.tally.used + (run.before + run.item) ≤ self.old.limit }
         requires all { run.item ≡ length item.now }
         requires left { LeftAfterAll directive.now self.old.phase run.phase (length item.now) }
-        ensures taken { OnTrue result (TakesAll (standing self.new) (standing self.old) run.entry.phase (run.entry.before + run.entry.item) (longer item.now (kept_by self.old).opened)) }
-        ensures refused { OnFalse result (RunsOut (standing self.new) (standing self.old) run.entry.before run.entry.item) }
+        ensures taken { OnTrue result (TakesAll (standing self.new) (standing self.old) run.entry.phase
+            (run.entry.before + run.entry.item) (longer item.now (kept_by self.old).opened)) }
+        ensures refused { OnFalse result (RunsOut (standing self.new)
+            (standing self.old) run.entry.before run.entry.item) }
     {
         let stored = store_bytes(&mut self.store, item);
         if stored < item.len() {
@@ -279,15 +288,17 @@ impl<'f, S: Store> Scanner<'f, S> {
         requires below { self.old.tally.used + (run.before + run.item) ≤ self.old.limit }
         requires all { run.item ≡ length item.now }
         requires left { LeftAfterAll directive.now self.old.phase run.phase (length item.now) }
-        ensures taken { OnTrue result (TakesAll (standing self.new) (standing self.old) run.entry.phase (run.entry.before + run.entry.item) (opened_with (Some slot) item.now (kept_by self.old).opened)) }
-        ensures refused { OnFalse result (RunsOut (standing self.new) (standing self.old) run.entry.before run.entry.item) }
+        ensures taken { OnTrue result (TakesAll (standing self.new) (standing self.old) run.entry.phase
+            (run.entry.before + run.entry.item) (opened_with (Some slot) item.now (kept_by self.old).opened)) }
+        ensures refused { OnFalse result (RunsOut (standing self.new)
+            (standing self.old) run.entry.before run.entry.item) }
     {
         self.open(directive, slot);
         self.store_all(directive, run, item)
     }
 
-    /// Takes the bytes of the answer, after which the directive under way has come so far; `item` are those of its item.
-    /// Where the storing of one is refused, the run ends before it.
+    /// Takes the bytes of the answer, after which the directive under way has come so far; `item` are those of its
+    /// item. Where the storing of one is refused, the run ends before it.
     fn take_all(&mut self, directive: &'f Directive, run: Run<'f>, item: &[u8]) -> bool
         requires current { slice_get self.old.directives.now self.old.passed ≡ Some directive.now }
         requires waits { self.old.ended ≡ None }
@@ -295,9 +306,11 @@ impl<'f, S: Store> Scanner<'f, S> {
         requires below { self.old.tally.used + (run.before + run.item) ≤ self.old.limit }
         requires all { run.item ≡ length item.now }
         requires left { LeftAfterAll directive.now self.old.phase run.phase (length item.now) }
-        ensures taken { OnTrue result (TakesAll (standing self.new) (standing self.old) run.entry.phase (run.entry.before + run.entry.item)
+        ensures taken { OnTrue result (TakesAll (standing self.new) (standing self.old) run.entry.phase
+            (run.entry.before + run.entry.item)
             (opened_with (slot_in run.entry.phase) item.now (kept_by self.old).opened)) }
-        ensures refused { OnFalse result (RunsOut (standing self.new) (standing self.old) run.entry.before run.entry.item) }
+        ensures refused { OnFalse result (RunsOut (standing self.new)
+            (standing self.old) run.entry.before run.entry.item) }
         ensures text { OnFalse result (IsSome (slot_in run.entry.phase)) }
     {
         match (self.phase, run.phase) {
@@ -311,12 +324,15 @@ impl<'f, S: Store> Scanner<'f, S> {
         }
     }
 
-    /// Hands the directive under way the bytes as far as the limit goes; it waits for more, or it has ended, or the run has.
+    /// Hands the directive under way the bytes as far as the limit goes; it waits for more, or it has ended, or the run
+    /// has.
     fn hand(&mut self, directive: &'f Directive, piece: &[u8]) -> Handed
         requires current { slice_get self.old.directives.now self.old.passed ≡ Some directive.now }
         requires waits { self.old.ended ≡ None }
-        ensures same { IsProper directive.now → ran_out (standing self.new) ≡ false → (z : List ℕ) → Follows (standing self.new) (standing self.old) (drop result.taken piece.now ++ z) (piece.now ++ z) }
-        ensures memory { IsProper directive.now → ran_out (standing self.new) ≡ true → RefusesIn (standing self.new) (standing self.old) piece.now }
+        ensures same { IsProper directive.now → ran_out (standing self.new) ≡ false → (z : List ℕ)
+            → Follows (standing self.new) (standing self.old) (drop result.taken piece.now ++ z) (piece.now ++ z) }
+        ensures memory { IsProper directive.now → ran_out (standing self.new) ≡ true
+            → RefusesIn (standing self.new) (standing self.old) piece.now }
         ensures used { self.new.tally.used ≡ self.old.tally.used + result.taken }
         ensures within { result.taken ≤ length piece.now }
         ensures keeps { Keeps (standing self.new) (standing self.old) }
@@ -325,7 +341,8 @@ impl<'f, S: Store> Scanner<'f, S> {
         ensures some { result.waits ≡ true → 0 < length piece.now → 0 < result.taken }
         ensures settled { result.waits ≡ true → IsSettled (standing self.new) }
         ensures full { ran_out (standing self.new) ≡ true → (kept_by self.old).room < length piece.now }
-        ensures comes { IsProper directive.now → Advances (standing self.new) (standing self.old) piece.now result.taken }
+        ensures comes { IsProper directive.now → Advances (standing self.new)
+            (standing self.old) piece.now result.taken }
     {
         let room = (self.limit - self.tally.used) as usize;
         // At the limit one byte more is handed over, to see whether it would be taken.
@@ -361,8 +378,10 @@ impl<'f, S: Store> Scanner<'f, S> {
 
     /// Hands bytes to the run until it ends or waits for more, and says how many were taken.
     fn push(&mut self, piece: &[u8]) -> usize
-        ensures same { AreProper self.old.directives.now → ran_out (standing self.new) ≡ false → (z : List ℕ) → Follows (standing self.new) (standing self.old) z (piece.now ++ z) }
-        ensures memory { AreProper self.old.directives.now → self.old.ended ≡ None → ran_out (standing self.new) ≡ true → RefusesIn (standing self.new) (standing self.old) piece.now }
+        ensures same { AreProper self.old.directives.now → ran_out (standing self.new) ≡ false → (z : List ℕ)
+            → Follows (standing self.new) (standing self.old) z (piece.now ++ z) }
+        ensures memory { AreProper self.old.directives.now → self.old.ended ≡ None → ran_out (standing self.new) ≡ true
+            → RefusesIn (standing self.new) (standing self.old) piece.now }
         ensures used { self.new.tally.used ≡ self.old.tally.used + result }
         ensures within { result ≤ length piece.now }
         ensures all { IfNone self.new.ended (result ≡ length piece.now) }
@@ -371,8 +390,10 @@ impl<'f, S: Store> Scanner<'f, S> {
         ensures stays { IsSome self.old.ended → IsSome self.new.ended }
         ensures keeps { Keeps (standing self.new) (standing self.old) }
         ensures settled { IsSettled (standing self.new) }
-        ensures full { ran_out (standing self.old) ≡ false → ran_out (standing self.new) ≡ true → (kept_by self.old).room < length piece.now }
-        ensures comes { AreProper self.old.directives.now → Advances (standing self.new) (standing self.old) piece.now result }
+        ensures full { ran_out (standing self.old) ≡ false → ran_out (standing self.new) ≡ true
+            → (kept_by self.old).room < length piece.now }
+        ensures comes { AreProper self.old.directives.now → Advances (standing self.new)
+            (standing self.old) piece.now result }
     {
         let mut taken = 0;
         while self.ended.is_none() {
@@ -452,10 +473,13 @@ impl<'f, S: Store> Scanner<'f, S> {
 
     /// Whether some byte would be taken next.
     pub fn state(&self) -> FeedState
-        ensures waits { (ds : List Directive) (m : ℕ) (x : List ℕ) → After ds m (standing self.now) x → (result ≡ FeedState.Wait) ↔ (IsOpen ds x × (length x ≤ m)) }
-        ensures ended { (ds : List Directive) (m : ℕ) (x : List ℕ) (ending : Ending) → Gives ds m (standing self.now) x ending → result ≡ FeedState.Ended }
+        ensures waits { (ds : List Directive) (m : ℕ) (x : List ℕ) → After ds m (standing self.now) x
+            → (result ≡ FeedState.Wait) ↔ (IsOpen ds x × (length x ≤ m)) }
+        ensures ended { (ds : List Directive) (m : ℕ) (x : List ℕ) (ending : Ending)
+            → Gives ds m (standing self.now) x ending → result ≡ FeedState.Ended }
         ensures exactly { (result ≡ FeedState.Ended) ↔ (has_ended (standing self.now) ≡ true) }
-        ensures comes { (ds : List Directive) (m : ℕ) (x : List ℕ) → After ds m (standing self.now) x → result ≡ FeedState.Wait → HasCome ds x (standing self.now) }
+        ensures comes { (ds : List Directive) (m : ℕ) (x : List ℕ) → After ds m (standing self.now) x
+            → result ≡ FeedState.Wait → HasCome ds x (standing self.now) }
     {
         match self.ended {
             None => FeedState::Wait,
@@ -466,31 +490,43 @@ impl<'f, S: Store> Scanner<'f, S> {
     /// Takes bytes until the run ends or the piece is used up. Takes nothing once the run has ended. A byte of a text
     /// whose storing is refused is not taken, and ends the run as NoMemory.
     pub fn feed(&mut self, piece: &[u8]) -> Fed
-        ensures after { (ds : List Directive) (m : ℕ) (x : List ℕ) → ran_out (standing self.new) ≡ false → After ds m (standing self.old) x → After ds m (standing self.new) (x ++ piece.now) }
-        ensures state { (ds : List Directive) (m : ℕ) (x : List ℕ) → ran_out (standing self.new) ≡ false → After ds m (standing self.old) x
+        ensures after { (ds : List Directive) (m : ℕ) (x : List ℕ) → ran_out (standing self.new) ≡ false
+            → After ds m (standing self.old) x → After ds m (standing self.new) (x ++ piece.now) }
+        ensures state { (ds : List Directive) (m : ℕ) (x : List ℕ) → ran_out (standing self.new) ≡ false
+            → After ds m (standing self.old) x
             → (result.state ≡ FeedState.Wait) ↔ (IsOpen ds (x ++ piece.now) × (length (x ++ piece.now) ≤ m)) }
-        ensures taken { (ds : List Directive) (m : ℕ) (x : List ℕ) (first second : Ending) (before after : RunReport) → ran_out (standing self.new) ≡ false
-            → After ds m (standing self.old) x → RunWithin ds m x first before → RunWithin ds m (x ++ piece.now) second after
+        ensures taken { (ds : List Directive) (m : ℕ) (x : List ℕ) (first second : Ending) (before after : RunReport)
+            → ran_out (standing self.new) ≡ false
+            → After ds m (standing self.old) x → RunWithin ds m x first before
+            → RunWithin ds m (x ++ piece.now) second after
             → after.used ≡ before.used + result.taken }
         ensures within { result.taken ≤ length piece.now }
         ensures all { result.state ≡ FeedState.Wait → result.taken ≡ length piece.now }
         ensures used { used_by (standing self.new) ≡ used_by (standing self.old) + result.taken }
-        ensures waits { (ds : List Directive) (m : ℕ) (x : List ℕ) → After ds m (standing self.old) x → result.state ≡ FeedState.Wait
+        ensures waits { (ds : List Directive) (m : ℕ) (x : List ℕ) → After ds m (standing self.old) x
+            → result.state ≡ FeedState.Wait
             → used_by (standing self.new) ≡ length (x ++ piece.now) }
-        ensures gives { (ds : List Directive) (m : ℕ) (x z : List ℕ) (ending : Ending) → After ds m (standing self.old) x → result.state ≡ FeedState.Ended
+        ensures gives { (ds : List Directive) (m : ℕ) (x z : List ℕ) (ending : Ending)
+            → After ds m (standing self.old) x → result.state ≡ FeedState.Ended
             → Gives ds m (standing self.new) ((x ++ piece.now) ++ z) ending }
-        ensures no_text { (ds : List Directive) (m : ℕ) (y : List ℕ) → ran_out (standing self.new) ≡ true → After ds m (standing self.new) y → ⊥ }
+        ensures no_text { (ds : List Directive) (m : ℕ) (y : List ℕ) → ran_out (standing self.new) ≡ true
+            → After ds m (standing self.new) y → ⊥ }
         ensures stopped { result.state ≡ FeedState.Wait → ran_out (standing self.new) ≡ false }
-        ensures holds { (ds : List Directive) (m : ℕ) (x : List ℕ) → After ds m (standing self.old) x → HoldsTexts ds (kept_by self.new) }
-        ensures bounded { (ds : List Directive) (m : ℕ) (x : List ℕ) → IsSome (width_sum ds) → After ds m (standing self.old) x → ran_out (standing self.new) ≡ false }
-        ensures nothing { (ds : List Directive) (m : ℕ) (x : List ℕ) (ending : Ending) → Gives ds m (standing self.old) x ending → result.taken ≡ 0 }
-        ensures unchanged { (ds : List Directive) (m : ℕ) (x : List ℕ) (ending : Ending) → Gives ds m (standing self.old) x ending → self.new ≡ self.old }
+        ensures holds { (ds : List Directive) (m : ℕ) (x : List ℕ) → After ds m (standing self.old) x
+            → HoldsTexts ds (kept_by self.new) }
+        ensures bounded { (ds : List Directive) (m : ℕ) (x : List ℕ) → IsSome (width_sum ds)
+            → After ds m (standing self.old) x → ran_out (standing self.new) ≡ false }
+        ensures nothing { (ds : List Directive) (m : ℕ) (x : List ℕ) (ending : Ending)
+            → Gives ds m (standing self.old) x ending → result.taken ≡ 0 }
+        ensures unchanged { (ds : List Directive) (m : ℕ) (x : List ℕ) (ending : Ending)
+            → Gives ds m (standing self.old) x ending → self.new ≡ self.old }
         ensures exactly { (result.state ≡ FeedState.Ended) ↔ (has_ended (standing self.new) ≡ true) }
         ensures ended_takes { has_ended (standing self.old) ≡ true → result.taken ≡ 0 }
         ensures ended_stays { has_ended (standing self.old) ≡ true → self.new ≡ self.old }
         ensures texts { has_ended (standing self.new) ≡ true → HoldsValues (kept_by self.new) }
         ensures room { capacity_of (kept_by self.old) ≤ capacity_of (kept_by self.new) }
-        ensures full { ran_out (standing self.old) ≡ false → ran_out (standing self.new) ≡ true → (kept_by self.old).room < length piece.now }
+        ensures full { ran_out (standing self.old) ≡ false → ran_out (standing self.new) ≡ true
+            → (kept_by self.old).room < length piece.now }
     {
         let taken = self.push(piece);
         Fed {
@@ -501,11 +537,15 @@ impl<'f, S: Store> Scanner<'f, S> {
 
     /// Says that no more bytes come, and why. Changes nothing once the run has ended.
     pub fn end(&mut self, ending: Ending)
-        ensures gives { (ds : List Directive) (m : ℕ) (x : List ℕ) → After ds m (standing self.old) x → Gives ds m (standing self.new) x ending }
-        ensures no_text { (ds : List Directive) (m : ℕ) (x y : List ℕ) → After ds m (standing self.old) x → IsOpen ds x → length x ≤ m → After ds m (standing self.new) y → ⊥ }
-        ensures unchanged { (ds : List Directive) (m : ℕ) (x : List ℕ) (before : Ending) → Gives ds m (standing self.old) x before → self.new ≡ self.old }
+        ensures gives { (ds : List Directive) (m : ℕ) (x : List ℕ) → After ds m (standing self.old) x
+            → Gives ds m (standing self.new) x ending }
+        ensures no_text { (ds : List Directive) (m : ℕ) (x y : List ℕ) → After ds m (standing self.old) x → IsOpen ds x
+            → length x ≤ m → After ds m (standing self.new) y → ⊥ }
+        ensures unchanged { (ds : List Directive) (m : ℕ) (x : List ℕ) (before : Ending)
+            → Gives ds m (standing self.old) x before → self.new ≡ self.old }
         ensures used { used_by (standing self.new) ≡ used_by (standing self.old) }
-        ensures holds { (ds : List Directive) (m : ℕ) (x : List ℕ) → After ds m (standing self.old) x → HoldsTexts ds (kept_by self.new) }
+        ensures holds { (ds : List Directive) (m : ℕ) (x : List ℕ) → After ds m (standing self.old) x
+            → HoldsTexts ds (kept_by self.new) }
         ensures memory { ran_out (standing self.new) ≡ ran_out (standing self.old) }
         ensures ended { has_ended (standing self.new) ≡ true }
         ensures ended_stays { has_ended (standing self.old) ≡ true → self.new ≡ self.old }
@@ -520,9 +560,12 @@ impl<'f, S: Store> Scanner<'f, S> {
 
     /// The report, once the run has ended.
     pub fn report(&self) -> Option<Report<'_, S>>
-        ensures gives { (ds : List Directive) (m : ℕ) (x : List ℕ) (ending : Ending) → Gives ds m (standing self.now) x ending → IsSomeAnd result (RunTold ds m x ending) }
-        ensures after { (ds : List Directive) (m : ℕ) (x : List ℕ) (ending : Ending) → After ds m (standing self.now) x → IfSome result (RunWithin ds m x ending) }
-        ensures none { (ds : List Directive) (m : ℕ) (x : List ℕ) → After ds m (standing self.now) x → IsNone result → IsOpen ds x × (length x ≤ m) }
+        ensures gives { (ds : List Directive) (m : ℕ) (x : List ℕ) (ending : Ending)
+            → Gives ds m (standing self.now) x ending → IsSomeAnd result (RunTold ds m x ending) }
+        ensures after { (ds : List Directive) (m : ℕ) (x : List ℕ) (ending : Ending) → After ds m (standing self.now) x
+            → IfSome result (RunWithin ds m x ending) }
+        ensures none { (ds : List Directive) (m : ℕ) (x : List ℕ) → After ds m (standing self.now) x → IsNone result
+            → IsOpen ds x × (length x ≤ m) }
         ensures values { IfSome result (λ r. r.values ≡ (kept_by self.now).values) }
         ensures memory { IfSome result (λ r. is_memory_status r.status ≡ ran_out (standing self.now)) }
         ensures exactly { result ≡ report_of (standing self.now) }
@@ -533,9 +576,12 @@ impl<'f, S: Store> Scanner<'f, S> {
 
     /// What a run that has ended gave. A scanner whose run hasn't is given back.
     pub fn into_scanned(self) -> Result<Scanned<S>, Self>
-        ensures gives { (ds : List Directive) (m : ℕ) (x : List ℕ) (ending : Ending) → Gives ds m (standing self.entry) x ending → IsOkAnd result (λ s. RunTold ds m x ending s.report) }
-        ensures after { (ds : List Directive) (m : ℕ) (x : List ℕ) (ending : Ending) → After ds m (standing self.entry) x → IfOk result (λ s. RunWithin ds m x ending s.report) }
-        ensures waits { (ds : List Directive) (m : ℕ) (x : List ℕ) → After ds m (standing self.entry) x → IsErr result → IsOpen ds x × (length x ≤ m) }
+        ensures gives { (ds : List Directive) (m : ℕ) (x : List ℕ) (ending : Ending)
+            → Gives ds m (standing self.entry) x ending → IsOkAnd result (λ s. RunTold ds m x ending s.report) }
+        ensures after { (ds : List Directive) (m : ℕ) (x : List ℕ) (ending : Ending)
+            → After ds m (standing self.entry) x → IfOk result (λ s. RunWithin ds m x ending s.report) }
+        ensures waits { (ds : List Directive) (m : ℕ) (x : List ℕ) → After ds m (standing self.entry) x → IsErr result
+            → IsOpen ds x × (length x ≤ m) }
         ensures used { IfOk result (λ s. s.report.used ≡ used_by (standing self.entry)) }
         ensures memory { IfOk result (λ s. is_memory_status s.report.status ≡ ran_out (standing self.entry)) }
         ensures kept { IfOk result (λ s. s.kept ≡ kept_by self.entry) }
@@ -557,7 +603,8 @@ impl<'f, S: Store> Scanner<'f, S> {
     }
 
     fn outcome(&self, stop: Stop) -> Outcome
-        ensures { (values : List Assigned) → report_by result values ≡ record (out_of stop.status stop.at (tally_of self.now.tally values)) { met = self.now.met } }
+        ensures { (values : List Assigned) → report_by result values
+            ≡ record (out_of stop.status stop.at (tally_of self.now.tally values)) { met = self.now.met } }
     {
         Outcome {
             status: stop.status,
@@ -615,7 +662,8 @@ impl<'f> Scanner<'f, HeapStore> {
         ensures limit { IsErrOf result StartFault.BadLimit ↔ (2147483647 < limit) }
         ensures memory { IfErr result (λ fault. (fault ≡ StartFault.BadLimit) ⊎ (fault ≡ StartFault.NoMemory)) }
         ensures room { IfOk result (λ s. unwrap_or (width_sum format.now) 0 ≤ capacity_of (kept_by s)) }
-        ensures enough { limit ≤ 2147483647 → unwrap_or (width_sum format.now) 0 ≤ store.room + length (buffer_of store) → IsOk result }
+        ensures enough { limit ≤ 2147483647 → unwrap_or (width_sum format.now) 0
+            ≤ store.room + length (buffer_of store) → IsOk result }
         ensures as_much { IfOk result (λ s. capacity_of store ≤ capacity_of (kept_by s)) }
     {
         store.clear();
@@ -656,7 +704,8 @@ impl<'f, const CAP: usize, const SLOTS: usize> Scanner<'f, FixedStore<CAP, SLOTS
         ensures holds { IfOk result (λ s. HoldsTexts format.now (kept_by s)) }
         ensures texts { IfOk result (λ s. has_ended (standing s) ≡ true → HoldsValues (kept_by s)) }
         ensures limit { IsErrOf result StartFault.BadLimit ↔ (2147483647 < limit) }
-        ensures unbounded { IsErrOf result StartFault.Unbounded ↔ ((limit ≤ 2147483647) × (width_sum format.now ≡ None)) }
+        ensures unbounded { IsErrOf result StartFault.Unbounded ↔
+            ((limit ≤ 2147483647) × (width_sum format.now ≡ None)) }
         ensures small { IsErrOf result StartFault.TooSmall ↔ ((limit ≤ 2147483647)
             × IsSomeAnd (width_sum format.now) (λ n. (CAP < n) ⊎ (SLOTS < length (destinations_of format.now)))) }
         ensures memory { IsErrOf result StartFault.NoMemory → ⊥ }

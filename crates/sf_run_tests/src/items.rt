@@ -189,8 +189,16 @@ fn whole_integers_end_within(_rt: HostRuntime) -> Result<(), Fail> {
         is(&whole_hex(*width, text).map(parts), wanted, text)?;
     }
     for (width, text, wanted) in &AUTOS {
-        is(&whole_auto(Base::Auto, *width, text).map(parts), wanted, text)?;
-        is(&whole_auto(Base::AutoBin, *width, text).map(parts), wanted, text)?;
+        is(
+            &whole_auto(Base::Auto, *width, text).map(parts),
+            wanted,
+            text,
+        )?;
+        is(
+            &whole_auto(Base::AutoBin, *width, text).map(parts),
+            wanted,
+            text,
+        )?;
     }
     Ok(())
 }

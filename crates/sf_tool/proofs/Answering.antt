@@ -16,42 +16,55 @@ abbrev pub is_memory : FormatWhy → Bool
 is_memory NoMemory = true
 is_memory _ = false
 
-pub fault_of : (profile : Profile) (format : List ℕ) (fault : FormatFault) → is_memory fault.why ≡ false → IsRefused profile format fault → Fault profile format fault.at fault.why
+pub fault_of : (profile : Profile) (format : List ℕ) (fault : FormatFault) → is_memory fault.why ≡ false → IsRefused profile format fault
+    → Fault profile format fault.at fault.why
 fault_of profile format fault other (inl is) = is
-fault_of profile format fault other (inr (none, spelled)) = let no : false ≡ true = sym other ∙ ap (λ (f : FormatFault). is_memory f.why) none in absurd (cc)
+fault_of profile format fault other (inr (none, spelled)) = let no : false ≡ true =
+    sym other ∙ ap (λ (f : FormatFault). is_memory f.why) none in absurd (cc)
 
-pub print_fault_of : (profile : Profile) (format : List ℕ) (fault : FormatFault) → is_memory fault.why ≡ false → IsPrintRefused profile format fault → PrintFault profile format fault.at fault.why
+pub print_fault_of : (profile : Profile) (format : List ℕ) (fault : FormatFault) → is_memory fault.why ≡ false
+    → IsPrintRefused profile format fault → PrintFault profile format fault.at fault.why
 print_fault_of profile format fault other (inl is) = is
-print_fault_of profile format fault other (inr (none, spelled)) = let no : false ≡ true = sym other ∙ ap (λ (f : FormatFault). is_memory f.why) none in absurd (cc)
+print_fault_of profile format fault other (inr (none, spelled)) = let no : false ≡ true =
+    sym other ∙ ap (λ (f : FormatFault). is_memory f.why) none in absurd (cc)
 
-scans_by : (profile : Profile) {S : Type 0} (to_come : S → Option (List ℕ)) (form : OutputForm) (m : ℕ) (format text : List ℕ) (now : Ahead S) (failures : ℕ) (held : Option (List ℕ)) (fault : FormatFault) (why : FormatWhy) → fault.why ≡ why → IsRefused profile format fault
+scans_by : (profile : Profile) {S : Type 0} (to_come : S → Option (List ℕ)) (form : OutputForm) (m : ℕ) (format text : List ℕ)
+    (now : Ahead S) (failures : ℕ) (held : Option (List ℕ)) (fault : FormatFault) (why : FormatWhy) → fault.why ≡ why
+    → IsRefused profile format fault
     → ScansBy to_come profile form m format text now failures failures held held (Err (format_fault_by why fault))
 scans_by profile to_come form m format text now failures held fault NoMemory is refused = refl
 scans_by profile to_come form m format text now failures held fault _ is refused = fault_of profile format fault (ap is_memory is) refused
 
-pub refused_scans : (profile : Profile) {S : Type 0} (to_come : S → Option (List ℕ)) (form : OutputForm) (m : ℕ) (format text : List ℕ) (now : Ahead S) (failures : ℕ) (held : Option (List ℕ)) (fault : FormatFault) → IsRefused profile format fault
+pub refused_scans : (profile : Profile) {S : Type 0} (to_come : S → Option (List ℕ)) (form : OutputForm) (m : ℕ) (format text : List ℕ)
+    (now : Ahead S) (failures : ℕ) (held : Option (List ℕ)) (fault : FormatFault) → IsRefused profile format fault
     → ScansBy to_come profile form m format text now failures failures held held (Err (format_fault fault))
-refused_scans profile to_come form m format text now failures held fault refused = scans_by profile to_come form m format text now failures held fault fault.why refl refused
+refused_scans profile to_come form m format text now failures held fault refused =
+    scans_by profile to_come form m format text now failures held fault fault.why refl refused
 
-shows_by : (profile : Profile) (format : List ℕ) (held : Option (List ℕ)) (fault : FormatFault) (why : FormatWhy) → fault.why ≡ why → IsRefused profile format fault
+shows_by : (profile : Profile) (format : List ℕ) (held : Option (List ℕ)) (fault : FormatFault) (why : FormatWhy) → fault.why ≡ why
+    → IsRefused profile format fault
     → ShowsBy profile format held held (Err (format_fault_by why fault))
 shows_by profile format held fault NoMemory is refused = refl
 shows_by profile format held fault _ is refused = fault_of profile format fault (ap is_memory is) refused
 
-pub refused_shows : (profile : Profile) (format : List ℕ) (held : Option (List ℕ)) (fault : FormatFault) → IsRefused profile format fault → ShowsBy profile format held held (Err (format_fault fault))
+pub refused_shows : (profile : Profile) (format : List ℕ) (held : Option (List ℕ)) (fault : FormatFault) → IsRefused profile format fault
+    → ShowsBy profile format held held (Err (format_fault fault))
 refused_shows profile format held fault refused = shows_by profile format held fault fault.why refl refused
 
-prints_by : (profile : Profile) (format : List ℕ) (values : List (List ℕ)) (held : Option (List ℕ)) (fault : FormatFault) (why : FormatWhy) → fault.why ≡ why → IsPrintRefused profile format fault
+prints_by : (profile : Profile) (format : List ℕ) (values : List (List ℕ)) (held : Option (List ℕ)) (fault : FormatFault) (why : FormatWhy)
+    → fault.why ≡ why → IsPrintRefused profile format fault
     → PrintsBy profile format values held held (Err (print_format_fault_by why fault))
 prints_by profile format values held fault NoMemory is refused = refl
 prints_by profile format values held fault _ is refused = print_fault_of profile format fault (ap is_memory is) refused
 
-pub refused_prints : (profile : Profile) (format : List ℕ) (values : List (List ℕ)) (held : Option (List ℕ)) (fault : FormatFault) → IsPrintRefused profile format fault
+pub refused_prints : (profile : Profile) (format : List ℕ) (values : List (List ℕ)) (held : Option (List ℕ)) (fault : FormatFault)
+    → IsPrintRefused profile format fault
     → PrintsBy profile format values held held (Err (print_format_fault fault))
 refused_prints profile format values held fault refused = prints_by profile format values held fault fault.why refl refused
 
 -- the fault of a format is none of the words, and nothing was read or written
-unread_by : {S K : Type 0} (why : FormatWhy) (fault : FormatFault) (from : Ahead S) (out : K) → Unread (format_fault_by why fault) from from out out
+unread_by : {S K : Type 0} (why : FormatWhy) (fault : FormatFault) (from : Ahead S) (out : K)
+    → Unread (format_fault_by why fault) from from out out
 unread_by NoMemory fault from out = (refl, refl)
 unread_by _ fault from out = (refl, refl)
 

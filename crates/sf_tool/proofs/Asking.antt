@@ -12,5 +12,6 @@ module _ (words : List (List ℕ)) where
   can_run (Ok order) is = (is.small, is.enough)
   can_run (Err fault) is = tt
 
-  pub was_read : (asked : Result Order WordsFault) → IfOk asked (IsOrder words) → IfOk asked (λ _. faults_of words ≡ []) → IfErr asked (IsRefusal (faults_of words)) → IsRead words asked
+  pub was_read : (asked : Result Order WordsFault) → IfOk asked (IsOrder words) → IfOk asked (λ _. faults_of words ≡ [])
+      → IfErr asked (IsRefusal (faults_of words)) → IsRead words asked
   was_read asked is taken refused = record { read = is; taken = taken; refused = refused }

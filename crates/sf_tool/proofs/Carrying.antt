@@ -34,10 +34,13 @@ abbrev made : {S : Type 0} → List ℕ → S → Bool → Ahead S
 made held source at_end = record { held = held; source = source; at_end = at_end }
 
 -- where nothing is held yet
-pub over_fresh : {T S : Type 0} (f : T → S) (a : Ahead T) (source : S) → a.held ≡ [] → f a.source ≡ source → a.at_end ≡ false → over f a ≡ unread_of source
-over_fresh f a source none is fresh = ap (λ h. made h (f a.source) a.at_end) none ∙ ap (λ s. made [] s a.at_end) is ∙ ap (λ e. made [] source e) fresh
+pub over_fresh : {T S : Type 0} (f : T → S) (a : Ahead T) (source : S) → a.held ≡ [] → f a.source ≡ source → a.at_end ≡ false
+    → over f a ≡ unread_of source
+over_fresh f a source none is fresh = ap (λ h. made h (f a.source) a.at_end) none ∙ ap (λ s. made [] s a.at_end) is
+    ∙ ap (λ e. made [] source e) fresh
 
-module _ {T S K : Type 0} (f : T → S) (to_come : S → Option (List ℕ)) (faults : S → ℕ) (contents : K → Option (List ℕ)) (write_faults : K → ℕ) (profile : Profile) where
+module _ {T S K : Type 0} (f : T → S) (to_come : S → Option (List ℕ)) (faults : S → ℕ) (contents : K → Option (List ℕ))
+    (write_faults : K → ℕ) (profile : Profile) where
   abbrev pub told : T → Option (List ℕ)
   told s = to_come (f s)
 
@@ -61,7 +64,8 @@ module _ {T S K : Type 0} (f : T → S) (to_come : S → Option (List ℕ)) (fau
     told = l.told;
   }
 
-  unread : (fault : CommandFault) (from from' : Ahead T) (out out' : K) → Unread fault from from' out out' → Unread fault (over f from) (over f from') out out'
+  unread : (fault : CommandFault) (from from' : Ahead T) (out out' : K) → Unread fault from from' out out'
+      → Unread fault (over f from) (over f from') out out'
   unread (BadEscape name at) from from' out out' (same, h) = (ap (over f) same, h)
   unread (Format fault) from from' out out' (same, h) = (ap (over f) same, h)
   unread (PrintFormat fault) from from' out out' (same, h) = (ap (over f) same, h)
@@ -77,7 +81,8 @@ module _ {T S K : Type 0} (f : T → S) (to_come : S → Option (List ℕ)) (fau
   unread_if (Ok n) from from' out out' h = tt
   unread_if (Err fault) from from' out out' h = unread fault from from' out out' h
 
-  refused : (name : FormatName) (word : List ℕ) (from from' : Ahead T) (out out' : K) (answer : Answer) → IsRefusedText name word from from' out out' answer
+  refused : (name : FormatName) (word : List ℕ) (from from' : Ahead T) (out out' : K) (answer : Answer)
+      → IsRefusedText name word from from' out out' answer
       → IsRefusedText name word (over f from) (over f from') out out' answer
   refused name word from from' out out' answer r = record {
     unread = ap (over f) r.unread;
@@ -89,24 +94,35 @@ module _ {T S K : Type 0} (f : T → S) (to_come : S → Option (List ℕ)) (fau
 
   -- ---- scans
 
-  scans_by : (form : OutputForm) (limit : ℕ) (format t : List ℕ) (now : Ahead T) (n k : ℕ) (before after : Option (List ℕ)) (answer : Answer)
-      → ScansBy told profile form limit format t now n k before after answer → ScansBy to_come profile form limit format t (over f now) n k before after answer
+  scans_by : (form : OutputForm) (limit : ℕ) (format t : List ℕ) (now : Ahead T) (n k : ℕ) (before after : Option (List ℕ))
+      (answer : Answer)
+      → ScansBy told profile form limit format t now n k before after answer
+      → ScansBy to_come profile form limit format t (over f now) n k before after answer
   scans_by form limit format t now n k before after (Err (Format fault)) h = h
   scans_by form limit format t now n k before after (Err Memory) h = h
-  scans_by form limit format t now n k before after (Ok status) (ds, spells, (end, l, is)) = (ds, spells, (end, loops _ ds limit t now n k before after end l, is))
-  scans_by form limit format t now n k before after (Err (BadEscape name at)) (ds, spells, (end, l, is)) = (ds, spells, (end, loops _ ds limit t now n k before after end l, is))
-  scans_by form limit format t now n k before after (Err (PrintFormat fault)) (ds, spells, (end, l, is)) = (ds, spells, (end, loops _ ds limit t now n k before after end l, is))
-  scans_by form limit format t now n k before after (Err (Values fault)) (ds, spells, (end, l, is)) = (ds, spells, (end, loops _ ds limit t now n k before after end l, is))
-  scans_by form limit format t now n k before after (Err (Record fault)) (ds, spells, (end, l, is)) = (ds, spells, (end, loops _ ds limit t now n k before after end l, is))
-  scans_by form limit format t now n k before after (Err (Lines fault)) (ds, spells, (end, l, is)) = (ds, spells, (end, loops _ ds limit t now n k before after end l, is))
-  scans_by form limit format t now n k before after (Err Write) (ds, spells, (end, l, is)) = (ds, spells, (end, loops _ ds limit t now n k before after end l, is))
-  scans_by form limit format t now n k before after (Err (Pair fault)) (ds, spells, (end, l, is)) = (ds, spells, (end, loops _ ds limit t now n k before after end l, is))
+  scans_by form limit format t now n k before after (Ok status) (ds, spells, (end, l, is)) =
+      (ds, spells, (end, loops _ ds limit t now n k before after end l, is))
+  scans_by form limit format t now n k before after (Err (BadEscape name at)) (ds, spells, (end, l, is)) =
+      (ds, spells, (end, loops _ ds limit t now n k before after end l, is))
+  scans_by form limit format t now n k before after (Err (PrintFormat fault)) (ds, spells, (end, l, is)) =
+      (ds, spells, (end, loops _ ds limit t now n k before after end l, is))
+  scans_by form limit format t now n k before after (Err (Values fault)) (ds, spells, (end, l, is)) =
+      (ds, spells, (end, loops _ ds limit t now n k before after end l, is))
+  scans_by form limit format t now n k before after (Err (Record fault)) (ds, spells, (end, l, is)) =
+      (ds, spells, (end, loops _ ds limit t now n k before after end l, is))
+  scans_by form limit format t now n k before after (Err (Lines fault)) (ds, spells, (end, l, is)) =
+      (ds, spells, (end, loops _ ds limit t now n k before after end l, is))
+  scans_by form limit format t now n k before after (Err Write) (ds, spells, (end, l, is)) =
+      (ds, spells, (end, loops _ ds limit t now n k before after end l, is))
+  scans_by form limit format t now n k before after (Err (Pair fault)) (ds, spells, (end, l, is)) =
+      (ds, spells, (end, loops _ ds limit t now n k before after end l, is))
 
   scans_text : (form : OutputForm) (limit : ℕ) (text : List ℕ) (from from' : Ahead T) (out out' : K) (answer : Answer)
       → ScansText told failed contents write_faults profile form limit text from from' out out' answer
       → ScansText to_come faults contents write_faults profile form limit text (over f from) (over f from') out out' answer
   scans_text form limit text from from' out out' answer s = record {
-    scans = λ t is. scans_by form limit text t from' (failed from.source) (failed from'.source) (contents out) (contents out') answer (s.scans t is);
+    scans = λ t is. scans_by form limit text t from' (failed from.source) (failed from'.source) (contents out) (contents out') answer
+        (s.scans t is);
     refused = s.refused;
     unread = unread_if answer from from' out out' s.unread;
     failures = s.failures;
@@ -116,12 +132,15 @@ module _ {T S K : Type 0} (f : T → S) (to_come : S → Option (List ℕ)) (fau
       → ScansWord told failed contents write_faults profile form limit word from from' out out' answer
       → ScansWord to_come faults contents write_faults profile form limit word (over f from) (over f from') out out' answer
   scans_word form limit word from from' out out' answer (inl r) = inl (refused _ word from from' out out' answer r)
-  scans_word form limit word from from' out out' answer (inr (text, is, s)) = inr (text, is, scans_text form limit text from from' out out' answer s)
+  scans_word form limit word from from' out out' answer (inr (text, is, s)) =
+      inr (text, is, scans_text form limit text from from' out out' answer s)
 
   -- ---- copies
 
-  copies : (limit : ℕ) (units : List PrintUnit) (ds : List Directive) (from from' : Ahead T) (before after : Option (List ℕ)) (answer : Answer)
-      → Copies told failed limit units ds from from' before after answer → Copies to_come faults limit units ds (over f from) (over f from') before after answer
+  copies : (limit : ℕ) (units : List PrintUnit) (ds : List Directive) (from from' : Ahead T) (before after : Option (List ℕ))
+      (answer : Answer)
+      → Copies told failed limit units ds from from' before after answer
+      → Copies to_come faults limit units ds (over f from) (over f from') before after answer
   copies limit units ds from from' before after (Err (Pair fault)) h = h
   copies limit units ds from from' before after (Ok status) (pair, (end, is, l)) =
       (pair, (end, is, λ t told_is. loops _ ds limit t from' (failed from.source) (failed from'.source) before after end (l t told_is)))
@@ -147,7 +166,8 @@ module _ {T S K : Type 0} (f : T → S) (to_come : S → Option (List ℕ)) (fau
       → CopiesWords to_come faults profile limit print scan (over f from) (over f from') before after answer
   copies_words limit print scan from from' before after answer (inl h) = inl h
   copies_words limit print scan from from' before after answer (inr (units, is, inl h)) = inr (units, is, inl h)
-  copies_words limit print scan from from' before after answer (inr (units, is, inr (ds, are, h))) = inr (units, is, inr (ds, are, copies limit units ds from from' before after answer h))
+  copies_words limit print scan from from' before after answer (inr (units, is, inr (ds, are, h))) =
+      inr (units, is, inr (ds, are, copies limit units ds from from' before after answer h))
 
   copies_both : (limit : ℕ) (print scan : List ℕ) (from from' : Ahead T) (out out' : K) (answer : Answer)
       → CopiesBoth told failed contents write_faults profile limit print scan from from' out out' answer
@@ -182,10 +202,13 @@ module _ {T S K : Type 0} (f : T → S) (to_come : S → Option (List ℕ)) (fau
 
 -- ---- lines
 
-module _ {T S K E : Type 0} (f : T → S) (to_come : S → Option (List ℕ)) (faults : S → ℕ) (contents : K → Option (List ℕ)) (write_faults : K → ℕ)
+module _ {T S K E : Type 0} (f : T → S) (to_come : S → Option (List ℕ)) (faults : S → ℕ) (contents : K → Option (List ℕ))
+    (write_faults : K → ℕ)
     (said : E → Option (List ℕ)) (unsaid : E → ℕ) where
-  line_loops : (w : LineWork) (t : List ℕ) (now : Ahead T) (n k : ℕ) (before after : Option (List ℕ)) (silent : Bool) (told told' : Option (List ℕ)) (end : LinesEnd)
-      → LineLoops w (λ s. to_come (f s)) t now n k before after silent told told' end → LineLoops w to_come t (over f now) n k before after silent told told' end
+  line_loops : (w : LineWork) (t : List ℕ) (now : Ahead T) (n k : ℕ) (before after : Option (List ℕ)) (silent : Bool)
+      (told told' : Option (List ℕ)) (end : LinesEnd)
+      → LineLoops w (λ s. to_come (f s)) t now n k before after silent told told' end
+      → LineLoops w to_come t (over f now) n k before after silent told told' end
   line_loops w t now n k before after silent told told' end l = record {
     failed = l.failed;
     failures_are = l.failures_are;
@@ -203,41 +226,67 @@ module _ {T S K E : Type 0} (f : T → S) (to_come : S → Option (List ℕ)) (f
     ends = l.ends;
   }
 
-  runs_lines : (form : OutputForm) (options : LineOptions) (limit : ℕ) (formats : List (List Directive)) (telling : ℕ → List ℕ → LineFault → List ℕ) (from from' : Ahead T) (out out' : K) (err err' : E) (answer : Answer)
-      → RunsLines (λ s. to_come (f s)) (λ s. faults (f s)) contents write_faults said unsaid form options limit formats telling from from' out out' err err' answer
-      → RunsLines to_come faults contents write_faults said unsaid form options limit formats telling (over f from) (over f from') out out' err err' answer
+  runs_lines : (form : OutputForm) (options : LineOptions) (limit : ℕ) (formats : List (List Directive))
+      (telling : ℕ → List ℕ → LineFault → List ℕ) (from from' : Ahead T) (out out' : K) (err err' : E) (answer : Answer)
+      → RunsLines (λ s. to_come (f s)) (λ s. faults (f s)) contents write_faults said unsaid form options limit formats telling from from'
+      out out' err err' answer
+      → RunsLines to_come faults contents write_faults said unsaid form options limit formats telling (over f from)
+      (over f from') out out' err err' answer
   unfolding line_loops
   runs_lines form options limit formats telling from from' out out' err err' answer r = record {
     end = r.end;
     mute = r.mute;
     tells = λ t is.
-        let told = r.tells t is in
-        (line_loops (scanning form options limit formats telling) t from' (faults (f from.source)) (faults (f from'.source)) (contents out) (contents out') r.mute (said err) (said err') r.end told.0, told.1);
+        let told = r.tells t is in (
+          line_loops (scanning form options limit formats telling) t from' (faults (f from.source)) (faults (f from'.source)) (contents out)
+              (contents out') r.mute (said err) (said err') r.end told.0,
+          told.1,
+        );
     faults = r.faults;
     status = r.status;
     answers = r.answers;
     failures = r.failures;
   }
 
-  scans_lines : (profile : Profile) (form : OutputForm) (options : LineOptions) (explain : Bool) (limit : ℕ) (words : List (List ℕ)) (from from' : Ahead T) (out out' : K) (err err' : E) (answer : Answer)
-      → ScansLines (λ s. to_come (f s)) (λ s. faults (f s)) contents write_faults said unsaid profile form options explain limit words from from' out out' err err' answer
-      → ScansLines to_come faults contents write_faults said unsaid profile form options explain limit words (over f from) (over f from') out out' err err' answer
-  scans_lines profile form options explain limit words from from' out out' err err' answer (inl (bad, same, written, silent)) = inl (bad, ap (over f) same, written, silent)
-  scans_lines profile form options explain limit words from from' out out' err err' answer (inr (formats, telling, are, is, r)) = inr (formats, telling, are, is, runs_lines form options limit formats telling from from' out out' err err' answer r)
+  scans_lines : (profile : Profile) (form : OutputForm) (options : LineOptions) (explain : Bool) (limit : ℕ) (words : List (List ℕ))
+      (from from' : Ahead T) (out out' : K) (err err' : E) (answer : Answer)
+      → ScansLines (λ s. to_come (f s)) (λ s. faults (f s)) contents write_faults said unsaid profile form options explain limit words from
+      from' out out' err err' answer
+      → ScansLines to_come faults contents write_faults said unsaid profile form options explain limit words (over f from)
+      (over f from') out out' err err' answer
+  scans_lines profile form options explain limit words from from' out out' err err' answer (inl (bad, same, written, silent)) =
+      inl (bad, ap (over f) same, written, silent)
+  scans_lines profile form options explain limit words from from' out out' err err' answer (inr (formats, telling, are, is, r)) =
+      inr (formats, telling, are, is, runs_lines form options limit formats telling from from' out out' err err' answer r)
 
 -- ---- the command
 
 module _ {T S K E : Type 0} (f : T → S) (contents : K → Option (List ℕ)) (write_faults : K → ℕ) (hands : K → K → Type 0)
     (said : E → Option (List ℕ)) (unsaid : E → ℕ) (to_come : S → Option (List ℕ)) (faults : S → ℕ) where
   ends_lines : (options : LineOptions) (order : Order) (from from' : Ahead T) (out out' : K) (err err' : E) (status : ℕ)
-      → EndsLines contents write_faults hands said unsaid (λ s. to_come (f s)) (λ s. faults (f s)) options order from from' out out' err err' status
+      → EndsLines contents write_faults hands said unsaid (λ s. to_come (f s))
+      (λ s. faults (f s)) options order from from' out out' err err' status
       → EndsLines contents write_faults hands said unsaid to_come faults options order (over f from) (over f from') out out' err err' status
-  ends_lines options order from from' out out' err err' status (answer, (mid, (between, done, ends))) =
-      (answer, (mid, (between, scans_lines f to_come faults contents write_faults said unsaid _ _ options order.explain order.limit _ from from' out mid err between answer done, ends)))
+  ends_lines options order from from' out out' err err' status (answer, (mid, (between, done, ends))) = (
+    answer,
+    (
+      mid,
+      (
+        between,
+        scans_lines f to_come faults contents write_faults said unsaid _ _ options order.explain order.limit _ from
+            from' out mid err between answer done,
+        ends,
+      ),
+    ),
+  )
 
-  pub does_order : (lines : Option LineOptions) (order : Order) (place : Option Place) (from from' : Ahead T) (out out' : K) (err err' : E) (status : ℕ)
-      → DoesOrder contents write_faults hands said unsaid (λ s. to_come (f s)) (λ s. faults (f s)) lines order place from from' out out' err err' status
-      → DoesOrder contents write_faults hands said unsaid to_come faults lines order place (over f from) (over f from') out out' err err' status
+  pub does_order : (lines : Option LineOptions) (order : Order) (place : Option Place) (from from' : Ahead T) (out out' : K) (err err' : E)
+      (status : ℕ)
+      → DoesOrder contents write_faults hands said unsaid (λ s. to_come (f s))
+      (λ s. faults (f s)) lines order place from from' out out' err err' status
+      → DoesOrder contents write_faults hands said unsaid to_come faults lines order place (over f from)
+      (over f from') out out' err err' status
   does_order None order place from from' out out' err err' status (answer, (mid, done, more)) =
       (answer, (mid, carries f to_come faults contents write_faults _ _ order.verb order.limit _ from from' out mid answer done, more))
-  does_order (Some options) order place from from' out out' err err' status done = ends_lines options order from from' out out' err err' status done
+  does_order (Some options) order place from from' out out' err err' status done =
+      ends_lines options order from from' out out' err err' status done

@@ -16,7 +16,8 @@ use Rattle.sf_tool.proofs.Answering.{fault_of, is_memory, print_fault_of}
 
 -- ---- a text that is not resolved
 
-pub no_print_text : (profile : Profile) (word : List ℕ) (fault : CommandFault) → IsBadText name.Print word fault → IsNoPrintWord profile word fault
+pub no_print_text : (profile : Profile) (word : List ℕ) (fault : CommandFault) → IsBadText name.Print word fault
+    → IsNoPrintWord profile word fault
 no_print_text profile word (BadEscape of at) bad = bad
 no_print_text profile word Memory bad = bad
 no_print_text profile word (Format fault) bad = absurd bad
@@ -27,7 +28,8 @@ no_print_text profile word (Lines fault) bad = absurd bad
 no_print_text profile word Write bad = absurd bad
 no_print_text profile word (Pair fault) bad = absurd bad
 
-pub no_scan_text : (profile : Profile) (word : List ℕ) (fault : CommandFault) → IsBadText name.Scan word fault → IsNoScanWord profile word fault
+pub no_scan_text : (profile : Profile) (word : List ℕ) (fault : CommandFault) → IsBadText name.Scan word fault
+    → IsNoScanWord profile word fault
 no_scan_text profile word (BadEscape of at) bad = bad
 no_scan_text profile word Memory bad = bad
 no_scan_text profile word (Format fault) bad = absurd bad
@@ -40,23 +42,28 @@ no_scan_text profile word (Pair fault) bad = absurd bad
 
 -- ---- a format that is refused
 
-print_by : (profile : Profile) (word text : List ℕ) (fault : FormatFault) (why : FormatWhy) → fault.why ≡ why → Unescapes word text → IsPrintRefused profile text fault → IsNoPrintWord profile word (print_format_fault_by why fault)
+print_by : (profile : Profile) (word text : List ℕ) (fault : FormatFault) (why : FormatWhy) → fault.why ≡ why → Unescapes word text
+    → IsPrintRefused profile text fault → IsNoPrintWord profile word (print_format_fault_by why fault)
 print_by profile word text fault NoMemory is good refused = (text, good)
 print_by profile word text fault _ is good refused = (text, good, print_fault_of profile text fault (ap is_memory is) refused)
 
-pub no_print_format : (profile : Profile) (word text : List ℕ) (fault : FormatFault) → Unescapes word text → IsPrintRefused profile text fault → IsNoPrintWord profile word (print_format_fault fault)
+pub no_print_format : (profile : Profile) (word text : List ℕ) (fault : FormatFault) → Unescapes word text
+    → IsPrintRefused profile text fault → IsNoPrintWord profile word (print_format_fault fault)
 no_print_format profile word text fault good refused = print_by profile word text fault fault.why refl good refused
 
-scan_by : (profile : Profile) (word text : List ℕ) (fault : FormatFault) (why : FormatWhy) → fault.why ≡ why → Unescapes word text → IsRefused profile text fault → IsNoScanWord profile word (format_fault_by why fault)
+scan_by : (profile : Profile) (word text : List ℕ) (fault : FormatFault) (why : FormatWhy) → fault.why ≡ why → Unescapes word text
+    → IsRefused profile text fault → IsNoScanWord profile word (format_fault_by why fault)
 scan_by profile word text fault NoMemory is good refused = (text, good)
 scan_by profile word text fault _ is good refused = (text, good, fault_of profile text fault (ap is_memory is) refused)
 
-pub no_scan_format : (profile : Profile) (word text : List ℕ) (fault : FormatFault) → Unescapes word text → IsRefused profile text fault → IsNoScanWord profile word (format_fault fault)
+pub no_scan_format : (profile : Profile) (word text : List ℕ) (fault : FormatFault) → Unescapes word text → IsRefused profile text fault
+    → IsNoScanWord profile word (format_fault fault)
 no_scan_format profile word text fault good refused = scan_by profile word text fault fault.why refl good refused
 
 -- ---- nothing was written then
 
-pub no_print_unwritten : (profile : Profile) {K : Type 0} (word : List ℕ) (fault : CommandFault) (out : K) → IsNoPrintWord profile word fault → IsUnwrittenBy fault out out
+pub no_print_unwritten : (profile : Profile) {K : Type 0} (word : List ℕ) (fault : CommandFault) (out : K)
+    → IsNoPrintWord profile word fault → IsUnwrittenBy fault out out
 no_print_unwritten profile word (BadEscape of at) out refused = refl
 no_print_unwritten profile word Memory out refused = refl
 no_print_unwritten profile word (PrintFormat fault) out refused = refl
@@ -67,7 +74,8 @@ no_print_unwritten profile word (Lines fault) out refused = absurd refused
 no_print_unwritten profile word Write out refused = tt
 no_print_unwritten profile word (Pair fault) out refused = refl
 
-pub no_scan_unwritten : (profile : Profile) {K : Type 0} (word : List ℕ) (fault : CommandFault) (out : K) → IsNoScanWord profile word fault → IsUnwrittenBy fault out out
+pub no_scan_unwritten : (profile : Profile) {K : Type 0} (word : List ℕ) (fault : CommandFault) (out : K) → IsNoScanWord profile word fault
+    → IsUnwrittenBy fault out out
 no_scan_unwritten profile word (BadEscape of at) out refused = refl
 no_scan_unwritten profile word Memory out refused = refl
 no_scan_unwritten profile word (PrintFormat fault) out refused = refl
@@ -78,7 +86,8 @@ no_scan_unwritten profile word (Lines fault) out refused = absurd refused
 no_scan_unwritten profile word Write out refused = tt
 no_scan_unwritten profile word (Pair fault) out refused = refl
 
-pub no_print_counts : (profile : Profile) (word : List ℕ) (fault : CommandFault) (n : ℕ) → IsNoPrintWord profile word fault → Counts n n (Err fault)
+pub no_print_counts : (profile : Profile) (word : List ℕ) (fault : CommandFault) (n : ℕ) → IsNoPrintWord profile word fault
+    → Counts n n (Err fault)
 no_print_counts profile word (BadEscape of at) n refused = refl
 no_print_counts profile word Memory n refused = refl
 no_print_counts profile word (PrintFormat fault) n refused = refl
@@ -89,7 +98,8 @@ no_print_counts profile word (Lines fault) n refused = absurd refused
 no_print_counts profile word Write n refused = absurd refused
 no_print_counts profile word (Pair fault) n refused = refl
 
-pub no_scan_counts : (profile : Profile) (word : List ℕ) (fault : CommandFault) (n : ℕ) → IsNoScanWord profile word fault → Counts n n (Err fault)
+pub no_scan_counts : (profile : Profile) (word : List ℕ) (fault : CommandFault) (n : ℕ) → IsNoScanWord profile word fault
+    → Counts n n (Err fault)
 no_scan_counts profile word (BadEscape of at) n refused = refl
 no_scan_counts profile word Memory n refused = refl
 no_scan_counts profile word (PrintFormat fault) n refused = refl

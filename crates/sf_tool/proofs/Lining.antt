@@ -28,7 +28,8 @@ use Rattle.sf_arguments.proofs.Escaping.{one_reading}
 -- the formats of the words before are read: with those of the words behind they are those of all
 pub record Opened (profile : Profile) (words rest : List (List ℕ)) (formats : List (List Directive)) : Type 0 where
   pub all : (more : List (List Directive)) → AreScanWords profile rest more → AreScanWords profile words (formats ++ more)
-  pub none : (refused : List ℕ) (fault : CommandFault) → IsFirstRefused profile rest refused fault → IsFirstRefused profile words refused fault
+  pub none : (refused : List ℕ) (fault : CommandFault) → IsFirstRefused profile rest refused fault
+      → IsFirstRefused profile words refused fault
 
 module _ {A : Type 0} (f : A → List ℕ) (profile : Profile) (words : List A) (formats : List (List Directive)) where
   abbrev behind : ℕ → List (List ℕ)
@@ -46,12 +47,14 @@ module _ {A : Type 0} (f : A → List ℕ) (profile : Profile) (words : List A) 
       record {
         all = λ more h. subst (AreScanWords profile (map f words)) (sym (append_assoc formats (ds ∷ []) more))
             (o.all (ds ∷ more) (subst (λ ws. AreScanWords profile ws (ds ∷ more)) (sym next) (stands, h)));
-        none = λ refused fault h. o.none refused fault (subst (λ ws. IsFirstRefused profile ws refused fault) (sym next) (inr (ds, stands, h)));
+        none = λ refused fault h. o.none refused fault (subst (λ ws. IsFirstRefused profile ws refused fault) (sym next)
+            (inr (ds, stands, h)));
       }
 
   pub closed_at : (i : ℕ) (x : A) → i < length words → x ≡ get_or words i x → (fault : CommandFault) → IsNoScanWord profile (f x) fault
       → Opened profile (map f words) (behind i) formats → IsFirstRefused profile (map f words) (f x) fault
-  closed_at i x lt is fault bad o = o.none (f x) fault (subst (λ ws. IsFirstRefused profile ws (f x) fault) (sym (stands_next i x lt is)) (inl (refl, bad)))
+  closed_at i x lt is fault bad o = o.none (f x) fault (subst (λ ws. IsFirstRefused profile ws (f x) fault) (sym (stands_next i x lt is))
+      (inl (refl, bad)))
 
   -- want of memory is told of a word that is read
   pub refused_at : (i : ℕ) (x : A) → i < length words → x ≡ get_or words i x → (ds : List Directive) → IsScanWord profile (f x) ds
@@ -66,10 +69,12 @@ module _ {A : Type 0} (f : A → List ℕ) (profile : Profile) (words : List A) 
 
   pub all_opened : (i : ℕ) → length words ≤ i → Opened profile (map f words) (behind i) formats → AreScanWords profile (map f words) formats
   all_opened i le o =
-      subst (AreScanWords profile (map f words)) (append-nil formats) (o.all [] (subst (λ ws. AreScanWords profile ws []) (sym (ap (map f) (empty words i le))) refl))
+      subst (AreScanWords profile (map f words)) (append-nil formats)
+      (o.all [] (subst (λ ws. AreScanWords profile ws []) (sym (ap (map f) (empty words i le))) refl))
 
 -- as many formats as words
-pub as_many : (profile : Profile) (words : List (List ℕ)) (formats : List (List Directive)) → AreScanWords profile words formats → length formats ≡ length words
+pub as_many : (profile : Profile) (words : List (List ℕ)) (formats : List (List Directive)) → AreScanWords profile words formats
+    → length formats ≡ length words
 as_many profile [] formats is = ap (length {A = List Directive}) is
 as_many profile (word ∷ words) [] h = absurd h
 as_many profile (word ∷ words) (ds ∷ formats) (stands, h) = ap suc (as_many profile words formats h)
@@ -84,34 +89,43 @@ write_is status (Some lines_fault.Write) = refl
 write_is status (Some lines_fault.Memory) = refl
 write_is status (Some lines_fault.TooMany) = refl
 
-pub counts_by : (status : ℕ) (fault : Option LinesFault) (answer : Answer) (n k : ℕ) → k ≡ (if is_write fault then counted_on n else n) → answer ≡ answer_by status fault → Counts n k answer
-counts_by status fault answer n k counted is = counted ∙ ap (λ (v : Bool). if v then counted_on n else n) (write_is status fault ∙ ap is_write_fault (sym is))
+pub counts_by : (status : ℕ) (fault : Option LinesFault) (answer : Answer) (n k : ℕ) → k ≡ (if is_write fault then counted_on n else n)
+    → answer ≡ answer_by status fault → Counts n k answer
+counts_by status fault answer n k counted is = counted ∙ ap (λ (v : Bool). if v then counted_on n else n)
+    (write_is status fault ∙ ap is_write_fault (sym is))
 
 -- ---- what is told of lines
 
-module _ (profile : Profile) (quiet : Bool) (text : List ℕ) (ds : List Directive) (telling : ℕ → List ℕ → LineFault → List ℕ) (number : ℕ) (line : List ℕ) (fault : LineFault) where
+module _ (profile : Profile) (quiet : Bool) (text : List ℕ) (ds : List Directive) (telling : ℕ → List ℕ → LineFault → List ℕ) (number : ℕ)
+    (line : List ℕ) (fault : LineFault) where
   pub says_nothing : (explain : Bool) → SaysLines profile quiet explain text ds telling → quiet ≡ true → telling number line fault ≡ []
   says_nothing false is e = ap (λ f. f number line fault) is ∙ rw e refl
   says_nothing true (pieces, format, text_is, is) e = ap (λ f. f number line fault) is ∙ rw e refl
 
-  pub says_more : (explain : Bool) → SaysLines profile quiet explain text ds telling → quiet ≡ false → (notes : List ℕ) → IsMoreOfLine profile explain text ds line fault notes
+  pub says_more : (explain : Bool) → SaysLines profile quiet explain text ds telling → quiet ≡ false → (notes : List ℕ)
+      → IsMoreOfLine profile explain text ds line fault notes
       → telling number line fault ≡ (line_fault_text number fault ++ 10 ∷ []) ++ notes
   says_more false is e notes more = ap (λ f. f number line fault) is ∙ rw (e, more) refl
   says_more true (pieces, format, text_is, is) e notes more = ap (λ f. f number line fault) is ∙ rw (e, more pieces format text_is) refl
 
 -- want of memory is told of words that all spell formats
-pub refused_memory : (profile : Profile) (words : List (List ℕ)) (formats : List (List Directive)) → AreScanWords profile words formats → 0 < length words → AreNoScanWords profile words Memory
+pub refused_memory : (profile : Profile) (words : List (List ℕ)) (formats : List (List Directive)) → AreScanWords profile words formats
+    → 0 < length words → AreNoScanWords profile words Memory
 refused_memory profile [] formats are some = absurd (omega (arith, some))
 refused_memory profile (word ∷ words) [] are some = absurd are
 refused_memory profile (word ∷ words) (ds ∷ formats) ((text, stands, spells), are) some = (word, inl (refl, (text, stands)))
 
-last_behind : {A : Type 0} (x y : A) (xs : List A) (last : A) → slice_get (y ∷ xs) (length (y ∷ xs) - 1) ≡ Some last → slice_get (x ∷ y ∷ xs) (length (x ∷ y ∷ xs) - 1) ≡ Some last
+last_behind : {A : Type 0} (x y : A) (xs : List A) (last : A) → slice_get (y ∷ xs) (length (y ∷ xs) - 1) ≡ Some last
+    → slice_get (x ∷ y ∷ xs) (length (x ∷ y ∷ xs) - 1) ≡ Some last
 last_behind x y xs last e =
-    ap (slice_get (x ∷ y ∷ xs)) {x = length (x ∷ y ∷ xs) - 1} {y = suc (length xs)} (omega arith) ∙ ap (slice_get (y ∷ xs)) {x = length xs} {y = length (y ∷ xs) - 1} (omega arith) ∙ e
+    ap (slice_get (x ∷ y ∷ xs)) {x = length (x ∷ y ∷ xs) - 1} {y = suc (length xs)} (omega arith)
+    ∙ ap (slice_get (y ∷ xs)) {x = length xs} {y = length (y ∷ xs) - 1} (omega arith) ∙ e
 
 -- the last of the words spells the last of the formats
-pub lasts : (profile : Profile) (words : List (List ℕ)) (formats : List (List Directive)) → AreScanWords profile words formats → 0 < length words
-    → (word : List ℕ) × (ds : List Directive) × (slice_get words (length words - 1) ≡ Some word) × (slice_get formats (length formats - 1) ≡ Some ds) × IsScanWord profile word ds
+pub lasts : (profile : Profile) (words : List (List ℕ)) (formats : List (List Directive)) → AreScanWords profile words formats
+    → 0 < length words
+    → (word : List ℕ) × (ds : List Directive) × (slice_get words (length words - 1) ≡ Some word)
+    × (slice_get formats (length formats - 1) ≡ Some ds) × IsScanWord profile word ds
 lasts profile [] formats are some = absurd (omega (arith, some))
 lasts profile (word ∷ words) [] are some = absurd are
 lasts profile (word ∷ []) (ds ∷ []) (stands, are) some = (word, ds, refl, refl, stands)
@@ -122,26 +136,50 @@ lasts profile (word ∷ next ∷ words) (ds ∷ other ∷ formats) (stands, are)
     (last, format, last_behind word next words last word_is, last_behind ds other formats format format_is, spells)
 
 -- so that something is told of lines by them
-pub telling_of : (profile : Profile) (quiet explain : Bool) (words : List (List ℕ)) (formats : List (List Directive)) → AreScanWords profile words formats → 0 < length words
+pub telling_of : (profile : Profile) (quiet explain : Bool) (words : List (List ℕ)) (formats : List (List Directive))
+    → AreScanWords profile words formats → 0 < length words
     → (text : List ℕ) → (explain ≡ true → OfWord Unescapes (slice_get words (length words - 1)) text)
-    → (ds : List Directive) × (telling : ℕ → List ℕ → LineFault → List ℕ) × (slice_get formats (length formats - 1) ≡ Some ds) × SaysLines profile quiet explain text ds telling × IsTelling profile quiet explain words formats telling
+    → (ds : List Directive) × (telling : ℕ → List ℕ → LineFault → List ℕ) × (slice_get formats (length formats - 1) ≡ Some ds)
+    × SaysLines profile quiet explain text ds telling × IsTelling profile quiet explain words formats telling
 telling_of profile quiet explain words formats are some text reads =
     let (word, ds, word_is, format_is, (own, stands, spells)) = lasts profile words formats are some in
     by explain reads word ds word_is format_is own stands spells
   where
-    by : (e : Bool) → (e ≡ true → OfWord Unescapes (slice_get words (length words - 1)) text) → (word : List ℕ) (ds : List Directive) → slice_get words (length words - 1) ≡ Some word → slice_get formats (length formats - 1) ≡ Some ds
+    by : (e : Bool) → (e ≡ true → OfWord Unescapes (slice_get words (length words - 1)) text) → (word : List ℕ) (ds : List Directive)
+        → slice_get words (length words - 1) ≡ Some word → slice_get formats (length formats - 1) ≡ Some ds
         → (own : List ℕ) → Unescapes word own → Spells profile own ds
-        → (ds : List Directive) × (telling : ℕ → List ℕ → LineFault → List ℕ) × (slice_get formats (length formats - 1) ≡ Some ds) × SaysLines profile quiet e text ds telling × IsTelling profile quiet e words formats telling
-    by false h word ds word_is format_is own stands spells =
-        (ds, line_telling quiet (λ line fault. []), format_is, refl, record { word = word; text = own; ds = ds; last_word = word_is; last_format = format_is; stands = stands; says = refl })
+        → (ds : List Directive) × (telling : ℕ → List ℕ → LineFault → List ℕ) × (slice_get formats (length formats - 1) ≡ Some ds)
+        × SaysLines profile quiet e text ds telling × IsTelling profile quiet e words formats telling
+    by false h word ds word_is format_is own stands spells = (
+      ds,
+      line_telling quiet (λ line fault. []),
+      format_is,
+      refl,
+      record { word = word; text = own; ds = ds; last_word = word_is; last_format = format_is; stands = stands; says = refl },
+    )
     by true h word ds word_is format_is own stands (pieces, format, own_is, mean) =
         let same : own ≡ text = one_reading word own text stands (subst (λ w. OfWord Unescapes w text) word_is (h refl)) in
         let text_is : text ≡ text_of pieces = sym same ∙ own_is in
-        let telling : ℕ → List ℕ → LineFault → List ℕ = line_telling quiet (more_of_line pieces ds) in
-        (ds, telling, format_is, (pieces, format, text_is, refl), record { word = word; text = own; ds = ds; last_word = word_is; last_format = format_is; stands = stands; says = (pieces, format, own_is, refl) })
+        let telling : ℕ → List ℕ → LineFault → List ℕ = line_telling quiet (more_of_line pieces ds) in (
+          ds,
+          telling,
+          format_is,
+          (pieces, format, text_is, refl),
+          record {
+            word = word;
+            text = own;
+            ds = ds;
+            last_word = word_is;
+            last_format = format_is;
+            stands = stands;
+            says =
+                (pieces, format, own_is, refl);
+          },
+        )
 
 -- so that there is something that is said by the last of them
-pub some_said : (profile : Profile) (quiet explain : Bool) (words : List (List ℕ)) (formats : List (List Directive)) → AreScanWords profile words formats → 0 < length words
+pub some_said : (profile : Profile) (quiet explain : Bool) (words : List (List ℕ)) (formats : List (List Directive))
+    → AreScanWords profile words formats → 0 < length words
     → (text : List ℕ) → (explain ≡ true → OfWord Unescapes (slice_get words (length words - 1)) text)
     → (ds : List Directive) → slice_get formats (length formats - 1) ≡ Some ds → SomeIsSaid profile quiet explain text ds
 some_said profile quiet explain words formats are some text reads ds is =

@@ -20,7 +20,8 @@ module _ (profile : Profile) (fault : CommandFault) where
   abbrev IsOfNoFormat : Type 0
   IsOfNoFormat = (word : List ℕ) (ds : List Directive) → IsNoScanWord profile word fault → IsScanWord profile word ds → ⊥
 
-  one_word : IsOfNoFormat → (words : List (List ℕ)) (a b : List ℕ) → IsFirstRefused profile words a fault → IsFirstRefused profile words b fault → a ≡ b
+  one_word : IsOfNoFormat → (words : List (List ℕ)) (a b : List ℕ) → IsFirstRefused profile words a fault
+      → IsFirstRefused profile words b fault → a ≡ b
   one_word none [] a b h k = absurd h
   one_word none (word ∷ words) a b (inl (is, bad)) (inl (too, also)) = is ∙ sym too
   one_word none (word ∷ words) a b (inl (is, bad)) (inr (ds, good, more)) = absurd (none word ds bad good)
@@ -38,8 +39,10 @@ module _ (profile : Profile) (fault : FormatFault) where
       let same : other ≡ text = one_reading word other text too stands in
       not_both (Scan profile) (Means profile) text ds fault.at fault.why (subst (λ t. Spells profile t ds) same spells) has
 
-  one_note : (word notes others : List ℕ) → IsNoScanWord profile word (Format fault) → SaysFormat fault word notes → SaysFormat fault word others → notes ≡ others
-  one_note word notes others refused (inl (text, stands, is)) (inl (other, good, too)) = is ∙ ap (λ (t : List ℕ). format_notes t fault) (one_reading word text other stands good) ∙ sym too
+  one_note : (word notes others : List ℕ) → IsNoScanWord profile word (Format fault) → SaysFormat fault word notes
+      → SaysFormat fault word others → notes ≡ others
+  one_note word notes others refused (inl (text, stands, is)) (inl (other, good, too)) =
+      is ∙ ap (λ (t : List ℕ). format_notes t fault) (one_reading word text other stands good) ∙ sym too
   one_note word notes others (text, stands, has) (inr (at, bad, is)) said = bad_or_good word text at bad stands
   one_note word notes others (text, stands, has) (inl said) (inr (at, bad, is)) = bad_or_good word text at bad stands
 
@@ -50,7 +53,8 @@ one_is_said_holds profile words (Err (BadEscape name at)) notes others (word, fi
     is ∙ ap (λ (w : List ℕ). escape_notes w at) (one_word profile (BadEscape name at) none words word other first also) ∙ sym too
 one_is_said_holds profile words (Err (Format fault)) notes others (word, first, is) (other, also, too) =
     let same : other ≡ word = one_word profile (Format fault) (of_no_format profile fault) words other word also first in
-    one_note profile fault word notes others (is_refused profile (Format fault) words word first) is (subst (λ w. SaysFormat fault w others) same too)
+    one_note profile fault word notes others (is_refused profile (Format fault) words word first) is
+    (subst (λ w. SaysFormat fault w others) same too)
 one_is_said_holds profile words (Err (PrintFormat fault)) notes others is too = is ∙ sym too
 one_is_said_holds profile words (Err (Values fault)) notes others is too = is ∙ sym too
 one_is_said_holds profile words (Err (Record fault)) notes others is too = is ∙ sym too

@@ -8,16 +8,20 @@ use Rattle.sf_records.specs.Judging.{TakesPart}
 use Rattle.sf_tool.specs.Saying.{SaysText}
 
 -- the sink took the text whole, or failed within it
-pub written : {A F : Type 0} (r : Result A F) (failed : Bool) (told told' : Option (List ℕ)) (text : List ℕ) → failed ≡ is_err r → IfOk r (λ _. Appends told told' text)
-    → IfErr r (λ _. (front : List ℕ) × (missing : ℕ) × (rest : List ℕ) × (text ≡ front ++ missing ∷ rest) × Appends told told' front) → Tells false failed told told' text
+pub written : {A F : Type 0} (r : Result A F) (failed : Bool) (told told' : Option (List ℕ)) (text : List ℕ) → failed ≡ is_err r
+    → IfOk r (λ _. Appends told told' text)
+    → IfErr r (λ _. (front : List ℕ) × (missing : ℕ) × (rest : List ℕ) × (text ≡ front ++ missing ∷ rest) × Appends told told' front)
+    → Tells false failed told told' text
 written (Ok x) failed told told' text is took front = inl (refl, is, took)
 written (Err x) failed told told' text is took front = inr (inl (refl, is, front))
 
 -- what is told where nothing failed before is said
-pub said : {E : Type 0} (contents : E → Option (List ℕ)) (failures : E → ℕ) (failed : Bool) (text : List ℕ) (err err' : E) → Tells false failed (contents err) (contents err') text
+pub said : {E : Type 0} (contents : E → Option (List ℕ)) (failures : E → ℕ) (failed : Bool) (text : List ℕ) (err err' : E)
+    → Tells false failed (contents err) (contents err') text
     → failures err' ≡ faults_by false failed (failures err) → SaysText contents failures text err err'
 said contents failures failed text err err' (inl (p, is, all)) counted = inl (all, counted ∙ ap (λ b. faults_by false b (failures err)) is)
-said contents failures failed text err err' (inr (inl (p, is, part))) counted = inr (part, counted ∙ ap (λ b. faults_by false b (failures err)) is)
+said contents failures failed text err err' (inr (inl (p, is, part))) counted =
+    inr (part, counted ∙ ap (λ b. faults_by false b (failures err)) is)
 said contents failures failed text err err' (inr (inr (p, is, none))) counted = absurd (true≢false (sym p))
 
 -- a text that was written whole, or up to where the sink failed, is said

@@ -64,7 +64,8 @@ TellsLine text status before after (Err _) = ⊥
 -- the verdict on the formats is told in a line
 abbrev pub Checks : List PrintUnit → List Directive → Option (List ℕ) → Option (List ℕ) → Answer → Type 0
 Checks units ds before after answer =
-    (verdict : Option PairFault) × IsVerdict units ds verdict × TellsLine (verdict_text verdict) (verdict_status verdict) before after answer
+    (verdict : Option PairFault) × IsVerdict units ds verdict × TellsLine (verdict_text verdict)
+    (verdict_status verdict) before after answer
 
 abbrev pub IsFaultOf : (CommandFault → Type 0) → Answer → Type 0
 IsFaultOf P answer = (fault : CommandFault) × (answer ≡ Err fault) × P fault
@@ -74,4 +75,5 @@ abbrev pub ChecksWords : Profile → List ℕ → List ℕ → Option (List ℕ)
 ChecksWords profile print scan before after answer =
     IsFaultOf (IsNoPrintWord profile print) answer
     ⊎ ((units : List PrintUnit) × IsPrintWord profile print units
-    × (IsFaultOf (IsNoScanWord profile scan) answer ⊎ ((ds : List Directive) × IsScanWord profile scan ds × Checks units ds before after answer)))
+    × (IsFaultOf (IsNoScanWord profile scan) answer ⊎ ((ds : List Directive) × IsScanWord profile scan ds
+    × Checks units ds before after answer)))

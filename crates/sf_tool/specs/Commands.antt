@@ -83,13 +83,16 @@ answer_by (Some fault) = Err (Record fault)
 
 -- What a scan of the text by the directives writes and answers: what the loop over its records does, by runs of at most
 -- m bytes, where each record is written in the form.
-abbrev pub Scans : {S : Type 0} → (S → Option (List ℕ)) → OutputForm → ℕ → List Directive → List ℕ → Ahead S → ℕ → ℕ → Option (List ℕ) → Option (List ℕ) → Answer → Type 0
+abbrev pub Scans : {S : Type 0} → (S → Option (List ℕ)) → OutputForm → ℕ → List Directive → List ℕ → Ahead S → ℕ → ℕ → Option (List ℕ)
+    → Option (List ℕ) → Answer → Type 0
 Scans to_come form m ds text now failures failures' before after answer =
     (end : ToolEnd) × Loops (writing form ds) to_come ds m text now failures failures' before after end × (answer ≡ answer_by end.fault)
 
 -- what a scan of the text by the format answers: the format is refused for its first fault, or its directives scan
-abbrev pub ScansBy : {S : Type 0} → (S → Option (List ℕ)) → Profile → OutputForm → ℕ → List ℕ → List ℕ → Ahead S → ℕ → ℕ → Option (List ℕ) → Option (List ℕ) → Answer → Type 0
-ScansBy to_come profile form m format text now failures failures' before after (Err (Format fault)) = Fault profile format fault.at fault.why
+abbrev pub ScansBy : {S : Type 0} → (S → Option (List ℕ)) → Profile → OutputForm → ℕ → List ℕ → List ℕ → Ahead S → ℕ → ℕ → Option (List ℕ)
+    → Option (List ℕ) → Answer → Type 0
+ScansBy to_come profile form m format text now failures failures' before after (Err (Format fault)) =
+    Fault profile format fault.at fault.why
 ScansBy to_come profile form m format text now failures failures' before after (Err Memory) = after ≡ before
 ScansBy to_come profile form m format text now failures failures' before after answer =
     (ds : List Directive) × Spells profile format ds × Scans to_come form m ds text now failures failures' before after answer
@@ -139,19 +142,24 @@ pub record IsRefusedText {S K : Type 0} (name : FormatName) (word : List ℕ) (f
   pub bad : IsBadText name word fault
 
 -- what is done by a format's text: its faults are told, and where it is refused nothing was read or written
-pub record ScansText {S K : Type 0} (to_come : S → Option (List ℕ)) (read_faults : S → ℕ) (contents : K → Option (List ℕ)) (write_faults : K → ℕ) (profile : Profile) (form : OutputForm) (limit : ℕ) (text : List ℕ)
+pub record ScansText {S K : Type 0} (to_come : S → Option (List ℕ)) (read_faults : S → ℕ) (contents : K → Option (List ℕ))
+    (write_faults : K → ℕ) (profile : Profile) (form : OutputForm) (limit : ℕ) (text : List ℕ)
     (from from' : Ahead S) (out out' : K) (answer : Answer) : Type 0 where
-  pub scans : (t : List ℕ) → input_of to_come from ≡ Some t → ScansBy to_come profile form limit text t from' (read_faults from.source) (read_faults from'.source) (contents out) (contents out') answer
+  pub scans : (t : List ℕ) → input_of to_come from ≡ Some t → ScansBy to_come profile form limit text t from' (read_faults from.source)
+      (read_faults from'.source) (contents out) (contents out') answer
   pub refused : TellsFault (Fault profile text) format_fault answer
   pub unread : IfErr answer (λ fault. Unread fault from from' out out')
   pub failures : Counts (write_faults out) (write_faults out') answer
 
-abbrev pub ScansWord : {S K : Type 0} → (S → Option (List ℕ)) → (S → ℕ) → (K → Option (List ℕ)) → (K → ℕ) → Profile → OutputForm → ℕ → List ℕ → Ahead S → Ahead S → K → K → Answer → Type 0
+abbrev pub ScansWord : {S K : Type 0} → (S → Option (List ℕ)) → (S → ℕ) → (K → Option (List ℕ)) → (K → ℕ) → Profile → OutputForm → ℕ
+    → List ℕ → Ahead S → Ahead S → K → K → Answer → Type 0
 ScansWord to_come read_faults contents write_faults profile form limit word from from' out out' answer =
     IsRefusedText name.Scan word from from' out out' answer
-    ⊎ ((text : List ℕ) × Unescapes word text × ScansText to_come read_faults contents write_faults profile form limit text from from' out out' answer)
+    ⊎ ((text : List ℕ) × Unescapes word text × ScansText to_come read_faults contents write_faults profile form limit text from from' out
+    out' answer)
 
-pub record ShowsText {K : Type 0} (contents : K → Option (List ℕ)) (write_faults : K → ℕ) (profile : Profile) (text : List ℕ) (out out' : K) (answer : Answer) : Type 0 where
+pub record ShowsText {K : Type 0} (contents : K → Option (List ℕ)) (write_faults : K → ℕ) (profile : Profile) (text : List ℕ)
+    (out out' : K) (answer : Answer) : Type 0 where
   pub shows : ShowsBy profile text (contents out) (contents out') answer
   pub refused : TellsFault (Fault profile text) format_fault answer
   pub unwritten : IfErr answer (λ fault. IsUnwrittenBy fault out out')
@@ -162,7 +170,8 @@ ShowsWord contents write_faults profile word out out' answer =
     IsRefusedText {S = Unit {0}} name.Scan word tt tt out out' answer
     ⊎ ((text : List ℕ) × Unescapes word text × ShowsText contents write_faults profile text out out' answer)
 
-pub record PrintsText {K : Type 0} (contents : K → Option (List ℕ)) (write_faults : K → ℕ) (profile : Profile) (text : List ℕ) (values : List (List ℕ)) (out out' : K) (answer : Answer) : Type 0 where
+pub record PrintsText {K : Type 0} (contents : K → Option (List ℕ)) (write_faults : K → ℕ) (profile : Profile) (text : List ℕ)
+    (values : List (List ℕ)) (out out' : K) (answer : Answer) : Type 0 where
   pub prints : PrintsBy profile text values (contents out) (contents out') answer
   pub refused : TellsFault (PrintFault profile text) print_format_fault answer
   pub unwritten : IfErr answer (λ fault. IsUnwrittenBy fault out out')
@@ -175,7 +184,8 @@ PrintsWord contents write_faults profile word values out out' answer =
 
 -- ---- checks of two formats
 
-pub record ChecksBoth {K : Type 0} (contents : K → Option (List ℕ)) (write_faults : K → ℕ) (profile : Profile) (print scan : List ℕ) (out out' : K) (answer : Answer) : Type 0 where
+pub record ChecksBoth {K : Type 0} (contents : K → Option (List ℕ)) (write_faults : K → ℕ) (profile : Profile) (print scan : List ℕ)
+    (out out' : K) (answer : Answer) : Type 0 where
   pub checks : ChecksWords profile print scan (contents out) (contents out') answer
   pub unwritten : IfErr answer (λ fault. IsUnwrittenBy fault out out')
   pub failures : Counts (write_faults out) (write_faults out') answer
@@ -184,21 +194,26 @@ pub record ChecksBoth {K : Type 0} (contents : K → Option (List ℕ)) (write_f
 
 -- What a copy by the formats writes and answers: they are no pair, by the first fault of the walk over both; or the records of
 -- the input are copied, by runs of at most m bytes.
-abbrev pub Copies : {S : Type 0} → (S → Option (List ℕ)) → (S → ℕ) → ℕ → List PrintUnit → List Directive → Ahead S → Ahead S → Option (List ℕ) → Option (List ℕ) → Answer → Type 0
+abbrev pub Copies : {S : Type 0} → (S → Option (List ℕ)) → (S → ℕ) → ℕ → List PrintUnit → List Directive → Ahead S → Ahead S
+    → Option (List ℕ) → Option (List ℕ) → Answer → Type 0
 Copies to_come read_faults m units ds from from' before after (Err (Pair fault)) = pair_fault units ds ≡ Some fault
 Copies to_come read_faults m units ds from from' before after answer =
     IsAligned units ds × ((end : ToolEnd) × (answer ≡ answer_by end.fault)
-    × ((t : List ℕ) → input_of to_come from ≡ Some t → Loops (copying units ds) to_come ds m t from' (read_faults from.source) (read_faults from'.source) before after end))
+    × ((t : List ℕ) → input_of to_come from ≡ Some t → Loops (copying units ds) to_come ds m t from' (read_faults from.source)
+    (read_faults from'.source) before after end))
 
 -- the first word is no print format; or it is one, and the second is no scan format; or both copy
-abbrev pub CopiesWords : {S : Type 0} → (S → Option (List ℕ)) → (S → ℕ) → Profile → ℕ → List ℕ → List ℕ → Ahead S → Ahead S → Option (List ℕ) → Option (List ℕ) → Answer → Type 0
+abbrev pub CopiesWords : {S : Type 0} → (S → Option (List ℕ)) → (S → ℕ) → Profile → ℕ → List ℕ → List ℕ → Ahead S → Ahead S
+    → Option (List ℕ) → Option (List ℕ) → Answer → Type 0
 CopiesWords to_come read_faults profile m print scan from from' before after answer =
     IsFaultOf (IsNoPrintWord profile print) answer
     ⊎ ((units : List PrintUnit) × IsPrintWord profile print units
-    × (IsFaultOf (IsNoScanWord profile scan) answer ⊎ ((ds : List Directive) × IsScanWord profile scan ds × Copies to_come read_faults m units ds from from' before after answer)))
+    × (IsFaultOf (IsNoScanWord profile scan) answer ⊎ ((ds : List Directive) × IsScanWord profile scan ds
+    × Copies to_come read_faults m units ds from from' before after answer)))
 
 -- where a word is no format, or the formats are no pair, nothing was read or written
-pub record CopiesBoth {S K : Type 0} (to_come : S → Option (List ℕ)) (read_faults : S → ℕ) (contents : K → Option (List ℕ)) (write_faults : K → ℕ) (profile : Profile) (limit : ℕ) (print scan : List ℕ)
+pub record CopiesBoth {S K : Type 0} (to_come : S → Option (List ℕ)) (read_faults : S → ℕ) (contents : K → Option (List ℕ))
+    (write_faults : K → ℕ) (profile : Profile) (limit : ℕ) (print scan : List ℕ)
     (from from' : Ahead S) (out out' : K) (answer : Answer) : Type 0 where
   pub copies : CopiesWords to_come read_faults profile limit print scan from from' (contents out) (contents out') answer
   pub unread : IfErr answer (λ fault. Unread fault from from' out out')
@@ -218,7 +233,8 @@ form_of output.Tsv = form.Tsv
 form_of output.Json = form.Json
 
 -- what an order does
-abbrev pub CarriesOut : {S K : Type 0} → (S → Option (List ℕ)) → (S → ℕ) → (K → Option (List ℕ)) → (K → ℕ) → Profile → OutputForm → Verb → ℕ → List (List ℕ) → Ahead S → Ahead S → K → K → Answer → Type 0
+abbrev pub CarriesOut : {S K : Type 0} → (S → Option (List ℕ)) → (S → ℕ) → (K → Option (List ℕ)) → (K → ℕ) → Profile → OutputForm → Verb
+    → ℕ → List (List ℕ) → Ahead S → Ahead S → K → K → Answer → Type 0
 CarriesOut to_come read_faults contents write_faults profile form verb.Scan limit (word ∷ []) from from' out out' answer =
     ScansWord to_come read_faults contents write_faults profile form limit word from from' out out' answer
 CarriesOut to_come read_faults contents write_faults profile form verb.Show limit (word ∷ []) from from' out out' answer =

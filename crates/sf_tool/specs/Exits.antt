@@ -36,7 +36,8 @@ HelpsBy text before after (Err Write) = TakesPart before after text
 HelpsBy text before after (Err _) = ⊥
 
 abbrev pub Helps : {K : Type 0} → (K → Option (List ℕ)) → (K → ℕ) → List ℕ → K → K → Answer → Type 0
-Helps contents failures text out out' answer = HelpsBy text (contents out) (contents out') answer × Counts (failures out) (failures out') answer
+Helps contents failures text out out' answer = HelpsBy text (contents out) (contents out') answer
+    × Counts (failures out) (failures out') answer
 
 -- what was read of the words: their order, and no fault is one of them; or why they are refused
 pub record IsRead (words : List (List ℕ)) (asked : Result Order WordsFault) : Type 0 where
@@ -53,11 +54,13 @@ CanRun (Err fault) = Unit {0}
 abbrev pub unread_of : {S : Type 0} → S → Ahead S
 unread_of source = record { held = []; source = source; at_end = false }
 
-module _ {K E : Type 0} (contents : K → Option (List ℕ)) (write_faults : K → ℕ) (hands : K → K → Type 0) (said : E → Option (List ℕ)) (unsaid : E → ℕ) where
+module _ {K E : Type 0} (contents : K → Option (List ℕ)) (write_faults : K → ℕ) (hands : K → K → Type 0) (said : E → Option (List ℕ))
+    (unsaid : E → ℕ) where
   -- what is done where the words ask for nothing that can be done
   abbrev pub Declines : WordsFault → K → K → E → E → ℕ → Type 0
   Declines (Help text) out out' err err' status =
-      (answer : Answer) × ((mid : K) × Helps contents write_faults (string_bytes text) out mid answer × Ends hands said unsaid [] answer mid out' err err' status)
+      (answer : Answer) × ((mid : K) × Helps contents write_faults (string_bytes text) out mid answer
+      × Ends hands said unsaid [] answer mid out' err err' status)
   Declines (Usage text) out out' err err' status = Says hands said unsaid (string_bytes text) out out' err err' × (status ≡ 2)
   Declines NoMemory out out' err err' status = Ends hands said unsaid [] (Err Memory) out out' err err' status
 
@@ -67,7 +70,8 @@ module _ {K E : Type 0} (contents : K → Option (List ℕ)) (write_faults : K �
     abbrev pub EndsLines : LineOptions → Order → Ahead S → Ahead S → K → K → E → E → ℕ → Type 0
     EndsLines options order from from' out out' err err' status =
         (answer : Answer) × ((mid : K) × ((between : E)
-        × ScansLines to_come read_faults contents write_faults said unsaid (grammar_of order.profile) (form_of order.output) options order.explain order.limit
+        × ScansLines to_come read_faults contents write_faults said unsaid (grammar_of order.profile)
+        (form_of order.output) options order.explain order.limit
         (map string_bytes order.texts.items) from from' out mid err between answer
         × ((notes : List ℕ)
         × SaysMoreOfLines order.explain (grammar_of order.profile) (map string_bytes order.texts.items) answer notes
@@ -77,7 +81,8 @@ module _ {K E : Type 0} (contents : K → Option (List ℕ)) (write_faults : K �
     abbrev pub DoesOrder : Option LineOptions → Order → Option Place → Ahead S → Ahead S → K → K → E → E → ℕ → Type 0
     DoesOrder None order place from from' out out' err err' status =
         (answer : Answer) × ((mid : K)
-        × CarriesOut to_come read_faults contents write_faults (grammar_of order.profile) (form_of order.output) order.verb order.limit (map string_bytes order.texts.items)
+        × CarriesOut to_come read_faults contents write_faults (grammar_of order.profile) (form_of order.output) order.verb order.limit
+        (map string_bytes order.texts.items)
         from from' out mid answer
         × ((notes : List ℕ)
         × SaysMore order.explain (grammar_of order.profile) order.verb (map string_bytes order.texts.items) place from'.held answer notes
@@ -92,17 +97,20 @@ module _ {K E : Type 0} (contents : K → Option (List ℕ)) (write_faults : K �
     -- What the command comes to by what was read of the words. `hands` says what becomes of the output where a message comes;
     -- `said` and `unsaid` tell of the error output what `contents` and `write_faults` tell of the output. place: where in the
     -- input the run stopped, if that is known.
-    pub record ExitsBy (words : List (List ℕ)) (asked : Result Order WordsFault) (place : Option Place) (from from' : Ahead S) (out out' : K) (err err' : E) (status : ℕ) : Type 0 where
+    pub record ExitsBy (words : List (List ℕ)) (asked : Result Order WordsFault) (place : Option Place) (from from' : Ahead S)
+        (out out' : K) (err err' : E) (status : ℕ) : Type 0 where
       pub read : IsRead words asked
       pub done : Does asked place from from' out out' err err' status
 
     -- what the command of the words comes to
     abbrev pub Exits : List (List ℕ) → Option Place → Ahead S → Ahead S → K → K → E → E → ℕ → Type 0
-    Exits words place from from' out out' err err' status = (asked : Result Order WordsFault) × ExitsBy words asked place from from' out out' err err' status
+    Exits words place from from' out out' err err' status = (asked : Result Order WordsFault)
+        × ExitsBy words asked place from from' out out' err err' status
 
     -- The same on what a source gives. left: what is held afterwards, and the source then. Where the source tells its bytes, the
     -- place is that after the bytes which are neither held nor to come then.
-    pub record ExitsOnBy (words : List (List ℕ)) (asked : Result Order WordsFault) (from : S) (out out' : K) (err err' : E) (status : ℕ) : Type 0 where
+    pub record ExitsOnBy (words : List (List ℕ)) (asked : Result Order WordsFault) (from : S) (out out' : K) (err err' : E)
+        (status : ℕ) : Type 0 where
       pub left : Ahead S
       pub place : Option Place
       pub exits : ExitsBy words asked place (unread_of from) left out out' err err' status

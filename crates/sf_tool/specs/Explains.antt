@@ -138,9 +138,11 @@ OfBoth says _ notes = notes ≡ []
 -- ---- orders
 
 abbrev pub Explains : Profile → Verb → List (List ℕ) → Option Place → List ℕ → CommandFault → List ℕ → Type 0
-Explains profile verb texts place rest (BadEscape name at) notes = OfWord (λ word said. said ≡ escape_notes word at) (slice_get texts (word_place verb name)) notes
+Explains profile verb texts place rest (BadEscape name at) notes =
+    OfWord (λ word said. said ≡ escape_notes word at) (slice_get texts (word_place verb name)) notes
 Explains profile verb texts place rest (Format fault) notes = OfWord (SaysFormat fault) (slice_get texts (word_place verb name.Scan)) notes
-Explains profile verb texts place rest (PrintFormat fault) notes = OfWord (SaysFormat fault) (slice_get texts (word_place verb name.Print)) notes
+Explains profile verb texts place rest (PrintFormat fault) notes =
+    OfWord (SaysFormat fault) (slice_get texts (word_place verb name.Print)) notes
 Explains profile verb texts place rest (Record (Failed number outcome)) notes =
     OfWord (SaysFailed profile number outcome place rest) (slice_get texts (word_place verb name.Scan)) notes
 Explains profile verb texts place rest (Record (Stalled number)) notes = notes ≡ input_notes place

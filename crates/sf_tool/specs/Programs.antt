@@ -33,7 +33,8 @@ module _ {W E : Type 0} (w : write.Ghosts W) (e : write.Ghosts E) where
   abbrev pub Closes : BlockSink W w → BlockSink W w → Unblocked E → Unblocked E → ℕ → ℕ → Type 0
   Closes out out' err err' status status' =
       HandsOn out out'
-      × ((has_failed_flush out' ≡ false) × (waiting_in out' ≡ []) × (taken_by out' ≡ w.contents (writer_of out')) × (err' ≡ err) × (status' ≡ status)
+      × ((has_failed_flush out' ≡ false) × (waiting_in out' ≡ []) × (taken_by out' ≡ w.contents (writer_of out')) × (err' ≡ err)
+      × (status' ≡ status)
       ⊎ (has_failed_flush out' ≡ true) × Reports e (write_failures out) err err' × (status' ≡ 3))
 
   -- The program on its streams. The writers are given back (out', err'). opened: the output's sink at the start; it holds nothing
@@ -49,7 +50,8 @@ module _ {W E : Type 0} (w : write.Ghosts W) (e : write.Ghosts E) where
     pub empty : taken_by opened ≡ w.contents out
     pub sound : write_failures opened ≡ 0
     pub fresh : has_failed_flush opened ≡ false
-    pub exits : ExitsOnBy taken_by write_failures HandsOn (handed_to e) faults_of to_come read_faults words asked from opened ran first said answer
+    pub exits : ExitsOnBy taken_by write_failures HandsOn (handed_to e) faults_of to_come read_faults words asked from opened ran first
+        said answer
     pub at_once : IsAwaited terminal asked → HoldsNothing opened
     pub closes : Closes ran closed said last answer status
     pub back : out' ≡ writer_of closed

@@ -69,7 +69,8 @@ fn check_by<K: Sink>(
     }
 }
 
-/// Checks the formats of the words: the first is a print format, the second a scan format. They are judged in this order.
+/// Checks the formats of the words: the first is a print format, the second a scan format. They are judged in this
+/// order.
 pub(crate) fn check_words<K: Sink>(
     alloc: Global,
     profile: Profile,

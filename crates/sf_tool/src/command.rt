@@ -30,7 +30,8 @@ fn scan_by<S: Source, K: Sink, const N: usize>(
 ) -> Result<u8, CommandFault>
     requires { limit ≤ 2147483647 }
     ensures scans { (t : List ℕ) → input_of S.to_come from.old ≡ Some t
-        → ScansBy S.to_come profile form limit text.now t from.new (S.failures from.old.source) (S.failures from.new.source) (K.contents out.old) (K.contents out.new) result }
+        → ScansBy S.to_come profile form limit text.now t from.new (S.failures from.old.source)
+        (S.failures from.new.source) (K.contents out.old) (K.contents out.new) result }
     ensures refused { TellsFault (Fault profile text.now) format_fault result }
     ensures unread { IfErr result (λ fault. Unread fault from.old from.new out.old out.new) }
     ensures failures { Counts (K.failures out.old) (K.failures out.new) result }
@@ -76,7 +77,8 @@ fn print_by<K: Sink>(
     values: &[String],
     out: &mut K,
 ) -> Result<u8, CommandFault>
-    ensures prints { PrintsBy profile text.now (map string_bytes values.now) (K.contents out.old) (K.contents out.new) result }
+    ensures prints { PrintsBy profile text.now (map string_bytes values.now) (K.contents out.old)
+        (K.contents out.new) result }
     ensures refused { TellsFault (PrintFault profile text.now) print_format_fault result }
     ensures unwritten { IfErr result (λ fault. IsUnwrittenBy fault out.old out.new) }
     ensures failures { Counts (K.failures out.old) (K.failures out.new) result }
@@ -101,7 +103,8 @@ fn scan_word<S: Source, K: Sink, const N: usize>(
     out: &mut K,
 ) -> Result<u8, CommandFault>
     requires { limit ≤ 2147483647 }
-    ensures { ScansWord S.to_come S.failures K.contents K.failures profile form limit word.now from.old from.new out.old out.new result }
+    ensures { ScansWord S.to_come S.failures K.contents K.failures profile form limit word.now from.old from.new
+        out.old out.new result }
 {
     let text = resolved(alloc, FormatName::Scan, word)?;
     scan_by(alloc, profile, form, &text, limit, from, out)
@@ -141,7 +144,8 @@ fn check_both<K: Sink>(
     out: &mut K,
 ) -> Result<u8, CommandFault>
     requires { length rest.now ≡ 1 }
-    ensures { (scan : List ℕ) × (map string_bytes rest.now ≡ scan ∷ []) × ChecksBoth K.contents K.failures profile print.now scan out.old out.new result }
+    ensures { (scan : List ℕ) × (map string_bytes rest.now ≡ scan ∷ [])
+        × ChecksBoth K.contents K.failures profile print.now scan out.old out.new result }
 {
     check_words(alloc, profile, print, rest[0].as_str(), out)
 }
@@ -159,7 +163,8 @@ fn copy_both<S: Source, K: Sink, const N: usize>(
     requires limit { limit ≤ 2147483647 }
     requires one { length rest.now ≡ 1 }
     ensures { (scan : List ℕ) × (map string_bytes rest.now ≡ scan ∷ [])
-        × CopiesBoth S.to_come S.failures K.contents K.failures profile limit print.now scan from.old from.new out.old out.new result }
+        × CopiesBoth S.to_come S.failures K.contents K.failures profile limit print.now scan from.old from.new out.old
+        out.new result }
 {
     copy_words(alloc, profile, print, rest[0].as_str(), limit, from, out)
 }
@@ -196,7 +201,8 @@ fn carry_out_by<S: Source, K: Sink, const N: usize>(
 ) -> Result<u8, CommandFault>
     requires limit { order.now.limit ≤ 2147483647 }
     requires texts { HasTexts order.now.verb (map string_bytes order.now.texts.items) }
-    ensures { CarriesOut S.to_come S.failures K.contents K.failures profile form order.now.verb order.now.limit (map string_bytes order.now.texts.items)
+    ensures { CarriesOut S.to_come S.failures K.contents K.failures profile form order.now.verb order.now.limit
+        (map string_bytes order.now.texts.items)
         from.old from.new out.old out.new result }
 {
     let [word, rest @ ..] = order.texts.as_slice() else {
@@ -211,8 +217,8 @@ fn carry_out_by<S: Source, K: Sink, const N: usize>(
     }
 }
 
-/// Does what an order asks for, of records and not of lines, on what the lookahead holds and its source gives, and answers
-/// the exit status. Err says why it was not done, or not to its end.
+/// Does what an order asks for, of records and not of lines, on what the lookahead holds and its source gives, and
+/// answers the exit status. Err says why it was not done, or not to its end.
 pub fn carry_out<S: Source, K: Sink, const N: usize>(
     alloc: Global,
     order: &Order,
@@ -221,7 +227,8 @@ pub fn carry_out<S: Source, K: Sink, const N: usize>(
 ) -> Result<u8, CommandFault>
     requires limit { order.now.limit ≤ 2147483647 }
     requires texts { HasTexts order.now.verb (map string_bytes order.now.texts.items) }
-    ensures { CarriesOut S.to_come S.failures K.contents K.failures (grammar_of order.now.profile) (form_of order.now.output) order.now.verb order.now.limit (map string_bytes order.now.texts.items)
+    ensures { CarriesOut S.to_come S.failures K.contents K.failures (grammar_of order.now.profile)
+        (form_of order.now.output) order.now.verb order.now.limit (map string_bytes order.now.texts.items)
         from.old from.new out.old out.new result }
 {
     let form = form_of(order.output);

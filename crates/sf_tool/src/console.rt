@@ -9,8 +9,8 @@ use sf_print::{Sink, SinkFault};
 use sf_records::write_whole;
 use std::io::Write;
 
-/// How an output of records and an error output of messages stand together. What waits in the output goes before the message
-/// that follows it: no text goes to the error output but where the output is handed on.
+/// How an output of records and an error output of messages stand together. What waits in the output goes before the
+/// message that follows it: no text goes to the error output but where the output is handed on.
 pub(crate) trait Console<K: Sink, E> {
     // All bytes that the error output took, where they are known.
     ghost said: { E → Option (List ℕ) };

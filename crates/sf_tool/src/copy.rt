@@ -21,7 +21,8 @@ fn copy_by<S: Source, K: Sink, const N: usize>(
     out: &mut K,
 ) -> Result<u8, CommandFault>
     requires { limit ≤ 2147483647 }
-    ensures copies { Copies S.to_come S.failures limit print.now scan.now from.old from.new (K.contents out.old) (K.contents out.new) result }
+    ensures copies { Copies S.to_come S.failures limit print.now scan.now from.old from.new (K.contents out.old)
+        (K.contents out.new) result }
     ensures unread { IfErr result (λ fault. Unread fault from.old from.new out.old out.new) }
     ensures failures { Counts (K.failures out.old) (K.failures out.new) result }
 {
@@ -35,8 +36,8 @@ fn copy_by<S: Source, K: Sink, const N: usize>(
     }
 }
 
-/// Copies the records of an input by the formats of the words: the first is a print format, the second a scan format. They
-/// are judged in this order, and then as a pair.
+/// Copies the records of an input by the formats of the words: the first is a print format, the second a scan format.
+/// They are judged in this order, and then as a pair.
 pub(crate) fn copy_words<S: Source, K: Sink, const N: usize>(
     alloc: Global,
     profile: Profile,
@@ -47,7 +48,8 @@ pub(crate) fn copy_words<S: Source, K: Sink, const N: usize>(
     out: &mut K,
 ) -> Result<u8, CommandFault>
     requires { limit ≤ 2147483647 }
-    ensures copies { CopiesWords S.to_come S.failures profile limit print.now scan.now from.old from.new (K.contents out.old) (K.contents out.new) result }
+    ensures copies { CopiesWords S.to_come S.failures profile limit print.now scan.now from.old from.new
+        (K.contents out.old) (K.contents out.new) result }
     ensures unread { IfErr result (λ fault. Unread fault from.old from.new out.old out.new) }
     ensures failures { Counts (K.failures out.old) (K.failures out.new) result }
 {

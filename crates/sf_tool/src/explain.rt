@@ -43,7 +43,8 @@ fn word_place(verb: Verb, name: FormatName) -> usize
 
 /// The word of a format, if the order has one.
 fn word_of<'o>(order: &'o Order, name: FormatName) -> Option<&'o str>
-    ensures { option_map (λ given. given.now) result ≡ slice_get (map string_bytes order.entry.now.texts.items) (word_place order.entry.now.verb name) }
+    ensures { option_map (λ given. given.now) result ≡ slice_get (map string_bytes order.entry.now.texts.items)
+        (word_place order.entry.now.verb name) }
 {
     match order.texts.get(word_place(order.verb, name)) {
         Some(text) => Some(text.as_str()),
@@ -87,7 +88,8 @@ fn of_value(alloc: Global, word: Option<&str>, fault: ArgumentFault) -> Result<V
 
 /// What is said of a word with a bad escape.
 fn of_escape(alloc: Global, word: Option<&str>, at: usize) -> Result<Vec<u8>, AllocError>
-    ensures { IfOk result (λ notes. OfWord (λ word said. said ≡ escape_notes word at) (option_map (λ given. given.now) word.entry) notes.items) }
+    ensures { IfOk result (λ notes. OfWord (λ word said. said ≡ escape_notes word at)
+        (option_map (λ given. given.now) word.entry) notes.items) }
 {
     match word {
         Some(word) => escape_notes(alloc, word.as_bytes(), at),
@@ -107,7 +109,8 @@ fn of_format_word(alloc: Global, word: &str, fault: FormatFault) -> Result<Vec<u
 }
 
 fn of_format(alloc: Global, word: Option<&str>, fault: FormatFault) -> Result<Vec<u8>, AllocError>
-    ensures { IfOk result (λ notes. OfWord (SaysFormat fault) (option_map (λ given. given.now) word.entry) notes.items) }
+    ensures { IfOk result
+        (λ notes. OfWord (SaysFormat fault) (option_map (λ given. given.now) word.entry) notes.items) }
 {
     match word {
         Some(word) => of_format_word(alloc, word, fault),
@@ -117,7 +120,8 @@ fn of_format(alloc: Global, word: Option<&str>, fault: FormatFault) -> Result<Ve
 
 /// What is said of the first of some words that is refused.
 fn of_refused(alloc: Global, refused: RefusedWord<'_>) -> Result<Vec<u8>, AllocError>
-    ensures { IfOk result (λ notes. (profile : Profile) (words : List (List ℕ)) → IsFirstRefused profile words refused.entry.word.now refused.entry.fault
+    ensures { IfOk result (λ notes. (profile : Profile) (words : List (List ℕ))
+        → IsFirstRefused profile words refused.entry.word.now refused.entry.fault
         → SaysOfLines profile words (Err refused.entry.fault) notes.items) }
 {
     match refused.fault {
@@ -127,9 +131,11 @@ fn of_refused(alloc: Global, refused: RefusedWord<'_>) -> Result<Vec<u8>, AllocE
     }
 }
 
-/// What is said behind the line of the first of some words that is refused, where that is asked for and memory is there.
+/// What is said behind the line of the first of some words that is refused, where that is asked for and memory is
+/// there.
 pub(crate) fn notes_of_refused(alloc: Global, explain: bool, refused: RefusedWord<'_>) -> Vec<u8>
-    ensures { (profile : Profile) (words : List (List ℕ)) → IsFirstRefused profile words refused.entry.word.now refused.entry.fault
+    ensures { (profile : Profile) (words : List (List ℕ))
+        → IsFirstRefused profile words refused.entry.word.now refused.entry.fault
         → SaysMoreOfLines explain profile words (Err refused.entry.fault) result.items }
 {
     if !explain {
@@ -163,7 +169,8 @@ fn told_at(
     format: &ScanFormat,
     number: u16,
 ) -> Result<Vec<u8>, AllocError>
-    ensures { IfOk result (λ told. (pieces : List Piece) → IsFormat (Scan profile) pieces → text.now ≡ text_of pieces → told.items ≡ told_at pieces format.now number) }
+    ensures { IfOk result (λ told. (pieces : List Piece) → IsFormat (Scan profile) pieces → text.now ≡ text_of pieces
+        → told.items ≡ told_at pieces format.now number) }
 {
     let mut told = Vec::new(alloc);
     let own = directive_text(profile, text, number).unwrap_or(&[]);
@@ -181,7 +188,8 @@ fn told_of_line(
     format: &ScanFormat,
     fault: LineFault,
 ) -> Result<Vec<u8>, AllocError>
-    ensures { IfOk result (λ told. (pieces : List Piece) → IsFormat (Scan profile) pieces → text.now ≡ text_of pieces → told.items ≡ told_of_line pieces format.now fault) }
+    ensures { IfOk result (λ told. (pieces : List Piece) → IsFormat (Scan profile) pieces → text.now ≡ text_of pieces
+        → told.items ≡ told_of_line pieces format.now fault) }
 {
     match fault {
         LineFault::Failed { outcome } => told_at(alloc, profile, text, format, outcome.at),
@@ -189,7 +197,8 @@ fn told_of_line(
     }
 }
 
-/// What is said behind the line of one that is no match, where that is asked for, by the format that counts on it and its bytes.
+/// What is said behind the line of one that is no match, where that is asked for, by the format that counts on it and
+/// its bytes.
 pub(crate) fn more_of_line(
     alloc: Global,
     explain: bool,
@@ -217,7 +226,8 @@ fn of_failed_text(
     outcome: Outcome,
     left: Left<'_>,
 ) -> Result<Vec<u8>, AllocError>
-    ensures { IfOk result (λ notes. SaysFailedText profile number outcome left.entry.place left.entry.held.now text.now notes.items) }
+    ensures { IfOk result (λ notes. SaysFailedText profile number outcome left.entry.place left.entry.held.now text.now
+        notes.items) }
 {
     match ScanFormat::parse(alloc, profile, text) {
         Ok(format) => {
@@ -240,7 +250,8 @@ fn of_failed_word(
     outcome: Outcome,
     left: Left<'_>,
 ) -> Result<Vec<u8>, AllocError>
-    ensures { IfOk result (λ notes. SaysFailed profile number outcome left.entry.place left.entry.held.now word.now notes.items) }
+    ensures { IfOk result (λ notes. SaysFailed profile number outcome left.entry.place left.entry.held.now word.now
+        notes.items) }
 {
     match unescape(alloc, word.as_bytes()) {
         Ok(text) => of_failed_text(alloc, profile, &text, number, outcome, left),
@@ -257,7 +268,8 @@ fn of_failed(
     outcome: Outcome,
     left: Left<'_>,
 ) -> Result<Vec<u8>, AllocError>
-    ensures { IfOk result (λ notes. OfWord (SaysFailed profile number outcome left.entry.place left.entry.held.now) (option_map (λ given. given.now) word.entry) notes.items) }
+    ensures { IfOk result (λ notes. OfWord (SaysFailed profile number outcome left.entry.place left.entry.held.now)
+        (option_map (λ given. given.now) word.entry) notes.items) }
 {
     match word {
         Some(word) => of_failed_word(alloc, profile, word, number, outcome, left),
@@ -273,7 +285,8 @@ fn of_formats(
     print: &PrintFormat,
     scan: &ScanFormat,
 ) -> Result<Vec<u8>, AllocError>
-    ensures { IfOk result (λ notes. (pieces : List Piece) → IsFormat (Scan profile) pieces → text.now ≡ text_of pieces → SaysVerdict print.now pieces scan.now notes.items) }
+    ensures { IfOk result (λ notes. (pieces : List Piece) → IsFormat (Scan profile) pieces → text.now ≡ text_of pieces
+        → SaysVerdict print.now pieces scan.now notes.items) }
 {
     let Some(fault) = verdict_of(print, scan) else {
         return Ok(Vec::new(alloc));
@@ -282,8 +295,8 @@ fn of_formats(
     pair_notes(alloc, print.directives(), scan.directives(), &told, fault)
 }
 
-/// What is said of the formats of both words where they are no pair. Both are formats where this is asked for, so that what
-/// is refused is memory alone.
+/// What is said of the formats of both words where they are no pair. Both are formats where this is asked for, so that
+/// what is refused is memory alone.
 fn of_pair(alloc: Global, profile: Profile, print: &str, scan: &str) -> Result<Vec<u8>, AllocError>
     ensures { IfOk result (λ notes. SaysPair profile print.now scan.now notes.items) }
 {
@@ -332,7 +345,8 @@ fn of_fault(
     left: Left<'_>,
     fault: CommandFault,
 ) -> Result<Vec<u8>, AllocError>
-    ensures { IfOk result (λ notes. Explains profile order.now.verb (map string_bytes order.now.texts.items) left.entry.place left.entry.held.now fault notes.items) }
+    ensures { IfOk result (λ notes. Explains profile order.now.verb
+        (map string_bytes order.now.texts.items) left.entry.place left.entry.held.now fault notes.items) }
 {
     match fault {
         CommandFault::BadEscape { name, at } => of_escape(alloc, word_of(order, name), at),
@@ -360,7 +374,8 @@ pub(crate) fn notes_of(
     left: Left<'_>,
     answer: Result<u8, CommandFault>,
 ) -> Vec<u8>
-    ensures { SaysMore order.now.explain (grammar_of order.now.profile) order.now.verb (map string_bytes order.now.texts.items) left.entry.place left.entry.held.now answer result.items }
+    ensures { SaysMore order.now.explain (grammar_of order.now.profile) order.now.verb
+        (map string_bytes order.now.texts.items) left.entry.place left.entry.held.now answer result.items }
 {
     if !order.explain {
         return Vec::new(alloc);

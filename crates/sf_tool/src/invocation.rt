@@ -31,8 +31,8 @@ fn tell_notes<K: Sink, E, C: Console<K, E>>(out: &mut K, err: &mut E, notes: &[u
     }
 }
 
-/// Ends with this exit status, or says why not in a line on the error output, and ends with the fault's status. The notes are
-/// said after that.
+/// Ends with this exit status, or says why not in a line on the error output, and ends with the fault's status. The
+/// notes are said after that.
 fn end<K: Sink, E, C: Console<K, E>>(
     out: &mut K,
     err: &mut E,
@@ -108,8 +108,8 @@ fn end_lines<S: Source, K: Sink, E, C: Console<K, E>, const N: usize>(
     }
 }
 
-/// Does what an order asks for on what the lookahead holds and its source gives. The place in the input isn't told, as what was
-/// used of it before isn't known.
+/// Does what an order asks for on what the lookahead holds and its source gives. The place in the input isn't told, as
+/// what was used of it before isn't known.
 fn run_order<S: Source, K: Sink, E, C: Console<K, E>, const N: usize>(
     alloc: Global,
     order: &Order,
@@ -119,7 +119,8 @@ fn run_order<S: Source, K: Sink, E, C: Console<K, E>, const N: usize>(
 ) -> u8
     requires limit { order.now.limit ≤ 2147483647 }
     requires texts { HasTextsFor order.now.lines order.now.verb (map string_bytes order.now.texts.items) }
-    ensures { DoesOrder K.contents K.failures C.Hands C.said C.unsaid S.to_come S.failures order.now.lines order.now None
+    ensures { DoesOrder K.contents K.failures C.Hands C.said C.unsaid S.to_come S.failures order.now.lines order.now
+        None
         from.old from.new out.old out.new err.old err.new result }
 {
     match order.lines {
@@ -155,10 +156,10 @@ fn run_ahead<S: Source, K: Sink, E, C: Console<K, E>, const N: usize>(
 }
 
 /// Runs the command of the words, which are those after the program's name, on what the lookahead holds and its source
-/// gives, and answers its exit status. Where it does not end cleanly, it says why in one line on `err`, with more lines after
-/// it where the words ask for them; a fault in writing these is ignored. Where lines are scanned, a line for each that is no
-/// match stands before that. The place in the input isn't told, as what was used of it before isn't known. What is written to
-/// `out` isn't flushed.
+/// gives, and answers its exit status. Where it does not end cleanly, it says why in one line on `err`, with more lines
+/// after it where the words ask for them; a fault in writing these is ignored. Where lines are scanned, a line for each
+/// that is no match stands before that. The place in the input isn't told, as what was used of it before isn't known.
+/// What is written to `out` isn't flushed.
 pub fn run_words<S: Source, K: Sink, E: Sink, const N: usize>(
     alloc: Global,
     words: &[String],
@@ -173,7 +174,8 @@ pub fn run_words<S: Source, K: Sink, E: Sink, const N: usize>(
     run_ahead::<S, K, E, Apart, N>(alloc, &asked, from, out, err)
 }
 
-/// Carries out an order of records with an account of the lines of its input, so that the place in the input can be told.
+/// Carries out an order of records with an account of the lines of its input, so that the place in the input can be
+/// told.
 fn run_placed<S: Source, K: Sink, E, C: Console<K, E>, I: Input>(
     alloc: Global,
     order: &Order,
@@ -185,7 +187,8 @@ fn run_placed<S: Source, K: Sink, E, C: Console<K, E>, I: Input>(
     requires records { order.now.lines ≡ None }
     requires limit { order.now.limit ≤ 2147483647 }
     requires texts { HasTexts order.now.verb (map string_bytes order.now.texts.items) }
-    ensures { (words : List (List ℕ)) → IsRead words (Ok order.now) → ExitsOnBy K.contents K.failures C.Hands C.said C.unsaid S.to_come S.failures words (Ok order.now)
+    ensures { (words : List (List ℕ)) → IsRead words (Ok order.now)
+        → ExitsOnBy K.contents K.failures C.Hands C.said C.unsaid S.to_come S.failures words (Ok order.now)
         from.old out.old out.new err.old err.new result }
 {
     let mut ahead = Lookahead::<Placed<&mut S, I>, BLOCK_BYTES>::new(Placed::new(from));
@@ -206,7 +209,8 @@ fn run_unplaced<S: Source, K: Sink, E, C: Console<K, E>>(
 ) -> u8
     requires limit { order.now.limit ≤ 2147483647 }
     requires texts { HasTextsFor order.now.lines order.now.verb (map string_bytes order.now.texts.items) }
-    ensures { (words : List (List ℕ)) → IsRead words (Ok order.now) → ExitsOnBy K.contents K.failures C.Hands C.said C.unsaid S.to_come S.failures words (Ok order.now)
+    ensures { (words : List (List ℕ)) → IsRead words (Ok order.now)
+        → ExitsOnBy K.contents K.failures C.Hands C.said C.unsaid S.to_come S.failures words (Ok order.now)
         from out.old out.new err.old err.new result }
 {
     let mut source = from;
@@ -224,7 +228,8 @@ fn run_source<S: Source, K: Sink, E, C: Console<K, E>>(
 ) -> u8
     requires limit { order.now.limit ≤ 2147483647 }
     requires texts { HasTextsFor order.now.lines order.now.verb (map string_bytes order.now.texts.items) }
-    ensures { (words : List (List ℕ)) → IsRead words (Ok order.now) → ExitsOnBy K.contents K.failures C.Hands C.said C.unsaid S.to_come S.failures words (Ok order.now)
+    ensures { (words : List (List ℕ)) → IsRead words (Ok order.now)
+        → ExitsOnBy K.contents K.failures C.Hands C.said C.unsaid S.to_come S.failures words (Ok order.now)
         from out.old out.new err.old err.new result }
 {
     match order.lines {
@@ -245,7 +250,8 @@ pub(crate) fn run_asked<S: Source, K: Sink, E, C: Console<K, E>>(
     err: &mut E,
 ) -> u8
     requires { CanRun asked.now }
-    ensures { (words : List (List ℕ)) → IsRead words asked.now → ExitsOnBy K.contents K.failures C.Hands C.said C.unsaid S.to_come S.failures words asked.now
+    ensures { (words : List (List ℕ)) → IsRead words asked.now
+        → ExitsOnBy K.contents K.failures C.Hands C.said C.unsaid S.to_come S.failures words asked.now
         from out.old out.new err.old err.new result }
 {
     match asked {
@@ -254,12 +260,13 @@ pub(crate) fn run_asked<S: Source, K: Sink, E, C: Console<K, E>>(
     }
 }
 
-/// Runs the command of the words, which are those after the program's name, on what the source gives, and answers its exit
-/// status. Where it does not end cleanly, it says why in one line on `err`, after those of lines that are no match; a fault in
-/// writing that is ignored. What is written to `out` isn't flushed.
+/// Runs the command of the words, which are those after the program's name, on what the source gives, and answers its
+/// exit status. Where it does not end cleanly, it says why in one line on `err`, after those of lines that are no
+/// match; a fault in writing that is ignored. What is written to `out` isn't flushed.
 ///
-/// 0: it ended cleanly. 1: a record failed or took no byte, a line is no match, a pair is refused, or there are too many
-/// records or lines. 2: a format, a pair, a value or the words are refused. 3: a read or a write failed. 4: memory was refused.
+/// 0: it ended cleanly. 1: a record failed or took no byte, a line is no match, a pair is refused, or there are too
+/// many records or lines. 2: a format, a pair, a value or the words are refused. 3: a read or a write failed. 4: memory
+/// was refused.
 pub fn tool<S: Source, K: Sink, E: Sink>(
     alloc: Global,
     words: &[String],

@@ -51,8 +51,8 @@ impl RecordWriter for LineRecords {
     ghost unmet = { λ records ds report met. refl };
 }
 
-/// Says of each line that is no match what is to be said, as it comes, unless nothing is. Where the error output has failed,
-/// nothing more is said.
+/// Says of each line that is no match what is to be said, as it comes, unless nothing is. Where the error output has
+/// failed, nothing more is said.
 #[derive(Drop)]
 struct LineNotes<'e, 't, 'f, K: Sink, E, C: Console<K, E>> {
     alloc: Global,
@@ -69,7 +69,8 @@ struct LineNotes<'e, 't, 'f, K: Sink, E, C: Console<K, E>> {
 }
 
 impl<K: Sink, E, C: Console<K, E>> Teller<K> for LineNotes<'_, '_, '_, K, E, C> {
-    ghost says = { λ notes telling. SaysLines notes.profile notes.quiet notes.explain notes.text.now notes.format.now telling };
+    ghost says = { λ notes telling. SaysLines notes.profile notes.quiet notes.explain notes.text.now notes.format.now
+        telling };
 
     ghost some = { λ notes. notes.some };
 
@@ -115,7 +116,8 @@ pub(crate) fn formats_of(
     words: &[String],
 ) -> Result<Vec<ScanFormat>, RefusedWord<'_>>
     ensures ok { IfOk result (λ formats. AreScanWords profile (map string_bytes words.entry.now) formats.items) }
-    ensures err { IfErr result (λ refused. IsFirstRefused profile (map string_bytes words.entry.now) refused.word.now refused.fault) }
+    ensures err { IfErr result (λ refused. IsFirstRefused profile
+        (map string_bytes words.entry.now) refused.word.now refused.fault) }
 {
     let mut formats = Vec::new(alloc);
     for given in words {
@@ -156,8 +158,10 @@ fn loop_lines<S: Source, K: Sink, E, C: Console<K, E>, const N: usize>(
     requires limit { limit ≤ 2147483647 }
     requires some { 0 < length formats.now }
     requires fresh { notes.old.failed ≡ false }
-    ensures runs { (telling : ℕ → List ℕ → LineFault → List ℕ) → SaysLines notes.old.profile notes.old.quiet notes.old.explain notes.old.text.now notes.old.format.now telling
-        → RunsLines S.to_come S.failures K.contents K.failures C.said C.unsaid form options limit formats.now telling from.old from.new out.old out.new notes.old.err.now notes.new.err.now result }
+    ensures runs { (telling : ℕ → List ℕ → LineFault → List ℕ)
+        → SaysLines notes.old.profile notes.old.quiet notes.old.explain notes.old.text.now notes.old.format.now telling
+        → RunsLines S.to_come S.failures K.contents K.failures C.said C.unsaid form options limit formats.now telling
+        from.old from.new out.old out.new notes.old.err.now notes.new.err.now result }
     ensures kept { notes.new.err.ghost_name ≡ notes.old.err.ghost_name }
 {
     let writer = FormWriter::new(alloc, form);
@@ -174,7 +178,8 @@ fn loop_lines<S: Source, K: Sink, E, C: Console<K, E>, const N: usize>(
 
 /// The last of the words.
 fn last_word(words: &[String]) -> Option<&str>
-    ensures { option_map (λ given. given.now) result ≡ slice_get (map string_bytes words.entry.now) (length words.entry.now - 1) }
+    ensures { option_map (λ given. given.now) result ≡ slice_get (map string_bytes words.entry.now)
+        (length words.entry.now - 1) }
 {
     match words.get(words.len().saturating_sub(1)) {
         Some(text) => Some(text.as_str()),
@@ -182,9 +187,11 @@ fn last_word(words: &[String]) -> Option<&str>
     }
 }
 
-/// The bytes of a format's word, where they are asked for. The word spells a format, so that what is refused is memory alone.
+/// The bytes of a format's word, where they are asked for. The word spells a format, so that what is refused is memory
+/// alone.
 fn text_of_last(alloc: Global, explain: bool, word: Option<&str>) -> Result<Vec<u8>, CommandFault>
-    ensures ok { IfOk result (λ text. explain ≡ true → OfWord Unescapes (option_map (λ given. given.now) word.entry) text.items) }
+    ensures ok { IfOk result (λ text. explain ≡ true → OfWord Unescapes
+        (option_map (λ given. given.now) word.entry) text.items) }
     ensures err { IfErr result (λ fault. fault ≡ CommandFault.Memory) }
 {
     if !explain {
@@ -212,10 +219,14 @@ fn lines_by<S: Source, K: Sink, E, C: Console<K, E>, const N: usize>(
 ) -> Result<u8, CommandFault>
     requires limit { order.now.limit ≤ 2147483647 }
     requires some { 0 < length formats.now }
-    requires said { (ds : List Directive) → slice_get formats.now (length formats.now - 1) ≡ Some ds → SomeIsSaid (grammar_of order.now.profile) options.quiet order.now.explain text.now ds }
-    ensures { (ds : List Directive) (telling : ℕ → List ℕ → LineFault → List ℕ) → slice_get formats.now (length formats.now - 1) ≡ Some ds
+    requires said { (ds : List Directive) → slice_get formats.now (length formats.now - 1) ≡ Some ds
+        → SomeIsSaid (grammar_of order.now.profile) options.quiet order.now.explain text.now ds }
+    ensures { (ds : List Directive) (telling : ℕ → List ℕ → LineFault → List ℕ)
+        → slice_get formats.now (length formats.now - 1) ≡ Some ds
         → SaysLines (grammar_of order.now.profile) options.quiet order.now.explain text.now ds telling
-        → RunsLines S.to_come S.failures K.contents K.failures C.said C.unsaid (form_of order.now.output) options order.now.limit formats.now telling from.old from.new out.old out.new err.old err.new result }
+        → RunsLines S.to_come S.failures K.contents K.failures C.said C.unsaid
+        (form_of order.now.output) options order.now.limit formats.now telling from.old from.new out.old out.new
+        err.old err.new result }
 {
     let mut notes = LineNotes::<K, E, C> {
         alloc,
@@ -241,9 +252,9 @@ fn lines_by<S: Source, K: Sink, E, C: Console<K, E>, const N: usize>(
     )
 }
 
-/// Scans the lines of what the lookahead holds and its source gives, by the formats of an order's words, and answers the exit
-/// status. What is to be said of lines that are no match is said as they come; where that fails, nothing more is said of lines.
-/// Err says why the lines stopped before the end of the input.
+/// Scans the lines of what the lookahead holds and its source gives, by the formats of an order's words, and answers
+/// the exit status. What is to be said of lines that are no match is said as they come; where that fails, nothing more
+/// is said of lines. Err says why the lines stopped before the end of the input.
 pub(crate) fn scan_lines<S: Source, K: Sink, E, C: Console<K, E>, const N: usize>(
     alloc: Global,
     formats: &[ScanFormat],
@@ -256,7 +267,8 @@ pub(crate) fn scan_lines<S: Source, K: Sink, E, C: Console<K, E>, const N: usize
     requires limit { order.now.limit ≤ 2147483647 }
     requires some { 0 < length order.now.texts.items }
     requires are { AreScanWords (grammar_of order.now.profile) (map string_bytes order.now.texts.items) formats.now }
-    ensures { ScansLines S.to_come S.failures K.contents K.failures C.said C.unsaid (grammar_of order.now.profile) (form_of order.now.output) options order.now.explain order.now.limit
+    ensures { ScansLines S.to_come S.failures K.contents K.failures C.said C.unsaid (grammar_of order.now.profile)
+        (form_of order.now.output) options order.now.explain order.now.limit
         (map string_bytes order.now.texts.items) from.old from.new out.old out.new err.old err.new result }
 {
     let text = text_of_last(alloc, order.explain, last_word(&order.texts))?;

@@ -54,8 +54,8 @@ fn report<E: Write + Drop>(failures: u64, errors: &mut Unblocked<E>)
     }
 }
 
-/// Flushes the output after the command has ended with this status. The status of the program is 3 where that or an earlier
-/// flush failed, which is reported once.
+/// Flushes the output after the command has ended with this status. The status of the program is 3 where that or an
+/// earlier flush failed, which is reported once.
 fn close<W: Write + Drop, E: Write + Drop>(
     output: &mut BlockSink<W>,
     errors: &mut Unblocked<E>,
@@ -87,8 +87,11 @@ fn run_open<S: Source, W: Write + Drop, E: Write + Drop>(
     errors: &mut Unblocked<E>,
 ) -> Closed<W>
     requires { CanRun asked.now }
-    ensures { (words : List (List ℕ)) → IsRead words asked.now → (ran : BlockSink W ⟦<W as Write>⟧) × ((closed : BlockSink W ⟦<W as Write>⟧) × ((said : Unblocked E) × ((answer : ℕ)
-        × ExitsOnBy taken_by write_failures HandsOn (handed_to ⟦<E as Write>⟧) faults_of S.to_come S.failures words asked.now from output ran errors.old said answer
+    ensures { (words : List (List ℕ)) → IsRead words asked.now
+        → (ran : BlockSink W ⟦<W as Write>⟧) × ((closed : BlockSink W ⟦<W as Write>⟧)
+        × ((said : Unblocked E) × ((answer : ℕ)
+        × ExitsOnBy taken_by write_failures HandsOn (handed_to ⟦<E as Write>⟧) faults_of S.to_come S.failures words
+        asked.now from output ran errors.old said answer
         × Closes ⟦<W as Write>⟧ ⟦<E as Write>⟧ ran closed said errors.new answer result.status
         × (result.output ≡ writer_of closed)))) }
 {
@@ -107,10 +110,11 @@ fn run_open<S: Source, W: Write + Drop, E: Write + Drop>(
     }
 }
 
-/// Runs the program of the words, which are those after its name, on its streams, and gives its writers back with its exit status. A
-/// message goes to the error output at once, after all that was written to the output before it. At a terminal, or where the
-/// words ask for it, each record goes to the output at once; else they go in blocks. The output is flushed before the end; where
-/// that or an earlier flush fails, the status is 3, and one line reports it. The other statuses are those of `tool`.
+/// Runs the program of the words, which are those after its name, on its streams, and gives its writers back with its
+/// exit status. A message goes to the error output at once, after all that was written to the output before it. At a
+/// terminal, or where the words ask for it, each record goes to the output at once; else they go in blocks. The output
+/// is flushed before the end; where that or an earlier flush fails, the status is 3, and one line reports it. The other
+/// statuses are those of `tool`.
 pub fn run_program<S: Source, W: Write + Drop, E: Write + Drop>(
     alloc: Global,
     words: &[String],
@@ -119,7 +123,8 @@ pub fn run_program<S: Source, W: Write + Drop, E: Write + Drop>(
     output: W,
     errors: E,
 ) -> Ended<W, E>
-    ensures { RunsProgram ⟦<W as Write>⟧ ⟦<E as Write>⟧ S.to_come S.failures (map string_bytes words.now) terminal from output result.output errors result.errors result.status }
+    ensures { RunsProgram ⟦<W as Write>⟧ ⟦<E as Write>⟧ S.to_come S.failures
+        (map string_bytes words.now) terminal from output result.output errors result.errors result.status }
 {
     let asked = read_words(alloc, words);
     let mut errors = Unblocked::new(errors);

@@ -183,7 +183,8 @@ fn lent_input_has_no_place(rt: HostRuntime) -> Result<(), Fail> {
 /// No write fails.
 const ALL: usize = usize::MAX;
 
-/// Words, an input, how many bytes the output and the error output take before a write fails, what they take, and the status.
+/// Words, an input, how many bytes the output and the error output take before a write fails, what they take, and the
+/// status.
 static WRITINGS: [(&str, &[u8], usize, usize, &str, &str, u8); 7] = [
     ("scan/%d", b"1 2", 1, ALL, "1", "sf: write fault\n", 3),
     ("show/%d", b"1 2", 1, ALL, "1", "sf: write fault\n", 3),

@@ -167,7 +167,8 @@ const TEXT: &[u8] = b"12,-7\n3,4\n";
 /// The lines of the records of TEXT.
 const LINES: &[u8] = b"12 -7\n3 4\n";
 
-/// A read fails after 0, 1, 2 .. bytes of TEXT: the lines and the number of records written by then, and the run that meets it.
+/// A read fails after 0, 1, 2 .. bytes of TEXT: the lines and the number of records written by then, and the run that
+/// meets it.
 static CUTS: [(&[u8], u32, u32); 11] = [
     (b"", 0, 1),
     (b"", 0, 1),
@@ -202,7 +203,8 @@ fn each_read_fails_in_turn(rt: HostRuntime) -> Result<(), Fail> {
     Ok(())
 }
 
-/// The loop over TEXT, in blocks of N bytes, into a sink that follows a script: what the sink took, and how the loop ends.
+/// The loop over TEXT, in blocks of N bytes, into a sink that follows a script: what the sink took, and how the loop
+/// ends.
 fn is_taken<const N: usize>(
     rt: &(impl Abort + AllocGlobal),
     steps: &[WriteStep],

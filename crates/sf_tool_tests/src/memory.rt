@@ -1,5 +1,5 @@
-//! The record loop where memory is refused: `rt try --test --fail-alloc N` refuses the Nth growth. Where that is one of the
-//! loop's own, these tests pass all the same: the loop ends by it, and the lines before stand.
+//! The record loop where memory is refused: `rt try --test --fail-alloc N` refuses the Nth growth. Where that is one of
+//! the loop's own, these tests pass all the same: the loop ends by it, and the lines before stand.
 use sf_format::{Profile, ScanFormat};
 use sf_print::StdSink;
 use sf_read::{Lookahead, SliceSource};

@@ -49,8 +49,8 @@ impl Write for Stream<'_> {
     }
 }
 
-/// The words, what is read, how many writes to the output succeed, what is written (`o`: to the output, `e`: to the error
-/// output), and the status.
+/// The words, what is read, how many writes to the output succeed, what is written (`o`: to the output, `e`: to the
+/// error output), and the status.
 struct Case {
     words: &'static str,
     terminal: bool,
@@ -151,7 +151,12 @@ fn run_case(rt: &impl Abort, alloc: Global, case: &Case) -> Result<(), Fail> {
     let ended = run_program(alloc, &words, case.terminal, from, output, errors);
     is(rt, &ended.status, &case.status, &case.words);
     let found = log.into_inner();
-    is(rt, &found.text.as_slice(), &case.log.as_bytes(), &case.words);
+    is(
+        rt,
+        &found.text.as_slice(),
+        &case.log.as_bytes(),
+        &case.words,
+    );
     Ok(())
 }
 

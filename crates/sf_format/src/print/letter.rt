@@ -92,7 +92,8 @@ fn print_letter_fault(
     ])
 }
 
-/// What the letter at the second place prints, and its kind, where what stands before it suits it. The `%` stands at the first.
+/// What the letter at the second place prints, and its kind, where what stands before it suits it. The `%` stands at
+/// the first.
 pub fn print_converted(
     profile: Profile,
     written: &Written,
@@ -101,7 +102,8 @@ pub fn print_converted(
     at: u16,
 ) -> Result<(PrintLetter, Kind), FormatFault>
     requires place { percent ≤ 4096 }
-    requires parts { length written.now.number.now + length written.now.flags.now + length written.now.width.now ≤ 4096 }
+    requires parts { length written.now.number.now + length written.now.flags.now + length written.now.width.now
+        ≤ 4096 }
     ensures { Converts (print_letter_of profile letter) (λ found. print_kind_of found written.now.size)
         (print_letter_rules profile (opening_of written.now) letter at
         ++ flag_rules percent (opening_of written.now) (print_letter_of profile letter)) result }
@@ -130,10 +132,12 @@ fn foreign_flag(letter: PrintLetter, from: u16, flags: &[u8]) -> Option<u16>
     None
 }
 
-/// The first fault of what stands before the letter, behind the `%` at the place, as far as the letter does not have it.
+/// The first fault of what stands before the letter, behind the `%` at the place, as far as the letter does not have
+/// it.
 fn flag_fault(percent: u16, written: &Written, letter: PrintLetter) -> Option<FormatFault>
     requires place { percent ≤ 4096 }
-    requires parts { length written.now.number.now + length written.now.flags.now + length written.now.width.now ≤ 4096 }
+    requires parts { length written.now.number.now + length written.now.flags.now + length written.now.width.now
+        ≤ 4096 }
     ensures { fault_in result ≡ first_of (flag_rules percent (opening_of written.now) (Some letter)) }
 {
     let places = written.places(percent);
@@ -160,10 +164,12 @@ fn precision_of(written: &Written) -> Option<u8>
 /// The conversion of a specification without a fault.
 pub fn conversion(written: &Written, letter: PrintLetter, kind: Kind, slot: u8) -> PrintConv
     requires width { AllByRecursion (λ b. is_decimal b ≡ true) written.now.width.now }
-    requires precision { written.now.point ≡ true → AllByRecursion (λ b. is_decimal b ≡ true) written.now.precision.now }
+    requires precision { written.now.point ≡ true → AllByRecursion
+        (λ b. is_decimal b ≡ true) written.now.precision.now }
     requires wide { magnitude 10 written.now.width.now ≤ 65535 }
     requires precise { precision_number (opening_of written.now).precision ≤ 255 }
-    ensures { (place : ℕ) → slot_of place (opening_of written.now) ≡ Some slot → print_kind_of letter written.now.size ≡ Some kind
+    ensures { (place : ℕ) → slot_of place (opening_of written.now) ≡ Some slot
+        → print_kind_of letter written.now.size ≡ Some kind
         → IsPrintConv place (opening_of written.now) letter result }
 {
     PrintConv {

@@ -21,4 +21,5 @@ returns-then-entry-slot c =
     let found = c.in-Some.ensures.lookup in
     ap Some c.shown_in.ensures
     ∙ ap (λ (e : Entry). Some (datum_in closed e.cell)) found.1
-    ∙ found_at closed c.args.slot _ c.args.entries.now entry c.requires.apart found.3.0 (ap (λ (e : Entry). e.slot) (sym found.1) ∙ c.if-entry-slot.true)
+    ∙ found_at closed c.args.slot _ c.args.entries.now entry c.requires.apart found.3.0
+    (ap (λ (e : Entry). e.slot) (sym found.1) ∙ c.if-entry-slot.true)

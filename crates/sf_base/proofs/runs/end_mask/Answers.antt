@@ -12,4 +12,5 @@ pub returns : goal.returns
 returns c =
     let v = chunk 0 16 c.args.bytes.now in
     let long = length-chunk 0 16 c.args.bytes.now c.requires in
-    mask_by (λ b. b == c.args.end) _ c.args.bytes.now 0 _ c.requires c.type_inv.bytes (zip2_splat {Y = ℕ} _ v 16 c.args.end long) (λ x below. top_of (x == c.args.end))
+    mask_by (λ b. b == c.args.end) _ c.args.bytes.now 0 _ c.requires c.type_inv.bytes (zip2_splat {Y = ℕ} _ v 16 c.args.end long)
+    (λ x below. top_of (x == c.args.end))

@@ -10,4 +10,5 @@ returns c =
     let v = chunk c.args.at 16 c.args.piece.now in
     let long = length-chunk c.args.at 16 c.args.piece.now c.requires in
     mask_is is_ink _ c.args.piece.now c.args.at _ c.requires c.type_inv.piece
-    (joined bit_and _ _ v (joined (λ a b. cond (leb a b) 255 0) _ _ v (splat_is v 16 5 long) (zip2_splat {Y = ℕ} _ v 16 9 long)) (zip2_splat {Y = ℕ} _ v 16 32 long)) refl
+    (joined bit_and _ _ v (joined (λ a b. cond (leb a b) 255 0) _ _ v (splat_is v 16 5 long) (zip2_splat {Y = ℕ} _ v 16 9 long))
+    (zip2_splat {Y = ℕ} _ v 16 32 long)) refl

@@ -9,7 +9,8 @@ use Rattle.sf_base.proofs.runs.space_run.Goals as goal
 stops : goal.returns-then-others-ne0-clause-count
 stops c =
     let room : c.loop-at.at + 16 ≤ length c.args.piece.now = omega (arith, c.loop-at-test.true) in
-    let r = ends_at is_ink is_white (not_not is_white) c.args.piece.now c.loop-at.at c.ink_mask-others.result room c.ink_mask-others.ensures c.if-others-ne0.true in
+    let r = ends_at is_ink is_white (not_not is_white) c.args.piece.now c.loop-at.at c.ink_mask-others.result room
+    c.ink_mask-others.ensures c.if-others-ne0.true in
     omega (arith, c.loop-at.invariant.front, r)
 
 pub returns-then-others-ne0-clause-count : goal.returns-then-others-ne0-clause-count
@@ -21,7 +22,8 @@ returns-then-others-ne0-clause-longest c = longest_at is_white c.args.piece.now 
 pub loop-at-preserved : goal.loop-at-preserved
 loop-at-preserved c =
     let room : c.loop-at.at + 16 ≤ length c.args.piece.now = omega (arith, c.loop-at-test.true) in
-    let r = goes_on is_ink is_white (not_not is_white) c.args.piece.now c.loop-at.at c.ink_mask-others.result room c.ink_mask-others.ensures c.if-others-ne0.false in
+    let r = goes_on is_ink is_white (not_not is_white) c.args.piece.now c.loop-at.at c.ink_mask-others.result room
+    c.ink_mask-others.ensures c.if-others-ne0.false in
     record {
       within = room;
       front = omega (arith, c.loop-at.invariant.front, r);

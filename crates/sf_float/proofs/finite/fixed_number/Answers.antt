@@ -18,7 +18,8 @@ pub returns-clause-value : goal.returns-clause-value
 returns-clause-value c =
     let s = c.size_of-size in
     let b = c.sign_and_bits-bits in
-    c.nearest_scaled.ensures ∙ sym (scaled_of_value (of_bits binary64 b.result.1) false _ _ c.args.precision 0 (pow_pos s.result.down) s.ensures.value) ∙ size_of binary64 c.args.x b.result.0 b.result.1 c.args.precision 0 b.ensures
+    c.nearest_scaled.ensures ∙ sym (scaled_of_value (of_bits binary64 b.result.1) false _ _ c.args.precision 0
+    (pow_pos s.result.down) s.ensures.value) ∙ size_of binary64 c.args.x b.result.0 b.result.1 c.args.precision 0 b.ensures
 
 pub returns-clause-most : goal.returns-clause-most
 returns-clause-most c =

@@ -17,10 +17,12 @@ pub returns-else-total-decimals-clause-count : goal.returns-else-total-decimals-
 returns-else-total-decimals-clause-count c =
     record {
       some = omega arith;
-      fits = lt_of_lt_of_le c.count-total.ensures.below (pow-le-pow_right (lit< tt) (more c.count-total.result c.args.decimals c.if-total-decimals.false));
+      fits = lt_of_lt_of_le c.count-total.ensures.below (pow-le-pow_right (lit< tt)
+          (more c.count-total.result c.args.decimals c.if-total-decimals.false));
       least = λ h. absurd (omega arith);
     }
 
 pub returns-then-total-decimals-clause-most : goal.returns-then-total-decimals-clause-most
 returns-then-total-decimals-clause-most c =
-    few_digits c.count-total.result c.args.decimals _ c.if-total-decimals.true (c.count-total.ensures.from (omega (arith, c.if-total-decimals.true))) c.requires.most
+    few_digits c.count-total.result c.args.decimals _ c.if-total-decimals.true
+    (c.count-total.ensures.from (omega (arith, c.if-total-decimals.true))) c.requires.most

@@ -9,12 +9,14 @@ whole_count-count-requires-clause-most c = below_power c.args.n.now (309 + c.arg
 
 pub put_fraction-requires : goal.put_fraction-requires
 put_fraction-requires c =
-    let k = few_count c.args.decimals c.args.n.now c.whole_count-count.result 256 (lit< tt) c.whole_count-count.ensures.count c.requires.most in
+    let k = few_count c.args.decimals c.args.n.now c.whole_count-count.result 256
+    (lit< tt) c.whole_count-count.ensures.count c.requires.most in
     record { few = (c.needless-left_out.ensures.few, c.requires.few, omega (arith, c.put_digits-end.ensures.end)) }
 
 pub returns-clause-end : goal.returns-clause-end
 returns-clause-end c =
-    let k = few_count c.args.decimals c.args.n.now c.whole_count-count.result 256 (lit< tt) c.whole_count-count.ensures.count c.requires.most in
+    let k = few_count c.args.decimals c.args.n.now c.whole_count-count.result 256
+    (lit< tt) c.whole_count-count.ensures.count c.requires.most in
     omega (arith, k, c.put_digits-end.ensures.end, c.put_fraction.ensures.end)
 
 pub returns-clause-text : goal.returns-clause-text

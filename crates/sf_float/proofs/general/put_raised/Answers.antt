@@ -16,6 +16,7 @@ returns-clause-text c =
       m,
       z.ensures.short,
       c.put_exponent.ensures.written
-          ∙ ap (λ t. t ++ exponent_text c.args.power) (c.put_fraction-end.ensures.written ∙ ap (λ t. t ++ point_text c.args.alt kept m) (c.put_digits-end.ensures.written ∙ front))
+          ∙ ap (λ t. t ++ exponent_text c.args.power) (c.put_fraction-end.ensures.written
+          ∙ ap (λ t. t ++ point_text c.args.alt kept m) (c.put_digits-end.ensures.written ∙ front))
           ∙ raised_text c.args.alt kept m c.args.power,
     )

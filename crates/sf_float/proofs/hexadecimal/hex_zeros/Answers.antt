@@ -7,4 +7,8 @@ pub loop-zeros-init : goal.loop-zeros-init
 loop-zeros-init c = record { within = omega arith; cut = uncut 16 c.args.m }
 
 pub loop-zeros-preserved : goal.loop-zeros-preserved
-loop-zeros-preserved c = record { within = omega arith; cut = cut_more 16 c.args.m c.loop-zeros.zeros (lit< tt) c.loop-zeros.invariant.cut (sym c.digit_at.ensures.value ∙ c.if-digit_at-ne0.false) }
+loop-zeros-preserved c = record {
+  within = omega arith;
+  cut = cut_more 16 c.args.m c.loop-zeros.zeros (lit< tt) c.loop-zeros.invariant.cut
+      (sym c.digit_at.ensures.value ∙ c.if-digit_at-ne0.false);
+}

@@ -21,4 +21,5 @@ returns-clause-written c =
     ∙ ap (λ t. hex_digit (m / 16 ^ 13 % 16) ∷ 46 ∷ t) (sym (hex_with_zeros 13 w m) ∙ ap (λ k. hex_digits k wide) e)
     ∙ ap (λ q. hex_digit (q % 16) ∷ 46 ∷ hex_digits d wide) (whole_of_many m d h)
     ∙ ap (λ n. hex_digit (n / 16 ^ d % 16) ∷ 46 ∷ hex_digits d n) (many_digits m d (le_of_lt h))
-    ∙ ap (λ b. hex_digit (closest (m * 16 ^ d) (2 ^ 52) / 16 ^ d % 16) ∷ (if b || c.args.alt then 46 ∷ hex_digits d (closest (m * 16 ^ d) (2 ^ 52)) else [])) (sym (lt-ltb 0 d (omega arith)))
+    ∙ ap (λ b. hex_digit (closest (m * 16 ^ d) (2 ^ 52) / 16 ^ d % 16) ∷
+    (if b || c.args.alt then 46 ∷ hex_digits d (closest (m * 16 ^ d) (2 ^ 52)) else [])) (sym (lt-ltb 0 d (omega arith)))

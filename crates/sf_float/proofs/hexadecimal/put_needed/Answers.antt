@@ -12,5 +12,6 @@ returns-clause-written c =
       n,
       kept_some 16 false 13 m z.result refl z.ensures.few z.ensures.zeros z.ensures.next,
       c.put_hex_point.ensures.written
-          ∙ ap (λ t. t ++ hex_point c.args.alt (13 - z.result) n) (c.put_hex-end.ensures.written ∙ ap (hex_digits 1) (sym (same_whole 16 m 13 z.result z.ensures.few))),
+          ∙ ap (λ t. t ++ hex_point c.args.alt (13 - z.result) n) (c.put_hex-end.ensures.written
+          ∙ ap (hex_digits 1) (sym (same_whole 16 m 13 z.result z.ensures.few))),
     )

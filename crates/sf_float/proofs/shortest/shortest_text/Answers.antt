@@ -5,7 +5,8 @@ use Rattle.sf_float.proofs.Words.{nan_parses, nan_never, same_word}
 use Rattle.sf_float.proofs.shortest.shortest_text.Goals as goal
 
 pub returns-then-not-is_number-clause-parses : goal.returns-then-not-is_number-clause-parses
-returns-then-not-is_number-clause-parses g c = nan_parses g.F.RawFloat.format ∙ ap Some (only_nan _ (sym c.is_number.ensures ∙ c.if-not-is_number.true))
+returns-then-not-is_number-clause-parses g c = nan_parses g.F.RawFloat.format
+    ∙ ap Some (only_nan _ (sym c.is_number.ensures ∙ c.if-not-is_number.true))
 
 pub returns-then-not-is_number-clause-layout : goal.returns-then-not-is_number-clause-layout
 returns-then-not-is_number-clause-layout g c h = absurd (nan_never _ (only_nan _ (sym c.is_number.ensures ∙ c.if-not-is_number.true)) h)

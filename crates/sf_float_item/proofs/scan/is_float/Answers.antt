@@ -9,7 +9,8 @@ returns-then-not-step c =
     let t = c.args.text.now in
     let i = c.loop-b.b-index in (
       (λ h. absurd (true≢false (sym h))),
-      (λ f. absurd (true≢false (sym ((c.step.ensures.taken (take i t) c.loop-b.invariant).1 (begins_at t i c.loop-b-test.true (λ k. omega (arith, c.type_inv.text k)) f)) ∙ c.if-not-step.true))),
+      (λ f. absurd (true≢false (sym ((c.step.ensures.taken (take i t) c.loop-b.invariant).1
+          (begins_at t i c.loop-b-test.true (λ k. omega (arith, c.type_inv.text k)) f)) ∙ c.if-not-step.true))),
     )
 
 pub returns : goal.returns

@@ -16,6 +16,9 @@ loop-b-preserved c =
     let d = digit_at t i c.requires c.loop-b-test.true in
     subst (λ (v : ℕ). IsCapped v c.if-number.number) (value_more t i c.requires c.loop-b-test.true)
     (elim c.if-number.branch [
-      | then-number w ↦ subst (λ (r : ℕ). IsCapped (digits_value 10 (take i t) * 10 + (b - 48)) r) (sym w.number-is) (counted (digits_value 10 (take i t)) c.loop-b.number (b - 48) (omega (arith, digit_below b d)) w.if-number.true c.loop-b.invariant)
-      | else-number w ↦ subst (λ (r : ℕ). IsCapped (digits_value 10 (take i t) * 10 + (b - 48)) r) (sym w.number-is) (full (digits_value 10 (take i t)) c.loop-b.number (b - 48) w.if-number.false c.loop-b.invariant)
+      | then-number w ↦ subst (λ (r : ℕ). IsCapped (digits_value 10 (take i t) * 10 + (b - 48)) r) (sym w.number-is)
+          (counted (digits_value 10 (take i t)) c.loop-b.number (b - 48)
+          (omega (arith, digit_below b d)) w.if-number.true c.loop-b.invariant)
+      | else-number w ↦ subst (λ (r : ℕ). IsCapped (digits_value 10 (take i t) * 10 + (b - 48)) r) (sym w.number-is)
+          (full (digits_value 10 (take i t)) c.loop-b.number (b - 48) w.if-number.false c.loop-b.invariant)
     ])

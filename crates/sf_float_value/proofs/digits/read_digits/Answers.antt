@@ -26,8 +26,10 @@ loop-at-preserved c =
               x,
               subst (λ (d : Digits). IsFront x d.m d.cut d.lost) (sym w.digits-is) (w.push-digits.ensures.front v i.3.1),
               i.3.2 ∙ at_digit t l.at v l.digits.places l.after c.loop-at-test.true hex
-                  ∙ ap (λ k. digits_read (v * 16 + k) (if l.after then suc l.digits.places else l.digits.places) l.after rest) (sym w.digit_of.ensures.value)
-                  ∙ ap (λ k. digits_read x k l.after rest) (one_place l.digits.places l.after ∙ omega (arith, places, w.push-digits.ensures.places))
+                  ∙ ap (λ k. digits_read (v * 16 + k) (if l.after then suc l.digits.places else l.digits.places) l.after rest)
+                  (sym w.digit_of.ensures.value)
+                  ∙ ap (λ k. digits_read x k l.after rest) (one_place l.digits.places l.after
+                  ∙ omega (arith, places, w.push-digits.ensures.places))
                   ∙ ap (λ k. digits_read x c.if-is_ascii_hexdigit.digits.places k rest) (sym w.after-is),
             ),
           )
@@ -39,7 +41,8 @@ loop-at-preserved c =
             (
               v,
               subst (λ (d : Digits). IsFront v d.m d.cut d.lost) (sym w.digits-is) i.3.1,
-              i.3.2 ∙ at_point t l.at v l.digits.places l.after c.loop-at-test.true w.if-b-eq46.true ∙ (λ j. digits_read v (sym places j) (sym w.after-is j) rest),
+              i.3.2 ∙ at_point t l.at v l.digits.places l.after c.loop-at-test.true w.if-b-eq46.true
+                  ∙ (λ j. digits_read v (sym places j) (sym w.after-is j) rest),
             ),
           )
     ]

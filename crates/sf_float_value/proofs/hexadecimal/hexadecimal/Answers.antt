@@ -13,7 +13,8 @@ read_exponent-negative-requires c =
     let r = c.read_digits-at.ensures.read in
     let n = numeral_of Sixteen t c.requires in
     let read = r.2 ∙ ap (λ s. (r.0, c.read_digits-at.result.0.places, s)) (sym (whole_drop t c.read_digits-at.result.1)) in
-    subst (IsExponentPart Sixteen) (exponent_rest (format_of c.args.kind) t _ n r.0 c.read_digits-at.result.0.places read) (exponent_from Sixteen n.exponent n.raised)
+    subst (IsExponentPart Sixteen) (exponent_rest (format_of c.args.kind) t _ n r.0 c.read_digits-at.result.0.places read)
+    (exponent_from Sixteen n.exponent n.raised)
 
 pub returns-then-negative-clause-value : goal.returns-then-negative-clause-value
 returns-then-negative-clause-value c =
@@ -21,11 +22,13 @@ returns-then-negative-clause-value c =
     let r = c.read_digits-at.ensures.read in
     let e = c.read_exponent-negative in
     let read = r.2 ∙ ap (λ s. (r.0, c.read_digits-at.result.0.places, s)) (sym (whole_drop t c.read_digits-at.result.1)) in
-    of_lowered (format_of c.args.kind) t _ (numeral_of Sixteen t c.requires) r.0 c.read_digits-at.result.0.places read (of_bits (format_of c.args.kind) c.lowered.result)
+    of_lowered (format_of c.args.kind) t _ (numeral_of Sixteen t c.requires) r.0 c.read_digits-at.result.0.places read
+    (of_bits (format_of c.args.kind) c.lowered.result)
     (sym e.ensures.minus ∙ c.if-negative.true) (c.lowered.ensures r.0 _ r.1 e.ensures.number).0
 
 pub returns-then-negative-clause-most : goal.returns-then-negative-clause-most
-returns-then-negative-clause-most c = let r = c.read_digits-at.ensures.read in (c.lowered.ensures r.0 _ r.1 c.read_exponent-negative.ensures.number).1
+returns-then-negative-clause-most c = let r = c.read_digits-at.ensures.read in
+    (c.lowered.ensures r.0 _ r.1 c.read_exponent-negative.ensures.number).1
 
 pub returns-else-negative-clause-value : goal.returns-else-negative-clause-value
 returns-else-negative-clause-value c =
@@ -33,8 +36,10 @@ returns-else-negative-clause-value c =
     let r = c.read_digits-at.ensures.read in
     let e = c.read_exponent-negative in
     let read = r.2 ∙ ap (λ s. (r.0, c.read_digits-at.result.0.places, s)) (sym (whole_drop t c.read_digits-at.result.1)) in
-    of_raised (format_of c.args.kind) t _ (numeral_of Sixteen t c.requires) r.0 c.read_digits-at.result.0.places read (of_bits (format_of c.args.kind) c.raised.result)
+    of_raised (format_of c.args.kind) t _ (numeral_of Sixteen t c.requires) r.0 c.read_digits-at.result.0.places read
+    (of_bits (format_of c.args.kind) c.raised.result)
     (sym e.ensures.minus ∙ c.if-negative.false) (c.raised.ensures r.0 _ r.1 e.ensures.number).0
 
 pub returns-else-negative-clause-most : goal.returns-else-negative-clause-most
-returns-else-negative-clause-most c = let r = c.read_digits-at.ensures.read in (c.raised.ensures r.0 _ r.1 c.read_exponent-negative.ensures.number).1
+returns-else-negative-clause-most c = let r = c.read_digits-at.ensures.read in
+    (c.raised.ensures r.0 _ r.1 c.read_exponent-negative.ensures.number).1

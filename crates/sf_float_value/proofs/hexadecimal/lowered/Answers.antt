@@ -9,14 +9,16 @@ use Rattle.sf_float_value.proofs.hexadecimal.lowered.Goals as goal
 pub returns-then-digits-eq0 : goal.returns-then-digits-eq0
 returns-then-digits-eq0 c v number f k =
     let d = c.args.digits in
-    nearest_of_zero (format_of c.args.kind) (v * 2 ^ 0) (2 ^ (4 * d.places + number)) (pow_pos (4 * d.places + number)) (ap (λ t. t * 2 ^ 0) (front_zero v d.m d.cut d.lost c.if-digits-eq0.true f))
+    nearest_of_zero (format_of c.args.kind) (v * 2 ^ 0) (2 ^ (4 * d.places + number)) (pow_pos (4 * d.places + number))
+    (ap (λ t. t * 2 ^ 0) (front_zero v d.m d.cut d.lost c.if-digits-eq0.true f))
 
 pub returns-then-exponent : goal.returns-then-exponent
 returns-then-exponent c v number f k =
     let d = c.args.digits in
     let far : 2 ^ 100 ≤ number = elim k.either [ inl e ↦ omega (arith, e, c.if-exponent.true) | inr b ↦ b.0 ] in
     let few : 4 * d.cut + 0 < 2 ^ 70 = omega arith in
-    tiny (format_of c.args.kind) (v * 2 ^ 0) d.m (4 * d.cut + 0) (4 * d.places + number) d.lost (omega (arith, c.if-digits-eq0.false)) c.requires.few.0 (front_scaled v d.m d.cut 0 d.lost f) few (omega arith)
+    tiny (format_of c.args.kind) (v * 2 ^ 0) d.m (4 * d.cut + 0) (4 * d.places + number) d.lost
+    (omega (arith, c.if-digits-eq0.false)) c.requires.few.0 (front_scaled v d.m d.cut 0 d.lost f) few (omega arith)
 
 pub returns : goal.returns
 returns c v number f k =

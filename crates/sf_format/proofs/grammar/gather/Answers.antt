@@ -9,7 +9,8 @@ pub loop-rest-init : goal.loop-rest-init
 loop-rest-init g c =
     rw c.new-parts.ensures.items
     (record {
-      passing = passing_none (g.G.Grammar.language c.args.grammar) c.args.text.now _ (bytes_of c.args.text.now (λ i. omega (arith, c.type_inv.text i))) none_held;
+      passing = passing_none (g.G.Grammar.language c.args.grammar) c.args.text.now _
+          (bytes_of c.args.text.now (λ i. omega (arith, c.type_inv.text i))) none_held;
       meaning = tt;
     })
 
@@ -20,17 +21,20 @@ returns-in_err-passed-clause-hindered g c =
     rw (p.1, p.2) (inl (passing_fault c.in_err-passed.field-0.0 h (c.in_err-passed.ensures (destinations h.done) h.holds)))
 
 pub overflow_sub-at : goal.overflow_sub-at
-overflow_sub-at g c = (rest_shorter (passes_on c.loop-rest.invariant.passing c.is_empty.ensures c.loop-rest-test.true c.in_ok-passed.ensures)).1
+overflow_sub-at g c = (rest_shorter (passes_on c.loop-rest.invariant.passing c.is_empty.ensures c.loop-rest-test.true
+    c.in_ok-passed.ensures)).1
 
 pub loop-rest-smaller : goal.loop-rest-smaller
-loop-rest-smaller g c = (rest_shorter (passes_on c.loop-rest.invariant.passing c.is_empty.ensures c.loop-rest-test.true c.in_ok-passed.ensures)).0
+loop-rest-smaller g c = (rest_shorter (passes_on c.loop-rest.invariant.passing c.is_empty.ensures c.loop-rest-test.true
+    c.in_ok-passed.ensures)).0
 
 pub loop-rest-preserved : goal.loop-rest-preserved
 loop-rest-preserved g c =
     let h = c.loop-rest.invariant in
     let passes = c.in_ok-passed.ensures (destinations h.passing.done) h.passing.holds in
     rw c.in_ok-push.ensures.items
-    (gathering_more (g.G.Grammar.means c.args.grammar) c.unwrap.result h (passes_on h.passing c.is_empty.ensures c.loop-rest-test.true c.in_ok-passed.ensures)
+    (gathering_more (g.G.Grammar.means c.args.grammar) c.unwrap.result h
+    (passes_on h.passing c.is_empty.ensures c.loop-rest-test.true c.in_ok-passed.ensures)
     (rw c.unwrap.ensures at passes.2))
 
 pub returns-clause-gathered : goal.returns-clause-gathered

@@ -8,7 +8,8 @@ use Rattle.sf_format.proofs.grammar.pass_conversion.Goals as goal
 pub returns-in-Some : goal.returns-in-Some
 returns-in-Some g c =
     λ earlier holds.
-    cut_fault (g.G.Grammar.language c.args.grammar) earlier c.args.at c.args.text.now (opening_of c.opening.result.0) (fault_of c.in-Some.fault)
+    cut_fault (g.G.Grammar.language c.args.grammar) earlier c.args.at c.args.text.now (opening_of c.opening.result.0)
+    (fault_of c.in-Some.fault)
     c.opening.ensures.opening (sym c.in-Some.ensures)
 
 pub returns-in-empty : goal.returns-in-empty
@@ -16,7 +17,8 @@ returns-in-empty g c =
     λ earlier holds.
     let place = c.args.at + 1 + (length c.args.text.now - length c.opening.result.1.now) in
     let none = sym (no_bytes c.opening.result.1.now (omega arith)) in
-    cut_passes c.args.wanted (g.G.Grammar.means c.args.grammar) (g.G.Grammar.language c.args.grammar) earlier c.args.at place c.args.text.now _
+    cut_passes c.args.wanted (g.G.Grammar.means c.args.grammar) (g.G.Grammar.language c.args.grammar) earlier c.args.at place
+    c.args.text.now _
     (opening_of c.opening.result.0) (Err (record { at = place; why = Truncated })) c.opening.ensures.opening (none ∙ c.opening.ensures.rest)
     (omega (arith, c.opening.ensures.length)) (sym c.in_default.ensures) refl
 
@@ -25,6 +27,7 @@ returns-in-len1-up g c =
     λ earlier holds.
     let place = c.args.at + 1 + (length c.args.text.now - length c.opening.result.1.now) in
     let all = first_and_rest c.opening.result.1.now c.in-len1-up.len_at_least in
-    cut_passes c.args.wanted (g.G.Grammar.means c.args.grammar) (g.G.Grammar.language c.args.grammar) earlier c.args.at place c.args.text.now _
+    cut_passes c.args.wanted (g.G.Grammar.means c.args.grammar) (g.G.Grammar.language c.args.grammar) earlier c.args.at place
+    c.args.text.now _
     (opening_of c.opening.result.0) c.pass_letter.result c.opening.ensures.opening (all ∙ c.opening.ensures.rest)
     (omega (arith, c.opening.ensures.length)) (sym c.in_default.ensures) (c.pass_letter.ensures earlier holds)

@@ -23,13 +23,15 @@ pub loop-rest-smaller : goal.loop-rest-smaller
 loop-rest-smaller g c = (rest_shorter (passes_on c.loop-rest.invariant c.is_empty.ensures c.loop-rest-test.true c.in_ok-passed.ensures)).0
 
 pub loop-rest-smaller-in_ok-passed : goal.loop-rest-smaller-in_ok-passed
-loop-rest-smaller-in_ok-passed g c = (rest_shorter (passes_on c.loop-rest.invariant c.is_empty.ensures c.loop-rest-test.true c.in_ok-passed.ensures)).0
+loop-rest-smaller-in_ok-passed g c = (rest_shorter (passes_on c.loop-rest.invariant c.is_empty.ensures c.loop-rest-test.true
+    c.in_ok-passed.ensures)).0
 
 pub loop-rest-preserved : goal.loop-rest-preserved
 loop-rest-preserved g c = passing_more (passes_on c.loop-rest.invariant c.is_empty.ensures c.loop-rest-test.true c.in_ok-passed.ensures)
 
 pub loop-rest-preserved-in_ok-passed : goal.loop-rest-preserved-in_ok-passed
-loop-rest-preserved-in_ok-passed g c = passing_more (passes_on c.loop-rest.invariant c.is_empty.ensures c.loop-rest-test.true c.in_ok-passed.ensures)
+loop-rest-preserved-in_ok-passed g c = passing_more (passes_on c.loop-rest.invariant c.is_empty.ensures c.loop-rest-test.true
+    c.in_ok-passed.ensures)
 
 pub returns : goal.returns
 returns g c = let h = c.loop-rest.invariant in (h.done, passing_all h c.is_empty.ensures c.loop-rest-test.false, h.holds)

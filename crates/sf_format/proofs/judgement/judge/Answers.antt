@@ -23,11 +23,14 @@ overflow_cast-result g c =
     let walked = c.in_ok-slots.ensures in
     omega (
       arith,
-      judged_few (g.G.Grammar.language c.args.grammar) c.args.text.now c.in_ok-slots.slots.count (bytes_of c.args.text.now (λ i. omega (arith, c.type_inv.text i)))
-          (all_judged (g.G.Grammar.language c.args.grammar) c.args.text.now c.in_ok-slots.slots c.if-text-gt4096.false walked (c.in-None.ensures walked.0 walked.1)),
+      judged_few (g.G.Grammar.language c.args.grammar) c.args.text.now c.in_ok-slots.slots.count
+          (bytes_of c.args.text.now (λ i. omega (arith, c.type_inv.text i)))
+          (all_judged (g.G.Grammar.language c.args.grammar) c.args.text.now c.in_ok-slots.slots c.if-text-gt4096.false walked
+          (c.in-None.ensures walked.0 walked.1)),
     )
 
 pub returns-in-None : goal.returns-in-None
 returns-in-None g c =
     let walked = c.in_ok-slots.ensures in
-    all_judged (g.G.Grammar.language c.args.grammar) c.args.text.now c.in_ok-slots.slots c.if-text-gt4096.false walked (c.in-None.ensures walked.0 walked.1)
+    all_judged (g.G.Grammar.language c.args.grammar) c.args.text.now c.in_ok-slots.slots c.if-text-gt4096.false walked
+    (c.in-None.ensures walked.0 walked.1)

@@ -7,7 +7,8 @@ use Rattle.sf_format.proofs.judgement.parse.Goals as goal
 pub returns-in_err-count : goal.returns-in_err-count
 returns-in_err-count g c =
     let p = err_from_is_err_and c.from_residual.result c.from_residual.ensures.1 in
-    let refused = judged_fault c.requires c.args.text.now c.in_err-count.field-0.0 (bytes_of c.args.text.now (λ i. omega (arith, c.type_inv.text i))) c.in_err-count.ensures in
+    let refused = judged_fault c.requires c.args.text.now c.in_err-count.field-0.0
+    (bytes_of c.args.text.now (λ i. omega (arith, c.type_inv.text i))) c.in_err-count.ensures in
     let is = told c.requires c.args.text.now c.in_err-count.field-0.0 refused in
     rw (p.1, p.2) (record { spelled = tt; refused = refused; fault = λ at why fault. ap Err (is.0 at why fault); accepted = is.1 })
 
@@ -27,6 +28,7 @@ returns g c =
     c.in_ok-parts.ensures.gathered in record {
       spelled = spelled;
       refused = tt;
-      fault = λ at why fault. no_fault (g.G.Grammar.language c.args.grammar) c.args.text.now c.in_ok-count.count at why c.in_ok-count.ensures fault;
+      fault = λ at why fault. no_fault (g.G.Grammar.language c.args.grammar) c.args.text.now c.in_ok-count.count at why
+          c.in_ok-count.ensures fault;
       accepted = λ ds. one_list c.requires c.args.text.now c.in_ok-parts.parts.items ds spelled.0;
     }

@@ -7,12 +7,14 @@ use Rattle.sf_format.proofs.Notings.{unnumbered_none, noting_more, noting_all}
 use Rattle.sf_format.proofs.noted.number_fault.Goals as goal
 
 pub returns-then-not-slots : goal.returns-then-not-slots
-returns-then-not-slots g c = λ pieces e. unnumbered_none (g.G.Grammar.language c.args.grammar) c.args.text.now c.args.slots pieces (not_true _ c.if-not-slots.true) c.requires.walked e
+returns-then-not-slots g c = λ pieces e. unnumbered_none (g.G.Grammar.language c.args.grammar) c.args.text.now c.args.slots pieces
+    (not_true _ c.if-not-slots.true) c.requires.walked e
 
 pub loop-rest-init : goal.loop-rest-init
 loop-rest-init g c =
     record {
-      passing = passing_none (g.G.Grammar.language c.args.grammar) c.args.text.now _ (bytes_of c.args.text.now (λ i. omega (arith, c.type_inv.text i))) none_held;
+      passing = passing_none (g.G.Grammar.language c.args.grammar) c.args.text.now _
+          (bytes_of c.args.text.now (λ i. omega (arith, c.type_inv.text i))) none_held;
       ns = [];
       notes = search rules;
       same = λ written. refl;
@@ -31,7 +33,8 @@ pub loop-rest-smaller : goal.loop-rest-smaller
 loop-rest-smaller g c = (rest_shorter (passes_on c.loop-rest.invariant.passing c.is_empty.ensures c.loop-rest-test.true c.in-Ok.ensures)).0
 
 pub loop-rest-smaller-in-Ok : goal.loop-rest-smaller-in-Ok
-loop-rest-smaller-in-Ok g c = (rest_shorter (passes_on c.loop-rest.invariant.passing c.is_empty.ensures c.loop-rest-test.true c.in-Ok.ensures)).0
+loop-rest-smaller-in-Ok g c = (rest_shorter (passes_on c.loop-rest.invariant.passing c.is_empty.ensures c.loop-rest-test.true
+    c.in-Ok.ensures)).0
 
 pub loop-rest-preserved : goal.loop-rest-preserved
 loop-rest-preserved g c =

@@ -8,7 +8,8 @@ use Rattle.sf_format.proofs.part_text.part_text.Goals as goal
 pub loop-rest-init : goal.loop-rest-init
 loop-rest-init g c =
     record {
-      passing = passing_none (g.G.Grammar.language c.args.grammar) c.args.text.now _ (bytes_of c.args.text.now (λ i. omega (arith, c.type_inv.text i))) none_held;
+      passing = passing_none (g.G.Grammar.language c.args.grammar) c.args.text.now _
+          (bytes_of c.args.text.now (λ i. omega (arith, c.type_inv.text i))) none_held;
       some = omega arith;
       count = omega arith;
     }
@@ -38,7 +39,8 @@ pub loop-rest-smaller : goal.loop-rest-smaller
 loop-rest-smaller g c = (rest_shorter (passes_on c.loop-rest.invariant.passing c.is_empty.ensures c.loop-rest-test.true c.in-Ok.ensures)).0
 
 pub loop-rest-smaller-else-left-eq1 : goal.loop-rest-smaller-else-left-eq1
-loop-rest-smaller-else-left-eq1 g c = (rest_shorter (passes_on c.loop-rest.invariant.passing c.is_empty.ensures c.loop-rest-test.true c.in-Ok.ensures)).0
+loop-rest-smaller-else-left-eq1 g c = (rest_shorter (passes_on c.loop-rest.invariant.passing c.is_empty.ensures c.loop-rest-test.true
+    c.in-Ok.ensures)).0
 
 pub loop-rest-preserved : goal.loop-rest-preserved
 loop-rest-preserved g c =

@@ -10,7 +10,8 @@ pub loop-rest-init : goal.loop-rest-init
 loop-rest-init g c =
     rw c.new-spans.ensures.items
     (record {
-      passing = passing_none (g.G.Grammar.language c.args.grammar) c.args.text.now _ (bytes_of c.args.text.now (λ i. omega (arith, c.type_inv.text i))) none_held;
+      passing = passing_none (g.G.Grammar.language c.args.grammar) c.args.text.now _
+          (bytes_of c.args.text.now (λ i. omega (arith, c.type_inv.text i))) none_held;
       are = refl;
     })
 
@@ -21,13 +22,16 @@ returns-in_err-passed-clause-hindered g c =
     rw (p.1, p.2) (inl (passing_fault c.in_err-passed.field-0.0 h (c.in_err-passed.ensures (destinations h.done) h.holds)))
 
 pub overflow_sub-end : goal.overflow_sub-end
-overflow_sub-end g c = (rest_shorter (passes_on c.loop-rest.invariant.passing c.is_empty.ensures c.loop-rest-test.true c.in_ok-passed.ensures)).1
+overflow_sub-end g c = (rest_shorter (passes_on c.loop-rest.invariant.passing c.is_empty.ensures c.loop-rest-test.true
+    c.in_ok-passed.ensures)).1
 
 pub loop-rest-smaller : goal.loop-rest-smaller
-loop-rest-smaller g c = (rest_shorter (passes_on c.loop-rest.invariant.passing c.is_empty.ensures c.loop-rest-test.true c.in_ok-passed.ensures)).0
+loop-rest-smaller g c = (rest_shorter (passes_on c.loop-rest.invariant.passing c.is_empty.ensures c.loop-rest-test.true
+    c.in_ok-passed.ensures)).0
 
 pub loop-rest-smaller-in_ok-push : goal.loop-rest-smaller-in_ok-push
-loop-rest-smaller-in_ok-push g c = (rest_shorter (passes_on c.loop-rest.invariant.passing c.is_empty.ensures c.loop-rest-test.true c.in_ok-passed.ensures)).0
+loop-rest-smaller-in_ok-push g c = (rest_shorter (passes_on c.loop-rest.invariant.passing c.is_empty.ensures c.loop-rest-test.true
+    c.in_ok-passed.ensures)).0
 
 pub loop-rest-preserved : goal.loop-rest-preserved
 loop-rest-preserved g c =

@@ -23,10 +23,12 @@ module _ (c : goal.After-number-in-loop-i-1) where
   left = value_at piece c.values_of-values.result i c.requires.room c.loop-i-test.true c.values_of-values.ensures
 
   more : Weighed piece count (i + 1) (c.loop-i.number + weight * digit)
-  more = weighed_more piece count i c.loop-i.number weight digit c.requires.room c.requires.digits c.loop-i-test.true refl left c.loop-i.invariant
+  more = weighed_more piece count i c.loop-i.number weight digit c.requires.room c.requires.digits c.loop-i-test.true refl left
+      c.loop-i.invariant
 
   product : weight * digit < 2 ^ 32
-  product = product_small piece count i c.loop-i.number weight digit c.requires.room c.requires.digits c.loop-i-test.true refl left c.loop-i.invariant (omega (arith, left))
+  product = product_small piece count i c.loop-i.number weight digit c.requires.room c.requires.digits c.loop-i-test.true refl left
+      c.loop-i.invariant (omega (arith, left))
 
   sum : c.loop-i.number + weight * digit < 2 ^ 32
   sum =
@@ -49,5 +51,6 @@ loop-i-preserved c = more c
 pub returns-clause-read : goal.returns-clause-read
 returns-clause-read c =
     let all : c.loop-i.i ≡ 8 = omega (arith, c.loop-i-test.false, c.loop-i.auto.i-end) in
-    weighed_all c.args.piece.now c.args.count c.loop-i.number (at_most_eight c.args.piece.now c.args.count c.requires.room c.requires.digits)
+    weighed_all c.args.piece.now c.args.count c.loop-i.number (at_most_eight c.args.piece.now c.args.count c.requires.room
+    c.requires.digits)
     (subst (λ n. Weighed c.args.piece.now c.args.count n c.loop-i.number) all c.loop-i.invariant)

@@ -15,7 +15,8 @@ loop-i-preserved c =
     }
 
 pub returns-clause-read : goal.returns-clause-read
-returns-clause-read c = subst (λ n. ReadsDecimal c.args.number.now (take n c.args.piece.now) c.loop-i.value) (omega (arith, c.loop-i-test.false, c.loop-i.auto.i-end)) (c.loop-i.invariant.read)
+returns-clause-read c = subst (λ n. ReadsDecimal c.args.number.now (take n c.args.piece.now) c.loop-i.value)
+    (omega (arith, c.loop-i-test.false, c.loop-i.auto.i-end)) (c.loop-i.invariant.read)
 
 pub returns-then-b-lt48-clause-stops : goal.returns-then-b-lt48-clause-stops
 returns-then-b-lt48-clause-stops c = search rules

@@ -9,6 +9,7 @@ use Rattle.sf_item.proofs.integer.digit_front.Given as goal
 -- the digits so far were read
 abbrev pub invariant-loop-i : goal.invariant-loop-i
 invariant-loop-i l = record {
-  read : (base : Base) (p : Progress) → Shows (Digits l.fn.digits) p → ShowsNext (Some (Digits l.digits)) (read base (Some p) (take l.i l.piece));
+  read : (base : Base) (p : Progress) → Shows (Digits l.fn.digits) p
+      → ShowsNext (Some (Digits l.digits)) (read base (Some p) (take l.i l.piece));
   nothing : l.i ≡ 0 → l.digits ≡ l.fn.digits;
 }

@@ -9,9 +9,11 @@ use Rattle.sf_item.proofs.integer.integer_front.Goals as goal
 module _ (c : goal.After-digit_front) where
   -- up to where digits were taken quickly
   quickly : (p : Progress) → Shows c.args.reached.now p
-      → ShowsNext (Some (Digits c.quick_front.new.digits)) (read c.args.base (Some p) (take (c.opening-opened.result + c.quick_front.result) c.args.piece.now))
+      → ShowsNext (Some (Digits c.quick_front.new.digits)) (read c.args.base (Some p)
+      (take (c.opening-opened.result + c.quick_front.result) c.args.piece.now))
   quickly p shows =
-      bytes_read c.args.base c.args.piece.now c.opening-opened.result p c.opening-opened.new.reached (Some (Digits c.quick_front.new.digits))
+      bytes_read c.args.base c.args.piece.now c.opening-opened.result p c.opening-opened.new.reached
+      (Some (Digits c.quick_front.new.digits))
       (c.opening-opened.ensures.read p shows) c.quick_front.result
       (λ q digits. c.quick_front.ensures.read c.args.base q (subst (λ r. Shows r q) c.in-Digits.is digits))
 

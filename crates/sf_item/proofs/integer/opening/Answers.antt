@@ -6,7 +6,8 @@ use Rattle.sf_item.proofs.integer.opening.Goals as goal
 pub returns-then-not-advance-clause-stops : goal.returns-then-not-advance-clause-stops
 returns-then-not-advance-clause-stops c = λ below.
     inr (λ p shows.
-    byte_read c.args.base c.args.piece.now c.loop-i.i p c.loop-i.reached None (c.loop-i.invariant.read p shows) below c.if-not-advance.ensures.next)
+    byte_read c.args.base c.args.piece.now c.loop-i.i p c.loop-i.reached None
+    (c.loop-i.invariant.read p shows) below c.if-not-advance.ensures.next)
 
 pub loop-i-preserved : goal.loop-i-preserved
 loop-i-preserved c = record {

@@ -7,7 +7,8 @@ use Rattle.sf_item.proofs.reading.read_on.Goals as goal
 pub returns-in-Integer-clause-next : goal.returns-in-Integer-clause-next
 returns-in-Integer-clause-next c = λ f h.
     rw c.in-Integer.is
-    (integer_next c.in-Integer.base c.in-Integer.reached f c.args.b (subst (λ r. HasRead r f) c.in-Integer.is h) c.advance.result c.advance.new.reached
+    (integer_next c.in-Integer.base c.in-Integer.reached f c.args.b
+    (subst (λ r. HasRead r f) c.in-Integer.is h) c.advance.result c.advance.new.reached
     c.advance.ensures.next)
 
 pub returns-in-Set-clause-next : goal.returns-in-Set-clause-next

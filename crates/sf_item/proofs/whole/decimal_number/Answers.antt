@@ -15,5 +15,6 @@ returns c =
     (λ below. elim c.else-count-eq-SURE_DECIMAL.branch [
       | else-count-eq-SURE_DECIMAL-via-then-count-eq-SURE_DECIMAL+else-is_digit_at w ↦ w.is_digit_at.ensures w.if-is_digit_at.false below
       | else-count-eq-SURE_DECIMAL-via-else-count-eq-SURE_DECIMAL w ↦
-          subst (λ d. 10 ≤ digit_value d) (sym (front_at digits piece n c.requires below)) (e.stops (omega (arith, few, w.if-count-eq-SURE_DECIMAL.false)) below)
+          subst (λ d. 10 ≤ digit_value d) (sym (front_at digits piece n c.requires below))
+          (e.stops (omega (arith, few, w.if-count-eq-SURE_DECIMAL.false)) below)
     ])

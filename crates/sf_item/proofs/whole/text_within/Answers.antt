@@ -15,7 +15,8 @@ returns c =
     let part = ap length c.requires in
     let fits : length front ≤ length piece = omega (arith, part, length-take (length front) piece) in
     let le : length front ≤ length longer =
-    ⊎_elim (λ below. let sight = same_Some _ _ (c.cut.ensures.whole below) in omega (arith, sight, short)) (λ all. omega (arith, all, fits)) (cases_lt (length longer) (length piece)) in
+    ⊎_elim (λ below. let sight = same_Some _ _ (c.cut.ensures.whole below) in omega (arith, sight, short))
+    (λ all. omega (arith, all, fits)) (cases_lt (length longer) (length piece)) in
     let run = run_by_longer is_ink front longer piece c.requires c.cut.ensures.front le in
     let own = c.text_run-2.ensures.count in
     let least = c.min.ensures in

@@ -24,9 +24,11 @@ returns-in_default c =
     let short : length front ≤ length piece = omega (arith, long, length-take (length front) piece) in
     let start = c.sign-start.result.0 in
     let sign = c.sign-start.result.1 in
-    let other : start < length front → get_or front start 0 ≢ 48 = λ below zero_first. unless_so c.if-is_zero_at.ensures.1 (below, zero_first) in
+    let other : start < length front → get_or front start 0 ≢ 48 =
+    λ below zero_first. unless_so c.if-is_zero_at.ensures.1 (below, zero_first) in
     let more = c.in_default.ensures in
-    inl (large_integer piece front c.args.width c.cut-front.ensures.front short c.cut-front.ensures.room c.cut-front.ensures.whole c.args.base 10 start more.count
+    inl (large_integer piece front c.args.width c.cut-front.ensures.front short c.cut-front.ensures.room c.cut-front.ensures.whole
+    c.args.base 10 start more.count
     more.number sign (auto_opened c.args.base c.requires front start sign c.sign-start.ensures other) more.digits more.large)
 
 pub returns-then-last-start : goal.returns-then-last-start
@@ -37,8 +39,10 @@ returns-then-last-start c =
     let short : length front ≤ length piece = omega (arith, long, length-take (length front) piece) in
     let start = c.sign-start.result.0 in
     let sign = c.sign-start.result.1 in
-    let other : start < length front → get_or front start 0 ≢ 48 = λ below zero_first. unless_so c.if-is_zero_at.ensures.1 (below, zero_first) in
-    inl (no_integer piece front c.args.width c.cut-front.ensures.front short c.cut-front.ensures.room c.cut-front.ensures.whole c.args.base 10 start c.in-Some.count
+    let other : start < length front → get_or front start 0 ≢ 48 =
+    λ below zero_first. unless_so c.if-is_zero_at.ensures.1 (below, zero_first) in
+    inl (no_integer piece front c.args.width c.cut-front.ensures.front short c.cut-front.ensures.room c.cut-front.ensures.whole c.args.base
+    10 start c.in-Some.count
     c.in-Some.magnitude sign (auto_opened c.args.base c.requires front start sign c.sign-start.ensures other) c.in-Some.ensures
     (λ some behind. elim c.then-last-start.branch [
       | then-last-start-via-then-last-start w ↦ let none = w.if-last-start.true in omega (arith, none, some)
@@ -54,12 +58,14 @@ returns c =
     let start = c.sign-start.result.0 in
     let sign = c.sign-start.result.1 in
     let count = c.in-Some.count in
-    let other : start < length front → get_or front start 0 ≢ 48 = λ below zero_first. unless_so c.if-is_zero_at.ensures.1 (below, zero_first) in
+    let other : start < length front → get_or front start 0 ≢ 48 =
+    λ below zero_first. unless_so c.if-is_zero_at.ensures.1 (below, zero_first) in
     let opened = auto_opened c.args.base c.requires front start sign c.sign-start.ensures other in
     let digits = c.in-Some.ensures in
     let most = digits.within in
     let inside = opened.inside in
     let some : 0 < count = omega (arith, c.if-last-start.false) in
     let behind : start + count < length piece = omega (arith, most, short, length_rest front start, inside, c.if-last-piece.false) in
-    whole_integer piece front c.args.width c.cut-front.ensures.front short c.cut-front.ensures.room c.cut-front.ensures.whole c.args.base 10 start count
+    whole_integer piece front c.args.width c.cut-front.ensures.front short c.cut-front.ensures.room c.cut-front.ensures.whole c.args.base
+    10 start count
     c.in-Some.magnitude sign opened digits some behind

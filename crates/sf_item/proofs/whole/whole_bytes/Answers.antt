@@ -22,9 +22,11 @@ returns-then-count-piece c =
           (w.count-is ∙ w.text_within-count.ensures) (λ f. refl) some behind)
       | in-Set w ↦
           subst (λ (s : Shape). ItemWithin s width piece n) (sym w.in-Set.is)
-          (run_item (shapes.Set w.in-Set.members) width piece w.cut-in-Set.result.now w.cut-in-Set.ensures.front w.cut-in-Set.ensures.room w.cut-in-Set.ensures.whole
+          (run_item (shapes.Set w.in-Set.members) width piece w.cut-in-Set.result.now w.cut-in-Set.ensures.front w.cut-in-Set.ensures.room
+          w.cut-in-Set.ensures.whole
           (has_byte w.in-Set.members) (λ f. refl) n (w.count-is ∙ w.run-count.ensures.count) (λ f. refl) some behind)
-      | in-Chars w ↦ subst (λ (s : Shape). ItemWithin s width piece n) (sym w.in-Chars.is) (chars_item width piece n some behind (w.count-is ∙ w.unwrap_or.ensures))
+      | in-Chars w ↦ subst (λ (s : Shape). ItemWithin s width piece n) (sym w.in-Chars.is)
+          (chars_item width piece n some behind (w.count-is ∙ w.unwrap_or.ensures))
       | in-Int w ↦ absurd (let is = w.count-is in omega (arith, is, some))
       | in-Int-2 w ↦ absurd (let is = w.count-is in omega (arith, is, some))
     ]
@@ -46,10 +48,12 @@ returns-else-count-gt0 c =
           (w.count-is ∙ w.text_within-count.ensures) refl (λ k h. tt) none)
       | in-Set w ↦
           subst (λ (s : Shape). NoItemWithin s width piece) (sym w.in-Set.is)
-          (no_run (shapes.Set w.in-Set.members) width piece w.cut-in-Set.result.now w.cut-in-Set.ensures.front w.cut-in-Set.ensures.room w.cut-in-Set.ensures.whole
+          (no_run (shapes.Set w.in-Set.members) width piece w.cut-in-Set.result.now w.cut-in-Set.ensures.front w.cut-in-Set.ensures.room
+          w.cut-in-Set.ensures.whole
           (has_byte w.in-Set.members) (λ f. refl) n (w.count-is ∙ w.run-count.ensures.count) refl
           (set_proper w.in-Set.members width piece (λ i. (c.type_inv.piece i).fits)) none)
-      | in-Chars w ↦ subst (λ (s : Shape). NoItemWithin s width piece) (sym w.in-Chars.is) (no_chars width piece n (w.count-is ∙ w.unwrap_or.ensures) none)
+      | in-Chars w ↦ subst (λ (s : Shape). NoItemWithin s width piece) (sym w.in-Chars.is)
+          (no_chars width piece n (w.count-is ∙ w.unwrap_or.ensures) none)
       | in-Int w ↦ no_bytes c.args.shape.now width piece w.in-Int.is
       | in-Int-2 w ↦ no_bytes c.args.shape.now width piece w.in-Int.is
     ]

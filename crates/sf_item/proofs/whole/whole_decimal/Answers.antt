@@ -15,7 +15,8 @@ returns-in_default c =
     let start = c.sign-start.result.0 in
     let sign = c.sign-start.result.1 in
     let more = c.in_default.ensures in
-    large_integer piece front c.args.width c.cut-front.ensures.front short c.cut-front.ensures.room c.cut-front.ensures.whole Dec 10 start more.count more.number sign
+    large_integer piece front c.args.width c.cut-front.ensures.front short c.cut-front.ensures.room c.cut-front.ensures.whole Dec 10 start
+    more.count more.number sign
     (decimal_opened front start sign c.sign-start.ensures) more.digits more.large
 
 pub returns-then-count-eq0 : goal.returns-then-count-eq0
@@ -27,7 +28,8 @@ returns-then-count-eq0 c =
     let start = c.sign-start.result.0 in
     let sign = c.sign-start.result.1 in
     let count = c.in-Some.count in
-    no_integer piece front c.args.width c.cut-front.ensures.front short c.cut-front.ensures.room c.cut-front.ensures.whole Dec 10 start count c.in-Some.magnitude sign
+    no_integer piece front c.args.width c.cut-front.ensures.front short c.cut-front.ensures.room c.cut-front.ensures.whole Dec 10 start
+    count c.in-Some.magnitude sign
     (decimal_opened front start sign c.sign-start.ensures) c.in-Some.ensures
     (λ some behind. elim c.then-count-eq0.branch [
       | then-count-eq0-via-then-count-eq0 w ↦ let none = w.if-count-eq0.true in omega (arith, none, some)
@@ -49,5 +51,6 @@ returns c =
     let inside = opened.inside in
     let some : 0 < count = omega (arith, c.if-count-eq0.false) in
     let behind : start + count < length piece = omega (arith, most, short, length_rest front start, inside, c.if-bytes-piece.false) in
-    whole_integer piece front c.args.width c.cut-front.ensures.front short c.cut-front.ensures.room c.cut-front.ensures.whole Dec 10 start count c.in-Some.magnitude sign
+    whole_integer piece front c.args.width c.cut-front.ensures.front short c.cut-front.ensures.room c.cut-front.ensures.whole Dec 10 start
+    count c.in-Some.magnitude sign
     opened digits some behind

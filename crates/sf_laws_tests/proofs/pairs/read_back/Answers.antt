@@ -13,18 +13,22 @@ returns-clause-back c = λ values z fit low is.
     c.read_within.ensures c.slots_agree.ensures values z c.args.text.now fit low is c.in-Ok.scanned.report
     (subst (λ (ds : List Directive). RunWithin ds 1000 c.args.text.now End c.in-Ok.scanned.report) c.scan-format.ensures.value
     (c.in-Ok.ensures.bounded (subst (λ (ds : List Directive). IsSome (width_sum ds)) (sym c.scan-format.ensures.value)
-    (bounded c.args.pair.now.print c.args.pair.now.scan c.scan-format.ensures.checked c.aligned_is_accepted.ensures c.aligned_is_bounded.ensures))))
+    (bounded c.args.pair.now.print c.args.pair.now.scan c.scan-format.ensures.checked c.aligned_is_accepted.ensures
+    c.aligned_is_bounded.ensures))))
 
 pub returns-clause-some : goal.returns-clause-some
-returns-clause-some c = λ values z fit is. some c.args.pair.now.print c.args.pair.now.scan c.scan-format.ensures.checked c.aligned_is_accepted.ensures c.prints_some.ensures values z c.args.text.now fit is
+returns-clause-some c = λ values z fit is. some c.args.pair.now.print c.args.pair.now.scan c.scan-format.ensures.checked
+    c.aligned_is_accepted.ensures c.prints_some.ensures values z c.args.text.now fit is
 
 pub returns-in_default-clause-some : goal.returns-in_default-clause-some
-returns-in_default-clause-some c = λ values z fit is. some c.args.pair.now.print c.args.pair.now.scan c.scan-format.ensures.checked c.aligned_is_accepted.ensures c.prints_some.ensures values z c.args.text.now fit is
+returns-in_default-clause-some c = λ values z fit is. some c.args.pair.now.print c.args.pair.now.scan c.scan-format.ensures.checked
+    c.aligned_is_accepted.ensures c.prints_some.ensures values z c.args.text.now fit is
 
 pub returns-clause-held : goal.returns-clause-held
 returns-clause-held c =
     c.held_is_bounded.ensures c.args.pair.now.scan 1000 c.args.text.now End c.in-Ok.scanned.report
-    (subst (λ (ds : List Directive). RunTold ds 1000 c.args.text.now End c.in-Ok.scanned.report) c.scan-format.ensures.value c.in-Ok.ensures.report)
+    (subst (λ (ds : List Directive). RunTold ds 1000 c.args.text.now End c.in-Ok.scanned.report) c.scan-format.ensures.value
+    c.in-Ok.ensures.report)
 
 pub returns-clause-end : goal.returns-clause-end
 returns-clause-end c = λ is.
@@ -32,4 +36,5 @@ returns-clause-end c = λ is.
     c.ends_on_nothing.ensures c.one_report.ensures c.args.text.now is c.in-Ok.scanned.report
     (subst (λ (ds : List Directive). RunWithin ds 1000 c.args.text.now End c.in-Ok.scanned.report) c.scan-format.ensures.value
     (c.in-Ok.ensures.bounded (subst (λ (ds : List Directive). IsSome (width_sum ds)) (sym c.scan-format.ensures.value)
-    (bounded c.args.pair.now.print c.args.pair.now.scan c.scan-format.ensures.checked c.aligned_is_accepted.ensures c.aligned_is_bounded.ensures))))
+    (bounded c.args.pair.now.print c.args.pair.now.scan c.scan-format.ensures.checked c.aligned_is_accepted.ensures
+    c.aligned_is_bounded.ensures))))

@@ -40,5 +40,6 @@ returns-in-TooLong-clause-source g c =
     (ap is_failed c.in-TooLong.is ∙ sym c.tell.ensures.read)
 
 pub returns-in-TooLong-clause-sink : goal.returns-in-TooLong-clause-sink
-returns-in-TooLong-clause-sink g c = c.tell.ensures.sink ∙ ap (λ b. cond b (counted_on (g.K.Sink.failures c.args.to.now)) (g.K.Sink.failures c.args.to.now))
+returns-in-TooLong-clause-sink g c = c.tell.ensures.sink ∙ ap (λ b. cond b (counted_on (g.K.Sink.failures c.args.to.now))
+    (g.K.Sink.failures c.args.to.now))
     (sym c.tell.ensures.sound)

@@ -10,9 +10,11 @@ pub returns-clause-run : goal.returns-clause-run
 returns-clause-run g c =
     let report : RunReport = report_by c.in_ok-outcome.outcome c.quick_run.new.store.values in
     let held : c.held.result.now ≡ c.args.from.now.held = c.held.ensures.held in
-    held_run g.S.Source.to_come g.S.Source.reads g.S.Source.failures g.row.N c.args.format.now c.args.limit c.args.from.now c.consume.new.self
+    held_run g.S.Source.to_come g.S.Source.reads g.S.Source.failures g.row.N c.args.format.now c.args.limit c.args.from.now
+    c.consume.new.self
     c.args.lines.now c.count_newlines.new.lines report
     (λ z ending. subst (λ y. RunWithin c.args.format.now c.args.limit (y ++ z) ending report) held (c.in_ok-outcome.ensures.run z ending))
-    c.in_ok-outcome.ensures.done c.in_ok-outcome.ensures.met (omega (arith, c.in_ok-outcome.ensures.used, ap length held)) c.consume.ensures.held
+    c.in_ok-outcome.ensures.done c.in_ok-outcome.ensures.met (omega (arith, c.in_ok-outcome.ensures.used, ap length held))
+    c.consume.ensures.held
     c.consume.ensures.source c.consume.ensures.at_end c.consume.ensures.told
     (c.count_newlines.ensures ∙ ap (lines_after c.args.lines.now) (c.split_at.ensures.front ∙ ap (take report.used) c.held-2.ensures.held))

@@ -7,5 +7,7 @@ pub returns : goal.returns
 returns c =
     let xs = c.args.bytes.now in
     let w = c.args.width in
-    ends_copied c.args.buf.now xs c.copy_from_slice.new.self c.copy_from_slice-2.new.self c.args.at w (c.args.at + w - c.args.at) _ c.requires.width.0 c.requires.width.1 c.requires.room (omega arith) (omega arith)
-    c.copy_from_slice.ensures.after (c.copy_from_slice-2.ensures.after ∙ take_all _ (drop (length xs - w) xs) (omega (arith, length-drop (length xs - w) xs)))
+    ends_copied c.args.buf.now xs c.copy_from_slice.new.self c.copy_from_slice-2.new.self c.args.at w
+    (c.args.at + w - c.args.at) _ c.requires.width.0 c.requires.width.1 c.requires.room (omega arith) (omega arith)
+    c.copy_from_slice.ensures.after (c.copy_from_slice-2.ensures.after
+    ∙ take_all _ (drop (length xs - w) xs) (omega (arith, length-drop (length xs - w) xs)))

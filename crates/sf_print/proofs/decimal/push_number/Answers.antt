@@ -18,7 +18,8 @@ behind_minus : (out before new digits : List ℕ) (negative : Bool) (start : ℕ
     → new ≡ take (start + bool_byte negative) before ++ digits → new ≡ out ++ (minus negative ++ digits)
 behind_minus out before new digits negative start e room is =
     is ∙ (λ i. take (e i + bool_byte negative) (room i) ++ digits)
-    ∙ ap (λ (t : List ℕ). t ++ digits) (take-append-add out (replicate 24 45) (bool_byte negative) ∙ ap (λ (t : List ℕ). out ++ t) (front_of_room negative))
+    ∙ ap (λ (t : List ℕ). t ++ digits) (take-append-add out (replicate 24 45) (bool_byte negative)
+    ∙ ap (λ (t : List ℕ). out ++ t) (front_of_room negative))
     ∙ append_assoc out (minus negative) digits
 
 -- what was written through a slice of all elements is what the list holds
@@ -27,9 +28,19 @@ written_back n end buf rest e = ap (take end) (ap (λ (k : ℕ). take k (buf ++ 
 
 pub write_decimal-end-requires : goal.write_decimal-end-requires
 write_decimal-end-requires c =
-    omega (arith, at_most_one c.args.negative, length_at_most c.args.magnitude c.ranges.magnitude.fits, c.len.ensures, c.in_ok-extend_from_slice.ensures.len, c.deref_mut.ensures.len)
+    omega (
+      arith,
+      at_most_one c.args.negative,
+      length_at_most c.args.magnitude c.ranges.magnitude.fits,
+      c.len.ensures,
+      c.in_ok-extend_from_slice.ensures.len,
+      c.deref_mut.ensures.len,
+    )
 
 pub returns-clause-appended : goal.returns-clause-appended
 returns-clause-appended c =
-    c.truncate.ensures.items ∙ written_back _ c.write_decimal-end.result c.write_decimal-end.new.buf _ (omega (arith, c.write_decimal-end.auto.buf, c.deref_mut.ensures.len))
-    ∙ behind_minus c.args.output.now.items c.deref_mut.result.now _ (decimal c.args.magnitude) c.args.negative c.len.result (omega (arith, c.len.ensures, c.args.output.now.ok.0)) (c.deref_mut.ensures.value ∙ c.in_ok-extend_from_slice.ensures.items) c.write_decimal-end.ensures.written
+    c.truncate.ensures.items ∙ written_back _ c.write_decimal-end.result c.write_decimal-end.new.buf _
+    (omega (arith, c.write_decimal-end.auto.buf, c.deref_mut.ensures.len))
+    ∙ behind_minus c.args.output.now.items c.deref_mut.result.now _ (decimal c.args.magnitude) c.args.negative c.len.result
+    (omega (arith, c.len.ensures, c.args.output.now.ok.0)) (c.deref_mut.ensures.value ∙ c.in_ok-extend_from_slice.ensures.items)
+    c.write_decimal-end.ensures.written

@@ -12,7 +12,8 @@ returns-then-number-lt10-clause-end c = omega (arith, length_one c.args.number c
 
 pub returns-then-number-lt10-clause-written : goal.returns-then-number-lt10-clause-written
 returns-then-number-lt10-clause-written c =
-    rw (decimal_digit c.args.number c.if-number-lt10.true) (take_more_set c.args.buf.now c.args.at _ (omega (arith, length_one c.args.number c.if-number-lt10.true)))
+    rw (decimal_digit c.args.number c.if-number-lt10.true) (take_more_set c.args.buf.now c.args.at _
+    (omega (arith, length_one c.args.number c.if-number-lt10.true)))
 
 pub write_pair-requires : goal.write_pair-requires
 write_pair-requires c = (c.requires.0, omega (arith, length_two c.args.number c.if-number-lt10.false c.requires.0))

@@ -22,21 +22,29 @@ write_decimal-requires c = omega (arith, length_most 10 false c.args.magnitude)
 
 pub returns-in-Octal-clause-written : goal.returns-in-Octal-clause-written
 returns-in-Octal-clause-written c =
-    to_end c.write_digits.result _ _ c.args.buf.now c.write_digits.ensures.start (omega arith) c.write_digits.ensures.written ∙ ap (λ l. digits (base_of l) (is_upper l) c.args.magnitude) (sym c.in-Octal.is)
+    to_end c.write_digits.result _ _ c.args.buf.now c.write_digits.ensures.start (omega arith) c.write_digits.ensures.written
+    ∙ ap (λ l. digits (base_of l) (is_upper l) c.args.magnitude) (sym c.in-Octal.is)
 
 pub returns-in-HexLower-clause-written : goal.returns-in-HexLower-clause-written
 returns-in-HexLower-clause-written c =
-    to_end c.write_digits-in-HexLower.result _ _ c.args.buf.now c.write_digits-in-HexLower.ensures.start (omega arith) c.write_digits-in-HexLower.ensures.written ∙ ap (λ l. digits (base_of l) (is_upper l) c.args.magnitude) (sym c.in-HexLower.is)
+    to_end c.write_digits-in-HexLower.result _ _ c.args.buf.now c.write_digits-in-HexLower.ensures.start
+    (omega arith) c.write_digits-in-HexLower.ensures.written ∙ ap (λ l. digits (base_of l) (is_upper l) c.args.magnitude)
+    (sym c.in-HexLower.is)
 
 pub returns-in-HexUpper-clause-written : goal.returns-in-HexUpper-clause-written
 returns-in-HexUpper-clause-written c =
-    to_end c.write_digits-in-HexUpper.result _ _ c.args.buf.now c.write_digits-in-HexUpper.ensures.start (omega arith) c.write_digits-in-HexUpper.ensures.written ∙ ap (λ l. digits (base_of l) (is_upper l) c.args.magnitude) (sym c.in-HexUpper.is)
+    to_end c.write_digits-in-HexUpper.result _ _ c.args.buf.now c.write_digits-in-HexUpper.ensures.start
+    (omega arith) c.write_digits-in-HexUpper.ensures.written ∙ ap (λ l. digits (base_of l) (is_upper l) c.args.magnitude)
+    (sym c.in-HexUpper.is)
 
 pub returns-in-Binary-clause-written : goal.returns-in-Binary-clause-written
 returns-in-Binary-clause-written c =
-    to_end c.write_digits-in-Binary.result _ _ c.args.buf.now c.write_digits-in-Binary.ensures.start (omega arith) c.write_digits-in-Binary.ensures.written ∙ ap (λ l. digits (base_of l) (is_upper l) c.args.magnitude) (sym c.in-Binary.is)
+    to_end c.write_digits-in-Binary.result _ _ c.args.buf.now c.write_digits-in-Binary.ensures.start
+    (omega arith) c.write_digits-in-Binary.ensures.written ∙ ap (λ l. digits (base_of l) (is_upper l) c.args.magnitude)
+    (sym c.in-Binary.is)
 
 pub returns-in_default-clause-written : goal.returns-in_default-clause-written
 returns-in_default-clause-written c =
     let t = ten c.args.letter c.in_default.not-Octal c.in_default.not-HexLower c.in_default.not-HexUpper c.in_default.not-Binary in
-    from_start c.write_decimal.result (decimal c.args.magnitude) _ c.args.buf.now c.write_decimal.ensures.written ∙ (λ i. digits (t.0 i) (t.1 i) c.args.magnitude)
+    from_start c.write_decimal.result (decimal c.args.magnitude) _ c.args.buf.now c.write_decimal.ensures.written
+    ∙ (λ i. digits (t.0 i) (t.1 i) c.args.magnitude)

@@ -5,16 +5,34 @@ use Rattle.sf_print.proofs.Digits.{digits_one, digits_step, length_some, length_
 use Rattle.sf_print.proofs.numeral.write_digits.Goals as goal
 
 pub overflow_sub-at : goal.overflow_sub-at
-overflow_sub-at c = omega (arith, length_some c.args.base c.args.upper c.loop-left.left c.requires.base.0 c.requires.base.1 c.loop-left.auto.left-fits.fits)
+overflow_sub-at c = omega (
+  arith,
+  length_some c.args.base c.args.upper c.loop-left.left c.requires.base.0 c.requires.base.1
+      c.loop-left.auto.left-fits.fits,
+)
 
 pub bounds-buf-at : goal.bounds-buf-at
-bounds-buf-at c = omega (arith, length_some c.args.base c.args.upper c.loop-left.left c.requires.base.0 c.requires.base.1 c.loop-left.auto.left-fits.fits, c.loop-left.auto.buf)
+bounds-buf-at c = omega (
+  arith,
+  length_some c.args.base c.args.upper c.loop-left.left c.requires.base.0 c.requires.base.1
+      c.loop-left.auto.left-fits.fits,
+  c.loop-left.auto.buf,
+)
 
 pub overflow_sub-at-2 : goal.overflow_sub-at-2
-overflow_sub-at-2 c = omega (arith, length_some c.args.base c.args.upper c.loop-left.left c.requires.base.0 c.requires.base.1 c.loop-left.auto.left-fits.fits)
+overflow_sub-at-2 c = omega (
+  arith,
+  length_some c.args.base c.args.upper c.loop-left.left c.requires.base.0 c.requires.base.1
+      c.loop-left.auto.left-fits.fits,
+)
 
 pub bounds-buf-at-2 : goal.bounds-buf-at-2
-bounds-buf-at-2 c = omega (arith, length_some c.args.base c.args.upper c.loop-left.left c.requires.base.0 c.requires.base.1 c.loop-left.auto.left-fits.fits, c.loop-left.auto.buf)
+bounds-buf-at-2 c = omega (
+  arith,
+  length_some c.args.base c.args.upper c.loop-left.left c.requires.base.0 c.requires.base.1
+      c.loop-left.auto.left-fits.fits,
+  c.loop-left.auto.buf,
+)
 
 -- one place lower, less of the front is told
 shorter : (n m : ℕ) (xs ys : List ℕ) → m ≤ n → take n xs ≡ take n ys → take m xs ≡ take m ys
@@ -37,8 +55,10 @@ loop-left-preserved c =
       before_end = omega arith;
       start = omega arith;
       written =
-          ap (λ (t : List ℕ). digits c.args.base c.args.upper (l.left / c.args.base) ++ t) (written_before l.buf l.at _ _ (omega arith) (omega (arith, l.auto.buf)) c.glyph.ensures)
-          ∙ sym (append_assoc (digits c.args.base c.args.upper (l.left / c.args.base)) (digit_glyph c.args.upper (l.left % c.args.base) ∷ []) (drop l.at l.buf))
+          ap (λ (t : List ℕ). digits c.args.base c.args.upper (l.left / c.args.base) ++ t)
+          (written_before l.buf l.at _ _ (omega arith) (omega (arith, l.auto.buf)) c.glyph.ensures)
+          ∙ sym (append_assoc (digits c.args.base c.args.upper (l.left / c.args.base))
+          (digit_glyph c.args.upper (l.left % c.args.base) ∷ []) (drop l.at l.buf))
           ∙ ap (λ (t : List ℕ). t ++ drop l.at l.buf) (sym step)
           ∙ l.invariant.written;
       before = take-set _ _ _ ∙ shorter l.at (l.at - 1) l.buf c.args.buf.now (omega arith) l.invariant.before;
@@ -46,14 +66,17 @@ loop-left-preserved c =
 
 pub returns-clause-start : goal.returns-clause-start
 returns-clause-start c =
-    let one = ap length (digits_one c.args.base c.args.upper c.loop-left.left c.requires.base.0 (omega arith)) in omega (arith, one, c.loop-left.invariant.start, c.loop-left.invariant.room)
+    let one = ap length (digits_one c.args.base c.args.upper c.loop-left.left c.requires.base.0 (omega arith)) in
+    omega (arith, one, c.loop-left.invariant.start, c.loop-left.invariant.room)
 
 pub returns-clause-written : goal.returns-clause-written
 returns-clause-written c =
     let l = c.loop-left in
     let one = digits_one c.args.base c.args.upper c.loop-left.left c.requires.base.0 (omega arith) in
     let len = ap length one in
-    written_before l.buf l.at _ _ (omega arith) (omega (arith, l.auto.buf)) c.glyph-2.ensures ∙ ap (λ (t : List ℕ). t ++ drop l.at l.buf) (sym one) ∙ l.invariant.written
+    written_before l.buf l.at _ _ (omega arith) (omega (arith, l.auto.buf)) c.glyph-2.ensures
+    ∙ ap (λ (t : List ℕ). t ++ drop l.at l.buf) (sym one) ∙ l.invariant.written
 
 pub returns-clause-before : goal.returns-clause-before
-returns-clause-before c = take-set _ _ _ ∙ shorter c.loop-left.at (c.loop-left.at - 1) c.loop-left.buf c.args.buf.now (omega arith) c.loop-left.invariant.before
+returns-clause-before c = take-set _ _ _ ∙ shorter c.loop-left.at (c.loop-left.at - 1) c.loop-left.buf c.args.buf.now
+    (omega arith) c.loop-left.invariant.before

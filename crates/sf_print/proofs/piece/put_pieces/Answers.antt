@@ -15,16 +15,22 @@ put_piece-requires g c =
       c.requires,
       l.invariant.count,
       cut
-          ∙ length-append (flat_map piece_bytes (take l.piece-index c.args.pieces.now)) (piece_bytes (get_or c.args.pieces.now l.piece-index (pieces.Run 0 0)) ++ flat_map piece_bytes (drop (l.piece-index + 1) c.args.pieces.now)),
-      length-append (piece_bytes (get_or c.args.pieces.now l.piece-index (pieces.Run 0 0))) (flat_map piece_bytes (drop (l.piece-index + 1) c.args.pieces.now)),
+          ∙ length-append (flat_map piece_bytes (take l.piece-index c.args.pieces.now))
+          (piece_bytes (get_or c.args.pieces.now l.piece-index (pieces.Run 0 0)) ++ flat_map piece_bytes
+          (drop (l.piece-index + 1) c.args.pieces.now)),
+      length-append (piece_bytes (get_or c.args.pieces.now l.piece-index (pieces.Run 0 0)))
+          (flat_map piece_bytes (drop (l.piece-index + 1) c.args.pieces.now)),
     )
 
 pub returns-in_err-put_piece-clause-text : goal.returns-in_err-put_piece-clause-text
 returns-in_err-put_piece-clause-text g c =
     let l = c.loop-piece in
-    handed_on _ _ c.args.stage.now c.put_piece.new.stage (flat_map piece_bytes c.args.pieces.now) c.from_residual.result _ c.from_residual.ensures.1
-    (Stops-middle _ _ _ _ _ _ _ _ (flat_map piece_bytes (take l.piece-index c.args.pieces.now)) (piece_bytes (get_or c.args.pieces.now l.piece-index (pieces.Run 0 0)))
-    (flat_map piece_bytes (drop (l.piece-index + 1) c.args.pieces.now)) (flat_map piece_bytes c.args.pieces.now) l.invariant.text c.in_err-put_piece.ensures.text
+    handed_on _ _ c.args.stage.now c.put_piece.new.stage (flat_map piece_bytes c.args.pieces.now) c.from_residual.result _
+    c.from_residual.ensures.1
+    (Stops-middle _ _ _ _ _ _ _ _ (flat_map piece_bytes (take l.piece-index c.args.pieces.now))
+    (piece_bytes (get_or c.args.pieces.now l.piece-index (pieces.Run 0 0)))
+    (flat_map piece_bytes (drop (l.piece-index + 1) c.args.pieces.now))
+    (flat_map piece_bytes c.args.pieces.now) l.invariant.text c.in_err-put_piece.ensures.text
     (flat_map_cut piece_bytes c.args.pieces.now l.piece-index (pieces.Run 0 0) c.loop-piece-test.true))
 
 pub loop-piece-preserved : goal.loop-piece-preserved
@@ -33,12 +39,19 @@ loop-piece-preserved g c =
     let first = pieces.Run 0 0 in
     record {
       sound = c.in_ok-put_piece.ensures.failures ∙ l.invariant.sound;
-      text = PutsAll-same _ _ _ _ _ _ (flat_map piece_bytes (take l.piece-index c.args.pieces.now) ++ piece_bytes (get_or c.args.pieces.now l.piece-index first)) _
+      text = PutsAll-same _ _ _ _ _ _ (flat_map piece_bytes (take l.piece-index c.args.pieces.now) ++ piece_bytes
+          (get_or c.args.pieces.now l.piece-index first)) _
           (flat_map_more piece_bytes c.args.pieces.now l.piece-index first c.loop-piece-test.true)
           (PutsAll-then _ _ _ _ _ _ _ _ _ _ _ l.invariant.text c.in_ok-put_piece.ensures.text);
-      count = omega (arith, l.invariant.count, c.in_ok-put_piece.ensures.count, length_more piece_bytes c.args.pieces.now l.piece-index first c.loop-piece-test.true);
+      count = omega (
+        arith,
+        l.invariant.count,
+        c.in_ok-put_piece.ensures.count,
+        length_more piece_bytes c.args.pieces.now l.piece-index first c.loop-piece-test.true,
+      );
     }
 
 pub returns-clause-text : goal.returns-clause-text
 returns-clause-text g c =
-    PutsAll-same _ _ _ _ _ _ _ _ (ap (flat_map piece_bytes) (take_all c.loop-piece.piece-index c.args.pieces.now (omega arith))) c.loop-piece.invariant.text
+    PutsAll-same _ _ _ _ _ _ _ _ (ap (flat_map piece_bytes) (take_all c.loop-piece.piece-index c.args.pieces.now (omega arith)))
+    c.loop-piece.invariant.text

@@ -8,6 +8,7 @@ use Rattle.sf_print.proofs.piece.put_pieces.Given as goal
 abbrev pub invariant-loop-piece : goal.invariant-loop-piece
 invariant-loop-piece g l = record {
   sound : g.K.Sink.failures l.to ≡ g.K.Sink.failures l.fn.to;
-  text : PutsAll (g.K.Sink.contents l.fn.to) l.fn.stage.written (held l.fn.stage) (g.K.Sink.contents l.to) l.stage.written (held l.stage) (flat_map piece_bytes (take l.piece-index l.pieces));
+  text : PutsAll (g.K.Sink.contents l.fn.to) l.fn.stage.written (held l.fn.stage) (g.K.Sink.contents l.to) l.stage.written (held l.stage)
+      (flat_map piece_bytes (take l.piece-index l.pieces));
   count : l.stage.written + l.stage.len ≡ l.fn.stage.written + l.fn.stage.len + length (flat_map piece_bytes (take l.piece-index l.pieces));
 }

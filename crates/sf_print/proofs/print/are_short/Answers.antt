@@ -7,4 +7,6 @@ use Rattle.sf_print.proofs.print.are_short.Goals as goal
 
 pub returns-then-not-is_short : goal.returns-then-not-is_short
 returns-then-not-is_short c =
-    sym (list_all-map is_short datum_of c.args.values.now ∙ list_all_at (λ v. is_short (datum_of v)) c.args.values.now c.loop-value.value-index (value.I8 (pos 0)) c.loop-value-test.true (sym c.is_short.ensures ∙ c.if-not-is_short.true))
+    sym (list_all-map is_short datum_of c.args.values.now ∙ list_all_at
+    (λ v. is_short (datum_of v)) c.args.values.now c.loop-value.value-index (value.I8 (pos 0)) c.loop-value-test.true
+    (sym c.is_short.ensures ∙ c.if-not-is_short.true))

@@ -9,5 +9,7 @@ use Rattle.sf_print.proofs.print.fprint.Goals as goal
 pub returns-in_err-refuse-clause-failures : goal.returns-in_err-refuse-clause-failures
 returns-in_err-refuse-clause-failures g c =
     let p = err_from_is_err_and c.from_residual.result c.from_residual.ensures.1 in
-    let e : c.from_residual.result ≡ measured c.args.format.now (map datum_of c.args.values.now) = p.1 ∙ ap Err p.2 ∙ sym c.in_err-refuse.ensures.told in
-    sym (ap (λ (t : Bool). cond t (counted_on (g.K.Sink.failures c.args.to.now)) (g.K.Sink.failures c.args.to.now)) (ap is_sink_fault e ∙ measured_kept c.args.format.now (map datum_of c.args.values.now)))
+    let e : c.from_residual.result ≡ measured c.args.format.now (map datum_of c.args.values.now) =
+    p.1 ∙ ap Err p.2 ∙ sym c.in_err-refuse.ensures.told in
+    sym (ap (λ (t : Bool). cond t (counted_on (g.K.Sink.failures c.args.to.now)) (g.K.Sink.failures c.args.to.now))
+    (ap is_sink_fault e ∙ measured_kept c.args.format.now (map datum_of c.args.values.now)))

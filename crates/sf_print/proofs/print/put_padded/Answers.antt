@@ -5,4 +5,5 @@ use Rattle.sf_print.proofs.print.put_padded.Goals as goal
 
 pub returns-clause-text : goal.returns-clause-text
 returns-clause-text g c =
-    Puts-same _ _ c.args.stage.now c.put_pieces.new.stage _ (value_text c.args.conv.now (datum_of c.args.value.now)) c.put_pieces.result c.value_pieces-pieces.ensures c.put_pieces.ensures.text
+    Puts-same _ _ c.args.stage.now c.put_pieces.new.stage _ (value_text c.args.conv.now (datum_of c.args.value.now)) c.put_pieces.result
+    c.value_pieces-pieces.ensures c.put_pieces.ensures.text

@@ -6,7 +6,8 @@ use Rattle.sf_print.proofs.print.put_unit.Goals as goal
 
 pub returns-in-Byte-clause-text : goal.returns-in-Byte-clause-text
 returns-in-Byte-clause-text g c =
-    Puts-same _ _ c.args.stage.now c.put_byte.new.stage _ (unit_text (map datum_of c.args.values.now) c.args.unit.now) c.put_byte.result (ap (unit_text (map datum_of c.args.values.now)) (sym c.in-Byte.is)) c.put_byte.ensures.text
+    Puts-same _ _ c.args.stage.now c.put_byte.new.stage _ (unit_text (map datum_of c.args.values.now) c.args.unit.now) c.put_byte.result
+    (ap (unit_text (map datum_of c.args.values.now)) (sym c.in-Byte.is)) c.put_byte.ensures.text
 
 pub returns-in-Some-clause-text : goal.returns-in-Some-clause-text
 returns-in-Some-clause-text g c =

@@ -11,7 +11,13 @@ use Rattle.sf_print.proofs.print.put_units.Goals as goal
 pub put_unit-requires : goal.put_unit-requires
 put_unit-requires g c =
     let l = c.loop-unit in
-    omega (arith, c.requires, l.invariant.count, length-flat_map-take (unit_text (map datum_of c.args.values.now)) c.args.units.now l.unit-index (unit.Byte 0) c.loop-unit-test.true)
+    omega (
+      arith,
+      c.requires,
+      l.invariant.count,
+      length-flat_map-take
+          (unit_text (map datum_of c.args.values.now)) c.args.units.now l.unit-index (unit.Byte 0) c.loop-unit-test.true,
+    )
 
 pub returns-in_err-put_unit-clause-text : goal.returns-in_err-put_unit-clause-text
 returns-in_err-put_unit-clause-text g c =
@@ -33,9 +39,15 @@ loop-unit-preserved g c =
       text = PutsAll-same _ _ _ _ _ _ (flat_map f (take l.unit-index units) ++ f (get_or units l.unit-index (unit.Byte 0))) _
           (flat_map_more f units l.unit-index (unit.Byte 0) c.loop-unit-test.true)
           (PutsAll-then _ _ _ _ _ _ _ _ _ _ _ l.invariant.text c.in_ok-put_unit.ensures.text);
-      count = omega (arith, l.invariant.count, c.in_ok-put_unit.ensures.count, length_more f units l.unit-index (unit.Byte 0) c.loop-unit-test.true);
+      count = omega (
+        arith,
+        l.invariant.count,
+        c.in_ok-put_unit.ensures.count,
+        length_more f units l.unit-index (unit.Byte 0) c.loop-unit-test.true,
+      );
     }
 
 pub returns-clause-text : goal.returns-clause-text
 returns-clause-text g c =
-    PutsAll-same _ _ _ _ _ _ _ _ (ap (λ us. printed us (map datum_of c.args.values.now)) (take_all c.loop-unit.unit-index c.args.units.now (omega arith))) c.loop-unit.invariant.text
+    PutsAll-same _ _ _ _ _ _ _ _ (ap (λ us. printed us (map datum_of c.args.values.now))
+    (take_all c.loop-unit.unit-index c.args.units.now (omega arith))) c.loop-unit.invariant.text

@@ -15,7 +15,9 @@ pub returns-then-are_short-clause-told : goal.returns-then-are_short-clause-told
 returns-then-are_short-clause-told c =
     let d = c.directives-units.ensures in
     let values = map datum_of c.args.values.now in
-    short_told c.refuse_values.result (measured c.args.format.now values) (length (printed c.args.format.now values)) (most c) (rw (d.value) at c.refuse_values.ensures)
+    short_told c.refuse_values.result (measured c.args.format.now values) (length (printed c.args.format.now values)) (most c)
+    (rw (d.value) at c.refuse_values.ensures)
 
 pub returns-then-are_short-clause-most : goal.returns-then-are_short-clause-most
-returns-then-are_short-clause-most c = short_most c.refuse_values.result (length (printed c.args.format.now (map datum_of c.args.values.now))) (most c)
+returns-then-are_short-clause-most c = short_most c.refuse_values.result
+    (length (printed c.args.format.now (map datum_of c.args.values.now))) (most c)

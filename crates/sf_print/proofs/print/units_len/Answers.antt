@@ -8,8 +8,19 @@ use Rattle.sf_print.proofs.print.units_len.Goals as goal
 
 pub returns-then-sum-most : goal.returns-then-sum-most
 returns-then-sum-most c =
-    omega (arith, c.loop-unit.invariant, length-flat_map-take (unit_text (map datum_of c.args.values.now)) c.args.units.now c.loop-unit.unit-index (unit.Byte 0) c.loop-unit-test.true)
+    omega (
+      arith,
+      c.loop-unit.invariant,
+      length-flat_map-take (unit_text (map datum_of c.args.values.now)) c.args.units.now
+          c.loop-unit.unit-index (unit.Byte 0) c.loop-unit-test.true,
+    )
 
 pub loop-unit-preserved : goal.loop-unit-preserved
 loop-unit-preserved c =
-    omega (arith, c.loop-unit.invariant, c.unit_len-sum.ensures, length_more (unit_text (map datum_of c.args.values.now)) c.args.units.now c.loop-unit.unit-index (unit.Byte 0) c.loop-unit-test.true)
+    omega (
+      arith,
+      c.loop-unit.invariant,
+      c.unit_len-sum.ensures,
+      length_more
+          (unit_text (map datum_of c.args.values.now)) c.args.units.now c.loop-unit.unit-index (unit.Byte 0) c.loop-unit-test.true,
+    )

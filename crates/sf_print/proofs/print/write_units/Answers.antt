@@ -6,12 +6,14 @@ use Rattle.sf_print.proofs.print.write_units.Goals as goal
 
 pub returns-in-Err-clause-text : goal.returns-in-Err-clause-text
 returns-in-Err-clause-text g c =
-    front_written _ _ c.new-stage.result _ (printed c.args.units.now (map datum_of c.args.values.now)) c.new-stage.ensures.len c.new-stage.ensures.written c.in-Err.ensures.text
+    front_written _ _ c.new-stage.result _ (printed c.args.units.now (map datum_of c.args.values.now)) c.new-stage.ensures.len
+    c.new-stage.ensures.written c.in-Err.ensures.text
 
 pub returns-in-Ok-flush-clause-text : goal.returns-in-Ok-flush-clause-text
 returns-in-Ok-flush-clause-text g c =
     let text = printed c.args.units.now (map datum_of c.args.values.now) in (
-      all_written _ _ c.new-stage.result c.flush.new.stage text c.new-stage.ensures.len c.new-stage.ensures.written c.in-Ok-flush.ensures.len
+      all_written _ _ c.new-stage.result c.flush.new.stage text c.new-stage.ensures.len c.new-stage.ensures.written
+          c.in-Ok-flush.ensures.len
           (PutsAll-then _ _ _ _ _ _ _ _ _ text [] c.in-Ok.ensures.text c.in-Ok-flush.ensures.text),
       omega (arith, c.in-Ok-flush.ensures.count, c.in-Ok.ensures.count, c.new-stage.ensures.len, c.new-stage.ensures.written),
     )

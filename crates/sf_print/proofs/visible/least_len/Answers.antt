@@ -8,9 +8,20 @@ use Rattle.sf_print.proofs.visible.least_len.Goals as goal
 pub visible_pieces-requires : goal.visible_pieces-requires
 visible_pieces-requires c =
     let wide : c.args.conv.now.width ≤ 65535 = omega arith in
-    omega (arith, ap length c.integer_pieces.ensures, integer_short c.args.conv.now (pos 0) wide (omega (arith, c.least-digits.ensures.value)))
+    omega (
+      arith,
+      ap length c.integer_pieces.ensures,
+      integer_short c.args.conv.now (pos 0) wide
+          (omega (arith, c.least-digits.ensures.value)),
+    )
 
 pub overflow_cast-result : goal.overflow_cast-result
 overflow_cast-result c =
     let wide : c.args.conv.now.width ≤ 65535 = omega arith in
-    omega (arith, c.visible_pieces.ensures, without-le (flat_map piece_bytes c.integer_pieces.result), ap length c.integer_pieces.ensures, integer_short c.args.conv.now (pos 0) wide (omega (arith, c.least-digits.ensures.value)))
+    omega (
+      arith,
+      c.visible_pieces.ensures,
+      without-le (flat_map piece_bytes c.integer_pieces.result),
+      ap length c.integer_pieces.ensures,
+      integer_short c.args.conv.now (pos 0) wide (omega (arith, c.least-digits.ensures.value)),
+    )

@@ -21,6 +21,9 @@ overflow_add-len c =
 pub loop-piece-preserved : goal.loop-piece-preserved
 loop-piece-preserved c =
     elim c.if-len-eq0.branch [
-      | then-len-eq0 w ↦ w.len-is ∙ w.visible_piece-len.ensures ∙ next_hidden c.args.pieces.now c.loop-piece.piece-index c.loop-piece.len c.loop-piece-test.true c.loop-piece.invariant w.if-len-eq0.true
-      | else-len-eq0 w ↦ w.len-is ∙ ap (λ k. c.loop-piece.len + k) w.len.ensures ∙ next_visible c.args.pieces.now c.loop-piece.piece-index c.loop-piece.len c.loop-piece-test.true c.loop-piece.invariant (let h = w.if-len-eq0.false in omega arith)
+      | then-len-eq0 w ↦ w.len-is ∙ w.visible_piece-len.ensures ∙ next_hidden c.args.pieces.now c.loop-piece.piece-index c.loop-piece.len
+          c.loop-piece-test.true c.loop-piece.invariant w.if-len-eq0.true
+      | else-len-eq0 w ↦ w.len-is ∙ ap (λ k. c.loop-piece.len + k) w.len.ensures
+          ∙ next_visible c.args.pieces.now c.loop-piece.piece-index c.loop-piece.len c.loop-piece-test.true c.loop-piece.invariant
+          (let h = w.if-len-eq0.false in omega arith)
     ]

@@ -6,13 +6,16 @@ use Rattle.sf_base.specs.contracts.values.Kind.{the_type}
 
 pub loop-before-preserved : goal.loop-before-preserved
 loop-before-preserved g c =
-    let same : c.shape.result ≡ c.kind.result = same_option _ (λ a b e. same_true the_type (search rules) _ _ e) c.shape.result c.kind.result (c.if-ne.false) c.ne.ensures in
-    one_more_slot g.T.Row.kinds c.args.format.now c.loop-before.before c.loop-before.invariant (sym c.shape.ensures ∙ same ∙ c.kind.ensures.kind)
+    let same : c.shape.result ≡ c.kind.result = same_option _ (λ a b e. same_true the_type (search rules) _ _ e) c.shape.result
+    c.kind.result (c.if-ne.false) c.ne.ensures in
+    one_more_slot g.T.Row.kinds c.args.format.now c.loop-before.before c.loop-before.invariant
+    (sym c.shape.ensures ∙ same ∙ c.kind.ensures.kind)
 
 pub returns-clause-same : goal.returns-clause-same
 returns-clause-same g c =
     let count = c.destinations-count.ensures.count in (
-      λ _. has_shape g.T.Row.kinds c.args.format.now c.destinations-count.ensures.slots (sym c.slots.ensures.count ∙ c.if-slots-count.false ∙ count)
+      λ _. has_shape g.T.Row.kinds c.args.format.now c.destinations-count.ensures.slots
+          (sym c.slots.ensures.count ∙ c.if-slots-count.false ∙ count)
           (λ slot low high. c.loop-before.invariant slot low (omega (arith, high, count, c.loop-before-test.false))),
       λ _. refl,
     )

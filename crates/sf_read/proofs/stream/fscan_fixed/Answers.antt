@@ -8,7 +8,8 @@ returns-clause-scan g c t e = c.run.ensures.scan c.args.format.now c.args.limit 
 pub returns-clause-bounded : goal.returns-clause-bounded
 returns-clause-bounded g c =
     c.run.ensures.bounded c.args.format.now c.args.limit c.in_ok-scanner.ensures.after
-    (has_sum c.args.limit (width_sum c.args.format.now) (λ h. let is = c.in_ok-scanner.ensures.limit.1 h in absurd cc) (λ h. let is = c.in_ok-scanner.ensures.unbounded.1 h in absurd cc))
+    (has_sum c.args.limit (width_sum c.args.format.now) (λ h. let is = c.in_ok-scanner.ensures.limit.1 h in absurd cc)
+    (λ h. let is = c.in_ok-scanner.ensures.unbounded.1 h in absurd cc))
 
 pub returns-clause-waited : goal.returns-clause-waited
 returns-clause-waited g c = c.run.ensures.waited c.args.format.now c.args.limit c.in_ok-scanner.ensures.after

@@ -12,7 +12,8 @@ returns-clause-scan g c t e =
     let used = c.in_ok-outcome.ensures.used in
     held_scan g.S.Source.to_come c.args.format.now c.args.limit c.args.from.now c.consume.new.self report
     (λ z ending. subst (λ y. RunWithin c.args.format.now c.args.limit (y ++ z) ending report) held (c.in_ok-outcome.ensures.run z ending))
-    c.in_ok-outcome.ensures.met (omega (arith, used, ap length held)) c.consume.ensures.held c.consume.ensures.source c.consume.ensures.at_end c.consume.ensures.told t e
+    c.in_ok-outcome.ensures.met (omega (arith, used, ap length held)) c.consume.ensures.held c.consume.ensures.source
+    c.consume.ensures.at_end c.consume.ensures.told t e
 
 pub returns-clause-told : goal.returns-clause-told
 returns-clause-told g c = (c.held.result.now ++ [], End, inl (c.in_ok-outcome.ensures.run [] End))

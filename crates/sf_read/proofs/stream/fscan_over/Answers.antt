@@ -10,7 +10,8 @@ use Rattle.sf_read.proofs.stream.fscan_over.Goals as goal
 
 pub returns-clause-scan : goal.returns-clause-scan
 returns-clause-scan g c t e =
-    subst (λ report. Scan g.S.Source.to_come c.args.format.now c.args.limit t c.args.from.now c.fscan_held.new.from report) (sym c.new.ensures.report) (c.in-Some.ensures.scan t e)
+    subst (λ report. Scan g.S.Source.to_come c.args.format.now c.args.limit t c.args.from.now c.fscan_held.new.from report)
+    (sym c.new.ensures.report) (c.in-Some.ensures.scan t e)
 
 pub returns-clause-told : goal.returns-clause-told
 returns-clause-told g c =
@@ -30,12 +31,15 @@ pub returns-clause-waited : goal.returns-clause-waited
 returns-clause-waited g c =
     let held : c.fscan_held.new.from.held ≡ drop c.in-Some.outcome.used c.args.from.now.held = c.in-Some.ensures.held in (
       take c.in-Some.outcome.used c.args.from.now.held,
-      ap (λ (r : RunReport). r.used) c.new.ensures.report ∙ sym (length-take-le c.in-Some.outcome.used c.args.from.now.held c.in-Some.ensures.within),
-      no_reads (take c.in-Some.outcome.used c.args.from.now.held) c.fscan_held.new.from (rw (held, take-append-drop) refl) c.fscan_held.ensures.no_read,
+      ap (λ (r : RunReport). r.used) c.new.ensures.report ∙ sym (length-take-le c.in-Some.outcome.used c.args.from.now.held
+          c.in-Some.ensures.within),
+      no_reads (take c.in-Some.outcome.used c.args.from.now.held) c.fscan_held.new.from
+          (rw (held, take-append-drop) refl) c.fscan_held.ensures.no_read,
     )
 
 pub returns-2-clause-waited : goal.returns-2-clause-waited
 returns-2-clause-waited g c =
     let stood : c.else-limit-le-MOST_BYTES.from ≡ c.args.from.now = search rules in
-    subst (λ old. WaitedFor g.S.Source.to_come g.S.Source.reads g.row.N c.args.format.now c.args.limit old c.run.new.from c.run.result.report.used) stood
+    subst (λ old. WaitedFor g.S.Source.to_come g.S.Source.reads g.row.N c.args.format.now c.args.limit old c.run.new.from
+    c.run.result.report.used) stood
     (c.run.ensures.waited c.args.format.now c.args.limit c.in_ok-over.ensures.after)

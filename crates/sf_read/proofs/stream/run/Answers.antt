@@ -11,7 +11,8 @@ unreachable-requires g c =
 
 pub returns-clause-scan : goal.returns-clause-scan
 returns-clause-scan g c ds m t after e =
-    scans c.in-Ok.scanned.report (driven_by after c.drive.ensures.driven) (λ x ending h. c.in-Ok.ensures.gives ds m x ending h) c.in-Ok.ensures.used c.in-Ok.ensures.memory t e
+    scans c.in-Ok.scanned.report (driven_by after c.drive.ensures.driven)
+    (λ x ending h. c.in-Ok.ensures.gives ds m x ending h) c.in-Ok.ensures.used c.in-Ok.ensures.memory t e
 
 pub returns-clause-told : goal.returns-clause-told
 returns-clause-told g c ds m after =
@@ -26,11 +27,13 @@ returns-clause-waited g c ds m after = let d = driven_by after c.drive.ensures.d
 
 pub returns-clause-failures : goal.returns-clause-failures
 returns-clause-failures g c =
-    count_failures c.in-Ok.scanned.report c.drive.ensures.driven (λ x ending h. c.in-Ok.ensures.gives (standing c.args.scanner).directives (standing c.args.scanner).limit x ending h) c.in-Ok.ensures.used c.in-Ok.ensures.memory
+    count_failures c.in-Ok.scanned.report c.drive.ensures.driven (λ x ending h. c.in-Ok.ensures.gives (standing c.args.scanner).directives
+    (standing c.args.scanner).limit x ending h) c.in-Ok.ensures.used c.in-Ok.ensures.memory
 
 pub returns-clause-end : goal.returns-clause-end
 returns-clause-end g c e =
-    ends_at_end c.in-Ok.scanned.report c.drive.ensures.driven (λ x ending h. c.in-Ok.ensures.gives (standing c.args.scanner).directives (standing c.args.scanner).limit x ending h) c.in-Ok.ensures.used c.in-Ok.ensures.memory e
+    ends_at_end c.in-Ok.scanned.report c.drive.ensures.driven (λ x ending h. c.in-Ok.ensures.gives (standing c.args.scanner).directives
+    (standing c.args.scanner).limit x ending h) c.in-Ok.ensures.used c.in-Ok.ensures.memory e
 
 pub returns-clause-bounded : goal.returns-clause-bounded
 returns-clause-bounded g c ds m after sum = c.in-Ok.ensures.memory ∙ (driven_by after c.drive.ensures.driven).bounded sum

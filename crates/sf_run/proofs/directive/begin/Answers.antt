@@ -13,7 +13,8 @@ pub returns-then-is_count-clause-answers : goal.returns-then-is_count-clause-ans
 returns-then-is_count-clause-answers c proper =
     let k : Conversion = c.args.conversion.now in
     subst (λ (r : Run). Answers (Conv k) Skipping c.args.used c.args.piece.now r) (sym c.ends.ensures)
-    (count_answers k c.args.used c.args.piece.now c.finish_count.result proper (sym c.is_count.ensures ∙ c.if-is_count.true) (c.finish_count.ensures.end []))
+    (count_answers k c.args.used c.args.piece.now c.finish_count.result proper (sym c.is_count.ensures ∙ c.if-is_count.true)
+    (c.finish_count.ensures.end []))
 
 pub returns-clause-answers : goal.returns-clause-answers
 returns-clause-answers c proper =
@@ -23,10 +24,12 @@ returns-clause-answers c proper =
     let e = c.skipped-before.ensures in
     let run = c.begin_item.result in
     let back = c.split_at.ensures.back in
-    let fits : run.before + run.item ≤ length (drop w piece) = subst (λ y. run.before + run.item ≤ length y) back c.begin_item.ensures.suits.within in
+    let fits : run.before + run.item ≤ length (drop w piece) = subst
+    (λ y. run.before + run.item ≤ length y) back c.begin_item.ensures.suits.within in
     let here : Answers (Conv k) Skipping (c.args.used + w) (drop w piece) run =
     subst (λ y. Answers (Conv k) Skipping (c.args.used + w) y run) back
     (c.begin_item.ensures.answers proper
-    (subst (λ y. 0 < length y → (shape_skips k.shape && is_white (get_or y 0 0)) ≡ false) (sym back) (next_behind (λ b. shape_skips k.shape && is_white b) w piece e.next)) (c.args.used + w)) in
+    (subst (λ y. 0 < length y → (shape_skips k.shape && is_white (get_or y 0 0)) ≡ false) (sym back)
+    (next_behind (λ b. shape_skips k.shape && is_white b) w piece e.next)) (c.args.used + w)) in
     subst (λ (r : Run). Answers (Conv k) Skipping c.args.used piece r) (sym c.behind.ensures)
     (answers_behind (Conv k) c.args.used w piece run e.within fits (item_skips k piece w e.within e.white) here)

@@ -14,11 +14,13 @@ use Rattle.sf_run.proofs.directive.begin_item.Goals as goal
 pub returns-then-is_empty-clause-suits : goal.returns-then-is_empty-clause-suits
 returns-then-is_empty-clause-suits c =
     let none : 0 ≡ length c.args.piece.now = search rules in
-    subst (λ (r : Run). Suits (Conv c.args.conversion.now) phase.Skipping c.args.piece.now r) (sym c.waits.ensures) (suits_waits (Conv c.args.conversion.now) 0 c.args.piece.now c.requires none)
+    subst (λ (r : Run). Suits (Conv c.args.conversion.now) phase.Skipping c.args.piece.now r) (sym c.waits.ensures)
+    (suits_waits (Conv c.args.conversion.now) 0 c.args.piece.now c.requires none)
 
 pub returns-in-Some-clause-answers : goal.returns-in-Some-clause-answers
 returns-in-Some-clause-answers c proper ink n =
-    subst (λ (r : Run). Answers (Conv c.args.conversion.now) Skipping n c.args.piece.now r) (sym c.ends.ensures) (c.in-Some.ensures.answers proper ink n)
+    subst (λ (r : Run). Answers (Conv c.args.conversion.now) Skipping n c.args.piece.now r) (sym c.ends.ensures)
+    (c.in-Some.ensures.answers proper ink n)
 
 pub returns-then-run-eq0-clause-answers : goal.returns-then-run-eq0-clause-answers
 returns-then-run-eq0-clause-answers c proper ink n =
@@ -30,7 +32,8 @@ returns-then-run-eq0-clause-answers c proper ink n =
     (nothing_taken k n piece proper.0 c.requires some (ink some) (λ can.
     let none : c.go_on-run.result.item ≡ 0 = c.if-run-eq0.true in
     c.go_on-run.ensures.stops [] c.start.ensures.nothing (omega (arith, none, some))
-    (subst (λ i. CanTake (conversion_of c.start.result) (take (i + 1) piece)) (sym none) (subst (λ (x : Conversion). CanTake x (take 1 piece)) (sym same) can))))
+    (subst (λ i. CanTake (conversion_of c.start.result) (take (i + 1) piece)) (sym none)
+    (subst (λ (x : Conversion). CanTake x (take 1 piece)) (sym same) can))))
 
 pub returns-clause-answers : goal.returns-clause-answers
 returns-clause-answers c proper ink n =
@@ -42,7 +45,8 @@ returns-clause-answers c proper ink n =
     let some : 0 < run.item = (let e = c.if-run-eq0.false in omega (arith, e)) in
     let within = e.within in
     let shape = subst (λ (x : Conversion). IsProperShape x.shape) (sym same) proper.0 in
-    subst (λ b. Answers (Conv k) Skipping n piece (record { before = b; item = run.item; phase = run.phase; ends = run.ends })) (sym e.before)
+    subst (λ b. Answers (Conv k) Skipping n piece (record { before = b; item = run.item; phase = run.phase; ends = run.ends }))
+    (sym e.before)
     (item_begins k n piece run.item proper some within (ink (omega (arith, some, within)))
     (subst (λ (x : Conversion). CanAll x [] (take run.item piece)) same (e.can [] shape c.start.ensures.nothing))
     run.phase run.ends (e.slot ∙ c.text_slot.ensures) e.waits

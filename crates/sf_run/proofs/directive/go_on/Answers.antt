@@ -10,11 +10,13 @@ use Rattle.sf_run.proofs.directive.go_on.Goals as goal
 
 pub returns-then-not-is_over-clause-can : goal.returns-then-not-is_over-clause-can
 returns-then-not-is_over-clause-can c f proper h =
-    let e = c.take_run-item.ensures in can_all (conversion_of c.args.scan) f c.args.piece.now c.take_run-item.result proper e.within (e.each f h)
+    let e = c.take_run-item.ensures in can_all (conversion_of c.args.scan) f c.args.piece.now c.take_run-item.result proper e.within
+    (e.each f h)
 
 pub returns-clause-can : goal.returns-clause-can
 returns-clause-can c f proper h =
-    let e = c.take_run-item.ensures in can_all (conversion_of c.args.scan) f c.args.piece.now c.take_run-item.result proper e.within (e.each f h)
+    let e = c.take_run-item.ensures in can_all (conversion_of c.args.scan) f c.args.piece.now c.take_run-item.result proper e.within
+    (e.each f h)
 
 pub returns-clause-ends : goal.returns-clause-ends
 returns-clause-ends c f proper same h text some =
@@ -27,5 +29,6 @@ returns-clause-ends c f proper same h text some =
     let other = ap (λ (x : Conversion). is_count x.shape) (sym own) ∙ scan_has_item scan _ taken in
     over_ends k (conversion_of scan) (f ++ take n c.args.piece.now) (drop n c.args.piece.now) c.finish_taken.result own other
     (c.is_over.ensures.over f (subst (λ (x : Conversion). IsProper (Conv x)) (sym own) proper) taken
-    (λ below can. e.stops f h below (subst (λ (x : Conversion). CanTake x (f ++ take (n + 1) c.args.piece.now)) e.conversion can)) c.if-not-is_over.false)
+    (λ below can. e.stops f h below (subst (λ (x : Conversion). CanTake x (f ++ take (n + 1) c.args.piece.now)) e.conversion can))
+    c.if-not-is_over.false)
     (c.finish_taken.ensures.end (f ++ take n c.args.piece.now) some (sym own) taken text)

@@ -10,12 +10,14 @@ use Rattle.sf_run.proofs.directive.run_byte.Goals as goal
 pub returns-in-None-clause-suits : goal.returns-in-None-clause-suits
 returns-in-None-clause-suits c =
     let none = none_first c.args.piece.now c.in-None.ensures.value in
-    subst (λ (r : Run). Suits (Byte c.args.due) phase.Skipping c.args.piece.now r) (sym c.waits.ensures) (suits_waits (Byte c.args.due) 0 c.args.piece.now refl none)
+    subst (λ (r : Run). Suits (Byte c.args.due) phase.Skipping c.args.piece.now r) (sym c.waits.ensures)
+    (suits_waits (Byte c.args.due) 0 c.args.piece.now refl none)
 
 pub returns-in-None-clause-suits_percent : goal.returns-in-None-clause-suits_percent
 returns-in-None-clause-suits_percent c =
     let none = none_first c.args.piece.now c.in-None.ensures.value in
-    subst (λ (r : Run). Suits Percent phase.Skipping c.args.piece.now r) (sym c.waits.ensures) (suits_waits Percent 0 c.args.piece.now refl none)
+    subst (λ (r : Run). Suits Percent phase.Skipping c.args.piece.now r) (sym c.waits.ensures)
+    (suits_waits Percent 0 c.args.piece.now refl none)
 
 pub returns-in-Some-clause-answers : goal.returns-in-Some-clause-answers
 returns-in-Some-clause-answers c n =

@@ -20,8 +20,10 @@ returns-in-Item-clause-answers c q proper shows =
     let e = c.go_on.ensures in
     let run = c.go_on.result in
     let some = not_nothing s.item (take run.item piece) s.begun in
-    subst (λ b. Answers (Conv k) q c.args.used piece (record { before = b; item = run.item; phase = run.phase; ends = run.ends })) (sym e.before)
-    (item_goes_on (Conv k) q None scan c.args.used run.item piece run.phase run.ends s e.within (e.can s.item (subst (λ (x : Conversion). IsProperShape x.shape) own proper.0) s.taken) e.slot e.waits
+    subst (λ b. Answers (Conv k) q c.args.used piece (record { before = b; item = run.item; phase = run.phase; ends = run.ends }))
+    (sym e.before)
+    (item_goes_on (Conv k) q None scan c.args.used run.item piece run.phase run.ends s e.within
+    (e.can s.item (subst (λ (x : Conversion). IsProperShape x.shape) own proper.0) s.taken) e.slot e.waits
     (e.shows (Conv k) s.item s.own s.text s.taken some) (e.ends s.item proper own s.taken s.text some))
 
 pub returns-in-Text-clause-answers : goal.returns-in-Text-clause-answers
@@ -34,6 +36,8 @@ returns-in-Text-clause-answers c q proper shows =
     let e = c.go_on-in-Text.ensures in
     let run = c.go_on-in-Text.result in
     let some = not_nothing s.item (take run.item piece) s.begun in
-    subst (λ b. Answers (Conv k) q c.args.used piece (record { before = b; item = run.item; phase = run.phase; ends = run.ends })) (sym e.before)
-    (item_goes_on (Conv k) q (Some c.in-Text.slot) scan c.args.used run.item piece run.phase run.ends s e.within (e.can s.item (subst (λ (x : Conversion). IsProperShape x.shape) own proper.0) s.taken) e.slot e.waits
+    subst (λ b. Answers (Conv k) q c.args.used piece (record { before = b; item = run.item; phase = run.phase; ends = run.ends }))
+    (sym e.before)
+    (item_goes_on (Conv k) q (Some c.in-Text.slot) scan c.args.used run.item piece run.phase run.ends s e.within
+    (e.can s.item (subst (λ (x : Conversion). IsProperShape x.shape) own proper.0) s.taken) e.slot e.waits
     (e.shows (Conv k) s.item s.own s.text s.taken some) (e.ends s.item proper own s.taken s.text some))

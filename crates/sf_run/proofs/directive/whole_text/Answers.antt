@@ -7,5 +7,6 @@ returns-clause-answers c proper ink n =
     let is = c.in_ok-item.ensures in
     let some = is.some in
     let below = is.behind in
-    bytes_read c.args.conversion.now n c.in_ok-item.item c.args.piece.now c.finish_bytes.result proper c.requires.slot c.requires.item is (ink (omega (arith, below)))
+    bytes_read c.args.conversion.now n c.in_ok-item.item c.args.piece.now c.finish_bytes.result proper c.requires.slot c.requires.item is
+    (ink (omega (arith, below)))
     c.finish_bytes.ensures.none c.finish_bytes.ensures.some

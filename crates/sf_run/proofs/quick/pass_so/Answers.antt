@@ -10,23 +10,27 @@ pub give-requires-clause-free : goal.give-requires-clause-free
 give-requires-clause-free c =
     let e : Ended = c.in_ok-ended.ended in
     let d = c.args.directive.now in
-    let own : EndsAtOnce d c.args.used c.args.piece.now e = subst (λ (o : Option Ended). IfSome o (EndsAtOnce d c.args.used c.args.piece.now)) c.in_ok-ended.was c.requires.ends in
+    let own : EndsAtOnce d c.args.used c.args.piece.now e = subst
+    (λ (o : Option Ended). IfSome o (EndsAtOnce d c.args.used c.args.piece.now)) c.in_ok-ended.was c.requires.ends in
     free_of e.finished d c.args.store.now.values own.fits.given c.requires.free
 
 pub returns-in_err-stores-clause-sure : goal.returns-in_err-stores-clause-sure
 returns-in_err-stores-clause-sure c = λ some proper sure.
     let e : Ended = c.in_ok-ended.ended in
     let d = c.args.directive.now in
-    let own : EndsAtOnce d c.args.used c.args.piece.now e = subst (λ (o : Option Ended). IfSome o (EndsAtOnce d c.args.used c.args.piece.now)) c.in_ok-ended.was c.requires.ends in
+    let own : EndsAtOnce d c.args.used c.args.piece.now e = subst
+    (λ (o : Option Ended). IfSome o (EndsAtOnce d c.args.used c.args.piece.now)) c.in_ok-ended.was c.requires.ends in
     absurd (sure_given d c.args.used c.args.piece.now c.args.store.now.room e proper own sure (c.in_err-stores.ensures.none refl))
 
 pub returns-clause-passes : goal.returns-clause-passes
 returns-clause-passes c = λ proper.
     let e : Ended = c.in_ok-ended.ended in
     let d = c.args.directive.now in
-    let own : EndsAtOnce d c.args.used c.args.piece.now e = subst (λ (o : Option Ended). IfSome o (EndsAtOnce d c.args.used c.args.piece.now)) c.in_ok-ended.was c.requires.ends in
+    let own : EndsAtOnce d c.args.used c.args.piece.now e = subst
+    (λ (o : Option Ended). IfSome o (EndsAtOnce d c.args.used c.args.piece.now)) c.in_ok-ended.was c.requires.ends in
     record {
       stores = c.in_ok-stores.stores;
-      is = passes_within d c.args.used c.args.piece.now e c.in_ok-stores.stores c.args.store.now c.give.new.store proper own c.in_ok-stores.ensures.gives;
+      is = passes_within d c.args.used c.args.piece.now e c.in_ok-stores.stores c.args.store.now c.give.new.store proper own
+          c.in_ok-stores.ensures.gives;
       counted = c.with.ensures ∙ ap (λ v. strayed v c.in_ok-stores.stores c.args.strays.now) c.requires.counts;
     }

@@ -9,7 +9,8 @@ use Rattle.sf_tool.proofs.command.print_by.Goals as goal
 pub returns-in-Err-clause-prints : goal.returns-in-Err-clause-prints
 returns-in-Err-clause-prints g c =
     let refused : IsPrintRefused c.args.profile c.args.text.now c.in-Err.fault = c.in-Err.ensures.refused in
-    rw c.print_format_fault.ensures (refused_prints c.args.profile c.args.text.now (map string_bytes c.args.values.now) (g.K.Sink.contents c.args.out.now) c.in-Err.fault refused)
+    rw c.print_format_fault.ensures (refused_prints c.args.profile c.args.text.now (map string_bytes c.args.values.now)
+    (g.K.Sink.contents c.args.out.now) c.in-Err.fault refused)
 
 pub returns-in-Err-clause-refused : goal.returns-in-Err-clause-refused
 returns-in-Err-clause-refused g c at why faulty =

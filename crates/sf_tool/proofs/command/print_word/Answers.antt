@@ -5,4 +5,14 @@ use Rattle.sf_tool.proofs.command.print_word.Goals as goal
 pub returns : goal.returns
 returns g c =
     let stands : Unescapes c.args.word.now c.deref.result.now = search rules in
-    inr (c.deref.result.now, stands, record { prints = c.print_by.ensures.prints; refused = c.print_by.ensures.refused; unwritten = c.print_by.ensures.unwritten; failures = c.print_by.ensures.failures })
+    inr (
+      c.deref.result.now,
+      stands,
+      record {
+        prints = c.print_by.ensures.prints;
+        refused = c.print_by.ensures.refused;
+        unwritten =
+            c.print_by.ensures.unwritten;
+        failures = c.print_by.ensures.failures;
+      },
+    )

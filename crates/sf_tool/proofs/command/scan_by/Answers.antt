@@ -10,7 +10,8 @@ use Rattle.sf_tool.proofs.command.scan_by.Goals as goal
 pub returns-in-Err-clause-scans : goal.returns-in-Err-clause-scans
 returns-in-Err-clause-scans g c t e =
     let refused : IsRefused c.args.profile c.args.text.now c.in-Err.fault = c.in-Err.ensures.refused in
-    rw c.format_fault.ensures (refused_scans c.args.profile g.S.Source.to_come c.args.form c.args.limit c.args.text.now t c.args.from.now (g.S.Source.failures c.args.from.now.source) (g.K.Sink.contents c.args.out.now) c.in-Err.fault refused)
+    rw c.format_fault.ensures (refused_scans c.args.profile g.S.Source.to_come c.args.form c.args.limit c.args.text.now t c.args.from.now
+    (g.S.Source.failures c.args.from.now.source) (g.K.Sink.contents c.args.out.now) c.in-Err.fault refused)
 
 pub returns-in-Err-clause-refused : goal.returns-in-Err-clause-refused
 returns-in-Err-clause-refused g c at why faulty =

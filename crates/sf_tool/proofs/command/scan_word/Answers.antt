@@ -5,4 +5,14 @@ use Rattle.sf_tool.proofs.command.scan_word.Goals as goal
 pub returns : goal.returns
 returns g c =
     let stands : Unescapes c.args.word.now c.deref.result.now = search rules in
-    inr (c.deref.result.now, stands, record { scans = c.scan_by.ensures.scans; refused = c.scan_by.ensures.refused; unread = c.scan_by.ensures.unread; failures = c.scan_by.ensures.failures })
+    inr (
+      c.deref.result.now,
+      stands,
+      record {
+        scans = c.scan_by.ensures.scans;
+        refused = c.scan_by.ensures.refused;
+        unread =
+            c.scan_by.ensures.unread;
+        failures = c.scan_by.ensures.failures;
+      },
+    )

@@ -44,5 +44,6 @@ returns-clause-shows g c =
     let ds = c.in-Ok.format in
     let spelled : Spells c.args.profile c.args.text.now ds = c.in-Ok.ensures.spelled in
     let told = c.in-Err-write_whole.ensures.failed in
-    let is : c.deref.result.now ≡ show_text ds (width_sum ds) = c.deref.ensures.value ∙ c.in_ok-lines.ensures ∙ ap (show_text ds) c.width_sum.ensures in
+    let is : c.deref.result.now ≡ show_text ds (width_sum ds) = c.deref.ensures.value ∙ c.in_ok-lines.ensures
+    ∙ ap (show_text ds) c.width_sum.ensures in
     (ds, spelled, (told.0, told.1, told.2, sym is ∙ told.3, told.4))

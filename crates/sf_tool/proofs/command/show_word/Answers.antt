@@ -5,4 +5,14 @@ use Rattle.sf_tool.proofs.command.show_word.Goals as goal
 pub returns : goal.returns
 returns g c =
     let stands : Unescapes c.args.word.now c.deref.result.now = search rules in
-    inr (c.deref.result.now, stands, record { shows = c.show_by.ensures.shows; refused = c.show_by.ensures.refused; unwritten = c.show_by.ensures.unwritten; failures = c.show_by.ensures.failures })
+    inr (
+      c.deref.result.now,
+      stands,
+      record {
+        shows = c.show_by.ensures.shows;
+        refused = c.show_by.ensures.refused;
+        unwritten =
+            c.show_by.ensures.unwritten;
+        failures = c.show_by.ensures.failures;
+      },
+    )

@@ -33,21 +33,28 @@ returns g c words read =
     let status = c.end.result in
     let input = g.I.Input.input in
     let fresh : over (λ a. a.source.now) before ≡ unread_of c.args.from.now =
-    over_fresh (λ a. a.source.now) before c.args.from.now c.new-ahead.ensures.held (ap (λ a. a.source.now) c.new-ahead.ensures.source ∙ ap (λ b. b.now) c.new.ensures) c.new-ahead.ensures.fresh in
-    let by_source = subst (λ at. IfSome place (λ p. (front z : List ℕ) → input ≡ Some (front ++ (c.held-held.result.now ++ z)) → to_come at.source.now ≡ Some z → IsBehind front p))
+    over_fresh (λ a. a.source.now) before c.args.from.now c.new-ahead.ensures.held
+    (ap (λ a. a.source.now) c.new-ahead.ensures.source ∙ ap (λ b. b.now) c.new.ensures) c.new-ahead.ensures.fresh in
+    let by_source = subst (λ at. IfSome place (λ p. (front z : List ℕ) → input ≡ Some (front ++ (c.held-held.result.now ++ z))
+    → to_come at.source.now ≡ Some z → IsBehind front p))
     c.source.ensures c.place_before-place.ensures.behind in
-    let behind = subst (λ held. IfSome place (λ p. (front z : List ℕ) → input ≡ Some (front ++ (held ++ z)) → to_come after.source.source.now ≡ Some z → IsBehind front p))
+    let behind = subst (λ held. IfSome place (λ p. (front z : List ℕ) → input ≡ Some (front ++ (held ++ z))
+    → to_come after.source.source.now ≡ Some z → IsBehind front p))
     c.held-held.ensures.held by_source in
-    let does : DoesOrder taken unwritten hands said unsaid to_come faults order.lines order place (over (λ a. a.source.now) before) (over (λ a. a.source.now) after) out out' err err' status =
-    subst (λ lines. DoesOrder taken unwritten hands said unsaid to_come faults lines order place (over (λ a. a.source.now) before) (over (λ a. a.source.now) after) out out' err err' status)
+    let does : DoesOrder taken unwritten hands said unsaid to_come faults order.lines order place (over (λ a. a.source.now) before)
+    (over (λ a. a.source.now) after) out out' err err' status =
+    subst (λ lines. DoesOrder taken unwritten hands said unsaid to_come faults lines order place (over (λ a. a.source.now) before)
+    (over (λ a. a.source.now) after) out out' err err' status)
     (sym c.requires.records) (
       answer,
       (
         mid,
-        carries (λ a. a.source.now) to_come faults taken unwritten (grammar_of order.profile) (form_of order.output) order.verb order.limit texts before after out mid answer c.carry_out-answer.ensures,
+        carries (λ a. a.source.now) to_come faults taken unwritten (grammar_of order.profile)
+            (form_of order.output) order.verb order.limit texts before after out mid answer c.carry_out-answer.ensures,
         (
           notes,
-          subst (λ held. SaysMore order.explain (grammar_of order.profile) order.verb texts place held answer notes) c.held-held.ensures.held c.notes_of-notes.ensures,
+          subst (λ held. SaysMore order.explain (grammar_of order.profile) order.verb texts place held answer notes)
+              c.held-held.ensures.held c.notes_of-notes.ensures,
           subst (λ told. Ends hands said unsaid told answer mid out' err err' status) c.deref.ensures.value c.end.ensures,
         ),
       ),
@@ -55,7 +62,8 @@ returns g c words read =
     record {
       left = over (λ a. a.source.now) after;
       place = place;
-      exits = subst (λ (a : Ahead _). ExitsBy taken unwritten hands said unsaid to_come faults words (Ok order) place a (over (λ a. a.source.now) after) out out' err err' status) fresh
+      exits = subst (λ (a : Ahead _). ExitsBy taken unwritten hands said unsaid to_come faults words (Ok order) place a
+          (over (λ a. a.source.now) after) out out' err err' status) fresh
           (record { read = read; done = does });
       placed = placed_on place input (to_come c.args.from.now) (to_come after.source.source.now) after.held c.requires.input behind;
     }

@@ -10,18 +10,22 @@ returns g c words read =
     let before = c.new-ahead.result in
     let after = c.run_order.new.from in
     let fresh : over (λ s. s.now) before ≡ unread_of c.args.from =
-    over_fresh (λ s. s.now) before c.args.from c.new-ahead.ensures.held (ap (λ s. s.now) c.new-ahead.ensures.source) c.new-ahead.ensures.fresh in
+    over_fresh (λ s. s.now) before c.args.from c.new-ahead.ensures.held
+    (ap (λ s. s.now) c.new-ahead.ensures.source) c.new-ahead.ensures.fresh in
     record {
       left = over (λ s. s.now) after;
       place = None;
       exits =
           subst (λ (a : Ahead _).
-          ExitsBy g.K.Sink.contents g.K.Sink.failures g.C.Console.Hands g.C.Console.said g.C.Console.unsaid g.S.Source.to_come g.S.Source.failures words (Ok order) None a
+          ExitsBy g.K.Sink.contents g.K.Sink.failures g.C.Console.Hands g.C.Console.said g.C.Console.unsaid g.S.Source.to_come
+          g.S.Source.failures words (Ok order) None a
           (over (λ s. s.now) after) c.args.out.now c.run_order.new.out c.args.err.now c.run_order.new.err c.run_order.result) fresh
           (record {
             read = read;
-            done = does_order (λ s. s.now) g.K.Sink.contents g.K.Sink.failures g.C.Console.Hands g.C.Console.said g.C.Console.unsaid g.S.Source.to_come g.S.Source.failures
-                order.lines order None before after c.args.out.now c.run_order.new.out c.args.err.now c.run_order.new.err c.run_order.result c.run_order.ensures;
+            done = does_order (λ s. s.now) g.K.Sink.contents g.K.Sink.failures g.C.Console.Hands g.C.Console.said g.C.Console.unsaid
+                g.S.Source.to_come g.S.Source.failures
+                order.lines order None before after c.args.out.now c.run_order.new.out c.args.err.now c.run_order.new.err
+                c.run_order.result c.run_order.ensures;
           });
       placed = tt;
     }

@@ -8,5 +8,6 @@ run_asked-requires g c = can_run (map string_bytes c.args.words.now) c.read_word
 pub returns : goal.returns
 returns g c =
     let words = map string_bytes c.args.words.now in
-    let read = was_read words c.read_words-asked.result c.read_words-asked.ensures.order c.read_words-asked.ensures.taken c.read_words-asked.ensures.refused in
+    let read = was_read words c.read_words-asked.result c.read_words-asked.ensures.order c.read_words-asked.ensures.taken
+    c.read_words-asked.ensures.refused in
     (c.read_words-asked.result, c.run_asked.ensures words read)

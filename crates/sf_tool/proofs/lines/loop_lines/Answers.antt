@@ -16,15 +16,22 @@ returns-clause-runs g c telling says =
       mute = after.failed;
       tells = λ t is.
           subst (λ (form : OutputForm).
-          TellsLines (scanning form c.args.options c.args.limit c.args.formats.now telling) g.S.Source.to_come t c.run_lines-end.new.from (g.S.Source.failures c.args.from.now.source)
-          (g.S.Source.failures c.run_lines-end.new.from.source) (g.K.Sink.contents c.args.out.now) (g.K.Sink.contents c.run_lines-end.new.to) false after.failed
+          TellsLines (scanning form c.args.options c.args.limit c.args.formats.now telling) g.S.Source.to_come t c.run_lines-end.new.from
+          (g.S.Source.failures c.args.from.now.source)
+          (g.S.Source.failures c.run_lines-end.new.from.source) (g.K.Sink.contents c.args.out.now)
+          (g.K.Sink.contents c.run_lines-end.new.to) false after.failed
           (g.C.Console.said before.err.now) (g.C.Console.said after.err.now) end) c.new-writer.ensures
           (subst (λ (failed : Bool).
-          TellsLines (scanning c.new-writer.result c.args.options c.args.limit c.args.formats.now telling) g.S.Source.to_come t c.run_lines-end.new.from (g.S.Source.failures c.args.from.now.source)
-          (g.S.Source.failures c.run_lines-end.new.from.source) (g.K.Sink.contents c.args.out.now) (g.K.Sink.contents c.run_lines-end.new.to) failed after.failed
-          (g.C.Console.said before.err.now) (g.C.Console.said after.err.now) end) c.requires.fresh (c.run_lines-end.ensures.tells telling t says is));
-      faults = subst (λ (failed : Bool). g.C.Console.unsaid after.err.now ≡ faults_by failed after.failed (g.C.Console.unsaid before.err.now)) c.requires.fresh c.run_lines-end.ensures.faults;
+          TellsLines (scanning c.new-writer.result c.args.options c.args.limit c.args.formats.now telling) g.S.Source.to_come t
+          c.run_lines-end.new.from (g.S.Source.failures c.args.from.now.source)
+          (g.S.Source.failures c.run_lines-end.new.from.source) (g.K.Sink.contents c.args.out.now)
+          (g.K.Sink.contents c.run_lines-end.new.to) failed after.failed
+          (g.C.Console.said before.err.now) (g.C.Console.said after.err.now) end) c.requires.fresh
+          (c.run_lines-end.ensures.tells telling t says is));
+      faults = subst (λ (failed : Bool). g.C.Console.unsaid after.err.now
+          ≡ faults_by failed after.failed (g.C.Console.unsaid before.err.now)) c.requires.fresh c.run_lines-end.ensures.faults;
       status = c.run_lines-end.ensures.status;
       answers = c.answer_by.ensures;
-      failures = counts_by end.status end.fault c.answer_by.result (g.K.Sink.failures c.args.out.now) (g.K.Sink.failures c.run_lines-end.new.to) c.run_lines-end.ensures.sink c.answer_by.ensures;
+      failures = counts_by end.status end.fault c.answer_by.result (g.K.Sink.failures c.args.out.now)
+          (g.K.Sink.failures c.run_lines-end.new.to) c.run_lines-end.ensures.sink c.answer_by.ensures;
     }

@@ -16,7 +16,8 @@ returns-in_err-text g c =
     let profile = grammar_of order.profile in
     let some : 0 < length (map string_bytes texts) = omega (arith, length-map texts string_bytes, c.requires.some) in
     let bad : AreNoScanWords profile (map string_bytes texts) c.in_err-text.field-0.0 =
-    subst (λ fault. AreNoScanWords profile (map string_bytes texts) fault) (sym c.in_err-text.ensures.err) (refused_memory profile (map string_bytes texts) c.args.formats.now c.requires.are some) in
+    subst (λ fault. AreNoScanWords profile (map string_bytes texts) fault) (sym c.in_err-text.ensures.err)
+    (refused_memory profile (map string_bytes texts) c.args.formats.now c.requires.are some) in
     search (rules, bad)
 
 pub lines_by-requires : goal.lines_by-requires
@@ -29,12 +30,16 @@ lines_by-requires g c =
     let size : length words ≡ length texts = length-map texts string_bytes in
     let reads : order.explain ≡ true → OfWord Unescapes (slice_get words (length words - 1)) c.in_ok-text.text.items =
     λ e. subst (λ w. OfWord Unescapes w c.in_ok-text.text.items)
-    (c.last_word.ensures ∙ ap (λ ts. slice_get (map string_bytes ts) (length ts - 1)) c.deref.ensures.value ∙ ap (λ n. slice_get words (n - 1)) (sym size)) (c.in_ok-text.ensures.ok e) in
+    (c.last_word.ensures ∙ ap (λ ts. slice_get (map string_bytes ts) (length ts - 1)) c.deref.ensures.value
+    ∙ ap (λ n. slice_get words (n - 1)) (sym size)) (c.in_ok-text.ensures.ok e) in
     let some : 0 < length formats = omega (arith, as_many profile words formats c.requires.are, size, c.requires.some) in
-    let said : (ds : List Directive) → slice_get formats (length formats - 1) ≡ Some ds → SomeIsSaid profile c.args.options.quiet order.explain c.deref-2.result.now ds =
+    let said : (ds : List Directive) → slice_get formats (length formats - 1) ≡ Some ds
+    → SomeIsSaid profile c.args.options.quiet order.explain c.deref-2.result.now ds =
     λ ds is. subst (λ t. SomeIsSaid profile c.args.options.quiet order.explain t ds) (sym c.deref-2.ensures.value)
-    (some_said profile c.args.options.quiet order.explain words formats c.requires.are (omega (arith, size, c.requires.some)) c.in_ok-text.text.items reads ds is) in
-    let both : (0 < length formats) × ((ds : List Directive) → slice_get formats (length formats - 1) ≡ Some ds → SomeIsSaid profile c.args.options.quiet order.explain c.deref-2.result.now ds) = (some, said) in
+    (some_said profile c.args.options.quiet order.explain words formats c.requires.are
+    (omega (arith, size, c.requires.some)) c.in_ok-text.text.items reads ds is) in
+    let both : (0 < length formats) × ((ds : List Directive) → slice_get formats (length formats - 1) ≡ Some ds
+    → SomeIsSaid profile c.args.options.quiet order.explain c.deref-2.result.now ds) = (some, said) in
     (search rules, (c.requires.limit, both))
 
 pub returns : goal.returns
@@ -49,7 +54,10 @@ returns g c =
     let some : 0 < length words = omega (arith, size, c.requires.some) in
     let reads : order.explain ≡ true → OfWord Unescapes (slice_get words (length words - 1)) text =
     λ e. subst (λ w. OfWord Unescapes w text)
-    (c.last_word.ensures ∙ ap (λ ts. slice_get (map string_bytes ts) (length ts - 1)) c.deref.ensures.value ∙ ap (λ n. slice_get words (n - 1)) (sym size)) (c.in_ok-text.ensures.ok e) in
-    let (ds, telling, last, says, is) = telling_of profile c.args.options.quiet order.explain words formats c.requires.are some text reads in
-    let ran = c.lines_by.ensures ds telling last (subst (λ t. SaysLines profile c.args.options.quiet order.explain t ds telling) (sym c.deref-2.ensures.value) says) in
+    (c.last_word.ensures ∙ ap (λ ts. slice_get (map string_bytes ts) (length ts - 1)) c.deref.ensures.value
+    ∙ ap (λ n. slice_get words (n - 1)) (sym size)) (c.in_ok-text.ensures.ok e) in
+    let (ds, telling, last, says, is) = telling_of profile c.args.options.quiet order.explain words formats c.requires.are some text reads
+    in
+    let ran = c.lines_by.ensures ds telling last (subst (λ t. SaysLines profile c.args.options.quiet order.explain t ds telling)
+    (sym c.deref-2.ensures.value) says) in
     inr (formats, telling, c.requires.are, is, ran)

@@ -7,4 +7,5 @@ use Rattle.sf_tool.proofs.program.say_fault.Goals as goal
 pub returns-in-Err : goal.returns-in-Err
 returns-in-Err g c =
     let line : c.as_bytes.result.now ≡ error_line c.args.fault = c.as_bytes.ensures.value ∙ c.as_str.ensures.value ∙ c.error_line.ensures in
-    subst (λ text. SaysText (handed_to g.E.Write) faults_of text c.args.errors.now c.write_whole.new.to) line (inr (c.in-Err.ensures.failed, c.in-Err.ensures.failures))
+    subst (λ text. SaysText (handed_to g.E.Write) faults_of text c.args.errors.now c.write_whole.new.to) line
+    (inr (c.in-Err.ensures.failed, c.in-Err.ensures.failures))

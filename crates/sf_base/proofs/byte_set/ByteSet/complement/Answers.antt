@@ -22,5 +22,6 @@ invariant_of-self c = (
       (λ k below.
       (let words = c.self.inside.words in
       let inside : k / 64 < c.loop-i.i = omega arith in
-      word_has-not words c.loop-i.self-inside.words k (c.loop-i.invariant.turned (k / 64) inside) (c.loop-i.invariant.fits (k / 64) inside) ∙ ap not (sym (has_byte-held words _ k c.self.view_is below)))),
+      word_has-not words c.loop-i.self-inside.words k (c.loop-i.invariant.turned (k / 64) inside) (c.loop-i.invariant.fits (k / 64) inside)
+      ∙ ap not (sym (has_byte-held words _ k c.self.view_is below)))),
 )

@@ -15,8 +15,10 @@ loop-b-preserved c =
     let more = count_below-more (has_byte c.args.self.now) c.loop-b.b in
     let before = c.loop-b.invariant in
     elim c.if-contains.branch [
-      | then-contains w ↦ (let e = sym c.contains.ensures ∙ w.if-contains.true in let now = rw e at more in record { few = omega (arith, w.count-is, before.few); counted = omega (arith, w.count-is, before.counted, now) })
-      | else-contains w ↦ (let e = sym c.contains.ensures ∙ w.if-contains.false in let now = rw e at more in record { few = omega (arith, w.count-is, before.few); counted = omega (arith, w.count-is, before.counted, now) })
+      | then-contains w ↦ (let e = sym c.contains.ensures ∙ w.if-contains.true in let now = rw e at more in
+          record { few = omega (arith, w.count-is, before.few); counted = omega (arith, w.count-is, before.counted, now) })
+      | else-contains w ↦ (let e = sym c.contains.ensures ∙ w.if-contains.false in let now = rw e at more in
+          record { few = omega (arith, w.count-is, before.few); counted = omega (arith, w.count-is, before.counted, now) })
     ]
 
 pub returns-clause-sized : goal.returns-clause-sized

@@ -19,7 +19,8 @@ returns-clause-longest c =
 
 pub returns-in-Some-clause-count : goal.returns-in-Some-clause-count
 returns-in-Some-clause-count c =
-    let lacks = lacking c.self.inside.words c.args.self.now c.self.inside.lacks c.in-Some.end c.self.view_is c.in-Some.is c.self.invariant.1 in
+    let lacks = lacking c.self.inside.words c.args.self.now c.self.inside.lacks c.in-Some.end c.self.view_is c.in-Some.is
+    c.self.invariant.1 in
     c.run_before.ensures ∙ sym (same_front (has_byte c.args.self.now) (is_other c.in-Some.end) lacks c.args.bytes.now c.type_inv.bytes)
 
 pub returns-in-Some-clause-longest : goal.returns-in-Some-clause-longest

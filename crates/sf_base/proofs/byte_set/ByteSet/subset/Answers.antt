@@ -13,7 +13,8 @@ returns-then-mine-others-ne0 c =
       λ no. absurd cc,
       λ all.
           absurd (other_bit mine others i c.if-mine-others-ne0.true small small' c.loop-i-test.true
-          (λ b below has. sym (has_byte-held others _ b c.other.view_is below) ∙ all b below (has_byte-held mine _ b c.self.view_is below ∙ has))),
+          (λ b below has. sym (has_byte-held others _ b c.other.view_is below)
+          ∙ all b below (has_byte-held mine _ b c.self.view_is below ∙ has))),
     )
 
 pub returns : goal.returns
@@ -23,6 +24,7 @@ returns c =
       λ _ k below has.
           (let inside : k / 64 < c.loop-i.i = omega arith in
           let both = c.loop-i.invariant (k / 64) inside in
-          has_byte-held others _ k c.other.view_is below ∙ same_bit mine others k both.0 both.1 (sym (has_byte-held mine _ k c.self.view_is below) ∙ has)),
+          has_byte-held others _ k c.other.view_is below ∙ same_bit mine others k both.0 both.1
+          (sym (has_byte-held mine _ k c.self.view_is below) ∙ has)),
       λ _. search rules,
     )

@@ -14,5 +14,7 @@ returns-clause-held g c =
     let fits : s.end + length bytes ≤ length s.block.items = omega (arith, s.within, s.block.ok.0, c.if-bytes-len.false, c.len.ensures) in
     let size : length (over s.block.items) ≡ s.block.len = length-over s.block.items bytes s.end fits ∙ sym s.block.ok.0 in
     let kept : (with_items s.block (over s.block.items)).items ≡ over s.block.items = with_items_is s.block (over s.block.items) size in
-    let now : (with_items s.block c.copy_over.new.buf).items ≡ over s.block.items = ap (λ (t : List ℕ). (with_items s.block t).items) written ∙ kept in
-    waits_too _ _ _ _ (ap (λ (t : List ℕ). slice_range t s.start (s.end + length bytes)) now ∙ waits_behind s.block.items bytes s.start s.end s.ordered s.within)
+    let now : (with_items s.block c.copy_over.new.buf).items ≡ over s.block.items =
+    ap (λ (t : List ℕ). (with_items s.block t).items) written ∙ kept in
+    waits_too _ _ _ _ (ap (λ (t : List ℕ). slice_range t s.start (s.end + length bytes)) now
+    ∙ waits_behind s.block.items bytes s.start s.end s.ordered s.within)

@@ -10,7 +10,8 @@ parse-requires c = print_meaning c.args.profile
 
 pub returns-in_err-units-clause-fault : goal.returns-in_err-units-clause-fault
 returns-in_err-units-clause-fault c = λ at why fault.
-    let p = err_from_is_err_and c.from_residual.result c.from_residual.ensures.1 in rw (p.1, p.2) (cc (c.in_err-units.ensures.fault at why fault))
+    let p = err_from_is_err_and c.from_residual.result c.from_residual.ensures.1 in
+    rw (p.1, p.2) (cc (c.in_err-units.ensures.fault at why fault))
 
 pub returns-in_err-units-clause-accepted : goal.returns-in_err-units-clause-accepted
 returns-in_err-units-clause-accepted c =

@@ -15,19 +15,22 @@ returns-in-Some c =
 
 pub unwrap-found-requires : goal.unwrap-found-requires
 unwrap-found-requires c =
-    let quiet = quiet_is (print_letter_rules c.args.profile (opening_of c.args.written.now) c.args.letter c.args.at) (sym c.in_default.ensures) in
+    let quiet = quiet_is (print_letter_rules c.args.profile (opening_of c.args.written.now) c.args.letter c.args.at)
+    (sym c.in_default.ensures) in
     rw c.print_letter_of.ensures (known (print_letter_of c.args.profile c.args.letter) quiet.1.1.0)
 
 pub returns-in-Some-flag_fault : goal.returns-in-Some-flag_fault
 returns-in-Some-flag_fault c =
-    flags_first c.args.profile c.args.percent (opening_of c.args.written.now) c.args.at c.args.letter c.unwrap-found.result (sym c.in_default.ensures)
+    flags_first c.args.profile c.args.percent (opening_of c.args.written.now) c.args.at c.args.letter c.unwrap-found.result
+    (sym c.in_default.ensures)
     (sym c.print_letter_of.ensures ∙ c.unwrap-found.ensures)
     ∙ sym c.in-Some-flag_fault.ensures
 
 pub unwrap-kind-requires : goal.unwrap-kind-requires
 unwrap-kind-requires c =
     let o = opening_of c.args.written.now in
-    let letter = print_letter_is c.args.profile c.args.letter c.unwrap-found.result (sym c.print_letter_of.ensures ∙ c.unwrap-found.ensures) in
+    let letter = print_letter_is c.args.profile c.args.letter c.unwrap-found.result
+    (sym c.print_letter_of.ensures ∙ c.unwrap-found.ensures) in
     rw (c.kind.ensures, c.print_row.ensures.prints)
     (letter.allowed o c.args.at (quiet_is (print_letter_rules c.args.profile o c.args.letter c.args.at) (sym c.in_default.ensures)))
 

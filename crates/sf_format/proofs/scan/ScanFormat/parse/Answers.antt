@@ -22,7 +22,8 @@ returns-in_err-directives c =
 
 pub sum_of_widths-widths-requires : goal.sum_of_widths-widths-requires
 sum_of_widths-widths-requires c =
-    rw c.deref.ensures.value (proper c.args.profile c.args.text.now c.in_ok-directives.directives.items c.in_ok-directives.ensures.spelled.0).short
+    rw c.deref.ensures.value (proper c.args.profile c.args.text.now c.in_ok-directives.directives.items
+    c.in_ok-directives.ensures.spelled.0).short
 
 pub invariant_of-result : goal.invariant_of-result
 invariant_of-result c =

@@ -50,4 +50,5 @@ pub returns-clause-spelled : goal.returns-clause-spelled
 returns-clause-spelled c = λ pieces is e. spanned c.args.text.now pieces c.in_ok-spans.spans.items is e c.in_ok-spans.ensures.gathered
 
 pub returns-clause-fault : goal.returns-clause-fault
-returns-clause-fault c = λ at why fault. no_fault (Scan c.args.profile) c.args.text.now c.in_ok-_count._count at why c.in_ok-_count.ensures fault
+returns-clause-fault c = λ at why fault. no_fault (Scan c.args.profile) c.args.text.now c.in_ok-_count._count at why c.in_ok-_count.ensures
+    fault

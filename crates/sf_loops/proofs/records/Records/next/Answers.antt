@@ -17,7 +17,8 @@ invariant_of-self-in-Ok g c = subst (HasShape g.T.Row.kinds) (sym c.advance.ensu
 
 pub invariant_of-self-in-Err-NoMemory : goal.invariant_of-self-in-Err-NoMemory
 invariant_of-self-in-Err-NoMemory g c =
-    subst (HasShape g.T.Row.kinds) (sym (ap (λ (l : Loop g.row.S.Denot). l.format) c.refuse_row.ensures.over ∙ c.advance.ensures.format)) c.self.invariant
+    subst (HasShape g.T.Row.kinds) (sym (ap (λ (l : Loop g.row.S.Denot). l.format) c.refuse_row.ensures.over ∙ c.advance.ensures.format))
+    c.self.invariant
 
 pub from_report-requires-clause-done : goal.from_report-requires-clause-done
 from_report-requires-clause-done g c =
@@ -34,26 +35,36 @@ from_report-requires-clause-given g c =
 
 pub returns-in-Ok-false-clause-next : goal.returns-in-Ok-false-clause-next
 returns-in-Ok-false-clause-next g c =
-    as_row g.S.Source.to_come g.S.Source.reads g.S.Source.failures g.row.N g.T.Row.kinds g.T.Row.listed c.self.inside.reports c.args.self.now
+    as_row g.S.Source.to_come g.S.Source.reads g.S.Source.failures g.row.N g.T.Row.kinds g.T.Row.listed c.self.inside.reports
+    c.args.self.now
     c.advance.new.self c.advance.new.self c.advance.result (Ok None) c.self.view_is c.advance.ensures.next
-    (subst (λ r. RowAnswers g.T.Row.kinds g.T.Row.listed c.advance.new.self c.advance.new.self r (Ok None)) (sym (c.in-Ok-false.is ∙ ap Ok c.in-Ok-false.field-0-test)) refl)
+    (subst (λ r. RowAnswers g.T.Row.kinds g.T.Row.listed c.advance.new.self c.advance.new.self r (Ok None))
+    (sym (c.in-Ok-false.is ∙ ap Ok c.in-Ok-false.field-0-test)) refl)
 
 pub returns-in-Err-clause-next : goal.returns-in-Err-clause-next
 returns-in-Err-clause-next g c =
-    as_row g.S.Source.to_come g.S.Source.reads g.S.Source.failures g.row.N g.T.Row.kinds g.T.Row.listed c.self.inside.reports c.args.self.now
+    as_row g.S.Source.to_come g.S.Source.reads g.S.Source.failures g.row.N g.T.Row.kinds g.T.Row.listed c.self.inside.reports
+    c.args.self.now
     c.advance.new.self c.advance.new.self c.advance.result (Err c.in-Err.fault) c.self.view_is c.advance.ensures.next
-    (subst (λ r. RowAnswers g.T.Row.kinds g.T.Row.listed c.advance.new.self c.advance.new.self r (Err c.in-Err.fault)) (sym c.in-Err.is) (refl, refl))
+    (subst (λ r. RowAnswers g.T.Row.kinds g.T.Row.listed c.advance.new.self c.advance.new.self r (Err c.in-Err.fault)) (sym c.in-Err.is)
+    (refl, refl))
 
 pub returns-in-Ok-clause-next : goal.returns-in-Ok-clause-next
 returns-in-Ok-clause-next g c =
-    as_row g.S.Source.to_come g.S.Source.reads g.S.Source.failures g.row.N g.T.Row.kinds g.T.Row.listed c.self.inside.reports c.args.self.now
+    as_row g.S.Source.to_come g.S.Source.reads g.S.Source.failures g.row.N g.T.Row.kinds g.T.Row.listed c.self.inside.reports
+    c.args.self.now
     c.advance.new.self c.advance.new.self c.advance.result (Ok (Some c.in-Ok.row)) c.self.view_is c.advance.ensures.next
     (subst (λ r. RowAnswers g.T.Row.kinds g.T.Row.listed c.advance.new.self c.advance.new.self r (Ok (Some c.in-Ok.row)))
-    (sym (c.in-Ok-true.is ∙ ap Ok c.in-Ok-true.field-0-test)) (refl, subst (λ (r : RunReport). AreRowOf (length g.T.Row.kinds) (g.T.Row.listed c.in-Ok.row) r.values) c.report.ensures.value c.in-Ok.ensures))
+    (sym (c.in-Ok-true.is ∙ ap Ok c.in-Ok-true.field-0-test)) (
+      refl,
+      subst (λ (r : RunReport). AreRowOf (length g.T.Row.kinds) (g.T.Row.listed c.in-Ok.row) r.values) c.report.ensures.value
+          c.in-Ok.ensures,
+    ))
 
 pub returns-in-Err-NoMemory-clause-next : goal.returns-in-Err-NoMemory-clause-next
 returns-in-Err-NoMemory-clause-next g c =
-    as_row g.S.Source.to_come g.S.Source.reads g.S.Source.failures g.row.N g.T.Row.kinds g.T.Row.listed c.self.inside.reports c.args.self.now
+    as_row g.S.Source.to_come g.S.Source.reads g.S.Source.failures g.row.N g.T.Row.kinds g.T.Row.listed c.self.inside.reports
+    c.args.self.now
     c.advance.new.self c.refuse_row.new.self c.advance.result (Err c.refuse_row.result) c.self.view_is c.advance.ensures.next
     (subst (λ r. RowAnswers g.T.Row.kinds g.T.Row.listed c.advance.new.self c.refuse_row.new.self r (Err c.refuse_row.result))
     (sym (c.in-Ok-true.is ∙ ap Ok c.in-Ok-true.field-0-test)) (c.refuse_row.ensures.fault, c.refuse_row.ensures.over))
@@ -65,7 +76,8 @@ returns-in-Ok-false-clause-over g c =
 
 pub returns-in-Err-clause-over : goal.returns-in-Err-clause-over
 returns-in-Err-clause-over g c =
-    over_fault c.self.inside.reports c.args.self.now c.advance.new.self c.advance.result c.in-Err.fault c.self.view_is c.advance.ensures.over c.in-Err.is
+    over_fault c.self.inside.reports c.args.self.now c.advance.new.self c.advance.result c.in-Err.fault c.self.view_is
+    c.advance.ensures.over c.in-Err.is
 
 pub returns-in-Ok-clause-over : goal.returns-in-Ok-clause-over
 returns-in-Ok-clause-over g c = λ end h.

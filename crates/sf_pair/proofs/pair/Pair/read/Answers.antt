@@ -19,12 +19,14 @@ returns-clause-told g c =
     (same_scan c.self.inside.print.now c.self.inside.scan.now c.args.self.now c.self.view_is) c.fscan.ensures.told
 
 pub returns-clause-stored : goal.returns-clause-stored
-returns-clause-stored g c = c.fscan.ensures.bounded (aligned_is_bounded c.self.inside.print.now c.self.inside.scan.now c.self.invariant.scanned (aligned_of c.self.inside.print.now c.self.inside.scan.now c.self.invariant))
+returns-clause-stored g c = c.fscan.ensures.bounded (aligned_is_bounded c.self.inside.print.now c.self.inside.scan.now
+    c.self.invariant.scanned (aligned_of c.self.inside.print.now c.self.inside.scan.now c.self.invariant))
 
 pub returns-clause-held : goal.returns-clause-held
 returns-clause-held g c =
     subst (λ (ds : List Directive). IfOk c.fscan.result (λ s. (n : ℕ) → width_sum ds ≡ Some n → length (texts_in s.report.values) ≤ n))
-    (same_scan c.self.inside.print.now c.self.inside.scan.now c.args.self.now c.self.view_is) (told_held c.fscan.result c.self.inside.scan.now c.args.limit c.fscan.ensures.told)
+    (same_scan c.self.inside.print.now c.self.inside.scan.now c.args.self.now c.self.view_is)
+    (told_held c.fscan.result c.self.inside.scan.now c.args.limit c.fscan.ensures.told)
 
 pub returns-clause-back : goal.returns-clause-back
 returns-clause-back g c = λ values fit z input fits.
@@ -32,13 +34,20 @@ returns-clause-back g c = λ values fit z input fits.
     let ds = c.self.inside.scan.now in
     let f = c.args.self.now in
     all_ok c.fscan.result
-    (subst (λ (ds : List Directive). IfOk c.fscan.result (λ s. Scan g.S.Source.to_come ds c.args.limit (printed f.print values ++ z) c.args.from.now c.fscan.new.from s.report)) (same_scan us ds f c.self.view_is) (c.fscan.ensures.scan _ input))
-    (c.fscan.ensures.bounded (aligned_is_bounded c.self.inside.print.now c.self.inside.scan.now c.self.invariant.scanned (aligned_of c.self.inside.print.now c.self.inside.scan.now c.self.invariant)))
-    (subst (λ (ds : List Directive). IfOk c.fscan.result (λ s. WaitedFor g.S.Source.to_come g.S.Source.reads g.row.N ds c.args.limit c.args.from.now c.fscan.new.from s.report.used))
+    (subst (λ (ds : List Directive). IfOk c.fscan.result (λ s. Scan g.S.Source.to_come ds c.args.limit
+    (printed f.print values ++ z) c.args.from.now c.fscan.new.from s.report)) (same_scan us ds f c.self.view_is)
+    (c.fscan.ensures.scan _ input))
+    (c.fscan.ensures.bounded (aligned_is_bounded c.self.inside.print.now c.self.inside.scan.now c.self.invariant.scanned
+    (aligned_of c.self.inside.print.now c.self.inside.scan.now c.self.invariant)))
+    (subst (λ (ds : List Directive). IfOk c.fscan.result (λ s. WaitedFor g.S.Source.to_come g.S.Source.reads g.row.N ds c.args.limit
+    c.args.from.now c.fscan.new.from s.report.used))
     (same_scan us ds f c.self.view_is) c.fscan.ensures.waited)
-    (λ s scan stored waited. reads_whole c.laws_below.ensures g.S.Source.to_come g.S.Source.reads g.row.N f.print f.scan (checked_of us ds f c.self.view_is c.self.invariant) values fit c.args.limit fits z c.args.from.now c.fscan.new.from s.report scan stored input waited)
+    (λ s scan stored waited. reads_whole c.laws_below.ensures g.S.Source.to_come g.S.Source.reads g.row.N f.print f.scan
+    (checked_of us ds f c.self.view_is c.self.invariant) values fit c.args.limit fits z c.args.from.now c.fscan.new.from s.report scan
+    stored input waited)
 
 pub returns-clause-waited : goal.returns-clause-waited
 returns-clause-waited g c =
-    subst (λ (ds : List Directive). IfOk c.fscan.result (λ s. WaitedFor g.S.Source.to_come g.S.Source.reads g.row.N ds c.args.limit c.args.from.now c.fscan.new.from s.report.used))
+    subst (λ (ds : List Directive). IfOk c.fscan.result (λ s. WaitedFor g.S.Source.to_come g.S.Source.reads g.row.N ds c.args.limit
+    c.args.from.now c.fscan.new.from s.report.used))
     (same_scan c.self.inside.print.now c.self.inside.scan.now c.args.self.now c.self.view_is) c.fscan.ensures.waited

@@ -15,18 +15,22 @@ use Rattle.sf_pair.proofs.pair.Pair.read_fixed.Goals as goal
 
 pub returns-clause-told : goal.returns-clause-told
 returns-clause-told g c =
-    subst (λ (ds : List Directive). IfOk c.fscan_fixed.result (λ s. (x : List ℕ) × (ending : Ending) × RunTold ds c.args.limit x ending s.report))
+    subst (λ (ds : List Directive). IfOk c.fscan_fixed.result (λ s. (x : List ℕ) × (ending : Ending)
+    × RunTold ds c.args.limit x ending s.report))
     (same_scan c.self.inside.print.now c.self.inside.scan.now c.args.self.now c.self.view_is) c.fscan_fixed.ensures.told
 
 pub returns-clause-bounded : goal.returns-clause-bounded
 returns-clause-bounded g c =
-    let some = aligned_is_bounded c.self.inside.print.now c.self.inside.scan.now c.self.invariant.scanned (aligned_of c.self.inside.print.now c.self.inside.scan.now c.self.invariant) in
+    let some = aligned_is_bounded c.self.inside.print.now c.self.inside.scan.now c.self.invariant.scanned
+    (aligned_of c.self.inside.print.now c.self.inside.scan.now c.self.invariant) in
     λ refused. some_none _ some ((c.fscan_fixed.ensures.unbounded.0 refused).1)
 
 pub returns-clause-held : goal.returns-clause-held
 returns-clause-held g c =
-    subst (λ (ds : List Directive). IfOk c.fscan_fixed.result (λ s. (n : ℕ) → width_sum ds ≡ Some n → length (texts_in s.report.values) ≤ n))
-    (same_scan c.self.inside.print.now c.self.inside.scan.now c.args.self.now c.self.view_is) (told_held c.fscan_fixed.result c.self.inside.scan.now c.args.limit c.fscan_fixed.ensures.told)
+    subst (λ (ds : List Directive). IfOk c.fscan_fixed.result (λ s. (n : ℕ) → width_sum ds ≡ Some n
+    → length (texts_in s.report.values) ≤ n))
+    (same_scan c.self.inside.print.now c.self.inside.scan.now c.args.self.now c.self.view_is)
+    (told_held c.fscan_fixed.result c.self.inside.scan.now c.args.limit c.fscan_fixed.ensures.told)
 
 pub returns-clause-back : goal.returns-clause-back
 returns-clause-back g c = λ values fit z input fits.
@@ -34,13 +38,19 @@ returns-clause-back g c = λ values fit z input fits.
     let ds = c.self.inside.scan.now in
     let f = c.args.self.now in
     all_ok c.fscan_fixed.result
-    (subst (λ (ds : List Directive). IfOk c.fscan_fixed.result (λ s. Scan g.S.Source.to_come ds c.args.limit (printed f.print values ++ z) c.args.from.now c.fscan_fixed.new.from s.report)) (same_scan us ds f c.self.view_is) (c.fscan_fixed.ensures.scan _ input))
+    (subst (λ (ds : List Directive). IfOk c.fscan_fixed.result (λ s. Scan g.S.Source.to_come ds c.args.limit
+    (printed f.print values ++ z) c.args.from.now c.fscan_fixed.new.from s.report)) (same_scan us ds f c.self.view_is)
+    (c.fscan_fixed.ensures.scan _ input))
     c.fscan_fixed.ensures.bounded
-    (subst (λ (ds : List Directive). IfOk c.fscan_fixed.result (λ s. WaitedFor g.S.Source.to_come g.S.Source.reads g.row.N ds c.args.limit c.args.from.now c.fscan_fixed.new.from s.report.used))
+    (subst (λ (ds : List Directive). IfOk c.fscan_fixed.result (λ s. WaitedFor g.S.Source.to_come g.S.Source.reads g.row.N ds c.args.limit
+    c.args.from.now c.fscan_fixed.new.from s.report.used))
     (same_scan us ds f c.self.view_is) c.fscan_fixed.ensures.waited)
-    (λ s scan stored waited. reads_whole c.laws_below.ensures g.S.Source.to_come g.S.Source.reads g.row.N f.print f.scan (checked_of us ds f c.self.view_is c.self.invariant) values fit c.args.limit fits z c.args.from.now c.fscan_fixed.new.from s.report scan stored input waited)
+    (λ s scan stored waited. reads_whole c.laws_below.ensures g.S.Source.to_come g.S.Source.reads g.row.N f.print f.scan
+    (checked_of us ds f c.self.view_is c.self.invariant) values fit c.args.limit fits z c.args.from.now c.fscan_fixed.new.from s.report
+    scan stored input waited)
 
 pub returns-clause-waited : goal.returns-clause-waited
 returns-clause-waited g c =
-    subst (λ (ds : List Directive). IfOk c.fscan_fixed.result (λ s. WaitedFor g.S.Source.to_come g.S.Source.reads g.row.N ds c.args.limit c.args.from.now c.fscan_fixed.new.from s.report.used))
+    subst (λ (ds : List Directive). IfOk c.fscan_fixed.result (λ s. WaitedFor g.S.Source.to_come g.S.Source.reads g.row.N ds c.args.limit
+    c.args.from.now c.fscan_fixed.new.from s.report.used))
     (same_scan c.self.inside.print.now c.self.inside.scan.now c.args.self.now c.self.view_is) c.fscan_fixed.ensures.waited

@@ -11,4 +11,5 @@ invariant_of-self g c =
     let after = c.behind-self-inside.result in
     let moves : (before : List ℕ) → IsBehind before own.place → IsBehind (before ++ own.last.items) after = λ before at.
     subst (λ t. IsBehind (before ++ t) after) c.deref.ensures.0 (c.behind-self-inside.ensures before at) in
-    subst (λ last. IsKept g.I.Input.input to_come last after) (sym c.clear.ensures) (passed g.I.Input.input to_come own.last.items own.place after c.self.invariant moves)
+    subst (λ last. IsKept g.I.Input.input to_come last after) (sym c.clear.ensures)
+    (passed g.I.Input.input to_come own.last.items own.place after c.self.invariant moves)

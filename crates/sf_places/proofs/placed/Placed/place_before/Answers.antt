@@ -11,6 +11,8 @@ returns-clause-behind g c = λ front z is left.
     let all = c.len.ensures.value in
     let long : count + length c.args.held.now ≡ length own.last.items = omega (arith, gone, all) in
     let left_own : g.S.Source.to_come own.source ≡ Some z = ap (λ a. g.S.Source.to_come a.source) c.self.view_is ∙ left in
-    let moves : (before : List ℕ) → IsBehind before own.place → IsBehind (before ++ take count own.last.items) c.behind.result = λ before at.
+    let moves : (before : List ℕ) → IsBehind before own.place → IsBehind (before ++ take count own.last.items) c.behind.result =
+    λ before at.
     subst (λ t. IsBehind (before ++ take count t) c.behind.result) c.deref.ensures.0 (c.behind.ensures before at) in
-    behind_front g.I.Input.input (g.S.Source.to_come own.source) own.last.items own.place c.behind.result count front c.args.held.now z c.self.invariant long is left_own moves
+    behind_front g.I.Input.input (g.S.Source.to_come own.source) own.last.items own.place c.behind.result count front c.args.held.now z
+    c.self.invariant long is left_own moves

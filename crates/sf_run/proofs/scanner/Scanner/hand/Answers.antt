@@ -31,9 +31,11 @@ returns-then-taken-room-clause-same g c proper fine z =
     let few = c.split_at.ensures.front_len in
     let least = c.min.ensures in
     let most = c.max.ensures in
-    limit_follows (standing c.fail.new.self) (standing s) d c.requires.current c.requires.waits c.fail.ensures (omega (arith, s.bounded, more, within, few, least, most)) (piece ++ z)
+    limit_follows (standing c.fail.new.self) (standing s) d c.requires.current c.requires.waits c.fail.ensures
+    (omega (arith, s.bounded, more, within, few, least, most)) (piece ++ z)
     (λ q shows.
-    let all = uses_front d q s.tally.used c.min.result piece c.split_at.result.0.now run c.split_at.ensures.front within (c.run_on-run.ensures.answers q proper shows) z in
+    let all = uses_front d q s.tally.used c.min.result piece c.split_at.result.0.now run c.split_at.ensures.front within
+    (c.run_on-run.ensures.answers q proper shows) z in
     omega (arith, all, more))
 
 pub returns-then-not-take_all-clause-memory : goal.returns-then-not-take_all-clause-memory
@@ -46,10 +48,13 @@ returns-then-not-take_all-clause-memory g c proper out =
     let few = c.split_at.ensures.front_len in
     let least = c.min.ensures in
     let fits = c.if-taken-room.false in
-    runs_out_refuses (standing c.take_all.new.self) (standing s) d run.before run.item piece c.requires.current c.requires.waits c.if-not-take_all.ensures.refused
+    runs_out_refuses (standing c.take_all.new.self) (standing s) d run.before run.item piece c.requires.current c.requires.waits
+    c.if-not-take_all.ensures.refused
     (omega (arith, within, few, least)) (omega (arith, s.bounded, fits))
-    (λ q shows z. uses_front d q s.tally.used c.min.result piece c.split_at.result.0.now run c.split_at.ensures.front within (c.run_on-run.ensures.answers q proper shows) z)
-    (λ q shows j below. stores_front d q s.tally.used c.min.result piece c.split_at.result.0.now run c.split_at.ensures.front within (c.run_on-run.ensures.answers q proper shows)
+    (λ q shows z. uses_front d q s.tally.used c.min.result piece c.split_at.result.0.now run c.split_at.ensures.front within
+    (c.run_on-run.ensures.answers q proper shows) z)
+    (λ q shows j below. stores_front d q s.tally.used c.min.result piece c.split_at.result.0.now run c.split_at.ensures.front within
+    (c.run_on-run.ensures.answers q proper shows)
     (slot_in run.phase) refl c.if-not-take_all.ensures.text j below)
 
 pub returns-in_default-clause-same : goal.returns-in_default-clause-same
@@ -60,10 +65,12 @@ returns-in_default-clause-same g c proper fine z =
     let piece : List ℕ = c.args.piece.now in
     let front : List ℕ = c.split_at.result.0.now in
     let least = c.min.ensures in
-    waits_follow (standing c.take_all.new.self) (standing s) d run c.min.result piece front c.split_at-3.result.0.now c.requires.current c.requires.waits c.split_at.ensures.front
+    waits_follow (standing c.take_all.new.self) (standing s) d run c.min.result piece front c.split_at-3.result.0.now c.requires.current
+    c.requires.waits c.split_at.ensures.front
     (omega (arith, least)) (c.run_on-run.ensures.suits.all c.in_default.is)
     (c.split_at-3.ensures.front ∙ ap (take run.item) c.split_at-2.ensures.back) c.if-not-take_all.ensures.taken
-    (λ q shows. subst (λ (o : Option Finished). AnswersBy o d q s.tally.used front run) c.in_default.is ((c.run_on-run.ensures.answers q proper shows).goes)) z
+    (λ q shows. subst (λ (o : Option Finished). AnswersBy o d q s.tally.used front run) c.in_default.is
+    ((c.run_on-run.ensures.answers q proper shows).goes)) z
 
 pub returns-in_default-clause-settled : goal.returns-in_default-clause-settled
 returns-in_default-clause-settled g c _ =
@@ -73,8 +80,10 @@ returns-in_default-clause-settled g c _ =
     let takes = c.if-not-take_all.ensures.taken in
     if_none new.ended (Waits new.directives.now new.passed new.phase) (record {
       under_way = d;
-      current = ap (λ ds. slice_get ds new.passed) takes.keeps.directives ∙ ap (slice_get s.directives.now) takes.passed ∙ c.requires.current;
-      can_take = λ q proper shows. c.run_on-run.ensures.suits.more c.in_default.is q proper (subst (λ (p : Phase). Shows d p q) takes.phase shows);
+      current = ap (λ ds. slice_get ds new.passed) takes.keeps.directives ∙ ap (slice_get s.directives.now) takes.passed
+          ∙ c.requires.current;
+      can_take = λ q proper shows. c.run_on-run.ensures.suits.more c.in_default.is q proper
+          (subst (λ (p : Phase). Shows d p q) takes.phase shows);
     })
 
 pub returns-clause-same : goal.returns-clause-same
@@ -89,12 +98,16 @@ returns-clause-same g c proper fine z =
     let n : ℕ = run.before + run.item in
     let least = c.min.ensures in
     let own = c.split_at-3.ensures.front ∙ ap (take run.item) c.split_at-2.ensures.back in
-    answer_follows (standing c.close.new.self) mid (standing s) d run c.in-Some.finished front (piece ++ z) (drop n piece ++ z) c.requires.current c.requires.waits
-    (subst (λ g. TakesAll mid (standing s) run.phase n (opened_with (slot_in run.phase) g (kept_by s).opened)) own c.if-not-take_all.ensures.taken) c.close.ensures.ends
+    answer_follows (standing c.close.new.self) mid (standing s) d run c.in-Some.finished front (piece ++ z)
+    (drop n piece ++ z) c.requires.current c.requires.waits
+    (subst (λ g. TakesAll mid (standing s) run.phase n (opened_with (slot_in run.phase) g (kept_by s).opened)) own
+    c.if-not-take_all.ensures.taken) c.close.ensures.ends
     c.run_on-run.ensures.suits.slot (end_is d run.phase run.ends c.in-Some.finished c.in-Some.is c.run_on-run.ensures.suits.end)
     (λ q shows.
-    let a = subst (λ (o : Option Finished). AnswersBy o d q s.tally.used front run) c.in-Some.is ((c.run_on-run.ensures.answers q proper shows).goes) in
-    front_ends d q s.tally.used m n piece front (end_of (item_of q ++ take run.item (drop run.before front)) c.in-Some.finished) c.split_at.ensures.front a z)
+    let a = subst (λ (o : Option Finished). AnswersBy o d q s.tally.used front run) c.in-Some.is
+    ((c.run_on-run.ensures.answers q proper shows).goes) in
+    front_ends d q s.tally.used m n piece front (end_of (item_of q ++ take run.item (drop run.before front)) c.in-Some.finished)
+    c.split_at.ensures.front a z)
 
 pub returns-in_default-clause-comes : goal.returns-in_default-clause-comes
 returns-in_default-clause-comes g c proper =
@@ -104,10 +117,12 @@ returns-in_default-clause-comes g c proper =
     let piece : List ℕ = c.args.piece.now in
     let front : List ℕ = c.split_at.result.0.now in
     let least = c.min.ensures in
-    waits_advance (standing c.take_all.new.self) (standing s) d run c.min.result piece front c.split_at-3.result.0.now c.requires.current c.requires.waits c.split_at.ensures.front
+    waits_advance (standing c.take_all.new.self) (standing s) d run c.min.result piece front c.split_at-3.result.0.now c.requires.current
+    c.requires.waits c.split_at.ensures.front
     (omega (arith, least)) (c.run_on-run.ensures.suits.all c.in_default.is)
     (c.split_at-3.ensures.front ∙ ap (take run.item) c.split_at-2.ensures.back) c.if-not-take_all.ensures.taken
-    (λ q shows. subst (λ (o : Option Finished). AnswersBy o d q s.tally.used front run) c.in_default.is ((c.run_on-run.ensures.answers q proper shows).goes))
+    (λ q shows. subst (λ (o : Option Finished). AnswersBy o d q s.tally.used front run) c.in_default.is
+    ((c.run_on-run.ensures.answers q proper shows).goes))
 
 pub returns-clause-comes : goal.returns-clause-comes
 returns-clause-comes g c proper =
@@ -124,15 +139,21 @@ returns-clause-comes g c proper =
     let few = c.split_at.ensures.front_len in
     let own = c.split_at-3.ensures.front ∙ ap (take run.item) c.split_at-2.ensures.back in
     answer_advances (standing c.close.new.self) mid (standing s) d run c.in-Some.finished front piece c.requires.current
-    (subst (λ g. TakesAll mid (standing s) run.phase n (opened_with (slot_in run.phase) g (kept_by s).opened)) own c.if-not-take_all.ensures.taken) c.close.ensures.ends
-    c.run_on-run.ensures.suits.slot (end_is d run.phase run.ends c.in-Some.finished c.in-Some.is c.run_on-run.ensures.suits.end) (omega (arith, within, few, least))
+    (subst (λ g. TakesAll mid (standing s) run.phase n (opened_with (slot_in run.phase) g (kept_by s).opened)) own
+    c.if-not-take_all.ensures.taken) c.close.ensures.ends
+    c.run_on-run.ensures.suits.slot (end_is d run.phase run.ends c.in-Some.finished c.in-Some.is c.run_on-run.ensures.suits.end)
+    (omega (arith, within, few, least))
     (λ q shows z.
-    let a = subst (λ (o : Option Finished). AnswersBy o d q s.tally.used front run) c.in-Some.is ((c.run_on-run.ensures.answers q proper shows).goes) in
-    front_ends d q s.tally.used m n piece front (end_of (item_of q ++ take run.item (drop run.before front)) c.in-Some.finished) c.split_at.ensures.front a z)
+    let a = subst (λ (o : Option Finished). AnswersBy o d q s.tally.used front run) c.in-Some.is
+    ((c.run_on-run.ensures.answers q proper shows).goes) in
+    front_ends d q s.tally.used m n piece front (end_of (item_of q ++ take run.item (drop run.before front)) c.in-Some.finished)
+    c.split_at.ensures.front a z)
 
 pub returns-then-taken-room-clause-comes : goal.returns-then-taken-room-clause-comes
-returns-then-taken-room-clause-comes g c _ = ended_advances (standing c.fail.new.self) (standing c.args.self.now) c.args.piece.now _ (ap is_some c.fail.ensures.ended)
+returns-then-taken-room-clause-comes g c _ = ended_advances (standing c.fail.new.self) (standing c.args.self.now) c.args.piece.now _
+    (ap is_some c.fail.ensures.ended)
 
 pub returns-then-not-take_all-clause-comes : goal.returns-then-not-take_all-clause-comes
 returns-then-not-take_all-clause-comes g c _ =
-    ended_advances (standing c.take_all.new.self) (standing c.args.self.now) c.args.piece.now _ (ap is_some c.if-not-take_all.ensures.refused.ended)
+    ended_advances (standing c.take_all.new.self) (standing c.args.self.now) c.args.piece.now _
+    (ap is_some c.if-not-take_all.ensures.refused.ended)

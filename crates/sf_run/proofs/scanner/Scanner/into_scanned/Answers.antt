@@ -12,20 +12,24 @@ returns-in-None-clause-waits g c ds m x h _ = waits_open ds m (standing c.args.s
 pub returns-in-Some-clause-after : goal.returns-in-Some-clause-after
 returns-in-Some-clause-after g c ds m x ending h =
     let s = c.args.self in
-    subst (λ (r : RunReport). RunWithin ds m x ending r) (sym (c.new.ensures.report ∙ c.outcome.ensures (kept_by s).values)) (after_report ds m (standing s) x ending c.in-Some.stop h c.in-Some.is)
+    subst (λ (r : RunReport). RunWithin ds m x ending r) (sym (c.new.ensures.report ∙ c.outcome.ensures (kept_by s).values))
+    (after_report ds m (standing s) x ending c.in-Some.stop h c.in-Some.is)
 
 pub returns-in-Some-clause-gives : goal.returns-in-Some-clause-gives
 returns-in-Some-clause-gives g c ds m x ending h =
     let s = c.args.self in
-    subst (λ (r : RunReport). RunTold ds m x ending r) (sym (c.new.ensures.report ∙ c.outcome.ensures (kept_by s).values)) (gives_report ds m (standing s) x ending c.in-Some.stop h c.in-Some.is)
+    subst (λ (r : RunReport). RunTold ds m x ending r) (sym (c.new.ensures.report ∙ c.outcome.ensures (kept_by s).values))
+    (gives_report ds m (standing s) x ending c.in-Some.stop h c.in-Some.is)
 
 pub returns-in-Some-clause-used : goal.returns-in-Some-clause-used
 returns-in-Some-clause-used g c = ap (λ (r : RunReport). r.used) (c.new.ensures.report ∙ c.outcome.ensures (kept_by c.args.self).values)
 
 pub returns-in-Some-clause-memory : goal.returns-in-Some-clause-memory
 returns-in-Some-clause-memory g c =
-    ap (λ (r : RunReport). is_memory_status r.status) (c.new.ensures.report ∙ c.outcome.ensures (kept_by c.args.self).values) ∙ sym (ap is_no_memory c.in-Some.is)
+    ap (λ (r : RunReport). is_memory_status r.status) (c.new.ensures.report ∙ c.outcome.ensures (kept_by c.args.self).values)
+    ∙ sym (ap is_no_memory c.in-Some.is)
 
 pub returns-in-Some-clause-exactly : goal.returns-in-Some-clause-exactly
 returns-in-Some-clause-exactly g c =
-    let s = c.args.self in told_exactly (standing s) c.in-Some.stop _ c.in-Some.is (c.new.ensures.report ∙ c.outcome.ensures (kept_by s).values)
+    let s = c.args.self in told_exactly (standing s) c.in-Some.stop _ c.in-Some.is
+    (c.new.ensures.report ∙ c.outcome.ensures (kept_by s).values)

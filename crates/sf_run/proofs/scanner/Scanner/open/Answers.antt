@@ -30,14 +30,16 @@ pub invariant_of-self-clause-roomy : goal.invariant_of-self-clause-roomy
 invariant_of-self-clause-roomy g c bounded =
     let s = c.args.self.now in
     let d = c.args.directive.now in
-    rw c.open_text.ensures (room_opened s.directives.now s.passed d s.phase c.args.slot c.start.result c.requires.current c.requires.no_text c.requires.own (left g c) bounded s.ended (kept_by s).room (s.roomy bounded))
+    rw c.open_text.ensures (room_opened s.directives.now s.passed d s.phase c.args.slot c.start.result c.requires.current
+    c.requires.no_text c.requires.own (left g c) bounded s.ended (kept_by s).room (s.roomy bounded))
 
 pub invariant_of-self-clause-sized : goal.invariant_of-self-clause-sized
 invariant_of-self-clause-sized g c bounded =
     let s = c.args.self.now in
     let d = c.args.directive.now in
     let still = still_stored s.ended s.directives.now s.passed s.phase in
-    let rest = room_opened s.directives.now s.passed d s.phase c.args.slot c.start.result c.requires.current c.requires.no_text c.requires.own (left g c) bounded s.ended still (omega arith) in
+    let rest = room_opened s.directives.now s.passed d s.phase c.args.slot c.start.result c.requires.current c.requires.no_text
+    c.requires.own (left g c) bounded s.ended still (omega arith) in
     let same = size_begun (kept_by s).closed (kept_by s).opened (opened_none (kept_by s).opened (s.under_way ∙ c.requires.no_text)) in
     let was = s.sized bounded in
     rw c.open_text.ensures (omega (arith, rest, same, was))

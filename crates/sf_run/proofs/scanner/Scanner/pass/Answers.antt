@@ -12,7 +12,8 @@ invariant_of-self-clause-given g c = grind (arith, slots_none)
 
 pub invariant_of-self-clause-roomy : goal.invariant_of-self-clause-roomy
 invariant_of-self-clause-roomy g c bounded =
-    let s = c.args.self.now in room_passed s.ended s.directives.now s.passed c.args.directive.now s.phase (kept_by s).room c.requires.current (s.roomy bounded)
+    let s = c.args.self.now in room_passed s.ended s.directives.now s.passed c.args.directive.now s.phase
+    (kept_by s).room c.requires.current (s.roomy bounded)
 
 pub returns : goal.returns
 returns g c =
@@ -28,7 +29,8 @@ returns g c =
 
 pub invariant_of-self-clause-sized : goal.invariant_of-self-clause-sized
 invariant_of-self-clause-sized g c bounded =
-    let s = c.args.self.now in size_passed s.ended s.directives.now s.passed c.args.directive.now s.phase (length (buffer_of (kept_by s))) _ c.requires.current (s.sized bounded)
+    let s = c.args.self.now in size_passed s.ended s.directives.now s.passed c.args.directive.now s.phase
+    (length (buffer_of (kept_by s))) _ c.requires.current (s.sized bounded)
 
 pub invariant_of-self-clause-assigned : goal.invariant_of-self-clause-assigned
 invariant_of-self-clause-assigned g c =

@@ -16,7 +16,8 @@ pub loop-directive-init : goal.loop-directive-init
 loop-directive-init g c = grind (arith, common_steps, stays_put)
 
 pub returns-in_default-clause-comes : goal.returns-in_default-clause-comes
-returns-in_default-clause-comes g c proper = ended_advances (standing c.conclude.new.self) (standing c.args.self.now) c.args.piece.now c.loop-directive.taken c.conclude.ensures.ended
+returns-in_default-clause-comes g c proper = ended_advances (standing c.conclude.new.self)
+    (standing c.args.self.now) c.args.piece.now c.loop-directive.taken c.conclude.ensures.ended
 
 pub returns-then-taken-piece-clause-comes : goal.returns-then-taken-piece-clause-comes
 returns-then-taken-piece-clause-comes g c proper =
@@ -24,6 +25,8 @@ returns-then-taken-piece-clause-comes g c proper =
     let taken : ℕ = c.loop-directive.taken in
     let new = c.hand-handed.new.self in
     let own : IsProper c.in-Some.directive.now = grind (arith, slice_get_read, proper_at) in
-    let second : Advances (standing new) (standing mid) c.split_at.result.1.now c.hand-handed.result.taken = c.hand-handed.ensures.comes own in
-    advances_on (standing c.args.self.now) (standing mid) (standing new) c.args.piece.now taken c.hand-handed.result.taken (grind (arith, common_steps)) (c.loop-directive.invariant.comes proper)
+    let second : Advances (standing new) (standing mid) c.split_at.result.1.now c.hand-handed.result.taken =
+    c.hand-handed.ensures.comes own in
+    advances_on (standing c.args.self.now) (standing mid) (standing new) c.args.piece.now taken c.hand-handed.result.taken
+    (grind (arith, common_steps)) (c.loop-directive.invariant.comes proper)
     (subst (λ l. Advances (standing new) (standing mid) l c.hand-handed.result.taken) c.split_at.ensures.back second)

@@ -8,8 +8,10 @@ use Rattle.sf_run.proofs.scanner.Scanner.push.Given as goal
 -- the bytes so far were taken, and where the run has stopped for want of memory, a byte of the piece was refused
 abbrev pub invariant-loop-directive : goal.invariant-loop-directive
 invariant-loop-directive g l = record {
-  same : AreProper l.fn.self.directives.now → ran_out (standing l.self) ≡ false → (z : List ℕ) → Follows (standing l.self) (standing l.fn.self) (drop l.taken l.piece ++ z) (l.piece ++ z);
-  memory : AreProper l.fn.self.directives.now → l.fn.self.ended ≡ None → ran_out (standing l.self) ≡ true → RefusesIn (standing l.self) (standing l.fn.self) l.piece;
+  same : AreProper l.fn.self.directives.now → ran_out (standing l.self) ≡ false → (z : List ℕ)
+      → Follows (standing l.self) (standing l.fn.self) (drop l.taken l.piece ++ z) (l.piece ++ z);
+  memory : AreProper l.fn.self.directives.now → l.fn.self.ended ≡ None → ran_out (standing l.self) ≡ true
+      → RefusesIn (standing l.self) (standing l.fn.self) l.piece;
   within : l.taken ≤ length l.piece;
   used : l.self.tally.used ≡ l.fn.self.tally.used + l.taken;
   stays : IsSome l.fn.self.ended → IsSome l.self.ended;

@@ -20,7 +20,8 @@ set_number-requires-clause-absent g c = grind (arith, slot_free)
 pub invariant_of-self-clause-given : goal.invariant_of-self-clause-given
 invariant_of-self-clause-given g c =
     let s = c.args.self.now in
-    rw c.set_number.ensures (slots_more s.directives.now s.passed c.args.directive.now (kept_by s).values c.args.slot _ c.requires.current c.requires.own s.given)
+    rw c.set_number.ensures (slots_more s.directives.now s.passed c.args.directive.now
+    (kept_by s).values c.args.slot _ c.requires.current c.requires.own s.given)
 
 pub invariant_of-self-clause-joined : goal.invariant_of-self-clause-joined
 invariant_of-self-clause-joined g c =
@@ -30,7 +31,8 @@ invariant_of-self-clause-joined g c =
 pub invariant_of-self-clause-roomy : goal.invariant_of-self-clause-roomy
 invariant_of-self-clause-roomy g c bounded =
     let s = c.args.self.now in
-    rw c.set_number.ensures (room_passed s.ended s.directives.now s.passed c.args.directive.now s.phase (kept_by s).room c.requires.current (s.roomy bounded))
+    rw c.set_number.ensures (room_passed s.ended s.directives.now s.passed c.args.directive.now s.phase (kept_by s).room c.requires.current
+    (s.roomy bounded))
 
 pub returns : goal.returns
 returns g c =
@@ -41,16 +43,19 @@ returns g c =
       passed = refl;
       phase = refl;
       opened = opened_none (kept_by s).opened (s.under_way ∙ c.requires.no_text);
-      tally = c.counted-tally.ensures.tally (Stores c.args.slot (datum_of_number c.args.number)) (kept_by s).values (record { passes = refl; stored = refl });
+      tally = c.counted-tally.ensures.tally (Stores c.args.slot (datum_of_number c.args.number)) (kept_by s).values
+          (record { passes = refl; stored = refl });
     })
 
 pub invariant_of-self-clause-sized : goal.invariant_of-self-clause-sized
 invariant_of-self-clause-sized g c bounded =
     let s = c.args.self.now in
-    rw c.set_number.ensures (size_passed s.ended s.directives.now s.passed c.args.directive.now s.phase (length (buffer_of (kept_by s))) _ c.requires.current (s.sized bounded))
+    rw c.set_number.ensures (size_passed s.ended s.directives.now s.passed c.args.directive.now s.phase
+    (length (buffer_of (kept_by s))) _ c.requires.current (s.sized bounded))
 
 pub invariant_of-self-clause-assigned : goal.invariant_of-self-clause-assigned
 invariant_of-self-clause-assigned g c =
     let s = c.args.self.now in
-    let place = place_taken s.directives.now s.passed c.args.directive.now true c.requires.current (λ e. is_destination_of c.args.directive.now c.args.slot c.requires.own) in
+    let place = place_taken s.directives.now s.passed c.args.directive.now true c.requires.current
+    (λ e. is_destination_of c.args.directive.now c.args.slot c.requires.own) in
     omega (arith, s.assigned, place, c.counted-tally.ensures.assigned)

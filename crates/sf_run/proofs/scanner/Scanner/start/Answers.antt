@@ -26,12 +26,14 @@ returns-clause-after g c =
     let ds = c.args.directives.now in
     let kept : Kept = g.S.Store.kept c.args.store in
     let nothing : tally_of c.new.result kept.values ≡ nothing_yet =
-    tally_nothing c.new.result kept.values c.new.ensures.used c.new.ensures.assigned c.new.ensures.converted (ap (λ (k : Kept). k.values) c.requires.empty) in
+    tally_nothing c.new.result kept.values c.new.ensures.used c.new.ensures.assigned c.new.ensures.converted
+    (ap (λ (k : Kept). k.values) c.requires.empty) in
     let none = c.push.ensures.within in
     let count = c.push.ensures.used in
     let start = c.new.ensures.used in
     let used : c.push.new.self.tally.used ≡ 0 = omega (arith, none, count, start) in
-    let fine : ran_out (standing c.push.new.self) ≡ false = none_refused (standing c.push.new.self) _ [] refl (λ out. c.push.ensures.memory c.requires.proper refl out) in
+    let fine : ran_out (standing c.push.new.self) ≡ false = none_refused (standing c.push.new.self) _ [] refl
+    (λ out. c.push.ensures.memory c.requires.proper refl out) in
     after_nothing ds c.args.limit (standing c.push.new.self) c.push.ensures.keeps.directives c.push.ensures.keeps.limit c.requires.proper
     (λ k z within. c.push.ensures.same c.requires.proper fine z k (run_of (Some k) ds 1 nothing_yet z) (omega (arith, used)) within
     (start_does ds ds kept.opened (tally_of c.new.result kept.values) k z refl (ap (λ (k : Kept). k.opened) c.requires.empty) nothing))

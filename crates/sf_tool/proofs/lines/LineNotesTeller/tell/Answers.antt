@@ -11,6 +11,9 @@ returns-clause-told g c telling says =
     let line_is : c.as_bytes.result.now ≡ line = c.as_bytes.ensures.value ∙ c.as_str.ensures.value ∙ c.line_fault_line-told.ensures in
     let all : c.as_bytes.result.now ++ c.deref.result.now ≡ telling c.args.number c.args.line.now c.args.fault =
     ap (λ (t : List ℕ). t ++ c.deref.result.now) line_is ∙ ap (λ (t : List ℕ). line ++ t) c.deref.ensures.value
-    ∙ sym (says_more notes.profile notes.quiet notes.text.now notes.format.now telling c.args.number c.args.line.now c.args.fault notes.explain says c.if-self.false c.in_ok-more.more.items c.in_ok-more.ensures) in
-    subst (λ (failed : Bool). Tells failed c.write_told-self.result (g.C.Console.said notes.err.now) (g.C.Console.said c.write_told-self.new.err) (telling c.args.number c.args.line.now c.args.fault)) (sym c.if-self-2.false)
-    (subst (Tells false c.write_told-self.result (g.C.Console.said notes.err.now) (g.C.Console.said c.write_told-self.new.err)) all c.write_told-self.ensures.told)
+    ∙ sym (says_more notes.profile notes.quiet notes.text.now notes.format.now telling c.args.number c.args.line.now c.args.fault
+    notes.explain says c.if-self.false c.in_ok-more.more.items c.in_ok-more.ensures) in
+    subst (λ (failed : Bool). Tells failed c.write_told-self.result (g.C.Console.said notes.err.now)
+    (g.C.Console.said c.write_told-self.new.err) (telling c.args.number c.args.line.now c.args.fault)) (sym c.if-self-2.false)
+    (subst (Tells false c.write_told-self.result (g.C.Console.said notes.err.now) (g.C.Console.said c.write_told-self.new.err)) all
+    c.write_told-self.ensures.told)

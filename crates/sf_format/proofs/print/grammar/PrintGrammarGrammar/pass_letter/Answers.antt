@@ -29,7 +29,8 @@ returns-in_err-slot c =
     let o = opening_of c.args.written.now in
     let p = err_from_is_err_and c.from_residual-in_err-slot.result c.from_residual-in_err-slot.ensures.1 in
     let ending = ending_rules (Print c.args.self.profile) c.args.percent o c.args.at c.args.letter c.args.text.now in
-    rw (p.1, p.2, first_append ending (slot_rules earlier c.args.percent o), c.in_ok-found.ensures.0) (c.in_err-slot.ensures.pushed earlier holds)
+    rw (p.1, p.2, first_append ending (slot_rules earlier c.args.percent o), c.in_ok-found.ensures.0)
+    (c.in_err-slot.ensures.pushed earlier holds)
 
 pub returns : goal.returns
 returns c =
@@ -42,7 +43,13 @@ returns c =
     rw (print_letter_is c.args.self.profile c.args.letter c.in_ok-found.found found).plain (
       rw (first_append ending (slot_rules earlier c.args.percent o), quiet) none,
       refl,
-      (c.in_ok-found.found, c.conversion-conversion.result, found, c.conversion-conversion.ensures (1 + length earlier) (sym placed ∙ c.unwrap.ensures) known, refl),
+      (
+        c.in_ok-found.found,
+        c.conversion-conversion.result,
+        found,
+        c.conversion-conversion.ensures (1 + length earlier) (sym placed ∙ c.unwrap.ensures) known,
+        refl,
+      ),
       held,
       placed ∙ slot_there (1 + length earlier) o,
     )

@@ -25,7 +25,8 @@ pub returns-in_err-list : goal.returns-in_err-list
 returns-in_err-list c =
     λ earlier holds.
     let p = err_from_is_err_and c.from_residual-in_err-list.result c.from_residual-in_err-list.ensures.1 in
-    let first = rest_first c.args.self.profile earlier c.args.percent (opening_of c.args.written.now) c.args.at c.args.letter c.args.text.now
+    let first = rest_first c.args.self.profile earlier c.args.percent
+    (opening_of c.args.written.now) c.args.at c.args.letter c.args.text.now
     c.in_ok-found.found c.in_ok-found.ensures.0 c.in_ok-found.ensures.1 in
     rw (p.1, p.2) (first ∙ rw c.in_err-list.ensures)
 
@@ -56,9 +57,11 @@ returns c =
     let placed = c.in_ok-slot.ensures.slot ∙ ap (λ n. slot_of (1 + n) o) holds.count in
     let there = letter_destination o c.args.letter c.args.text.now in (
       rest_first c.args.self.profile earlier c.args.percent o c.args.at c.args.letter c.args.text.now letter rules found ∙ rw (fault, none),
-      after ∙ ap (λ v. rest_behind v c.args.text.now) (bracket_is c.args.self.profile c.args.letter letter found) ∙ sym (letter_rest o c.args.letter c.args.text.now),
+      after ∙ ap (λ v. rest_behind v c.args.text.now) (bracket_is c.args.self.profile c.args.letter letter found)
+          ∙ sym (letter_rest o c.args.letter c.args.text.now),
       match_map _ _ _
-          (λ d made. made_means c.args.self.profile (1 + length earlier) c.args.at c.args.letter c.args.text.now o letter _ c.in_ok-slot.slot
+          (λ d made. made_means c.args.self.profile (1 + length earlier) c.args.at c.args.letter c.args.text.now o letter _
+          c.in_ok-slot.slot
           c.in_ok-list.list d found known fault is placed made)
           c.conversion.result c.conversion.ensures,
       subst (λ os. Holds c.in_ok-slot.slots (earlier ++ os)) (sym there) held,
