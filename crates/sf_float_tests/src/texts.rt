@@ -1,5 +1,5 @@
 //! Texts of floats, as glibc's printf writes them.
-use sf_float::{FloatConv, ROOM, Style, write_float};
+use sf_float::{FloatConv, FloatField, ROOM, Style, write_float};
 use std::num::f64_from_bits_with_nan;
 use std::test::Fail;
 
@@ -149,22 +149,26 @@ fn conv_of(row: &Row) -> FloatConv {
     }
 }
 
-/// Whether the text is this many bytes, these, those and those bytes, and so many again.
-fn is_joined(text: &[u8], parts: &[(&[u8], usize, u8)]) -> bool {
+/// What follows so many of the byte.
+fn after_run(text: &[u8], count: u32, b: u8) -> Option<&[u8]> {
     let mut rest = text;
-    for &(bytes, count, b) in parts {
-        match rest.strip_prefix(bytes) {
-            Some(after) => rest = after,
-            None => return false,
-        }
-        for _ in 0..count {
-            match rest.split_first() {
-                Some((first, after)) if *first == b => rest = after,
-                _ => return false,
-            }
+    for _ in 0..count {
+        match rest.split_first() {
+            Some((first, after)) if *first == b => rest = after,
+            _ => return None,
         }
     }
-    rest.is_empty()
+    Some(rest)
+}
+
+/// What follows the digits and what stands around them.
+fn after_field<'a>(text: &'a [u8], field: &FloatField, digits: &[u8]) -> Option<&'a [u8]> {
+    let text = after_run(text, field.left, b' ')?;
+    let text = text.strip_prefix(field.sign)?;
+    let text = text.strip_prefix(field.mark)?;
+    let text = after_run(text, field.zeros, b'0')?;
+    let text = text.strip_prefix(digits)?;
+    after_run(text, field.right, b' ')
 }
 
 #[test]
@@ -173,14 +177,9 @@ fn texts_are_those_of_printf() -> Result<(), Fail> {
         let mut out = [0u8; ROOM];
         let (field, len) = write_float(&conv_of(row), f64_from_bits_with_nan(row.4), &mut out);
         let digits = out.get(..len).unwrap_or(&out);
-        let parts = [
-            (b"".as_slice(), field.left as usize, b' '),
-            (field.sign, 0, b' '),
-            (field.mark, field.zeros as usize, b'0'),
-            (digits, field.right as usize, b' '),
-        ];
-        if !is_joined(row.5, &parts) {
-            return Err(Fail::new(format_args!("{:?}", row.5)));
+        match after_field(row.5, &field, digits) {
+            Some(rest) if rest.is_empty() => (),
+            _ => return Err(Fail::new(format_args!("{:?}", row.5))),
         }
     }
     Ok(())
