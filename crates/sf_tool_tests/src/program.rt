@@ -9,6 +9,7 @@ use std::process::Abort;
 use std::test::Fail;
 
 /// Where two streams write to: each write is one line, after the letter of its stream.
+#[derive(Drop)]
 struct Log {
     text: Vec<u8>,
     /// How many writes to the output come before those that fail.
@@ -49,8 +50,8 @@ impl Write for Stream<'_> {
     }
 }
 
-/// The words, what is read, how many writes to the output succeed, what is written (`o`: to the output, `e`: to the
-/// error output), and the status.
+/// The words, what is read, how many writes to the output succeed, what is written (`o`: to the output, `e`: to the error
+/// output), and the status.
 struct Case {
     words: &'static str,
     terminal: bool,
@@ -124,7 +125,7 @@ static CASES: [Case; 8] = [
         status: 3,
     },
     Case {
-        words: "check/%d/%d",
+        words: "check/%5d,/%5d,",
         terminal: false,
         input: b"",
         writes: u64::MAX,
