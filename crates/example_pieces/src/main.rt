@@ -21,6 +21,10 @@ fn main(rt: HostRuntime) -> anyhow::Result<()> {
     let Some(report) = scanner.report() else {
         return Ok(());
     };
-    println!(rt; "{:?}, slot 2 is {:?}", report.outcome().status, report.get::<i32>(2))?;
+    println!(rt;
+        "{:?}, slot 2 is {:?}",
+        report.outcome().status,
+        report.get::<i32>(2)
+    )?;
     Ok(())
 }
