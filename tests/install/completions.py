@@ -75,12 +75,14 @@ class Completions:
     def test_a_limit_is_no_word_to_complete(self):
         self.same("sf scan --limit ", [])
         self.same("sf scan --lines --skip ", [])
+        self.same("sf scan --lines -s ", [])
 
     def test_a_format_is_no_word_to_complete(self):
         self.same("sf scan --lines -e ", [])
 
     def test_profiles(self):
         self.same("sf show --profile ", ["1", "2"])
+        self.same("sf show -p ", ["1", "2"])
 
     def test_options_behind_those_of_lines(self):
         self.same("sf scan --lines --k", ["--keep-going"])
@@ -88,6 +90,7 @@ class Completions:
 
     def test_forms(self):
         self.same("sf scan --output ", ["plain", "tsv", "json"])
+        self.same("sf scan -o ", ["plain", "tsv", "json"])
         self.same("sf scan --output t", ["tsv"])
 
 

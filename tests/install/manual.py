@@ -73,4 +73,4 @@ class Manual(unittest.TestCase):
 
     @unittest.skipUnless(shutil.which("mandoc"), "there is no mandoc")
     def test_mandoc_has_nothing_to_say(self):
-        self.assertEqual(program.output("mandoc", "-T", "lint", "-W", "warning", PAGE), "")
+        self.assertEqual(program.output("mandoc", "-T", "lint", "-W", "all", PAGE), "")

@@ -6,10 +6,12 @@ use Rattle.std.specs.Char.{digit_value}
 use Rattle.sf_arguments.specs.declared.escape.Piece.{Piece}
 use Rattle.sf_arguments.specs.Escapes.{IsBadEscape, Stands, Unescapes, escape_behind, hex_behind, letter_byte, letter_piece, piece_of}
 
-pub one_more_piece : (bytes word : List ℕ) (at b size : ℕ) → Stands word at bytes → piece_of (drop at word) ≡ Some (record { byte = b; size = size })
+pub one_more_piece : (bytes word : List ℕ) (at b size : ℕ) → Stands word at bytes
+    → piece_of (drop at word) ≡ Some (record { byte = b; size = size })
     → Stands word (at + size) (bytes ++ b ∷ [])
 one_more_piece [] word at b size none is =
-    let front : piece_of word ≡ Some (record { byte = b; size = size }) = subst (λ n. piece_of (drop n word) ≡ Some (record { byte = b; size = size })) none is in
+    let front : piece_of word ≡ Some (record { byte = b; size = size }) =
+    subst (λ n. piece_of (drop n word) ≡ Some (record { byte = b; size = size })) none is in
     (size, 0, front, omega (arith, none), refl)
 one_more_piece (c ∷ bytes) word at b size stands is =
     let rest = stands.1 in
@@ -19,28 +21,35 @@ one_more_piece (c ∷ bytes) word at b size stands is =
     (stands.0, rest + size, stands.2, omega (arith, stands.3), one_more_piece bytes (drop stands.0 word) rest b size stands.4 next)
 
 -- what was found at the front of the rest
-pub front_of : (word : List ℕ) (at : ℕ) (found : Option Piece) (piece : Piece) → found ≡ piece_of (take (length word - at) (drop at word)) → found ≡ Some piece
+pub front_of : (word : List ℕ) (at : ℕ) (found : Option Piece) (piece : Piece) → found ≡ piece_of (take (length word - at) (drop at word))
+    → found ≡ Some piece
     → piece_of (drop at word) ≡ Some piece
-front_of word at found piece is some = ap piece_of (sym (take_all (length word - at) (drop at word) (omega (arith, length-drop at word)))) ∙ sym is ∙ some
+front_of word at found piece is some = ap piece_of (sym (take_all (length word - at) (drop at word) (omega (arith, length-drop at word))))
+    ∙ sym is ∙ some
 
-pub none_of : (word : List ℕ) (at : ℕ) (found : Option Piece) → found ≡ piece_of (take (length word - at) (drop at word)) → found ≡ None → piece_of (drop at word) ≡ None
-none_of word at found is none = ap piece_of (sym (take_all (length word - at) (drop at word) (omega (arith, length-drop at word)))) ∙ sym is ∙ none
+pub none_of : (word : List ℕ) (at : ℕ) (found : Option Piece) → found ≡ piece_of (take (length word - at) (drop at word)) → found ≡ None
+    → piece_of (drop at word) ≡ None
+none_of word at found is none = ap piece_of (sym (take_all (length word - at) (drop at word) (omega (arith, length-drop at word))))
+    ∙ sym is ∙ none
 
 -- the same front has the same piece
-same_piece : (o : Option Piece) (b size c more : ℕ) → o ≡ Some (record { byte = b; size = size }) → o ≡ Some (record { byte = c; size = more }) → (b ≡ c) × (size ≡ more)
+same_piece : (o : Option Piece) (b size c more : ℕ) → o ≡ Some (record { byte = b; size = size })
+    → o ≡ Some (record { byte = c; size = more }) → (b ≡ c) × (size ≡ more)
 same_piece o b size c more is too =
     let e : record { byte = b; size = size } ≡ record { byte = c; size = more } = cc in
     (ap (λ (p : Piece). p.byte) e, ap (λ (p : Piece). p.size) e)
 
 -- pieces that reach less far end before a piece that is there
-pub no_end_within : {A : Type 0} (xs ys word : List ℕ) (a n : ℕ) → Stands word a xs → Stands word n ys → a < n → piece_of (drop a word) ≡ None → A
+pub no_end_within : {A : Type 0} (xs ys word : List ℕ) (a n : ℕ) → Stands word a xs → Stands word n ys → a < n
+    → piece_of (drop a word) ≡ None → A
 no_end_within xs [] word a n some none less ends = absurd (omega (arith, none))
 no_end_within [] (y ∷ ys) word a n none (size, rest, is, sum, more) less ends =
     let at : piece_of word ≡ None = subst (λ m. piece_of (drop m word) ≡ None) none ends in absurd (cc)
 no_end_within (x ∷ xs) (y ∷ ys) word a n (size, rest, is, sum, more) (long, left, too, total, further) less ends =
     let same = (same_piece (piece_of word) x size y long is too).1 in
     let there : drop a word ≡ drop rest (drop size word) = ap (λ m. drop m word) sum ∙ sym (drop-drop rest size word) in
-    no_end_within xs ys (drop size word) rest left more (subst (λ m. Stands (drop m word) left ys) (sym same) further) (omega (arith, sum, total, same))
+    no_end_within xs ys (drop size word) rest left more (subst (λ m. Stands (drop m word) left ys) (sym same) further)
+    (omega (arith, sum, total, same))
     (subst (λ w. piece_of w ≡ None) there ends)
 
 -- a word that stands for bytes has no bad escape
@@ -83,20 +92,25 @@ hex_is_long (high ∷ low ∷ rest) =
 
 escape_is_long : (rest : List ℕ) → IsLong (escape_behind rest)
 escape_is_long [] = none_is_long
-escape_is_long (c ∷ rest) = by_test (nat_eq c 120) (λ t. IsLong (cond t (hex_behind rest) (letter_piece (letter_byte c)))) (hex_is_long rest) (letter_is_long (letter_byte c))
+escape_is_long (c ∷ rest) = by_test (nat_eq c 120) (λ t. IsLong (cond t (hex_behind rest) (letter_piece (letter_byte c))))
+    (hex_is_long rest) (letter_is_long (letter_byte c))
 
 piece_is_long : (word : List ℕ) → IsLong (piece_of word)
 piece_is_long [] = none_is_long
-piece_is_long (b ∷ rest) = by_test (nat_eq b 92) (λ t. IsLong (cond t (escape_behind rest) (Some (record { byte = b; size = 1 })))) (escape_is_long rest) (some_is_long b 1 (omega arith))
+piece_is_long (b ∷ rest) = by_test (nat_eq b 92) (λ t. IsLong (cond t (escape_behind rest) (Some (record { byte = b; size = 1 }))))
+    (escape_is_long rest) (some_is_long b 1 (omega arith))
 
 same_pieces : (xs ys word : List ℕ) (n : ℕ) → Stands word n xs → Stands word n ys → xs ≡ ys
 same_pieces [] [] word n none also = refl
-same_pieces [] (y ∷ ys) word n none (size, rest, is, sum, more) = let long = piece_is_long word y size is in absurd (omega (arith, none, sum, long))
-same_pieces (x ∷ xs) [] word n (size, rest, is, sum, more) none = let long = piece_is_long word x size is in absurd (omega (arith, none, sum, long))
+same_pieces [] (y ∷ ys) word n none (size, rest, is, sum, more) = let long = piece_is_long word y size is in
+    absurd (omega (arith, none, sum, long))
+same_pieces (x ∷ xs) [] word n (size, rest, is, sum, more) none = let long = piece_is_long word x size is in
+    absurd (omega (arith, none, sum, long))
 same_pieces (x ∷ xs) (y ∷ ys) word n (size, rest, is, sum, more) (long, left, too, total, further) =
     let same = same_piece (piece_of word) x size y long is too in
     let lefts : left ≡ rest = omega (arith, sum, total, same.1) in
-    let moved : Stands (drop size word) rest ys = subst (λ m. Stands (drop size word) m ys) lefts (subst (λ m. Stands (drop m word) left ys) (sym same.1) further) in
+    let moved : Stands (drop size word) rest ys = subst (λ m. Stands (drop size word) m ys) lefts
+    (subst (λ m. Stands (drop m word) left ys) (sym same.1) further) in
     let tails : xs ≡ ys = same_pieces xs ys (drop size word) rest more moved in
     let heads : x ≡ y = same.0 in cc
 

@@ -23,7 +23,8 @@ abbrev pub IsOfNumber : PrintLetter → Type 0
 IsOfNumber l = (l ≡ Signed) ⊎ ((l ≡ Unsigned) ⊎ ((l ≡ Octal) ⊎ ((l ≡ HexLower) ⊎ ((l ≡ HexUpper) ⊎ (l ≡ Binary)))))
 
 -- they print the numbers of their kind
-pub number_stands : (l : PrintLetter) → IsOfNumber l → (P : (Datum → Type 0) → Type 0) → (k : Kind) (word : List ℕ) → P (IsNumberOf k word) → P (StandsFor l k word)
+pub number_stands : (l : PrintLetter) → IsOfNumber l → (P : (Datum → Type 0) → Type 0) → (k : Kind) (word : List ℕ) → P (IsNumberOf k word)
+    → P (StandsFor l k word)
 number_stands l (inl is) P k word h = rw is h
 number_stands l (inr (inl is)) P k word h = rw is h
 number_stands l (inr (inr (inl is))) P k word h = rw is h
@@ -47,8 +48,10 @@ some_kind None = refl
 some_kind (Some c) = refl
 
 -- each slot from 1 to the count has a conversion
-pub slot_found : (units : List PrintUnit) → AreSlots (values_of units) → (slot : ℕ) → 1 ≤ slot → slot ≤ length (values_of units) → IsSome (conv_at units slot)
-slot_found units slots slot low high = sym (some_kind (conv_at units slot)) ∙ ap is_some (sym (same_kind_found units slot)) ∙ (kinds_are slot (values_of units) slots).1 (low, high)
+pub slot_found : (units : List PrintUnit) → AreSlots (values_of units) → (slot : ℕ) → 1 ≤ slot → slot ≤ length (values_of units)
+    → IsSome (conv_at units slot)
+slot_found units slots slot low high = sym (some_kind (conv_at units slot)) ∙ ap is_some (sym (same_kind_found units slot))
+    ∙ (kinds_are slot (values_of units) slots).1 (low, high)
 
 -- ---- the conversions of a format are those of their slots
 
@@ -79,6 +82,8 @@ conv_found (unit.Byte b ∷ us) c distinct (inl is) = absurd (cc)
 conv_found (unit.Byte b ∷ us) c distinct (inr later) = conv_found us c distinct later
 conv_found (unit.Conv d ∷ us) c distinct (inl is) =
     let e : d ≡ c = cc in
-    ap (λ v. cond v (Some d) (conv_at us c.slot)) (ap (λ (x : PrintConv). nat_eq x.slot c.slot) e ∙ same_itself c.slot) ∙ ap (λ (x : PrintConv). Some x) e
+    ap (λ v. cond v (Some d) (conv_at us c.slot)) (ap (λ (x : PrintConv). nat_eq x.slot c.slot) e ∙ same_itself c.slot)
+    ∙ ap (λ (x : PrintConv). Some x) e
 conv_found (unit.Conv d ∷ us) c distinct (inr later) =
-    ap (λ v. cond v (Some d) (conv_at us c.slot)) (differ c.slot d.slot (slot_has (λ m. m ≢ d.slot) us c distinct.0 later)) ∙ conv_found us c distinct.1 later
+    ap (λ v. cond v (Some d) (conv_at us c.slot)) (differ c.slot d.slot (slot_has (λ m. m ≢ d.slot) us c distinct.0 later))
+    ∙ conv_found us c distinct.1 later

@@ -41,7 +41,8 @@ tests = record {
 weighs : WeighsDigits (magnitude 10)
 weighs = record {
   empty = refl;
-  more = λ c cs k. let e : digit_value c ≡ c - 48 = omega (arith, digit_value_digit c k) in ap (λ d. d * 10 ^ length cs + magnitude 10 cs) e;
+  more = λ c cs k. let e : digit_value c ≡ c - 48 = omega (arith, digit_value_digit c k) in
+      ap (λ d. d * 10 ^ length cs + magnitude 10 cs) e;
 }
 
 own : IsNumeralModel AreDecimal (magnitude 10)
@@ -62,20 +63,40 @@ module _ (E : Type 0) (w : Width) where
       by_test (nat_eq (get_or bs 0 0) 45) (λ _. Denotes bs z)
       (λ minus. let e : get_or bs 0 0 ≡ 45 = grind (arith, nat_tests) in
       let p = parse_signed_minus own {E = E} w bs (Ok z) h e in
-      record { negative = true; sign = 45 ∷ []; ds = drop 1 bs; parts = first_is bs 45 (omega arith) e; signed = refl; some = p.0.1; decimal = p.0.0; number = p.1 })
+      record {
+        negative = true;
+        sign = 45 ∷ [];
+        ds = drop 1 bs;
+        parts = first_is bs 45 (omega arith) e;
+        signed = refl;
+        some = p.0.1;
+        decimal = p.0.0;
+        number = p.1;
+      })
       (λ no_minus. let n : get_or bs 0 0 ≢ 45 = λ e. absurd (grind (arith, nat_tests)) in
       by_test (nat_eq (get_or bs 0 0) 43) (λ _. Denotes bs z)
       (λ plus. let e : get_or bs 0 0 ≡ 43 = grind (arith, nat_tests) in
       let p = parse_signed_plus own {E = E} w bs (Ok z) h e in
-      record { negative = false; sign = 43 ∷ []; ds = drop 1 bs; parts = first_is bs 43 (omega arith) e; signed = inr refl; some = p.0.1; decimal = p.0.0; number = p.1 })
+      record {
+        negative = false;
+        sign = 43 ∷ [];
+        ds = drop 1 bs;
+        parts = first_is bs 43 (omega arith) e;
+        signed = inr refl;
+        some = p.0.1;
+        decimal = p.0.0;
+        number = p.1;
+      })
       (λ no_plus. let m : get_or bs 0 0 ≢ 43 = λ e. absurd (grind (arith, nat_tests)) in
       let p = parse_signed_plain own {E = E} w bs (Ok z) h m n in
       record { negative = false; sign = []; ds = bs; parts = refl; signed = inl refl; some = p.0.1; decimal = p.0.0; number = p.1 }))
 
-  no_number_by : (negative : Bool) (sign ds : List ℕ) (e : E) → IsSign negative sign → ParsesSigned w 10 (sign ++ ds) (Err e) → AreDecimal ds → 0 < length ds
+  no_number_by : (negative : Bool) (sign ds : List ℕ) (e : E) → IsSign negative sign → ParsesSigned w 10 (sign ++ ds) (Err e)
+      → AreDecimal ds → 0 < length ds
       → FitsSigned w (with_sign negative (magnitude 10 ds)) → ⊥
   no_number_by true sign ds e is h p some fits =
-      parse_signed_minus own w (45 ∷ ds) (Err e) (subst (λ s. ParsesSigned w 10 (s ++ ds) (Err e)) is h) refl (p, some, fits_negative w (magnitude 10 ds) fits)
+      parse_signed_minus own w (45 ∷ ds) (Err e) (subst (λ s. ParsesSigned w 10 (s ++ ds) (Err e)) is h) refl
+      (p, some, fits_negative w (magnitude 10 ds) fits)
   no_number_by false sign ds e (inl is) h p some fits =
       parse_signed_digits own w ds (Err e) (subst (λ s. ParsesSigned w 10 (s ++ ds) (Err e)) is h) p (some, fits.sfits)
   no_number_by false sign ds e (inr is) h p some fits =
@@ -84,7 +105,8 @@ module _ (E : Type 0) (w : Width) where
   -- what is not read is no number that the type holds
   no_number : (bs : List ℕ) (e : E) → ParsesSigned w 10 bs (Err e) → (z : ℤ) → Denotes bs z → FitsSigned w z → ⊥
   no_number bs e h z d fits =
-      no_number_by d.negative d.sign d.ds e d.signed (subst (λ b. ParsesSigned w 10 b (Err e)) d.parts h) d.decimal d.some (subst (FitsSigned w) d.number fits)
+      no_number_by d.negative d.sign d.ds e d.signed (subst (λ b. ParsesSigned w 10 b (Err e)) d.parts h) d.decimal d.some
+      (subst (FitsSigned w) d.number fits)
 
   pub read_some : (bs : List ℕ) (r : Result ℤ E) (o : Option ℤ) → o ≡ result_ok r → ParsesSigned w 10 bs r → IfSome o (λ z. Denotes bs z)
   read_some bs (Ok z) None is h = tt
@@ -92,7 +114,8 @@ module _ (E : Type 0) (w : Width) where
   read_some bs (Ok z) (Some y) is h = let same : y ≡ z = cc in subst (Denotes bs) (sym same) (number_is bs z h)
   read_some bs (Err e) (Some y) is h = absurd (cc)
 
-  pub read_none : (bs : List ℕ) (r : Result ℤ E) (o : Option ℤ) → o ≡ result_ok r → ParsesSigned w 10 bs r → IfNone o ((z : ℤ) → Denotes bs z → FitsSigned w z → ⊥)
+  pub read_none : (bs : List ℕ) (r : Result ℤ E) (o : Option ℤ) → o ≡ result_ok r → ParsesSigned w 10 bs r
+      → IfNone o ((z : ℤ) → Denotes bs z → FitsSigned w z → ⊥)
   read_none bs (Ok z) None is h = absurd (cc)
   read_none bs (Err e) None is h = no_number bs e h
   read_none bs r (Some y) is h = tt
@@ -103,14 +126,20 @@ plain_value : (ds : List ℕ) → AreDecimal ds → 0 < length ds → signed_dig
 plain_value [] h some = absurd (omega arith)
 plain_value (c ∷ cs) h some =
     let k = in_range c h.0 in
-    let no_minus : nat_eq c 45 ≡ false = by_test (nat_eq c 45) (λ v. v ≡ false) (λ e. let is : c ≡ 45 = grind (arith, nat_tests) in absurd (omega arith)) (λ e. refl) in
-    let no_plus : nat_eq c 43 ≡ false = by_test (nat_eq c 43) (λ v. v ≡ false) (λ e. let is : c ≡ 43 = grind (arith, nat_tests) in absurd (omega arith)) (λ e. refl) in
-    ap (λ t. let ds : List ℕ = cond t cs (drop (cond (nat_eq c 43) 1 0) (c ∷ cs)) in cond t (neg_ℤ (pos (digits_value 10 ds))) (pos (digits_value 10 ds))) no_minus
+    let no_minus : nat_eq c 45 ≡ false = by_test (nat_eq c 45) (λ v. v ≡ false)
+    (λ e. let is : c ≡ 45 = grind (arith, nat_tests) in absurd (omega arith)) (λ e. refl) in
+    let no_plus : nat_eq c 43 ≡ false = by_test (nat_eq c 43) (λ v. v ≡ false)
+    (λ e. let is : c ≡ 43 = grind (arith, nat_tests) in absurd (omega arith)) (λ e. refl) in
+    ap (λ t. let ds : List ℕ = cond t cs (drop (cond (nat_eq c 43) 1 0) (c ∷ cs)) in
+    cond t (neg_ℤ (pos (digits_value 10 ds))) (pos (digits_value 10 ds))) no_minus
     ∙ ap (λ t. pos (digits_value 10 (drop (cond t 1 0) (c ∷ cs)))) no_plus
 
-denoted_by : (negative : Bool) (sign ds : List ℕ) → IsSign negative sign → AreDecimal ds → 0 < length ds → with_sign negative (magnitude 10 ds) ≡ signed_digits_value 10 (sign ++ ds)
-denoted_by true sign ds is h some = ap (λ n. neg_ℤ (pos n)) (own.same ds (own.to ds h)) ∙ ap (λ s. signed_digits_value 10 (s ++ ds)) (sym is)
-denoted_by false sign ds (inl is) h some = ap pos (own.same ds (own.to ds h)) ∙ sym (plain_value ds h some) ∙ ap (λ s. signed_digits_value 10 (s ++ ds)) (sym is)
+denoted_by : (negative : Bool) (sign ds : List ℕ) → IsSign negative sign → AreDecimal ds → 0 < length ds
+    → with_sign negative (magnitude 10 ds) ≡ signed_digits_value 10 (sign ++ ds)
+denoted_by true sign ds is h some = ap (λ n. neg_ℤ (pos n)) (own.same ds (own.to ds h))
+    ∙ ap (λ s. signed_digits_value 10 (s ++ ds)) (sym is)
+denoted_by false sign ds (inl is) h some = ap pos (own.same ds (own.to ds h)) ∙ sym (plain_value ds h some)
+    ∙ ap (λ s. signed_digits_value 10 (s ++ ds)) (sym is)
 denoted_by false sign ds (inr is) h some = ap pos (own.same ds (own.to ds h)) ∙ ap (λ s. signed_digits_value 10 (s ++ ds)) (sym is)
 
 denoted_is : (word : List ℕ) (z : ℤ) → Denotes word z → z ≡ signed_digits_value 10 word

@@ -25,8 +25,10 @@ same_number : (k : Kind) (word : List ℕ) (a b : Datum) → IsNumberOf k word a
 same_number k word a b (y, d, i, is) (z, e, j, too) = is ∙ ap (Number k) (one_number word y z d e) ∙ sym too
 
 pub one_value_holds : OneValue
-one_value_holds letter.Text k word a b (bytes, good, is) (others, fine, too) = is ∙ ap (λ (t : List ℕ). Bytes t) (one_reading word bytes others good fine) ∙ sym too
-one_value_holds letter.One k word a b (bytes, good, one, is) (others, fine, also, too) = is ∙ ap (λ (t : List ℕ). Bytes t) (one_reading word bytes others good fine) ∙ sym too
+one_value_holds letter.Text k word a b (bytes, good, is) (others, fine, too) =
+    is ∙ ap (λ (t : List ℕ). Bytes t) (one_reading word bytes others good fine) ∙ sym too
+one_value_holds letter.One k word a b (bytes, good, one, is) (others, fine, also, too) =
+    is ∙ ap (λ (t : List ℕ). Bytes t) (one_reading word bytes others good fine) ∙ sym too
 one_value_holds letter.Signed k word a b is too = same_number k word a b is too
 one_value_holds letter.Unsigned k word a b is too = same_number k word a b is too
 one_value_holds letter.Octal k word a b is too = same_number k word a b is too
@@ -36,9 +38,11 @@ one_value_holds letter.Binary k word a b is too = same_number k word a b is too
 
 -- ---- one list
 
-same_at : (units : List PrintUnit) (slot : ℕ) (word : List ℕ) (a b : Datum) → StandsAt units slot word a → StandsAt units slot word b → a ≡ b
+same_at : (units : List PrintUnit) (slot : ℕ) (word : List ℕ) (a b : Datum) → StandsAt units slot word a → StandsAt units slot word b
+    → a ≡ b
 same_at units slot word a b (c, is, stands) (d, too, also) =
-    let same : d ≡ c = cc in one_value_holds c.letter c.kind word a b stands (subst (λ (x : PrintConv). StandsFor x.letter x.kind word b) same also)
+    let same : d ≡ c = cc in one_value_holds c.letter c.kind word a b stands
+    (subst (λ (x : PrintConv). StandsFor x.letter x.kind word b) same also)
 
 -- lists with the same element at each place are the same
 same_lists : (xs ys : List Datum) → length xs ≡ length ys → ((k : ℕ) → k < length xs → slice_get xs k ≡ slice_get ys k) → xs ≡ ys
@@ -70,14 +74,17 @@ module _ (units : List PrintUnit) (words : List (List ℕ)) where
       let e = of.each lowest.place lowest.word lowest.is_word in
       fault_stands_for_none units words (lowest.place + 1) lowest.word fault e.0 lowest.at_fault e.2
 
-  none_before : {A : Type 0} (f g : ArgumentFault) (lowest : IsLowestFault units words f) (other : IsLowestFault units words g) → lowest.place < other.place → A
+  none_before : {A : Type 0} (f g : ArgumentFault) (lowest : IsLowestFault units words f) (other : IsLowestFault units words g)
+      → lowest.place < other.place → A
   none_before f g lowest other less =
       let e = other.before lowest.place lowest.word less lowest.is_word in
       fault_stands_for_none units words (lowest.place + 1) lowest.word f e.0 lowest.at_fault e.1
 
-  same_refusal : (l : PrintLetter) (f g : ArgumentFault) (c : PrintConv) (word : List ℕ) → IsRefusedBy l c word f → IsRefusedBy l c word g → f ≡ g
+  same_refusal : (l : PrintLetter) (f g : ArgumentFault) (c : PrintConv) (word : List ℕ) → IsRefusedBy l c word f → IsRefusedBy l c word g
+      → f ≡ g
   same_refusal letter.Text f g c word (a, bad, is) (b, ill, too) = is ∙ ap (BadEscape c.slot) (one_bad_escape word a b bad ill) ∙ sym too
-  same_refusal letter.One f g c word (inl (a, bad, is)) (inl (b, ill, too)) = is ∙ ap (BadEscape c.slot) (one_bad_escape word a b bad ill) ∙ sym too
+  same_refusal letter.One f g c word (inl (a, bad, is)) (inl (b, ill, too)) =
+      is ∙ ap (BadEscape c.slot) (one_bad_escape word a b bad ill) ∙ sym too
   same_refusal letter.One f g c word (inl (a, bad, is)) (inr (bytes, good, other, too)) = bad_or_good word bytes a bad good
   same_refusal letter.One f g c word (inr (bytes, good, other, is)) (inl (b, ill, too)) = bad_or_good word bytes b ill good
   same_refusal letter.One f g c word (inr (bytes, good, other, is)) (inr (others, fine, too, also)) = is ∙ sym also
@@ -88,18 +95,22 @@ module _ (units : List PrintUnit) (words : List (List ℕ)) where
   same_refusal letter.HexUpper f g c word (none, is) (nor, too) = is ∙ sym too
   same_refusal letter.Binary f g c word (none, is) (nor, too) = is ∙ sym too
 
-  same_fault : (f g : ArgumentFault) (slot : ℕ) (word other : List ℕ) → word ≡ other → IsAtFault units slot word f → IsAtFault units slot other g → f ≡ g
+  same_fault : (f g : ArgumentFault) (slot : ℕ) (word other : List ℕ) → word ≡ other → IsAtFault units slot word f
+      → IsAtFault units slot other g → f ≡ g
   same_fault f g slot word other same (c, is, of) (d, too, by) =
       let convs : d ≡ c = cc in
-      same_refusal c.letter f g c word of (subst (λ (x : PrintConv). IsRefusedBy x.letter x word g) convs (subst (λ (w : List ℕ). IsRefusedBy d.letter d w g) (sym same) by))
+      same_refusal c.letter f g c word of (subst (λ (x : PrintConv). IsRefusedBy x.letter x word g) convs
+      (subst (λ (w : List ℕ). IsRefusedBy d.letter d w g) (sym same) by))
 
   one_fault : (f g : ArgumentFault) → IsLowestFault units words f → IsLowestFault units words g → f ≡ g
   one_fault f g lowest other = by (cases_order lowest.place other.place)
     where
       by : (lowest.place ≡ other.place) ⊎ ((lowest.place < other.place) ⊎ (other.place < lowest.place)) → f ≡ g
       by (inl e) =
-          let words_same : lowest.word ≡ other.word = some_same lowest.word other.word (slice_get words lowest.place) lowest.is_word (subst (λ n. slice_get words n ≡ Some other.word) (sym e) other.is_word) in
-          same_fault f g (lowest.place + 1) lowest.word other.word words_same lowest.at_fault (subst (λ n. IsAtFault units (n + 1) other.word g) (sym e) other.at_fault)
+          let words_same : lowest.word ≡ other.word = some_same lowest.word other.word (slice_get words lowest.place) lowest.is_word
+          (subst (λ n. slice_get words n ≡ Some other.word) (sym e) other.is_word) in
+          same_fault f g (lowest.place + 1) lowest.word other.word words_same lowest.at_fault
+          (subst (λ n. IsAtFault units (n + 1) other.word g) (sym e) other.at_fault)
       by (inr (inl less)) = none_before f g lowest other less
       by (inr (inr less)) = none_before g f other lowest less
 
@@ -108,10 +119,14 @@ first_is_told_holds units words before after (Ok _) fault lowest (values, of, wr
 first_is_told_holds units words before after (Err TooLong) fault lowest (values, of, writes) = not_both units words fault values lowest of
 first_is_told_holds units words before after (Err Write) fault lowest (values, of, writes) = not_both units words fault values lowest of
 first_is_told_holds units words before after (Err Memory) fault lowest (values, of, writes) = not_both units words fault values lowest of
-first_is_told_holds units words before after (Err (WrongCount e g)) fault lowest (is, got, differ) = absurd (differ (got ∙ lowest.count ∙ sym is))
-first_is_told_holds units words before after (Err (BadEscape at offset)) fault lowest also = ap (λ (f : ArgumentFault). Err f) (one_fault units words (BadEscape at offset) fault also lowest)
-first_is_told_holds units words before after (Err (NotInKind at kind)) fault lowest also = ap (λ (f : ArgumentFault). Err f) (one_fault units words (NotInKind at kind) fault also lowest)
-first_is_told_holds units words before after (Err (NotOneByte at)) fault lowest also = ap (λ (f : ArgumentFault). Err f) (one_fault units words (NotOneByte at) fault also lowest)
+first_is_told_holds units words before after (Err (WrongCount e g)) fault lowest (is, got, differ) =
+    absurd (differ (got ∙ lowest.count ∙ sym is))
+first_is_told_holds units words before after (Err (BadEscape at offset)) fault lowest also =
+    ap (λ (f : ArgumentFault). Err f) (one_fault units words (BadEscape at offset) fault also lowest)
+first_is_told_holds units words before after (Err (NotInKind at kind)) fault lowest also =
+    ap (λ (f : ArgumentFault). Err f) (one_fault units words (NotInKind at kind) fault also lowest)
+first_is_told_holds units words before after (Err (NotOneByte at)) fault lowest also =
+    ap (λ (f : ArgumentFault). Err f) (one_fault units words (NotOneByte at) fault also lowest)
 
 pub count_is_told_holds : CountIsTold
 count_is_told_holds units words before after (Ok _) differ (values, of, writes) = absurd (differ of.count)

@@ -16,8 +16,10 @@ use Rattle.sf_arguments.specs.Arguments.{AllStand, IsAtFault, IsLowestFault, IsR
 use Rattle.sf_arguments.proofs.Escaping.{bad_or_good, one_reading}
 
 -- the element at a place, as it is shown
-pub shown_is : {A : Type 0} (v : A → List ℕ) (xs : List A) (i : ℕ) (x : A) (shown : List ℕ) → i < length xs → x ≡ get_or xs i x → shown ≡ v x → slice_get (map v xs) i ≡ Some shown
-shown_is v xs i x shown below is same = slice_get-map v xs i ∙ ap (option_map v) (slice_get_read xs (length xs) i x refl below is) ∙ ap (λ (s : List ℕ). Some s) (sym same)
+pub shown_is : {A : Type 0} (v : A → List ℕ) (xs : List A) (i : ℕ) (x : A) (shown : List ℕ) → i < length xs → x ≡ get_or xs i x
+    → shown ≡ v x → slice_get (map v xs) i ≡ Some shown
+shown_is v xs i x shown below is same = slice_get-map v xs i ∙ ap (option_map v) (slice_get_read xs (length xs) i x refl below is)
+    ∙ ap (λ (s : List ℕ). Some s) (sym same)
 
 pub some_same : {A : Type 0} (a b : A) (o : Option A) → o ≡ Some a → o ≡ Some b → a ≡ b
 some_same a b o e f = cc
@@ -37,21 +39,25 @@ get_last (z ∷ xs) x = get_last xs x
 module _ {A : Type 0} (R : ℕ → List ℕ → A → Type 0) (words : List (List ℕ)) where
   pub record Stood (at : ℕ) (values : List A) : Type 0 where
     pub same : length values ≡ at
-    pub each : (k : ℕ) (word : List ℕ) → k < at → slice_get words k ≡ Some word → (value : A) × (slice_get values k ≡ Some value) × R (k + 1) word value
+    pub each : (k : ℕ) (word : List ℕ) → k < at → slice_get words k ≡ Some word
+        → (value : A) × (slice_get values k ≡ Some value) × R (k + 1) word value
 
   pub stood_none : Stood 0 []
   stood_none = record { same = refl; each = λ k word below is. absurd (omega arith) }
 
-  pub stood_more : (at : ℕ) (word : List ℕ) (values : List A) (value : A) → Stood at values → slice_get words at ≡ Some word → R (at + 1) word value → Stood (at + 1) (values ++ value ∷ [])
+  pub stood_more : (at : ℕ) (word : List ℕ) (values : List A) (value : A) → Stood at values → slice_get words at ≡ Some word
+      → R (at + 1) word value → Stood (at + 1) (values ++ value ∷ [])
   stood_more at word values value all is stands = record {
     same = length-append values (value ∷ []) ∙ ap (λ n. n + 1) all.same;
     each = λ k other below is_other. by k other (let le : k ≤ at = omega arith in eq-or-lt_of_le le) is_other;
   }
     where
-      by : (k : ℕ) (other : List ℕ) → (k ≡ at) ⊎ (k < at) → slice_get words k ≡ Some other → (v : A) × (slice_get (values ++ value ∷ []) k ≡ Some v) × R (k + 1) other v
+      by : (k : ℕ) (other : List ℕ) → (k ≡ at) ⊎ (k < at) → slice_get words k ≡ Some other
+          → (v : A) × (slice_get (values ++ value ∷ []) k ≡ Some v) × R (k + 1) other v
       by k other (inr less) is_other = let h = all.each k other less is_other in (h.0, get_front values value k h.0 h.1, h.2)
       by k other (inl e) is_other =
-          let same : word ≡ other = some_same word other (slice_get words at) is (subst (λ n. slice_get words n ≡ Some other) e is_other) in (
+          let same : word ≡ other = some_same word other (slice_get words at) is
+          (subst (λ n. slice_get words n ≡ Some other) e is_other) in (
             value,
             subst (λ n. slice_get (values ++ value ∷ []) n ≡ Some value) (all.same ∙ sym e) (get_last values value),
             subst (λ n. R (n + 1) other value) (sym e) (subst (λ (w : List ℕ). R (at + 1) w value) same stands),
@@ -61,16 +67,21 @@ module _ {A : Type 0} (R : ℕ → List ℕ → A → Type 0) (words : List (Lis
 
 module _ (units : List PrintUnit) (words : List (List ℕ)) where
   -- one word more stands for a value
-  pub stand_more : (at : ℕ) (word : List ℕ) (value : Datum) → AllStand units words at → slice_get words at ≡ Some word → StandsAt units (at + 1) word value → AllStand units words (at + 1)
+  pub stand_more : (at : ℕ) (word : List ℕ) (value : Datum) → AllStand units words at → slice_get words at ≡ Some word
+      → StandsAt units (at + 1) word value → AllStand units words (at + 1)
   stand_more at word value all is stands k other below is_other = by (let le : k ≤ at = omega arith in eq-or-lt_of_le le)
     where
       by : (k ≡ at) ⊎ (k < at) → (v : Datum) × StandsAt units (k + 1) other v
       by (inr less) = all k other less is_other
       by (inl e) =
-          let same : word ≡ other = some_same word other (slice_get words at) is (subst (λ n. slice_get words n ≡ Some other) e is_other) in
-          (value, subst (λ n. StandsAt units (n + 1) other value) (sym e) (subst (λ (w : List ℕ). StandsAt units (at + 1) w value) same stands))
+          let same : word ≡ other = some_same word other (slice_get words at) is (subst (λ n. slice_get words n ≡ Some other) e is_other) in (
+            value,
+            subst (λ n. StandsAt units (n + 1) other value) (sym e)
+                (subst (λ (w : List ℕ). StandsAt units (at + 1) w value) same stands),
+          )
 
-  pub stood_all : (values : List Datum) → length words ≡ length (values_of units) → Stood (StandsAt units) words (length words) values → ValuesOf units words values
+  pub stood_all : (values : List Datum) → length words ≡ length (values_of units) → Stood (StandsAt units) words (length words) values
+      → ValuesOf units words values
   stood_all values count all = record {
     count = count;
     same = all.same;
@@ -84,10 +95,14 @@ module _ (units : List PrintUnit) (words : List (List ℕ)) where
       let before = collected n (omega arith) (λ k word below is. all k word (omega arith) is) in
       let word = get_or words n [] in
       let is : slice_get words n ≡ Some word = slice_get-get_or words n [] (omega arith) in
-      let last = all n word (omega arith) is in
-      (before.0 ++ last.0 ∷ [], subst (λ m. Stood (StandsAt units) words m (before.0 ++ last.0 ∷ [])) (let e : n + 1 ≡ suc n = omega arith in e) (stood_more (StandsAt units) words n word before.0 last.0 before.1 is last.1))
+      let last = all n word (omega arith) is in (
+        before.0 ++ last.0 ∷ [],
+        subst (λ m. Stood (StandsAt units) words m (before.0 ++ last.0 ∷ []))
+            (let e : n + 1 ≡ suc n = omega arith in e) (stood_more (StandsAt units) words n word before.0 last.0 before.1 is last.1),
+      )
 
-  pub values_are : length words ≡ length (values_of units) → AllStand units words (length words) → (values : List Datum) × ValuesOf units words values
+  pub values_are : length words ≡ length (values_of units) → AllStand units words (length words)
+      → (values : List Datum) × ValuesOf units words values
   values_are count all = let c = collected (length words) (omega arith) all in (c.0, stood_all c.0 count c.1)
 
   -- the words' bytes
@@ -95,15 +110,18 @@ module _ (units : List PrintUnit) (words : List (List ℕ)) where
   texts_all texts all = record { same = all.same; each = λ k word is. all.each k word (slice_get_within words k word is) is }
 
   -- the bytes at a word's place are the word's
-  pub text_is : (texts : List (List ℕ)) (at : ℕ) (word text : List ℕ) → TextsOf units words texts → slice_get words at ≡ Some word → slice_get texts at ≡ Some text → IsTextAt units (at + 1) word text
+  pub text_is : (texts : List (List ℕ)) (at : ℕ) (word text : List ℕ) → TextsOf units words texts → slice_get words at ≡ Some word
+      → slice_get texts at ≡ Some text → IsTextAt units (at + 1) word text
   text_is texts at word text of is there =
       let e = of.each at word is in subst (IsTextAt units (at + 1) word) (some_same e.0 text (slice_get texts at) e.1 there) e.2
 
   -- a word that is refused stands for no value
-  refused_stands_for_none : {A : Type 0} (l : PrintLetter) (c : PrintConv) (word : List ℕ) (fault : ArgumentFault) (value : Datum) → IsRefusedBy l c word fault → StandsFor l c.kind word value → A
+  refused_stands_for_none : {A : Type 0} (l : PrintLetter) (c : PrintConv) (word : List ℕ) (fault : ArgumentFault) (value : Datum)
+      → IsRefusedBy l c word fault → StandsFor l c.kind word value → A
   refused_stands_for_none letter.Text c word fault value (at, bad, is) (bytes, good, of) = bad_or_good word bytes at bad good
   refused_stands_for_none letter.One c word fault value (inl (at, bad, is)) (bytes, good, one, of) = bad_or_good word bytes at bad good
-  refused_stands_for_none letter.One c word fault value (inr (bytes, good, other, is)) (others, too, one, of) = absurd (other (ap (length {A = ℕ}) (one_reading word bytes others good too) ∙ one))
+  refused_stands_for_none letter.One c word fault value (inr (bytes, good, other, is)) (others, too, one, of) =
+      absurd (other (ap (length {A = ℕ}) (one_reading word bytes others good too) ∙ one))
   refused_stands_for_none letter.Signed c word fault value (none, is) stands = absurd (none value stands)
   refused_stands_for_none letter.Unsigned c word fault value (none, is) stands = absurd (none value stands)
   refused_stands_for_none letter.Octal c word fault value (none, is) stands = absurd (none value stands)
@@ -112,10 +130,20 @@ module _ (units : List PrintUnit) (words : List (List ℕ)) where
   refused_stands_for_none letter.Binary c word fault value (none, is) stands = absurd (none value stands)
 
   -- a word at fault stands for no value
-  pub fault_stands_for_none : {A : Type 0} (slot : ℕ) (word : List ℕ) (fault : ArgumentFault) (value : Datum) → IsAtFault units slot word fault → StandsAt units slot word value → A
+  pub fault_stands_for_none : {A : Type 0} (slot : ℕ) (word : List ℕ) (fault : ArgumentFault) (value : Datum)
+      → IsAtFault units slot word fault → StandsAt units slot word value → A
   fault_stands_for_none slot word fault value (c, is, of) (d, is_other, stands) =
-      let same : d ≡ c = cc in refused_stands_for_none c.letter c word fault value of (subst (λ (x : PrintConv). StandsFor x.letter x.kind word value) same stands)
+      let same : d ≡ c = cc in refused_stands_for_none c.letter c word fault value of
+      (subst (λ (x : PrintConv). StandsFor x.letter x.kind word value) same stands)
 
-  pub lowest_is : (at : ℕ) (word : List ℕ) (fault : ArgumentFault) → length words ≡ length (values_of units) → slice_get words at ≡ Some word → IsAtFault units (at + 1) word fault
+  pub lowest_is : (at : ℕ) (word : List ℕ) (fault : ArgumentFault) → length words ≡ length (values_of units)
+      → slice_get words at ≡ Some word → IsAtFault units (at + 1) word fault
       → AllStand units words at → IsLowestFault units words fault
-  lowest_is at word fault count is faulty before = record { count = count; place = at; word = word; is_word = is; at_fault = faulty; before = before }
+  lowest_is at word fault count is faulty before = record {
+    count = count;
+    place = at;
+    word = word;
+    is_word = is;
+    at_fault = faulty;
+    before = before;
+  }

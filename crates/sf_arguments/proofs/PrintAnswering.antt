@@ -28,7 +28,8 @@ is_of_word (NotInKind at kind) = true
 is_of_word (NotOneByte at) = true
 is_of_word _ = false
 
-of_word_by : (l : PrintLetter) (c : PrintConv) (word : List ℕ) (fault : ArgumentFault) → IsRefusedBy l c word fault → is_of_word fault ≡ true
+of_word_by : (l : PrintLetter) (c : PrintConv) (word : List ℕ) (fault : ArgumentFault) → IsRefusedBy l c word fault
+    → is_of_word fault ≡ true
 of_word_by letter.Signed c word fault (none, is) = ap is_of_word is
 of_word_by letter.Unsigned c word fault (none, is) = ap is_of_word is
 of_word_by letter.Octal c word fault (none, is) = ap is_of_word is
@@ -43,7 +44,8 @@ module _ (units : List PrintUnit) (words : List (List ℕ)) where
   of_word : (fault : ArgumentFault) → IsLowestFault units words fault → is_of_word fault ≡ true
   of_word fault lowest = let c = lowest.at_fault.0 in of_word_by c.letter c lowest.word fault lowest.at_fault.2
 
-  pub lowest_answers : (before after : Option (List ℕ)) (fault : ArgumentFault) → IsLowestFault units words fault → Answers units words before after (Err fault)
+  pub lowest_answers : (before after : Option (List ℕ)) (fault : ArgumentFault) → IsLowestFault units words fault
+      → Answers units words before after (Err fault)
   lowest_answers before after (BadEscape at offset) lowest = lowest
   lowest_answers before after (NotInKind at kind) lowest = lowest
   lowest_answers before after (NotOneByte at) lowest = lowest
@@ -85,7 +87,8 @@ module _ {K : Type 0} (contents : K → Option (List ℕ)) (text : List ℕ) (to
   told_long : (r : Result ℕ PrintFault) → most_bytes < length text → (r ≡ Err print.TooLong) × (to' ≡ to) → Told contents text to to' r
   told_long r long (is, same) = rw is (record { writes = long; unwritten = same; failures = refl })
 
-  told_written : (r : Result ℕ PrintFault) → length text ≤ most_bytes → WritesText (contents to) (contents to') text r → Told contents text to to' r
+  told_written : (r : Result ℕ PrintFault) → length text ≤ most_bytes → WritesText (contents to) (contents to') text r
+      → Told contents text to to' r
   told_written (Ok n) short h = record { writes = (short, h.0); unwritten = tt; failures = refl }
   told_written (Err (print.Sink written)) short h = record { writes = (short, (written, h.1, h.0)); unwritten = tt; failures = refl }
   told_written (Err print.WrongCount) short h = absurd h
@@ -93,23 +96,31 @@ module _ {K : Type 0} (contents : K → Option (List ℕ)) (text : List ℕ) (to
   told_written (Err (print.NotOneByte at)) short h = absurd h
   told_written (Err print.TooLong) short h = absurd h
 
-  told_by : (m : Result ℕ PrintFault) (r : Result ℕ PrintFault) → m ≡ length_or_fault None (length text) → IfErr m (λ f. (r ≡ Err f) × (to' ≡ to))
+  told_by : (m : Result ℕ PrintFault) (r : Result ℕ PrintFault) → m ≡ length_or_fault None (length text)
+      → IfErr m (λ f. (r ≡ Err f) × (to' ≡ to))
       → OnOk m (WritesText (contents to) (contents to') text r) → Told contents text to to' r
   told_by m r is refused written =
       by_test (nat_le (length text) most_bytes)
       (λ t. m ≡ cond t (Ok (length text)) (Err print.TooLong) → Told contents text to to' r)
-      (λ short e. told_written r (let le : length text ≤ most_bytes = grind (arith, nat_tests) in le) (subst (λ (a : Result ℕ PrintFault). OnOk a (WritesText (contents to) (contents to') text r)) e written))
-      (λ long e. told_long r (let lt : most_bytes < length text = grind (arith, nat_tests) in lt) (subst (λ (a : Result ℕ PrintFault). IfErr a (λ f. (r ≡ Err f) × (to' ≡ to))) e refused)) is
+      (λ short e. told_written r (let le : length text ≤ most_bytes = grind (arith, nat_tests) in le)
+      (subst (λ (a : Result ℕ PrintFault). OnOk a (WritesText (contents to) (contents to') text r)) e written))
+      (λ long e. told_long r (let lt : most_bytes < length text = grind (arith, nat_tests) in lt)
+      (subst (λ (a : Result ℕ PrintFault). IfErr a (λ f. (r ≡ Err f) × (to' ≡ to))) e refused)) is
 
 -- the writer's answer to the values of words
-pub told_is : {K : Type 0} (contents : K → Option (List ℕ)) (units : List PrintUnit) (words : List (List ℕ)) (values : List Datum) (to to' : K) (r : Result ℕ PrintFault)
-    → AreProperUnits units → AreSlots (values_of units) → ValuesOf units words values → IfErr (measured units values) (λ f. (r ≡ Err f) × (to' ≡ to))
-    → OnOk (measured units values) (WritesText (contents to) (contents to') (printed units values) r) → Told contents (printed units values) to to' r
+pub told_is : {K : Type 0} (contents : K → Option (List ℕ)) (units : List PrintUnit) (words : List (List ℕ)) (values : List Datum)
+    (to to' : K) (r : Result ℕ PrintFault)
+    → AreProperUnits units → AreSlots (values_of units) → ValuesOf units words values
+    → IfErr (measured units values) (λ f. (r ≡ Err f) × (to' ≡ to))
+    → OnOk (measured units values) (WritesText (contents to) (contents to') (printed units values) r)
+    → Told contents (printed units values) to to' r
 told_is contents units words values to to' r proper slots of refused written =
-    told_by contents (printed units values) to to' (measured units values) r (measured_is units values (of.same ∙ of.count) (no_fault units words values slots of proper)) refused written
+    told_by contents (printed units values) to to' (measured units values) r
+    (measured_is units values (of.same ∙ of.count) (no_fault units words values slots of proper)) refused written
 
 -- a refusal of the writer is the command's
-pub printed_answers : (units : List PrintUnit) (words : List (List ℕ)) (values : List Datum) (before after : Option (List ℕ)) (fault : PrintFault) → ValuesOf units words values
+pub printed_answers : (units : List PrintUnit) (words : List (List ℕ)) (values : List Datum) (before after : Option (List ℕ))
+    (fault : PrintFault) → ValuesOf units words values
     → Writes (printed units values) before after (Err (print_fault fault)) → Answers units words before after (Err (print_fault fault))
 printed_answers units words values before after print.TooLong of writes = (values, of, writes)
 printed_answers units words values before after print.WrongCount of writes = (values, of, writes)
@@ -118,17 +129,21 @@ printed_answers units words values before after (print.NotOneByte at) of writes 
 printed_answers units words values before after (print.Sink written) of writes = (values, of, writes)
 
 -- want of memory is told of words that stand for values
-pub memory_answers : (units : List PrintUnit) (words : List (List ℕ)) (held : Option (List ℕ)) → length words ≡ length (values_of units) → AllStand units words (length words)
+pub memory_answers : (units : List PrintUnit) (words : List (List ℕ)) (held : Option (List ℕ)) → length words ≡ length (values_of units)
+    → AllStand units words (length words)
     → Answers units words held held (Err Memory)
 memory_answers units words held count all = let v = values_are units words count all in (v.0, v.1, tt)
 
-pub memory_is : (format units : List PrintUnit) (words : List (List ℕ)) (held : Option (List ℕ)) (n : ℕ) (r : Result (Unit {0}) ArgumentFault) → r ≡ Err Memory → units ≡ format → length words ≡ n
+pub memory_is : (format units : List PrintUnit) (words : List (List ℕ)) (held : Option (List ℕ)) (n : ℕ)
+    (r : Result (Unit {0}) ArgumentFault) → r ≡ Err Memory → units ≡ format → length words ≡ n
     → AllStand units words n → length words ≡ length (values_of format) → Answers format words held held r
 memory_is format units words held n r is same many all count =
-    rw is (memory_answers format words held count (subst (λ (us : List PrintUnit). AllStand us words (length words)) same (subst (AllStand units words) (sym many) all)))
+    rw is (memory_answers format words held count (subst (λ (us : List PrintUnit). AllStand us words (length words)) same
+    (subst (AllStand units words) (sym many) all)))
 
 -- what a refusal of the writer says of the command's answer
-pub record Refused {K : Type 0} (contents : K → Option (List ℕ)) (units : List PrintUnit) (words : List (List ℕ)) (out out' : K) (fault : PrintFault) : Type 0 where
+pub record Refused {K : Type 0} (contents : K → Option (List ℕ)) (units : List PrintUnit) (words : List (List ℕ)) (out out' : K)
+    (fault : PrintFault) : Type 0 where
   pub answer : Answers units words (contents out) (contents out') (Err (print_fault fault))
   pub failures : is_write_fault (Err (print_fault fault)) ≡ is_sink_fault (Err fault)
 
@@ -136,13 +151,21 @@ abbrev refusal : PrintFault → Result ℕ PrintFault
 refusal fault = Err fault
 
 -- the units are those of the format, the values those that were made of the words
-pub refused_is : {K : Type 0} (contents : K → Option (List ℕ)) (format units : List PrintUnit) (words : List (List ℕ)) (made values : List Value) (out out' : K) (fault : PrintFault)
+pub refused_is : {K : Type 0} (contents : K → Option (List ℕ)) (format units : List PrintUnit) (words : List (List ℕ))
+    (made values : List Value) (out out' : K) (fault : PrintFault)
     → units ≡ format → values ≡ made → AreProperUnits units → AreSlots (values_of units) → ValuesOf units words (map datum_of made)
     → IfErr (measured format (map datum_of values)) (λ f. (refusal fault ≡ Err f) × (out' ≡ out))
-    → OnOk (measured format (map datum_of values)) (WritesText (contents out) (contents out') (printed format (map datum_of values)) (Err fault))
+    → OnOk (measured format (map datum_of values)) (WritesText (contents out) (contents out') (printed format (map datum_of values))
+    (Err fault))
     → Refused contents format words out out' fault
 refused_is contents format units words made values out out' fault same shown proper slots of refused written =
     let all : ValuesOf format words (map datum_of values) =
-    subst (λ (us : List PrintUnit). ValuesOf us words (map datum_of values)) same (subst (λ (vs : List Value). ValuesOf units words (map datum_of vs)) (sym shown) of) in
-    let told = told_is contents format words (map datum_of values) out out' (Err fault) (subst AreProperUnits same proper) (subst (λ (us : List PrintUnit). AreSlots (values_of us)) same slots) all refused written in
-    record { answer = printed_answers format words (map datum_of values) (contents out) (contents out') fault all told.writes; failures = told.failures }
+    subst (λ (us : List PrintUnit). ValuesOf us words (map datum_of values)) same
+    (subst (λ (vs : List Value). ValuesOf units words (map datum_of vs)) (sym shown) of) in
+    let told = told_is contents format words (map datum_of values) out out' (Err fault) (subst AreProperUnits same proper)
+    (subst (λ (us : List PrintUnit). AreSlots (values_of us)) same slots) all refused written in
+    record {
+      answer = printed_answers format words (map datum_of values) (contents out) (contents out') fault all told.writes;
+      failures =
+          told.failures;
+    }

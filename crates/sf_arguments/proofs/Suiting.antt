@@ -53,7 +53,8 @@ Suits l k value = (same_kind (kind_of value) k ≡ true) × (suits l value ≡ t
 
 suited : (l : PrintLetter) (k : Kind) (word : List ℕ) (value : Datum) → prints_kind l k ≡ true → StandsFor l k word value → Suits l k value
 suited letter.Text k word value proper (bytes, good, is) = subst (Suits letter.Text k) (sym is) (same_text k proper, refl)
-suited letter.One k word value proper (bytes, good, one, is) = subst (Suits letter.One k) (sym is) (same_text k proper, one_is_one (length bytes) one)
+suited letter.One k word value proper (bytes, good, one, is) = subst (Suits letter.One k) (sym is)
+    (same_text k proper, one_is_one (length bytes) one)
 suited letter.Signed k word value proper (z, d, i, is) = subst (Suits letter.Signed k) (sym is) (kind_itself k, refl)
 suited letter.Unsigned k word value proper (z, d, i, is) = subst (Suits letter.Unsigned k) (sym is) (kind_itself k, refl)
 suited letter.Octal k word value proper (z, d, i, is) = subst (Suits letter.Octal k) (sym is) (kind_itself k, refl)
@@ -68,13 +69,16 @@ suits_so c value (same, suit) =
 
 -- ---- each unit
 
-value_at_slot : (values : List Datum) (slot : ℕ) (value : Datum) → 1 ≤ slot → slice_get values (slot - 1) ≡ Some value → value_at values slot ≡ Some value
-value_at_slot values slot value low is = by_test (slot == 0) (λ v. cond v None (slice_get values (slot - 1)) ≡ Some value) (λ none. absurd (grind (arith, nat_tests))) (λ some. is)
+value_at_slot : (values : List Datum) (slot : ℕ) (value : Datum) → 1 ≤ slot → slice_get values (slot - 1) ≡ Some value
+    → value_at values slot ≡ Some value
+value_at_slot values slot value low is = by_test (slot == 0) (λ v. cond v None (slice_get values (slot - 1)) ≡ Some value)
+    (λ none. absurd (grind (arith, nat_tests))) (λ some. is)
 
 same_conv : (c d : PrintConv) (o : Option PrintConv) → o ≡ Some c → o ≡ Some d → d ≡ c
 same_conv c d o e f = cc
 
-module _ (units : List PrintUnit) (words : List (List ℕ)) (values : List Datum) (slots : AreSlots (values_of units)) (of : ValuesOf units words values) where
+module _ (units : List PrintUnit) (words : List (List ℕ)) (values : List Datum) (slots : AreSlots (values_of units))
+    (of : ValuesOf units words values) where
   unit_suits : (u : PrintUnit) → IsProperUnit u → Among u units → unit_fault values u ≡ None
   unit_suits (unit.Byte b) proper there = refl
   unit_suits (unit.Conv c) proper there =
@@ -83,14 +87,17 @@ module _ (units : List PrintUnit) (words : List (List ℕ)) (values : List Datum
       let below : c.slot - 1 < length words = omega (arith, within.0, within.1, of.count) in
       let e = of.each (c.slot - 1) word (slice_get-get_or words (c.slot - 1) [] below) in
       let back : c.slot - 1 + 1 ≡ c.slot = omega (arith, within.0) in
-      let same : e.2.0 ≡ c = same_conv c e.2.0 (conv_at units c.slot) (conv_found units c slots.distinct there) (subst (λ n. conv_at units n ≡ Some e.2.0) back e.2.1) in
+      let same : e.2.0 ≡ c = same_conv c e.2.0 (conv_at units c.slot) (conv_found units c slots.distinct there)
+      (subst (λ n. conv_at units n ≡ Some e.2.0) back e.2.1) in
       let stands : StandsFor c.letter c.kind word e.0 = subst (λ (d : PrintConv). StandsFor d.letter d.kind word e.0) same e.2.2 in
-      ap (fault_or_none c) (value_at_slot values c.slot e.0 within.0 e.1) ∙ suits_so c e.0 (suited c.letter c.kind word e.0 proper.kind stands)
+      ap (fault_or_none c) (value_at_slot values c.slot e.0 within.0 e.1)
+      ∙ suits_so c e.0 (suited c.letter c.kind word e.0 proper.kind stands)
 
   none_lower : (o : Option PrintFault) → o ≡ None → lower None o ≡ None
   none_lower o e = e
 
-  fold_suits : (us : List PrintUnit) → AreProperUnits us → ((u : PrintUnit) → Among u us → Among u units) → fold (λ f u. lower f (unit_fault values u)) None us ≡ None
+  fold_suits : (us : List PrintUnit) → AreProperUnits us → ((u : PrintUnit) → Among u us → Among u units)
+      → fold (λ f u. lower f (unit_fault values u)) None us ≡ None
   fold_suits [] proper into = refl
   fold_suits (u ∷ us) proper into =
       ap (λ f. fold (λ g v. lower g (unit_fault values v)) f us) (unit_suits u proper.0 (into u (inl refl)))

@@ -12,16 +12,53 @@ use Rattle.sf_arguments.proofs.Escaping.{one_reading}
 use Rattle.sf_arguments.proofs.Numbers.{one_number}
 
 minus_zero : Denotes (codes "-0") (pos 0)
-minus_zero = record { negative = true; sign = 45 ∷ []; ds = 48 ∷ []; parts = refl; signed = refl; some = omega arith; decimal = (refl, tt); number = refl }
+minus_zero = record {
+  negative = true;
+  sign = 45 ∷ [];
+  ds = 48 ∷ [];
+  parts = refl;
+  signed = refl;
+  some = omega arith;
+  decimal = (refl, tt);
+  number = refl;
+}
 
 minus_one : Denotes (codes "-1") (negsuc 0)
-minus_one = record { negative = true; sign = 45 ∷ []; ds = 49 ∷ []; parts = refl; signed = refl; some = omega arith; decimal = (refl, tt); number = refl }
+minus_one = record {
+  negative = true;
+  sign = 45 ∷ [];
+  ds = 49 ∷ [];
+  parts = refl;
+  signed = refl;
+  some = omega arith;
+  decimal = (refl, tt);
+  number = refl;
+}
 
 plus_forty_two : Denotes (codes "+042") (pos 42)
-plus_forty_two = record { negative = false; sign = 43 ∷ []; ds = 48 ∷ 52 ∷ 50 ∷ []; parts = refl; signed = inr refl; some = omega arith; decimal = (refl, (refl, (refl, tt))); number = refl }
+plus_forty_two = record {
+  negative = false;
+  sign = 43 ∷ [];
+  ds = 48 ∷ 52 ∷ 50 ∷ [];
+  parts = refl;
+  signed = inr refl;
+  some = omega arith;
+  decimal = (refl, (refl, (refl, tt)));
+  number = refl;
+}
 
 least : Denotes (codes "-128") (negsuc 127)
-least = record { negative = true; sign = 45 ∷ []; ds = 49 ∷ 50 ∷ 56 ∷ []; parts = refl; signed = refl; some = omega arith; decimal = (refl, (refl, (refl, tt))); number = refl }
+least = record {
+  negative = true;
+  sign = 45 ∷ [];
+  ds = 49 ∷ 50 ∷ 56 ∷ [];
+  parts = refl;
+  signed = refl;
+  some = omega arith;
+  decimal =
+      (refl, (refl, (refl, tt)));
+  number = refl;
+}
 
 minus_zero_is_unsigned : StandsFor letter.Unsigned kind.U8 (codes "-0") (Number kind.U8 (pos 0))
 minus_zero_is_unsigned = (pos 0, minus_zero, (le_z_yes tt, lt_z_yes tt), refl)
@@ -33,7 +70,8 @@ least_is_eight_bits : StandsFor letter.Signed kind.I8 (codes "-128") (Number kin
 least_is_eight_bits = (negsuc 127, least, (le_z_yes tt, lt_z_yes tt), refl)
 
 two_bytes_are_not_one : (value : Datum) → StandsFor letter.One kind.Text (codes "ab") value → ⊥
-two_bytes_are_not_one value (bytes, good, one, is) = let two = one_reading (codes "ab") bytes (codes "ab") good (1, 1, refl, refl, (1, 0, refl, refl, refl)) in absurd (omega (arith, one, ap length two))
+two_bytes_are_not_one value (bytes, good, one, is) = let two = one_reading (codes "ab") bytes (codes "ab") good
+    (1, 1, refl, refl, (1, 0, refl, refl, refl)) in absurd (omega (arith, one, ap length two))
 
 -- an escape of each kind, and one of one digit
 nul_within : Unescapes (codes "a\\x0b\\n") (97 ∷ 11 ∷ 10 ∷ [])

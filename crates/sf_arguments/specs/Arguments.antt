@@ -31,11 +31,13 @@ StandsAt units slot word value = (c : PrintConv) × (conv_at units slot ≡ Some
 pub record ValuesOf (units : List PrintUnit) (words : List (List ℕ)) (values : List Datum) : Type 0 where
   pub count : length words ≡ length (values_of units)
   pub same : length values ≡ length words
-  pub each : (k : ℕ) (word : List ℕ) → slice_get words k ≡ Some word → (value : Datum) × (slice_get values k ≡ Some value) × StandsAt units (k + 1) word value
+  pub each : (k : ℕ) (word : List ℕ) → slice_get words k ≡ Some word
+      → (value : Datum) × (slice_get values k ≡ Some value) × StandsAt units (k + 1) word value
 
 -- the words at the first places stand for values, so many
 abbrev pub AllStand : List PrintUnit → List (List ℕ) → ℕ → Type 0
-AllStand units words count = (k : ℕ) (word : List ℕ) → k < count → slice_get words k ≡ Some word → (value : Datum) × StandsAt units (k + 1) word value
+AllStand units words count = (k : ℕ) (word : List ℕ) → k < count → slice_get words k ≡ Some word
+    → (value : Datum) × StandsAt units (k + 1) word value
 
 -- the bytes of the word of a slot whose value is a text
 abbrev pub IsTextAt : List PrintUnit → ℕ → List ℕ → List ℕ → Type 0

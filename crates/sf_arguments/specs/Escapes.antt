@@ -23,7 +23,8 @@ letter_piece None = None
 
 abbrev pub hex_piece : ℕ → ℕ → Option Piece
 hex_piece high low =
-    if nat_lt (digit_value high) 16 && nat_lt (digit_value low) 16 then Some (record { byte = digit_value high * 16 + digit_value low; size = 4 }) else None
+    if nat_lt (digit_value high) 16 && nat_lt (digit_value low) 16 then Some
+    (record { byte = digit_value high * 16 + digit_value low; size = 4 }) else None
 
 -- behind x
 abbrev pub hex_behind : List ℕ → Option Piece

@@ -25,7 +25,8 @@ Writes text before after (Err _) = ⊥
 
 -- the words stand for values, whose text is printed
 abbrev pub Prints : List PrintUnit → List (List ℕ) → Option (List ℕ) → Option (List ℕ) → Result (Unit {0}) ArgumentFault → Type 0
-Prints units words before after answer = (values : List Datum) × ValuesOf units words values × Writes (printed units values) before after answer
+Prints units words before after answer = (values : List Datum) × ValuesOf units words values
+    × Writes (printed units values) before after answer
 
 -- what a print of the words answers: the number of the words is refused, or the first word that stands for no value, or they are printed
 abbrev pub Answers : List PrintUnit → List (List ℕ) → Option (List ℕ) → Option (List ℕ) → Result (Unit {0}) ArgumentFault → Type 0

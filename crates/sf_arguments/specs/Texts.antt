@@ -14,7 +14,8 @@ escape_fault_text escape.Memory = codes "out of memory"
 
 -- the line of words that are not printed, without its line end
 abbrev pub argument_fault_text : ArgumentFault → List ℕ
-argument_fault_text (argument.WrongCount expected got) = codes "sf: expected " ++ (decimal expected ++ (codes " values, got " ++ decimal got))
+argument_fault_text (argument.WrongCount expected got) = codes "sf: expected " ++
+    (decimal expected ++ (codes " values, got " ++ decimal got))
 argument_fault_text (argument.BadEscape at offset) = codes "sf: value " ++ (decimal at ++ (codes ": bad escape at " ++ decimal offset))
 argument_fault_text (argument.NotInKind at kind) = codes "sf: value " ++ (decimal at ++ (codes ": expected " ++ kind_text kind))
 argument_fault_text (argument.NotOneByte at) = codes "sf: value " ++ (decimal at ++ codes ": expected one byte")

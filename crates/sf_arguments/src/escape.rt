@@ -91,8 +91,8 @@ fn piece_of(word: &[u8]) -> Option<Piece>
     }
 }
 
-/// How many bytes a word stands for, its escapes resolved; or the offset of the backslash of its first bad escape. It takes
-/// no memory.
+/// How many bytes a word stands for, its escapes resolved; or the offset of the backslash of its first bad escape. It
+/// takes no memory.
 pub(crate) fn escapes_of(word: &[u8]) -> Result<usize, usize>
     ensures count { IfOk result (λ count. (bytes : List ℕ) × Unescapes word.now bytes × (count ≡ length bytes)) }
     ensures bad { IfErr result (IsBadEscape word.now) }
@@ -126,8 +126,8 @@ pub(crate) fn resolve(alloc: Global, word: &[u8]) -> Result<Vec<u8>, AllocError>
     Ok(bytes)
 }
 
-/// The bytes that a word stands for: a backslash and one of `\ n t v f r`, or `\x` and two hexadecimal digits, stand for one
-/// byte, and every other byte for itself.
+/// The bytes that a word stands for: a backslash and one of `\ n t v f r`, or `\x` and two hexadecimal digits, stand
+/// for one byte, and every other byte for itself.
 ///
 /// It refuses a word's first bad escape, then want of memory.
 pub fn unescape(alloc: Global, word: &[u8]) -> Result<Vec<u8>, EscapeFault>

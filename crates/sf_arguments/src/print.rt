@@ -1,10 +1,12 @@
 //! Printing words by a format.
-ghost use Rattle.std.specs.Prelude.{◌≡◌, ◌≤◌, ◌<◌, ◌+◌, ℕ, List, length, map, slice_get, string_bytes, IsSome, IsNone, IfSome, IfNone, IfOk, IfErr, if◌then◌else◌};
+ghost use Rattle.std.specs.Prelude.{◌≡◌, ◌≤◌, ◌<◌, ◌+◌, ℕ, List, length, map, slice_get, string_bytes, IsSome};
+ghost use Rattle.std.specs.Prelude.{IsNone, IfSome, IfNone, IfOk, IfErr, if◌then◌else◌};
 ghost use Rattle.sf_base.specs.Data.{Datum, datum_of};
 ghost use Rattle.sf_format.specs.Units.{AreProperUnits, values_of};
 ghost use Rattle.sf_format.specs.Slots.{AreSlots};
 ghost use Rattle.sf_print.specs.Sinks.{counted_on};
-ghost use Rattle.sf_arguments.specs.Arguments.{AllStand, IsAtFault, IsLowestFault, IsTextAt, StandsAt, TextsOf, ValuesOf, conv_at};
+ghost use Rattle.sf_arguments.specs.Arguments.{AllStand, IsAtFault, IsLowestFault, IsTextAt, StandsAt, TextsOf};
+ghost use Rattle.sf_arguments.specs.Arguments.{ValuesOf, conv_at};
 ghost use Rattle.sf_arguments.specs.Prints.{Answers, IsUnwritten, is_write_fault, print_fault};
 
 use crate::argument::{fault_of_word, text_of_word, value_of_word};
@@ -87,7 +89,8 @@ fn texts_of_words(
 ) -> Result<Vec<Vec<u8>>, AllocError>
     requires few { length words.now ≤ 32 }
     requires stand { AllStand units.now (map string_bytes words.now) (length words.now) }
-    ensures { IfOk result (λ texts. TextsOf units.now (map string_bytes words.now) (map (λ text. text.items) texts.items)) }
+    ensures { IfOk result (λ texts. TextsOf units.now (map string_bytes words.now)
+        (map (λ text. text.items) texts.items)) }
 {
     let mut texts = Vec::with_capacity(alloc, words.len())?;
     for at in 0..words.len() {
@@ -135,11 +138,10 @@ fn fault_of_print(fault: PrintFault) -> ArgumentFault
 
 /// Prints the values that the words after a print format stand for, the first word for slot 1, to the sink.
 ///
-/// An integer's word is an optional sign and decimal digits, within its kind; that of `c` is one byte, that of `s` any text,
-/// once its escapes are resolved.
-/// It refuses the number of words, then the first word that stands for no value, then want of memory, then a text of more
-/// than 2147483647 bytes; nothing is written then. Where the sink fails, a front of the text was written,
-/// and not all of it.
+/// An integer's word is an optional sign and decimal digits, within its kind; that of `c` is one byte, that of `s` any
+/// text, once its escapes are resolved. It refuses the number of words, then the first word that stands for no value,
+/// then want of memory, then a text of more than 2147483647 bytes; nothing is written then. Where the sink fails, a
+/// front of the text was written, and not all of it.
 pub fn print_values<K: Sink>(
     alloc: Global,
     format: &PrintFormat,

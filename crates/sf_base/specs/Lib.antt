@@ -4,5 +4,6 @@ pub mod Sets
 pub mod Kinds
 pub mod Data
 pub mod Kept
+pub mod Buffers
 pub mod Entries
 pub mod Rules

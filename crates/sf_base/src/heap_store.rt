@@ -1,21 +1,19 @@
 //! A store that grows.
-ghost use Rattle.std.specs.Prelude.{◌≡◌, ◌+◌, ◌<◌, ◌≤◌, ◌++◌, length, take, vec_len, vec_capacity, IfOk, OnErr, is_ok, if◌then◌else◌};
+ghost use Rattle.std.specs.Prelude.{◌≡◌, ◌+◌, ◌<◌, ◌≤◌, ◌++◌, length, take, IfOk, OnErr, is_ok, if◌then◌else◌};
 ghost use Rattle.sf_base.specs.Kept.{buffer_of, nothing_kept};
 
+use crate::buffer::{Buffer, MOVED};
 use crate::entries::{Cell, Entry, find_shown, number_of};
 use crate::store::{Store, StoreFull};
 use crate::{Number, Shown, Value};
 use std::alloc::{AllocError, Global};
 use std::marker::Model;
 
-/// How many bytes of a piece are moved at once, those of a short text and what stands behind them: by a constant it takes no call.
-const MOVED: usize = 16;
-
 /// A store on the heap.
 #[derive(Debug, Drop)]
 pub struct HeapStore {
     entries: Vec<Entry>,
-    bytes: Vec<u8>,
+    bytes: Buffer,
     /// How many of the bytes are closed texts.
     closed: usize,
     /// The slot of the opened text.
@@ -25,16 +23,16 @@ pub struct HeapStore {
 }
 
 impl Model for HeapStore {
-    ghost use Rattle.std.specs.Prelude.{◌-◌, ◌≤◌, vec_len, vec_capacity};
+    ghost use Rattle.std.specs.Prelude.{◌-◌, length, vec_capacity};
     ghost use Rattle.sf_base.specs.Kept.{Kept};
 
     ghost Value = { Kept };
 
     ghost use Rattle.sf_base.specs.Entries.{kept_of, IsSound, HasRoom};
 
-    ghost view = { λ s. kept_of s.entries.items s.bytes.items s.closed s.opened (s.sure - vec_len s.bytes) };
+    ghost view = { λ s. kept_of s.entries.items s.bytes.bytes s.closed s.opened (s.sure - length s.bytes.bytes) };
 
-    ghost invariant = { λ s. IsSound 32 s.entries.items s.closed (vec_len s.bytes) s.opened × HasRoom 32 (vec_len s.bytes) s.sure (vec_capacity s.bytes) (vec_capacity s.entries) };
+    ghost invariant = { λ s. IsSound 32 s.entries.items s.closed (length s.bytes.bytes) s.opened × HasRoom 32 (length s.bytes.bytes) s.sure s.bytes.capacity (vec_capacity s.entries) };
 }
 
 impl HeapStore {
@@ -44,7 +42,7 @@ impl HeapStore {
     {
         let entries = Vec::with_capacity(alloc, 32)?;
         let behind = if reserve == 0 { 0 } else { MOVED };
-        let bytes = Vec::with_capacity(alloc, reserve as usize + behind)?;
+        let bytes = Buffer::with_capacity(alloc, reserve as usize + behind)?;
         Ok(HeapStore {
             entries,
             bytes,
@@ -59,7 +57,7 @@ impl HeapStore {
         ensures { self.new ≡ nothing_kept (self.old.room + length (buffer_of self.old)) }
     {
         self.entries.clear();
-        self.bytes.clear();
+        self.bytes.truncate(0);
         self.closed = 0;
         self.opened = None;
     }
@@ -67,30 +65,18 @@ impl HeapStore {
 
 /// Appends the first `count` bytes of the piece, or none; `sure` tells how many fit for sure.
 #[inline(always)]
-fn append(
-    bytes: &mut Vec<u8>,
-    sure: &mut usize,
-    piece: &[u8],
-    count: usize,
-) -> Result<(), StoreFull>
+fn append(bytes: &mut Buffer, sure: &mut usize, piece: &[u8], count: usize) -> Result<(), StoreFull>
     requires within { count ≤ length piece.now }
-    requires held { vec_len bytes.old ≤ sure.old }
-    requires fits { sure.old ≤ vec_capacity bytes.old }
-    ensures items { bytes.new.items ≡ (if is_ok result then bytes.old.items ++ take count piece.now else bytes.old.items) }
-    ensures len { vec_len bytes.new ≡ (if is_ok result then vec_len bytes.old + count else vec_len bytes.old) }
+    requires held { length bytes.old.bytes ≤ sure.old }
+    requires fits { sure.old ≤ bytes.old.capacity }
+    ensures items { bytes.new.bytes ≡ (if is_ok result then bytes.old.bytes ++ take count piece.now else bytes.old.bytes) }
     ensures sure { sure.old ≤ sure.new }
     ensures same { OnErr result (sure.new ≡ sure.old) }
-    ensures held { vec_len bytes.new ≤ sure.new }
-    ensures fits { sure.new ≤ vec_capacity bytes.new }
-    ensures full { OnErr result (sure.old < vec_len bytes.old + count) }
+    ensures held { length bytes.new.bytes ≤ sure.new }
+    ensures fits { sure.new ≤ bytes.new.capacity }
+    ensures full { OnErr result (sure.old < length bytes.old.bytes + count) }
 {
-    let end = bytes.len() + count;
-    if count <= MOVED && MOVED <= piece.len() && MOVED <= bytes.capacity() - bytes.len() {
-        if bytes.extend_from_slice(&piece[..MOVED]).is_err() {
-            return Err(StoreFull);
-        }
-        bytes.truncate(end);
-    } else if bytes.extend_from_slice(&piece[..count]).is_err() {
+    if bytes.append(piece, count).is_err() {
         return Err(StoreFull);
     }
     if *sure < bytes.len() {
@@ -172,6 +158,6 @@ impl Store for HeapStore {
     }
 
     fn shown(&self, slot: u8) -> Option<Shown<'_>> {
-        find_shown(&self.entries, slot, &self.bytes[..self.closed])
+        find_shown(&self.entries, slot, self.bytes.front(self.closed))
     }
 }

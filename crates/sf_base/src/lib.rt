@@ -1,6 +1,7 @@
 //! Bytes in the C locale, sets of bytes, the values that a destination can hold, and what they are kept in.
 #![tactic(auto)]
 
+mod buffer;
 mod byte_set;
 mod bytes;
 mod entries;

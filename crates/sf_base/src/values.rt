@@ -58,14 +58,13 @@ impl Kind {
         ensures { option_map datum_of_number result ≡ option_map (NumberOf self) (value_of self negative magnitude) }
     {
         let (signed, greatest) = self.bounds()?;
-        let below = negative && magnitude > 0;
-        if signed && below {
-            if magnitude - 1 > greatest {
+        if signed {
+            if magnitude > greatest + negative as u64 {
                 return None;
             }
             return Some(Number {
                 kind: self,
-                negative: true,
+                negative: negative & (magnitude > 0),
                 magnitude,
             });
         }
@@ -75,7 +74,7 @@ impl Kind {
         Some(Number {
             kind: self,
             negative: false,
-            magnitude: if below {
+            magnitude: if negative && magnitude > 0 {
                 greatest - magnitude + 1
             } else {
                 magnitude

@@ -1,5 +1,5 @@
 -- What a sink took that hands on blocks: the bytes that its writer has, and those of the block.
-use Rattle.std.specs.Prelude.{◌≡◌, ℕ, ◌+◌, ◌-◌, List, [], length, slice_range, Option, Result, Ok}
+use Rattle.std.specs.Prelude.{◌≡◌, ℕ, ◌+◌, ◌-◌, Bool, true, ◌⊎◌, List, [], length, slice_range, Option, Result, Ok}
 use Rattle.std.specs.Io.KnownBytes.{append_known}
 use Rattle.std.specs.declared.io.traits.Write as write
 use Rattle.sf_blocks.specs.declared.block_sink.BlockSink.{BlockSink}
@@ -17,6 +17,10 @@ module _ {W : Type 0} {w : write.Ghosts W} where
   abbrev pub room_of : BlockSink W w → ℕ
   room_of s = length s.block.items - s.end
 
+  -- whether a flush failed
+  abbrev pub has_failed_flush : BlockSink W w → Bool
+  has_failed_flush s = s.unflushed
+
   -- all bytes that the sink took, where the writer tells its own
   abbrev pub taken_by : BlockSink W w → Option (List ℕ)
   taken_by s = append_known (w.contents s.writer) (waiting_in s)
@@ -29,3 +33,7 @@ module _ {W : Type 0} {w : write.Ghosts W} where
   -- the block has no byte, so that nothing waits: all that the sink took, the writer has
   abbrev pub HoldsNothing : BlockSink W w → Type 0
   HoldsNothing s = (length s.block.items ≡ 0) × (waiting_in s ≡ []) × (taken_by s ≡ w.contents s.writer)
+
+  -- none of its bytes waits for the writer; or a flush failed, which the sink remembers
+  abbrev pub IsHandedOn : BlockSink W w → Type 0
+  IsHandedOn s = (waiting_in s ≡ []) ⊎ (has_failed_flush s ≡ true)

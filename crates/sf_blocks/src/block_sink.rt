@@ -1,5 +1,5 @@
 //! A writer with a block of bytes in front of it.
-ghost use Rattle.std.specs.Prelude.{◌≡◌, ◌≤◌, ◌<◌, ◌+◌, true, [], length, Option, List, ℕ, None, Ok, OnOk, IfOk};
+ghost use Rattle.std.specs.Prelude.{◌≡◌, ◌≤◌, ◌<◌, ◌+◌, ◌||◌, false, true, [], length, Option, List, ℕ, None, Ok, OnOk, IfOk, is_err};
 ghost use Rattle.std.specs.Bool.{OnTrue, OnFalse};
 ghost use Rattle.std.specs.Io.{WritesAtMost};
 ghost use Rattle.std.specs.Io.KnownBytes.{Appends, Keeps, WriteAppends};
@@ -26,6 +26,8 @@ pub struct BlockSink<W: Write + Drop> {
     /// After the last byte that waits.
     end: usize,
     failures: u64,
+    /// Whether a flush failed.
+    unflushed: bool,
     ghost ordered: { start ≤ end },
     ghost within: { end ≤ length block.items },
 }
@@ -47,7 +49,7 @@ fn write_some<W: Write>(writer: &mut W, bytes: &[u8]) -> Result<usize, SinkFault
 }
 
 impl<W: Write + Drop> BlockSink<W> {
-    ghost use Rattle.sf_blocks.specs.Blocks.{HoldsNothing, room_of, taken_by, waiting_in, writer_of};
+    ghost use Rattle.sf_blocks.specs.Blocks.{HoldsNothing, has_failed_flush, room_of, taken_by, waiting_in, writer_of};
 
     /// Nothing waits in the block.
     fn over(writer: W, block: Vec<u8>) -> BlockSink<W>
@@ -56,6 +58,7 @@ impl<W: Write + Drop> BlockSink<W> {
         ensures block { result.block ≡ block }
         ensures room { room_of result ≡ length block.items }
         ensures failures { result.failures ≡ 0 }
+        ensures flushed { has_failed_flush result ≡ false }
     {
         BlockSink {
             writer,
@@ -63,6 +66,7 @@ impl<W: Write + Drop> BlockSink<W> {
             start: 0,
             end: 0,
             failures: 0,
+            unflushed: false,
         }
     }
 
@@ -71,6 +75,7 @@ impl<W: Write + Drop> BlockSink<W> {
         ensures contents { taken_by result ≡ W.contents writer }
         ensures nothing { HoldsNothing result }
         ensures failures { ⟦<BlockSink<W> as Sink>⟧.failures result ≡ 0 }
+        ensures flushed { has_failed_flush result ≡ false }
     {
         BlockSink::over(writer, Vec::new(alloc))
     }
@@ -80,6 +85,7 @@ impl<W: Write + Drop> BlockSink<W> {
         ensures contents { IfOk result (λ sink. taken_by sink ≡ W.contents writer) }
         ensures room { IfOk result (λ sink. room_of sink ≡ 8192) }
         ensures failures { IfOk result (λ sink. ⟦<BlockSink<W> as Sink>⟧.failures sink ≡ 0) }
+        ensures flushed { IfOk result (λ sink. has_failed_flush sink ≡ false) }
     {
         let block = vec![in alloc; 0; BLOCK_BYTES]?;
         Ok(BlockSink::over(writer, block))
@@ -92,12 +98,34 @@ impl<W: Write + Drop> BlockSink<W> {
         &self.writer
     }
 
+    /// The same, given back. What is held back is let go.
+    pub fn into_writer(self) -> W
+        ensures { result ≡ writer_of self }
+    {
+        self.writer
+    }
+
+    /// How many writes failed, up to the greatest `u64`.
+    pub fn failures(&self) -> u64
+        ensures { result ≡ ⟦<BlockSink<W> as Sink>⟧.failures self.now }
+    {
+        self.failures
+    }
+
+    /// Whether a flush failed.
+    pub fn has_failed_flush(&self) -> bool
+        ensures { result ≡ has_failed_flush self.now }
+    {
+        self.unflushed
+    }
+
     /// Hands the writer what waits in the block. Where it fails, what it didn't take waits still.
     fn hand_on(&mut self) -> Result<(), SinkFault>
         ensures contents { Keeps (taken_by self.old) (taken_by self.new) }
         ensures empty { OnOk result (waiting_in self.new ≡ []) }
         ensures block { self.new.block ≡ self.old.block }
         ensures failures { self.new.failures ≡ self.old.failures }
+        ensures flushed { has_failed_flush self.new ≡ has_failed_flush self.old }
     {
         while self.start < self.end {
             match write_some(&mut self.writer, &self.block[self.start..self.end]) {
@@ -110,15 +138,18 @@ impl<W: Write + Drop> BlockSink<W> {
         Ok(())
     }
 
-    /// Hands on all bytes that are held back: then the writer has all that was taken. Where it fails, no byte is lost.
+    /// Hands on all bytes that are held back: then none waits, and the writer has all that was taken. Where it fails, no byte
+    /// is lost, and the sink remembers it.
     pub fn flush(&mut self) -> Result<(), SinkFault>
         ensures contents { Keeps (taken_by self.old) (taken_by self.new) }
         ensures all { OnOk result (taken_by self.new ≡ W.contents (writer_of self.new)) }
+        ensures empty { OnOk result (waiting_in self.new ≡ []) }
+        ensures flushed { has_failed_flush self.new ≡ (is_err result || has_failed_flush self.old) }
         ensures nothing { HoldsNothing self.old → HoldsNothing self.new }
         ensures failures { ⟦<BlockSink<W> as Sink>⟧.failures self.new ≡ ⟦<BlockSink<W> as Sink>⟧.failures self.old }
     {
-        self.hand_on()?;
-        if self.writer.flush().is_err() {
+        if self.hand_on().is_err() || self.writer.flush().is_err() {
+            self.unflushed = true;
             return Err(SinkFault);
         }
         Ok(())
@@ -134,6 +165,7 @@ impl<W: Write + Drop> BlockSink<W> {
         ensures room { OnTrue result (room_of self.new + length bytes.now ≡ room_of self.old) }
         ensures size { length self.new.block.items ≡ length self.old.block.items }
         ensures failures { self.new.failures ≡ self.old.failures }
+        ensures flushed { has_failed_flush self.new ≡ has_failed_flush self.old }
     {
         if bytes.len() >= self.block.len() - self.end {
             return false;
@@ -144,7 +176,7 @@ impl<W: Write + Drop> BlockSink<W> {
     }
 
     /// Hands on the block, and then takes the bytes, or some: into the block where they have room there, and else to the
-    /// writer.
+    /// writer. No bytes are taken at once.
     #[inline(never)]
     fn take_behind(&mut self, bytes: &[u8]) -> Result<usize, SinkFault>
         ensures most { WritesAtMost result bytes.now }
@@ -152,22 +184,20 @@ impl<W: Write + Drop> BlockSink<W> {
         ensures took { WriteAppends (taken_by self.old) (taken_by self.new) result bytes.now }
         ensures size { length self.new.block.items ≡ length self.old.block.items }
         ensures failures { self.new.failures ≡ self.old.failures }
+        ensures flushed { has_failed_flush self.new ≡ has_failed_flush self.old }
     {
         self.hand_on()?;
-        if self.holds(bytes) {
+        if bytes.is_empty() || self.holds(bytes) {
             return Ok(bytes.len());
         }
-        match self.writer.write(bytes) {
-            Ok(count) if count > 0 || bytes.is_empty() => Ok(count),
-            _ => Err(SinkFault),
-        }
+        write_some(&mut self.writer, bytes)
     }
 }
 
 impl<W: Write + Drop> Sink for BlockSink<W> {
     ghost use Rattle.sf_print.specs.Sinks.{counted_on};
-    ghost use Rattle.std.specs.Prelude.{is_err, if◌then◌else◌};
-    ghost use Rattle.sf_blocks.specs.Blocks.{HoldsNothing, TakesShort, room_of, taken_by};
+    ghost use Rattle.std.specs.Prelude.{if◌then◌else◌};
+    ghost use Rattle.sf_blocks.specs.Blocks.{HoldsNothing, TakesShort, has_failed_flush, room_of, taken_by};
 
     ghost contents = { taken_by };
 
@@ -184,6 +214,7 @@ impl<W: Write + Drop> Sink for BlockSink<W> {
             else ⟦<BlockSink<W> as Sink>⟧.failures self.old) }
         ensures short { length bytes.now < room_of self.old → TakesShort self.old self.new bytes.now result }
         ensures nothing { HoldsNothing self.old → HoldsNothing self.new }
+        ensures flushed { has_failed_flush self.new ≡ has_failed_flush self.old }
     {
         if self.holds(bytes) {
             return Ok(bytes.len());

@@ -19,4 +19,5 @@ pub mod Accepted
 pub mod Judgements
 pub mod Profiles
 pub mod PartTexts
+pub mod SpanTexts
 pub mod Rows

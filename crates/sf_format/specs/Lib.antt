@@ -15,6 +15,7 @@ pub mod Rules
 pub mod PrintRules
 pub mod Faults
 pub mod Reading
+pub mod Spans
 pub mod Widths
 pub mod Profiles
 pub mod Laws

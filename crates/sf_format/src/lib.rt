@@ -15,6 +15,7 @@ mod print;
 mod rule_table;
 mod scan;
 mod slots;
+mod spans;
 mod unit;
 
 pub use directive::{Base, Conversion, Directive, Profile, Shape};
@@ -22,4 +23,5 @@ pub use fault::{FormatFault, FormatWhy};
 pub use part_text::directive_text;
 pub use print::PrintFormat;
 pub use scan::ScanFormat;
+pub use spans::{Span, Spans};
 pub use unit::{PrintConv, PrintLetter, Unit};

@@ -4,6 +4,7 @@ use Rattle.std.proofs.lemmas.Bool.Decides.{nat_tests}
 use Rattle.std.proofs.Math.Nat.{pow-succ'}
 use Rattle.std.proofs.Math.Seq.{take-add}
 use Rattle.std.proofs.lemmas.List.{get_or-drop, get_or-take, length-take, length-take-le, take-take}
+use Rattle.std.specs.Prelude.{IsTrue}
 use Rattle.std.specs.Char.{digit_value}
 use Rattle.std.specs.List.{list_all, prefix_len}
 use Rattle.sf_base.specs.declared.values.Kind.TheVariants.{I32}
@@ -673,3 +674,54 @@ sixteens i below = let all : 15 - i + i ≡ 15 = omega (arith, below) in subst (
 
 pub sixteen_more : (i n d : ℕ) → n < 16 ^ i → d < 16 → n * 16 + d < 16 ^ (i + 1)
 sixteen_more i n d small low = let one : i + 1 ≡ suc i = omega arith in subst (λ k. n * 16 + d < 16 ^ k) (sym one) (let more : 16 ^ suc i ≡ 16 * 16 ^ i = pow-succ' 16 i in omega (arith, more, small, low))
+
+-- ---- the opening of a decimal integer whose first digit is no 0, where a 0 would show another radix
+
+pub unless_so : {A : Type 0} → (A → IsTrue false) → A → ⊥
+unless_so test a = let no = test a in absurd (cc)
+
+module _ (base : Base) (ten : first_radix base ≡ 10) where
+  plain_digit : (sign : Bool) (b : ℕ) → b ≢ 48 → with_first_digit base sign b ≡ with_digit sign 10 0 b
+  plain_digit sign b other =
+      by_eq b 48 (λ v. ◌≡◌ {A = Option Progress} (cond v (Some (Zero sign)) (with_digit sign (first_radix base) 0 b)) (with_digit sign 10 0 b))
+      (λ is. absurd (other is))
+      (λ _. ap (λ r. with_digit sign r 0 b) ten)
+
+  digits_follow : (start : ℕ) (sign : Bool) (t : List ℕ) (n : ℕ) → (start ≡ 0 → sign ≡ false) → 0 < length t → get_or t 0 0 ≢ 48
+      → read base (Some (Digits sign 10 0)) t ≡ Some (Digits sign 10 n) → read base (Some (signed_as start sign)) t ≡ Some (Digits sign 10 n)
+  digits_follow start sign [] n plain some other reads = absurd (omega (arith, some))
+  digits_follow zero sign (b ∷ t) n plain some other reads =
+      let low = begins_low base sign 10 0 n b t reads in
+      ap (λ o. read base o t) (plain_first base b (omega (arith, low)) ∙ ap (λ s. with_first_digit base s b) (sym (plain refl)) ∙ plain_digit sign b other)
+      ∙ reads
+  digits_follow (suc k) sign (b ∷ t) n plain some other reads = ap (λ o. read base o t) (plain_digit sign b other) ∙ reads
+
+  pub auto_opened : (front : List ℕ) (start : ℕ) (sign : Bool) → SignOf front start sign
+      → (start < length front → get_or front start 0 ≢ 48) → Opened base 10 front start sign
+  auto_opened front start sign s other = record {
+    inside = s.within;
+    state = signed_as start sign;
+    taken = s.read base;
+    untold = sign_untold start sign;
+    empty = λ below high. signed_ends base front start sign s (rw ten (omega arith)) below (rw ten high);
+    goes = goes;
+  }
+    where
+      first_of : (count : ℕ) → 0 < count → get_or (take count (rest front start)) 0 0 ≡ get_or front start 0
+      first_of count some =
+          let same : start + 0 ≡ start = omega arith in
+          get_or-take count (rest front start) 0 0 some ∙ ap (λ d. get_or d 0 0) (rest_is front start) ∙ get_or-drop start front 0 0
+          ∙ ap (λ n. get_or front n 0) same
+
+      goes : (count n : ℕ) → 0 < count → count ≤ length (rest front start) → ReadsIn 10 0 (take count (rest front start)) n
+          → Goes base 10 front (signed_as start sign) start count n sign
+      goes count n some most reads =
+          let t = take count (rest front start) in
+          let below : start < length front = omega (arith, some, most, length_rest front start) in
+          record {
+            p = Digits sign 10 n;
+            reads = digits_follow start sign t n s.plain (rw (length-take-le count (rest front start) most) some)
+                (λ zero_first. other below (sym (first_of count some) ∙ zero_first)) (reads base sign);
+            told = refl;
+            ends = λ inside high. digit_ends sign 10 n (get_or front (start + count) 0) high;
+          }

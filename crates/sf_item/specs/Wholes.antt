@@ -76,3 +76,12 @@ abbrev pub HexOpening : List ℕ → ℕ → Bool → Type 0
 HexOpening bytes count negative =
     (count ≤ length bytes) × (read Hex (Some Start) (take count bytes) ≡ Some (Prefix negative 16))
     ⊎ SignOf bytes count negative × (HasPrefixAt bytes count → ⊥)
+
+-- a sign or none stands in front, and a zero after it
+pub record ZeroFirst (piece : List ℕ) : Type 0 where
+  pub front : List ℕ
+  pub is : front ≡ take (length front) piece
+  pub start : ℕ
+  pub negative : Bool
+  pub sign : SignOf front start negative
+  pub digit : (start < length front) × (get_or front start 0 ≡ 48)

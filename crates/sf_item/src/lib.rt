@@ -13,4 +13,4 @@ mod whole;
 
 pub use item::{ItemEnd, ItemScan, Step};
 pub use radices::{Radices, prefix_radix, radices_of};
-pub use whole::{WholeInteger, whole_bytes, whole_decimal, whole_hex};
+pub use whole::{WholeInteger, whole_auto, whole_bytes, whole_decimal, whole_hex};

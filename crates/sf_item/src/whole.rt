@@ -1,10 +1,11 @@
 //! Items that begin and end within a piece of the input, read in one go.
-ghost use Rattle.std.specs.Prelude.{◌≡◌, ◌≢◌, ◌<◌, ◌≤◌, ◌↔◌, false, ℕ, get_or, length, slice_index, take, IsTrue, MatchOption};
+ghost use Rattle.std.specs.Prelude.{◌≡◌, ◌≢◌, ◌<◌, ◌≤◌, ◌↔◌, ◌⊎◌, false, ℕ, get_or, length, slice_index, take, IsTrue, MatchOption};
 ghost use Rattle.std.specs.Char.{digit_value};
 ghost use Rattle.std.specs.List.{prefix_len};
 ghost use Rattle.sf_base.specs.Bytes.{is_ink};
 ghost use Rattle.sf_format.specs.declared.directive.Base.TheVariants.{Dec, Hex};
-ghost use Rattle.sf_item.specs.Wholes.{DigitsOf, EndsWithin, HasPrefixAt, HexOpening, ItemWithin, LongDigits, NoItemWithin, NoneEndsWithin, ReadsIn, SignOf};
+ghost use Rattle.sf_item.specs.Radices.{first_radix};
+ghost use Rattle.sf_item.specs.Wholes.{DigitsOf, EndsWithin, HasPrefixAt, HexOpening, ItemWithin, LongDigits, NoItemWithin, NoneEndsWithin, ReadsIn, SignOf, ZeroFirst};
 
 use crate::digits::{FIRST_HEX, first_hex_digits, value_of};
 use crate::eight::{LANES, first_digits};
@@ -12,7 +13,7 @@ use crate::integer::digit_front;
 use crate::item::cut;
 use crate::reached::Digits;
 use sf_base::text_run;
-use sf_format::Shape;
+use sf_format::{Base, Shape};
 
 /// The most decimal digits whose number fits in 64 bits, whichever they are.
 const SURE_DECIMAL: usize = 19;
@@ -247,6 +248,40 @@ pub fn whole_hex(width: Option<u16>, piece: &[u8]) -> Option<WholeInteger>
     }
     Some(WholeInteger {
         bytes: end,
+        negative,
+        magnitude,
+    })
+}
+
+/// Whether a zero stands at the place.
+#[inline(always)]
+fn is_zero_at(bytes: &[u8], at: usize) -> bool
+    ensures { IsTrue result ↔ (at < length bytes.now) × (get_or bytes.now at 0 ≡ 48) }
+{
+    at < bytes.len() && bytes[at] == b'0'
+}
+
+/// As `whole_decimal`, of an integer whose radix its first digits show (C11 7.22.1.4p3), and which is decimal. None also
+/// where the first digit is a zero.
+#[inline(always)]
+pub fn whole_auto(base: Base, width: Option<u16>, piece: &[u8]) -> Option<WholeInteger>
+    requires { first_radix base ≡ 10 }
+    ensures { MatchOption result (NoneEndsWithin base width piece.now ⊎ ZeroFirst piece.now) (EndsWithin base width piece.now) }
+{
+    let front = cut(piece, width);
+    let (start, negative) = sign(front);
+    if is_zero_at(front, start) {
+        return None;
+    }
+    let Some((magnitude, count)) = decimal_number(&front[start..], &piece[start..]) else {
+        return None;
+    };
+    let last = start + count;
+    if last == start || last == piece.len() {
+        return None;
+    }
+    Some(WholeInteger {
+        bytes: last,
         negative,
         magnitude,
     })

@@ -6,5 +6,6 @@ pub mod Holding
 pub mod Looping
 pub mod OneTurn
 pub mod Reading
+pub mod Rooms
 pub mod Telling
 pub mod Turning

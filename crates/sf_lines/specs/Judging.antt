@@ -3,6 +3,7 @@ use Rattle.std.specs.Prelude.{◌≡◌, ◌≤◌, ◌⊎◌, ◌++◌, ◌∷�
 use Rattle.std.specs.Io.KnownBytes.{Appends}
 use Rattle.sf_base.specs.Kept.{Kept}
 use Rattle.sf_format.specs.declared.directive.Directive.{Directive}
+use Rattle.sf_run.specs.Quick.{IsDoneWithin}
 use Rattle.sf_run.specs.Runs.{RunReport}
 use Rattle.sf_read.specs.Ahead.{Ahead}
 use Rattle.sf_lines.specs.declared.options.LinesOptions.{LinesOptions}
@@ -33,6 +34,15 @@ is_sink_fault _ = false
 -- the line is a match, with this text
 abbrev IsMatch : LinesOptions → List (List Directive) → (List Directive → RunReport → List ℕ) → List ℕ → (List ℕ → Type 0) → Type 0
 IsMatch o formats text line P = (ds : List Directive) × (r : RunReport) × Picks o formats line ds r × (fault_of o line r ≡ None) × P (text ds r)
+
+-- The first of the formats is Done on the line before a byte of it and its line end is lacking, or one that the limit allows,
+-- a store of this capacity has room for its texts, and the line is a match by it.
+pub record IsSeen (o : LinesOptions) (formats : List (List Directive)) (line : List ℕ) (capacity : ℕ) : Type 0 where
+  pub first : List Directive
+  pub later : List (List Directive)
+  pub among : formats ≡ first ∷ later
+  pub done : IsDoneWithin first o.limit (line ++ 10 ∷ []) capacity
+  pub matches : fault_of o line done.report ≡ None
 
 -- the line is a match, and a writer was to write its text
 abbrev pub WritesMatch : LinesOptions → List (List Directive) → (List Directive → RunReport → List ℕ) → List ℕ → Option (List ℕ) → Option (List ℕ) → Result (Unit {0}) RecordFault → Type 0

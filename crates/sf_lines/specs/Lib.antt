@@ -3,6 +3,7 @@ pub mod Judging
 pub mod Laws
 pub mod Loops
 pub mod Reading
+pub mod Rooms
 pub mod Telling
 pub mod Texts
 pub mod Turns

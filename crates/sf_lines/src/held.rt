@@ -1,9 +1,11 @@
 //! Lines that are held whole, scanned where they stand.
-ghost use Rattle.std.specs.Prelude.{◌≡◌, ◌≤◌, ◌++◌, ◌∷◌, ℕ, List, [], IfSome, IsNone, if◌then◌else◌, length, take};
+ghost use Rattle.std.specs.Prelude.{◌≡◌, ◌≤◌, ◌++◌, ◌∷◌, ℕ, List, [], IfSome, IsNone, IsSome, if◌then◌else◌, length, take};
 ghost use Rattle.std.specs.List.{AllByRecursion};
 ghost use Rattle.sf_format.specs.Proper.{AreProper};
 ghost use Rattle.sf_print.specs.Sinks.{counted_on};
-ghost use Rattle.sf_lines.specs.Judging.{WritesMatch, is_sink_fault};
+ghost use Rattle.sf_run.specs.Memory.{capacity_of};
+ghost use Rattle.sf_lines.specs.Cut.{IsLine};
+ghost use Rattle.sf_lines.specs.Judging.{IsSeen, WritesMatch, is_sink_fault};
 ghost use Rattle.sf_lines.specs.Reading.{Took};
 
 use crate::line::piece_of;
@@ -33,6 +35,8 @@ fn write_at_once<R: RecordWriter, K: Sink>(
     ensures failures { IfSome result (λ wrote. K.failures to.new
         ≡ (if is_sink_fault wrote then counted_on (K.failures to.old) else K.failures to.old)) }
     ensures none { IsNone result → to.new ≡ to.old }
+    ensures answers { (line : List ℕ) → ended.now ≡ line ++ 10 ∷ []
+        → IsSeen options formats.now line (capacity_of store.old) → IsSome result }
 {
     let (format, _) = formats.split_first()?;
     let outcome = quick_run(store, format, options.limit, ended)?;
@@ -64,8 +68,11 @@ pub(crate) fn take_at_once<R: RecordWriter, S: Source, K: Sink, const N: usize>(
     ensures failures { IfSome result (λ wrote. K.failures to.new
         ≡ (if is_sink_fault wrote then counted_on (K.failures to.old) else K.failures to.old)) }
     ensures unread { from.new.source ≡ from.old.source }
+    ensures stays { from.new.at_end ≡ from.old.at_end }
     ensures untaken { IsNone result → from.new ≡ from.old }
     ensures unwritten { IsNone result → to.new ≡ to.old }
+    ensures answers { (line rest : List ℕ) → IsLine line → from.old.held ≡ line ++ 10 ∷ rest → length line ≤ options.limit
+        → IsSeen options formats.now line (capacity_of store.old) → IsSome result }
 {
     if from.is_at_end() {
         return None;

@@ -93,7 +93,10 @@ pub fn next_line<S: Source, const N: usize>(
     limit: usize,
 ) -> LineRead
     ensures reads { Reads S.to_come from.old from.new limit line.new.items result }
-    ensures failures { S.failures from.new.source ≡ (if is_failed result then counted_on (S.failures from.old.source) else S.failures from.old.source) }
+    ensures failures { S.failures from.new.source
+        ≡ (if is_failed result then counted_on (S.failures from.old.source) else S.failures from.old.source) }
+    ensures no_read { from.old.at_end ≡ true → from.new.source ≡ from.old.source }
+    ensures stays { from.old.at_end ≡ true → from.new.at_end ≡ true }
 {
     line.clear();
     let mut long = false;

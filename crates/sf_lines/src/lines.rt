@@ -1,10 +1,12 @@
 //! The loop over the lines of an input.
-ghost use Rattle.std.specs.Prelude.{◌≡◌, ◌≤◌, ◌<◌, ℕ, List, Some, length, if◌then◌else◌};
+ghost use Rattle.std.specs.Prelude.{◌≡◌, ◌≤◌, ◌<◌, ℕ, List, Some, IfOk, true, max, length, if◌then◌else◌};
 ghost use Rattle.std.specs.List.{AllByRecursion};
+ghost use Rattle.sf_base.specs.Kept.{nothing_kept};
 ghost use Rattle.sf_format.specs.Proper.{AreProper};
 ghost use Rattle.sf_print.specs.Sinks.{counted_on};
 ghost use Rattle.sf_read.specs.Ahead.{input_of};
 ghost use Rattle.sf_lines.specs.Loops.{Loops, TellsLines, is_write, status_by};
+ghost use Rattle.sf_lines.specs.Rooms.{most_width, width_of};
 ghost use Rattle.sf_lines.specs.Telling.{faults_by};
 ghost use Rattle.sf_lines.specs.Turns.{LineWork, work_of};
 ghost use Rattle.sf_lines.specs.declared.end.LineFault.{LineFault};
@@ -18,22 +20,47 @@ use sf_base::HeapStore;
 use sf_format::ScanFormat;
 use sf_print::Sink;
 use sf_read::{Lookahead, Source};
-use std::alloc::Global;
+use std::alloc::{AllocError, Global};
 
 /// The most lines that one loop reads.
 const MOST_LINES: u64 = 18446744073709551615;
 
-/// The room that is made at once for the texts of a line: so much as the widths of each format tell.
+/// The bytes of text that a format stores at most, where it says so; else 0.
+fn width_of(format: &ScanFormat) -> u32
+    ensures proper { AreProper format.now }
+    ensures width { result ≡ width_of format.now }
+{
+    if format.destinations() == 0 {
+        return 0;
+    }
+    format.width_sum().unwrap_or(0)
+}
+
+/// The greater of two widths.
+fn wider(one: u32, other: u32) -> u32
+    ensures { result ≡ max one other }
+{
+    if one < other { other } else { one }
+}
+
+/// The room that is made at once for the texts of a line: the greatest of the formats' widths.
 fn room_for(formats: &[ScanFormat]) -> u32
     ensures proper { AllByRecursion AreProper formats.now }
+    ensures most { result ≡ most_width formats.now }
 {
     let mut room = 0;
     for format in formats {
-        if format.destinations() > 0 {
-            room = room.max(format.width_sum().unwrap_or(0));
-        }
+        room = wider(room, width_of(format));
     }
     room
+}
+
+/// The store for the texts of the lines.
+fn store_for(alloc: Global, formats: &[ScanFormat]) -> Result<HeapStore, AllocError>
+    ensures proper { AllByRecursion AreProper formats.now }
+    ensures room { IfOk result (λ store. store ≡ nothing_kept (most_width formats.now)) }
+{
+    HeapStore::new(alloc, room_for(formats))
 }
 
 /// Scans each line of what the lookahead holds and its source gives as an input of its own, as C programs do with fgets and
@@ -46,7 +73,7 @@ fn room_for(formats: &[ScanFormat]) -> u32
 ///
 /// The status is 0 where each line is a match, 1 where one isn't, 3 where a read or the sink failed, and 4 where memory was
 /// refused.
-pub fn run_lines<R: RecordWriter, E: Teller, S: Source, K: Sink, const N: usize>(
+pub fn run_lines<R: RecordWriter, E: Teller<K>, S: Source, K: Sink, const N: usize>(
     alloc: Global,
     from: &mut Lookahead<S, N>,
     to: &mut K,
@@ -66,12 +93,14 @@ pub fn run_lines<R: RecordWriter, E: Teller, S: Source, K: Sink, const N: usize>
     ensures status { result.status ≡ status_by result.failed result.fault }
     ensures sink { K.failures to.new
         ≡ (if is_write result.fault then counted_on (K.failures to.old) else K.failures to.old) }
+    ensures no_read { from.old.at_end ≡ true → from.new.source ≡ from.old.source }
+    ensures stays { from.old.at_end ≡ true → from.new.at_end ≡ true }
 {
     let mut counts = Counts {
         written: 0,
         failed: 0,
     };
-    let Ok(mut store) = HeapStore::new(alloc, room_for(formats)) else {
+    let Ok(mut store) = store_for(alloc, formats) else {
         return counts.ended(Some(LinesFault::Memory));
     };
     let mut line = Vec::new(alloc);
@@ -86,7 +115,7 @@ pub fn run_lines<R: RecordWriter, E: Teller, S: Source, K: Sink, const N: usize>
                 store = kept;
             }
             Judged::Failed(kept, fault) => {
-                if teller.tell(before + 1, &line, fault).is_err() {
+                if teller.tell(to, before + 1, &line, fault).is_err() {
                     return counts.ended(Some(LinesFault::Memory));
                 }
                 counts.failed += 1;

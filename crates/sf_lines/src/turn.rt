@@ -1,5 +1,5 @@
 //! What comes of the next line of an input.
-ghost use Rattle.std.specs.Prelude.{◌≡◌, ◌≤◌, ◌+◌, ℕ, List, if◌then◌else◌};
+ghost use Rattle.std.specs.Prelude.{◌≡◌, ◌≤◌, ◌+◌, ℕ, List, true, if◌then◌else◌};
 ghost use Rattle.std.specs.List.{AllByRecursion};
 ghost use Rattle.sf_format.specs.Proper.{AreProper};
 ghost use Rattle.sf_print.specs.Sinks.{counted_on};
@@ -35,6 +35,8 @@ fn read_line<R: RecordWriter, S: Source, K: Sink, const N: usize>(
     ensures turns { (telling : ℕ → List ℕ → LineFault → List ℕ) → Turns S.to_come from.old from.new (work_of options formats.now (R.text writer.old) telling) (before + 1) line.new.items (K.contents to.old) (K.contents to.new) result }
     ensures source { S.failures from.new.source
         ≡ (if is_read_fault result then counted_on (S.failures from.old.source) else S.failures from.old.source) }
+    ensures no_read { from.old.at_end ≡ true → from.new.source ≡ from.old.source }
+    ensures stays { from.old.at_end ≡ true → from.new.at_end ≡ true }
     ensures sink { K.failures to.new
         ≡ (if is_write_fault result then counted_on (K.failures to.old) else K.failures to.old) }
 {
@@ -70,6 +72,8 @@ pub(crate) fn turn<R: RecordWriter, S: Source, K: Sink, const N: usize>(
     ensures turns { (telling : ℕ → List ℕ → LineFault → List ℕ) → Turns S.to_come from.old from.new (work_of options formats.now (R.text writer.old) telling) (before + 1) line.new.items (K.contents to.old) (K.contents to.new) result }
     ensures source { S.failures from.new.source
         ≡ (if is_read_fault result then counted_on (S.failures from.old.source) else S.failures from.old.source) }
+    ensures no_read { from.old.at_end ≡ true → from.new.source ≡ from.old.source }
+    ensures stays { from.old.at_end ≡ true → from.new.at_end ≡ true }
     ensures sink { K.failures to.new
         ≡ (if is_write_fault result then counted_on (K.failures to.old) else K.failures to.old) }
 {

@@ -1,5 +1,6 @@
 //! What is written of the lines of an input, and who is told of those that are no match.
 ghost use Rattle.std.specs.Prelude.{◌≡◌, ℕ, List, Option, Bool, true, OnOk, OnErr, if◌then◌else◌};
+ghost use Rattle.std.specs.Io.KnownBytes.{Keeps};
 ghost use Rattle.sf_format.specs.declared.directive.Directive.{Directive};
 ghost use Rattle.sf_print.specs.Sinks.{counted_on};
 ghost use Rattle.sf_run.specs.Runs.{RunReport};
@@ -49,8 +50,8 @@ pub trait RecordWriter {
     ghost unmet: { (writer : Self) (format : List Directive) (report : RunReport) (met : Option Ending) → text writer format (with_met report met) ≡ text writer format report };
 }
 
-/// Is told of the lines that are no match. Once it has failed it says nothing more.
-pub trait Teller {
+/// Is told of the lines that are no match, beside a sink that takes the others. Once it has failed it says nothing more.
+pub trait Teller<K: Sink> {
     // Whether this is what it says of each line, by its number, counted from 1, what was read of it, and why it is no match.
     ghost says: { Self → (ℕ → List ℕ → LineFault → List ℕ) → Type 0 };
 
@@ -72,14 +73,23 @@ pub trait Teller {
     ghost kept: { Self → Self.Kept };
 
     /// Says that the line with this number, counted from 1, is no match. It is handed what was read of the line, without its
-    /// line end: all of it, or, where it is too long, as many bytes as the limit has. Err where memory for what is to be said
-    /// was refused; then nothing was said.
-    fn tell(&mut self, number: u64, line: &[u8], fault: LineFault) -> Result<(), AllocError>
+    /// line end: all of it, or, where it is too long, as many bytes as the limit has; and the sink, so that what waits there can
+    /// be handed on first. Err where memory for what is to be said was refused; then nothing was said, and the sink is as it was.
+    fn tell(
+        &mut self,
+        to: &mut K,
+        number: u64,
+        line: &[u8],
+        fault: LineFault,
+    ) -> Result<(), AllocError>
         ensures same { (telling : ℕ → List ℕ → LineFault → List ℕ) → says self.old telling → says self.new telling }
         ensures kept { kept self.new ≡ kept self.old }
         ensures told { (telling : ℕ → List ℕ → LineFault → List ℕ) → says self.old telling
             → OnOk result (Tells (failed self.old) (failed self.new) (told self.old) (told self.new) (telling number line.now fault)) }
         ensures untold { OnErr result (self.new ≡ self.old) }
         ensures stays { failed self.old ≡ true → failed self.new ≡ true }
-        ensures faults { faults self.new ≡ faults_by (failed self.old) (failed self.new) (faults self.old) };
+        ensures faults { faults self.new ≡ faults_by (failed self.old) (failed self.new) (faults self.old) }
+        ensures taken { Keeps (K.contents to.old) (K.contents to.new) }
+        ensures untaken { OnErr result (to.new ≡ to.old) }
+        ensures sink { K.failures to.new ≡ K.failures to.old };
 }

@@ -46,7 +46,8 @@ flag_text set flag = if set then flag else []
 
 -- the flags that are set, in the order of C11 7.21.6.1p6
 abbrev pub flags_text : PrintConv → List ℕ
-flags_text c = flag_text c.minus (codes "-") ++ (flag_text c.plus (codes "+") ++ (flag_text c.blank (codes " ") ++ (flag_text c.alt (codes "#") ++ flag_text c.zero (codes "0"))))
+flags_text c = flag_text c.minus (codes "-") ++ (flag_text c.plus
+    (codes "+") ++ (flag_text c.blank (codes " ") ++ (flag_text c.alt (codes "#") ++ flag_text c.zero (codes "0"))))
 
 -- a width of 0 is none
 abbrev pub width_given : ℕ → Option ℕ
@@ -59,7 +60,8 @@ print_head_text c = print_letter_text c.letter ++ (codes " " ++ (kind_text c.kin
 abbrev pub print_conv_text : PrintConv → List ℕ
 print_conv_text c =
     print_head_text c
-    ++ (field_text (codes " width ") (width_given c.width) ++ (field_text (codes " precision ") c.precision ++ field_text (codes " slot ") (Some c.slot)))
+    ++ (field_text (codes " width ") (width_given c.width) ++ (field_text (codes " precision ") c.precision ++ field_text (codes " slot ")
+    (Some c.slot)))
 
 abbrev pub unit_text : PrintUnit → List ℕ
 unit_text (Byte b) = codes "byte " ++ quoted (b ∷ [])

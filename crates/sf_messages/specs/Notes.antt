@@ -1,5 +1,5 @@
 -- What is said behind the line of a fault, where more is asked for: lines, each behind two blanks.
-use Rattle.std.specs.Prelude.{ℕ, ◌-◌, ◌&&◌, nat_eq, nat_lt, Bool, false, if◌then◌else◌, List, [], ◌∷◌, ◌++◌, drop, length, map, min, take, Option, Some, None, slice_get, unwrap_or, codes}
+use Rattle.std.specs.Prelude.{ℕ, ◌+◌, ◌-◌, ◌&&◌, nat_eq, nat_lt, Bool, true, false, if◌then◌else◌, List, [], ◌∷◌, ◌++◌, drop, length, map, min, take, Option, Some, None, slice_get, unwrap_or, codes}
 use Rattle.std.specs.Fmt.{decimal}
 use Rattle.sf_base.specs.Bytes.{is_white}
 use Rattle.sf_format.specs.declared.fault.FormatFault.{FormatFault}
@@ -17,7 +17,9 @@ use Rattle.sf_messages.specs.declared.fault.FormatName.{FormatName}
 use Rattle.sf_messages.specs.declared.fault.FormatName.TheVariants as name
 use Rattle.sf_messages.specs.Facing.{faced, unit_text}
 use Rattle.sf_messages.specs.Names.{name_text}
-use Rattle.sf_messages.specs.Sentences.{escape_sentence, left_white_sentence, pair_sentence, why_sentence}
+use Rattle.sf_arguments.specs.declared.argument_fault.ArgumentFault.{ArgumentFault}
+use Rattle.sf_arguments.specs.declared.argument_fault.ArgumentFault.TheVariants as argument
+use Rattle.sf_messages.specs.Sentences.{escape_sentence, left_white_sentence, lone_newline_sentence, pair_sentence, range_text, typed_escape, typed_text, why_sentence}
 
 -- a line of its own
 abbrev pub note : List ℕ → List ℕ
@@ -36,11 +38,26 @@ place_notes text at =
 
 -- a bad escape of a word
 abbrev pub escape_notes : List ℕ → ℕ → List ℕ
-escape_notes word at = note escape_sentence ++ place_notes word at
+escape_notes word at = note (typed_escape (drop (at + 1) word) ++ escape_sentence) ++ place_notes word at
 
 -- a format that is refused, by its bytes
 abbrev pub format_notes : List ℕ → FormatFault → List ℕ
-format_notes text fault = note (why_sentence fault.why (unwrap_or (slice_get text fault.at) 0)) ++ place_notes text fault.at
+format_notes text fault =
+    let b = unwrap_or (slice_get text fault.at) 0 in
+    note (typed_text fault.why b ++ why_sentence fault.why b) ++ place_notes text fault.at
+
+-- ---- values
+
+-- a value that isn't what is expected of it, by its number
+abbrev pub value_note : ℕ → List ℕ → List ℕ → List ℕ
+value_note at word why = note (codes "value " ++ (decimal at ++ (codes ": " ++ (quoted word ++ why))))
+
+-- a word that is no value of a print format
+abbrev pub value_notes : List ℕ → ArgumentFault → List ℕ
+value_notes word (argument.NotInKind at kind) = value_note at word (codes " is no decimal integer from " ++ range_text kind)
+value_notes word (argument.NotOneByte at) = value_note at word (codes " is not one byte")
+value_notes word (argument.BadEscape at offset) = escape_notes word offset
+value_notes word fault = []
 
 -- ---- pairs
 
@@ -84,6 +101,10 @@ byte_notes words bytes = if nat_eq (length bytes) 0 then [] else note (words ++ 
 abbrev pub rest_notes : List ℕ → List ℕ
 rest_notes rest = byte_notes (codes "there stood ") rest
 
+abbrev pub is_met_end : Option Ending → Bool
+is_met_end (Some End) = true
+is_met_end _ = false
+
 -- where the run stopped, by the bytes that it left
 abbrev pub stood_notes : Option Ending → List ℕ → List ℕ
 stood_notes (Some End) rest = note (codes "the input ended there")
@@ -102,11 +123,23 @@ begins_white (b ∷ rest) = is_white b
 abbrev pub is_left_white : ℕ → Outcome → List ℕ → Bool
 is_left_white number outcome rest = nat_lt 1 number && (nat_eq outcome.at 1 && (nat_eq outcome.used 0 && begins_white rest))
 
+-- a record after the first, of which the run used one byte, which was the line end before the first column; the input ended there
+abbrev pub is_lone_newline : ℕ → Outcome → Option Place → Bool
+is_lone_newline number outcome None = false
+is_lone_newline number outcome (Some place) =
+    nat_lt 1 number && (nat_eq outcome.used 1 && (nat_eq place.column 1 && is_met_end outcome.met))
+
+-- what helps
+abbrev pub cure_notes : ℕ → Outcome → Option Place → List ℕ → List ℕ
+cure_notes number outcome place rest =
+    if is_left_white number outcome rest then note left_white_sentence
+    else if is_lone_newline number outcome place then note lone_newline_sentence else []
+
 -- a record that is no match, where its directive is shown so
 abbrev pub failed_notes : List ℕ → ℕ → Outcome → Option Place → List ℕ → List ℕ
 failed_notes shown number outcome place rest =
     directive_note outcome.at shown
-    ++ (input_notes place ++ (stood_notes outcome.met rest ++ (if is_left_white number outcome rest then note left_white_sentence else [])))
+    ++ (input_notes place ++ (stood_notes outcome.met rest ++ cure_notes number outcome place rest))
 
 -- ---- lines
 

@@ -2,7 +2,8 @@
 ghost use Rattle.std.specs.Prelude.{◌≡◌, ◌++◌, OnOk, Some};
 ghost use Rattle.sf_pair.specs.Groups.{starts_with_space};
 ghost use Rattle.sf_pair.specs.Walk.{after_space};
-ghost use Rattle.sf_messages.specs.Facing.{behind, faced, flag_text, flags_text, left_behind, print_conv_text, print_head_text, print_letter_text, unit_text, width_given};
+ghost use Rattle.sf_messages.specs.Facing.{behind, faced, flag_text, flags_text, left_behind, print_conv_text};
+ghost use Rattle.sf_messages.specs.Facing.{print_head_text, print_letter_text, unit_text, width_given};
 
 use crate::shown::{push_field, push_text};
 use sf_arguments::kind_text;

@@ -10,7 +10,9 @@ mod shown;
 mod wording;
 
 pub use fault::{CommandFault, FormatName, format_fault, print_format_fault};
-pub use notes::{escape_notes, failed_notes, format_notes, input_notes, line_notes, pair_notes};
+pub use notes::{
+    escape_notes, failed_notes, format_notes, input_notes, line_notes, pair_notes, value_notes,
+};
 pub use sf_arguments::ArgumentFault;
 pub use shown::{push_directive, show};
 pub use wording::{ErrorLine, error_line, joined, line_fault_line};

@@ -1,11 +1,19 @@
 //! What is said behind the line of a fault, where more is asked for.
-ghost use Rattle.std.specs.Prelude.{◌≡◌, ◌++◌, OnOk, IfOk};
-ghost use Rattle.sf_messages.specs.Notes.{begins_white, blanks, byte_notes, directive_note, end_note, escape_notes, failed_notes, format_notes, input_notes, is_left_white, line_notes, line_rest, note, pair_notes, part_note, place_notes, print_side, rest_notes, scan_side, stood_notes};
+ghost use Rattle.std.specs.Prelude.{◌≡◌, ◌+◌, ◌++◌, OnOk, IfOk, drop};
+ghost use Rattle.sf_messages.specs.Notes.{begins_white, blanks, byte_notes, cure_notes, directive_note, end_note};
+ghost use Rattle.sf_messages.specs.Notes.{escape_notes, failed_notes, format_notes, input_notes, is_left_white};
+ghost use Rattle.sf_messages.specs.Notes.{is_lone_newline, line_notes, line_rest, note, pair_notes, part_note};
+ghost use Rattle.sf_messages.specs.Notes.{place_notes, print_side, rest_notes, scan_side, stood_notes, value_note};
+ghost use Rattle.sf_messages.specs.Notes.{value_notes};
 
 use crate::facing::{faced, push_unit};
 use crate::fault::FormatName;
 use crate::names::name_text;
-use crate::sentences::{escape_sentence, left_white_sentence, pair_sentence, why_sentence};
+use crate::sentences::{
+    escape_sentence, left_white_sentence, lone_newline_sentence, pair_sentence, push_typed,
+    push_typed_escape, range_text, why_sentence,
+};
+use sf_arguments::ArgumentFault;
 use sf_base::is_space;
 use sf_format::{Directive, FormatFault, Unit};
 use sf_lines::LineFault;
@@ -51,12 +59,26 @@ fn push_place(alloc: Global, output: &mut Vec<u8>, text: &[u8], at: usize) -> Re
     output.extend_from_slice(b"^\n")
 }
 
+/// The bytes of a word after this one.
+fn word_rest(word: &[u8], at: usize) -> &[u8]
+    ensures { result.now ≡ drop (at + 1) word.entry.now }
+{
+    if at < word.len() {
+        &word[at + 1..]
+    } else {
+        &[]
+    }
+}
+
 /// What is said of a word's bad escape, by the offset of its backslash.
 pub fn escape_notes(alloc: Global, word: &[u8], at: usize) -> Result<Vec<u8>, AllocError>
     ensures { IfOk result (λ notes. notes.items ≡ escape_notes word.now at) }
 {
+    let mut text = Vec::new(alloc);
+    push_typed_escape(&mut text, word_rest(word, at))?;
+    text.extend_from_slice(escape_sentence().as_bytes())?;
     let mut notes = Vec::new(alloc);
-    push_note(&mut notes, escape_sentence().as_bytes())?;
+    push_note(&mut notes, &text)?;
     push_place(alloc, &mut notes, word, at)?;
     Ok(notes)
 }
@@ -67,10 +89,48 @@ pub fn format_notes(alloc: Global, text: &[u8], fault: FormatFault) -> Result<Ve
 {
     let at = usize::from(fault.at);
     let byte = text.get(at).copied().unwrap_or(0);
+    let mut said = Vec::new(alloc);
+    push_typed(&mut said, fault.why, byte)?;
+    said.extend_from_slice(why_sentence(fault.why, byte).as_bytes())?;
     let mut notes = Vec::new(alloc);
-    push_note(&mut notes, why_sentence(fault.why, byte).as_bytes())?;
+    push_note(&mut notes, &said)?;
     push_place(alloc, &mut notes, text, at)?;
     Ok(notes)
+}
+
+/// The line of a value that isn't what is expected of it.
+fn value_note(
+    alloc: Global,
+    at: u8,
+    word: &[u8],
+    why: &str,
+    range: &str,
+) -> Result<Vec<u8>, AllocError>
+    ensures { IfOk result (λ notes. notes.items ≡ value_note at word.now (why.now ++ range.now)) }
+{
+    let mut text = Vec::new(alloc);
+    write!(text, "value {at}: ").map_err(|_| AllocError)?;
+    push_quoted(&mut text, word)?;
+    text.extend_from_slice(why.as_bytes())?;
+    text.extend_from_slice(range.as_bytes())?;
+    let mut notes = Vec::new(alloc);
+    push_note(&mut notes, &text)?;
+    Ok(notes)
+}
+
+/// What is said of a word that is no value of a print format.
+pub fn value_notes(alloc: Global, word: &[u8], fault: ArgumentFault) -> Result<Vec<u8>, AllocError>
+    ensures { IfOk result (λ notes. notes.items ≡ value_notes word.now fault) }
+{
+    match fault {
+        ArgumentFault::NotInKind { at, kind } => {
+            let range = range_text(kind);
+            value_note(alloc, at, word, " is no decimal integer from ", range)
+        }
+        ArgumentFault::NotOneByte { at } => value_note(alloc, at, word, " is not one byte", ""),
+        ArgumentFault::BadEscape { offset, .. } => escape_notes(alloc, word, offset),
+        _ => Ok(Vec::new(alloc)),
+    }
 }
 
 /// Appends the line of a part of a format, by its number.
@@ -135,8 +195,8 @@ fn push_print_side(
     push_part(alloc, output, FormatName::Print, number, &shown)
 }
 
-/// What is said of why a pair is refused, by the units of the print format and the directives of the scan format; `told` is how
-/// the directive at the fault is told.
+/// What is said of why a pair is refused, by the units of the print format and the directives of the scan format;
+/// `told` is how the directive at the fault is told.
 pub fn pair_notes(
     alloc: Global,
     units: &[Unit],
@@ -250,8 +310,37 @@ fn is_left_white(number: u32, outcome: Outcome, rest: &[u8]) -> bool
     1 < number && outcome.at == 1 && outcome.used == 0 && begins_white(rest)
 }
 
-/// What is said of a record that is no match: its number, the directive at which it failed, as it is shown, the place in the
-/// input where the run stopped, where it is known, and the bytes that the run left.
+/// Whether a record after the first used a line end alone, and the input ended there.
+fn is_lone_newline(number: u32, outcome: Outcome, place: Option<Place>) -> bool
+    ensures { result ≡ is_lone_newline number outcome place }
+{
+    let Some(Place { column, .. }) = place else {
+        return false;
+    };
+    1 < number && outcome.used == 1 && column == 1 && matches!(outcome.met, Some(Ending::End))
+}
+
+/// Appends what helps.
+fn push_cure(
+    output: &mut Vec<u8>,
+    number: u32,
+    outcome: Outcome,
+    place: Option<Place>,
+    rest: &[u8],
+) -> Result<(), AllocError>
+    ensures { OnOk result (output.new.items ≡ output.old.items ++ cure_notes number outcome place rest.now) }
+{
+    if is_left_white(number, outcome, rest) {
+        push_note(output, left_white_sentence().as_bytes())
+    } else if is_lone_newline(number, outcome, place) {
+        push_note(output, lone_newline_sentence().as_bytes())
+    } else {
+        Ok(())
+    }
+}
+
+/// What is said of a record that is no match: its number, the directive at which it failed, as it is shown, the place
+/// in the input where the run stopped, where it is known, and the bytes that the run left.
 pub fn failed_notes(
     alloc: Global,
     shown: &[u8],
@@ -266,9 +355,7 @@ pub fn failed_notes(
     push_directive(alloc, &mut notes, outcome.at, shown)?;
     push_input(alloc, &mut notes, place)?;
     push_stood(alloc, &mut notes, outcome.met, rest)?;
-    if is_left_white(number, outcome, rest) {
-        push_note(&mut notes, left_white_sentence().as_bytes())?;
-    }
+    push_cure(&mut notes, number, outcome, place, rest)?;
     Ok(notes)
 }
 
@@ -279,8 +366,9 @@ fn line_rest(line: &[u8], used: u32) -> &[u8]
     &line[(used as usize).min(line.len())..]
 }
 
-/// What is said of a line of an input that is no match, by what was read of it, and why it is none: what is said of a run that
-/// had the line alone for its input, but for the place. `shown` is how the directive is shown at which the run failed.
+/// What is said of a line of an input that is no match, by what was read of it, and why it is none: what is said of a
+/// run that had the line alone for its input, but for the place. `shown` is how the directive is shown at which the run
+/// failed.
 pub fn line_notes(
     alloc: Global,
     shown: &[u8],

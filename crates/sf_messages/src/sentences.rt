@@ -1,9 +1,14 @@
 //! A sentence for each fault, said behind its line where more is asked for.
-ghost use Rattle.std.specs.Prelude.{◌≡◌};
-ghost use Rattle.sf_messages.specs.Sentences.{escape_sentence, left_out_sentence, left_white_sentence, pair_sentence, why_sentence};
+ghost use Rattle.std.specs.Prelude.{◌≡◌, ◌++◌, OnOk};
+ghost use Rattle.sf_messages.specs.Sentences.{escape_sentence, left_out_sentence, left_white_sentence};
+ghost use Rattle.sf_messages.specs.Sentences.{lone_newline_sentence, pair_sentence, range_text, typed_escape};
+ghost use Rattle.sf_messages.specs.Sentences.{typed_text, why_sentence};
 
+use sf_base::Kind;
 use sf_format::FormatWhy;
 use sf_pair::PairWhy;
+use sf_records::push_quoted;
+use std::alloc::AllocError;
 
 /// Why a word's escapes are refused.
 pub(crate) fn escape_sentence() -> &'static str
@@ -30,7 +35,66 @@ fn left_out_sentence(b: u8) -> &'static str
         b'*' => "a width or a precision among the values is not part of sf",
         b'\'' => "groups of digits are not part of sf",
         b'n' => "a count is not part of sf's print formats",
-        _ => "floating point is not part of sf",
+        _ => "floating point is left out of profiles 1 and 2",
+    }
+}
+
+/// Appends what stands before a sentence on this byte of a format, as `%f: `.
+pub(crate) fn push_typed(output: &mut Vec<u8>, why: FormatWhy, b: u8) -> Result<(), AllocError>
+    ensures { OnOk result (output.new.items ≡ output.old.items ++ typed_text why b) }
+{
+    match why {
+        FormatWhy::LeftOut => {
+            output.extend_from_slice(b"%")?;
+            if matches!(b, b'c' | b's' | b'[') {
+                output.extend_from_slice(b"l")?;
+            }
+            output.push(b)?;
+            output.extend_from_slice(b": ")
+        }
+        FormatWhy::UnknownLetter => {
+            push_quoted(output, &[b])?;
+            output.extend_from_slice(b": ")
+        }
+        _ => Ok(()),
+    }
+}
+
+/// Appends what stands before the sentence on escapes, by what stands after the backslash, as `\d is no escape: `.
+pub(crate) fn push_typed_escape(output: &mut Vec<u8>, rest: &[u8]) -> Result<(), AllocError>
+    ensures { OnOk result (output.new.items ≡ output.old.items ++ typed_escape rest.now) }
+{
+    match rest {
+        [b @ 33..=126, ..] => {
+            output.push(b'\\')?;
+            output.push(*b)?;
+            output.extend_from_slice(b" is no escape: ")
+        }
+        _ => Ok(()),
+    }
+}
+
+/// What is done about a line end that was a record of its own.
+pub(crate) fn lone_newline_sentence() -> &'static str
+    ensures { result.now ≡ lone_newline_sentence }
+{
+    "the record is the newline after the last one: a blank at the format's front passes over it, and %*1[\\n] at its end takes it"
+}
+
+/// The numbers of a kind.
+pub(crate) fn range_text(kind: Kind) -> &'static str
+    ensures { result.now ≡ range_text kind }
+{
+    match kind {
+        Kind::I8 => "-128 to 127",
+        Kind::I16 => "-32768 to 32767",
+        Kind::I32 => "-2147483648 to 2147483647",
+        Kind::I64 => "-9223372036854775808 to 9223372036854775807",
+        Kind::U8 => "0 to 255",
+        Kind::U16 => "0 to 65535",
+        Kind::U32 => "0 to 4294967295",
+        Kind::U64 => "0 to 18446744073709551615",
+        Kind::Text => "",
     }
 }
 

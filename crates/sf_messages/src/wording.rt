@@ -3,7 +3,8 @@ ghost use Rattle.std.specs.Prelude.{◌≡◌, ◌≤◌, ◌++◌, ◌∷◌, [
 ghost use Rattle.std.specs.Fmt.{decimal};
 ghost use Rattle.sf_run.specs.Wording.{outcome_text};
 ghost use Rattle.sf_arguments.specs.Texts.{argument_fault_text};
-ghost use Rattle.sf_messages.specs.Texts.{command_fault_text, error_line, expected_text, format_fault_text, record_text};
+ghost use Rattle.sf_messages.specs.Texts.{command_fault_text, error_line, expected_text, format_fault_text};
+ghost use Rattle.sf_messages.specs.Texts.{record_text};
 ghost use Rattle.sf_messages.specs.Joined.{joined};
 ghost use Rattle.sf_messages.specs.LineTexts.{line_fault_text};
 
@@ -112,7 +113,8 @@ fn argument_line(fault: ArgumentFault) -> ErrorLine
 /// The line of a run that is no match: what it is a run of, its number, and what it came to.
 fn outcome_line(of: &'static str, number: u64, outcome: Outcome) -> ErrorLine
     requires { length of.now ≤ 8 }
-    ensures { result.bytes ≡ codes "sf: " ++ (of.now ++ (decimal number ++ (codes ": " ++ outcome_text outcome))) ++ 10 ∷ [] }
+    ensures { result.bytes ≡ codes "sf: " ++ (of.now ++ (decimal number ++ (codes ": " ++ outcome_text outcome))) ++ 10
+        ∷ [] }
 {
     let mut place = Buffer::new();
     let mut at = Buffer::new();

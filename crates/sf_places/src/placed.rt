@@ -60,6 +60,13 @@ impl<S: Source, I: Input> Placed<S, I> {
         }
     }
 
+    /// The source, given back.
+    pub fn into_source(self) -> S
+        ensures { result ≡ self.source }
+    {
+        self.source
+    }
+
     /// The place before the bytes that it gave last. None where they are more than those of the last read.
     pub fn place_before(&self, held: &[u8]) -> Option<Place>
         ensures known { IsSome result ↔ (length held.now ≤ length self.now.last) }

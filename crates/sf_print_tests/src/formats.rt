@@ -3,7 +3,7 @@
 use sf_base::Kind;
 use sf_format::{
     Base, Conversion, Directive, PrintConv, PrintFormat, PrintLetter, Profile, ScanFormat, Shape,
-    Unit, directive_text,
+    Span, Spans, Unit, directive_text,
 };
 use sf_rows::is;
 use std::test::Fail;
@@ -158,6 +158,22 @@ fn directives_have_texts() -> Result<(), Fail> {
         let (profile, text, number, wanted) = row;
         is(&directive_text(*profile, text, *number), wanted, row)?;
     }
+    Ok(())
+}
+
+#[test]
+fn directives_have_spans(rt: HostRuntime) -> Result<(), Fail> {
+    for row in &DIRECTIVE_TEXTS {
+        let (profile, text, number, wanted) = row;
+        let found = match Spans::of(rt.alloc(), *profile, text) {
+            Ok(spans) => spans.text_of(text, *number),
+            Err(_) => None,
+        };
+        is(&found, wanted, row)?;
+    }
+    let spans = Spans::of(rt.alloc(), Profile::One, b"%%%*[^]x]%1$s")?;
+    is(&spans.span(2), &Some(Span { start: 2, end: 9 }), &2)?;
+    is(&spans.span(4), &None, &4)?;
     Ok(())
 }
 

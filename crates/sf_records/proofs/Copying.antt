@@ -109,7 +109,7 @@ clean Unfit n r e = no_fault e
 clean RanOut n r e = no_fault e
 
 -- a record that fits leaves the turn as it is
-fit_is : (fit : Bool) (turn : Turn) → fit ≡ true → fit_turn fit turn ≡ turn
+pub fit_is : (fit : Bool) (turn : Turn) → fit ≡ true → fit_turn fit turn ≡ turn
 fit_is fit turn e = rw e (same (writes turn))
   where
     same : (b : Bool) → cond b turn turn ≡ turn
@@ -160,6 +160,7 @@ module _ (units : List PrintUnit) (ds : List Directive) (pair : CarriesOver unit
         record {
           reports = all.reports;
           are = all.are;
+          passed = all.passed;
           ends = record {
             written = all.reports;
             left = [];

@@ -13,5 +13,7 @@ pub mod Quoting
 pub mod ReadingRows
 pub mod RecordRows
 pub mod RowSlots
+pub mod RowsWritten
 pub mod Short
+pub mod ShortLines
 pub mod TableReading

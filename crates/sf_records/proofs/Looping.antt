@@ -147,6 +147,7 @@ no_memory one w to_come ds proper m t now was failures input answer is_end =
     record {
       failed = false;
       failures_are = refl;
+      nothing_held = λ f. absurd (true≢false (sym f));
       consumed = 0;
       rest = input;
       output = s.0;
@@ -165,6 +166,7 @@ module _ {S : Type 0} {w : Work} {to_come : S → Option (List ℕ)} {ds : List 
   too_many full answer is_end = record {
     failed = false;
     failures_are = g.no_failure;
+    nothing_held = λ f. absurd (true≢false (sym f));
     consumed = uses g.front + 0;
     rest = g.input ∙ ap (λ (y : List ℕ). Some y) (sym (cut_rest t g.used_up g.left (uses g.front) 0 g.parts g.used));
     output = texts w g.front;
@@ -266,6 +268,7 @@ module _ {S : Type 0} {w : Work} {to_come : S → Option (List ℕ)} {ds : List 
         record {
           failed = is_fault r.met;
           failures_are = failures_are;
+          nothing_held = λ f. (scan.nothing_held f).0;
           consumed = uses g.front + r.used;
           rest = rest_is;
           output = s.0;
@@ -287,6 +290,7 @@ module _ {S : Type 0} {w : Work} {to_come : S → Option (List ℕ)} {ds : List 
         record {
           failed = is_fault r.met;
           failures_are = failures_are;
+          nothing_held = λ f. (scan.nothing_held f).0;
           consumed = uses g.front + r.used;
           rest = rest_is;
           output = s.0;
@@ -306,6 +310,7 @@ module _ {S : Type 0} {w : Work} {to_come : S → Option (List ℕ)} {ds : List 
         record {
           failed = is_fault r.met;
           failures_are = failures_are;
+          nothing_held = λ f. (scan.nothing_held f).0;
           consumed = uses g.front + r.used;
           rest = rest_is;
           output = texts w g.front ++ last_text w r;

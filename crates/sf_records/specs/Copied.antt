@@ -17,7 +17,7 @@ use Rattle.sf_run.specs.Runs.{RunReport}
 use Rattle.sf_records.specs.declared.end.ToolEnd.{ToolEnd}
 use Rattle.sf_records.specs.Copies.{copying}
 use Rattle.sf_records.specs.Lines.{scanning}
-use Rattle.sf_records.specs.Records.{EndsWith, ended, most_records}
+use Rattle.sf_records.specs.Records.{EndsWith, Passed, ended, most_records}
 use Rattle.sf_records.specs.Works.{Work, texts}
 
 -- two accepted formats that a pair check accepts
@@ -49,11 +49,12 @@ AreReadBack n units [] [] = Unit {0}
 AreReadBack n units (row ∷ rows) (r ∷ rs) = IsReadBack n (printed units row) row r × AreReadBack n units rows rs
 AreReadBack n units _ _ = ⊥
 
--- The records of the joined texts are these rows: the reports give them back, one by one, a record is written for each, all
--- bytes are used, and the loop ends cleanly at the end of the input.
+-- The records of the joined texts are these rows: the loop's own reports, which leave nothing, give them back, one by one, a
+-- record is written for each, all bytes are used, and the loop ends cleanly at the end of the input.
 pub record ReadsRows (w : Work) (units : List PrintUnit) (ds : List Directive) (m : ℕ) (rows : List (List Datum)) : Type 0 where
   pub reports : List RunReport
   pub are : AreReadBack (length (destinations_of ds)) units rows reports
+  pub passed : Passed w ds m (joined units rows) End reports []
   pub ends : EndsWith w ds m (joined units rows) End (texts w reports) (length (joined units rows)) (ended (length rows) None)
 
 -- for a pair and fewer than 2147483647 rows that fit: a scan of their joined texts gives these rows; and a copy of them gives

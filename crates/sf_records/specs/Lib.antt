@@ -9,6 +9,7 @@ pub mod Lines
 pub mod Quotes
 pub mod ReadingBack
 pub mod Records
+pub mod ShortLines
 pub mod Tables
 pub mod Texts
 pub mod Turns

@@ -162,6 +162,7 @@ pub record Loops {S : Type 0} (w : Work) (to_come : S → Option (List ℕ)) (ds
   -- whether the source failed
   pub failed : Bool
   pub failures_are : failures' ≡ (if failed then counted_on failures else failures)
+  pub nothing_held : failed ≡ true → now.held ≡ []
   -- what the runs did not use is then held or to come
   pub consumed : ℕ
   pub rest : input_of to_come now ≡ Some (drop consumed t)

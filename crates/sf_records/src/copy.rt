@@ -1,5 +1,5 @@
 //! The records of an input, printed by the other format of a pair.
-ghost use Rattle.std.specs.Prelude.{◌≡◌, ◌≤◌, ◌++◌, [], ℕ, List, Some, map, length, if◌then◌else◌};
+ghost use Rattle.std.specs.Prelude.{◌≡◌, ◌≤◌, ◌++◌, [], ℕ, List, Some, true, map, length, if◌then◌else◌};
 ghost use Rattle.sf_base.specs.Data.{datum_of};
 ghost use Rattle.sf_print.specs.Sinks.{counted_on};
 ghost use Rattle.sf_read.specs.Ahead.{input_of};
@@ -140,6 +140,8 @@ pub fn run_copy<S: Source, K: Sink, const N: usize>(
     ensures status { result.status ≡ status_by result.fault }
     ensures sink { K.failures to.new
         ≡ (if is_write result.fault then counted_on (K.failures to.old) else K.failures to.old) }
+    ensures no_read { from.old.at_end ≡ true → from.new.source ≡ from.old.source }
+    ensures stays { from.old.at_end ≡ true → from.new.at_end ≡ true }
 {
     let scan = pair.scan();
     let text = Printed {

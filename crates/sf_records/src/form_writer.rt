@@ -1,7 +1,8 @@
 //! Writes records in a form.
-ghost use Rattle.std.specs.Prelude.{◌≡◌, if◌then◌else◌};
+ghost use Rattle.std.specs.Prelude.{◌≡◌, ◌<◌, true, length, IsErrOf, if◌then◌else◌};
 ghost use Rattle.sf_print.specs.Sinks.{counted_on};
 ghost use Rattle.sf_records.specs.Forms.{record_text};
+ghost use Rattle.sf_records.specs.ShortLines.{has_plain_texts};
 ghost use Rattle.sf_records.specs.Judging.{WritesText, is_sink_fault};
 
 use crate::form::OutputForm;
@@ -46,12 +47,13 @@ impl Model for FormWriter {
 
 /// Hands the sink a record.
 #[inline(always)]
-fn send<K: Sink>(to: &mut K, record: &[u8]) -> Result<(), RecordFault>
-    ensures written { WritesText record.now (K.contents to.old) (K.contents to.new) result }
+fn send<K: Sink>(to: &mut K, text: &[u8]) -> Result<(), RecordFault>
+    ensures written { WritesText text.now (K.contents to.old) (K.contents to.new) result }
     ensures failures { K.failures to.new
         ≡ (if is_sink_fault result then counted_on (K.failures to.old) else K.failures to.old) }
+    ensures sink { IsErrOf result RecordFault.Memory → ⊥ }
 {
-    match write_whole(to, record) {
+    match write_whole(to, text) {
         Ok(()) => Ok(()),
         Err(_) => Err(RecordFault::Write),
     }
@@ -69,7 +71,8 @@ impl FormWriter {
         }
     }
 
-    /// Writes the record of a format that has so many destinations, by the report of a run.
+    /// Writes the record of a format that has so many destinations, by the report of a run. A plain line of at most 1,023 bytes
+    /// whose texts are plain takes no memory.
     #[inline(always)]
     pub fn write<K: Sink, T: Store>(
         &mut self,
@@ -81,6 +84,8 @@ impl FormWriter {
         ensures written { WritesText (record_text self.old destinations report.now) (K.contents to.old) (K.contents to.new) result }
         ensures failures { K.failures to.new
             ≡ (if is_sink_fault result then counted_on (K.failures to.old) else K.failures to.old) }
+        ensures short { self.old ≡ OutputForm.Plain → has_plain_texts destinations report.now ≡ true
+            → length (record_text self.old destinations report.now) < 1024 → IsErrOf result RecordFault.Memory → ⊥ }
     {
         if let Some(end) = write_line(self.form, report, destinations, &mut self.line) {
             return send(to, &self.line[..end]);

@@ -2,10 +2,11 @@
 //! None of these functions does anything: its contract is the law.
 ghost use Rattle.sf_records.specs.Copied.{CopyingTwiceIsCopyingOnce, JoinedTextsGiveTheirRows};
 ghost use Rattle.sf_records.specs.Laws.{EachHasOneEnd};
-ghost use Rattle.sf_records.specs.ReadingBack.{JsonIsUtf8, JsonReadsBack, RecordsAreRows, TsvReadsBack};
+ghost use Rattle.sf_records.specs.ReadingBack.{JsonIsUtf8, JsonReadsBack, RecordsAreRows, TsvReadsBack, WrittenReadsBack};
 
 use sf_pair::laws::{ends_on_nothing, fits_is_fit, prints_some, round_trip, slots_agree};
-use sf_run::laws::one_report;
+use sf_read::Source;
+use sf_run::laws::{done_runs_have_rows, one_report};
 
 /// The records of an input by a format have one output, use so many bytes and end in one way, whatever is made of each.
 pub fn one_end()
@@ -57,3 +58,15 @@ pub fn json_reads_back()
 pub fn json_is_utf8()
     ensures { JsonIsUtf8 }
 {}
+
+/// What `run_scan_as` wrote of the records of an input of bytes, by an accepted format, is the records of the values that the
+/// input's runs gave; as a table or as arrays of JSON it reads back as these values. Where the sink failed, a part of one more
+/// record follows.
+pub fn written_reads_back<S: Source>()
+    ensures { WrittenReadsBack S.to_come }
+{
+    done_runs_have_rows();
+    records_are_rows();
+    tsv_reads_back();
+    json_reads_back();
+}

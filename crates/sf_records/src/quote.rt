@@ -1,6 +1,6 @@
 //! Bytes between quotes.
-ghost use Rattle.std.specs.Prelude.{◌≡◌, ◌++◌, ◌+◌, ◌<◌, ◌≤◌, [], ◌∷◌, length, map, take, drop, true, not, IfSome, OnOk};
-ghost use Rattle.std.specs.List.{flat_map, prefix_len};
+ghost use Rattle.std.specs.Prelude.{◌≡◌, ◌++◌, ◌+◌, ◌<◌, ◌≤◌, [], ◌∷◌, length, map, take, drop, true, not, IfSome, IsSome, OnOk};
+ghost use Rattle.std.specs.List.{flat_map, list_all, prefix_len};
 ghost use Rattle.sf_records.specs.Quotes.{hex_digit, escaped, is_plain, quoted};
 ghost use lib.Lanes.{mask_l, chunk};
 
@@ -112,7 +112,7 @@ fn push_long(output: &mut Vec<u8>, bytes: &[u8]) -> Result<(), AllocError>
 #[inline(always)]
 fn are_ends_plain(bytes: &[u8], width: usize) -> bool
     requires width { (width ≤ length bytes.now) × (length bytes.now ≤ width + width) × (width ≤ 8) }
-    ensures { result ≡ true → flat_map escaped bytes.now ≡ bytes.now }
+    ensures { result ≡ list_all is_plain bytes.now }
 {
     let mut lanes = [b' '; LANES];
     lanes[..width].copy_from_slice(&bytes[..width]);
@@ -124,7 +124,7 @@ fn are_ends_plain(bytes: &[u8], width: usize) -> bool
 #[inline(always)]
 fn is_short_plain(bytes: &[u8]) -> bool
     requires { length bytes.now ≤ 16 }
-    ensures { result ≡ true → flat_map escaped bytes.now ≡ bytes.now }
+    ensures { result ≡ list_all is_plain bytes.now }
 {
     match bytes.len() {
         0 => true,
@@ -138,7 +138,7 @@ fn is_short_plain(bytes: &[u8]) -> bool
 /// Whether more than sixteen bytes are plain. It is a call of its own, so that short texts don't pay for it.
 #[inline(never)]
 fn is_long_plain(bytes: &[u8]) -> bool
-    ensures { result ≡ true → flat_map escaped bytes.now ≡ bytes.now }
+    ensures { result ≡ list_all is_plain bytes.now }
 {
     plain_run(bytes) == bytes.len()
 }
@@ -146,7 +146,7 @@ fn is_long_plain(bytes: &[u8]) -> bool
 /// Whether the bytes are plain.
 #[inline(always)]
 fn are_plain(bytes: &[u8]) -> bool
-    ensures { result ≡ true → flat_map escaped bytes.now ≡ bytes.now }
+    ensures { result ≡ list_all is_plain bytes.now }
 {
     if bytes.len() <= LANES {
         return is_short_plain(bytes);
@@ -161,6 +161,7 @@ pub(crate) fn write_quoted(bytes: &[u8], buf: &mut [u8], at: usize) -> Option<us
     requires { at ≤ length buf.old }
     ensures within { IfSome result (λ end. end ≤ length buf.new) }
     ensures written { IfSome result (λ end. take end buf.new ≡ take at buf.old ++ quoted bytes.now) }
+    ensures answers { list_all is_plain bytes.now ≡ true → at + length (quoted bytes.now) ≤ length buf.old → IsSome result }
 {
     if buf.len() - at < bytes.len() + 2 {
         return None;

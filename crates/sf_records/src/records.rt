@@ -1,5 +1,5 @@
 //! The loop over the records of an input.
-ghost use Rattle.std.specs.Prelude.{◌≡◌, ◌≢◌, ◌<◌, ◌≤◌, ℕ, List, Some, None, if◌then◌else◌, IfOk, IfErr, IfSome, MatchOption};
+ghost use Rattle.std.specs.Prelude.{◌≡◌, ◌≢◌, ◌<◌, ◌≤◌, ℕ, List, Some, None, true, if◌then◌else◌, IfOk, IfErr, IfSome, MatchOption};
 ghost use Rattle.std.specs.Result.{result_err};
 ghost use Rattle.sf_format.specs.Proper.{AreProper};
 ghost use Rattle.sf_print.specs.Sinks.{counted_on};
@@ -129,6 +129,8 @@ pub(crate) fn run_records<R: Recorder, S: Source, K: Sink, const N: usize>(
     ensures status { result.status ≡ status_by result.fault }
     ensures sink { K.failures to.new
         ≡ (if is_write result.fault then counted_on (K.failures to.old) else K.failures to.old) }
+    ensures no_read { from.old.at_end ≡ true → from.new.source ≡ from.old.source }
+    ensures stays { from.old.at_end ≡ true → from.new.at_end ≡ true }
 {
     let Ok(mut store) = HeapStore::new(alloc, format.width_sum().unwrap_or(0)) else {
         return ended_by(0, ToolFault::Memory);

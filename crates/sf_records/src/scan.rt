@@ -1,5 +1,5 @@
 //! The records of an input, each written in a form.
-ghost use Rattle.std.specs.Prelude.{◌≡◌, ◌≤◌, ℕ, List, Some, if◌then◌else◌};
+ghost use Rattle.std.specs.Prelude.{◌≡◌, ◌≤◌, ℕ, List, Some, true, if◌then◌else◌};
 ghost use Rattle.sf_print.specs.Sinks.{counted_on};
 ghost use Rattle.sf_read.specs.Ahead.{input_of};
 ghost use Rattle.sf_records.specs.Judging.{is_write};
@@ -33,6 +33,8 @@ pub fn run_scan<S: Source, K: Sink, const N: usize>(
     ensures status { result.status ≡ status_by result.fault }
     ensures sink { K.failures to.new
         ≡ (if is_write result.fault then counted_on (K.failures to.old) else K.failures to.old) }
+    ensures no_read { from.old.at_end ≡ true → from.new.source ≡ from.old.source }
+    ensures stays { from.old.at_end ≡ true → from.new.at_end ≡ true }
 {
     run_scan_as(alloc, from, to, format, OutputForm::Plain, limit)
 }
@@ -52,6 +54,8 @@ pub fn run_scan_as<S: Source, K: Sink, const N: usize>(
     ensures status { result.status ≡ status_by result.fault }
     ensures sink { K.failures to.new
         ≡ (if is_write result.fault then counted_on (K.failures to.old) else K.failures to.old) }
+    ensures no_read { from.old.at_end ≡ true → from.new.source ≡ from.old.source }
+    ensures stays { from.old.at_end ≡ true → from.new.at_end ≡ true }
 {
     let mut writer = RecordWriter::new(alloc, form, format.destinations());
     run_records(alloc, from, to, &mut writer, format, limit)

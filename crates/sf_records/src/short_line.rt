@@ -1,6 +1,7 @@
 //! The line of a record, written in place where it is short and its texts are plain.
-ghost use Rattle.std.specs.Prelude.{◌≡◌, ◌++◌, ◌+◌, ◌≤◌, [], ◌∷◌, length, take, IfSome};
+ghost use Rattle.std.specs.Prelude.{◌≡◌, ◌++◌, ◌+◌, ◌≤◌, [], ◌∷◌, true, length, take, IfSome, IsSome};
 ghost use Rattle.sf_records.specs.Forms.{record_text, slot_text};
+ghost use Rattle.sf_records.specs.ShortLines.{IsShortLine, is_plain_slot};
 ghost use Rattle.sf_records.specs.declared.form.OutputForm.TheVariants.{Plain};
 
 use crate::form::OutputForm;
@@ -9,8 +10,8 @@ use sf_base::{Shown, Store};
 use sf_print::write_number;
 use sf_run::Report;
 
-/// The most bytes of a short line.
-pub(crate) const LINE_BYTES: usize = 1024;
+/// The room for a short line: 1,023 bytes, and as many as the longest number has.
+pub(crate) const LINE_BYTES: usize = 1044;
 
 /// A blank, a minus and the digits of any number.
 const NUMBER_BYTES: usize = 22;
@@ -27,6 +28,7 @@ fn write_slot<S: Store>(
     requires { at + 21 ≤ length buf.old }
     ensures within { IfSome result (λ end. end ≤ length buf.new) }
     ensures written { IfSome result (λ end. take end buf.new ≡ take at buf.old ++ slot_text Plain report.now slot) }
+    ensures answers { is_plain_slot report.now slot ≡ true → at + length (slot_text Plain report.now slot) ≤ length buf.old → IsSome result }
 {
     match report.shown(slot) {
         Some(Shown::Number(number)) => {
@@ -53,6 +55,7 @@ fn write_byte(byte: u8, buf: &mut [u8], at: usize) -> usize
 fn write_plain<S: Store>(report: &Report<'_, S>, destinations: u8, buf: &mut [u8]) -> Option<usize>
     ensures within { IfSome result (λ end. end ≤ length buf.new) }
     ensures written { IfSome result (λ end. take end buf.new ≡ record_text Plain destinations report.now) }
+    ensures answers { IsShortLine destinations report.now (length buf.old) → IsSome result }
 {
     let mut end = 0;
     for before in 0..destinations {
@@ -81,6 +84,7 @@ pub(crate) fn write_line<S: Store>(
 ) -> Option<usize>
     ensures within { IfSome result (λ end. end ≤ length buf.new) }
     ensures written { IfSome result (λ end. take end buf.new ≡ record_text form destinations report.now) }
+    ensures answers { form ≡ Plain → IsShortLine destinations report.now (length buf.old) → IsSome result }
 {
     match form {
         OutputForm::Plain => write_plain(report, destinations, buf),

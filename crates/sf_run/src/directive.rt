@@ -25,7 +25,7 @@ ghost use Rattle.sf_run.specs.Quick.{IsSure};
 use crate::number::number_of;
 use sf_base::{Kind, Number, is_space, space_run};
 use sf_format::{Base, Conversion, Directive, Shape};
-use sf_item::{ItemEnd, ItemScan, WholeInteger, whole_bytes, whole_decimal, whole_hex};
+use sf_item::{ItemEnd, ItemScan, WholeInteger, whole_auto, whole_bytes, whole_decimal, whole_hex};
 use sf_report::Status;
 
 /// How far a directive has come that waits for more.
@@ -413,7 +413,8 @@ fn whole_integer(base: Base, width: Option<u16>, piece: &[u8]) -> Option<WholeIn
     match base {
         Base::Dec => whole_decimal(width, piece),
         Base::Hex => whole_hex(width, piece),
-        Base::Oct | Base::Bin | Base::Auto | Base::AutoBin => None,
+        Base::Auto | Base::AutoBin => whole_auto(base, width, piece),
+        Base::Oct | Base::Bin => None,
     }
 }
 

@@ -5,8 +5,8 @@ ghost use Rattle.sf_item.specs.Tests.{has_item};
 use sf_base::{ByteSet, Kind};
 use sf_format::{Base, Conversion, Shape};
 use sf_item::{
-    ItemEnd, ItemScan, Radices, Step, WholeInteger, prefix_radix, radices_of, whole_bytes,
-    whole_decimal, whole_hex,
+    ItemEnd, ItemScan, Radices, Step, WholeInteger, prefix_radix, radices_of, whole_auto,
+    whole_bytes, whole_decimal, whole_hex,
 };
 use sf_rows::{DecimalRow, Found, ItemRow, Reader, decimals, is, items};
 use std::test::Fail;
@@ -161,6 +161,20 @@ static HEXES: [DecimalRow; 14] = [
     (None, b"-,", None),
 ];
 
+/// Texts whose first bytes may be an integer of `%i`, which is known at once where no zero begins it.
+static AUTOS: [DecimalRow; 10] = [
+    (None, b"12,", Some((2, false, 12))),
+    (None, b"-70 ", Some((3, true, 70))),
+    (None, b"+9x", Some((2, false, 9))),
+    (Some(1), b"12,", Some((1, false, 1))),
+    (Some(1), b"-1,", None),
+    (None, b"18446744073709551615,", Some((20, false, u64::MAX))),
+    (None, b"18446744073709551616,", None),
+    (None, b"017,", None),
+    (None, b"-0x1f,", None),
+    (None, b"12", None),
+];
+
 /// The bytes of a whole integer, whether a minus stands there, and the number.
 fn parts(whole: WholeInteger) -> (usize, bool, u64) {
     (whole.bytes, whole.negative, whole.magnitude)
@@ -173,6 +187,10 @@ fn whole_integers_end_within(_rt: HostRuntime) -> Result<(), Fail> {
     }
     for (width, text, wanted) in &HEXES {
         is(&whole_hex(*width, text).map(parts), wanted, text)?;
+    }
+    for (width, text, wanted) in &AUTOS {
+        is(&whole_auto(Base::Auto, *width, text).map(parts), wanted, text)?;
+        is(&whole_auto(Base::AutoBin, *width, text).map(parts), wanted, text)?;
     }
     Ok(())
 }

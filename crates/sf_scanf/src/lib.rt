@@ -39,9 +39,7 @@ pub use sf_loops::{RecordFault, RecordWhy, Records, Reports};
 pub use sf_pair::{Pair, PairFault, PairWhy, WriteFault};
 pub use sf_print::{ListSink, PrintFault, Sink, SinkFault, StdSink, fprint, printed_len};
 pub use sf_read::{
-    Field, Lookahead, Row, RowFault, ScanRowFault, SliceSource, Source, SourceFault, StdSource, fscan,
-    fscan_fixed, fscan_over, scan_row, scan_row_over, sscan, sscan_over,
+    Field, Lookahead, Row, RowFault, ScanRowFault, SliceSource, Source, SourceFault, StdSource,
+    fscan, fscan_fixed, fscan_over, scan_row, scan_row_over, sscan, sscan_over,
 };
-pub use sf_run::{
-    Ending, Fed, FeedState, Outcome, Report, Scanned, Scanner, StartFault, Status,
-};
+pub use sf_run::{Ending, Fed, FeedState, Outcome, Report, Scanned, Scanner, StartFault, Status};

@@ -50,6 +50,7 @@ module _ {T S K : Type 0} (f : T → S) (to_come : S → Option (List ℕ)) (fau
   loops w ds m t now n k before after end l = record {
     failed = l.failed;
     failures_are = l.failures_are;
+    nothing_held = l.nothing_held;
     consumed = l.consumed;
     rest = l.rest;
     output = l.output;

@@ -13,6 +13,7 @@ use Rattle.clap.specs.declared.builder.value_parser.Reading.TheVariants.{AsWritt
 use Rattle.clap.proofs.FaultLemmas.{stopped_fault}
 use Rattle.clap.proofs.OnLiterals.{clap_on_literals}
 use Rattle.clap.proofs.WalkLemmas.{walk_stopped}
+use Rattle.sf_words.specs.Hyphens.{clap_words}
 use Rattle.sf_words.specs.Laws.{IsTakenAs, TakesBehindDashes}
 use Rattle.sf_words.specs.Line.{print_app, sf_app, words_rule}
 use Rattle.sf_words.specs.Orders.{entered_faults, faults_of, own_faults, texts_by, verb_text}
@@ -66,11 +67,13 @@ at_values format values = record {
   stopped = None;
 }
 
-one_more : (format : Text) (values : List Text) (word : Text) → walked print_level.rules [] (at_values format values) word ≡ at_values format (values ++ word ∷ [])
+one_more : (format : Text) (values : List Text) (word : Text) → walked print_level.rules [] (at_values format values) word
+    ≡ at_values format (values ++ word ∷ [])
 unfolding clap_on_literals
 one_more format values word = refl
 
-more : (format : Text) (values rest : List Text) → fold (walked print_level.rules []) (at_values format values) rest ≡ at_values format (values ++ rest)
+more : (format : Text) (values rest : List Text) → fold (walked print_level.rules []) (at_values format values) rest
+    ≡ at_values format (values ++ rest)
 more format values [] = ap (at_values format) (sym (append-nil values))
 more format values (word ∷ rest) =
     ap (λ w. fold (walked print_level.rules []) w rest) (one_more format values word)
@@ -83,14 +86,18 @@ more_fine format values [] = refl
 more_fine format values (word ∷ rest) = more_fine format (values ++ word ∷ []) rest
 
 first_value : (format value : Text)
-    → walked print_level.rules [] (walked print_level.rules [] (walked print_level.rules [] (walk_from nothing_held) (codes "--")) format) value ≡ at_values format (value ∷ [])
+    → walked print_level.rules [] (walked print_level.rules [] (walked print_level.rules [] (walk_from nothing_held) (codes "--")) format)
+    value ≡ at_values format (value ∷ [])
 unfolding clap_on_literals
 first_value format value = refl
 
-print_walk : (format value : Text) (rest : List Text) → walk print_level.rules [] nothing_held (codes "--" ∷ format ∷ value ∷ rest) ≡ at_values format (value ∷ rest)
-print_walk format value rest = ap (λ w. fold (walked print_level.rules []) w rest) (first_value format value) ∙ more format (value ∷ []) rest
+print_walk : (format value : Text) (rest : List Text) → walk print_level.rules [] nothing_held (codes "--" ∷ format ∷ value ∷ rest)
+    ≡ at_values format (value ∷ rest)
+print_walk format value rest = ap (λ w. fold (walked print_level.rules []) w rest) (first_value format value)
+    ∙ more format (value ∷ []) rest
 
-print_walk_fine : (format value : Text) (rest : List Text) → walk_fault print_level [] (walk_from nothing_held) (codes "--" ∷ format ∷ value ∷ rest) ≡ []
+print_walk_fine : (format value : Text) (rest : List Text) → walk_fault print_level [] (walk_from nothing_held)
+    (codes "--" ∷ format ∷ value ∷ rest) ≡ []
 unfolding clap_on_literals walk_fault walked
 print_walk_fine format value rest = more_fine format (value ∷ []) rest
 
@@ -115,10 +122,11 @@ nothing [] b none_a none_b = none_b
 nothing (k ∷ ks) b none_a none_b = absurd (no_kind none_a)
 
 -- nothing is at fault where clap finds nothing, and the command nothing in the rows
-pub none_at_fault : (words : List Text) (verb : Verb) (rows : List Row) → fault_of sf_app (codes "sf" ∷ words) ≡ []
-    → subcommand_of sf_app (codes "sf" ∷ words) ≡ Some (verb_text verb, rows) → own_faults (verb_text verb) rows ≡ [] → faults_of words ≡ []
+pub none_at_fault : (words : List Text) (verb : Verb) (rows : List Row) → fault_of sf_app (codes "sf" ∷ clap_words words) ≡ []
+    → subcommand_of sf_app (codes "sf" ∷ clap_words words) ≡ Some (verb_text verb, rows) → own_faults (verb_text verb) rows ≡ []
+    → faults_of words ≡ []
 none_at_fault words verb rows taken is own =
-    nothing (fault_of sf_app (codes "sf" ∷ words)) (entered_faults (subcommand_of sf_app (codes "sf" ∷ words))) taken
+    nothing (fault_of sf_app (codes "sf" ∷ clap_words words)) (entered_faults (subcommand_of sf_app (codes "sf" ∷ clap_words words))) taken
     (subst (λ e. entered_faults e ≡ []) (sym is) own)
 
 -- what is checked after a walk
@@ -127,7 +135,8 @@ checks_after s has end =
     or_else (settle_fault s.rules s.args_override_self end.held)
     (or_else (defaults_fault (settled s.rules end.held).rows s.rules) (check_fault s (finished s.rules end.held) has))
 
-pub values_checks : (format value : Text) (rest : List Text) → length (value ∷ rest) ≤ usize_max → checks_after print_level false (at_values format (value ∷ rest)) ≡ []
+pub values_checks : (format value : Text) (rest : List Text) → length (value ∷ rest) ≤ usize_max
+    → checks_after print_level false (at_values format (value ∷ rest)) ≡ []
 unfolding clap_on_literals
 values_checks format value rest few =
     nothing (settle_fault print_level.rules print_level.args_override_self (at_values format (value ∷ rest)).held) _
@@ -161,7 +170,8 @@ pub texts_of_values : (format value : Text) (rest : List Text)
 unfolding clap_on_literals
 texts_of_values format value rest = refl
 
-pub values_own : (format value : Text) (rest : List Text) → own_faults (verb_text Print) (finished print_level.rules (at_values format (value ∷ rest)).held) ≡ []
+pub values_own : (format value : Text) (rest : List Text) → own_faults (verb_text Print)
+    (finished print_level.rules (at_values format (value ∷ rest)).held) ≡ []
 unfolding clap_on_literals
 values_own format value rest = refl
 
@@ -183,8 +193,10 @@ print_taken format value rest few = record {
     fine : fault_of sf_app (codes "sf" ∷ codes "print" ∷ words) ≡ []
     fine =
         nothing (walk_fault top names (walk_from nothing_held) (codes "print" ∷ words)) _ (top_walk_fine words)
-        (subst (λ w. or_else (entered_fault (built sf_app) w.stopped) (checks_after top (is_some (entered (built sf_app) w.stopped)) w) ≡ []) (sym (top_walk words))
-        (nothing (level_fault print_level [] nothing_held words false []) _ (print_fine format value rest (omega (arith, few))) (top_checks words)))
+        (subst (λ w. or_else (entered_fault (built sf_app) w.stopped) (checks_after top (is_some (entered (built sf_app) w.stopped)) w)
+        ≡ []) (sym (top_walk words))
+        (nothing (level_fault print_level [] nothing_held words false []) _ (print_fine format value rest (omega (arith, few)))
+        (top_checks words)))
 
     is : subcommand_of sf_app (codes "sf" ∷ codes "print" ∷ words) ≡ Some (verb_text Print, rows)
     is =

@@ -36,35 +36,42 @@ module _ (s : Shape) (has_help : s.disable_help_subcommand ≡ false) (names : N
   short_word_fine waiting word None h = plain_fine waiting word h
   short_word_fine waiting word (Some flags) h = after_fine waiting word (bundle s.rules flags h).0 (bundle s.rules flags h).1
 
-  flag_word_fine : (waiting : Waiting) (word : Text) (o : Option (Text × Option Text)) (h : Held) → StepFine (long_or_other s.rules waiting word o h).1
+  flag_word_fine : (waiting : Waiting) (word : Text) (o : Option (Text × Option Text)) (h : Held)
+      → StepFine (long_or_other s.rules waiting word o h).1
   flag_word_fine waiting word (Some p) h =
       after_fine waiting word (long_met s.rules (arg_by_long s.rules p.0) p.1 h).0 (long_met s.rules (arg_by_long s.rules p.0) p.1 h).1
   flag_word_fine waiting word None h = short_word_fine waiting word (short_of word) h
 
-  dashes_fine : (b : Bool) (waiting : Waiting) (position : ℕ) (word : Text) (h : Held) → StepFine (cond b (h, trailing position) (long_or_other s.rules waiting word (long_of word) h)).1
+  dashes_fine : (b : Bool) (waiting : Waiting) (position : ℕ) (word : Text) (h : Held)
+      → StepFine (cond b (h, trailing position) (long_or_other s.rules waiting word (long_of word) h)).1
   dashes_fine true waiting position word h = tt
   dashes_fine false waiting position word h = flag_word_fine waiting word (long_of word) h
 
   no_help : (b d : Bool) → d ≡ false → cond (b && not d) (kind.DisplayHelp ∷ kind.InvalidSubcommand ∷ []) [] ≡ [] → b ≡ false
   no_help false d off e = refl
   no_help true d off e =
-      let yes : cond (true && not false) (kind.DisplayHelp ∷ kind.InvalidSubcommand ∷ []) [] ≡ [] = subst (λ x. cond (true && not x) (kind.DisplayHelp ∷ kind.InvalidSubcommand ∷ []) [] ≡ []) off e in
+      let yes : cond (true && not false) (kind.DisplayHelp ∷ kind.InvalidSubcommand ∷ []) [] ≡ [] =
+      subst (λ x. cond (true && not x) (kind.DisplayHelp ∷ kind.InvalidSubcommand ∷ []) [] ≡ []) off e in
       absurd (omega (arith, ap length yes))
 
-  other_fine : (o : Option Text) (waiting : Waiting) (position : ℕ) (word : Text) (h : Held) → other_fault s o word h ≡ [] → StepFine (subcommand_or_other s.rules o waiting position word h).1
+  other_fine : (o : Option Text) (waiting : Waiting) (position : ℕ) (word : Text) (h : Held) → other_fault s o word h ≡ []
+      → StepFine (subcommand_or_other s.rules o waiting position word h).1
   other_fine (Some name) waiting position word h e = no_help (bytes_eq name (codes "help")) s.disable_help_subcommand has_help e
   other_fine None waiting position word h e = dashes_fine (bytes_eq word (45 ∷ 45 ∷ [])) waiting position word h
 
-  word_fine : (is_trailing : Bool) (waiting : Waiting) (position : ℕ) (word : Text) (h : Held) → word_fault s names is_trailing waiting word h ≡ []
+  word_fine : (is_trailing : Bool) (waiting : Waiting) (position : ℕ) (word : Text) (h : Held)
+      → word_fault s names is_trailing waiting word h ≡ []
       → StepFine (word_met s.rules names is_trailing waiting position word h).1
   word_fine true waiting position word h e = tt
   word_fine false waiting position word h e = other_fine (subcommand_met names waiting word) waiting position word h e
 
-  value_fine : (o : Option Rule) (word : Text) (w : Walk) (h : Held) → w.stopped ≡ None → StopFine (to_positional s.rules o word w h).stopped
+  value_fine : (o : Option Rule) (word : Text) (w : Walk) (h : Held) → w.stopped ≡ None
+      → StopFine (to_positional s.rules o word w h).stopped
   value_fine None word w h none = subst StopFine (sym none) tt
   value_fine (Some a) word w h none = tt
 
-  step_fine : (word : Text) (w : Walk) (h : Held) (step : Step) → w.stopped ≡ None → StepFine step → StopFine (after_step s.rules word w h step).stopped
+  step_fine : (word : Text) (w : Walk) (h : Held) (step : Step) → w.stopped ≡ None → StepFine step
+      → StopFine (after_step s.rules word w h step).stopped
   step_fine word w h (next waiting) none f = subst StopFine (sym none) tt
   step_fine word w h (trailing position) none f = subst StopFine (sym none) tt
   step_fine word w h (subcommand name) none f = f
@@ -72,7 +79,8 @@ module _ (s : Shape) (has_help : s.disable_help_subcommand ≡ false) (names : N
 
   turn_by_fine : (o : Option (Text × List Text)) (w : Walk) (word : Text) → w.stopped ≡ o
       → cond (is_some o) [] (or_else (word_fault s names w.is_trailing w.waiting word w.held)
-      (step_fault s w.position (word_met s.rules names w.is_trailing w.waiting w.position word w.held).0 (word_met s.rules names w.is_trailing w.waiting w.position word w.held).1)) ≡ []
+      (step_fault s w.position (word_met s.rules names w.is_trailing w.waiting w.position word w.held).0
+      (word_met s.rules names w.is_trailing w.waiting w.position word w.held).1)) ≡ []
       → StopFine o → StopFine (walked_from s.rules names o w word).stopped
   turn_by_fine (Some p) w word is e f = f
   turn_by_fine None w word is e f =
@@ -80,7 +88,8 @@ module _ (s : Shape) (has_help : s.disable_help_subcommand ≡ false) (names : N
       let two = both_pass (word_fault s names w.is_trailing w.waiting word w.held) (step_fault s w.position met.0 met.1) e in
       step_fine word w met.0 met.1 is (word_fine w.is_trailing w.waiting w.position word w.held two.0)
 
-  walk_fine : (w : Walk) (words : List Text) → walk_fault s names w words ≡ [] → StopFine w.stopped → StopFine (fold (walked s.rules names) w words).stopped
+  walk_fine : (w : Walk) (words : List Text) → walk_fault s names w words ≡ [] → StopFine w.stopped
+      → StopFine (fold (walked s.rules names) w words).stopped
   unfolding walk_fault walked
   walk_fine w [] e f = f
   walk_fine w (word ∷ rest) e f =
@@ -105,15 +114,19 @@ abbrev is_given : Option (Text × List Row) → Bool
 is_given None = false
 is_given (Some g) = true
 
-pub entered_is : (a : App) → a.top.disable_help_subcommand ≡ false → (words : List Text) (given : Text × List Row) → built_fault a nothing_held words ≡ []
+pub entered_is : (a : App) → a.top.disable_help_subcommand ≡ false → (words : List Text) (given : Text × List Row)
+    → built_fault a nothing_held words ≡ []
     → entered a (stop_after a.top.rules (names_of a) words) ≡ Some given → Entered a given
 entered_is a has_help words given e is =
     let one = both_pass _ _ e in
     let two = both_pass _ _ one.1 in
-    by_stop (stop_after a.top.rules (names_of a) words) (walk_fine a.top has_help (names_of a) (walk_from nothing_held) words one.0 tt) two.0 is
+    by_stop (stop_after a.top.rules (names_of a) words) (walk_fine a.top has_help (names_of a) (walk_from nothing_held) words one.0 tt)
+    two.0 is
   where
-    by_shape : (name : Text) (rest : List Text) (o : Option Shape) → find (λ s. answers_to name (label_of s)) a.subs ≡ o → bytes_eq name (codes "help") ≡ false
-        → option_map_or (λ s. level_fault s [] nothing_held rest false []) o [] ≡ [] → option_map (λ s. rows_at s rest) o ≡ Some given → Entered a given
+    by_shape : (name : Text) (rest : List Text) (o : Option Shape) → find (λ s. answers_to name (label_of s)) a.subs ≡ o
+        → bytes_eq name (codes "help") ≡ false
+        → option_map_or (λ s. level_fault s [] nothing_held rest false []) o [] ≡ [] → option_map (λ s. rows_at s rest) o ≡ Some given
+        → Entered a given
     by_shape name rest None found fine e is = absurd (true≢false (sym (ap is_given is)))
     by_shape name rest (Some shape) found fine e is = record {
       shape = shape;

@@ -1,5 +1,5 @@
 -- Formats of lines, each behind -e.
-use Rattle.std.proofs.Common.{◌≡◌, ◌∙◌, false, true, cond, List, [], ◌∷◌, ◌++◌, Some, refl, sym, ap, subst, codes}
+use Rattle.std.proofs.Common.{◌≡◌, ◌∙◌, false, true, cond, List, [], ◌∷◌, ◌++◌, None, Some, refl, sym, ap, subst, codes}
 use Rattle.std.specs.Prelude.{fold}
 use Rattle.std.specs.List.{AllByRecursion}
 use Rattle.std.specs.Option.{option_map_or}
@@ -8,9 +8,10 @@ use Rattle.clap.specs.Kinds.{or_else}
 use Rattle.clap.specs.Lexer.{long_of}
 use Rattle.clap.specs.Simple.{Shape, subcommand_of}
 use Rattle.clap.specs.Walk.{Held, Row, Step, Text, Walk, after_step, finished, idle, long_or_other, next, nothing_held, option, short_or_plain, trailing, walk, walk_from, walked, word_met}
-use Rattle.clap.specs.Faults.{bundle_fault, flag_word_fault, step_fault, turn_fault, walk_fault, word_fault}
+use Rattle.clap.specs.Faults.{bundle_fault, fault_of, flag_word_fault, step_fault, turn_fault, walk_fault, word_fault}
 use Rattle.clap.proofs.OnLiterals.{clap_on_literals}
-use Rattle.sf_words.specs.Laws.{TakesFormats, with_flags}
+use Rattle.sf_words.specs.Hyphens.{begins_with_hyphen, clap_words, joined}
+use Rattle.sf_words.specs.Laws.{IsPlain, TakesFormats, with_flags}
 use Rattle.sf_words.specs.Line.{sf_app}
 use Rattle.sf_words.specs.Orders.{is_set, own_faults, texts_by, verb_text}
 use Rattle.sf_words.specs.declared.order.Verb.TheVariants.{Scan}
@@ -41,7 +42,8 @@ given before format = state (held (rows_with before) (format ∷ [])) idle 1
 
 -- ---- -e
 
-flag_step : (before : List Text) (format : Text) → walked scan.rules [] (given before format) (codes "-e") ≡ asked (rows_with (before ++ format ∷ []))
+flag_step : (before : List Text) (format : Text) → walked scan.rules [] (given before format) (codes "-e")
+    ≡ asked (rows_with (before ++ format ∷ []))
 unfolding clap_on_literals
 flag_step [] format = refl
 flag_step (first ∷ rest) format = refl
@@ -55,7 +57,8 @@ flag_fine before format = refl
 module _ (rows : List Row) (word : Text) (fact : NoFlag word) where
   met : word_met scan.rules [] false (option (codes "formats")) 1 word (held rows []) ≡ (held rows (word ∷ []), next idle)
   met =
-      ap (λ b. cond b (held rows [], trailing 1) (long_or_other scan.rules (option (codes "formats")) word (long_of word) (held rows []))) fact.dashes
+      ap (λ b. cond b (held rows [], trailing 1) (long_or_other scan.rules (option (codes "formats")) word (long_of word) (held rows [])))
+      fact.dashes
       ∙ ap (λ l. long_or_other scan.rules (option (codes "formats")) word l (held rows [])) fact.long
       ∙ ap (λ s. short_or_plain scan.rules (option (codes "formats")) word s (held rows [])) fact.short
 
@@ -97,11 +100,13 @@ pair_fine w rows word rest fact is flag others =
     (nothing (turn_fault scan [] (asked rows) word) _ (text_fine rows word fact)
     (subst (λ v. walk_fault scan [] v rest ≡ []) (sym (text_step rows word fact)) others)))
 
-formats_fine : (before : List Text) (format : Text) (more : List Text) → AllByRecursion NoFlag more → walk_fault scan [] (given before format) (with_flags more) ≡ []
+formats_fine : (before : List Text) (format : Text) (more : List Text) → AllByRecursion NoFlag more
+    → walk_fault scan [] (given before format) (with_flags more) ≡ []
 unfolding walk_fault
 formats_fine before format [] facts = refl
 formats_fine before format (other ∷ rest) facts =
-    pair_fine (given before format) (rows_with (before ++ format ∷ [])) other (with_flags rest) facts.0 (flag_step before format) (flag_fine before format)
+    pair_fine (given before format) (rows_with (before ++ format ∷ [])) other (with_flags rest) facts.0 (flag_step before format)
+    (flag_fine before format)
     (formats_fine (before ++ format ∷ []) other rest facts.1)
 
 -- ---- behind --lines
@@ -138,7 +143,8 @@ lines_fine format more facts =
 -- ---- at the end
 
 -- what holds of each end holds of all
-at_end : (P : Walk → Type 0) → ((before : List Text) (format : Text) → P (given before format)) → (before : List Text) (format : Text) (more : List Text)
+at_end : (P : Walk → Type 0) → ((before : List Text) (format : Text) → P (given before format))
+    → (before : List Text) (format : Text) (more : List Text)
     → P (end before format more)
 at_end P each before format [] = each before format
 at_end P each before format (other ∷ rest) = at_end P each (before ++ format ∷ []) other rest
@@ -163,15 +169,28 @@ unfolding clap_on_literals
 one_text [] format = refl
 one_text (first ∷ rest) format = refl
 
-all_texts : (before : List Text) (format : Text) (more : List Text) → texts_by Scan (finished scan.rules (end before format more).held) ≡ before ++ format ∷ more
+all_texts : (before : List Text) (format : Text) (more : List Text)
+    → texts_by Scan (finished scan.rules (end before format more).held) ≡ before ++ format ∷ more
 all_texts before format [] = one_text before format
 all_texts before format (other ∷ rest) = all_texts (before ++ format ∷ []) other rest ∙ append_assoc before (format ∷ []) (other ∷ rest)
+
+-- none of them is joined to its -e
+plain_hyphen : (word : Text) → IsPlain word → begins_with_hyphen word ≡ false
+plain_hyphen [] plain = refl
+plain_hyphen (b ∷ rest) plain = plain
+
+as_they_are : (formats : List Text) → AllByRecursion IsPlain formats → joined None (with_flags formats) ≡ with_flags formats
+as_they_are [] plain = refl
+as_they_are (word ∷ rest) plain =
+    ap (λ b. cond b ((codes "-e" ++ codes "=" ++ word) ∷ joined None (with_flags rest))
+    (codes "-e" ∷ word ∷ joined None (with_flags rest))) (plain_hyphen word plain.0)
+    ∙ ap (λ ws. codes "-e" ∷ word ∷ ws) (as_they_are rest plain.1)
 
 pub formats_taken : TakesFormats
 formats_taken format more plain = (
   record {
     taken =
-        none_at_fault (codes "scan" ∷ words) Scan rows (fine_by Scan words (end [] format more) is (lines_fine format more facts) checks) entered_is
+        none_at_fault (codes "scan" ∷ words) Scan rows fine entered_is
         (at_end (λ w. own_faults (verb_text Scan) (finished scan.rules w.held) ≡ []) own_fine [] format more);
     given = rows;
     is_given = entered_is;
@@ -195,5 +214,14 @@ formats_taken format more plain = (
     checks : checks_after scan false (end [] format more) ≡ []
     checks = at_end (λ w. checks_after scan false w ≡ []) checks_fine [] format more
 
-    entered_is : subcommand_of sf_app (codes "sf" ∷ codes "scan" ∷ words) ≡ Some (verb_text Scan, rows)
-    entered_is = entered_by Scan words (end [] format more) rows is refl
+    same : clap_words (codes "scan" ∷ words) ≡ codes "scan" ∷ words
+    same = ap (λ ws. codes "scan" ∷ codes "--lines" ∷ ws) (as_they_are (format ∷ more) plain)
+
+    fine : fault_of sf_app (codes "sf" ∷ clap_words (codes "scan" ∷ words)) ≡ []
+    fine = subst (λ ws. fault_of sf_app (codes "sf" ∷ ws) ≡ []) (sym same)
+        (fine_by Scan words (end [] format more) is (lines_fine format more facts) checks)
+
+    entered_is : subcommand_of sf_app (codes "sf" ∷ clap_words (codes "scan" ∷ words)) ≡ Some (verb_text Scan, rows)
+    entered_is =
+        subst (λ ws. subcommand_of sf_app (codes "sf" ∷ ws) ≡ Some (verb_text Scan, rows)) (sym same)
+        (entered_by Scan words (end [] format more) rows is refl)

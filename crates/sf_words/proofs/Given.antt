@@ -27,18 +27,21 @@ use Rattle.sf_words.proofs.Walking.{both_pass}
 use Rattle.sf_words.specs.Taken.{AllowsLines, HasWords, IsOneAtMost, IsTaken, IsWithin}
 
 -- a text that was read, or another
-pub text_read : (o : Option (Bor Text)) (other text : Bor Text) (given : Option Text) → text ≡ unwrap_or o other → option_map (λ s. s.now) o ≡ given
+pub text_read : (o : Option (Bor Text)) (other text : Bor Text) (given : Option Text) → text ≡ unwrap_or o other
+    → option_map (λ s. s.now) o ≡ given
     → text.now ≡ unwrap_or given other.now
 text_read None other text given is same = ap (λ s. s.now) is ∙ ap (λ g. unwrap_or g other.now) same
 text_read (Some s) other text given is same = ap (λ s. s.now) is ∙ ap (λ g. unwrap_or g other.now) same
 
 -- where the argument has no entry it was given nothing
-pub none_given : {X : Type 0} (g : X → List Text) (r : Option X) (f : Found) (id : Text) → option_map g r ≡ option_map raw_values (matched_of f id) → r ≡ None
+pub none_given : {X : Type 0} (g : X → List Text) (r : Option X) (f : Found) (id : Text)
+    → option_map g r ≡ option_map raw_values (matched_of f id) → r ≡ None
     → [] ≡ values_at id (rows_of f)
 none_given g r f id is none =
     ap (λ o. unwrap_or (option_map g o) []) (sym none) ∙ ap (λ o. unwrap_or o []) (is ∙ raw_values-rows f id)
 
-pub some_given : {X : Type 0} (g : X → List Text) (r : Option X) (x : X) (f : Found) (id : Text) → option_map g r ≡ option_map raw_values (matched_of f id)
+pub some_given : {X : Type 0} (g : X → List Text) (r : Option X) (x : X) (f : Found) (id : Text)
+    → option_map g r ≡ option_map raw_values (matched_of f id)
     → r ≡ Some x → g x ≡ values_at id (rows_of f)
 some_given g r x f id is some =
     ap (λ o. unwrap_or (option_map g o) []) (sym some) ∙ ap (λ o. unwrap_or o []) (is ∙ raw_values-rows f id)
@@ -61,7 +64,8 @@ number_read bits low high other above below fits E G parses (Some t) r within no
     rw got.1 (parsed.1, got.2, got.3)
 
 -- whether an option without a value was given
-pub flag_read : (E : Type 0) (o : Option Text) (r : Option Bool) → (o ≡ None → r ≡ None) → ((t : Text) → o ≡ Some t → ReadsOne (ParsesBool {E = E}) t r)
+pub flag_read : (E : Type 0) (o : Option Text) (r : Option Bool) → (o ≡ None → r ≡ None)
+    → ((t : Text) → o ≡ Some t → ReadsOne (ParsesBool {E = E}) t r)
     → unwrap_or r false ≡ is_true o
 flag_read E None r none value = ap (λ x. unwrap_or x false) (none refl)
 flag_read E (Some t) r none value = by_text t r (value t refl)
@@ -98,7 +102,8 @@ verb_back Check = refl
 verb_back Copy = refl
 
 -- what is known of a subcommand that was taken, under any name of its verb
-pub taken_at : (entered : Option (Text × List Row)) → (taken : IsTaken entered) → (verb : Verb) (given : List Row) → entered ≡ Some (verb_text verb, given)
+pub taken_at : (entered : Option (Text × List Row)) → (taken : IsTaken entered) → (verb : Verb) (given : List Row)
+    → entered ≡ Some (verb_text verb, given)
     → AllowsLines verb given × HasWords verb given
 taken_at entered taken verb given is =
     let same = ap (value_or (verb_text verb, given)) (sym taken.is_given ∙ is) in
@@ -118,9 +123,11 @@ no_fault e = omega (arith, ap length e)
 -- nothing is at fault in formats
 abbrev NoFault : List Text → List Text → Type 0
 NoFault words others =
-    cond (is_full words) (cond (is_full others) (kind.ArgumentConflict ∷ []) []) (cond (is_full others) [] (kind.MissingRequiredArgument ∷ [])) ≡ []
+    cond (is_full words) (cond (is_full others) (kind.ArgumentConflict ∷ []) [])
+    (cond (is_full others) [] (kind.MissingRequiredArgument ∷ [])) ≡ []
 
-one_format : (words others : List Text) → IsOneAtMost words → is_full others ≡ false → NoFault words others → HasTexts Scan (words ++ others)
+one_format : (words others : List Text) → IsOneAtMost words → is_full others ≡ false → NoFault words others
+    → HasTexts Scan (words ++ others)
 one_format [] [] one none fine = absurd (no_fault fine)
 one_format (word ∷ []) [] one none fine = tt
 one_format (word ∷ next ∷ rest) [] one none fine = elim one [ ]
@@ -132,7 +139,8 @@ formats_for [] (text ∷ rest) options fine = tt
 formats_for (word ∷ more) others options fine = tt
 
 -- without --lines there is no option of lines
-none_without : (lines option : Bool) → lines ≡ false → cond (not lines && option) (kind.MissingRequiredArgument ∷ []) [] ≡ [] → option ≡ false
+none_without : (lines option : Bool) → lines ≡ false → cond (not lines && option) (kind.MissingRequiredArgument ∷ []) [] ≡ []
+    → option ≡ false
 none_without true option off fine = absurd (true≢false off)
 none_without false true off fine = absurd (no_fault fine)
 none_without false false off fine = refl
@@ -142,7 +150,8 @@ first_false true b e = e
 first_false false b e = refl
 
 -- a subcommand in which the command finds nothing at fault has as many texts as its verb wants
-pub enough_for : (verb : Verb) (rows : List Row) (lines : Option LineOptions) → AllowsLines verb rows → HasWords verb rows → HasLines rows lines
+pub enough_for : (verb : Verb) (rows : List Row) (lines : Option LineOptions) → AllowsLines verb rows → HasWords verb rows
+    → HasLines rows lines
     → own_faults (verb_text verb) rows ≡ [] → HasTextsFor lines verb (texts_by verb rows)
 enough_for Show rows None allowed words has fine = words
 enough_for Show rows (Some options) allowed words has fine = absurd (true≢false (sym has.0 ∙ allowed))
@@ -175,7 +184,8 @@ among_first found [] others is = elim is [ ]
 among_first found (k ∷ ks) others is = is
 
 -- what the error of a parse is told as
-pub refused_by : (found : ErrorKind) (kinds : Kinds) (fault : WordsFault) → IsRefusalOf found fault → (found ≡ kind.OutOfMemory) ⊎ IsAmong found kinds → IsRefusal kinds fault
+pub refused_by : (found : ErrorKind) (kinds : Kinds) (fault : WordsFault) → IsRefusalOf found fault
+    → (found ≡ kind.OutOfMemory) ⊎ IsAmong found kinds → IsRefusal kinds fault
 refused_by found kinds (Help text) told (inl memory) = absurd (true≢false (sym told ∙ ap is_request memory))
 refused_by found kinds (Help text) told (inr among) = (found, among, told)
 refused_by found kinds (Usage text) told (inl memory) = absurd (told.1 memory)

@@ -5,5 +5,6 @@ pub mod Given
 pub mod Lines
 pub mod Plain
 pub mod Rows
+pub mod Table
 pub mod Taken
 pub mod Walking

@@ -13,6 +13,7 @@ use Rattle.clap.specs.Faults.{bundle_fault, entered_fault, fault_of, flag_word_f
 use Rattle.clap.proofs.FaultLemmas.{stopped_fault}
 use Rattle.clap.proofs.OnLiterals.{clap_on_literals}
 use Rattle.clap.proofs.WalkLemmas.{walk_stopped}
+use Rattle.sf_words.specs.Hyphens.{asks_format, clap_words, joined}
 use Rattle.sf_words.specs.Laws.{IsPlain, IsTakenAs, TakesPlainTexts}
 use Rattle.sf_words.specs.Line.{check_app, copy_app, print_app, scan_app, sf_app, show_app}
 use Rattle.sf_words.specs.Orders.{own_faults, texts_by, verb_text}
@@ -39,7 +40,8 @@ abbrev pub state : Held → Waiting → ℕ → Walk
 state held waiting position = record { held = held; waiting = waiting; position = position; is_trailing = false; stopped = None }
 
 module _ (word : Text) (fact : NoFlag word) (h : Held) where
-  met : (c : List Rule) (waiting : Waiting) (position : ℕ) → is_calm waiting ≡ true → word_met c [] false waiting position word h ≡ (h, value)
+  met : (c : List Rule) (waiting : Waiting) (position : ℕ) → is_calm waiting ≡ true
+      → word_met c [] false waiting position word h ≡ (h, value)
   met c idle position calm =
       ap (λ b. cond b (h, trailing position) (long_or_other c idle word (long_of word) h)) fact.dashes
       ∙ ap (λ l. long_or_other c idle word l h) fact.long
@@ -65,9 +67,11 @@ module _ (word : Text) (fact : NoFlag word) (h : Held) where
   step : (c : List Rule) (waiting : Waiting) (position : ℕ) → is_calm waiting ≡ true
       → walked c [] (state h waiting position) word ≡ to_positional c (arg_by_index c position) word (state h waiting position) h
   unfolding walked
-  step c waiting position calm = ap (λ (m : Held × Step). after_step c word (state h waiting position) m.0 m.1) (met c waiting position calm)
+  step c waiting position calm = ap (λ (m : Held × Step). after_step c word (state h waiting position) m.0 m.1)
+      (met c waiting position calm)
 
-  turn : (s : Shape) (waiting : Waiting) (position : ℕ) → is_calm waiting ≡ true → step_fault s position h value ≡ [] → turn_fault s [] (state h waiting position) word ≡ []
+  turn : (s : Shape) (waiting : Waiting) (position : ℕ) → is_calm waiting ≡ true → step_fault s position h value ≡ []
+      → turn_fault s [] (state h waiting position) word ≡ []
   turn s waiting position calm goes =
       nothing (word_fault s [] false waiting word h) _ (fine s waiting calm)
       (subst (λ (m : Held × Step). step_fault s position m.0 m.1 ≡ []) (sym (met s.rules waiting position calm)) goes)
@@ -85,7 +89,14 @@ level Check = level_of check_app.top
 level Copy = level_of copy_app.top
 
 abbrev stopped_at : Verb → List Text → Walk
-stopped_at verb words = record { held = nothing_held; waiting = idle; position = 1; is_trailing = false; stopped = Some (verb_text verb, words) }
+stopped_at verb words = record {
+  held = nothing_held;
+  waiting = idle;
+  position = 1;
+  is_trailing = false;
+  stopped =
+      Some (verb_text verb, words);
+}
 
 first : (verb : Verb) → walked top.rules names (walk_from nothing_held) (verb_text verb) ≡ stopped_at verb []
 unfolding clap_on_literals
@@ -105,13 +116,15 @@ first_fine Copy = refl
 
 top_walk : (verb : Verb) (words : List Text) → walk top.rules names nothing_held (verb_text verb ∷ words) ≡ stopped_at verb words
 top_walk verb words =
-    ap (λ w. fold (walked top.rules names) w words) (first verb) ∙ sym (walk_stopped top.rules names (walk_from nothing_held) (verb_text verb) [] words)
+    ap (λ w. fold (walked top.rules names) w words) (first verb) ∙ sym
+    (walk_stopped top.rules names (walk_from nothing_held) (verb_text verb) [] words)
 
 top_fine : (verb : Verb) (words : List Text) → walk_fault top names (walk_from nothing_held) (verb_text verb ∷ words) ≡ []
 unfolding walk_fault
 top_fine verb words =
     nothing (turn_fault top names (walk_from nothing_held) (verb_text verb)) _ (first_fine verb)
-    (subst (λ w. walk_fault top names w words ≡ []) (sym (first verb)) (stopped_fault top names (walk_from nothing_held) (verb_text verb, []) words))
+    (subst (λ w. walk_fault top names w words ≡ []) (sym (first verb))
+    (stopped_fault top names (walk_from nothing_held) (verb_text verb, []) words))
 
 top_checks : (verb : Verb) (words : List Text) → checks_after top true (stopped_at verb words) ≡ []
 unfolding clap_on_literals
@@ -124,7 +137,8 @@ enters Print words = refl
 enters Check words = refl
 enters Copy words = refl
 
-enters_fine : (verb : Verb) (words : List Text) → level_fault (level verb) [] nothing_held words false [] ≡ [] → entered_fault (built sf_app) (Some (verb_text verb, words)) ≡ []
+enters_fine : (verb : Verb) (words : List Text) → level_fault (level verb) [] nothing_held words false [] ≡ []
+    → entered_fault (built sf_app) (Some (verb_text verb, words)) ≡ []
 enters_fine Show words e = e
 enters_fine Scan words e = e
 enters_fine Print words e = e
@@ -132,7 +146,8 @@ enters_fine Check words e = e
 enters_fine Copy words e = e
 
 -- a level whose walk is fine, and so are its checks
-level_fine : (s : Shape) (words : List Text) (end : Walk) → walk s.rules [] nothing_held words ≡ end → walk_fault s [] (walk_from nothing_held) words ≡ []
+level_fine : (s : Shape) (words : List Text) (end : Walk) → walk s.rules [] nothing_held words ≡ end
+    → walk_fault s [] (walk_from nothing_held) words ≡ []
     → checks_after s false end ≡ [] → level_fault s [] nothing_held words false [] ≡ []
 level_fine s words end is walk_fine checks =
     nothing (walk_fault s [] (walk_from nothing_held) words) _ walk_fine (subst (λ w. checks_after s false w ≡ []) (sym is) checks)
@@ -146,13 +161,16 @@ pub fine_by : (verb : Verb) (words : List Text) (end : Walk) → walk (level ver
     → fault_of sf_app (codes "sf" ∷ verb_text verb ∷ words) ≡ []
 fine_by verb words end is walk_fine checks =
     nothing (walk_fault top names (walk_from nothing_held) (verb_text verb ∷ words)) _ (top_fine verb words)
-    (subst (λ w. or_else (entered_fault (built sf_app) w.stopped) (checks_after top (is_some (entered (built sf_app) w.stopped)) w) ≡ []) (sym (top_walk verb words))
-    (nothing (entered_fault (built sf_app) (Some (verb_text verb, words))) _ (enters_fine verb words (level_fine (level verb) words end is walk_fine checks))
+    (subst (λ w. or_else (entered_fault (built sf_app) w.stopped) (checks_after top (is_some (entered (built sf_app) w.stopped)) w) ≡ [])
+    (sym (top_walk verb words))
+    (nothing (entered_fault (built sf_app) (Some (verb_text verb, words))) _
+    (enters_fine verb words (level_fine (level verb) words end is walk_fine checks))
     (subst (λ o. checks_after top (is_some o) (stopped_at verb words) ≡ []) (sym (enters verb words)) (top_checks verb words))))
 
 -- and its rows are those of its walk
 pub entered_by : (verb : Verb) (words : List Text) (end : Walk) (rows : List Row) → walk (level verb).rules [] nothing_held words ≡ end
-    → rows_named verb (finished (level verb).rules end.held) rows → subcommand_of sf_app (codes "sf" ∷ verb_text verb ∷ words) ≡ Some (verb_text verb, rows)
+    → rows_named verb (finished (level verb).rules end.held) rows
+    → subcommand_of sf_app (codes "sf" ∷ verb_text verb ∷ words) ≡ Some (verb_text verb, rows)
 entered_by verb words end rows is named =
     ap (λ w. entered (built sf_app) w.stopped) (top_walk verb words)
     ∙ enters verb words
@@ -162,13 +180,26 @@ entered_by verb words end rows is named =
 taken_by : (verb : Verb) (words texts : List Text) (end : Walk) (rows : List Row) → walk (level verb).rules [] nothing_held words ≡ end
     → walk_fault (level verb) [] (walk_from nothing_held) words ≡ [] → checks_after (level verb) false end ≡ []
     → rows_named verb (finished (level verb).rules end.held) rows → own_faults (verb_text verb) rows ≡ [] → texts_by verb rows ≡ texts
-    → IsTakenAs (verb_text verb ∷ words) verb texts
-taken_by verb words texts end rows is walk_fine checks named own are = record {
-  taken = none_at_fault (verb_text verb ∷ words) verb rows (fine_by verb words end is walk_fine checks) (entered_by verb words end rows is named) own;
-  given = rows;
-  is_given = entered_by verb words end rows is named;
-  texts_are = are;
-}
+    → clap_words (verb_text verb ∷ words) ≡ verb_text verb ∷ words → IsTakenAs (verb_text verb ∷ words) verb texts
+taken_by verb words texts end rows is walk_fine checks named own are same =
+    let entered = subst (λ ws. subcommand_of sf_app (codes "sf" ∷ ws) ≡ Some (verb_text verb, rows)) (sym same)
+    (entered_by verb words end rows is named) in
+    let fine = subst (λ ws. fault_of sf_app (codes "sf" ∷ ws) ≡ []) (sym same) (fine_by verb words end is walk_fine checks) in
+    record {
+      taken = none_at_fault (verb_text verb ∷ words) verb rows fine entered own;
+      given = rows;
+      is_given = entered;
+      texts_are = are;
+    }
+
+-- one word of a scan is handed on as it is
+one_word : (w : Text) → joined None (w ∷ []) ≡ w ∷ []
+one_word w = go (asks_format w) (bytes_eq w (codes "--"))
+  where
+    go : (asks dashes : Bool) → cond asks (w ∷ []) (w ∷ cond dashes [] []) ≡ w ∷ []
+    go true dashes = refl
+    go false true = refl
+    go false false = refl
 
 -- ---- the five
 
@@ -180,26 +211,29 @@ show_walk w fact = step w fact nothing_held (level Show).rules idle 1 refl
 
 show_fine : (w : Text) → NoFlag w → walk_fault (level Show) [] (walk_from nothing_held) (w ∷ []) ≡ []
 unfolding walk_fault
-show_fine w fact = nothing (turn_fault (level Show) [] (walk_from nothing_held) w) [] (turn w fact nothing_held (level Show) idle 1 refl refl) refl
+show_fine w fact = nothing (turn_fault (level Show) [] (walk_from nothing_held) w) []
+    (turn w fact nothing_held (level Show) idle 1 refl refl) refl
 
 show_plain : (w : Text) → NoFlag w → IsTakenAs (codes "show" ∷ w ∷ []) Show (w ∷ [])
 unfolding clap_on_literals
 show_plain w fact =
     taken_by Show (w ∷ []) (w ∷ []) (one_pending (codes "FORMAT") w [] 2)
-    (finished (level Show).rules (one_pending (codes "FORMAT") w [] 2).held) (show_walk w fact) (show_fine w fact) refl refl refl refl
+    (finished (level Show).rules (one_pending (codes "FORMAT") w [] 2).held) (show_walk w fact) (show_fine w fact) refl refl refl refl refl
 
 scan_walk : (w : Text) → NoFlag w → walk (level Scan).rules [] nothing_held (w ∷ []) ≡ one_pending (codes "FORMAT") w [] 2
 scan_walk w fact = step w fact nothing_held (level Scan).rules idle 1 refl
 
 scan_fine : (w : Text) → NoFlag w → walk_fault (level Scan) [] (walk_from nothing_held) (w ∷ []) ≡ []
 unfolding walk_fault
-scan_fine w fact = nothing (turn_fault (level Scan) [] (walk_from nothing_held) w) [] (turn w fact nothing_held (level Scan) idle 1 refl refl) refl
+scan_fine w fact = nothing (turn_fault (level Scan) [] (walk_from nothing_held) w) []
+    (turn w fact nothing_held (level Scan) idle 1 refl refl) refl
 
 scan_plain : (w : Text) → NoFlag w → IsTakenAs (codes "scan" ∷ w ∷ []) Scan (w ∷ [])
 unfolding clap_on_literals
 scan_plain w fact =
     taken_by Scan (w ∷ []) (w ∷ []) (one_pending (codes "FORMAT") w [] 2)
     (finished (level Scan).rules (one_pending (codes "FORMAT") w [] 2).held) (scan_walk w fact) (scan_fine w fact) refl refl refl refl
+    (ap (λ ws. codes "scan" ∷ ws) (one_word w))
 
 -- PRINT and then SCAN
 abbrev two_texts : Text → Text → Walk
@@ -222,7 +256,7 @@ check_plain : (p s : Text) → NoFlag p → NoFlag s → IsTakenAs (codes "check
 unfolding clap_on_literals
 check_plain p s print scan =
     taken_by Check (p ∷ s ∷ []) (p ∷ s ∷ []) (two_texts p s) (finished (level Check).rules (two_texts p s).held)
-    (check_walk p s print scan) (check_fine p s print scan) refl refl refl refl
+    (check_walk p s print scan) (check_fine p s print scan) refl refl refl refl refl
 
 copy_walk : (p s : Text) → NoFlag p → NoFlag s → walk (level Copy).rules [] nothing_held (p ∷ s ∷ []) ≡ two_texts p s
 copy_walk p s print scan =
@@ -241,7 +275,7 @@ copy_plain : (p s : Text) → NoFlag p → NoFlag s → IsTakenAs (codes "copy" 
 unfolding clap_on_literals
 copy_plain p s print scan =
     taken_by Copy (p ∷ s ∷ []) (p ∷ s ∷ []) (two_texts p s) (finished (level Copy).rules (two_texts p s).held)
-    (copy_walk p s print scan) (copy_fine p s print scan) refl refl refl refl
+    (copy_walk p s print scan) (copy_fine p s print scan) refl refl refl refl refl
 
 -- ---- print, with any number of values
 
@@ -250,42 +284,51 @@ print_walk w fact = step w fact nothing_held (level Print).rules idle 1 refl
 
 print_fine : (w : Text) → NoFlag w → walk_fault (level Print) [] (walk_from nothing_held) (w ∷ []) ≡ []
 unfolding walk_fault
-print_fine w fact = nothing (turn_fault (level Print) [] (walk_from nothing_held) w) [] (turn w fact nothing_held (level Print) idle 1 refl refl) refl
+print_fine w fact = nothing (turn_fault (level Print) [] (walk_from nothing_held) w) []
+    (turn w fact nothing_held (level Print) idle 1 refl refl) refl
 
 format_plain : (w : Text) → NoFlag w → IsTakenAs (codes "print" ∷ w ∷ []) Print (w ∷ [])
 unfolding clap_on_literals
 format_plain w fact =
     taken_by Print (w ∷ []) (w ∷ []) (one_pending (codes "FORMAT") w [] 2)
-    (finished (level Print).rules (one_pending (codes "FORMAT") w [] 2).held) (print_walk w fact) (print_fine w fact) refl refl refl refl
+    (finished (level Print).rules (one_pending (codes "FORMAT") w [] 2).held) (print_walk w fact)
+    (print_fine w fact) refl refl refl refl refl
 
 abbrev values_held : Text → List Text → Held
 values_held format values = record { rows = row (codes "FORMAT") (format ∷ []) ∷ []; pending = Some (codes "VALUES", values); skip = 0 }
 
 more : (format : Text) (values rest : List Text) → AllByRecursion NoFlag rest
-    → fold (walked (level Print).rules []) (state (values_held format values) positional 2) rest ≡ state (values_held format (values ++ rest)) positional 2
+    → fold (walked (level Print).rules []) (state (values_held format values) positional 2) rest
+    ≡ state (values_held format (values ++ rest)) positional 2
 more format values [] facts = ap (λ vs. state (values_held format vs) positional 2) (sym (append-nil values))
 more format values (word ∷ rest) facts =
-    ap (λ w. fold (walked (level Print).rules []) w rest) (step word facts.0 (values_held format values) (level Print).rules positional 2 refl)
+    ap (λ w. fold (walked (level Print).rules []) w rest) (step word facts.0 (values_held format values)
+    (level Print).rules positional 2 refl)
     ∙ more format (values ++ word ∷ []) rest facts.1
     ∙ ap (λ vs. state (values_held format vs) positional 2) (append_assoc values (word ∷ []) rest)
 
-more_fine : (format : Text) (values rest : List Text) → AllByRecursion NoFlag rest → walk_fault (level Print) [] (state (values_held format values) positional 2) rest ≡ []
+more_fine : (format : Text) (values rest : List Text) → AllByRecursion NoFlag rest
+    → walk_fault (level Print) [] (state (values_held format values) positional 2) rest ≡ []
 unfolding walk_fault
 more_fine format values [] facts = refl
 more_fine format values (word ∷ rest) facts =
     nothing (turn_fault (level Print) [] (state (values_held format values) positional 2) word) _
     (turn word facts.0 (values_held format values) (level Print) positional 2 refl refl)
-    (subst (λ w. walk_fault (level Print) [] w rest ≡ []) (sym (step word facts.0 (values_held format values) (level Print).rules positional 2 refl))
+    (subst (λ w. walk_fault (level Print) [] w rest ≡ []) (sym (step word facts.0 (values_held format values)
+    (level Print).rules positional 2 refl))
     (more_fine format (values ++ word ∷ []) rest facts.1))
 
 values_walk : (f v : Text) (rest : List Text) → NoFlag f → NoFlag v → AllByRecursion NoFlag rest
     → walk (level Print).rules [] nothing_held (f ∷ v ∷ rest) ≡ state (values_held f (v ∷ rest)) positional 2
 values_walk f v rest format first_value others =
-    ap (λ w. fold (walked (level Print).rules []) (walked (level Print).rules [] w v) rest) (step f format nothing_held (level Print).rules idle 1 refl)
-    ∙ ap (λ w. fold (walked (level Print).rules []) w rest) (step v first_value (one_pending (codes "FORMAT") f [] 2).held (level Print).rules idle 2 refl)
+    ap (λ w. fold (walked (level Print).rules []) (walked (level Print).rules [] w v) rest)
+    (step f format nothing_held (level Print).rules idle 1 refl)
+    ∙ ap (λ w. fold (walked (level Print).rules []) w rest) (step v first_value (one_pending (codes "FORMAT") f [] 2).held
+    (level Print).rules idle 2 refl)
     ∙ more f (v ∷ []) rest others
 
-values_fine : (f v : Text) (rest : List Text) → NoFlag f → NoFlag v → AllByRecursion NoFlag rest → walk_fault (level Print) [] (walk_from nothing_held) (f ∷ v ∷ rest) ≡ []
+values_fine : (f v : Text) (rest : List Text) → NoFlag f → NoFlag v → AllByRecursion NoFlag rest
+    → walk_fault (level Print) [] (walk_from nothing_held) (f ∷ v ∷ rest) ≡ []
 unfolding walk_fault
 values_fine f v rest format first_value others =
     nothing (turn_fault (level Print) [] (walk_from nothing_held) f) _ (turn f format nothing_held (level Print) idle 1 refl refl)
@@ -293,15 +336,17 @@ values_fine f v rest format first_value others =
     (sym (step f format nothing_held (level Print).rules idle 1 refl))
     (nothing (turn_fault (level Print) [] (one_pending (codes "FORMAT") f [] 2) v) _
     (turn v first_value (one_pending (codes "FORMAT") f [] 2).held (level Print) idle 2 refl refl)
-    (subst (λ w. walk_fault (level Print) [] w rest ≡ []) (sym (step v first_value (one_pending (codes "FORMAT") f [] 2).held (level Print).rules idle 2 refl))
+    (subst (λ w. walk_fault (level Print) [] w rest ≡ []) (sym (step v first_value (one_pending (codes "FORMAT") f [] 2).held
+    (level Print).rules idle 2 refl))
     (more_fine f (v ∷ []) rest others))))
 
 values_plain : (f v : Text) (rest : List Text) → NoFlag f → NoFlag v → AllByRecursion NoFlag rest → length (f ∷ v ∷ rest) < 2 ^ 64
     → IsTakenAs (codes "print" ∷ f ∷ v ∷ rest) Print (f ∷ v ∷ rest)
 values_plain f v rest format first_value others few =
     taken_by Print (f ∷ v ∷ rest) (f ∷ v ∷ rest) (state (values_held f (v ∷ rest)) positional 2)
-    (finished (level Print).rules (values_held f (v ∷ rest))) (values_walk f v rest format first_value others) (values_fine f v rest format first_value others) (values_checks f v rest (omega (arith, few))) refl
-    (values_own f v rest) (texts_of_values f v rest)
+    (finished (level Print).rules (values_held f (v ∷ rest))) (values_walk f v rest format first_value others)
+    (values_fine f v rest format first_value others) (values_checks f v rest (omega (arith, few))) refl
+    (values_own f v rest) (texts_of_values f v rest) refl
 
 -- ---- all of them
 

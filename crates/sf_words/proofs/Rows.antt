@@ -46,7 +46,8 @@ module _ {X : Type 0} where
       or_else_x None = x
       or_else_x (Some z) = z
 
-      go : (find p ys ≡ Some x → (p x ≡ true) × In x ys) → (b : Bool) → p y ≡ b → cond b (Some y) (find p ys) ≡ Some x → (p x ≡ true) × In x (y ∷ ys)
+      go : (find p ys ≡ Some x → (p x ≡ true) × In x ys) → (b : Bool) → p y ≡ b → cond b (Some y) (find p ys) ≡ Some x
+          → (p x ≡ true) × In x (y ∷ ys)
       go later true passes e =
           let same : y ≡ x = ap or_else_x e in
           (subst (λ z. p z ≡ true) same passes, inl (sym same))
@@ -68,21 +69,25 @@ module _ {X : Type 0} where
 
 module _ (P : Row → Type 0) (id : Text) (change : Row → List Row) (missing : List Row) where
   -- what each row of the id becomes, and what is added
-  pub all_at_row : ((r : Row) → bytes_eq r.id id ≡ true → P r → AllByRecursion P (change r)) → AllByRecursion P missing → (rows : List Row) → AllByRecursion P rows
+  pub all_at_row : ((r : Row) → bytes_eq r.id id ≡ true → P r → AllByRecursion P (change r)) → AllByRecursion P missing → (rows : List Row)
+      → AllByRecursion P rows
       → AllByRecursion P (at_row id change missing rows)
   all_at_row changed added [] each = added
   all_at_row changed added (r ∷ rs) each = go (all_at_row changed added rs each.1) (bytes_eq r.id id) refl
     where
-      go : AllByRecursion P (at_row id change missing rs) → (b : Bool) → bytes_eq r.id id ≡ b → AllByRecursion P (cond b (change r ++ rs) (r ∷ at_row id change missing rs))
+      go : AllByRecursion P (at_row id change missing rs) → (b : Bool) → bytes_eq r.id id ≡ b
+          → AllByRecursion P (cond b (change r ++ rs) (r ∷ at_row id change missing rs))
       go later true same = all_append P (change r) rs (changed r same each.0) each.1
       go later false same = (each.0, later)
 
 -- where no row has the id, the new one comes last
-pub at_row_new : (id : Text) (change : Row → List Row) (missing rows : List Row) → has_row id rows ≡ false → at_row id change missing rows ≡ rows ++ missing
+pub at_row_new : (id : Text) (change : Row → List Row) (missing rows : List Row) → has_row id rows ≡ false
+    → at_row id change missing rows ≡ rows ++ missing
 at_row_new id change missing [] no_row = refl
 at_row_new id change missing (r ∷ rs) no_row = go (at_row_new id change missing rs) (bytes_eq r.id id) no_row
   where
-    go : (has_row id rs ≡ false → at_row id change missing rs ≡ rs ++ missing) → (b : Bool) → (b || has_row id rs) ≡ false → cond b (change r ++ rs) (r ∷ at_row id change missing rs) ≡ r ∷ rs ++ missing
+    go : (has_row id rs ≡ false → at_row id change missing rs ≡ rs ++ missing) → (b : Bool) → (b || has_row id rs) ≡ false
+        → cond b (change r ++ rs) (r ∷ at_row id change missing rs) ≡ r ∷ rs ++ missing
     go later true e = absurd (true≢false e)
     go later false e = ap (λ l. r ∷ l) (later e)
 
@@ -147,13 +152,19 @@ one_wanted n e = sym (eqb-true 1 n (go (n == 0) (1 == n) e))
 
 module _ (c : List Rule) where
   -- a row that was made of one value
-  made : (a : Rule) → In a c → (values : List Text) (source : ValueSource) → length values ≡ 1 → values_fault a values ≡ [] → Fits c (new_row a None source values)
+  made : (a : Rule) → In a c → (values : List Text) (source : ValueSource) → length values ≡ 1 → values_fault a values ≡ []
+      → Fits c (new_row a None source values)
   made a a_in [] source one e = absurd (omega (arith, one))
   made a a_in (v ∷ []) source one e = record {
     rule = a;
     is_in = a_in;
     named = refl;
-    one = λ _. record { text = v; values = refl; passes = (both_pass (value_kinds a.ignore_case (parser_of_value a.parser) v) [] e).0; reading = refl };
+    one = λ _. record {
+      text = v;
+      values = refl;
+      passes = (both_pass (value_kinds a.ignore_case (parser_of_value a.parser) v) [] e).0;
+      reading = refl;
+    };
   }
   made a a_in (v ∷ w ∷ vs) source one e = absurd (omega (arith, one))
 
@@ -169,7 +180,8 @@ module _ (c : List Rule) where
     same_id r same = (bytes_eq-Decides r.id a.id).0 same
 
     -- of a rule that reads one value
-    used_one : reads_one a ≡ true → (values : List Text) (rows : List Row) → use_fault false a values rows ≡ [] → Good rows → Good (used a values rows)
+    used_one : reads_one a ≡ true → (values : List Text) (rows : List Row) → use_fault false a values rows ≡ [] → Good rows
+        → Good (used a values rows)
     used_one one values rows e g =
         let parts = both (is_set_action (action_of a)) _ one in
         let ends = both ((unwrap_or_range a.range).start_inclusive == 1) _ parts.1 in
@@ -191,7 +203,8 @@ module _ (c : List Rule) where
             ≡ rows ++ new_row a None CommandLine vs ∷ []
         appended vs no_row =
             let kept : without a.id rows ≡ rows = at_row_new a.id (λ _. []) [] rows no_row ∙ append-nil rows in
-            ap (with_values a.id (reading_by a) CommandLine vs) kept ∙ at_row_new a.id (more_values CommandLine vs) (new_row a None CommandLine vs ∷ []) rows no_row
+            ap (with_values a.id (reading_by a) CommandLine vs) kept ∙ at_row_new a.id (more_values CommandLine vs)
+            (new_row a None CommandLine vs ∷ []) rows no_row
 
         by_values : (vs : List Text) → length vs ≡ 1 → action_fault action.Set false a (values_or_missing a vs) rows ≡ []
             → Good (with_values a.id (reading_by a) CommandLine (values_or_missing a vs) (without a.id rows))
@@ -202,7 +215,8 @@ module _ (c : List Rule) where
             (all_append (Fits c) rows (new_row a None CommandLine (v ∷ vs) ∷ []) g (made a a_in (v ∷ vs) CommandLine count two.1, tt))
 
     -- of another rule
-    used_many : reads_one a ≡ false → (x : ArgAction) (values : List Text) (rows : List Row) → Good rows → Good (used_as x a.id (reading_by a) values rows)
+    used_many : reads_one a ≡ false → (x : ArgAction) (values : List Text) (rows : List Row) → Good rows
+        → Good (used_as x a.id (reading_by a) values rows)
     used_many many = by_action
       where
         fits : (r : Row) → r.id ≡ a.id → Fits c r
@@ -211,7 +225,8 @@ module _ (c : List Rule) where
         removed : (rows : List Row) → Good rows → Good (without a.id rows)
         removed rows g = all_at_row (Fits c) a.id (λ _. []) [] (λ r same f. tt) tt rows g
 
-        with_more : (source : ValueSource) (values : List Text) (rows : List Row) → Good rows → Good (with_values a.id (reading_by a) source values rows)
+        with_more : (source : ValueSource) (values : List Text) (rows : List Row) → Good rows
+            → Good (with_values a.id (reading_by a) source values rows)
         with_more source values rows g =
             all_at_row (Fits c) a.id (more_values source values) (new_row a None source values ∷ [])
             (λ r same f. (fits (record r { values = r.values ++ values; source = Some (stronger r.source source) }) (same_id r same), tt))
@@ -220,7 +235,15 @@ module _ (c : List Rule) where
         with_one : (n : ℕ) (rows : List Row) → Good rows → Good (with_count a.id (reading_by a) CommandLine n rows)
         with_one n rows g =
             all_at_row (Fits c) a.id (new_count CommandLine n) (new_row a (Some n) CommandLine (count_text n ∷ []) ∷ [])
-            (λ r same f. (fits (record r { values = r.values ++ count_text n ∷ []; count = Some n; source = Some (stronger r.source CommandLine) }) (same_id r same), tt))
+            (λ r same f. (
+              fits (record r {
+                values = r.values ++ count_text n ∷ [];
+                count = Some n;
+                source =
+                    Some (stronger r.source CommandLine);
+              }) (same_id r same),
+              tt,
+            ))
             (fits (new_row a (Some n) CommandLine (count_text n ∷ [])) refl, tt) rows g
 
         counts : (values : List Text) (rows : List Row) → Good rows → Good (counted a.id (reading_by a) values rows)
@@ -271,7 +294,8 @@ module _ (c : List Rule) where
             let fine = subst (λ b. cond b [] (given_default_fault a (v ∷ vs)) ≡ []) some e in
             let two = both_pass (request_kinds (action_of a)) (values_fault a (v ∷ vs)) fine in
             let new = at_row_new a.id (more_values DefaultValue (v ∷ vs)) (new_row a None DefaultValue (v ∷ vs) ∷ []) rows no_row in
-            subst Good (sym new) (all_append (Fits c) rows (new_row a None DefaultValue (v ∷ vs) ∷ []) g (fits (v ∷ vs) is two.1 (omega arith), tt))
+            subst Good (sym new) (all_append (Fits c) rows (new_row a None DefaultValue (v ∷ vs) ∷ []) g
+            (fits (v ∷ vs) is two.1 (omega arith), tt))
 
         by_row : (b : Bool) → has_row a.id rows ≡ b → cond (b || is_empty a.defaults) [] (given_default_fault a a.defaults) ≡ []
             → Good (cond b rows (default_rows a.id (reading_by a) a.defaults rows))
@@ -285,9 +309,11 @@ pub level_rows : (s : Shape) → s.args_override_self ≡ false → (words : Lis
     → Good s.rules (finished s.rules (walk s.rules [] nothing_held words).held)
 level_rows s once words e =
     level_good s (Good s.rules)
-    (λ p a values rows is fault g. used_keeps s.rules a (found_in p s.rules a is).1 values rows (subst (λ again. use_fault again a values rows ≡ []) once fault) g)
+    (λ p a values rows is fault g. used_keeps s.rules a (found_in p s.rules a is).1 values rows
+    (subst (λ again. use_fault again a values rows ≡ []) once fault) g)
     [] words false [] (each s.rules (λ a a_in. a_in)) e tt
   where
-    each : (rest : List Rule) → ((a : Rule) → In a rest → In a s.rules) → AllByRecursion (λ a. (rows : List Row) → default_fault rows a ≡ [] → Good s.rules rows → Good s.rules (with_default rows a)) rest
+    each : (rest : List Rule) → ((a : Rule) → In a rest → In a s.rules)
+        → AllByRecursion (λ a. (rows : List Row) → default_fault rows a ≡ [] → Good s.rules rows → Good s.rules (with_default rows a)) rest
     each [] inside = tt
     each (a ∷ rest) inside = (default_keeps s.rules a (inside a (inl refl)), each rest (λ b b_in. inside b (inr b_in)))

@@ -2,6 +2,7 @@
 use Rattle.std.specs.Prelude.{◌≡◌, ◌==◌, ◌<◌, ◌^◌, false, true, List, [], ◌∷◌, Some, codes, length}
 use Rattle.std.specs.List.{AllByRecursion}
 use Rattle.clap.specs.Words.{Row, Text, subcommand_of}
+use Rattle.sf_words.specs.Hyphens.{clap_words}
 use Rattle.sf_words.specs.Line.{sf_app}
 use Rattle.sf_words.specs.Orders.{HasTexts, faults_of, is_set, texts_by, verb_text}
 use Rattle.sf_words.specs.declared.order.Verb.{Verb}
@@ -11,13 +12,14 @@ use Rattle.sf_words.specs.declared.order.Verb.TheVariants.{Scan}
 pub record IsTakenAs (words : List Text) (verb : Verb) (texts : List Text) : Type 0 where
   pub taken : faults_of words ≡ []
   pub given : List Row
-  pub is_given : subcommand_of sf_app (codes "sf" ∷ words) ≡ Some (verb_text verb, given)
+  pub is_given : subcommand_of sf_app (codes "sf" ∷ clap_words words) ≡ Some (verb_text verb, given)
   pub texts_are : texts_by verb given ≡ texts
 
 -- behind `--`, any texts
 abbrev pub TakesBehindDashes : Type 0
 TakesBehindDashes =
-    (verb : Verb) (texts : List Text) → HasTexts verb texts → length texts < 2 ^ 64 → IsTakenAs (verb_text verb ∷ codes "--" ∷ texts) verb texts
+    (verb : Verb) (texts : List Text) → HasTexts verb texts → length texts < 2 ^ 64
+    → IsTakenAs (verb_text verb ∷ codes "--" ∷ texts) verb texts
 
 -- the text doesn't begin with a hyphen (45)
 abbrev pub IsPlain : Text → Type 0
@@ -39,4 +41,5 @@ with_flags (text ∷ rest) = codes "-e" ∷ text ∷ with_flags rest
 abbrev pub TakesFormats : Type 0
 TakesFormats =
     (format : Text) (more : List Text) → AllByRecursion IsPlain (format ∷ more)
-    → (taken : IsTakenAs (codes "scan" ∷ codes "--lines" ∷ with_flags (format ∷ more)) Scan (format ∷ more)) × (is_set (codes "lines") taken.given ≡ true)
+    → (taken : IsTakenAs (codes "scan" ∷ codes "--lines" ∷ with_flags (format ∷ more)) Scan (format ∷ more))
+    × (is_set (codes "lines") taken.given ≡ true)

@@ -1,9 +1,11 @@
 -- The command line of sf: what clap's definitions read of it.
-use Rattle.std.specs.Prelude.{◌≡◌, ◌^◌, ◌-◌, pos, false, true, [], ◌∷◌, Some, codes}
+use Rattle.std.specs.Prelude.{◌≡◌, ◌^◌, ◌-◌, pos, false, true, ℕ, List, [], ◌∷◌, Some, codes, fold}
 use Rattle.clap.specs.Words.{App, Rule, Text, app_of, new_app, new_rule, with_rule, with_subcommand}
 use Rattle.clap.specs.declared.builder.command.Command.{Command}
 use Rattle.clap.specs.declared.builder.command.Command.TheViews.{out-Command}
 use Rattle.clap.specs.declared.builder.value_parser.ValueParser.TheVariants.{Signed}
+use Rattle.sf_words.specs.declared.order.Verb.{Verb}
+use Rattle.sf_words.specs.declared.order.Verb.TheVariants.{Show, Scan, Print, Check, Copy}
 use Rattle.clap.specs.declared.builder.action.ArgAction.TheVariants.{Append, SetTrue}
 
 -- ---- arguments
@@ -21,31 +23,37 @@ limit_rule = record (new_rule (codes "limit")) {
   parser = Some (Signed (pos 0) (pos 2147483647));
 }
 
--- --profile N: 1 or 2, and 1 where it is not given
+-- --profile N, -p N (112): 1 or 2, and 1 where it is not given
 abbrev pub profile_rule : Rule
 profile_rule = record (new_rule (codes "profile")) {
   long = Some (codes "profile");
+  short = Some 112;
   value_names = 1;
   defaults = codes "1" ∷ [];
   parser = Some (Signed (pos 1) (pos 2));
 }
 
--- --output FORM: any text, and plain where it is not given
+-- --output FORM, -o FORM (111): any text, and plain where it is not given
 abbrev pub output_rule : Rule
 output_rule = record (new_rule (codes "output")) {
   long = Some (codes "output");
+  short = Some 111;
   value_names = 1;
   defaults = codes "plain" ∷ [];
 }
 
--- an option without a value
+-- an option without a value, and one for which a letter stands too
 abbrev pub flag_rule : Text → Rule
 flag_rule name = record (new_rule name) { long = Some name; action = Some SetTrue }
 
--- --skip N: a number of i64 that isn't negative
+abbrev pub letter_flag_rule : Text → ℕ → Rule
+letter_flag_rule name letter = record (flag_rule name) { short = Some letter }
+
+-- --skip N, -s N (115): a number of i64 that isn't negative
 abbrev pub skip_rule : Rule
 skip_rule = record (new_rule (codes "skip")) {
   long = Some (codes "skip");
+  short = Some 115;
   value_names = 1;
   parser = Some (Signed (pos 0) (pos 9223372036854775807));
 }
@@ -72,28 +80,40 @@ with_options a = with_rule (with_rule a profile_rule) (flag_rule (codes "explain
 abbrev pub with_records : App → App
 with_records a = with_options (with_rule (with_rule a limit_rule) (flag_rule (codes "line-buffered")))
 
-abbrev pub show_app : App
-show_app = with_rule (with_options (new_app (codes "show"))) (word_rule (codes "FORMAT"))
+-- those of a scan of lines: --lines is -l (108), --keep-going is -k (107), and --quiet is -q (113)
+abbrev pub lines_rules : List Rule
+lines_rules =
+    letter_flag_rule (codes "lines") 108
+    ∷ formats_rule
+    ∷ skip_rule
+    ∷ flag_rule (codes "whole")
+    ∷ letter_flag_rule (codes "keep-going") 107
+    ∷ letter_flag_rule (codes "quiet") 113
+    ∷ []
 
--- those of a scan of lines
 abbrev pub with_lines : App → App
-with_lines a =
-    with_rule
-    (with_rule (with_rule (with_rule (with_rule (with_rule a (flag_rule (codes "lines"))) formats_rule) skip_rule) (flag_rule (codes "whole")))
-    (flag_rule (codes "keep-going")))
-    (flag_rule (codes "quiet"))
+with_lines a = fold with_rule a lines_rules
+
+-- those of each verb
+abbrev pub options_of : Verb → App → App
+options_of Scan a = with_lines (with_rule (with_records a) output_rule)
+options_of Copy a = with_records a
+options_of _ a = with_options a
+
+abbrev pub show_app : App
+show_app = with_rule (options_of Show (new_app (codes "show"))) (word_rule (codes "FORMAT"))
 
 abbrev pub scan_app : App
-scan_app = with_rule (with_lines (with_rule (with_records (new_app (codes "scan"))) output_rule)) format_rule
+scan_app = with_rule (options_of Scan (new_app (codes "scan"))) format_rule
 
 abbrev pub print_app : App
-print_app = with_rule (with_rule (with_options (new_app (codes "print"))) (word_rule (codes "FORMAT"))) (words_rule (codes "VALUES"))
+print_app = with_rule (with_rule (options_of Print (new_app (codes "print"))) (word_rule (codes "FORMAT"))) (words_rule (codes "VALUES"))
 
 abbrev pub check_app : App
-check_app = with_rule (with_rule (with_options (new_app (codes "check"))) (word_rule (codes "PRINT"))) (word_rule (codes "SCAN"))
+check_app = with_rule (with_rule (options_of Check (new_app (codes "check"))) (word_rule (codes "PRINT"))) (word_rule (codes "SCAN"))
 
 abbrev pub copy_app : App
-copy_app = with_rule (with_rule (with_records (new_app (codes "copy"))) (word_rule (codes "PRINT"))) (word_rule (codes "SCAN"))
+copy_app = with_rule (with_rule (options_of Copy (new_app (codes "copy"))) (word_rule (codes "PRINT"))) (word_rule (codes "SCAN"))
 
 -- a command with a version, which needs a subcommand, and shows its help where there is no word at all
 abbrev pub wanting_subcommand : App → App
@@ -103,7 +123,8 @@ abbrev pub sf_app : App
 sf_app =
     with_subcommand
     (with_subcommand
-    (with_subcommand (with_subcommand (with_subcommand (wanting_subcommand (new_app (codes "sf"))) show_app.top) scan_app.top) print_app.top)
+    (with_subcommand (with_subcommand (with_subcommand (wanting_subcommand (new_app (codes "sf"))) show_app.top) scan_app.top)
+    print_app.top)
     check_app.top)
     copy_app.top
 

@@ -1,5 +1,6 @@
 -- What the words of a command ask for, as clap reads them.
 use Rattle.std.specs.Prelude.{◌≡◌, ◌≢◌, ◌≤◌, ◌&&◌, ◌||◌, ℕ, Bool, true, false, not, List, [], ◌∷◌, ◌++◌, Option, Some, None, if◌then◌else◌, codes, map, string_bytes, unwrap_or}
+use Rattle.std.specs.List.{list_any}
 use Rattle.std.specs.Option.{option_map_or}
 use Rattle.std.specs.Str.{bytes_eq}
 use Rattle.std.specs.Str.Parse.{digits_value, without_leading_plus}
@@ -7,6 +8,7 @@ use Rattle.clap.specs.Kinds.{or_else}
 use Rattle.clap.specs.Words.{IsAmong, Kinds, Row, Text, all_of, fault_of, first_of, one_of, subcommand_of}
 use Rattle.clap.specs.declared.error.kind.ErrorKind.{ErrorKind}
 use Rattle.clap.specs.declared.error.kind.ErrorKind.TheVariants as kind
+use Rattle.sf_words.specs.Hyphens.{clap_words}
 use Rattle.sf_words.specs.Line.{sf_app}
 use Rattle.sf_words.specs.declared.order.LineOptions.{LineOptions}
 use Rattle.sf_words.specs.declared.order.Order.{Order}
@@ -110,10 +112,10 @@ pub record IsOrderOf (entered : Option (Text × List Row)) (order : Order) : Typ
   pub texts : map string_bytes order.texts.items ≡ texts_by order.verb given
   pub enough : HasTextsFor order.lines order.verb (map string_bytes order.texts.items)
 
--- The order is what clap makes of the words after the program's name: the subcommand that they name, and what its arguments
--- were given.
+-- The order is what clap makes of the words after the program's name, where a format that begins with a hyphen is joined to its
+-- -e: the subcommand that they name, and what its arguments were given.
 abbrev pub IsOrder : List Text → Order → Type 0
-IsOrder words order = IsOrderOf (subcommand_of sf_app (codes "sf" ∷ words)) order
+IsOrder words order = IsOrderOf (subcommand_of sf_app (codes "sf" ∷ clap_words words)) order
 
 -- ---- they are refused
 
@@ -135,9 +137,13 @@ has_texts id rows = is_full (values_at id rows)
 -- an option was given that is one of lines
 abbrev pub has_line_option : List Row → Bool
 has_line_option rows =
-    has_texts (codes "formats") rows
-    || (has_texts (codes "skip") rows
-    || (is_set (codes "whole") rows || (is_set (codes "keep-going") rows || is_set (codes "quiet") rows)))
+    list_any (λ given. given)
+    (has_texts (codes "formats") rows
+    ∷ has_texts (codes "skip") rows
+    ∷ is_set (codes "whole") rows
+    ∷ is_set (codes "keep-going") rows
+    ∷ is_set (codes "quiet") rows
+    ∷ [])
 
 -- such an option stands with --lines alone
 abbrev pub line_faults : List Row → Kinds
@@ -161,7 +167,8 @@ entered_faults entered = option_map_or (λ e. own_faults e.0 e.1) entered []
 -- the kinds of fault in the words after the program's name: those that clap finds, and where it takes the words, those of the
 -- subcommand that they name. There are none where the words are taken.
 abbrev pub faults_of : List Text → Kinds
-faults_of words = or_else (fault_of sf_app (codes "sf" ∷ words)) (entered_faults (subcommand_of sf_app (codes "sf" ∷ words)))
+faults_of words =
+    or_else (fault_of sf_app (codes "sf" ∷ clap_words words)) (entered_faults (subcommand_of sf_app (codes "sf" ∷ clap_words words)))
 
 -- it is no fault, but asks for a text that clap has
 abbrev pub is_request : ErrorKind → Bool

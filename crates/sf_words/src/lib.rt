@@ -2,9 +2,11 @@
 #![tactic(auto)]
 
 mod help;
+mod hyphens;
 pub mod laws;
 mod line;
 mod misuse;
+mod options;
 mod order;
 mod words;
 

@@ -2,9 +2,12 @@
 ghost use Rattle.std.specs.Prelude.{◌≡◌, [], ◌∷◌, is_some};
 ghost use Rattle.clap.specs.Words.{found_of, rows_of};
 ghost use Rattle.sf_words.specs.Misuses.{misuse_kind, misuse_kinds};
-ghost use Rattle.sf_words.specs.Orders.{IsRefusal, form_given, format_faults, has_line_option, has_texts, is_set, own_faults, verb_text};
+ghost use Rattle.sf_words.specs.Options.{is_given_by};
+ghost use Rattle.sf_words.specs.Orders.{IsRefusal, form_given, format_faults, has_line_option, has_texts, is_set};
+ghost use Rattle.sf_words.specs.Orders.{own_faults, verb_text};
 
 use crate::help;
+use crate::options::{CommandOption, OptionOf, OptionValue, all_options};
 use crate::order::{Verb, WordsFault};
 use clap::ArgMatches;
 use std::alloc::{AllocError, Global};
@@ -15,7 +18,7 @@ pub(crate) enum Misuse<'a> {
     /// No form has this name.
     Form(&'a str),
     /// This option is one of lines.
-    NoLines(&'a str),
+    NoLines(&'static CommandOption),
     /// A format stands behind `-e`, and another without it.
     TwoFormats,
     /// There is no format.
@@ -46,23 +49,26 @@ fn has_texts(given: &ArgMatches<'_>, id: &str) -> bool
     }
 }
 
-/// An option that was given and is one of lines, as it is written.
-fn line_option(given: &ArgMatches<'_>) -> Option<&'static str>
+/// Whether an option was given.
+fn is_given(given: &ArgMatches<'_>, option: &CommandOption) -> bool
+    ensures { result ≡ is_given_by option.now.value option.now.name.now (rows_of (found_of given.now)) }
+{
+    match option.value {
+        OptionValue::Nothing => is_set(given, option.name),
+        _ => has_texts(given, option.name),
+    }
+}
+
+/// The first option of the table that was given and is one of lines.
+fn line_option(given: &ArgMatches<'_>) -> Option<&'static CommandOption>
     ensures { is_some result ≡ has_line_option (rows_of (found_of given.now)) }
 {
-    if has_texts(given, "formats") {
-        Some("-e <FORMAT>")
-    } else if has_texts(given, "skip") {
-        Some("--skip <N>")
-    } else if is_set(given, "whole") {
-        Some("--whole")
-    } else if is_set(given, "keep-going") {
-        Some("--keep-going")
-    } else if is_set(given, "quiet") {
-        Some("--quiet")
-    } else {
-        None
+    for option in all_options() {
+        if matches!(option.of, OptionOf::Lines) && is_given(given, option) {
+            return Some(option);
+        }
     }
+    None
 }
 
 /// What is at fault in the formats of a scan.
@@ -95,6 +101,19 @@ pub(crate) fn misuse_of<'a>(verb: Verb, given: &ArgMatches<'a>) -> Option<Misuse
     }
 }
 
+/// An option as it is written, as `--skip <N>`.
+fn push_option(text: &mut String, option: &CommandOption) -> Result<(), AllocError> {
+    match option.short {
+        Some(letter) if !option.has_long => write!(text, "-{letter}")?,
+        _ => write!(text, "--{}", option.name)?,
+    }
+    match option.value {
+        OptionValue::Nothing => Ok(()),
+        OptionValue::Number { .. } => text.push_str(" <N>"),
+        OptionValue::Text { name, .. } | OptionValue::Texts { name } => write!(text, " <{name}>"),
+    }
+}
+
 /// The text that is told, in the form of those of clap.
 fn text_of(alloc: Global, misuse: Misuse<'_>) -> Result<String, AllocError> {
     let mut text = String::from_str(alloc, "error: ")?;
@@ -103,10 +122,11 @@ fn text_of(alloc: Global, misuse: Misuse<'_>) -> Result<String, AllocError> {
             text,
             "invalid value '{form}' for '--output <FORM>'\n  [possible values: plain, tsv, json]"
         )?,
-        Misuse::NoLines(option) => write!(
-            text,
-            "the argument '{option}' cannot be used without '--lines'"
-        )?,
+        Misuse::NoLines(option) => {
+            text.push_str("the argument '")?;
+            push_option(&mut text, option)?;
+            text.push_str("' cannot be used without '--lines'")?;
+        }
         Misuse::TwoFormats => {
             text.push_str("the argument '<FORMAT>' cannot be used with '-e <FORMAT>'")?
         }

@@ -2,9 +2,12 @@
 ghost use Rattle.std.specs.Prelude.{◌≡◌, ◌≤◌, true, [], ◌∷◌, ◌++◌, IfErr, IfOk, OnOk, codes, map, string_bytes};
 ghost use Rattle.clap.specs.Words.{found_of, one_of, rows_of, subcommand_rows_of};
 ghost use Rattle.clap.specs.Walk.{texts};
-ghost use Rattle.sf_words.specs.Orders.{HasLines, IsOrder, IsOrderOf, IsRefusal, IsRefusalOf, entered_faults, faults_of, form_given, is_form, is_set, number_by, output_text, profile_number, texts_by, values_at, verb_text};
+ghost use Rattle.sf_words.specs.Orders.{HasLines, IsOrder, IsOrderOf, IsRefusal, IsRefusalOf, entered_faults};
+ghost use Rattle.sf_words.specs.Orders.{faults_of, form_given, is_form, is_set, number_by, output_text};
+ghost use Rattle.sf_words.specs.Orders.{profile_number, texts_by, values_at, verb_text};
 ghost use Rattle.sf_words.specs.Taken.{IsTaken, IsVerb, IsWithin};
 
+use crate::hyphens::clap_words;
 use crate::line::line;
 use crate::misuse::{form_given, is_set, misuse_of, refusal};
 use crate::order::{LineOptions, Order, Output, Profile, Verb, WordsFault};
@@ -79,7 +82,8 @@ fn push_given(
     id: &str,
     out: &mut Vec<String>,
 ) -> Result<(), AllocError>
-    ensures { OnOk result (map string_bytes out.new.items ≡ map string_bytes out.old.items ++ values_at id.now (rows_of (found_of given.now))) }
+    ensures { OnOk result (map string_bytes out.new.items
+        ≡ map string_bytes out.old.items ++ values_at id.now (rows_of (found_of given.now))) }
 {
     match given.get_strs(id) {
         Some(values) => push_all(alloc, values, out),
@@ -203,7 +207,8 @@ pub fn read_words(alloc: Global, words: &[String]) -> Result<Order, WordsFault>
     ensures taken { IfOk result (λ _. faults_of (map string_bytes words.now) ≡ []) }
     ensures refused { IfErr result (IsRefusal (faults_of (map string_bytes words.now))) }
 {
-    let all = named(alloc, words)?;
+    let joined = clap_words(alloc, words)?;
+    let all = named(alloc, &joined)?;
     let line = line(alloc)?;
     match line.try_get_matches_from(all.as_slice()) {
         Ok(matches) => order_of(alloc, &matches),

@@ -4,7 +4,7 @@ use std::alloc::Global;
 use std::test::Fail;
 
 /// Words, between which bars stand, and the order that they make.
-static ORDERS: [(&str, &str); 58] = [
+static ORDERS: [(&str, &str); 69] = [
     ("show|%3d,%*s", "Show 1048576 |%3d,%*s"),
     ("scan|%d,%d", "Scan 1048576 |%d,%d"),
     ("scan|--limit|3|%s", "Scan 3 |%s"),
@@ -104,6 +104,32 @@ static ORDERS: [(&str, &str); 58] = [
         "Scan 80 line-buffered Tsv lines skip 1 whole keep-going quiet |%d |%s",
     ),
     ("show|--|--lines", "Show 1048576 |--lines"),
+    ("show|-p|2|%d", "Show 1048576 profile-2 |%d"),
+    ("copy|-p2|%d;|%3d;", "Copy 1048576 profile-2 |%d; |%3d;"),
+    (
+        "scan|-lks|3|-o|json|-p=2|%d",
+        "Scan 1048576 profile-2 Json lines skip 3 keep-going |%d",
+    ),
+    (
+        "scan|%d|-q|-otsv|-ls2",
+        "Scan 1048576 Tsv lines skip 2 quiet |%d",
+    ),
+    ("scan|-l|-e|-%d", "Scan 1048576 lines skip 0 |-%d"),
+    (
+        "scan|-e|- - %s|--lines|-e|-e|-e|--|-e|--lines|-e|-=|-e|-",
+        "Scan 1048576 lines skip 0 |- - %s |-e |-- |--lines |-= |-",
+    ),
+    (
+        "scan|-lkqe|-k|-e|%d",
+        "Scan 1048576 lines skip 0 keep-going quiet |-k |%d",
+    ),
+    ("scan|-l|-e|%d|-e|-", "Scan 1048576 lines skip 0 |%d |-"),
+    ("scan|--|-le", "Scan 1048576 |-le"),
+    (
+        "scan|--lines|-e|%d|-e|=-",
+        "Scan 1048576 lines skip 0 |%d |=-",
+    ),
+    ("print|--|-e|-x", "Print 1048576 |-e |-x"),
     (
         "print|%s|--|--output|json",
         "Print 1048576 |%s |--output |json",

@@ -14,4 +14,5 @@ unreachable-requires c =
 
 pub returns-in-Text : goal.returns-in-Text
 returns-in-Text c =
-    text_stands c.args.conv.now.letter c.in-Text.is c.args.conv.now.kind c.args.word.now c.args.text.now c.requires.stands.0 c.requires.text c.requires.stands.1
+    text_stands c.args.conv.now.letter c.in-Text.is c.args.conv.now.kind c.args.word.now c.args.text.now c.requires.stands.0
+    c.requires.text c.requires.stands.1

@@ -10,7 +10,8 @@ loop-at-preserved c =
     let piece = c.in-Some.piece in
     let within : c.loop-at.at + piece.size ≤ length word = search rules in
     let long : 1 ≤ piece.size = search rules in
-    let front : piece_of (drop c.loop-at.at word) ≡ Some piece = front_of word c.loop-at.at c.piece_of.result piece c.piece_of.ensures.piece c.in-Some.is in
+    let front : piece_of (drop c.loop-at.at word) ≡ Some piece = front_of word c.loop-at.at c.piece_of.result piece
+    c.piece_of.ensures.piece c.in-Some.is in
     record {
       within = within;
       few = omega arith;

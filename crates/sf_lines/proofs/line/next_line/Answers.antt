@@ -1,4 +1,4 @@
-use Rattle.std.proofs.Common.{◌∙◌, Bool, cond, length, refl, sym, ap, arith}
+use Rattle.std.proofs.Common.{◌∙◌, Bool, cond, length, refl, sym, ap, arith, true≢false}
 use Rattle.sf_read.specs.Counts.{counted_on}
 use Rattle.sf_lines.proofs.Gathering.{begins, within, at_end, ended_long, ended_short, failed, more, too_many, empty_list, tested_zero, tested_some, if_ok, if_err}
 use Rattle.sf_lines.proofs.line.next_line.Goals as goal
@@ -6,6 +6,7 @@ use Rattle.sf_lines.proofs.line.next_line.Goals as goal
 pub loop-block-init : goal.loop-block-init
 loop-block-init g c = record {
   going = begins g.S.Source.to_come c.args.from.now c.args.limit c.clear.new.self.items c.clear.ensures.items;
+  unread = λ at_end. refl;
   sound = refl;
 }
 
@@ -70,6 +71,7 @@ loop-block-preserved g c = record {
       more going c.piece_of-piece.result.len (rw c.held-held.ensures.held at c.piece_of-piece.ensures.line) (sym c.is_at_end.ensures.is ∙ c.if-is_at_end.false) (rw c.held-held.ensures.held at (c.piece_of-piece.ensures.all c.if-piece.false)) c.consume-in-loop-block.new.self c.refill.new.self
       c.consume-in-loop-block.ensures.held c.consume-in-loop-block.ensures.source c.refill.ensures.bytes c.gather.new.line.items _ c.in-Ok.longer c.loop-block.line.ok.0
       c.in-Ok.ensures.longer c.in-Ok.ensures.short (rw (← c.held-held.ensures.held) c.in-Ok.ensures.front) (if_ok c.refill.result (sym c.is_err.ensures.value ∙ c.if-is_err.false) c.refill.ensures.read);
+  unread = λ at_end. absurd (true≢false (sym ((c.loop-block.invariant.going.ends at_end).0) ∙ sym c.is_at_end.ensures.is ∙ c.if-is_at_end.false));
   sound =
       c.refill.ensures.failures ∙ ap (λ (b : Bool). cond b (counted_on (g.S.Source.failures c.consume-in-loop-block.new.self.source)) (g.S.Source.failures c.consume-in-loop-block.new.self.source)) (sym c.is_err.ensures.value ∙ c.if-is_err.false)
       ∙ ap g.S.Source.failures c.consume-in-loop-block.ensures.source ∙ c.loop-block.invariant.sound;

@@ -6,7 +6,8 @@ use Rattle.sf_lines.specs.Turns.{work_of}
 use Rattle.sf_lines.proofs.Looping.{Going}
 use Rattle.sf_lines.proofs.lines.run_lines.Given as goal
 
--- the lines so far; what is written and told of each stays the same, and neither the source nor the sink has failed
+-- the lines so far; what is written and told of each stays the same, neither the source nor the sink has failed, and behind the
+-- end nothing was read
 abbrev pub invariant-loop-before : goal.invariant-loop-before
 invariant-loop-before g l = record {
   going : (telling : ℕ → List ℕ → LineFault → List ℕ) (t : List ℕ) → g.E.Teller.says l.fn.teller telling → input_of g.S.Source.to_come l.fn.from ≡ Some t
@@ -20,4 +21,6 @@ invariant-loop-before g l = record {
   failed : l.counts.failed ≤ l.before;
   source : g.S.Source.failures l.from.source ≡ g.S.Source.failures l.fn.from.source;
   sink : g.K.Sink.failures l.to ≡ g.K.Sink.failures l.fn.to;
+  unread : l.fn.from.at_end ≡ true → l.from.source ≡ l.fn.from.source;
+  ended : l.fn.from.at_end ≡ true → l.from.at_end ≡ true;
 }

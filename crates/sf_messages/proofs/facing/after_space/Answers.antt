@@ -7,4 +7,5 @@ use Rattle.sf_messages.proofs.facing.after_space.Goals as goal
 pub loop-i-preserved : goal.loop-i-preserved
 loop-i-preserved c =
     c.loop-i.invariant
-    ∙ space_on c.args.units.now c.loop-i.i c.loop-i-test.true (ap starts_with_space (sym (take_rest c.args.units.now c.loop-i.i)) ∙ sym c.is_space_first.ensures ∙ c.if-not-is_space_first.false)
+    ∙ space_on c.args.units.now c.loop-i.i c.loop-i-test.true (ap starts_with_space (sym (take_rest c.args.units.now c.loop-i.i))
+    ∙ sym c.is_space_first.ensures ∙ c.if-not-is_space_first.false)

@@ -10,5 +10,7 @@ loop-directive-preserved c =
     let i = c.loop-directive.directive-index in
     let d = c.directive-item.result in
     let left = c.loop-directive.left.now in
-    let next : drop i ds ≡ d ∷ drop (i + 1) ds = drop_next ds i d c.loop-directive-test.true ∙ ap (λ x. x ∷ drop (i + 1) ds) (sym c.directive-item.is) in
-    ap (left_behind (drop (i + 1) ds)) c.behind-left.ensures ∙ sym (ap (λ (xs : List Directive). left_behind xs left) next) ∙ c.loop-directive.invariant
+    let next : drop i ds ≡ d ∷ drop (i + 1) ds = drop_next ds i d c.loop-directive-test.true
+    ∙ ap (λ x. x ∷ drop (i + 1) ds) (sym c.directive-item.is) in
+    ap (left_behind (drop (i + 1) ds)) c.behind-left.ensures ∙ sym (ap (λ (xs : List Directive). left_behind xs left) next)
+    ∙ c.loop-directive.invariant

@@ -4,7 +4,8 @@ use Rattle.sf_messages.specs.Facing.{print_head_text, width_given}
 use Rattle.sf_messages.specs.Shown.{field_text}
 use Rattle.sf_messages.proofs.facing.push_print_conv.Goals as goal
 
-four_written : (old a b c d first second third fourth : List ℕ) → first ≡ old ++ a → second ≡ first ++ b → third ≡ second ++ c → fourth ≡ third ++ d
+four_written : (old a b c d first second third fourth : List ℕ) → first ≡ old ++ a → second ≡ first ++ b → third ≡ second ++ c
+    → fourth ≡ third ++ d
     → fourth ≡ old ++ (a ++ (b ++ (c ++ d)))
 four_written old a b c d first second third fourth e f g h =
     h ∙ ap (λ x. x ++ d) (g ∙ ap (λ x. x ++ c) (f ∙ ap (λ x. x ++ b) e))

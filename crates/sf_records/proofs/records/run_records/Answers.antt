@@ -32,6 +32,8 @@ loop-records-init g c = record {
   going = λ t e. begins (g.R.Recorder.work c.args.recorder.now) g.S.Source.to_come c.args.format.now c.args.limit t c.args.from.now (g.K.Sink.contents c.args.to.now) (g.S.Source.failures c.args.from.now.source) e;
   same = refl;
   roomy = fresh_roomy _ _ _ c.in-Ok.ensures (c.unwrap_or.ensures ∙ ap (λ sum. unwrap_or sum 0) c.width_sum.ensures);
+  unread = λ at_end. refl;
+  ended = λ at_end. at_end;
   sound = refl;
 }
 
@@ -50,6 +52,8 @@ loop-records-preserved-in-Ok-write_held g c = record {
       (rw (← c.loop-records.invariant.same) judged.0) (rw (← c.loop-records.invariant.same) judged.1);
   same = c.write_held.ensures.same ∙ c.loop-records.invariant.same;
   roomy = enough_still c.loop-records.invariant.roomy c.fscan_held.ensures.room;
+  unread = λ at_end. c.fscan_held.ensures.no_read ∙ c.loop-records.invariant.unread at_end;
+  ended = λ at_end. c.fscan_held.ensures.stays ∙ c.loop-records.invariant.ended at_end;
   sound = c.in-Ok-write_held.ensures.failures ∙ c.loop-records.invariant.sound;
 }
 
@@ -78,6 +82,8 @@ loop-records-preserved-in-Some g c = record {
       (rw (← c.loop-records.invariant.same) judged.0) (rw (← c.loop-records.invariant.same) judged.1);
   same = c.in_default-judge.ensures.same ∙ c.loop-records.invariant.same;
   roomy = enough_still c.loop-records.invariant.roomy c.fscan_held.ensures.room;
+  unread = λ at_end. c.fscan_held.ensures.no_read ∙ c.loop-records.invariant.unread at_end;
+  ended = λ at_end. c.fscan_held.ensures.stays ∙ c.loop-records.invariant.ended at_end;
   sound = c.in_default-judge.ensures.failures ∙ c.loop-records.invariant.sound;
 }
 
@@ -101,6 +107,9 @@ loop-records-preserved g c = record {
       (rw (← c.report.ensures, ← c.loop-records.invariant.same) judged.0) (rw (← c.report.ensures, ← c.loop-records.invariant.same) judged.1);
   same = c.in_default-judge-2.ensures.same ∙ c.loop-records.invariant.same;
   roomy = rw (c.into_store-store.ensures.kept) c.in-Ok-fscan_over.ensures.room;
+  unread = λ at_end.
+      c.in-Ok-fscan_over.ensures.no_read (c.in_default-fscan_held.ensures.stays ∙ c.loop-records.invariant.ended at_end) ∙ c.in_default-fscan_held.ensures.no_read ∙ c.loop-records.invariant.unread at_end;
+  ended = λ at_end. c.in-Ok-fscan_over.ensures.stays (c.in_default-fscan_held.ensures.stays ∙ c.loop-records.invariant.ended at_end);
   sound = c.in_default-judge-2.ensures.failures ∙ c.loop-records.invariant.sound;
 }
 

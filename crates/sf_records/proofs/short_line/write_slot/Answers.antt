@@ -1,9 +1,15 @@
-use Rattle.std.proofs.Common.{ℕ, List, ◌++◌, take, ap, ◌∙◌}
+use Rattle.std.proofs.Common.{ℕ, List, ◌++◌, length, take, ap, ◌∙◌}
 use Rattle.sf_records.specs.declared.form.OutputForm.TheVariants.{Plain}
 use Rattle.sf_records.proofs.Numerals.{number_at}
+use Rattle.sf_records.proofs.ShortLines.{text_plain, text_room}
 use Rattle.sf_records.proofs.short_line.write_slot.Goals as goal
 
 pub returns-in-Some-Number-clause-written : goal.returns-in-Some-Number-clause-written
 returns-in-Some-Number-clause-written g c =
     c.write_number.ensures.written
     ∙ ap (λ (t : List ℕ). take c.args.at c.args.buf.now ++ t) (number_at Plain _ c.in-Some-Number.number (rw c.in-Some-Number.field-0-is at c.in-Some-Number.ensures))
+
+pub returns-in-Some-Text-clause-answers : goal.returns-in-Some-Text-clause-answers
+returns-in-Some-Text-clause-answers g c plain room =
+    let given = rw c.in-Some-Text.field-0-is at c.in-Some-Text.ensures in
+    c.write_quoted.ensures.answers (text_plain _ _ given plain) (text_room _ _ c.args.at (length c.args.buf.now) given room)

@@ -5,4 +5,5 @@ use Rattle.sf_words.proofs.Given.{text_read}
 use Rattle.sf_words.proofs.misuse.form_given.Goals as goal
 
 pub returns : goal.returns
-returns c = text_read c.get_str.result _ c.unwrap_or.result _ c.unwrap_or.ensures (c.get_str.ensures ∙ first_value-rows (found_of c.args.given.now) (codes "output"))
+returns c = text_read c.get_str.result _ c.unwrap_or.result _ c.unwrap_or.ensures
+    (c.get_str.ensures ∙ first_value-rows (found_of c.args.given.now) (codes "output"))

@@ -10,6 +10,8 @@ use Rattle.sf_words.proofs.words.limit_of.Goals as goal
 pub returns : goal.returns
 returns c =
     let same = one_text-rows (found_of c.args.given.now) (codes "limit") in
-    let read = number_read 32 0 2147483647 1048576 (omega arith) (omega arith) (omega arith) _ (λ bs r. ParsesUnsigned 32 10 bs r × ExplainsUnsignedError 10 bs r × HasUnsignedDigitsIfOk bs r) (λ t r h. h.0)
-    (one_text (found_of c.args.given.now) (codes "limit")) c.get_one.result (subst (IsWithin 0 2147483647) (sym same) c.requires) c.get_one.ensures.none c.get_one.ensures.value in
+    let read = number_read 32 0 2147483647 1048576 (omega arith) (omega arith) (omega arith) _
+    (λ bs r. ParsesUnsigned 32 10 bs r × ExplainsUnsignedError 10 bs r × HasUnsignedDigitsIfOk bs r) (λ t r h. h.0)
+    (one_text (found_of c.args.given.now) (codes "limit")) c.get_one.result
+    (subst (IsWithin 0 2147483647) (sym same) c.requires) c.get_one.ensures.none c.get_one.ensures.value in
     record { value = c.unwrap_or.ensures ∙ read.0 ∙ ap (number_by 1048576) same; small = rw c.unwrap_or.ensures read.2 }

@@ -10,8 +10,10 @@ returns-in-Some-misuse_of-clause-refused c =
     let rows = rows_of (found_of c.in-Some.given.now) in
     let verb = c.verb_of-verb.result in
     let is_given : subcommand_rows_of c.args.matches.now ≡ Some (verb_text verb, rows) = search rules in
-    let kinds : own_faults (verb_text verb) rows ≡ misuse_kind c.in-Some-misuse_of.misuse ∷ [] = sym c.misuse_of.ensures ∙ ap misuse_kinds c.in-Some-misuse_of.is in
-    subst (λ e. IsRefusal (entered_faults e) c.refusal.result) (sym is_given) (subst (λ ks. IsRefusal ks c.refusal.result) (sym kinds) c.refusal.ensures)
+    let kinds : own_faults (verb_text verb) rows ≡ misuse_kind c.in-Some-misuse_of.misuse ∷ [] =
+    sym c.misuse_of.ensures ∙ ap misuse_kinds c.in-Some-misuse_of.is in
+    subst (λ e. IsRefusal (entered_faults e) c.refusal.result) (sym is_given)
+    (subst (λ ks. IsRefusal ks c.refusal.result) (sym kinds) c.refusal.ensures)
 
 pub returns-clause-order : goal.returns-clause-order
 returns-clause-order c =

@@ -5,10 +5,10 @@ use Rattle.sf_base.proofs.heap_store.HeapStore.clear.Goals as goal
 
 pub invariant_of-self : goal.invariant_of-self
 invariant_of-self c = (
-  rw (c.clear.ensures.items, c.clear-2.ensures.len) (IsSound-none 32),
+  rw (c.clear.ensures.items, c.truncate.ensures.bytes) (IsSound-none 32),
   record {
-    held = omega (arith, c.clear-2.ensures.len);
-    sure = omega (arith, c.self.invariant.1.sure, c.clear-2.ensures.capacity);
+    held = rw c.truncate.ensures.bytes (omega arith);
+    sure = omega (arith, c.self.invariant.1.sure, c.truncate.ensures.capacity);
     places = omega (arith, c.self.invariant.1.places, c.clear.ensures.capacity);
   },
 )

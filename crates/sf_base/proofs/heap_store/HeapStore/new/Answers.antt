@@ -4,9 +4,9 @@ use Rattle.sf_base.proofs.heap_store.HeapStore.new.Goals as goal
 
 pub invariant_of-result : goal.invariant_of-result
 invariant_of-result c = (
-  rw (c.in_ok-entries.ensures.items, c.in_ok-bytes.ensures.len) (IsSound-none 32),
+  rw (c.in_ok-entries.ensures.items, c.in_ok-bytes.ensures.bytes) (IsSound-none 32),
   record {
-    held = omega (arith, c.in_ok-bytes.ensures.len);
+    held = rw c.in_ok-bytes.ensures.bytes (omega arith);
     sure = omega (arith, c.in_ok-bytes.ensures.capacity);
     places = c.in_ok-entries.ensures.capacity;
   },

@@ -1,5 +1,5 @@
 use Rattle.std.proofs.lemmas.Grind.{common_steps}
-use Rattle.std.proofs.Common.{rules, arith}
+use Rattle.std.proofs.Common.{rules, arith, length-append}
 use Rattle.sf_base.proofs.heap_store.HeapStoreStore.push.Goals as goal
 
 pub returns-then-is_err-clause-full : goal.returns-then-is_err-clause-full
@@ -12,4 +12,4 @@ pub returns-else-self-len-clause-ok : goal.returns-else-self-len-clause-ok
 returns-else-self-len-clause-ok c = grind (arith, common_steps)
 
 pub returns-else-self-len-clause-room : goal.returns-else-self-len-clause-room
-returns-else-self-len-clause-room c = search rules
+returns-else-self-len-clause-room c = grind (arith, common_steps, length-append)

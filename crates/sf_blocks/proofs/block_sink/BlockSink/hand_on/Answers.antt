@@ -18,4 +18,5 @@ loop-self-preserved g c =
       contents = kept_on _ _ _ _ _ _ cut l.invariant.contents (subst Took c.deref.ensures.value c.in-Ok.ensures.took);
       block = l.invariant.block;
       failures = l.invariant.failures;
+      flushed = l.invariant.flushed;
     }

@@ -8,6 +8,7 @@ invariant-loop-self g l = record {
   contents : Keeps (taken_by l.fn.self) (taken_by l.self);
   block : l.self.block ≡ l.fn.self.block;
   failures : l.self.failures ≡ l.fn.self.failures;
+  flushed : l.self.unflushed ≡ l.fn.self.unflushed;
 }
 
 abbrev pub decreases-loop-self : goal.decreases-loop-self

@@ -1,0 +1,23 @@
+use Rattle.std.proofs.Common.{◌≡◌, ◌≤◌, ◌+◌, length, take, arith}
+use Rattle.std.proofs.lemmas.List.{length-take-le}
+use Rattle.sf_base.proofs.EntryLemmas.{front_moved}
+use Rattle.sf_base.proofs.Moves.{moved_over}
+use Rattle.sf_base.proofs.buffer.Buffer.append_apart.Goals as goal
+use Rattle.sf_base.proofs.buffer.Buffer.append_apart.Goals.{then-count-len, else-count-len+in_ok-extend_from_slice}
+
+pub returns-clause-ok : goal.returns-clause-ok
+returns-clause-ok c =
+    let b = c.self.inside in
+    let inside : b.len ≤ length b.block.items = omega (arith, c.self.invariant, b.block.ok.0) in
+    elim c.if-count-len.branch [
+      | then-count-len w ↦
+          let same : length w.move_over.new.bytes ≡ length b.block.items = rw (← w.deref_mut.ensures.value) w.move_over.ensures.len in
+          rw (w.self-inside-is, ← c.self.view_is)
+          (moved_over b.len c.args.count c.args.count b.block.len b.block.items w.move_over.new.bytes c.args.piece.now b.block.ok.0 same
+          inside c.requires (omega arith) (rw (← w.deref_mut.ensures.value) w.move_over.ensures.moved))
+      | else-count-len+in_ok-extend_from_slice w ↦
+          let front : length (take b.len b.block.items) ≡ b.len = length-take-le b.len b.block.items inside in
+          rw (w.self-inside-is, ← c.self.view_is, w.in_ok-extend_from_slice.ensures.items, w.truncate.ensures.items)
+          (front_moved (take b.len b.block.items) c.args.piece.now c.args.count w.max-moved.result (b.len + c.args.count)
+          (omega (arith, w.max-moved.ensures)) (omega (arith, front)))
+    ]

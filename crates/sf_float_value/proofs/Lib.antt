@@ -1,0 +1,8 @@
+pub mod Cutting
+pub mod FormsApart
+pub mod Fronts
+pub mod HexParts
+pub mod HexRounding
+pub mod PatternLemmas
+pub mod Rounding
+pub mod RoundingCases

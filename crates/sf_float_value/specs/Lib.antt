@@ -1,0 +1,4 @@
+pub mod Formats
+pub mod Forms
+pub mod Hexadecimals
+pub mod Values

@@ -1,0 +1,10 @@
+//! What a conversion stores of a matching sequence: the pattern of the nearest float, or nothing where that is out of range.
+#![tactic(auto)]
+
+mod digits;
+mod form;
+mod hexadecimal;
+mod nearest;
+mod value;
+
+pub use value::{value_f32, value_f64};

@@ -1,0 +1,13 @@
+-- The room that is made for the texts of lines.
+use Rattle.std.specs.Prelude.{ℕ, max, List, [], ◌∷◌, unwrap_or}
+use Rattle.sf_format.specs.declared.directive.Directive.{Directive}
+use Rattle.sf_format.specs.Widths.{width_sum}
+
+-- the bytes that a format stores at most, where it says so
+abbrev pub width_of : List Directive → ℕ
+width_of ds = unwrap_or (width_sum ds) 0
+
+-- the greatest of these
+abbrev pub most_width : List (List Directive) → ℕ
+most_width [] = 0
+most_width (ds ∷ later) = max (width_of ds) (most_width later)

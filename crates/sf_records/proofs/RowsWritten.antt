@@ -1,0 +1,187 @@
+-- The records that a loop wrote are those of its runs' values.
+use Rattle.std.proofs.Common.{◌≡◌, ℕ, zero, suc, ◌+◌, Bool, true, false, cond, nat_eq, nat_lt, List, [], ◌∷◌, ◌++◌, map, length, take, drop, ◌⊎◌, Option, Some, None, inl, inr, refl, sym, ap, ap₂, subst, ◌∙◌, arith, append_assoc, append-nil, length-append, true≢false}
+use Rattle.std.specs.List.{AllByRecursion, flat_map}
+use Rattle.std.proofs.lemmas.Grind.{flat_map-append}
+use Rattle.sf_base.specs.Bytes.{AreBytes}
+use Rattle.sf_base.specs.Data.{Datum, kind_of}
+use Rattle.sf_format.specs.declared.directive.Directive.{Directive}
+use Rattle.sf_format.specs.Proper.{IsAccepted, destinations_of}
+use Rattle.sf_run.specs.outcome.Ending.{Ending}
+use Rattle.sf_run.specs.outcome.Ending.TheVariants.{End, Fault}
+use Rattle.sf_run.specs.outcome.Status.{Status}
+use Rattle.sf_run.specs.outcome.Status.TheVariants.{Done, InputFailure, MatchingFailure, OutOfRange, TooLong, NoMemory}
+use Rattle.sf_run.specs.Laws.{EachDoneRunHasItsRow}
+use Rattle.sf_run.specs.Limits.{RunWithin}
+use Rattle.sf_run.specs.Rows.{kinds_of}
+use Rattle.sf_run.specs.Runs.{RunReport}
+use Rattle.sf_read.specs.Ahead.{Ahead}
+use Rattle.sf_records.specs.declared.end.ToolEnd.{ToolEnd}
+use Rattle.sf_records.specs.declared.end.ToolFault.TheVariants as faults
+use Rattle.sf_records.specs.declared.form.OutputForm.{OutputForm}
+use Rattle.sf_records.specs.declared.form.OutputForm.TheVariants.{Tsv, Json}
+use Rattle.sf_records.specs.declared.turn.Turn.{Turn}
+use Rattle.sf_records.specs.declared.turn.Turn.TheVariants.{Goes, Ends, Cut, Failed, Stalled, Unfit, RanOut}
+use Rattle.sf_records.specs.Forms.{row_text, writing}
+use Rattle.sf_records.specs.Judging.{is_write}
+use Rattle.sf_records.specs.ReadingBack.{AreDone, AreRows, AreRowsOf, HaveKinds, JsonReadsBack, ReadsAsRows, RecordsAreRows, TsvReadsBack, WrittenReadsBack}
+use Rattle.sf_records.specs.JsonReading.{element_of, json_rows}
+use Rattle.sf_records.specs.Tables.{tsv_rows}
+use Rattle.sf_records.specs.Records.{EndsWith, IsCutShort, Loops, Passed, StopsAt, end_by, ended, ending_by, input_by}
+use Rattle.sf_records.specs.Turns.{turn_by, turn_of, writes}
+use Rattle.sf_records.specs.Works.{Work, last_text, texts, turn_in}
+use Rattle.sf_records.proofs.Copying.{fit_is}
+
+-- ---- records that are written
+
+-- what is written is Done
+done_by : (status : Status) (met : Option Ending) (used converted : ℕ) → writes (turn_by status met used converted) ≡ true → status ≡ Done
+done_by Done met used converted e = refl
+done_by NoMemory met used converted e = absurd (true≢false (sym e))
+done_by InputFailure None used converted e = absurd (true≢false (sym e))
+done_by InputFailure (Some End) used converted e = absurd (true≢false (sym e ∙ neither (nat_eq converted 0)))
+  where
+    neither : (b : Bool) → writes (cond b Ends Failed) ≡ false
+    neither true = refl
+    neither false = refl
+done_by InputFailure (Some Fault) used converted e = absurd (true≢false (sym e))
+done_by MatchingFailure None used converted e = absurd (true≢false (sym e))
+done_by MatchingFailure (Some End) used converted e = absurd (true≢false (sym e))
+done_by MatchingFailure (Some Fault) used converted e = absurd (true≢false (sym e))
+done_by OutOfRange None used converted e = absurd (true≢false (sym e))
+done_by OutOfRange (Some End) used converted e = absurd (true≢false (sym e))
+done_by OutOfRange (Some Fault) used converted e = absurd (true≢false (sym e))
+done_by TooLong None used converted e = absurd (true≢false (sym e))
+done_by TooLong (Some End) used converted e = absurd (true≢false (sym e))
+done_by TooLong (Some Fault) used converted e = absurd (true≢false (sym e))
+
+bytes_behind : (x : List ℕ) (n : ℕ) → AreBytes x → AreBytes (drop n x)
+bytes_behind x zero h = h
+bytes_behind [] (suc n) h = h
+bytes_behind (b ∷ x) (suc n) h = bytes_behind x n h.1
+
+bytes_taken : (x : List ℕ) (n : ℕ) → AreBytes x → AreBytes (take n x)
+bytes_taken x zero h = tt
+bytes_taken [] (suc n) h = tt
+bytes_taken (b ∷ x) (suc n) h = (h.0, bytes_taken x n h.1)
+
+-- the count of records at the end
+counted : (turn : Turn) (n : ℕ) (r : RunReport) → (turn ≡ Goes → ⊥) → (end_by turn n r).records ≡ (n + cond (writes turn) 1 0)
+counted Goes n r stops = absurd (stops refl)
+counted Ends n r stops = omega arith
+counted (Cut true) n r stops = omega arith
+counted (Cut false) n r stops = omega arith
+counted Failed n r stops = omega arith
+counted Stalled n r stops = omega arith
+counted Unfit n r stops = omega arith
+counted RanOut n r stops = omega arith
+
+module _ (have_rows : EachDoneRunHasItsRow) (are_rows : RecordsAreRows) (tsv_back : TsvReadsBack) (json_back : JsonReadsBack) (form : OutputForm) (ds : List Directive) (accepted : IsAccepted ds) (m : ℕ) (ending : Ending) where
+  abbrev w : Work
+  w = writing form ds
+
+  abbrev slots : ℕ
+  slots = length (destinations_of ds)
+
+  turn_is : (r : RunReport) → turn_in w r ≡ turn_of r
+  turn_is r = fit_is true (turn_of r) refl
+
+  written_done : (r : RunReport) → writes (turn_in w r) ≡ true → r.status ≡ Done
+  written_done r e = done_by r.status r.met r.used r.converted (ap writes (sym (turn_is r)) ∙ e)
+
+  passed_done : (x y : List ℕ) (rs : List RunReport) → Passed w ds m x ending rs y → AreDone ds m x ending rs
+  passed_done x y [] passed = tt
+  passed_done x y (r ∷ rs) passed = (passed.0, written_done r (ap writes passed.1), passed_done (drop r.used x) y rs passed.2)
+
+  passed_last : (x y : List ℕ) (rs : List RunReport) (last : RunReport) → Passed w ds m x ending rs y → RunWithin ds m y ending last → last.status ≡ Done → AreDone ds m x ending (rs ++ last ∷ [])
+  passed_last x y [] last passed ran done = (subst (λ z. RunWithin ds m z ending last) (sym passed) ran, done, tt)
+  passed_last x y (r ∷ rs) last passed ran done = (passed.0, written_done r (ap writes passed.1), passed_last (drop r.used x) y rs last passed.2 ran done)
+
+  record Rowed (rs : List RunReport) : Type 0 where
+    pub rows : List (List Datum)
+    pub are : AreRowsOf slots rows rs
+    pub count : length rows ≡ length rs
+    pub values : AreRows rows
+    pub kinds : HaveKinds (kinds_of ds) rows
+    pub text : texts w rs ≡ flat_map (row_text form) rows
+
+  rowed : (x : List ℕ) → AreBytes x → (rs : List RunReport) → AreDone ds m x ending rs → Rowed rs
+  rowed x bytes [] done = record { rows = []; are = tt; count = refl; values = tt; kinds = tt; text = refl }
+  rowed x bytes (r ∷ rs) done =
+      let has = have_rows ds accepted m x ending r bytes (inl done.0) done.1 in
+      let later = rowed (drop r.used x) (bytes_behind x r.used bytes) rs done.2 in
+      record {
+        rows = has.row ∷ later.rows;
+        are = (has.is_row, later.are);
+        count = omega (arith, later.count);
+        values = (has.are_values, later.values);
+        kinds = (has.kinds, later.kinds);
+        text = ap₂ (λ a b. a ++ b) (are_rows form slots has.row r has.is_row) later.text;
+      }
+
+  reads : (x : List ℕ) → AreBytes x → (rs : List RunReport) → AreDone ds m x ending rs → (text part : List ℕ) → text ≡ texts w rs ++ part → (answer : ToolEnd) → answer.records ≡ length rs
+      → (is_write answer.fault ≡ false → part ≡ []) → ReadsAsRows form ds m x ending text answer
+  reads x bytes rs done text part is answer count whole =
+      let all = rowed x bytes rs done in
+      record {
+        reports = rs;
+        done = done;
+        rows = all.rows;
+        are = all.are;
+        count = all.count ∙ sym count;
+        values = all.values;
+        kinds = all.kinds;
+        part = part;
+        text_is = is ∙ ap (λ t. t ++ part) all.text;
+        whole = whole;
+        tsv = λ e. ap (λ f. tsv_rows (kinds_of ds) (flat_map (row_text f) all.rows)) e ∙ tsv_back (kinds_of ds) all.rows all.values all.kinds;
+        json = λ e. ap (λ f. json_rows (flat_map (row_text f) all.rows)) e ∙ json_back all.rows all.values;
+      }
+
+  -- where the loop stopped at a run
+  stopped_so : (x : List ℕ) → AreBytes x → (output : List ℕ) (end : ToolEnd) (front : List RunReport) (left : List ℕ) → Passed w ds m x ending front left → (last : RunReport) → RunWithin ds m left ending last
+      → (turn_in w last ≡ Goes → ⊥) → output ≡ texts w front ++ last_text w last → (n : ℕ) → n ≡ length front → end ≡ end_by (turn_in w last) n last → (b : Bool) → writes (turn_in w last) ≡ b → ReadsAsRows form ds m x ending output end
+  stopped_so x bytes output end front left passed last ran stops is n count end_is true due =
+      let text : last_text w last ≡ w.text last = ap (λ b. cond b (w.text last) []) due in
+      let one : texts w (last ∷ []) ≡ w.text last = append-nil (w.text last) in
+      let all : output ≡ texts w (front ++ last ∷ []) ++ [] =
+      is ∙ ap (λ t. texts w front ++ t) (text ∙ sym one) ∙ sym (flat_map-append w.text front (last ∷ [])) ∙ sym (append-nil (texts w (front ++ last ∷ []))) in
+      let records : end.records ≡ n + 1 = ap (λ e. e.records) end_is ∙ counted (turn_in w last) n last stops ∙ ap (λ b. n + cond b 1 0) due in
+      reads x bytes (front ++ last ∷ []) (passed_last x left front last passed ran (written_done last due)) output [] all end (omega (arith, records, count, length-append front (last ∷ []))) (λ e. refl)
+  stopped_so x bytes output end front left passed last ran stops is n count end_is false due =
+      let records : end.records ≡ n + 0 = ap (λ e. e.records) end_is ∙ counted (turn_in w last) n last stops ∙ ap (λ b. n + cond b 1 0) due in
+      reads x bytes front (passed_done x left front passed) output [] (is ∙ ap (λ b. texts w front ++ cond b (w.text last) []) due) end (omega (arith, records, count)) (λ e. refl)
+
+  -- where the loop came to its end
+  pub ended_so : (x : List ℕ) → AreBytes x → (output : List ℕ) (used : ℕ) (end : ToolEnd) → EndsWith w ds m x ending output used end → ReadsAsRows form ds m x ending output end
+  ended_so x bytes output used end h = elim h.stops [
+    | inl full ↦
+        reads x bytes h.written (passed_done x h.left h.written h.passed) output [] (h.output_is ∙ ap (λ t. texts w h.written ++ t) full.nothing) end
+        (omega (arith, ap (λ e. e.records) full.end_is)) (λ e. refl)
+    | inr stops ↦
+        stopped_so x bytes output end h.written h.left h.passed stops.last stops.ran stops.stops (h.output_is ∙ ap (λ t. texts w h.written ++ t) stops.tail_is) (0 + length h.written) (omega arith) stops.end_is
+        (writes (turn_in w stops.last)) refl
+  ]
+
+  -- where it was ended before
+  pub cut_so : (x : List ℕ) → AreBytes x → (text : List ℕ) (consumed : ℕ) (answer : ToolEnd) → IsCutShort w ds m x ending text consumed answer → ReadsAsRows form ds m x ending text answer
+  cut_so x bytes text consumed answer h = elim h.why [
+    | inl write ↦ reads x bytes h.before (passed_done x h.left h.before h.passed) text h.part h.written_is answer (ap (λ e. e.records) write.0) (λ e. absurd (true≢false (sym (ap (λ a. is_write a.fault) write.0) ∙ e)))
+    | inr memory ↦ reads x bytes h.before (passed_done x h.left h.before h.passed) text h.part h.written_is answer (ap (λ e. e.records) memory.0) (λ e. memory.1)
+  ]
+
+pub reads_back : {S : Type 0} (to_come : S → Option (List ℕ)) → EachDoneRunHasItsRow → RecordsAreRows → TsvReadsBack → JsonReadsBack → WrittenReadsBack to_come
+reads_back to_come have_rows are_rows tsv_back json_back form ds accepted m t bytes now failures failures' before after answer loop = by loop.told
+  where
+    bytes_in : (failed : Bool) → AreBytes (input_by failed loop.consumed t)
+    bytes_in true = bytes_taken t loop.consumed bytes
+    bytes_in false = bytes
+
+    by : (loop.written ≡ loop.output) × (loop.consumed ≡ loop.used) × (answer ≡ loop.end)
+        ⊎ ((missing : List ℕ) × (loop.output ≡ loop.written ++ missing)) × IsCutShort (writing form ds) ds m (input_by loop.failed loop.consumed t) (ending_by loop.failed) loop.written loop.consumed answer
+        → ReadsAsRows form ds m (input_by loop.failed loop.consumed t) (ending_by loop.failed) loop.written answer
+    by (inl (text, used, end)) =
+        subst (λ a. ReadsAsRows form ds m (input_by loop.failed loop.consumed t) (ending_by loop.failed) loop.written a) (sym end)
+        (subst (λ y. ReadsAsRows form ds m (input_by loop.failed loop.consumed t) (ending_by loop.failed) y loop.end) (sym text)
+        (ended_so have_rows are_rows tsv_back json_back form ds accepted m (ending_by loop.failed) (input_by loop.failed loop.consumed t) (bytes_in loop.failed) loop.output loop.used loop.end loop.is))
+    by (inr (missing, cut)) =
+        cut_so have_rows are_rows tsv_back json_back form ds accepted m (ending_by loop.failed) (input_by loop.failed loop.consumed t) (bytes_in loop.failed) loop.written loop.consumed answer cut

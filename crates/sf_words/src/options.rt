@@ -1,0 +1,244 @@
+//! The options of the command, in one table: `clap`'s line, the help and the misuses of `--lines` come of it.
+ghost use Rattle.std.specs.Prelude.{◌≡◌, false};
+ghost use Rattle.clap.specs.Words.{rule_of};
+ghost use Rattle.sf_words.specs.Options.{AreOptions, is_of, long_rule, option_rule, short_rule, value_rule};
+
+use crate::order::Verb;
+use clap::builder::ValueParser;
+use clap::{Arg, ArgAction};
+use std::alloc::Global;
+
+/// What stands after an option.
+#[derive(Clone, Copy)]
+pub(crate) enum OptionValue {
+    /// Nothing: the option is given or it isn't.
+    Nothing,
+    /// A number of this range. Where none is given, it is that of the text, if there is one.
+    Number {
+        least: i64,
+        most: i64,
+        default: Option<&'static str>,
+    },
+    /// A text. Where none is given, it is this.
+    Text {
+        name: &'static str,
+        default: &'static str,
+    },
+    /// A text, as often as the option is given.
+    Texts {
+        name: &'static str,
+    },
+}
+
+/// The commands that have an option.
+#[derive(Clone, Copy)]
+pub(crate) enum OptionOf {
+    /// Each of the five.
+    All,
+    /// Those that scan records: `scan` and `copy`.
+    Records,
+    /// `scan`.
+    Scan,
+    /// `scan`, with `--lines` alone.
+    Lines,
+}
+
+/// An option.
+#[derive(Clone, Copy)]
+pub(crate) struct CommandOption {
+    /// What its values are kept under, and its long name, where it has one.
+    pub name: &'static str,
+    /// Whether `--` and its name stand for it.
+    pub has_long: bool,
+    /// The letter that stands for it after one hyphen.
+    pub short: Option<char>,
+    /// What stands after it.
+    pub value: OptionValue,
+    /// The commands that have it.
+    pub of: OptionOf,
+    /// The line of the help.
+    pub help: &'static str,
+}
+
+/// The table.
+static OPTIONS: [CommandOption; 11] = [
+    CommandOption {
+        name: "limit",
+        has_long: true,
+        short: None,
+        value: OptionValue::Number {
+            least: 0,
+            most: 2147483647,
+            default: Some("1048576"),
+        },
+        of: OptionOf::Records,
+        help: "The most bytes that one record may have, 0 to 2147483647",
+    },
+    CommandOption {
+        name: "line-buffered",
+        has_long: true,
+        short: None,
+        value: OptionValue::Nothing,
+        of: OptionOf::Records,
+        help: "Write what each record gives at once, and not in blocks",
+    },
+    CommandOption {
+        name: "profile",
+        has_long: true,
+        short: Some('p'),
+        value: OptionValue::Number {
+            least: 1,
+            most: 2,
+            default: Some("1"),
+        },
+        of: OptionOf::All,
+        help: "The formats that are read: 1 those of C, 2 those of base 2 too",
+    },
+    CommandOption {
+        name: "explain",
+        has_long: true,
+        short: None,
+        value: OptionValue::Nothing,
+        of: OptionOf::All,
+        help: "Say more of what is at fault, in lines behind the first",
+    },
+    CommandOption {
+        name: "output",
+        has_long: true,
+        short: Some('o'),
+        value: OptionValue::Text {
+            name: "FORM",
+            default: "plain",
+        },
+        of: OptionOf::Scan,
+        help: "How the values of a record are written: plain, tsv or json",
+    },
+    CommandOption {
+        name: "lines",
+        has_long: true,
+        short: Some('l'),
+        value: OptionValue::Nothing,
+        of: OptionOf::Scan,
+        help: "Take each line as an input of its own",
+    },
+    CommandOption {
+        name: "formats",
+        has_long: false,
+        short: Some('e'),
+        value: OptionValue::Texts { name: "FORMAT" },
+        of: OptionOf::Lines,
+        help: "A format of a line, with --lines; the first of several that is done counts",
+    },
+    CommandOption {
+        name: "skip",
+        has_long: true,
+        short: Some('s'),
+        value: OptionValue::Number {
+            least: 0,
+            most: 9223372036854775807,
+            default: None,
+        },
+        of: OptionOf::Lines,
+        help: "Pass over the first N lines, with --lines",
+    },
+    CommandOption {
+        name: "whole",
+        has_long: true,
+        short: None,
+        value: OptionValue::Nothing,
+        of: OptionOf::Lines,
+        help: "Let a line fail that is not used whole, with --lines",
+    },
+    CommandOption {
+        name: "keep-going",
+        has_long: true,
+        short: Some('k'),
+        value: OptionValue::Nothing,
+        of: OptionOf::Lines,
+        help: "Go on behind a line that fails, with --lines",
+    },
+    CommandOption {
+        name: "quiet",
+        has_long: true,
+        short: Some('q'),
+        value: OptionValue::Nothing,
+        of: OptionOf::Lines,
+        help: "Tell nothing of lines that fail, with --lines",
+    },
+];
+
+/// The options, in the order of the help.
+pub(crate) fn all_options() -> &'static [CommandOption]
+    ensures { AreOptions result.now }
+{
+    &OPTIONS
+}
+
+impl OptionOf {
+    /// Whether the command has such an option.
+    pub(crate) fn has(self, verb: Verb) -> bool
+        ensures { result ≡ is_of self verb }
+    {
+        match self {
+            OptionOf::All => true,
+            OptionOf::Records => matches!(verb, Verb::Scan | Verb::Copy),
+            OptionOf::Scan | OptionOf::Lines => matches!(verb, Verb::Scan),
+        }
+    }
+}
+
+/// An argument that takes this.
+fn with_value<'a>(arg: Arg<'a>, value: OptionValue) -> Arg<'a>
+    ensures rule { rule_of result ≡ value_rule value (rule_of arg.entry) }
+    ensures local { result.global ≡ arg.entry.global }
+{
+    match value {
+        OptionValue::Nothing => arg.action(ArgAction::SetTrue),
+        OptionValue::Number {
+            least,
+            most,
+            default: None,
+        } => arg
+            .value_name("N")
+            .value_parser(ValueParser::Signed(least, most)),
+        OptionValue::Number {
+            least,
+            most,
+            default: Some(text),
+        } => arg
+            .value_name("N")
+            .value_parser(ValueParser::Signed(least, most))
+            .default_value(text),
+        OptionValue::Text { name, default } => arg.value_name(name).default_value(default),
+        OptionValue::Texts { name } => arg.value_name(name).action(ArgAction::Append),
+    }
+}
+
+/// An argument for which this letter stands, if there is one.
+fn with_short<'a>(arg: Arg<'a>, short: Option<char>) -> Arg<'a>
+    ensures rule { rule_of result ≡ short_rule short (rule_of arg.entry) }
+    ensures local { result.global ≡ arg.entry.global }
+{
+    match short {
+        Some(letter) => arg.short(letter),
+        None => arg,
+    }
+}
+
+/// An argument for which this name stands, where it does.
+fn with_long<'a>(arg: Arg<'a>, name: &'a str, has_long: bool) -> Arg<'a>
+    ensures rule { rule_of result ≡ long_rule name.entry.now has_long (rule_of arg.entry) }
+    ensures local { result.global ≡ arg.entry.global }
+{
+    if has_long { arg.long(name) } else { arg }
+}
+
+/// The argument of an option.
+pub(crate) fn argument<'a>(alloc: Global, option: CommandOption) -> Arg<'a>
+    ensures rule { rule_of result ≡ option_rule option }
+    ensures local { result.global ≡ false }
+{
+    let bare = Arg::new(alloc, option.name).help(option.help);
+    let named = with_long(with_short(bare, option.short), option.name, option.has_long);
+    with_value(named, option.value)
+}
