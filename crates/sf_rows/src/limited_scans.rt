@@ -5,7 +5,7 @@ use sf_base::Value;
 use sf_format::Profile;
 use sf_run::Status;
 
-static LIMITED: [ScanRow; 18] = [
+static LIMITED: [ScanRow; 19] = [
     ScanRow {
         profile: Profile::One,
         format: b"%d,%d",
@@ -166,6 +166,16 @@ static LIMITED: [ScanRow; 18] = [
         text: b"12,-7\n",
         told: Told::Done(2, 5, Met::Byte),
         values: &[Value::I32(12), Value::I32(-7)],
+        at_once: false,
+    },
+    // a count that its kind doesn't hold
+    ScanRow {
+        profile: Profile::One,
+        format: b"%*200c%hhn",
+        limit: 200,
+        text: &[b'a'; 200],
+        told: Told::FailedAfter(Status::OutOfRange, 2, 0, 1, 200, Met::Nothing),
+        values: &[],
         at_once: false,
     },
 ];

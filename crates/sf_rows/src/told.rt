@@ -34,6 +34,8 @@ pub enum Told {
     Counted(u8, u16, u32, Met),
     /// Why, at which directive, the values assigned, the bytes used, and what it met.
     Failed(Status, u16, u8, u32, Met),
+    /// The same, with the conversions that completed before the bytes used.
+    FailedAfter(Status, u16, u8, u16, u32, Met),
 }
 
 impl Told {
@@ -46,6 +48,9 @@ impl Told {
             }
             Told::Failed(status, at, assigned, used, _) => {
                 (status, at, assigned, assigned as u16, used)
+            }
+            Told::FailedAfter(status, at, assigned, converted, used, _) => {
+                (status, at, assigned, converted, used)
             }
         };
         Outcome {
@@ -61,8 +66,10 @@ impl Told {
     /// What the run met.
     pub fn met(self) -> Met {
         match self {
-            Told::Done(_, _, met) | Told::Counted(_, _, _, met) | Told::Failed(_, _, _, _, met) =>
-                met,
+            Told::Done(_, _, met)
+            | Told::Counted(_, _, _, met)
+            | Told::Failed(_, _, _, _, met)
+            | Told::FailedAfter(_, _, _, _, _, met) => met,
         }
     }
 }

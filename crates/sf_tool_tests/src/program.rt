@@ -50,8 +50,8 @@ impl Write for Stream<'_> {
     }
 }
 
-/// The words, what is read, how many writes to the output succeed, what is written (`o`: to the output, `e`: to the error
-/// output), and the status.
+/// The words, what is read, how many writes to the output succeed, what is written (`o`: to the output, `e`: to the
+/// error output), and the status.
 struct Case {
     words: &'static str,
     terminal: bool,

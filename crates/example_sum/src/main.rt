@@ -1,0 +1,23 @@
+//! Sums the numbers of `name=number` records on standard input.
+#![tactic(auto)]
+
+use sf_scanf::{Profile, Records, ScanFormat, StdSource};
+
+/// The most bytes that one record may have.
+const LIMIT: u32 = 1000;
+
+fn main(rt: HostRuntime) -> anyhow::Result<()> {
+    let alloc = rt.alloc();
+    let format = ScanFormat::parse(alloc, Profile::One, b" %[^=]=%d")?;
+    let input = StdSource::new(rt.stdin());
+    let mut records = Records::<(Vec<u8>, i32), _, 4096>::new(alloc, input, &format, LIMIT)?;
+    let mut sum: i64 = 0;
+    for _ in 0..u64::MAX {
+        let Some((_name, number)) = records.next()? else {
+            break;
+        };
+        sum = sum.saturating_add(i64::from(number));
+    }
+    println!(rt; "{sum}")?;
+    Ok(())
+}

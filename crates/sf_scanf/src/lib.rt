@@ -1,0 +1,48 @@
+//! scanf and printf with typed values, for programs: what a program calls, under one name.
+//!
+//! A scan format reads bytes into values, a print format writes values as bytes (C11 7.21.6.1 and 7.21.6.2, with
+//! POSIX's numbered conversions). Both are parsed once, and used as often as one likes:
+//!
+//! - `ScanFormat::parse(alloc, Profile::One, b"%d ,%d")?`, and `PrintFormat::parse` likewise. `Profile::One` is C's
+//! grammar,   `Profile::Two` has base 2 beside. A text that is no format is a `FormatFault`: why (F1 to F19), and at
+//! which byte.
+//! - A scan has a limit, the most bytes that it may use, up to 2147483647.
+//!
+//! To scan
+//!
+//! - **records of an input**: `Records::<(i32, i32), _, 4096>::new(alloc, source, &format, LIMIT)?`, and then `next()?`
+//! until it is   None. A row is a tuple of one to six of `i8` to `i64`, `u8` to `u64` and `Vec<u8>`, or a type of your
+//! own (`Row`). `4096` is how   many bytes are read at once. A `RecordFault` says the record, the line and what failed.
+//! `Reports` lends each report instead.
+//! - **a text**: `sscan`, as sscanf; `sscan_over` uses a store again.
+//! - **one record of a source**: `scan_row`, or `fscan`, as fscanf, over a `Lookahead` of the source; `fscan_fixed` in
+//! fixed memory.
+//! - **bytes that come in pieces**: a `Scanner`, which is handed them by `feed`, and `end` when there are no more.
+//!
+//! `fscan`, `sscan` and `Scanner` answer a report: its `outcome` is how the run ended (`is_done(outcome)`,
+//! `is_end(outcome)`), `value(1)` or `get::<i32>(1)` what slot 1 was given, and `c_return` what fscanf returns.
+//!
+//! To print: `fprint(&mut sink, &format, &values)?`. A `Pair` of a print format and a scan format, once it is checked,
+//! reads back whatever it has written.
+//!
+//! Sources are `SliceSource` of bytes, `StdSource` of any `std::io::Read`, or an impl of `Source` of your own; sinks
+//! are `ListSink`, `StdSink` and `BlockSink`, or an impl of `Sink`. What takes memory takes `alloc`, which `rt.alloc()`
+//! gives, and says so where memory is refused; nothing here aborts.
+//!
+//! The whole loops of the command `sf` are in crates of their own: `sf_records` and `sf_lines`.
+#![tactic(auto)]
+
+mod outcomes;
+
+pub use outcomes::{is_done, is_end};
+pub use sf_base::{FixedStore, HeapStore, Kind, Store, StoreFull, Taken, Value};
+pub use sf_blocks::BlockSink;
+pub use sf_format::{FormatFault, FormatWhy, PrintFormat, Profile, ScanFormat};
+pub use sf_loops::{RecordFault, RecordWhy, Records, Reports};
+pub use sf_pair::{Pair, PairFault, PairWhy, WriteFault};
+pub use sf_print::{ListSink, PrintFault, Sink, SinkFault, StdSink, fprint, printed_len};
+pub use sf_read::{
+    Field, Lookahead, Row, RowFault, ScanRowFault, SliceSource, Source, SourceFault, StdSource,
+    fscan, fscan_fixed, fscan_over, scan_row, scan_row_over, sscan, sscan_over,
+};
+pub use sf_run::{Ending, Fed, FeedState, Outcome, Report, Scanned, Scanner, StartFault, Status};
