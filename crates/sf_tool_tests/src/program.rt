@@ -1,4 +1,6 @@
 //! The program on streams of its own: what each took, and in which order.
+ghost use Rattle.std.specs.Prelude.{◌≤◌, IfOk, length};
+
 use crate::shared::{is, words_of};
 use sf_read::SliceSource;
 use sf_tool::run_program;
@@ -24,7 +26,9 @@ struct Stream<'l> {
 }
 
 impl Stream<'_> {
-    fn put(&self, log: &mut Log, bytes: &[u8]) -> io::Result<usize> {
+    fn put(&self, log: &mut Log, bytes: &[u8]) -> io::Result<usize>
+        ensures most { IfOk result (λ n. n ≤ length bytes.now) }
+    {
         if self.letter == b'o' {
             if log.before_failures == 0 {
                 return Err(io::Error::from(ErrorKind::Other));
