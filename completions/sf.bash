@@ -2,8 +2,9 @@
 
 _sf() {
     local word=${COMP_WORDS[COMP_CWORD]} before=${COMP_WORDS[COMP_CWORD-1]} at
-    local all='-p --profile --explain -h --help' records='--limit --line-buffered'
-    local scan='-o --output -l --lines -e -s --skip --whole -k --keep-going -q --quiet'
+    local all='-p --profile --explain --no-explain -h --help' records='--limit --line-buffered'
+    local scan='-o --output --print --names -l --lines -e --tag -s --skip --whole -k --keep-going -q --quiet'
+    scan+=' --matching --ignore'
     COMPREPLY=()
     # the file of a redirection
     if [[ $before == *[\<\>]* ]]; then
@@ -14,24 +15,40 @@ _sf() {
         COMPREPLY=( $(compgen -W 'show scan print check copy help -h --help -V --version' -- "$word") )
         return
     fi
-    [[ $before == --limit || $before == --skip || $before == -s || $before == -e ]] && return
+    case $before in
+        --limit|--skip|-s|-e|--print|--names|--ignore|--width) return ;;
+    esac
     if [[ $before == --profile || $before == -p ]]; then
         COMPREPLY=( $(compgen -W '1 2' -- "$word") )
         return
     fi
     if [[ $before == --output || $before == -o ]]; then
-        COMPREPLY=( $(compgen -W 'plain tsv json' -- "$word") )
+        COMPREPLY=( $(compgen -W 'plain tsv json csv' -- "$word") )
         return
     fi
-    # what stands behind -- is no option
+    # what stands after -- is no option
     for (( at = 2; at < COMP_CWORD; at++ )); do
         [[ ${COMP_WORDS[at]} == -- ]] && return
     done
     case ${COMP_WORDS[1]} in
         help) (( COMP_CWORD == 2 )) && COMPREPLY=( $(compgen -W 'show scan print check copy help' -- "$word") ) ;;
-        scan) [[ $word == -* ]] && COMPREPLY=( $(compgen -W "$all $records $scan" -- "$word") ) ;;
-        copy) [[ $word == -* ]] && COMPREPLY=( $(compgen -W "$all $records" -- "$word") ) ;;
-        show|print|check) [[ $word == -* ]] && COMPREPLY=( $(compgen -W "$all" -- "$word") ) ;;
+        scan)
+            if [[ $word == -* ]]; then
+                COMPREPLY=( $(compgen -W "$all $records $scan" -- "$word") )
+            else
+                compopt -o default
+            fi
+            ;;
+        copy)
+            if [[ $word == -* ]]; then
+                COMPREPLY=( $(compgen -W "$all $records" -- "$word") )
+            else
+                compopt -o default
+            fi
+            ;;
+        show) [[ $word == -* ]] && COMPREPLY=( $(compgen -W "$all" -- "$word") ) ;;
+        print) [[ $word == -* ]] && COMPREPLY=( $(compgen -W "$all --raw" -- "$word") ) ;;
+        check) [[ $word == -* ]] && COMPREPLY=( $(compgen -W "$all --width" -- "$word") ) ;;
     esac
 }
 complete -F _sf sf

@@ -10,7 +10,7 @@ function __sf_has_command
     contains -- "$words[2]" $argv
 end
 
-function __sf_is_behind_help
+function __sf_is_after_help
     set -l words (commandline -opc)
     test (count $words) -eq 2 -a "$words[2]" = help
 end
@@ -19,21 +19,29 @@ complete -c sf -f
 complete -c sf -n __sf_has_no_command -s h -l help -d 'Show help'
 complete -c sf -n __sf_has_no_command -s V -l version -d 'Show the version'
 complete -c sf -n __sf_has_no_command -a show -d 'Show the directives of a scan format'
-complete -c sf -n __sf_has_no_command -a scan -d 'Scan standard input by a format'
+complete -c sf -n __sf_has_no_command -a scan -d 'Scan standard input or files by a format'
 complete -c sf -n __sf_has_no_command -a print -d 'Print values by a format'
-complete -c sf -n __sf_has_no_command -a check -d 'Tell whether what is written is read back'
+complete -c sf -n __sf_has_no_command -a check -d 'Say whether what is written is read back'
 complete -c sf -n __sf_has_no_command -a copy -d 'Scan by a format and print by another'
 complete -c sf -n __sf_has_no_command -a help -d 'Show help'
-complete -c sf -n __sf_is_behind_help -a 'show scan print check copy help'
+complete -c sf -n __sf_is_after_help -a 'show scan print check copy help'
 complete -c sf -n '__sf_has_command show scan print check copy' -s h -l help -d 'Show help'
 complete -c sf -n '__sf_has_command scan copy' -l limit -x -d 'The most bytes of one record'
 complete -c sf -n '__sf_has_command scan copy' -l line-buffered -d 'Write what each record gives at once'
 complete -c sf -n '__sf_has_command show scan print check copy' -s p -l profile -x -a '1 2' -d 'The formats that are read'
-complete -c sf -n '__sf_has_command scan' -s o -l output -x -a 'plain tsv json' -d 'How values are written'
+complete -c sf -n '__sf_has_command scan' -s o -l output -x -a 'plain tsv json csv' -d 'How values are written'
+complete -c sf -n '__sf_has_command scan' -l print -x -d 'Write each record by this print format, without a newline of its own'
+complete -c sf -n '__sf_has_command scan' -l names -x -d 'The names of the columns, as a,b: a header or keys'
 complete -c sf -n '__sf_has_command scan' -s l -l lines -d 'Take each line as an input of its own'
 complete -c sf -n '__sf_has_command scan' -s e -x -d 'A format of a line'
-complete -c sf -n '__sf_has_command scan' -s s -l skip -x -d 'Pass over the first lines'
-complete -c sf -n '__sf_has_command scan' -l whole -d 'Let a line fail that is not used whole'
-complete -c sf -n '__sf_has_command scan' -s k -l keep-going -d 'Go on behind a line that fails'
-complete -c sf -n '__sf_has_command scan' -s q -l quiet -d 'Tell nothing of lines that fail'
+complete -c sf -n '__sf_has_command scan' -l tag -d 'Write the number of the -e that counted, as the first column'
+complete -c sf -n '__sf_has_command scan' -s s -l skip -x -d 'Pass over the first lines, as a header'
+complete -c sf -n '__sf_has_command scan' -l whole -d 'Fail lines with trailing text'
+complete -c sf -n '__sf_has_command scan' -s k -l keep-going -d 'Go on after a line that fails'
+complete -c sf -n '__sf_has_command scan' -s q -l quiet -d "Don't report lines that fail"
+complete -c sf -n '__sf_has_command scan' -l matching -d 'Pass over lines that no format reads'
+complete -c sf -n '__sf_has_command scan' -l ignore -x -d 'Pass over lines that this format reads to their end'
+complete -c sf -n '__sf_has_command print' -l raw -d 'Take the values without escapes'
+complete -c sf -n '__sf_has_command check' -l width -x -d 'The width of texts'
 complete -c sf -n '__sf_has_command show scan print check copy' -l explain -d 'Say more of what is at fault'
+complete -c sf -n '__sf_has_command show scan print check copy' -l no-explain -d 'Say no more than the first line'

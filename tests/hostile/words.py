@@ -77,11 +77,13 @@ def limits():
 
 
 def others():
-    for words in ([], ["scan"], ["show"], ["print"], ["check"], ["copy"], ["check", "%d"], ["copy", "%d"], ["scan", "%d", "%d"], ["show", "a", "b"],
+    for words in ([], ["scan"], ["show"], ["print"], ["check"], ["copy"], ["copy", "%d"], ["check", "%d", "--names", "a"], ["show", "a", "b"],
                   ["check", "a", "b", "c"], ["nothing"], [""], ["--"], ["-"], ["--limit", "3", "scan", "%d"], ["scan", "--limit"],
                   ["print", "--limit", "3", "%d", "1"], ["scan", "--line-buffered=1", "%d"], ["x" * 131000], ["--" + "x" * 130000]):
         yield f"words {shown(words)}", refused(*words)
-    yield "100,000 words", refused("scan", *["%d"] * 100000)
+    yield "100,000 words", refused("show", *["%d"] * 100000)
+    yield "a file that isn't there", answers("scan", "%d", "%d", err="%d: can't be opened", status=3)
+    yield "100,000 files", answers("scan", "%d", *["%d"] * 99999, err=b"sf: %d: can't be opened\n" * 99999, status=3)
     for word in (b"\xff", b"\x80abc", b"%d\xc3", b"\xed\xa0\x80", b"\xf8\x88\x80\x80\x80"):
         for words in ([b"scan", word], [word], [b"print", b"%s", word], [b"check", b"%d;", word]):
             yield f"words {words} are no text", answers(*words, err="a word is not UTF-8; any byte can be written as \\xHH", status=2)

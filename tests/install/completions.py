@@ -79,6 +79,12 @@ class Completions:
 
     def test_a_format_is_no_word_to_complete(self):
         self.same("sf scan --lines -e ", [])
+        self.same("sf scan --print ", [])
+        self.same("sf scan --lines --ignore ", [])
+
+    def test_names_and_a_width_are_no_words_to_complete(self):
+        self.same("sf scan --names ", [])
+        self.same("sf check --width ", [])
 
     def test_profiles(self):
         self.same("sf show --profile ", ["1", "2"])
@@ -87,10 +93,13 @@ class Completions:
     def test_options_behind_those_of_lines(self):
         self.same("sf scan --lines --k", ["--keep-going"])
         self.same("sf scan --lines -e %d --qui", ["--quiet"])
+        self.same("sf scan --lines --m", ["--matching"])
+        self.same("sf print --r", ["--raw"])
+        self.same("sf check --w", ["--width"])
 
     def test_forms(self):
-        self.same("sf scan --output ", ["plain", "tsv", "json"])
-        self.same("sf scan -o ", ["plain", "tsv", "json"])
+        self.same("sf scan --output ", ["plain", "tsv", "json", "csv"])
+        self.same("sf scan -o ", ["plain", "tsv", "json", "csv"])
         self.same("sf scan --output t", ["tsv"])
 
 

@@ -13,7 +13,7 @@ path = os.path.join(ROOT, "crates", "sf", "out", "sf")
 # How many seconds a call may take: none of them should need one, and the machine may be busy.
 SECONDS = 20
 
-# What runs behind a shell's `&` ignores interrupts, and what runs by nohup hangups; the program would inherit that.
+# What runs after a shell's `&` ignores interrupts, and what runs by nohup hangups; the program would inherit that.
 for number in (signal.SIGHUP, signal.SIGINT, signal.SIGTERM):
     signal.signal(number, signal.SIG_DFL)
 

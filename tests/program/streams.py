@@ -143,7 +143,7 @@ class Order(Streams):
 
 
 class LinesThatAreTold(Streams):
-    """With --keep-going each line that is no match is told when it is read, behind the records before it."""
+    """With --keep-going each line that is no match is reported when it is read, after the records before it."""
     WORDS = ("scan", "--lines", "--keep-going", "%d")
     TOLD = b"sf: line %d: matching failure at 1, used 0, assigned 0\n"
 

@@ -48,12 +48,12 @@ class Words(unittest.TestCase):
         for words, wrong, usage in (
             (["scna", "%d"], "scna", "Usage: sf "),
             (["scan"], "FORMAT", "Usage: sf scan "),
-            (["scan", "%d", "more"], "more", "Usage: sf scan "),
+            (["show", "%d", "more"], "more", "Usage: sf show "),
             (["scan", "--limt", "3", "%d"], "--limt", "Usage: sf scan "),
             (["scan", "--limit", "x", "%d"], "x", ""),
             (["scan", "--limit", "2147483648", "%d"], "2147483648", ""),
             (["scan", "--limit", "-1", "%d"], "-1", ""),
-            (["check", "%d"], "SCAN", "Usage: sf check "),
+            (["check"], "PRINT", "Usage: sf check "),
             (["show", "-%d"], "-%", "Usage: sf show "),
         ):
             text = self.refused(*words)
@@ -64,7 +64,7 @@ class Words(unittest.TestCase):
         self.assertEqual(program.run("scan", "--limit", "0", "%d", stdin=b"1")[:2], (1, b""))
         self.assertEqual(program.run("scan", "--limit", "2147483647", "%d", stdin=b"1"), (0, b"1\n", b""))
 
-    def test_words_that_begin_with_a_dash_stand_behind_two(self):
+    def test_words_that_begin_with_a_dash_stand_after_two(self):
         self.assertEqual(program.run("print", "--", "%d", "-1"), (0, b"-1", b""))
         self.assertEqual(program.run("print", "%d", "--", "-1"), (0, b"-1", b""))
         self.assertEqual(program.run("scan", "--", "-%d", stdin=b"-5"), (0, b"5\n", b""))
@@ -80,7 +80,7 @@ class Examples(unittest.TestCase):
     FILES = {"points": "1,2\n3,4\n", "words": "up and away\n", "table": " +7,ab\n08,c\n", "numbers": "1;-2;"}
 
     def examples(self, *words):
-        """Each command of a help's examples, and what stands behind it."""
+        """Each command of a help's examples, and what stands after it."""
         text = program.run(*words)[1].decode()
         self.assertIn("Examples:\n", text)
         for line in text.split("Examples:\n")[1].split("\n\n")[0].splitlines():

@@ -10,12 +10,10 @@ fn main(rt: HostRuntime) -> anyhow::Result<()> {
     let alloc = rt.alloc();
     let format = ScanFormat::parse(alloc, Profile::One, b" %[^=]=%d")?;
     let input = StdSource::new(rt.stdin());
-    let mut records = Records::<(Vec<u8>, i32), _, 4096>::new(alloc, input, &format, LIMIT)?;
+    let records = Records::<(Vec<u8>, i32), _, 4096>::new(alloc, input, &format, LIMIT)?;
     let mut sum: i64 = 0;
-    for _ in 0..u64::MAX {
-        let Some((_name, number)) = records.next()? else {
-            break;
-        };
+    for row in records {
+        let (_name, number) = row?;
         sum = sum.saturating_add(i64::from(number));
     }
     println!(rt; "{sum}")?;

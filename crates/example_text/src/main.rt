@@ -1,10 +1,7 @@
 //! Scans texts: a date each, and how many bytes it took.
 #![tactic(auto)]
 
-use anyhow::bail;
-use sf_base::Value;
-use sf_format::{Profile, ScanFormat};
-use sf_read::sscan;
+use sf_scanf::{Profile, ScanFormat, sscan};
 
 /// The most bytes that one scan may use.
 const LIMIT: u32 = 1000;
@@ -14,28 +11,18 @@ fn main(rt: HostRuntime) -> anyhow::Result<()> {
     let format = ScanFormat::parse(alloc, Profile::One, b"%4u-%2u-%2u%n")?;
     let texts: [&[u8]; 3] = [b"2026-11-23T13:45", b" 1999-1-2", b"2026-11"];
     for text in texts {
-        let Ok(scanned) = sscan(alloc, text, &format, LIMIT) else {
-            bail!("out of memory");
-        };
+        let scanned = sscan(alloc, text, &format, LIMIT)?;
         let report = scanned.report();
-        let values = [
-            report.value(1),
-            report.value(2),
-            report.value(3),
-            report.value(4),
-        ];
-        if let [
-            Some(Value::U32(year)),
-            Some(Value::U32(month)),
-            Some(Value::U32(day)),
-            Some(Value::I32(used)),
-        ] = values
-        {
-            println!(rt; "{day}.{month}.{year} in {used} bytes")?;
-        } else {
-            let outcome = report.outcome();
-            println!(rt; "{:?} at directive {}", outcome.status, outcome.at)?;
-        }
+        let date = (
+            report.get::<u32>(1),
+            report.get::<u32>(2),
+            report.get::<u32>(3),
+        );
+        let ((Some(year), Some(month), Some(day)), Some(used)) = (date, report.get::<i32>(4)) else {
+            println!(rt; "{}", report.outcome())?;
+            continue;
+        };
+        println!(rt; "{day}.{month}.{year} in {used} bytes")?;
     }
     Ok(())
 }

@@ -1,8 +1,10 @@
 //! The program `sf`.
 #![tactic(auto)]
 
-use sf_read::StdSource;
-use sf_tool::{CommandFault, run_program};
+mod input;
+
+use crate::input::{Disk, Input};
+use sf_tool::{CommandFault, Terminals, run_program};
 use std::env;
 use std::io::{self, ErrorKind, IsTerminal};
 use std::process::ExitCode;
@@ -34,8 +36,20 @@ fn main(rt: HostRuntime) -> ExitCode {
         Ok(words) => words,
         Err(_) => return stopped(&rt, CommandFault::Memory),
     };
-    let terminal = rt.stdout().is_terminal();
-    let from = StdSource::new(rt.stdin());
-    let ended = run_program(alloc, &words, terminal, from, rt.stdout(), rt.stderr());
+    let terminals = Terminals {
+        output: rt.stdout().is_terminal(),
+        errors: rt.stderr().is_terminal(),
+    };
+    let from = Input::standard(rt.stdin());
+    let mut files = Disk::new(&rt);
+    let ended = run_program(
+        alloc,
+        &words,
+        terminals,
+        from,
+        &mut files,
+        rt.stdout(),
+        rt.stderr(),
+    );
     ExitCode::from(ended.status)
 }

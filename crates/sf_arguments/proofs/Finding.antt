@@ -17,20 +17,22 @@ use Rattle.sf_format.proofs.Outcomes.{by_test}
 use Rattle.sf_format.proofs.SlotLookups.{kinds_are}
 use Rattle.sf_arguments.specs.Arguments.{conv_at}
 use Rattle.sf_arguments.specs.Words.{IsNumberOf, StandsFor}
+use Rattle.sf_arguments.specs.declared.word_reading.WordReading.{WordReading}
 
 -- the letters of numbers
 abbrev pub IsOfNumber : PrintLetter → Type 0
 IsOfNumber l = (l ≡ Signed) ⊎ ((l ≡ Unsigned) ⊎ ((l ≡ Octal) ⊎ ((l ≡ HexLower) ⊎ ((l ≡ HexUpper) ⊎ (l ≡ Binary)))))
 
 -- they print the numbers of their kind
-pub number_stands : (l : PrintLetter) → IsOfNumber l → (P : (Datum → Type 0) → Type 0) → (k : Kind) (word : List ℕ) → P (IsNumberOf k word)
-    → P (StandsFor l k word)
-number_stands l (inl is) P k word h = rw is h
-number_stands l (inr (inl is)) P k word h = rw is h
-number_stands l (inr (inr (inl is))) P k word h = rw is h
-number_stands l (inr (inr (inr (inl is)))) P k word h = rw is h
-number_stands l (inr (inr (inr (inr (inl is))))) P k word h = rw is h
-number_stands l (inr (inr (inr (inr (inr is))))) P k word h = rw is h
+pub number_stands : (how : WordReading) (l : PrintLetter) → IsOfNumber l → (P : (Datum → Type 0) → Type 0) → (k : Kind) (word : List ℕ)
+    → P (IsNumberOf k word)
+    → P (StandsFor how l k word)
+number_stands how l (inl is) P k word h = rw is h
+number_stands how l (inr (inl is)) P k word h = rw is h
+number_stands how l (inr (inr (inl is))) P k word h = rw is h
+number_stands how l (inr (inr (inr (inl is)))) P k word h = rw is h
+number_stands how l (inr (inr (inr (inr (inl is))))) P k word h = rw is h
+number_stands how l (inr (inr (inr (inr (inr is))))) P k word h = rw is h
 
 -- ---- the conversion of a slot
 

@@ -5,5 +5,6 @@ pub mod OneAnswer
 pub mod Places
 pub mod PrintAnswering
 pub mod Reading
+pub mod Readings
 pub mod Suiting
 pub mod WordRows

@@ -16,7 +16,8 @@ use Rattle.sf_arguments.specs.Words.{IsNumberOf, StandsFor}
 use Rattle.sf_arguments.specs.Arguments.{IsAtFault, IsLowestFault, IsRefusedBy, StandsAt, ValuesOf}
 use Rattle.sf_arguments.specs.Laws.{OneValue, OneList, CountIsTold, FirstIsTold}
 use Rattle.sf_arguments.proofs.Numbers.{one_number}
-use Rattle.sf_arguments.proofs.Escaping.{bad_or_good, one_bad_escape, one_reading}
+use Rattle.sf_arguments.proofs.Readings.{one_list, one_unread, unread_or_read}
+use Rattle.sf_arguments.specs.declared.word_reading.WordReading.{WordReading}
 use Rattle.sf_arguments.proofs.Places.{fault_stands_for_none, some_same}
 
 -- ---- one value
@@ -25,24 +26,25 @@ same_number : (k : Kind) (word : List ℕ) (a b : Datum) → IsNumberOf k word a
 same_number k word a b (y, d, i, is) (z, e, j, too) = is ∙ ap (Number k) (one_number word y z d e) ∙ sym too
 
 pub one_value_holds : OneValue
-one_value_holds letter.Text k word a b (bytes, good, is) (others, fine, too) =
-    is ∙ ap (λ (t : List ℕ). Bytes t) (one_reading word bytes others good fine) ∙ sym too
-one_value_holds letter.One k word a b (bytes, good, one, is) (others, fine, also, too) =
-    is ∙ ap (λ (t : List ℕ). Bytes t) (one_reading word bytes others good fine) ∙ sym too
-one_value_holds letter.Signed k word a b is too = same_number k word a b is too
-one_value_holds letter.Unsigned k word a b is too = same_number k word a b is too
-one_value_holds letter.Octal k word a b is too = same_number k word a b is too
-one_value_holds letter.HexLower k word a b is too = same_number k word a b is too
-one_value_holds letter.HexUpper k word a b is too = same_number k word a b is too
-one_value_holds letter.Binary k word a b is too = same_number k word a b is too
+one_value_holds how letter.Text k word a b (bytes, good, is) (others, fine, too) =
+    is ∙ ap (λ (t : List ℕ). Bytes t) (one_list how word bytes others good fine) ∙ sym too
+one_value_holds how letter.One k word a b (bytes, good, one, is) (others, fine, also, too) =
+    is ∙ ap (λ (t : List ℕ). Bytes t) (one_list how word bytes others good fine) ∙ sym too
+one_value_holds how letter.Signed k word a b is too = same_number k word a b is too
+one_value_holds how letter.Unsigned k word a b is too = same_number k word a b is too
+one_value_holds how letter.Octal k word a b is too = same_number k word a b is too
+one_value_holds how letter.HexLower k word a b is too = same_number k word a b is too
+one_value_holds how letter.HexUpper k word a b is too = same_number k word a b is too
+one_value_holds how letter.Binary k word a b is too = same_number k word a b is too
 
 -- ---- one list
 
-same_at : (units : List PrintUnit) (slot : ℕ) (word : List ℕ) (a b : Datum) → StandsAt units slot word a → StandsAt units slot word b
+same_at : (how : WordReading) (units : List PrintUnit) (slot : ℕ) (word : List ℕ) (a b : Datum) → StandsAt how units slot word a
+    → StandsAt how units slot word b
     → a ≡ b
-same_at units slot word a b (c, is, stands) (d, too, also) =
-    let same : d ≡ c = cc in one_value_holds c.letter c.kind word a b stands
-    (subst (λ (x : PrintConv). StandsFor x.letter x.kind word b) same also)
+same_at how units slot word a b (c, is, stands) (d, too, also) =
+    let same : d ≡ c = cc in one_value_holds how c.letter c.kind word a b stands
+    (subst (λ (x : PrintConv). StandsFor how x.letter x.kind word b) same also)
 
 -- lists with the same element at each place are the same
 same_lists : (xs ys : List Datum) → length xs ≡ length ys → ((k : ℕ) → k < length xs → slice_get xs k ≡ slice_get ys k) → xs ≡ ys
@@ -56,7 +58,7 @@ same_lists (x ∷ xs) (y ∷ ys) e at =
     cc
 
 pub one_list_holds : OneList
-one_list_holds units words values others of too = same_lists values others (of.same ∙ sym too.same) at
+one_list_holds how units words values others of too = same_lists values others (of.same ∙ sym too.same) at
   where
     at : (k : ℕ) → k < length values → slice_get values k ≡ slice_get others k
     at k below =
@@ -64,29 +66,31 @@ one_list_holds units words values others of too = same_lists values others (of.s
         let is : slice_get words k ≡ Some word = slice_get-get_or words k [] (omega (arith, below, of.same)) in
         let a = of.each k word is in
         let b = too.each k word is in
-        a.1 ∙ ap (λ (v : Datum). Some v) (same_at units (k + 1) word a.0 b.0 a.2 b.2) ∙ sym b.1
+        a.1 ∙ ap (λ (v : Datum). Some v) (same_at how units (k + 1) word a.0 b.0 a.2 b.2) ∙ sym b.1
 
 -- ---- one answer
 
-module _ (units : List PrintUnit) (words : List (List ℕ)) where
-  not_both : {A : Type 0} (fault : ArgumentFault) (values : List Datum) → IsLowestFault units words fault → ValuesOf units words values → A
+module _ (how : WordReading) (units : List PrintUnit) (words : List (List ℕ)) where
+  not_both : {A : Type 0} (fault : ArgumentFault) (values : List Datum) → IsLowestFault how units words fault
+      → ValuesOf how units words values → A
   not_both fault values lowest of =
       let e = of.each lowest.place lowest.word lowest.is_word in
-      fault_stands_for_none units words (lowest.place + 1) lowest.word fault e.0 lowest.at_fault e.2
+      fault_stands_for_none how units words (lowest.place + 1) lowest.word fault e.0 lowest.at_fault e.2
 
-  none_before : {A : Type 0} (f g : ArgumentFault) (lowest : IsLowestFault units words f) (other : IsLowestFault units words g)
+  none_before : {A : Type 0} (f g : ArgumentFault) (lowest : IsLowestFault how units words f) (other : IsLowestFault how units words g)
       → lowest.place < other.place → A
   none_before f g lowest other less =
       let e = other.before lowest.place lowest.word less lowest.is_word in
-      fault_stands_for_none units words (lowest.place + 1) lowest.word f e.0 lowest.at_fault e.1
+      fault_stands_for_none how units words (lowest.place + 1) lowest.word f e.0 lowest.at_fault e.1
 
-  same_refusal : (l : PrintLetter) (f g : ArgumentFault) (c : PrintConv) (word : List ℕ) → IsRefusedBy l c word f → IsRefusedBy l c word g
+  same_refusal : (l : PrintLetter) (f g : ArgumentFault) (c : PrintConv) (word : List ℕ) → IsRefusedBy how l c word f
+      → IsRefusedBy how l c word g
       → f ≡ g
-  same_refusal letter.Text f g c word (a, bad, is) (b, ill, too) = is ∙ ap (BadEscape c.slot) (one_bad_escape word a b bad ill) ∙ sym too
+  same_refusal letter.Text f g c word (a, bad, is) (b, ill, too) = is ∙ ap (BadEscape c.slot) (one_unread how word a b bad ill) ∙ sym too
   same_refusal letter.One f g c word (inl (a, bad, is)) (inl (b, ill, too)) =
-      is ∙ ap (BadEscape c.slot) (one_bad_escape word a b bad ill) ∙ sym too
-  same_refusal letter.One f g c word (inl (a, bad, is)) (inr (bytes, good, other, too)) = bad_or_good word bytes a bad good
-  same_refusal letter.One f g c word (inr (bytes, good, other, is)) (inl (b, ill, too)) = bad_or_good word bytes b ill good
+      is ∙ ap (BadEscape c.slot) (one_unread how word a b bad ill) ∙ sym too
+  same_refusal letter.One f g c word (inl (a, bad, is)) (inr (bytes, good, other, too)) = unread_or_read how word bytes a bad good
+  same_refusal letter.One f g c word (inr (bytes, good, other, is)) (inl (b, ill, too)) = unread_or_read how word bytes b ill good
   same_refusal letter.One f g c word (inr (bytes, good, other, is)) (inr (others, fine, too, also)) = is ∙ sym also
   same_refusal letter.Signed f g c word (none, is) (nor, too) = is ∙ sym too
   same_refusal letter.Unsigned f g c word (none, is) (nor, too) = is ∙ sym too
@@ -95,14 +99,14 @@ module _ (units : List PrintUnit) (words : List (List ℕ)) where
   same_refusal letter.HexUpper f g c word (none, is) (nor, too) = is ∙ sym too
   same_refusal letter.Binary f g c word (none, is) (nor, too) = is ∙ sym too
 
-  same_fault : (f g : ArgumentFault) (slot : ℕ) (word other : List ℕ) → word ≡ other → IsAtFault units slot word f
-      → IsAtFault units slot other g → f ≡ g
+  same_fault : (f g : ArgumentFault) (slot : ℕ) (word other : List ℕ) → word ≡ other → IsAtFault how units slot word f
+      → IsAtFault how units slot other g → f ≡ g
   same_fault f g slot word other same (c, is, of) (d, too, by) =
       let convs : d ≡ c = cc in
-      same_refusal c.letter f g c word of (subst (λ (x : PrintConv). IsRefusedBy x.letter x word g) convs
-      (subst (λ (w : List ℕ). IsRefusedBy d.letter d w g) (sym same) by))
+      same_refusal c.letter f g c word of (subst (λ (x : PrintConv). IsRefusedBy how x.letter x word g) convs
+      (subst (λ (w : List ℕ). IsRefusedBy how d.letter d w g) (sym same) by))
 
-  one_fault : (f g : ArgumentFault) → IsLowestFault units words f → IsLowestFault units words g → f ≡ g
+  one_fault : (f g : ArgumentFault) → IsLowestFault how units words f → IsLowestFault how units words g → f ≡ g
   one_fault f g lowest other = by (cases_order lowest.place other.place)
     where
       by : (lowest.place ≡ other.place) ⊎ ((lowest.place < other.place) ⊎ (other.place < lowest.place)) → f ≡ g
@@ -110,30 +114,33 @@ module _ (units : List PrintUnit) (words : List (List ℕ)) where
           let words_same : lowest.word ≡ other.word = some_same lowest.word other.word (slice_get words lowest.place) lowest.is_word
           (subst (λ n. slice_get words n ≡ Some other.word) (sym e) other.is_word) in
           same_fault f g (lowest.place + 1) lowest.word other.word words_same lowest.at_fault
-          (subst (λ n. IsAtFault units (n + 1) other.word g) (sym e) other.at_fault)
+          (subst (λ n. IsAtFault how units (n + 1) other.word g) (sym e) other.at_fault)
       by (inr (inl less)) = none_before f g lowest other less
       by (inr (inr less)) = none_before g f other lowest less
 
 pub first_is_told_holds : FirstIsTold
-first_is_told_holds units words before after (Ok _) fault lowest (values, of, writes) = not_both units words fault values lowest of
-first_is_told_holds units words before after (Err TooLong) fault lowest (values, of, writes) = not_both units words fault values lowest of
-first_is_told_holds units words before after (Err Write) fault lowest (values, of, writes) = not_both units words fault values lowest of
-first_is_told_holds units words before after (Err Memory) fault lowest (values, of, writes) = not_both units words fault values lowest of
-first_is_told_holds units words before after (Err (WrongCount e g)) fault lowest (is, got, differ) =
+first_is_told_holds how units words before after (Ok _) fault lowest (values, of, writes) = not_both how units words fault values lowest of
+first_is_told_holds how units words before after (Err TooLong) fault lowest
+    (values, of, writes) = not_both how units words fault values lowest of
+first_is_told_holds how units words before after (Err Write) fault lowest
+    (values, of, writes) = not_both how units words fault values lowest of
+first_is_told_holds how units words before after (Err Memory) fault lowest
+    (values, of, writes) = not_both how units words fault values lowest of
+first_is_told_holds how units words before after (Err (WrongCount e g)) fault lowest (is, got, differ) =
     absurd (differ (got ∙ lowest.count ∙ sym is))
-first_is_told_holds units words before after (Err (BadEscape at offset)) fault lowest also =
-    ap (λ (f : ArgumentFault). Err f) (one_fault units words (BadEscape at offset) fault also lowest)
-first_is_told_holds units words before after (Err (NotInKind at kind)) fault lowest also =
-    ap (λ (f : ArgumentFault). Err f) (one_fault units words (NotInKind at kind) fault also lowest)
-first_is_told_holds units words before after (Err (NotOneByte at)) fault lowest also =
-    ap (λ (f : ArgumentFault). Err f) (one_fault units words (NotOneByte at) fault also lowest)
+first_is_told_holds how units words before after (Err (BadEscape at offset)) fault lowest also =
+    ap (λ (f : ArgumentFault). Err f) (one_fault how units words (BadEscape at offset) fault also lowest)
+first_is_told_holds how units words before after (Err (NotInKind at kind)) fault lowest also =
+    ap (λ (f : ArgumentFault). Err f) (one_fault how units words (NotInKind at kind) fault also lowest)
+first_is_told_holds how units words before after (Err (NotOneByte at)) fault lowest also =
+    ap (λ (f : ArgumentFault). Err f) (one_fault how units words (NotOneByte at) fault also lowest)
 
 pub count_is_told_holds : CountIsTold
-count_is_told_holds units words before after (Ok _) differ (values, of, writes) = absurd (differ of.count)
-count_is_told_holds units words before after (Err TooLong) differ (values, of, writes) = absurd (differ of.count)
-count_is_told_holds units words before after (Err Write) differ (values, of, writes) = absurd (differ of.count)
-count_is_told_holds units words before after (Err Memory) differ (values, of, writes) = absurd (differ of.count)
-count_is_told_holds units words before after (Err (WrongCount e g)) differ (is, got, apart) = cc
-count_is_told_holds units words before after (Err (BadEscape at offset)) differ lowest = absurd (differ lowest.count)
-count_is_told_holds units words before after (Err (NotInKind at kind)) differ lowest = absurd (differ lowest.count)
-count_is_told_holds units words before after (Err (NotOneByte at)) differ lowest = absurd (differ lowest.count)
+count_is_told_holds how units words before after (Ok _) differ (values, of, writes) = absurd (differ of.count)
+count_is_told_holds how units words before after (Err TooLong) differ (values, of, writes) = absurd (differ of.count)
+count_is_told_holds how units words before after (Err Write) differ (values, of, writes) = absurd (differ of.count)
+count_is_told_holds how units words before after (Err Memory) differ (values, of, writes) = absurd (differ of.count)
+count_is_told_holds how units words before after (Err (WrongCount e g)) differ (is, got, apart) = cc
+count_is_told_holds how units words before after (Err (BadEscape at offset)) differ lowest = absurd (differ lowest.count)
+count_is_told_holds how units words before after (Err (NotInKind at kind)) differ lowest = absurd (differ lowest.count)
+count_is_told_holds how units words before after (Err (NotOneByte at)) differ lowest = absurd (differ lowest.count)

@@ -19,6 +19,7 @@ use Rattle.sf_arguments.specs.Arguments.{AllStand, IsLowestFault, IsRefusedBy, V
 use Rattle.sf_arguments.proofs.Places.{values_are}
 use Rattle.sf_arguments.specs.Prints.{Answers, Writes, IsUnwritten, is_write_fault, print_fault}
 use Rattle.sf_arguments.proofs.Suiting.{no_fault}
+use Rattle.sf_arguments.specs.declared.word_reading.WordReading.{WordReading}
 
 -- ---- a word at fault
 
@@ -28,24 +29,24 @@ is_of_word (NotInKind at kind) = true
 is_of_word (NotOneByte at) = true
 is_of_word _ = false
 
-of_word_by : (l : PrintLetter) (c : PrintConv) (word : List ℕ) (fault : ArgumentFault) → IsRefusedBy l c word fault
+of_word_by : (how : WordReading) (l : PrintLetter) (c : PrintConv) (word : List ℕ) (fault : ArgumentFault) → IsRefusedBy how l c word fault
     → is_of_word fault ≡ true
-of_word_by letter.Signed c word fault (none, is) = ap is_of_word is
-of_word_by letter.Unsigned c word fault (none, is) = ap is_of_word is
-of_word_by letter.Octal c word fault (none, is) = ap is_of_word is
-of_word_by letter.HexLower c word fault (none, is) = ap is_of_word is
-of_word_by letter.HexUpper c word fault (none, is) = ap is_of_word is
-of_word_by letter.Binary c word fault (none, is) = ap is_of_word is
-of_word_by letter.Text c word fault (at, bad, is) = ap is_of_word is
-of_word_by letter.One c word fault (inl (at, bad, is)) = ap is_of_word is
-of_word_by letter.One c word fault (inr (bytes, good, other, is)) = ap is_of_word is
+of_word_by how letter.Signed c word fault (none, is) = ap is_of_word is
+of_word_by how letter.Unsigned c word fault (none, is) = ap is_of_word is
+of_word_by how letter.Octal c word fault (none, is) = ap is_of_word is
+of_word_by how letter.HexLower c word fault (none, is) = ap is_of_word is
+of_word_by how letter.HexUpper c word fault (none, is) = ap is_of_word is
+of_word_by how letter.Binary c word fault (none, is) = ap is_of_word is
+of_word_by how letter.Text c word fault (at, bad, is) = ap is_of_word is
+of_word_by how letter.One c word fault (inl (at, bad, is)) = ap is_of_word is
+of_word_by how letter.One c word fault (inr (bytes, good, other, is)) = ap is_of_word is
 
-module _ (units : List PrintUnit) (words : List (List ℕ)) where
-  of_word : (fault : ArgumentFault) → IsLowestFault units words fault → is_of_word fault ≡ true
-  of_word fault lowest = let c = lowest.at_fault.0 in of_word_by c.letter c lowest.word fault lowest.at_fault.2
+module _ (how : WordReading) (units : List PrintUnit) (words : List (List ℕ)) where
+  of_word : (fault : ArgumentFault) → IsLowestFault how units words fault → is_of_word fault ≡ true
+  of_word fault lowest = let c = lowest.at_fault.0 in of_word_by how c.letter c lowest.word fault lowest.at_fault.2
 
-  pub lowest_answers : (before after : Option (List ℕ)) (fault : ArgumentFault) → IsLowestFault units words fault
-      → Answers units words before after (Err fault)
+  pub lowest_answers : (before after : Option (List ℕ)) (fault : ArgumentFault) → IsLowestFault how units words fault
+      → Answers how units words before after (Err fault)
   lowest_answers before after (BadEscape at offset) lowest = lowest
   lowest_answers before after (NotInKind at kind) lowest = lowest
   lowest_answers before after (NotOneByte at) lowest = lowest
@@ -108,64 +109,68 @@ module _ {K : Type 0} (contents : K → Option (List ℕ)) (text : List ℕ) (to
       (subst (λ (a : Result ℕ PrintFault). IfErr a (λ f. (r ≡ Err f) × (to' ≡ to))) e refused)) is
 
 -- the writer's answer to the values of words
-pub told_is : {K : Type 0} (contents : K → Option (List ℕ)) (units : List PrintUnit) (words : List (List ℕ)) (values : List Datum)
+pub told_is : {K : Type 0} (how : WordReading) (contents : K → Option (List ℕ)) (units : List PrintUnit) (words : List (List ℕ))
+    (values : List Datum)
     (to to' : K) (r : Result ℕ PrintFault)
-    → AreProperUnits units → AreSlots (values_of units) → ValuesOf units words values
+    → AreProperUnits units → AreSlots (values_of units) → ValuesOf how units words values
     → IfErr (measured units values) (λ f. (r ≡ Err f) × (to' ≡ to))
     → OnOk (measured units values) (WritesText (contents to) (contents to') (printed units values) r)
     → Told contents (printed units values) to to' r
-told_is contents units words values to to' r proper slots of refused written =
+told_is how contents units words values to to' r proper slots of refused written =
     told_by contents (printed units values) to to' (measured units values) r
-    (measured_is units values (of.same ∙ of.count) (no_fault units words values slots of proper)) refused written
+    (measured_is units values (of.same ∙ of.count) (no_fault how units words values slots of proper)) refused written
 
 -- a refusal of the writer is the command's
-pub printed_answers : (units : List PrintUnit) (words : List (List ℕ)) (values : List Datum) (before after : Option (List ℕ))
-    (fault : PrintFault) → ValuesOf units words values
-    → Writes (printed units values) before after (Err (print_fault fault)) → Answers units words before after (Err (print_fault fault))
-printed_answers units words values before after print.TooLong of writes = (values, of, writes)
-printed_answers units words values before after print.WrongCount of writes = (values, of, writes)
-printed_answers units words values before after (print.WrongKind at) of writes = (values, of, writes)
-printed_answers units words values before after (print.NotOneByte at) of writes = (values, of, writes)
-printed_answers units words values before after (print.Sink written) of writes = (values, of, writes)
+pub printed_answers : (how : WordReading) (units : List PrintUnit) (words : List (List ℕ)) (values : List Datum)
+    (before after : Option (List ℕ))
+    (fault : PrintFault) → ValuesOf how units words values
+    → Writes (printed units values) before after (Err (print_fault fault)) → Answers how units words before after (Err (print_fault fault))
+printed_answers how units words values before after print.TooLong of writes = (values, of, writes)
+printed_answers how units words values before after print.WrongCount of writes = (values, of, writes)
+printed_answers how units words values before after (print.WrongKind at) of writes = (values, of, writes)
+printed_answers how units words values before after (print.NotOneByte at) of writes = (values, of, writes)
+printed_answers how units words values before after (print.Sink written) of writes = (values, of, writes)
 
 -- want of memory is told of words that stand for values
-pub memory_answers : (units : List PrintUnit) (words : List (List ℕ)) (held : Option (List ℕ)) → length words ≡ length (values_of units)
-    → AllStand units words (length words)
-    → Answers units words held held (Err Memory)
-memory_answers units words held count all = let v = values_are units words count all in (v.0, v.1, tt)
+pub memory_answers : (how : WordReading) (units : List PrintUnit) (words : List (List ℕ)) (held : Option (List ℕ))
+    → length words ≡ length (values_of units)
+    → AllStand how units words (length words)
+    → Answers how units words held held (Err Memory)
+memory_answers how units words held count all = let v = values_are how units words count all in (v.0, v.1, tt)
 
-pub memory_is : (format units : List PrintUnit) (words : List (List ℕ)) (held : Option (List ℕ)) (n : ℕ)
+pub memory_is : (how : WordReading) (format units : List PrintUnit) (words : List (List ℕ)) (held : Option (List ℕ)) (n : ℕ)
     (r : Result (Unit {0}) ArgumentFault) → r ≡ Err Memory → units ≡ format → length words ≡ n
-    → AllStand units words n → length words ≡ length (values_of format) → Answers format words held held r
-memory_is format units words held n r is same many all count =
-    rw is (memory_answers format words held count (subst (λ (us : List PrintUnit). AllStand us words (length words)) same
-    (subst (AllStand units words) (sym many) all)))
+    → AllStand how units words n → length words ≡ length (values_of format) → Answers how format words held held r
+memory_is how format units words held n r is same many all count =
+    rw is (memory_answers how format words held count (subst (λ (us : List PrintUnit). AllStand how us words (length words)) same
+    (subst (AllStand how units words) (sym many) all)))
 
 -- what a refusal of the writer says of the command's answer
-pub record Refused {K : Type 0} (contents : K → Option (List ℕ)) (units : List PrintUnit) (words : List (List ℕ)) (out out' : K)
+pub record Refused {K : Type 0} (how : WordReading) (contents : K → Option (List ℕ)) (units : List PrintUnit) (words : List (List ℕ))
+    (out out' : K)
     (fault : PrintFault) : Type 0 where
-  pub answer : Answers units words (contents out) (contents out') (Err (print_fault fault))
+  pub answer : Answers how units words (contents out) (contents out') (Err (print_fault fault))
   pub failures : is_write_fault (Err (print_fault fault)) ≡ is_sink_fault (Err fault)
 
 abbrev refusal : PrintFault → Result ℕ PrintFault
 refusal fault = Err fault
 
 -- the units are those of the format, the values those that were made of the words
-pub refused_is : {K : Type 0} (contents : K → Option (List ℕ)) (format units : List PrintUnit) (words : List (List ℕ))
+pub refused_is : {K : Type 0} (how : WordReading) (contents : K → Option (List ℕ)) (format units : List PrintUnit) (words : List (List ℕ))
     (made values : List Value) (out out' : K) (fault : PrintFault)
-    → units ≡ format → values ≡ made → AreProperUnits units → AreSlots (values_of units) → ValuesOf units words (map datum_of made)
+    → units ≡ format → values ≡ made → AreProperUnits units → AreSlots (values_of units) → ValuesOf how units words (map datum_of made)
     → IfErr (measured format (map datum_of values)) (λ f. (refusal fault ≡ Err f) × (out' ≡ out))
     → OnOk (measured format (map datum_of values)) (WritesText (contents out) (contents out') (printed format (map datum_of values))
     (Err fault))
-    → Refused contents format words out out' fault
-refused_is contents format units words made values out out' fault same shown proper slots of refused written =
-    let all : ValuesOf format words (map datum_of values) =
-    subst (λ (us : List PrintUnit). ValuesOf us words (map datum_of values)) same
-    (subst (λ (vs : List Value). ValuesOf units words (map datum_of vs)) (sym shown) of) in
-    let told = told_is contents format words (map datum_of values) out out' (Err fault) (subst AreProperUnits same proper)
+    → Refused how contents format words out out' fault
+refused_is how contents format units words made values out out' fault same shown proper slots of refused written =
+    let all : ValuesOf how format words (map datum_of values) =
+    subst (λ (us : List PrintUnit). ValuesOf how us words (map datum_of values)) same
+    (subst (λ (vs : List Value). ValuesOf how units words (map datum_of vs)) (sym shown) of) in
+    let told = told_is how contents format words (map datum_of values) out out' (Err fault) (subst AreProperUnits same proper)
     (subst (λ (us : List PrintUnit). AreSlots (values_of us)) same slots) all refused written in
     record {
-      answer = printed_answers format words (map datum_of values) (contents out) (contents out') fault all told.writes;
+      answer = printed_answers how format words (map datum_of values) (contents out) (contents out') fault all told.writes;
       failures =
           told.failures;
     }

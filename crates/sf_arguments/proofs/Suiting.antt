@@ -18,6 +18,7 @@ use Rattle.sf_print.specs.declared.fault.PrintFault.{PrintFault}
 use Rattle.sf_print.specs.declared.fault.PrintFault.TheVariants as fault
 use Rattle.sf_print.specs.Printed.{value_at, kind_of, same_kind, suits, value_fault, fault_or_none, unit_fault, lower, lowest_fault}
 use Rattle.sf_arguments.specs.Words.{StandsFor}
+use Rattle.sf_arguments.specs.declared.word_reading.WordReading.{WordReading}
 use Rattle.sf_arguments.specs.Arguments.{ValuesOf, conv_at}
 use Rattle.sf_arguments.proofs.Finding.{Among, conv_found, slot_has}
 
@@ -51,16 +52,17 @@ one_is_one n e = ap (λ m. m == 1) e
 abbrev Suits : PrintLetter → Kind → Datum → Type 0
 Suits l k value = (same_kind (kind_of value) k ≡ true) × (suits l value ≡ true)
 
-suited : (l : PrintLetter) (k : Kind) (word : List ℕ) (value : Datum) → prints_kind l k ≡ true → StandsFor l k word value → Suits l k value
-suited letter.Text k word value proper (bytes, good, is) = subst (Suits letter.Text k) (sym is) (same_text k proper, refl)
-suited letter.One k word value proper (bytes, good, one, is) = subst (Suits letter.One k) (sym is)
+suited : (how : WordReading) (l : PrintLetter) (k : Kind) (word : List ℕ) (value : Datum) → prints_kind l k ≡ true
+    → StandsFor how l k word value → Suits l k value
+suited how letter.Text k word value proper (bytes, good, is) = subst (Suits letter.Text k) (sym is) (same_text k proper, refl)
+suited how letter.One k word value proper (bytes, good, one, is) = subst (Suits letter.One k) (sym is)
     (same_text k proper, one_is_one (length bytes) one)
-suited letter.Signed k word value proper (z, d, i, is) = subst (Suits letter.Signed k) (sym is) (kind_itself k, refl)
-suited letter.Unsigned k word value proper (z, d, i, is) = subst (Suits letter.Unsigned k) (sym is) (kind_itself k, refl)
-suited letter.Octal k word value proper (z, d, i, is) = subst (Suits letter.Octal k) (sym is) (kind_itself k, refl)
-suited letter.HexLower k word value proper (z, d, i, is) = subst (Suits letter.HexLower k) (sym is) (kind_itself k, refl)
-suited letter.HexUpper k word value proper (z, d, i, is) = subst (Suits letter.HexUpper k) (sym is) (kind_itself k, refl)
-suited letter.Binary k word value proper (z, d, i, is) = subst (Suits letter.Binary k) (sym is) (kind_itself k, refl)
+suited how letter.Signed k word value proper (z, d, i, is) = subst (Suits letter.Signed k) (sym is) (kind_itself k, refl)
+suited how letter.Unsigned k word value proper (z, d, i, is) = subst (Suits letter.Unsigned k) (sym is) (kind_itself k, refl)
+suited how letter.Octal k word value proper (z, d, i, is) = subst (Suits letter.Octal k) (sym is) (kind_itself k, refl)
+suited how letter.HexLower k word value proper (z, d, i, is) = subst (Suits letter.HexLower k) (sym is) (kind_itself k, refl)
+suited how letter.HexUpper k word value proper (z, d, i, is) = subst (Suits letter.HexUpper k) (sym is) (kind_itself k, refl)
+suited how letter.Binary k word value proper (z, d, i, is) = subst (Suits letter.Binary k) (sym is) (kind_itself k, refl)
 
 suits_so : (c : PrintConv) (value : Datum) → Suits c.letter c.kind value → value_fault c value ≡ None
 suits_so c value (same, suit) =
@@ -77,8 +79,8 @@ value_at_slot values slot value low is = by_test (slot == 0) (λ v. cond v None 
 same_conv : (c d : PrintConv) (o : Option PrintConv) → o ≡ Some c → o ≡ Some d → d ≡ c
 same_conv c d o e f = cc
 
-module _ (units : List PrintUnit) (words : List (List ℕ)) (values : List Datum) (slots : AreSlots (values_of units))
-    (of : ValuesOf units words values) where
+module _ (how : WordReading) (units : List PrintUnit) (words : List (List ℕ)) (values : List Datum) (slots : AreSlots (values_of units))
+    (of : ValuesOf how units words values) where
   unit_suits : (u : PrintUnit) → IsProperUnit u → Among u units → unit_fault values u ≡ None
   unit_suits (unit.Byte b) proper there = refl
   unit_suits (unit.Conv c) proper there =
@@ -89,9 +91,9 @@ module _ (units : List PrintUnit) (words : List (List ℕ)) (values : List Datum
       let back : c.slot - 1 + 1 ≡ c.slot = omega (arith, within.0) in
       let same : e.2.0 ≡ c = same_conv c e.2.0 (conv_at units c.slot) (conv_found units c slots.distinct there)
       (subst (λ n. conv_at units n ≡ Some e.2.0) back e.2.1) in
-      let stands : StandsFor c.letter c.kind word e.0 = subst (λ (d : PrintConv). StandsFor d.letter d.kind word e.0) same e.2.2 in
+      let stands : StandsFor how c.letter c.kind word e.0 = subst (λ (d : PrintConv). StandsFor how d.letter d.kind word e.0) same e.2.2 in
       ap (fault_or_none c) (value_at_slot values c.slot e.0 within.0 e.1)
-      ∙ suits_so c e.0 (suited c.letter c.kind word e.0 proper.kind stands)
+      ∙ suits_so c e.0 (suited how c.letter c.kind word e.0 proper.kind stands)
 
   none_lower : (o : Option PrintFault) → o ≡ None → lower None o ≡ None
   none_lower o e = e

@@ -26,12 +26,12 @@ hex_piece high low =
     if nat_lt (digit_value high) 16 && nat_lt (digit_value low) 16 then Some
     (record { byte = digit_value high * 16 + digit_value low; size = 4 }) else None
 
--- behind x
+-- after x
 abbrev pub hex_behind : List ℕ → Option Piece
 hex_behind (high ∷ low ∷ rest) = hex_piece high low
 hex_behind _ = None
 
--- behind a backslash
+-- after a backslash
 abbrev pub escape_behind : List ℕ → Option Piece
 escape_behind [] = None
 escape_behind (c ∷ rest) = if nat_eq c 120 then hex_behind rest else letter_piece (letter_byte c)
@@ -55,7 +55,7 @@ Unescapes word bytes = Stands word (length word) bytes
 abbrev pub IsBadEscape : List ℕ → ℕ → Type 0
 IsBadEscape word at = (at < length word) × (piece_of (drop at word) ≡ None) × ((before : List ℕ) × Stands word at before)
 
--- want of memory is told of a word without a bad escape
+-- want of memory is reported for a word without a bad escape
 abbrev pub IsFaultOf : List ℕ → EscapeFault → Type 0
 IsFaultOf word (Bad at) = IsBadEscape word at
 IsFaultOf word Memory = (bytes : List ℕ) × Unescapes word bytes

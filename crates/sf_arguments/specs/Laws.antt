@@ -8,27 +8,32 @@ use Rattle.sf_format.specs.Units.{values_of}
 use Rattle.sf_arguments.specs.declared.argument_fault.ArgumentFault.{ArgumentFault}
 use Rattle.sf_arguments.specs.declared.argument_fault.ArgumentFault.TheVariants.{WrongCount}
 use Rattle.sf_arguments.specs.Words.{StandsFor}
+use Rattle.sf_arguments.specs.declared.word_reading.WordReading.{WordReading}
 use Rattle.sf_arguments.specs.Arguments.{ValuesOf, IsLowestFault}
 use Rattle.sf_arguments.specs.Prints.{Answers}
 
 -- a word stands for at most one value
 abbrev pub OneValue : Type 0
-OneValue = (letter : PrintLetter) (kind : Kind) (word : List ℕ) (a b : Datum) → StandsFor letter kind word a → StandsFor letter kind word b
+OneValue = (how : WordReading) (letter : PrintLetter) (kind : Kind) (word : List ℕ) (a b : Datum) → StandsFor how letter kind word a
+    → StandsFor how letter kind word b
     → a ≡ b
 
 -- words stand for at most one list of values
 abbrev pub OneList : Type 0
-OneList = (units : List PrintUnit) (words : List (List ℕ)) (values others : List Datum) → ValuesOf units words values
-    → ValuesOf units words others → values ≡ others
+OneList = (how : WordReading) (units : List PrintUnit) (words : List (List ℕ)) (values others : List Datum)
+    → ValuesOf how units words values
+    → ValuesOf how units words others → values ≡ others
 
 -- where there are not as many words as values, the answer is that
 abbrev pub CountIsTold : Type 0
-CountIsTold = (units : List PrintUnit) (words : List (List ℕ)) (before after : Option (List ℕ)) (answer : Result (Unit {0}) ArgumentFault)
-    → length words ≢ length (values_of units) → Answers units words before after answer
+CountIsTold = (how : WordReading) (units : List PrintUnit) (words : List (List ℕ)) (before after : Option (List ℕ))
+    (answer : Result (Unit {0}) ArgumentFault)
+    → length words ≢ length (values_of units) → Answers how units words before after answer
     → answer ≡ Err (WrongCount (length (values_of units)) (length words))
 
 -- else where a word stands for no value, the answer is the fault of the first such
 abbrev pub FirstIsTold : Type 0
-FirstIsTold = (units : List PrintUnit) (words : List (List ℕ)) (before after : Option (List ℕ)) (answer : Result (Unit {0}) ArgumentFault)
+FirstIsTold = (how : WordReading) (units : List PrintUnit) (words : List (List ℕ)) (before after : Option (List ℕ))
+    (answer : Result (Unit {0}) ArgumentFault)
     (fault : ArgumentFault)
-    → IsLowestFault units words fault → Answers units words before after answer → answer ≡ Err fault
+    → IsLowestFault how units words fault → Answers how units words before after answer → answer ≡ Err fault

@@ -1,4 +1,4 @@
--- What a print of words answers and writes, and what is said where it is refused.
+-- What a print of words answers and writes, and the texts where it is refused.
 use Rattle.std.specs.Prelude.{◌≡◌, ◌≢◌, ◌≤◌, ◌<◌, ℕ, Bool, true, false, List, length, take, Option, Result, Ok, Err}
 use Rattle.std.specs.Io.KnownBytes.{Appends}
 use Rattle.sf_base.specs.Data.{Datum}
@@ -10,11 +10,12 @@ use Rattle.sf_print.specs.Printed.{printed, most_bytes}
 use Rattle.sf_arguments.specs.declared.argument_fault.ArgumentFault.{ArgumentFault}
 use Rattle.sf_arguments.specs.declared.argument_fault.ArgumentFault.TheVariants.{WrongCount, BadEscape, NotInKind, NotOneByte, TooLong, Write, Memory}
 use Rattle.sf_arguments.specs.Arguments.{ValuesOf, IsLowestFault}
+use Rattle.sf_arguments.specs.declared.word_reading.WordReading.{WordReading}
 
 -- ---- what is written
 
--- What a print of a text answers. The output held the bytes `before`, and now holds `after`; None where the sink doesn't tell.
--- Where it failed, it took a front of the text, and not all.
+-- What a print of a text answers. The output held the bytes `before`, and now holds `after`; None where the sink
+-- doesn't make that known. Where it failed, it took a front of the text, and not all.
 abbrev pub Writes : List ℕ → Option (List ℕ) → Option (List ℕ) → Result (Unit {0}) ArgumentFault → Type 0
 Writes text before after (Ok _) = (length text ≤ most_bytes) × Appends before after text
 Writes text before after (Err TooLong) = most_bytes < length text
@@ -24,25 +25,27 @@ Writes text before after (Err Memory) = Unit {0}
 Writes text before after (Err _) = ⊥
 
 -- the words stand for values, whose text is printed
-abbrev pub Prints : List PrintUnit → List (List ℕ) → Option (List ℕ) → Option (List ℕ) → Result (Unit {0}) ArgumentFault → Type 0
-Prints units words before after answer = (values : List Datum) × ValuesOf units words values
+abbrev pub Prints : WordReading → List PrintUnit → List (List ℕ) → Option (List ℕ) → Option (List ℕ) → Result (Unit {0}) ArgumentFault
+    → Type 0
+Prints how units words before after answer = (values : List Datum) × ValuesOf how units words values
     × Writes (printed units values) before after answer
 
 -- what a print of the words answers: the number of the words is refused, or the first word that stands for no value, or they are printed
-abbrev pub Answers : List PrintUnit → List (List ℕ) → Option (List ℕ) → Option (List ℕ) → Result (Unit {0}) ArgumentFault → Type 0
-Answers units words before after (Err (WrongCount expected got)) =
+abbrev pub Answers : WordReading → List PrintUnit → List (List ℕ) → Option (List ℕ) → Option (List ℕ) → Result (Unit {0}) ArgumentFault
+    → Type 0
+Answers how units words before after (Err (WrongCount expected got)) =
     (expected ≡ length (values_of units)) × (got ≡ length words) × (got ≢ expected)
-Answers units words before after (Err (BadEscape at offset)) = IsLowestFault units words (BadEscape at offset)
-Answers units words before after (Err (NotInKind at kind)) = IsLowestFault units words (NotInKind at kind)
-Answers units words before after (Err (NotOneByte at)) = IsLowestFault units words (NotOneByte at)
-Answers units words before after answer = Prints units words before after answer
+Answers how units words before after (Err (BadEscape at offset)) = IsLowestFault how units words (BadEscape at offset)
+Answers how units words before after (Err (NotInKind at kind)) = IsLowestFault how units words (NotInKind at kind)
+Answers how units words before after (Err (NotOneByte at)) = IsLowestFault how units words (NotOneByte at)
+Answers how units words before after answer = Prints how units words before after answer
 
 -- where nothing was handed to the sink, it is as before
 abbrev pub IsUnwritten : {K : Type 0} → ArgumentFault → K → K → Type 0
 IsUnwritten Write out out' = Unit {0}
 IsUnwritten _ out out' = out' ≡ out
 
--- the fault of a print of values that words stand for: no other than these two is told of them
+-- the fault of a print of values that words stand for: no other than these two is reported for them
 abbrev pub print_fault : PrintFault → ArgumentFault
 print_fault print.TooLong = TooLong
 print_fault _ = Write

@@ -1,4 +1,4 @@
--- What is said of words that are not resolved or not printed, and the exit status then.
+-- The texts for words that are not resolved or not printed, and the exit status then.
 use Rattle.std.specs.Prelude.{ℕ, List, ◌++◌, codes}
 use Rattle.std.specs.Fmt.{decimal}
 use Rattle.sf_arguments.specs.Names.{kind_text}
@@ -12,7 +12,7 @@ abbrev pub escape_fault_text : EscapeFault → List ℕ
 escape_fault_text (escape.Bad at) = codes "bad escape at " ++ decimal at
 escape_fault_text escape.Memory = codes "out of memory"
 
--- the line of words that are not printed, without its line end
+-- the line of words that are not printed, without its newline
 abbrev pub argument_fault_text : ArgumentFault → List ℕ
 argument_fault_text (argument.WrongCount expected got) = codes "sf: expected " ++
     (decimal expected ++ (codes " values, got " ++ decimal got))

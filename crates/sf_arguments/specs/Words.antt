@@ -10,7 +10,8 @@ use Rattle.sf_format.specs.Digits.{is_decimal}
 use Rattle.sf_format.specs.declared.unit.PrintLetter.{PrintLetter}
 use Rattle.sf_format.specs.declared.unit.PrintLetter.TheVariants as letter
 use Rattle.sf_print.specs.Text.{with_sign}
-use Rattle.sf_arguments.specs.Escapes.{Unescapes}
+use Rattle.sf_arguments.specs.Readings.{Reads}
+use Rattle.sf_arguments.specs.declared.word_reading.WordReading.{WordReading}
 
 -- ---- numbers
 
@@ -36,20 +37,20 @@ pub record Denotes (word : List ℕ) (z : ℤ) : Type 0 where
 abbrev pub IsNumberOf : Kind → List ℕ → Datum → Type 0
 IsNumberOf kind word value = (z : ℤ) × Denotes word z × IsIn kind z × (value ≡ Number kind z)
 
--- What a word stands for where a letter prints a value of a kind: for s the bytes that are left once its escapes are resolved,
--- for c one such byte, else a number of the kind, written as the word stands.
-abbrev pub StandsFor : PrintLetter → Kind → List ℕ → Datum → Type 0
-StandsFor letter.Text kind word value = (bytes : List ℕ) × Unescapes word bytes × (value ≡ Bytes bytes)
-StandsFor letter.One kind word value = (bytes : List ℕ) × Unescapes word bytes × (length bytes ≡ 1) × (value ≡ Bytes bytes)
-StandsFor letter.Signed kind word value = IsNumberOf kind word value
-StandsFor letter.Unsigned kind word value = IsNumberOf kind word value
-StandsFor letter.Octal kind word value = IsNumberOf kind word value
-StandsFor letter.HexLower kind word value = IsNumberOf kind word value
-StandsFor letter.HexUpper kind word value = IsNumberOf kind word value
-StandsFor letter.Binary kind word value = IsNumberOf kind word value
+-- What a word stands for where a letter prints a value of a kind: for s the bytes that are read of it, its escapes resolved or as
+-- it stands, for c one such byte, else a number of the kind, written as the word stands.
+abbrev pub StandsFor : WordReading → PrintLetter → Kind → List ℕ → Datum → Type 0
+StandsFor how letter.Text kind word value = (bytes : List ℕ) × Reads how word bytes × (value ≡ Bytes bytes)
+StandsFor how letter.One kind word value = (bytes : List ℕ) × Reads how word bytes × (length bytes ≡ 1) × (value ≡ Bytes bytes)
+StandsFor how letter.Signed kind word value = IsNumberOf kind word value
+StandsFor how letter.Unsigned kind word value = IsNumberOf kind word value
+StandsFor how letter.Octal kind word value = IsNumberOf kind word value
+StandsFor how letter.HexLower kind word value = IsNumberOf kind word value
+StandsFor how letter.HexUpper kind word value = IsNumberOf kind word value
+StandsFor how letter.Binary kind word value = IsNumberOf kind word value
 
 -- the bytes of a word whose value is a text
-abbrev pub IsReading : PrintLetter → List ℕ → List ℕ → Type 0
-IsReading letter.Text word bytes = Unescapes word bytes
-IsReading letter.One word bytes = Unescapes word bytes
-IsReading _ word bytes = Unit {0}
+abbrev pub IsReading : WordReading → PrintLetter → List ℕ → List ℕ → Type 0
+IsReading how letter.Text word bytes = Reads how word bytes
+IsReading how letter.One word bytes = Reads how word bytes
+IsReading how _ word bytes = Unit {0}

@@ -8,7 +8,7 @@ ghost use Rattle.sf_arguments.specs.Arguments.{IsNoNumber, IsRefusedBy};
 ghost use Rattle.sf_arguments.specs.Words.{Denotes, IsNumberOf, IsReading, StandsFor};
 
 use crate::argument_fault::ArgumentFault;
-use crate::escape::{escapes_of, resolve};
+use crate::word_reading::{WordReading, bytes_of, read};
 use sf_base::{Kind, Value};
 use sf_format::{PrintConv, PrintLetter};
 use std::alloc::{AllocError, Global};
@@ -31,10 +31,15 @@ fn integer_of_word<'a>(kind: Kind, word: &str) -> Option<Value<'a>>
 }
 
 /// The value that a word stands for where the conversion prints it; `text` has its bytes if it is a text.
-pub(crate) fn value_of_word<'a>(conv: &PrintConv, word: &str, text: &'a [u8]) -> Value<'a>
-    requires text { IsReading conv.now.letter word.now text.now }
-    requires stands { (value : Datum) × StandsFor conv.now.letter conv.now.kind word.now value }
-    ensures { StandsFor conv.now.letter conv.now.kind word.now (datum_of result) }
+pub(crate) fn value_of_word<'a>(
+    how: WordReading,
+    conv: &PrintConv,
+    word: &str,
+    text: &'a [u8],
+) -> Value<'a>
+    requires text { IsReading how conv.now.letter word.now text.now }
+    requires stands { (value : Datum) × StandsFor how conv.now.letter conv.now.kind word.now value }
+    ensures { StandsFor how conv.now.letter conv.now.kind word.now (datum_of result) }
 {
     match conv.letter {
         PrintLetter::Text | PrintLetter::One => Value::Text(text),
@@ -51,11 +56,11 @@ pub(crate) fn value_of_word<'a>(conv: &PrintConv, word: &str, text: &'a [u8]) ->
 }
 
 /// Why a word stands for no text.
-fn fault_of_text(conv: &PrintConv, word: &str) -> Option<ArgumentFault>
-    ensures fault { IfSome result (IsRefusedBy Text conv.now word.now) }
-    ensures none { IfNone result ((value : Datum) × StandsFor Text conv.now.kind word.now value) }
+fn fault_of_text(how: WordReading, conv: &PrintConv, word: &str) -> Option<ArgumentFault>
+    ensures fault { IfSome result (IsRefusedBy how Text conv.now word.now) }
+    ensures none { IfNone result ((value : Datum) × StandsFor how Text conv.now.kind word.now value) }
 {
-    match escapes_of(word.as_bytes()) {
+    match bytes_of(how, word.as_bytes()) {
         Ok(_) => None,
         Err(offset) => Some(ArgumentFault::BadEscape {
             at: conv.slot,
@@ -65,11 +70,11 @@ fn fault_of_text(conv: &PrintConv, word: &str) -> Option<ArgumentFault>
 }
 
 /// Why a word stands for no text of one byte.
-fn fault_of_one(conv: &PrintConv, word: &str) -> Option<ArgumentFault>
-    ensures fault { IfSome result (IsRefusedBy One conv.now word.now) }
-    ensures none { IfNone result ((value : Datum) × StandsFor One conv.now.kind word.now value) }
+fn fault_of_one(how: WordReading, conv: &PrintConv, word: &str) -> Option<ArgumentFault>
+    ensures fault { IfSome result (IsRefusedBy how One conv.now word.now) }
+    ensures none { IfNone result ((value : Datum) × StandsFor how One conv.now.kind word.now value) }
 {
-    match escapes_of(word.as_bytes()) {
+    match bytes_of(how, word.as_bytes()) {
         Ok(1) => None,
         Ok(_) => Some(ArgumentFault::NotOneByte { at: conv.slot }),
         Err(offset) => Some(ArgumentFault::BadEscape {
@@ -94,13 +99,13 @@ fn fault_of_number(conv: &PrintConv, word: &str) -> Option<ArgumentFault>
 }
 
 /// Why a word stands for no value that the conversion prints; None where it stands for one. It takes no memory.
-pub(crate) fn fault_of_word(conv: &PrintConv, word: &str) -> Option<ArgumentFault>
-    ensures fault { IfSome result (IsRefusedBy conv.now.letter conv.now word.now) }
-    ensures none { IfNone result ((value : Datum) × StandsFor conv.now.letter conv.now.kind word.now value) }
+pub(crate) fn fault_of_word(how: WordReading, conv: &PrintConv, word: &str) -> Option<ArgumentFault>
+    ensures fault { IfSome result (IsRefusedBy how conv.now.letter conv.now word.now) }
+    ensures none { IfNone result ((value : Datum) × StandsFor how conv.now.letter conv.now.kind word.now value) }
 {
     match conv.letter {
-        PrintLetter::Text => fault_of_text(conv, word),
-        PrintLetter::One => fault_of_one(conv, word),
+        PrintLetter::Text => fault_of_text(how, conv, word),
+        PrintLetter::One => fault_of_one(how, conv, word),
         PrintLetter::Signed
         | PrintLetter::Unsigned
         | PrintLetter::Octal
@@ -113,14 +118,15 @@ pub(crate) fn fault_of_word(conv: &PrintConv, word: &str) -> Option<ArgumentFaul
 /// The bytes of a word whose value is a text.
 pub(crate) fn text_of_word(
     alloc: Global,
+    how: WordReading,
     conv: &PrintConv,
     word: &str,
 ) -> Result<Vec<u8>, AllocError>
-    requires { (value : Datum) × StandsFor conv.now.letter conv.now.kind word.now value }
-    ensures { IfOk result (λ text. IsReading conv.now.letter word.now text.items) }
+    requires { (value : Datum) × StandsFor how conv.now.letter conv.now.kind word.now value }
+    ensures { IfOk result (λ text. IsReading how conv.now.letter word.now text.items) }
 {
     match conv.letter {
-        PrintLetter::Text | PrintLetter::One => resolve(alloc, word.as_bytes()),
+        PrintLetter::Text | PrintLetter::One => read(alloc, how, word.as_bytes()),
         PrintLetter::Signed
         | PrintLetter::Unsigned
         | PrintLetter::Octal

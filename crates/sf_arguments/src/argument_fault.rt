@@ -53,7 +53,7 @@ impl ArgumentFault {
     }
 }
 
-/// The line on standard error, without its line end.
+/// The line on standard error, without its newline.
 impl fmt::Display for ArgumentFault {
     ghost output = { λ fault. Some (argument_fault_text fault) };
 

@@ -61,7 +61,7 @@ fn letter_byte(c: u8) -> Option<u8>
     }
 }
 
-/// The byte of two hexadecimal digits behind `\x`.
+/// The byte of two hexadecimal digits after `\x`.
 fn hex_piece(high: u8, low: u8) -> Option<Piece>
     ensures { result ≡ hex_piece high low }
 {

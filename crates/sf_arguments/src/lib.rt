@@ -7,8 +7,10 @@ mod escape;
 pub mod laws;
 mod names;
 mod print;
+mod word_reading;
 
 pub use argument_fault::ArgumentFault;
 pub use escape::{EscapeFault, unescape};
 pub use names::kind_text;
-pub use print::print_values;
+pub use print::{print_values, print_words};
+pub use word_reading::WordReading;

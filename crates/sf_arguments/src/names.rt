@@ -4,7 +4,7 @@ ghost use Rattle.sf_arguments.specs.Names.{kind_text};
 
 use sf_base::Kind;
 
-/// The name of a kind, as a fault of a value tells it.
+/// The name of a kind, as a fault of a value has it.
 pub fn kind_text(kind: Kind) -> &'static str
     ensures { result.now ≡ kind_text kind }
 {

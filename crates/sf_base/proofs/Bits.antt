@@ -186,7 +186,7 @@ word_has-range ws vs lo hi i k inside before behind below =
           rw (here, get_or-set_same vs i word 0 inside) (had ∙ rw place (rw here at (ap (λ b. (nat_le lo k && nat_le k hi) || b) same)))
     ]
 
--- the words behind it stay
+-- the words after it stay
 pub word_has-others : (ws vs : List ℕ) (i k word : ℕ) → word_has vs k ≡ word_has ws k → 64 * (i + 1) ≤ k
     → word_has (set vs i word) k ≡ word_has ws k
 word_has-others ws vs i k word same behind =

@@ -134,7 +134,7 @@ none_opened : (text : List ℕ) (opened : Option ℕ) → opened_at text opened 
 none_opened text None h = refl
 none_opened text (Some slot) h = cc
 
--- what is kept after a text is put behind the closed ones, where none is opened
+-- what is kept after a text is put after the closed ones, where none is opened
 kept_of-put_none : (es : List Entry) (all text : List ℕ) (n len slot room room' : ℕ) → n ≡ length all → len ≡ length (all ++ text)
     → All (λ (e : Entry). IsWithin n e.cell) es
     → kept_of (es ++ record { slot = slot; cell = cell.Text n len } ∷ []) (all ++ text) len None room'
@@ -199,7 +199,7 @@ found_at closed slot (suc i) (e ∷ es) d apart below is =
     let other : nat_eq slot e.slot ≡ false = ne_eqb slot e.slot (λ same. eqb-false e.slot slot differs (sym same)) in
     rw other (found_at closed slot i es d apart.1 (omega (arith, below)) is)
 
--- a text is put behind the closed ones, where none is opened
+-- a text is put after the closed ones, where none is opened
 pub IsSound-put : (slots : ℕ) (es : List Entry) (closed len len' : ℕ) (opened : Option ℕ) (text : List ℕ) (slot : ℕ)
     → IsSound slots es closed len opened → opened_at text opened ≡ None → len ≤ len' → IsSlot slots slot → IsAbsent slot (slots_of es)
     → IsSound slots (es ++ record { slot = slot; cell = cell.Text closed len' } ∷ []) len' len' opened

@@ -4,3 +4,4 @@ pub mod Moves
 pub mod Bits
 pub mod Lanes
 pub mod Fronts
+pub mod Casts

@@ -8,7 +8,7 @@ use Rattle.sf_base.specs.Greatest.{IsGreatest}
 abbrev pub AreBytes : List ℕ → Type 0
 AreBytes bs = AllByRecursion (λ b. b < 256) bs
 
--- blank, tab, line end, vertical tab, form feed or carriage return (C11 7.4.1.10)
+-- blank, tab, newline, vertical tab, form feed or carriage return (C11 7.4.1.10)
 abbrev pub is_white : ℕ → Bool
 is_white b = nat_eq b 32 || (nat_le 9 b && nat_le b 13)
 

@@ -3,6 +3,7 @@ ghost use Rattle.std.specs.Prelude.{◌≡◌, ◌≤◌, ◌<◌, ◌+◌, ◌+
 
 use std::alloc::{AllocError, Global};
 use std::marker::Model;
+use std::simd::prelude::*;
 
 /// How many bytes of a piece are moved at once, those of a short text and what stands after them: by a constant it
 /// takes no call.
@@ -35,6 +36,18 @@ fn move_over(bytes: &mut [u8], at: usize, piece: &[u8])
     ensures moved { take (at + length piece.now) bytes.new ≡ take at bytes.old ++ piece.now }
 {
     bytes[at..at + piece.len()].copy_from_slice(piece);
+}
+
+/// Moves the first sixteen bytes of the piece over those at the place, as one vector: a loop would first ask whether
+/// the two overlap.
+#[inline(always)]
+fn move_sixteen(bytes: &mut [u8], at: usize, piece: &[u8])
+    requires room { at + 16 ≤ length bytes.old }
+    requires whole { 16 ≤ length piece.now }
+    ensures len { length bytes.new ≡ length bytes.old }
+    ensures moved { take (at + 16) bytes.new ≡ take at bytes.old ++ take 16 piece.now }
+{
+    u8x16::from_slice(piece).copy_to_slice(&mut bytes[at..]);
 }
 
 /// How many bytes may be moved to the place: those for which there is room, or, where the block grows anyway, as many
@@ -142,7 +155,7 @@ impl Buffer {
         ensures full { OnErr result (self.old.capacity < length self.old.bytes + count) }
     {
         if count <= MOVED && MOVED <= piece.len() && MOVED <= self.block.len() - self.len {
-            move_over(&mut self.block, self.len, &piece[..MOVED]);
+            move_sixteen(&mut self.block, self.len, piece);
             self.len += count;
             return Ok(());
         }

@@ -101,6 +101,7 @@ impl ByteSet {
     }
 
     /// How many members the bytes begin with: the length of their longest front of members.
+    #[inline(always)]
     pub fn run(&self, bytes: &[u8]) -> usize
         ensures longest { IsLongestFront (has_byte self.now) bytes.now result }
         ensures count { result ≡ prefix_len (has_byte self.now) bytes.now }

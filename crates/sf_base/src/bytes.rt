@@ -3,7 +3,7 @@ ghost use Rattle.std.specs.Prelude.{◌≡◌, ◌<◌, ◌≤◌, SomeIff};
 ghost use Rattle.std.specs.Char.{digit_value};
 ghost use Rattle.sf_base.specs.Bytes.{is_white};
 
-/// Whether the byte is white space: tab, line end, vertical tab, form feed, carriage return or blank (C11 7.4.1.10).
+/// Whether the byte is white space: tab, newline, vertical tab, form feed, carriage return or blank (C11 7.4.1.10).
 pub fn is_space(b: u8) -> bool
     ensures { result ≡ is_white b }
 {

@@ -64,7 +64,7 @@ impl HeapStore {
     }
 }
 
-/// Appends the first `count` bytes of the piece, or none; `sure` tells how many fit for sure.
+/// Appends the first `count` bytes of the piece, or none; `sure` is how many fit for sure.
 #[inline(always)]
 fn append(bytes: &mut Buffer, sure: &mut usize, piece: &[u8], count: usize) -> Result<(), StoreFull>
     requires within { count ≤ length piece.now }
@@ -139,10 +139,12 @@ impl Store for HeapStore {
         self.sure - self.bytes.len()
     }
 
+    #[inline(always)]
     fn value(&self, slot: u8) -> Option<Value<'_>> {
         Some(self.shown(slot)?.value())
     }
 
+    #[inline(always)]
     fn set_number(&mut self, slot: u8, number: Number) {
         let cell = Cell::Number(number);
         self.entries.push_reserved(Entry { slot, cell });
@@ -159,6 +161,7 @@ impl Store for HeapStore {
         Ok(())
     }
 
+    #[inline(always)]
     fn shown(&self, slot: u8) -> Option<Shown<'_>> {
         find_shown(&self.entries, slot, self.bytes.front(self.closed))
     }

@@ -1,209 +1,248 @@
-//! Integers made of a sign and a magnitude.
-ghost use Rattle.std.specs.Prelude.{◌≡◌, ◌↔◌, ℤ, pos, neg_ℤ, Some, None, IsSome, IfSome, if◌then◌else◌};
+//! Integers as the types of destinations.
+ghost use Rattle.std.specs.Prelude.{◌≡◌, ◌↔◌, ℤ, None, Some, IsSome, IfSome, if◌then◌else◌};
 ghost use Rattle.std.specs.Option.{option_map};
 ghost use Rattle.sf_base.specs.declared.values.Kind.{Kind};
-ghost use Rattle.sf_base.specs.Data.{value_of};
-ghost use Rattle.num_traits.specs.Laws.{Casts};
+ghost use Rattle.sf_base.specs.declared.values.Kind.TheVariants.{Text};
+ghost use Rattle.sf_base.specs.Data.{IsIn, Number as NumberOf, datum_of, kind_of, value_of, with_sign};
 
-use crate::Kind;
-use num_traits::{NumCast, WrappingNeg, cast};
+use crate::{Kind, Number, Value};
+use num_traits::{PrimInt, cast};
 
-/// An integer type that a destination can have, in two's complement.
-pub trait ScanInt: Sized {
+// The number of a sign (true: a minus) and a magnitude.
+#[inline(always)]
+fn whole(negative: bool, magnitude: u64) -> i128
+    ensures { result ≡ with_sign negative magnitude }
+{
+    let number = i128::from(magnitude);
+    if negative { -number } else { number }
+}
+
+/// An integer type that a destination can have, in two's complement. A number becomes one of its values by the checked
+/// casts of `num_traits`.
+pub trait ScanInt: PrimInt {
     ghost own_kind: { Kind };
 
     ghost integer: { Self → ℤ };
 
+    /// The integer as a value of a destination.
+    fn value(self) -> Value<'static>
+        ensures { datum_of result ≡ NumberOf own_kind (integer self) };
+
+    // The kind is no text. The integer is the one that the casts speak of, and the type has each number of its kind.
+    ghost number_law: { own_kind ≡ Text → ⊥ };
+
+    ghost integer_law: { (x : Self) → Self.value x ≡ integer x };
+
+    ghost fits_law: { (z : ℤ) → IsIn own_kind z → Self.fits z };
+
     /// The kind of the type.
-    fn kind() -> Kind
-        ensures { result ≡ own_kind };
+    #[inline(always)]
+    final fn kind() -> Kind
+        ensures { result ≡ own_kind }
+    {
+        Self::zero().value().kind()
+    }
 
     /// The value of a sign (true: a minus) and a magnitude. None if the type does not hold it, where C leaves open what
-    /// is stored (C11 7.21.6.2p10), or if the magnitude is above `u64::MAX`, which `overflowed` tells. A minus before
+    /// is stored (C11 7.21.6.2p10), or if the magnitude is above `u64::MAX`, which `overflowed` answers. A minus before
     /// an unsigned value negates it in its type (C11 7.22.1.4p5).
-    fn from_parts(negative: bool, magnitude: u64, overflowed: bool) -> Option<Self>
-        ensures { option_map integer result ≡ (if overflowed then None else value_of own_kind negative magnitude) };
+    final fn from_parts(negative: bool, magnitude: u64, overflowed: bool) -> Option<Self>
+        ensures { option_map integer result ≡ (if overflowed then None else value_of own_kind negative magnitude) }
+    {
+        if overflowed {
+            return None;
+        }
+        let number = Self::kind().number(negative, magnitude)?;
+        cast(whole(number.negative, number.magnitude))
+    }
+
+    /// The integer that a destination was given. None where the value is of another kind.
+    #[inline(always)]
+    final fn from_value(value: Value<'_>) -> Option<Self>
+        ensures exactly { IsSome result ↔ (kind_of (datum_of value.entry) ≡ own_kind) }
+        ensures value { IfSome result (λ n. NumberOf own_kind (integer n) ≡ datum_of value.entry) }
+    {
+        if value.kind() != Self::kind() {
+            return None;
+        }
+        let (negative, magnitude) = value.sign_and_magnitude()?;
+        cast(whole(negative, magnitude))
+    }
 }
 
-// The number of a sign and a magnitude, as a type has it that negates as numbers do. None if the type does not hold it.
-fn signed<T: NumCast>(negative: bool, magnitude: u64) -> Option<T>
-    ensures { T.exact → Casts T.value T.fits (Some (if negative then neg_ℤ (pos magnitude) else pos magnitude)) result }
+/// The value of the type that is a number of its kind.
+#[inline(always)]
+pub(crate) fn held_as<T: ScanInt>(number: Number) -> Option<T>
+    requires { number.kind ≡ T.own_kind }
+    ensures { option_map T.integer result ≡ Some (with_sign number.negative number.magnitude) }
 {
-    let wide = if negative {
-        -(magnitude as i128)
-    } else {
-        magnitude as i128
-    };
-    cast::<i128, T>(wide)
-}
-
-// The number of a sign and a magnitude, as a type has it where a minus negates modulo the number of its values. None if
-// the type does not hold the magnitude.
-fn unsigned<T: NumCast + WrappingNeg>(negative: bool, magnitude: u64) -> Option<T>
-    ensures held { IsSome result ↔ T.fits (pos magnitude) }
-    ensures value { IfSome result (λ x. T.value x ≡ (if negative then T.wrap
-        (neg_ℤ (pos magnitude)) else pos magnitude)) }
-{
-    let value = cast::<u64, T>(magnitude)?;
-    Some(if negative {
-        value.wrapping_neg()
-    } else {
-        value
-    })
+    cast(whole(number.negative, number.magnitude))
 }
 
 impl ScanInt for i8 {
+    ghost use Rattle.std.proofs.Common.{rules};
+    ghost use Rattle.std.specs.Prelude.{refl};
     ghost use Rattle.sf_base.specs.declared.values.Kind.TheVariants.{I8};
 
     ghost own_kind = { I8 };
 
     ghost integer = { λ x. x };
 
-    fn kind() -> Kind {
-        Kind::I8
-    }
+    ghost number_law = { λ h. Prim.absurd Prim.cc };
 
-    fn from_parts(negative: bool, magnitude: u64, overflowed: bool) -> Option<i8> {
-        if overflowed {
-            return None;
-        }
-        signed::<i8>(negative, magnitude)
+    ghost integer_law = { λ x. refl };
+
+    ghost fits_law = { λ z h. Prim.search rules };
+
+    #[inline(always)]
+    fn value(self) -> Value<'static> {
+        Value::I8(self)
     }
 }
 
 impl ScanInt for i16 {
+    ghost use Rattle.std.proofs.Common.{rules};
+    ghost use Rattle.std.specs.Prelude.{refl};
     ghost use Rattle.sf_base.specs.declared.values.Kind.TheVariants.{I16};
 
     ghost own_kind = { I16 };
 
     ghost integer = { λ x. x };
 
-    fn kind() -> Kind {
-        Kind::I16
-    }
+    ghost number_law = { λ h. Prim.absurd Prim.cc };
 
-    fn from_parts(negative: bool, magnitude: u64, overflowed: bool) -> Option<i16> {
-        if overflowed {
-            return None;
-        }
-        signed::<i16>(negative, magnitude)
+    ghost integer_law = { λ x. refl };
+
+    ghost fits_law = { λ z h. Prim.search rules };
+
+    #[inline(always)]
+    fn value(self) -> Value<'static> {
+        Value::I16(self)
     }
 }
 
 impl ScanInt for i32 {
+    ghost use Rattle.std.proofs.Common.{rules};
+    ghost use Rattle.std.specs.Prelude.{refl};
     ghost use Rattle.sf_base.specs.declared.values.Kind.TheVariants.{I32};
 
     ghost own_kind = { I32 };
 
     ghost integer = { λ x. x };
 
-    fn kind() -> Kind {
-        Kind::I32
-    }
+    ghost number_law = { λ h. Prim.absurd Prim.cc };
 
-    fn from_parts(negative: bool, magnitude: u64, overflowed: bool) -> Option<i32> {
-        if overflowed {
-            return None;
-        }
-        signed::<i32>(negative, magnitude)
+    ghost integer_law = { λ x. refl };
+
+    ghost fits_law = { λ z h. Prim.search rules };
+
+    #[inline(always)]
+    fn value(self) -> Value<'static> {
+        Value::I32(self)
     }
 }
 
 impl ScanInt for i64 {
+    ghost use Rattle.std.proofs.Common.{rules};
+    ghost use Rattle.std.specs.Prelude.{refl};
     ghost use Rattle.sf_base.specs.declared.values.Kind.TheVariants.{I64};
 
     ghost own_kind = { I64 };
 
     ghost integer = { λ x. x };
 
-    fn kind() -> Kind {
-        Kind::I64
-    }
+    ghost number_law = { λ h. Prim.absurd Prim.cc };
 
-    fn from_parts(negative: bool, magnitude: u64, overflowed: bool) -> Option<i64> {
-        if overflowed {
-            return None;
-        }
-        signed::<i64>(negative, magnitude)
+    ghost integer_law = { λ x. refl };
+
+    ghost fits_law = { λ z h. Prim.search rules };
+
+    #[inline(always)]
+    fn value(self) -> Value<'static> {
+        Value::I64(self)
     }
 }
 
 impl ScanInt for u8 {
+    ghost use Rattle.std.proofs.Common.{rules};
+    ghost use Rattle.std.specs.Prelude.{pos, refl};
     ghost use Rattle.sf_base.specs.declared.values.Kind.TheVariants.{U8};
-    ghost use Rattle.std.specs.Prelude.{pos};
 
     ghost own_kind = { U8 };
 
     ghost integer = { λ x. pos x };
 
-    fn kind() -> Kind {
-        Kind::U8
-    }
+    ghost number_law = { λ h. Prim.absurd Prim.cc };
 
-    fn from_parts(negative: bool, magnitude: u64, overflowed: bool) -> Option<u8> {
-        if overflowed {
-            return None;
-        }
-        unsigned::<u8>(negative, magnitude)
+    ghost integer_law = { λ x. refl };
+
+    ghost fits_law = { λ z h. Prim.search rules };
+
+    #[inline(always)]
+    fn value(self) -> Value<'static> {
+        Value::U8(self)
     }
 }
 
 impl ScanInt for u16 {
+    ghost use Rattle.std.proofs.Common.{rules};
+    ghost use Rattle.std.specs.Prelude.{pos, refl};
     ghost use Rattle.sf_base.specs.declared.values.Kind.TheVariants.{U16};
-    ghost use Rattle.std.specs.Prelude.{pos};
 
     ghost own_kind = { U16 };
 
     ghost integer = { λ x. pos x };
 
-    fn kind() -> Kind {
-        Kind::U16
-    }
+    ghost number_law = { λ h. Prim.absurd Prim.cc };
 
-    fn from_parts(negative: bool, magnitude: u64, overflowed: bool) -> Option<u16> {
-        if overflowed {
-            return None;
-        }
-        unsigned::<u16>(negative, magnitude)
+    ghost integer_law = { λ x. refl };
+
+    ghost fits_law = { λ z h. Prim.search rules };
+
+    #[inline(always)]
+    fn value(self) -> Value<'static> {
+        Value::U16(self)
     }
 }
 
 impl ScanInt for u32 {
+    ghost use Rattle.std.proofs.Common.{rules};
+    ghost use Rattle.std.specs.Prelude.{pos, refl};
     ghost use Rattle.sf_base.specs.declared.values.Kind.TheVariants.{U32};
-    ghost use Rattle.std.specs.Prelude.{pos};
 
     ghost own_kind = { U32 };
 
     ghost integer = { λ x. pos x };
 
-    fn kind() -> Kind {
-        Kind::U32
-    }
+    ghost number_law = { λ h. Prim.absurd Prim.cc };
 
-    fn from_parts(negative: bool, magnitude: u64, overflowed: bool) -> Option<u32> {
-        if overflowed {
-            return None;
-        }
-        unsigned::<u32>(negative, magnitude)
+    ghost integer_law = { λ x. refl };
+
+    ghost fits_law = { λ z h. Prim.search rules };
+
+    #[inline(always)]
+    fn value(self) -> Value<'static> {
+        Value::U32(self)
     }
 }
 
 impl ScanInt for u64 {
+    ghost use Rattle.std.proofs.Common.{rules};
+    ghost use Rattle.std.specs.Prelude.{pos, refl};
     ghost use Rattle.sf_base.specs.declared.values.Kind.TheVariants.{U64};
-    ghost use Rattle.std.specs.Prelude.{pos};
 
     ghost own_kind = { U64 };
 
     ghost integer = { λ x. pos x };
 
-    fn kind() -> Kind {
-        Kind::U64
-    }
+    ghost number_law = { λ h. Prim.absurd Prim.cc };
 
-    fn from_parts(negative: bool, magnitude: u64, overflowed: bool) -> Option<u64> {
-        if overflowed {
-            return None;
-        }
-        unsigned::<u64>(negative, magnitude)
+    ghost integer_law = { λ x. refl };
+
+    ghost fits_law = { λ z h. Prim.search rules };
+
+    #[inline(always)]
+    fn value(self) -> Value<'static> {
+        Value::U64(self)
     }
 }

@@ -2,6 +2,7 @@
 ghost use Rattle.std.specs.Prelude.{◌≡◌, IsTrue};
 ghost use Rattle.sf_base.specs.Kinds.{is_held, with_sign};
 
+use crate::integers::held_as;
 use crate::{Kind, ScanInt, Value};
 
 /// A number of a kind, by its sign and its magnitude.
@@ -22,7 +23,7 @@ fn value_in<T: ScanInt>(number: Number) -> T
     requires { T.own_kind ≡ number.kind }
     ensures { T.integer result ≡ with_sign number.negative number.magnitude }
 {
-    match T::from_parts(number.negative, number.magnitude, false) {
+    match held_as::<T>(number) {
         Some(value) => value,
         None => unreachable!(),
     }
@@ -33,6 +34,7 @@ impl Number {
     ghost use Rattle.sf_base.specs.Data.{datum_of, datum_of_number, is_number};
 
     /// The number as a value.
+    #[inline(always)]
     pub fn value(self) -> Value<'static>
         ensures value { datum_of result ≡ datum_of_number self }
         ensures number { is_number result ≡ true }

@@ -123,7 +123,7 @@ pub trait Store: Drop {
     }
 }
 
-/// Pushes the bytes one by one as far as the store takes them, and says how many it took. Where it takes them all,
+/// Pushes the bytes one by one as far as the store takes them, and answers how many it took. Where it takes them all,
 /// `push_all` gives the opened text the same bytes.
 pub fn push_each<S: Store>(store: &mut S, bytes: &[u8]) -> usize
     requires { IsSome (S.kept store.old).opened }

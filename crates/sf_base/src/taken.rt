@@ -3,7 +3,7 @@ ghost use Rattle.std.specs.Prelude.{◌≡◌, ◌↔◌, IsSome, IfSome};
 ghost use Rattle.sf_base.specs.declared.values.Kind.{Kind};
 ghost use Rattle.sf_base.specs.Data.{Datum, datum_of, kind_of};
 
-use crate::Value;
+use crate::{ScanInt, Value};
 
 /// A type that a value can be taken as: one of the eight integers, or a text of bytes, which is lent.
 pub trait Taken<'a>: Sized {
@@ -19,135 +19,15 @@ pub trait Taken<'a>: Sized {
         ensures value { IfSome result (λ taken. datum taken ≡ datum_of value.entry) };
 }
 
-impl Taken<'_> for i8 {
-    ghost use Rattle.sf_base.specs.declared.values.Kind.TheVariants.{I8};
+impl<T: ScanInt> Taken<'_> for T {
     ghost use Rattle.sf_base.specs.Data.Datum.{Number};
 
-    ghost kind = { I8 };
+    ghost kind = { T.own_kind };
 
-    ghost datum = { λ n. Number I8 n };
+    ghost datum = { λ n. Number T.own_kind (T.integer n) };
 
-    fn taken(value: Value<'_>) -> Option<i8> {
-        match value {
-            Value::I8(n) => Some(n),
-            _ => None,
-        }
-    }
-}
-
-impl Taken<'_> for i16 {
-    ghost use Rattle.sf_base.specs.declared.values.Kind.TheVariants.{I16};
-    ghost use Rattle.sf_base.specs.Data.Datum.{Number};
-
-    ghost kind = { I16 };
-
-    ghost datum = { λ n. Number I16 n };
-
-    fn taken(value: Value<'_>) -> Option<i16> {
-        match value {
-            Value::I16(n) => Some(n),
-            _ => None,
-        }
-    }
-}
-
-impl Taken<'_> for i32 {
-    ghost use Rattle.sf_base.specs.declared.values.Kind.TheVariants.{I32};
-    ghost use Rattle.sf_base.specs.Data.Datum.{Number};
-
-    ghost kind = { I32 };
-
-    ghost datum = { λ n. Number I32 n };
-
-    fn taken(value: Value<'_>) -> Option<i32> {
-        match value {
-            Value::I32(n) => Some(n),
-            _ => None,
-        }
-    }
-}
-
-impl Taken<'_> for i64 {
-    ghost use Rattle.sf_base.specs.declared.values.Kind.TheVariants.{I64};
-    ghost use Rattle.sf_base.specs.Data.Datum.{Number};
-
-    ghost kind = { I64 };
-
-    ghost datum = { λ n. Number I64 n };
-
-    fn taken(value: Value<'_>) -> Option<i64> {
-        match value {
-            Value::I64(n) => Some(n),
-            _ => None,
-        }
-    }
-}
-
-impl Taken<'_> for u8 {
-    ghost use Rattle.std.specs.Prelude.{pos};
-    ghost use Rattle.sf_base.specs.declared.values.Kind.TheVariants.{U8};
-    ghost use Rattle.sf_base.specs.Data.Datum.{Number};
-
-    ghost kind = { U8 };
-
-    ghost datum = { λ n. Number U8 (pos n) };
-
-    fn taken(value: Value<'_>) -> Option<u8> {
-        match value {
-            Value::U8(n) => Some(n),
-            _ => None,
-        }
-    }
-}
-
-impl Taken<'_> for u16 {
-    ghost use Rattle.std.specs.Prelude.{pos};
-    ghost use Rattle.sf_base.specs.declared.values.Kind.TheVariants.{U16};
-    ghost use Rattle.sf_base.specs.Data.Datum.{Number};
-
-    ghost kind = { U16 };
-
-    ghost datum = { λ n. Number U16 (pos n) };
-
-    fn taken(value: Value<'_>) -> Option<u16> {
-        match value {
-            Value::U16(n) => Some(n),
-            _ => None,
-        }
-    }
-}
-
-impl Taken<'_> for u32 {
-    ghost use Rattle.std.specs.Prelude.{pos};
-    ghost use Rattle.sf_base.specs.declared.values.Kind.TheVariants.{U32};
-    ghost use Rattle.sf_base.specs.Data.Datum.{Number};
-
-    ghost kind = { U32 };
-
-    ghost datum = { λ n. Number U32 (pos n) };
-
-    fn taken(value: Value<'_>) -> Option<u32> {
-        match value {
-            Value::U32(n) => Some(n),
-            _ => None,
-        }
-    }
-}
-
-impl Taken<'_> for u64 {
-    ghost use Rattle.std.specs.Prelude.{pos};
-    ghost use Rattle.sf_base.specs.declared.values.Kind.TheVariants.{U64};
-    ghost use Rattle.sf_base.specs.Data.Datum.{Number};
-
-    ghost kind = { U64 };
-
-    ghost datum = { λ n. Number U64 (pos n) };
-
-    fn taken(value: Value<'_>) -> Option<u64> {
-        match value {
-            Value::U64(n) => Some(n),
-            _ => None,
-        }
+    fn taken(value: Value<'_>) -> Option<T> {
+        T::from_value(value)
     }
 }
 

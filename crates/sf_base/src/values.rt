@@ -33,14 +33,14 @@ static GREATEST: [u64; 9] = [
 ];
 
 impl Kind {
-    ghost use Rattle.std.specs.Prelude.{IfSome, IfNone};
+    ghost use Rattle.std.specs.Prelude.{IfSome, IfNone, Some};
     ghost use Rattle.std.specs.Option.{option_map};
     ghost use Rattle.sf_base.specs.Kinds.{bounds_of};
     ghost use Rattle.sf_base.specs.Data.{Number as NumberOf, datum_of, datum_of_number, IsIn, value_of};
 
     /// Whether the kind's numbers have a sign, and the greatest of them. None of a text.
     #[inline(always)]
-    fn bounds(self) -> Option<(bool, u64)>
+    pub fn bounds(self) -> Option<(bool, u64)>
         ensures { result ≡ bounds_of self }
     {
         if self == Kind::Text {
@@ -50,23 +50,26 @@ impl Kind {
         Some((signed, GREATEST[self as usize]))
     }
 
-    /// The number that the kind gives a sign (true: a minus) and a magnitude. None if the kind does not hold it, where
-    /// C leaves open what is stored (C11 7.21.6.2p10); a text holds none. A minus before an unsigned number negates it
-    /// in its kind (C11
-    /// 7.22.1.4p5). The number keeps a sign and a magnitude, so nothing is converted here: `Number::value` converts.
+    /// As `number`, of a kind with these bounds.
     #[inline(always)]
-    pub fn number(self, negative: bool, magnitude: u64) -> Option<Number>
+    pub fn number_within(
+        self,
+        signed: bool,
+        greatest: u64,
+        negative: bool,
+        magnitude: u64,
+    ) -> Option<Number>
+        requires { bounds_of self ≡ Some (signed, greatest) }
         ensures { option_map datum_of_number result ≡ option_map (NumberOf self) (value_of self negative magnitude) }
     {
-        let (signed, greatest) = self.bounds()?;
-        let below = negative && magnitude > 0;
-        if signed && below {
-            if magnitude - 1 > greatest {
+        let below = negative & (magnitude > 0);
+        if signed {
+            if magnitude - u64::from(below) > greatest {
                 return None;
             }
             return Some(Number {
                 kind: self,
-                negative: true,
+                negative: below,
                 magnitude,
             });
         }
@@ -82,6 +85,18 @@ impl Kind {
                 magnitude
             },
         })
+    }
+
+    /// The number that the kind gives a sign (true: a minus) and a magnitude. None if the kind does not hold it, where
+    /// C leaves open what is stored (C11 7.21.6.2p10); a text holds none. A minus before an unsigned number negates it
+    /// in its kind (C11
+    /// 7.22.1.4p5). The number keeps a sign and a magnitude, so nothing is converted here: `Number::value` converts.
+    #[inline(always)]
+    pub fn number(self, negative: bool, magnitude: u64) -> Option<Number>
+        ensures { option_map datum_of_number result ≡ option_map (NumberOf self) (value_of self negative magnitude) }
+    {
+        let (signed, greatest) = self.bounds()?;
+        self.number_within(signed, greatest, negative, magnitude)
     }
 
     /// The value of the kind that is this number. None if the kind does not hold it; a text holds none.

@@ -8,7 +8,7 @@ use Rattle.std.specs.Io.KnownBytes.{Appends, Keeps, append_known}
 length-range : (block : List ℕ) (start end : ℕ) → end ≤ length block → length (slice_range block start end) ≡ end - start
 length-range block start end e = let l = length-drop start block in length-take-le (end - start) (drop start block) (omega arith)
 
--- Bytes that are copied behind the waiting ones wait behind them.
+-- Bytes that are copied after the waiting ones wait after them.
 pub waits_behind : (block bytes : List ℕ) (start end : ℕ) → start ≤ end → end ≤ length block
     → slice_range (take end block ++ (bytes ++ drop (end + length bytes) block)) start (end + length bytes)
     ≡ slice_range block start end ++ bytes
@@ -45,7 +45,7 @@ kept_on (Some k) (Some old) None waiting front rest cut kept took = absurd took
 kept_on (Some k) (Some old) (Some new) waiting front rest cut kept took =
     ap (λ (t : List ℕ). t ++ rest) took ∙ append_assoc old front rest ∙ ap (λ (t : List ℕ). old ++ t) (sym cut) ∙ kept
 
--- What is known of the bytes, with more behind it.
+-- What is known of the bytes, with more after it.
 pub waits_too : (old : Option (List ℕ)) (waiting bytes now : List ℕ) → now ≡ waiting ++ bytes
     → Appends (append_known old waiting) (append_known old now) bytes
 waits_too None waiting bytes now more = tt

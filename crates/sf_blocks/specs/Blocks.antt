@@ -2,6 +2,7 @@
 use Rattle.std.specs.Prelude.{◌≡◌, ℕ, ◌+◌, ◌-◌, Bool, true, ◌⊎◌, List, [], length, slice_range, Option, Result, Ok}
 use Rattle.std.specs.Io.KnownBytes.{append_known}
 use Rattle.std.specs.declared.io.traits.Write as write
+use Rattle.std.specs.declared.io.Error.{Error}
 use Rattle.sf_blocks.specs.declared.block_sink.BlockSink.{BlockSink}
 use Rattle.sf_blocks.specs.declared.unblocked.Unblocked.{Unblocked}
 
@@ -22,7 +23,11 @@ module _ {W : Type 0} {w : write.Ghosts W} where
   abbrev pub has_failed_flush : BlockSink W w → Bool
   has_failed_flush s = s.unflushed
 
-  -- all bytes that the sink took, where the writer tells its own
+  -- why the last of its writes and flushes failed that did
+  abbrev pub last_error_of : BlockSink W w → Option Error
+  last_error_of s = s.last_error
+
+  -- all bytes that the sink took, where the writer makes its own known
   abbrev pub taken_by : BlockSink W w → Option (List ℕ)
   taken_by s = append_known (w.contents s.writer) (waiting_in s)
 

@@ -1,5 +1,5 @@
 //! A writer with a block of bytes in front of it.
-ghost use Rattle.std.specs.Prelude.{◌≡◌, ◌≤◌, ◌<◌, ◌+◌, ◌||◌, false, true, [], length, Option, List, ℕ, None, Ok, OnOk, IfOk, IfErr, is_err};
+ghost use Rattle.std.specs.Prelude.{◌≡◌, ◌≤◌, ◌<◌, ◌+◌, ◌||◌, false, true, [], length, Option, List, ℕ, None, Ok, OnErr, OnOk, IfOk, IfErr, IsSome, is_err};
 ghost use Rattle.std.specs.Bool.{OnTrue, OnFalse};
 ghost use Rattle.std.specs.Io.{WritesAtMost};
 ghost use Rattle.std.specs.Io.KnownBytes.{Appends, Keeps, WriteAppends};
@@ -7,13 +7,13 @@ ghost use Rattle.std.specs.Io.KnownBytes.{Appends, Keeps, WriteAppends};
 use crate::writing::write_some;
 use sf_print::{Sink, SinkFault, copy_over};
 use std::alloc::{AllocError, Global};
-use std::io::Write;
+use std::io::{self, Write};
 
 /// How many bytes the block has.
 const BLOCK_BYTES: usize = 8192;
 
-/// A writer, and in front of it a block that short texts are copied into without a call. What it took is told as far as
-/// the writer tells its bytes.
+/// A writer, and in front of it a block that short texts are copied into without a call. What it took is known as far
+/// as the writer's contract knows its bytes.
 #[derive(Drop)]
 pub struct BlockSink<W: Write + Drop> {
     writer: W,
@@ -26,12 +26,16 @@ pub struct BlockSink<W: Write + Drop> {
     failures: u64,
     /// Whether a flush failed.
     unflushed: bool,
+    /// Why the last of the writes and flushes failed that did.
+    last_error: Option<io::Error>,
     ghost ordered: { start ≤ end },
     ghost within: { end ≤ length block.items },
+    ghost write_error: { 0 < failures → IsSome last_error },
+    ghost flush_error: { unflushed ≡ true → IsSome last_error },
 }
 
 impl<W: Write + Drop> BlockSink<W> {
-    ghost use Rattle.sf_blocks.specs.Blocks.{HoldsNothing, has_failed_flush, room_of, taken_by, waiting_in, writer_of};
+    ghost use Rattle.sf_blocks.specs.Blocks.{HoldsNothing, has_failed_flush, last_error_of, room_of, taken_by, waiting_in, writer_of};
 
     /// Nothing waits in the block.
     fn over(writer: W, block: Vec<u8>) -> BlockSink<W>
@@ -41,6 +45,7 @@ impl<W: Write + Drop> BlockSink<W> {
         ensures room { room_of result ≡ length block.items }
         ensures failures { result.failures ≡ 0 }
         ensures flushed { has_failed_flush result ≡ false }
+        ensures error { last_error_of result ≡ None }
     {
         BlockSink {
             writer,
@@ -49,6 +54,7 @@ impl<W: Write + Drop> BlockSink<W> {
             end: 0,
             failures: 0,
             unflushed: false,
+            last_error: None,
         }
     }
 
@@ -119,18 +125,29 @@ impl<W: Write + Drop> BlockSink<W> {
         self.unflushed
     }
 
+    /// Why a write or a flush failed: the last of those that did. Its kind says whether nobody reads any more
+    /// (`BrokenPipe`), and it is written as the system puts it.
+    pub fn last_error(&self) -> Option<io::Error>
+        ensures value { result ≡ last_error_of self.now }
+        ensures written { 0 < ⟦<BlockSink<W> as Sink>⟧.failures self.now → IsSome result }
+        ensures flushed { has_failed_flush self.now ≡ true → IsSome result }
+    {
+        self.last_error
+    }
+
     /// Hands the writer what waits in the block. Where it fails, what it didn't take waits still.
-    fn hand_on(&mut self) -> Result<(), SinkFault>
+    fn hand_on(&mut self) -> io::Result<()>
         ensures contents { Keeps (taken_by self.old) (taken_by self.new) }
         ensures empty { OnOk result (waiting_in self.new ≡ []) }
         ensures block { self.new.block ≡ self.old.block }
         ensures failures { self.new.failures ≡ self.old.failures }
         ensures flushed { has_failed_flush self.new ≡ has_failed_flush self.old }
+        ensures error { last_error_of self.new ≡ last_error_of self.old }
     {
         while self.start < self.end {
             match write_some(&mut self.writer, &self.block[self.start..self.end]) {
                 Ok(count) => self.start += count,
-                Err(fault) => return Err(fault),
+                Err(error) => return Err(error),
             }
         }
         self.start = 0;
@@ -138,8 +155,21 @@ impl<W: Write + Drop> BlockSink<W> {
         Ok(())
     }
 
+    /// Hands the writer what waits in the block, and flushes it.
+    fn hand_through(&mut self) -> io::Result<()>
+        ensures contents { Keeps (taken_by self.old) (taken_by self.new) }
+        ensures empty { OnOk result (waiting_in self.new ≡ []) }
+        ensures block { self.new.block ≡ self.old.block }
+        ensures failures { self.new.failures ≡ self.old.failures }
+        ensures flushed { has_failed_flush self.new ≡ has_failed_flush self.old }
+        ensures error { last_error_of self.new ≡ last_error_of self.old }
+    {
+        self.hand_on()?;
+        self.writer.flush()
+    }
+
     /// Hands on all bytes that are held back: then none waits, and the writer has all that was taken. Where it fails,
-    /// no byte is lost, and the sink remembers it.
+    /// no byte is lost, and the sink remembers it and why.
     pub fn flush(&mut self) -> Result<(), SinkFault>
         ensures contents { Keeps (taken_by self.old) (taken_by self.new) }
         ensures all { OnOk result (taken_by self.new ≡ W.contents (writer_of self.new)) }
@@ -147,12 +177,17 @@ impl<W: Write + Drop> BlockSink<W> {
         ensures flushed { has_failed_flush self.new ≡ (is_err result || has_failed_flush self.old) }
         ensures nothing { HoldsNothing self.old → HoldsNothing self.new }
         ensures failures { ⟦<BlockSink<W> as Sink>⟧.failures self.new ≡ ⟦<BlockSink<W> as Sink>⟧.failures self.old }
+        ensures error { OnOk result (last_error_of self.new ≡ last_error_of self.old) }
+        ensures known { OnErr result (IsSome (last_error_of self.new)) }
     {
-        if self.hand_on().is_err() || self.writer.flush().is_err() {
-            self.unflushed = true;
-            return Err(SinkFault);
+        match self.hand_through() {
+            Ok(()) => Ok(()),
+            Err(error) => {
+                self.unflushed = true;
+                self.last_error = Some(error);
+                Err(SinkFault)
+            }
         }
-        Ok(())
     }
 
     /// Copies the bytes into the block, where they have room there. Nothing is called for short ones.
@@ -166,6 +201,7 @@ impl<W: Write + Drop> BlockSink<W> {
         ensures size { length self.new.block.items ≡ length self.old.block.items }
         ensures failures { self.new.failures ≡ self.old.failures }
         ensures flushed { has_failed_flush self.new ≡ has_failed_flush self.old }
+        ensures error { last_error_of self.new ≡ last_error_of self.old }
     {
         if bytes.len() >= self.block.len() - self.end {
             return false;
@@ -178,13 +214,14 @@ impl<W: Write + Drop> BlockSink<W> {
     /// Hands on the block, and then takes the bytes, or some: into the block where they have room there, and else to
     /// the writer. No bytes are taken at once.
     #[inline(never)]
-    fn take_behind(&mut self, bytes: &[u8]) -> Result<usize, SinkFault>
+    fn take_behind(&mut self, bytes: &[u8]) -> io::Result<usize>
         ensures most { WritesAtMost result bytes.now }
         ensures some { 0 < length bytes.now → IfOk result (λ n. 0 < n) }
         ensures took { WriteAppends (taken_by self.old) (taken_by self.new) result bytes.now }
         ensures size { length self.new.block.items ≡ length self.old.block.items }
         ensures failures { self.new.failures ≡ self.old.failures }
         ensures flushed { has_failed_flush self.new ≡ has_failed_flush self.old }
+        ensures error { last_error_of self.new ≡ last_error_of self.old }
     {
         self.hand_on()?;
         if bytes.is_empty() || self.holds(bytes) {
@@ -197,7 +234,7 @@ impl<W: Write + Drop> BlockSink<W> {
 impl<W: Write + Drop> Sink for BlockSink<W> {
     ghost use Rattle.sf_print.specs.Sinks.{counted_on};
     ghost use Rattle.std.specs.Prelude.{if◌then◌else◌};
-    ghost use Rattle.sf_blocks.specs.Blocks.{HoldsNothing, TakesShort, has_failed_flush, room_of, taken_by};
+    ghost use Rattle.sf_blocks.specs.Blocks.{HoldsNothing, TakesShort, has_failed_flush, last_error_of, room_of, taken_by};
 
     ghost contents = { taken_by };
 
@@ -215,14 +252,19 @@ impl<W: Write + Drop> Sink for BlockSink<W> {
         ensures short { length bytes.now < room_of self.old → TakesShort self.old self.new bytes.now result }
         ensures nothing { HoldsNothing self.old → HoldsNothing self.new }
         ensures flushed { has_failed_flush self.new ≡ has_failed_flush self.old }
+        ensures error { OnOk result (last_error_of self.new ≡ last_error_of self.old) }
+        ensures known { OnErr result (IsSome (last_error_of self.new)) }
     {
         if self.holds(bytes) {
             return Ok(bytes.len());
         }
-        let taken = self.take_behind(bytes);
-        if taken.is_err() {
-            self.failures = self.failures.saturating_add(1);
+        match self.take_behind(bytes) {
+            Ok(count) => Ok(count),
+            Err(error) => {
+                self.failures = self.failures.saturating_add(1);
+                self.last_error = Some(error);
+                Err(SinkFault)
+            }
         }
-        taken
     }
 }

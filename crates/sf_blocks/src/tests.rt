@@ -60,7 +60,7 @@ fn write_whole(sink: &mut BlockSink<Device>, text: &[u8]) {
     }
 }
 
-/// Whether the bytes are so many texts of seven bytes, one behind the other.
+/// Whether the bytes are so many texts of seven bytes, one after the other.
 fn are_texts(bytes: &[u8], text: &[u8], count: usize) -> bool {
     bytes.chunks(7).len() == count && bytes.chunks(7).all(|piece| piece == text)
 }
@@ -109,7 +109,7 @@ fn an_interrupted_block_goes_on(rt: HostRuntime) -> Result<(), Fail> {
     Ok(())
 }
 
-/// A text that is longer than all that is held back comes behind the short ones before it.
+/// A text that is longer than all that is held back comes after the short ones before it.
 #[test]
 fn a_long_text_comes_behind(rt: HostRuntime) -> Result<(), Fail> {
     let mut sink = BlockSink::in_blocks(rt.alloc(), Device::new(rt.alloc(), 9000, u64::MAX))?;
@@ -122,6 +122,30 @@ fn a_long_text_comes_behind(rt: HostRuntime) -> Result<(), Fail> {
     write_whole(&mut sink, b"record\n");
     let flushed = sink.flush().is_ok() && are_texts(&sink.writer().bytes, b"record\n", 2002);
     assert!(rt; flushed);
+    Ok(())
+}
+
+/// Why the write or the flush failed, and nothing before one did.
+#[test]
+fn the_last_error_is_known(rt: HostRuntime) -> Result<(), Fail> {
+    for &kind in &[ErrorKind::BrokenPipe, ErrorKind::StorageFull] {
+        let mut device = Device::new(rt.alloc(), 9000, 1);
+        device.failure = kind;
+        let mut sink = BlockSink::at_once(rt.alloc(), device);
+        let first = sink.write(b"record\n").is_ok() && sink.last_error().is_none();
+        let second = sink.write(b"record\n").is_err();
+        let known = matches!(sink.last_error(), Some(error) if error.kind() == kind);
+        assert!(rt; first && second && known);
+        assert!(rt; sink.failures() == 1);
+        let kept = sink.flush().is_ok() && sink.last_error().is_some();
+        assert!(rt; kept);
+    }
+    let mut sink = BlockSink::in_blocks(rt.alloc(), Device::new(rt.alloc(), 0, u64::MAX))?;
+    let taken = sink.write(b"record\n").is_ok() && sink.last_error().is_none();
+    assert!(rt; taken);
+    let failed = sink.flush().is_err();
+    let known = matches!(sink.last_error(), Some(error) if error.kind() == ErrorKind::WriteZero);
+    assert!(rt; failed && known);
     Ok(())
 }
 

@@ -5,7 +5,7 @@ use crate::writing::write_some;
 use sf_print::{Sink, SinkFault};
 use std::io::Write;
 
-/// A writer that is handed each text at once. What it took is told as far as the writer tells its bytes.
+/// A writer that is handed each text at once. What it took is known as far as the writer's contract knows its bytes.
 #[derive(Drop)]
 pub struct Unblocked<W: Write + Drop> {
     writer: W,
@@ -41,10 +41,12 @@ impl<W: Write + Drop> Sink for Unblocked<W> {
         if bytes.is_empty() {
             return Ok(0);
         }
-        let taken = write_some(&mut self.writer, bytes);
-        if taken.is_err() {
-            self.failures = self.failures.saturating_add(1);
+        match write_some(&mut self.writer, bytes) {
+            Ok(count) => Ok(count),
+            Err(_) => {
+                self.failures = self.failures.saturating_add(1);
+                Err(SinkFault)
+            }
         }
-        taken
     }
 }

@@ -3,14 +3,14 @@ ghost use Rattle.std.specs.Prelude.{◌<◌, IfOk};
 ghost use Rattle.std.specs.Io.{WritesAtMost};
 ghost use Rattle.std.specs.Io.KnownBytes.{Keeps, WriteAppends};
 
-use sf_print::SinkFault;
-use std::io::{ErrorKind, Write};
+use std::io::{self, ErrorKind, Write};
 
 /// How often the writer is asked anew where a write is interrupted.
 const TRIES: u64 = u64::MAX;
 
-/// What the writer takes of the bytes: some, or it fails. A write that is interrupted is tried again.
-pub(crate) fn write_some<W: Write>(writer: &mut W, bytes: &[u8]) -> Result<usize, SinkFault>
+/// What the writer takes of the bytes: some, or why it failed. A write that is interrupted is tried again; one that
+/// takes no byte has failed.
+pub(crate) fn write_some<W: Write>(writer: &mut W, bytes: &[u8]) -> io::Result<usize>
     ensures most { WritesAtMost result bytes.now }
     ensures some { IfOk result (λ n. 0 < n) }
     ensures took { WriteAppends (W.contents writer.old) (W.contents writer.new) result bytes.now }
@@ -18,9 +18,10 @@ pub(crate) fn write_some<W: Write>(writer: &mut W, bytes: &[u8]) -> Result<usize
     for _ in 0..TRIES {
         match writer.write(bytes) {
             Ok(count) if count > 0 => return Ok(count),
+            Ok(_) => return Err(io::Error::from(ErrorKind::WriteZero)),
             Err(error) if error.kind() == ErrorKind::Interrupted => {}
-            _ => return Err(SinkFault),
+            Err(error) => return Err(error),
         }
     }
-    Err(SinkFault)
+    Err(io::Error::from(ErrorKind::Interrupted))
 }

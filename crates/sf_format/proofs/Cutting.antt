@@ -88,7 +88,7 @@ number_of (d ∷ ds) u z digits inside stops =
     ap number_at whole
     ∙ rw (front_of is_decimal (d ∷ ds) (36 ∷ (u ++ z)) digits refl, behind_of is_decimal (d ∷ ds) (36 ∷ (u ++ z)) digits refl)
 
--- what stands behind the % of a specification is no %
+-- what stands after the % of a specification is no %
 pub percent_none : (number u z : List ℕ) → AllPass is_decimal number → AllPass is_inside u → Stops is_head z
     → begins (37 ∷ []) (number_text number ++ (u ++ z)) ≡ false
 percent_none (d ∷ ds) u z digits inside stops = grind (arith, nat_tests)
@@ -134,7 +134,7 @@ sized_stops _ letter x last = refl
 
 -- ---- the whole cut
 
--- what stands behind the % of an opening
+-- what stands after the % of an opening
 abbrev pub inside : Opening → List ℕ → List ℕ
 inside o y = number_text o.number ++ (star_text o.star ++ (o.flags ++
     (o.width ++ (precision_text o.precision ++ (length_text o.size ++ y)))))
@@ -180,7 +180,7 @@ precision_is (Some ds) z digits stops =
     let other = digit_stops z (head_stops z stops) in
     rw (front_of is_decimal ds z digits other, behind_of is_decimal ds z digits other)
 
--- behind the number
+-- after the number
 cut_behind : (language : Language) (o : Opening) (letter : ℕ) (x : List ℕ) → HasParts o → IsIn language o → IsLast letter
     → number_at (inside o (letter ∷ x))
     ≡ (o.number, star_text o.star ++ (o.flags ++ (o.width ++ (precision_text o.precision ++ (length_text o.size ++ letter ∷ x)))))

@@ -21,3 +21,4 @@ pub mod Profiles
 pub mod PartTexts
 pub mod SpanTexts
 pub mod Rows
+pub mod Layouts

@@ -47,7 +47,7 @@ pub white_quiet : (language : Language) (earlier : List Opening) (p b : ℕ) (x 
     → Quiet (part_rules language earlier p (b ∷ x))
 white_quiet language earlier p b x white = byte_quiet language earlier p b x (grind (arith, nat_tests)) (grind (arith, nat_tests))
 
--- ---- behind a %
+-- ---- after a %
 
 pub letter_some : {L : Type 0} (found : Option L) → is_none found ≡ false → (letter : L) × (found ≡ Some letter)
 letter_some None e = absurd (cc)
@@ -104,7 +104,7 @@ bracket_text : (o : Opening) (list : Scanlist) (y : List ℕ) → piece_text (Br
     ≡ 37 ∷ inside o (91 ∷ (scanlist_text list ++ y))
 bracket_text o list y = append_assoc (opening_text o) (91 ∷ scanlist_text list) y ∙ opening_regroup o (91 ∷ (scanlist_text list ++ y))
 
--- what stands behind an opening of bytes are bytes
+-- what stands after an opening of bytes are bytes
 inside_bytes : (o : Opening) (y : List ℕ) → AreBytes (inside o y) → AreBytes y
 inside_bytes o y h = let whole : inside o y ≡ inside o [] ++ y = simp append_assoc in
     all_back (λ b. b < 256) (inside o []) y (rw whole at h)

@@ -66,7 +66,7 @@ pub listed_forward : (bracket : Bool) (q : ℕ) (x : List ℕ) (listed : Listed)
 listed_forward true q x listed e none is = list_forward q _ (mark_at 94 x).1 listed.members.now is.1 none
 listed_forward false q x listed e none is = absurd (cc)
 
--- a conversion by a letter that is a bracket or isn't, and by the scanlist that was read behind it
+-- a conversion by a letter that is a bracket or isn't, and by the scanlist that was read after it
 made_by : (v : Bool) (profile : Profile) (place q b : ℕ) (x : List ℕ) (o : Opening) (letter : Letter) (listed : Listed) (c : Conversion)
     → is_set letter ≡ v → nat_eq b 91 ≡ v → letter_of profile b ≡ Some letter → first_of (bracket_rules v q x) ≡ None → IsListed v x listed
     → IsConversion place o letter c → ShapeBy v letter listed c.shape → Means profile place (letter_at o (b ∷ x)).piece (directive.Conv c)
@@ -102,7 +102,7 @@ pub number_bound : (language : Language) (p : ℕ) (o : Opening) → first_of (o
 number_bound (Scan profile) p o none = number_low o.number (quiet_is (opening_rules (Scan profile) p o) none).0
 number_bound (Print profile) p o none = number_low o.number (quiet_is (opening_rules (Print profile) p o) none).0
 
--- ---- behind a %, in both languages
+-- ---- after a %, in both languages
 
 pub begins_mark : (x : List ℕ) → begins (37 ∷ []) x ≡ (mark_at 37 x).0
 begins_mark [] = refl
@@ -112,7 +112,7 @@ pub behind_mark : (x : List ℕ) → (mark_at 37 x).0 ≡ true → (mark_at 37 x
 behind_mark [] found = absurd (cc)
 behind_mark (b ∷ x) found = grind arith
 
--- behind an opening without a fault
+-- after an opening without a fault
 pub passes_behind : {D : Type 0} (wanted : Bool) (means : ℕ → Piece → D → Type 0) (opening rest : List Rule) (earlier : List Opening)
     (part : Part)
     (r : Result (Passed D) FormatFault) → first_of opening ≡ None → PassesBy wanted means rest earlier part r
@@ -151,7 +151,7 @@ cut_passes wanted means language earlier p q x rest o r same behind place quiet 
 pub if_point : (P : List ℕ → Type 0) (point : Bool) (ds : List ℕ) → IfSome (precision_of point ds) P → point ≡ true → P ds
 if_point P point ds h e = grind arith
 
--- behind a letter that has no fault itself, what stands before it decides
+-- after a letter that has no fault itself, what stands before it decides
 pub flags_first : (profile : Profile) (p : ℕ) (o : Opening) (q b : ℕ) (letter : PrintLetter)
     → first_of (print_letter_rules profile o b q) ≡ None
     → print_letter_of profile b ≡ Some letter

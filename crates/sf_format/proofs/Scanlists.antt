@@ -106,7 +106,7 @@ range_more old new xs members long dash has put = λ k byte.
     )
     (has k byte)
 
--- the split of a scanlist behind its members
+-- the split of a scanlist after its members
 pub members_split : (text others : List ℕ) → 0 < length text → others ≡ front is_inner (drop 1 text)
     → (1 + length others ≤ length text) × (take (1 + length others) text ≡ members_at text)
     × (drop (1 + length others) text ≡ close_at text)
@@ -151,7 +151,7 @@ closed_text : (x : List ℕ) → is_written (behind is_inner x) ≡ true → fro
 closed_text [] written = absurd (cc)
 closed_text (b ∷ x) written = grind (arith, nat_tests, closed_text x)
 
--- what stands behind the [ and its ^, without a fault
+-- what stands after the [ and its ^, without a fault
 pub listed : (q m : ℕ) (y : List ℕ) → AreBytes y → Quiet (list_rules q m (mark_at 94 y).1)
     → Listed y (list_of (mark_at 94 y).0 (mark_at 94 y).1) (drop 1 (close_at (mark_at 94 y).1))
 listed q m y bytes = by_members (mark_at 94 y).0 (mark_at 94 y).1 (no_mark 94 y) (mark_joined caret_text 94 y refl refl)
@@ -176,7 +176,7 @@ listed q m y bytes = by_members (mark_at 94 y).0 (mark_at 94 y).1 (no_mark 94 y)
 
 -- ---- from the scanlist to the text
 
--- what stands behind the ^
+-- what stands after the ^
 abbrev inner_text : Scanlist → List ℕ → List ℕ
 inner_text list rest = list.first ∷ (list.others ++ 93 ∷ rest)
 

@@ -80,7 +80,7 @@ is_part language earlier p (b ∷ x) some bytes quiet =
       bytes = all_back (λ c. c < 256) (piece_text part.piece) part.rest (subst AreBytes begins.text bytes);
     }
 
--- the part in front of the rest was passed, and something is left behind it
+-- the part in front of the rest was passed, and something is left after it
 pub record PassesFirst {language : Language} {text : List ℕ} {at : ℕ} {rest : List ℕ} {slots : Slots}
     (h : Passing language text at rest slots)
     (after : List ℕ) (new : Slots) : Type 0 where

@@ -138,7 +138,7 @@ read_tells (suc n) language earlier p (b ∷ x) short bytes alike =
 
 -- ---- to what is read
 
--- what is read behind a part that no rule refuses
+-- what is read after a part that no rule refuses
 abbrev pub read_behind : ℕ → Language → List Opening → ℕ → Part → Result (List Piece) (FormatWhy × ℕ)
 read_behind n language earlier p part = read n language (earlier ++ destinations (part.piece ∷ []))
     (p + length (piece_text part.piece)) part.rest
@@ -182,7 +182,7 @@ put_first language earlier p piece done rest m =
     one : (r : Result (List Piece) (FormatWhy × ℕ)) → put piece (put_all done r) ≡ put_all (piece ∷ done) r
     one r = grind arith
 
--- what is read behind whole parts is read with them
+-- what is read after whole parts is read with them
 read_done : (n : ℕ) (language : Language) (earlier : List Opening) (p : ℕ) (done : List Piece) (rest : List ℕ)
     → AllByRecursion (IsPiece language) done → RunsApart done → Stops is_white rest → AreAlike (earlier ++ destinations done)
     → length (text_of done ++ rest) ≤ n

@@ -64,7 +64,7 @@ cut (Print profile) x =
 
 -- ---- a scanlist
 
--- its members, which begin behind the ^
+-- its members, which begin after the ^
 abbrev pub members_at : List ℕ → List ℕ
 members_at [] = []
 members_at (b ∷ x) = b ∷ front is_inner x
@@ -93,11 +93,11 @@ letter_at o [] = record { piece = Percents; rest = [] }
 letter_at o (letter ∷ x) =
     if nat_eq letter (code "[") then bracket_at o (mark_at (code "^") x) else record { piece = Plain o letter; rest = x }
 
--- behind a % that no other follows
+-- after a % that no other follows
 abbrev pub conversion_at : Language → List ℕ → Part
 conversion_at language x = letter_at (cut language x).opening (cut language x).rest
 
--- behind a %
+-- after a %
 abbrev pub specification_at : Language → List ℕ → Part
 specification_at language x =
     if begins (codes "%") x then record { piece = Percents; rest = drop 1 x } else conversion_at language x

@@ -65,14 +65,14 @@ list_rules q m x = member_rules q m (members_at x) (is_written (close_at x))
 abbrev pub after_caret : ℕ → Bool × List ℕ → List Rule
 after_caret q x = list_rules q (q + 1 + length (caret_text x.0)) x.1
 
--- what stands behind the letter, which is a [ or isn't
+-- what follows the letter, which is a [ or isn't
 abbrev pub bracket_rules : Bool → ℕ → List ℕ → List Rule
 bracket_rules bracket q x = if bracket then after_caret q (mark_at (code "^") x) else []
 
 abbrev pub scanlist_rules : ℕ → ℕ → List ℕ → List Rule
 scanlist_rules letter q x = bracket_rules (nat_eq letter (code "[")) q x
 
--- the letter, at q, and what it has behind it or before it
+-- the letter, at q, and what it has after it or before it
 abbrev pub ending_rules : Language → ℕ → Opening → ℕ → ℕ → List ℕ → List Rule
 ending_rules (Scan profile) p o q letter x = letter_rules profile o letter q ++ scanlist_rules letter q x
 ending_rules (Print profile) p o q letter x = print_letter_rules profile o letter q ++ flag_rules p o (print_letter_of profile letter)
@@ -82,13 +82,13 @@ abbrev pub rest_rules : Language → List Opening → ℕ → Opening → ℕ �
 rest_rules language earlier p o q [] = record { why = Truncated; applies = true; at = q } ∷ []
 rest_rules language earlier p o q (letter ∷ x) = ending_rules language p o q letter x ++ slot_rules earlier p o
 
--- what stands behind a % that no other follows
+-- what follows a % that no other follows
 abbrev pub conversion_rules : Language → List Opening → ℕ → List ℕ → List Rule
 conversion_rules language earlier p x =
     let o = (cut language x).opening in
     opening_rules language p o ++ rest_rules language earlier p o (p + length (opening_text o)) (cut language x).rest
 
--- what stands behind a %
+-- what follows a %
 abbrev pub percent_rules : Language → List Opening → ℕ → List ℕ → List Rule
 percent_rules language earlier p x = if not (begins (codes "%") x) then conversion_rules language earlier p x else []
 

@@ -22,3 +22,4 @@ pub mod Laws
 pub mod Classes
 pub mod Passing
 pub mod Texts
+pub mod Layout

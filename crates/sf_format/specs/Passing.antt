@@ -75,12 +75,12 @@ abbrev pub is_set : Letter → Bool
 is_set Set = true
 is_set _ = false
 
--- what follows the scanlist behind a letter, if it has one
+-- what follows the scanlist after a letter, if it has one
 abbrev pub rest_behind : Bool → List ℕ → List ℕ
 rest_behind true x = drop 1 (close_at (mark_at (code "^") x).1)
 rest_behind false x = x
 
--- the scanlist behind a letter, which is a [ or isn't
+-- the scanlist after a letter, which is a [ or isn't
 abbrev pub IsListed : Bool → List ℕ → Listed → Type 0
 IsListed true x listed = (listed.complemented ≡ (mark_at (code "^") x).0) × (listed.members.now ≡ members_at (mark_at (code "^") x).1)
 IsListed false x listed = Unit {0}
@@ -154,7 +154,7 @@ first_place (Some place) applies at = Some place
 first_place None true at = Some at
 first_place None false at = None
 
--- a place, told with a reason
+-- a place, reported with a reason
 abbrev pub told : FormatWhy → Option ℕ → Option (FormatWhy × ℕ)
 told why None = None
 told why (Some at) = Some (why, at)

@@ -15,7 +15,7 @@ use Rattle.sf_format.specs.PrintLetters.{print_letter_of, print_kind_of, is_flag
 use Rattle.sf_format.specs.Units.{has_flag, HasPrecision}
 use Rattle.sf_format.specs.Pieces.{Opening, Piece, WhiteSpace, Ordinary, Percents, Plain, Bracket}
 
--- the digits behind a point; none stand for 0
+-- the digits after a point; none stand for 0
 abbrev pub IsPrecision : List ℕ → Type 0
 IsPrecision ds = AllByRecursion (λ b. is_decimal b ≡ true) ds × (magnitude 10 ds ≤ 255)
 

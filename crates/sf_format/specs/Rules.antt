@@ -1,4 +1,4 @@
--- Rules that formats have to keep, each with the place where it is told that one doesn't.
+-- Rules that formats have to keep, each with the place that is reported where one doesn't.
 use Rattle.std.specs.Prelude.{ℕ, Bool, true, false, not, ◌&&◌, List, [], ◌∷◌, length, Option, Some, None, nat_eq, nat_lt, if◌then◌else◌, codes}
 use Rattle.std.specs.List.{position_from, list_any}
 use Rattle.sf_format.specs.declared.fault.FormatWhy.{FormatWhy}
@@ -8,7 +8,7 @@ use Rattle.sf_format.specs.declared.letter.Length.TheVariants.{NoLength, L}
 use Rattle.sf_format.specs.Lists.{is_any_of, is_written}
 use Rattle.sf_format.specs.Pieces.{Opening}
 
--- a reason, the test whether it applies, and the place where it is told
+-- a reason, the test whether it applies, and the place that is reported
 pub record Rule : Type 0 where
   pub why : FormatWhy
   pub applies : Bool

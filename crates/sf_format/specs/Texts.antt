@@ -1,4 +1,4 @@
--- What is said of a format that is refused.
+-- The texts for a format that is refused.
 use Rattle.std.specs.Prelude.{ℕ, List, ◌++◌, codes}
 use Rattle.std.specs.Fmt.{decimal}
 use Rattle.sf_format.specs.declared.fault.FormatWhy.{FormatWhy}

@@ -1,5 +1,5 @@
 //! What is wrong with a format.
-use std::alloc::AllocFailed;
+use std::alloc::{AllocError, AllocFailed};
 use std::error::Error;
 use std::fmt;
 
@@ -60,6 +60,20 @@ impl<T: Drop> From<AllocFailed<T>> for FormatFault {
     ghost from_gives = { λ _ fault. fault ≡ no_memory };
 
     fn from(_refused: AllocFailed<T>) -> FormatFault {
+        FormatFault {
+            at: 0,
+            why: FormatWhy::NoMemory,
+        }
+    }
+}
+
+impl From<AllocError> for FormatFault {
+    ghost use Rattle.std.specs.Prelude.{◌≡◌};
+    ghost use Rattle.sf_format.specs.Faults.{no_memory};
+
+    ghost from_gives = { λ _ fault. fault ≡ no_memory };
+
+    fn from(_refused: AllocError) -> FormatFault {
         FormatFault {
             at: 0,
             why: FormatWhy::NoMemory,

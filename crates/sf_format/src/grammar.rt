@@ -52,7 +52,7 @@ pub trait Grammar: Copy {
     fn literal(self, literal: Literal) -> Self::Part
         ensures { (place : ℕ) → means self place (literal_piece literal) result };
 
-    /// What stands behind a `%`, up to where the letter is due, and the rest.
+    /// What follows a `%`, up to where the letter is due, and the rest.
     fn cut_opening(self, text: &[u8]) -> (Written, &[u8])
         ensures opening { opening_of result.0 ≡ (cut (language self) text.now).opening }
         ensures rest { result.1.now ≡ (cut (language self) text.now).rest };
@@ -97,7 +97,7 @@ pub trait Grammar: Copy {
             (letter_at (opening_of written.now) (letter ∷ text.now)) result };
 }
 
-/// What stands behind a `%`, up to where the letter is due, and the rest.
+/// What follows a `%`, up to where the letter is due, and the rest.
 fn opening<G: Grammar>(grammar: G, text: &[u8]) -> (Written, &[u8])
     ensures opening { opening_of result.0 ≡ (cut (G.language grammar) text.now).opening }
     ensures rest { result.1.now ≡ (cut (G.language grammar) text.now).rest }
@@ -143,7 +143,7 @@ fn pass_conversion<'a, G: Grammar>(
     }
 }
 
-/// Passes what stands behind the `%` at the place.
+/// Passes what follows the `%` at the place.
 fn pass_specification<'a, G: Grammar>(
     grammar: G,
     text: &'a [u8],

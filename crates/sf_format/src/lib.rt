@@ -7,6 +7,7 @@ mod fronts;
 mod grammar;
 mod judgement;
 pub mod laws;
+mod layout;
 mod letter;
 mod noted;
 mod opening;
@@ -20,6 +21,7 @@ mod unit;
 
 pub use directive::{Base, Conversion, Directive, Profile, Shape};
 pub use fault::{FormatFault, FormatWhy};
+pub use layout::{Row, Way};
 pub use part_text::directive_text;
 pub use print::PrintFormat;
 pub use scan::ScanFormat;

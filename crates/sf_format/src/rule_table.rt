@@ -6,7 +6,7 @@ ghost use Rattle.sf_format.specs.Passing.{fault_in, row_of};
 use crate::fault::{FormatFault, FormatWhy};
 use sf_base::{Rule, first_fault};
 
-/// A rule of a format: why one that breaks it is refused, where that is told, and whether this one does.
+/// A rule of a format: why a format that breaks it is refused, at which place, and whether this one breaks it.
 pub fn rule(why: FormatWhy, at: u16, applies: bool) -> Rule<FormatFault>
     ensures { result ≡ record { why = record { at = at; why = why }; applies = applies } }
 {

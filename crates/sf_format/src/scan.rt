@@ -1,5 +1,6 @@
 //! Scan formats.
-ghost use Rattle.std.specs.Prelude.{◌≡◌, ◌≤◌, ◌↔◌, IsSome, length, IfOk, IfErr, IfSome};
+ghost use Rattle.std.specs.Prelude.{◌≡◌, ◌≤◌, ◌↔◌, IsSome, length, map, IfOk, IfErr, IfSome};
+ghost use Rattle.sf_format.specs.Layout.{items_assigned, items_taken, row_of};
 ghost use Rattle.sf_format.specs.Slots.{AreSlots};
 ghost use Rattle.sf_format.specs.Proper.{AreKinded, AreProper, AreSized, IsAccepted, destinations_of, kind_at};
 ghost use Rattle.sf_format.specs.Widths.{width_sum, stored_width};
@@ -13,22 +14,28 @@ mod scanlist;
 use crate::directive::{Directive, Profile, Shape};
 use crate::fault::FormatFault;
 use crate::judgement::parse;
+use crate::layout::{Row, items_assigned, items_taken, rows_of};
 use crate::scan::grammar::ScanGrammar;
 use sf_base::Kind;
 use std::alloc::Global;
 use std::marker::Model;
 
-/// A scan format: its directives, the count of its destinations, and the sum of their widths.
+/// A scan format: its directives, each with its row, the count of its destinations, the sum of their widths, and what a
+/// run of it counts that is Done.
 #[derive(Debug, Drop)]
 pub struct ScanFormat {
     directives: Vec<Directive>,
+    rows: Vec<Row>,
     destinations: u8,
     widths: Option<u32>,
+    assigned: u8,
+    converted: u16,
 }
 
 impl Model for ScanFormat {
-    ghost use Rattle.std.specs.Prelude.{◌≡◌, List, length};
+    ghost use Rattle.std.specs.Prelude.{◌≡◌, List, length, map};
     ghost use Rattle.sf_format.specs.declared.directive.Directive.{Directive};
+    ghost use Rattle.sf_format.specs.Layout.{items_assigned, items_taken, row_of};
     ghost use Rattle.sf_format.specs.Proper.{IsAccepted, destinations_of};
     ghost use Rattle.sf_format.specs.Widths.{width_sum};
 
@@ -40,6 +47,9 @@ impl Model for ScanFormat {
       accepted : IsAccepted f.directives.items;
       summed : f.widths ≡ width_sum f.directives.items;
       counted : f.destinations ≡ length (destinations_of f.directives.items);
+      laid : f.rows.items ≡ map row_of f.directives.items;
+      assigned : f.assigned ≡ items_assigned f.directives.items;
+      converted : f.converted ≡ items_taken f.directives.items;
     } };
 }
 
@@ -96,11 +106,17 @@ impl ScanFormat {
         ensures accepted { TakesSpelled (Spells profile text.now) result }
     {
         let (directives, destinations) = parse(alloc, ScanGrammar { profile }, text)?;
+        let rows = rows_of(alloc, &directives)?;
         let widths = sum_of_widths(&directives);
+        let assigned = items_assigned(&directives);
+        let converted = items_taken(&directives);
         Ok(ScanFormat {
             directives,
+            rows,
             destinations,
             widths,
+            assigned,
+            converted,
         })
     }
 
@@ -116,6 +132,27 @@ impl ScanFormat {
         ensures slots { AreSlots (destinations_of result.now) }
     {
         &self.directives
+    }
+
+    /// The rows of the directives, in order.
+    pub fn rows(&self) -> &[Row]
+        ensures { result.now ≡ map row_of self.now }
+    {
+        &self.rows
+    }
+
+    /// How many input items a run assigns that is Done (C11 7.21.6.2p16).
+    pub fn assigned(&self) -> u8
+        ensures { result ≡ items_assigned self.now }
+    {
+        self.assigned
+    }
+
+    /// How many input items a run takes that is Done, suppressed ones among them.
+    pub fn converted(&self) -> u16
+        ensures { result ≡ items_taken self.now }
+    {
+        self.converted
     }
 
     /// How many destinations the format has. Their slots are the numbers from 1 to that, each once.

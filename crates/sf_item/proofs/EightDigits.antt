@@ -46,7 +46,7 @@ nothing_below (suc n) k t h =
       | inr g ↦ nothing_below n k (and_r _ (are_nothing n) t) (omega (arith, g))
     ]
 
--- what the digit with k digits behind it is worth
+-- what the digit with k digits after it is worth
 worth_of : (j k : ℕ) → k < 8 → j ≡ 7 - k → get_or WORTHS j 0 ≡ 10 ^ k
 worth_of j k below is = ap (λ (n : ℕ). get_or WORTHS n 0) is ∙ tens_below 8 k tt below
 
@@ -215,7 +215,7 @@ some_digits d m room mask some =
     ap (count_trailing_zeros 64) mask ∙ trailing_mask_l (λ b. not (is_ascii_digit b)) 64 (chunk 0 8 d) (omega (arith, long))
     (omega (arith, ne)) ∙ not_not is_ascii_digit (chunk 0 8 d)
 
--- behind fewer than eight digits stands another byte
+-- after fewer than eight digits stands another byte
 pub digits_end : (d : List ℕ) (count : ℕ) → 8 ≤ length d → count ≡ prefix_len is_ascii_digit (take 8 d) → count < 8
     → 10 ≤ digit_value (get_or d count 0)
 digits_end d count room is below =

@@ -14,7 +14,7 @@ use Rattle.sf_item.proofs.Fronts.{one_more, read_more}
 use Rattle.sf_item.proofs.Integers.{by_lt}
 use Rattle.sf_item.proofs.Scanning.{shows_some, shows_none, read_nothing}
 
--- what is shown of what is read behind a text is shown of both
+-- what is shown of what is read after a text is shown of both
 behind : (base : Base) (p : Progress) (f t : List ℕ) (now : Reached) (after : Option Reached)
     → ShowsNext (Some now) (read base (Some p) f) → ((q : Progress) → Shows now q → ShowsNext after (read base (Some q) t))
     → ShowsNext after (read base (Some p) (f ++ t))

@@ -33,7 +33,7 @@ module _ (p : ℕ → Bool) (piece : List ℕ) (n : ℕ) (is : n ≡ prefix_len 
   pub run_within : n ≤ length piece
   run_within = rw is (prefix_len-le-length p piece)
 
-  -- behind bytes that pass
+  -- after bytes that pass
   pub run_passes : (f : List ℕ) → list_all p f ≡ true → list_all p (f ++ take n piece) ≡ true
   run_passes f h = rw (is, list_all-append p f (take (prefix_len p piece) piece), h) (all_pass p piece)
 

@@ -11,7 +11,7 @@ use Rattle.sf_base.specs.declared.values.Kind.TheVariants.{I32}
 use Rattle.sf_format.specs.declared.directive.Base.{Base}
 use Rattle.sf_format.specs.declared.directive.Base.TheVariants.{Dec, Hex}
 use Rattle.sf_format.specs.declared.directive.Shape.{Shape}
-use Rattle.sf_format.specs.declared.directive.Shape.TheVariants.{Int, Set, Chars, Count}
+use Rattle.sf_format.specs.declared.directive.Shape.TheVariants.{Int, Set, Chars}
 use Rattle.sf_format.specs.declared.directive.Conversion.{Conversion}
 use Rattle.sf_format.specs.Proper.{IsProperShape}
 use Rattle.sf_item.specs.declared.reached.Digits.{Digits as Taken}
@@ -21,7 +21,6 @@ use Rattle.sf_item.specs.Matching.{IsItem, Matches}
 use Rattle.sf_item.specs.Progress.{Progress, Start, Zero, Prefix, Digits, integer_of, advance, with_digit, with_first_digit, after_zero}
 use Rattle.sf_item.specs.Radices.{first_radix}
 use Rattle.sf_item.specs.Scan.{FitsLeft, HoldsNumber, Shows, ShowsNext}
-use Rattle.sf_item.specs.Taking.{IsInt}
 use Rattle.sf_item.specs.Tests.{read, integer_in, integer_at, is_within, shape_begins, shape_matches, can_take, has_item}
 use Rattle.sf_item.specs.Wholes.{EndsWithin, NoneEndsWithin, ItemWithin, NoItemWithin, ReadsIn, DigitsOf, LongDigits, signed_as, SignOf, HasPrefixAt, HexOpening}
 use Rattle.sf_item.proofs.Integers.{by_lt, by_eq, by_sign, by_prefix, plain_zero}
@@ -110,7 +109,7 @@ sign_ends base zero sign b some high bare = let (no_plus, no_minus) = bare refl 
     bare_first base b no_plus no_minus ∙ first_ends base false b some high
 sign_ends base (suc k) sign b some high bare = first_ends base sign b some high
 
--- ---- digits behind what was read
+-- ---- digits after what was read
 
 same_number : (sign : Bool) (radix m n : ℕ) → ◌≡◌ {A = Option Progress} (Some (Digits sign radix m)) (Some (Digits sign radix n)) → m ≡ n
 same_number sign radix m n h = cc
@@ -135,7 +134,7 @@ signed_goes sign n b t reads =
     let (q, goes, ends) = decimal_goes sign (0 * 10 + digit_value b) n p t decimal next in
     (q, ap (λ o. read Dec o t) is ∙ goes, ends)
 
--- behind a sign or none
+-- after a sign or none
 digits_go : (start : ℕ) (sign : Bool) (t : List ℕ) (n : ℕ) → (start ≡ 0 → sign ≡ false) → 0 < length t
     → read Dec (Some (Digits sign 10 0)) t ≡ Some (Digits sign 10 n) → ReadsTo sign n (read Dec (Some (signed_as start sign)) t)
 digits_go start sign [] n plain some reads = absurd (omega (arith, some))
@@ -150,7 +149,7 @@ digits_go (suc k) sign (b ∷ t) n plain some reads = signed_goes sign n b t rea
 
 -- ---- the opening
 
--- digits were read whose number is n, behind how far the integer was read
+-- digits were read whose number is n, after how far the integer was read
 pub record Goes (base : Base) (radix : ℕ) (front : List ℕ) (state : Progress) (start count n : ℕ) (sign : Bool) : Type 0 where
   pub p : Progress
   pub reads : read base (Some state) (take count (rest front start)) ≡ Some p
@@ -309,7 +308,7 @@ module _ (piece front : List ℕ) (width : Option ℕ) (cut : front ≡ take (le
               ∙ integer_at_is base (take w.bytes piece) w.negative w.magnitude is.integer,
         )
 
-  -- digits behind an opening
+  -- digits after an opening
   module _ (base : Base) (radix start count number : ℕ) (sign : Bool) (opened : Opened base radix front start sign)
       (digits : DigitsOf radix (rest front start) count number) where
     far : start + count ≤ length front
@@ -421,7 +420,7 @@ first_goes sign b t n reads =
     (zero_goes sign t n (subst (λ c. read Hex (Some (Digits sign 16 0)) (c ∷ t) ≡ Some (Digits sign 16 n)) is reads)))
     (λ other. (Digits sign 16 n, reads, inl refl))
 
--- behind a sign or none
+-- after a sign or none
 hex_digits_go : (start : ℕ) (sign : Bool) (t : List ℕ) (n : ℕ) → (start ≡ 0 → sign ≡ false) → 0 < length t
     → read Hex (Some (Digits sign 16 0)) t ≡ Some (Digits sign 16 n)
     → (p : Progress) × (read Hex (Some (signed_as start sign)) t ≡ Some p) × HexRead sign t n p
@@ -446,7 +445,7 @@ hex_told sign t n p (inl is) = ap integer_of is
 hex_told sign t n p (inr zero_digit) = ap integer_of zero_digit.1 ∙ ap (λ m. Some (sign, m)) (sym zero_digit.2)
 
 module _ (front : List ℕ) (start : ℕ) (sign : Bool) where
-  -- no prefix stands behind the sign
+  -- no prefix stands after the sign
   plain_opened : SignOf front start sign → (HasPrefixAt front start → ⊥) → Opened Hex 16 front start sign
   plain_opened s plain = record {
     inside = s.within;
@@ -508,7 +507,7 @@ module _ (front : List ℕ) (start : ℕ) (sign : Bool) where
   hex_opened (inl h) = prefixed_opened h.0 h.1
   hex_opened (inr h) = plain_opened h.0 h.1
 
--- the prefix behind a sign or none
+-- the prefix after a sign or none
 prefix_read : (start letter : ℕ) (sign : Bool) → (start ≡ 0 → sign ≡ false) → (letter ≡ 120) ⊎ (letter ≡ 88)
     → read Hex (Some (signed_as start sign)) (48 ∷ letter ∷ []) ≡ Some (Prefix sign 16)
 prefix_read zero letter sign plain (inl is) = ap (λ s. read Hex (Some (Zero s)) (letter ∷ [])) (sym (plain refl))
@@ -641,11 +640,6 @@ no_chars width piece n is none k h =
     let long = h.matches (a_conversion Chars width) refl refl in
     let same : k ≡ n = sym (length-take-le k piece (omega (arith, behind))) ∙ long ∙ sym is in
     absurd (none (omega (arith, same, some)) (omega (arith, same, behind)))
-
-pub no_bytes : (shape : Shape) (width : Option ℕ) (piece : List ℕ) → IsInt shape ⊎ (shape ≡ Count) → NoItemWithin shape width piece
-no_bytes shape width piece (inl int) k h = int
-no_bytes shape width piece (inr is) k h = absurd (subst (λ s. ItemWithin s width piece k → ⊥) (sym is)
-    (λ none. none.matches (a_conversion Count width) refl refl) h)
 
 -- ---- digits, of whichever number
 

@@ -1,4 +1,4 @@
--- Digits behind zeros, and digits that are the front of a piece.
+-- Digits after zeros, and digits that are the front of a piece.
 use Rattle.std.proofs.Common.{◌≡◌, ◌∙◌, ℕ, zero, suc, ◌+◌, ◌<◌, ◌≤◌, List, [], ◌∷◌, length, take, drop, get_or, Some, refl, sym, ap, subst, arith}
 use Rattle.std.proofs.Math.Seq.{take-add}
 use Rattle.std.proofs.lemmas.List.{get_or-drop, get_or-take, length-drop, take-take}
@@ -16,7 +16,7 @@ zeros_read (b ∷ bytes) (suc z) le are base sign =
     subst (λ c. read base (with_digit sign 10 0 c) (take z bytes) ≡ Some (Digits sign 10 0)) (sym (are 0 (omega arith)))
     (zeros_read bytes z (omega (arith, le)) (λ k below. are (suc k) (omega (arith, below))) base sign)
 
--- the digits behind zeros have their number
+-- the digits after zeros have their number
 pub behind_zeros : (bytes : List ℕ) (z n number : ℕ) → z ≤ length bytes → ((k : ℕ) → k < z → get_or bytes k 0 ≡ 48)
     → DigitsOf 10 (drop z bytes) n number → DigitsOf 10 bytes (z + n) number
 behind_zeros bytes z n number le are own =

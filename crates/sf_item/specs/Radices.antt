@@ -27,7 +27,7 @@ first_radix base = (radices base).first
 abbrev pub zero_radix : Base → ℕ
 zero_radix base = (radices base).zero
 
--- the radix that the byte makes as the letter of a prefix, behind a first 0
+-- the radix that the byte makes as the letter of a prefix, after a first 0
 abbrev pub prefix_radix : Base → ℕ → Option ℕ
 prefix_radix base letter =
     if nat_eq letter 120 || nat_eq letter 88 then (radices base).x

@@ -1,4 +1,5 @@
--- What matches and what begins a matching sequence, as tests that compute. proofs/Deciding shows that they say what Matching says.
+-- What matches and what begins a matching sequence, as tests that compute. proofs/Deciding shows that they are those of
+-- Matching.
 use Rattle.std.specs.Prelude.{ℕ, Bool, true, false, ◌&&◌, nat_eq, nat_lt, nat_le, List, [], ◌∷◌, length, Option, Some, None, is_some, unwrap_or}
 use Rattle.std.specs.List.{list_all}
 pub use Rattle.sf_base.specs.Bytes.{is_ink}

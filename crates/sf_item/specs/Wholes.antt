@@ -10,6 +10,7 @@ use Rattle.sf_format.specs.Proper.{IsProperShape}
 use Rattle.sf_item.specs.declared.whole.WholeInteger.{WholeInteger}
 use Rattle.sf_item.specs.Matching.{IsInteger, IsItem, Matches}
 use Rattle.sf_item.specs.Progress.{Progress, Start, Signed, Prefix, Digits}
+use Rattle.sf_item.specs.Scan.{FitsLeft}
 use Rattle.sf_item.specs.Taking.{IsInt}
 use Rattle.sf_item.specs.Tests.{read}
 
@@ -19,6 +20,11 @@ pub record EndsWithin (base : Base) (width : Option ℕ) (piece : List ℕ) (w :
   pub behind : w.bytes < length piece
   pub item : (c : Conversion) → c.shape ≡ Int base → c.width ≡ width → (z : List ℕ) → IsItem c (piece ++ z) w.bytes
   pub integer : IsInteger base (take w.bytes piece) w.negative w.magnitude
+
+-- the bytes are those of the piece that an item with the width may have
+pub record IsCutBy (width : Option ℕ) (piece front : List ℕ) : Type 0 where
+  pub room : (k : ℕ) → k ≤ length front → FitsLeft width k
+  pub whole : length front < length piece → width ≡ Some (length front)
 
 -- no integer ends within the piece whose number is below 2^64
 abbrev pub NoneEndsWithin : Base → Option ℕ → List ℕ → Type 0
@@ -72,7 +78,7 @@ abbrev pub HasPrefixAt : List ℕ → ℕ → Type 0
 HasPrefixAt bytes at = (at + 1 < length bytes) × (get_or bytes at 0 ≡ 48)
     × ((get_or bytes (at + 1) 0 ≡ 120) ⊎ (get_or bytes (at + 1) 0 ≡ 88))
 
--- so many bytes are a sign and a prefix, or a sign behind which no prefix stands
+-- so many bytes are a sign and a prefix, or a sign that no prefix follows
 abbrev pub HexOpening : List ℕ → ℕ → Bool → Type 0
 HexOpening bytes count negative =
     (count ≤ length bytes) × (read Hex (Some Start) (take count bytes) ≡ Some (Prefix negative 16))

@@ -10,8 +10,8 @@ use std::simd::prelude::*;
 /// How many bytes are looked at at once.
 pub(crate) const LANES: usize = 8;
 
-/// What the first to the last of eight digits are worth, and nothing for what stands behind them. The worths of fewer
-/// digits begin later.
+/// What the first to the last of eight digits are worth, and nothing for what follows them. The worths of fewer digits
+/// begin later.
 static WORTHS: [u32; 16] = [
     10_000_000, 1_000_000, 100_000, 10_000, 1000, 100, 10, 1, 0, 0, 0, 0, 0, 0, 0, 0,
 ];
@@ -49,7 +49,7 @@ fn values_of(piece: &[u8]) -> [u8; LANES]
     (u8x8::from_slice(piece) - u8x8::splat(b'0')).to_array()
 }
 
-/// The number of so many digits: each of the eight bytes is weighed, those behind them with 0.
+/// The number of so many digits: each of the eight bytes is weighed, those after them with 0.
 #[inline(always)]
 fn weighed(piece: &[u8], count: usize) -> u32
     requires room { 8 ≤ length piece.now }

@@ -34,7 +34,7 @@ fn add_digit(digits: &mut Digits, digit: u8)
     }
 }
 
-// Takes one byte more, and tells so, if it is a digit.
+// Takes one more byte if it is a digit. Answers whether it did.
 fn add_byte(digits: &mut Digits, b: u8) -> bool
     ensures next { (base : Base) (p : Progress) → Shows (Reached.Digits digits.old) p
         → ShowsNext (if result then Some (Reached.Digits digits.new) else None) (advance base p b) }
@@ -108,7 +108,7 @@ fn second_byte(base: Base, negative: bool, b: u8, reached: &mut Reached) -> bool
     }
 }
 
-// Takes one byte more of an integer of the base, and tells so, if one begins so.
+// Takes one more byte of an integer of the base if one begins so. Answers whether it did.
 pub fn advance(base: Base, reached: &mut Reached, b: u8) -> bool
     ensures next { (p : Progress) → Shows reached.old p → ShowsNext (if result then Some reached.new else None)
         (advance base p b) }

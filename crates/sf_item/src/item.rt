@@ -1,5 +1,6 @@
 //! The input item of one conversion, byte by byte (C11 7.21.6.2p9).
-ghost use Rattle.std.specs.Prelude.{◌≡◌, ◌≢◌, ◌<◌, ◌≤◌, ◌+◌, ◌↔◌, true, ℕ, List, [], ◌∷◌, ◌++◌, length, take, IsTrue};
+ghost use Rattle.std.specs.Prelude.{◌≡◌, ◌≢◌, ◌<◌, ◌≤◌, ◌+◌, ◌↔◌, true, ℕ, List, [], ◌∷◌, ◌++◌, length, take, IsTrue, Option, Some};
+ghost use Rattle.sf_format.specs.Layout.{most_of};
 ghost use Rattle.sf_format.specs.Proper.{IsProperShape};
 ghost use Rattle.sf_item.specs.Tests.{has_item};
 ghost use Rattle.sf_item.specs.Progress.{Progress, integer_of};
@@ -95,6 +96,21 @@ pub fn cut(piece: &[u8], left: Option<u16>) -> &[u8]
     match left {
         Some(n) if (n as usize) < piece.len() => &piece[..n as usize],
         _ => piece,
+    }
+}
+
+// As `cut`, where the most bytes of the item are known: without a width the most that there are.
+#[inline(always)]
+pub fn cut_at(piece: &[u8], most: usize) -> &[u8]
+    ensures front { result.now ≡ take (length result.now) piece.now }
+    ensures room { (width : Option ℕ) → most ≡ most_of width → (k : ℕ) → k ≤ length result.now → FitsLeft width k }
+    ensures whole { (width : Option ℕ) → most ≡ most_of width → length result.now < length piece.now
+        → width ≡ Some (length result.now) }
+{
+    if most < piece.len() {
+        &piece[..most]
+    } else {
+        piece
     }
 }
 
@@ -199,7 +215,7 @@ impl<'c> ItemScan<'c> {
         self.take_run(piece)
     }
 
-    /// Whether `step` would take no byte, whichever it is. Of a set without a member, which no format has, it tells
+    /// Whether `step` would take no byte, whichever it is. For a set without a member, which no format has, it answers
     /// only whether the width is used up.
     pub fn is_full(&self) -> bool
         ensures { (f : List ℕ) → HasTaken self.now f → IsProperShape (conversion_of self.now).shape

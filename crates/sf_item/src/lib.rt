@@ -13,4 +13,7 @@ mod whole;
 
 pub use item::{ItemEnd, ItemScan, Step};
 pub use radices::{Radices, prefix_radix, radices_of};
-pub use whole::{WholeInteger, whole_auto, whole_bytes, whole_decimal, whole_hex};
+pub use whole::{
+    WholeInteger, characters_item, decimal_within, hex_within, members_item, text_item, whole_auto,
+    whole_decimal, whole_hex,
+};

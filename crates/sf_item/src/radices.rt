@@ -47,7 +47,7 @@ pub fn radices_of(base: Base) -> Radices
     }
 }
 
-/// The radix that the byte makes as the letter of a prefix, behind a first 0.
+/// The radix that the byte makes as the letter of a prefix, after a first 0.
 pub fn prefix_radix(base: Base, letter: u8) -> Option<u8>
     ensures radix { result ≡ prefix_radix base letter }
     ensures range { IfSome result (λ r. (0 < r) × (r ≤ 16)) }

@@ -17,7 +17,7 @@ pub enum Reading<'c> {
     Text,
     /// Members of the set.
     Set(&'c ByteSet),
-    /// As many bytes as the width says, whichever they are.
+    /// As many bytes as the width is, whichever they are.
     Chars,
 }
 
@@ -36,7 +36,7 @@ pub fn reading_of(shape: &Shape) -> Reading<'_>
     }
 }
 
-// Reads one byte more, and tells so, if the item goes on with it.
+// Reads one more byte if the item goes on with it. Answers whether it did.
 pub fn read_on(reading: &mut Reading<'_>, b: u8) -> bool
     ensures next { (f : List ℕ) → HasRead reading.old f → ReadsNext reading.old
         (if result then Some reading.new else None) (f ++ b ∷ []) }

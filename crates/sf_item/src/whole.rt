@@ -1,19 +1,21 @@
 //! Items that begin and end within a piece of the input, read in one go.
-ghost use Rattle.std.specs.Prelude.{◌≡◌, ◌≢◌, ◌<◌, ◌≤◌, ◌↔◌, ◌⊎◌, false, ℕ, get_or, length, slice_index, take, IsTrue, MatchOption};
+ghost use Rattle.std.specs.Prelude.{◌≡◌, ◌≢◌, ◌<◌, ◌≤◌, ◌^◌, ◌↔◌, ◌⊎◌, false, ℕ, get_or, length, slice_index, take, IfSome, IsNone, IsSome, IsTrue, MatchOption, Option};
 ghost use Rattle.std.specs.Char.{digit_value};
 ghost use Rattle.std.specs.List.{prefix_len};
 ghost use Rattle.sf_base.specs.Bytes.{is_ink};
 ghost use Rattle.sf_format.specs.declared.directive.Base.TheVariants.{Dec, Hex};
+ghost use Rattle.sf_format.specs.declared.directive.Shape.TheVariants.{Chars, Set, Text};
+ghost use Rattle.sf_format.specs.Layout.{most_of};
 ghost use Rattle.sf_item.specs.Radices.{first_radix};
-ghost use Rattle.sf_item.specs.Wholes.{DigitsOf, EndsWithin, HasPrefixAt, HexOpening, ItemWithin, LongDigits, NoItemWithin, NoneEndsWithin, ReadsIn, SignOf, ZeroFirst};
+ghost use Rattle.sf_item.specs.Wholes.{DigitsOf, EndsWithin, HasPrefixAt, HexOpening, IsCutBy, ItemWithin, LongDigits, NoItemWithin, NoneEndsWithin, ReadsIn, SignOf, ZeroFirst};
 
 use crate::digits::{FIRST_HEX, first_hex_digits, value_of};
 use crate::eight::{LANES, first_digits};
 use crate::integer::digit_front;
-use crate::item::cut;
+use crate::item::{cut, cut_at};
 use crate::reached::Digits;
-use sf_base::text_run;
-use sf_format::{Base, Shape};
+use sf_base::{ByteSet, text_run};
+use sf_format::Base;
 
 /// The most decimal digits whose number fits in 64 bits, whichever they are.
 const SURE_DECIMAL: usize = 19;
@@ -119,6 +121,33 @@ fn zeros_before(digits: &[u8]) -> usize
     digits.len()
 }
 
+/// Takes the digits after those that were taken, one by one, up to as many as surely fit in 64 bits: the number of all,
+/// and how many they are. It is a call, so that shorter numbers are read without the registers that this loop needs.
+#[cold]
+#[inline(never)]
+fn further_digits(piece: &[u8], most: usize, first: usize, before: u64) -> (u64, usize)
+    requires most { most ≤ length piece.now }
+    requires first { first ≤ most }
+    requires eight { first ≤ LANES }
+    requires read { ReadsIn 10 0 (take first piece.now) before }
+    requires small { before < 10 ^ first }
+    ensures most { result.1 ≤ most }
+    ensures read { ReadsIn 10 0 (take result.1 piece.now) result.0 }
+    ensures few { result.1 ≤ SURE_DECIMAL }
+    ensures stops { result.1 < SURE_DECIMAL → result.1 < most → 10 ≤ digit_value (slice_index piece.now result.1) }
+{
+    let mut number = before;
+    let end = most.min(SURE_DECIMAL);
+    for i in first..end {
+        let b = piece[i];
+        if b < b'0' || b > b'9' {
+            return (number, i);
+        }
+        number = number * 10 + (b - b'0') as u64;
+    }
+    (number, end)
+}
+
 /// Takes the decimal digits that the piece begins with, so many at most, and as many as surely fit in 64 bits: their
 /// number, and how many.
 #[inline(always)]
@@ -129,19 +158,11 @@ fn decimal_digits(piece: &[u8], most: usize) -> (u64, usize)
     ensures few { result.1 ≤ SURE_DECIMAL }
     ensures stops { result.1 < SURE_DECIMAL → result.1 < most → 10 ≤ digit_value (slice_index piece.now result.1) }
 {
-    let (mut number, first) = first_digits(piece, most);
+    let (number, first) = first_digits(piece, most);
     if 0 < first && first < LANES {
         return (number, first);
     }
-    let end = most.min(SURE_DECIMAL);
-    for i in first..end {
-        let b = piece[i];
-        if b < b'0' || b > b'9' {
-            return (number, i);
-        }
-        number = number * 10 + (b - b'0') as u64;
-    }
-    (number, end)
+    further_digits(piece, most, first, number)
 }
 
 /// As `long_number`, of decimal digits, the first of which may be zeros.
@@ -159,22 +180,41 @@ fn long_decimal(digits: &[u8]) -> Option<(u64, usize)>
     Some((number, zeros + count))
 }
 
-/// As `long_number`, of decimal digits, which the piece begins with, and behind which it may go on.
+/// As `decimal_number`, where the first eight bytes don't show where the digits end; so many of these were taken. It is
+/// a function so that room for what `long_decimal` answers is made only here.
 #[inline(always)]
-fn decimal_number(digits: &[u8], piece: &[u8]) -> Option<(u64, usize)>
-    requires { digits.now ≡ take (length digits.now) piece.now }
+fn longer_decimal(digits: &[u8], piece: &[u8], first: usize, before: u64) -> Option<(u64, usize)>
+    requires front { digits.now ≡ take (length digits.now) piece.now }
+    requires first { first ≤ length digits.now }
+    requires eight { first ≤ LANES }
+    requires read { ReadsIn 10 0 (take first piece.now) before }
+    requires small { before < 10 ^ first }
     ensures { MatchOption result (LongDigits 10 digits.now) (λ r. DigitsOf 10 digits.now r.1 r.0) }
 {
-    let (number, count) = decimal_digits(piece, digits.len());
+    let (number, count) = further_digits(piece, digits.len(), first, before);
     if count == SURE_DECIMAL && is_digit_at(digits, count, 10) {
         return long_decimal(digits);
     }
     Some((number, count))
 }
 
-/// Takes the hexadecimal digits that the piece begins with, as many as surely fit in 64 bits: their number, and how
-/// many.
+/// As `long_number`, for the decimal digits that the piece begins with. The piece may go on after them.
 #[inline(always)]
+fn decimal_number(digits: &[u8], piece: &[u8]) -> Option<(u64, usize)>
+    requires { digits.now ≡ take (length digits.now) piece.now }
+    ensures { MatchOption result (LongDigits 10 digits.now) (λ r. DigitsOf 10 digits.now r.1 r.0) }
+{
+    let (number, first) = first_digits(piece, digits.len());
+    if 0 < first && first < LANES {
+        return Some((number, first));
+    }
+    longer_decimal(digits, piece, first, number)
+}
+
+/// Takes the hexadecimal digits that the piece begins with, as many as surely fit in 64 bits: their number, and how
+/// many. It is a call, as `further_digits` is.
+#[cold]
+#[inline(never)]
 fn hex_digits(piece: &[u8]) -> (u64, usize)
     ensures within { result.1 ≤ length piece.now }
     ensures read { ReadsIn 16 0 (take result.1 piece.now) result.0 }
@@ -197,9 +237,10 @@ fn hex_digits(piece: &[u8]) -> (u64, usize)
     (number, most)
 }
 
-/// As `long_number`, of hexadecimal digits.
+/// As `hex_number`, where the first nine bytes don't show where the digits end. It is a function so that room for what
+/// `long_number` answers is made only here.
 #[inline(always)]
-fn hex_number(digits: &[u8]) -> Option<(u64, usize)>
+fn longer_hex(digits: &[u8]) -> Option<(u64, usize)>
     ensures { MatchOption result (LongDigits 16 digits.now) (λ r. DigitsOf 16 digits.now r.1 r.0) }
 {
     let (number, count) = hex_digits(digits);
@@ -209,16 +250,25 @@ fn hex_number(digits: &[u8]) -> Option<(u64, usize)>
     Some((number, count))
 }
 
-/// The decimal integer that the piece begins with, of so many bytes at most, where it ends before a byte of the piece,
-/// so that what follows the piece does not matter. It is what as many `step`s take, and what `finish` then tells.
-///
-/// None only where the piece begins with no integer, where it may go on behind the piece, and where its number is not
-/// below 2^64.
+/// As `long_number`, of hexadecimal digits.
 #[inline(always)]
-pub fn whole_decimal(width: Option<u16>, piece: &[u8]) -> Option<WholeInteger>
-    ensures { MatchOption result (NoneEndsWithin Dec width piece.now) (EndsWithin Dec width piece.now) }
+fn hex_number(digits: &[u8]) -> Option<(u64, usize)>
+    ensures { MatchOption result (LongDigits 16 digits.now) (λ r. DigitsOf 16 digits.now r.1 r.0) }
 {
-    let front = cut(piece, width);
+    let (number, first) = first_hex_digits(digits);
+    if 0 < first && first < FIRST_HEX {
+        return Some((number, first));
+    }
+    longer_hex(digits)
+}
+
+/// As `whole_decimal`, of the bytes of the piece that the item may have.
+#[inline(always)]
+fn decimal_in(front: &[u8], piece: &[u8]) -> Option<WholeInteger>
+    requires { front.now ≡ take (length front.now) piece.now }
+    ensures { (width : Option ℕ) → IsCutBy width piece.now front.now
+        → MatchOption result (NoneEndsWithin Dec width piece.now) (EndsWithin Dec width piece.now) }
+{
     let (start, negative) = sign(front);
     let Some((magnitude, count)) = decimal_number(&front[start..], &piece[start..]) else {
         return None;
@@ -234,12 +284,34 @@ pub fn whole_decimal(width: Option<u16>, piece: &[u8]) -> Option<WholeInteger>
     })
 }
 
-/// As `whole_decimal`, of a hexadecimal integer, with a prefix or without.
+/// As `whole_decimal`, where the most bytes of the integer are known.
 #[inline(always)]
-pub fn whole_hex(width: Option<u16>, piece: &[u8]) -> Option<WholeInteger>
-    ensures { MatchOption result (NoneEndsWithin Hex width piece.now) (EndsWithin Hex width piece.now) }
+pub fn decimal_within(most: usize, piece: &[u8]) -> Option<WholeInteger>
+    ensures { (width : Option ℕ) → most ≡ most_of width
+        → MatchOption result (NoneEndsWithin Dec width piece.now) (EndsWithin Dec width piece.now) }
 {
-    let front = cut(piece, width);
+    decimal_in(cut_at(piece, most), piece)
+}
+
+/// The decimal integer that the piece begins with, of so many bytes at most, where it ends before a byte of the piece,
+/// so that what follows the piece doesn't matter. It is what as many `step`s take, and what `finish` then answers.
+///
+/// None only where the piece begins with no integer, where the integer may go on after the piece, and where its number
+/// isn't below 2^64.
+#[inline(always)]
+pub fn whole_decimal(width: Option<u16>, piece: &[u8]) -> Option<WholeInteger>
+    ensures { MatchOption result (NoneEndsWithin Dec width piece.now) (EndsWithin Dec width piece.now) }
+{
+    decimal_in(cut(piece, width), piece)
+}
+
+/// As `whole_hex`, of the bytes of the piece that the item may have.
+#[inline(always)]
+fn hex_in(front: &[u8], piece: &[u8]) -> Option<WholeInteger>
+    requires { front.now ≡ take (length front.now) piece.now }
+    ensures { (width : Option ℕ) → IsCutBy width piece.now front.now
+        → MatchOption result (NoneEndsWithin Hex width piece.now) (EndsWithin Hex width piece.now) }
+{
     let (start, negative) = hex_opening(front);
     let Some((magnitude, count)) = hex_number(&front[start..]) else {
         return None;
@@ -253,6 +325,23 @@ pub fn whole_hex(width: Option<u16>, piece: &[u8]) -> Option<WholeInteger>
         negative,
         magnitude,
     })
+}
+
+/// As `whole_hex`, where the most bytes of the integer are known.
+#[inline(always)]
+pub fn hex_within(most: usize, piece: &[u8]) -> Option<WholeInteger>
+    ensures { (width : Option ℕ) → most ≡ most_of width
+        → MatchOption result (NoneEndsWithin Hex width piece.now) (EndsWithin Hex width piece.now) }
+{
+    hex_in(cut_at(piece, most), piece)
+}
+
+/// As `whole_decimal`, of a hexadecimal integer, with a prefix or without.
+#[inline(always)]
+pub fn whole_hex(width: Option<u16>, piece: &[u8]) -> Option<WholeInteger>
+    ensures { MatchOption result (NoneEndsWithin Hex width piece.now) (EndsWithin Hex width piece.now) }
+{
+    hex_in(cut(piece, width), piece)
 }
 
 /// Whether a zero stands at the place.
@@ -303,22 +392,47 @@ fn text_within(front: &[u8], piece: &[u8]) -> usize
     text_run(cut(piece, Some(SIGHT))).min(front.len())
 }
 
-/// How many bytes the item of a text, of members of a set or of characters has with which the piece begins, where it
-/// ends before a byte of the piece, so that what follows the piece does not matter. It is a matching sequence.
+/// The length of the `%s` item at the front of the piece, of so many bytes at most, where it ends before a byte of the
+/// piece, so that what follows doesn't matter. The item is a matching sequence.
 ///
-/// None only where the piece begins with no such item, where it may go on behind the piece, and for an integer.
+/// None only where the piece begins with no such item, and where the item may go on after the piece.
 #[inline(always)]
-pub fn whole_bytes(shape: &Shape, width: Option<u16>, piece: &[u8]) -> Option<usize>
-    ensures { MatchOption result (NoItemWithin shape.now width piece.now) (ItemWithin shape.now width piece.now) }
+pub fn text_item(most: usize, piece: &[u8]) -> Option<usize>
+    ensures { (width : Option ℕ) → most ≡ most_of width
+        → MatchOption result (NoItemWithin Text width piece.now) (ItemWithin Text width piece.now) }
 {
-    let count = match shape {
-        Shape::Text => text_within(cut(piece, width), piece),
-        Shape::Set(members) => members.run(cut(piece, width)),
-        Shape::Chars => width.unwrap_or(1) as usize,
-        Shape::Int(_) | Shape::Count => 0,
-    };
+    let count = text_within(cut_at(piece, most), piece);
     if 0 < count && count < piece.len() {
         Some(count)
+    } else {
+        None
+    }
+}
+
+/// As `text_item`, of a conversion by a set.
+#[inline(always)]
+pub fn members_item(members: &ByteSet, most: usize, piece: &[u8]) -> Option<usize>
+    ensures { (width : Option ℕ) → most ≡ most_of width
+        → MatchOption result (NoItemWithin (Set members.now) width piece.now)
+        (ItemWithin (Set members.now) width piece.now) }
+{
+    let count = members.run(cut_at(piece, most));
+    if 0 < count && count < piece.len() {
+        Some(count)
+    } else {
+        None
+    }
+}
+
+/// As `text_item`, of a conversion `c`, which has a width.
+#[inline(always)]
+pub fn characters_item(most: usize, piece: &[u8]) -> Option<usize>
+    ensures has { (width : Option ℕ) → most ≡ most_of width → IfSome result (ItemWithin Chars width piece.now) }
+    ensures none { (width : Option ℕ) → most ≡ most_of width → IsSome width
+        → IsNone result → NoItemWithin Chars width piece.now }
+{
+    if 0 < most && most < piece.len() {
+        Some(most)
     } else {
         None
     }

@@ -11,12 +11,12 @@ pub line_append : (a b : List ℕ) → IsLine a → IsLine b → IsLine (a ++ b)
 line_append [] b p q = q
 line_append (x ∷ a) b p q = (p.0, line_append a b p.1 q)
 
--- a line and its line end, and then more
+-- a line and its newline, and then more
 pub cut_line : (ending : Ending) (line rest : List ℕ) → IsLine line → lines_by ending (line ++ 10 ∷ rest) ≡ line ∷ lines_by ending rest
 cut_line ending [] rest h = refl
 cut_line ending (b ∷ line) rest h = rw (h.0, cut_line ending line rest h.1) refl
 
--- a last line without its line end
+-- a last line without its newline
 pub cut_last : (line : List ℕ) → IsLine line → 0 < length line → lines_by End line ≡ line ∷ []
 cut_last [] h some = absurd (omega arith)
 cut_last (b ∷ []) h some = rw (h.0) refl

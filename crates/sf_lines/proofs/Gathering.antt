@@ -16,7 +16,7 @@ use Rattle.sf_lines.proofs.Cutting.{line_append}
 
 -- ---- the first bytes of a line
 
--- bytes behind the first ones of a line
+-- bytes after the first ones of a line
 front_more : (limit : ℕ) (seen more : List ℕ) → take limit (take limit seen ++ more) ≡ take limit (seen ++ more)
 front_more limit seen more = by (cases_order limit (length seen))
   where
@@ -61,7 +61,7 @@ begins to_come old limit line none = record {
   ends = λ e. (e, refl);
 }
 
--- the bytes that are held are lost, and those behind them are read
+-- the bytes that are held are lost, and those after them are read
 pub held_lost : {S : Type 0} (to_come : S → Option (List ℕ)) (now new : Ahead S)
     → Consumes (to_come now.source) (to_come new.source) new.held → Loses to_come now new now.held
 held_lost to_come now new read = by (to_come now.source) (to_come new.source) read
@@ -185,7 +185,7 @@ module _ {S : Type 0} {to_come : S → Option (List ℕ)} {old now : Ahead S} {l
               within,
         )
 
-    -- the rest of the line is held, with its line end
+    -- the rest of the line is held, with its newline
     pub ended : (new : Ahead S) → now.held ≡ take len now.held ++ 10 ∷ drop (len + 1) now.held → new.held ≡ drop (len + 1) now.held
         → new.source ≡ now.source
         → Took to_come old new (g.seen ++ take len now.held)

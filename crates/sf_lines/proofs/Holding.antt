@@ -1,9 +1,8 @@
 -- A line that is scanned where it stands.
 use Rattle.std.proofs.Common.{◌≡◌, ℕ, ◌+◌, ◌≤◌, Bool, true, false, nat_lt, cond, true≢false, List, [], ◌∷◌, ◌++◌, length, take, drop}
-use Rattle.std.proofs.Common.{Option, Some, None, Result, inl, refl, sym, ap, ap₂, subst, ◌==◌, ◌∙◌, arith, append_assoc, append-nil}
+use Rattle.std.proofs.Common.{Option, Some, None, inl, refl, sym, ap, ap₂, subst, ◌==◌, ◌∙◌, arith, append_assoc, append-nil}
 use Rattle.std.proofs.Common.{length-append}
 use Rattle.std.specs.Prelude.{is_some}
-use Rattle.std.specs.List.{AllByRecursion}
 use Rattle.std.proofs.Math.Seq.{take-append_seam}
 use Rattle.std.proofs.lemmas.Bool.{le-ltb, ltb-false}
 use Rattle.std.proofs.lemmas.List.{length-take-le, take_all}
@@ -16,20 +15,19 @@ use Rattle.sf_run.specs.outcome.Status.TheVariants.{Done}
 use Rattle.sf_run.specs.Runs.{RunReport}
 use Rattle.sf_run.specs.Limits.{RunWithin}
 use Rattle.sf_run.specs.Laws.{EachDoneRunStays, EachHasOneReport}
-use Rattle.sf_run.specs.Quick.{IsDoneWithin}
+use Rattle.sf_makers.specs.Works.{outcome_of}
 use Rattle.sf_read.specs.Ahead.{Ahead}
 use Rattle.sf_lines.specs.declared.options.LinesOptions.{LinesOptions}
-use Rattle.sf_lines.specs.declared.writer.RecordFault.{RecordFault}
 use Rattle.sf_lines.specs.Cut.{IsLine}
 use Rattle.sf_lines.specs.Reading.{IsHeld, Took}
 use Rattle.sf_lines.specs.declared.end.LineFault.TheVariants.{LeftOver}
 use Rattle.sf_lines.specs.Judging.{BeginsWith, Fits, IsSeen}
-use Rattle.sf_lines.specs.Turns.{Picks, fault_by, fault_from, fault_of, outcome_of, with_met}
+use Rattle.sf_lines.specs.Turns.{fault_by, fault_from, fault_of}
 use Rattle.sf_lines.proofs.Gathering.{loses}
 
 -- ---- the line
 
--- the bytes up to its line end
+-- the bytes up to its newline
 pub with_line_end : (held : List ℕ) (len : ℕ) → len ≤ length held → held ≡ take len held ++ 10 ∷ drop (len + 1) held
     → take (len + 1) held ≡ take len held ++ 10 ∷ []
 with_line_end held len within is =
@@ -39,7 +37,7 @@ with_line_end held len within is =
     let all : held ≡ line ++ drop (len + 1) held = is ∙ sym (append_assoc (take len held) (10 ∷ []) (drop (len + 1) held)) in
     ap (take (len + 1)) all ∙ ap (λ (n : ℕ). take n (line ++ drop (len + 1) held)) (sym size) ∙ take-append_seam line (drop (len + 1) held)
 
--- it was taken, with its line end
+-- it was taken, with its newline
 pub takes : {S : Type 0} (to_come : S → Option (List ℕ)) (old new : Ahead S) (len : ℕ) → IsHeld old.held len → old.at_end ≡ false
     → new.held ≡ drop (len + 1) old.held → new.source ≡ old.source
     → Took to_come old new (take len old.held)
@@ -98,13 +96,13 @@ module _ (o : LinesOptions) (ds : List Directive) (proper : AreProper ds) (line 
         leaves true is none = absurd (true≢false (ap is_some none))
         leaves false is none = ltb-false report.used (length line) is
 
--- ---- the first line end
+-- ---- the first newline
 
 abbrev first_byte : List ℕ → ℕ
 first_byte [] = 0
 first_byte (b ∷ bytes) = b
 
--- a line and its line end stand in front in one way
+-- a line and its newline stand in front in one way
 pub one_front : (line rest front behind : List ℕ) → IsLine line → IsLine front → line ++ 10 ∷ rest ≡ front ++ 10 ∷ behind → line ≡ front
 one_front [] rest [] behind p q e = refl
 one_front [] rest (b ∷ front) behind p q e = absurd (true≢false (ap (λ c. c == 10) (ap (first_byte) e) ∙ q.0))

@@ -2,9 +2,7 @@
 use Rattle.std.proofs.Common.{◌≡◌, ℕ, ◌+◌, ◌<◌, ◌≤◌, Bool, true, false, cond, List, [], ◌∷◌, ◌++◌, length, take, drop, Option, Some, None}
 use Rattle.std.proofs.Common.{Result, Ok, Err, is_err, ◌⊎◌, inl, inr, refl, sym, ap, subst, ◌∙◌, arith, append_assoc, append-nil}
 use Rattle.std.proofs.Common.{length-append, count_by, true≢false}
-use Rattle.std.specs.List.{AllByRecursion}
 use Rattle.std.specs.Io.KnownBytes.{Appends, IsAtEnd}
-use Rattle.sf_format.specs.Proper.{AreProper}
 use Rattle.sf_run.specs.outcome.Ending.TheVariants.{Fault}
 use Rattle.sf_run.specs.Laws.{EachHasOneReport}
 use Rattle.sf_read.specs.Ahead.{Ahead, input_of}
@@ -17,15 +15,15 @@ use Rattle.sf_lines.specs.Cut.{lines_by, lines_of}
 use Rattle.sf_lines.specs.declared.line.LineRead.{LineRead}
 use Rattle.sf_lines.specs.declared.line.LineRead.TheVariants as reads
 use Rattle.sf_lines.specs.Reading.{Took, TookPart, Reads, endless, is_failed}
-use Rattle.sf_lines.specs.Turns.{LineWork, Turn, Comes}
+use Rattle.sf_lines.specs.Turns.{AreScanned, LineWork, Turn, Comes}
 use Rattle.sf_lines.specs.Loops.{is_write, AreLines, AreLinesAndPart, AreTurns, IsBegun, IsCutShort, TellsLines, goes_on, tellings}
 use Rattle.sf_lines.specs.Loops.{telling_of, texts, text_of, is_written, fault_after, ended, status_by, most_lines}
 use Rattle.sf_lines.specs.Loops as turns
-use Rattle.sf_base.specs.Kept.{Kept}
 use Rattle.sf_lines.specs.declared.judge.Judged.{Judged}
 use Rattle.sf_lines.specs.declared.judge.Judged.TheVariants.{Skipped, Written, Failed, Stopped, Unread}
 use Rattle.sf_lines.specs.Coming.{StopsAt, Turns, counted, is_read_fault, next_by}
-use Rattle.sf_lines.specs.Judging.{TakesPart, is_write_fault}
+use Rattle.sf_forms.specs.Written.{TakesPart}
+use Rattle.sf_lines.specs.Judging.{is_write_fault}
 use Rattle.sf_lines.specs.Telling.{Tells}
 use Rattle.sf_lines.proofs.Telling.{all_said, tells_nothing, tells_then}
 use Rattle.sf_lines.proofs.Reading.{Lined, begins, took, gone_all, are_lines, consumed, lines_and_part, failed_in, at_end}
@@ -68,23 +66,23 @@ end_is : (answer : LinesEnd) (written failed : ℕ) (fault : Option LinesFault) 
 end_is answer written failed fault done is p q = is ∙ rw (p, q) refl
 
 -- the fault in an answer
-abbrev fault_in : Option LinesFault → Result Kept (Option LinesFault) → Option LinesFault
+abbrev fault_in : Option LinesFault → Result (Unit {0}) (Option LinesFault) → Option LinesFault
 fault_in other (Err fault) = fault
 fault_in other (Ok kept) = other
 
--- behind a line that is no match
-kept_going : (keep_going : Bool) (number : ℕ) (store kept : Kept) → next_by keep_going number (Failed store) ≡ Ok kept → keep_going ≡ true
-kept_going true number store kept e = refl
-kept_going false number store kept e = absurd (true≢false (ap is_err e))
+-- after a line that is no match
+kept_going : (keep_going : Bool) (number : ℕ) (kept : Unit {0}) → next_by keep_going number Failed ≡ Ok kept → keep_going ≡ true
+kept_going true number kept e = refl
+kept_going false number kept e = absurd (true≢false (ap is_err e))
 
-stopped_by : (keep_going : Bool) (number : ℕ) (store : Kept) (fault : Option LinesFault)
-    → next_by keep_going number (Failed store) ≡ Err fault → (keep_going ≡ false) × (fault ≡ None)
-stopped_by true number store fault e = absurd (true≢false (sym (ap is_err e)))
-stopped_by false number store fault e = (refl, ap (fault_in None) (sym e))
+stopped_by : (keep_going : Bool) (number : ℕ) (fault : Option LinesFault)
+    → next_by keep_going number Failed ≡ Err fault → (keep_going ≡ false) × (fault ≡ None)
+stopped_by true number fault e = absurd (true≢false (sym (ap is_err e)))
+stopped_by false number fault e = (refl, ap (fault_in None) (sym e))
 
 module _ {S : Type 0} {w : LineWork} {to_come : S → Option (List ℕ)} {t : List ℕ} {now : Ahead S} {was is : Option (List ℕ)}
     {dumb silent : Bool} {told told' : Option (List ℕ)} {written failed n : ℕ}
-    (one : EachHasOneReport) (proper : AllByRecursion AreProper w.formats) (some : 0 < length w.formats)
+    (one : EachHasOneReport) (scanned : AreScanned w)
     (g : Going w to_come t now was is dumb silent told told' written failed n) where
   lines_count : length g.front ≡ n
   lines_count = sym (passed_length w 0 g.front g.done g.passed) ∙ g.count
@@ -134,7 +132,7 @@ module _ {S : Type 0} {w : LineWork} {to_come : S → Option (List ℕ)} {t : Li
       → TellsLines w to_come t new failures mid was is dumb silent told told' answer
   unread {new} part lost failures mid same fault answer answer_is why =
       let (k, rest, behind) = lines_and_part g.lined new part lost in
-      let more = turns_behind one w proper some (length g.front) (lines_of g.lined.left) in
+      let more = turns_behind one w scanned (length g.front) (lines_of g.lined.left) in
       let end : answer ≡ ended g.done (Some fault) = end_is answer written failed (Some fault) g.done answer_is g.did.written_are
       g.did.failed_are in
       cut_short k rest (lines_of g.lined.left) g.lined.whole more.0 more.1 [] is (Appends-none is) failures mid same answer
@@ -156,7 +154,7 @@ module _ {S : Type 0} {w : LineWork} {to_come : S → Option (List ℕ)} {t : Li
       → answer ≡ record { status = status_by failed (Some TooMany); written = written; failed = failed; fault = Some TooMany }
       → TellsLines w to_come t now failures mid was is dumb silent told told' answer
   too_many most failures mid same answer answer_is =
-      let more = turns_behind one w proper some (length g.front) (lines_of g.lined.left) in
+      let more = turns_behind one w scanned (length g.front) (lines_of g.lined.left) in
       cut_short (length g.lined.gone) (g.lined.input ∙ ap Some (sym (gone_all g.lined))) (lines_of g.lined.left) g.lined.whole more.0
       more.1 [] is (Appends-none is) failures mid same answer
       (inr (inr (
@@ -351,7 +349,7 @@ module _ {S : Type 0} {w : LineWork} {to_come : S → Option (List ℕ)} {t : Li
         }
         → TellsLines w to_come t new failures mid was after dumb silent told told' answer
     no_memory counts after nothing failures mid same answer answer_is =
-        let later = turns_behind one w proper some (length g.front) (line ∷ lines_of lined.left) in
+        let later = turns_behind one w scanned (length g.front) (line ∷ lines_of lined.left) in
         cut_short (length lined.gone) rest_is (line ∷ lines_of lined.left) all_lines later.0 later.1 [] after nothing failures mid same
         answer
         (inr (inl (
@@ -367,7 +365,7 @@ module _ {S : Type 0} {w : LineWork} {to_come : S → Option (List ℕ)} {t : Li
         → answer ≡ record { status = status_by failed (Some Write); written = written; failed = failed; fault = Some Write }
         → TellsLines w to_come t new failures mid was after dumb silent told told' answer
     unwritten after text comes (part, missing, rest, begun, took) failures mid same answer answer_is =
-        let later = turns_behind one w proper some (length g.front + 1) (lines_of lined.left) in
+        let later = turns_behind one w scanned (length g.front + 1) (lines_of lined.left) in
         let here : Comes w (length g.front + 1) line (Some (Ok text)) =
         subst (λ (k : ℕ). Comes w k line (Some (Ok text))) {x = n + 1} {y = length g.front + 1} (omega (arith, lines_count)) comes in
         cut_short (length lined.gone) rest_is (line ∷ lines_of lined.left) all_lines (Some (Ok text) ∷ later.0) (here, later.1) part after
@@ -395,24 +393,24 @@ module _ {S : Type 0} {w : LineWork} {to_come : S → Option (List ℕ)} {t : Li
   -- ---- the next turn
 
   module _ {new : Ahead S} {after : Option (List ℕ)} {silent' : Bool} {told'' : Option (List ℕ)} where
-    -- the loop goes on behind it
-    pub moves_on : (judged : Judged) → Turns to_come now new w (n + 1) is after silent silent' told' told'' judged → (kept : Kept)
+    -- the loop goes on after it
+    pub moves_on : (judged : Judged) → Turns to_come now new w (n + 1) is after silent silent' told' told'' judged → (kept : Unit {0})
         → next_by w.options.keep_going (n + 1) judged ≡ Ok kept
         → Going w to_come t new was after dumb silent' told told'' (counted judged (record { written = written; failed = failed })).written
         (counted judged (record { written = written; failed = failed })).failed (n + 1)
-    moves_on (Skipped store) (line, read, (turn, none, comes, wrote, tells)) kept e =
+    moves_on Skipped (line, read, (turn, none, comes, wrote, tells)) kept e =
         next line read turn comes after silent' told'' written failed wrote tells
         (omega (arith, ap {B = ℕ} (λ x. cond (is_written x) 1 0) none))
         (omega (arith, ap {B = ℕ} (λ x. cond (turns.is_failed x) 1 0) none)) (ap (goes_on w) none)
-    moves_on (Written store) (line, read, (turn, (text, some), comes, wrote, tells)) kept e =
+    moves_on Written (line, read, (turn, (text, some), comes, wrote, tells)) kept e =
         next line read turn comes after silent' told'' (written + 1) failed wrote tells
         (omega (arith, ap {B = ℕ} (λ x. cond (is_written x) 1 0) some))
         (omega (arith, ap {B = ℕ} (λ x. cond (turns.is_failed x) 1 0) some)) (ap (goes_on w) some)
-    moves_on (Failed store) (line, read, (turn, (miss, some), comes, wrote, tells)) kept e =
+    moves_on Failed (line, read, (turn, (miss, some), comes, wrote, tells)) kept e =
         next line read turn comes after silent' told'' written (failed + 1) wrote tells
         (omega (arith, ap {B = ℕ} (λ x. cond (is_written x) 1 0) some))
         (omega (arith, ap {B = ℕ} (λ x. cond (turns.is_failed x) 1 0) some))
-        (ap (goes_on w) some ∙ kept_going w.options.keep_going (n + 1) store kept e)
+        (ap (goes_on w) some ∙ kept_going w.options.keep_going (n + 1) kept e)
     moves_on (Stopped fault) h kept e = absurd (true≢false (ap is_err e))
     moves_on (Unread why) h kept e = absurd (true≢false (ap is_err e))
 
@@ -430,11 +428,11 @@ module _ {S : Type 0} {w : LineWork} {to_come : S → Option (List ℕ)} {t : Li
           fault = fault;
         }
         → TellsLines w to_come t new failures mid was after dumb silent' told told'' answer
-    stops_at (Skipped store) h fault e failures before mid same count answer answer_is = absurd (true≢false (sym (ap is_err e)))
-    stops_at (Written store) h fault e failures before mid same count answer answer_is = absurd (true≢false (sym (ap is_err e)))
-    stops_at (Failed store) (line, read, (turn, (miss, some), comes, wrote, tells)) fault e failures before mid same count answer answer_is
+    stops_at Skipped h fault e failures before mid same count answer answer_is = absurd (true≢false (sym (ap is_err e)))
+    stops_at Written h fault e failures before mid same count answer answer_is = absurd (true≢false (sym (ap is_err e)))
+    stops_at Failed (line, read, (turn, (miss, some), comes, wrote, tells)) fault e failures before mid same count answer answer_is
         =
-        let stopped = stopped_by w.options.keep_going (n + 1) store fault e in
+        let stopped = stopped_by w.options.keep_going (n + 1) fault e in
         stops line read turn comes after silent' told'' written (failed + 1) wrote tells
         (omega (arith, ap {B = ℕ} (λ x. cond (is_written x) 1 0) some))
         (omega (arith, ap {B = ℕ} (λ x. cond (turns.is_failed x) 1 0) some))
@@ -458,33 +456,33 @@ module _ {S : Type 0} {w : LineWork} {to_come : S → Option (List ℕ)} {t : Li
         (subst (λ a. TellsLines w to_come t new failures mid was a dumb silent told told' answer) (sym unwritten_is) here))
 
 -- no store could be had
-pub no_store : {S : Type 0} → EachHasOneReport → (w : LineWork) → AllByRecursion AreProper w.formats → 0 < length w.formats
+pub no_store : {S : Type 0} → EachHasOneReport → (w : LineWork) → AreScanned w
     → (to_come : S → Option (List ℕ)) (t : List ℕ) (now : Ahead S) (was : Option (List ℕ)) (dumb : Bool) (told : Option (List ℕ))
     → input_of to_come now ≡ Some t → (failures : ℕ) (answer : LinesEnd)
     → answer ≡ record { status = status_by 0 (Some Memory); written = 0; failed = 0; fault = Some Memory }
     → TellsLines w to_come t now failures failures was was dumb dumb told told answer
 unfolding starts
-no_store one w proper some to_come t now was dumb told input failures answer answer_is =
-    let more = turns_behind one w proper some 0 (lines_of t) in
-    cut_short one proper some (starts w to_come t now was dumb told input) 0 input (lines_of t) refl more.0 more.1 [] was
+no_store one w scanned to_come t now was dumb told input failures answer answer_is =
+    let more = turns_behind one w scanned 0 (lines_of t) in
+    cut_short one scanned (starts w to_come t now was dumb told input) 0 input (lines_of t) refl more.0 more.1 [] was
     (Appends-none was) failures failures refl answer (inr (inl (answer_is, refl, inl (refl, refl))))
 
 -- ---- what a turn says of the sink and the source
 
-pub quiet_on : (keep_going : Bool) (number : ℕ) (judged : Judged) (kept : Kept) → next_by keep_going number judged ≡ Ok kept
+pub quiet_on : (keep_going : Bool) (number : ℕ) (judged : Judged) (kept : Unit {0}) → next_by keep_going number judged ≡ Ok kept
     → (is_read_fault judged ≡ false) × (is_write_fault judged ≡ false)
-quiet_on keep_going number (Skipped store) kept e = (refl, refl)
-quiet_on keep_going number (Written store) kept e = (refl, refl)
-quiet_on keep_going number (Failed store) kept e = (refl, refl)
+quiet_on keep_going number Skipped kept e = (refl, refl)
+quiet_on keep_going number Written kept e = (refl, refl)
+quiet_on keep_going number Failed kept e = (refl, refl)
 quiet_on keep_going number (Stopped fault) kept e = absurd (true≢false (ap is_err e))
 quiet_on keep_going number (Unread why) kept e = absurd (true≢false (ap is_err e))
 
 pub write_told : (keep_going : Bool) (number : ℕ) (judged : Judged) (fault : Option LinesFault)
     → next_by keep_going number judged ≡ Err fault → is_write fault ≡ is_write_fault judged
-write_told keep_going number (Skipped store) fault e = absurd (true≢false (sym (ap is_err e)))
-write_told keep_going number (Written store) fault e = absurd (true≢false (sym (ap is_err e)))
-write_told true number (Failed store) fault e = absurd (true≢false (sym (ap is_err e)))
-write_told false number (Failed store) fault e = ap is_write (ap (fault_in None) (sym e))
+write_told keep_going number Skipped fault e = absurd (true≢false (sym (ap is_err e)))
+write_told keep_going number Written fault e = absurd (true≢false (sym (ap is_err e)))
+write_told true number Failed fault e = absurd (true≢false (sym (ap is_err e)))
+write_told false number Failed fault e = ap is_write (ap (fault_in None) (sym e))
 write_told keep_going number (Stopped why) fault e = ap is_write (ap (fault_in None) (sym e)) ∙ by why
   where
     by : (why : LinesFault) → is_write (Some why) ≡ is_write_fault (Stopped why)
@@ -506,8 +504,8 @@ write_told keep_going number (Unread why) fault e = ap is_write (ap (fault_in No
 pub counted_within : (judged : Judged) (written failed n : ℕ) → written ≤ n → failed ≤ n
     → ((counted judged (record { written = written; failed = failed })).written ≤ n + 1)
     × ((counted judged (record { written = written; failed = failed })).failed ≤ n + 1)
-counted_within (Skipped kept) written failed n p q = (omega (arith, p), omega (arith, q))
-counted_within (Written kept) written failed n p q = (omega (arith, p), omega (arith, q))
-counted_within (Failed kept) written failed n p q = (omega (arith, p), omega (arith, q))
+counted_within Skipped written failed n p q = (omega (arith, p), omega (arith, q))
+counted_within Written written failed n p q = (omega (arith, p), omega (arith, q))
+counted_within Failed written failed n p q = (omega (arith, p), omega (arith, q))
 counted_within (Stopped fault) written failed n p q = (omega (arith, p), omega (arith, q))
 counted_within (Unread why) written failed n p q = (omega (arith, p), omega (arith, q))

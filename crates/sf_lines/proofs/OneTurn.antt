@@ -1,8 +1,8 @@
 -- One thing comes of each line.
-use Rattle.std.proofs.Common.{◌≡◌, ℕ, ◌+◌, Bool, true, false, List, [], ◌∷◌, ◌++◌, Option, Some, None, Result, ◌⊎◌, inl, inr, refl, sym}
+use Rattle.std.proofs.Common.{◌≡◌, ℕ, suc, ◌+◌, length, Bool, true, false, List, [], ◌∷◌, ◌++◌, Option, None, ◌⊎◌, inl, inr, refl, sym}
 use Rattle.std.proofs.Common.{ap, subst, ◌∙◌, arith, true≢false}
 use Rattle.std.specs.Prelude.{IsSome, is_some}
-use Rattle.std.specs.List.{AllByRecursion}
+use Rattle.std.specs.List.{AllByRecursion, Contains}
 use Rattle.sf_format.specs.declared.directive.Directive.{Directive}
 use Rattle.sf_format.specs.Proper.{AreProper}
 use Rattle.sf_run.specs.outcome.Ending.TheVariants.{End}
@@ -10,8 +10,9 @@ use Rattle.sf_run.specs.Runs.{RunReport}
 use Rattle.sf_run.specs.Limits.{RunWithin}
 use Rattle.sf_run.specs.Laws.{EachHasOneReport}
 use Rattle.sf_lines.specs.declared.end.LineFault.{LineFault}
-use Rattle.sf_lines.specs.Turns.{LineWork, Miss, Misses, Turn, IsJudged, Comes, judged, fault_of}
+use Rattle.sf_lines.specs.Turns.{AreScanned, LineWork, Matches, Misses, Turn, IsJudged, Comes, fault_of, number_of, turn_by, used_whole}
 use Rattle.sf_lines.specs.Loops.{IfGoing, AreTurns, goes_on}
+use Rattle.sf_lines.proofs.Choosing.{all_at}
 
 none_is_some : (fault : Option LineFault) → fault ≡ None → IsSome fault → ⊥
 none_is_some fault e some = true≢false (sym some ∙ ap is_some e)
@@ -34,12 +35,13 @@ module _ (one : EachHasOneReport) (w : LineWork) where
   some_rest [] after ds e = cc
   some_rest (x ∷ before) after ds e = cc
 
-  -- the format and the report that count
+  -- the format and the report that count, and its place
   same_pick : (line : List ℕ) (formats before before' after after' : List (List Directive)) (ds ds' : List Directive) (r r' : RunReport)
       → AllByRecursion AreProper formats → formats ≡ before ++ ds ∷ after → formats ≡ before' ++ ds' ∷ after'
       → AllByRecursion (Misses w.options line) before → AllByRecursion (Misses w.options line) before'
       → RunWithin ds w.options.limit line End r → RunWithin ds' w.options.limit line End r'
-      → (fault_of w.options line r ≡ None) ⊎ (after ≡ []) → (fault_of w.options line r' ≡ None) ⊎ (after' ≡ []) → (ds ≡ ds') × (r ≡ r')
+      → (fault_of w.options line r ≡ None) ⊎ (after ≡ []) → (fault_of w.options line r' ≡ None) ⊎ (after' ≡ [])
+      → (ds ≡ ds') × (r ≡ r') × (length before ≡ length before')
   same_pick line [] before before' after after' ds ds' r r' proper e e' m m' ran ran' c c' = absurd (some_rest before after ds (sym e))
   same_pick line (f ∷ formats) [] [] after after' ds ds' r r' proper e e' m m' ran ran' c c' =
       let first : ds ≡ f = cc in
@@ -47,6 +49,7 @@ module _ (one : EachHasOneReport) (w : LineWork) where
         first ∙ sym other,
         same_report f proper.0 line r r' (subst (λ (d : List Directive). RunWithin d w.options.limit line End r) first
             ran) (subst (λ (d : List Directive). RunWithin d w.options.limit line End r') other ran'),
+        refl,
       )
   same_pick line (f ∷ formats) [] (x ∷ before') after after' ds ds' r r' proper e e' m m' ran ran' c c' =
       let first : ds ≡ f = cc in
@@ -65,24 +68,39 @@ module _ (one : EachHasOneReport) (w : LineWork) where
   same_pick line (f ∷ formats) (x ∷ before) (y ∷ before') after after' ds ds' r r' proper e e' m m' ran ran' c c' =
       let rest : formats ≡ before ++ ds ∷ after = cc in
       let rest' : formats ≡ before' ++ ds' ∷ after' = cc in
-      same_pick line formats before before' after after' ds ds' r r' proper.1 rest rest' m.1 m'.1 ran ran' c c'
+      let later = same_pick line formats before before' after after' ds ds' r r' proper.1 rest rest' m.1 m'.1 ran ran' c c' in
+      (later.0, later.1, ap (λ (n : ℕ). suc n) later.2)
 
-  module _ (proper : AllByRecursion AreProper w.formats) where
-    same_judged : (line : List ℕ) (v u : Result (List ℕ) Miss) → IsJudged w line v → IsJudged w line u → v ≡ u
-    same_judged line v u (inl p) (inl q) = p.1 ∙ sym q.1
-    same_judged line v u (inl p) (inr q) = absurd (omega (arith, p.0, q.0))
-    same_judged line v u (inr p) (inl q) = absurd (omega (arith, p.0, q.0))
-    same_judged line v u (inr (short, (ds, r, p, is))) (inr (short', (ds', r', q, is'))) =
-        let same = same_pick line w.formats p.before q.before p.after q.after ds ds' r r' proper p.among q.among p.missed q.missed p.ran
-        q.ran p.counts q.counts in
-        is ∙ ap (λ (d : List Directive). judged (w.text d r) line (fault_of w.options line r)) same.0
-        ∙ ap (λ (x : RunReport). judged (w.text ds' x) line (fault_of w.options line x)) same.1 ∙ sym is'
+  -- a line that is ignored is not read
+  not_both : (line : List ℕ) (formats : List (List Directive)) (ds : List Directive) → AllByRecursion AreProper formats
+      → Contains formats ds → Matches (used_whole w.options) line ds → AllByRecursion (Misses (used_whole w.options) line) formats → ⊥
+  not_both line formats ds proper among (r, ran, none) missed =
+      let (q, ran', some) = all_at (Misses (used_whole w.options) line) formats missed ds among in
+      none_is_some (fault_of (used_whole w.options) line q) (ap (fault_of (used_whole w.options) line)
+      (same_report ds (all_at AreProper formats proper ds among) line q r ran' ran) ∙ none) some
+
+  module _ (scanned : AreScanned w) where
+    same_judged : (line : List ℕ) (t u : Turn) → IsJudged w line t → IsJudged w line u → t ≡ u
+    same_judged line t u (inl p) (inl q) = p.1 ∙ sym q.1
+    same_judged line t u (inl p) (inr q) = absurd (omega (arith, p.0, q.0))
+    same_judged line t u (inr p) (inl q) = absurd (omega (arith, p.0, q.0))
+    same_judged line t u (inr (short, inl p)) (inr (short', inl q)) = p.1 ∙ sym q.1
+    same_judged line t u (inr (short, inl ((ds, among, matches), is))) (inr (short', inr (read, q))) =
+        absurd (not_both line w.ignored ds scanned.ignored among matches read)
+    same_judged line t u (inr (short, inr (read, q))) (inr (short', inl ((ds, among, matches), is))) =
+        absurd (not_both line w.ignored ds scanned.ignored among matches read)
+    same_judged line t u (inr (short, inr (read, (ds, r, p, is)))) (inr (short', inr (read', (ds', r', q, is')))) =
+        let same = same_pick line w.formats p.before q.before p.after q.after ds ds' r r' scanned.proper p.among q.among p.missed q.missed
+        p.ran q.ran p.counts q.counts in
+        is ∙ ap (λ (d : List Directive). turn_by w (number_of p) d r line) same.0
+        ∙ ap (λ (x : RunReport). turn_by w (number_of p) ds' x line) same.1
+        ∙ ap (λ (n : ℕ). turn_by w (n + 1) ds' r' line) same.2 ∙ sym is'
 
     same_turn : (number : ℕ) (line : List ℕ) (t u : Turn) → Comes w number line t → Comes w number line u → t ≡ u
-    same_turn number line None None p q = refl
-    same_turn number line None (Some u) p q = absurd (omega (arith, p, q.0))
-    same_turn number line (Some t) None p q = absurd (omega (arith, p.0, q))
-    same_turn number line (Some t) (Some u) p q = ap (λ (v : Result (List ℕ) Miss). Some v) (same_judged line t u p.1 q.1)
+    same_turn number line t u (inl p) (inl q) = p.1 ∙ sym q.1
+    same_turn number line t u (inl p) (inr q) = absurd (omega (arith, p.0, q.0))
+    same_turn number line t u (inr p) (inl q) = absurd (omega (arith, p.0, q.0))
+    same_turn number line t u (inr p) (inr q) = same_judged line t u p.1 q.1
 
     pub same_turns : (n : ℕ) (lines : List (List ℕ)) (ts us : List Turn) → AreTurns w n lines ts → AreTurns w n lines us → ts ≡ us
     same_turns n [] ts us p q = p ∙ sym q

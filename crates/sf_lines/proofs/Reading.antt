@@ -42,7 +42,7 @@ module _ {S : Type 0} {to_come : S → Option (List ℕ)} {t : List ℕ} {old : 
     behind : (bytes rest : List ℕ) → l.left ≡ bytes ++ rest → t ≡ (l.gone ++ bytes) ++ rest
     behind bytes rest e = l.parts ∙ ap (λ (y : List ℕ). l.gone ++ y) e ∙ sym (append_assoc l.gone bytes rest)
 
-    -- a line with its line end
+    -- a line with its newline
     with_end : (new : Ahead S) (line : List ℕ) → IsLine line → old.at_end ≡ false → Loses to_come old new (line ++ 10 ∷ [])
         → Lined to_come t new (front ++ line ∷ [])
     with_end new line is_line open' loses =

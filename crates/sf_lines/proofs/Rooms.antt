@@ -2,12 +2,11 @@
 use Rattle.std.proofs.Common.{◌≡◌, ℕ, ◌+◌, ◌<◌, max, List, [], ◌∷◌, ◌++◌, length, take, get_or, Option, Some, None, refl, sym, ap, ◌∙◌}
 use Rattle.std.proofs.Common.{arith}
 use Rattle.std.specs.Prelude.{unwrap_or}
-use Rattle.std.proofs.lemmas.List.{take_more, take_all}
-use Rattle.std.proofs.Math.Nat.{le-max_left, le-max_right, max-le}
+use Rattle.std.proofs.lemmas.List.{take_more}
 use Rattle.sf_format.specs.declared.directive.Directive.{Directive}
 use Rattle.sf_format.specs.declared.directive.Directive.TheVariants.{Space, Byte, Percent, Conv}
 use Rattle.sf_format.specs.Proper.{destinations_of}
-use Rattle.sf_format.specs.Widths.{add_widths, stored_width, width_sum}
+use Rattle.sf_format.specs.Widths.{add_widths, width_sum}
 use Rattle.sf_lines.specs.Rooms.{most_width, width_of}
 
 no_sum : (ds : List Directive) → length (destinations_of ds) ≡ 0 → width_sum ds ≡ Some 0

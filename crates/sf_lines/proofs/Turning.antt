@@ -1,8 +1,8 @@
 -- What comes of lines: that it is told of each, and joined.
 use Rattle.std.proofs.Common.{◌≡◌, ℕ, zero, suc, ◌+◌, ◌<◌, ◌≤◌, Bool, true, false, cond, List, [], ◌∷◌, ◌++◌, length, take, Option, Some}
-use Rattle.std.proofs.Common.{None, Result, Err, ◌⊎◌, inl, inr, refl, sym, ap, subst, ◌∙◌, arith, append_assoc, append-nil}
+use Rattle.std.proofs.Common.{None, Err, ◌⊎◌, inl, inr, refl, sym, ap, subst, ◌∙◌, arith, append_assoc, append-nil}
 use Rattle.std.specs.Prelude.{IsSome}
-use Rattle.std.specs.List.{AllByRecursion, count_by}
+use Rattle.std.specs.List.{AllByRecursion, Contains, count_by}
 use Rattle.std.proofs.lemmas.Grind.{flat_map-append}
 use Rattle.std.proofs.lemmas.List.Sums.{sum_by-append}
 use Rattle.sf_format.specs.declared.directive.Directive.{Directive}
@@ -12,8 +12,8 @@ use Rattle.sf_run.specs.Runs.{RunReport}
 use Rattle.sf_run.specs.Laws.{EachHasOneReport}
 use Rattle.sf_lines.specs.declared.end.LineFault.{LineFault}
 use Rattle.sf_lines.specs.declared.end.LineFault.TheVariants.{TooLong}
-use Rattle.sf_lines.specs.Turns.{LineWork, Miss, Misses, Picks, Turn, IsJudged, Comes, judged, fault_of}
-use Rattle.sf_lines.proofs.Choosing.{all_append}
+use Rattle.sf_lines.specs.Turns.{AreScanned, LineWork, Matches, Misses, Picks, Turn, IsJudged, Comes, fault_of, number_of, turn_by, used_whole}
+use Rattle.sf_lines.proofs.Choosing.{all_append, contains_first, contains_later}
 use Rattle.sf_lines.specs.Loops.{IfGoing, AllGoOn, AreTurns, goes_on, tellings, telling_of, texts, text_of}
 
 -- ---- lines after each of which the loop goes on
@@ -103,7 +103,7 @@ none_or_some None = inl refl
 none_or_some (Some fault) = inr refl
 
 module _ (one : EachHasOneReport) (w : LineWork) where
-  -- among the formats behind those by which the line is no match, one counts
+  -- among the formats after those that the line doesn't match, one counts
   picked : (line : List ℕ) (before : List (List Directive)) (ds : List Directive) (rest : List (List Directive))
       → w.formats ≡ before ++ ds ∷ rest → AllByRecursion AreProper (ds ∷ rest)
       → AllByRecursion (Misses w.options line) before → (ds' : List Directive) × (r : RunReport) × Picks w.options w.formats line ds' r
@@ -130,29 +130,43 @@ module _ (one : EachHasOneReport) (w : LineWork) where
             (all_append (Misses w.options line) before (ds ∷ []) missed ((all.report, all.is, some), tt))
       ]
 
-  module _ (proper : AllByRecursion AreProper w.formats) (some : 0 < length w.formats) where
+  -- a line is ignored, or it is not
+  ignored_or_read : (line : List ℕ) (formats : List (List Directive)) → AllByRecursion AreProper formats
+      → ((ds : List Directive) × Contains formats ds × Matches (used_whole w.options) line ds)
+      ⊎ AllByRecursion (Misses (used_whole w.options) line) formats
+  ignored_or_read line [] proper = inr tt
+  ignored_or_read line (ds ∷ formats) proper =
+      let all = one ds proper.0 w.options.limit line End in
+      elim (none_or_some (fault_of (used_whole w.options) line all.report)) [
+        | inl none ↦ inl (ds, contains_first ds formats, (all.report, all.is, none))
+        | inr some ↦ elim (ignored_or_read line formats proper.1) [
+          | inl ignored ↦ inl (ignored.0, contains_later ds ignored.0 formats ignored.1, ignored.2)
+          | inr read ↦ inr ((all.report, all.is, some), read)
+        ]
+      ]
+
+  module _ (scanned : AreScanned w) where
     has_pick : (line : List ℕ) → (ds : List Directive) × (r : RunReport) × Picks w.options w.formats line ds r
     has_pick line = by w.formats refl
       where
         by : (formats : List (List Directive)) → w.formats ≡ formats → (ds : List Directive) × (r : RunReport)
             × Picks w.options w.formats line ds r
-        by [] e = absurd (omega (arith, some, ap length e))
-        by (ds ∷ rest) e = picked line [] ds rest e (subst (AllByRecursion AreProper) e proper) tt
+        by [] e = absurd (omega (arith, scanned.some, ap length e))
+        by (ds ∷ rest) e = picked line [] ds rest e (subst (AllByRecursion AreProper) e scanned.proper) tt
 
-    is_judged : (line : List ℕ) → (verdict : Result (List ℕ) Miss) × IsJudged w line verdict
+    is_judged : (line : List ℕ) → (turn : Turn) × IsJudged w line turn
     is_judged line = elim (le_or_lt (length line) w.options.limit) [
-      | inl short ↦ (let p = has_pick line in (
-        judged (w.text p.0 p.1) line (fault_of w.options line p.1),
-        inr
-            (short, (p.0, p.1, p.2, refl)),
-      ))
-      | inr long ↦ (Err (take w.options.limit line, TooLong), inl (long, refl))
+      | inl short ↦ elim (ignored_or_read line w.ignored scanned.ignored) [
+        | inl ignored ↦ (None, inr (short, inl (ignored, refl)))
+        | inr read ↦ (let p = has_pick line in (turn_by w (number_of p.2) p.0 p.1 line, inr (short, inr (read, (p.0, p.1, p.2, refl)))))
+      ]
+      | inr long ↦ (Some (Err (take w.options.limit line, TooLong)), inl (long, refl))
     ]
 
     comes : (number : ℕ) (line : List ℕ) → (turn : Turn) × Comes w number line turn
     comes number line = elim (le_or_lt number w.options.skip) [
-      | inl skipped ↦ (None, skipped)
-      | inr counts ↦ (let v = is_judged line in (Some v.0, (counts, v.1)))
+      | inl skipped ↦ (None, inl (skipped, refl))
+      | inr counts ↦ (let v = is_judged line in (v.0, inr (counts, v.1)))
     ]
 
     -- what comes of the lines, from the first on

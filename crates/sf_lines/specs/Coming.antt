@@ -1,7 +1,6 @@
 -- What comes of the next line of an input, and how the loop goes on.
-use Rattle.std.specs.Prelude.{◌≡◌, ◌<◌, ◌+◌, ◌⊎◌, ℕ, Bool, true, false, if◌then◌else◌, List, [], Option, Some, None, Result, Ok, Err}
+use Rattle.std.specs.Prelude.{◌≡◌, ◌<◌, ◌+◌, ◌⊎◌, ℕ, Bool, false, if◌then◌else◌, List, [], Option, Some, None, Result, Ok, Err}
 use Rattle.std.specs.Io.KnownBytes.{Appends}
-use Rattle.sf_base.specs.Kept.{Kept}
 use Rattle.sf_read.specs.Ahead.{Ahead}
 use Rattle.sf_lines.specs.declared.end.Counts.{Counts}
 use Rattle.sf_lines.specs.declared.end.LinesFault.{LinesFault}
@@ -10,7 +9,7 @@ use Rattle.sf_lines.specs.declared.judge.Judged.{Judged}
 use Rattle.sf_lines.specs.declared.judge.Judged.TheVariants.{Skipped, Written, Failed, Stopped, Unread}
 use Rattle.sf_lines.specs.declared.line.LineRead.{LineRead}
 use Rattle.sf_lines.specs.declared.line.LineRead.TheVariants as reads
-use Rattle.sf_lines.specs.Judging.{TakesPart}
+use Rattle.sf_forms.specs.Written.{TakesPart}
 use Rattle.sf_lines.specs.Loops.{fault_after, telling_of, text_of}
 use Rattle.sf_lines.specs.Reading.{Reads, Took, is_failed}
 use Rattle.sf_lines.specs.Telling.{Tells}
@@ -20,20 +19,20 @@ use Rattle.sf_lines.specs.Turns.{Comes, LineWork, Miss, Turn}
 
 -- the turn is of this kind
 abbrev pub IsOf : Judged → Turn → Type 0
-IsOf (Skipped kept) turn = turn ≡ None
-IsOf (Written kept) turn = (text : List ℕ) × (turn ≡ Some (Ok text))
-IsOf (Failed kept) turn = (miss : Miss) × (turn ≡ Some (Err miss))
+IsOf Skipped turn = turn ≡ None
+IsOf Written turn = (text : List ℕ) × (turn ≡ Some (Ok text))
+IsOf Failed turn = (miss : Miss) × (turn ≡ Some (Err miss))
 IsOf _ turn = ⊥
 
--- behind the lines that are passed over, memory was refused, and nothing was written; or the sink failed within the text of
--- the line with this number
+-- after the lines that are passed over, memory was refused, and nothing was written; or the sink failed within the text
+-- of the line with this number
 abbrev pub StopsAt : LineWork → ℕ → List ℕ → Option (List ℕ) → Option (List ℕ) → LinesFault → Type 0
 StopsAt w number line is after fault =
     (fault ≡ faults.Memory) × (w.options.skip < number) × Appends is after []
     ⊎ (fault ≡ faults.Write) × ((text : List ℕ) × Comes w number line (Some (Ok text)) × TakesPart is after text)
 
--- What came of the line with this number. The sink held the bytes `is`, and then `after`; what was told before and afterwards,
--- and whether the teller had failed then.
+-- What came of the line with this number. The sink held the bytes `is`, and then `after`; what was reported before and
+-- afterwards, and whether the teller had failed then.
 abbrev pub Came : LineWork → ℕ → List ℕ → Option (List ℕ) → Option (List ℕ) → Bool → Bool → Option (List ℕ) → Option (List ℕ) → Judged
     → Type 0
 Came w number line is after silent silent' told told' (Stopped fault) = StopsAt w number line is after fault × (silent' ≡ silent)
@@ -43,15 +42,15 @@ Came w number line is after silent silent' told told' judged =
     (turn : Turn) × IsOf judged turn × Comes w number line turn × Appends is after (text_of turn)
     × Tells silent silent' told told' (telling_of w number turn)
 
--- the line was told as one that is no match; or memory for that was refused, and nothing was said
+-- the line was reported as one that fails; or memory for that was refused, and nothing was reported
 abbrev pub IsTold : Bool → Bool → Option (List ℕ) → Option (List ℕ) → List ℕ → Judged → Type 0
-IsTold silent silent' told told' text (Failed kept) = Tells silent silent' told told' text
+IsTold silent silent' told told' text Failed = Tells silent silent' told told' text
 IsTold silent silent' told told' text (Stopped fault) = (fault ≡ faults.Memory) × (silent' ≡ silent) × (told' ≡ told)
 IsTold silent silent' told told' text _ = ⊥
 
 -- ---- the next line of an input
 
--- no line was read; memory is refused behind the lines that are passed over alone
+-- no line was read; memory is refused after the lines that are passed over alone
 pub record IsUnread {S : Type 0} (to_come : S → Option (List ℕ)) (old new : Ahead S) (skip number : ℕ) (read : LineRead) : Type 0 where
   pub limit : ℕ
   pub part : List ℕ
@@ -62,7 +61,7 @@ pub record IsUnread {S : Type 0} (to_come : S → Option (List ℕ)) (old new : 
 
 -- a line was passed over, or none was read, and memory for none was refused
 abbrev pub Passes : {S : Type 0} → (S → Option (List ℕ)) → Ahead S → Ahead S → Judged → Type 0
-Passes to_come old new (Skipped kept) = (line : List ℕ) × Took to_come old new line
+Passes to_come old new Skipped = (line : List ℕ) × Took to_come old new line
 Passes to_come old new (Unread why) = (limit : ℕ) × (part : List ℕ) × Reads to_come old new limit part why × (why ≡ reads.Line → ⊥)
     × (why ≡ reads.TooLong → ⊥) × (why ≡ reads.NoMemory → ⊥)
 Passes to_come old new _ = ⊥
@@ -83,14 +82,14 @@ is_read_fault _ = false
 
 -- the counts with this one
 abbrev pub counted : Judged → Counts → Counts
-counted (Written kept) n = record { written = n.written + 1; failed = n.failed }
-counted (Failed kept) n = record { written = n.written; failed = n.failed + 1 }
+counted Written n = record { written = n.written + 1; failed = n.failed }
+counted Failed n = record { written = n.written; failed = n.failed + 1 }
 counted _ n = n
 
--- whether the loop goes on, with this in its store; else with which fault it ends
-abbrev pub next_by : Bool → ℕ → Judged → Result Kept (Option LinesFault)
-next_by keep_going number (Skipped kept) = Ok kept
-next_by keep_going number (Written kept) = Ok kept
-next_by keep_going number (Failed kept) = if keep_going then Ok kept else Err None
+-- whether the loop goes on; else with which fault it ends
+abbrev pub next_by : Bool → ℕ → Judged → Result (Unit {0}) (Option LinesFault)
+next_by keep_going number Skipped = Ok tt
+next_by keep_going number Written = Ok tt
+next_by keep_going number Failed = if keep_going then Ok tt else Err None
 next_by keep_going number (Stopped fault) = Err (Some fault)
 next_by keep_going number (Unread read) = Err (fault_after number read)

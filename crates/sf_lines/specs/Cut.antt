@@ -4,7 +4,7 @@ use Rattle.std.specs.List.{AllByRecursion, flat_map}
 use Rattle.sf_run.specs.outcome.Ending.{Ending}
 use Rattle.sf_run.specs.outcome.Ending.TheVariants.{End, Fault}
 
--- no byte is a line end
+-- no byte is a newline
 abbrev pub IsLine : List ℕ → Type 0
 IsLine line = AllByRecursion (λ b. (b == 10) ≡ false) line
 
@@ -14,7 +14,8 @@ begun_by b (line ∷ lines) ending = (b ∷ line) ∷ lines
 begun_by b [] End = (b ∷ []) ∷ []
 begun_by b [] Fault = []
 
--- The lines of a text. Behind its last line end stands one more, unless nothing does (End), or a read failed there (Fault).
+-- The lines of a text. After its last newline stands one more, unless nothing does (End), or a read failed there
+-- (Fault).
 abbrev pub lines_by : Ending → List ℕ → List (List ℕ)
 lines_by ending [] = []
 lines_by ending (b ∷ rest) = if b == 10 then [] ∷ lines_by ending rest else begun_by b (lines_by ending rest) ending
@@ -22,6 +23,6 @@ lines_by ending (b ∷ rest) = if b == 10 then [] ∷ lines_by ending rest else 
 abbrev pub lines_of : List ℕ → List (List ℕ)
 lines_of text = lines_by End text
 
--- the lines with their line ends, joined
+-- the lines with their newlines, joined
 abbrev pub joined : List (List ℕ) → List ℕ
 joined lines = flat_map (λ line. line ++ 10 ∷ []) lines

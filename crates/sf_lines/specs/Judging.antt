@@ -1,36 +1,25 @@
 -- What is written of one line, and what comes of it by a format, and by the formats in turn.
-use Rattle.std.specs.Prelude.{◌≡◌, ◌≤◌, ◌++◌, ◌∷◌, ℕ, Bool, true, false, List, [], length, Option, Some, None, Result, Ok, Err}
-use Rattle.std.specs.Io.KnownBytes.{Appends}
-use Rattle.sf_base.specs.Kept.{Kept}
+use Rattle.std.specs.Prelude.{◌≡◌, ◌≤◌, ◌++◌, ◌&&◌, ℕ, Bool, true, false, if◌then◌else◌, List, length, Option, Some, None, Result, Ok, Err}
+use Rattle.std.specs.List.{AllByRecursion, Contains}
+use Rattle.std.specs.declared.alloc.AllocError.{AllocError}
 use Rattle.sf_format.specs.declared.directive.Directive.{Directive}
+use Rattle.sf_makers.specs.declared.maker.Unwritten.TheVariants as unwritten
+use Rattle.sf_makers.specs.Works.{Makes, Work, sink_failed, with_met}
 use Rattle.sf_run.specs.outcome.Ending.{Ending}
 use Rattle.sf_run.specs.outcome.Ending.TheVariants.{End}
 use Rattle.sf_run.specs.Limits.{RunWithin}
 use Rattle.sf_run.specs.Quick.{IsDoneWithin}
 use Rattle.sf_run.specs.Runs.{RunReport}
 use Rattle.sf_lines.specs.declared.options.LinesOptions.{LinesOptions}
+use Rattle.sf_lines.specs.declared.end.LineFault.TheVariants as why
 use Rattle.sf_lines.specs.declared.end.LinesFault.TheVariants as faults
 use Rattle.sf_lines.specs.declared.judge.Judged.{Judged}
-use Rattle.sf_lines.specs.declared.judge.Judged.TheVariants.{Written, Stopped}
+use Rattle.sf_lines.specs.declared.judge.Judged.TheVariants.{Skipped, Written, Stopped}
 use Rattle.sf_lines.specs.declared.judge.Tried.{Tried}
 use Rattle.sf_lines.specs.declared.judge.Tried.TheVariants.{Matched, Missed, Refused}
-use Rattle.sf_lines.specs.declared.writer.RecordFault.{RecordFault}
-use Rattle.sf_lines.specs.declared.writer.RecordFault.TheVariants as unwritten
-use Rattle.sf_lines.specs.Turns.{Picks, fault_of, with_met}
-
--- a sink that held the bytes `old` took a part of the text, and some of it is missing
-abbrev pub TakesPart : Option (List ℕ) → Option (List ℕ) → List ℕ → Type 0
-TakesPart old new text = (part : List ℕ) × (missing : ℕ) × (rest : List ℕ) × (text ≡ part ++ missing ∷ rest) × Appends old new part
-
--- the text was written; or the sink failed within it; or memory was refused, and nothing was written
-abbrev pub WritesRecord : List ℕ → Option (List ℕ) → Option (List ℕ) → Result (Unit {0}) RecordFault → Type 0
-WritesRecord text old new (Ok _) = Appends old new text
-WritesRecord text old new (Err unwritten.Write) = TakesPart old new text
-WritesRecord text old new (Err unwritten.Memory) = Appends old new []
-
-abbrev pub is_sink_fault : Result (Unit {0}) RecordFault → Bool
-is_sink_fault (Err unwritten.Write) = true
-is_sink_fault _ = false
+use Rattle.sf_lines.specs.declared.judge.Verdict.{Verdict}
+use Rattle.sf_lines.specs.declared.judge.Verdict.TheVariants.{Is, Fails}
+use Rattle.sf_lines.specs.Turns.{Matches, Misses, Picks, fault_of, is_other, number_of, used_whole}
 
 -- ---- a line and one format
 
@@ -38,7 +27,7 @@ is_sink_fault _ = false
 abbrev pub BeginsWith : List ℕ → List ℕ → Type 0
 BeginsWith ended line = (behind : List ℕ) × (ended ≡ line ++ behind)
 
--- the run of the format on the line, whose report tells this, but for what it met, by which the line is a match
+-- the run of the format on the line, whose report has this, but for what it met, by which the line is a match
 abbrev pub Fits : LinesOptions → List Directive → List ℕ → RunReport → Type 0
 Fits o ds line report = (met : Option Ending) × RunWithin ds o.limit line End (with_met report met)
     × (fault_of o line (with_met report met) ≡ None)
@@ -50,40 +39,57 @@ pub record IsSeen (o : LinesOptions) (ds : List Directive) (line ended : List �
   pub within : done.report.used ≤ length line
   pub matches : fault_of o line done.report ≡ None
 
--- the line is a match by the format, and a writer was to write its text; or it is none, for this; or memory was refused
-abbrev pub Tries : LinesOptions → List Directive → (RunReport → List ℕ) → List ℕ → Option (List ℕ) → Option (List ℕ) → Tried → Type 0
-Tries o ds text line old new (Matched kept wrote) = (r : RunReport) × RunWithin ds o.limit line End r × (fault_of o line r ≡ None)
-    × WritesRecord (text r) old new wrote
-Tries o ds text line old new (Missed kept fault) = (r : RunReport) × RunWithin ds o.limit line End r × (fault_of o line r ≡ Some fault)
-Tries o ds text line old new Refused = Unit {0}
+-- the line matches the format, and what is made of it was to be written; or it doesn't, for this; or memory was refused
+abbrev pub Tries : LinesOptions → List Directive → Work → List ℕ → Option (List ℕ) → Option (List ℕ) → Tried → Type 0
+Tries o ds made line old new (Matched wrote) = (r : RunReport) × RunWithin ds o.limit line End r × (fault_of o line r ≡ None)
+    × Makes made r old new wrote
+Tries o ds made line old new (Missed fault) = (r : RunReport) × RunWithin ds o.limit line End r × (fault_of o line r ≡ Some fault)
+Tries o ds made line old new Refused = Unit {0}
 
 -- the sink failed within the text
 abbrev pub is_unwritten : Tried → Bool
-is_unwritten (Matched kept wrote) = is_sink_fault wrote
+is_unwritten (Matched wrote) = sink_failed wrote
 is_unwritten _ = false
 
--- the writer was to write
+-- something was to be written
 abbrev pub is_matched : Tried → Bool
-is_matched (Matched kept wrote) = true
+is_matched (Matched wrote) = true
 is_matched _ = false
 
 -- ---- a line and the formats in turn
 
--- the same by the formats in turn: the first by which it is a match counts, or the last
-abbrev pub TriesEach : LinesOptions → List (List Directive) → (List Directive → RunReport → List ℕ) → List ℕ → Option (List ℕ)
-    → Option (List ℕ) → Tried → Type 0
-TriesEach o formats text line old new (Matched kept wrote) = (ds : List Directive) × (r : RunReport) × Picks o formats line ds r
-    × (fault_of o line r ≡ None) × WritesRecord (text ds r) old new wrote
-TriesEach o formats text line old new (Missed kept fault) = (ds : List Directive) × (r : RunReport) × Picks o formats line ds r
+-- the same by the formats in turn: the first that the line matches counts, or the last
+abbrev pub TriesEach : LinesOptions → List (List Directive) → (ℕ → List Directive → Work) → List ℕ → Option (List ℕ) → Option (List ℕ)
+    → Tried → Type 0
+TriesEach o formats makes line old new (Matched wrote) = (ds : List Directive) × (r : RunReport)
+    × (picks : Picks o formats line ds r) × (fault_of o line r ≡ None) × Makes (makes (number_of picks) ds) r old new wrote
+TriesEach o formats makes line old new (Missed fault) = (ds : List Directive) × (r : RunReport) × Picks o formats line ds r
     × (fault_of o line r ≡ Some fault)
-TriesEach o formats text line old new Refused = Unit {0}
+TriesEach o formats makes line old new Refused = Unit {0}
 
--- what comes of a match, as the writer answered
-abbrev pub judged_by : Kept → Result (Unit {0}) RecordFault → Judged
-judged_by kept (Ok _) = Written kept
-judged_by kept (Err unwritten.Write) = Stopped faults.Write
-judged_by kept (Err unwritten.Memory) = Stopped faults.Memory
+-- what comes of that, or why the line fails
+abbrev pub verdict_by : Bool → Tried → Verdict
+verdict_by matching (Matched (Ok _)) = Is Written
+verdict_by matching (Matched (Err unwritten.Unfit)) = Fails why.Unfit
+verdict_by matching (Matched (Err unwritten.Write)) = Is (Stopped faults.Write)
+verdict_by matching (Matched (Err unwritten.Memory)) = Is (Stopped faults.Memory)
+verdict_by matching (Missed fault) = if matching && is_other fault then Is Skipped else Fails fault
+verdict_by matching Refused = Is (Stopped faults.Memory)
 
 abbrev pub is_write_fault : Judged → Bool
 is_write_fault (Stopped faults.Write) = true
 is_write_fault _ = false
+
+-- ---- a line and the formats by which lines are passed over
+
+-- whether the line matches the format; or memory was refused
+abbrev pub MatchesOrNot : LinesOptions → List ℕ → List Directive → Result Bool AllocError → Type 0
+MatchesOrNot o line ds (Ok true) = Matches o line ds
+MatchesOrNot o line ds (Ok false) = Misses o line ds
+MatchesOrNot o line ds (Err refused) = Unit {0}
+
+-- whether one of the formats uses all of it; or memory was refused
+abbrev pub IgnoresOrNot : LinesOptions → List ℕ → List (List Directive) → Result Bool AllocError → Type 0
+IgnoresOrNot o line ignored (Ok true) = (ds : List Directive) × Contains ignored ds × Matches (used_whole o) line ds
+IgnoresOrNot o line ignored (Ok false) = AllByRecursion (Misses (used_whole o) line) ignored
+IgnoresOrNot o line ignored (Err refused) = Unit {0}

@@ -1,14 +1,13 @@
 -- Laws of lines.
 use Rattle.std.specs.Prelude.{◌≡◌, ◌<◌, ◌⊎◌, ℕ, List, [], ◌∷◌, ◌++◌, length}
 use Rattle.std.specs.List.{AllByRecursion}
-use Rattle.sf_format.specs.Proper.{AreProper}
 use Rattle.sf_run.specs.outcome.Ending.{Ending}
 use Rattle.sf_run.specs.outcome.Ending.TheVariants.{Fault}
 use Rattle.sf_lines.specs.Cut.{IsLine, lines_by, lines_of, joined}
-use Rattle.sf_lines.specs.Turns.{LineWork, Turn}
+use Rattle.sf_lines.specs.Turns.{AreScanned, LineWork, Turn}
 use Rattle.sf_lines.specs.Loops.{AreTurns}
 
--- a line is cut off with its line end; the last one may lack that where the text ends, and not where a read failed
+-- a line is cut off with its newline; the last one may lack that where the text ends, and not where a read failed
 pub record IsCutOff (line : List ℕ) : Type 0 where
   pub first : (ending : Ending) (rest : List ℕ) → lines_by ending (line ++ 10 ∷ rest) ≡ line ∷ lines_by ending rest
   pub last : 0 < length line → lines_of line ≡ line ∷ []
@@ -24,12 +23,11 @@ abbrev pub TextsAreCut : Type 0
 TextsAreCut = (text : List ℕ) → AllByRecursion IsLine (lines_of text)
     × ((joined (lines_of text) ≡ text) ⊎ (joined (lines_of text) ≡ text ++ 10 ∷ []))
 
--- by formats that are accepted, of which there is one at least, something comes of these lines, and nothing else
+-- by formats that are accepted, of which one at least is tried, something comes of these lines, and nothing else
 pub record HaveOneTurn (w : LineWork) (n : ℕ) (lines : List (List ℕ)) : Type 0 where
   pub turns : List Turn
   pub are : AreTurns w n lines turns
   pub only : (others : List Turn) → AreTurns w n lines others → others ≡ turns
 
 abbrev pub LinesHaveOneTurn : Type 0
-LinesHaveOneTurn = (w : LineWork) → AllByRecursion AreProper w.formats → 0 < length w.formats → (n : ℕ) (lines : List (List ℕ))
-    → HaveOneTurn w n lines
+LinesHaveOneTurn = (w : LineWork) → AreScanned w → (n : ℕ) (lines : List (List ℕ)) → HaveOneTurn w n lines

@@ -19,7 +19,7 @@ use Rattle.sf_lines.specs.Turns.{LineWork, Turn, Comes}
 
 -- ---- what comes of the lines
 
--- a line that is no match stops the loop, unless it is to keep going
+-- a line that fails stops the loop, unless it is to keep going
 abbrev pub goes_on : LineWork → Turn → Bool
 goes_on w (Some (Err miss)) = w.options.keep_going
 goes_on w _ = true
@@ -28,13 +28,13 @@ abbrev pub IfGoing : Bool → Type 0 → List Turn → Type 0
 IfGoing true rest turns = rest
 IfGoing false rest turns = turns ≡ []
 
--- what comes of each of the lines behind the first n, up to one at which the loop stops
+-- what comes of each of the lines after the first n, up to one at which the loop stops
 abbrev pub AreTurns : LineWork → ℕ → List (List ℕ) → List Turn → Type 0
 AreTurns w n [] turns = turns ≡ []
 AreTurns w n (line ∷ lines) [] = ⊥
 AreTurns w n (line ∷ lines) (turn ∷ turns) = Comes w (n + 1) line turn × IfGoing (goes_on w turn) (AreTurns w (n + 1) lines turns) turns
 
--- ---- what is written, told and counted
+-- ---- what is written, reported and counted
 
 abbrev pub text_of : Turn → List ℕ
 text_of (Some (Ok text)) = text
@@ -47,7 +47,7 @@ abbrev pub telling_of : LineWork → ℕ → Turn → List ℕ
 telling_of w number (Some (Err (line, fault))) = w.telling number line fault
 telling_of w number _ = []
 
--- of the lines behind the first n
+-- of the lines after the first n
 abbrev pub tellings : LineWork → ℕ → List Turn → List ℕ
 tellings w n [] = []
 tellings w n (turn ∷ turns) = telling_of w (n + 1) turn ++ tellings w (n + 1) turns
@@ -94,7 +94,8 @@ is_write _ = false
 abbrev pub AllGoOn : LineWork → List Turn → Type 0
 AllGoOn w turns = AllByRecursion (λ turn. goes_on w turn ≡ true) turns
 
--- each line has had its turn, up to one at which the loop stops; or it stops at none, and the read failed in the line behind
+-- each line has had its turn, up to one at which the loop stops; or it stops at none, and the read failed in the line
+-- after
 abbrev pub Concludes : LineWork → Bool → List Turn → LinesEnd → Type 0
 Concludes w true turns answer = AllGoOn w turns × (answer ≡ ended turns (Some (Read (length turns + 1))))
 Concludes w false turns answer = answer ≡ ended turns None
@@ -107,20 +108,20 @@ IsBegun part later = (missing : ℕ) × (rest : List ℕ) × (more : List Turn) 
 abbrev pub most_lines : ℕ
 most_lines = 2 ^ 64 - 1
 
--- so many bytes are those of so many lines, with their line ends
+-- so many bytes are those of so many lines, with their newlines
 pub record AreLines (t : List ℕ) (consumed lines : ℕ) : Type 0 where
   pub count : length (lines_of (take consumed t)) ≡ lines
   pub cut : lines_of t ≡ lines_of (take consumed t) ++ lines_of (drop consumed t)
 
--- so many bytes are those of so many lines, and of the next one this part, without its line end
+-- so many bytes are those of so many lines, and of the next one this part, without its newline
 pub record AreLinesAndPart (t : List ℕ) (consumed lines : ℕ) (part : List ℕ) : Type 0 where
   pub whole : ℕ
   pub are : AreLines t whole lines
   pub is_line : IsLine part
   pub bytes : take consumed t ≡ take whole t ++ part
 
--- The bytes up to where memory was refused: before the first line; or behind those that are passed over, once the line behind so
--- many was read, or while it was.
+-- The bytes up to where memory was refused: before the first line; or after those that are passed over, once the line
+-- after so many was read, or while it was.
 abbrev pub IsRefusedAt : LineWork → List ℕ → ℕ → ℕ → Type 0
 IsRefusedAt w t consumed lines =
     (lines ≡ 0) × (consumed ≡ 0)
@@ -131,8 +132,8 @@ abbrev pub AreTooMany : List ℕ → ℕ → ℕ → Type 0
 AreTooMany t consumed lines = (lines ≡ most_lines) × AreLines t consumed lines
     ⊎ ((part : List ℕ) × AreLinesAndPart t consumed lines part × (endless ≤ length part))
 
--- The loop was ended before, behind these turns, where so many bytes of t were consumed: the sink failed within the text of
--- the next line, which was taken whole; memory was refused; or there are too many lines, or too many bytes of one.
+-- The loop was ended before, after these turns, where so many bytes of t were consumed: the sink failed within the text
+-- of the next line, which was taken whole; memory was refused; or there are too many lines, or too many bytes of one.
 abbrev pub IsCutShort : LineWork → List Turn → List ℕ → List Turn → List ℕ → ℕ → LinesEnd → Type 0
 IsCutShort w done part later t consumed answer =
     (answer ≡ ended done (Some Write)) × IsBegun part later × AreLines t consumed (length done + 1)
@@ -148,16 +149,17 @@ input_by failed consumed t = if failed then take consumed t else t
 abbrev pub ending_by : Bool → Ending
 ending_by failed = if failed then endings.Fault else endings.End
 
--- What the loop over the input t wrote, told and answered. now: what is held and to come afterwards. The sink held the bytes
--- `before`, and then `after`, where it tells them; `failures` and `failures'` are the counts of the source's failures.
--- `told` and `told'` are what was told before and afterwards, and `silent`, whether some of it may be missing.
+-- What the loop over the input t wrote, reported and answered. now: what is held and to come afterwards. The sink held
+-- the bytes `before`, and then `after`, where it makes them known; `failures` and `failures'` are the counts of the
+-- source's failures. `told` and `told'` are what was reported before and afterwards, and `silent`, whether some of it
+-- may be missing.
 pub record Loops {S : Type 0} (w : LineWork) (to_come : S → Option (List ℕ)) (t : List ℕ) (now : Ahead S) (failures failures' : ℕ)
     (before after : Option (List ℕ)) (silent : Bool) (told told' : Option (List ℕ)) (answer : LinesEnd) : Type 0 where
   -- whether the source failed
   pub failed : Bool
   pub failures_are : failures' ≡ (if failed then counted_on failures else failures)
   pub nothing_held : failed ≡ true → now.held ≡ []
-  -- the bytes that were consumed; what is behind them is held or to come
+  -- the bytes that were consumed; what is after them is held or to come
   pub consumed : ℕ
   pub rest : input_of to_come now ≡ Some (drop consumed t)
   -- what comes of the input's lines, and of how many of them it did
@@ -173,8 +175,8 @@ pub record Loops {S : Type 0} (w : LineWork) (to_come : S → Option (List ℕ))
   pub ends : (later ≡ []) × (part ≡ []) × Concludes w failed done answer × (failed ≡ false → AreLines t consumed (length done))
       ⊎ (failed ≡ false) × AllGoOn w done × IsCutShort w done part later t consumed answer
 
--- the same, with what was told of these lines: all of it, or a part where the teller failed within it. `dumb`: whether it had
--- failed before.
+-- the same, with what was reported of these lines: all of it, or a part where the teller failed within it. `dumb`:
+-- whether it had failed before.
 abbrev pub TellsLines : {S : Type 0} → LineWork → (S → Option (List ℕ)) → List ℕ → Ahead S → ℕ → ℕ → Option (List ℕ) → Option (List ℕ)
     → Bool → Bool → Option (List ℕ) → Option (List ℕ) → LinesEnd → Type 0
 TellsLines w to_come t now failures failures' before after dumb silent told told' answer =

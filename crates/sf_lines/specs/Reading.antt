@@ -10,7 +10,7 @@ use Rattle.sf_lines.specs.Cut.{IsLine}
 abbrev pub Loses : {S : Type 0} → (S → Option (List ℕ)) → Ahead S → Ahead S → List ℕ → Type 0
 Loses to_come old new bytes = Consumes (input_of to_come old) (input_of to_come new) bytes
 
--- the input, which had not told its end, lost its first line: with its line end, or, as the last one, without
+-- the input, which had not reported its end, lost its first line: with its newline, or, as the last one, without
 pub record Took {S : Type 0} (to_come : S → Option (List ℕ)) (old new : Ahead S) (line : List ℕ) : Type 0 where
   pub is_line : IsLine line
   pub before : old.at_end ≡ false
@@ -22,7 +22,7 @@ pub record TookPart {S : Type 0} (to_come : S → Option (List ℕ)) (old new : 
   pub is_line : IsLine part
   pub bytes : Loses to_come old new part
 
--- bytes that are held begin with a line of so many, and its line end
+-- bytes that are held begin with a line of so many, and its newline
 pub record IsHeld (held : List ℕ) (len : ℕ) : Type 0 where
   pub within : len < length held
   pub is_line : IsLine (take len held)
@@ -32,7 +32,7 @@ pub record IsHeld (held : List ℕ) (len : ℕ) : Type 0 where
 abbrev pub endless : ℕ
 endless = 2 ^ 63
 
--- What a reading tells by what it answers, and what it gathered: a line, or the first bytes of one that is longer than the limit.
+-- What a reading's answer means, and what it gathered: a line, or the first bytes of one that is longer than the limit.
 abbrev pub Reads : {S : Type 0} → (S → Option (List ℕ)) → Ahead S → Ahead S → ℕ → List ℕ → LineRead → Type 0
 Reads to_come old new limit line Line = Took to_come old new line × (length line ≤ limit)
 Reads to_come old new limit line TooLong = (long : List ℕ) × Took to_come old new long × (limit < length long) × (line ≡ take limit long)

@@ -3,7 +3,7 @@ use Rattle.std.specs.Prelude.{ℕ, max, List, [], ◌∷◌, unwrap_or}
 use Rattle.sf_format.specs.declared.directive.Directive.{Directive}
 use Rattle.sf_format.specs.Widths.{width_sum}
 
--- the bytes that a format stores at most, where it says so
+-- the bytes that a format stores at most, where it has a sum of widths
 abbrev pub width_of : List Directive → ℕ
 width_of ds = unwrap_or (width_sum ds) 0
 

@@ -1,9 +1,9 @@
--- What is said of a line that is no match, and of why the lines of an input stopped before its end.
+-- The texts for a line that fails, and for why the lines of an input stopped before its end.
 use Rattle.std.specs.Prelude.{ℕ, List, ◌++◌, codes}
 use Rattle.std.specs.Fmt.{decimal}
 use Rattle.sf_run.specs.Wording.{outcome_text}
 use Rattle.sf_lines.specs.declared.end.LineFault.{LineFault}
-use Rattle.sf_lines.specs.declared.end.LineFault.TheVariants.{Failed, LeftOver, TooLong}
+use Rattle.sf_lines.specs.declared.end.LineFault.TheVariants.{Failed, LeftOver, TooLong, Unfit}
 use Rattle.sf_lines.specs.declared.end.LinesFault.{LinesFault}
 use Rattle.sf_lines.specs.declared.end.LinesFault.TheVariants.{Read, Write, Memory, TooMany}
 
@@ -12,6 +12,7 @@ abbrev pub line_fault_text : LineFault → List ℕ
 line_fault_text (Failed outcome) = outcome_text outcome
 line_fault_text (LeftOver at) = codes "left over at " ++ decimal at
 line_fault_text TooLong = codes "too long"
+line_fault_text Unfit = codes "values do not fit"
 
 abbrev pub lines_fault_text : LinesFault → List ℕ
 lines_fault_text (Read line) = codes "line " ++ (decimal line ++ codes ": read fault")

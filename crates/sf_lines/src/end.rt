@@ -1,4 +1,4 @@
-//! Why a line is no match, and how the loop over the lines of an input ends.
+//! Why a line fails, and how the loop over the lines of an input ends.
 ghost use Rattle.std.specs.Prelude.{◌≡◌, ◌<◌, ◌-◌, ◌^◌, Some};
 ghost use Rattle.sf_lines.specs.Coming.{counted, next_by};
 ghost use Rattle.sf_lines.specs.Loops.{fault_after, status_by};
@@ -6,12 +6,11 @@ ghost use Rattle.sf_lines.specs.Texts.{line_fault_text, lines_fault_text};
 
 use crate::judge::Judged;
 use crate::line::LineRead;
-use sf_base::HeapStore;
 use sf_run::Outcome;
 use std::error::Error;
 use std::fmt;
 
-/// Why a line is no match.
+/// Why a line fails.
 #[derive(Clone, Copy, Debug, PartialEq, Eq)]
 pub enum LineFault {
     /// No format is Done on it; the last one came to this.
@@ -20,6 +19,8 @@ pub enum LineFault {
     LeftOver { at: u32 },
     /// It has more bytes than the limit.
     TooLong,
+    /// It matches, and its values don't fit.
+    Unfit,
 }
 
 /// Why the lines of an input stopped before its end, where it was none of them.
@@ -38,17 +39,17 @@ pub enum LinesFault {
 /// How the loop over the lines of an input ended.
 #[derive(Clone, Copy, Debug, PartialEq, Eq)]
 pub struct LinesEnd {
-    /// The exit status: 0 where each line was a match.
+    /// The exit status: 0 where no line failed.
     pub status: u8,
-    /// How many lines were a match, and were written in full.
+    /// How many lines were written in full.
     pub written: u64,
-    /// How many lines were no match.
+    /// How many lines failed.
     pub failed: u64,
     /// None where the loop came to the end of the input, or to a line at which it stops.
     pub fault: Option<LinesFault>,
 }
 
-/// How many lines were written, and how many were no match.
+/// How many lines were written, and how many failed.
 #[derive(Clone, Copy)]
 pub(crate) struct Counts {
     pub(crate) written: u64,
@@ -64,6 +65,7 @@ impl fmt::Display for LineFault {
             LineFault::Failed { outcome } => write!(f, "{outcome}"),
             LineFault::LeftOver { at } => write!(f, "left over at {at}"),
             LineFault::TooLong => write!(f, "too long"),
+            LineFault::Unfit => write!(f, "values do not fit"),
         }
     }
 }
@@ -98,7 +100,7 @@ impl LinesFault {
     }
 }
 
-/// The exit status after so many lines that were no match.
+/// The exit status after so many lines that failed.
 pub(crate) fn status(failed: u64, fault: Option<LinesFault>) -> u8
     ensures { result ≡ status_by failed fault }
 {
@@ -117,9 +119,9 @@ impl Counts {
     {
         let mut counts = self;
         match judged {
-            Judged::Written(_) => counts.written += 1,
-            Judged::Failed(_) => counts.failed += 1,
-            Judged::Skipped(_) | Judged::Stopped(_) | Judged::Unread(_) => {}
+            Judged::Written => counts.written += 1,
+            Judged::Failed => counts.failed += 1,
+            Judged::Skipped | Judged::Stopped(_) | Judged::Unread(_) => {}
         }
         counts
     }
@@ -155,17 +157,17 @@ pub(crate) fn read_fault(read: LineRead, line: u64) -> Option<LinesFault>
     }
 }
 
-/// Whether the loop goes on behind the line with this number, with this store; else the fault with which it ends.
+/// Whether the loop goes on after the line with this number; else the fault with which it ends.
 pub(crate) fn next_step(
     judged: Judged,
     keep_going: bool,
     number: u64,
-) -> Result<HeapStore, Option<LinesFault>>
+) -> Result<(), Option<LinesFault>>
     ensures { result ≡ next_by keep_going number judged }
 {
     match judged {
-        Judged::Skipped(kept) | Judged::Written(kept) => Ok(kept),
-        Judged::Failed(kept) => { if keep_going { Ok(kept) } else { Err(None) } }
+        Judged::Skipped | Judged::Written => Ok(()),
+        Judged::Failed => { if keep_going { Ok(()) } else { Err(None) } }
         Judged::Stopped(fault) => Err(Some(fault)),
         Judged::Unread(read) => Err(read_fault(read, number)),
     }

@@ -1,24 +1,24 @@
 //! Laws of lines. None of these functions does anything: its contract is the law.
 ghost use Rattle.sf_lines.specs.Laws.{EachLineIsCut, LinesAreJoined, LinesHaveOneTurn, TextsAreCut};
 
-/// A text that begins with a line and its line end has that line first, and then the lines of the rest; a last line
-/// needs no line end, unless a read failed behind it.
+/// A text that begins with a line and its newline has that line first, and then the lines of the rest; a last line
+/// needs no newline, unless a read failed after it.
 pub fn lines_are_cut()
     ensures { EachLineIsCut }
 {}
 
-/// Lines joined with their line ends are the lines of the text.
+/// Lines joined with their newlines are the lines of the text.
 pub fn lines_are_joined()
     ensures { LinesAreJoined }
 {}
 
-/// The lines of a text have no line end, and joined with theirs they are the text, or the text with a last one.
+/// The lines of a text have no newline, and joined with theirs they are the text, or the text with a last one.
 pub fn texts_are_cut()
     ensures { TextsAreCut }
 {}
 
 /// By formats that are accepted, something comes of the lines of an input, and nothing else: what `run_lines` writes,
-/// tells and answers is one thing for each input.
+/// reports and answers is one thing for each input.
 pub fn lines_have_one_turn()
     ensures { LinesHaveOneTurn }
 {}

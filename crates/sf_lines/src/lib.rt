@@ -2,16 +2,18 @@
 #![tactic(auto)]
 
 mod end;
+mod formats;
 mod judge;
 pub mod laws;
 mod line;
 mod lines;
 mod options;
+mod teller;
 mod turn;
-mod writer;
 
 pub use end::{LineFault, LinesEnd, LinesFault};
+pub use formats::LineFormats;
 pub use line::{LineRead, next_line};
 pub use lines::run_lines;
 pub use options::LinesOptions;
-pub use writer::{RecordFault, RecordWriter, Teller};
+pub use teller::Teller;

@@ -1,13 +1,19 @@
 //! Lines of a source.
-ghost use Rattle.std.specs.Prelude.{◌≡◌, ◌≤◌, ◌<◌, ◌+◌, ◌++◌, ◌∷◌, ◌⊎◌, true, false, length, take, drop, vec_len, IfOk};
+ghost use Rattle.std.specs.Prelude.{◌≡◌, ◌==◌, ◌≤◌, ◌<◌, ◌+◌, ◌++◌, ◌∷◌, ◌⊎◌, true, false, length, map, take, drop, vec_len, IfOk};
 ghost use Rattle.std.specs.Prelude.{IsOk, if◌then◌else◌};
 ghost use Rattle.sf_read.specs.Counts.{counted_on};
+ghost use Rattle.memchr.specs.Find.{IsFirstByte, is_byte};
+ghost use lib.Lanes.{chunk, mask_l};
 ghost use Rattle.sf_lines.specs.Cut.{IsLine};
 ghost use Rattle.sf_lines.specs.Reading.{Reads, is_failed};
 
 use memchr::memchr;
 use sf_read::{Lookahead, Source};
 use std::alloc::AllocError;
+use std::simd::prelude::*;
+
+/// How many bytes are looked at at once.
+const LANES: usize = 16;
 
 /// What the reading of a line came to.
 #[derive(Clone, Copy, Debug, PartialEq, Eq)]
@@ -26,16 +32,16 @@ pub enum LineRead {
     NoMemory,
 }
 
-/// The front of what is held, up to a line end.
+/// The front of what is held, up to a newline.
 #[derive(Clone, Copy)]
 pub(crate) struct Piece {
     /// How many bytes it has.
     pub(crate) len: usize,
-    /// Whether a line end follows.
+    /// Whether a newline follows.
     pub(crate) ended: bool,
 }
 
-/// Appends the first bytes of what is held to a line that was gathered so far, up to the limit, and says whether the
+/// Appends the first bytes of what is held to a line that was gathered so far, up to the limit. Answers whether the
 /// line is longer.
 fn gather(
     line: &mut Vec<u8>,
@@ -60,7 +66,7 @@ fn gather(
     Ok(long || len > room)
 }
 
-/// What was read where the input ended within a line, or behind the last one.
+/// What was read where the input ended within a line, or after the last one.
 fn last_read(long: bool, is_empty: bool) -> LineRead
     ensures read { result ≡ (if long then LineRead.TooLong else (if is_empty then LineRead.End else LineRead.Line)) }
     ensures sound { is_failed result ≡ false }
@@ -74,6 +80,31 @@ fn last_read(long: bool, is_empty: bool) -> LineRead
     }
 }
 
+/// Which of the first sixteen bytes are newlines: a bit each, the first byte's the lowest.
+#[inline(always)]
+fn newline_mask(bytes: &[u8]) -> u64
+    requires { 16 ≤ length bytes.now }
+    ensures { result ≡ mask_l (map (λ b. b == 10) (chunk 0 16 bytes.now)) }
+{
+    u8x16::from_slice(bytes)
+        .simd_eq(u8x16::splat(b'\n'))
+        .to_bitmask()
+}
+
+/// The place of the first newline. Many lines are short, so the first bytes are looked at without a call.
+#[inline(always)]
+fn find_newline(bytes: &[u8]) -> Option<usize>
+    ensures { IsFirstByte (is_byte 10) bytes.now result }
+{
+    if bytes.len() >= LANES {
+        let newlines = newline_mask(bytes);
+        if newlines != 0 {
+            return Some(newlines.trailing_zeros() as usize);
+        }
+    }
+    memchr(b'\n', bytes)
+}
+
 /// The bytes of the present line that are held.
 pub(crate) fn piece_of(held: &[u8]) -> Piece
     ensures within { result.len ≤ length held.now }
@@ -81,7 +112,7 @@ pub(crate) fn piece_of(held: &[u8]) -> Piece
     ensures ended { result.ended ≡ true → held.now ≡ take result.len held.now ++ 10 ∷ drop (result.len + 1) held.now }
     ensures all { result.ended ≡ false → result.len ≡ length held.now }
 {
-    match memchr(b'\n', held) {
+    match find_newline(held) {
         Some(len) => Piece { len, ended: true },
         None => Piece {
             len: held.len(),
@@ -90,9 +121,9 @@ pub(crate) fn piece_of(held: &[u8]) -> Piece
     }
 }
 
-/// Reads the next line of what the lookahead holds and its source gives, without its line end, in place of what was
-/// read last. Of a line of more than `limit` bytes these first ones are read, and the others passed over; by the limit
-/// 0 each line is passed over, and no memory is taken.
+/// Reads the next line of what the lookahead holds and its source gives, without its newline, in place of what was read
+/// last. Of a line of more than `limit` bytes these first ones are read, and the others passed over; by the limit 0
+/// each line is passed over, and no memory is taken.
 pub fn next_line<S: Source, const N: usize>(
     from: &mut Lookahead<S, N>,
     line: &mut Vec<u8>,

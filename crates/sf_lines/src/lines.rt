@@ -12,11 +12,13 @@ ghost use Rattle.sf_lines.specs.Turns.{LineWork, work_of};
 ghost use Rattle.sf_lines.specs.declared.end.LineFault.{LineFault};
 
 use crate::end::{Counts, LinesEnd, LinesFault, next_step};
+use crate::formats::LineFormats;
 use crate::options::LinesOptions;
+use crate::teller::Teller;
 use crate::turn::turn;
-use crate::writer::{RecordWriter, Teller};
 use sf_base::HeapStore;
 use sf_format::ScanFormat;
+use sf_makers::Maker;
 use sf_print::Sink;
 use sf_read::{Lookahead, Source};
 use std::alloc::{AllocError, Global};
@@ -24,7 +26,7 @@ use std::alloc::{AllocError, Global};
 /// The most lines that one loop reads.
 const MOST_LINES: u64 = 18446744073709551615;
 
-/// The bytes of text that a format stores at most, where it says so; else 0.
+/// The bytes of text that a format stores at most, where it has a sum of widths; else 0.
 fn width_of(format: &ScanFormat) -> u32
     ensures proper { AreProper format.now }
     ensures width { result ≡ width_of format.now }
@@ -55,43 +57,56 @@ fn room_for(formats: &[ScanFormat]) -> u32
 }
 
 /// The store for the texts of the lines.
-fn store_for(alloc: Global, formats: &[ScanFormat]) -> Result<HeapStore, AllocError>
-    ensures proper { AllByRecursion AreProper formats.now }
-    ensures room { IfOk result (λ store. store ≡ nothing_kept (most_width formats.now)) }
+fn store_for(alloc: Global, formats: &LineFormats<'_>) -> Result<HeapStore, AllocError>
+    ensures ignored { AllByRecursion AreProper formats.now.ignored.now }
+    ensures proper { AllByRecursion AreProper formats.now.tried.now }
+    ensures room { IfOk result (λ store. store
+        ≡ nothing_kept (max (most_width formats.now.ignored.now) (most_width formats.now.tried.now))) }
 {
-    HeapStore::new(alloc, room_for(formats))
+    HeapStore::new(
+        alloc,
+        wider(room_for(formats.ignored), room_for(formats.tried)),
+    )
 }
 
 /// Scans each line of what the lookahead holds and its source gives as an input of its own, as C programs do with fgets
-/// and sscanf (C11 7.21.7.2, 7.21.6.7): up to byte 10, which is no part of it, or to the end of the input. The first of
-/// the formats that the line matches counts: that is Done on it, and, with `whole`, uses all of it. The writer writes
-/// what is made of that; the teller is told of a line that matches none, by what the last format comes to, or that has
-/// more than `limit` bytes, of which it is handed the first, and the loop stops there, unless it is to keep going; and
-/// where the teller is refused memory, it ends with that fault, and the line isn't counted. What is behind the lines
-/// that were read stays held or unread.
+/// and sscanf (C11 7.21.7.2, 7.21.6.7): up to byte 10, which is no part of it, or to the end of the input.
 ///
-/// The status is 0 where each line is a match, 1 where one isn't, 3 where a read or the sink failed, and 4 where memory
+/// - The first lines are passed over, as many as `skip` is.
+/// - A line of more than `limit` bytes fails, by its first ones.
+/// - A line that one of `ignored` is Done on, and uses whole, is passed over.
+/// - Of any other the first of `tried` counts that it matches: that is Done on it, and, with `whole`, uses all of it.
+///   The maker writes what it makes of that; where the values don't fit, the line fails.
+/// - A line that matches none fails by the last of them. With `matching` it is passed over instead, unless the last one
+///   met a number out of range.
+///
+/// Each line that fails goes to the teller, and the loop stops there, unless it is to keep going. Where the teller is
+/// refused memory, the loop ends with that fault, and the line isn't counted. What is after the lines that were read
+/// stays held or unread.
+///
+/// The status is 0 where no line fails, 1 where one does, 3 where a read or the sink failed, and 4 where memory
 /// was refused.
-pub fn run_lines<R: RecordWriter, E: Teller<K>, S: Source, K: Sink, const N: usize>(
+pub fn run_lines<M: Maker, E: Teller<K>, S: Source, K: Sink, const N: usize>(
     alloc: Global,
     from: &mut Lookahead<S, N>,
     to: &mut K,
-    writer: &mut R,
+    maker: &mut M,
     teller: &mut E,
-    formats: &[ScanFormat],
+    formats: &LineFormats<'_>,
     options: LinesOptions,
 ) -> LinesEnd
     requires limit { options.limit ≤ 2147483647 }
-    requires some { 0 < length formats.now }
+    requires some { 0 < length formats.now.tried.now }
     ensures loops { (telling : ℕ → List ℕ → LineFault → List ℕ) (t : List ℕ) → E.says teller.old telling
         → input_of S.to_come from.old ≡ Some t
-        → Loops (work_of options formats.now (R.text writer.old) telling) S.to_come t from.new
-        (S.failures from.old.source) (S.failures from.new.source) (K.contents to.old) (K.contents to.new)
+        → Loops (work_of options formats.now.ignored.now formats.now.tried.now (M.work maker.old) telling) S.to_come t
+        from.new (S.failures from.old.source) (S.failures from.new.source) (K.contents to.old) (K.contents to.new)
         (E.failed teller.new) (E.told teller.old) (E.told teller.new) result }
     ensures tells { (telling : ℕ → List ℕ → LineFault → List ℕ) (t : List ℕ) → E.says teller.old telling
         → input_of S.to_come from.old ≡ Some t
-        → TellsLines (work_of options formats.now (R.text writer.old) telling) S.to_come t from.new
-        (S.failures from.old.source) (S.failures from.new.source) (K.contents to.old) (K.contents to.new)
+        → TellsLines (work_of options formats.now.ignored.now formats.now.tried.now (M.work maker.old) telling)
+        S.to_come t from.new (S.failures from.old.source) (S.failures from.new.source) (K.contents to.old)
+        (K.contents to.new)
         (E.failed teller.old) (E.failed teller.new) (E.told teller.old) (E.told teller.new) result }
     ensures kept { E.kept teller.new ≡ E.kept teller.old }
     ensures faults { E.faults teller.new ≡ faults_by (E.failed teller.old) (E.failed teller.new) (E.faults teller.old) }
@@ -105,17 +120,18 @@ pub fn run_lines<R: RecordWriter, E: Teller<K>, S: Source, K: Sink, const N: usi
         written: 0,
         failed: 0,
     };
-    let Ok(mut store) = store_for(alloc, formats) else {
+    let Ok(made) = store_for(alloc, formats) else {
         return counts.ended(Some(LinesFault::Memory));
     };
+    let mut store = Some(made);
     let mut line = Vec::new(alloc);
     for before in 0..MOST_LINES {
         let judged = turn(
-            alloc, from, &mut line, store, to, writer, teller, formats, options, before,
+            alloc, from, &mut line, &mut store, to, maker, teller, formats, &options, before,
         );
         counts = counts.with(&judged);
         match next_step(judged, options.keep_going, before + 1) {
-            Ok(kept) => store = kept,
+            Ok(()) => {}
             Err(fault) => return counts.ended(fault),
         }
     }

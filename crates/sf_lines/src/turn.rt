@@ -13,17 +13,18 @@ ghost use Rattle.sf_lines.specs.Turns.{work_of};
 ghost use Rattle.sf_lines.specs.declared.end.LineFault.{LineFault};
 
 use crate::end::LineFault;
+use crate::formats::LineFormats;
 use crate::judge::{Judged, judge, tell};
 use crate::line::{LineRead, next_line, piece_of};
 use crate::options::LinesOptions;
-use crate::writer::{RecordWriter, Teller};
+use crate::teller::Teller;
 use sf_base::HeapStore;
-use sf_format::ScanFormat;
+use sf_makers::Maker;
 use sf_print::Sink;
 use sf_read::{Lookahead, Source};
 use std::alloc::Global;
 
-/// How many bytes the next line has, where it is held whole, with its line end, and is within the limit.
+/// How many bytes the next line has, where it is held whole, with its newline, and is within the limit.
 #[inline(always)]
 fn held_line<S: Source, const N: usize>(from: &Lookahead<S, N>, limit: u32) -> Option<usize>
     ensures held { IfSome result (λ len. IsHeld from.now.held len) }
@@ -45,26 +46,28 @@ fn held_line<S: Source, const N: usize>(from: &Lookahead<S, N>, limit: u32) -> O
 
 /// Takes the next line, of so many bytes, and judges it where it stands.
 #[inline(always)]
-fn take_held<R: RecordWriter, E: Teller<K>, S: Source, K: Sink, const N: usize>(
+fn take_held<M: Maker, E: Teller<K>, S: Source, K: Sink, const N: usize>(
     alloc: Global,
     from: &mut Lookahead<S, N>,
     len: usize,
-    store: HeapStore,
+    store: &mut Option<HeapStore>,
     to: &mut K,
-    writer: &mut R,
+    maker: &mut M,
     teller: &mut E,
-    formats: &[ScanFormat],
-    options: LinesOptions,
+    formats: &LineFormats<'_>,
+    options: &LinesOptions,
     number: u64,
 ) -> Judged
-    requires proper { AllByRecursion AreProper formats.now }
+    requires ignored { AllByRecursion AreProper formats.now.ignored.now }
+    requires proper { AllByRecursion AreProper formats.now.tried.now }
     requires open { from.old.at_end ≡ false }
     requires held { IsHeld from.old.held len }
-    requires short { len ≤ options.limit }
-    requires counts { options.skip < number }
-    ensures same { R.text writer.new ≡ R.text writer.old }
+    requires short { len ≤ options.now.limit }
+    requires counts { options.now.skip < number }
+    ensures same { M.work maker.new ≡ M.work maker.old }
     ensures turns { (telling : ℕ → List ℕ → LineFault → List ℕ) → E.says teller.old telling
-        → Turns S.to_come from.old from.new (work_of options formats.now (R.text writer.old) telling) number
+        → Turns S.to_come from.old from.new
+        (work_of options.now formats.now.ignored.now formats.now.tried.now (M.work maker.old) telling) number
         (K.contents to.old) (K.contents to.new) (E.failed teller.old) (E.failed teller.new) (E.told teller.old)
         (E.told teller.new) result }
     ensures stays { Stays E.says E.kept E.failed E.faults teller.old teller.new }
@@ -79,30 +82,32 @@ fn take_held<R: RecordWriter, E: Teller<K>, S: Source, K: Sink, const N: usize>(
     let (ended, _) = held.split_at(len + 1);
     let (line, _) = held.split_at(len);
     let judged = judge(
-        alloc, store, line, ended, number, to, writer, teller, formats, options,
+        alloc, store, line, ended, number, to, maker, teller, formats, options,
     );
     from.consume(len + 1);
     judged
 }
 
 /// Reads the line with this number, and judges it.
-fn read_line<R: RecordWriter, E: Teller<K>, S: Source, K: Sink, const N: usize>(
+fn read_line<M: Maker, E: Teller<K>, S: Source, K: Sink, const N: usize>(
     alloc: Global,
     from: &mut Lookahead<S, N>,
     line: &mut Vec<u8>,
-    store: HeapStore,
+    store: &mut Option<HeapStore>,
     to: &mut K,
-    writer: &mut R,
+    maker: &mut M,
     teller: &mut E,
-    formats: &[ScanFormat],
-    options: LinesOptions,
+    formats: &LineFormats<'_>,
+    options: &LinesOptions,
     number: u64,
 ) -> Judged
-    requires proper { AllByRecursion AreProper formats.now }
-    requires counts { options.skip < number }
-    ensures same { R.text writer.new ≡ R.text writer.old }
+    requires ignored { AllByRecursion AreProper formats.now.ignored.now }
+    requires proper { AllByRecursion AreProper formats.now.tried.now }
+    requires counts { options.now.skip < number }
+    ensures same { M.work maker.new ≡ M.work maker.old }
     ensures turns { (telling : ℕ → List ℕ → LineFault → List ℕ) → E.says teller.old telling
-        → Turns S.to_come from.old from.new (work_of options formats.now (R.text writer.old) telling) number
+        → Turns S.to_come from.old from.new
+        (work_of options.now formats.now.ignored.now formats.now.tried.now (M.work maker.old) telling) number
         (K.contents to.old) (K.contents to.new) (E.failed teller.old) (E.failed teller.new) (E.told teller.old)
         (E.told teller.new) result }
     ensures stays { Stays E.says E.kept E.failed E.faults teller.old teller.new }
@@ -116,19 +121,15 @@ fn read_line<R: RecordWriter, E: Teller<K>, S: Source, K: Sink, const N: usize>(
     let read = next_line(from, line, options.limit as usize);
     match read {
         LineRead::Line => judge(
-            alloc, store, line, line, number, to, writer, teller, formats, options,
+            alloc, store, line, line, number, to, maker, teller, formats, options,
         ),
-        LineRead::TooLong => tell(store, to, teller, number, line, LineFault::TooLong),
+        LineRead::TooLong => tell(to, teller, number, line, LineFault::TooLong),
         _ => Judged::Unread(read),
     }
 }
 
 /// Passes over the next line.
-fn pass_line<S: Source, const N: usize>(
-    from: &mut Lookahead<S, N>,
-    line: &mut Vec<u8>,
-    store: HeapStore,
-) -> Judged
+fn pass_line<S: Source, const N: usize>(from: &mut Lookahead<S, N>, line: &mut Vec<u8>) -> Judged
     ensures passes { Passes S.to_come from.old from.new result }
     ensures source { S.failures from.new.source
         ≡ (if is_read_fault result then counted_on (S.failures from.old.source) else S.failures from.old.source) }
@@ -138,30 +139,32 @@ fn pass_line<S: Source, const N: usize>(
 {
     let read = next_line(from, line, 0);
     match read {
-        LineRead::Line | LineRead::TooLong => Judged::Skipped(store),
+        LineRead::Line | LineRead::TooLong => Judged::Skipped,
         _ => Judged::Unread(read),
     }
 }
 
-/// Takes the line behind the first `before`. One that is to be skipped is passed over, and takes no memory. Any other
-/// is judged, where it stands if it is held whole: then it is not copied.
-pub(crate) fn turn<R: RecordWriter, E: Teller<K>, S: Source, K: Sink, const N: usize>(
+/// Takes the line after the first `before`. One that is to be skipped is passed over, and takes no memory. Any other is
+/// judged, where it stands if it is held whole: then it is not copied.
+pub(crate) fn turn<M: Maker, E: Teller<K>, S: Source, K: Sink, const N: usize>(
     alloc: Global,
     from: &mut Lookahead<S, N>,
     line: &mut Vec<u8>,
-    store: HeapStore,
+    store: &mut Option<HeapStore>,
     to: &mut K,
-    writer: &mut R,
+    maker: &mut M,
     teller: &mut E,
-    formats: &[ScanFormat],
-    options: LinesOptions,
+    formats: &LineFormats<'_>,
+    options: &LinesOptions,
     before: u64,
 ) -> Judged
-    requires proper { AllByRecursion AreProper formats.now }
+    requires ignored { AllByRecursion AreProper formats.now.ignored.now }
+    requires proper { AllByRecursion AreProper formats.now.tried.now }
     requires few { before < 2 ^ 64 - 1 }
-    ensures same { R.text writer.new ≡ R.text writer.old }
+    ensures same { M.work maker.new ≡ M.work maker.old }
     ensures turns { (telling : ℕ → List ℕ → LineFault → List ℕ) → E.says teller.old telling
-        → Turns S.to_come from.old from.new (work_of options formats.now (R.text writer.old) telling) (before + 1)
+        → Turns S.to_come from.old from.new
+        (work_of options.now formats.now.ignored.now formats.now.tried.now (M.work maker.old) telling) (before + 1)
         (K.contents to.old) (K.contents to.new) (E.failed teller.old) (E.failed teller.new) (E.told teller.old)
         (E.told teller.new) result }
     ensures stays { Stays E.says E.kept E.failed E.faults teller.old teller.new }
@@ -172,11 +175,11 @@ pub(crate) fn turn<R: RecordWriter, E: Teller<K>, S: Source, K: Sink, const N: u
     ensures no_read { from.old.at_end ≡ true → from.new.source ≡ from.old.source }
     ensures ended { from.old.at_end ≡ true → from.new.at_end ≡ true }
     ensures uncopied { (whole rest : List ℕ) → IsLine whole → from.old.held ≡ whole ++ 10 ∷ rest
-        → length whole ≤ options.limit
-        → options.skip ≤ before → line.new ≡ line.old }
+        → length whole ≤ options.now.limit
+        → options.now.skip ≤ before → line.new ≡ line.old }
 {
     if before < options.skip {
-        return pass_line(from, line, store);
+        return pass_line(from, line);
     }
     match held_line(from, options.limit) {
         Some(len) => take_held(
@@ -185,7 +188,7 @@ pub(crate) fn turn<R: RecordWriter, E: Teller<K>, S: Source, K: Sink, const N: u
             len,
             store,
             to,
-            writer,
+            maker,
             teller,
             formats,
             options,
@@ -197,7 +200,7 @@ pub(crate) fn turn<R: RecordWriter, E: Teller<K>, S: Source, K: Sink, const N: u
             line,
             store,
             to,
-            writer,
+            maker,
             teller,
             formats,
             options,

@@ -1,5 +1,6 @@
 //! Faults as errors: `?` makes an `anyhow::Error` of each, with its text.
-use sf_lines::{LineFault, LinesFault, RecordFault};
+use sf_lines::{LineFault, LinesFault};
+use sf_makers::Unwritten;
 use sf_run::{Outcome, Status};
 use std::alloc::Global;
 use std::error::Error;
@@ -34,7 +35,7 @@ const NO_MATCH: Outcome = Outcome {
 };
 
 /// Why a line doesn't match, and the texts.
-static LINES: [(LineFault, &str); 3] = [
+static LINES: [(LineFault, &str); 4] = [
     (
         LineFault::Failed { outcome: NO_MATCH },
         "matching failure at 3, used 3, assigned 1",
@@ -44,6 +45,7 @@ static LINES: [(LineFault, &str); 3] = [
         "left over at 4294967295",
     ),
     (LineFault::TooLong, "too long"),
+    (LineFault::Unfit, "values do not fit"),
 ];
 
 /// The faults of a loop over lines, their texts, and their exit statuses.
@@ -61,9 +63,10 @@ static LOOPS: [(LinesFault, &str, u8); 4] = [
 ];
 
 /// Why a record was not written, and the texts.
-static UNWRITTEN: [(RecordFault, &str); 2] = [
-    (RecordFault::Write, "a record was not written in full"),
-    (RecordFault::Memory, "no memory for the text of a record"),
+static UNWRITTEN: [(Unwritten, &str); 3] = [
+    (Unwritten::Unfit, "values do not fit"),
+    (Unwritten::Write, "a record was not written in full"),
+    (Unwritten::Memory, "no memory for the text of a record"),
 ];
 
 #[test]

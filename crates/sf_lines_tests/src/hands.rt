@@ -1,11 +1,12 @@
 //! A writer and a teller for tests.
 ghost use Rattle.std.specs.Prelude.{◌≡◌, Some, if◌then◌else◌, refl};
 ghost use Rattle.sf_base.specs.Data.{datum_at};
-ghost use Rattle.sf_lines_tests.specs.Hands.{bytes_in, first_line, first_of, letter_of, note_of};
+ghost use Rattle.sf_lines_tests.specs.Hands.{bytes_in, first_of, letter_of, note_of, writing_first};
 
 use sf_base::{Store, Value};
 use sf_format::ScanFormat;
-use sf_lines::{LineFault, RecordFault, RecordWriter, Teller};
+use sf_lines::{LineFault, Teller};
+use sf_makers::{Maker, Unwritten};
 use sf_print::Sink;
 use sf_records::write_whole;
 use sf_run::Report;
@@ -27,28 +28,29 @@ pub(crate) struct FirstText {
     pub(crate) line: Vec<u8>,
 }
 
-impl RecordWriter for FirstText {
-    ghost text = { λ writer format report. first_line report };
+impl Maker for FirstText {
+    ghost work = { λ maker number format. writing_first };
 
     fn write<K: Sink, T: Store>(
         &mut self,
         to: &mut K,
         _format: &ScanFormat,
+        _number: usize,
         report: &Report<'_, T>,
-    ) -> Result<(), RecordFault> {
+    ) -> Result<(), Unwritten> {
         self.line.clear();
         if self.line.extend_from_slice(first_text(report)).is_err()
             || self.line.push(b'\n').is_err()
         {
-            return Err(RecordFault::Memory);
+            return Err(Unwritten::Memory);
         }
         match write_whole(to, &self.line) {
             Ok(()) => Ok(()),
-            Err(_) => Err(RecordFault::Write),
+            Err(_) => Err(Unwritten::Write),
         }
     }
 
-    ghost unmet = { λ writer format report met. refl };
+    ghost unmet = { λ maker number format report met. record { fits = refl; text = refl } };
 }
 
 fn letter(fault: LineFault) -> u8
@@ -58,6 +60,7 @@ fn letter(fault: LineFault) -> u8
         LineFault::Failed { .. } => b'm',
         LineFault::LeftOver { .. } => b'l',
         LineFault::TooLong => b't',
+        LineFault::Unfit => b'u',
     }
 }
 

@@ -6,8 +6,12 @@ mod errors;
 #[cfg(test)]
 mod hands;
 #[cfg(test)]
+mod heads;
+#[cfg(test)]
 mod lines;
 #[cfg(test)]
 mod loops;
+#[cfg(test)]
+mod picks;
 #[cfg(test)]
 mod reading;

@@ -4,7 +4,7 @@ ghost use Rattle.std.specs.Prelude.{◌≤◌};
 
 use crate::hands::{FirstText, Notes};
 use sf_format::{Profile, ScanFormat};
-use sf_lines::{LineRead, LinesEnd, LinesFault, LinesOptions, next_line, run_lines};
+use sf_lines::{LineFormats, LineRead, LinesEnd, LinesFault, LinesOptions, next_line, run_lines};
 use sf_print::{ListSink, ScriptSink, Sink, WriteStep};
 use sf_read::{Lookahead, ReadStep, ScriptSource, SliceSource, Source};
 use std::alloc::{AllocGlobal, Global};
@@ -18,6 +18,7 @@ const PLAIN: LinesOptions = LinesOptions {
     skip: 0,
     whole: false,
     keep_going: false,
+    matching: false,
 };
 
 const KEEP_GOING: LinesOptions = LinesOptions {
@@ -25,6 +26,7 @@ const KEEP_GOING: LinesOptions = LinesOptions {
     skip: 0,
     whole: false,
     keep_going: true,
+    matching: false,
 };
 
 /// A format has to use a line to its end; the loop keeps going.
@@ -33,6 +35,7 @@ const WHOLE: LinesOptions = LinesOptions {
     skip: 0,
     whole: true,
     keep_going: true,
+    matching: false,
 };
 
 /// A line of more than three bytes is too long; the loop keeps going.
@@ -41,6 +44,7 @@ const SHORT: LinesOptions = LinesOptions {
     skip: 0,
     whole: false,
     keep_going: true,
+    matching: false,
 };
 
 /// The first line is passed over.
@@ -49,6 +53,7 @@ const SKIP_1: LinesOptions = LinesOptions {
     skip: 1,
     whole: false,
     keep_going: false,
+    matching: false,
 };
 
 /// The first line is passed over; a line of more than three bytes is too long.
@@ -57,6 +62,7 @@ const SHORT_SKIP_1: LinesOptions = LinesOptions {
     skip: 1,
     whole: false,
     keep_going: false,
+    matching: false,
 };
 
 const SKIP_2: LinesOptions = LinesOptions {
@@ -64,6 +70,7 @@ const SKIP_2: LinesOptions = LinesOptions {
     skip: 2,
     whole: false,
     keep_going: false,
+    matching: false,
 };
 
 const SKIP_9: LinesOptions = LinesOptions {
@@ -71,6 +78,7 @@ const SKIP_9: LinesOptions = LinesOptions {
     skip: 9,
     whole: false,
     keep_going: false,
+    matching: false,
 };
 
 /// One format, and no second one.
@@ -101,12 +109,16 @@ fn run<S: Source, K: Sink, const N: usize>(
         let second = ScanFormat::parse(alloc, Profile::One, formats.1.as_bytes())?;
         parsed.push(second)?;
     }
-    let mut writer = FirstText {
+    let mut maker = FirstText {
         line: Vec::new(alloc),
     };
     let limit = options.limit.min(LIMIT);
     let options = LinesOptions { limit, ..options };
-    Ok(run_lines(alloc, from, to, &mut writer, teller, &parsed, options))
+    let by = LineFormats {
+        ignored: &[],
+        tried: &parsed,
+    };
+    Ok(run_lines(alloc, from, to, &mut maker, teller, &by, options))
 }
 
 /// What is written and told, and how the loop ends.
@@ -371,5 +383,27 @@ fn the_lines_after_a_stop_are_left(rt: HostRuntime) -> Result<(), Fail> {
     let read = next_line(&mut from, &mut line, 8);
     assert_eq!(rt; (end.failed, read), (1, LineRead::Line));
     assert!(rt; line.as_slice() == b"cd".as_slice(), "{line:?}");
+    Ok(())
+}
+
+/// Lines of each length from 1 to 40, held whole or not: each is written as it is.
+#[test]
+fn lines_of_each_length(rt: HostRuntime) -> Result<(), Fail> {
+    let mut text = Vec::<u8>::new(rt.alloc());
+    for len in 1..41u8 {
+        for _ in 0..len {
+            text.push(b'a' + len % 26)?;
+        }
+        text.push(b'\n')?;
+    }
+    let mut whole = Lookahead::<SliceSource<'_>, 4096>::new(SliceSource::new(&text));
+    let mut cut = Lookahead::<SliceSource<'_>, 33>::new(SliceSource::new(&text));
+    let mut out = ListSink::new(rt.alloc());
+    let mut teller = notes(rt.alloc(), false);
+    let end = run(rt.alloc(), &mut whole, &mut out, &mut teller, ONE, PLAIN)?;
+    assert!(rt; end.written == 40 && out.bytes() == text.as_slice());
+    let mut out = ListSink::new(rt.alloc());
+    let end = run(rt.alloc(), &mut cut, &mut out, &mut teller, ONE, PLAIN)?;
+    assert!(rt; end.written == 40 && out.bytes() == text.as_slice());
     Ok(())
 }

@@ -1,3 +1,10 @@
+pub mod Counting
+pub mod Ended
+pub mod Given
 pub mod InTurn
+pub mod LineRows
+pub mod LinesInTurn
 pub mod Rows
+pub mod Scanning
+pub mod ShownBytes
 pub mod Taking

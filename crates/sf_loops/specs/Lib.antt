@@ -1,4 +1,9 @@
+pub mod Counts
+pub mod Items
 pub mod Laws
+pub mod LineLaws
+pub mod LineTexts
+pub mod Lines
 pub mod Loops
 pub mod Runs
 pub mod Texts

@@ -23,6 +23,7 @@ pub struct RecordFault {
     pub number: u64,
     /// The line where its run stopped, from 1: one more than the newlines that the runs consumed; it stays at 2^64 - 1.
     pub line: u64,
+    /// Why there is no such record.
     pub why: RecordWhy,
 }
 

@@ -1,5 +1,6 @@
 //! The records of an input, one after the other, as rows.
-ghost use Rattle.std.specs.Prelude.{◌≡◌, ◌≤◌, ◌↔◌, [], Option, None, Some, IfOk, IsErrOf};
+ghost use Rattle.std.specs.Prelude.{◌≡◌, ◌≤◌, ◌<◌, ◌⊎◌, ◌↔◌, [], false, Option, None, Some, IfErr, IfOk, IsErrOf};
+ghost use Rattle.sf_run.specs.declared.feeding.StartFault.TheVariants as start;
 ghost use Rattle.sf_read.specs.RowScans.{HasShape};
 ghost use Rattle.sf_loops.specs.Loops.{IsNextRow, ended_with};
 
@@ -45,9 +46,14 @@ impl<'f, T: Row, S: Source, const N: usize> Records<'f, T, S, N> {
         requires { 1 ≤ N }
         ensures held { IfOk result (λ r. r.ahead.held ≡ []) }
         ensures source { IfOk result (λ r. r.ahead.source ≡ source) }
+        ensures fresh { IfOk result (λ r. r.ahead.at_end ≡ false) }
         ensures format { IfOk result (λ r. (r.format ≡ format.entry.now) × (r.limit ≡ limit)) }
         ensures none_yet { IfOk result (λ r. (r.answered ≡ 0) × (r.lines ≡ 0) × (r.over ≡ None)) }
         ensures shape { IsErrOf result ScanRowFault.ShapeDiffers ↔ (HasShape T.kinds format.entry.now → ⊥) }
+        ensures limit { HasShape T.kinds format.entry.now
+            → (IsErrOf result (ScanRowFault.Start start.BadLimit) ↔ (2147483647 < limit)) }
+        ensures memory { IfErr result (λ fault. (fault ≡ ScanRowFault.ShapeDiffers)
+            ⊎ (fault ≡ ScanRowFault.Start start.BadLimit) ⊎ (fault ≡ ScanRowFault.Start start.NoMemory)) }
     {
         if !has_shape::<T>(format) {
             return Err(ScanRowFault::ShapeDiffers);

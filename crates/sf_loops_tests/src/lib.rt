@@ -1,5 +1,12 @@
-//! Tests of `sf_loops`: rows in blocks of several sizes, reads that fail, and what faults say.
+//! Tests of the loops: rows, lines and lists of rows in blocks of several sizes, reads that fail, and what faults say.
+//! Each expected value is what fscanf returns and stores (C11 7.21.6.2), record by record or line by line.
 #![tactic(auto)]
 
+#[cfg(test)]
+mod answers;
+#[cfg(test)]
+mod lines;
+#[cfg(test)]
+mod pairs;
 #[cfg(test)]
 mod records;

@@ -9,17 +9,17 @@ use Rattle.sf_format.specs.declared.unit.Unit.{Unit as PrintUnit}
 use Rattle.sf_format.specs.declared.unit.Unit.TheVariants.{Byte, Conv}
 use Rattle.sf_pair.specs.Walk.{after_space}
 use Rattle.sf_arguments.specs.Names.{kind_text}
-use Rattle.sf_messages.specs.Shown.{field_text}
+use Rattle.sf_shown.specs.Shown.{field_text}
 use Rattle.sf_records.specs.Quotes.{quoted}
 
 -- ---- where the walk over both stands
 
--- the units behind those that a directive takes: at white space the literals of white space that stand first, else one
+-- the units after those that a directive takes: at white space the literals of white space that stand first, else one
 abbrev pub behind : Directive → List PrintUnit → List PrintUnit
 behind directive.Space us = after_space us
 behind _ us = drop 1 us
 
--- the units that are left behind these directives
+-- the units that are left after these directives
 abbrev pub left_behind : List Directive → List PrintUnit → List PrintUnit
 left_behind [] us = us
 left_behind (d ∷ ds) us = left_behind ds (behind d us)

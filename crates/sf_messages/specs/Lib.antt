@@ -1,9 +1,13 @@
+-- how a directive is shown
+pub use Rattle.sf_shown.specs.Shown
+-- what is said
+pub mod Cures
 pub mod Facing
 pub mod Faults
 pub mod Joined
 pub mod LineTexts
 pub mod Names
+pub mod Newlines
 pub mod Notes
 pub mod Sentences
-pub mod Shown
 pub mod Texts

@@ -1,13 +1,15 @@
--- What is said behind the line of a fault, where more is asked for: lines, each behind two blanks.
-use Rattle.std.specs.Prelude.{ℕ, ◌+◌, ◌-◌, ◌&&◌, nat_eq, nat_lt, Bool, true, false, if◌then◌else◌, List, [], ◌∷◌, ◌++◌, drop, length, map, min, take, Option, Some, None, slice_get, unwrap_or, codes}
+-- What is said after the line of a fault, where more is asked for: lines, each after two blanks.
+use Rattle.std.specs.Prelude.{ℕ, ◌+◌, ◌-◌, nat_eq, nat_lt, if◌then◌else◌, List, [], ◌∷◌, ◌++◌, drop, length, map, min, take, Option, Some, None, slice_get, unwrap_or, codes}
 use Rattle.std.specs.Fmt.{decimal}
-use Rattle.sf_base.specs.Bytes.{is_white}
 use Rattle.sf_format.specs.declared.fault.FormatFault.{FormatFault}
 use Rattle.sf_format.specs.declared.directive.Directive.{Directive}
 use Rattle.sf_format.specs.declared.unit.Unit.{Unit as PrintUnit}
+use Rattle.sf_format.specs.declared.unit.Unit.TheVariants.{Conv}
 use Rattle.sf_lines.specs.declared.end.LineFault.{LineFault}
-use Rattle.sf_lines.specs.declared.end.LineFault.TheVariants.{Failed, LeftOver, TooLong}
+use Rattle.sf_lines.specs.declared.end.LineFault.TheVariants.{Failed, LeftOver, TooLong, Unfit}
 use Rattle.sf_pair.specs.declared.fault.PairFault.{PairFault}
+use Rattle.sf_pair.specs.declared.fault.PairWhy.{PairWhy}
+use Rattle.sf_pair.specs.declared.fault.PairWhy.TheVariants as why
 use Rattle.sf_run.specs.outcome.Ending.{Ending}
 use Rattle.sf_run.specs.outcome.Ending.TheVariants.{End}
 use Rattle.sf_run.specs.outcome.Outcome.{Outcome}
@@ -15,11 +17,13 @@ use Rattle.sf_places.specs.declared.place.Place.{Place}
 use Rattle.sf_records.specs.Quotes.{quoted}
 use Rattle.sf_messages.specs.declared.fault.FormatName.{FormatName}
 use Rattle.sf_messages.specs.declared.fault.FormatName.TheVariants as name
+use Rattle.sf_messages.specs.Cures.{width_cure}
 use Rattle.sf_messages.specs.Facing.{faced, unit_text}
 use Rattle.sf_messages.specs.Names.{name_text}
+use Rattle.sf_messages.specs.Newlines.{is_left_white, is_lone_newline, is_newline_taken, is_over_newline, is_white_first}
 use Rattle.sf_arguments.specs.declared.argument_fault.ArgumentFault.{ArgumentFault}
 use Rattle.sf_arguments.specs.declared.argument_fault.ArgumentFault.TheVariants as argument
-use Rattle.sf_messages.specs.Sentences.{escape_sentence, left_white_sentence, lone_newline_sentence, pair_sentence, range_text, typed_escape, typed_text, why_sentence}
+use Rattle.sf_messages.specs.Sentences.{escape_sentence, left_white_sentence, lone_newline_sentence, newline_taken_sentence, over_newline_sentence, pair_sentence, range_text, typed_escape, typed_text, values_text, white_first_sentence, why_sentence}
 
 -- a line of its own
 abbrev pub note : List ℕ → List ℕ
@@ -29,7 +33,7 @@ note text = codes "  " ++ (text ++ 10 ∷ [])
 abbrev pub blanks : List ℕ → List ℕ
 blanks bytes = map (λ b. 32) bytes
 
--- the text between quotes, and a line with a caret under the byte at this place, or behind the last one
+-- the text between quotes, and a line with a caret under the byte at this place, or after the last one
 abbrev pub place_notes : List ℕ → ℕ → List ℕ
 place_notes text at =
     codes "  " ++ (quoted text ++ (codes "\n " ++ (blanks (quoted (take (min at (length text)) text)) ++ codes "^\n")))
@@ -44,7 +48,7 @@ escape_notes word at = note (typed_escape (drop (at + 1) word) ++ escape_sentenc
 abbrev pub format_notes : List ℕ → FormatFault → List ℕ
 format_notes text fault =
     let b = unwrap_or (slice_get text fault.at) 0 in
-    note (typed_text fault.why b ++ why_sentence fault.why b) ++ place_notes text fault.at
+    note (typed_text fault.why b ++ why_sentence fault.why b (drop (fault.at + 1) text)) ++ place_notes text fault.at
 
 -- ---- values
 
@@ -52,11 +56,17 @@ format_notes text fault =
 abbrev pub value_note : ℕ → List ℕ → List ℕ → List ℕ
 value_note at word why = note (codes "value " ++ (decimal at ++ (codes ": " ++ (quoted word ++ why))))
 
--- a word that is no value of a print format
+-- there are not as many words as a format has values, by the word of the format
+abbrev pub count_notes : List ℕ → ℕ → ℕ → List ℕ
+count_notes format expected got =
+    note (quoted format ++ (codes " takes " ++ (decimal expected ++ (values_text expected ++ (codes ", not " ++ decimal got)))))
+
+-- a word that is no value of a print format; where the number of words is wrong, the word of the format
 abbrev pub value_notes : List ℕ → ArgumentFault → List ℕ
 value_notes word (argument.NotInKind at kind) = value_note at word (codes " is no decimal integer from " ++ range_text kind)
 value_notes word (argument.NotOneByte at) = value_note at word (codes " is not one byte")
 value_notes word (argument.BadEscape at offset) = escape_notes word offset
+value_notes word (argument.WrongCount expected got) = count_notes word expected got
 value_notes word fault = []
 
 -- ---- pairs
@@ -78,11 +88,16 @@ abbrev pub print_side : List PrintUnit → List PrintUnit → List ℕ
 print_side us [] = end_note name.Print
 print_side us (u ∷ rest) = part_note name.Print (length us - length rest) (unit_text u)
 
+-- what to write where a width is missing, by the units that are left there
+abbrev pub cure_of : PairWhy → List PrintUnit → List ℕ
+cure_of why.NoWidth (Conv c ∷ rest) = width_cure c
+cure_of _ _ = []
+
 -- why a pair is refused, and the directive at the fault, which is told so, with the unit that faces it; a pair without a value
 -- is at fault nowhere
 abbrev pub pair_notes : List PrintUnit → List Directive → List ℕ → PairFault → List ℕ
 pair_notes us ds told fault =
-    note (pair_sentence fault.why)
+    note (pair_sentence fault.why ++ cure_of fault.why (faced ds us fault.at))
     ++ (if nat_eq fault.at 0 then [] else scan_side ds fault.at told ++ print_side us (faced ds us fault.at))
 
 -- ---- records
@@ -93,17 +108,13 @@ input_notes None = []
 input_notes (Some place) =
     note (codes "at line " ++ (decimal place.line ++ (codes ", column " ++ (decimal place.column ++ codes " of the input"))))
 
--- the first of some bytes, at most 24, behind these words
+-- the first of some bytes, at most 24, after these words
 abbrev pub byte_notes : List ℕ → List ℕ → List ℕ
 byte_notes words bytes = if nat_eq (length bytes) 0 then [] else note (words ++ quoted (take (min (length bytes) 24) bytes))
 
 -- the bytes that the run left
 abbrev pub rest_notes : List ℕ → List ℕ
 rest_notes rest = byte_notes (codes "there stood ") rest
-
-abbrev pub is_met_end : Option Ending → Bool
-is_met_end (Some End) = true
-is_met_end _ = false
 
 -- where the run stopped, by the bytes that it left
 abbrev pub stood_notes : Option Ending → List ℕ → List ℕ
@@ -114,36 +125,24 @@ stood_notes met rest = rest_notes rest
 abbrev pub directive_note : ℕ → List ℕ → List ℕ
 directive_note number shown = note (codes "directive " ++ (decimal number ++ (codes ": " ++ shown)))
 
--- the bytes begin with white space
-abbrev pub begins_white : List ℕ → Bool
-begins_white [] = false
-begins_white (b ∷ rest) = is_white b
-
--- a record after the first took nothing, and failed at its first directive on white space
-abbrev pub is_left_white : ℕ → Outcome → List ℕ → Bool
-is_left_white number outcome rest = nat_lt 1 number && (nat_eq outcome.at 1 && (nat_eq outcome.used 0 && begins_white rest))
-
--- a record after the first, of which the run used one byte, which was the line end before the first column; the input ended there
-abbrev pub is_lone_newline : ℕ → Outcome → Option Place → Bool
-is_lone_newline number outcome None = false
-is_lone_newline number outcome (Some place) =
-    nat_lt 1 number && (nat_eq outcome.used 1 && (nat_eq place.column 1 && is_met_end outcome.met))
-
 -- what helps
-abbrev pub cure_notes : ℕ → Outcome → Option Place → List ℕ → List ℕ
-cure_notes number outcome place rest =
+abbrev pub cure_notes : List Directive → ℕ → Outcome → Option Place → List ℕ → List ℕ
+cure_notes ds number outcome place rest =
     if is_left_white number outcome rest then note left_white_sentence
-    else if is_lone_newline number outcome place then note lone_newline_sentence else []
+    else if is_white_first outcome rest then note white_first_sentence
+    else if is_lone_newline number outcome place then note lone_newline_sentence
+    else if is_newline_taken ds number outcome place then note newline_taken_sentence
+    else if is_over_newline outcome place then note over_newline_sentence else []
 
--- a record that is no match, where its directive is shown so
-abbrev pub failed_notes : List ℕ → ℕ → Outcome → Option Place → List ℕ → List ℕ
-failed_notes shown number outcome place rest =
+-- a record that is no match of the format with these directives, where the one at which it failed is shown so
+abbrev pub failed_notes : List Directive → List ℕ → ℕ → Outcome → Option Place → List ℕ → List ℕ
+failed_notes ds shown number outcome place rest =
     directive_note outcome.at shown
-    ++ (input_notes place ++ (stood_notes outcome.met rest ++ cure_notes number outcome place rest))
+    ++ (input_notes place ++ (stood_notes outcome.met rest ++ cure_notes ds number outcome place rest))
 
 -- ---- lines
 
--- the bytes of a line behind so many
+-- the bytes of a line after so many
 abbrev pub line_rest : List ℕ → ℕ → List ℕ
 line_rest line used = drop (min used (length line)) line
 
@@ -151,6 +150,7 @@ line_rest line used = drop (min used (length line)) line
 -- the line alone for its input, but for the place; the bytes that the run left; or what the line begins with, where it is
 -- longer than the limit.
 abbrev pub line_notes : List ℕ → List ℕ → LineFault → List ℕ
-line_notes shown line (Failed outcome) = failed_notes shown 1 outcome None (line_rest line outcome.used)
+line_notes shown line (Failed outcome) = failed_notes [] shown 1 outcome None (line_rest line outcome.used)
 line_notes shown line (LeftOver at) = rest_notes (line_rest line at)
 line_notes shown line TooLong = byte_notes (codes "it begins with ") line
+line_notes shown line Unfit = []

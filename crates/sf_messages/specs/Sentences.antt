@@ -1,5 +1,5 @@
--- A sentence for each fault, said behind its line where more is asked for.
-use Rattle.std.specs.Prelude.{ℕ, Bool, nat_eq, nat_lt, ◌&&◌, ◌||◌, if◌then◌else◌, List, [], ◌∷◌, ◌++◌, codes}
+-- A sentence for each fault, said after its line where more is asked for.
+use Rattle.std.specs.Prelude.{ℕ, Bool, false, nat_eq, nat_lt, ◌&&◌, ◌||◌, if◌then◌else◌, List, [], ◌∷◌, ◌++◌, codes}
 use Rattle.sf_base.specs.declared.values.Kind.{Kind}
 use Rattle.sf_base.specs.declared.values.Kind.TheVariants as kind
 use Rattle.sf_records.specs.Quotes.{quoted}
@@ -19,10 +19,40 @@ left_out_sentence b =
     if nat_eq b 112 then codes "pointers are not part of sf"
     else if nat_eq b 67 || (nat_eq b 83 || is_wide_after_l b) then codes "wide characters are not part of sf"
     else if nat_eq b 109 then codes "memory of the scan's own is not part of sf"
-    else if nat_eq b 42 then codes "a width or a precision among the values is not part of sf"
+    else if nat_eq b 42 then codes "a width or a precision among the values is not part of sf; of two formats the print format comes first"
     else if nat_eq b 39 then codes "groups of digits are not part of sf"
-    else if nat_eq b 110 then codes "a count is not part of sf's print formats"
+    else if nat_eq b 110 then codes "a count is not part of sf's print formats; of two formats the print format comes first"
     else codes "floating point is left out of profiles 1 and 2"
+
+-- ---- a byte that is no letter of a conversion
+
+-- the letters of floating point: a A e E f F g G
+abbrev pub is_float_letter : ℕ → Bool
+is_float_letter b =
+    (nat_eq b 97 || nat_eq b 65)
+    || ((nat_eq b 101 || nat_eq b 69) || ((nat_eq b 102 || nat_eq b 70) || (nat_eq b 103 || nat_eq b 71)))
+
+abbrev pub is_digit : ℕ → Bool
+is_digit b = nat_lt 47 b && nat_lt b 58
+
+-- digits or none, and then such a letter
+abbrev pub is_float_after : List ℕ → Bool
+is_float_after [] = false
+is_float_after (b ∷ rest) = if is_digit b then is_float_after rest else is_float_letter b
+
+-- the flags of a print format: - + space #
+abbrev pub is_flag : ℕ → Bool
+is_flag b = nat_eq b 45 || (nat_eq b 43 || (nat_eq b 32 || nat_eq b 35))
+
+-- what has this byte in the other format, by the bytes after it: `.` (46) a precision, which C has before a letter of floating
+-- point too; `[` (91) a set; and flags
+abbrev pub unknown_sentence : ℕ → List ℕ → List ℕ
+unknown_sentence b rest =
+    if nat_eq b 46 && is_float_after rest then codes "floating point is left out of profiles 1 and 2"
+    else if nat_eq b 46 then codes "a precision stands in a print format alone; of two formats the print format comes first"
+    else if nat_eq b 91 then codes "a set stands in a scan format alone; of two formats the print format comes first"
+    else if is_flag b then codes "a flag stands first in a conversion, and in a print format alone; of two formats the print format comes first"
+    else codes "no conversion of this profile is written so; %% stands for a percent sign"
 
 -- what stands before a sentence on this byte of a format: the percent and the byte, of wide characters with their l, as in `%f: `;
 -- of a byte that is no letter of a conversion that byte, between quotes
@@ -31,27 +61,27 @@ typed_text format.LeftOut b = codes "%" ++ ((if is_wide_after_l b then codes "l"
 typed_text format.UnknownLetter b = quoted (b ∷ []) ++ codes ": "
 typed_text why b = []
 
--- why a format is refused, by the byte where that was found
-abbrev pub why_sentence : FormatWhy → ℕ → List ℕ
-why_sentence format.Truncated b = codes "the format ends inside a conversion"
-why_sentence format.ZeroWidth b = codes "a conversion of width 0 takes nothing"
-why_sentence format.TooWide b = codes "a width is at most 65535"
-why_sentence format.UnknownLetter b = codes "no conversion of this profile is written so"
-why_sentence format.LeftOut b = left_out_sentence b
-why_sentence format.BadLength b = codes "this letter has no such length"
-why_sentence format.OpenSet b = codes "no ] closes the set"
-why_sentence format.BackwardRange b = codes "the range runs backward"
-why_sentence format.BadCount b = codes "%n has neither a * nor a width"
-why_sentence format.MixedNumbering b = codes "either all conversions have a number with $, or none has"
-why_sentence format.BadNumber b = codes "a number is 1 to 32, and what is dropped has none"
-why_sentence format.NumberTwice b = codes "this number stands twice"
-why_sentence format.NumberGap b = codes "the numbers leave a gap"
-why_sentence format.Nul b = codes "a format has no NUL"
-why_sentence format.FormatTooLong b = codes "a format has at most 4096 bytes"
-why_sentence format.TooManyDestinations b = codes "a format has at most 32 values"
-why_sentence format.BadFlag b = codes "this letter has no such flag or precision"
-why_sentence format.PrecisionTooLarge b = codes "a precision is at most 255"
-why_sentence format.NoMemory b = codes "memory was refused"
+-- why a format is refused, by the byte where that was found, and those after it
+abbrev pub why_sentence : FormatWhy → ℕ → List ℕ → List ℕ
+why_sentence format.Truncated b rest = codes "the format ends inside a conversion; %% stands for a percent sign"
+why_sentence format.ZeroWidth b rest = codes "a conversion of width 0 takes nothing"
+why_sentence format.TooWide b rest = codes "a width is at most 65535"
+why_sentence format.UnknownLetter b rest = unknown_sentence b rest
+why_sentence format.LeftOut b rest = left_out_sentence b
+why_sentence format.BadLength b rest = codes "this letter has no such length"
+why_sentence format.OpenSet b rest = codes "no ] closes the set"
+why_sentence format.BackwardRange b rest = codes "the range runs backward"
+why_sentence format.BadCount b rest = codes "%n has neither a * nor a width"
+why_sentence format.MixedNumbering b rest = codes "either all conversions have a number with $, or none has"
+why_sentence format.BadNumber b rest = codes "a number is 1 to 32, and what is dropped has none"
+why_sentence format.NumberTwice b rest = codes "this number stands twice"
+why_sentence format.NumberGap b rest = codes "the numbers leave a gap"
+why_sentence format.Nul b rest = codes "a format has no NUL"
+why_sentence format.FormatTooLong b rest = codes "a format has at most 4096 bytes"
+why_sentence format.TooManyDestinations b rest = codes "a format has at most 32 values"
+why_sentence format.BadFlag b rest = codes "this letter has no such flag or precision"
+why_sentence format.PrecisionTooLarge b rest = codes "a precision is at most 255"
+why_sentence format.NoMemory b rest = codes "memory was refused"
 
 -- why a pair is refused
 abbrev pub pair_sentence : PairWhy → List ℕ
@@ -60,8 +90,8 @@ pair_sentence why.KindDiffers = codes "the kinds or the letters of the two conve
 pair_sentence why.NumberDiffers = codes "the two conversions are of different values"
 pair_sentence why.NoWidth = codes "a conversion that is read back needs a width"
 pair_sentence why.TooNarrow = codes "the width is less than the shortest text that is written"
-pair_sentence why.RunsOn = codes "what is written next could be read by this directive too"
-pair_sentence why.OpenEnd = codes "nothing is written behind this, so what follows could be read as more of it"
+pair_sentence why.RunsOn = codes "what is written next could be read by this directive too: write a byte between them at which it stops"
+pair_sentence why.OpenEnd = codes "nothing is written after this, so what follows could be read as more of it: end the print format with \\n and the scan format with %*1[\\n]"
 pair_sentence why.LeadingZero = codes "%i reads a leading zero as octal"
 pair_sentence why.NotWritten = codes "nothing is written for %n"
 pair_sentence why.BadFlagHere = codes "what this flag, width or precision writes is not read back"
@@ -69,23 +99,40 @@ pair_sentence why.NoValues = codes "a pair has at least one value"
 
 -- why a word's escapes are refused
 abbrev pub escape_sentence : List ℕ
-escape_sentence = codes "behind a backslash stands one of \\ n t v f r, or x and two hexadecimal digits"
+escape_sentence = codes "after a backslash stands one of \\ n t v f r, or x and two hexadecimal digits"
 
 -- what stands before it, by what stands after the backslash: `\d is no escape: `, where the first byte is printable ASCII
 abbrev pub typed_escape : List ℕ → List ℕ
 typed_escape [] = []
 typed_escape (b ∷ rest) = if nat_lt 32 b && nat_lt b 127 then 92 ∷ b ∷ codes " is no escape: " else []
 
--- what is done about white space that stands in front of a record
+-- what is done about white space that a record begins with
 abbrev pub left_white_sentence : List ℕ
 left_white_sentence =
     codes
-    "the record begins with white space: a blank at the format's front passes over it, and %*1[\\n] at its end takes the line end behind a record"
+    "the record begins with white space: a blank at the format's front passes over it, and %*1[\\n] at its end takes the newline after a record"
 
--- what is done about a line end that was a record of its own
+-- what is done about white space that the first record, or a line, begins with
+abbrev pub white_first_sentence : List ℕ
+white_first_sentence = codes "white space stands in front, which only numbers and %s pass over: a blank at the format's front does, too"
+
+-- what is done about a newline that was a record of its own
 abbrev pub lone_newline_sentence : List ℕ
 lone_newline_sentence =
     codes "the record is the newline after the last one: a blank at the format's front passes over it, and %*1[\\n] at its end takes it"
+
+-- what is done about the newline that a record began with
+abbrev pub newline_taken_sentence : List ℕ
+newline_taken_sentence =
+    codes "the record begins with the newline after the last one: a blank at the format's front passes over it, and %*1[\\n] at its end takes it"
+
+-- what is done about a newline within a record
+abbrev pub over_newline_sentence : List ℕ
+over_newline_sentence = codes "the record goes over a newline: sf scan --lines ends each record with its line"
+
+-- what so many values are called
+abbrev pub values_text : ℕ → List ℕ
+values_text count = if nat_eq count 1 then codes " value" else codes " values"
 
 -- the numbers of a kind; a text has none
 abbrev pub range_text : Kind → List ℕ

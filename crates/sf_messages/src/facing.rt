@@ -5,11 +5,11 @@ ghost use Rattle.sf_pair.specs.Walk.{after_space};
 ghost use Rattle.sf_messages.specs.Facing.{behind, faced, flag_text, flags_text, left_behind, print_conv_text};
 ghost use Rattle.sf_messages.specs.Facing.{print_head_text, print_letter_text, unit_text, width_given};
 
-use crate::shown::{push_field, push_text};
 use sf_arguments::kind_text;
 use sf_base::is_space;
 use sf_format::{Directive, PrintConv, PrintLetter, Unit};
 use sf_records::push_quoted;
+use sf_shown::{push_field, push_text};
 use std::alloc::{AllocError, Global};
 
 /// Whether the first of the units is a literal of white space.
@@ -22,7 +22,7 @@ fn is_space_first(units: &[Unit]) -> bool
     }
 }
 
-/// The units behind the literals of white space that stand first.
+/// The units after the literals of white space that stand first.
 fn after_space(units: &[Unit]) -> &[Unit]
     ensures { result.now ≡ after_space units.entry.now }
 {
@@ -34,7 +34,7 @@ fn after_space(units: &[Unit]) -> &[Unit]
     &units[units.len()..]
 }
 
-/// The units behind those that a directive takes.
+/// The units after those that a directive takes.
 fn behind<'a>(directive: &Directive, units: &'a [Unit]) -> &'a [Unit]
     ensures { result.now ≡ behind directive.now units.entry.now }
 {
@@ -45,7 +45,7 @@ fn behind<'a>(directive: &Directive, units: &'a [Unit]) -> &'a [Unit]
     }
 }
 
-/// The units that are left behind the directives.
+/// The units that are left after the directives.
 fn left_behind<'a>(directives: &[Directive], units: &'a [Unit]) -> &'a [Unit]
     ensures { result.now ≡ left_behind directives.now units.entry.now }
 {

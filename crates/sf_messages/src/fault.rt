@@ -5,9 +5,10 @@ ghost use Rattle.sf_messages.specs.Faults.{format_fault, print_format_fault};
 ghost use Rattle.sf_messages.specs.declared.fault.CommandFault.TheVariants.{Memory};
 
 use crate::names::name_text;
-use sf_arguments::ArgumentFault;
+use sf_arguments::{ArgumentFault, kind_text};
 use sf_format::{FormatFault, FormatWhy};
 use sf_lines::LinesFault;
+use sf_makers::PrintMismatch;
 use sf_pair::PairFault;
 use sf_records::ToolFault;
 use std::alloc::AllocError;
@@ -42,6 +43,14 @@ pub enum CommandFault {
     Memory,
     /// The formats are no pair, by its first fault.
     Pair(PairFault),
+    /// The print format can't print what a scan format gives.
+    Unprintable(PrintMismatch),
+    /// A scan format gives `expected` values, and there are `got` names.
+    NameCount { expected: u8, got: usize },
+    /// The name with this number is empty. Names are counted from 1.
+    NameEmpty { number: usize },
+    /// The name with this number stands twice. `name_twice_line` is the line that says the name itself.
+    NameTwice { number: usize },
 }
 
 /// The command's fault for that of a scan format.
@@ -84,14 +93,18 @@ impl CommandFault {
             CommandFault::BadEscape { .. }
             | CommandFault::Format(_)
             | CommandFault::PrintFormat(_)
-            | CommandFault::Pair(_) => 2,
+            | CommandFault::Pair(_)
+            | CommandFault::Unprintable(_)
+            | CommandFault::NameCount { .. }
+            | CommandFault::NameEmpty { .. }
+            | CommandFault::NameTwice { .. } => 2,
             CommandFault::Write => 3,
             CommandFault::Memory => 4,
         }
     }
 }
 
-/// The line on standard error, without its line end.
+/// The line on standard error, without its newline.
 impl fmt::Display for CommandFault {
     ghost output = { λ fault. Some (command_fault_text fault) };
 
@@ -122,6 +135,30 @@ impl fmt::Display for CommandFault {
                 let why = fault.why.text();
                 let at = fault.at;
                 write!(f, "sf: pair: {why} at {at}")
+            }
+            CommandFault::Unprintable(mismatch) => match mismatch {
+                PrintMismatch::Count {
+                    values,
+                    destinations,
+                } => write!(
+                    f,
+                    "sf: print format: {values} values, the scan format gives {destinations}"
+                ),
+                PrintMismatch::Kinds { slot, print, scan } => {
+                    let print = kind_text(print);
+                    let scan = kind_text(scan);
+                    write!(
+                        f,
+                        "sf: print format: value {slot} is {print}, the scan format gives {scan}"
+                    )
+                }
+            },
+            CommandFault::NameCount { expected, got } => {
+                write!(f, "sf: names: expected {expected}, got {got}")
+            }
+            CommandFault::NameEmpty { number } => write!(f, "sf: names: name {number} is empty"),
+            CommandFault::NameTwice { number } => {
+                write!(f, "sf: names: name {number} stands twice")
             }
         }
     }

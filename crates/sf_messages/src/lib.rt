@@ -1,12 +1,13 @@
-//! What a command says: how formats are shown, why it ends, and what is said behind that.
+//! What a command says: how formats are shown, why it ends, and what is said after that.
 #![tactic(auto)]
 
+mod cures;
 mod facing;
 mod fault;
 mod names;
+mod newlines;
 mod notes;
 mod sentences;
-mod shown;
 mod wording;
 
 pub use fault::{CommandFault, FormatName, format_fault, print_format_fault};
@@ -14,5 +15,5 @@ pub use notes::{
     escape_notes, failed_notes, format_notes, input_notes, line_notes, pair_notes, value_notes,
 };
 pub use sf_arguments::ArgumentFault;
-pub use shown::{push_directive, show};
-pub use wording::{ErrorLine, error_line, joined, line_fault_line};
+pub use sf_shown::{push_directive, show};
+pub use wording::{ErrorLine, error_line, joined, line_fault_line, name_twice_line};

@@ -1,23 +1,28 @@
-//! What is said behind the line of a fault, where more is asked for.
+//! What is said after the line of a fault, where more is asked for.
 ghost use Rattle.std.specs.Prelude.{◌≡◌, ◌+◌, ◌++◌, OnOk, IfOk, drop};
-ghost use Rattle.sf_messages.specs.Notes.{begins_white, blanks, byte_notes, cure_notes, directive_note, end_note};
-ghost use Rattle.sf_messages.specs.Notes.{escape_notes, failed_notes, format_notes, input_notes, is_left_white};
-ghost use Rattle.sf_messages.specs.Notes.{is_lone_newline, line_notes, line_rest, note, pair_notes, part_note};
+ghost use Rattle.sf_messages.specs.Notes.{blanks, byte_notes, count_notes, cure_notes, cure_of, directive_note};
+ghost use Rattle.sf_messages.specs.Notes.{end_note};
+ghost use Rattle.sf_messages.specs.Notes.{escape_notes, failed_notes, format_notes, input_notes};
+ghost use Rattle.sf_messages.specs.Notes.{line_notes, line_rest, note, pair_notes, part_note};
 ghost use Rattle.sf_messages.specs.Notes.{place_notes, print_side, rest_notes, scan_side, stood_notes, value_note};
 ghost use Rattle.sf_messages.specs.Notes.{value_notes};
 
+use crate::cures::push_width_cure;
 use crate::facing::{faced, push_unit};
 use crate::fault::FormatName;
 use crate::names::name_text;
+use crate::newlines::{
+    is_left_white, is_lone_newline, is_newline_taken, is_over_newline, is_white_first,
+};
 use crate::sentences::{
-    escape_sentence, left_white_sentence, lone_newline_sentence, pair_sentence, push_typed,
-    push_typed_escape, range_text, why_sentence,
+    escape_sentence, left_white_sentence, lone_newline_sentence, newline_taken_sentence,
+    over_newline_sentence, pair_sentence, push_typed, push_typed_escape, range_text, values_text,
+    white_first_sentence, why_sentence,
 };
 use sf_arguments::ArgumentFault;
-use sf_base::is_space;
 use sf_format::{Directive, FormatFault, Unit};
 use sf_lines::LineFault;
-use sf_pair::PairFault;
+use sf_pair::{PairFault, PairWhy};
 use sf_places::Place;
 use sf_records::push_quoted;
 use sf_run::{Ending, Outcome};
@@ -46,7 +51,7 @@ fn push_blanks(output: &mut Vec<u8>, bytes: &[u8]) -> Result<(), AllocError>
     Ok(())
 }
 
-/// Appends a text between quotes, and a line with a caret under the byte at this place, or behind the last one.
+/// Appends a text between quotes, and a line with a caret under the byte at this place, or after the last one.
 fn push_place(alloc: Global, output: &mut Vec<u8>, text: &[u8], at: usize) -> Result<(), AllocError>
     ensures { OnOk result (output.new.items ≡ output.old.items ++ place_notes text.now at) }
 {
@@ -91,7 +96,8 @@ pub fn format_notes(alloc: Global, text: &[u8], fault: FormatFault) -> Result<Ve
     let byte = text.get(at).copied().unwrap_or(0);
     let mut said = Vec::new(alloc);
     push_typed(&mut said, fault.why, byte)?;
-    said.extend_from_slice(why_sentence(fault.why, byte).as_bytes())?;
+    let sentence = why_sentence(fault.why, byte, word_rest(text, at));
+    said.extend_from_slice(sentence.as_bytes())?;
     let mut notes = Vec::new(alloc);
     push_note(&mut notes, &said)?;
     push_place(alloc, &mut notes, text, at)?;
@@ -118,7 +124,26 @@ fn value_note(
     Ok(notes)
 }
 
-/// What is said of a word that is no value of a print format.
+/// What is said where there are not as many words as a format has values, by the format's word.
+fn count_notes(
+    alloc: Global,
+    format: &[u8],
+    expected: u8,
+    got: usize,
+) -> Result<Vec<u8>, AllocError>
+    ensures { IfOk result (λ notes. notes.items ≡ count_notes format.now expected got) }
+{
+    let mut text = Vec::new(alloc);
+    push_quoted(&mut text, format)?;
+    write!(text, " takes {expected}").map_err(|_| AllocError)?;
+    text.extend_from_slice(values_text(expected).as_bytes())?;
+    write!(text, ", not {got}").map_err(|_| AllocError)?;
+    let mut notes = Vec::new(alloc);
+    push_note(&mut notes, &text)?;
+    Ok(notes)
+}
+
+/// What is said of a word that is no value of a print format, or, where the number of words is wrong, of the format's.
 pub fn value_notes(alloc: Global, word: &[u8], fault: ArgumentFault) -> Result<Vec<u8>, AllocError>
     ensures { IfOk result (λ notes. notes.items ≡ value_notes word.now fault) }
 {
@@ -129,7 +154,10 @@ pub fn value_notes(alloc: Global, word: &[u8], fault: ArgumentFault) -> Result<V
         }
         ArgumentFault::NotOneByte { at } => value_note(alloc, at, word, " is not one byte", ""),
         ArgumentFault::BadEscape { offset, .. } => escape_notes(alloc, word, offset),
-        _ => Ok(Vec::new(alloc)),
+        ArgumentFault::WrongCount { expected, got } => count_notes(alloc, word, expected, got),
+        ArgumentFault::TooLong | ArgumentFault::Write | ArgumentFault::Memory => {
+            Ok(Vec::new(alloc))
+        }
     }
 }
 
@@ -195,8 +223,18 @@ fn push_print_side(
     push_part(alloc, output, FormatName::Print, number, &shown)
 }
 
+/// Appends what to write where a width is missing, by the units that are left there.
+fn push_cure_of(output: &mut Vec<u8>, why: PairWhy, left: &[Unit]) -> Result<(), AllocError>
+    ensures { OnOk result (output.new.items ≡ output.old.items ++ cure_of why left.now) }
+{
+    match (why, left) {
+        (PairWhy::NoWidth, [Unit::Conv(conv), ..]) => push_width_cure(output, conv),
+        _ => Ok(()),
+    }
+}
+
 /// What is said of why a pair is refused, by the units of the print format and the directives of the scan format;
-/// `told` is how the directive at the fault is told.
+/// `told` is how the directive at the fault is shown.
 pub fn pair_notes(
     alloc: Global,
     units: &[Unit],
@@ -206,13 +244,17 @@ pub fn pair_notes(
 ) -> Result<Vec<u8>, AllocError>
     ensures { IfOk result (λ notes. notes.items ≡ pair_notes units.now directives.now told.now fault) }
 {
+    let left = faced(directives, units, fault.at);
+    let mut said = Vec::new(alloc);
+    said.extend_from_slice(pair_sentence(fault.why).as_bytes())?;
+    push_cure_of(&mut said, fault.why, left)?;
     let mut notes = Vec::new(alloc);
-    push_note(&mut notes, pair_sentence(fault.why).as_bytes())?;
+    push_note(&mut notes, &said)?;
     if fault.at == 0 {
         return Ok(notes);
     }
     push_scan_side(alloc, &mut notes, directives, fault.at, told)?;
-    push_print_side(alloc, &mut notes, units, faced(directives, units, fault.at))?;
+    push_print_side(alloc, &mut notes, units, left)?;
     Ok(notes)
 }
 
@@ -238,7 +280,7 @@ pub fn input_notes(alloc: Global, place: Option<Place>) -> Result<Vec<u8>, Alloc
     Ok(said)
 }
 
-/// Appends the line of the first of some bytes, behind these words.
+/// Appends the line of the first of some bytes, after these words.
 fn push_bytes(
     alloc: Global,
     output: &mut Vec<u8>,
@@ -293,73 +335,57 @@ fn push_directive(
     push_note(output, &text)
 }
 
-/// Whether bytes begin with white space.
-fn begins_white(rest: &[u8]) -> bool
-    ensures { result ≡ begins_white rest.now }
-{
-    match rest {
-        [] => false,
-        [b, ..] => is_space(*b),
-    }
-}
-
-/// Whether a record after the first took nothing, and failed at its first directive on white space.
-fn is_left_white(number: u32, outcome: Outcome, rest: &[u8]) -> bool
-    ensures { result ≡ is_left_white number outcome rest.now }
-{
-    1 < number && outcome.at == 1 && outcome.used == 0 && begins_white(rest)
-}
-
-/// Whether a record after the first used a line end alone, and the input ended there.
-fn is_lone_newline(number: u32, outcome: Outcome, place: Option<Place>) -> bool
-    ensures { result ≡ is_lone_newline number outcome place }
-{
-    let Some(Place { column, .. }) = place else {
-        return false;
-    };
-    1 < number && outcome.used == 1 && column == 1 && matches!(outcome.met, Some(Ending::End))
-}
-
 /// Appends what helps.
 fn push_cure(
     output: &mut Vec<u8>,
+    directives: &[Directive],
     number: u32,
     outcome: Outcome,
     place: Option<Place>,
     rest: &[u8],
 ) -> Result<(), AllocError>
-    ensures { OnOk result (output.new.items ≡ output.old.items ++ cure_notes number outcome place rest.now) }
+    ensures { OnOk result (output.new.items
+        ≡ output.old.items ++ cure_notes directives.now number outcome place rest.now) }
 {
     if is_left_white(number, outcome, rest) {
         push_note(output, left_white_sentence().as_bytes())
+    } else if is_white_first(outcome, rest) {
+        push_note(output, white_first_sentence().as_bytes())
     } else if is_lone_newline(number, outcome, place) {
         push_note(output, lone_newline_sentence().as_bytes())
+    } else if is_newline_taken(directives, number, outcome, place) {
+        push_note(output, newline_taken_sentence().as_bytes())
+    } else if is_over_newline(outcome, place) {
+        push_note(output, over_newline_sentence().as_bytes())
     } else {
         Ok(())
     }
 }
 
-/// What is said of a record that is no match: its number, the directive at which it failed, as it is shown, the place
-/// in the input where the run stopped, where it is known, and the bytes that the run left.
+/// What is said of a record that is no match, by the directives of its format: its number, the directive at which it
+/// failed, as it is shown, the place in the input where the run stopped, where it is known, and the bytes that the run
+/// left.
 pub fn failed_notes(
     alloc: Global,
+    directives: &[Directive],
     shown: &[u8],
     number: u32,
     outcome: Outcome,
     place: Option<Place>,
     rest: &[u8],
 ) -> Result<Vec<u8>, AllocError>
-    ensures { IfOk result (λ notes. notes.items ≡ failed_notes shown.now number outcome place rest.now) }
+    ensures { IfOk result (λ notes. notes.items
+        ≡ failed_notes directives.now shown.now number outcome place rest.now) }
 {
     let mut notes = Vec::new(alloc);
     push_directive(alloc, &mut notes, outcome.at, shown)?;
     push_input(alloc, &mut notes, place)?;
     push_stood(alloc, &mut notes, outcome.met, rest)?;
-    push_cure(&mut notes, number, outcome, place, rest)?;
+    push_cure(&mut notes, directives, number, outcome, place, rest)?;
     Ok(notes)
 }
 
-/// The bytes of a line behind so many.
+/// The bytes of a line after so many.
 fn line_rest(line: &[u8], used: u32) -> &[u8]
     ensures { result.now ≡ line_rest line.entry.now used }
 {
@@ -381,10 +407,11 @@ pub fn line_notes(
     match fault {
         LineFault::Failed { outcome } => {
             let rest = line_rest(line, outcome.used);
-            return failed_notes(alloc, shown, 1, outcome, None, rest);
+            return failed_notes(alloc, &[], shown, 1, outcome, None, rest);
         }
         LineFault::LeftOver { at } => push_rest(alloc, &mut said, line_rest(line, at))?,
         LineFault::TooLong => push_bytes(alloc, &mut said, b"it begins with ", line)?,
+        LineFault::Unfit => {}
     }
     Ok(said)
 }

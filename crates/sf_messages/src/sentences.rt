@@ -1,8 +1,11 @@
-//! A sentence for each fault, said behind its line where more is asked for.
+//! A sentence for each fault, said after its line where more is asked for.
 ghost use Rattle.std.specs.Prelude.{◌≡◌, ◌++◌, OnOk};
 ghost use Rattle.sf_messages.specs.Sentences.{escape_sentence, left_out_sentence, left_white_sentence};
-ghost use Rattle.sf_messages.specs.Sentences.{lone_newline_sentence, pair_sentence, range_text, typed_escape};
-ghost use Rattle.sf_messages.specs.Sentences.{typed_text, why_sentence};
+ghost use Rattle.sf_messages.specs.Sentences.{lone_newline_sentence, newline_taken_sentence, over_newline_sentence};
+ghost use Rattle.sf_messages.specs.Sentences.{pair_sentence, range_text, typed_escape, values_text};
+ghost use Rattle.sf_messages.specs.Sentences.{white_first_sentence};
+ghost use Rattle.sf_messages.specs.Sentences.{is_digit, is_float_after, is_float_letter, typed_text};
+ghost use Rattle.sf_messages.specs.Sentences.{unknown_sentence, why_sentence};
 
 use sf_base::Kind;
 use sf_format::FormatWhy;
@@ -14,14 +17,21 @@ use std::alloc::AllocError;
 pub(crate) fn escape_sentence() -> &'static str
     ensures { result.now ≡ escape_sentence }
 {
-    "behind a backslash stands one of \\ n t v f r, or x and two hexadecimal digits"
+    "after a backslash stands one of \\ n t v f r, or x and two hexadecimal digits"
 }
 
-/// What is done about white space that stands in front of a record.
+/// What is done about white space that a record begins with.
 pub(crate) fn left_white_sentence() -> &'static str
     ensures { result.now ≡ left_white_sentence }
 {
-    "the record begins with white space: a blank at the format's front passes over it, and %*1[\\n] at its end takes the line end behind a record"
+    "the record begins with white space: a blank at the format's front passes over it, and %*1[\\n] at its end takes the newline after a record"
+}
+
+/// What is done about white space that the first record, or a line, begins with.
+pub(crate) fn white_first_sentence() -> &'static str
+    ensures { result.now ≡ white_first_sentence }
+{
+    "white space stands in front, which only numbers and %s pass over: a blank at the format's front does, too"
 }
 
 /// What C or POSIX has at this byte of a format, and sf has not.
@@ -32,10 +42,56 @@ fn left_out_sentence(b: u8) -> &'static str
         b'p' => "pointers are not part of sf",
         b'C' | b'S' | b'c' | b's' | b'[' => "wide characters are not part of sf",
         b'm' => "memory of the scan's own is not part of sf",
-        b'*' => "a width or a precision among the values is not part of sf",
+        b'*' => {
+            "a width or a precision among the values is not part of sf; of two formats the print format comes first"
+        }
         b'\'' => "groups of digits are not part of sf",
-        b'n' => "a count is not part of sf's print formats",
+        b'n' => {
+            "a count is not part of sf's print formats; of two formats the print format comes first"
+        }
         _ => "floating point is left out of profiles 1 and 2",
+    }
+}
+
+/// Whether a letter is one of floating point.
+fn is_float_letter(b: u8) -> bool
+    ensures { result ≡ is_float_letter b }
+{
+    matches!(b, b'a' | b'A' | b'e' | b'E' | b'f' | b'F' | b'g' | b'G')
+}
+
+fn is_digit(b: u8) -> bool
+    ensures { result ≡ is_digit b }
+{
+    matches!(b, b'0'..=b'9')
+}
+
+/// Whether digits or none stand first, and then a letter of floating point.
+fn is_float_after(rest: &[u8]) -> bool
+    ensures { result ≡ is_float_after rest.now }
+{
+    for b in rest {
+        if !is_digit(*b) {
+            return is_float_letter(*b);
+        }
+    }
+    false
+}
+
+/// What has this byte in the other format, by the bytes after it.
+fn unknown_sentence(b: u8, rest: &[u8]) -> &'static str
+    ensures { result.now ≡ unknown_sentence b rest.now }
+{
+    match b {
+        b'.' if is_float_after(rest) => "floating point is left out of profiles 1 and 2",
+        b'.' => {
+            "a precision stands in a print format alone; of two formats the print format comes first"
+        }
+        b'[' => "a set stands in a scan format alone; of two formats the print format comes first",
+        b'-' | b'+' | b' ' | b'#' => {
+            "a flag stands first in a conversion, and in a print format alone; of two formats the print format comes first"
+        }
+        _ => "no conversion of this profile is written so; %% stands for a percent sign",
     }
 }
 
@@ -74,11 +130,32 @@ pub(crate) fn push_typed_escape(output: &mut Vec<u8>, rest: &[u8]) -> Result<(),
     }
 }
 
-/// What is done about a line end that was a record of its own.
+/// What is done about a newline that was a record of its own.
 pub(crate) fn lone_newline_sentence() -> &'static str
     ensures { result.now ≡ lone_newline_sentence }
 {
     "the record is the newline after the last one: a blank at the format's front passes over it, and %*1[\\n] at its end takes it"
+}
+
+/// What is done about the newline that a record began with.
+pub(crate) fn newline_taken_sentence() -> &'static str
+    ensures { result.now ≡ newline_taken_sentence }
+{
+    "the record begins with the newline after the last one: a blank at the format's front passes over it, and %*1[\\n] at its end takes it"
+}
+
+/// What is done about a newline within a record.
+pub(crate) fn over_newline_sentence() -> &'static str
+    ensures { result.now ≡ over_newline_sentence }
+{
+    "the record goes over a newline: sf scan --lines ends each record with its line"
+}
+
+/// What so many values are called.
+pub(crate) fn values_text(count: u8) -> &'static str
+    ensures { result.now ≡ values_text count }
+{
+    if count == 1 { " value" } else { " values" }
 }
 
 /// The numbers of a kind.
@@ -98,15 +175,15 @@ pub(crate) fn range_text(kind: Kind) -> &'static str
     }
 }
 
-/// Why a format is refused, by the byte where that was found.
-pub(crate) fn why_sentence(why: FormatWhy, b: u8) -> &'static str
-    ensures { result.now ≡ why_sentence why b }
+/// Why a format is refused, by the byte where that was found, and those after it.
+pub(crate) fn why_sentence(why: FormatWhy, b: u8, rest: &[u8]) -> &'static str
+    ensures { result.now ≡ why_sentence why b rest.now }
 {
     match why {
-        FormatWhy::Truncated => "the format ends inside a conversion",
+        FormatWhy::Truncated => "the format ends inside a conversion; %% stands for a percent sign",
         FormatWhy::ZeroWidth => "a conversion of width 0 takes nothing",
         FormatWhy::TooWide => "a width is at most 65535",
-        FormatWhy::UnknownLetter => "no conversion of this profile is written so",
+        FormatWhy::UnknownLetter => unknown_sentence(b, rest),
         FormatWhy::LeftOut => left_out_sentence(b),
         FormatWhy::BadLength => "this letter has no such length",
         FormatWhy::OpenSet => "no ] closes the set",
@@ -135,9 +212,10 @@ pub(crate) fn pair_sentence(why: PairWhy) -> &'static str
         PairWhy::NumberDiffers => "the two conversions are of different values",
         PairWhy::NoWidth => "a conversion that is read back needs a width",
         PairWhy::TooNarrow => "the width is less than the shortest text that is written",
-        PairWhy::RunsOn => "what is written next could be read by this directive too",
+        PairWhy::RunsOn =>
+            "what is written next could be read by this directive too: write a byte between them at which it stops",
         PairWhy::OpenEnd =>
-            "nothing is written behind this, so what follows could be read as more of it",
+            "nothing is written after this, so what follows could be read as more of it: end the print format with \\n and the scan format with %*1[\\n]",
         PairWhy::LeadingZero => "%i reads a leading zero as octal",
         PairWhy::NotWritten => "nothing is written for %n",
         PairWhy::BadFlagHere => "what this flag, width or precision writes is not read back",

@@ -1,10 +1,10 @@
-//! The line on the error output. It is made without memory, so that want of memory can be told.
-ghost use Rattle.std.specs.Prelude.{◌≡◌, ◌≤◌, ◌++◌, ◌∷◌, [], codes, length};
+//! The line on the error output. It is made without memory, so that want of memory can be reported.
+ghost use Rattle.std.specs.Prelude.{◌≡◌, ◌≤◌, ◌+◌, ◌++◌, ◌∷◌, [], IfOk, codes, length};
 ghost use Rattle.std.specs.Fmt.{decimal};
 ghost use Rattle.sf_run.specs.Wording.{outcome_text};
 ghost use Rattle.sf_arguments.specs.Texts.{argument_fault_text};
 ghost use Rattle.sf_messages.specs.Texts.{command_fault_text, error_line, expected_text, format_fault_text};
-ghost use Rattle.sf_messages.specs.Texts.{record_text};
+ghost use Rattle.sf_messages.specs.Texts.{mismatch_text, name_twice_line, record_text};
 ghost use Rattle.sf_messages.specs.Joined.{joined};
 ghost use Rattle.sf_messages.specs.LineTexts.{line_fault_text};
 
@@ -13,16 +13,19 @@ use crate::names::name_text;
 use arrayvec::ArrayString;
 use itoa::Buffer;
 use sf_arguments::{ArgumentFault, kind_text};
+use sf_base::Kind;
 use sf_format::FormatWhy;
 use sf_lines::{LineFault, LinesFault};
+use sf_makers::PrintMismatch;
 use sf_pair::PairWhy;
 use sf_records::ToolFault;
 use sf_run::Outcome;
+use std::alloc::{AllocError, Global};
 
-/// The most bytes of a line, with its line end.
+/// The most bytes of a line, with its newline.
 const LINE_BYTES: usize = 128;
 
-/// A line with its line end.
+/// A line with its newline.
 pub type ErrorLine = ArrayString<LINE_BYTES>;
 
 /// The texts one after the other.
@@ -35,6 +38,28 @@ pub fn joined(texts: &[&str]) -> ErrorLine
         line.push_str(text);
     }
     line
+}
+
+/// The line of a number between two texts.
+fn number_line(front: &str, number: u64, back: &str) -> ErrorLine
+    requires { length front.now + length back.now ≤ 64 }
+    ensures { result.bytes ≡ (front.now ++ (decimal number ++ back.now)) ++ 10 ∷ [] }
+{
+    let mut place = Buffer::new();
+    let place = place.format(number);
+    joined(&[front, place, back, "\n"])
+}
+
+/// The line of a text and a number, twice.
+fn two_number_line(front: &str, first: u64, between: &str, second: u64) -> ErrorLine
+    requires { length front.now + length between.now ≤ 64 }
+    ensures { result.bytes ≡ (front.now ++ (decimal first ++ (between.now ++ decimal second))) ++ 10 ∷ [] }
+{
+    let mut one = Buffer::new();
+    let mut other = Buffer::new();
+    let one = one.format(first);
+    let other = other.format(second);
+    joined(&[front, one, between, other, "\n"])
 }
 
 /// The line of a bad escape.
@@ -63,28 +88,6 @@ fn format_line(name: FormatName, why: FormatWhy, at: u16) -> ErrorLine
     ])
 }
 
-/// The line of a wrong number of values.
-fn count_line(expected: u8, got: usize) -> ErrorLine
-    ensures { result.bytes ≡ argument_fault_text (ArgumentFault.WrongCount expected got) ++ 10 ∷ [] }
-{
-    let mut first = Buffer::new();
-    let mut second = Buffer::new();
-    let first = first.format(expected);
-    let second = second.format(got);
-    joined(&["sf: expected ", first, " values, got ", second, "\n"])
-}
-
-/// The line of a value's bad escape.
-fn bad_value_line(at: u8, offset: usize) -> ErrorLine
-    ensures { result.bytes ≡ argument_fault_text (ArgumentFault.BadEscape at offset) ++ 10 ∷ [] }
-{
-    let mut first = Buffer::new();
-    let mut second = Buffer::new();
-    let first = first.format(at);
-    let second = second.format(offset);
-    joined(&["sf: value ", first, ": bad escape at ", second, "\n"])
-}
-
 /// The line of a value that isn't what was expected.
 fn value_line(at: u8, expected: &str) -> ErrorLine
     requires { length expected.now ≤ 8 }
@@ -100,8 +103,17 @@ fn argument_line(fault: ArgumentFault) -> ErrorLine
     ensures { result.bytes ≡ argument_fault_text fault ++ 10 ∷ [] }
 {
     match fault {
-        ArgumentFault::WrongCount { expected, got } => count_line(expected, got),
-        ArgumentFault::BadEscape { at, offset } => bad_value_line(at, offset),
+        ArgumentFault::WrongCount { expected, got } => {
+            two_number_line(
+                "sf: expected ",
+                expected as u64,
+                " values, got ",
+                got as u64,
+            )
+        }
+        ArgumentFault::BadEscape { at, offset } => {
+            two_number_line("sf: value ", at as u64, ": bad escape at ", offset as u64)
+        }
         ArgumentFault::NotInKind { at, kind } => value_line(at, kind_text(kind)),
         ArgumentFault::NotOneByte { at } => value_line(at, "one byte"),
         ArgumentFault::TooLong => joined(&["sf: text too long\n"]),
@@ -173,63 +185,79 @@ fn records_line(fault: ToolFault) -> ErrorLine
     }
 }
 
-/// The line of a read that failed.
-fn unread_line(line: u64) -> ErrorLine
-    ensures { result.bytes ≡ command_fault_text (CommandFault.Lines (LinesFault.Read line)) ++ 10 ∷ [] }
-{
-    let mut number = Buffer::new();
-    let number = number.format(line);
-    joined(&["sf: line ", number, ": read fault\n"])
-}
-
 /// The line of why the lines of an input stopped.
 fn lines_line(fault: LinesFault) -> ErrorLine
     ensures { result.bytes ≡ command_fault_text (CommandFault.Lines fault) ++ 10 ∷ [] }
 {
     match fault {
-        LinesFault::Read { line } => unread_line(line),
+        LinesFault::Read { line } => number_line("sf: line ", line, ": read fault"),
         LinesFault::Write => joined(&["sf: write fault\n"]),
         LinesFault::Memory => joined(&["sf: out of memory\n"]),
         LinesFault::TooMany => joined(&["sf: too many lines\n"]),
     }
 }
 
-/// The line of a line of the input on which no format is Done, with its number.
-fn missed_line(number: u64, outcome: Outcome) -> ErrorLine
-    ensures { result.bytes ≡ line_fault_text number (LineFault.Failed outcome) ++ 10 ∷ [] }
-{
-    outcome_line("line ", number, outcome)
-}
-
-/// The line of a line of the input of which something is left.
-fn left_over_line(number: u64, at: u32) -> ErrorLine
-    ensures { result.bytes ≡ line_fault_text number (LineFault.LeftOver at) ++ 10 ∷ [] }
-{
-    let mut first = Buffer::new();
-    let mut second = Buffer::new();
-    let first = first.format(number);
-    let second = second.format(at);
-    joined(&["sf: line ", first, ": left over at ", second, "\n"])
-}
-
-/// The line of a line of the input that is longer than the limit.
-fn long_line(number: u64) -> ErrorLine
-    ensures { result.bytes ≡ line_fault_text number LineFault.TooLong ++ 10 ∷ [] }
-{
-    let mut place = Buffer::new();
-    let place = place.format(number);
-    joined(&["sf: line ", place, ": too long\n"])
-}
-
-/// The line on the error output for a line of the input that is no match, with its line end. Lines are counted from 1.
+/// The line on the error output for a line of the input that fails, with its newline. Lines are counted from 1.
 pub fn line_fault_line(number: u64, fault: LineFault) -> ErrorLine
     ensures { result.bytes ≡ line_fault_text number fault ++ 10 ∷ [] }
 {
     match fault {
-        LineFault::Failed { outcome } => missed_line(number, outcome),
-        LineFault::LeftOver { at } => left_over_line(number, at),
-        LineFault::TooLong => long_line(number),
+        LineFault::Failed { outcome } => outcome_line("line ", number, outcome),
+        LineFault::LeftOver { at } => {
+            two_number_line("sf: line ", number, ": left over at ", at as u64)
+        }
+        LineFault::TooLong => number_line("sf: line ", number, ": too long"),
+        LineFault::Unfit => number_line("sf: line ", number, ": values do not fit"),
     }
+}
+
+/// The line of a value of which a print format has another kind than a scan format.
+fn kinds_line(slot: u8, print: Kind, scan: Kind) -> ErrorLine
+    ensures { result.bytes ≡ mismatch_text (PrintMismatch.Kinds slot print scan) ++ 10 ∷ [] }
+{
+    let mut number = Buffer::new();
+    let number = number.format(slot);
+    let print = kind_text(print);
+    let scan = kind_text(scan);
+    joined(&[
+        "sf: print format: value ",
+        number,
+        " is ",
+        print,
+        ", the scan format gives ",
+        scan,
+        "\n",
+    ])
+}
+
+/// The line of a print format that can't print what a scan format gives.
+fn mismatch_line(mismatch: PrintMismatch) -> ErrorLine
+    ensures { result.bytes ≡ command_fault_text (CommandFault.Unprintable mismatch) ++ 10 ∷ [] }
+{
+    match mismatch {
+        PrintMismatch::Count {
+            values,
+            destinations,
+        } => two_number_line(
+            "sf: print format: ",
+            values as u64,
+            " values, the scan format gives ",
+            destinations as u64,
+        ),
+        PrintMismatch::Kinds { slot, print, scan } => kinds_line(slot, print, scan),
+    }
+}
+
+/// The line of a name that stands twice, with its newline: `sf: names: a stands twice`. Err where memory was refused:
+/// then `error_line` has a line with the name's number in its place.
+pub fn name_twice_line(alloc: Global, name: &str) -> Result<Vec<u8>, AllocError>
+    ensures { IfOk result (λ line. line.items ≡ name_twice_line name.now) }
+{
+    let mut line = Vec::new(alloc);
+    line.extend_from_slice(b"sf: names: ")?;
+    line.extend_from_slice(name.as_bytes())?;
+    line.extend_from_slice(b" stands twice\n")?;
+    Ok(line)
 }
 
 /// The line of formats that are no pair.
@@ -241,7 +269,7 @@ fn pair_line(why: PairWhy, at: u16) -> ErrorLine
     joined(&["sf: pair: ", why.text(), " at ", number, "\n"])
 }
 
-/// The line on the error output, with its line end.
+/// The line on the error output, with its newline.
 pub fn error_line(fault: CommandFault) -> ErrorLine
     ensures { result.bytes ≡ error_line fault }
 {
@@ -255,5 +283,20 @@ pub fn error_line(fault: CommandFault) -> ErrorLine
         CommandFault::Write => joined(&["sf: write fault\n"]),
         CommandFault::Memory => joined(&["sf: out of memory\n"]),
         CommandFault::Pair(fault) => pair_line(fault.why, fault.at),
+        CommandFault::Unprintable(mismatch) => mismatch_line(mismatch),
+        CommandFault::NameCount { expected, got } => {
+            two_number_line(
+                "sf: names: expected ",
+                expected as u64,
+                ", got ",
+                got as u64,
+            )
+        }
+        CommandFault::NameEmpty { number } => {
+            number_line("sf: names: name ", number as u64, " is empty")
+        }
+        CommandFault::NameTwice { number } => {
+            number_line("sf: names: name ", number as u64, " stands twice")
+        }
     }
 }

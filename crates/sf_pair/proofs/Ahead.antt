@@ -13,9 +13,9 @@ use Rattle.sf_format.specs.declared.unit.Unit.TheVariants as unit
 use Rattle.sf_format.specs.Units.{IsProperUnit, AreProperUnits}
 use Rattle.sf_print.specs.Text.{value_text, blanks}
 use Rattle.sf_print.specs.Printed.{text_or_none, printed}
-use Rattle.sf_run.specs.Machine.{shape_skips}
-use Rattle.sf_run.specs.Laws.{EachByteIsTried}
-use Rattle.sf_run.specs.Computed.{skip}
+use Rattle.sf_report.specs.Machine.{shape_skips}
+use Rattle.sf_report.specs.Laws.{EachByteIsTried}
+use Rattle.sf_report.specs.Computed.{skip}
 use Rattle.sf_pair.specs.declared.fault.PairWhy.TheVariants as why
 use Rattle.sf_pair.specs.Neighbours.{Bytes as ByteTest, meet, first_of, first_by_letter, reads, stop_set}
 use Rattle.sf_pair.specs.Groups.{AreSpace, is_count, starts_with_space, keeps_space, space_fault, always_full, follow_fault, closing_fault, next_of}
@@ -76,7 +76,7 @@ pub at_same : (next : Option Directive) (x y : List ℕ) → x ≡ y → At next
 at_same None x y e = e
 at_same (Some d) x y e = inl e
 
--- either way what stands behind the white space is the same
+-- either way what stands after the white space is the same
 pub at_skipped : (d : Directive) (x y : List ℕ) → At (Some d) x y → drop (skip x) x ≡ drop (skip y) y
 at_skipped d x y (inl e) = ap (λ (t : List ℕ). drop (skip t) t) e
 at_skipped d x y (inr h) = ap (λ (t : List ℕ). drop (skip t) t) h.1 ∙ ap (λ (k : ℕ). drop k (drop (skip y) y)) (skip_drop y)

@@ -164,7 +164,7 @@ pub record Body (c : PrintConv) (z : ℤ) : Type 0 where
   pub counted : counted_length c z ≡ hidden c z + length (bare_sign c z) + length
       (mark c (unsigned_abs z)) + (lead + length (digits_of c z))
 
-small_base : (l : PrintLetter) → (2 ≤ base_of l) × (base_of l ≤ 16)
+pub small_base : (l : PrintLetter) → (2 ≤ base_of l) × (base_of l ≤ 16)
 small_base letter.Octal = (omega arith, omega arith)
 small_base letter.HexLower = (omega arith, omega arith)
 small_base letter.HexUpper = (omega arith, omega arith)

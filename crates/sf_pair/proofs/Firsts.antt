@@ -32,7 +32,7 @@ digits_first : (r : ℕ) (ds : List ℕ) → 0 < length ds → AllDigits r ds �
 digits_first r [] some all = absurd (omega arith)
 digits_first r (d ∷ ds) some all = lt-ltb (digit_value d) r all.0
 
--- also behind the mark of a base
+-- also after the mark of a base
 marked_first : (t : Bool) (l : PrintLetter) (xs : List ℕ) → FirstIn (digits_in (base_of l)) xs
     → FirstIn (digits_in (base_of l)) (cond t (base_mark l) [] ++ xs)
 marked_first false l xs f = f

@@ -15,7 +15,8 @@ use Rattle.sf_pair.proofs.Numbers.{EndsIn}
 
 -- ---- a byte of the stop set
 
--- it is a digit; or the letter of a prefix, which may stand behind a lone 0 alone, or a 0 behind which the base isn't known yet
+-- it is a digit; or the letter of a prefix, which may stand after a lone 0 alone, or a 0 after which the base isn't
+-- known yet
 abbrev pub Stops : Base → PrintConv → ℕ → Type 0
 Stops base c b = (is_digit b (first_radix base) ≡ true) ⊎ ((prefix_letters base b ≡ true)
     × ((is_auto (shape.Int base) ≡ true) ⊎ (length (least c) ≡ 1)))
@@ -58,7 +59,7 @@ zero_stops base c = or_so ((eqb (length (least c)) 1 || is_auto_base base) && pr
     zero_digit Auto = refl
     zero_digit AutoBin = refl
 
--- but for `i`, digits behind a 0 are of the same radix
+-- but for `i`, digits after a 0 are of the same radix
 pub same_radix : (base : Base) → is_auto (shape.Int base) ≡ false → zero_radix base ≡ first_radix base
 same_radix Dec e = refl
 same_radix Oct e = refl
@@ -72,7 +73,7 @@ same_radix AutoBin e = absurd cc
 digit_goes : (s : Bool) (r v b : ℕ) → is_digit b r ≡ true → is_some (with_digit s r v b) ≡ true
 digit_goes s r v b e = ap (λ (t : Bool). is_some (cond t (Some (Digits s r (v * r + digit_value b))) None)) e
 
--- behind one 0: a letter of a prefix, or a digit of the radix that the base then has
+-- after one 0: a letter of a prefix, or a digit of the radix that the base then has
 pub zero_goes : (base : Base) (s : Bool) (b : ℕ) → (prefix_letters base b ≡ true) ⊎ (is_digit b (zero_radix base) ≡ true)
     → is_some (advance base (Zero s) b) ≡ true
 zero_goes base s b h = by (prefix_radix base b) refl
@@ -89,7 +90,7 @@ pub digits_go : (base : Base) (s : Bool) (v : ℕ) (p : Progress) → p ≡ Digi
     → is_digit b (first_radix base) ≡ true → is_some (advance base p b) ≡ true
 digits_go base s v p e b digit = ap (λ (q : Progress). is_some (advance base q b)) e ∙ digit_goes s (first_radix base) v b digit
 
--- a digit is taken behind each end, where a 0 doesn't change the radix
+-- a digit is taken after each end, where a 0 doesn't change the radix
 pub end_goes : (base : Base) (s : Bool) (p : Progress) → EndsIn base s p → zero_radix base ≡ first_radix base → (b : ℕ)
     → is_digit b (first_radix base) ≡ true → is_some (advance base p b) ≡ true
 end_goes base s p (inl e) same b digit = ap (λ (q : Progress). is_some (advance base q b)) e

@@ -11,11 +11,11 @@ use Rattle.sf_format.specs.declared.directive.Conversion.{Conversion}
 use Rattle.sf_format.specs.declared.directive.Directive.{Directive}
 use Rattle.sf_format.specs.declared.directive.Directive.TheVariants as directive
 use Rattle.sf_format.specs.Widths.{add_widths, text_width, stored_width, width_sum}
-use Rattle.sf_run.specs.Steps.{StepEnd, Passes, Stores, Fails, NumberStored, CountStep, ItemStored, ItemPasses, EmptyItem, ItemEnds, ConversionStep, Step}
-use Rattle.sf_run.specs.Runs.{Ran, RunReport, GoesOn, Steps, value_stored, values}
-use Rattle.sf_run.specs.outcome.Ending.{Ending}
-use Rattle.sf_run.specs.Limits.{IsCut, RunWithin, RunTold}
-use Rattle.sf_run.specs.Views.{StoredReport}
+use Rattle.sf_report.specs.Steps.{StepEnd, Passes, Stores, Fails, NumberStored, CountStep, ItemStored, ItemPasses, EmptyItem, ItemEnds, ConversionStep, Step}
+use Rattle.sf_report.specs.Runs.{Ran, RunReport, GoesOn, Steps, value_stored, values}
+use Rattle.sf_report.specs.declared.outcome.Ending.{Ending}
+use Rattle.sf_report.specs.Limits.{IsCut, RunWithin, RunTold}
+use Rattle.sf_report.specs.Views.{StoredReport}
 use Rattle.sf_pair.specs.Groups.{is_count}
 use Rattle.sf_pair.specs.Laws.{HeldIsBounded}
 
@@ -183,10 +183,3 @@ pub held_is_bounded : HeldIsBounded
 held_is_bounded ds m x ending report (inl told) n e = within_held ds m x ending report told n e
 held_is_bounded ds m x ending report (inr (k, low, (before, cut, stores, is))) n e =
     omega (arith, cut_held ds x k before cut n e, ap values_held is)
-
--- as the contract of a pair sees it
-pub told_held : {E : Type 0} (r : Result StoredReport E) (ds : List Directive) (m : ℕ)
-    → IfOk r (λ s. (x : List ℕ) × (ending : Ending) × RunTold ds m x ending s.report)
-    → IfOk r (λ s. (n : ℕ) → width_sum ds ≡ Some n → length (texts_in s.report.values) ≤ n)
-told_held (Ok s) ds m told = λ n e. held_is_bounded ds m told.0 told.1 s.report told.2 n e
-told_held (Err f) ds m told = tt

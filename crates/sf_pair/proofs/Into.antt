@@ -1,4 +1,4 @@
--- An item that isn't full runs on into each byte of its stop set, behind the text of some value that fits.
+-- An item that isn't full runs on into each byte of its stop set, after the text of some value that fits.
 use Rattle.std.proofs.Common.{◌≡◌, ℕ, ◌<◌, ◌≤◌, inr, Bool, true, false, cond, ◌&&◌, ◌||◌, eqb, nat_le, List, [], ◌∷◌, ◌++◌, length, Option, Some, is_some, refl, sym, ap, ap₂, subst, ◌∙◌, arith, lit≤}
 use Rattle.std.proofs.lemmas.Bool.Decides.{nat_tests}
 use Rattle.sf_base.specs.Sets.{has_byte}
@@ -16,8 +16,8 @@ use Rattle.sf_format.specs.Proper.{IsProperShape, IsProperWidth, HasItsWidth, Is
 use Rattle.sf_item.specs.Tests.{is_ink, is_within, shape_begins, can_take}
 use Rattle.sf_print.specs.Text.{value_text}
 use Rattle.sf_print.specs.Visible.{least}
-use Rattle.sf_run.specs.Steps.{Stores}
-use Rattle.sf_run.specs.Machine.{stored_end, passed_end}
+use Rattle.sf_report.specs.Steps.{Stores}
+use Rattle.sf_report.specs.Machine.{stored_end, passed_end}
 use Rattle.sf_pair.specs.Below.{LawsBelow}
 use Rattle.sf_pair.specs.Neighbours.{stop_set}
 use Rattle.sf_pair.specs.Groups.{is_integer, is_chars, letters_pair, width_of, always_full}

@@ -1,4 +1,4 @@
--- An integer's item runs on into a byte of the stop set, behind the text of 0 or of 1.
+-- An integer's item runs on into a byte of the stop set, after the text of 0 or of 1.
 use Rattle.std.proofs.Common.{◌≡◌, ℕ, zero, suc, ◌+◌, ◌<◌, ◌≤◌, ◌⊎◌, inl, inr, Bool, true, false, cond, eqb, ◌&&◌, ◌||◌, nat_le, nat_lt, List, [], ◌∷◌, ◌++◌, length, slice_index, ℤ, pos, Option, Some, None, is_some, refl, sym, ap, ap₂, subst, ◌∙◌, arith, length-append}
 use Rattle.std.proofs.lemmas.List.{length-replicate}
 use Rattle.std.proofs.lemmas.Bool.Decides.{nat_tests}
@@ -22,7 +22,7 @@ use Rattle.sf_item.specs.Progress.{Progress, Start, Zero, integer_of, advance}
 use Rattle.sf_item.specs.Tests.{read, is_within, shape_begins, can_take}
 use Rattle.sf_print.specs.Text.{zeros, base_mark, is_octal, least_digits, pads_with_zeros}
 use Rattle.sf_print.specs.Visible.{without_blanks, visible, least}
-use Rattle.sf_run.specs.Machine.{shape_skips}
+use Rattle.sf_report.specs.Machine.{shape_skips}
 use Rattle.sf_pair.specs.Below.{LawsBelow}
 use Rattle.sf_pair.specs.Neighbours.{prefix_letters, stop_set}
 use Rattle.sf_pair.specs.Groups.{is_integer, is_chars, is_auto, letters_pair, width_of, always_full}
@@ -219,7 +219,7 @@ module _ (laws : LawsBelow) (c : PrintConv) (s : Conversion) (base : Base) (is_i
       let none = auto_bare laws c s proper p assigned base is_int (some_digits laws c s proper p assigned base is_int) auto in
       record { one = none.0; pads = none.1; octal = ap is_octal signed; unmarked = ap base_mark signed }
 
-  -- behind the text of 0, where a 0 doesn't change the radix, and else behind that of 1
+  -- after the text of 0, where a 0 doesn't change the radix, and else after that of 1
   digit_into : is_digit b (first_radix base) ≡ true → TakesInto c s b
   digit_into digit = by (is_auto (shape.Int base)) refl
     where
@@ -235,7 +235,7 @@ module _ (laws : LawsBelow) (c : PrintConv) (s : Conversion) (base : Base) (is_i
             | inr digits ↦ digits_go base false digits.0 n.progress digits.1 b digit
           ])
 
-  -- the letter of a prefix, behind a lone 0
+  -- the letter of a prefix, after a lone 0
   letter_into : prefix_letters base b ≡ true → (is_auto (shape.Int base) ≡ true) ⊎ (length (least c) ≡ 1) → TakesInto c s b
   letter_into letter lone =
       let o = body_of (pos 0) of_kind.0 in

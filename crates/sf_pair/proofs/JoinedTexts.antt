@@ -8,8 +8,8 @@ use Rattle.sf_format.specs.declared.unit.Unit.{Unit as PrintUnit}
 use Rattle.sf_format.specs.Proper.{IsAccepted}
 use Rattle.sf_format.specs.Units.{AreAccepted}
 use Rattle.sf_print.specs.Printed.{printed}
-use Rattle.sf_run.specs.outcome.Ending.{Ending}
-use Rattle.sf_run.specs.Runs.{Run}
+use Rattle.sf_report.specs.declared.outcome.Ending.{Ending}
+use Rattle.sf_report.specs.Runs.{Run}
 use Rattle.sf_pair.specs.Below.{LawsBelow}
 use Rattle.sf_pair.specs.Fits.{Fit}
 use Rattle.sf_pair.specs.Groups.{IsAligned}

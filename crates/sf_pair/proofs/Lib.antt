@@ -25,10 +25,10 @@ pub mod Stops
 pub mod Refusals
 pub mod OneStop
 pub mod SlotRows
-pub mod Scans
 pub mod FitTests
 pub mod Written
 pub mod SlotCounts
 pub mod Nothing
 pub mod Held
 pub mod JoinedTexts
+pub mod Longest

@@ -1,8 +1,8 @@
 -- Whether two sets meet, tested byte by byte. The definition is opened here alone: at 256 tests its terms are large.
 use Rattle.std.proofs.Common.{◌≡◌, ℕ, ◌<◌, Bool, true, false, eqb, ◌&&◌, refl, sym, ap, subst, ◌∙◌}
 use Rattle.std.proofs.lemmas.Bool.{eqb-true}
-use Rattle.sf_run.specs.Machine.{some_below}
-use Rattle.sf_run.specs.Laws.{EachByteIsTried}
+use Rattle.sf_report.specs.Machine.{some_below}
+use Rattle.sf_report.specs.Laws.{EachByteIsTried}
 use Rattle.sf_pair.specs.Neighbours.{Bytes, only, meet}
 
 pub meet_at : EachByteIsTried → (s t : Bytes) (b : ℕ) → b < 256 → s b ≡ true → t b ≡ true → true ≡ meet s t

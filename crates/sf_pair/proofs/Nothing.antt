@@ -17,11 +17,11 @@ use Rattle.sf_format.specs.Proper.{IsProperShape, IsProperWidth, IsProper, ArePr
 use Rattle.sf_item.specs.Progress.{Start}
 use Rattle.sf_item.specs.Tests.{read, is_within, shape_begins, can_take}
 use Rattle.sf_print.specs.Printed.{printed}
-use Rattle.sf_run.specs.outcome.Status.TheVariants.{Done, InputFailure}
-use Rattle.sf_run.specs.outcome.Ending.TheVariants.{End}
-use Rattle.sf_run.specs.Steps.{StepEnd, Passes, Stores, Fails}
-use Rattle.sf_run.specs.Runs.{Ran, RunReport, Run, IsOpen, used, status_of, converted, report_of, is_conversion, passed}
-use Rattle.sf_run.specs.Computed.{skip_before, len, item_part, conversion_step, byte_choice, step_of, go_on, ran_of}
+use Rattle.sf_report.specs.declared.outcome.Status.TheVariants.{Done, InputFailure}
+use Rattle.sf_report.specs.declared.outcome.Ending.TheVariants.{End}
+use Rattle.sf_report.specs.Steps.{StepEnd, Passes, Stores, Fails}
+use Rattle.sf_report.specs.Runs.{Ran, RunReport, Run, IsOpen, used, status_of, converted, report_of, is_conversion, passed}
+use Rattle.sf_report.specs.Computed.{skip_before, len, item_part, conversion_step, byte_choice, step_of, go_on, ran_of}
 use Rattle.sf_pair.specs.Below.{LawsBelow}
 use Rattle.sf_pair.specs.Groups.{is_count, IsConversionGroup, AreCut, assigns, next_of}
 use Rattle.sf_pair.specs.Laws.{read_back, AlignedEndsOnNothing, PrintsSome}
@@ -107,7 +107,7 @@ one_taken s shape.Chars e no_count shaped wide = record {
 }
 one_taken s shape.Count e no_count shaped wide = absurd cc
 
--- a conversion other than n is the item behind what is skipped
+-- a conversion other than n is the item after what is skipped
 item_of : (s : Conversion) (x : List ℕ) (n : ℕ) → is_count s.shape ≡ false
     → step_of (directive.Conv s) x n ≡ item_part s x (skip_before s.shape x)
 item_of s x n e = by s.shape e

@@ -46,7 +46,7 @@ opening base c (pos n) = by c.plus
     by true = record { progress = Signed false; goes = λ t. refl; opens = λ d h. refl }
     by false = record { progress = Start; goes = λ t. refl; opens = start_opens base }
 
--- a lone 0 is read as such, behind a sign or none
+-- a lone 0 is read as such, after a sign or none
 pub lone_zero_read : (base : Base) (c : PrintConv) (z : ℤ) (t : List ℕ) → t ≡ bare_sign c z ++ 48 ∷ []
     → read base (Some Start) t ≡ Some (Zero (is_negative z))
 lone_zero_read base c z t e =
@@ -149,7 +149,7 @@ outside_letters base lone b may e =
 lower : (m n d : ℕ) → m ≤ n → ltb d n ≡ false → ltb d m ≡ false
 lower m n d h e = grind (arith, nat_tests)
 
--- behind a 0 there are no more digits than before
+-- after a 0 there are no more digits than before
 fewer_digits : (base : Base) (b : ℕ) → is_digit b (first_radix base) ≡ false → is_digit b (zero_radix base) ≡ false
 fewer_digits Dec b e = e
 fewer_digits Oct b e = e

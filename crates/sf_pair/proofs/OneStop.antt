@@ -10,7 +10,7 @@ use Rattle.sf_pair.proofs.Cutting.{units_back}
 same_rest : (us other : List PrintUnit) → ◌≡◌ {A = Left} (Ok us) (Ok other) → us ≡ other
 same_rest us other e = cc
 
--- the directive takes its group, so what is left behind it is one
+-- the directive takes its group, so what is left after it is one
 one_left : (ds after : List Directive) (us left other : List PrintUnit) → Leaves ds after us left → Leaves ds after us other → left ≡ other
 one_left [] after us left other h k = sym h ∙ k
 one_left (d ∷ ds) after us left other (group, rest, parts, is, more) (front, behind, cut, same, later) =

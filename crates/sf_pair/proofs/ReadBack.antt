@@ -21,8 +21,8 @@ use Rattle.sf_format.specs.Units.{IsProperConv, has_flag, prints_kind, is_unsign
 use Rattle.sf_format.specs.Proper.{IsProperWidth, HasItsWidth}
 use Rattle.sf_item.specs.Tests.{is_ink}
 use Rattle.sf_print.specs.Text.{value_text, integer_text, bytes_text, shown_bytes, padded, blanks, base_of, base_mark, is_octal, least_digits, pads_with_zeros}
-use Rattle.sf_run.specs.Steps.{Stores}
-use Rattle.sf_run.specs.Machine.{shape_skips, passed_end}
+use Rattle.sf_report.specs.Steps.{Stores}
+use Rattle.sf_report.specs.Machine.{shape_skips, passed_end}
 use Rattle.sf_print.specs.Visible.{visible, least}
 use Rattle.sf_pair.specs.Below.{LawsBelow}
 use Rattle.sf_pair.specs.Neighbours.{Bytes as ByteTest, stop_set, integer_first, first_by_letter, only, or, any_byte}

@@ -43,7 +43,7 @@ no_prefix_of_dec d = neither None None (nat_eq d 120 || nat_eq d 88) (nat_eq d 9
 pub no_prefix_of_oct : (d : ℕ) → prefix_radix Oct d ≡ None
 no_prefix_of_oct d = neither None None (nat_eq d 120 || nat_eq d 88) (nat_eq d 98 || nat_eq d 66) (inr refl) (inr refl)
 
--- no digit behind a 0 is the letter of a prefix
+-- no digit after a 0 is the letter of a prefix
 no_prefix : (base : Base) (d : ℕ) → digit_value d < zero_radix base → prefix_radix base d ≡ None
 no_prefix Dec d h = no_prefix_of_dec d
 no_prefix Oct d h = no_prefix_of_oct d

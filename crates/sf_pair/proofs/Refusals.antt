@@ -11,8 +11,8 @@ use Rattle.sf_format.specs.declared.unit.Unit.TheVariants as unit
 use Rattle.sf_format.specs.Units.{IsProperConv, AreProperUnits}
 use Rattle.sf_format.specs.Proper.{IsSized, IsProper}
 use Rattle.sf_print.specs.Printed.{printed}
-use Rattle.sf_run.specs.Steps.{Passes, Step}
-use Rattle.sf_run.specs.Computed.{skip}
+use Rattle.sf_report.specs.Steps.{Passes, Step}
+use Rattle.sf_report.specs.Computed.{skip}
 use Rattle.sf_pair.specs.Below.{LawsBelow}
 use Rattle.sf_pair.specs.declared.fault.PairWhy.TheVariants as why
 use Rattle.sf_pair.specs.Neighbours.{only, meet, first_by, reads, stop_set}

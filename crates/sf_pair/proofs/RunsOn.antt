@@ -1,4 +1,4 @@
--- An item that could go on with the byte behind its text takes that byte.
+-- An item that could go on with the byte after its text takes that byte.
 use Rattle.std.proofs.Common.{◌≡◌, ℕ, ◌+◌, true, List, [], ◌∷◌, ◌++◌, length, drop, refl, sym, ap, subst, ◌∙◌, arith, append_assoc, append-nil, length-append}
 use Rattle.std.proofs.lemmas.List.{drop_at, length-replicate}
 use Rattle.sf_base.specs.Data.{Datum}
@@ -10,9 +10,9 @@ use Rattle.sf_format.specs.declared.unit.PrintConv.{PrintConv}
 use Rattle.sf_format.specs.Proper.{IsProper}
 use Rattle.sf_item.specs.Tests.{can_take, has_item}
 use Rattle.sf_print.specs.Text.{value_text, blanks}
-use Rattle.sf_run.specs.Steps.{StepEnd, Step}
-use Rattle.sf_run.specs.Machine.{shape_skips}
-use Rattle.sf_run.specs.Computed.{skip, len, skip_before, step_of}
+use Rattle.sf_report.specs.Steps.{StepEnd, Step}
+use Rattle.sf_report.specs.Machine.{shape_skips}
+use Rattle.sf_report.specs.Computed.{skip, len, skip_before, step_of}
 use Rattle.sf_pair.specs.Below.{LawsBelow}
 use Rattle.sf_pair.specs.Laws.{TakesToo}
 use Rattle.sf_pair.proofs.Taken.{len_is, by_shape}
@@ -46,7 +46,7 @@ module _ (laws : LawsBelow) (c : PrintConv) (s : Conversion) (v : Datum) (proper
   takes_at n = ap (λ (k : ℕ × StepEnd). k.0) (by_shape s s.shape (value_text c v ++ b ∷ []) n item
       ∙ sym (by_shape s s.shape (value_text c v ++ b ∷ []) 0 item))
 
-  -- the step of the conversion takes the byte behind the text too
+  -- the step of the conversion takes the byte after the text too
   pub takes_too : TakesToo (Conv s) (value_text c v) b
   takes_too n =
       let x : List ℕ = value_text c v ++ b ∷ [] in (

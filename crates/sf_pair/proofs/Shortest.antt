@@ -13,7 +13,7 @@ plus_sign = 43 ∷ []
 abbrev size_by : Bool → ℕ → ℕ → ℕ → ℕ → ℕ → ℕ
 size_by pads width h v k n = v + k + cond pads (width - (h + v + k + n)) 0 + n
 
-size_more : (pads : Bool) (w h v k n h' v' k' n' : ℕ) → h' + v' ≤ 1 → h + v ≤ 1 → v ≤ v' → h' ≤ h → k ≤ k' → n ≤ n'
+pub size_more : (pads : Bool) (w h v k n h' v' k' n' : ℕ) → h' + v' ≤ 1 → h + v ≤ 1 → v ≤ v' → h' ≤ h → k ≤ k' → n ≤ n'
     → size_by pads w h v k n ≤ size_by pads w h' v' k' n'
 size_more true w h v k n h' v' k' n' one' one a b d e = omega arith
 size_more false w h v k n h' v' k' n' one' one a b d e = omega arith
@@ -30,7 +30,7 @@ visible_size c z b =
     (c.width - (hidden c z + length (bare_sign c z) + length (mark c m) + n)) 0 = ap (inner_zeros c) b.counted in
     omega (arith, seen, b.size, inner)
 
-signs : (p b : Bool) → cond p 0 (cond b 1 0) + length (cond p plus_sign []) ≤ 1
+pub signs : (p b : Bool) → cond p 0 (cond b 1 0) + length (cond p plus_sign []) ≤ 1
 signs true b = omega arith
 signs false true = omega arith
 signs false false = omega arith

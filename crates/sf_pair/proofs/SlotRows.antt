@@ -10,7 +10,7 @@ use Rattle.sf_format.specs.declared.unit.Unit.TheVariants as unit
 use Rattle.sf_format.specs.Slots.{Slotted, kind_with, slots_from}
 use Rattle.sf_format.specs.Units.{AreAccepted, values_of}
 use Rattle.sf_print.specs.Printed.{value_at}
-use Rattle.sf_run.specs.Rows.{AreRowOf}
+use Rattle.sf_report.specs.Rows.{AreRowOf}
 use Rattle.sf_pair.specs.Below.{LawsBelow}
 use Rattle.sf_pair.specs.Laws.{with_value, printed_values}
 

@@ -14,10 +14,10 @@ use Rattle.sf_format.specs.declared.unit.Unit.TheVariants as unit
 use Rattle.sf_format.specs.Units.{AreProperUnits, values_of}
 use Rattle.sf_print.specs.Text.{blanks}
 use Rattle.sf_print.specs.Printed.{printed}
-use Rattle.sf_run.specs.Steps.{StepEnd, Passes, Stores, Fails}
-use Rattle.sf_run.specs.Runs.{is_conversion, is_shape_converted}
-use Rattle.sf_run.specs.Machine.{shape_skips}
-use Rattle.sf_run.specs.Computed.{skip, skip_before, byte_step, byte_choice, step_of}
+use Rattle.sf_report.specs.Steps.{StepEnd, Passes, Stores, Fails}
+use Rattle.sf_report.specs.Runs.{is_conversion, is_shape_converted}
+use Rattle.sf_report.specs.Machine.{shape_skips}
+use Rattle.sf_report.specs.Computed.{skip, skip_before, byte_step, byte_choice, step_of}
 use Rattle.sf_pair.specs.Below.{LawsBelow}
 use Rattle.sf_pair.specs.Neighbours.{only}
 use Rattle.sf_pair.specs.Groups.{IsLiteral, AreSpace, is_count, next_of}
@@ -103,7 +103,7 @@ module _ (laws : LawsBelow) (values : List Datum) (z : List ℕ) (ds : List Dire
       by shape.Text e = absurd cc
       by _ e = refl
 
-  -- behind what is skipped stands the item
+  -- after what is skipped stands the item
   item_ahead : (s : Conversion) (before : ℕ) (item y : List ℕ) (t : Bool) → shape_skips s.shape ≡ t → SkipsSo t before item
       → At (Some (directive.Conv s)) x (blanks before ++ (item ++ y)) → drop (skip_before s.shape x) x ≡ item ++ y
   item_ahead s before item y true e ink at =

@@ -11,11 +11,11 @@ use Rattle.sf_format.specs.declared.directive.Directive.TheVariants.{Conv}
 use Rattle.sf_format.specs.declared.unit.PrintConv.{PrintConv}
 use Rattle.sf_item.specs.Progress.{Progress, Start, advance}
 use Rattle.sf_item.specs.Tests.{read, integer_in, shape_matches, shape_begins, is_within, matches, can_take, has_item}
-use Rattle.sf_run.specs.Steps.{StepEnd, Stores, Fails}
-use Rattle.sf_run.specs.outcome.Status.TheVariants.{MatchingFailure}
-use Rattle.sf_run.specs.Machine.{item_end, passed_end, stored_end, integer_end, number_end}
+use Rattle.sf_report.specs.Steps.{StepEnd, Stores, Fails}
+use Rattle.sf_report.specs.declared.outcome.Status.TheVariants.{MatchingFailure}
+use Rattle.sf_report.specs.Machine.{item_end, passed_end, stored_end, integer_end, number_end}
 use Rattle.sf_print.specs.Visible.{visible}
-use Rattle.sf_run.specs.Computed.{len, skip_before, item_ended, item_step, conversion_step, step_of}
+use Rattle.sf_report.specs.Computed.{len, skip_before, item_ended, item_step, conversion_step, step_of}
 use Rattle.sf_pair.specs.Below.{LawsBelow}
 use Rattle.sf_pair.specs.Neighbours.{Bytes as ByteTest, stop_set}
 use Rattle.sf_pair.specs.Fits.{IsOfKind}

@@ -9,8 +9,8 @@ use Rattle.sf_format.specs.declared.directive.Shape.{Shape}
 use Rattle.sf_format.specs.declared.directive.Shape.TheVariants as shape
 use Rattle.sf_format.specs.declared.directive.Conversion.{Conversion}
 use Rattle.sf_item.specs.Tests.{is_ink, shape_matches, shape_begins, has_item}
-use Rattle.sf_run.specs.Steps.{Passes, Stores}
-use Rattle.sf_run.specs.Machine.{passed_end, stored_end}
+use Rattle.sf_report.specs.Steps.{Passes, Stores}
+use Rattle.sf_report.specs.Machine.{passed_end, stored_end}
 use Rattle.sf_pair.specs.Neighbours.{Bytes as ByteTest}
 use Rattle.sf_pair.proofs.Paired.{and_so}
 use Rattle.sf_pair.proofs.FitTests.{all_is, ink_is}

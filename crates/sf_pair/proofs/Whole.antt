@@ -8,11 +8,11 @@ use Rattle.sf_format.specs.declared.unit.Unit.{Unit as PrintUnit}
 use Rattle.sf_format.specs.Units.{IsProperUnit, AreProperUnits, AreAccepted, values_of}
 use Rattle.sf_format.specs.Proper.{AreProper, IsAccepted}
 use Rattle.sf_print.specs.Printed.{printed}
-use Rattle.sf_run.specs.outcome.Status.TheVariants.{Done}
-use Rattle.sf_run.specs.Steps.{StepEnd, Passes, Stores, Fails}
-use Rattle.sf_run.specs.Runs.{RunReport, Uses, used, IsOpen, is_conversion}
-use Rattle.sf_run.specs.Residual.{Tally, nothing_yet, with_used, counted, out_of, then_on, run_of}
-use Rattle.sf_run.specs.Computed.{step_of, part_of, ran_of}
+use Rattle.sf_report.specs.declared.outcome.Status.TheVariants.{Done}
+use Rattle.sf_report.specs.Steps.{StepEnd, Passes, Stores, Fails}
+use Rattle.sf_report.specs.Runs.{RunReport, Uses, used, IsOpen, is_conversion}
+use Rattle.sf_report.specs.Residual.{Tally, nothing_yet, with_used, counted, out_of, then_on, run_of}
+use Rattle.sf_report.specs.Computed.{step_of, part_of, ran_of}
 use Rattle.sf_pair.specs.Below.{LawsBelow}
 use Rattle.sf_pair.specs.Groups.{IsAligned, next_of}
 use Rattle.sf_pair.specs.Fits.{Fit}
@@ -133,7 +133,7 @@ used_is laws ds proper x k (ran, steps, is) = ap (λ (r : RunReport). r.used) (l
     ∙ ap used (sym ((laws.runs ds proper x 0 ran).0 steps)) ∙ is
 
 -- a byte more changes nothing
-pub not_open : LawsBelow → (us : List PrintUnit) (ds : List Directive) → AreAccepted us → IsAccepted ds → IsAligned us ds
+not_open : LawsBelow → (us : List PrintUnit) (ds : List Directive) → AreAccepted us → IsAccepted ds → IsAligned us ds
     → (values : List Datum) → Fit us ds values → (z : List ℕ) → IsOpen ds (printed us values ++ z) → ⊥
 not_open laws us ds accepted proper aligned values fit z (b, small, uses) =
     let one : (run_of None ds 1 nothing_yet ((printed us values ++ z) ++ b ∷ [])).used ≡ length (printed us values ++ z) + 1 =

@@ -16,7 +16,7 @@ use Rattle.sf_pair.specs.Groups.{AreSpace, next_of}
 use Rattle.sf_pair.specs.Formats.{Formats, IsChecked}
 use Rattle.sf_pair.specs.Fits.{Fit}
 use Rattle.sf_pair.proofs.FitCut.{FitCut, GroupReads, fit_cut}
-use Rattle.sf_pair.proofs.Scans.{aligned_of}
+use Rattle.sf_pair.proofs.Cutting.{aligned_is_accepted}
 
 abbrev lowest_from : List Datum → Option PrintFault → List PrintUnit → Option PrintFault
 lowest_from values f us = fold (λ f u. lower f (unit_fault values u)) f us
@@ -51,7 +51,7 @@ pub fit_measured : LawsBelow → (us : List PrintUnit) (ds : List Directive) →
     → measured us values ≡ length_or_fault None (length (printed us values))
 fit_measured laws us ds checked values fit =
     let none = unfaulted values ds us (fit_cut laws values ds us checked.scanned.proper checked.scanned.sized checked.printed.proper
-    (aligned_of us ds checked).cut fit.each) in
+    ((aligned_is_accepted us ds).0 checked.found).cut fit.each) in
     let count : nat_eq (length values) (length (values_of us)) ≡ true = (let e = fit.count in grind (arith, nat_tests)) in
     ap (λ (t : Bool). cond (not t) (Err fault.WrongCount) (length_or_fault (lowest_fault us values) (length (printed us values)))) count
     ∙ ap (λ (f : Option PrintFault). length_or_fault f (length (printed us values))) none

@@ -1,8 +1,8 @@
--- What the crates below say by their laws.
+-- The laws of the crates below.
 use Rattle.sf_format.specs.Laws.{JustSlotsHaveKinds}
 use Rattle.sf_item.specs.Laws.{FrontsCanBeTaken, ReadingsGoOn}
 use Rattle.sf_print.specs.Numeral.{AreNumerals, OnlyNumeral}
-use Rattle.sf_run.specs.Laws.{EachByteIsTried, EachHasOneReport, EachMachineSteps, EachRunIsComputed, EachRunIsTold, EachStepIsComputed, EachStepIsWithin}
+use Rattle.sf_report.specs.Laws.{EachByteIsTried, EachHasOneReport, EachMachineSteps, EachRunIsComputed, EachRunIsTold, EachStepIsComputed, EachStepIsWithin}
 
 pub record LawsBelow : Type 0 where
   pub kinds : JustSlotsHaveKinds

@@ -107,6 +107,6 @@ all_fit values _ _ = false
 abbrev pub fits : List PrintUnit → List Directive → List Datum → Bool
 fits us ds values = (length values == length (values_of us)) && all_fit values (conversions us) (assigned_conversions ds)
 
--- the test says exactly what fits
+-- the test is exact
 abbrev pub FitsIsFit : Type 0
 FitsIsFit = (us : List PrintUnit) (ds : List Directive) (values : List Datum) → fits us ds values ≡ true ↔ Fit us ds values

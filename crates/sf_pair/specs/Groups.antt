@@ -49,8 +49,8 @@ abbrev pub is_one : PrintLetter → Bool
 is_one letter.One = true
 is_one _ = false
 
--- `d i` with `d i`, `u` with `u`, `o` with `o`, `x X` with `x X`, `b` with `b`, `s` with `s`, `[` or `c`, `c` with `c`; the kinds tell `d`
--- from `u`
+-- `d i` with `d i`, `u` with `u`, `o` with `o`, `x X` with `x X`, `b` with `b`, `s` with `s`, `[` or `c`, `c` with `c`;
+-- the kinds distinguish `d` from `u`
 abbrev pub letters_pair : PrintLetter → Shape → Bool
 letters_pair letter.Signed (shape.Int Dec) = true
 letters_pair letter.Signed (shape.Int Auto) = true

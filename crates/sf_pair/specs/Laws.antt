@@ -11,16 +11,16 @@ use Rattle.sf_format.specs.Units.{AreAccepted, values_of}
 use Rattle.sf_format.specs.Proper.{IsAccepted, destinations_of}
 use Rattle.sf_base.specs.Kept.{texts_in}
 use Rattle.sf_print.specs.Printed.{value_at, printed}
-use Rattle.sf_run.specs.outcome.Ending.{Ending}
-use Rattle.sf_run.specs.outcome.Ending.TheVariants.{End}
-use Rattle.sf_run.specs.outcome.Status.TheVariants.{Done, InputFailure}
-use Rattle.sf_run.specs.Runs.{RunReport, Run, is_conversion}
-use Rattle.sf_run.specs.Limits.{RunWithin, RunTold}
-use Rattle.sf_run.specs.Rows.{AreRowOf}
+use Rattle.sf_report.specs.declared.outcome.Ending.{Ending}
+use Rattle.sf_report.specs.declared.outcome.Ending.TheVariants.{End}
+use Rattle.sf_report.specs.declared.outcome.Status.TheVariants.{Done, InputFailure}
+use Rattle.sf_report.specs.Runs.{RunReport, Run, is_conversion}
+use Rattle.sf_report.specs.Limits.{RunWithin, RunTold}
+use Rattle.sf_report.specs.Rows.{AreRowOf}
 use Rattle.sf_format.specs.Widths.{width_sum}
 use Rattle.sf_format.specs.declared.directive.Directive.TheVariants as directive
 use Rattle.sf_print.specs.Text.{value_text}
-use Rattle.sf_run.specs.Steps.{StepEnd, Step}
+use Rattle.sf_report.specs.Steps.{StepEnd, Step}
 use Rattle.sf_pair.specs.declared.fault.PairWhy.TheVariants as why
 use Rattle.sf_pair.specs.declared.fault.PairFault.{PairFault}
 use Rattle.sf_pair.specs.Walk.{pair_fault}
@@ -124,7 +124,7 @@ EachStopIsOne = (us : List PrintUnit) (ds : List Directive) (at : ℕ) (d e : Di
 abbrev pub TakesToo : Directive → List ℕ → ℕ → Type 0
 TakesToo d u b = (n : ℕ) → (end : StepEnd) × Step d (u ++ b ∷ []) n (length u + 1) end
 
--- behind the text of some value that fits, the conversion that reads it takes b too
+-- after the text of some value that fits, the conversion that reads it takes b too
 abbrev pub TakesInto : PrintConv → Conversion → ℕ → Type 0
 TakesInto c s b = (v : Datum) × ValueFits c s v × TakesToo (directive.Conv s) (value_text c v) b
 
@@ -138,16 +138,17 @@ GroupText _ us u = ⊥
 abbrev pub RunsPast : Directive → List PrintUnit → Type 0
 RunsPast d group = (u : List ℕ) × (b : ℕ) × (b < 256) × GroupText d group u × TakesToo d u b
 
--- some byte behind some text of the units that are left is taken too
+-- some byte after some text of the units that are left is taken too
 abbrev pub IsOpenAt : List PrintUnit → List Directive → ℕ → Type 0
 IsOpenAt us ds at = (d : Directive) × (left : List PrintUnit) × StopsAt us ds at d left × RunsPast d left
 
--- where an open end is told, what is printed there is read on into what may follow
+-- where an open end is reported, what is printed there is read on into what may follow
 abbrev pub OpenEndsAreOpen : Type 0
 OpenEndsAreOpen = (us : List PrintUnit) (ds : List Directive) → AreAccepted us → IsAccepted ds → (f : PairFault) → pair_fault us ds ≡ Some f
     → f.why ≡ why.OpenEnd → IsOpenAt us ds f.at
 
--- a literal that stands behind a conversion is taken too, behind the text of some value that fits; what else follows is left out
+-- a literal that follows a conversion is taken too, after the text of some value that fits; what else follows is left
+-- out
 abbrev pub RunsInto : Directive → List PrintUnit → Type 0
 RunsInto (directive.Conv s) (unit.Conv c ∷ unit.Byte b ∷ us) = TakesInto c s b
 RunsInto _ us = Unit {0}
@@ -156,7 +157,7 @@ RunsInto _ us = Unit {0}
 abbrev pub IsRunInto : List PrintUnit → List Directive → ℕ → Type 0
 IsRunInto us ds at = (d : Directive) × (left : List PrintUnit) × StopsAt us ds at d left × RunsInto d left
 
--- where it is told that an item runs on and a literal follows, it does run on into that literal
+-- where the report is that an item runs on and a literal follows, it does run on into that literal
 abbrev pub LiteralsAreRunInto : Type 0
 LiteralsAreRunInto = (us : List PrintUnit) (ds : List Directive) → AreAccepted us → IsAccepted ds → (f : PairFault)
     → pair_fault us ds ≡ Some f

@@ -7,5 +7,5 @@ pub mod Fits
 pub mod Writing
 pub mod Laws
 pub mod Joined
-pub mod Reading
 pub mod Texts
+pub mod Widths

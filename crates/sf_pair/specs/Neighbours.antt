@@ -16,7 +16,7 @@ use Rattle.sf_format.specs.declared.directive.Directive.TheVariants as directive
 use Rattle.sf_item.specs.Radices.{first_radix, prefix_radix}
 use Rattle.sf_item.specs.Tests.{is_ink}
 use Rattle.sf_print.specs.Text.{base_of, pads_with_zeros}
-use Rattle.sf_run.specs.Machine.{some_below}
+use Rattle.sf_report.specs.Machine.{some_below}
 use Rattle.sf_print.specs.Visible.{least}
 
 -- a set of bytes is the test of its members

@@ -1,4 +1,4 @@
--- What is said of formats that are no pair.
+-- The texts for formats that are no pair.
 use Rattle.std.specs.Prelude.{ℕ, List, ◌++◌, codes}
 use Rattle.std.specs.Fmt.{decimal}
 use Rattle.sf_pair.specs.declared.fault.PairWhy.{PairWhy}

@@ -60,7 +60,7 @@ take_group (directive.Conv s) us next = take_conversion s us next
 abbrev pub fault : ℕ → PairWhy → PairFault
 fault at w = record { at = at; why = w }
 
--- at the end of the directives, counted one behind the last
+-- at the end of the directives, counted one after the last
 abbrev pub ending_fault : ℕ → List PrintUnit → Option PairFault
 ending_fault n [] = None
 ending_fault n (u ∷ us) = Some (fault n why.NotAligned)

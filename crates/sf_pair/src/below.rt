@@ -1,12 +1,12 @@
-//! What the crates below say by their laws, in one place.
+//! The laws of the crates below, in one place.
 ghost use Rattle.sf_pair.specs.Below.{LawsBelow};
 
 use sf_format::laws::slots_have_kinds;
 use sf_item::laws::fronts_go_on;
 use sf_print::laws::{are_numerals, only_numeral};
-use sf_run::laws::{bytes_are_tried, one_report, runs_are_computed, steps_are_computed};
+use sf_report::laws::{bytes_are_tried, one_report, runs_are_computed, steps_are_computed};
 
-/// It does nothing: its contract is what their laws say.
+/// It does nothing: its contract is their laws.
 pub(crate) fn laws_below()
     ensures { LawsBelow }
 {

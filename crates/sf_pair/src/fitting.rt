@@ -44,6 +44,7 @@ fn are_members(members: &ByteSet, bytes: &[u8]) -> bool
 }
 
 /// Whether a conversion of the shape and width can read the text, and no more of it.
+#[tactic(auto, using(crate::proofs::FitTests::all_bytes))]
 fn text_fits(read: &Shape, width: u32, bytes: &[u8]) -> bool
     ensures fits { result ≡ text_fits read.now width bytes.now }
     ensures bytes { list_all is_byte bytes.now ≡ true }
@@ -76,7 +77,7 @@ fn slot_fits(conv: &PrintConv, scan: &Conversion, values: &[Value<'_>]) -> bool
     }
 }
 
-/// The first conversion of the units, and the units behind it.
+/// The first conversion of the units, and the units after it.
 fn next_conversion(units: &[Unit]) -> Option<(&PrintConv, &[Unit])>
     ensures { MatchOption result (conversions units.entry.now ≡ [])
         (λ next. conversions units.entry.now ≡ next.0.now ∷ conversions next.1.now) }

@@ -8,11 +8,13 @@ ghost use Rattle.sf_pair.specs.Laws.{AlignedEndsOnNothing, AlignedIsBounded, Ali
 use crate::below::laws_below;
 
 /// The walk finds no fault exactly where the formats are aligned.
+#[tactic(auto, using(crate::proofs::Cutting::aligned_is_accepted))]
 pub fn aligned_is_accepted()
     ensures { AlignedIsAccepted }
 {}
 
-/// The test of what fits says exactly that.
+/// The test of what fits is exact.
+#[tactic(auto, using(crate::proofs::FitTests::fits_is_fit))]
 pub fn fits_is_fit()
     ensures { FitsIsFit }
 {}
@@ -40,6 +42,7 @@ pub fn joined_round_trip()
 }
 
 /// What is read back are the values slot by slot, and aligned formats have as many slots.
+#[tactic(auto, using(crate::proofs::SlotCounts::slots_agree))]
 pub fn slots_agree()
     ensures { AlignedSlotsAgree }
 {
@@ -47,11 +50,13 @@ pub fn slots_agree()
 }
 
 /// A scan format that is aligned with a print format has a width sum.
+#[tactic(auto, using(crate::proofs::Bounds::aligned_is_bounded))]
 pub fn aligned_is_bounded()
     ensures { AlignedIsBounded }
 {}
 
 /// No text that is printed of values that fit is empty.
+#[tactic(auto, using(crate::proofs::Nothing::prints_some))]
 pub fn prints_some()
     ensures { PrintsSome }
 {
@@ -59,6 +64,7 @@ pub fn prints_some()
 }
 
 /// On the empty input a run of an aligned scan format meets the end, before any conversion has completed.
+#[tactic(auto, using(crate::proofs::Nothing::ends_on_nothing))]
 pub fn ends_on_nothing()
     ensures { AlignedEndsOnNothing }
 {
@@ -70,15 +76,17 @@ pub fn held_is_bounded()
     ensures { HeldIsBounded }
 {}
 
-/// Where an open end is told, a byte behind some text that is printed there is taken too.
+/// Where an open end is reported, a byte after some text that is printed there is taken too.
+#[tactic(auto, using(crate::proofs::Refusals::open_ends_are_open))]
 pub fn open_ends_are_open()
     ensures { OpenEndsAreOpen }
 {
     laws_below();
 }
 
-/// Where it is told that an item runs on and a literal comes next, the literal is taken too, behind the text of some
+/// Where the report is that an item runs on and a literal comes next, the literal is taken too, after the text of some
 /// value that fits.
+#[tactic(auto, using(crate::proofs::Refusals::literals_are_run_into))]
 pub fn literals_are_run_into()
     ensures { LiteralsAreRunInto }
 {

@@ -9,6 +9,8 @@ mod neighbours;
 mod pair;
 mod pairing;
 mod walk;
+mod widths;
 
 pub use fault::{PairFault, PairWhy, WriteFault};
 pub use pair::Pair;
+pub use widths::longest_len;

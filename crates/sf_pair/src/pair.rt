@@ -1,38 +1,22 @@
 //! Pairs of formats.
-ghost use Rattle.std.specs.Prelude.{◌≡◌, ◌≤◌, ◌<◌, ◌+◌, ◌++◌, ◌⊎◌, ◌↔◌, ℕ, List, length, map, true, false, Some, None, Ok, Err, IfOk, IfErr, IsOk, IsTrue, IsErrOf, IsSome, IsSomeAnd, MatchResult, unwrap_or, if◌then◌else◌};
-ghost use Rattle.sf_base.specs.Data.{Datum, datum_of};
-ghost use Rattle.sf_base.specs.Kept.{buffer_of, texts_in};
-ghost use Rattle.sf_format.specs.Proper.{destinations_of};
-ghost use Rattle.sf_format.specs.Widths.{width_sum};
+ghost use Rattle.std.specs.Prelude.{◌≡◌, ◌≤◌, ◌<◌, ◌↔◌, length, map, Some, Err, IfOk, IfErr, IsOk, IsTrue, IsErrOf, if◌then◌else◌};
+ghost use Rattle.sf_base.specs.Data.{datum_of};
 ghost use Rattle.sf_print.specs.declared.fault.PrintFault.TheVariants.{TooLong};
 ghost use Rattle.sf_print.specs.Printed.{printed};
 ghost use Rattle.sf_print.specs.Sinks as sinks;
-ghost use Rattle.sf_run.specs.outcome.Ending.{Ending};
-ghost use Rattle.sf_run.specs.outcome.Ending.TheVariants.{End};
-ghost use Rattle.sf_run.specs.Limits.{RunTold};
-ghost use Rattle.sf_run.specs.Memory.{capacity_of};
-ghost use Rattle.sf_run.specs.Stopping.{is_memory_status};
-ghost use Rattle.sf_read.specs.Ahead.{input_of};
-ghost use Rattle.sf_read.specs.Counts.{counted_on};
-ghost use Rattle.sf_read.specs.Reads.{WaitedFor};
-ghost use Rattle.sf_read.specs.Scan.{Scan, is_fault};
 ghost use Rattle.sf_pair.specs.Groups.{IsAligned};
 ghost use Rattle.sf_pair.specs.Formats.{IsChecked};
 ghost use Rattle.sf_pair.specs.Walk.{pair_fault};
 ghost use Rattle.sf_pair.specs.Fits.{Fit, fits};
-ghost use Rattle.sf_pair.specs.Reading.{ReadsBackWhole};
 ghost use Rattle.sf_pair.specs.Writing.{WritesWhole, is_sink_failure};
 
 use crate::below::laws_below;
 use crate::fault::{PairFault, WriteFault};
 use crate::fitting::all_fit;
 use crate::walk::pair_fault;
-use sf_base::{FixedStore, HeapStore, Value};
+use sf_base::Value;
 use sf_format::{PrintFormat, ScanFormat};
 use sf_print::{Sink, fprint};
-use sf_read::{Lookahead, Source, fscan, fscan_fixed, fscan_over};
-use sf_run::{Scanned, StartFault};
-use std::alloc::Global;
 use std::marker::Model;
 
 /// A print format, and a scan format that reads back what it prints of values that fit, whatever follows.
@@ -121,118 +105,5 @@ impl<'f> Pair<'f> {
             Ok(len) => Ok(len),
             Err(fault) => Err(WriteFault::Print(fault)),
         }
-    }
-
-    /// Scans by the pair's scan format, as `fscan` does. What was printed of values that fit is read back.
-    pub fn read<S: Source, const N: usize>(
-        &self,
-        alloc: Global,
-        from: &mut Lookahead<S, N>,
-        limit: u32,
-    ) -> Result<Scanned<HeapStore>, StartFault>
-        ensures scan { (t : List ℕ) → input_of S.to_come from.old ≡ Some t
-            → IfOk result (λ s. Scan S.to_come self.now.scan limit t from.old from.new s.report) }
-        ensures told { IfOk result (λ s. (x : List ℕ) × (ending : Ending)
-            × RunTold self.now.scan limit x ending s.report) }
-        ensures stored { IfOk result (λ s. is_memory_status s.report.status ≡ false) }
-        ensures held { IfOk result (λ s. (n : ℕ) → width_sum self.now.scan ≡ Some n
-            → length (texts_in s.report.values) ≤ n) }
-        ensures back { (values : List Datum) → Fit self.now.print self.now.scan values → (z : List ℕ)
-            → input_of S.to_come from.old ≡ Some (printed self.now.print values ++ z)
-            → length (printed self.now.print values) ≤ limit
-            → IfOk result (λ s. ReadsBackWhole S.to_come S.reads N self.now.print self.now.scan values z from.old
-            from.new s.report) }
-        ensures failures { IfOk result (λ s. S.failures from.new.source
-            ≡ (if is_fault s.report.met then counted_on (S.failures from.old.source) else S.failures from.old.source)) }
-        ensures reads { IfOk result (λ s. S.reads from.new.source ≤ S.reads from.old.source + s.report.used + 1) }
-        ensures waited { IfOk result (λ s. WaitedFor S.to_come S.reads N self.now.scan limit from.old from.new
-            s.report.used) }
-        ensures end { IfOk result (λ s. s.report.met ≡ Some End → from.new.at_end ≡ true) }
-        ensures no_read { from.old.at_end ≡ true → from.new.source ≡ from.old.source }
-        ensures stays { from.old.at_end ≡ true → from.new.at_end ≡ true }
-        ensures limit { IsErrOf result StartFault.BadLimit ↔ (2147483647 < limit) }
-        ensures memory { IfErr result (λ fault. (fault ≡ StartFault.BadLimit) ⊎ (fault ≡ StartFault.NoMemory)) }
-        ensures room { IfOk result (λ s. unwrap_or (width_sum self.now.scan) 0 ≤ capacity_of s.kept) }
-        ensures unread { IfErr result (λ _. from.new ≡ from.old) }
-    {
-        laws_below();
-        fscan(alloc, from, self.scan, limit)
-    }
-
-    /// As `read`, over a store that was used before, as `fscan_over` uses it: its memory is used again.
-    pub fn read_over<S: Source, const N: usize>(
-        &self,
-        alloc: Global,
-        store: HeapStore,
-        from: &mut Lookahead<S, N>,
-        limit: u32,
-    ) -> Result<Scanned<HeapStore>, StartFault>
-        ensures scan { (t : List ℕ) → input_of S.to_come from.old ≡ Some t
-            → IfOk result (λ s. Scan S.to_come self.now.scan limit t from.old from.new s.report) }
-        ensures told { IfOk result (λ s. (x : List ℕ) × (ending : Ending)
-            × RunTold self.now.scan limit x ending s.report) }
-        ensures stored { IfOk result (λ s. is_memory_status s.report.status ≡ false) }
-        ensures held { IfOk result (λ s. (n : ℕ) → width_sum self.now.scan ≡ Some n
-            → length (texts_in s.report.values) ≤ n) }
-        ensures back { (values : List Datum) → Fit self.now.print self.now.scan values → (z : List ℕ)
-            → input_of S.to_come from.old ≡ Some (printed self.now.print values ++ z)
-            → length (printed self.now.print values) ≤ limit
-            → IfOk result (λ s. ReadsBackWhole S.to_come S.reads N self.now.print self.now.scan values z from.old
-            from.new s.report) }
-        ensures failures { IfOk result (λ s. S.failures from.new.source
-            ≡ (if is_fault s.report.met then counted_on (S.failures from.old.source) else S.failures from.old.source)) }
-        ensures reads { IfOk result (λ s. S.reads from.new.source ≤ S.reads from.old.source + s.report.used + 1) }
-        ensures waited { IfOk result (λ s. WaitedFor S.to_come S.reads N self.now.scan limit from.old from.new
-            s.report.used) }
-        ensures end { IfOk result (λ s. s.report.met ≡ Some End → from.new.at_end ≡ true) }
-        ensures no_read { from.old.at_end ≡ true → from.new.source ≡ from.old.source }
-        ensures stays { from.old.at_end ≡ true → from.new.at_end ≡ true }
-        ensures limit { IsErrOf result StartFault.BadLimit ↔ (2147483647 < limit) }
-        ensures memory { IfErr result (λ fault. (fault ≡ StartFault.BadLimit) ⊎ (fault ≡ StartFault.NoMemory)) }
-        ensures enough { limit ≤ 2147483647 → unwrap_or (width_sum self.now.scan) 0
-            ≤ store.room + length (buffer_of store) → IsOk result }
-        ensures as_much { IfOk result (λ s. capacity_of store ≤ capacity_of s.kept) }
-        ensures room { IfOk result (λ s. unwrap_or (width_sum self.now.scan) 0 ≤ capacity_of s.kept) }
-        ensures unread { IfErr result (λ _. from.new ≡ from.old) }
-    {
-        laws_below();
-        fscan_over(alloc, store, from, self.scan, limit)
-    }
-
-    /// The same over a store of fixed capacity. It takes no memory.
-    pub fn read_fixed<const CAP: usize, const SLOTS: usize, S: Source, const N: usize>(
-        &self,
-        from: &mut Lookahead<S, N>,
-        limit: u32,
-    ) -> Result<Scanned<FixedStore<CAP, SLOTS>>, StartFault>
-        ensures scan { (t : List ℕ) → input_of S.to_come from.old ≡ Some t
-            → IfOk result (λ s. Scan S.to_come self.now.scan limit t from.old from.new s.report) }
-        ensures told { IfOk result (λ s. (x : List ℕ) × (ending : Ending)
-            × RunTold self.now.scan limit x ending s.report) }
-        ensures stored { IfOk result (λ s. is_memory_status s.report.status ≡ false) }
-        ensures held { IfOk result (λ s. (n : ℕ) → width_sum self.now.scan ≡ Some n
-            → length (texts_in s.report.values) ≤ n) }
-        ensures back { (values : List Datum) → Fit self.now.print self.now.scan values → (z : List ℕ)
-            → input_of S.to_come from.old ≡ Some (printed self.now.print values ++ z)
-            → length (printed self.now.print values) ≤ limit
-            → IfOk result (λ s. ReadsBackWhole S.to_come S.reads N self.now.print self.now.scan values z from.old
-            from.new s.report) }
-        ensures failures { IfOk result (λ s. S.failures from.new.source
-            ≡ (if is_fault s.report.met then counted_on (S.failures from.old.source) else S.failures from.old.source)) }
-        ensures reads { IfOk result (λ s. S.reads from.new.source ≤ S.reads from.old.source + s.report.used + 1) }
-        ensures waited { IfOk result (λ s. WaitedFor S.to_come S.reads N self.now.scan limit from.old from.new
-            s.report.used) }
-        ensures end { IfOk result (λ s. s.report.met ≡ Some End → from.new.at_end ≡ true) }
-        ensures no_read { from.old.at_end ≡ true → from.new.source ≡ from.old.source }
-        ensures stays { from.old.at_end ≡ true → from.new.at_end ≡ true }
-        ensures limit { IsErrOf result StartFault.BadLimit ↔ (2147483647 < limit) }
-        ensures small { IsErrOf result StartFault.TooSmall ↔ ((limit ≤ 2147483647)
-            × IsSomeAnd (width_sum self.now.scan) (λ n. (CAP < n) ⊎ (SLOTS < length (destinations_of self.now.scan)))) }
-        ensures bounded { IsErrOf result StartFault.Unbounded → ⊥ }
-        ensures memory { IsErrOf result StartFault.NoMemory → ⊥ }
-        ensures unread { IfErr result (λ _. from.new ≡ from.old) }
-    {
-        laws_below();
-        fscan_fixed(from, self.scan, limit)
     }
 }

@@ -11,7 +11,7 @@ use crate::neighbours::{goes_on, is_auto_base, may_begin, pads_with_zeros};
 use sf_base::{Rule, first_fault};
 use sf_format::{Base, Conversion, PrintConv, PrintLetter, Shape, Unit};
 use sf_print::least_len;
-use sf_run::laws::bytes_are_tried;
+use sf_report::laws::bytes_are_tried;
 
 fn is_integer(read: &Shape) -> bool
     ensures { result ≡ is_integer read.now }

@@ -12,7 +12,7 @@ use crate::neighbours::may_begin;
 use crate::pairing::{closing_fault, pairing_fault};
 use sf_base::is_space;
 use sf_format::{Conversion, Directive, Shape, Unit};
-use sf_run::laws::bytes_are_tried;
+use sf_report::laws::bytes_are_tried;
 
 /// How the next directive reads: its shape, where it is an assigned conversion; `none`, which is Count, where it isn't.
 fn reads<'a>(after: &'a [Directive], none: &'a Shape) -> &'a Shape
@@ -44,7 +44,7 @@ fn takes_literal(directive: &Directive, b: u8) -> bool
     }
 }
 
-/// The units behind the literal that the directive takes.
+/// The units after the literal that the directive takes.
 fn take_literal<'a>(directive: &Directive, units: &'a [Unit]) -> Result<&'a [Unit], PairWhy>
     ensures { MatchResult result (λ rest. take_literal (literals_of directive.now) units.entry.now ≡ Ok rest.now)
         (λ why. take_literal (literals_of directive.now) units.entry.now ≡ Err why) }
@@ -64,7 +64,7 @@ fn starts_with_space(units: &[Unit]) -> bool
     }
 }
 
-/// The units behind the white-space literals that stand first.
+/// The units after the white-space literals that stand first.
 fn after_space(units: &[Unit]) -> &[Unit]
     ensures { result.now ≡ after_space units.entry.now }
 {
@@ -147,7 +147,7 @@ fn take_paired<'a>(
     }
 }
 
-/// The units behind the directive's group, where these directives come next.
+/// The units after the directive's group, where these directives come next.
 fn take_group<'a>(
     directive: &Directive,
     after: &[Directive],

@@ -3,6 +3,7 @@ use crate::shared::{found_of, has_read};
 use sf_base::Value;
 use sf_format::Profile;
 use sf_pair::Pair;
+use sf_pair_read::read_back;
 use sf_print::{ListSink, Sink};
 use sf_read::{Lookahead, SliceSource};
 use sf_rows::{LIMIT, bounds, is};
@@ -19,7 +20,7 @@ fn is_read_back(alloc: Global, pair: &Pair<'_>, value: Value<'_>, after: u8) -> 
         return false;
     }
     let mut from = Lookahead::<SliceSource<'_>, 64>::new(SliceSource::new(to.bytes()));
-    match pair.read(alloc, &mut from, LIMIT) {
+    match read_back(alloc, &mut from, pair, LIMIT) {
         Ok(scanned) => has_read(&scanned, &[value], count as usize)
             && from.held() == [after].as_slice(),
         Err(_) => false,

@@ -5,6 +5,7 @@ use crate::shared::{found_of, has_read};
 use sf_base::Value;
 use sf_format::Profile;
 use sf_pair::{Pair, WriteFault};
+use sf_pair_read::{read_back, read_back_fixed};
 use sf_print::{PrintFault, ScriptSink, WriteStep};
 use sf_read::{Lookahead, ReadStep, ScriptSource};
 use sf_rows::{LIMIT, Met, Told, is, trips};
@@ -67,12 +68,12 @@ fn are_read<const N: usize>(
 {
     let steps = [ReadStep::Give(text), ReadStep::Fail];
     let mut from = Lookahead::<ScriptSource<'_>, N>::new(ScriptSource::new(&steps));
-    let is_read = match pair.read(alloc, &mut from, LIMIT) {
+    let is_read = match read_back(alloc, &mut from, pair, LIMIT) {
         Ok(scanned) => has_read(&scanned, values, text.len()) && from.held().is_empty(),
         Err(_) => false,
     };
     let mut again = Lookahead::<ScriptSource<'_>, N>::new(ScriptSource::new(&steps));
-    let is_read_fixed = match pair.read_fixed::<32, 4, _, _>(&mut again, LIMIT) {
+    let is_read_fixed = match read_back_fixed::<32, 4, _, _>(&mut again, pair, LIMIT) {
         Ok(scanned) => has_read(&scanned, values, text.len()),
         Err(_) => false,
     };
@@ -84,7 +85,7 @@ fn ends_at_failure(alloc: Global, pair: &Pair<'_>, text: &[u8], count: usize) ->
     let (front, back) = text.split_at(count.min(text.len()));
     let steps = [ReadStep::Give(front), ReadStep::Fail, ReadStep::Give(back)];
     let mut from = Lookahead::<ScriptSource<'_>, 7>::new(ScriptSource::new(&steps));
-    let Ok(scanned) = pair.read(alloc, &mut from, LIMIT) else {
+    let Ok(scanned) = read_back(alloc, &mut from, pair, LIMIT) else {
         return false;
     };
     let outcome = scanned.report().outcome();
@@ -144,7 +145,7 @@ fn leaves_the_rest(pair: &Pair<'_>) -> bool {
         ReadStep::Give(b"9"),
     ];
     let mut from = Lookahead::<ScriptSource<'_>, 16>::new(ScriptSource::new(&steps));
-    match pair.read_fixed::<0, 2, _, _>(&mut from, LIMIT) {
+    match read_back_fixed::<0, 2, _, _>(&mut from, pair, LIMIT) {
         Ok(scanned) => scanned.report().outcome() == Told::Done(2, 8, Met::Nothing).outcome()
             && has_read(&scanned, &[Value::I32(-42), Value::U32(7)], 8)
             && from.held() == b"9".as_slice(),

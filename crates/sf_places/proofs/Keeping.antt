@@ -6,7 +6,7 @@ use Rattle.sf_places.specs.Behind.{IsBehind}
 use Rattle.sf_places.specs.Accounts.{IsKept}
 use Rattle.sf_places.proofs.Splitting.{same_front}
 
--- the place before the end of the last read is that behind what stands before this end
+-- the place before the end of the last read is that after what stands before this end
 pub behind_front : (input to_come : Option (List ℕ)) (last : List ℕ) (place after : Place) (count : ℕ) (c held z : List ℕ)
     → IsKept input to_come last place
     → count + length held ≡ length last → input ≡ Some (c ++ (held ++ z)) → to_come ≡ Some z

@@ -16,8 +16,8 @@ account_code {S} code =
     (λ a. (a.source, (a.last, (a.place.line, a.place.column))))
     (λ p. record { source = p.0; last = p.1.0; place = record { line = p.1.1.0; column = p.1.1.1 } }) (λ _. refl)
 
--- The input, where it is told, is what was given before the last read, what that gave, and what is to come; and the place is
--- that behind the first of these.
+-- The input, where it is known, is what was given before the last read, what that gave, and what is to come; and the
+-- place is that after the first of these.
 abbrev pub IsKept : Option (List ℕ) → Option (List ℕ) → List ℕ → Place → Type 0
 IsKept None to_come last place = Unit {0}
 IsKept (Some t) None last place = ⊥

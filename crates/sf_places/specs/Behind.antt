@@ -11,11 +11,11 @@ kept_to n = min n (2 ^ 64 - 1)
 abbrev pub AreLines : List ℕ → Type 0
 AreLines text = (text ≡ []) ⊎ ((front : List ℕ) × (text ≡ front ++ 10 ∷ []))
 
--- no byte is a line end
+-- no byte is a newline
 abbrev pub IsLine : List ℕ → Type 0
 IsLine line = AllByRecursion (λ b. (b == 10) ≡ false) line
 
--- the place is that of the byte behind these
+-- the place is that of the byte after these
 pub record IsBehind (bytes : List ℕ) (place : Place) : Type 0 where
   -- the bytes are whole lines, and the begin of one
   pub lines : List ℕ

@@ -20,7 +20,7 @@ impl Place {
         Place { line: 1, column: 1 }
     }
 
-    /// The place behind one more byte.
+    /// The place after one more byte.
     fn behind_byte(self, byte: u8) -> Place
         ensures { (before : List ℕ) → IsBehind before self → IsBehind (before ++ byte ∷ []) result }
     {
@@ -37,7 +37,7 @@ impl Place {
         }
     }
 
-    /// The place behind more bytes.
+    /// The place after more bytes.
     pub fn behind(self, bytes: &[u8]) -> Place
         ensures { (before : List ℕ) → IsBehind before self → IsBehind (before ++ bytes.now) result }
     {

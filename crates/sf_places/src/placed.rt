@@ -11,9 +11,9 @@ use sf_read::{Source, SourceFault};
 use std::marker::{Brand, Model, PhantomData};
 
 /// The most bytes that one read gives.
-pub const BLOCK_BYTES: usize = 4096;
+pub const BLOCK_BYTES: usize = 16_384;
 
-/// The whole input of a source, where it tells that. A call picks it.
+/// The whole input of a source, where that is known. A call picks it.
 pub trait Input {
     ghost input: { Option (List ℕ) };
 }
@@ -77,7 +77,7 @@ impl<S: Source, I: Input> Placed<S, I> {
         Some(self.place.behind(&self.last[..count]))
     }
 
-    /// Moves the place behind the bytes of the last read.
+    /// Moves the place past the bytes of the last read.
     fn pass(&mut self)
         ensures last { self.new.last ≡ [] }
         ensures source { self.new.source ≡ self.old.source }

@@ -69,6 +69,6 @@ length_four_only n lo hi = omega (arith, length_pair n (omega arith) (omega arit
 pub length_at_most : (n : ℕ) → n < 2 ^ 64 → length (decimal n) ≤ 20
 length_at_most n h = length-decimal-le 20 n (omega arith) (omega arith) (omega arith)
 
--- a text behind another
+-- a text after another
 pub behind : (all front before x y text : List ℕ) → all ≡ front ++ y → front ≡ before ++ x → text ≡ x ++ y → all ≡ before ++ text
 behind all front before x y text e f g = rw (e, f, g) (append_assoc before x y)

@@ -15,7 +15,7 @@ HasFault values f (u ∷ us) = (unit_fault values u ≡ Some f) ⊎ HasFault val
 abbrev pub NoneIsLower : List Datum → PrintFault → List PrintUnit → Type 0
 NoneIsLower values f us = AllByRecursion (λ u. IfSome (unit_fault values u) (λ g. slot_of f ≤ slot_of g)) us
 
--- where there is a fault, that of the lowest slot is told, and none only where there is none
+-- where there is a fault, that of the lowest slot is reported, and none only where there is none
 abbrev pub LowestIsTold : Type 0
 LowestIsTold = (units : List PrintUnit) (values : List Datum) →
     ((f : PrintFault) → lowest_fault units values ≡ Some f → HasFault values f units × NoneIsLower values f units)

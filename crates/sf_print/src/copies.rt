@@ -1,6 +1,23 @@
 //! Copies of short texts.
 ghost use Rattle.std.specs.Prelude.{◌≡◌, ◌+◌, ◌≤◌, ◌++◌, length, take, drop};
 
+use std::simd::prelude::*;
+
+/// Copies bytes over a part of a buffer: four, eight or sixteen as one vector, since a loop would first ask whether
+/// both overlap.
+#[inline(always)]
+fn copy_part(bytes: &[u8], buf: &mut [u8], at: usize)
+    requires { at + length bytes.now ≤ length buf.old }
+    ensures { buf.new ≡ take at buf.old ++ (bytes.now ++ drop (at + length bytes.now) buf.old) }
+{
+    match bytes.len() {
+        16 => u8x16::from_slice(bytes).copy_to_slice(&mut buf[at..]),
+        8 => u8x8::from_slice(bytes).copy_to_slice(&mut buf[at..]),
+        4 => u8x4::from_slice(bytes).copy_to_slice(&mut buf[at..]),
+        count => buf[at..at + count].copy_from_slice(bytes),
+    }
+}
+
 /// Copies the first and the last bytes, so many each, over a part of a buffer: all bytes, where there are at most twice
 /// as many. By a constant it takes no call.
 #[inline(always)]
@@ -10,8 +27,8 @@ fn copy_ends(bytes: &[u8], width: usize, buf: &mut [u8], at: usize)
     ensures { buf.new ≡ take at buf.old ++ (bytes.now ++ drop (at + length bytes.now) buf.old) }
 {
     let (len, end) = (bytes.len(), at + bytes.len());
-    buf[at..at + width].copy_from_slice(&bytes[..width]);
-    buf[end - width..end].copy_from_slice(&bytes[len - width..]);
+    copy_part(&bytes[..width], buf, at);
+    copy_part(&bytes[len - width..], buf, end - width);
 }
 
 /// Copies at most sixteen bytes over a part of a buffer.

@@ -9,7 +9,7 @@ use std::alloc::AllocError;
 static PAIRS: [u8; 200] =
     *b"00010203040506070809101112131415161718192021222324252627282930313233343536373839404142434445464748495051525354555657585960616263646566676869707172737475767778798081828384858687888990919293949596979899";
 
-/// A minus, and room behind it for the digits of any number.
+/// A minus, and room after it for the digits of any number.
 const MINUS_AND_ROOM: [u8; 24] = [b'-'; 24];
 
 /// Writes two digits.

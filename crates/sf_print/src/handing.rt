@@ -70,7 +70,7 @@ fn hand_over<K: Sink>(to: &mut K, stage: &mut Stage, piece: &[u8]) -> Result<(),
     }
 }
 
-/// Puts the piece behind what is held.
+/// Puts the piece after what is held.
 pub(crate) fn put<K: Sink>(to: &mut K, stage: &mut Stage, piece: &[u8]) -> Result<(), SinkFault>
     requires { stage.old.written + stage.old.len + length piece.now < 2 ^ 32 }
     ensures text { Puts (K.contents to.old) stage.old (K.contents to.new) stage.new piece.now result }
@@ -91,7 +91,7 @@ pub(crate) fn put<K: Sink>(to: &mut K, stage: &mut Stage, piece: &[u8]) -> Resul
     Ok(())
 }
 
-/// Puts a byte this many times behind what is held.
+/// Puts a byte this many times after what is held.
 pub(crate) fn put_run<K: Sink>(
     to: &mut K,
     stage: &mut Stage,
@@ -116,7 +116,7 @@ pub(crate) fn put_run<K: Sink>(
     Ok(())
 }
 
-/// Puts a byte behind what is held.
+/// Puts a byte after what is held.
 #[inline]
 pub(crate) fn put_byte<K: Sink>(to: &mut K, stage: &mut Stage, byte: u8) -> Result<(), SinkFault>
     requires { stage.old.written + stage.old.len + 1 < 2 ^ 32 }

@@ -13,7 +13,7 @@ pub fn only_numeral()
     ensures { OnlyNumeral }
 {}
 
-/// The fault that is told is that of the lowest slot at fault, and none only where there is none.
+/// The fault that is reported is that of the lowest slot at fault, and none only where there is none.
 pub fn lowest_is_told()
     ensures { LowestIsTold }
 {}

@@ -257,8 +257,8 @@ fn refuse(format: &PrintFormat, values: &[Value<'_>]) -> Result<(), PrintFault>
 
 /// Prints the values by the format to the sink, and answers how many bytes were printed (C11 7.21.6.1).
 ///
-/// It refuses as `printed_len` does, before anything is written. Where the sink fails, `PrintFault::Sink` tells
-/// how many bytes of the text it had taken: less than all. It takes no memory but what the sink takes.
+/// It refuses as `printed_len` does, before anything is written. Where the sink fails, `PrintFault::Sink` has how many
+/// bytes of the text it had taken: less than all. It takes no memory but what the sink takes.
 pub fn fprint<K: Sink>(
     to: &mut K,
     format: &PrintFormat,

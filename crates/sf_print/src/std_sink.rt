@@ -4,8 +4,8 @@ ghost use Rattle.std.specs.Prelude.{◌≡◌};
 use crate::sink::{Sink, SinkFault};
 use std::io::Write;
 
-/// A writer. Its bytes are told as far as the writer tells them. A writer that takes no byte of a nonempty
-/// piece is a failure.
+/// A writer. Its bytes are known as far as the writer's contract knows them. A writer that takes no byte of a nonempty
+/// piece has failed.
 #[derive(Drop)]
 pub struct StdSink<W: Write + Drop> {
     writer: W,

@@ -14,7 +14,7 @@ use crate::text::value_pieces;
 use sf_base::Value;
 use sf_format::PrintConv;
 
-/// The length of the bytes behind the blanks that stand first.
+/// The length of the bytes after the blanks that stand first.
 fn visible_bytes(bytes: &[u8]) -> u64
     ensures { result ≡ length (without_blanks bytes.now) }
 {
@@ -28,7 +28,7 @@ fn visible_bytes(bytes: &[u8]) -> u64
     len
 }
 
-/// The length of the piece behind the blanks that stand first.
+/// The length of the piece after the blanks that stand first.
 fn visible_piece(piece: &Piece<'_>) -> u64
     ensures { result ≡ length (without_blanks (piece_bytes piece.now)) }
 {
@@ -39,7 +39,7 @@ fn visible_piece(piece: &Piece<'_>) -> u64
     }
 }
 
-/// The length of the pieces behind the blanks that stand first.
+/// The length of the pieces after the blanks that stand first.
 fn visible_pieces(pieces: &[Piece<'_>]) -> u64
     requires { length (flat_map piece_bytes pieces.now) < 2 ^ 32 }
     ensures { result ≡ length (without_blanks (flat_map piece_bytes pieces.now)) }
@@ -56,6 +56,7 @@ fn visible_pieces(pieces: &[Piece<'_>]) -> u64
 }
 
 /// The length of the text that the conversion prints of a number, without the blanks before it.
+#[inline(always)]
 pub fn core_len(conv: &PrintConv, value: Value<'_>) -> u32
     requires { is_number value ≡ true }
     ensures { result ≡ length (without_blanks (value_text conv.now (datum_of value.entry))) }

@@ -229,3 +229,47 @@ fn values_are_those_of_their_numbers() -> Result<(), Fail> {
     }
     is(&Kind::Text.value(0), &None, &"a text holds no number")
 }
+
+static KINDS: [Kind; 8] = [
+    Kind::I8,
+    Kind::I16,
+    Kind::I32,
+    Kind::I64,
+    Kind::U8,
+    Kind::U16,
+    Kind::U32,
+    Kind::U64,
+];
+
+/// What a type makes of a value, as a value again.
+fn through<T: ScanInt>(value: Value<'_>) -> Option<Value<'static>> {
+    Some(T::from_value(value)?.value())
+}
+
+/// What each of the eight types makes of a value, in the order of `KINDS`.
+fn through_each(value: Value<'_>) -> [Option<Value<'static>>; 8] {
+    [
+        through::<i8>(value),
+        through::<i16>(value),
+        through::<i32>(value),
+        through::<i64>(value),
+        through::<u8>(value),
+        through::<u16>(value),
+        through::<u32>(value),
+        through::<u64>(value),
+    ]
+}
+
+/// Each type takes the values of its kind, as they are, and no others.
+#[test]
+fn types_take_the_values_of_their_kinds() -> Result<(), Fail> {
+    for row in &VALUES {
+        let (value, kind, _) = row;
+        let found = through_each(*value);
+        for (taken, own) in found.iter().zip(&KINDS) {
+            let wanted = if own == kind { Some(*value) } else { None };
+            is(taken, &wanted, &(value, own))?;
+        }
+    }
+    Ok(())
+}

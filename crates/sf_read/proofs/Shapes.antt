@@ -1,9 +1,10 @@
 -- Rows and the destinations of formats.
-use Rattle.std.proofs.Common.{◌≡◌, ℕ, ◌+◌, ◌-◌, ◌≤◌, Bool, true, false, cond, not, nat_eq, List, length, Option, Some, None, Result, Err, is_some, refl, sym, ap, subst, ◌∙◌, arith}
+use Rattle.std.proofs.Common.{◌≡◌, ℕ, ◌+◌, ◌-◌, ◌≤◌, Bool, true, false, cond, not, nat_eq, List, length, take, drop, Option, Some, None, Result, Err, is_some, if◌then◌else◌, refl, sym, ap, subst, ◌∙◌, arith}
 use Rattle.std.proofs.Math.Nat.{lt_of_not-le}
+use Rattle.std.proofs.lemmas.List.{take-append-drop, length-take-le}
 use Rattle.std.proofs.lemmas.Option.{slice_get_past}
 use Rattle.std.proofs.lemmas.Bool.Decides.{nat_tests}
-use Rattle.std.specs.Prelude.{slice_get}
+use Rattle.std.specs.Prelude.{IfSome, slice_get}
 use Rattle.std.specs.Option.{option_eq}
 use Rattle.sf_base.specs.declared.values.Kind.{Kind}
 use Rattle.sf_format.specs.declared.directive.Directive.{Directive}
@@ -13,15 +14,22 @@ use Rattle.sf_format.proofs.Outcomes.{by_test}
 use Rattle.sf_format.proofs.SlotLookups.{kinds_are}
 use Rattle.sf_run.specs.outcome.Ending.{Ending}
 use Rattle.sf_run.specs.outcome.Status.TheVariants.{Done}
+use Rattle.sf_run.specs.Stopping.{is_memory_status}
 use Rattle.sf_run.specs.Limits.{RunTold}
 use Rattle.sf_run.specs.Rows.{AreGiven, at_slot}
 use Rattle.sf_run.specs.Runs.{RunReport}
 use Rattle.sf_run.proofs.Filling.{done_fills}
 use Rattle.sf_run.specs.declared.feeding.StartFault.{StartFault}
 use Rattle.sf_base.specs.Data.{Datum}
+use Rattle.sf_base.specs.Kept.{Kept}
+use Rattle.sf_run.specs.Memory.{capacity_of}
 use Rattle.sf_read.specs.declared.row.ScanRowFault.{ScanRowFault}
 use Rattle.sf_read.specs.declared.row.ScanRowFault.TheVariants.{Start}
-use Rattle.sf_read.specs.RowScans.{Answers, HasShape}
+use Rattle.sf_read.specs.Ahead.{Ahead, input_of}
+use Rattle.sf_read.specs.Counts.{counted_on}
+use Rattle.sf_read.specs.RowScans.{Answers, HasShape, RowScan, is_run}
+use Rattle.sf_read.specs.Scan.{Scan, is_fault}
+use Rattle.sf_read.proofs.Blocks.{no_reads}
 
 -- ---- shapes
 
@@ -89,3 +97,41 @@ pub no_start : {T : Type 0} (kinds : List Kind) (listed : T → List Datum) (rep
     → Answers kinds listed report r
     → (fault : StartFault) → r ≡ Err (Start fault) → ⊥
 no_start kinds listed report r answers fault e = subst (Answers kinds listed report) e answers
+
+-- nor is it where there was one
+pub run_no_start : {T : Type 0} (r : Result T ScanRowFault) → is_run r ≡ true → (fault : StartFault) → r ≡ Err (Start fault) → ⊥
+run_no_start r is fault e = let h = subst (λ s. is_run s ≡ true) e is in absurd cc
+
+-- a record that was held whole, consumed without a read
+pub row_scanned : {S T : Type 0} (to_come : S → Option (List ℕ)) (reads failures : S → ℕ) (N : ℕ) (kinds : List Kind)
+    (listed : T → List Datum) (ds : List Directive) (m : ℕ) (old new : Ahead S) (report : RunReport) (result : Result T ScanRowFault)
+    → report.status ≡ Done → report.met ≡ None → new.source ≡ old.source → report.used ≤ length old.held
+    → new.held ≡ drop report.used old.held → Answers kinds listed report result
+    → ((t : List ℕ) → input_of to_come old ≡ Some t → Scan to_come ds m t old new report)
+    → ((x : List ℕ) × (ending : Ending) × RunTold ds m x ending report)
+    → RowScan to_come reads failures N kinds listed ds m old new result
+row_scanned to_come reads failures N kinds listed ds m old new report result done met same within held answers scan told = record {
+  report = report;
+  answers = answers;
+  scan = scan;
+  told = told;
+  bounded = λ sum. ap is_memory_status done;
+  failed = subst (λ (o : Option Ending).
+      failures new.source ≡ (if is_fault o then counted_on (failures old.source) else failures old.source))
+      (sym met) (ap failures same);
+  end = λ e. (let h = sym met ∙ e in absurd cc);
+  count = (let e = ap reads same in omega (arith, e));
+  waited = (
+    take report.used old.held,
+    sym (length-take-le report.used old.held within),
+    no_reads (take report.used old.held) new (rw (held, take-append-drop) refl) same,
+  );
+}
+
+-- a store that has come to more room has enough
+pub enough_still : (P : Type 0) (o : Option Kept) (old new : Kept) (n : ℕ) → o ≡ Some new → IfSome o (λ s. n ≤ capacity_of s → P → ⊥)
+    → capacity_of old ≤ capacity_of new → n ≤ capacity_of old → P → ⊥
+enough_still P None old new n is enough more room = absurd cc
+enough_still P (Some s) old new n is enough more room =
+    let same : s ≡ new = (let e = is in cc) in
+    enough (let e = ap capacity_of same in omega (arith, e, more, room))

@@ -47,7 +47,7 @@ pub record RowScan {S T : Type 0} (to_come : S → Option (List ℕ)) (reads fai
   pub report : RunReport
   pub answers : Answers kinds listed report result
   pub scan : (t : List ℕ) → input_of to_come old ≡ Some t → Scan to_come ds m t old new report
-  -- the report is that of some input, also where the source doesn't tell its own
+  -- the report is that of some input, also where the source doesn't make its own known
   pub told : (x : List ℕ) × (ending : Ending) × RunTold ds m x ending report
   pub bounded : IsSome (width_sum ds) → is_memory_status report.status ≡ false
   pub failed : failures new.source ≡ (if is_fault report.met then counted_on (failures old.source) else failures old.source)

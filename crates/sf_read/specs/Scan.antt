@@ -13,11 +13,12 @@ is_fault None = false
 is_fault (Some End) = false
 is_fault (Some Fault) = true
 
--- an input may go on so: not at all, and with its end, where the source has told its end
+-- an input may go on so: not at all, and with its end, where the source has reported its end
 abbrev pub MayFollow : {S : Type 0} → Ahead S → List ℕ → Ending → Type 0
 MayFollow now z ending = now.at_end ≡ true → (z ≡ []) × (ending ≡ End)
 
--- these bytes and what is held now are what was held, and then bytes that were read: none where the source had told its end
+-- these bytes and what is held now are what was held, and then bytes that were read: none where the source had reported
+-- its end
 abbrev pub IsHeldAndRead : {S : Type 0} → Ahead S → List ℕ → Ahead S → Type 0
 IsHeldAndRead old bytes now = (read : List ℕ) × (bytes ++ now.held ≡ old.held ++ read) × (old.at_end ≡ true → read ≡ [])
 
@@ -38,5 +39,5 @@ pub record Scan {S : Type 0} (to_come : S → Option (List ℕ)) (ds : List Dire
   pub read : IsHeldAndRead old (take report.used t) new
   -- the source failed only where nothing was held, and it may give more
   pub nothing_held : is_fault report.met ≡ true → (new.held ≡ []) × (new.at_end ≡ false)
-  -- where it has told its end, nothing is to come
+  -- where it has reported its end, nothing is to come
   pub told : new.at_end ≡ true → (z : List ℕ) → to_come new.source ≡ Some z → z ≡ []

@@ -1,4 +1,4 @@
--- What is said where there is no row.
+-- The texts where there is no row.
 use Rattle.std.specs.Prelude.{ℕ, List, codes}
 use Rattle.sf_run.specs.Wording.{outcome_text, start_fault_text}
 use Rattle.sf_read.specs.declared.row.ScanRowFault.{ScanRowFault}

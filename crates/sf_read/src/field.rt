@@ -3,14 +3,15 @@ ghost use Rattle.std.specs.Prelude.{◌≡◌, IfOk, IsErr, Some};
 ghost use Rattle.std.specs.Option.{option_map};
 ghost use Rattle.sf_base.specs.declared.values.Kind.{Kind};
 ghost use Rattle.sf_base.specs.declared.values.Kind.TheVariants.{Text};
-ghost use Rattle.sf_base.specs.Data.{Datum, datum_of, datum_at, kind_of};
+ghost use Rattle.sf_base.specs.Data.{Datum, datum_at, datum_of, kind_of};
 
 use crate::rows::RowFault;
 use sf_base::{Kind, Store, Value};
 use sf_run::Report;
-use std::alloc::Global;
+use std::alloc::{AllocError, Global};
 
-/// A type that a slot of a row may have: one of the eight integers, or a text of bytes that is the row's own.
+/// A type that a slot of a row may have: one of the eight integers, or a text of bytes that is the row's own. Each type
+/// has its own impl: beside one for all of `ScanInt` a caller's proof can't tell which of the two `Vec<u8>` has.
 pub trait Field: Sized + Drop {
     // The kind of the slot.
     ghost own_kind: { Kind };
@@ -22,8 +23,8 @@ pub trait Field: Sized + Drop {
     fn kind() -> Kind
         ensures { result ≡ own_kind };
 
-    /// The value as this type. It has to be of its kind. Answers NoMemory where memory for a text was refused.
-    fn from_value(alloc: Global, value: Value<'_>) -> Result<Self, RowFault>
+    /// The value as this type. It has to be of its kind. Fails where memory for a text was refused.
+    fn from_value(alloc: Global, value: Value<'_>) -> Result<Self, AllocError>
         requires { kind_of (datum_of value) ≡ own_kind }
         ensures value { IfOk result (λ field. datum field ≡ datum_of value.entry) }
         ensures refused { IsErr result → own_kind ≡ Text };
@@ -45,7 +46,7 @@ impl Field for i8 {
         Kind::I8
     }
 
-    fn from_value(_alloc: Global, value: Value<'_>) -> Result<i8, RowFault> {
+    fn from_value(_alloc: Global, value: Value<'_>) -> Result<i8, AllocError> {
         let Value::I8(n) = value else {
             unreachable!();
         };
@@ -69,7 +70,7 @@ impl Field for i16 {
         Kind::I16
     }
 
-    fn from_value(_alloc: Global, value: Value<'_>) -> Result<i16, RowFault> {
+    fn from_value(_alloc: Global, value: Value<'_>) -> Result<i16, AllocError> {
         let Value::I16(n) = value else {
             unreachable!();
         };
@@ -93,7 +94,7 @@ impl Field for i32 {
         Kind::I32
     }
 
-    fn from_value(_alloc: Global, value: Value<'_>) -> Result<i32, RowFault> {
+    fn from_value(_alloc: Global, value: Value<'_>) -> Result<i32, AllocError> {
         let Value::I32(n) = value else {
             unreachable!();
         };
@@ -117,7 +118,7 @@ impl Field for i64 {
         Kind::I64
     }
 
-    fn from_value(_alloc: Global, value: Value<'_>) -> Result<i64, RowFault> {
+    fn from_value(_alloc: Global, value: Value<'_>) -> Result<i64, AllocError> {
         let Value::I64(n) = value else {
             unreachable!();
         };
@@ -142,7 +143,7 @@ impl Field for u8 {
         Kind::U8
     }
 
-    fn from_value(_alloc: Global, value: Value<'_>) -> Result<u8, RowFault> {
+    fn from_value(_alloc: Global, value: Value<'_>) -> Result<u8, AllocError> {
         let Value::U8(n) = value else {
             unreachable!();
         };
@@ -167,7 +168,7 @@ impl Field for u16 {
         Kind::U16
     }
 
-    fn from_value(_alloc: Global, value: Value<'_>) -> Result<u16, RowFault> {
+    fn from_value(_alloc: Global, value: Value<'_>) -> Result<u16, AllocError> {
         let Value::U16(n) = value else {
             unreachable!();
         };
@@ -192,7 +193,7 @@ impl Field for u32 {
         Kind::U32
     }
 
-    fn from_value(_alloc: Global, value: Value<'_>) -> Result<u32, RowFault> {
+    fn from_value(_alloc: Global, value: Value<'_>) -> Result<u32, AllocError> {
         let Value::U32(n) = value else {
             unreachable!();
         };
@@ -217,7 +218,7 @@ impl Field for u64 {
         Kind::U64
     }
 
-    fn from_value(_alloc: Global, value: Value<'_>) -> Result<u64, RowFault> {
+    fn from_value(_alloc: Global, value: Value<'_>) -> Result<u64, AllocError> {
         let Value::U64(n) = value else {
             unreachable!();
         };
@@ -241,15 +242,13 @@ impl Field for Vec<u8> {
         Kind::Text
     }
 
-    fn from_value(alloc: Global, value: Value<'_>) -> Result<Vec<u8>, RowFault> {
+    fn from_value(alloc: Global, value: Value<'_>) -> Result<Vec<u8>, AllocError> {
         let Value::Text(bytes) = value else {
             unreachable!();
         };
         let mut text = Vec::new(alloc);
-        match text.extend_from_slice(bytes) {
-            Ok(()) => Ok(text),
-            Err(_) => Err(RowFault::NoMemory),
-        }
+        text.extend_from_slice(bytes)?;
+        Ok(text)
     }
 
     fn value(&self) -> Value<'_> {
@@ -258,6 +257,7 @@ impl Field for Vec<u8> {
 }
 
 /// The field of a slot that was given something of its kind.
+#[inline(always)]
 pub(crate) fn taken_from<T: Field, S: Store>(
     alloc: Global,
     report: &Report<'_, S>,
@@ -268,7 +268,7 @@ pub(crate) fn taken_from<T: Field, S: Store>(
     ensures refused { IsErr result → T.own_kind ≡ Text }
 {
     match report.value(slot) {
-        Some(value) => T::from_value(alloc, value),
+        Some(value) => T::from_value(alloc, value).map_err(|_| RowFault::NoMemory),
         None => unreachable!(),
     }
 }

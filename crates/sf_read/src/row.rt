@@ -1,5 +1,5 @@
 //! Rows of what a source gives.
-ghost use Rattle.std.specs.Prelude.{◌≡◌, ◌≤◌, ◌<◌, ◌+◌, ◌⊎◌, ◌↔◌, ℕ, List, true, false, Some, IfErr, IfOk, IfSome, IsErrOf, IsOk, IsSome, unwrap_or, if◌then◌else◌};
+ghost use Rattle.std.specs.Prelude.{◌≡◌, ◌≤◌, ◌<◌, ◌+◌, ◌⊎◌, ◌↔◌, ℕ, List, true, false, Some, IfErr, IfOk, IfSome, IsErrOf, IsNone, IsOk, IsSome, unwrap_or, if◌then◌else◌};
 ghost use Rattle.sf_format.specs.Proper.{AreKinded};
 ghost use Rattle.sf_format.specs.Widths.{width_sum};
 ghost use Rattle.sf_run.specs.Limits.{RunTold};
@@ -13,10 +13,10 @@ ghost use Rattle.sf_read.specs.Reads.{WaitedFor};
 ghost use Rattle.sf_read.specs.RowScans.{Answers, HasShape, RowScan, is_run};
 ghost use Rattle.sf_read.specs.Scan.{Scan, is_fault};
 
-use crate::{Lookahead, Row, RowFault, Source, fscan, fscan_over};
+use crate::{Lookahead, Row, RowFault, Source, fscan, fscan_held, fscan_over};
 use sf_base::{HeapStore, Store};
 use sf_format::ScanFormat;
-use sf_run::{Ending, Outcome, Scanned, StartFault, Status};
+use sf_run::{Ending, MOST_BYTES, Outcome, Report, Scanned, StartFault, Status};
 use std::alloc::Global;
 use std::error::Error;
 use std::fmt;
@@ -123,10 +123,92 @@ fn scan_with<S: Source, const N: usize>(
     }
 }
 
+/// Makes a store for the texts of the format where there is none. False where memory for it was refused.
+#[inline(always)]
+fn has_store(alloc: Global, store: &mut Option<HeapStore>, format: &ScanFormat) -> bool
+    ensures made { result ≡ true → IsSome store.new }
+    ensures same { IsSome store.old → (result ≡ true) × (store.new ≡ store.old) }
+{
+    if store.is_some() {
+        return true;
+    }
+    match HeapStore::new(alloc, format.width_sum().unwrap_or(0)) {
+        Ok(made) => {
+            *store = Some(made);
+            true
+        }
+        Err(_) => false,
+    }
+}
+
+/// The row of a record that is held whole, where it is seen at once to be Done: then the record is consumed, and the
+/// store keeps its values. None where that isn't so: then nothing was consumed, and the store may keep something.
+#[inline(always)]
+fn row_held<T: Row, S: Source, const N: usize>(
+    alloc: Global,
+    store: &mut HeapStore,
+    from: &mut Lookahead<S, N>,
+    format: &ScanFormat,
+    limit: u32,
+) -> Option<Result<T, ScanRowFault>>
+    requires kinded { AreKinded format.now }
+    requires shape { HasShape T.kinds format.now }
+    ensures run { IfSome result (λ row. RowScan S.to_come S.reads S.failures N T.kinds T.listed format.now limit
+        from.old from.new row) }
+    ensures is_run { IfSome result (λ row. is_run row ≡ true) }
+    ensures no_read { from.new.source ≡ from.old.source }
+    ensures stays { from.new.at_end ≡ from.old.at_end }
+    ensures none { IsNone result → from.new ≡ from.old }
+    ensures room { capacity_of store.old ≤ capacity_of store.new }
+{
+    let outcome = fscan_held(store, from, format, limit)?;
+    let report = Report::new(outcome, store);
+    match T::from_report(alloc, &report) {
+        Ok(row) => Some(Ok(row)),
+        Err(RowFault::NoMemory) => Some(Err(ScanRowFault::NoMemory)),
+    }
+}
+
+/// As `scan_row_over`, by a scan whatever is held.
+#[inline(never)]
+fn row_by_scan<T: Row, S: Source, const N: usize>(
+    alloc: Global,
+    store: &mut Option<HeapStore>,
+    from: &mut Lookahead<S, N>,
+    format: &ScanFormat,
+    limit: u32,
+) -> Result<T, ScanRowFault>
+    requires kinded { AreKinded format.now }
+    requires shape { HasShape T.kinds format.now }
+    ensures shape { IsErrOf result ScanRowFault.ShapeDiffers → ⊥ }
+    ensures limit { IsErrOf result (ScanRowFault.Start StartFault.BadLimit) ↔ (2147483647 < limit) }
+    ensures start { (fault : StartFault) → IsErrOf result (ScanRowFault.Start fault)
+        → (fault ≡ StartFault.BadLimit) ⊎ (fault ≡ StartFault.NoMemory) }
+    ensures unread { is_run result ≡ false → from.new ≡ from.old }
+    ensures run { is_run result ≡ true → RowScan S.to_come S.reads S.failures N T.kinds T.listed format.now limit
+        from.old from.new result }
+    ensures no_read { from.old.at_end ≡ true → from.new.source ≡ from.old.source }
+    ensures stays { from.old.at_end ≡ true → from.new.at_end ≡ true }
+    ensures enough { IfSome store.old (λ s. unwrap_or (width_sum format.now) 0 ≤ capacity_of s
+        → IsErrOf result (ScanRowFault.Start StartFault.NoMemory) → ⊥) }
+    ensures left { is_run result ≡ true → IsSome store.new }
+    ensures as_much { is_run result ≡ true → IfSome store.old
+        (λ old. IfSome store.new (λ s. capacity_of old ≤ capacity_of s)) }
+{
+    match scan_with(alloc, store.take(), from, format, limit) {
+        Ok(scanned) => {
+            let row = row_of(alloc, &scanned);
+            *store = Some(scanned.into_store());
+            row
+        }
+        Err(fault) => Err(ScanRowFault::Start(fault)),
+    }
+}
+
 /// Scans as `fscan` does, and makes a row of the values.
 ///
 /// Refuses with ShapeDiffers where the slots of the row and their kinds are not the destinations of the format and
-/// theirs; then with Start where `fscan` refuses; nothing was read then. A run that doesn't end as Done is told by
+/// theirs; then with Start where `fscan` refuses; nothing was read then. A run that doesn't end as Done is reported by
 /// Failed, and its bytes are consumed. Last comes NoMemory, where memory for the row was refused; its bytes are
 /// consumed too.
 pub fn scan_row<T: Row, S: Source, const N: usize>(
@@ -178,12 +260,16 @@ pub fn scan_row_over<T: Row, S: Source, const N: usize>(
     if !has_shape::<T>(format) {
         return Err(ScanRowFault::ShapeDiffers);
     }
-    match scan_with(alloc, store.take(), from, format, limit) {
-        Ok(scanned) => {
-            let row = row_of(alloc, &scanned);
-            *store = Some(scanned.into_store());
-            row
-        }
-        Err(fault) => Err(ScanRowFault::Start(fault)),
+    if limit > MOST_BYTES {
+        return Err(ScanRowFault::Start(StartFault::BadLimit));
     }
+    if !has_store(alloc, store, format) {
+        return Err(ScanRowFault::Start(StartFault::NoMemory));
+    }
+    if let Some(kept) = store
+        && let Some(row) = row_held(alloc, kept, from, format, limit)
+    {
+        return row;
+    }
+    row_by_scan(alloc, store, from, format, limit)
 }

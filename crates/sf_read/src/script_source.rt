@@ -18,7 +18,7 @@ pub enum ReadStep<'a> {
     Fail,
 }
 
-/// Gives what a script says, and then nothing more.
+/// Gives what a script has, and then nothing more.
 #[derive(Drop)]
 pub struct ScriptSource<'a> {
     present: &'a [u8],
@@ -123,7 +123,7 @@ impl Source for ScriptSource<'_> {
 
     ghost failures = { λ s. s.failures };
 
-    /// Fails exactly where the script says so next. Else it gives as many bytes of the present text as the buffer
+    /// Fails exactly where the script has a failure next. Else it gives as many bytes of the present text as the buffer
     /// holds.
     fn read(&mut self, buf: &mut [u8]) -> Result<usize, SourceFault>
         ensures bound { ReadsAtMost result buf.new }

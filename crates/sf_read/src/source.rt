@@ -21,7 +21,7 @@ pub trait Source: Drop {
 
     ghost failures: { Self → ℕ };
 
-    /// Writes the next bytes to the front of the buffer, and says how many. Writes none only where none are to come,
+    /// Writes the next bytes to the front of the buffer, and answers how many. Writes none only where none are to come,
     /// or where the buffer is empty. A read that failed gave no bytes.
     fn read(&mut self, buf: &mut [u8]) -> Result<usize, SourceFault>
         ensures bound { ReadsAtMost result buf.new }

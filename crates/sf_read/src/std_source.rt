@@ -4,7 +4,7 @@ ghost use Rattle.std.specs.Prelude.{◌≡◌};
 use crate::{Source, SourceFault};
 use std::io::Read;
 
-/// Gives the bytes of a reader, and tells them as far as the reader's contract does.
+/// Gives the bytes of a reader. They are known as far as the reader's contract knows them.
 ///
 /// Each read is one read of the reader. An interrupted one has failed, and is not asked again.
 #[derive(Drop)]

@@ -32,7 +32,9 @@ pub fn count_newlines(lines: &mut u64, bytes: &[u8])
     *lines = lines.saturating_add(more as u64);
 }
 
-/// Feeds the run until it ends: first what is held, then block by block. The newlines that it consumes are counted.
+/// Feeds the run until it ends: first what is held, then block by block. The newlines that it consumes are counted,
+/// where a caller asks for them: it stands in each caller's code, so that the others don't count.
+#[inline(always)]
 fn drive<S: Source, T: Store, const N: usize>(
     scanner: &mut Scanner<'_, T>,
     from: &mut Lookahead<S, N>,
@@ -70,6 +72,7 @@ fn drive<S: Source, T: Store, const N: usize>(
 }
 
 /// What the run of the scanner comes to, over what is held and then what the source gives.
+#[inline(always)]
 fn run<S: Source, T: Store, const N: usize>(
     mut scanner: Scanner<'_, T>,
     from: &mut Lookahead<S, N>,
@@ -104,11 +107,11 @@ fn run<S: Source, T: Store, const N: usize>(
 
 /// Scans what the lookahead holds, and then what its source gives, by a format, as fscanf does (C11 7.21.6.2). The run
 /// consumes at most `limit` bytes; what it doesn't use stays held or unread. The source is read only where nothing is
-/// held and the run waits, and never again once it has told its end. A failing read ends the input of this scan.
+/// held and the run waits, and never again once it has reported its end. A failing read ends the input of this scan.
 ///
 /// Refuses a limit above 2147483647 with BadLimit; then it answers NoMemory where memory was refused. Where it refuses,
-/// nothing was read. Where memory for a text is refused later, the report tells it; a format with a width sum needs
-/// none then.
+/// nothing was read. Where memory for a text is refused later, the report has it; a format with a width sum needs none
+/// then.
 pub fn fscan<S: Source, const N: usize>(
     alloc: Global,
     from: &mut Lookahead<S, N>,
@@ -134,10 +137,13 @@ pub fn fscan<S: Source, const N: usize>(
     if limit > MOST_BYTES {
         return Err(StartFault::BadLimit);
     }
-    let Ok(store) = HeapStore::new(alloc, format.width_sum().unwrap_or(0)) else {
+    let Ok(mut store) = HeapStore::new(alloc, format.width_sum().unwrap_or(0)) else {
         return Err(StartFault::NoMemory);
     };
-    fscan_over(alloc, store, from, format, limit)
+    if let Some(outcome) = fscan_held(&mut store, from, format, limit) {
+        return Ok(Scanned::new(outcome, store));
+    }
+    fscan_by_scanner(alloc, store, from, format, limit)
 }
 
 /// As `fscan`, over a store that was used before, as `Scanner::over` uses it: what it keeps is taken away, and its
@@ -177,12 +183,7 @@ pub fn fscan_over<S: Source, const N: usize>(
     {
         return Ok(Scanned::new(outcome, store));
     }
-    let mut lines = 0;
-    Ok(run(
-        Scanner::over(alloc, store, format, limit)?,
-        from,
-        &mut lines,
-    ))
+    fscan_by_scanner(alloc, store, from, format, limit)
 }
 
 /// As `fscan_over`, by a scanner whatever is held; the newlines that the run consumes are added to `lines`, which stays
@@ -220,13 +221,50 @@ pub fn fscan_counting<S: Source, const N: usize>(
     Ok(run(Scanner::over(alloc, store, format, limit)?, from, lines))
 }
 
+/// As `fscan_over`, by a scanner whatever is held. It stands in its callers' code, so that room for a scanner is made
+/// only where one is needed.
+#[inline(always)]
+fn fscan_by_scanner<S: Source, const N: usize>(
+    alloc: Global,
+    store: HeapStore,
+    from: &mut Lookahead<S, N>,
+    format: &ScanFormat,
+    limit: u32,
+) -> Result<Scanned<HeapStore>, StartFault>
+    ensures scan { (t : List ℕ) → input_of S.to_come from.old ≡ Some t
+        → IfOk result (λ s. Scan S.to_come format.now limit t from.old from.new s.report) }
+    ensures told { IfOk result (λ s. (x : List ℕ) × (ending : Ending) × RunTold format.now limit x ending s.report) }
+    ensures bounded { IsSome (width_sum format.now) → IfOk result (λ s. is_memory_status s.report.status ≡ false) }
+    ensures failures { IfOk result (λ s. S.failures from.new.source
+        ≡ (if is_fault s.report.met then counted_on (S.failures from.old.source) else S.failures from.old.source)) }
+    ensures reads { IfOk result (λ s. S.reads from.new.source ≤ S.reads from.old.source + s.report.used + 1) }
+    ensures waited { IfOk result (λ s. WaitedFor S.to_come S.reads N format.now limit from.old from.new s.report.used) }
+    ensures end { IfOk result (λ s. s.report.met ≡ Some Ending.End → from.new.at_end ≡ true) }
+    ensures no_read { from.old.at_end ≡ true → from.new.source ≡ from.old.source }
+    ensures stays { from.old.at_end ≡ true → from.new.at_end ≡ true }
+    ensures limit { IsErrOf result StartFault.BadLimit ↔ (2147483647 < limit) }
+    ensures memory { IfErr result (λ fault. (fault ≡ StartFault.BadLimit) ⊎ (fault ≡ StartFault.NoMemory)) }
+    ensures enough { limit ≤ 2147483647 → unwrap_or (width_sum format.now) 0 ≤ store.room + length (buffer_of store)
+        → IsOk result }
+    ensures room { IfOk result (λ s. unwrap_or (width_sum format.now) 0 ≤ capacity_of s.kept) }
+    ensures as_much { IfOk result (λ s. capacity_of store ≤ capacity_of s.kept) }
+    ensures unread { IfErr result (λ _. from.new ≡ from.old) }
+{
+    let mut lines = 0;
+    Ok(run(
+        Scanner::over(alloc, store, format, limit)?,
+        from,
+        &mut lines,
+    ))
+}
+
 /// Scans a record that is held whole, without a scanner: where it is Done before a byte of what the lookahead holds is
 /// lacking, it is consumed, and the store, which is emptied first, has its values; `Report::new` of both is the report
 /// of the scan. The run consumes at most `limit` bytes, and the source isn't read.
 ///
 /// It answers wherever the record is Done before a byte of what is held, or of the limit, is lacking, and the store has
 /// room for its texts. Where it answers None nothing was consumed, and the store may keep something; `fscan_over` with
-/// that store tells what the record comes to.
+/// that store has the result of the record.
 pub fn fscan_held<S: Source, const N: usize>(
     store: &mut HeapStore,
     from: &mut Lookahead<S, N>,

@@ -46,23 +46,20 @@ fn lay_down(text: &[u8], block: &mut [u8])
     block[text.len()] = b'\n';
 }
 
-/// Scans a whole text without a scanner, where it is seen at once to be Done. What a short text comes to with a newline
-/// after it tells what it comes to alone. None where that isn't so, or isn't known here: then the store may keep
-/// something.
-fn scan_at_once(
+/// As `scan_at_once`, of a short text: its result with a newline after it is that of the text alone.
+#[inline(never)]
+fn scan_with_newline(
     store: &mut HeapStore,
     text: &[u8],
     format: &ScanFormat,
     limit: u32,
 ) -> Option<Outcome>
+    requires { length text.now < BLOCK }
     ensures run { IfSome result (λ outcome. RunWithin format.now limit text.now Ending.End
         (report_by outcome store.new.values)) }
     ensures texts { IfSome result (λ _. HoldsValues store.new) }
     ensures room { capacity_of store.old ≤ capacity_of store.new }
 {
-    if text.len() >= BLOCK {
-        return quick_run(store, format, limit, text);
-    }
     let directives = format.directives();
     let mut block = [0; BLOCK];
     lay_down(text, &mut block);
@@ -87,6 +84,33 @@ fn scan_at_once(
     })
 }
 
+/// Scans a whole text without a scanner, where it is seen at once to be Done. A text that is long or ends in a newline
+/// is scanned where it stands, a short one that isn't Done there with a newline after it. None where it isn't Done, or
+/// that isn't known here: then the store may keep something.
+#[inline(always)]
+fn scan_at_once(
+    store: &mut HeapStore,
+    text: &[u8],
+    format: &ScanFormat,
+    limit: u32,
+) -> Option<Outcome>
+    ensures run { IfSome result (λ outcome. RunWithin format.now limit text.now Ending.End
+        (report_by outcome store.new.values)) }
+    ensures texts { IfSome result (λ _. HoldsValues store.new) }
+    ensures room { capacity_of store.old ≤ capacity_of store.new }
+{
+    if text.len() >= BLOCK {
+        return quick_run(store, format, limit, text);
+    }
+    if let Some(last) = text.last()
+        && *last == b'\n'
+        && let Some(outcome) = quick_run(store, format, limit, text)
+    {
+        return Some(outcome);
+    }
+    scan_with_newline(store, text, format, limit)
+}
+
 /// What the run of the scanner comes to, over a whole text.
 fn run_over<S: Store>(mut scanner: Scanner<'_, S>, text: &[u8]) -> Scanned<S>
     requires { IsFresh (standing scanner) }
@@ -104,10 +128,34 @@ fn run_over<S: Store>(mut scanner: Scanner<'_, S>, text: &[u8]) -> Scanned<S>
     }
 }
 
+/// As `sscan_over`, by a scanner. It stands in its callers' code, so that room for a scanner is made only where one is
+/// needed.
+#[inline(always)]
+fn scan_by_scanner(
+    alloc: Global,
+    store: HeapStore,
+    text: &[u8],
+    format: &ScanFormat,
+    limit: u32,
+) -> Result<Scanned<HeapStore>, StartFault>
+    ensures report { IfOk result (λ s. RunTold format.now limit text.now Ending.End s.report) }
+    ensures bounded { IsSome (width_sum format.now) → IfOk result
+        (λ s. RunWithin format.now limit text.now Ending.End s.report) }
+    ensures limit { IsErrOf result StartFault.BadLimit ↔ (2147483647 < limit) }
+    ensures memory { IfErr result (λ fault. (fault ≡ StartFault.BadLimit) ⊎ (fault ≡ StartFault.NoMemory)) }
+    ensures enough { limit ≤ 2147483647 → unwrap_or (width_sum format.now) 0 ≤ store.room + length (buffer_of store)
+        → IsOk result }
+    ensures room { IfOk result (λ s. unwrap_or (width_sum format.now) 0 ≤ capacity_of s.kept) }
+    ensures as_much { IfOk result (λ s. capacity_of store ≤ capacity_of s.kept) }
+{
+    let scanner = Scanner::over(alloc, store, format, limit)?;
+    Ok(run_over(scanner, text))
+}
+
 /// Scans a whole text by a format, as sscanf does (C11 7.21.6.7). The run consumes at most `limit` bytes.
 ///
 /// Refuses a limit above 2147483647 with BadLimit; then it answers NoMemory where memory was refused. Where memory for
-/// a text is refused later, the report tells it; a format with a width sum needs none then.
+/// a text is refused later, the report has it; a format with a width sum needs none then.
 pub fn sscan(
     alloc: Global,
     text: &[u8],
@@ -124,10 +172,13 @@ pub fn sscan(
     if limit > MOST_BYTES {
         return Err(StartFault::BadLimit);
     }
-    let Ok(store) = HeapStore::new(alloc, format.width_sum().unwrap_or(0)) else {
+    let Ok(mut store) = HeapStore::new(alloc, format.width_sum().unwrap_or(0)) else {
         return Err(StartFault::NoMemory);
     };
-    sscan_over(alloc, store, text, format, limit)
+    if let Some(outcome) = scan_at_once(&mut store, text, format, limit) {
+        return Ok(Scanned::new(outcome, store));
+    }
+    scan_by_scanner(alloc, store, text, format, limit)
 }
 
 /// As `sscan`, over a store that was used before, as `Scanner::over` uses it: what it keeps is taken away, and its
@@ -157,6 +208,5 @@ pub fn sscan_over(
     {
         return Ok(Scanned::new(outcome, store));
     }
-    let scanner = Scanner::over(alloc, store, format, limit)?;
-    Ok(run_over(scanner, text))
+    scan_by_scanner(alloc, store, text, format, limit)
 }

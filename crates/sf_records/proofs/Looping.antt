@@ -96,7 +96,7 @@ drop_front a h z u e = rw (← e, append_assoc) (drop-append_seam a (h ++ z))
 
 -- ---- where the loop is ended before
 
--- memory was refused behind the records that were passed
+-- memory was refused after the records that were passed
 short_of_memory : (one : EachHasOneReport) (w : Work) (ds : List Directive) → AreProper ds
     → (m : ℕ) (x left : List ℕ) (ending : Ending) (front : List RunReport) (spent : ℕ) (answer : ToolEnd)
     → length front ≤ most_records → Passed w ds m x ending front left → IsRefusedBehind front w ds m left ending spent

@@ -19,16 +19,16 @@ use Rattle.sf_run.specs.Runs.{RunReport}
 use Rattle.sf_read.specs.Ahead.{Ahead}
 use Rattle.sf_records.specs.declared.end.ToolEnd.{ToolEnd}
 use Rattle.sf_records.specs.declared.end.ToolFault.TheVariants as faults
-use Rattle.sf_records.specs.declared.form.OutputForm.{OutputForm}
-use Rattle.sf_records.specs.declared.form.OutputForm.TheVariants.{Tsv, Json}
+use Rattle.sf_forms.specs.declared.form.OutputForm.{OutputForm}
+use Rattle.sf_forms.specs.declared.form.OutputForm.TheVariants.{Tsv, Json}
 use Rattle.sf_records.specs.declared.turn.Turn.{Turn}
 use Rattle.sf_records.specs.declared.turn.Turn.TheVariants.{Goes, Ends, Cut, Failed, Stalled, Unfit, RanOut}
 use Rattle.sf_records.specs.Forms.{row_text, writing}
 use Rattle.sf_records.specs.Judging.{is_write}
 use Rattle.sf_records.specs.ReadingBack.{AreDone, AreRows, AreRowsOf, HaveKinds, JsonReadsBack, ReadsAsRows, RecordsAreRows, TsvReadsBack}
 use Rattle.sf_records.specs.ReadingBack.{WrittenReadsBack}
-use Rattle.sf_records.specs.JsonReading.{element_of, json_rows}
-use Rattle.sf_records.specs.Tables.{tsv_rows}
+use Rattle.sf_forms.specs.JsonReading.{element_of, json_rows}
+use Rattle.sf_forms.specs.Tables.{tsv_rows}
 use Rattle.sf_records.specs.Records.{EndsWith, IsCutShort, Loops, Passed, StopsAt, end_by, ended, ending_by, input_by}
 use Rattle.sf_records.specs.Turns.{turn_by, turn_of, writes}
 use Rattle.sf_records.specs.Works.{Work, last_text, texts, turn_in}

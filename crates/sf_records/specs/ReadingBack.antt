@@ -1,11 +1,9 @@
--- What was written reads back.
-use Rattle.std.specs.Prelude.{◌≡◌, ◌++◌, ℕ, false, List, [], ◌∷◌, length, map, drop, Option, Some, IsUtf8}
-use Rattle.std.specs.List.{AllByRecursion, flat_map}
+-- What a loop wrote reads back.
+use Rattle.std.specs.Prelude.{◌≡◌, ◌++◌, ℕ, false, List, [], ◌∷◌, length, map, drop, Option, Some}
+use Rattle.std.specs.List.{flat_map}
 use Rattle.sf_base.specs.Bytes.{AreBytes}
-use Rattle.sf_base.specs.Data.{Datum, kind_of}
-use Rattle.sf_base.specs.declared.values.Kind.{Kind}
+use Rattle.sf_base.specs.Data.{Datum}
 use Rattle.sf_run.specs.Rows.{AreRowOf, kinds_of}
-pub use Rattle.sf_run.specs.Rows.{IsValue}
 use Rattle.sf_format.specs.declared.directive.Directive.{Directive}
 use Rattle.sf_format.specs.Proper.{IsAccepted, destinations_of}
 use Rattle.sf_run.specs.outcome.Ending.{Ending}
@@ -14,41 +12,14 @@ use Rattle.sf_run.specs.Limits.{RunWithin}
 use Rattle.sf_run.specs.Runs.{RunReport}
 use Rattle.sf_read.specs.Ahead.{Ahead}
 use Rattle.sf_records.specs.declared.end.ToolEnd.{ToolEnd}
-use Rattle.sf_records.specs.declared.form.OutputForm.{OutputForm}
-use Rattle.sf_records.specs.declared.form.OutputForm.TheVariants.{Tsv, Json}
-use Rattle.sf_records.specs.Forms.{record_text, row_text, writing}
-use Rattle.sf_records.specs.JsonReading.{element_of, json_rows}
+use Rattle.sf_forms.specs.declared.form.OutputForm.{OutputForm}
+use Rattle.sf_forms.specs.declared.form.OutputForm.TheVariants.{Tsv, Json}
+use Rattle.sf_forms.specs.JsonReading.{element_of, json_rows}
+pub use Rattle.sf_forms.specs.ReadingBack.{AreRows, HaveKinds, IsValue, JsonReadsBack, RecordsAreRows, TsvReadsBack}
+use Rattle.sf_forms.specs.Tables.{tsv_rows}
+use Rattle.sf_records.specs.Forms.{row_text, writing}
 use Rattle.sf_records.specs.Judging.{is_write}
 use Rattle.sf_records.specs.Records.{Loops, ending_by, input_by}
-use Rattle.sf_records.specs.Tables.{tsv_rows}
-
--- each row has such values
-abbrev pub AreRows : List (List Datum) → Type 0
-AreRows rows = AllByRecursion (λ row. AllByRecursion IsValue row) rows
-
--- each row has values of these kinds
-abbrev pub HaveKinds : List Kind → List (List Datum) → Type 0
-HaveKinds kinds rows = AllByRecursion (λ row. map kind_of row ≡ kinds) rows
-
--- the record of a report is that of its row
-abbrev pub RecordsAreRows : Type 0
-RecordsAreRows = (form : OutputForm) (n : ℕ) (row : List Datum) (r : RunReport) → AreRowOf n row r.values
-    → record_text form n r ≡ row_text form row
-
--- a table of rows of the same kinds gives them back
-abbrev pub TsvReadsBack : Type 0
-TsvReadsBack = (kinds : List Kind) (rows : List (List Datum)) → AreRows rows → HaveKinds kinds rows
-    → tsv_rows kinds (flat_map (row_text Tsv) rows) ≡ rows
-
--- arrays give their values back, without the kinds
-abbrev pub JsonReadsBack : Type 0
-JsonReadsBack = (rows : List (List Datum)) → AreRows rows → json_rows (flat_map (row_text Json) rows) ≡ Some (map (map element_of) rows)
-
--- and are UTF-8 (RFC 8259, 8.1)
-abbrev pub JsonIsUtf8 : Type 0
-JsonIsUtf8 = (rows : List (List Datum)) → AreRows rows → IsUtf8 (flat_map (row_text Json) rows)
-
--- ---- what a loop wrote
 
 -- the rows are those of the reports, one by one
 abbrev pub AreRowsOf : ℕ → List (List Datum) → List RunReport → Type 0
@@ -61,8 +32,8 @@ abbrev pub AreDone : List Directive → ℕ → List ℕ → Ending → List Run
 AreDone ds m x ending [] = Unit {0}
 AreDone ds m x ending (r ∷ rs) = RunWithin ds m x ending r × (r.status ≡ Done) × AreDone ds m (drop r.used x) ending rs
 
--- The text is that of full records, as many as the answer tells, and of a part of one more, where the sink failed within it. The
--- full records are those of the values of the input's runs, and as tables or arrays read back as these.
+-- The text is that of full records, as many as the answer has, and of a part of one more, where the sink failed within
+-- it. The full records are those of the values of the input's runs, and as tables or arrays read back as these.
 pub record ReadsAsRows (form : OutputForm) (ds : List Directive) (m : ℕ) (x : List ℕ) (ending : Ending) (text : List ℕ)
     (answer : ToolEnd) : Type 0 where
   pub reports : List RunReport

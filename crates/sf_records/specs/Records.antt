@@ -5,11 +5,11 @@ use Rattle.sf_format.specs.declared.directive.Directive.{Directive}
 use Rattle.sf_format.specs.Widths.{width_sum}
 use Rattle.sf_run.specs.outcome.Ending.{Ending}
 use Rattle.sf_run.specs.outcome.Ending.TheVariants.{End, Fault}
-use Rattle.sf_run.specs.outcome.Outcome.{Outcome}
 use Rattle.sf_run.specs.Runs.{RunReport}
 use Rattle.sf_run.specs.Limits.{RunWithin, RunRefused}
 use Rattle.sf_read.specs.Ahead.{Ahead, input_of}
 use Rattle.sf_read.specs.Counts.{counted_on}
+use Rattle.sf_makers.specs.Works.{outcome_of}
 use Rattle.sf_records.specs.declared.turn.Turn.{Turn}
 use Rattle.sf_records.specs.declared.turn.Turn.TheVariants.{Goes, Ends, Cut, Failed, Stalled, Unfit, RanOut}
 use Rattle.sf_records.specs.declared.end.ToolEnd.{ToolEnd}
@@ -33,17 +33,6 @@ uses [] = 0
 uses (r ∷ rs) = r.used + uses rs
 
 -- ---- how the loop ends
-
--- what a run came to, but for its values
-abbrev pub outcome_of : RunReport → Outcome
-outcome_of r = record {
-  status = r.status;
-  at = r.at;
-  assigned = r.assigned;
-  converted = r.converted;
-  used = r.used;
-  met = r.met;
-}
 
 abbrev pub status_by : Option ToolFault → ℕ
 status_by None = 0
@@ -130,8 +119,8 @@ pub record IsUnstored (ds : List Directive) (m : ℕ) (y : List ℕ) (spent : �
   pub ran : RunRefused ds m y next
   pub spent_is : spent ≡ next.used
 
--- Memory was refused behind the records `before`, where y was left: for the record of the run over y, for a byte that this
--- run stores, or for the store, which is made before the first run. spent: the bytes that the run over y used.
+-- Memory was refused after the records `before`, where y was left: for the record of the run over y, for a byte that
+-- this run stores, or for the store, which is made before the first run. spent: the bytes that the run over y used.
 abbrev pub IsRefusedBehind : List RunReport → Work → List Directive → ℕ → List ℕ → Ending → ℕ → Type 0
 IsRefusedBehind before w ds m y ending spent = IsUnmade w ds m y ending spent ⊎ IsUnstored ds m y spent ⊎ (before ≡ []) × (spent ≡ 0)
 
@@ -159,7 +148,8 @@ abbrev pub ending_by : Bool → Ending
 ending_by failed = if failed then Fault else End
 
 -- What the loop over the input t wrote and answered. now: what is held and to come afterwards. The sink held the bytes
--- `before`, and then `after`, where it tells them; `failures` and `failures'` are the counts of the source's failures.
+-- `before`, and then `after`, where it makes them known; `failures` and `failures'` are the counts of the source's
+-- failures.
 pub record Loops {S : Type 0} (w : Work) (to_come : S → Option (List ℕ)) (ds : List Directive) (m : ℕ) (t : List ℕ) (now : Ahead S)
     (failures failures' : ℕ) (before after : Option (List ℕ)) (answer : ToolEnd) : Type 0 where
   -- whether the source failed

@@ -1,4 +1,4 @@
--- What is said where the records of an input stopped before its end.
+-- The texts where the records of an input stopped before its end.
 use Rattle.std.specs.Prelude.{ℕ, List, ◌++◌, codes}
 use Rattle.std.specs.Fmt.{decimal}
 use Rattle.sf_run.specs.Wording.{outcome_text}

@@ -1,14 +1,10 @@
 -- What a loop over records makes of each.
-use Rattle.std.specs.Prelude.{ℕ, Bool, if◌then◌else◌, List, []}
+use Rattle.std.specs.Prelude.{ℕ, if◌then◌else◌, List, []}
 use Rattle.std.specs.List.{flat_map}
 use Rattle.sf_run.specs.Runs.{RunReport}
+pub use Rattle.sf_makers.specs.Works.{Work}
 use Rattle.sf_records.specs.declared.turn.Turn.{Turn}
 use Rattle.sf_records.specs.Turns.{turn_of, fit_turn, writes}
-
--- whether a record can be written, and its text
-pub record Work : Type 0 where
-  pub fits : RunReport → Bool
-  pub text : RunReport → List ℕ
 
 -- what the loop does after a run
 abbrev pub turn_in : Work → RunReport → Turn

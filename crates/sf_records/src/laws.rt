@@ -1,9 +1,9 @@
 //! Laws of records. None of these functions does anything: its contract is the law.
 ghost use Rattle.sf_records.specs.Copied.{CopyingTwiceIsCopyingOnce, JoinedTextsGiveTheirRows};
 ghost use Rattle.sf_records.specs.Laws.{EachHasOneEnd};
-ghost use Rattle.sf_records.specs.ReadingBack.{JsonIsUtf8, JsonReadsBack, RecordsAreRows, TsvReadsBack};
 ghost use Rattle.sf_records.specs.ReadingBack.{WrittenReadsBack};
 
+pub use sf_forms::laws::{json_is_utf8, json_reads_back, records_are_rows, tsv_reads_back};
 use sf_pair::laws::{ends_on_nothing, fits_is_fit, prints_some, round_trip, slots_agree};
 use sf_read::Source;
 use sf_run::laws::{done_runs_have_rows, one_report};
@@ -37,28 +37,6 @@ pub fn copied_twice()
     ends_on_nothing();
     fits_is_fit();
 }
-
-/// What is written for a report that has a row of values is the record of these values.
-pub fn records_are_rows()
-    ensures { RecordsAreRows }
-{}
-
-/// A table of rows of the same kinds reads as these rows: each number is the number of its field, and each text
-/// its bytes.
-pub fn tsv_reads_back()
-    ensures { TsvReadsBack }
-{}
-
-/// Arrays of JSON read as the values that they were written for: each number is an integer, and each string the bytes
-/// that it stands for.
-pub fn json_reads_back()
-    ensures { JsonReadsBack }
-{}
-
-/// Arrays of JSON are UTF-8, whatever the bytes of their texts (RFC 8259, 8.1).
-pub fn json_is_utf8()
-    ensures { JsonIsUtf8 }
-{}
 
 /// What `run_scan_as` wrote of the records of an input of bytes, by an accepted format, is the records of the values
 /// that the input's runs gave; as a table or as arrays of JSON it reads back as these values. Where the sink failed, a

@@ -3,27 +3,16 @@
 #![tactic(auto)]
 
 mod copy;
+mod copy_maker;
 mod end;
-mod form;
-mod form_writer;
-mod json;
 pub mod laws;
-mod line;
-mod output;
-mod quote;
-mod recorder;
 mod records;
 mod scan;
-mod short_line;
-mod tables;
 mod turn;
-mod writer;
 
-pub use copy::run_copy;
+pub use copy::{run_copy, run_scan_print};
+pub use copy_maker::CopyMaker;
 pub use end::{ToolEnd, ToolFault};
-pub use form::OutputForm;
-pub use form_writer::{FormWriter, RecordFault};
-pub use line::push_record;
-pub use output::write_whole;
-pub use quote::push_quoted;
+pub use records::run_records;
 pub use scan::{run_scan, run_scan_as};
+pub use sf_forms::{FormWriter, OutputForm, RecordFault, push_quoted, push_record, write_whole};

@@ -2,7 +2,6 @@
 ghost use Rattle.std.specs.Prelude.{◌≡◌, ◌≢◌, ◌<◌, ◌≤◌, ℕ, List, Some, None, true, if◌then◌else◌, IfOk, IfErr, IfSome};
 ghost use Rattle.std.specs.Prelude.{MatchOption};
 ghost use Rattle.std.specs.Result.{result_err};
-ghost use Rattle.sf_format.specs.Proper.{AreProper};
 ghost use Rattle.sf_print.specs.Sinks.{counted_on};
 ghost use Rattle.sf_read.specs.Ahead.{input_of};
 ghost use Rattle.sf_records.specs.Judging.{Judges, fault_by, fault_of, is_write};
@@ -11,10 +10,10 @@ ghost use Rattle.sf_records.specs.Records.{Loops, end_by, ended, status_by};
 ghost use Rattle.sf_records.specs.Works.{turn_in};
 
 use crate::end::{ToolEnd, ToolFault, ended_by};
-use crate::recorder::{Recorder, Unwritten};
 use crate::turn::{Turn, next_turn};
 use sf_base::{HeapStore, Store};
 use sf_format::ScanFormat;
+use sf_makers::{Maker, Unwritten};
 use sf_print::Sink;
 use sf_read::{Lookahead, Source, fscan_held, fscan_over};
 use sf_run::Report;
@@ -22,6 +21,9 @@ use std::alloc::Global;
 
 /// The most records that one loop writes.
 const MOST_RECORDS: u32 = 2147483647;
+
+/// The number of the one format by which records are scanned.
+const ONLY_FORMAT: usize = 1;
 
 /// The loop's fault where the record of the run with this number was not written in full.
 fn fault_by(why: Unwritten, number: u32) -> ToolFault
@@ -64,23 +66,24 @@ fn end_after<T: Store>(turn: Turn, report: &Report<'_, T>, records: u32) -> Opti
 /// Writes the record of a run where one is due, and answers the loop's end where it stops. `records` were written
 /// before.
 #[inline(always)]
-fn judge<R: Recorder, K: Sink, T: Store>(
-    recorder: &mut R,
+fn judge<M: Maker, K: Sink, T: Store>(
+    maker: &mut M,
     to: &mut K,
+    format: &ScanFormat,
     report: &Report<'_, T>,
     records: u32,
 ) -> Option<ToolEnd>
     requires { records < 2147483647 }
-    ensures same { R.work recorder.new ≡ R.work recorder.old }
-    ensures judged { Judges records ((R.work recorder.old).text report.now)
-        (turn_in (R.work recorder.old) report.now) report.now (K.contents to.old) (K.contents to.new) result }
+    ensures same { M.work maker.new ≡ M.work maker.old }
+    ensures judged { Judges records ((M.work maker.old 1 format.now).text report.now)
+        (turn_in (M.work maker.old 1 format.now) report.now) report.now (K.contents to.old) (K.contents to.new) result }
     ensures status { IfSome result (λ end. end.status ≡ status_by end.fault) }
     ensures failures { K.failures to.new
         ≡ (if is_write (fault_of result) then counted_on (K.failures to.old) else K.failures to.old) }
 {
     let turn = next_turn(report.outcome());
     if turn.writes()
-        && let Err(why) = recorder.write(to, report)
+        && let Err(why) = maker.write(to, format, ONLY_FORMAT, report)
     {
         return Some(ended_by(records, fault_by(why, records + 1)));
     }
@@ -90,12 +93,13 @@ fn judge<R: Recorder, K: Sink, T: Store>(
     }
 }
 
-/// Writes the record of a run that is Done, met nothing and used a byte: as `judge`, where the loop goes on behind the
+/// Writes the record of a run that is Done, met nothing and used a byte: as `judge`, where the loop goes on after the
 /// record unless that can't be written in full.
 #[inline(always)]
-fn write_held<R: Recorder, K: Sink, T: Store>(
-    recorder: &mut R,
+fn write_held<M: Maker, K: Sink, T: Store>(
+    maker: &mut M,
     to: &mut K,
+    format: &ScanFormat,
     report: &Report<'_, T>,
     records: u32,
 ) -> Result<(), ToolFault>
@@ -103,36 +107,36 @@ fn write_held<R: Recorder, K: Sink, T: Store>(
     requires done { report.now.status ≡ Status.Done }
     requires met { report.now.met ≡ None }
     requires used { 0 < report.now.used }
-    ensures same { R.work recorder.new ≡ R.work recorder.old }
-    ensures written { IfOk result (λ _. Judges records ((R.work recorder.old).text report.now)
-        (turn_in (R.work recorder.old) report.now) report.now (K.contents to.old) (K.contents to.new) None) }
-    ensures unwritten { IfErr result (λ fault. Judges records ((R.work recorder.old).text report.now)
-        (turn_in (R.work recorder.old) report.now) report.now (K.contents to.old) (K.contents to.new)
+    ensures same { M.work maker.new ≡ M.work maker.old }
+    ensures written { IfOk result (λ _. Judges records ((M.work maker.old 1 format.now).text report.now)
+        (turn_in (M.work maker.old 1 format.now) report.now) report.now (K.contents to.old) (K.contents to.new) None) }
+    ensures unwritten { IfErr result (λ fault. Judges records ((M.work maker.old 1 format.now).text report.now)
+        (turn_in (M.work maker.old 1 format.now) report.now) report.now (K.contents to.old) (K.contents to.new)
         (Some (ended records (Some fault)))) }
     ensures failures { K.failures to.new
         ≡ (if is_write (result_err result) then counted_on (K.failures to.old) else K.failures to.old) }
 {
-    match recorder.write(to, report) {
+    match maker.write(to, format, ONLY_FORMAT, report) {
         Ok(()) => Ok(()),
         Err(why) => Err(fault_by(why, records + 1)),
     }
 }
 
 /// Scans record after record of what the lookahead holds and its source gives, by runs of at most `limit` bytes, and
-/// has each written. It ends cleanly where fscanf would return EOF at the end of the input (C11 7.21.6.2p16); else it
-/// says why, and the records before stand. What the runs did not use stays held or unread.
-pub(crate) fn run_records<R: Recorder, S: Source, K: Sink, const N: usize>(
+/// has each written by a maker, to which the format has the number 1. It ends cleanly where fscanf would return EOF at
+/// the end of the input (C11 7.21.6.2p16); else it reports why, and the records before stand. What the runs did not use
+/// stays held or unread.
+pub fn run_records<M: Maker, S: Source, K: Sink, const N: usize>(
     alloc: Global,
     from: &mut Lookahead<S, N>,
     to: &mut K,
-    recorder: &mut R,
+    maker: &mut M,
     format: &ScanFormat,
     limit: u32,
 ) -> ToolEnd
-    requires limit { limit ≤ 2147483647 }
-    requires proper { AreProper format.now }
+    requires { limit ≤ 2147483647 }
     ensures loops { (t : List ℕ) → input_of S.to_come from.old ≡ Some t
-        → Loops (R.work recorder.old) S.to_come format.now limit t from.new (S.failures from.old.source)
+        → Loops (M.work maker.old 1 format.now) S.to_come format.now limit t from.new (S.failures from.old.source)
         (S.failures from.new.source) (K.contents to.old) (K.contents to.new) result }
     ensures status { result.status ≡ status_by result.fault }
     ensures sink { K.failures to.new
@@ -140,6 +144,8 @@ pub(crate) fn run_records<R: Recorder, S: Source, K: Sink, const N: usize>(
     ensures no_read { from.old.at_end ≡ true → from.new.source ≡ from.old.source }
     ensures stays { from.old.at_end ≡ true → from.new.at_end ≡ true }
 {
+    // What this has for each format: it is accepted.
+    let _ = format.destinations();
     let Ok(mut store) = HeapStore::new(alloc, format.width_sum().unwrap_or(0)) else {
         return ended_by(0, ToolFault::Memory);
     };
@@ -147,12 +153,12 @@ pub(crate) fn run_records<R: Recorder, S: Source, K: Sink, const N: usize>(
         if let Some(outcome) = fscan_held(&mut store, from, format, limit) {
             let report = Report::new(outcome, &store);
             if outcome.used > 0 {
-                match write_held(recorder, to, &report, records) {
+                match write_held(maker, to, format, &report, records) {
                     Ok(()) => continue,
                     Err(fault) => return ended_by(records, fault),
                 }
             }
-            if let Some(end) = judge(recorder, to, &report, records) {
+            if let Some(end) = judge(maker, to, format, &report, records) {
                 return end;
             }
             continue;
@@ -160,7 +166,7 @@ pub(crate) fn run_records<R: Recorder, S: Source, K: Sink, const N: usize>(
         let Ok(scanned) = fscan_over(alloc, store, from, format, limit) else {
             return ended_by(records, ToolFault::Memory);
         };
-        if let Some(end) = judge(recorder, to, &scanned.report(), records) {
+        if let Some(end) = judge(maker, to, format, &scanned.report(), records) {
             return end;
         }
         store = scanned.into_store();

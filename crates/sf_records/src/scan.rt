@@ -8,18 +8,18 @@ ghost use Rattle.sf_records.specs.Lines.{scanning};
 ghost use Rattle.sf_records.specs.Records.{Loops, status_by};
 
 use crate::end::ToolEnd;
-use crate::form::OutputForm;
 use crate::records::run_records;
-use crate::writer::RecordWriter;
 use sf_format::ScanFormat;
+use sf_forms::OutputForm;
+use sf_makers::FormMaker;
 use sf_print::Sink;
 use sf_read::{Lookahead, Source};
 use std::alloc::Global;
 
 /// Scans record after record of what the lookahead holds and its source gives, by runs of at most `limit` bytes, and
 /// writes a line for each: the values of its slots, joined by blanks. It ends cleanly where fscanf would return EOF at
-/// the end of the input (C11 7.21.6.2p16); else it says why, and the lines of the records before stand. What the runs
-/// did not use stays held or unread.
+/// the end of the input (C11 7.21.6.2p16); else it reports why, and the lines of the records before stand. What the
+/// runs did not use stays held or unread.
 pub fn run_scan<S: Source, K: Sink, const N: usize>(
     alloc: Global,
     from: &mut Lookahead<S, N>,
@@ -59,6 +59,6 @@ pub fn run_scan_as<S: Source, K: Sink, const N: usize>(
     ensures no_read { from.old.at_end ≡ true → from.new.source ≡ from.old.source }
     ensures stays { from.old.at_end ≡ true → from.new.at_end ≡ true }
 {
-    let mut writer = RecordWriter::new(alloc, form, format.destinations());
-    run_records(alloc, from, to, &mut writer, format, limit)
+    let mut maker = FormMaker::new(alloc, form);
+    run_records(alloc, from, to, &mut maker, format, limit)
 }

@@ -33,7 +33,7 @@ impl Turn {
     }
 }
 
-/// What the record loop does after a run. After most it goes on, which is told first.
+/// What the record loop does after a run. After most it goes on, which is answered first.
 #[inline(always)]
 pub(crate) fn next_turn(outcome: Outcome) -> Turn
     ensures { result ≡ turn_by outcome.status outcome.met outcome.used outcome.converted }

@@ -13,17 +13,22 @@ use std::process::Abort;
 use std::test::Fail;
 
 /// The forms, in the order in which a row has them.
-static FORMS: [OutputForm; 3] = [OutputForm::Plain, OutputForm::Tsv, OutputForm::Json];
+static FORMS: [OutputForm; 4] = [
+    OutputForm::Plain,
+    OutputForm::Tsv,
+    OutputForm::Json,
+    OutputForm::Csv,
+];
 
 /// A row: a format, a text, and its records in each form.
 #[derive(Drop)]
 struct Row {
     format: &'static str,
     text: &'static [u8],
-    forms: [&'static [u8]; 3],
+    forms: [&'static [u8]; 4],
 }
 
-static ROWS: [Row; 7] = [
+static ROWS: [Row; 8] = [
     Row {
         format: "%d,%19[^,\n]%*1[\n]",
         text: b"12,ab\n-7,\"c d\"\n",
@@ -31,6 +36,7 @@ static ROWS: [Row; 7] = [
             b"12 \"ab\"\n-7 \"\\\"c d\\\"\"\n",
             b"12\tab\n-7\t\"c d\"\n",
             b"[12,\"ab\"]\n[-7,\"\\\"c d\\\"\"]\n",
+            b"12,ab\n-7,\"\"\"c d\"\"\"\n",
         ],
     },
     Row {
@@ -40,6 +46,7 @@ static ROWS: [Row; 7] = [
             b"\"a\\x09b\\x0ac\\x0dd\\\\e\"\n",
             b"a\\tb\\nc\\rd\\\\e\n",
             b"[\"a\\tb\\nc\\rd\\\\e\"]\n",
+            b"\"a\tb\nc\rd\\e\"\n",
         ],
     },
     Row {
@@ -49,12 +56,13 @@ static ROWS: [Row; 7] = [
             b"-128 255 -32768 65535 -2147483648 4294967295 -9223372036854775808 18446744073709551615\n",
             b"-128\t255\t-32768\t65535\t-2147483648\t4294967295\t-9223372036854775808\t18446744073709551615\n",
             b"[-128,255,-32768,65535,-2147483648,4294967295,-9223372036854775808,18446744073709551615]\n",
+            b"-128,255,-32768,65535,-2147483648,4294967295,-9223372036854775808,18446744073709551615\n",
         ],
     },
     Row {
         format: "%*d",
         text: b"1 2",
-        forms: [b"\n\n", b"\n\n", b"[]\n[]\n"],
+        forms: [b"\n\n", b"\n\n", b"[]\n[]\n", b"\n\n"],
     },
     // What is UTF-8 of two, three and four bytes, and DEL.
     Row {
@@ -64,6 +72,7 @@ static ROWS: [Row; 7] = [
             b"\"\\xc3\\xa9\\xe2\\x82\\xac\\xf0\\x9f\\x99\\x82\\x7f\"\n",
             b"\xc3\xa9\xe2\x82\xac\xf0\x9f\x99\x82\x7f\n",
             b"[\"\xc3\xa9\xe2\x82\xac\xf0\x9f\x99\x82\x7f\"]\n",
+            b"\xc3\xa9\xe2\x82\xac\xf0\x9f\x99\x82\x7f\n",
         ],
     },
     // What is not: cut short, too long for its character, a surrogate, above U+10FFFF; UTF-8 beside it stays.
@@ -74,6 +83,7 @@ static ROWS: [Row; 7] = [
             b"\"\\xe2\\x82(\\xc0\\x80\\xc3\\xa9\\xed\\xa0\\x80\\xf4\\x90\\x80\\xc3\"\n",
             b"\xe2\x82(\xc0\x80\xc3\xa9\xed\xa0\x80\xf4\x90\x80\xc3\n",
             b"[\"\\udce2\\udc82(\\udcc0\\udc80\xc3\xa9\\udced\\udca0\\udc80\\udcf4\\udc90\\udc80\\udcc3\"]\n",
+            b"\xe2\x82(\xc0\x80\xc3\xa9\xed\xa0\x80\xf4\x90\x80\xc3\n",
         ],
     },
     Row {
@@ -83,6 +93,18 @@ static ROWS: [Row; 7] = [
             b"\"\\x00\\x1f\\x0b\"\n",
             b"\x00\x1f\x0b\n",
             b"[\"\\u0000\\u001f\\u000b\"]\n",
+            b"\x00\x1f\x0b\n",
+        ],
+    },
+    // More bytes than are written at once, and odd ones among them.
+    Row {
+        format: "%60[^|]|%2c",
+        text: b"abcdefghijklmnop\"qrst,uvwx\\yz\x01|,\n",
+        forms: [
+            b"\"abcdefghijklmnop\\\"qrst,uvwx\\\\yz\\x01\" \",\\x0a\"\n",
+            b"abcdefghijklmnop\"qrst,uvwx\\\\yz\x01\t,\\n\n",
+            b"[\"abcdefghijklmnop\\\"qrst,uvwx\\\\yz\\u0001\",\",\\n\"]\n",
+            b"\"abcdefghijklmnop\"\"qrst,uvwx\\yz\x01\",\",\n\"\n",
         ],
     },
 ];
@@ -109,7 +131,7 @@ fn are_written<const N: usize>(
 #[test]
 fn rows(rt: HostRuntime) -> Result<(), Fail> {
     for row in &ROWS {
-        for place in 0..3usize {
+        for place in 0..4usize {
             are_written::<3>(&rt, row, FORMS[place], row.forms[place])?;
             are_written::<4096>(&rt, row, FORMS[place], row.forms[place])?;
         }
@@ -117,12 +139,36 @@ fn rows(rt: HostRuntime) -> Result<(), Fail> {
     Ok(())
 }
 
+/// A text of quotes after a long text, around the length from which on a record isn't written in place.
+#[test]
+fn quotes_after_a_long_text(rt: HostRuntime) -> Result<(), Fail> {
+    let format = ScanFormat::parse(rt.alloc(), Profile::One, b"%1100[a]%9[\"]%*1[\n]")?;
+    for len in 900..1040u16 {
+        let mut text = Vec::<u8>::new(rt.alloc());
+        let mut wanted = Vec::<u8>::new(rt.alloc());
+        wanted.push(b'"')?;
+        for _ in 0..len {
+            text.push(b'a')?;
+            wanted.push(b'a')?;
+        }
+        text.extend_from_slice(b"\"\"\"\"\"\"\"\"\"\n")?;
+        wanted.extend_from_slice(b"\" \"\\\"\\\"\\\"\\\"\\\"\\\"\\\"\\\"\\\"\"\n")?;
+        let mut from = Lookahead::<SliceSource<'_>, 64>::new(SliceSource::new(&text));
+        let mut out = ListSink::new(rt.alloc());
+        let form = OutputForm::Plain;
+        let end = run_scan_as(rt.alloc(), &mut from, &mut out, &format, form, LIMIT);
+        is(&rt, &end.fault, &None, &len);
+        is(&rt, &out.bytes(), &wanted.as_slice(), &len);
+    }
+    Ok(())
+}
+
 /// What is written of a record `-12,abc` in the forms, once each.
-const ONCE: &[u8] = b"-12 \"abc\"\n-12\tabc\n[-12,\"abc\"]\n";
+const ONCE: &[u8] = b"-12 \"abc\"\n-12\tabc\n[-12,\"abc\"]\n-12,abc\n";
 
 /// The same, twice each.
 const TWICE: &[u8] =
-    b"-12 \"abc\"\n-12 \"abc\"\n-12\tabc\n-12\tabc\n[-12,\"abc\"]\n[-12,\"abc\"]\n";
+    b"-12 \"abc\"\n-12 \"abc\"\n-12\tabc\n-12\tabc\n[-12,\"abc\"]\n[-12,\"abc\"]\n-12,abc\n-12,abc\n";
 
 /// The record is appended to a list in each form.
 fn is_pushed<S: Store>(rt: &(impl Abort + AllocGlobal), report: &Report<'_, S>) {

@@ -14,6 +14,8 @@ mod memory;
 #[cfg(test)]
 mod numbers;
 #[cfg(test)]
+mod prints;
+#[cfg(test)]
 mod random;
 pub mod reading_back;
 #[cfg(test)]

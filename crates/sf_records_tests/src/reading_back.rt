@@ -4,7 +4,7 @@ ghost use Rattle.std.specs.Io.KnownBytes.{Appends};
 ghost use Rattle.std.specs.List.{flat_map};
 ghost use Rattle.sf_base.specs.Data.{Datum};
 ghost use Rattle.sf_run.specs.Rows.{kinds_of};
-ghost use Rattle.sf_records.specs.declared.form.OutputForm.TheVariants.{Tsv};
+ghost use Rattle.sf_records.specs.form.OutputForm.TheVariants.{Tsv};
 ghost use Rattle.sf_records.specs.Forms.{row_text};
 ghost use Rattle.sf_records.specs.Judging.{is_write};
 ghost use Rattle.sf_records.specs.Tables.{tsv_rows};

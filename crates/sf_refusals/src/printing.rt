@@ -3,6 +3,7 @@ use crate::answer::{Answer, told};
 use sf_base::Value;
 use sf_format::{PrintFormat, Profile, ScanFormat};
 use sf_pair::Pair;
+use sf_pair_read::read_back;
 use sf_print::{ListSink, ScriptSink, fprint};
 use sf_read::{Lookahead, SliceSource};
 use std::alloc::Global;
@@ -70,7 +71,7 @@ pub fn read(alloc: Global) -> Answer {
         return Answer::NotReached;
     };
     let mut from = Lookahead::<SliceSource<'_>, 16>::new(SliceSource::new(WRITTEN));
-    match pair.read(alloc, &mut from, 1000) {
+    match read_back(alloc, &mut from, &pair, 1000) {
         Ok(scanned) => told(&scanned),
         Err(fault) => Answer::Scanned(Err(fault)),
     }

@@ -14,7 +14,7 @@ all-append d q r (b ∷ x) y e =
     let w = by_some (stepped d q b) (λ s. stepped_all d s x) r e in
     ap (λ (o : Option Stage). choose o None (λ s. stepped_all d s (x ++ y))) w.1 ∙ all-append d w.0 r x y w.2
 
--- the directive goes on behind the bytes from the stage that they bring it to
+-- the directive goes on after the bytes from the stage that they bring it to
 pub one_from-all : (d : Directive) (q r : Stage) (n : ℕ) (y z : List ℕ) → stepped_all d q y ≡ Some r
     → one_from d q n (y ++ z) ≡ one_from d r (n + length y) z
 one_from-all d q r n [] z e =

@@ -1,4 +1,4 @@
--- Steps and runs as functions. sf_run::laws says that these and no others are what the relations of Steps and Runs allow.
+-- Steps and runs as functions. By sf_run::laws these, and no others, are what the relations of Steps and Runs allow.
 use Rattle.std.specs.Prelude.{ℕ, zero, suc, ◌+◌, Bool, true, false, if◌then◌else◌, nat_eq, List, [], ◌∷◌, ◌++◌, take, drop}
 use Rattle.sf_base.specs.Bytes.{is_white}
 use Rattle.sf_format.specs.declared.directive.Shape.{Shape}
@@ -47,7 +47,7 @@ abbrev pub item_ended : Conversion → List ℕ → ℕ → StepEnd
 item_ended c y zero = nothing_end (has_more y)
 item_ended c y (suc j) = item_end c (take (suc j) y)
 
--- the item behind s bytes of x, with these
+-- the item after s bytes of x, with these
 abbrev pub item_part : Conversion → List ℕ → ℕ → ℕ × StepEnd
 item_part c x s = (s + len c [] (drop s x), item_ended c (drop s x) (len c [] (drop s x)))
 
@@ -58,7 +58,7 @@ abbrev pub conversion_step : Conversion → Shape → List ℕ → ℕ → ℕ �
 conversion_step c Count x n = (0, count_end c c.slot n)
 conversion_step c _ x n = item_step c x
 
--- the percent sign behind s bytes of x, with these
+-- the percent sign after s bytes of x, with these
 abbrev pub percent_step : List ℕ → ℕ → ℕ × StepEnd
 percent_step x s = (s + (byte_step 37 (drop s x)).0, (byte_step 37 (drop s x)).1)
 

@@ -69,12 +69,12 @@ abbrev pub EachRunIsComputed : Type 0
 EachRunIsComputed =
     (ds : List Directive) → AreProper ds → (x : List ℕ) (n : ℕ) (ran : List Ran) → Steps ds x n ran ↔ (ran ≡ ran_of ds x n)
 
--- what the running totals tell is what is told of those
+-- what the running totals answer is what is answered for those
 abbrev pub EachRunIsTold : Type 0
 EachRunIsTold = (ds : List Directive) (x : List ℕ) → run_of None ds 1 nothing_yet x ≡ runs.report_of (ran_of ds x 0) None
 
 -- ---- tests of bytes
 
--- some byte below n passes the test, exactly where it is told so
+-- some byte below n passes the test, exactly where the answer is so
 abbrev pub EachByteIsTried : Type 0
 EachByteIsTried = (n : ℕ) (test : ℕ → Bool) → some_below n test ≡ true ↔ ((b : ℕ) × (b < n) × (test b ≡ true))

@@ -36,7 +36,7 @@ RunWithin ds m x ending report =
     (report.used ≤ m) × Run ds x ending report
     ⊎ ((before : List Ran) × IsCut ds x m before × (report ≡ cut_report TooLong before m))
 
--- the same but for what the run met: what it tells of x alone
+-- the same but for what the run met: what depends on x alone
 abbrev pub TellsWithin : List Directive → ℕ → List ℕ → RunReport → Type 0
 TellsWithin ds m x report =
     ((ran : List Ran) × Steps ds x 0 ran × (used ran ≤ m) × (report ≡ report_of ran None))

@@ -33,7 +33,7 @@ Steps (d ∷ ds) x n [] = ⊥
 Steps (d ∷ ds) x n (r ∷ ran) =
     (r.directive ≡ d) × Step d x n r.bytes r.end × GoesOn r.end (Steps ds (drop r.bytes x) (n + r.bytes) ran) ran
 
--- ---- what is told of the directives that ran
+-- ---- what is reported of the directives that ran
 
 abbrev pub used : List Ran → ℕ
 used ran = sum_by (λ r. r.bytes) ran

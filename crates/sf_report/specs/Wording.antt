@@ -1,4 +1,4 @@
--- What is said of how a run ended.
+-- The texts for how a run ended.
 use Rattle.std.specs.Prelude.{ℕ, List, ◌++◌, codes}
 use Rattle.std.specs.Fmt.{decimal}
 use Rattle.sf_report.specs.declared.outcome.Outcome.{Outcome}

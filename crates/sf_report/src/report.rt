@@ -114,6 +114,7 @@ impl<'r, S: Store> Report<'r, S> {
     }
 
     /// What the slot was given, where it was.
+    #[inline(always)]
     pub fn value(&self, slot: u8) -> Option<Value<'r>>
         ensures { option_map datum_of result ≡ datum_at slot self.now.values }
     {
@@ -121,6 +122,7 @@ impl<'r, S: Store> Report<'r, S> {
     }
 
     /// What the slot was given, where it was: a number by its kind, sign and magnitude, or a text.
+    #[inline(always)]
     pub fn shown(&self, slot: u8) -> Option<Shown<'r>>
         ensures { option_map datum_of_shown result ≡ datum_at slot self.now.values }
     {

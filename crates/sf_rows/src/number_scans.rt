@@ -5,7 +5,7 @@ use sf_base::Value;
 use sf_format::Profile;
 use sf_run::Status;
 
-static NUMBERS: [ScanRow; 26] = [
+static NUMBERS: [ScanRow; 27] = [
     ScanRow {
         profile: Profile::One,
         format: b"%d,%d",
@@ -13,6 +13,15 @@ static NUMBERS: [ScanRow; 26] = [
         text: b"12,-7",
         told: Told::Done(2, 5, Met::End),
         values: &[Value::I32(12), Value::I32(-7)],
+        at_once: false,
+    },
+    ScanRow {
+        profile: Profile::One,
+        format: b"%d ",
+        limit: LIMIT,
+        text: b"5\n",
+        told: Told::Done(1, 2, Met::End),
+        values: &[Value::I32(5)],
         at_once: false,
     },
     ScanRow {

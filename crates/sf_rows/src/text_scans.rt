@@ -5,7 +5,16 @@ use sf_base::Value;
 use sf_format::Profile;
 use sf_run::Status;
 
-static TEXTS: [ScanRow; 15] = [
+static TEXTS: [ScanRow; 16] = [
+    ScanRow {
+        profile: Profile::One,
+        format: b"%[^,]",
+        limit: LIMIT,
+        text: b"ab\n",
+        told: Told::Done(1, 3, Met::End),
+        values: &[Value::Text(b"ab\n")],
+        at_once: false,
+    },
     ScanRow {
         profile: Profile::One,
         format: b"%3c",

@@ -2,17 +2,19 @@
 use Rattle.std.proofs.lemmas.Grind.{common_steps}
 use Rattle.std.proofs.Common.{◌≡◌, ℕ, ◌+◌, ◌-◌, ◌<◌, ◌≤◌, Bool, true, false, cond, List, [], ◌∷◌, ◌++◌, length, take, drop, Some, None, refl, sym, ap, subst, ◌∙◌, arith, length-drop}
 use Rattle.std.specs.Prelude.{slice_get}
-use Rattle.std.proofs.lemmas.List.{append-nil, append_assoc, drop-drop, length-append, length-map, take_all, take-append-drop}
+use Rattle.std.specs.List.{count_by}
+use Rattle.std.proofs.lemmas.List.Sums.{sum_by_more}
+use Rattle.std.proofs.lemmas.Option.{get_or_from_slice_get, slice_get_within}
+use Rattle.std.proofs.lemmas.List.{append-nil, append_assoc, drop-drop, length-append, take_all, take-append-drop}
 use Rattle.sf_base.specs.Data.{Assigned, Bytes}
 use Rattle.sf_base.specs.Kept.{Kept, nothing_kept, texts_in, with_text}
 use Rattle.sf_format.specs.declared.directive.Directive.{Directive}
+use Rattle.sf_format.specs.Layout.{assigns_item, items_assigned, items_taken, takes_item}
 use Rattle.sf_format.specs.Proper.{AreProper, IsProper, destinations_of, slots_of}
-use Rattle.sf_format.specs.Slots.{Slotted}
 use Rattle.sf_run.specs.declared.directive.Finished.{Finished}
 use Rattle.sf_run.specs.declared.directive.Ended.{Ended}
 use Rattle.sf_report.specs.declared.outcome.Ending.{Ending}
 use Rattle.sf_report.specs.declared.outcome.Status.TheVariants.{Done}
-use Rattle.sf_run.specs.declared.quick.Strays.{Strays}
 use Rattle.sf_run.specs.declared.tally.Tally as code
 use Rattle.sf_run.specs.Holding.{are_apart, are_placed}
 use Rattle.sf_report.specs.Limits.{RunWithin, TellsWithin}
@@ -20,7 +22,7 @@ use Rattle.sf_report.specs.Machine.{Skipping}
 use Rattle.sf_run.specs.Phases.{end_of, is_failing, slot_given}
 use Rattle.sf_run.specs.Pieces.{EndsAtOnce}
 use Rattle.sf_run.specs.Places.{is_destination, places_left}
-use Rattle.sf_run.specs.Quick.{GivesTo, IsSure, MayBeGiven, PassesBy, PassesWithin, slot_stored, strayed, text_stored}
+use Rattle.sf_run.specs.Quick.{GivesTo, IsSure, MayBeGiven, Passes, PassesWithin, done_by, slot_stored, text_stored}
 use Rattle.sf_report.specs.Residual.{Tally, counted, nothing_yet, one_from, out_of, run_of, with_used}
 use Rattle.sf_report.specs.Runs.{IsOpen, RunReport, is_conversion, passed, stored}
 use Rattle.sf_report.specs.Steps.{StepEnd, Stores}
@@ -135,105 +137,68 @@ values_more : (end : StepEnd) (stores : Bool) (values : List Assigned) → Passe
     → length (values_with end values) ≡ length values + cond stores 1 0
 values_more end stores values so = grind (arith, length-append)
 
--- The directives before this place have passed within the front; behind the bytes that they took is the rest, and the strays are those that
--- they make.
-pub record Counted (ds : List Directive) (front tail : List ℕ) (p : ℕ) (s : Strays) (kept : Kept) : Type 0 where
+-- ---- what is counted
+
+-- what a directive adds to a count
+count_more : (q : Directive → Bool) (ds : List Directive) (p : ℕ) (d : Directive) → slice_get ds p ≡ Some d
+    → count_by q (take (p + 1) ds) ≡ count_by q (take p ds) + cond (q d) 1 0
+count_more q ds p d at =
+    sum_by_more (λ e. cond (q e) 1 0) ds p d (slice_get_within ds p d at)
+    ∙ ap (λ e. count_by q (take p ds) + cond (q e) 1 0) (get_or_from_slice_get ds p d d at)
+
+assigns_more : (d : Directive) (end : StepEnd) (stores : Bool) (n : ℕ) → PassesSo end stores → slot_stored end ≡ slot_of d
+    → cond stores (cond (is_conversion d) (n + 1) n) n ≡ n + cond (assigns_item d) 1 0
+assigns_more d end stores n so own = grind arith
+
+takes_more : (d : Directive) (n : ℕ) → cond (is_conversion d) (n + 1) n ≡ n + cond (takes_item d) 1 0
+takes_more d n = grind arith
+
+-- what a directive that has passed adds at most
+record Adds (v stores : Bool) (t : code.Tally) : Type 0 where
+  pub assigned : cond stores (cond v (t.assigned + 1) t.assigned) t.assigned ≤ t.assigned + cond stores 1 0
+  pub converted : cond v (t.converted + 1) t.converted ≤ t.converted + 1
+
+adds : (v stores : Bool) (t : code.Tally) → Adds v stores t
+adds true true t = record { assigned = omega arith; converted = omega arith }
+adds true false t = record { assigned = omega arith; converted = omega arith }
+adds false true t = record { assigned = omega arith; converted = omega arith }
+adds false false t = record { assigned = omega arith; converted = omega arith }
+
+-- The directives before this place have passed within the front; after the bytes that they took is the rest, and their
+-- items are counted.
+pub record Counted (ds : List Directive) (front tail : List ℕ) (p : ℕ) (kept : Kept) : Type 0 where
   pub tally : code.Tally
   pub going : Going ds front p tally kept
   pub rest : tail ≡ drop tally.used front
   pub short : length tail ≤ length front
-  pub assigned : tally.assigned + s.uncounted ≡ length kept.values
-  pub converted : tally.converted ≡ tally.assigned + s.suppressed
-  pub few : s.uncounted ≤ p
-  pub low : s.suppressed ≤ p
-
--- what a directive adds to the counts
-record Adds (v stores : Bool) (t : code.Tally) (s : Strays) : Type 0 where
-  pub assigned : cond stores (cond v (t.assigned + 1) t.assigned) t.assigned + (strayed v stores s).uncounted
-      ≡ t.assigned + s.uncounted + cond stores 1 0
-  pub converted : t.converted ≡ t.assigned + s.suppressed
-      → cond v (t.converted + 1) t.converted ≡ cond stores (cond v (t.assigned + 1) t.assigned) t.assigned + (strayed v stores s).suppressed
-  pub few : (strayed v stores s).uncounted ≤ s.uncounted + 1
-  pub most : cond stores (cond v (t.assigned + 1) t.assigned) t.assigned ≤ t.assigned + cond stores 1 0
-  pub less : cond v (t.converted + 1) t.converted ≤ t.converted + 1
-
-adds : (v stores : Bool) (t : code.Tally) (s : Strays) → Adds v stores t s
-adds true true t s = record {
-  assigned = omega arith;
-  converted = λ e. omega (arith, e);
-  few = omega arith;
-  most = omega arith;
-  less =
-      omega arith;
-}
-adds true false t s = record {
-  assigned = omega arith;
-  converted = λ e. omega (arith, e);
-  few = omega arith;
-  most = omega arith;
-  less =
-      omega arith;
-}
-adds false true t s = record {
-  assigned = omega arith;
-  converted = λ e. omega (arith, e);
-  few = omega arith;
-  most = omega arith;
-  less =
-      omega arith;
-}
-adds false false t s = record {
-  assigned = omega arith;
-  converted = λ e. omega (arith, e);
-  few = omega arith;
-  most = omega arith;
-  less =
-      omega arith;
-}
+  pub assigned : tally.assigned ≡ items_assigned (take p ds)
+  pub converted : tally.converted ≡ items_taken (take p ds)
 
 -- the next directive has passed
-pub counting_on : (ds : List Directive) (front rest left : List ℕ) (p : ℕ) (d : Directive) (n : ℕ) (s after : Strays) (old new : Kept)
+pub counting_on : (ds : List Directive) (front rest left : List ℕ) (p : ℕ) (d : Directive) (n : ℕ) (old new : Kept)
     (taken : ℕ) → slice_get ds p ≡ Some d
-    → (h : Counted ds front rest p s old) → n ≡ length front - length rest → PassesBy d n rest taken old new s after
-    → left ≡ drop taken rest → Counted ds front left (p + 1) after new
-counting_on ds front rest left p d n s after old new taken at h begins w on =
+    → (h : Counted ds front rest p old) → n ≡ length front - length rest → Passes d n rest taken old new
+    → left ≡ drop taken rest → Counted ds front left (p + 1) new
+counting_on ds front rest left p d n old new taken at h begins w on =
     let t : code.Tally = h.tally in
     let v : Bool = is_conversion d in
-    let u : code.Tally = totals v w.stores taken t in
+    let stores : Bool = w.0 in
+    let u : code.Tally = totals v stores taken t in
     let low = h.going.within in
     let short = ap length h.rest ∙ length-drop t.used front in
     let here : n ≡ t.used = omega (arith, begins, short, low) in
-    let is : PassesWithin d t.used rest taken w.stores old new = subst (λ m. PassesWithin d m rest taken w.stores old new) here w.is in
-    let more : Adds v w.stores t s = adds v w.stores t s in
-    let same = w.counted in
-    let values = ap length is.gives.values ∙ values_more is.end w.stores old.values is.gives.passes in
-    let before = h.assigned in
-    let sums = more.assigned in
-    let most = more.most in
-    let less = more.less in
-    let few = h.few in
-    let one = more.few in
+    let is : PassesWithin d t.used rest taken stores old new = subst (λ m. PassesWithin d m rest taken stores old new) here w.1 in
+    let more : Adds v stores t = adds v stores t in
     record {
       tally = u;
-      going = going_on ds front p d t u old new rest taken w.stores at h.going h.rest is
-          (λ end values so. totals_counted d end w.stores taken t values so) refl most less;
+      going = going_on ds front p d t u old new rest taken stores at h.going h.rest is
+          (λ end values so. totals_counted d end stores taken t values so) refl more.assigned more.converted;
       rest = on ∙ ap (drop taken) h.rest ∙ drop-drop taken t.used front;
       short = grind (arith, length-drop, rest, short);
-      assigned = grind (arith, same);
-      converted = more.converted h.converted ∙ ap (λ (r : Strays). u.assigned + r.suppressed) (sym same);
-      few = grind (arith, same, few);
-      low = (let e = ap (λ (r : Strays). r.suppressed) same in let sum = more.converted h.converted in let before = h.going.converted in
-          omega (arith, e, sum, before, less));
+      assigned = assigns_more d is.end stores t.assigned is.gives.passes is.own
+          ∙ ap (λ k. k + cond (assigns_item d) 1 0) h.assigned ∙ sym (count_more assigns_item ds p d at);
+      converted = takes_more d t.converted ∙ ap (λ k. k + cond (takes_item d) 1 0) h.converted ∙ sym (count_more takes_item ds p d at);
     }
-
--- past the last directive the destinations are the slots that have a value
-pub all_counted : (ds : List Directive) (front rest : List ℕ) (p : ℕ) (s : Strays) (kept : Kept) → length ds ≤ p
-    → (h : Counted ds front rest p s kept)
-    → h.tally.assigned + s.uncounted ≡ length (destinations_of ds)
-all_counted ds front rest p s kept all h =
-    h.assigned ∙ sym (length-map kept.values (λ (a : Assigned). a.slot)) ∙ ap length h.going.given
-    ∙ ap (λ l. length (slots_of l)) (take_all p ds all)
-    ∙ length-map (destinations_of ds) (λ (d : Slotted). d.0)
 
 -- the slot of the next directive is free
 pub free_at : (ds : List Directive) (p : ℕ) (d : Directive) (values : List Assigned) → slice_get ds p ≡ Some d → are_placed 32 ds ≡ true
@@ -281,19 +246,17 @@ quick_is ds proper m most piece front t kept p all is fits h z ending =
     ∙ all_passed ds p _ (tally_of t kept.values) all)
     (omega (arith, low, fits)) (omega (arith, low, long)))
 
--- ---- what is counted
+-- ---- the whole run
 
 -- the same of what is the same
-pub passes_as : (d : Directive) (n : ℕ) (rest : List ℕ) (t u : ℕ) (old before new after : Kept) (s r a b : Strays) → u ≡ t → before ≡ old
-    → after ≡ new → r ≡ s → b ≡ a
-    → PassesBy d n rest t old new s a → PassesBy d n rest u before after r b
-passes_as d n rest t u old before new after s r a b e f g i j h = grind arith
+pub passes_as : (d : Directive) (n : ℕ) (rest : List ℕ) (t u : ℕ) (old before new after : Kept) → u ≡ t → before ≡ old → after ≡ new
+    → Passes d n rest t old new → Passes d n rest u before after
+passes_as d n rest t u old before new after e f g h = grind arith
 
 -- before the first directive
 pub nothing_counted : (ds : List Directive) (front : List ℕ) (kept : Kept) (room : ℕ) → kept ≡ nothing_kept room
-    → length (destinations_of ds) ≤ 32
-    → Counted ds front front 0 (record { suppressed = 0; uncounted = 0 }) kept
-nothing_counted ds front kept room is few = subst (λ k. Counted ds front front 0 (record { suppressed = 0; uncounted = 0 }) k) (sym is)
+    → length (destinations_of ds) ≤ 32 → Counted ds front front 0 kept
+nothing_counted ds front kept room is few = subst (λ k. Counted ds front front 0 k) (sym is)
     (record {
       tally = record { used = 0; assigned = 0; converted = 0 };
       going = record {
@@ -309,30 +272,26 @@ nothing_counted ds front kept room is few = subst (λ k. Counted ds front front 
       short = omega arith;
       assigned = refl;
       converted = refl;
-      few = omega arith;
-      low = omega arith;
     })
 
+-- the report of a run that is Done, with these counts
 abbrev pub told : ℕ → ℕ → ℕ → List Assigned → RunReport
-told used assigned converted values = out_of Done 0 (record { used = used; assigned = assigned; converted = converted; values = values })
+told used assigned converted values =
+    out_of Done 0 (record { used = used; assigned = assigned; converted = converted; values = values })
 
--- past the last directive the run is the report with the counts that the strays leave
-pub counted_run : (ds : List Directive) → AreProper ds → (m most : ℕ) (piece front rest : List ℕ) (s : Strays) (kept : Kept) (p count : ℕ)
-    → length ds ≤ p → front ≡ take most piece → length front ≤ m
-    → Counted ds front rest p s kept → count ≡ length (destinations_of ds) → (z : List ℕ) (ending : Ending)
-    → RunWithin ds m (piece ++ z) ending (told (length front - length rest) (count - s.uncounted)
-    (count - s.uncounted + s.suppressed) kept.values)
-counted_run ds proper m most piece front rest s kept p count all is fits h counts z ending =
+-- past the last directive the run is the report with the counts of the format
+pub counted_run : (ds : List Directive) → AreProper ds → (m most : ℕ) (piece front rest : List ℕ) (kept : Kept) (p : ℕ)
+    → length ds ≤ p → front ≡ take most piece → length front ≤ m → Counted ds front rest p kept → (z : List ℕ) (ending : Ending)
+    → RunWithin ds m (piece ++ z) ending (done_by ds (length front - length rest) kept.values)
+counted_run ds proper m most piece front rest kept p all is fits h z ending =
     let t : code.Tally = h.tally in
     let values : List Assigned = kept.values in
-    let sum = all_counted ds front rest p s kept all h in
-    let more = h.converted in
     let low = h.going.within in
     let short = ap length h.rest ∙ length-drop t.used front in
     let used : t.used ≡ length front - length rest = omega (arith, short, low) in
-    let assigned : t.assigned ≡ count - s.uncounted = omega (arith, sum, counts) in
-    let converted : t.converted ≡ count - s.uncounted + s.suppressed = omega (arith, more, assigned) in
+    let assigned : t.assigned ≡ items_assigned ds = h.assigned ∙ ap items_assigned (take_all p ds all) in
+    let converted : t.converted ≡ items_taken ds = h.converted ∙ ap items_taken (take_all p ds all) in
     subst (λ r. RunWithin ds m (piece ++ z) ending r)
     (ap (λ n. told n t.assigned t.converted values) used ∙ ap (λ n. told (length front - length rest) n t.converted values) assigned
-    ∙ ap (λ n. told (length front - length rest) (count - s.uncounted) n values) converted)
+    ∙ ap (λ n. told (length front - length rest) (items_assigned ds) n values) converted)
     (quick_is ds proper m most piece front t kept p all is fits h.going z ending)

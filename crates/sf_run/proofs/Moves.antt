@@ -386,7 +386,7 @@ pub none_refused : (new old : Standing) (xs : List ℕ) → length xs ≡ 0 → 
     → is_no_memory new.ended ≡ false
 none_refused new old xs none h = grind (arith, length-append)
 
--- a byte that is refused behind the first of a piece
+-- a byte that is refused after the first of a piece
 pub refused_behind : (old mid new : Standing) (xs : List ℕ) (i : ℕ) → i ≤ length xs → new.limit ≡ old.limit
     → mid.tally.used ≡ old.tally.used + i → ((z : List ℕ) → Follows mid old (drop i xs ++ z) (xs ++ z))
     → RefusesIn new mid (drop i xs) → RefusesIn new old xs

@@ -3,7 +3,7 @@ use Rattle.std.proofs.lemmas.Grind.{common_steps}
 use Rattle.std.proofs.lemmas.Bool.{false_from_ne_true}
 use Rattle.std.proofs.lemmas.List.{take_more}
 use Rattle.std.proofs.Common.{zero-add, add-zero, length-append, ◌≡◌, ◌≢◌, ℕ, zero, suc, ◌+◌, ◌<◌, ◌≤◌, Bool, true, false, cond, ◌&&◌, List, [], ◌∷◌, ◌++◌, length, take, drop, get_or, append_assoc, append-nil, take-append-drop, length-drop, Option, Some, None, refl, sym, ap, subst, ◌∙◌, arith}
-use Rattle.std.specs.Prelude.{IfSome, IsSome, slice_get}
+use Rattle.std.specs.Prelude.{IfSome, IsSome, MatchOption, slice_get}
 use Rattle.std.proofs.lemmas.Option.{get_or_from_slice_get, slice_get_within}
 use Rattle.std.proofs.lemmas.List.{length-take, length-take-le, drop_more, drop-drop, drop-append-le, get_or-drop, get_or-take, take_all}
 use Rattle.sf_base.specs.Bytes.{is_white}
@@ -11,6 +11,8 @@ use Rattle.sf_base.specs.Data.{value_of}
 use Rattle.sf_format.specs.declared.directive.Base.{Base}
 use Rattle.sf_format.specs.declared.directive.Conversion.{Conversion}
 use Rattle.sf_format.specs.declared.directive.Directive.{Directive}
+use Rattle.sf_format.specs.declared.directive.Shape.{Shape}
+use Rattle.sf_format.specs.declared.directive.Shape.TheVariants.{Int, Text, Set, Chars, Count}
 use Rattle.sf_format.specs.declared.directive.Directive.TheVariants.{Space, Byte, Percent, Conv}
 use Rattle.sf_format.specs.Proper.{IsProper, IsProperShape}
 use Rattle.sf_item.specs.declared.item.ItemScan.{ItemScan}
@@ -19,7 +21,7 @@ use Rattle.sf_item.specs.Matching.{IsInteger, IsItem, IsWithin}
 use Rattle.sf_item.specs.Taking.{CanTake, HasTaken, conversion_of}
 use Rattle.sf_item.specs.Tests.{can_take}
 use Rattle.sf_item.proofs.Deciding.{tests_can_take}
-use Rattle.sf_item.specs.Wholes.{ItemWithin}
+use Rattle.sf_item.specs.Wholes.{ItemWithin, NoItemWithin}
 use Rattle.sf_run.specs.declared.directive.Ended.{Ended}
 use Rattle.sf_run.specs.declared.directive.Finished.{Finished}
 use Rattle.sf_run.specs.declared.directive.Finished.TheVariants as finish
@@ -30,7 +32,7 @@ use Rattle.sf_report.specs.declared.outcome.Status.TheVariants.{MatchingFailure}
 use Rattle.sf_report.specs.Steps.{StepEnd}
 use Rattle.sf_report.specs.Machine.{Stage, Skipping, Item, shape_skips, count_end, item_end, stepped, is_full}
 use Rattle.sf_run.specs.Phases.{CanAll, GrowsBy, Shows, ShowsItem, end_of, passed_number, slot_in}
-use Rattle.sf_run.specs.Pieces.{Answers, AnswersBy, EndsAt, EndsAtOnce, EndsIn, IsEnd, IsEndIn, IsEndOf, IsWhole, StaysAt, Suits, item_of, run_of}
+use Rattle.sf_run.specs.Pieces.{Answers, AnswersBy, EndsAt, EndsAtOnce, EndsIn, IsEnd, IsEndIn, IsEndOf, IsTextShape, IsWhole, StaysAt, Suits, item_of, run_of}
 use Rattle.sf_run.specs.Quick.{IsSure}
 use Rattle.sf_report.specs.Residual.{Part, one_from, stepped_all}
 use Rattle.sf_run.specs.Texts.{StoresByte, counts_bytes, is_count, text_slot, slot_of_text}
@@ -42,11 +44,11 @@ use Rattle.sf_run.proofs.Stages.{count_finished, integer_ends, other_finished, s
 
 -- ---- bytes of a piece
 
--- the byte behind a front of a piece, and those after it
+-- the byte after a front of a piece, and those after it
 pub next_is : (xs : List ℕ) (i : ℕ) (z : List ℕ) → i < length xs → drop i xs ++ z ≡ get_or xs i 0 ∷ (drop (i + 1) xs ++ z)
 next_is xs i z h = ap (λ (y : List ℕ). y ++ z) (drop_more xs i 0 h)
 
--- a front of a piece, and what is behind it
+-- a front of a piece, and what is after it
 pub parted : (xs : List ℕ) (i : ℕ) (z : List ℕ) → take i xs ++ (drop i xs ++ z) ≡ xs ++ z
 parted xs i z = sym (append_assoc (take i xs) (drop i xs) z) ∙ ap (λ (y : List ℕ). y ++ z) (take-append-drop i xs)
 
@@ -72,7 +74,7 @@ stays_next d q k piece below none = grind (arith, next_is)
 pub stays_full : (d : Directive) (q : Stage) (rest : List ℕ) → IsProper d → is_full d q ≡ true → StaysAt d q rest
 stays_full d q rest proper full n z = full_refuses d proper q n (rest ++ z) full
 
--- behind a front of the piece that it takes it ends
+-- after a front of the piece that it takes it ends
 ends_behind : (d : Directive) (q r : Stage) (n w k : ℕ) (piece : List ℕ) (end : StepEnd) → w ≤ length piece
     → stepped_all d q (take w piece) ≡ Some r
     → EndsIn d r (n + w) (drop w piece) k end → EndsIn d q n piece (w + k) end
@@ -129,7 +131,7 @@ module _ (d : Directive) (q : Stage) (n m : ℕ) (piece front : List ℕ) (run :
       → StoresByte d (get_or piece (run.before + j) 0)
   stores_front slot own some j below = grind (arith, length-take, get_or-take)
 
--- ---- behind bytes that are skipped
+-- ---- after bytes that are skipped
 
 pub answers_behind : (d : Directive) (n w : ℕ) (piece : List ℕ) (run : Run) → w ≤ length piece
     → run.before + run.item ≤ length (drop w piece) → stepped_all d Skipping (take w piece) ≡ Some Skipping
@@ -159,7 +161,7 @@ answers_behind d n w piece run within fits skips a = record {
         let place : w + (run.before + run.item) ≡ w + run.before + run.item = omega arith in
         rw (place, item_is) at (ends_behind d Skipping Skipping n w (run.before + run.item) piece _ within skips h)
 
--- the byte behind them
+-- the byte after them
 pub next_behind : (test : ℕ → Bool) (w : ℕ) (piece : List ℕ) → (w < length piece → test (get_or piece w 0) ≡ false)
     → 0 < length (drop w piece) → test (get_or (drop w piece) 0 0) ≡ false
 next_behind test w piece next some = grind (arith, length-drop, get_or-drop)
@@ -254,7 +256,7 @@ begins c (b ∷ piece) (suc n) some within ink can = first_all c b (take n piece
 some_taken : (piece : List ℕ) (n : ℕ) → 0 < n → n ≤ length piece → take n piece ≢ []
 some_taken piece n some within e = let long = length-take-le n piece within in let none = ap length e in omega (arith, long, none, some)
 
--- an item that ends or waits behind so many bytes of the piece, which bring the directive to it
+-- an item that ends or waits after so many bytes of the piece, which bring the directive to it
 item_answers : (d : Directive) (q : Stage) (h : List ℕ) (n item : ℕ) (piece : List ℕ) (current : Phase) (ends : Option Finished)
     → item ≤ length piece
     → stepped_all d q (take item piece) ≡ Some (Item h) → GrowsBy q (take item piece) (Item h) → item_of q ++ take item piece ≡ h
@@ -385,6 +387,20 @@ bytes_read c n item piece end proper text other is ink none some =
     by_slot (Some slot) e = ap (end_of (take item piece)) (some slot e)
         ∙ text_end c (take item piece) slot (text c.slot ∙ e) (is.matches c refl refl)
 
+-- an item that is stored as it stands is the text of its conversion's slot
+pub text_shape : (s : Shape) → IsTextShape s → ((slot : Option ℕ) → slot_of_text s slot ≡ slot) × (is_count s ≡ false)
+text_shape (Int base) is = absurd is
+text_shape Count is = absurd is
+text_shape Text is = (λ slot. refl, refl)
+text_shape (Set members) is = (λ slot. refl, refl)
+text_shape Chars is = (λ slot. refl, refl)
+
+-- an item of the shape, where one was found
+pub item_if : (s t : Shape) (width : Option ℕ) (piece : List ℕ) (o : Option ℕ) → s ≡ t
+    → MatchOption o (NoItemWithin t width piece) (ItemWithin t width piece) → IfSome o (ItemWithin s width piece)
+item_if s t width piece None same is = tt
+item_if s t width piece (Some n) same is = subst (λ v. ItemWithin v width piece n) (sym same) is
+
 -- ---- what the answer does to the text under way
 
 pub suits_waits : (d : Directive) (w : ℕ) (piece : List ℕ) → counts_bytes d ≡ false → w ≡ length piece
@@ -407,7 +423,7 @@ pub ended_by : (d : Directive) (n : ℕ) (piece : List ℕ) (run : Run) (o : Opt
     → Suits d phase.Skipping piece run → IfSome o (EndsAtOnce d n piece)
 ended_by d n piece run o is answers suits = grind (arith, end_fits)
 
--- a conversion behind white space that is skipped
+-- a conversion after white space that is skipped
 pub ended_behind : (c : Conversion) (n w : ℕ) (piece rest : List ℕ) (e : Ended) → rest ≡ drop w piece → w ≤ length piece
     → ((k : ℕ) → k < w → (shape_skips c.shape && is_white (get_or piece k 0)) ≡ true)
     → (w < length piece → (shape_skips c.shape && is_white (get_or piece w 0)) ≡ false) → e.before ≡ 0
@@ -425,6 +441,17 @@ ended_behind c n w piece rest e back within white next front answers is =
           (item_skips c piece w within white) (rw back at (answers proper ink (n + w))));
       fits = record { within = omega (arith, all, fits, front, long, within); given = is.given; number = is.number; memory = is.memory };
     }
+
+-- a conversion that skips no white space
+pub ends_unskipped : (c : Conversion) (n : ℕ) (piece : List ℕ) (o : Option Ended) → shape_skips c.shape ≡ false
+    → (IsProper (Conv c) → (0 < length piece → (shape_skips c.shape && is_white (get_or piece 0 0)) ≡ false) → (n : ℕ)
+    → IfSome o (λ e. Answers (Conv c) Skipping n piece (run_of e))) → IfSome o (IsEndIn (Conv c) piece)
+    → IfSome o (EndsAtOnce (Conv c) n piece)
+ends_unskipped c n piece None skips answers is = tt
+ends_unskipped c n piece (Some e) skips answers is = record {
+  answers = λ proper. answers proper (λ some. ap (λ v. v && is_white (get_or piece 0 0)) skips) n;
+  fits = is;
+}
 
 -- a directive that waits at the end of the piece doesn't pass before
 pub waits_late : (d : Directive) (n : ℕ) (piece : List ℕ) (room : ℕ) (run : Run) → run.ends ≡ None → Answers d Skipping n piece run

@@ -6,7 +6,6 @@ use Rattle.sf_base.specs.Kept.{Kept, texts_in, text_of, Opened, buffer_of}
 use Rattle.sf_format.specs.declared.directive.Directive.{Directive}
 use Rattle.sf_format.specs.Proper.{AreProper}
 use Rattle.sf_report.specs.declared.outcome.Status.TheVariants.{Done}
-use Rattle.sf_run.specs.declared.quick.Strays.{Strays}
 use Rattle.sf_run.specs.declared.tally.Tally as code
 use Rattle.sf_report.specs.Machine.{Skipping}
 use Rattle.sf_report.specs.Memory.{capacity_of}
@@ -40,7 +39,7 @@ record FirstOf (d : Directive) (t : Tally) (x : List ℕ) (r : RunReport) : Type
   pub early : (one_from d Skipping t.used x).used ≤ r.used
   pub texts : length (texts_in t.values) + length (text_stored (one_from d Skipping t.used x).end) ≤ length (texts_in r.values)
 
--- the rest of a run behind its first directive, which ends so
+-- the rest of a run after its first directive, which ends so
 abbrev behind : Directive → List Directive → ℕ → Tally → Part → StepEnd → RunReport
 behind d ds at t p end = by_end end (run_of None ds (at + 1) (counted d end (with_used p.used t)) p.left)
     (λ status. out_of status at (with_used p.used t))
@@ -111,12 +110,12 @@ pub done_on : (ds : List Directive) → AreProper ds → (limit : ℕ) (piece : 
 done_on ds proper limit piece capacity h = grind (arith, run_told)
 
 -- the next directive of a run on a piece that is Done before a byte of it is lacking
-pub sure_next : (ds : List Directive) → AreProper ds → (limit most n : ℕ) (piece front rest : List ℕ) (p : ℕ) (d : Directive) (s : Strays)
+pub sure_next : (ds : List Directive) → AreProper ds → (limit most n : ℕ) (piece front rest : List ℕ) (p : ℕ) (d : Directive)
     (kept : Kept) (capacity : ℕ) → slice_get ds p ≡ Some d
-    → front ≡ take most piece → length front ≡ most → most ≡ min limit (length piece) → Counted ds front rest p s kept
+    → front ≡ take most piece → length front ≡ most → most ≡ min limit (length piece) → Counted ds front rest p kept
     → n ≡ length front - length rest → capacity ≤ capacity_of kept
     → IsDoneWithin ds limit piece capacity → IsSure d n rest kept.room
-sure_next ds proper limit most n piece front rest p d s kept capacity at is long least h begins roomy done =
+sure_next ds proper limit most n piece front rest p d kept capacity at is long least h begins roomy done =
     let r : RunReport = record done.report { met = None } in
     let whole : front ++ drop most piece ≡ piece = ap (λ (y : List ℕ). y ++ drop most piece) is ∙ take-append-drop most piece in
     let same : run_of None ds 1 nothing_yet (front ++ drop most piece) ≡ r =

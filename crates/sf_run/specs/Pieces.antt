@@ -1,9 +1,12 @@
 -- What a directive makes of a piece of the input.
 use Rattle.std.specs.Prelude.{◌≡◌, ℕ, ◌+◌, ◌<◌, ◌≤◌, true, false, List, [], ◌++◌, length, take, drop, get_or, Option, Some, None, IfSome}
 use Rattle.sf_format.specs.declared.directive.Base.{Base}
+use Rattle.sf_format.specs.declared.directive.Conversion.{Conversion}
 use Rattle.sf_format.specs.declared.directive.Shape.{Shape}
-use Rattle.sf_format.specs.declared.directive.Shape.TheVariants.{Int}
+use Rattle.sf_format.specs.declared.directive.Shape.TheVariants.{Count, Int}
 use Rattle.sf_format.specs.declared.directive.Directive.{Directive}
+use Rattle.sf_format.specs.declared.layout.Row.{Row}
+use Rattle.sf_format.specs.Layout.{most_of}
 use Rattle.sf_format.specs.Proper.{IsProper}
 use Rattle.sf_item.specs.declared.whole.WholeInteger.{WholeInteger}
 use Rattle.sf_item.specs.Wholes.{EndsWithin}
@@ -74,7 +77,7 @@ pub record IsWhole (shape : Shape) (width : Option ℕ) (piece : List ℕ) (whol
 
 -- ---- directives that end within the piece
 
--- the answer says that the directive ends so
+-- the answer is that the directive ends so
 pub record IsEndOf (e : Ended) (run : Run) : Type 0 where
   pub before : e.before ≡ run.before
   pub item : e.item ≡ run.item
@@ -95,3 +98,22 @@ pub record IsEndIn (d : Directive) (piece : List ℕ) (e : Ended) : Type 0 where
 pub record EndsAtOnce (d : Directive) (n : ℕ) (piece : List ℕ) (e : Ended) : Type 0 where
   pub answers : IsProper d → Answers d Skipping n piece (run_of e)
   pub fits : IsEndIn d piece e
+
+-- it is the row of this conversion of an integer in the base, as far as its numbers go
+pub record IsNumberRow (row : Row) (base : Base) (c : Conversion) : Type 0 where
+  pub shape : c.shape ≡ Int base
+  pub kind : c.kind ≡ row.kind
+  pub slot : c.slot ≡ row.slot
+  pub width : row.width ≡ most_of c.width
+
+-- the shape is that of an item that is stored as it stands
+abbrev pub IsTextShape : Shape → Type 0
+IsTextShape (Int base) = ⊥
+IsTextShape Count = ⊥
+IsTextShape _ = Unit {0}
+
+-- it is the row of this conversion, whose item is stored as it stands
+pub record IsTextRow (row : Row) (c : Conversion) : Type 0 where
+  pub shape : IsTextShape c.shape
+  pub slot : c.slot ≡ row.slot
+  pub width : row.width ≡ most_of c.width

@@ -1,16 +1,16 @@
 -- Directives that begin and pass within a piece of the input, and give a store what they give.
-use Rattle.std.specs.Prelude.{◌≡◌, ℕ, ◌+◌, ◌<◌, ◌≤◌, Bool, true, false, List, [], ◌++◌, length, Option, Some, None}
+use Rattle.std.specs.Prelude.{◌≡◌, ℕ, ◌+◌, ◌<◌, ◌≤◌, Bool, true, List, [], ◌++◌, length, Option, Some, None}
 use Rattle.sf_base.specs.Data.{Assigned, datum_at}
 use Rattle.sf_base.specs.Kept.{Kept, text_in, texts_in}
 use Rattle.sf_format.specs.declared.directive.Directive.{Directive}
+use Rattle.sf_format.specs.Layout.{items_assigned, items_taken}
 use Rattle.sf_report.specs.declared.outcome.Ending.{Ending}
 use Rattle.sf_report.specs.declared.outcome.Status.TheVariants.{Done}
-use Rattle.sf_run.specs.declared.quick.Strays.{Strays}
 use Rattle.sf_report.specs.Limits.{RunWithin}
 use Rattle.sf_report.specs.Machine.{Skipping}
 use Rattle.sf_run.specs.Pieces.{EndsIn}
 use Rattle.sf_report.specs.Residual.{one_from}
-use Rattle.sf_report.specs.Runs.{RunReport, is_conversion, passed}
+use Rattle.sf_report.specs.Runs.{RunReport, passed}
 use Rattle.sf_report.specs.Steps.{StepEnd, Stores}
 use Rattle.sf_run.specs.Tallies.{PassesSo, values_with}
 use Rattle.sf_run.specs.Texts.{slot_of}
@@ -62,15 +62,18 @@ pub record PassesWithin (d : Directive) (n : ℕ) (piece : List ℕ) (taken : �
   pub gives : GivesTo end stores old new
   pub own : slot_stored end ≡ slot_of d
 
--- the counts of the directives that have passed otherwise than as a conversion that stores, with one more that counts as a conversion or
--- not, and stores or not
-abbrev pub strayed : Bool → Bool → Strays → Strays
-strayed true false s = record s { suppressed = s.suppressed + 1 }
-strayed false true s = record s { uncounted = s.uncounted + 1 }
-strayed _ _ s = s
+-- the directive has passed within the piece, and stored something or not
+abbrev pub Passes : Directive → ℕ → List ℕ → ℕ → Kept → Kept → Type 0
+Passes d n piece taken old new = (stores : Bool) × PassesWithin d n piece taken stores old new
 
--- the directive has passed within the piece, and is counted
-pub record PassesBy (d : Directive) (n : ℕ) (piece : List ℕ) (taken : ℕ) (old new : Kept) (before after : Strays) : Type 0 where
-  pub stores : Bool
-  pub is : PassesWithin d n piece taken stores old new
-  pub counted : after ≡ strayed (is_conversion d) stores before
+-- the report of a run of the directives that is Done and met no end, after so many bytes and with these values (C11 7.21.6.2p16)
+abbrev pub done_by : List Directive → ℕ → List Assigned → RunReport
+done_by ds used values = record {
+  status = Done;
+  at = 0;
+  assigned = items_assigned ds;
+  converted = items_taken ds;
+  used = used;
+  met = None;
+  values = values;
+}

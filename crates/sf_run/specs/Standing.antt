@@ -176,8 +176,8 @@ IsSettled s = IfNone s.ended (Waits s.directives s.passed s.phase)
 
 -- ---- what a scanner was given
 
--- The scanner of this format under this limit was given exactly the bytes x: however the input goes on, what is told
--- of the whole input is what the scanner makes of the rest, under each limit that is not yet passed.
+-- The scanner of this format under this limit was given exactly the bytes x: however the input goes on, the report of
+-- the whole input is what the scanner makes of the rest, under each limit that is not yet passed.
 pub record After (ds : List Directive) (m : ℕ) (s : Standing) (x : List ℕ) : Type 0 where
   pub format : s.directives ≡ ds
   pub limit : s.limit ≡ m

@@ -1,4 +1,4 @@
--- What is said of how a run ended, and of why none was started.
+-- The texts for how a run ended, and for why none was started.
 use Rattle.std.specs.Prelude.{ℕ, List, codes}
 pub use Rattle.sf_report.specs.Wording.{status_text, outcome_text}
 use Rattle.sf_run.specs.declared.feeding.StartFault.{StartFault}

@@ -1,17 +1,19 @@
 //! What one directive makes of a piece of the input, and how it ends (C11 7.21.6.2p4 to p10).
-ghost use Rattle.std.specs.Prelude.{◌≡◌, ◌≢◌, ◌+◌, ◌<◌, ◌≤◌, ◌&&◌, ◌^◌, true, false, ℕ, ℤ, List, [], ◌++◌, length, take, drop, get_or, Option, Some, None, IfSome, IsNone};
+ghost use Rattle.std.specs.Prelude.{◌≡◌, ◌≢◌, ◌+◌, ◌<◌, ◌≤◌, ◌&&◌, ◌^◌, true, false, ℕ, ℤ, List, [], ◌++◌, length, take, drop, get_or, not, Option, Some, None, IfSome, IsNone};
 ghost use Rattle.sf_base.specs.Bytes.{is_white};
 ghost use Rattle.std.specs.Option.{option_map};
-ghost use Rattle.sf_base.specs.Data.{Number as NumberOf, datum_of_number};
+ghost use Rattle.sf_base.specs.Data.{Number as NumberOf, datum_of_number, value_of};
 ghost use Rattle.sf_base.specs.Kept.{Opened, text_of};
+ghost use Rattle.sf_base.specs.Kinds.{bounds_of};
 ghost use Rattle.sf_format.specs.declared.directive.Conversion.{Conversion};
 ghost use Rattle.sf_format.specs.declared.directive.Directive.{Directive};
 ghost use Rattle.sf_format.specs.declared.directive.Directive.TheVariants as directive;
-ghost use Rattle.sf_format.specs.declared.directive.Shape.TheVariants.{Int};
+ghost use Rattle.sf_format.specs.declared.directive.Shape.TheVariants.{Chars, Int, Text};
+ghost use Rattle.sf_format.specs.Layout.{most_of, row_of};
 ghost use Rattle.sf_format.specs.Proper.{IsProper, IsProperShape};
 ghost use Rattle.sf_item.specs.Scan.{HasLeft};
 ghost use Rattle.sf_item.specs.Taking.{CanTake, HasTaken, conversion_of, left_of};
-ghost use Rattle.sf_item.specs.Wholes.{EndsWithin};
+ghost use Rattle.sf_item.specs.Wholes.{EndsWithin, ItemWithin};
 ghost use Rattle.sf_report.specs.Steps.{StepEnd};
 ghost use Rattle.sf_run.specs.declared.directive.Phase.TheVariants as phase;
 ghost use Rattle.sf_run.specs.declared.directive.Finished.TheVariants as finish;
@@ -19,13 +21,16 @@ ghost use Rattle.sf_report.specs.Machine.{Stage, Skipping, Item, shape_skips, is
 ghost use Rattle.sf_run.specs.Texts.{text_slot, opened_for, slot_of_text, is_count};
 ghost use Rattle.sf_run.specs.Holding.{FallsBy};
 ghost use Rattle.sf_run.specs.Phases.{ShowsItem, Shows, CanAll, IsNumberGiven, end_of, is_failing, is_memory_failure, passed_number, slot_closed, slot_given, slot_in};
-ghost use Rattle.sf_run.specs.Pieces.{Answers, EndsAt, EndsAtOnce, IsEnd, IsEndIn, IsEndOf, StaysAt, Suits, run_of};
+ghost use Rattle.sf_run.specs.Pieces.{Answers, EndsAt, EndsAtOnce, IsEnd, IsEndIn, IsEndOf, IsNumberRow, IsTextRow, StaysAt, Suits, run_of};
 ghost use Rattle.sf_run.specs.Quick.{IsSure};
 
 use crate::number::number_of;
 use sf_base::{Kind, Number, is_space, space_run};
-use sf_format::{Base, Conversion, Directive, Shape};
-use sf_item::{ItemEnd, ItemScan, WholeInteger, whole_auto, whole_bytes, whole_decimal, whole_hex};
+use sf_format::{Base, Conversion, Directive, Row, Shape};
+use sf_item::{
+    ItemEnd, ItemScan, WholeInteger, characters_item, decimal_within, hex_within, members_item,
+    text_item, whole_auto, whole_decimal, whole_hex,
+};
 use sf_report::Status;
 
 /// How far a directive has come that waits for more.
@@ -120,6 +125,14 @@ fn item_phase<'f>(slot: Option<u8>, scan: ItemScan<'f>) -> Phase<'f>
     }
 }
 
+/// Whether the byte is no white space. Nearly all such bytes stand after the space, so that one test is enough.
+#[inline(always)]
+fn is_ink(b: u8) -> bool
+    ensures { result ≡ not (is_white b) }
+{
+    b > b' ' || !is_space(b)
+}
+
 /// How many bytes of white space the piece begins with, the first of which is some.
 #[inline(always)]
 fn spaces(piece: &[u8]) -> usize
@@ -130,7 +143,7 @@ fn spaces(piece: &[u8]) -> usize
     ensures next { result < length piece.now → is_white (get_or piece.now result 0) ≡ false }
 {
     match piece.get(1) {
-        Some(b) if !is_space(*b) => 1,
+        Some(b) if is_ink(*b) => 1,
         _ => space_run(piece),
     }
 }
@@ -143,7 +156,7 @@ pub(crate) fn space_before(piece: &[u8]) -> usize
     ensures next { result < length piece.now → is_white (get_or piece.now result 0) ≡ false }
 {
     match piece.first() {
-        Some(b) if is_space(*b) => spaces(piece),
+        Some(b) if !is_ink(*b) => spaces(piece),
         _ => 0,
     }
 }
@@ -359,7 +372,7 @@ fn run_byte<'f>(due: u8, piece: &[u8]) -> Run<'f>
     }
 }
 
-/// Whether the item ends behind so many bytes of the piece, which it took.
+/// Whether the item ends after so many bytes of the piece, which it took.
 fn is_over(scan: &ItemScan<'_>, item: usize, piece: &[u8]) -> bool
     ensures over { (f : List ℕ) → IsProper (directive.Conv (conversion_of scan.now))
         → HasTaken scan.now (f ++ take item piece.now)
@@ -500,7 +513,7 @@ fn begin_item<'f>(conversion: &'f Conversion, piece: &[u8]) -> Run<'f>
     run
 }
 
-/// As the answer for what is behind so many bytes, which are skipped.
+/// As the answer for what follows so many bytes, which are skipped.
 #[inline(always)]
 fn behind<'f>(before: usize, run: Run<'f>) -> Run<'f>
     requires { before + run.before < 2 ^ 64 }
@@ -550,7 +563,7 @@ fn run_conversion<'f>(
     }
 }
 
-/// `%%`: white space, and the percent sign behind it.
+/// `%%`: white space, and the percent sign after it.
 #[inline(always)]
 fn run_percent<'f>(piece: &[u8]) -> Run<'f>
     ensures answers { (n : ℕ) → Answers directive.Percent Skipping n piece.now result }
@@ -597,35 +610,76 @@ fn finish_bytes(slot: Option<u8>) -> Finished
     }
 }
 
-/// An item that is stored as it stands, where it is looked at as a whole and a byte of the piece follows it.
+/// How a conversion with the row ends that matched an integer.
 #[inline(always)]
-fn whole_text(conversion: &Conversion, piece: &[u8]) -> Option<Ended>
-    requires slot { (slot : Option ℕ) → slot_of_text conversion.now.shape slot ≡ slot }
-    requires item { is_count conversion.now.shape ≡ false }
-    ensures answers { IsProper (directive.Conv conversion.now)
-        → (0 < length piece.now → (shape_skips conversion.now.shape && is_white (get_or piece.now 0 0)) ≡ false)
-        → (n : ℕ)
-        → IfSome result (λ e. Answers (directive.Conv conversion.now) Skipping n piece.now (run_of e)) }
-    ensures fits { IfSome result (IsEndIn (directive.Conv conversion.now) piece.now) }
+fn finish_by(row: &Row, whole: WholeInteger) -> Finished
+    requires { bounds_of row.now.kind ≡ Some (row.now.signed, row.now.greatest) }
+    ensures end { (c : Conversion) → c.kind ≡ row.now.kind → c.slot ≡ row.now.slot → (text : List ℕ)
+        → end_of text result ≡ passed_number c c.slot (value_of c.kind whole.negative whole.magnitude) }
+    ensures closes { slot_closed result ≡ None }
+    ensures given { is_failing result ≡ false → slot_given result ≡ row.now.slot }
+    ensures number { IsNumberGiven result }
+    ensures memory { is_memory_failure result ≡ false }
+{
+    let Some(slot) = row.slot else {
+        return Finished::Passes;
+    };
+    let number = row
+        .kind
+        .number_within(row.signed, row.greatest, whole.negative, whole.magnitude);
+    match number {
+        None => Finished::Fails(Status::OutOfRange),
+        Some(number) => Finished::Stores {
+            slot,
+            kind: number.kind,
+            negative: number.negative,
+            magnitude: number.magnitude,
+        },
+    }
+}
+
+/// As `whole_integer`, where the most bytes of the integer are known.
+#[inline(always)]
+fn integer_within(base: Base, most: usize, piece: &[u8]) -> Option<WholeInteger>
+    ensures { (width : Option ℕ) → most ≡ most_of width → IfSome result (EndsWithin base width piece.now) }
+{
+    match base {
+        Base::Dec => decimal_within(most, piece),
+        Base::Hex => hex_within(most, piece),
+        _ => None,
+    }
+}
+
+/// As `whole_number`, of a conversion of the base with the row.
+#[inline(always)]
+fn number_by(row: &Row, base: Base, piece: &[u8]) -> Option<Ended>
+    requires { bounds_of row.now.kind ≡ Some (row.now.signed, row.now.greatest) }
+    ensures answers { (c : Conversion) → IsNumberRow row.now base c → IsProper (directive.Conv c)
+        → (0 < length piece.now → (shape_skips c.shape && is_white (get_or piece.now 0 0)) ≡ false)
+        → (n : ℕ) → IfSome result (λ e. Answers (directive.Conv c) Skipping n piece.now (run_of e)) }
+    ensures fits { (c : Conversion) → IsNumberRow row.now base c
+        → IfSome result (IsEndIn (directive.Conv c) piece.now) }
     ensures before { IfSome result (λ e. e.before ≡ 0) }
 {
-    let item = whole_bytes(&conversion.shape, conversion.width, piece)?;
+    let whole = integer_within(base, row.width, piece)?;
+    let item = whole.bytes;
     Some(Ended {
         before: 0,
         item,
-        finished: finish_bytes(conversion.slot),
+        finished: finish_by(row, whole),
     })
 }
 
-/// As `whole_number`, of a conversion that took nothing yet.
+/// As `number_by`, of a conversion that took nothing yet.
 #[inline(always)]
-fn number_behind_space(conversion: &Conversion, base: Base, piece: &[u8]) -> Option<Ended>
-    requires { conversion.now.shape ≡ Int base }
-    ensures { (n : ℕ) → IfSome result (EndsAtOnce (directive.Conv conversion.now) n piece.now) }
+pub(crate) fn number_at_once(row: &Row, base: Base, piece: &[u8]) -> Option<Ended>
+    requires { bounds_of row.now.kind ≡ Some (row.now.signed, row.now.greatest) }
+    ensures { (c : Conversion) → IsNumberRow row.now base c → (n : ℕ)
+        → IfSome result (EndsAtOnce (directive.Conv c) n piece.now) }
 {
-    let before = skipped(&conversion.shape, piece);
+    let before = space_before(piece);
     let (_, rest) = piece.split_at(before);
-    let ended = whole_number(conversion, base, rest)?;
+    let ended = number_by(row, base, rest)?;
     Some(Ended {
         before,
         item: ended.item,
@@ -633,16 +687,37 @@ fn number_behind_space(conversion: &Conversion, base: Base, piece: &[u8]) -> Opt
     })
 }
 
-/// As `whole_text`, of a conversion that took nothing yet.
+/// How a conversion with the row ends whose item is stored as it stands, where it is so many bytes at the front of the
+/// piece and a byte of the piece follows it.
 #[inline(always)]
-fn text_behind_space(conversion: &Conversion, piece: &[u8]) -> Option<Ended>
-    requires slot { (slot : Option ℕ) → slot_of_text conversion.now.shape slot ≡ slot }
-    requires item { is_count conversion.now.shape ≡ false }
-    ensures { (n : ℕ) → IfSome result (EndsAtOnce (directive.Conv conversion.now) n piece.now) }
+fn bytes_by(row: &Row, item: Option<usize>, piece: &[u8]) -> Option<Ended>
+    ensures answers { (c : Conversion) → IsTextRow row.now c → IfSome item (ItemWithin c.shape c.width piece.now)
+        → IsProper (directive.Conv c)
+        → (0 < length piece.now → (shape_skips c.shape && is_white (get_or piece.now 0 0)) ≡ false)
+        → (n : ℕ) → IfSome result (λ e. Answers (directive.Conv c) Skipping n piece.now (run_of e)) }
+    ensures fits { (c : Conversion) → IsTextRow row.now c → IfSome item (ItemWithin c.shape c.width piece.now)
+        → IfSome result (IsEndIn (directive.Conv c) piece.now) }
+    ensures before { IfSome result (λ e. e.before ≡ 0) }
 {
-    let before = skipped(&conversion.shape, piece);
+    let _piece = piece;
+    let item = item?;
+    Some(Ended {
+        before: 0,
+        item,
+        finished: finish_bytes(row.slot),
+    })
+}
+
+/// How a conversion `s` with the row ends that took nothing yet, where its item is looked at as a whole. Each shape has
+/// a function of its own, so that a run asks for the way of a row and not for the shape too.
+#[inline(always)]
+pub(crate) fn text_at_once(row: &Row, piece: &[u8]) -> Option<Ended>
+    ensures { (c : Conversion) → c.shape ≡ Text → IsTextRow row.now c → (n : ℕ)
+        → IfSome result (EndsAtOnce (directive.Conv c) n piece.now) }
+{
+    let before = space_before(piece);
     let (_, rest) = piece.split_at(before);
-    let ended = whole_text(conversion, rest)?;
+    let ended = bytes_by(row, text_item(row.width, rest), rest)?;
     Some(Ended {
         before,
         item: ended.item,
@@ -650,20 +725,28 @@ fn text_behind_space(conversion: &Conversion, piece: &[u8]) -> Option<Ended>
     })
 }
 
-/// How a conversion ends that took nothing yet, where its item is looked at as a whole. It is compiled for each shape
-/// by itself, so that a run asks for the shape once.
+/// As `text_at_once`, of a conversion by a set.
 #[inline(always)]
-pub(crate) fn whole_conversion(conversion: &Conversion, piece: &[u8]) -> Option<Ended>
-    ensures { (n : ℕ) → IfSome result (EndsAtOnce (directive.Conv conversion.now) n piece.now) }
+pub(crate) fn members_at_once(row: &Row, directive: &Directive, piece: &[u8]) -> Option<Ended>
+    requires { row.now ≡ row_of directive.now }
+    ensures { (n : ℕ) → IfSome result (EndsAtOnce directive.now n piece.now) }
 {
+    let Directive::Conv(conversion) = directive else {
+        return None;
+    };
     match &conversion.shape {
-        Shape::Int(Base::Dec) => number_behind_space(conversion, Base::Dec, piece),
-        Shape::Int(Base::Hex) => number_behind_space(conversion, Base::Hex, piece),
-        Shape::Text => text_behind_space(conversion, piece),
-        Shape::Set(_) => text_behind_space(conversion, piece),
-        Shape::Chars => text_behind_space(conversion, piece),
-        Shape::Int(_) | Shape::Count => None,
+        Shape::Set(members) => bytes_by(row, members_item(members, row.width, piece), piece),
+        _ => None,
     }
+}
+
+/// As `text_at_once`, of a conversion `c`.
+#[inline(always)]
+pub(crate) fn characters_at_once(row: &Row, piece: &[u8]) -> Option<Ended>
+    ensures { (c : Conversion) → c.shape ≡ Chars → IsTextRow row.now c → (n : ℕ)
+        → IfSome result (EndsAtOnce (directive.Conv c) n piece.now) }
+{
+    bytes_by(row, characters_item(row.width, piece), piece)
 }
 
 /// How a directive ends that took nothing yet, where it does so within the piece.

@@ -1,4 +1,4 @@
-//! What a scanner says when it is started and fed.
+//! What a scanner answers when it is started and fed.
 use std::error::Error;
 use std::fmt;
 

@@ -1,6 +1,8 @@
 //! Runs that begin and pass within a piece of the input, read at once.
-ghost use Rattle.std.specs.Prelude.{◌≡◌, ◌<◌, ◌≤◌, ◌+◌, ◌-◌, ◌^◌, ◌++◌, ℕ, List, length, take, drop, true, None, IfSome, IsNone, IsSome};
+ghost use Rattle.std.specs.Prelude.{◌≡◌, ◌<◌, ◌≤◌, ◌+◌, ◌-◌, ◌^◌, ◌++◌, ℕ, List, length, slice_get, take, drop, true, None, Some, IfSome, IsNone, IsSome};
+ghost use Rattle.sf_format.specs.declared.directive.Directive.{Directive};
 ghost use Rattle.sf_base.specs.Kept.{buffer_of};
+ghost use Rattle.sf_format.specs.Layout.{row_of};
 ghost use Rattle.sf_format.specs.Proper.{IsProper};
 ghost use Rattle.sf_report.specs.declared.outcome.Ending.{Ending};
 ghost use Rattle.sf_report.specs.declared.outcome.Status.TheVariants as status;
@@ -8,58 +10,20 @@ ghost use Rattle.sf_report.specs.Limits.{RunWithin};
 ghost use Rattle.sf_report.specs.Memory.{HoldsValues, capacity_of};
 ghost use Rattle.sf_run.specs.Phases.{IsNumberGiven, end_of, slot_given};
 ghost use Rattle.sf_run.specs.Pieces.{EndsAtOnce};
-ghost use Rattle.sf_run.specs.Quick.{GivesTo, IsDoneWithin, IsSure, MayBeGiven, PassesBy, text_stored};
-ghost use Rattle.sf_report.specs.Runs.{is_conversion, passed};
+ghost use Rattle.sf_run.specs.Quick.{GivesTo, IsDoneWithin, IsSure, MayBeGiven, Passes, done_by, text_stored};
+ghost use Rattle.sf_report.specs.Runs.{passed};
 ghost use Rattle.sf_run.specs.Texts.{slot_of};
 ghost use Rattle.sf_report.specs.Views.{report_by};
 
 use crate::directive::{
-    Ended, Finished, ended_within, is_count, whole_byte, whole_conversion, whole_space,
+    Ended, Finished, characters_at_once, ended_within, members_at_once, number_at_once,
+    text_at_once, whole_byte, whole_space,
 };
-use crate::tally::is_conversion;
 use sf_base::{HeapStore, Number, Store};
-use sf_format::{Directive, ScanFormat};
+use sf_format::{Base, Directive, Row, ScanFormat, Way};
 use sf_report::{Outcome, Status};
 
-/// The directives that have passed and are counted otherwise than as a conversion that stored something.
-#[derive(Clone, Copy)]
-struct Strays {
-    /// The conversions that stored nothing.
-    suppressed: u16,
-    /// The directives that stored something and are no conversions, as `%n`.
-    uncounted: u16,
-}
-
-impl Strays {
-    ghost use Rattle.sf_run.specs.Quick.{strayed};
-
-    /// With a directive that has passed; `counts` says whether it counts as a conversion.
-    #[inline(always)]
-    fn with(self, counts: bool, stores: bool) -> Strays
-        requires suppressed { self.suppressed < 2 ^ 16 - 1 }
-        requires uncounted { self.uncounted < 2 ^ 16 - 1 }
-        ensures { result ≡ strayed counts stores self }
-    {
-        if counts {
-            if stores {
-                return self;
-            }
-            return Strays {
-                suppressed: self.suppressed + 1,
-                uncounted: self.uncounted,
-            };
-        }
-        if stores {
-            return Strays {
-                suppressed: self.suppressed,
-                uncounted: self.uncounted + 1,
-            };
-        }
-        self
-    }
-}
-
-/// Gives a store without an opened text what a directive gives that ends so within the piece, and says whether that is
+/// Gives a store without an opened text what a directive gives that ends so within the piece. Answers whether that is
 /// something. None where the directive fails, or the storing is refused.
 #[inline(always)]
 fn give(store: &mut HeapStore, ended: Ended, piece: &[u8]) -> Option<bool>
@@ -102,116 +66,152 @@ fn give(store: &mut HeapStore, ended: Ended, piece: &[u8]) -> Option<bool>
     }
 }
 
-/// Passes a directive that ends so within the piece, and says how many bytes it took; `counts` says whether it counts
-/// as a conversion. None where it isn't said to end, where it fails, or where the storing is refused: then nothing has
-/// changed.
+/// Passes a directive that ends so within the piece, and says how many bytes it took. None where it isn't said to end,
+/// where it fails, or where the storing is refused: then nothing has changed.
 #[inline(always)]
 fn pass_so(
     store: &mut HeapStore,
-    strays: &mut Strays,
     directive: &Directive,
-    counts: bool,
     ended: Option<Ended>,
     piece: &[u8],
     used: u32,
 ) -> Option<usize>
     requires opened { store.old.opened ≡ None }
     requires free { MayBeGiven (slot_of directive.now) store.old.values }
-    requires counts { counts ≡ is_conversion directive.now }
     requires ends { IfSome ended (EndsAtOnce directive.now used piece.now) }
-    requires suppressed { strays.old.suppressed < 2 ^ 16 - 1 }
-    requires uncounted { strays.old.uncounted < 2 ^ 16 - 1 }
     ensures passes { IsProper directive.now → IfSome result
-        (λ taken. PassesBy directive.now used piece.now taken store.old store.new strays.old strays.new) }
+        (λ taken. Passes directive.now used piece.now taken store.old store.new) }
     ensures within { IfSome result (λ taken. taken ≤ length piece.now) }
     ensures sure { IsSome ended → IsProper directive.now → IsSure directive.now used piece.now store.old.room
         → IsSome result }
     ensures same { IsNone result → store.new ≡ store.old }
-    ensures strays { IsNone result → strays.new ≡ strays.old }
     ensures room { capacity_of store.old ≤ capacity_of store.new }
 {
     let _directive = directive;
+    let _used = used;
     let ended = ended?;
-    let stores = give(store, ended, piece)?;
-    *strays = strays.with(counts, stores);
+    let _stores = give(store, ended, piece)?;
     Some(ended.before + ended.item)
 }
 
-/// As `pass`, of each directive. None only where it may go on behind the piece, where it fails, or where the storing is
-/// refused.
+/// As `pass`, of the directive at this place, whichever it is. None only where it may go on after the piece, where it
+/// fails, or where the storing is refused. It looks the directive up itself, so that a run by rows alone doesn't.
 #[cold]
 #[inline(never)]
 fn pass_later(
     store: &mut HeapStore,
-    strays: &mut Strays,
-    directive: &Directive,
+    directives: &[Directive],
+    at: usize,
     piece: &[u8],
     used: u32,
 ) -> Option<usize>
     requires opened { store.old.opened ≡ None }
-    requires free { MayBeGiven (slot_of directive.now) store.old.values }
-    requires suppressed { strays.old.suppressed < 2 ^ 16 - 1 }
-    requires uncounted { strays.old.uncounted < 2 ^ 16 - 1 }
-    ensures passes { IsProper directive.now → IfSome result
-        (λ taken. PassesBy directive.now used piece.now taken store.old store.new strays.old strays.new) }
+    requires within { at < length directives.now }
+    requires free { (d : Directive) → slice_get directives.now at ≡ Some d
+        → MayBeGiven (slot_of d) store.old.values }
+    ensures passes { (d : Directive) → slice_get directives.now at ≡ Some d → IsProper d → IfSome result
+        (λ taken. Passes d used piece.now taken store.old store.new) }
     ensures within { IfSome result (λ taken. taken ≤ length piece.now) }
-    ensures sure { IsProper directive.now → IsSure directive.now used piece.now store.old.room → IsSome result }
+    ensures sure { (d : Directive) → slice_get directives.now at ≡ Some d → IsProper d
+        → IsSure d used piece.now store.old.room → IsSome result }
     ensures room { capacity_of store.old ≤ capacity_of store.new }
 {
+    let directive = &directives[at];
     let ended = ended_within(directive, piece, used);
-    let counts = is_conversion(directive);
-    pass_so(store, strays, directive, counts, ended, piece, used)
+    pass_so(store, directive, ended, piece, used)
 }
 
-/// Passes a directive that is seen at once to end within the piece, which comes so many bytes into the run: how many
-/// bytes it took. None where that isn't seen, where it fails, or where the storing is refused: then nothing has
-/// changed.
+/// Passes a directive that is seen at once to end within the piece, which comes so many bytes into the run, the way
+/// that its row says: how many bytes it took. None where that isn't seen, where it fails, or where the storing is
+/// refused: then nothing has changed.
 #[inline(always)]
 fn pass(
     store: &mut HeapStore,
-    strays: &mut Strays,
     directive: &Directive,
+    row: &Row,
     piece: &[u8],
     used: u32,
 ) -> Option<usize>
     requires opened { store.old.opened ≡ None }
     requires free { MayBeGiven (slot_of directive.now) store.old.values }
-    requires suppressed { strays.old.suppressed < 2 ^ 16 - 1 }
-    requires uncounted { strays.old.uncounted < 2 ^ 16 - 1 }
+    requires row { row.now ≡ row_of directive.now }
     ensures passes { IsProper directive.now → IfSome result
-        (λ taken. PassesBy directive.now used piece.now taken store.old store.new strays.old strays.new) }
+        (λ taken. Passes directive.now used piece.now taken store.old store.new) }
     ensures within { IfSome result (λ taken. taken ≤ length piece.now) }
     ensures same { IsNone result → store.new ≡ store.old }
-    ensures strays { IsNone result → strays.new ≡ strays.old }
     ensures room { capacity_of store.old ≤ capacity_of store.new }
 {
-    match directive {
-        Directive::Space => {
+    match row.way {
+        Way::Space => {
             let ended = whole_space(piece);
-            pass_so(store, strays, directive, false, ended, piece, used)
+            pass_so(store, directive, ended, piece, used)
         }
-        Directive::Byte(due) => {
-            let ended = whole_byte(*due, piece);
-            pass_so(store, strays, directive, false, ended, piece, used)
+        Way::Byte => {
+            let ended = whole_byte(row.due, piece);
+            pass_so(store, directive, ended, piece, used)
         }
-        Directive::Percent => None,
-        Directive::Conv(conversion) => {
-            if is_count(&conversion.shape) {
-                return None;
-            }
-            let ended = whole_conversion(conversion, piece);
-            pass_so(store, strays, directive, true, ended, piece, used)
+        Way::Decimal => {
+            let ended = number_at_once(row, Base::Dec, piece);
+            pass_so(store, directive, ended, piece, used)
         }
+        Way::Hexadecimal => {
+            let ended = number_at_once(row, Base::Hex, piece);
+            pass_so(store, directive, ended, piece, used)
+        }
+        Way::Text => {
+            let ended = text_at_once(row, piece);
+            pass_so(store, directive, ended, piece, used)
+        }
+        Way::Members => {
+            let ended = members_at_once(row, directive, piece);
+            pass_so(store, directive, ended, piece, used)
+        }
+        Way::Characters => {
+            let ended = characters_at_once(row, piece);
+            pass_so(store, directive, ended, piece, used)
+        }
+        Way::Another => None,
     }
 }
 
+/// As `quick_run`: how many bytes the record has.
+#[inline(never)]
+fn pass_all(store: &mut HeapStore, format: &ScanFormat, limit: u32, piece: &[u8]) -> Option<usize>
+    ensures run { IfSome result (λ used. (z : List ℕ) (ending : Ending)
+        → RunWithin format.now limit (piece.now ++ z) ending (done_by format.now used store.new.values)) }
+    ensures used { IfSome result (λ used. used ≤ length piece.now) }
+    ensures low { IfSome result (λ used. used ≤ limit) }
+    ensures answers { IsDoneWithin format.now limit piece.now (capacity_of store.old) → IsSome result }
+    ensures texts { IfSome result (λ _. HoldsValues store.new) }
+    ensures room { capacity_of store.old ≤ capacity_of store.new }
+{
+    store.clear();
+    let most = (limit as usize).min(piece.len());
+    let (front, _) = piece.split_at(most);
+    let directives = format.directives();
+    let rows = format.rows();
+    let mut rest = front;
+    for (at, row) in rows.iter().enumerate() {
+        let directive = &directives[at];
+        let used = (front.len() - rest.len()) as u32;
+        let taken = match pass(store, directive, row, rest, used) {
+            Some(taken) => taken,
+            None => pass_later(store, directives, at, rest, used)?,
+        };
+        let (_, left) = rest.split_at(taken);
+        rest = left;
+    }
+    Some(front.len() - rest.len())
+}
+
 /// Reads a record at once that begins and passes within a piece of the input: empties the store, which keeps its
-/// memory, and gives it the values. What it answers is what the run comes to on every input that begins with the piece,
+/// memory, and gives it the values. What it answers is the result of the run on every input that begins with the piece,
 /// with every ending; the run consumes at most `limit` bytes. It answers wherever the run is Done before a byte of the
 /// piece or of the limit is lacking, and the store has room for its texts.
 ///
 /// None where the record isn't Done whatever follows the piece, where the limit may be passed or the storing of a text
-/// was refused: then nothing is said of the run, and the store may keep something.
+/// was refused: then it answers nothing about the run, and the store may keep something.
+#[inline(always)]
 pub fn quick_run(
     store: &mut HeapStore,
     format: &ScanFormat,
@@ -227,30 +227,13 @@ pub fn quick_run(
     ensures texts { IfSome result (λ _. HoldsValues store.new) }
     ensures room { capacity_of store.old ≤ capacity_of store.new }
 {
-    store.clear();
-    let most = (limit as usize).min(piece.len());
-    let (front, _) = piece.split_at(most);
-    let mut strays = Strays {
-        suppressed: 0,
-        uncounted: 0,
-    };
-    let mut rest = front;
-    for directive in format.directives() {
-        let used = (front.len() - rest.len()) as u32;
-        let taken = match pass(store, &mut strays, directive, rest, used) {
-            Some(taken) => taken,
-            None => pass_later(store, &mut strays, directive, rest, used)?,
-        };
-        let (_, left) = rest.split_at(taken);
-        rest = left;
-    }
-    let assigned = format.destinations() as u16 - strays.uncounted;
+    let used = pass_all(store, format, limit, piece)?;
     Some(Outcome {
         status: Status::Done,
         at: 0,
-        assigned: assigned as u8,
-        converted: assigned + strays.suppressed,
-        used: (front.len() - rest.len()) as u32,
+        assigned: format.assigned(),
+        converted: format.converted(),
+        used: used as u32,
         met: None,
     })
 }

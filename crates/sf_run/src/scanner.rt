@@ -46,7 +46,7 @@ struct Handed {
     waits: bool,
 }
 
-/// Appends bytes to the opened text as far as the store takes them, and says how many it took.
+/// Appends bytes to the opened text as far as the store takes them, and answers how many it took.
 fn store_bytes<S: Store>(store: &mut S, bytes: &[u8]) -> usize
     requires { IsSome (S.kept store.old).opened }
     ensures within { result ≤ length bytes.now }
@@ -376,7 +376,7 @@ impl<'f, S: Store> Scanner<'f, S> {
         }
     }
 
-    /// Hands bytes to the run until it ends or waits for more, and says how many were taken.
+    /// Hands bytes to the run until it ends or waits for more. Answers how many were taken.
     fn push(&mut self, piece: &[u8]) -> usize
         ensures same { AreProper self.old.directives.now → ran_out (standing self.new) ≡ false → (z : List ℕ)
             → Follows (standing self.new) (standing self.old) z (piece.now ++ z) }
@@ -535,7 +535,7 @@ impl<'f, S: Store> Scanner<'f, S> {
         }
     }
 
-    /// Says that no more bytes come, and why. Changes nothing once the run has ended.
+    /// Reports that no more bytes come, and why. Changes nothing once the run has ended.
     pub fn end(&mut self, ending: Ending)
         ensures gives { (ds : List Directive) (m : ℕ) (x : List ℕ) → After ds m (standing self.old) x
             → Gives ds m (standing self.new) x ending }

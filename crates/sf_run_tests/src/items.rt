@@ -5,8 +5,8 @@ ghost use Rattle.sf_item.specs.Tests.{has_item};
 use sf_base::{ByteSet, Kind};
 use sf_format::{Base, Conversion, Shape};
 use sf_item::{
-    ItemEnd, ItemScan, Radices, Step, WholeInteger, prefix_radix, radices_of, whole_auto,
-    whole_bytes, whole_decimal, whole_hex,
+    ItemEnd, ItemScan, Radices, Step, WholeInteger, characters_item, decimal_within, hex_within,
+    members_item, prefix_radix, radices_of, text_item, whole_auto, whole_decimal, whole_hex,
 };
 use sf_rows::{DecimalRow, Found, ItemRow, Reader, decimals, is, items};
 use std::test::Fail;
@@ -175,6 +175,11 @@ static AUTOS: [DecimalRow; 10] = [
     (None, b"12", None),
 ];
 
+/// The most bytes of an item with the width.
+fn most_of(width: Option<u16>) -> usize {
+    width.map_or(usize::MAX, |width| width as usize)
+}
+
 /// The bytes of a whole integer, whether a minus stands there, and the number.
 fn parts(whole: WholeInteger) -> (usize, bool, u64) {
     (whole.bytes, whole.negative, whole.magnitude)
@@ -184,9 +189,15 @@ fn parts(whole: WholeInteger) -> (usize, bool, u64) {
 fn whole_integers_end_within(_rt: HostRuntime) -> Result<(), Fail> {
     for (width, text, wanted) in decimals() {
         is(&whole_decimal(*width, text).map(parts), wanted, text)?;
+        is(
+            &decimal_within(most_of(*width), text).map(parts),
+            wanted,
+            text,
+        )?;
     }
     for (width, text, wanted) in &HEXES {
         is(&whole_hex(*width, text).map(parts), wanted, text)?;
+        is(&hex_within(most_of(*width), text).map(parts), wanted, text)?;
     }
     for (width, text, wanted) in &AUTOS {
         is(
@@ -204,25 +215,38 @@ fn whole_integers_end_within(_rt: HostRuntime) -> Result<(), Fail> {
 }
 
 /// A reader and its width, a text, and how many bytes the item has that ends within it.
-static WHOLES: [(Reader, Option<u16>, &[u8], Option<usize>); 9] = [
+static WHOLES: [(Reader, Option<u16>, &[u8], Option<usize>); 13] = [
     (Reader::Text, None, b"ab c", Some(2)),
     (Reader::Text, Some(1), b"ab c", Some(1)),
     (Reader::Text, None, b"abc", None),
     (Reader::Text, None, b" ab ", None),
+    (Reader::Text, None, b"abcdefghijklmnopqr s", Some(18)),
+    (Reader::Text, Some(17), b"abcdefghijklmnopqr s", Some(17)),
     (Reader::Digits, None, b"12,", Some(2)),
+    (Reader::Digits, Some(1), b"12,", Some(1)),
     (Reader::Digits, None, b",12", None),
-    (Reader::Characters, None, b" a", Some(1)),
+    (Reader::Characters, Some(1), b" a", Some(1)),
     (Reader::Characters, Some(2), b" a", None),
+    (Reader::Characters, Some(2), b" ab", Some(2)),
     (Reader::Integer(Base::Dec), None, b"1,", None),
 ];
+
+/// How many bytes the item of a reader has that ends within the text; none of an integer.
+fn whole_item(reader: Reader, width: Option<u16>, text: &[u8]) -> Option<usize> {
+    match shape_of(reader) {
+        Shape::Text => text_item(most_of(width), text),
+        Shape::Set(members) => members_item(&members, most_of(width), text),
+        Shape::Chars => characters_item(most_of(width), text),
+        Shape::Int(_) | Shape::Count => None,
+    }
+}
 
 #[test]
 fn whole_bytes_end_within(_rt: HostRuntime) -> Result<(), Fail> {
     for (reader, width, text, wanted) in &WHOLES {
-        let shape = shape_of(*reader);
-        is(&whole_bytes(&shape, *width, text), wanted, text)?;
+        is(&whole_item(*reader, *width, text), wanted, text)?;
     }
-    is(&whole_bytes(&Shape::Count, None, b"1,"), &None, &"count")
+    Ok(())
 }
 
 /// Where a whole integer ends within the text, stepping takes the same bytes, to the same integer.

@@ -10,10 +10,13 @@
 //!
 //! To scan
 //!
-//! - **records of an input**: `Records::<(i32, i32), _, 4096>::new(alloc, source, &format, LIMIT)?`, and then `next()?`
-//! until it is   None. A row is a tuple of one to six of `i8` to `i64`, `u8` to `u64` and `Vec<u8>`, or a type of your
-//! own (`Row`). `4096` is how   many bytes are read at once. A `RecordFault` says the record, the line and what failed.
-//! `Reports` lends each report instead.
+//! - **records of an input**: `Records::<(i32, i32), _, 4096>::new(alloc, source, &format, LIMIT)?`, and then
+//! `for row in records`, where `row?` is the row; or `next()?` until it is None. A row is a tuple of one to six of
+//! `i8` to `i64`, `u8` to `u64` and `Vec<u8>`, or a type of your own (`Row`). `4096` is how many bytes are read at
+//! once. A `RecordFault` says the record, the line and what failed. `Reports` lends each report instead.
+//! - **lines of an input**, each an input of its own: `Lines`, made as `Records` is. A line that is no match is a
+//! `LineFault` with its number and text, and the next call goes on with the line after it. `LineReports` lends each
+//! report instead.
 //! - **a text**: `sscan`, as sscanf; `sscan_over` uses a store again.
 //! - **one record of a source**: `scan_row`, or `fscan`, as fscanf, over a `Lookahead` of the source; `fscan_fixed` in
 //! fixed memory.
@@ -22,8 +25,9 @@
 //! `fscan`, `sscan` and `Scanner` answer a report: its `outcome` is how the run ended (`is_done(outcome)`,
 //! `is_end(outcome)`), `value(1)` or `get::<i32>(1)` what slot 1 was given, and `c_return` what fscanf returns.
 //!
-//! To print: `fprint(&mut sink, &format, &values)?`. A `Pair` of a print format and a scan format, once it is checked,
-//! reads back whatever it has written.
+//! To print: `fprint(&mut sink, &format, &values)?`. Once a `Pair` of a print format and a scan format is
+//! checked, `read_back` gives back whatever it has written, and `read_rows` a list of rows that `write_rows` has
+//! written.
 //!
 //! Sources are `SliceSource` of bytes, `StdSource` of any `std::io::Read`, or an impl of `Source` of your own; sinks
 //! are `ListSink`, `StdSink` and `BlockSink`, or an impl of `Sink`. What takes memory takes `alloc`, which `rt.alloc()`
@@ -38,8 +42,13 @@ pub use outcomes::{is_done, is_end};
 pub use sf_base::{FixedStore, HeapStore, Kind, Store, StoreFull, Taken, Value};
 pub use sf_blocks::BlockSink;
 pub use sf_format::{FormatFault, FormatWhy, PrintFormat, Profile, ScanFormat};
-pub use sf_loops::{RecordFault, RecordWhy, Records, Reports};
+pub use sf_loops::{
+    LineFault, LineItems, LineReports, LineWhy, Lines, RecordFault, RecordItems, RecordWhy,
+    Records, Reports,
+};
 pub use sf_pair::{Pair, PairFault, PairWhy, WriteFault};
+pub use sf_pair_read::{read_back, read_back_fixed, read_back_over};
+pub use sf_pair_rows::{ReadRowsFault, WriteRowsFault, read_rows, write_rows};
 pub use sf_print::{ListSink, PrintFault, Sink, SinkFault, StdSink, fprint, printed_len};
 pub use sf_read::{
     Field, Lookahead, Row, RowFault, ScanRowFault, SliceSource, Source, SourceFault, StdSource,

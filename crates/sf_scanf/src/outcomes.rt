@@ -5,7 +5,7 @@ ghost use Rattle.sf_run.specs.outcome.Status.TheVariants as status;
 
 use sf_run::{Ending, Outcome, Status};
 
-/// Whether each directive has passed.
+/// Whether each directive has passed, so that fscanf would return the number of items assigned (C11 7.21.6.2p16).
 pub fn is_done(outcome: Outcome) -> bool
     ensures { IsTrue result ↔ (outcome.status ≡ status.Done) }
 {

@@ -1,7 +1,6 @@
-pub mod Answering
 pub mod Asking
 pub mod Carrying
-pub mod Checking
+pub mod Filing
 pub mod Lining
 pub mod OneSaid
 pub mod Placing

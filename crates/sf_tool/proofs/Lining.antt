@@ -1,6 +1,6 @@
 -- The formats of lines, read from their words in turn, and what is said and answered of the lines.
-use Rattle.std.proofs.Common.{◌≡◌, ◌∙◌, if◌then◌else◌, ℕ, suc, ◌+◌, ◌<◌, ◌≤◌, true, false, Bool, zero, List, [], ◌∷◌, ◌++◌, length, map, drop, get_or, Option, Some, None, inl, inr, refl, sym, ap, subst, append_assoc, append-nil, arith}
-use Rattle.std.specs.Prelude.{slice_get, ◌-◌}
+use Rattle.std.proofs.Common.{◌≡◌, ◌∙◌, if◌then◌else◌, ℕ, suc, ◌+◌, ◌<◌, ◌≤◌, true, false, Bool, zero, List, [], ◌∷◌, ◌++◌, length, map, drop, get_or, Option, Some, None, Result, Ok, Err, inl, inr, refl, sym, ap, subst, append_assoc, append-nil, arith}
+use Rattle.std.specs.Prelude.{IfErr, IfOk, slice_get, ◌-◌}
 use Rattle.std.proofs.Math.Seq.{drop-cons}
 use Rattle.std.proofs.lemmas.Option.{same_Some}
 use Rattle.sf_format.specs.declared.directive.Directive.{Directive}
@@ -12,15 +12,28 @@ use Rattle.sf_lines.specs.declared.end.LinesFault.{LinesFault}
 use Rattle.sf_lines.specs.declared.end.LinesFault.TheVariants as lines_fault
 use Rattle.sf_lines.specs.Loops.{is_write}
 use Rattle.sf_messages.specs.declared.fault.CommandFault.{CommandFault}
-use Rattle.sf_messages.specs.declared.fault.CommandFault.TheVariants.{Memory}
+use Rattle.sf_messages.specs.declared.fault.CommandFault.TheVariants.{BadEscape, Format, Memory, PrintFormat, Unprintable}
+use Rattle.sf_messages.specs.declared.fault.FormatName.{FormatName}
+use Rattle.sf_messages.specs.declared.fault.FormatName.TheVariants as names
+use Rattle.sf_messages.specs.Notes.{escape_notes}
+use Rattle.sf_format.specs.declared.fault.FormatFault.{FormatFault}
+use Rattle.sf_makers.specs.declared.printable.PrintMismatch.{PrintMismatch}
+use Rattle.sf_records.specs.form.OutputForm.{OutputForm}
+use Rattle.sf_jobs.specs.declared.writing.Writing.{Writing}
+use Rattle.sf_jobs.specs.declared.writing.Writing.TheVariants.{Form, Print}
+use Rattle.sf_jobs.specs.Writings.{IsUnsuited, IsWriting}
 use Rattle.sf_messages.specs.LineTexts.{line_fault_text}
 use Rattle.sf_print.specs.Sinks.{counted_on}
-use Rattle.sf_tool.specs.Checks.{IsNoScanWord, IsScanWord}
-use Rattle.sf_tool.specs.Answers.{Answer}
-use Rattle.sf_tool.specs.Commands.{Counts, is_write_fault}
+use Rattle.sf_jobs.specs.Checks.{IsNoScanWord, IsScanWord}
+use Rattle.sf_jobs.specs.Answers.{Answer}
+use Rattle.sf_records.specs.Judging as ends
+use Rattle.sf_records.specs.declared.end.ToolFault.{ToolFault}
+use Rattle.sf_records.specs.declared.end.ToolFault.TheVariants as record_fault
+use Rattle.sf_jobs.specs.Commands.{Counts, is_write_fault, answer_by as record_answer}
 use Rattle.sf_arguments.specs.Escapes.{Unescapes}
-use Rattle.sf_tool.specs.Explains.{IsMoreOfLine, OfWord, more_of_line}
-use Rattle.sf_tool.specs.Lines.{AreNoScanWords, AreScanWords, IsFirstRefused, IsTelling, SaysLines, SomeIsSaid, answer_by, line_telling}
+use Rattle.sf_tool.specs.Fronts.{in_front}
+use Rattle.sf_tool.specs.Explains.{IsMoreOfLine, OfWord, SaysFormat, more_of_line}
+use Rattle.sf_tool.specs.Lines.{AreRefused, AreScanWords, IsFirstRefused, IsRefused, IsTelling, SaysLines, SaysMoreOfLines, SaysOfLines, SomeIsSaid, answer_by, line_telling}
 use Rattle.sf_arguments.proofs.Escaping.{one_reading}
 
 -- ---- words
@@ -96,21 +109,22 @@ counts_by status fault answer n k counted is = counted ∙ ap (λ (v : Bool). if
 
 -- ---- what is told of lines
 
-module _ (profile : Profile) (quiet : Bool) (text : List ℕ) (ds : List Directive) (telling : ℕ → List ℕ → LineFault → List ℕ) (number : ℕ)
+module _ (file : Option (List ℕ)) (profile : Profile) (quiet : Bool) (text : List ℕ) (ds : List Directive)
+    (telling : ℕ → List ℕ → LineFault → List ℕ) (number : ℕ)
     (line : List ℕ) (fault : LineFault) where
-  pub says_nothing : (explain : Bool) → SaysLines profile quiet explain text ds telling → quiet ≡ true → telling number line fault ≡ []
+  pub says_nothing : (explain : Bool) → SaysLines file profile quiet explain text ds telling → quiet ≡ true → telling number line fault ≡ []
   says_nothing false is e = ap (λ f. f number line fault) is ∙ rw e refl
   says_nothing true (pieces, format, text_is, is) e = ap (λ f. f number line fault) is ∙ rw e refl
 
-  pub says_more : (explain : Bool) → SaysLines profile quiet explain text ds telling → quiet ≡ false → (notes : List ℕ)
+  pub says_more : (explain : Bool) → SaysLines file profile quiet explain text ds telling → quiet ≡ false → (notes : List ℕ)
       → IsMoreOfLine profile explain text ds line fault notes
-      → telling number line fault ≡ (line_fault_text number fault ++ 10 ∷ []) ++ notes
+      → telling number line fault ≡ in_front file (line_fault_text number fault ++ 10 ∷ []) ++ notes
   says_more false is e notes more = ap (λ f. f number line fault) is ∙ rw (e, more) refl
   says_more true (pieces, format, text_is, is) e notes more = ap (λ f. f number line fault) is ∙ rw (e, more pieces format text_is) refl
 
 -- want of memory is told of words that all spell formats
 pub refused_memory : (profile : Profile) (words : List (List ℕ)) (formats : List (List Directive)) → AreScanWords profile words formats
-    → 0 < length words → AreNoScanWords profile words Memory
+    → 0 < length words → (word : List ℕ) × IsFirstRefused profile words word Memory
 refused_memory profile [] formats are some = absurd (omega (arith, some))
 refused_memory profile (word ∷ words) [] are some = absurd are
 refused_memory profile (word ∷ words) (ds ∷ formats) ((text, stands, spells), are) some = (word, inl (refl, (text, stands)))
@@ -136,12 +150,13 @@ lasts profile (word ∷ next ∷ words) (ds ∷ other ∷ formats) (stands, are)
     (last, format, last_behind word next words last word_is, last_behind ds other formats format format_is, spells)
 
 -- so that something is told of lines by them
-pub telling_of : (profile : Profile) (quiet explain : Bool) (words : List (List ℕ)) (formats : List (List Directive))
+pub telling_of : (file : Option (List ℕ)) (profile : Profile) (quiet explain : Bool) (words : List (List ℕ))
+    (formats : List (List Directive))
     → AreScanWords profile words formats → 0 < length words
     → (text : List ℕ) → (explain ≡ true → OfWord Unescapes (slice_get words (length words - 1)) text)
     → (ds : List Directive) × (telling : ℕ → List ℕ → LineFault → List ℕ) × (slice_get formats (length formats - 1) ≡ Some ds)
-    × SaysLines profile quiet explain text ds telling × IsTelling profile quiet explain words formats telling
-telling_of profile quiet explain words formats are some text reads =
+    × SaysLines file profile quiet explain text ds telling × IsTelling file profile quiet explain words formats telling
+telling_of file profile quiet explain words formats are some text reads =
     let (word, ds, word_is, format_is, (own, stands, spells)) = lasts profile words formats are some in
     by explain reads word ds word_is format_is own stands spells
   where
@@ -149,10 +164,10 @@ telling_of profile quiet explain words formats are some text reads =
         → slice_get words (length words - 1) ≡ Some word → slice_get formats (length formats - 1) ≡ Some ds
         → (own : List ℕ) → Unescapes word own → Spells profile own ds
         → (ds : List Directive) × (telling : ℕ → List ℕ → LineFault → List ℕ) × (slice_get formats (length formats - 1) ≡ Some ds)
-        × SaysLines profile quiet e text ds telling × IsTelling profile quiet e words formats telling
+        × SaysLines file profile quiet e text ds telling × IsTelling file profile quiet e words formats telling
     by false h word ds word_is format_is own stands spells = (
       ds,
-      line_telling quiet (λ line fault. []),
+      line_telling file quiet (λ line fault. []),
       format_is,
       refl,
       record { word = word; text = own; ds = ds; last_word = word_is; last_format = format_is; stands = stands; says = refl },
@@ -160,7 +175,7 @@ telling_of profile quiet explain words formats are some text reads =
     by true h word ds word_is format_is own stands (pieces, format, own_is, mean) =
         let same : own ≡ text = one_reading word own text stands (subst (λ w. OfWord Unescapes w text) word_is (h refl)) in
         let text_is : text ≡ text_of pieces = sym same ∙ own_is in
-        let telling : ℕ → List ℕ → LineFault → List ℕ = line_telling quiet (more_of_line pieces ds) in (
+        let telling : ℕ → List ℕ → LineFault → List ℕ = line_telling file quiet (more_of_line pieces ds) in (
           ds,
           telling,
           format_is,
@@ -178,11 +193,111 @@ telling_of profile quiet explain words formats are some text reads =
         )
 
 -- so that there is something that is said by the last of them
-pub some_said : (profile : Profile) (quiet explain : Bool) (words : List (List ℕ)) (formats : List (List Directive))
+pub some_said : (file : Option (List ℕ)) (profile : Profile) (quiet explain : Bool) (words : List (List ℕ))
+    (formats : List (List Directive))
     → AreScanWords profile words formats → 0 < length words
     → (text : List ℕ) → (explain ≡ true → OfWord Unescapes (slice_get words (length words - 1)) text)
-    → (ds : List Directive) → slice_get formats (length formats - 1) ≡ Some ds → SomeIsSaid profile quiet explain text ds
-some_said profile quiet explain words formats are some text reads ds is =
-    let (own, telling, last, says, told) = telling_of profile quiet explain words formats are some text reads in
+    → (ds : List Directive) → slice_get formats (length formats - 1) ≡ Some ds → SomeIsSaid file profile quiet explain text ds
+some_said file profile quiet explain words formats are some text reads ds is =
+    let (own, telling, last, says, told) = telling_of file profile quiet explain words formats are some text reads in
     let same : own ≡ ds = same_Some own ds (sym last ∙ is) in
-    ∣ (telling, subst (λ (d : List Directive). SaysLines profile quiet explain text d telling) same says) ∣₁
+    ∣ (telling, subst (λ (d : List Directive). SaysLines file profile quiet explain text d telling) same says) ∣₁
+
+-- ---- the words by which lines are passed over, and then the others
+
+pub refused_before : (profile : Profile) (passed words : List (List ℕ)) (word : List ℕ) (fault : CommandFault)
+    → IsFirstRefused profile passed word fault → IsFirstRefused profile (passed ++ words) word fault
+refused_before profile [] words word fault h = absurd h
+refused_before profile (first ∷ passed) words word fault (inl h) = inl h
+refused_before profile (first ∷ passed) words word fault (inr (ds, spells, h)) =
+    inr (ds, spells, refused_before profile passed words word fault h)
+
+pub refused_after : (profile : Profile) (passed words : List (List ℕ)) (ignored : List (List Directive)) (word : List ℕ)
+    (fault : CommandFault) → AreScanWords profile passed ignored → IsFirstRefused profile words word fault
+    → IsFirstRefused profile (passed ++ words) word fault
+refused_after profile [] words ignored word fault are h = h
+refused_after profile (first ∷ passed) words [] word fault are h = absurd are
+refused_after profile (first ∷ passed) words (ds ∷ ignored) word fault (spells, are) h =
+    inr (ds, spells, refused_after profile passed words ignored word fault are h)
+
+module _ (profile : Profile) (fault : CommandFault) where
+  -- the word that is refused is no format, for this fault
+  is_refused : (words : List (List ℕ)) (a : List ℕ) → IsFirstRefused profile words a fault → IsNoScanWord profile a fault
+  is_refused [] a h = absurd h
+  is_refused (word ∷ words) a (inl (is, bad)) = subst (λ w. IsNoScanWord profile w fault) (sym is) bad
+  is_refused (word ∷ words) a (inr (ds, good, more)) = is_refused words a more
+
+  is_unprintable : (writing : Writing) (formats : List (List Directive)) → IsUnsuited writing formats fault
+      → (why : PrintMismatch) × (fault ≡ Unprintable why)
+  is_unprintable writing [] h = absurd h
+  is_unprintable (Form form) (ds ∷ formats) (inl h) = absurd h
+  is_unprintable (Print units) (ds ∷ formats) (inl (why, mismatch, is)) = (why, is)
+  is_unprintable writing (ds ∷ formats) (inr (suits, h)) = is_unprintable writing formats h
+
+module _ (profile : Profile) (form : OutputForm) (print : Option (List ℕ)) (passed words : List (List ℕ)) where
+  says_escape : (print : Option (List ℕ)) (name : FormatName) (at : ℕ) (refused : List ℕ)
+      → IsRefused profile form print passed words refused (BadEscape name at)
+      → SaysOfLines profile print (passed ++ words) (Err (BadEscape name at)) (escape_notes refused at)
+  says_escape None names.Scan at refused (inl h) = absurd h
+  says_escape (Some word) names.Scan at refused (inl (is, (other, bad))) = absurd (cc)
+  says_escape print names.Scan at refused (inr (writing, is, inl first)) = (refused, first, refl)
+  says_escape print names.Scan at refused (inr (writing, is, inr (formats, are, unsuited))) =
+      let none = is_unprintable profile (BadEscape names.Scan at) writing formats unsuited in absurd (let e = none.1 in cc)
+  says_escape None names.Print at refused (inl h) = absurd h
+  says_escape (Some word) names.Print at refused (inl (is, (same, bad))) = ap (λ (w : List ℕ). escape_notes w at) is
+  says_escape print names.Print at refused (inr (writing, is, inl first)) =
+      let other = is_refused profile (BadEscape names.Print at) (passed ++ words) refused first in absurd (let e = other.0 in cc)
+  says_escape print names.Print at refused (inr (writing, is, inr (formats, are, unsuited))) =
+      let none = is_unprintable profile (BadEscape names.Print at) writing formats unsuited in absurd (let e = none.1 in cc)
+
+  pub says_of_escape : (name : FormatName) (at : ℕ) (refused : List ℕ)
+      → IsRefused profile form print passed words refused (BadEscape name at)
+      → SaysOfLines profile print (passed ++ words) (Err (BadEscape name at)) (escape_notes refused at)
+  says_of_escape name at refused h = says_escape print name at refused h
+
+  says_format : (print : Option (List ℕ)) (fault : FormatFault) (refused notes : List ℕ)
+      → IsRefused profile form print passed words refused (Format fault) → SaysFormat fault refused notes
+      → SaysOfLines profile print (passed ++ words) (Err (Format fault)) notes
+  says_format None fault refused notes (inl h) said = absurd h
+  says_format (Some word) fault refused notes (inl (is, bad)) said = absurd bad
+  says_format print fault refused notes (inr (writing, is, inl first)) said = (refused, first, said)
+  says_format print fault refused notes (inr (writing, is, inr (formats, are, unsuited))) said =
+      let none = is_unprintable profile (Format fault) writing formats unsuited in absurd (let e = none.1 in cc)
+
+  pub says_of_format : (fault : FormatFault) (refused notes : List ℕ)
+      → IsRefused profile form print passed words refused (Format fault) → SaysFormat fault refused notes
+      → SaysOfLines profile print (passed ++ words) (Err (Format fault)) notes
+  says_of_format fault refused notes h said = says_format print fault refused notes h said
+
+  says_print_format : (print : Option (List ℕ)) (fault : FormatFault) (refused notes : List ℕ)
+      → IsRefused profile form print passed words refused (PrintFormat fault) → SaysFormat fault refused notes
+      → SaysOfLines profile print (passed ++ words) (Err (PrintFormat fault)) notes
+  says_print_format None fault refused notes (inl h) said = absurd h
+  says_print_format (Some word) fault refused notes (inl (is, bad)) said = subst (λ w. SaysFormat fault w notes) is said
+  says_print_format print fault refused notes (inr (writing, is, inl first)) said =
+      absurd (is_refused profile (PrintFormat fault) (passed ++ words) refused first)
+  says_print_format print fault refused notes (inr (writing, is, inr (formats, are, unsuited))) said =
+      let none = is_unprintable profile (PrintFormat fault) writing formats unsuited in absurd (let e = none.1 in cc)
+
+  pub says_of_print_format : (fault : FormatFault) (refused notes : List ℕ)
+      → IsRefused profile form print passed words refused (PrintFormat fault) → SaysFormat fault refused notes
+      → SaysOfLines profile print (passed ++ words) (Err (PrintFormat fault)) notes
+  says_of_print_format fault refused notes h said = says_print_format print fault refused notes h said
+
+  -- want of memory, once all formats are there
+  pub no_memory : (writing : Writing) → IsWriting profile form print writing → (word : List ℕ)
+      → IsFirstRefused profile (passed ++ words) word Memory → AreRefused profile form print passed words Memory
+  no_memory writing is word first = (word, inr (writing, is, inl first))
+
+-- what is said where more is asked for
+pub says_asked : (explain : Bool) → explain ≡ true → (profile : Profile) (print : Option (List ℕ)) (words : List (List ℕ))
+    (answer : Answer) (notes : List ℕ) → SaysOfLines profile print words answer notes
+    → SaysMoreOfLines explain profile print words answer notes
+says_asked true on profile print words answer notes said = inl said
+says_asked false on profile print words answer notes said = absurd (cc)
+
+-- nothing may be said where more is asked for
+pub nothing_said : (explain : Bool) (profile : Profile) (print : Option (List ℕ)) (words : List (List ℕ)) (answer : Answer)
+    → SaysMoreOfLines explain profile print words answer []
+nothing_said true profile print words answer = inr refl
+nothing_said false profile print words answer = refl

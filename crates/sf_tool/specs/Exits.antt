@@ -1,33 +1,68 @@
 -- What one run of the command writes, says and answers.
-use Rattle.std.specs.Prelude.{◌≡◌, ◌≤◌, ◌++◌, ℕ, List, [], ◌∷◌, false, Option, Some, None, Result, Ok, Err, IfErr, IfOk, IfSome, map, string_bytes}
+use Rattle.std.specs.Prelude.{◌≡◌, ◌≤◌, ◌⊎◌, ◌++◌, ℕ, Bool, List, [], ◌∷◌, true, false, Option, Some, None, Result, Ok, Err, IfErr, IfOk, IfSome, map, option_map, string_bytes}
 use Rattle.std.specs.Io.KnownBytes.{Appends}
 use Rattle.sf_places.specs.Behind.{IsBehind}
 use Rattle.sf_places.specs.declared.place.Place.{Place}
 use Rattle.sf_read.specs.Ahead.{Ahead, input_of}
 use Rattle.sf_records.specs.Judging.{TakesPart}
 use Rattle.sf_words.specs.declared.order.LineOptions.{LineOptions}
+use Rattle.sf_words.specs.declared.order.Notes.{Notes}
+use Rattle.sf_words.specs.declared.order.Notes.TheVariants.{Always, OnTerminal, Never}
 use Rattle.sf_words.specs.declared.order.Order.{Order}
 use Rattle.sf_words.specs.declared.order.WordsFault.{WordsFault}
 use Rattle.sf_words.specs.declared.order.WordsFault.TheVariants.{Help, Usage, NoMemory}
 use Rattle.sf_words.specs.Orders.{HasTextsFor, IsOrder, IsRefusal, faults_of}
-use Rattle.sf_messages.specs.declared.fault.CommandFault.TheVariants.{Write, Memory}
-use Rattle.sf_tool.specs.Answers.{Answer}
-use Rattle.sf_tool.specs.Commands.{CarriesOut, Counts, form_of, grammar_of}
+use Rattle.sf_messages.specs.declared.fault.CommandFault.{CommandFault}
+use Rattle.sf_messages.specs.declared.fault.CommandFault.TheVariants.{Write, Memory, NameTwice}
+use Rattle.sf_forms.specs.Columns.{name_at}
+use Rattle.sf_jobs.specs.Answers.{Answer}
+use Rattle.sf_jobs.specs.Commands.{CarriesOut, Counts, form_of, grammar_of}
+use Rattle.sf_jobs.specs.Heads.{is_headed, names_text, split}
 use Rattle.sf_tool.specs.Explains.{SaysMore}
+use Rattle.sf_tool.specs.Fronts.{file_name, file_of, in_front}
 use Rattle.sf_tool.specs.Lines.{SaysMoreOfLines, ScansLines}
 use Rattle.sf_tool.specs.Saying.{Says}
-use Rattle.sf_messages.specs.Texts.{error_line, status_of}
+use Rattle.sf_messages.specs.Texts.{error_line, name_twice_line, status_of}
 
 -- the notes are said, if there are any
 abbrev pub SaysNotes : {K E : Type 0} → (K → K → Type 0) → (E → Option (List ℕ)) → (E → ℕ) → List ℕ → K → K → E → E → Type 0
 SaysNotes hands said unsaid [] out out' err err' = (out' ≡ out) × (err' ≡ err)
 SaysNotes hands said unsaid (b ∷ notes) out out' err err' = Says hands said unsaid (b ∷ notes) out out' err err'
 
--- the notes alone are said where there is an exit status; else the line of the fault, whose status it is, and the notes after it
-abbrev pub Ends : {K E : Type 0} → (K → K → Type 0) → (E → Option (List ℕ)) → (E → ℕ) → List ℕ → Answer → K → K → E → E → ℕ → Type 0
-Ends hands said unsaid notes (Ok n) out out' err err' status = SaysNotes hands said unsaid notes out out' err err' × (status ≡ n)
-Ends hands said unsaid notes (Err fault) out out' err err' status =
-    Says hands said unsaid (error_line fault ++ notes) out out' err err' × (status ≡ status_of fault)
+-- the notes alone are said where there is an exit status; else the line of the fault, and the notes after it; ended: the answer
+abbrev pub Ends : {K E : Type 0} → (K → K → Type 0) → (E → Option (List ℕ)) → (E → ℕ) → List ℕ → Answer → K → K → E → E → Answer → Type 0
+Ends hands said unsaid notes (Ok n) out out' err err' ended = SaysNotes hands said unsaid notes out out' err err' × (ended ≡ Ok n)
+Ends hands said unsaid notes (Err fault) out out' err err' ended =
+    Says hands said unsaid (error_line fault ++ notes) out out' err err' × (ended ≡ Err fault)
+
+-- the exit status of an answer
+abbrev pub exit_of : Answer → ℕ
+exit_of (Ok n) = n
+exit_of (Err fault) = status_of fault
+
+-- a name stands twice, of those in the text: the line that says the name
+abbrev pub IsTwiceLine : Option (List ℕ) → CommandFault → List ℕ → Type 0
+IsTwiceLine names fault line =
+    (text : List ℕ) × (names ≡ Some text) × ((number : ℕ) × (fault ≡ NameTwice number)
+    × (line ≡ name_twice_line (name_at (split text) number)))
+
+-- the line of a fault: where memory for one that says a name was refused, its number is said
+abbrev pub IsLineOf : Option (List ℕ) → CommandFault → List ℕ → Type 0
+IsLineOf names fault line = (line ≡ error_line fault) ⊎ IsTwiceLine names fault line
+
+-- the line of the fault is said, with the name of the file in front where the fault is one of the input, and the notes after it
+abbrev pub SaysFault : {K E : Type 0} → (K → K → Type 0) → (E → Option (List ℕ)) → (E → ℕ) → Option (List ℕ) → Option (List ℕ) → List ℕ
+    → CommandFault → K → K → E → E → Type 0
+SaysFault hands said unsaid names file notes fault out out' err err' =
+    (line : List ℕ) × IsLineOf names fault line × Says hands said unsaid (in_front (file_of fault file) line ++ notes) out out' err err'
+
+-- the end of an order: the same, but for the line of a name, and the name of a file
+abbrev pub EndsOrder : {K E : Type 0} → (K → K → Type 0) → (E → Option (List ℕ)) → (E → ℕ) → Order → List ℕ → Answer → K → K
+    → E → E → Answer → Type 0
+EndsOrder hands said unsaid order notes (Ok n) out out' err err' ended = SaysNotes hands said unsaid notes out out' err err' ×
+    (ended ≡ Ok n)
+EndsOrder hands said unsaid order notes (Err fault) out out' err err' ended =
+    SaysFault hands said unsaid (names_text order) (file_name order) notes fault out out' err err' × (ended ≡ Err fault)
 
 -- help is written to the output
 abbrev pub HelpsBy : List ℕ → Option (List ℕ) → Option (List ℕ) → Answer → Type 0
@@ -50,6 +85,12 @@ abbrev pub CanRun : Result Order WordsFault → Type 0
 CanRun (Ok order) = (order.limit ≤ 2147483647) × HasTextsFor order.lines order.verb (map string_bytes order.texts.items)
 CanRun (Err fault) = Unit {0}
 
+-- more is said of a fault than its line: always, or where the error output is a terminal
+abbrev pub is_explained : Bool → Notes → Bool
+is_explained watched Always = true
+is_explained watched OnTerminal = watched
+is_explained watched Never = false
+
 -- nothing is held yet
 abbrev pub unread_of : {S : Type 0} → S → Ahead S
 unread_of source = record { held = []; source = source; at_end = false }
@@ -57,64 +98,69 @@ unread_of source = record { held = []; source = source; at_end = false }
 module _ {K E : Type 0} (contents : K → Option (List ℕ)) (write_faults : K → ℕ) (hands : K → K → Type 0) (said : E → Option (List ℕ))
     (unsaid : E → ℕ) where
   -- what is done where the words ask for nothing that can be done
-  abbrev pub Declines : WordsFault → K → K → E → E → ℕ → Type 0
-  Declines (Help text) out out' err err' status =
+  abbrev pub Declines : WordsFault → K → K → E → E → Answer → Type 0
+  Declines (Help text) out out' err err' ended =
       (answer : Answer) × ((mid : K) × Helps contents write_faults (string_bytes text) out mid answer
-      × Ends hands said unsaid [] answer mid out' err err' status)
-  Declines (Usage text) out out' err err' status = Says hands said unsaid (string_bytes text) out out' err err' × (status ≡ 2)
-  Declines NoMemory out out' err err' status = Ends hands said unsaid [] (Err Memory) out out' err err' status
+      × Ends hands said unsaid [] answer mid out' err err' ended)
+  Declines (Usage text) out out' err err' ended = Says hands said unsaid (string_bytes text) out out' err err' × (ended ≡ Ok 2)
+  Declines NoMemory out out' err err' ended = Ends hands said unsaid [] (Err Memory) out out' err err' ended
 
   module _ {S : Type 0} (to_come : S → Option (List ℕ)) (read_faults : S → ℕ) where
     -- what an order of lines does: what is said of them comes before the line of the fault, and notes after that where a word is
     -- refused
-    abbrev pub EndsLines : LineOptions → Order → Ahead S → Ahead S → K → K → E → E → ℕ → Type 0
-    EndsLines options order from from' out out' err err' status =
+    abbrev pub EndsLines : Bool → LineOptions → Order → Ahead S → Ahead S → K → K → E → E → Answer → Type 0
+    EndsLines explain options order from from' out out' err err' ended =
         (answer : Answer) × ((mid : K) × ((between : E)
-        × ScansLines to_come read_faults contents write_faults said unsaid (grammar_of order.profile)
-        (form_of order.output) options order.explain order.limit
-        (map string_bytes order.texts.items) from from' out mid err between answer
+        × ScansLines to_come read_faults contents write_faults said unsaid (file_name order) (is_headed order.file)
+        (grammar_of order.profile) (form_of order.output) order.tag (names_text order) (option_map string_bytes order.print) options
+        explain order.limit
+        (map string_bytes order.ignored.items) (map string_bytes order.texts.items) from from' out mid err between answer
         × ((notes : List ℕ)
-        × SaysMoreOfLines order.explain (grammar_of order.profile) (map string_bytes order.texts.items) answer notes
-        × Ends hands said unsaid notes answer mid out' between err' status)))
+        × SaysMoreOfLines explain (grammar_of order.profile) (option_map string_bytes order.print)
+        (map string_bytes order.ignored.items ++ map string_bytes order.texts.items) answer notes
+        × EndsOrder hands said unsaid order notes answer mid out' between err' ended)))
 
-    -- what an order of records does, or one of lines
-    abbrev pub DoesOrder : Option LineOptions → Order → Option Place → Ahead S → Ahead S → K → K → E → E → ℕ → Type 0
-    DoesOrder None order place from from' out out' err err' status =
+    -- what an order of records does, or one of lines; explain: more is said of a fault than its line
+    abbrev pub DoesOrder : Bool → Option LineOptions → Order → Option Place → Ahead S → Ahead S → K → K → E → E → Answer → Type 0
+    DoesOrder explain None order place from from' out out' err err' ended =
         (answer : Answer) × ((mid : K)
-        × CarriesOut to_come read_faults contents write_faults (grammar_of order.profile) (form_of order.output) order.verb order.limit
-        (map string_bytes order.texts.items)
-        from from' out mid answer
+        × CarriesOut to_come read_faults contents write_faults order from from' out mid answer
         × ((notes : List ℕ)
-        × SaysMore order.explain (grammar_of order.profile) order.verb (map string_bytes order.texts.items) place from'.held answer notes
-        × Ends hands said unsaid notes answer mid out' err err' status))
-    DoesOrder (Some options) order place from from' out out' err err' status = EndsLines options order from from' out out' err err' status
+        × SaysMore explain order place from'.held answer notes
+        × EndsOrder hands said unsaid order notes answer mid out' err err' ended))
+    DoesOrder explain (Some options) order place from from' out out' err err' ended =
+        EndsLines explain options order from from' out out' err err' ended
 
-    -- what is done for what was read of the words: the order, or help, or the words are refused with nothing read
-    abbrev pub Does : Result Order WordsFault → Option Place → Ahead S → Ahead S → K → K → E → E → ℕ → Type 0
-    Does (Ok order) place from from' out out' err err' status = DoesOrder order.lines order place from from' out out' err err' status
-    Does (Err fault) place from from' out out' err err' status = (from' ≡ from) × Declines fault out out' err err' status
+    -- What is done for what was read of the words: the order, or help, or the words are refused with nothing read. watched: the error
+    -- output is a terminal.
+    abbrev pub Does : Bool → Result Order WordsFault → Option Place → Ahead S → Ahead S → K → K → E → E → Answer → Type 0
+    Does watched (Ok order) place from from' out out' err err' ended =
+        DoesOrder (is_explained watched order.notes) order.lines order place from from' out out' err err' ended
+    Does watched (Err fault) place from from' out out' err err' ended = (from' ≡ from) × Declines fault out out' err err' ended
 
     -- What the command comes to by what was read of the words. `hands` says what becomes of the output where a message comes;
-    -- `said` and `unsaid` tell of the error output what `contents` and `write_faults` tell of the output. place: where in the
-    -- input the run stopped, if that is known.
-    pub record ExitsBy (words : List (List ℕ)) (asked : Result Order WordsFault) (place : Option Place) (from from' : Ahead S)
-        (out out' : K) (err err' : E) (status : ℕ) : Type 0 where
+    -- `said` and `unsaid` tell of the error output what `contents` and `write_faults` tell of the output. watched: the error output
+    -- is a terminal. place: where in the input the run stopped, if that is known.
+    pub record ExitsBy (watched : Bool) (words : List (List ℕ)) (asked : Result Order WordsFault) (place : Option Place)
+        (from from' : Ahead S) (out out' : K) (err err' : E) (ended : Answer) : Type 0 where
       pub read : IsRead words asked
-      pub done : Does asked place from from' out out' err err' status
+      pub done : Does watched asked place from from' out out' err err' ended
 
     -- what the command of the words comes to
-    abbrev pub Exits : List (List ℕ) → Option Place → Ahead S → Ahead S → K → K → E → E → ℕ → Type 0
-    Exits words place from from' out out' err err' status = (asked : Result Order WordsFault)
-        × ExitsBy words asked place from from' out out' err err' status
+    abbrev pub Exits : Bool → List (List ℕ) → Option Place → Ahead S → Ahead S → K → K → E → E → ℕ → Type 0
+    Exits watched words place from from' out out' err err' status = (asked : Result Order WordsFault) × (ended : Answer)
+        × ExitsBy watched words asked place from from' out out' err err' ended × (status ≡ exit_of ended)
 
-    -- The same on what a source gives. left: what is held afterwards, and the source then. Where the source tells its bytes, the
+    -- What is done on what a source gives. left: what is held afterwards, and the source then. Where the source tells its bytes, the
     -- place is that after the bytes which are neither held nor to come then.
-    pub record ExitsOnBy (words : List (List ℕ)) (asked : Result Order WordsFault) (from : S) (out out' : K) (err err' : E)
-        (status : ℕ) : Type 0 where
+    pub record DoesOn (watched : Bool) (asked : Result Order WordsFault) (from : S) (out out' : K) (err err' : E)
+        (ended : Answer) : Type 0 where
       pub left : Ahead S
       pub place : Option Place
-      pub exits : ExitsBy words asked place (unread_of from) left out out' err err' status
+      pub done : Does watched asked place (unread_of from) left out out' err err' ended
       pub placed : IfSome place (λ p. (c z : List ℕ) → to_come from ≡ Some (c ++ z) → input_of to_come left ≡ Some z → IsBehind c p)
 
-    abbrev pub ExitsOn : List (List ℕ) → S → K → K → E → E → ℕ → Type 0
-    ExitsOn words from out out' err err' status = (asked : Result Order WordsFault) × ExitsOnBy words asked from out out' err err' status
+    -- what the command of the words comes to on what a source gives
+    abbrev pub ExitsOn : Bool → List (List ℕ) → S → K → K → E → E → ℕ → Type 0
+    ExitsOn watched words from out out' err err' status = (asked : Result Order WordsFault) × IsRead words asked
+        × (ended : Answer) × DoesOn watched asked from out out' err err' ended × (status ≡ exit_of ended)

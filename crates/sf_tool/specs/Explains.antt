@@ -1,5 +1,5 @@
 -- What is said behind the line of a fault, where the words ask for more.
-use Rattle.std.specs.Prelude.{◌≡◌, ◌⊎◌, ◌-◌, ◌++◌, ℕ, Bool, true, false, List, [], ◌∷◌, Option, Some, None, Ok, Err, codes, slice_get, unwrap_or}
+use Rattle.std.specs.Prelude.{◌≡◌, ◌⊎◌, ◌-◌, ◌++◌, ℕ, Bool, true, false, List, [], ◌∷◌, Option, Some, None, Ok, Err, codes, map, option_map, slice_get, string_bytes, unwrap_or}
 use Rattle.std.specs.Option.{option_and_then, option_map_or}
 use Rattle.sf_format.specs.declared.directive.Directive.{Directive}
 use Rattle.sf_format.specs.declared.directive.Profile.{Profile}
@@ -22,10 +22,12 @@ use Rattle.sf_places.specs.declared.place.Place.{Place}
 use Rattle.sf_records.specs.declared.end.ToolFault.TheVariants.{Failed, Stalled, Unfit, Read}
 use Rattle.sf_records.specs.Quotes.{quoted}
 use Rattle.sf_run.specs.outcome.Outcome.{Outcome}
+use Rattle.sf_words.specs.declared.order.Order.{Order}
 use Rattle.sf_words.specs.declared.order.Verb.{Verb}
 use Rattle.sf_words.specs.declared.order.Verb.TheVariants as verb
-use Rattle.sf_tool.specs.Answers.{Answer}
-use Rattle.sf_tool.specs.Checks.{IsPrintWord, IsVerdict}
+use Rattle.sf_jobs.specs.Answers.{Answer}
+use Rattle.sf_jobs.specs.Checks.{IsPrintWord, IsVerdict}
+use Rattle.sf_jobs.specs.Commands.{grammar_of}
 use Rattle.sf_arguments.specs.declared.argument_fault.ArgumentFault.{ArgumentFault}
 use Rattle.sf_arguments.specs.declared.argument_fault.ArgumentFault.TheVariants as argument
 use Rattle.sf_arguments.specs.Escapes.{IsBadEscape, Unescapes}
@@ -39,16 +41,22 @@ word_place verb.Check name.Scan = 1
 word_place verb.Copy name.Scan = 1
 word_place _ _ = 0
 
+-- the word of a format, if the order has one: the print format of a scan stands beside its texts
+abbrev pub word_by : Option (List ℕ) → Verb → List (List ℕ) → FormatName → Option (List ℕ)
+word_by print verb.Scan texts name.Print = print
+word_by print verb texts name = slice_get texts (word_place verb name)
+
 -- what is said of a format's word, if it is there
 abbrev pub OfWord : (List ℕ → List ℕ → Type 0) → Option (List ℕ) → List ℕ → Type 0
 OfWord says None notes = notes ≡ []
 OfWord says (Some word) notes = says word notes
 
--- the number of the value at fault, where one is
+-- the number of the value at fault, where one is; where the number of words is wrong 0, which is that of the format
 abbrev pub value_number : ArgumentFault → Option ℕ
 value_number (argument.NotInKind at kind) = Some at
 value_number (argument.NotOneByte at) = Some at
 value_number (argument.BadEscape at offset) = Some at
+value_number (argument.WrongCount expected got) = Some 0
 value_number _ = None
 
 -- its word, which stands after that of the format
@@ -94,7 +102,7 @@ pub record TellsFailed (profile : Profile) (number : ℕ) (outcome : Outcome) (p
   pub format : IsFormat (Scan profile) pieces
   pub text_is : text ≡ text_of pieces
   pub mean : MeanAll (Means profile) 1 pieces ds
-  pub notes_are : notes ≡ failed_notes (told_at pieces ds outcome.at) number outcome place rest
+  pub notes_are : notes ≡ failed_notes ds (told_at pieces ds outcome.at) number outcome place rest
 
 -- nothing is said where the bytes are no format
 abbrev pub SaysFailedText : Profile → ℕ → Outcome → Option Place → List ℕ → List ℕ → List ℕ → Type 0
@@ -137,32 +145,34 @@ OfBoth says _ notes = notes ≡ []
 
 -- ---- orders
 
-abbrev pub Explains : Profile → Verb → List (List ℕ) → Option Place → List ℕ → CommandFault → List ℕ → Type 0
-Explains profile verb texts place rest (BadEscape name at) notes =
-    OfWord (λ word said. said ≡ escape_notes word at) (slice_get texts (word_place verb name)) notes
-Explains profile verb texts place rest (Format fault) notes = OfWord (SaysFormat fault) (slice_get texts (word_place verb name.Scan)) notes
-Explains profile verb texts place rest (PrintFormat fault) notes =
-    OfWord (SaysFormat fault) (slice_get texts (word_place verb name.Print)) notes
-Explains profile verb texts place rest (Record (Failed number outcome)) notes =
-    OfWord (SaysFailed profile number outcome place rest) (slice_get texts (word_place verb name.Scan)) notes
-Explains profile verb texts place rest (Record (Stalled number)) notes = notes ≡ input_notes place
-Explains profile verb texts place rest (Record (Unfit number)) notes = notes ≡ input_notes place
-Explains profile verb texts place rest (Record (Read number)) notes = notes ≡ input_notes place
-Explains profile verb texts place rest (Values fault) notes =
+abbrev pub Explains : Profile → Option (List ℕ) → Verb → List (List ℕ) → Option Place → List ℕ → CommandFault → List ℕ → Type 0
+Explains profile print verb texts place rest (BadEscape name at) notes =
+    OfWord (λ word said. said ≡ escape_notes word at) (word_by print verb texts name) notes
+Explains profile print verb texts place rest (Format fault) notes = OfWord (SaysFormat fault) (word_by print verb texts name.Scan) notes
+Explains profile print verb texts place rest (PrintFormat fault) notes =
+    OfWord (SaysFormat fault) (word_by print verb texts name.Print) notes
+Explains profile print verb texts place rest (Record (Failed number outcome)) notes =
+    OfWord (SaysFailed profile number outcome place rest) (word_by print verb texts name.Scan) notes
+Explains profile print verb texts place rest (Record (Stalled number)) notes = notes ≡ input_notes place
+Explains profile print verb texts place rest (Record (Unfit number)) notes = notes ≡ input_notes place
+Explains profile print verb texts place rest (Record (Read number)) notes = notes ≡ input_notes place
+Explains profile print verb texts place rest (Values fault) notes =
     OfWord (λ word said. said ≡ value_notes word fault) (value_word texts fault) notes
-Explains profile verb texts place rest (Pair fault) notes = OfBoth (SaysPair profile) texts notes
-Explains profile verb texts place rest _ notes = notes ≡ []
+Explains profile print verb texts place rest (Pair fault) notes = OfBoth (SaysPair profile) texts notes
+Explains profile print verb texts place rest _ notes = notes ≡ []
 
 -- where there is an exit status: of a check, why the formats are no pair
 abbrev pub SaysClean : Profile → Verb → List (List ℕ) → List ℕ → Type 0
 SaysClean profile verb.Check texts notes = OfBoth (SaysPair profile) texts notes
 SaysClean profile _ texts notes = notes ≡ []
 
-abbrev pub SaysOf : Profile → Verb → List (List ℕ) → Option Place → List ℕ → Answer → List ℕ → Type 0
-SaysOf profile verb texts place rest (Ok status) notes = SaysClean profile verb texts notes
-SaysOf profile verb texts place rest (Err fault) notes = Explains profile verb texts place rest fault notes
+abbrev pub SaysOf : Profile → Option (List ℕ) → Verb → List (List ℕ) → Option Place → List ℕ → Answer → List ℕ → Type 0
+SaysOf profile print verb texts place rest (Ok status) notes = SaysClean profile verb texts notes
+SaysOf profile print verb texts place rest (Err fault) notes = Explains profile print verb texts place rest fault notes
 
 -- nothing more is said where the words don't ask for it, or where memory for it was refused
-abbrev pub SaysMore : Bool → Profile → Verb → List (List ℕ) → Option Place → List ℕ → Answer → List ℕ → Type 0
-SaysMore true profile verb texts place rest answer notes = SaysOf profile verb texts place rest answer notes ⊎ (notes ≡ [])
-SaysMore false profile verb texts place rest answer notes = notes ≡ []
+abbrev pub SaysMore : Bool → Order → Option Place → List ℕ → Answer → List ℕ → Type 0
+SaysMore true order place rest answer notes =
+    SaysOf (grammar_of order.profile) (option_map string_bytes order.print) order.verb (map string_bytes order.texts.items) place rest
+    answer notes ⊎ (notes ≡ [])
+SaysMore false order place rest answer notes = notes ≡ []

@@ -1,8 +1,7 @@
-pub mod Answers
-pub mod Checks
-pub mod Commands
 pub mod Exits
 pub mod Explains
+pub mod Files
+pub mod Fronts
 pub mod Laws
 pub mod Lines
 pub mod Programs

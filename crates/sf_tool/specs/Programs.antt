@@ -9,7 +9,9 @@ use Rattle.sf_messages.specs.Texts.{error_line}
 use Rattle.sf_messages.specs.declared.fault.CommandFault.TheVariants.{Memory, Write}
 use Rattle.sf_words.specs.declared.order.Order.{Order}
 use Rattle.sf_words.specs.declared.order.WordsFault.{WordsFault}
-use Rattle.sf_tool.specs.Exits.{ExitsOnBy}
+use Rattle.sf_tool.specs.declared.program.Terminals.{Terminals}
+use Rattle.sf_tool.specs.Exits.{IsRead}
+use Rattle.sf_tool.specs.Files.{RunsAsked}
 use Rattle.sf_tool.specs.Saying.{SaysText}
 
 -- what waits is handed on, as far as the writer takes it: all that was taken stays so, and no write has failed
@@ -37,10 +39,11 @@ module _ {W E : Type 0} (w : write.Ghosts W) (e : write.Ghosts E) where
       × (status' ≡ status)
       ⊎ (has_failed_flush out' ≡ true) × Reports e (write_failures out) err err' × (status' ≡ 3))
 
-  -- The program on its streams. The writers are given back (out', err'). opened: the output's sink at the start; it holds nothing
-  -- back where each record is awaited.
-  pub record RunsOn {S : Type 0} (to_come : S → Option (List ℕ)) (read_faults : S → ℕ) (words : List (List ℕ)) (terminal : Bool)
-      (from : S) (out out' : W) (first last : Unblocked E) (status : ℕ) : Type 0 where
+  -- The program on its streams. The writers are given back (out', err'). `opens` says what comes of opening a file.
+  -- opened: the output's sink at the start; it holds nothing back where each record is awaited.
+  pub record RunsOn {S F : Type 0} (opens : F → F → List ℕ → S → Bool → Type 0) (to_come : S → Option (List ℕ))
+      (read_faults : S → ℕ) (words : List (List ℕ)) (terminals : Terminals) (from : S) (files files' : F) (out out' : W)
+      (first last : Unblocked E) (status : ℕ) : Type 0 where
     pub asked : Result Order WordsFault
     pub opened : BlockSink W w
     pub ran : BlockSink W w
@@ -50,23 +53,26 @@ module _ {W E : Type 0} (w : write.Ghosts W) (e : write.Ghosts E) where
     pub empty : taken_by opened ≡ w.contents out
     pub sound : write_failures opened ≡ 0
     pub fresh : has_failed_flush opened ≡ false
-    pub exits : ExitsOnBy taken_by write_failures HandsOn (handed_to e) faults_of to_come read_faults words asked from opened ran first
-        said answer
-    pub at_once : IsAwaited terminal asked → HoldsNothing opened
+    pub read : IsRead words asked
+    pub runs : RunsAsked opens taken_by write_failures HandsOn (handed_to e) faults_of to_come read_faults terminals.errors asked from
+        files files' opened ran first said answer
+    pub at_once : IsAwaited terminals.output asked → HoldsNothing opened
     pub closes : Closes ran closed said last answer status
     pub back : out' ≡ writer_of closed
 
-  -- there is no memory for the output's block: that is said, and nothing was written
-  abbrev pub IsRefusedBlock : W → W → Unblocked E → Unblocked E → ℕ → Type 0
-  IsRefusedBlock out out' first last status =
-      (out' ≡ out) × SaysText (handed_to e) faults_of (error_line Memory) first last × (status ≡ 4)
+  -- there is no memory for the output's block: that is said, and nothing was read or written
+  abbrev pub IsRefusedBlock : {F : Type 0} → F → F → W → W → Unblocked E → Unblocked E → ℕ → Type 0
+  IsRefusedBlock files files' out out' first last status =
+      (files' ≡ files) × (out' ≡ out) × SaysText (handed_to e) faults_of (error_line Memory) first last × (status ≡ 4)
 
   -- what the program does, from the bytes that its streams tell at the start to those that they tell at the end
-  pub record RunsProgram {S : Type 0} (to_come : S → Option (List ℕ)) (read_faults : S → ℕ) (words : List (List ℕ)) (terminal : Bool)
-      (from : S) (out out' : W) (err err' : E) (status : ℕ) : Type 0 where
+  pub record RunsProgram {S F : Type 0} (opens : F → F → List ℕ → S → Bool → Type 0) (to_come : S → Option (List ℕ))
+      (read_faults : S → ℕ) (words : List (List ℕ)) (terminals : Terminals) (from : S) (files files' : F) (out out' : W) (err err' : E)
+      (status : ℕ) : Type 0 where
     pub first : Unblocked E
     pub last : Unblocked E
     pub start : handed_to e first ≡ e.contents err
     pub sound : faults_of first ≡ 0
     pub end : handed_to e last ≡ e.contents err'
-    pub does : RunsOn to_come read_faults words terminal from out out' first last status ⊎ IsRefusedBlock out out' first last status
+    pub does : RunsOn opens to_come read_faults words terminals from files files' out out' first last status
+        ⊎ IsRefusedBlock files files' out out' first last status

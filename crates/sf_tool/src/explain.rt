@@ -1,18 +1,18 @@
 //! What is said behind the line of a fault, where the words ask for more.
-ghost use Rattle.std.specs.Prelude.{◌≡◌, ℕ, Err, List, IfOk, map, option_map, slice_get, string_bytes};
+ghost use Rattle.std.specs.Prelude.{◌≡◌, ◌++◌, ℕ, Err, List, Option, IfOk, map, option_map, slice_get, string_bytes};
 ghost use Rattle.sf_format.specs.Language.{Scan};
 ghost use Rattle.sf_format.specs.Grammar.{IsFormat};
 ghost use Rattle.sf_format.specs.Pieces.{Piece, text_of};
 ghost use Rattle.sf_messages.specs.Notes.{escape_notes, value_notes};
-ghost use Rattle.sf_tool.specs.Commands.{grammar_of};
-ghost use Rattle.sf_tool.specs.Explains.{Explains, OfBoth, OfWord, SaysClean, SaysFailed, SaysFailedText, SaysFormat, SaysMore, SaysPair, SaysVerdict, IsMoreOfLine, shown_at, told_at, told_of_line, value_number, value_word, word_place};
-ghost use Rattle.sf_tool.specs.Lines.{IsFirstRefused, SaysMoreOfLines, SaysOfLines};
+ghost use Rattle.sf_jobs.specs.Commands.{grammar_of};
+ghost use Rattle.sf_tool.specs.Explains.{Explains, OfBoth, OfWord, SaysClean, SaysFailed, SaysFailedText, SaysFormat, SaysMore, SaysPair, SaysVerdict, IsMoreOfLine};
+ghost use Rattle.sf_tool.specs.Explains.{shown_at, told_at, told_of_line, value_number, value_word, word_by, word_place};
+ghost use Rattle.sf_records.specs.form.OutputForm.{OutputForm};
+ghost use Rattle.sf_tool.specs.Lines.{IsRefused, SaysMoreOfLines, SaysOfLines};
 
-use crate::check::verdict_of;
-use crate::command::grammar_of;
-use crate::formats::{RefusedWord, read_print};
 use sf_arguments::{EscapeFault, unescape};
 use sf_format::{FormatFault, FormatWhy, PrintFormat, Profile, ScanFormat, directive_text};
+use sf_jobs::{RefusedWord, grammar_of, read_print, text_of, verdict_of};
 use sf_lines::LineFault;
 use sf_messages::{
     ArgumentFault, CommandFault, FormatName, escape_notes, failed_notes, format_notes, input_notes,
@@ -43,16 +43,16 @@ fn word_place(verb: Verb, name: FormatName) -> usize
 
 /// The word of a format, if the order has one.
 fn word_of<'o>(order: &'o Order, name: FormatName) -> Option<&'o str>
-    ensures { option_map (λ given. given.now) result ≡ slice_get (map string_bytes order.entry.now.texts.items)
-        (word_place order.entry.now.verb name) }
+    ensures { option_map (λ given. given.now) result ≡ word_by (option_map string_bytes order.entry.now.print)
+        order.entry.now.verb (map string_bytes order.entry.now.texts.items) name }
 {
-    match order.texts.get(word_place(order.verb, name)) {
-        Some(text) => Some(text.as_str()),
-        None => None,
+    match (order.verb, name) {
+        (Verb::Scan, FormatName::Print) => text_of(order.print.as_ref()),
+        _ => text_of(order.texts.get(word_place(order.verb, name))),
     }
 }
 
-/// The number of the value at fault, where one is.
+/// The number of the value at fault, where one is; 0, which is the format, where the number of words is wrong.
 fn value_number(fault: ArgumentFault) -> Option<u8>
     ensures { result ≡ value_number fault }
 {
@@ -60,11 +60,12 @@ fn value_number(fault: ArgumentFault) -> Option<u8>
         ArgumentFault::NotInKind { at, .. }
         | ArgumentFault::NotOneByte { at }
         | ArgumentFault::BadEscape { at, .. } => Some(at),
+        ArgumentFault::WrongCount { .. } => Some(0),
         _ => None,
     }
 }
 
-/// The word of the value at fault, which stands after that of the format.
+/// The word of the value at fault, which stands after that of the format, or the format's.
 fn value_word(order: &Order, fault: ArgumentFault) -> Option<&str>
     ensures { option_map (λ given. given.now) result ≡ value_word (map string_bytes order.entry.now.texts.items) fault }
 {
@@ -118,25 +119,27 @@ fn of_format(alloc: Global, word: Option<&str>, fault: FormatFault) -> Result<Ve
     }
 }
 
-/// What is said of the first of some words that is refused.
+/// What is said of the word of an order of lines that is refused.
 fn of_refused(alloc: Global, refused: RefusedWord<'_>) -> Result<Vec<u8>, AllocError>
-    ensures { IfOk result (λ notes. (profile : Profile) (words : List (List ℕ))
-        → IsFirstRefused profile words refused.entry.word.now refused.entry.fault
-        → SaysOfLines profile words (Err refused.entry.fault) notes.items) }
+    ensures { IfOk result (λ notes. (profile : Profile) (form : OutputForm) (print : Option (List ℕ))
+        (passed words : List (List ℕ))
+        → IsRefused profile form print passed words refused.entry.word.now refused.entry.fault
+        → SaysOfLines profile print (passed ++ words) (Err refused.entry.fault) notes.items) }
 {
     match refused.fault {
         CommandFault::BadEscape { at, .. } => escape_notes(alloc, refused.word.as_bytes(), at),
         CommandFault::Format(fault) => of_format_word(alloc, refused.word, fault),
+        CommandFault::PrintFormat(fault) => of_format_word(alloc, refused.word, fault),
         _ => Ok(Vec::new(alloc)),
     }
 }
 
-/// What is said behind the line of the first of some words that is refused, where that is asked for and memory is
+/// What is said after the line of the word of an order of lines that is refused, where that is asked for and memory is
 /// there.
 pub(crate) fn notes_of_refused(alloc: Global, explain: bool, refused: RefusedWord<'_>) -> Vec<u8>
-    ensures { (profile : Profile) (words : List (List ℕ))
-        → IsFirstRefused profile words refused.entry.word.now refused.entry.fault
-        → SaysMoreOfLines explain profile words (Err refused.entry.fault) result.items }
+    ensures { (profile : Profile) (form : OutputForm) (print : Option (List ℕ)) (passed words : List (List ℕ))
+        → IsRefused profile form print passed words refused.entry.word.now refused.entry.fault
+        → SaysMoreOfLines explain profile print (passed ++ words) (Err refused.entry.fault) result.items }
 {
     if !explain {
         return Vec::new(alloc);
@@ -193,7 +196,7 @@ fn told_of_line(
 {
     match fault {
         LineFault::Failed { outcome } => told_at(alloc, profile, text, format, outcome.at),
-        LineFault::LeftOver { .. } | LineFault::TooLong => Ok(Vec::new(alloc)),
+        LineFault::LeftOver { .. } | LineFault::TooLong | LineFault::Unfit => Ok(Vec::new(alloc)),
     }
 }
 
@@ -232,7 +235,15 @@ fn of_failed_text(
     match ScanFormat::parse(alloc, profile, text) {
         Ok(format) => {
             let told = told_at(alloc, profile, text, &format, outcome.at)?;
-            failed_notes(alloc, &told, number, outcome, left.place, left.held)
+            failed_notes(
+                alloc,
+                format.directives(),
+                &told,
+                number,
+                outcome,
+                left.place,
+                left.held,
+            )
         }
         Err(fault) => match fault.why {
             FormatWhy::NoMemory => Err(AllocError),
@@ -345,7 +356,7 @@ fn of_fault(
     left: Left<'_>,
     fault: CommandFault,
 ) -> Result<Vec<u8>, AllocError>
-    ensures { IfOk result (λ notes. Explains profile order.now.verb
+    ensures { IfOk result (λ notes. Explains profile (option_map string_bytes order.now.print) order.now.verb
         (map string_bytes order.now.texts.items) left.entry.place left.entry.held.now fault notes.items) }
 {
     match fault {
@@ -367,17 +378,17 @@ fn of_fault(
     }
 }
 
-/// What is said behind the line of an answer, where the order asks for it and memory is there, by what the run left.
+/// What is said after the line of an answer, where that is asked for and memory is there, by what the run left.
 pub(crate) fn notes_of(
     alloc: Global,
+    explain: bool,
     order: &Order,
     left: Left<'_>,
     answer: Result<u8, CommandFault>,
 ) -> Vec<u8>
-    ensures { SaysMore order.now.explain (grammar_of order.now.profile) order.now.verb
-        (map string_bytes order.now.texts.items) left.entry.place left.entry.held.now answer result.items }
+    ensures { SaysMore explain order.now left.entry.place left.entry.held.now answer result.items }
 {
-    if !order.explain {
+    if !explain {
         return Vec::new(alloc);
     }
     let profile = grammar_of(order.profile);

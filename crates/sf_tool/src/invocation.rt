@@ -1,20 +1,25 @@
 //! One run of the command, from its words to its exit status.
-ghost use Rattle.std.specs.Prelude.{◌≡◌, ◌≤◌, ◌<◌, ◌++◌, ℕ, List, None, Ok, length, map, string_bytes};
+ghost use Rattle.std.specs.Prelude.{◌≡◌, ◌≤◌, ◌<◌, ◌++◌, ℕ, List, None, Ok, true, false, IfSome, length, map, option_map, string_bytes};
 ghost use Rattle.sf_words.specs.Orders.{HasTexts, HasTextsFor};
-ghost use Rattle.sf_tool.specs.Exits.{CanRun, Declines, Does, DoesOrder, Ends, EndsLines, Exits, ExitsOn, ExitsOnBy, Helps, IsRead, SaysNotes};
+ghost use Rattle.sf_tool.specs.Exits.{CanRun, Declines, Does, DoesOn, DoesOrder, Ends, EndsLines, EndsOrder};
+ghost use Rattle.sf_tool.specs.Exits.{Exits, ExitsOn, Helps, IsTwiceLine, SaysFault, SaysNotes, exit_of, is_explained};
+ghost use Rattle.sf_tool.specs.Fronts.{file_name};
+ghost use Rattle.sf_jobs.specs.Heads.{names_text};
 ghost use Rattle.sf_tool.specs.Saying.{Says};
 
-use crate::command::{carry_out, grammar_of};
 use crate::console::{Apart, Console};
 use crate::error_output::{say, tell};
 use crate::explain::{Left, notes_of, notes_of_refused};
-use crate::lines::{formats_of, scan_lines};
-use sf_messages::{CommandFault, error_line};
+use crate::fronts::{file_name, file_of};
+use crate::lines::{lines_job, scan_lines};
+use sf_jobs::{carry_out, form_of, grammar_of, names_text};
+use sf_makers::Names;
+use sf_messages::{CommandFault, error_line, name_twice_line};
 use sf_places::{BLOCK_BYTES, Input, Placed};
 use sf_print::Sink;
 use sf_read::{Lookahead, Source};
 use sf_records::write_whole;
-use sf_words::{LineOptions, Order, WordsFault, read_words};
+use sf_words::{LineOptions, Notes, Order, WordsFault, read_words};
 use std::alloc::Global;
 use std::marker::Brand;
 
@@ -31,25 +36,100 @@ fn tell_notes<K: Sink, E, C: Console<K, E>>(out: &mut K, err: &mut E, notes: &[u
     }
 }
 
-/// Ends with this exit status, or says why not in a line on the error output, and ends with the fault's status. The
-/// notes are said after that.
+/// Ends with this exit status, or says why not in a line on the error output. The notes are said after that. What it
+/// ends with is handed on.
 fn end<K: Sink, E, C: Console<K, E>>(
     out: &mut K,
     err: &mut E,
     answer: Result<u8, CommandFault>,
     notes: &[u8],
-) -> u8
+) -> Result<u8, CommandFault>
     ensures { Ends C.Hands C.said C.unsaid notes.now answer out.old out.new err.old err.new result }
 {
     match answer {
         Ok(status) => {
             tell_notes::<K, E, C>(out, err, notes);
-            status
+            Ok(status)
         }
         Err(fault) => {
-            tell::<K, E, C>(out, err, error_line(fault).as_str().as_bytes(), notes);
-            fault.status()
+            tell::<K, E, C>(out, err, None, error_line(fault).as_str().as_bytes(), notes);
+            Err(fault)
         }
+    }
+}
+
+/// The line that says the name itself, where the fault is that it stands twice, and memory is there.
+fn named_line(alloc: Global, names: Option<&str>, fault: CommandFault) -> Option<Vec<u8>>
+    ensures { IfSome result (λ line. IsTwiceLine (option_map (λ given. given.now) names.entry) fault line.items) }
+{
+    let CommandFault::NameTwice { number } = fault else {
+        return None;
+    };
+    let Some(text) = names else {
+        return None;
+    };
+    if number == 0 {
+        return None;
+    }
+    let Ok(names) = Names::split(alloc, text) else {
+        return None;
+    };
+    match name_twice_line(alloc, names.name(number)) {
+        Ok(line) => Some(line),
+        Err(_) => None,
+    }
+}
+
+/// Says why an order doesn't end cleanly, in a line on the error output, and the notes after that. Of a fault of the
+/// input, the name of the file stands in front.
+fn tell_fault<K: Sink, E, C: Console<K, E>>(
+    alloc: Global,
+    order: &Order,
+    out: &mut K,
+    err: &mut E,
+    fault: CommandFault,
+    notes: &[u8],
+)
+    ensures { SaysFault C.Hands C.said C.unsaid (names_text order.now) (file_name order.now) notes.now fault
+        out.old out.new err.old err.new }
+{
+    let file = file_of(fault, file_name(order));
+    match named_line(alloc, names_text(order), fault) {
+        Some(line) => tell::<K, E, C>(out, err, file, &line, notes),
+        None => tell::<K, E, C>(out, err, file, error_line(fault).as_str().as_bytes(), notes),
+    }
+}
+
+/// Ends an order, as `end` does.
+fn end_order<K: Sink, E, C: Console<K, E>>(
+    alloc: Global,
+    order: &Order,
+    out: &mut K,
+    err: &mut E,
+    answer: Result<u8, CommandFault>,
+    notes: &[u8],
+) -> Result<u8, CommandFault>
+    ensures { EndsOrder C.Hands C.said C.unsaid order.now notes.now answer out.old out.new err.old err.new result }
+{
+    match answer {
+        Ok(status) => {
+            tell_notes::<K, E, C>(out, err, notes);
+            Ok(status)
+        }
+        Err(fault) => {
+            tell_fault::<K, E, C>(alloc, order, out, err, fault, notes);
+            Err(fault)
+        }
+    }
+}
+
+/// The exit status of an answer.
+pub(crate) fn exit_of(answer: Result<u8, CommandFault>) -> u8
+    ensures { result ≡ exit_of answer }
+{
+    match answer {
+        Ok(status) => status,
+        Err(fault) => fault.status(),
     }
 }
 
@@ -64,7 +144,11 @@ fn help<K: Sink>(text: &str, out: &mut K) -> Result<u8, CommandFault>
 }
 
 /// Help that was asked for goes to the output; what else the words are refused for, to the error output.
-fn decline<K: Sink, E, C: Console<K, E>>(fault: &WordsFault, out: &mut K, err: &mut E) -> u8
+pub(crate) fn decline<K: Sink, E, C: Console<K, E>>(
+    fault: &WordsFault,
+    out: &mut K,
+    err: &mut E,
+) -> Result<u8, CommandFault>
     ensures { Declines K.contents K.failures C.Hands C.said C.unsaid fault.now out.old out.new err.old err.new result }
 {
     match fault {
@@ -74,36 +158,38 @@ fn decline<K: Sink, E, C: Console<K, E>>(fault: &WordsFault, out: &mut K, err: &
         }
         WordsFault::Usage(text) => {
             say::<K, E, C>(out, err, text.as_bytes());
-            2
+            Ok(2)
         }
         WordsFault::NoMemory => end::<K, E, C>(out, err, Err(CommandFault::Memory), &[]),
     }
 }
 
-/// Scans lines by an order, says why the command doesn't end cleanly where it doesn't, and answers its exit status.
+/// Scans lines by an order, and says why the command doesn't end cleanly where it doesn't.
 fn end_lines<S: Source, K: Sink, E, C: Console<K, E>, const N: usize>(
     alloc: Global,
+    explain: bool,
     order: &Order,
     options: LineOptions,
     from: &mut Lookahead<S, N>,
     out: &mut K,
     err: &mut E,
-) -> u8
+) -> Result<u8, CommandFault>
     requires limit { order.now.limit ≤ 2147483647 }
     requires some { 0 < length order.now.texts.items }
-    ensures { EndsLines K.contents K.failures C.Hands C.said C.unsaid S.to_come S.failures options order.now
+    ensures { EndsLines K.contents K.failures C.Hands C.said C.unsaid S.to_come S.failures explain options order.now
         from.old from.new out.old out.new err.old err.new result }
 {
-    match formats_of(alloc, grammar_of(order.profile), &order.texts) {
-        Ok(formats) => {
+    let profile = grammar_of(order.profile);
+    match lines_job(alloc, profile, form_of(order.output), order) {
+        Ok(job) => {
             let answer = scan_lines::<S, K, E, C, N>(
-                alloc, &formats, order, options, from, out, err,
+                alloc, explain, &job, order, options, from, out, err,
             );
-            end::<K, E, C>(out, err, answer, &[])
+            end_order::<K, E, C>(alloc, order, out, err, answer, &[])
         }
         Err(refused) => {
-            let notes = notes_of_refused(alloc, order.explain, refused);
-            end::<K, E, C>(out, err, Err(refused.fault), &notes)
+            let notes = notes_of_refused(alloc, explain, refused);
+            end_order::<K, E, C>(alloc, order, out, err, Err(refused.fault), &notes)
         }
     }
 }
@@ -112,15 +198,16 @@ fn end_lines<S: Source, K: Sink, E, C: Console<K, E>, const N: usize>(
 /// what was used of it before isn't known.
 fn run_order<S: Source, K: Sink, E, C: Console<K, E>, const N: usize>(
     alloc: Global,
+    explain: bool,
     order: &Order,
     from: &mut Lookahead<S, N>,
     out: &mut K,
     err: &mut E,
-) -> u8
+) -> Result<u8, CommandFault>
     requires limit { order.now.limit ≤ 2147483647 }
     requires texts { HasTextsFor order.now.lines order.now.verb (map string_bytes order.now.texts.items) }
-    ensures { DoesOrder K.contents K.failures C.Hands C.said C.unsaid S.to_come S.failures order.now.lines order.now
-        None
+    ensures { DoesOrder K.contents K.failures C.Hands C.said C.unsaid S.to_come S.failures explain order.now.lines
+        order.now None
         from.old from.new out.old out.new err.old err.new result }
 {
     match order.lines {
@@ -130,27 +217,42 @@ fn run_order<S: Source, K: Sink, E, C: Console<K, E>, const N: usize>(
                 place: None,
                 held: from.held(),
             };
-            let notes = notes_of(alloc, order, left, answer);
-            end::<K, E, C>(out, err, answer, &notes)
+            let notes = notes_of(alloc, explain, order, left, answer);
+            end_order::<K, E, C>(alloc, order, out, err, answer, &notes)
         }
-        Some(options) => end_lines::<S, K, E, C, N>(alloc, order, options, from, out, err),
+        Some(options) => end_lines::<S, K, E, C, N>(alloc, explain, order, options, from, out, err),
+    }
+}
+
+/// Whether more is said of a fault than its line. `watched`: the error output is a terminal.
+fn is_explained(watched: bool, notes: Notes) -> bool
+    ensures { result ≡ is_explained watched notes }
+{
+    match notes {
+        Notes::Always => true,
+        Notes::OnTerminal => watched,
+        Notes::Never => false,
     }
 }
 
 /// Runs the command on what the lookahead holds and its source gives.
 fn run_ahead<S: Source, K: Sink, E, C: Console<K, E>, const N: usize>(
     alloc: Global,
+    watched: bool,
     asked: &Asked,
     from: &mut Lookahead<S, N>,
     out: &mut K,
     err: &mut E,
-) -> u8
+) -> Result<u8, CommandFault>
     requires { CanRun asked.now }
-    ensures { Does K.contents K.failures C.Hands C.said C.unsaid S.to_come S.failures asked.now None
+    ensures { Does K.contents K.failures C.Hands C.said C.unsaid S.to_come S.failures watched asked.now None
         from.old from.new out.old out.new err.old err.new result }
 {
     match asked {
-        Ok(order) => run_order::<S, K, E, C, N>(alloc, order, from, out, err),
+        Ok(order) => {
+            let explain = is_explained(watched, order.notes);
+            run_order::<S, K, E, C, N>(alloc, explain, order, from, out, err)
+        }
         Err(fault) => decline::<K, E, C>(fault, out, err),
     }
 }
@@ -168,101 +270,104 @@ pub fn run_words<S: Source, K: Sink, E: Sink, const N: usize>(
     err: &mut E,
 ) -> u8
     ensures { Exits K.contents K.failures (λ before after. after ≡ before) E.contents E.failures S.to_come S.failures
-        (map string_bytes words.now) None from.old from.new out.old out.new err.old err.new result }
+        false (map string_bytes words.now) None from.old from.new out.old out.new err.old err.new result }
 {
     let asked = read_words(alloc, words);
-    run_ahead::<S, K, E, Apart, N>(alloc, &asked, from, out, err)
+    exit_of(run_ahead::<S, K, E, Apart, N>(alloc, false, &asked, from, out, err))
 }
 
 /// Carries out an order of records with an account of the lines of its input, so that the place in the input can be
 /// told.
 fn run_placed<S: Source, K: Sink, E, C: Console<K, E>, I: Input>(
     alloc: Global,
+    watched: bool,
     order: &Order,
     from: &mut S,
     out: &mut K,
     err: &mut E,
-) -> u8
+) -> Result<u8, CommandFault>
     requires input { I.input ≡ S.to_come from.old }
     requires records { order.now.lines ≡ None }
+    requires explained { is_explained watched order.now.notes ≡ true }
     requires limit { order.now.limit ≤ 2147483647 }
     requires texts { HasTexts order.now.verb (map string_bytes order.now.texts.items) }
-    ensures { (words : List (List ℕ)) → IsRead words (Ok order.now)
-        → ExitsOnBy K.contents K.failures C.Hands C.said C.unsaid S.to_come S.failures words (Ok order.now)
+    ensures { DoesOn K.contents K.failures C.Hands C.said C.unsaid S.to_come S.failures watched (Ok order.now)
         from.old out.old out.new err.old err.new result }
 {
     let mut ahead = Lookahead::<Placed<&mut S, I>, BLOCK_BYTES>::new(Placed::new(from));
     let answer = carry_out(alloc, order, &mut ahead, out);
     let held = ahead.held();
     let place = ahead.source().place_before(held);
-    let notes = notes_of(alloc, order, Left { place, held }, answer);
-    end::<K, E, C>(out, err, answer, &notes)
+    let notes = notes_of(alloc, true, order, Left { place, held }, answer);
+    end_order::<K, E, C>(alloc, order, out, err, answer, &notes)
 }
 
 /// Does what an order asks for on what a source gives, block by block.
 fn run_unplaced<S: Source, K: Sink, E, C: Console<K, E>>(
     alloc: Global,
+    watched: bool,
     order: &Order,
     from: S,
     out: &mut K,
     err: &mut E,
-) -> u8
+) -> Result<u8, CommandFault>
     requires limit { order.now.limit ≤ 2147483647 }
     requires texts { HasTextsFor order.now.lines order.now.verb (map string_bytes order.now.texts.items) }
-    ensures { (words : List (List ℕ)) → IsRead words (Ok order.now)
-        → ExitsOnBy K.contents K.failures C.Hands C.said C.unsaid S.to_come S.failures words (Ok order.now)
+    ensures { DoesOn K.contents K.failures C.Hands C.said C.unsaid S.to_come S.failures watched (Ok order.now)
         from out.old out.new err.old err.new result }
 {
     let mut source = from;
     let mut ahead = Lookahead::<&mut S, BLOCK_BYTES>::new(&mut source);
-    run_order::<&mut S, K, E, C, BLOCK_BYTES>(alloc, order, &mut ahead, out, err)
+    let explain = is_explained(watched, order.notes);
+    run_order::<&mut S, K, E, C, BLOCK_BYTES>(alloc, explain, order, &mut ahead, out, err)
 }
 
 /// Does what an order asks for on what a source gives. An account of its lines is kept only where it is asked for.
-fn run_source<S: Source, K: Sink, E, C: Console<K, E>>(
+pub(crate) fn run_source<S: Source, K: Sink, E, C: Console<K, E>>(
     alloc: Global,
+    watched: bool,
     order: &Order,
     from: S,
     out: &mut K,
     err: &mut E,
-) -> u8
+) -> Result<u8, CommandFault>
     requires limit { order.now.limit ≤ 2147483647 }
     requires texts { HasTextsFor order.now.lines order.now.verb (map string_bytes order.now.texts.items) }
-    ensures { (words : List (List ℕ)) → IsRead words (Ok order.now)
-        → ExitsOnBy K.contents K.failures C.Hands C.said C.unsaid S.to_come S.failures words (Ok order.now)
+    ensures { DoesOn K.contents K.failures C.Hands C.said C.unsaid S.to_come S.failures watched (Ok order.now)
         from out.old out.new err.old err.new result }
 {
     match order.lines {
-        None if order.explain => {
+        None if is_explained(watched, order.notes) => {
             let mut source = from;
-            run_placed::<S, K, E, C, Brand>(alloc, order, &mut source, out, err)
+            run_placed::<S, K, E, C, Brand>(alloc, watched, order, &mut source, out, err)
         }
-        _ => run_unplaced::<S, K, E, C>(alloc, order, from, out, err),
+        _ => run_unplaced::<S, K, E, C>(alloc, watched, order, from, out, err),
     }
 }
 
-/// Runs the command on what a source gives.
+/// Runs the command on what a source gives. `watched`: the error output is a terminal.
 pub(crate) fn run_asked<S: Source, K: Sink, E, C: Console<K, E>>(
     alloc: Global,
+    watched: bool,
     asked: &Asked,
     from: S,
     out: &mut K,
     err: &mut E,
-) -> u8
+) -> Result<u8, CommandFault>
     requires { CanRun asked.now }
-    ensures { (words : List (List ℕ)) → IsRead words asked.now
-        → ExitsOnBy K.contents K.failures C.Hands C.said C.unsaid S.to_come S.failures words asked.now
+    ensures { DoesOn K.contents K.failures C.Hands C.said C.unsaid S.to_come S.failures watched asked.now
         from out.old out.new err.old err.new result }
 {
     match asked {
-        Ok(order) => run_source::<S, K, E, C>(alloc, order, from, out, err),
+        Ok(order) => run_source::<S, K, E, C>(alloc, watched, order, from, out, err),
         Err(fault) => decline::<K, E, C>(fault, out, err),
     }
 }
 
 /// Runs the command of the words, which are those after the program's name, on what the source gives, and answers its
 /// exit status. Where it does not end cleanly, it says why in one line on `err`, after those of lines that are no
-/// match; a fault in writing that is ignored. What is written to `out` isn't flushed.
+/// match; a fault in writing that is ignored. What is written to `out` isn't flushed. Files that the words name aren't
+/// opened: the source is read in their place, once.
 ///
 /// 0: it ended cleanly. 1: a record failed or took no byte, a line is no match, a pair is refused, or there are too
 /// many records or lines. 2: a format, a pair, a value or the words are refused. 3: a read or a write failed. 4: memory
@@ -275,8 +380,8 @@ pub fn tool<S: Source, K: Sink, E: Sink>(
     err: &mut E,
 ) -> u8
     ensures { ExitsOn K.contents K.failures (λ before after. after ≡ before) E.contents E.failures S.to_come S.failures
-        (map string_bytes words.now) from out.old out.new err.old err.new result }
+        false (map string_bytes words.now) from out.old out.new err.old err.new result }
 {
     let asked = read_words(alloc, words);
-    run_asked::<S, K, E, Apart>(alloc, &asked, from, out, err)
+    exit_of(run_asked::<S, K, E, Apart>(alloc, false, &asked, from, out, err))
 }

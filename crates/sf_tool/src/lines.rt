@@ -1,76 +1,67 @@
 //! The lines of an input, each scanned by the formats of an order.
 ghost use Rattle.std.specs.Borrow.{GName};
-ghost use Rattle.std.specs.Prelude.{◌≡◌, ◌≤◌, ◌<◌, ◌-◌, ℕ, List, Some, true, false, IfOk, IfErr, length, map, option_map, refl, slice_get, string_bytes};
+ghost use Rattle.std.specs.Prelude.{◌≡◌, ◌≤◌, ◌<◌, ◌-◌, ◌++◌, ℕ, List, Some, true, false, IfOk, IfErr, length, map, option_map, refl, slice_get, string_bytes};
 ghost use Rattle.sf_format.specs.declared.directive.Directive.{Directive};
 ghost use Rattle.sf_lines.specs.declared.end.LineFault.{LineFault};
-ghost use Rattle.sf_tool.specs.Commands.{form_of, grammar_of};
+ghost use Rattle.sf_jobs.specs.Commands.{form_of, grammar_of};
+ghost use Rattle.sf_jobs.specs.Heads.{is_headed, names_text};
+ghost use Rattle.sf_jobs.specs.Writings.{IsWriting, SuitsAll};
 ghost use Rattle.sf_arguments.specs.Escapes.{Unescapes};
 ghost use Rattle.sf_tool.specs.Explains.{OfWord};
-ghost use Rattle.sf_tool.specs.Lines.{AreScanWords, IsFirstRefused, RunsLines, SaysLines, ScansLines, SomeIsSaid, answer_by, line_text};
+ghost use Rattle.sf_tool.specs.Fronts.{file_name};
+ghost use Rattle.sf_tool.specs.Lines.{AreScanWords, IsFirstRefused, IsRefused, RunsForm, RunsLines, RunsUnder, RunsWriting, SaysBy, SaysLines, ScansLines, SomeIsSaid, SomeIsSaidBy, answer_by};
 
-use crate::command::{form_of, grammar_of};
 use crate::console::Console;
 use crate::error_output::write_told;
 use crate::explain::more_of_line;
-use crate::formats::{RefusedWord, read_scan};
+use crate::fronts::file_name;
 use sf_arguments::unescape;
-use sf_base::Store;
 use sf_format::{Profile, ScanFormat};
-use sf_lines::{LineFault, LinesEnd, LinesOptions, RecordFault, RecordWriter, Teller, run_lines};
+use sf_jobs::{
+    RefusedWord, Writing, check_formats, grammar_of, header_fault, is_headed, named_maker,
+    read_scan, read_writing, text_of, write_header,
+};
+use sf_lines::{LineFault, LineFormats, LinesEnd, LinesOptions, Teller, run_lines};
+use sf_makers::{FormMaker, Maker, PrintMaker};
 use sf_messages::{CommandFault, line_fault_line};
 use sf_print::Sink;
 use sf_read::{Lookahead, Source};
-use sf_records::{FormWriter, OutputForm};
-use sf_run::Report;
+use sf_records::OutputForm;
 use sf_words::{LineOptions, Order};
 use std::alloc::{AllocError, Global};
 use std::marker::PhantomData;
 
-/// Writes the record of each line, in a form.
-#[derive(Drop)]
-struct LineRecords {
-    writer: FormWriter,
+/// What is said of lines that are no match.
+#[derive(Clone, Copy)]
+pub(crate) struct Voice<'t> {
+    /// Whether nothing is said.
+    quiet: bool,
+    /// Whether more is said of a line, by the last format and its bytes.
+    explain: bool,
+    /// By which grammar the format is read.
+    profile: Profile,
+    /// The bytes of the last format, where more is said.
+    text: &'t [u8],
+    /// The last format.
+    format: &'t ScanFormat,
+    /// The name of the file that is read, if it has one.
+    file: Option<&'t str>,
 }
 
-impl RecordWriter for LineRecords {
-    ghost text = { λ records ds report. line_text records.writer ds report };
-
-    fn write<K: Sink, T: Store>(
-        &mut self,
-        to: &mut K,
-        format: &ScanFormat,
-        report: &Report<'_, T>,
-    ) -> Result<(), RecordFault> {
-        match self.writer.write(to, report, format.destinations()) {
-            Ok(()) => Ok(()),
-            Err(sf_records::RecordFault::Write) => Err(RecordFault::Write),
-            Err(sf_records::RecordFault::Memory) => Err(RecordFault::Memory),
-        }
-    }
-
-    ghost unmet = { λ records ds report met. refl };
-}
-
-/// Says of each line that is no match what is to be said, as it comes, unless nothing is. Where the error output has
-/// failed, nothing more is said.
+/// Says of each line that is no match what is to be said, as it comes. Where the error output has failed, nothing more
+/// is said.
 #[derive(Drop)]
-struct LineNotes<'e, 't, 'f, K: Sink, E, C: Console<K, E>> {
+struct LineNotes<'e, 'v, K: Sink, E, C: Console<K, E>> {
     alloc: Global,
     err: &'e mut E,
     of: PhantomData<(K, C)>,
-    quiet: bool,
     failed: bool,
-    /// Whether more is said of a line, by the last format and its bytes.
-    explain: bool,
-    profile: Profile,
-    text: &'t [u8],
-    format: &'f ScanFormat,
-    ghost some: { SomeIsSaid profile quiet explain text.now format.now },
+    voice: &'v Voice<'v>,
+    ghost some: { SomeIsSaidBy voice.now },
 }
 
-impl<K: Sink, E, C: Console<K, E>> Teller<K> for LineNotes<'_, '_, '_, K, E, C> {
-    ghost says = { λ notes telling. SaysLines notes.profile notes.quiet notes.explain notes.text.now notes.format.now
-        telling };
+impl<K: Sink, E, C: Console<K, E>> Teller<K> for LineNotes<'_, '_, K, E, C> {
+    ghost says = { λ notes telling. SaysBy notes.voice.now telling };
 
     ghost some = { λ notes. notes.some };
 
@@ -91,26 +82,28 @@ impl<K: Sink, E, C: Console<K, E>> Teller<K> for LineNotes<'_, '_, '_, K, E, C> 
         line: &[u8],
         fault: LineFault,
     ) -> Result<(), AllocError> {
-        if self.quiet || self.failed {
+        let voice = self.voice;
+        if voice.quiet || self.failed {
             return Ok(());
         }
         let more = more_of_line(
             self.alloc,
-            self.explain,
-            self.profile,
-            self.text,
-            self.format,
+            voice.explain,
+            voice.profile,
+            voice.text,
+            voice.format,
             line,
             fault,
         )?;
         let told = line_fault_line(number, fault);
-        self.failed = write_told::<K, E, C>(to, self.err, told.as_str().as_bytes(), &more);
+        let line = told.as_str().as_bytes();
+        self.failed = write_told::<K, E, C>(to, self.err, voice.file, line, &more);
         Ok(())
     }
 }
 
 /// The scan formats that the words spell, in their order; or the first that spells none.
-pub(crate) fn formats_of(
+fn formats_of(
     alloc: Global,
     profile: Profile,
     words: &[String],
@@ -134,6 +127,81 @@ pub(crate) fn formats_of(
     Ok(formats)
 }
 
+/// The scan formats of an order of lines.
+#[derive(Drop)]
+pub(crate) struct ScanFormats {
+    /// By which lines are passed over.
+    ignored: Vec<ScanFormat>,
+    /// By which lines are scanned.
+    tried: Vec<ScanFormat>,
+}
+
+/// The scan formats that the words spell, those by which lines are passed over first; or the first that spells none.
+fn scan_formats<'w>(
+    alloc: Global,
+    profile: Profile,
+    ignored: &'w [String],
+    words: &'w [String],
+) -> Result<ScanFormats, RefusedWord<'w>>
+    ensures ignored { IfOk result (λ formats. AreScanWords profile (map string_bytes ignored.entry.now)
+        formats.ignored.items) }
+    ensures tried { IfOk result (λ formats. AreScanWords profile (map string_bytes words.entry.now)
+        formats.tried.items) }
+    ensures err { IfErr result (λ refused. IsFirstRefused profile
+        (map string_bytes ignored.entry.now ++ map string_bytes words.entry.now) refused.word.now refused.fault) }
+{
+    let ignored = match formats_of(alloc, profile, ignored) {
+        Ok(formats) => formats,
+        Err(refused) => return Err(refused),
+    };
+    match formats_of(alloc, profile, words) {
+        Ok(tried) => Ok(ScanFormats { ignored, tried }),
+        Err(refused) => Err(refused),
+    }
+}
+
+/// The formats of an order of lines.
+#[derive(Drop)]
+pub(crate) struct LinesJob {
+    /// How records are written.
+    writing: Writing,
+    /// By which formats lines are scanned.
+    formats: ScanFormats,
+}
+
+/// The formats that the words of an order of lines spell. The print format is judged first, where there is one, then
+/// the scan formats, and then whether it can print what they give.
+pub(crate) fn lines_job<'o>(
+    alloc: Global,
+    profile: Profile,
+    form: OutputForm,
+    order: &'o Order,
+) -> Result<LinesJob, RefusedWord<'o>>
+    ensures writing { IfOk result (λ job. IsWriting profile form (option_map string_bytes order.entry.now.print)
+        job.writing) }
+    ensures ignored { IfOk result (λ job. AreScanWords profile (map string_bytes order.entry.now.ignored.items)
+        job.formats.ignored.items) }
+    ensures tried { IfOk result (λ job. AreScanWords profile (map string_bytes order.entry.now.texts.items)
+        job.formats.tried.items) }
+    ensures suits { IfOk result (λ job. SuitsAll job.writing job.formats.tried.items) }
+    ensures err { IfErr result (λ refused. IsRefused profile form (option_map string_bytes order.entry.now.print)
+        (map string_bytes order.entry.now.ignored.items) (map string_bytes order.entry.now.texts.items)
+        refused.word.now refused.fault) }
+{
+    let writing = match read_writing(alloc, profile, form, text_of(order.print.as_ref())) {
+        Ok(writing) => writing,
+        Err(refused) => return Err(refused),
+    };
+    let formats = match scan_formats(alloc, profile, &order.ignored, &order.texts) {
+        Ok(formats) => formats,
+        Err(refused) => return Err(refused),
+    };
+    match check_formats(&writing, &formats.tried) {
+        Ok(()) => Ok(LinesJob { writing, formats }),
+        Err(fault) => Err(RefusedWord { word: "", fault }),
+    }
+}
+
 /// What the command answers where the loop over the lines has ended.
 fn answer_by(end: LinesEnd) -> Result<u8, CommandFault>
     ensures { result ≡ answer_by end.status end.fault }
@@ -144,35 +212,35 @@ fn answer_by(end: LinesEnd) -> Result<u8, CommandFault>
     }
 }
 
-/// Scans the lines by the formats; the notes say what is said of them.
-fn loop_lines<S: Source, K: Sink, E, C: Console<K, E>, const N: usize>(
+/// Scans the lines by the formats, and writes what the maker makes of them; the notes say what is said of them.
+fn loop_lines<M: Maker, S: Source, K: Sink, E, C: Console<K, E>, const N: usize>(
     alloc: Global,
-    formats: &[ScanFormat],
-    form: OutputForm,
+    maker: &mut M,
+    formats: &LineFormats<'_>,
     options: LineOptions,
     limit: u32,
     from: &mut Lookahead<S, N>,
     out: &mut K,
-    notes: &mut LineNotes<'_, '_, '_, K, E, C>,
+    notes: &mut LineNotes<'_, '_, K, E, C>,
 ) -> Result<u8, CommandFault>
     requires limit { limit ≤ 2147483647 }
-    requires some { 0 < length formats.now }
+    requires some { 0 < length formats.now.tried.now }
     requires fresh { notes.old.failed ≡ false }
     ensures runs { (telling : ℕ → List ℕ → LineFault → List ℕ)
-        → SaysLines notes.old.profile notes.old.quiet notes.old.explain notes.old.text.now notes.old.format.now telling
-        → RunsLines S.to_come S.failures K.contents K.failures C.said C.unsaid form options limit formats.now telling
-        from.old from.new out.old out.new notes.old.err.now notes.new.err.now result }
+        → SaysBy notes.old.voice.now telling
+        → RunsLines S.to_come S.failures K.contents K.failures C.said C.unsaid (M.work maker.old) options limit
+        formats.now.ignored.now formats.now.tried.now telling from.old from.new out.old out.new
+        notes.old.err.now notes.new.err.now result }
     ensures kept { notes.new.err.ghost_name ≡ notes.old.err.ghost_name }
 {
-    let writer = FormWriter::new(alloc, form);
-    let mut records = LineRecords { writer };
     let how = LinesOptions {
         limit,
         skip: options.skip,
         whole: options.whole,
         keep_going: options.keep_going,
+        matching: options.matching,
     };
-    let end = run_lines(alloc, from, out, &mut records, notes, formats, how);
+    let end = run_lines(alloc, from, out, maker, notes, formats, how);
     answer_by(end)
 }
 
@@ -206,10 +274,42 @@ fn text_of_last(alloc: Global, explain: bool, word: Option<&str>) -> Result<Vec<
     }
 }
 
-/// Scans the lines by the formats; `text` has the bytes of the last one where more is said of lines.
-fn lines_by<S: Source, K: Sink, E, C: Console<K, E>, const N: usize>(
+/// Scans the lines by the formats, and writes what the maker makes of them; the voice says what is said of lines.
+fn lines_told<M: Maker, S: Source, K: Sink, E, C: Console<K, E>, const N: usize>(
     alloc: Global,
-    formats: &[ScanFormat],
+    maker: &mut M,
+    formats: &LineFormats<'_>,
+    voice: &Voice<'_>,
+    options: LineOptions,
+    limit: u32,
+    from: &mut Lookahead<S, N>,
+    out: &mut K,
+    err: &mut E,
+) -> Result<u8, CommandFault>
+    requires limit { limit ≤ 2147483647 }
+    requires some { 0 < length formats.now.tried.now }
+    requires said { SomeIsSaidBy voice.now }
+    ensures { (telling : ℕ → List ℕ → LineFault → List ℕ) → SaysBy voice.now telling
+        → RunsLines S.to_come S.failures K.contents K.failures C.said C.unsaid (M.work maker.old) options limit
+        formats.now.ignored.now formats.now.tried.now telling from.old from.new out.old out.new err.old err.new result }
+{
+    let mut notes = LineNotes::<K, E, C> {
+        alloc,
+        err,
+        of: PhantomData,
+        failed: false,
+        voice,
+    };
+    loop_lines(alloc, maker, formats, options, limit, from, out, &mut notes)
+}
+
+/// Scans the lines by the formats, and writes what the maker makes of them; `text` has the bytes of the last format
+/// where more is said of lines.
+fn lines_with<M: Maker, S: Source, K: Sink, E, C: Console<K, E>, const N: usize>(
+    alloc: Global,
+    explain: bool,
+    maker: &mut M,
+    formats: &LineFormats<'_>,
     text: &[u8],
     order: &Order,
     options: LineOptions,
@@ -218,38 +318,151 @@ fn lines_by<S: Source, K: Sink, E, C: Console<K, E>, const N: usize>(
     err: &mut E,
 ) -> Result<u8, CommandFault>
     requires limit { order.now.limit ≤ 2147483647 }
-    requires some { 0 < length formats.now }
-    requires said { (ds : List Directive) → slice_get formats.now (length formats.now - 1) ≡ Some ds
-        → SomeIsSaid (grammar_of order.now.profile) options.quiet order.now.explain text.now ds }
+    requires some { 0 < length formats.now.tried.now }
+    requires said { (ds : List Directive)
+        → slice_get formats.now.tried.now (length formats.now.tried.now - 1) ≡ Some ds
+        → SomeIsSaid (file_name order.now) (grammar_of order.now.profile) options.quiet explain text.now ds }
     ensures { (ds : List Directive) (telling : ℕ → List ℕ → LineFault → List ℕ)
-        → slice_get formats.now (length formats.now - 1) ≡ Some ds
-        → SaysLines (grammar_of order.now.profile) options.quiet order.now.explain text.now ds telling
-        → RunsLines S.to_come S.failures K.contents K.failures C.said C.unsaid
-        (form_of order.now.output) options order.now.limit formats.now telling from.old from.new out.old out.new
+        → slice_get formats.now.tried.now (length formats.now.tried.now - 1) ≡ Some ds
+        → SaysLines (file_name order.now) (grammar_of order.now.profile) options.quiet explain text.now ds telling
+        → RunsLines S.to_come S.failures K.contents K.failures C.said C.unsaid (M.work maker.old) options
+        order.now.limit formats.now.ignored.now formats.now.tried.now telling from.old from.new out.old out.new
         err.old err.new result }
 {
-    let mut notes = LineNotes::<K, E, C> {
-        alloc,
-        err,
-        of: PhantomData,
+    let voice = Voice {
         quiet: options.quiet,
-        failed: false,
-        explain: order.explain,
+        explain,
         profile: grammar_of(order.profile),
         text,
-        format: &formats[formats.len() - 1],
+        format: &formats.tried[formats.tried.len() - 1],
+        file: file_name(order),
     };
-    let form = form_of(order.output);
-    loop_lines(
+    lines_told::<M, S, K, E, C, N>(
         alloc,
+        maker,
         formats,
-        form,
+        &voice,
         options,
         order.limit,
         from,
         out,
-        &mut notes,
+        err,
     )
+}
+
+/// Writes the header, where it is due, and then scans the lines by the formats; `text` has the bytes of the last format
+/// where more is said of lines.
+fn lines_under<S: Source, K: Sink, E, C: Console<K, E>, const N: usize>(
+    alloc: Global,
+    explain: bool,
+    maker: &mut FormMaker<'_>,
+    formats: &LineFormats<'_>,
+    text: &[u8],
+    order: &Order,
+    options: LineOptions,
+    from: &mut Lookahead<S, N>,
+    out: &mut K,
+    err: &mut E,
+) -> Result<u8, CommandFault>
+    requires limit { order.now.limit ≤ 2147483647 }
+    requires some { 0 < length formats.now.tried.now }
+    requires said { (ds : List Directive)
+        → slice_get formats.now.tried.now (length formats.now.tried.now - 1) ≡ Some ds
+        → SomeIsSaid (file_name order.now) (grammar_of order.now.profile) options.quiet explain text.now ds }
+    ensures { (ds : List Directive) (telling : ℕ → List ℕ → LineFault → List ℕ)
+        → slice_get formats.now.tried.now (length formats.now.tried.now - 1) ≡ Some ds
+        → SaysLines (file_name order.now) (grammar_of order.now.profile) options.quiet explain text.now ds telling
+        → RunsUnder S.to_come S.failures K.contents K.failures C.said C.unsaid (is_headed order.now.file) maker.old
+        options order.now.limit
+        formats.now.ignored.now formats.now.tried.now telling from.old from.new out.old out.new err.old err.new result }
+{
+    if let Err(why) = write_header(maker, is_headed(order), out) {
+        return Err(header_fault(why));
+    }
+    lines_with::<FormMaker<'_>, S, K, E, C, N>(
+        alloc, explain, maker, formats, text, order, options, from, out, err,
+    )
+}
+
+/// Scans the lines by the formats, and writes their records in this form, under the order's names, where it has any.
+fn lines_in_form<S: Source, K: Sink, E, C: Console<K, E>, const N: usize>(
+    alloc: Global,
+    explain: bool,
+    form: OutputForm,
+    formats: &LineFormats<'_>,
+    text: &[u8],
+    order: &Order,
+    options: LineOptions,
+    from: &mut Lookahead<S, N>,
+    out: &mut K,
+    err: &mut E,
+) -> Result<u8, CommandFault>
+    requires limit { order.now.limit ≤ 2147483647 }
+    requires some { 0 < length formats.now.tried.now }
+    requires said { (ds : List Directive)
+        → slice_get formats.now.tried.now (length formats.now.tried.now - 1) ≡ Some ds
+        → SomeIsSaid (file_name order.now) (grammar_of order.now.profile) options.quiet explain text.now ds }
+    ensures { (ds : List Directive) (telling : ℕ → List ℕ → LineFault → List ℕ)
+        → slice_get formats.now.tried.now (length formats.now.tried.now - 1) ≡ Some ds
+        → SaysLines (file_name order.now) (grammar_of order.now.profile) options.quiet explain text.now ds telling
+        → RunsForm S.to_come S.failures K.contents K.failures C.said C.unsaid form order.now.tag
+        (is_headed order.now.file) (names_text order.now)
+        options order.now.limit formats.now.ignored.now formats.now.tried.now telling from.old from.new out.old
+        out.new err.old err.new result }
+{
+    match &order.names {
+        None => {
+            let mut maker = FormMaker::headed(alloc, form, None, order.tag);
+            lines_with::<FormMaker<'_>, S, K, E, C, N>(
+                alloc, explain, &mut maker, formats, text, order, options, from, out, err,
+            )
+        }
+        Some(names) => {
+            let mut maker = named_maker(alloc, form, names.as_str(), order.tag, formats.tried)?;
+            lines_under::<S, K, E, C, N>(
+                alloc, explain, &mut maker, formats, text, order, options, from, out, err,
+            )
+        }
+    }
+}
+
+/// Scans the lines by the formats, and writes their records so.
+fn lines_by<S: Source, K: Sink, E, C: Console<K, E>, const N: usize>(
+    alloc: Global,
+    explain: bool,
+    writing: &Writing,
+    formats: &LineFormats<'_>,
+    text: &[u8],
+    order: &Order,
+    options: LineOptions,
+    from: &mut Lookahead<S, N>,
+    out: &mut K,
+    err: &mut E,
+) -> Result<u8, CommandFault>
+    requires limit { order.now.limit ≤ 2147483647 }
+    requires some { 0 < length formats.now.tried.now }
+    requires said { (ds : List Directive)
+        → slice_get formats.now.tried.now (length formats.now.tried.now - 1) ≡ Some ds
+        → SomeIsSaid (file_name order.now) (grammar_of order.now.profile) options.quiet explain text.now ds }
+    ensures { (ds : List Directive) (telling : ℕ → List ℕ → LineFault → List ℕ)
+        → slice_get formats.now.tried.now (length formats.now.tried.now - 1) ≡ Some ds
+        → SaysLines (file_name order.now) (grammar_of order.now.profile) options.quiet explain text.now ds telling
+        → RunsWriting S.to_come S.failures K.contents K.failures C.said C.unsaid order.now.tag
+        (is_headed order.now.file) (names_text order.now)
+        writing.now options order.now.limit formats.now.ignored.now formats.now.tried.now telling from.old from.new
+        out.old out.new err.old err.new result }
+{
+    match writing {
+        Writing::Form(form) => lines_in_form::<S, K, E, C, N>(
+            alloc, explain, *form, formats, text, order, options, from, out, err,
+        ),
+        Writing::Print(print) => {
+            let mut maker = PrintMaker::new(print);
+            lines_with::<PrintMaker<'_>, S, K, E, C, N>(
+                alloc, explain, &mut maker, formats, text, order, options, from, out, err,
+            )
+        }
+    }
 }
 
 /// Scans the lines of what the lookahead holds and its source gives, by the formats of an order's words, and answers
@@ -257,7 +470,8 @@ fn lines_by<S: Source, K: Sink, E, C: Console<K, E>, const N: usize>(
 /// is said of lines. Err says why the lines stopped before the end of the input.
 pub(crate) fn scan_lines<S: Source, K: Sink, E, C: Console<K, E>, const N: usize>(
     alloc: Global,
-    formats: &[ScanFormat],
+    explain: bool,
+    job: &LinesJob,
     order: &Order,
     options: LineOptions,
     from: &mut Lookahead<S, N>,
@@ -266,11 +480,35 @@ pub(crate) fn scan_lines<S: Source, K: Sink, E, C: Console<K, E>, const N: usize
 ) -> Result<u8, CommandFault>
     requires limit { order.now.limit ≤ 2147483647 }
     requires some { 0 < length order.now.texts.items }
-    requires are { AreScanWords (grammar_of order.now.profile) (map string_bytes order.now.texts.items) formats.now }
-    ensures { ScansLines S.to_come S.failures K.contents K.failures C.said C.unsaid (grammar_of order.now.profile)
-        (form_of order.now.output) options order.now.explain order.now.limit
-        (map string_bytes order.now.texts.items) from.old from.new out.old out.new err.old err.new result }
+    requires ignored { AreScanWords (grammar_of order.now.profile) (map string_bytes order.now.ignored.items)
+        job.now.formats.ignored.items }
+    requires tried { AreScanWords (grammar_of order.now.profile) (map string_bytes order.now.texts.items)
+        job.now.formats.tried.items }
+    requires suits { SuitsAll job.now.writing job.now.formats.tried.items }
+    requires writing { IsWriting (grammar_of order.now.profile) (form_of order.now.output)
+        (option_map string_bytes order.now.print) job.now.writing }
+    ensures { ScansLines S.to_come S.failures K.contents K.failures C.said C.unsaid (file_name order.now)
+        (is_headed order.now.file) (grammar_of order.now.profile)
+        (form_of order.now.output) order.now.tag (names_text order.now) (option_map string_bytes order.now.print)
+        options explain order.now.limit
+        (map string_bytes order.now.ignored.items) (map string_bytes order.now.texts.items) from.old from.new
+        out.old out.new err.old err.new result }
 {
-    let text = text_of_last(alloc, order.explain, last_word(&order.texts))?;
-    lines_by::<S, K, E, C, N>(alloc, formats, &text, order, options, from, out, err)
+    let text = text_of_last(alloc, explain, last_word(&order.texts))?;
+    let lines = LineFormats {
+        ignored: &job.formats.ignored,
+        tried: &job.formats.tried,
+    };
+    lines_by::<S, K, E, C, N>(
+        alloc,
+        explain,
+        &job.writing,
+        &lines,
+        &text,
+        order,
+        options,
+        from,
+        out,
+        err,
+    )
 }

@@ -1,13 +1,15 @@
 //! The program: the command of its words, on its streams.
-ghost use Rattle.std.specs.Prelude.{◌≡◌, ◌↔◌, ℕ, List, map, string_bytes, true};
+ghost use Rattle.std.specs.Prelude.{◌≡◌, ◌↔◌, ℕ, map, string_bytes, true};
 ghost use Rattle.sf_blocks.specs.Blocks.{faults_of, handed_to, has_failed_flush, taken_by, write_failures, writer_of};
 ghost use Rattle.sf_messages.specs.Texts.{error_line};
-ghost use Rattle.sf_tool.specs.Exits.{CanRun, ExitsOnBy, IsRead};
+ghost use Rattle.sf_tool.specs.Exits.{CanRun};
+ghost use Rattle.sf_tool.specs.Files.{RunsAsked};
 ghost use Rattle.sf_tool.specs.Programs.{Closes, HandsOn, IsAwaited, Reports, RunsOn, RunsProgram};
 ghost use Rattle.sf_tool.specs.Saying.{SaysText};
 
 use crate::console::InOrder;
-use crate::invocation::{Asked, run_asked};
+use crate::files::{Opener, run_inputs};
+use crate::invocation::{Asked, decline, exit_of};
 use sf_blocks::{BlockSink, Unblocked};
 use sf_messages::{CommandFault, error_line};
 use sf_read::Source;
@@ -15,6 +17,13 @@ use sf_records::write_whole;
 use sf_words::read_words;
 use std::alloc::Global;
 use std::io::Write;
+
+/// Which of the program's streams are terminals.
+#[derive(Clone, Copy, Debug, PartialEq, Eq)]
+pub struct Terminals {
+    pub output: bool,
+    pub errors: bool,
+}
 
 /// The exit status of the program, and the writers of its output and its error output.
 #[derive(Drop)]
@@ -78,28 +87,55 @@ struct Closed<W: Write + Drop> {
     output: W,
 }
 
-/// Runs the command on the streams, and flushes its output.
-fn run_open<S: Source, W: Write + Drop, E: Write + Drop>(
+/// Does what was read of the words on their inputs, with the streams of a program.
+fn run_asked_inputs<S: Source, W: Write + Drop, E: Write + Drop, F: Opener<S>>(
     alloc: Global,
-    asked: &Asked,
+    watched: bool,
+    asked: Asked,
     from: S,
+    files: &mut F,
+    output: &mut BlockSink<W>,
+    errors: &mut Unblocked<E>,
+) -> u8
+    requires { CanRun asked }
+    ensures { RunsAsked F.Opens taken_by write_failures HandsOn (handed_to ⟦<E as Write>⟧) faults_of S.to_come
+        S.failures watched asked from files.old files.new output.old output.new errors.old errors.new result }
+{
+    match asked {
+        Ok(order) => run_inputs::<S, BlockSink<W>, Unblocked<E>, InOrder, F>(
+            alloc, watched, order, from, files, output, errors,
+        ),
+        Err(fault) => exit_of(decline::<BlockSink<W>, Unblocked<E>, InOrder>(
+            &fault, output, errors,
+        )),
+    }
+}
+
+/// Runs the command on the streams, and flushes its output.
+fn run_open<S: Source, W: Write + Drop, E: Write + Drop, F: Opener<S>>(
+    alloc: Global,
+    watched: bool,
+    asked: Asked,
+    from: S,
+    files: &mut F,
     output: BlockSink<W>,
     errors: &mut Unblocked<E>,
 ) -> Closed<W>
-    requires { CanRun asked.now }
-    ensures { (words : List (List ℕ)) → IsRead words asked.now
-        → (ran : BlockSink W ⟦<W as Write>⟧) × ((closed : BlockSink W ⟦<W as Write>⟧)
+    requires { CanRun asked }
+    ensures { (ran : BlockSink W ⟦<W as Write>⟧) × ((closed : BlockSink W ⟦<W as Write>⟧)
         × ((said : Unblocked E) × ((answer : ℕ)
-        × ExitsOnBy taken_by write_failures HandsOn (handed_to ⟦<E as Write>⟧) faults_of S.to_come S.failures words
-        asked.now from output ran errors.old said answer
+        × RunsAsked F.Opens taken_by write_failures HandsOn (handed_to ⟦<E as Write>⟧) faults_of S.to_come S.failures
+        watched asked from files.old files.new output ran errors.old said answer
         × Closes ⟦<W as Write>⟧ ⟦<E as Write>⟧ ran closed said errors.new answer result.status
         × (result.output ≡ writer_of closed)))) }
 {
     let mut output = output;
-    let ended = run_asked::<S, BlockSink<W>, Unblocked<E>, InOrder>(
+    let ended = run_asked_inputs::<S, W, E, F>(
         alloc,
+        watched,
         asked,
         from,
+        files,
         &mut output,
         errors,
     );
@@ -111,26 +147,36 @@ fn run_open<S: Source, W: Write + Drop, E: Write + Drop>(
 }
 
 /// Runs the program of the words, which are those after its name, on its streams, and gives its writers back with its
-/// exit status. A message goes to the error output at once, after all that was written to the output before it. At a
-/// terminal, or where the words ask for it, each record goes to the output at once; else they go in blocks. The output
-/// is flushed before the end; where that or an earlier flush fails, the status is 3, and one line reports it. The other
-/// statuses are those of `tool`.
-pub fn run_program<S: Source, W: Write + Drop, E: Write + Drop>(
+/// exit status. `from` is its standard input; `files` opens the files that the words name. A message goes to the error
+/// output at once, after all that was written to the output before it. At a terminal, or where the words ask for it,
+/// each record goes to the output at once; else they go in blocks. The output is flushed before the end; where that or
+/// an earlier flush fails, the status is 3, and one line reports it. The other statuses are those of `tool`.
+pub fn run_program<S: Source, W: Write + Drop, E: Write + Drop, F: Opener<S>>(
     alloc: Global,
     words: &[String],
-    terminal: bool,
+    terminals: Terminals,
     from: S,
+    files: &mut F,
     output: W,
     errors: E,
 ) -> Ended<W, E>
-    ensures { RunsProgram ⟦<W as Write>⟧ ⟦<E as Write>⟧ S.to_come S.failures
-        (map string_bytes words.now) terminal from output result.output errors result.errors result.status }
+    ensures { RunsProgram ⟦<W as Write>⟧ ⟦<E as Write>⟧ F.Opens S.to_come S.failures
+        (map string_bytes words.now) terminals from files.old files.new output result.output errors result.errors
+        result.status }
 {
     let asked = read_words(alloc, words);
     let mut errors = Unblocked::new(errors);
-    match BlockSink::open(alloc, is_awaited(terminal, &asked), output) {
+    match BlockSink::open(alloc, is_awaited(terminals.output, &asked), output) {
         Ok(opened) => {
-            let closed = run_open(alloc, &asked, from, opened, &mut errors);
+            let closed = run_open(
+                alloc,
+                terminals.errors,
+                asked,
+                from,
+                files,
+                opened,
+                &mut errors,
+            );
             Ended {
                 status: closed.status,
                 output: closed.output,

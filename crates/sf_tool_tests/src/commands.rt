@@ -5,7 +5,7 @@ use sf_read::{Lookahead, ReadStep, ScriptSource, SliceSource};
 use std::test::Fail;
 
 /// Words of commands that need no input, of formats and calls that are refused, and of help; and the status.
-static UNREAD: [(&str, u8); 42] = [
+static UNREAD: [(&str, u8); 55] = [
     ("show/a %d", 0),
     ("show/\x01\"\\\\\x7f", 0),
     ("show/", 0),
@@ -40,9 +40,22 @@ static UNREAD: [(&str, u8); 42] = [
     ("scan/--lines/--explain/-e/%d/-e/\\x01%d%q/-e/%y", 2),
     ("scan/--lines/--explain/-e/%d/-e/a%d\\q/-e/%y", 2),
     ("scan/--lines/--explain/--quiet/-e/ab%y/-e/\\q", 2),
+    ("check/%d,", 0),
+    ("check/%d%d;", 1),
+    ("check/%q", 2),
+    ("print/--raw/%s/a\\q", 0),
+    ("scan/--print/%q/%d", 2),
+    ("scan/--print/%d/%d%d", 2),
+    ("scan/--print/%s/%d", 2),
+    ("scan/--lines/--ignore/%q/%d", 2),
+    ("scan/--lines/--print/%d\\q/--ignore/%q/%d", 2),
+    ("scan/--lines/--print/%d/-e/%d/-e/%s", 2),
+    ("scan/--output/csv/--names/a/%d%d", 2),
+    ("scan/--output/csv/--names/a,a/%d%d", 2),
+    ("scan/--lines/--output/csv/--names/a,/%d%d", 2),
     ("", 2),
     ("show", 2),
-    ("scan/%d/%d", 2),
+    ("show/%d/%d", 2),
     ("shows/%d", 2),
     ("/%d", 2),
     ("--help", 0),
@@ -88,7 +101,7 @@ static READINGS: [Reading; 8] = [
         ["1,", "\ng", ""],
         false,
         "",
-        "sf: record 1: matching failure at 3, used 3, assigned 1\n  directive 3: \"%5x\", x u32 width 5 slot 2\n  at line 2, column 1 of the input\n  there stood \"g\"\n",
+        "sf: record 1: matching failure at 3, used 3, assigned 1\n  directive 3: \"%5x\", x u32 width 5 slot 2\n  at line 2, column 1 of the input\n  there stood \"g\"\n  the record goes over a newline: sf scan --lines ends each record with its line\n",
         1,
     ),
     (

@@ -3,7 +3,7 @@ ghost use Rattle.std.specs.Prelude.{◌≤◌, IfOk, length};
 
 use crate::shared::{is, words_of};
 use sf_read::SliceSource;
-use sf_tool::run_program;
+use sf_tool::{Opened, Opener, Terminals, run_program};
 use std::alloc::Global;
 use std::cell::RefCell;
 use std::io::{self, ErrorKind, Write};
@@ -59,17 +59,20 @@ impl Write for Stream<'_> {
 struct Case {
     words: &'static str,
     terminal: bool,
+    /// Whether the error output is a terminal.
+    watched: bool,
     input: &'static [u8],
     writes: u64,
     log: &'static str,
     status: u8,
 }
 
-static CASES: [Case; 8] = [
+static CASES: [Case; 18] = [
     // the lines before a message go before it
     Case {
         words: "scan/--lines/--keep-going/%d",
         terminal: false,
+        watched: false,
         input: b"1\n2\nx\n3\n",
         writes: u64::MAX,
         log: "o1\n2\nesf: line 3: matching failure at 1, used 0, assigned 0\no3\n",
@@ -79,6 +82,7 @@ static CASES: [Case; 8] = [
     Case {
         words: "scan/%d",
         terminal: false,
+        watched: false,
         input: b"1\n2\n3\n",
         writes: u64::MAX,
         log: "o1\n2\n3\n",
@@ -88,6 +92,7 @@ static CASES: [Case; 8] = [
     Case {
         words: "scan/--line-buffered/%d",
         terminal: false,
+        watched: false,
         input: b"1\n2\n3\n",
         writes: u64::MAX,
         log: "o1\no2\no3\n",
@@ -96,6 +101,7 @@ static CASES: [Case; 8] = [
     Case {
         words: "scan/%d",
         terminal: true,
+        watched: false,
         input: b"1\n2\n3\n",
         writes: u64::MAX,
         log: "o1\no2\no3\n",
@@ -105,6 +111,7 @@ static CASES: [Case; 8] = [
     Case {
         words: "scan/%d",
         terminal: false,
+        watched: false,
         input: b"1\n2\n3\n",
         writes: 0,
         log: "esf: write fault\n",
@@ -114,6 +121,7 @@ static CASES: [Case; 8] = [
     Case {
         words: "scan/%d",
         terminal: true,
+        watched: false,
         input: b"1\n2\n3\n",
         writes: 1,
         log: "o1\nesf: write fault\n",
@@ -123,6 +131,7 @@ static CASES: [Case; 8] = [
     Case {
         words: "scan/--lines/--keep-going/%d",
         terminal: false,
+        watched: false,
         input: b"1\nx\n",
         writes: 0,
         log: "esf: line 2: matching failure at 1, used 0, assigned 0\nesf: write fault\n",
@@ -131,12 +140,144 @@ static CASES: [Case; 8] = [
     Case {
         words: "check/%5d,/%5d,",
         terminal: false,
+        watched: false,
         input: b"",
         writes: u64::MAX,
         log: "oaccepted\n",
         status: 0,
     },
+    // more is said on a terminal, unless the words say no
+    Case {
+        words: "scan/%d,%d",
+        terminal: false,
+        watched: true,
+        input: b"1;2",
+        writes: u64::MAX,
+        log: concat!(
+            "esf: record 1: matching failure at 2, used 1, assigned 1\n",
+            "e  directive 2: \",\", byte \",\"\n",
+            "  at line 1, column 2 of the input\n",
+            "  there stood \";2\"\n",
+        ),
+        status: 1,
+    },
+    Case {
+        words: "scan/--no-explain/%d,%d",
+        terminal: false,
+        watched: true,
+        input: b"1;2",
+        writes: u64::MAX,
+        log: "esf: record 1: matching failure at 2, used 1, assigned 1\n",
+        status: 1,
+    },
+    Case {
+        words: "scan/%d,%d",
+        terminal: true,
+        watched: false,
+        input: b"1;2",
+        writes: u64::MAX,
+        log: "esf: record 1: matching failure at 2, used 1, assigned 1\n",
+        status: 1,
+    },
+    // a record ends with its file
+    Case {
+        words: "scan/%d/two/one",
+        terminal: false,
+        watched: false,
+        input: b"9",
+        writes: u64::MAX,
+        log: "o1\n2\n3\n",
+        status: 0,
+    },
+    // a file that can't be opened is reported, and the next one is read
+    Case {
+        words: "scan/%d/two/gone/one",
+        terminal: false,
+        watched: false,
+        input: b"",
+        writes: u64::MAX,
+        log: "o1\n2\nesf: egonee: ecan't be opened\no3\n",
+        status: 3,
+    },
+    // a record that fails ends all
+    Case {
+        words: "scan/%d/gone/bad/one",
+        terminal: false,
+        watched: false,
+        input: b"",
+        writes: u64::MAX,
+        log: concat!(
+            "esf: egonee: ecan't be opened\n",
+            "esf: ebade: erecord 1: matching failure at 1, used 0, assigned 0\n",
+        ),
+        status: 3,
+    },
+    // a line that fails does so too, unless the scan goes on
+    Case {
+        words: "scan/--lines/%d/bad/one",
+        terminal: false,
+        watched: false,
+        input: b"",
+        writes: u64::MAX,
+        log: "esf: ebade: eline 1: matching failure at 1, used 0, assigned 0\n",
+        status: 1,
+    },
+    Case {
+        words: "scan/-lk/%d/bad/one",
+        terminal: false,
+        watched: false,
+        input: b"",
+        writes: u64::MAX,
+        log: "esf: ebade: eline 1: matching failure at 1, used 0, assigned 0\no3\n",
+        status: 1,
+    },
+    // the header is written once, also before a file that can't be opened
+    Case {
+        words: "scan/-o/csv/--names/n/%d/gone/two/one",
+        terminal: false,
+        watched: false,
+        input: b"",
+        writes: u64::MAX,
+        log: "on\nesf: egonee: ecan't be opened\no1\n2\n3\n",
+        status: 3,
+    },
+    // the words are judged before a file is blamed
+    Case {
+        words: "copy/%d;/%d;/gone",
+        terminal: false,
+        watched: false,
+        input: b"",
+        writes: u64::MAX,
+        log: "esf: pair: Q4 NoWidth at 1\n",
+        status: 2,
+    },
 ];
+
+/// Files, by their names.
+#[derive(Drop)]
+struct Shelf;
+
+impl Opener<SliceSource<'static>> for Shelf {
+    ghost Opens = { λ before after name source is_open. Unit {0} };
+
+    fn open(&mut self, name: &str) -> Opened<SliceSource<'static>> {
+        let text: &'static [u8] = match name {
+            "two" => b"1\n2",
+            "one" => b"3",
+            "bad" => b"x",
+            _ => {
+                return Opened {
+                    source: SliceSource::new(&[]),
+                    is_open: false,
+                };
+            }
+        };
+        Opened {
+            source: SliceSource::new(text),
+            is_open: true,
+        }
+    }
+}
 
 fn run_case(rt: &impl Abort, alloc: Global, case: &Case) -> Result<(), Fail> {
     let words = words_of(alloc, case.words)?;
@@ -153,7 +294,12 @@ fn run_case(rt: &impl Abort, alloc: Global, case: &Case) -> Result<(), Fail> {
         letter: b'e',
     };
     let from = SliceSource::new(case.input);
-    let ended = run_program(alloc, &words, case.terminal, from, output, errors);
+    let terminals = Terminals {
+        output: case.terminal,
+        errors: case.watched,
+    };
+    let mut shelf = Shelf;
+    let ended = run_program(alloc, &words, terminals, from, &mut shelf, output, errors);
     is(rt, &ended.status, &case.status, &case.words);
     let found = log.into_inner();
     is(

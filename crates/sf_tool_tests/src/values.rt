@@ -3,8 +3,8 @@ use crate::shared::{is, words_of};
 use sf_arguments::{EscapeFault, kind_text, unescape};
 use sf_base::Kind;
 use sf_format::{PrintFormat, Profile};
-use sf_print::{ScriptSink, Sink, StdSink, WriteStep};
-use sf_tool::{ArgumentFault, print_values};
+use sf_print::{ListSink, ScriptSink, Sink, StdSink, WriteStep};
+use sf_tool::{ArgumentFault, WordReading, print_values, print_words};
 use std::alloc::Global;
 use std::test::Fail;
 
@@ -58,6 +58,29 @@ fn escapes_are_resolved(rt: HostRuntime) -> Result<(), Fail> {
     is(&rt, &bytes.as_slice(), &b"Ab\n\\".as_slice(), &"bytes");
     let fault = unescape(rt.alloc(), b"a\\x1").err();
     is(&rt, &fault, &Some(EscapeFault::Bad { at: 1 }), &"fault");
+    Ok(())
+}
+
+/// How a word is read, and what `%s` prints of it, or why not.
+static READINGS: [(WordReading, Result<(), ArgumentFault>, &[u8]); 2] = [
+    (WordReading::Raw, Ok(()), b"a\\q"),
+    (
+        WordReading::Escaped,
+        Err(ArgumentFault::BadEscape { at: 1, offset: 1 }),
+        b"",
+    ),
+];
+
+#[test]
+fn words_are_read_as_they_stand(rt: HostRuntime) -> Result<(), Fail> {
+    let format = PrintFormat::parse(rt.alloc(), Profile::One, b"%s")?;
+    let words = words_of(rt.alloc(), "a\\q")?;
+    for (how, wanted, printed) in &READINGS {
+        let mut out = ListSink::new(rt.alloc());
+        let found = print_words(rt.alloc(), *how, &format, &words, &mut out);
+        is(&rt, &found, wanted, how);
+        is(&rt, &out.bytes(), printed, how);
+    }
     Ok(())
 }
 

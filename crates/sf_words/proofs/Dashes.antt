@@ -1,4 +1,4 @@
--- Words behind `--`.
+-- Words after `--`.
 use Rattle.std.proofs.Common.{◌≡◌, ◌∙◌, ◌<◌, ◌≤◌, ◌^◌, ℕ, Bool, true, false, nat_lt, List, [], ◌∷◌, ◌++◌, length, Some, None, is_some, refl, sym, ap, subst, arith, inl, inr, append-nil, codes}
 use Rattle.std.specs.Prelude.{fold}
 use Rattle.std.proofs.lemmas.Bool.{ltb-true}
@@ -31,6 +31,10 @@ scan_taken : (format : Text) → IsTakenAs (codes "scan" ∷ codes "--" ∷ form
 unfolding clap_on_literals
 scan_taken format = record { taken = refl; given = _; is_given = refl; texts_are = refl }
 
+print_alone_taken : (print : Text) → IsTakenAs (codes "check" ∷ codes "--" ∷ print ∷ []) Check (print ∷ [])
+unfolding clap_on_literals
+print_alone_taken print = record { taken = refl; given = _; is_given = refl; texts_are = refl }
+
 check_taken : (print scan : Text) → IsTakenAs (codes "check" ∷ codes "--" ∷ print ∷ scan ∷ []) Check (print ∷ scan ∷ [])
 unfolding clap_on_literals
 check_taken print scan = record { taken = refl; given = _; is_given = refl; texts_are = refl }
@@ -57,7 +61,7 @@ print_level = built_leaf (inherited (on_top with_leaf_noted (on_top marked_built
 abbrev pub row : Text → List Text → Row
 row id values = record { id = id; values = values; count = None; source = Some CommandLine; reading = AsWritten }
 
--- behind the format and the values
+-- after the format and the values
 abbrev at_values : Text → List Text → Walk
 at_values format values = record {
   held = record { rows = row (codes "FORMAT") (format ∷ []) ∷ []; pending = Some (codes "VALUES", values); skip = 0 };
@@ -216,7 +220,7 @@ texts_taken Print [] has few = elim has [ ]
 texts_taken Print (format ∷ []) has few = format_taken format
 texts_taken Print (format ∷ value ∷ rest) has few = print_taken format value rest few
 texts_taken Check [] has few = elim has [ ]
-texts_taken Check (print ∷ []) has few = elim has [ ]
+texts_taken Check (print ∷ []) has few = print_alone_taken print
 texts_taken Check (print ∷ scan ∷ []) has few = check_taken print scan
 texts_taken Check (print ∷ scan ∷ next ∷ rest) has few = elim has [ ]
 texts_taken Copy [] has few = elim has [ ]

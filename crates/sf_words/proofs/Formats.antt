@@ -1,4 +1,4 @@
--- Formats of lines, each behind -e.
+-- Formats of lines, each after -e.
 use Rattle.std.proofs.Common.{◌≡◌, ◌∙◌, false, true, cond, List, [], ◌∷◌, ◌++◌, None, Some, refl, sym, ap, subst, codes}
 use Rattle.std.specs.Prelude.{fold}
 use Rattle.std.specs.List.{AllByRecursion}
@@ -24,7 +24,7 @@ scan = level Scan
 abbrev lines_row : Row
 lines_row = row (codes "lines") (codes "true" ∷ [])
 
--- the rows behind --lines and these formats
+-- the rows after --lines and these formats
 abbrev rows_with : List Text → List Row
 rows_with [] = lines_row ∷ []
 rows_with (format ∷ more) = lines_row ∷ row (codes "formats") (format ∷ more) ∷ []
@@ -32,11 +32,11 @@ rows_with (format ∷ more) = lines_row ∷ row (codes "formats") (format ∷ mo
 abbrev held : List Row → List Text → Held
 held rows values = record { rows = rows; pending = Some (codes "formats", values); skip = 0 }
 
--- behind -e
+-- after -e
 abbrev asked : List Row → Walk
 asked rows = state (held rows []) (option (codes "formats")) 1
 
--- behind these formats and one more
+-- after these formats and one more
 abbrev given : List Text → Text → Walk
 given before format = state (held (rows_with before) (format ∷ [])) idle 1
 
@@ -52,7 +52,7 @@ flag_fine : (before : List Text) (format : Text) → turn_fault scan [] (given b
 unfolding clap_on_literals
 flag_fine before format = refl
 
--- ---- the text behind it
+-- ---- the text after it
 
 module _ (rows : List Row) (word : Text) (fact : NoFlag word) where
   met : word_met scan.rules [] false (option (codes "formats")) 1 word (held rows []) ≡ (held rows (word ∷ []), next idle)
@@ -76,7 +76,7 @@ module _ (rows : List Row) (word : Text) (fact : NoFlag word) where
 
 -- ---- all of them
 
--- behind these formats, one more, and then others
+-- after these formats, one more, and then others
 abbrev end : List Text → Text → List Text → Walk
 end before format [] = given before format
 end before format (other ∷ rest) = end (before ++ format ∷ []) other rest
@@ -109,7 +109,7 @@ formats_fine before format (other ∷ rest) facts =
     (flag_fine before format)
     (formats_fine (before ++ format ∷ []) other rest facts.1)
 
--- ---- behind --lines
+-- ---- after --lines
 
 abbrev begun : Walk
 begun = walked scan.rules [] (walk_from nothing_held) (codes "--lines")

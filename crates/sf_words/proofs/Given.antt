@@ -1,23 +1,26 @@
 -- What the getters of the matches answer, by the rows.
 use Rattle.std.proofs.Common.{◌≡◌, ◌≢◌, ◌⊎◌, inl, inr, ◌∙◌, ap, sym, subst, refl, Bool, true, false, not, cond, ◌==◌, ◌&&◌, ◌||◌, map, true≢false, ℕ, List, [], ◌∷◌, ◌++◌, length, Option, Some, None, Result, Ok, codes, arith, ◌≤◌, ◌<◌, ◌^◌}
 use Rattle.std.specs.Borrow.{Bor}
-use Rattle.std.specs.Prelude.{if◌then◌else◌, option_map, unwrap_or}
+use Rattle.std.specs.Prelude.{find, if◌then◌else◌, option_and_then, option_map, unwrap_or}
 use Rattle.std.specs.Str.{bytes_eq}
 use Rattle.std.proofs.lemmas.Bool.{ne_eqb}
 use Rattle.std.proofs.lemmas.Slice.Eq.{bytes_eq-Decides}
 use Rattle.std.specs.Str.Parse.{ParsesBool, ParsesUnsigned}
+use Rattle.clap.specs.Facts.{Entry}
+use Rattle.clap.specs.Walk.{row_of}
 use Rattle.clap.specs.Words.{ReadsOne, Text, matched_of, raw_values, rows_of}
 use Rattle.clap.proofs.CallerReads.{signed_reads}
-use Rattle.clap.proofs.WalkLemmas.{raw_values-rows}
+use Rattle.clap.proofs.WalkLemmas.{find_row, raw_values-rows}
+use Rattle.clap.specs.declared.parser.matches.MatchedArg.{MatchedArg}
 use Rattle.clap.specs.declared.parser.matches.Found.{Found}
 use Rattle.clap.specs.Kinds.{or_else}
 use Rattle.clap.specs.Words.{IsAmong, Kinds, Row}
 use Rattle.clap.specs.declared.error.ErrorKind.{ErrorKind}
 use Rattle.clap.specs.declared.error.ErrorKind.TheVariants as kind
 use Rattle.sf_words.specs.Misuses.{misuse_kind}
-use Rattle.sf_words.specs.Orders.{HasLines, HasTexts, HasTextsFor, IsRefusal, IsRefusalOf, form_faults, format_faults, has_line_option, is_full, is_request, is_set, is_true, line_faults, number_by, own_faults, texts_by, values_at, verb_text}
+use Rattle.sf_words.specs.Orders.{HasLines, HasTexts, HasTextsFor, IsRefusal, IsRefusalOf, IsWidth, column_faults, conflict_faults, form_faults, format_faults, has_line_option, is_full, is_request, is_set, is_true, line_faults, number_by, number_in, own_faults, texts_by, values_at, verb_text}
 use Rattle.sf_words.specs.declared.misuse.Misuse.{Misuse}
-use Rattle.sf_words.specs.declared.misuse.Misuse.TheVariants.{Form, NoLines, TwoFormats, NoFormat}
+use Rattle.sf_words.specs.declared.misuse.Misuse.TheVariants.{Form, NoLines, Together, PlainNames, TagAlone, NoFormat}
 use Rattle.sf_words.specs.declared.order.LineOptions.{LineOptions}
 use Rattle.sf_words.specs.declared.order.Verb.{Verb}
 use Rattle.sf_words.specs.declared.order.Verb.TheVariants.{Show, Scan, Print, Check, Copy}
@@ -62,6 +65,30 @@ number_read bits low high other above below fits E G parses (Some t) r within no
     let got = signed_reads E G bits low high within.0 r (subst (λ u. ReadsOne G u r) within.1 read) parses fits within.2 in
     let parsed = parses t (Ok got.0) (subst (ReadsOne G t) got.1 read) in
     rw got.1 (parsed.1, got.2, got.3)
+
+-- the width that was given, if one was
+pub width_read : (E : Type 0) (G : Text → Result ℕ E → Type 0)
+    → ((t : Text) (r : Result ℕ E) → G t r → ParsesUnsigned 16 10 t r)
+    → (o : Option Text) (r : Option ℕ) → IsWithin 1 255 o → (o ≡ None → r ≡ None) → ((t : Text) → o ≡ Some t → ReadsOne G t r)
+    → (r ≡ option_map number_in o) × IsWidth r
+width_read E G parses None r within none value = rw (none refl) (refl, tt)
+width_read E G parses (Some t) r within none value =
+    let read = value t refl in
+    let got = signed_reads E G 16 1 255 within.0 r (subst (λ u. ReadsOne G u r) within.1 read) parses (omega arith) within.2 in
+    let parsed = parses t (Ok got.0) (subst (ReadsOne G t) got.1 read) in
+    rw got.1 (ap Some parsed.1, (got.2, got.3))
+
+-- where the value of an argument came from
+pub source_read : (f : Found) (id : Text) → option_and_then (λ (a : MatchedArg). a.source) (matched_of f id)
+    ≡ option_and_then (λ (r : Row). r.source) (find (λ r. bytes_eq r.id id) (rows_of f))
+source_read f id =
+    go (find (λ e. bytes_eq e.0.now id) f.entries.items)
+    ∙ ap (option_and_then (λ (r : Row). r.source)) (sym (find_row f.entries.items id))
+  where
+    go : (o : Option Entry) → option_and_then (λ (a : MatchedArg). a.source) (option_map (λ e. e.1) o)
+        ≡ option_and_then (λ (r : Row). r.source) (option_map row_of o)
+    go None = refl
+    go (Some e) = refl
 
 -- whether an option without a value was given
 pub flag_read : (E : Type 0) (o : Option Text) (r : Option Bool) → (o ≡ None → r ≡ None)
@@ -123,20 +150,24 @@ no_fault e = omega (arith, ap length e)
 -- nothing is at fault in formats
 abbrev NoFault : List Text → List Text → Type 0
 NoFault words others =
-    cond (is_full words) (cond (is_full others) (kind.ArgumentConflict ∷ []) [])
-    (cond (is_full others) [] (kind.MissingRequiredArgument ∷ [])) ≡ []
+    cond (is_full others) [] (cond (is_full words) [] (kind.MissingRequiredArgument ∷ [])) ≡ []
+
+-- the formats after -e, or the words
+abbrev formats : List Text → List Text → List Text
+formats words others = cond (is_full others) others words
 
 one_format : (words others : List Text) → IsOneAtMost words → is_full others ≡ false → NoFault words others
-    → HasTexts Scan (words ++ others)
+    → HasTexts Scan (formats words others)
 one_format [] [] one none fine = absurd (no_fault fine)
 one_format (word ∷ []) [] one none fine = tt
 one_format (word ∷ next ∷ rest) [] one none fine = elim one [ ]
 one_format words (text ∷ rest) one none fine = absurd (true≢false none)
 
-formats_for : (words others : List Text) (options : LineOptions) → NoFault words others → HasTextsFor (Some options) Scan (words ++ others)
+formats_for : (words others : List Text) (options : LineOptions) → NoFault words others
+    → HasTextsFor (Some options) Scan (formats words others)
 formats_for [] [] options fine = absurd (no_fault fine)
-formats_for [] (text ∷ rest) options fine = tt
-formats_for (word ∷ more) others options fine = tt
+formats_for words (text ∷ rest) options fine = tt
+formats_for (word ∷ more) [] options fine = tt
 
 -- without --lines there is no option of lines
 none_without : (lines option : Bool) → lines ≡ false → cond (not lines && option) (kind.MissingRequiredArgument ∷ []) [] ≡ []
@@ -148,6 +179,14 @@ none_without false false off fine = refl
 first_false : (a b : Bool) → (a || b) ≡ false → a ≡ false
 first_false true b e = e
 first_false false b e = refl
+
+-- where nothing is at fault in a scan, nothing is in its options of lines and its formats
+faults_apart : (rows : List Row) → own_faults (codes "scan") rows ≡ [] → (line_faults rows ≡ []) × (format_faults rows ≡ [])
+faults_apart rows fine =
+    let columns = or_else (column_faults rows) (format_faults rows) in
+    let conflicts = or_else (conflict_faults rows) columns in
+    let line = both_pass (line_faults rows) conflicts (both_pass (form_faults rows) (or_else (line_faults rows) conflicts) fine).1 in
+    (line.0, (both_pass (column_faults rows) (format_faults rows) (both_pass (conflict_faults rows) columns line.1).1).1)
 
 -- a subcommand in which the command finds nothing at fault has as many texts as its verb wants
 pub enough_for : (verb : Verb) (rows : List Row) (lines : Option LineOptions) → AllowsLines verb rows → HasWords verb rows
@@ -162,20 +201,19 @@ enough_for Check rows (Some options) allowed words has fine = absurd (true≢fal
 enough_for Copy rows None allowed words has fine = words
 enough_for Copy rows (Some options) allowed words has fine = absurd (true≢false (sym has.0 ∙ allowed))
 enough_for Scan rows None allowed words has fine =
-    let line = (both_pass (form_faults rows) (or_else (line_faults rows) (format_faults rows)) fine).1 in
-    let both = both_pass (line_faults rows) (format_faults rows) line in
-    let none = first_false _ _ (none_without (is_set (codes "lines") rows) (has_line_option rows) has both.0) in
-    one_format (values_at (codes "FORMAT") rows) (values_at (codes "formats") rows) words none both.1
+    let lines = faults_apart rows fine in
+    let none = first_false _ _ (none_without (is_set (codes "lines") rows) (has_line_option rows) has lines.0) in
+    one_format (values_at (codes "FORMAT") rows) (values_at (codes "formats") rows) words none lines.1
 enough_for Scan rows (Some options) allowed words has fine =
-    let line = (both_pass (form_faults rows) (or_else (line_faults rows) (format_faults rows)) fine).1 in
-    let both = both_pass (line_faults rows) (format_faults rows) line in
-    formats_for (values_at (codes "FORMAT") rows) (values_at (codes "formats") rows) options both.1
+    formats_for (values_at (codes "FORMAT") rows) (values_at (codes "formats") rows) options (faults_apart rows fine).1
 
 -- what the command refuses by itself is no request
 pub no_request : (misuse : Misuse) → is_request (misuse_kind misuse) ≡ false
 no_request (Form text) = refl
 no_request (NoLines option) = refl
-no_request TwoFormats = refl
+no_request (Together conflict) = refl
+no_request PlainNames = refl
+no_request TagAlone = refl
 no_request NoFormat = refl
 
 -- a kind of the first faults is one of both
@@ -183,7 +221,7 @@ pub among_first : (found : ErrorKind) (kinds others : Kinds) → IsAmong found k
 among_first found [] others is = elim is [ ]
 among_first found (k ∷ ks) others is = is
 
--- what the error of a parse is told as
+-- what is reported of the error of a parse
 pub refused_by : (found : ErrorKind) (kinds : Kinds) (fault : WordsFault) → IsRefusalOf found fault
     → (found ≡ kind.OutOfMemory) ⊎ IsAmong found kinds → IsRefusal kinds fault
 refused_by found kinds (Help text) told (inl memory) = absurd (true≢false (sym told ∙ ap is_request memory))

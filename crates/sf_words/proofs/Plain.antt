@@ -235,6 +235,21 @@ scan_plain w fact =
     (finished (level Scan).rules (one_pending (codes "FORMAT") w [] 2).held) (scan_walk w fact) (scan_fine w fact) refl refl refl refl
     (ap (λ ws. codes "scan" ∷ ws) (one_word w))
 
+alone_walk : (w : Text) → NoFlag w → walk (level Check).rules [] nothing_held (w ∷ []) ≡ one_pending (codes "PRINT") w [] 2
+alone_walk w fact = step w fact nothing_held (level Check).rules idle 1 refl
+
+alone_fine : (w : Text) → NoFlag w → walk_fault (level Check) [] (walk_from nothing_held) (w ∷ []) ≡ []
+unfolding walk_fault
+alone_fine w fact = nothing (turn_fault (level Check) [] (walk_from nothing_held) w) []
+    (turn w fact nothing_held (level Check) idle 1 refl refl) refl
+
+alone_plain : (w : Text) → NoFlag w → IsTakenAs (codes "check" ∷ w ∷ []) Check (w ∷ [])
+unfolding clap_on_literals
+alone_plain w fact =
+    taken_by Check (w ∷ []) (w ∷ []) (one_pending (codes "PRINT") w [] 2)
+    (finished (level Check).rules (one_pending (codes "PRINT") w [] 2).held) (alone_walk w fact) (alone_fine w fact)
+    refl refl refl refl refl
+
 -- PRINT and then SCAN
 abbrev two_texts : Text → Text → Walk
 two_texts p s = one_pending (codes "SCAN") s (row (codes "PRINT") (p ∷ []) ∷ []) 3
@@ -366,7 +381,7 @@ plain_taken Print (format ∷ []) has plain few = format_plain format (no_flag f
 plain_taken Print (format ∷ v ∷ rest) has plain few =
     values_plain format v rest (no_flag format plain.0) (no_flag v plain.1.0) (no_flags rest plain.1.1) few
 plain_taken Check [] has plain few = elim has [ ]
-plain_taken Check (print ∷ []) has plain few = elim has [ ]
+plain_taken Check (print ∷ []) has plain few = alone_plain print (no_flag print plain.0)
 plain_taken Check (print ∷ scan ∷ []) has plain few = check_plain print scan (no_flag print plain.0) (no_flag scan plain.1.0)
 plain_taken Check (print ∷ scan ∷ next ∷ rest) has plain few = elim has [ ]
 plain_taken Copy [] has plain few = elim has [ ]

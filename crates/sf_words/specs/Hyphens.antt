@@ -24,7 +24,7 @@ abbrev pub begins_with_hyphen : Text → Bool
 begins_with_hyphen [] = false
 begins_with_hyphen (b ∷ rest) = b == 45
 
--- the words of a scan, behind one that asks for a format, if that is the last; what stands behind -- is no option
+-- the words of a scan, after one that asks for a format, if that is the last; what stands after -- is no option
 abbrev pub joined : Option Text → List Text → List Text
 joined None [] = []
 joined None (word ∷ rest) =

@@ -15,7 +15,7 @@ pub record IsTakenAs (words : List Text) (verb : Verb) (texts : List Text) : Typ
   pub is_given : subcommand_of sf_app (codes "sf" ∷ clap_words words) ≡ Some (verb_text verb, given)
   pub texts_are : texts_by verb given ≡ texts
 
--- behind `--`, any texts
+-- after `--`, any texts
 abbrev pub TakesBehindDashes : Type 0
 TakesBehindDashes =
     (verb : Verb) (texts : List Text) → HasTexts verb texts → length texts < 2 ^ 64
@@ -32,12 +32,12 @@ TakesPlainTexts =
     (verb : Verb) (texts : List Text) → HasTexts verb texts → AllByRecursion IsPlain texts → length texts < 2 ^ 64
     → IsTakenAs (verb_text verb ∷ texts) verb texts
 
--- each behind -e
+-- each after -e
 abbrev pub with_flags : List Text → List Text
 with_flags [] = []
 with_flags (text ∷ rest) = codes "-e" ∷ text ∷ with_flags rest
 
--- and as the formats of lines, any number of these, one or more, each behind `-e`
+-- and as the formats of lines, any number of these, one or more, each after `-e`
 abbrev pub TakesFormats : Type 0
 TakesFormats =
     (format : Text) (more : List Text) → AllByRecursion IsPlain (format ∷ more)

@@ -1,3 +1,4 @@
+pub mod Conflicts
 pub mod Hyphens
 pub mod Laws
 pub mod Line

@@ -42,6 +42,10 @@ output_rule = record (new_rule (codes "output")) {
   defaults = codes "plain" ∷ [];
 }
 
+-- --print PRINT, --names NAMES: any text
+abbrev pub text_rule : Text → Rule
+text_rule name = record (new_rule name) { long = Some name; value_names = 1 }
+
 -- an option without a value, and one for which a letter stands too
 abbrev pub flag_rule : Text → Rule
 flag_rule name = record (new_rule name) { long = Some name; action = Some SetTrue }
@@ -62,9 +66,17 @@ skip_rule = record (new_rule (codes "skip")) {
 abbrev pub formats_rule : Rule
 formats_rule = record (new_rule (codes "formats")) { short = Some 101; value_names = 1; action = Some Append }
 
--- a word that may be given
-abbrev pub format_rule : Rule
-format_rule = new_rule (codes "FORMAT")
+-- --ignore FORMAT, as often as wanted
+abbrev pub ignore_rule : Rule
+ignore_rule = record (new_rule (codes "ignore")) { long = Some (codes "ignore"); value_names = 1; action = Some Append }
+
+-- --width N: a number from 1 to 255
+abbrev pub width_rule : Rule
+width_rule = record (new_rule (codes "width")) {
+  long = Some (codes "width");
+  value_names = 1;
+  parser = Some (Signed (pos 1) (pos 255));
+}
 
 -- any number of words
 abbrev pub words_rule : Text → Rule
@@ -74,21 +86,28 @@ words_rule name = record (new_rule name) { range = Some (record { start_inclusiv
 
 -- the options of each command
 abbrev pub with_options : App → App
-with_options a = with_rule (with_rule a profile_rule) (flag_rule (codes "explain"))
+with_options a = with_rule (with_rule (with_rule a profile_rule) (flag_rule (codes "explain"))) (flag_rule (codes "no-explain"))
 
 -- those of a command that scans records
 abbrev pub with_records : App → App
 with_records a = with_options (with_rule (with_rule a limit_rule) (flag_rule (codes "line-buffered")))
+
+-- those of what a scan writes
+abbrev pub with_forms : App → App
+with_forms a = with_rule (with_rule (with_rule a output_rule) (text_rule (codes "print"))) (text_rule (codes "names"))
 
 -- those of a scan of lines: --lines is -l (108), --keep-going is -k (107), and --quiet is -q (113)
 abbrev pub lines_rules : List Rule
 lines_rules =
     letter_flag_rule (codes "lines") 108
     ∷ formats_rule
+    ∷ flag_rule (codes "tag")
     ∷ skip_rule
     ∷ flag_rule (codes "whole")
     ∷ letter_flag_rule (codes "keep-going") 107
     ∷ letter_flag_rule (codes "quiet") 113
+    ∷ flag_rule (codes "matching")
+    ∷ ignore_rule
     ∷ []
 
 abbrev pub with_lines : App → App
@@ -96,24 +115,28 @@ with_lines a = fold with_rule a lines_rules
 
 -- those of each verb
 abbrev pub options_of : Verb → App → App
-options_of Scan a = with_lines (with_rule (with_records a) output_rule)
+options_of Show a = with_options a
+options_of Scan a = with_lines (with_forms (with_records a))
+options_of Print a = with_rule (with_options a) (flag_rule (codes "raw"))
+options_of Check a = with_rule (with_options a) width_rule
 options_of Copy a = with_records a
-options_of _ a = with_options a
 
 abbrev pub show_app : App
 show_app = with_rule (options_of Show (new_app (codes "show"))) (word_rule (codes "FORMAT"))
 
 abbrev pub scan_app : App
-scan_app = with_rule (options_of Scan (new_app (codes "scan"))) format_rule
+scan_app = with_rule (with_rule (options_of Scan (new_app (codes "scan"))) (new_rule (codes "FORMAT"))) (words_rule (codes "FILE"))
 
 abbrev pub print_app : App
 print_app = with_rule (with_rule (options_of Print (new_app (codes "print"))) (word_rule (codes "FORMAT"))) (words_rule (codes "VALUES"))
 
 abbrev pub check_app : App
-check_app = with_rule (with_rule (options_of Check (new_app (codes "check"))) (word_rule (codes "PRINT"))) (word_rule (codes "SCAN"))
+check_app = with_rule (with_rule (options_of Check (new_app (codes "check"))) (word_rule (codes "PRINT"))) (new_rule (codes "SCAN"))
 
 abbrev pub copy_app : App
-copy_app = with_rule (with_rule (options_of Copy (new_app (codes "copy"))) (word_rule (codes "PRINT"))) (word_rule (codes "SCAN"))
+copy_app =
+    with_rule (with_rule (with_rule (options_of Copy (new_app (codes "copy"))) (word_rule (codes "PRINT"))) (word_rule (codes "SCAN")))
+    (words_rule (codes "FILE"))
 
 -- a command with a version, which needs a subcommand, and shows its help where there is no word at all
 abbrev pub wanting_subcommand : App → App

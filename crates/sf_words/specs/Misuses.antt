@@ -4,12 +4,14 @@ use Rattle.clap.specs.Words.{Kinds}
 use Rattle.clap.specs.declared.error.kind.ErrorKind.{ErrorKind}
 use Rattle.clap.specs.declared.error.kind.ErrorKind.TheVariants as kind
 use Rattle.sf_words.specs.declared.misuse.Misuse.{Misuse}
-use Rattle.sf_words.specs.declared.misuse.Misuse.TheVariants.{Form, NoLines, TwoFormats, NoFormat}
+use Rattle.sf_words.specs.declared.misuse.Misuse.TheVariants.{Form, NoLines, Together, PlainNames, TagAlone, NoFormat}
 
 abbrev pub misuse_kind : Misuse → ErrorKind
 misuse_kind (Form text) = kind.InvalidValue
 misuse_kind (NoLines option) = kind.MissingRequiredArgument
-misuse_kind TwoFormats = kind.ArgumentConflict
+misuse_kind (Together conflict) = kind.ArgumentConflict
+misuse_kind PlainNames = kind.ArgumentConflict
+misuse_kind TagAlone = kind.MissingRequiredArgument
 misuse_kind NoFormat = kind.MissingRequiredArgument
 
 abbrev pub misuse_kinds : Option Misuse → Kinds

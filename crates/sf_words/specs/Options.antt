@@ -8,7 +8,7 @@ use Rattle.sf_words.specs.Line.{options_of}
 use Rattle.sf_words.specs.Orders.{has_line_option, has_texts, is_set}
 use Rattle.sf_words.specs.declared.options.CommandOption.{CommandOption}
 use Rattle.sf_words.specs.declared.options.OptionOf.{OptionOf}
-use Rattle.sf_words.specs.declared.options.OptionOf.TheVariants.{All, Records, Scan, Lines}
+use Rattle.sf_words.specs.declared.options.OptionOf.TheVariants.{All, Records, Scan, Lines, Print, Check}
 use Rattle.sf_words.specs.declared.options.OptionValue.{OptionValue}
 use Rattle.sf_words.specs.declared.options.OptionValue.TheVariants.{Nothing, Number, Text as OneText, Texts}
 use Rattle.sf_words.specs.declared.order.Verb.{Verb}
@@ -24,7 +24,8 @@ value_rule (Number least most (Some text)) rule = record rule {
   defaults =
       text.now ∷ [];
 }
-value_rule (OneText name default) rule = record rule { value_names = 1; defaults = default.now ∷ [] }
+value_rule (OneText name None) rule = record rule { value_names = 1 }
+value_rule (OneText name (Some text)) rule = record rule { value_names = 1; defaults = text.now ∷ [] }
 value_rule (Texts name) rule = record rule { value_names = 1; action = Some Append }
 
 abbrev pub short_rule : Option ℕ → Rule → Rule
@@ -45,6 +46,8 @@ is_of Records verb.Scan = true
 is_of Records verb.Copy = true
 is_of Scan verb.Scan = true
 is_of Lines verb.Scan = true
+is_of Print verb.Print = true
+is_of Check verb.Check = true
 is_of _ _ = false
 
 -- a command with the option, if it has such an option

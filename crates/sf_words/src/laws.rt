@@ -1,7 +1,7 @@
 //! Laws of what `clap` takes.
 ghost use Rattle.sf_words.specs.Laws.{TakesBehindDashes, TakesFormats, TakesPlainTexts};
 
-/// Behind `--` a command takes any texts as they stand, where there are as many as it wants.
+/// After `--` a command takes any texts as they stand, where there are as many as it wants.
 pub fn texts_behind_dashes()
     ensures { TakesBehindDashes }
 {}
@@ -11,7 +11,7 @@ pub fn plain_texts()
     ensures { TakesPlainTexts }
 {}
 
-/// With `--lines` a scan takes any of these as formats, one or more, each behind `-e`.
+/// With `--lines` a scan takes any of these as formats, one or more, each after `-e`.
 pub fn formats_of_lines()
     ensures { TakesFormats }
 {}

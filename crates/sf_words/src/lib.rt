@@ -10,5 +10,5 @@ mod options;
 mod order;
 mod words;
 
-pub use order::{LineOptions, Order, Output, Profile, Verb, WordsFault};
+pub use order::{LineOptions, Notes, Order, Output, Profile, Verb, WordsFault};
 pub use words::read_words;

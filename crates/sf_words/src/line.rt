@@ -1,7 +1,7 @@
 //! The command line of `sf`, as `clap` has it.
 ghost use Rattle.std.specs.Prelude.{◌≡◌, IfOk, false, codes, fold};
-ghost use Rattle.clap.specs.Words.{App, new_app, rule_of};
-ghost use Rattle.sf_words.specs.Line.{IsLine, check_app, copy_app, format_rule, options_of, print_app, scan_app};
+ghost use Rattle.clap.specs.Words.{App, new_app, new_rule, rule_of};
+ghost use Rattle.sf_words.specs.Line.{IsLine, check_app, copy_app, options_of, print_app, scan_app};
 ghost use Rattle.sf_words.specs.Line.{sf_app, show_app, word_rule, words_rule};
 ghost use Rattle.sf_words.specs.Options.{with_option};
 
@@ -11,15 +11,15 @@ use crate::order::Verb;
 use clap::{Arg, Command};
 use std::alloc::{AllocError, Global};
 
-/// The version that `sf --version` tells.
+/// The version that `sf --version` writes.
 const VERSION: &str = "0.2.0";
 
-/// The format of a scan, which may stand behind `-e` instead.
-fn format<'a>(alloc: Global) -> Arg<'a>
-    ensures rule { rule_of result ≡ format_rule }
+/// A word that may be left out.
+fn optional<'a>(alloc: Global, name: &'a str, help: &'a str) -> Arg<'a>
+    ensures rule { rule_of result ≡ new_rule name.entry.now }
     ensures local { result.global ≡ false }
 {
-    Arg::new(alloc, "FORMAT").help("The scan format of one record, or of one line")
+    Arg::new(alloc, name).help(help)
 }
 
 /// A word that has to be given.
@@ -30,13 +30,23 @@ fn word<'a>(alloc: Global, name: &'a str, help: &'a str) -> Arg<'a>
     Arg::new(alloc, name).required(true).help(help)
 }
 
-/// Any number of values.
-fn values<'a>(alloc: Global) -> Arg<'a>
-    ensures rule { rule_of result ≡ words_rule (codes "VALUES") }
+/// Any number of words.
+fn words<'a>(alloc: Global, name: &'a str, help: &'a str) -> Arg<'a>
+    ensures rule { rule_of result ≡ words_rule name.entry.now }
     ensures local { result.global ≡ false }
 {
-    Arg::new(alloc, "VALUES").num_args(0..).help(
-        "The values of the slots, in their order; behind -- they may begin with -",
+    Arg::new(alloc, name).num_args(0..).help(help)
+}
+
+/// The files that are read.
+fn files<'a>(alloc: Global) -> Arg<'a>
+    ensures rule { rule_of result ≡ words_rule (codes "FILE") }
+    ensures local { result.global ≡ false }
+{
+    words(
+        alloc,
+        "FILE",
+        "The files to read, one after the other, - for standard input; without any, standard input is read",
     )
 }
 
@@ -112,11 +122,16 @@ fn scan<'a>(alloc: Global) -> Result<Command<'a>, AllocError>
         alloc,
         Verb::Scan,
         "scan",
-        "Scan standard input by a format, and print a line of values for each record",
+        "Scan standard input, or files, by a format, and print a line of values for each record",
         help::SCAN,
     )?
     .override_usage(help::SCAN_USAGE)
-    .arg(format(alloc))
+    .arg(optional(
+        alloc,
+        "FORMAT",
+        "The scan format of one record, or of one line",
+    ))?
+    .arg(files(alloc))
 }
 
 fn print<'a>(alloc: Global) -> Result<Command<'a>, AllocError>
@@ -126,11 +141,15 @@ fn print<'a>(alloc: Global) -> Result<Command<'a>, AllocError>
         alloc,
         Verb::Print,
         "print",
-        "Print values by a format, with no line end added",
+        "Print values by a format, without a newline of its own",
         help::PRINT,
     )?
     .arg(word(alloc, "FORMAT", "The print format"))?
-    .arg(values(alloc))
+    .arg(words(
+        alloc,
+        "VALUES",
+        "The values of the slots, in their order; after -- they may begin with -",
+    ))
 }
 
 fn check<'a>(alloc: Global) -> Result<Command<'a>, AllocError>
@@ -140,11 +159,15 @@ fn check<'a>(alloc: Global) -> Result<Command<'a>, AllocError>
         alloc,
         Verb::Check,
         "check",
-        "Tell whether a scan format reads back what a print format writes of values that fit it",
+        "Say whether a scan format reads back what a print format writes, or write one that does",
         help::CHECK,
     )?
     .arg(word(alloc, "PRINT", "The print format"))?
-    .arg(word(alloc, "SCAN", "The scan format"))
+    .arg(optional(
+        alloc,
+        "SCAN",
+        "The scan format; without it, the one that reads PRINT back is written",
+    ))
 }
 
 fn copy<'a>(alloc: Global) -> Result<Command<'a>, AllocError>
@@ -154,11 +177,12 @@ fn copy<'a>(alloc: Global) -> Result<Command<'a>, AllocError>
         alloc,
         Verb::Copy,
         "copy",
-        "Scan standard input by one format, and print each record by another",
+        "Scan standard input, or files, by one format, and print each record by another",
         help::COPY,
     )?
     .arg(word(alloc, "PRINT", "The print format of one record"))?
-    .arg(word(alloc, "SCAN", "The scan format of one record"))
+    .arg(word(alloc, "SCAN", "The scan format of one record"))?
+    .arg(files(alloc))
 }
 
 /// The command with its subcommands.

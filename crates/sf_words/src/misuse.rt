@@ -3,14 +3,55 @@ ghost use Rattle.std.specs.Prelude.{◌≡◌, [], ◌∷◌, is_some};
 ghost use Rattle.clap.specs.Words.{found_of, rows_of};
 ghost use Rattle.sf_words.specs.Misuses.{misuse_kind, misuse_kinds};
 ghost use Rattle.sf_words.specs.Options.{is_given_by};
-ghost use Rattle.sf_words.specs.Orders.{IsRefusal, form_given, format_faults, has_line_option, has_texts, is_set};
-ghost use Rattle.sf_words.specs.Orders.{own_faults, verb_text};
+ghost use Rattle.sf_words.specs.Conflicts.{AreConflicts, are_both_given};
+ghost use Rattle.sf_words.specs.Orders.{IsRefusal, column_faults, form_given, format_faults, has_conflict};
+ghost use Rattle.sf_words.specs.Orders.{has_line_option, has_texts, is_given, is_set, own_faults, verb_text};
 
 use crate::help;
 use crate::options::{CommandOption, OptionOf, OptionValue, all_options};
 use crate::order::{Verb, WordsFault};
 use clap::ArgMatches;
+use clap::parser::ValueSource;
 use std::alloc::{AllocError, Global};
+
+/// Two arguments that are not taken together.
+#[derive(Clone, Copy)]
+pub(crate) struct Conflict {
+    pub one: &'static str,
+    pub other: &'static str,
+}
+
+/// The table.
+static CONFLICTS: [Conflict; 7] = [
+    Conflict {
+        one: "explain",
+        other: "no-explain",
+    },
+    Conflict {
+        one: "print",
+        other: "output",
+    },
+    Conflict {
+        one: "print",
+        other: "names",
+    },
+    Conflict {
+        one: "print",
+        other: "tag",
+    },
+    Conflict {
+        one: "matching",
+        other: "keep-going",
+    },
+    Conflict {
+        one: "matching",
+        other: "quiet",
+    },
+    Conflict {
+        one: "width",
+        other: "SCAN",
+    },
+];
 
 /// Why words that clap takes are refused.
 #[derive(Clone, Copy)]
@@ -19,8 +60,12 @@ pub(crate) enum Misuse<'a> {
     Form(&'a str),
     /// This option is one of lines.
     NoLines(&'static CommandOption),
-    /// A format stands behind `-e`, and another without it.
-    TwoFormats,
+    /// These two are not taken together.
+    Together(&'static Conflict),
+    /// The plain form has no names.
+    PlainNames,
+    /// `--tag` stands without `-e`.
+    TagAlone,
     /// There is no format.
     NoFormat,
 }
@@ -40,7 +85,7 @@ pub(crate) fn form_given<'a>(given: &ArgMatches<'a>) -> &'a str
 }
 
 /// Whether an argument was given texts.
-fn has_texts(given: &ArgMatches<'_>, id: &str) -> bool
+pub(crate) fn has_texts(given: &ArgMatches<'_>, id: &str) -> bool
     ensures { result ≡ has_texts id.now (rows_of (found_of given.now)) }
 {
     match given.get_strs(id) {
@@ -49,8 +94,15 @@ fn has_texts(given: &ArgMatches<'_>, id: &str) -> bool
     }
 }
 
+/// Whether an argument was given, and doesn't have its default.
+fn is_given(given: &ArgMatches<'_>, id: &str) -> bool
+    ensures { result ≡ is_given id.now (rows_of (found_of given.now)) }
+{
+    matches!(given.value_source(id), Some(ValueSource::CommandLine))
+}
+
 /// Whether an option was given.
-fn is_given(given: &ArgMatches<'_>, option: &CommandOption) -> bool
+fn has_option(given: &ArgMatches<'_>, option: &CommandOption) -> bool
     ensures { result ≡ is_given_by option.now.value option.now.name.now (rows_of (found_of given.now)) }
 {
     match option.value {
@@ -64,21 +116,60 @@ fn line_option(given: &ArgMatches<'_>) -> Option<&'static CommandOption>
     ensures { is_some result ≡ has_line_option (rows_of (found_of given.now)) }
 {
     for option in all_options() {
-        if matches!(option.of, OptionOf::Lines) && is_given(given, option) {
+        if matches!(option.of, OptionOf::Lines) && has_option(given, option) {
             return Some(option);
         }
     }
     None
 }
 
+/// The table of conflicts.
+fn all_conflicts() -> &'static [Conflict]
+    ensures { AreConflicts result.now }
+{
+    &CONFLICTS
+}
+
+/// Whether both arguments were given.
+fn are_both_given(given: &ArgMatches<'_>, conflict: &Conflict) -> bool
+    ensures { result ≡ are_both_given (rows_of (found_of given.now)) conflict.now }
+{
+    is_given(given, conflict.one) && is_given(given, conflict.other)
+}
+
+/// The first conflict of the table of which both arguments were given.
+fn conflict_of(given: &ArgMatches<'_>) -> Option<&'static Conflict>
+    ensures { is_some result ≡ has_conflict (rows_of (found_of given.now)) }
+{
+    for conflict in all_conflicts() {
+        if are_both_given(given, conflict) {
+            return Some(conflict);
+        }
+    }
+    None
+}
+
+/// What is at fault in the names and the number of a format.
+fn column_misuse<'a>(given: &ArgMatches<'_>) -> Option<Misuse<'a>>
+    ensures { misuse_kinds result ≡ column_faults (rows_of (found_of given.now)) }
+{
+    if is_given(given, "names") && form_given(given) == "plain" {
+        Some(Misuse::PlainNames)
+    } else if is_given(given, "tag") && !has_texts(given, "formats") {
+        Some(Misuse::TagAlone)
+    } else {
+        None
+    }
+}
+
 /// What is at fault in the formats of a scan.
 fn format_misuse<'a>(given: &ArgMatches<'_>) -> Option<Misuse<'a>>
     ensures { misuse_kinds result ≡ format_faults (rows_of (found_of given.now)) }
 {
-    match (has_texts(given, "FORMAT"), has_texts(given, "formats")) {
-        (true, true) => Some(Misuse::TwoFormats),
-        (false, false) => Some(Misuse::NoFormat),
-        _ => None,
+    if has_texts(given, "formats") || has_texts(given, "FORMAT") {
+        None
+    } else {
+        Some(Misuse::NoFormat)
     }
 }
 
@@ -87,13 +178,19 @@ pub(crate) fn misuse_of<'a>(verb: Verb, given: &ArgMatches<'a>) -> Option<Misuse
     ensures { misuse_kinds result ≡ own_faults (verb_text verb) (rows_of (found_of given.now)) }
 {
     match form_given(given) {
-        "plain" | "tsv" | "json" => {}
+        "plain" | "tsv" | "json" | "csv" => {}
         other => return Some(Misuse::Form(other)),
     }
     if !is_set(given, "lines") {
         if let Some(option) = line_option(given) {
             return Some(Misuse::NoLines(option));
         }
+    }
+    if let Some(conflict) = conflict_of(given) {
+        return Some(Misuse::Together(conflict));
+    }
+    if let Some(misuse) = column_misuse(given) {
+        return Some(misuse);
     }
     match verb {
         Verb::Scan => format_misuse(given),
@@ -114,21 +211,48 @@ fn push_option(text: &mut String, option: &CommandOption) -> Result<(), AllocErr
     }
 }
 
-/// The text that is told, in the form of those of clap.
-fn text_of(alloc: Global, misuse: Misuse<'_>) -> Result<String, AllocError> {
+/// An argument as it is written.
+fn push_argument(text: &mut String, id: &str) -> Result<(), AllocError> {
+    for option in all_options() {
+        if option.name == id {
+            return push_option(text, option);
+        }
+    }
+    write!(text, "<{id}>")?;
+    Ok(())
+}
+
+/// Two arguments that are not taken together, as clap writes them.
+fn push_conflict(text: &mut String, conflict: &Conflict) -> Result<(), AllocError> {
+    text.push_str("the argument '")?;
+    push_argument(text, conflict.one)?;
+    text.push_str("' cannot be used with '")?;
+    push_argument(text, conflict.other)?;
+    text.push_str("'")
+}
+
+/// An option that is not taken without `--lines`.
+fn push_no_lines(text: &mut String, option: &CommandOption) -> Result<(), AllocError> {
+    text.push_str("the argument '")?;
+    push_option(text, option)?;
+    text.push_str("' cannot be used without '--lines'")
+}
+
+/// The text of a misuse, in the form of those of clap.
+fn text_of(alloc: Global, verb: Verb, misuse: Misuse<'_>) -> Result<String, AllocError> {
     let mut text = String::from_str(alloc, "error: ")?;
     match misuse {
         Misuse::Form(form) => write!(
             text,
-            "invalid value '{form}' for '--output <FORM>'\n  [possible values: plain, tsv, json]"
+            "invalid value '{form}' for '--output <FORM>'\n  [possible values: plain, tsv, json, csv]"
         )?,
-        Misuse::NoLines(option) => {
-            text.push_str("the argument '")?;
-            push_option(&mut text, option)?;
-            text.push_str("' cannot be used without '--lines'")?;
-        }
-        Misuse::TwoFormats => {
-            text.push_str("the argument '<FORMAT>' cannot be used with '-e <FORMAT>'")?
+        Misuse::NoLines(option) => push_no_lines(&mut text, option)?,
+        Misuse::Together(conflict) => push_conflict(&mut text, conflict)?,
+        Misuse::PlainNames => text.push_str(
+            "the argument '--names <NAMES>' cannot be used with '--output plain'\n  [possible values: tsv, json, csv]",
+        )?,
+        Misuse::TagAlone => {
+            text.push_str("the argument '--tag' cannot be used without '-e <FORMAT>'")?
         }
         Misuse::NoFormat => text.push_str(
             "the following required arguments were not provided:\n  <FORMAT>",
@@ -137,16 +261,16 @@ fn text_of(alloc: Global, misuse: Misuse<'_>) -> Result<String, AllocError> {
     write!(
         text,
         "\n\nUsage: {}\n\nFor more information, try '--help'.\n",
-        help::SCAN_USAGE
+        help::usage(verb)
     )?;
     Ok(text)
 }
 
-/// What the user is told.
-pub(crate) fn refusal(alloc: Global, misuse: Misuse<'_>) -> WordsFault
+/// What is reported of a misuse.
+pub(crate) fn refusal(alloc: Global, verb: Verb, misuse: Misuse<'_>) -> WordsFault
     ensures { IsRefusal (misuse_kind misuse.entry ∷ []) result }
 {
-    match text_of(alloc, misuse) {
+    match text_of(alloc, verb, misuse) {
         Ok(text) => WordsFault::Usage(text),
         Err(_) => WordsFault::NoMemory,
     }

@@ -19,10 +19,10 @@ pub(crate) enum OptionValue {
         most: i64,
         default: Option<&'static str>,
     },
-    /// A text. Where none is given, it is this.
+    /// A text. Where none is given, it is the other, if there is one.
     Text {
         name: &'static str,
-        default: &'static str,
+        default: Option<&'static str>,
     },
     /// A text, as often as the option is given.
     Texts {
@@ -41,6 +41,10 @@ pub(crate) enum OptionOf {
     Scan,
     /// `scan`, with `--lines` alone.
     Lines,
+    /// `print`.
+    Print,
+    /// `check`.
+    Check,
 }
 
 /// An option.
@@ -61,7 +65,7 @@ pub(crate) struct CommandOption {
 }
 
 /// The table.
-static OPTIONS: [CommandOption; 11] = [
+static OPTIONS: [CommandOption; 19] = [
     CommandOption {
         name: "limit",
         has_long: true,
@@ -100,7 +104,15 @@ static OPTIONS: [CommandOption; 11] = [
         short: None,
         value: OptionValue::Nothing,
         of: OptionOf::All,
-        help: "Say more of what is at fault, in lines behind the first",
+        help: "Say more of what is at fault, in lines after the first: the default on a terminal",
+    },
+    CommandOption {
+        name: "no-explain",
+        has_long: true,
+        short: None,
+        value: OptionValue::Nothing,
+        of: OptionOf::All,
+        help: "Say no more of it than the first line, on a terminal too",
     },
     CommandOption {
         name: "output",
@@ -108,10 +120,32 @@ static OPTIONS: [CommandOption; 11] = [
         short: Some('o'),
         value: OptionValue::Text {
             name: "FORM",
-            default: "plain",
+            default: Some("plain"),
         },
         of: OptionOf::Scan,
-        help: "How the values of a record are written: plain, tsv or json",
+        help: "How the values of a record are written: plain, tsv, json or csv",
+    },
+    CommandOption {
+        name: "print",
+        has_long: true,
+        short: None,
+        value: OptionValue::Text {
+            name: "PRINT",
+            default: None,
+        },
+        of: OptionOf::Scan,
+        help: "Write each record by this print format, without a newline of its own",
+    },
+    CommandOption {
+        name: "names",
+        has_long: true,
+        short: None,
+        value: OptionValue::Text {
+            name: "NAMES",
+            default: None,
+        },
+        of: OptionOf::Scan,
+        help: "The names of the values, as a,b: keys in json, a header line in tsv and csv",
     },
     CommandOption {
         name: "lines",
@@ -128,6 +162,14 @@ static OPTIONS: [CommandOption; 11] = [
         value: OptionValue::Texts { name: "FORMAT" },
         of: OptionOf::Lines,
         help: "A format of a line, with --lines; the first of several that is done counts",
+    },
+    CommandOption {
+        name: "tag",
+        has_long: true,
+        short: None,
+        value: OptionValue::Nothing,
+        of: OptionOf::Scan,
+        help: "Write the number of the -e that counted as a first column, with -e",
     },
     CommandOption {
         name: "skip",
@@ -147,7 +189,7 @@ static OPTIONS: [CommandOption; 11] = [
         short: None,
         value: OptionValue::Nothing,
         of: OptionOf::Lines,
-        help: "Let a line fail that is not used whole, with --lines",
+        help: "Fail lines with trailing text, with --lines",
     },
     CommandOption {
         name: "keep-going",
@@ -155,7 +197,7 @@ static OPTIONS: [CommandOption; 11] = [
         short: Some('k'),
         value: OptionValue::Nothing,
         of: OptionOf::Lines,
-        help: "Go on behind a line that fails, with --lines",
+        help: "Go on after a line that fails, with --lines",
     },
     CommandOption {
         name: "quiet",
@@ -163,7 +205,43 @@ static OPTIONS: [CommandOption; 11] = [
         short: Some('q'),
         value: OptionValue::Nothing,
         of: OptionOf::Lines,
-        help: "Tell nothing of lines that fail, with --lines",
+        help: "Don't report lines that fail, with --lines",
+    },
+    CommandOption {
+        name: "matching",
+        has_long: true,
+        short: None,
+        value: OptionValue::Nothing,
+        of: OptionOf::Lines,
+        help: "Pass over lines that no format reads, with --lines",
+    },
+    CommandOption {
+        name: "ignore",
+        has_long: true,
+        short: None,
+        value: OptionValue::Texts { name: "FORMAT" },
+        of: OptionOf::Lines,
+        help: "Pass over lines that this format reads to their end, with --lines",
+    },
+    CommandOption {
+        name: "raw",
+        has_long: true,
+        short: None,
+        value: OptionValue::Nothing,
+        of: OptionOf::Print,
+        help: "Take the values as they stand, without escapes",
+    },
+    CommandOption {
+        name: "width",
+        has_long: true,
+        short: None,
+        value: OptionValue::Number {
+            least: 1,
+            most: 255,
+            default: None,
+        },
+        of: OptionOf::Check,
+        help: "The width of texts in the scan format that is written, without SCAN",
     },
 ];
 
@@ -183,6 +261,8 @@ impl OptionOf {
             OptionOf::All => true,
             OptionOf::Records => matches!(verb, Verb::Scan | Verb::Copy),
             OptionOf::Scan | OptionOf::Lines => matches!(verb, Verb::Scan),
+            OptionOf::Print => matches!(verb, Verb::Print),
+            OptionOf::Check => matches!(verb, Verb::Check),
         }
     }
 }
@@ -209,7 +289,14 @@ fn with_value<'a>(arg: Arg<'a>, value: OptionValue) -> Arg<'a>
             .value_name("N")
             .value_parser(ValueParser::Signed(least, most))
             .default_value(text),
-        OptionValue::Text { name, default } => arg.value_name(name).default_value(default),
+        OptionValue::Text {
+            name,
+            default: None,
+        } => arg.value_name(name),
+        OptionValue::Text {
+            name,
+            default: Some(text),
+        } => arg.value_name(name).default_value(text),
         OptionValue::Texts { name } => arg.value_name(name).action(ArgAction::Append),
     }
 }

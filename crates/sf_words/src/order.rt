@@ -38,6 +38,19 @@ pub enum Output {
     Tsv,
     /// An array of values.
     Json,
+    /// Values between commas, texts between quotes where they need them (RFC 4180).
+    Csv,
+}
+
+/// When more is said of a fault than its line.
+#[derive(Clone, Copy, PartialEq, Eq, Debug)]
+pub enum Notes {
+    /// Always.
+    Always,
+    /// Where the error output is a terminal.
+    OnTerminal,
+    /// Never.
+    Never,
 }
 
 /// How lines are scanned, each as an input of its own.
@@ -47,10 +60,12 @@ pub struct LineOptions {
     pub skip: u64,
     /// Whether a line that isn't used whole has failed.
     pub whole: bool,
-    /// Whether the scan goes on behind a line that failed.
+    /// Whether the scan goes on after a line that failed.
     pub keep_going: bool,
-    /// Whether nothing is told of lines that failed.
+    /// Whether nothing is reported of lines that failed.
     pub quiet: bool,
+    /// Whether a line that no format reads is passed over.
+    pub matching: bool,
 }
 
 /// What the words ask for.
@@ -64,14 +79,32 @@ pub struct Order {
     pub limit: u32,
     /// Whether what a record gives is written before the next record.
     pub line_buffered: bool,
-    /// Whether more is said of a fault than its line.
-    pub explain: bool,
+    /// When more is said of a fault than its line.
+    pub notes: Notes,
     /// In which form the values of a record are written: plain for each command but `scan`.
     pub output: Output,
     /// How lines are scanned, where not records but lines are: for `scan` alone.
     pub lines: Option<LineOptions>,
-    /// The formats and then the values, as they were given. A scan has one format; one of lines has one or more.
+    /// The print format by which a scan writes its records, as it was given.
+    pub print: Option<String>,
+    /// The names of a scan's columns, as one text with commas between them.
+    pub names: Option<String>,
+    /// Whether a scan writes the number of the format that counted.
+    pub tag: bool,
+    /// The formats of the lines that a scan passes over, as they were given.
+    pub ignored: Vec<String>,
+    /// Whether the values of a print have no escapes.
+    pub raw: bool,
+    /// The width of the texts in the scan format that a check answers, 1 to 255.
+    pub width: Option<u16>,
+    /// The formats and then the values, as they were given. A scan has one format; one of lines has one or more. A
+    /// check has a print format, or that and a scan format.
     pub texts: Vec<String>,
+    /// The files that a scan or a copy reads one after the other, as they were given. There are none where it reads
+    /// standard input.
+    pub files: Vec<String>,
+    /// Which of the files is read, by its place among them; as the words are read, none.
+    pub file: Option<usize>,
 }
 
 /// Why the words ask for nothing that can be done.

@@ -1,16 +1,18 @@
 //! How the words of a command are read.
-ghost use Rattle.std.specs.Prelude.{◌≡◌, ◌≤◌, true, [], ◌∷◌, ◌++◌, IfErr, IfOk, OnOk, codes, map, string_bytes};
-ghost use Rattle.clap.specs.Words.{found_of, one_of, rows_of, subcommand_rows_of};
+ghost use Rattle.std.specs.Prelude.{◌≡◌, ◌≤◌, true, [], ◌∷◌, ◌++◌, IfErr, IfOk, OnOk, codes, map, option_map};
+ghost use Rattle.std.specs.Prelude.{string_bytes};
+ghost use Rattle.clap.specs.Words.{first_of, found_of, one_of, rows_of, subcommand_rows_of};
 ghost use Rattle.clap.specs.Walk.{texts};
-ghost use Rattle.sf_words.specs.Orders.{HasLines, IsOrder, IsOrderOf, IsRefusal, IsRefusalOf, entered_faults};
-ghost use Rattle.sf_words.specs.Orders.{faults_of, form_given, is_form, is_set, number_by, output_text};
-ghost use Rattle.sf_words.specs.Orders.{profile_number, texts_by, values_at, verb_text};
+ghost use Rattle.sf_words.specs.Orders.{HasLines, IsOrder, IsOrderOf, IsRefusal, IsRefusalOf, IsWidth};
+ghost use Rattle.sf_words.specs.Orders.{entered_faults, faults_of, files_by, form_given, is_form, is_set, notes_by};
+ghost use Rattle.sf_words.specs.Orders.{number_by, number_in, output_text, profile_number, scan_formats, texts_by, values_at};
+ghost use Rattle.sf_words.specs.Orders.{verb_text};
 ghost use Rattle.sf_words.specs.Taken.{IsTaken, IsVerb, IsWithin};
 
 use crate::hyphens::clap_words;
 use crate::line::line;
-use crate::misuse::{form_given, is_set, misuse_of, refusal};
-use crate::order::{LineOptions, Order, Output, Profile, Verb, WordsFault};
+use crate::misuse::{form_given, has_texts, is_set, misuse_of, refusal};
+use crate::order::{LineOptions, Notes, Order, Output, Profile, Verb, WordsFault};
 use clap::error::ErrorKind;
 use clap::{ArgMatches, Error};
 use std::alloc::{AllocError, Global};
@@ -21,7 +23,7 @@ const DEFAULT_LIMIT: u32 = 1048576;
 /// The number of the profile of a command that has none.
 const DEFAULT_PROFILE: u32 = 1;
 
-/// What the user is told where clap gave no matches.
+/// What is reported where clap gave no matches.
 fn fault_of(alloc: Global, error: &Error) -> WordsFault
     ensures { IsRefusalOf error.now.kind result }
 {
@@ -53,7 +55,7 @@ fn verb_of(name: &str) -> Verb
     }
 }
 
-/// The words of a command, behind the program's name.
+/// The words of a command, after the program's name.
 fn named<'a>(alloc: Global, words: &'a [String]) -> Result<Vec<&'a str>, AllocError>
     ensures { IfOk result (λ all. texts all.items ≡ codes "sf" ∷ map string_bytes words.entry.now) }
 {
@@ -91,6 +93,17 @@ fn push_given(
     }
 }
 
+/// The argument that has the formats of a scan.
+fn formats_id(given: &ArgMatches<'_>) -> &'static str
+    ensures { values_at result.now (rows_of (found_of given.now)) ≡ scan_formats (rows_of (found_of given.now)) }
+{
+    if has_texts(given, "formats") {
+        "formats"
+    } else {
+        "FORMAT"
+    }
+}
+
 /// The formats and then the values.
 fn texts_of(alloc: Global, verb: Verb, given: &ArgMatches<'_>) -> Result<Vec<String>, AllocError>
     ensures { IfOk result (λ all. map string_bytes all.items ≡ texts_by verb (rows_of (found_of given.now))) }
@@ -98,10 +111,7 @@ fn texts_of(alloc: Global, verb: Verb, given: &ArgMatches<'_>) -> Result<Vec<Str
     let mut all = Vec::new(alloc);
     match verb {
         Verb::Show => push_given(alloc, given, "FORMAT", &mut all)?,
-        Verb::Scan => {
-            push_given(alloc, given, "FORMAT", &mut all)?;
-            push_given(alloc, given, "formats", &mut all)?;
-        }
+        Verb::Scan => push_given(alloc, given, formats_id(given), &mut all)?,
         Verb::Print => {
             push_given(alloc, given, "FORMAT", &mut all)?;
             push_given(alloc, given, "VALUES", &mut all)?;
@@ -110,6 +120,24 @@ fn texts_of(alloc: Global, verb: Verb, given: &ArgMatches<'_>) -> Result<Vec<Str
             push_given(alloc, given, "PRINT", &mut all)?;
             push_given(alloc, given, "SCAN", &mut all)?;
         }
+    }
+    Ok(all)
+}
+
+/// The files.
+fn files_of(alloc: Global, verb: Verb, given: &ArgMatches<'_>) -> Result<Vec<String>, AllocError>
+    ensures { IfOk result (λ all. map string_bytes all.items ≡ files_by verb (rows_of (found_of given.now))) }
+{
+    let mut all = Vec::new(alloc);
+    match verb {
+        Verb::Scan => {
+            if has_texts(given, "formats") {
+                push_given(alloc, given, "FORMAT", &mut all)?;
+            }
+            push_given(alloc, given, "FILE", &mut all)?;
+        }
+        Verb::Copy => push_given(alloc, given, "FILE", &mut all)?,
+        Verb::Show | Verb::Print | Verb::Check => {}
     }
     Ok(all)
 }
@@ -142,8 +170,52 @@ fn output_of(given: &ArgMatches<'_>) -> Output
     match form_given(given) {
         "tsv" => Output::Tsv,
         "json" => Output::Json,
+        "csv" => Output::Csv,
         _ => Output::Plain,
     }
+}
+
+/// When more is said of a fault than its line.
+fn notes_of(given: &ArgMatches<'_>) -> Notes
+    ensures { result ≡ notes_by (rows_of (found_of given.now)) }
+{
+    if is_set(given, "explain") {
+        Notes::Always
+    } else if is_set(given, "no-explain") {
+        Notes::Never
+    } else {
+        Notes::OnTerminal
+    }
+}
+
+/// A copy of the text that an option was given, if it was.
+fn text_given(alloc: Global, given: &ArgMatches<'_>, id: &str) -> Result<Option<String>, AllocError>
+    ensures { IfOk result (λ copy. option_map string_bytes copy
+        ≡ first_of id.now (rows_of (found_of given.now))) }
+{
+    match given.get_str(id) {
+        Some(text) => Ok(Some(String::from_str(alloc, text)?)),
+        None => Ok(None),
+    }
+}
+
+/// The formats of the lines that are passed over.
+fn ignored_of(alloc: Global, given: &ArgMatches<'_>) -> Result<Vec<String>, AllocError>
+    ensures { IfOk result (λ all. map string_bytes all.items
+        ≡ values_at (codes "ignore") (rows_of (found_of given.now))) }
+{
+    let mut all = Vec::new(alloc);
+    push_given(alloc, given, "ignore", &mut all)?;
+    Ok(all)
+}
+
+/// The width of the texts in a scan format that is answered, if one was given.
+fn width_of(given: &ArgMatches<'_>) -> Option<u16>
+    requires { IsWithin 1 255 (one_of (codes "width") (rows_of (found_of given.now))) }
+    ensures value { result ≡ option_map number_in (one_of (codes "width") (rows_of (found_of given.now))) }
+    ensures wide { IsWidth result }
+{
+    given.get_one("width")
 }
 
 /// How many lines are passed over first.
@@ -167,6 +239,7 @@ fn lines_of(given: &ArgMatches<'_>) -> Option<LineOptions>
         whole: is_set(given, "whole"),
         keep_going: is_set(given, "keep-going"),
         quiet: is_set(given, "quiet"),
+        matching: is_set(given, "matching"),
     })
 }
 
@@ -182,17 +255,25 @@ fn order_of(alloc: Global, matches: &ArgMatches<'_>) -> Result<Order, WordsFault
     };
     let verb = verb_of(name);
     if let Some(misuse) = misuse_of(verb, given) {
-        return Err(refusal(alloc, misuse));
+        return Err(refusal(alloc, verb, misuse));
     }
     Ok(Order {
         verb,
         profile: profile_of(given),
         limit: limit_of(given),
         line_buffered: is_set(given, "line-buffered"),
-        explain: is_set(given, "explain"),
+        notes: notes_of(given),
         output: output_of(given),
         lines: lines_of(given),
+        print: text_given(alloc, given, "print")?,
+        names: text_given(alloc, given, "names")?,
+        tag: is_set(given, "tag"),
+        ignored: ignored_of(alloc, given)?,
+        raw: is_set(given, "raw"),
+        width: width_of(given),
         texts: texts_of(alloc, verb, given)?,
+        files: files_of(alloc, verb, given)?,
+        file: None,
     })
 }
 

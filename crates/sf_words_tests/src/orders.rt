@@ -1,10 +1,10 @@
 //! Words that clap takes.
-use sf_words::{LineOptions, Order, Output, Profile, read_words};
+use sf_words::{LineOptions, Notes, Order, Output, Profile, read_words};
 use std::alloc::Global;
 use std::test::Fail;
 
 /// Words, between which bars stand, and the order that they make.
-static ORDERS: [(&str, &str); 69] = [
+static ORDERS: [(&str, &str); 97] = [
     ("show|%3d,%*s", "Show 1048576 |%3d,%*s"),
     ("scan|%d,%d", "Scan 1048576 |%d,%d"),
     ("scan|--limit|3|%s", "Scan 3 |%s"),
@@ -134,6 +134,70 @@ static ORDERS: [(&str, &str); 69] = [
         "print|%s|--|--output|json",
         "Print 1048576 |%s |--output |json",
     ),
+    ("scan|--no-explain|%d", "Scan 1048576 no-explain |%d"),
+    ("show|%d|--no-explain", "Show 1048576 no-explain |%d"),
+    ("scan|-o|csv|%d", "Scan 1048576 Csv |%d"),
+    ("scan|--print|%5d\\n|%d", "Scan 1048576 |%d print=%5d\\n"),
+    ("scan|--print=-%d|%d", "Scan 1048576 |%d print=-%d"),
+    ("scan|%d|--print=", "Scan 1048576 |%d print="),
+    (
+        "scan|--names|a,b|--output|json|%d,%d",
+        "Scan 1048576 Json |%d,%d names=a,b",
+    ),
+    ("scan|-otsv|--names=,|%d", "Scan 1048576 Tsv |%d names=,"),
+    (
+        "scan|--names|a|-o|csv|--|--names",
+        "Scan 1048576 Csv |--names names=a",
+    ),
+    (
+        "scan|--lines|--tag|-e|%d|-e|%s",
+        "Scan 1048576 lines skip 0 |%d |%s tag",
+    ),
+    (
+        "scan|--lines|-e|%d|--tag|-o|json|--names|n",
+        "Scan 1048576 Json lines skip 0 |%d names=n tag",
+    ),
+    (
+        "scan|--lines|--matching|%d",
+        "Scan 1048576 lines skip 0 matching |%d",
+    ),
+    (
+        "scan|--lines|--matching|--whole|%d",
+        "Scan 1048576 lines skip 0 whole matching |%d",
+    ),
+    (
+        "scan|--lines|--ignore| |--ignore|#%*s|%d",
+        "Scan 1048576 lines skip 0 |%d ignore=  ignore=#%*s",
+    ),
+    (
+        "scan|--ignore=--%*s|-l|%d",
+        "Scan 1048576 lines skip 0 |%d ignore=--%*s",
+    ),
+    (
+        "scan|-lkq|--ignore|#|--print|%d|-e|%d",
+        "Scan 1048576 lines skip 0 keep-going quiet |%d print=%d ignore=#",
+    ),
+    ("print|--raw|%s|a\\q", "Print 1048576 |%s |a\\q raw"),
+    ("check|%d\\n", "Check 1048576 |%d\\n"),
+    ("check|--|-%d", "Check 1048576 |-%d"),
+    ("check|--width|20|%s", "Check 1048576 |%s width=20"),
+    ("check|%s|--width=255", "Check 1048576 |%s width=255"),
+    ("check|--width|001|%s", "Check 1048576 |%s width=1"),
+    ("scan|%d|a|-|b", "Scan 1048576 |%d file=a file=- file=b"),
+    ("scan|%d|", "Scan 1048576 |%d file="),
+    ("scan|%d|--|--lines", "Scan 1048576 |%d file=--lines"),
+    (
+        "scan|--lines|-e|%d|a|b",
+        "Scan 1048576 lines skip 0 |%d file=a file=b",
+    ),
+    (
+        "scan|a|--lines|-e|%d|-e|%s|b",
+        "Scan 1048576 lines skip 0 |%d |%s file=a file=b",
+    ),
+    (
+        "copy|%d;|%3d;|a|--limit|8|b",
+        "Copy 8 |%d; |%3d; file=a file=b",
+    ),
 ];
 
 /// The words of a line, between which bars stand.
@@ -153,11 +217,12 @@ fn named(is_set: bool, name: &'static str) -> &'static str {
 /// The options of lines.
 fn lines_text(alloc: Global, lines: LineOptions) -> Result<String, Fail> {
     Ok(format!(in alloc;
-        " lines skip {}{}{}{}",
+        " lines skip {}{}{}{}{}",
         lines.skip,
         named(lines.whole, " whole"),
         named(lines.keep_going, " keep-going"),
-        named(lines.quiet, " quiet")
+        named(lines.quiet, " quiet"),
+        named(lines.matching, " matching")
     )?)
 }
 
@@ -167,10 +232,43 @@ fn output_name(output: Output) -> &'static str {
         Output::Plain => "",
         Output::Tsv => " Tsv",
         Output::Json => " Json",
+        Output::Csv => " Csv",
     }
 }
 
-/// An order in one line: verb, limit, options, and the texts between bars. Profile 1 and the plain form aren't named.
+/// When more is said of a fault.
+fn notes_name(notes: Notes) -> &'static str {
+    match notes {
+        Notes::Always => " explain",
+        Notes::OnTerminal => "",
+        Notes::Never => " no-explain",
+    }
+}
+
+/// The options that are added to what is scanned, printed or checked.
+fn push_added(line: &mut String, order: &Order) -> Result<(), Fail> {
+    if let Some(print) = &order.print {
+        write!(line, " print={print}")?;
+    }
+    if let Some(names) = &order.names {
+        write!(line, " names={names}")?;
+    }
+    for format in &order.ignored {
+        write!(line, " ignore={format}")?;
+    }
+    if let Some(width) = order.width {
+        write!(line, " width={width}")?;
+    }
+    line.push_str(named(order.tag, " tag"))?;
+    line.push_str(named(order.raw, " raw"))?;
+    for file in &order.files {
+        write!(line, " file={file}")?;
+    }
+    Ok(())
+}
+
+/// An order in one line: verb, limit, options, the texts between bars, and what is added. Profile 1 and the plain form
+/// aren't named.
 fn line_of(alloc: Global, order: &Order) -> Result<String, Fail> {
     let lines = match order.lines {
         Some(lines) => lines_text(alloc, lines)?,
@@ -182,13 +280,14 @@ fn line_of(alloc: Global, order: &Order) -> Result<String, Fail> {
         order.limit,
         named(order.line_buffered, " line-buffered"),
         named(order.profile == Profile::Two, " profile-2"),
-        named(order.explain, " explain"),
+        notes_name(order.notes),
         output_name(order.output)
     )?;
     for text in &order.texts {
         line.push_str(" |")?;
         line.push_str(text)?;
     }
+    push_added(&mut line, order)?;
     Ok(line)
 }
 

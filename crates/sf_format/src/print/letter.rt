@@ -132,8 +132,7 @@ fn foreign_flag(letter: PrintLetter, from: u16, flags: &[u8]) -> Option<u16>
     None
 }
 
-/// The first fault of what stands before the letter, behind the `%` at the place, as far as the letter does not have
-/// it.
+/// The first fault between the `%` at the place and the letter, as far as the letter doesn't have it.
 fn flag_fault(percent: u16, written: &Written, letter: PrintLetter) -> Option<FormatFault>
     requires place { percent ≤ 4096 }
     requires parts { length written.now.number.now + length written.now.flags.now + length written.now.width.now

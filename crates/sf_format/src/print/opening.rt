@@ -15,7 +15,7 @@ pub struct Places {
     pub point: u16,
 }
 
-/// The digits behind a point, if it stands there, and what follows them.
+/// The digits after a point, if one stands there, and what follows them.
 pub fn digits_behind(point: bool, text: &[u8]) -> (&[u8], &[u8])
     ensures digits { precision_of point result.0.now ≡ (precision_behind (point, text.now)).0 }
     ensures rest { result.1.now ≡ (precision_behind (point, text.now)).1 }
@@ -28,7 +28,7 @@ pub fn digits_behind(point: bool, text: &[u8]) -> (&[u8], &[u8])
 }
 
 impl Written<'_> {
-    /// Where its parts begin, behind the `%` at the place.
+    /// Where its parts begin, after the `%` at the place.
     pub fn places(&self, percent: u16) -> Places
         requires place { percent ≤ 4096 }
         requires parts { length self.now.number.now + length self.now.flags.now + length self.now.width.now ≤ 4096 }

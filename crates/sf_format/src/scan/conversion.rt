@@ -1,4 +1,4 @@
-//! The letters of conversion specifications, and what stands behind them.
+//! The letters of conversion specifications, and what follows them.
 ghost use Rattle.std.specs.Prelude.{◌≡◌, ◌≤◌, ◌+◌, true, false, None, length, MatchOption};
 ghost use Rattle.std.specs.List.{AllByRecursion};
 ghost use Rattle.sf_base.specs.Bytes.{magnitude};
@@ -54,7 +54,7 @@ pub fn converted(
     Ok((found, kind))
 }
 
-/// The scanlist behind the letter at the place, if it is a `[`, or else nothing, and what follows.
+/// The scanlist after the letter at the place, if that is a `[`, else nothing; and what follows.
 pub fn list_behind(letter: Letter, at: u16, text: &[u8]) -> Result<Listed<'_>, FormatFault>
     requires { at + 1 + length text.now ≤ 4096 }
     ensures { ListsBehind (is_set letter) at text.now result }

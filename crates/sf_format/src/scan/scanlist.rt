@@ -114,7 +114,7 @@ pub fn members_set(members: &[u8]) -> ByteSet
     }
 }
 
-/// The scanlist behind the `[` at the place.
+/// The scanlist after the `[` at the place.
 pub fn scanlist(at: u16, text: &[u8]) -> Result<Listed<'_>, FormatFault>
     requires { at + 1 + length text.now ≤ 4096 }
     ensures { ListsBehind true at text.now result }

@@ -9,10 +9,10 @@ unreachable-requires c =
     let letter = c.args.conv.now.letter in
     let kind = c.args.conv.now.kind in
     let word = c.args.word.now in
-    let number = number_stands letter c.in-Signed.is (λ S. (v : Datum) → S v → IsNumberOf kind word v) kind word (λ v of. of) in
+    let number = number_stands c.args.how letter c.in-Signed.is (λ S. (v : Datum) → S v → IsNumberOf kind word v) kind word (λ v of. of) in
     c.in-None.ensures.none c.requires.stands.0 (number c.requires.stands.0 c.requires.stands.1)
 
 pub returns-in-Text : goal.returns-in-Text
 returns-in-Text c =
-    text_stands c.args.conv.now.letter c.in-Text.is c.args.conv.now.kind c.args.word.now c.args.text.now c.requires.stands.0
+    text_stands c.args.how c.args.conv.now.letter c.in-Text.is c.args.conv.now.kind c.args.word.now c.args.text.now c.requires.stands.0
     c.requires.text c.requires.stands.1

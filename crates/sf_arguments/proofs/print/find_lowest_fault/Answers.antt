@@ -13,7 +13,7 @@ returns-in-Some-clause-found c =
     let words = map string_bytes c.args.words.now in
     let is = shown_is string_bytes c.args.words.now c.loop-at.at c.index-words-at.result c.as_str.result.now
     (omega arith) c.index-words-at.is c.as_str.ensures.value in
-    lowest_is units words c.loop-at.at c.as_str.result.now c.in-Some.fault
+    lowest_is c.args.how units words c.loop-at.at c.as_str.result.now c.in-Some.fault
     (length-map c.args.words.now string_bytes ∙ c.requires.count) is c.in-Some.ensures.fault c.loop-at.invariant
 
 pub loop-at-preserved : goal.loop-at-preserved
@@ -23,4 +23,4 @@ loop-at-preserved c =
     let is = shown_is string_bytes c.args.words.now c.loop-at.at c.index-words-at.result c.as_str.result.now
     (omega arith) c.index-words-at.is c.as_str.ensures.value in
     let stands = c.in_default.ensures.none in
-    stand_more units words c.loop-at.at c.as_str.result.now stands.0 c.loop-at.invariant is stands.1
+    stand_more c.args.how units words c.loop-at.at c.as_str.result.now stands.0 c.loop-at.invariant is stands.1

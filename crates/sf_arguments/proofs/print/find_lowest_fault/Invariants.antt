@@ -4,4 +4,4 @@ use Rattle.sf_arguments.proofs.print.find_lowest_fault.Given as goal
 
 -- the words before stand for values
 abbrev pub invariant-loop-at : goal.invariant-loop-at
-invariant-loop-at l = AllStand l.units (map string_bytes l.words) l.at
+invariant-loop-at l = AllStand l.how l.units (map string_bytes l.words) l.at

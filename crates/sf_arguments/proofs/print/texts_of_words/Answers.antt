@@ -20,8 +20,8 @@ loop-at-preserved c =
     let text = c.in_ok-text.text in
     let e = ap (map (λ t. t.items)) c.push_reserved.ensures.items ∙ map-append (λ t. t.items) texts (text ∷ []) in
     record {
-      stood = subst (Stood (IsTextAt units) words (c.loop-at.at + 1)) (sym e)
-          (stood_more (IsTextAt units) words c.loop-at.at c.as_str.result.now
+      stood = subst (Stood (IsTextAt c.args.how units) words (c.loop-at.at + 1)) (sym e)
+          (stood_more (IsTextAt c.args.how units) words c.loop-at.at c.as_str.result.now
           (map (λ t. t.items) texts) text.items c.loop-at.invariant.stood is c.in_ok-text.ensures);
       len = omega (arith, c.push_reserved.ensures.len, c.loop-at.invariant.len);
       capacity = omega (arith, c.push_reserved.ensures.capacity, c.loop-at.invariant.capacity);
@@ -33,5 +33,5 @@ returns c =
     let words = map string_bytes c.args.words.now in
     let count = length-map c.args.words.now string_bytes in
     let all : c.loop-at.at ≡ length words = omega (arith, count) in
-    texts_all units words (map (λ t. t.items) c.loop-at.texts.items)
-    (subst (λ n. Stood (IsTextAt units) words n (map (λ t. t.items) c.loop-at.texts.items)) all c.loop-at.invariant.stood)
+    texts_all c.args.how units words (map (λ t. t.items) c.loop-at.texts.items)
+    (subst (λ n. Stood (IsTextAt c.args.how units) words n (map (λ t. t.items) c.loop-at.texts.items)) all c.loop-at.invariant.stood)

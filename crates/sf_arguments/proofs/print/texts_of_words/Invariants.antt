@@ -7,7 +7,7 @@ use Rattle.sf_arguments.proofs.print.texts_of_words.Given as goal
 -- the bytes of the words before
 abbrev pub invariant-loop-at : goal.invariant-loop-at
 invariant-loop-at l = record {
-  stood : Stood (IsTextAt l.units) (map string_bytes l.words) l.at (map (λ text. text.items) l.texts.items);
+  stood : Stood (IsTextAt l.how l.units) (map string_bytes l.words) l.at (map (λ text. text.items) l.texts.items);
   len : vec_len l.texts ≡ l.at;
   capacity : length l.words ≤ vec_capacity l.texts;
 }

@@ -23,7 +23,8 @@ value_at-value-requires c =
     let there = shown_is (λ t. t.items) c.args.texts.now c.loop-at.at c.index-texts-at.result c.as_slice.result.now below
     c.index-texts-at.is c.as_slice.ensures.value in
     record {
-      text = text_is c.args.units.now words (map (λ t. t.items) c.args.texts.now) c.loop-at.at c.as_str.result.now c.as_slice.result.now
+      text = text_is c.args.how c.args.units.now words
+          (map (λ t. t.items) c.args.texts.now) c.loop-at.at c.as_str.result.now c.as_slice.result.now
           c.requires.texts is there;
       stands = c.requires.stand c.loop-at.at c.as_str.result.now (omega arith) is;
     }
@@ -39,8 +40,8 @@ loop-at-preserved c =
     let e = ap (map datum_of) c.push_reserved.ensures.items ∙ map-append datum_of values (value ∷ []) in
     record {
       stood =
-          subst (Stood (StandsAt units) words (c.loop-at.at + 1)) (sym e)
-          (stood_more (StandsAt units) words c.loop-at.at c.as_str.result.now (map datum_of values)
+          subst (Stood (StandsAt c.args.how units) words (c.loop-at.at + 1)) (sym e)
+          (stood_more (StandsAt c.args.how units) words c.loop-at.at c.as_str.result.now (map datum_of values)
           (datum_of value) c.loop-at.invariant.stood is c.value_at-value.ensures);
       len = omega (arith, c.push_reserved.ensures.len, c.loop-at.invariant.len);
       capacity = omega (arith, c.push_reserved.ensures.capacity, c.loop-at.invariant.capacity);
@@ -52,5 +53,5 @@ returns c =
     let words = map string_bytes c.args.words.now in
     let count = length-map c.args.words.now string_bytes in
     let all : c.loop-at.at ≡ length words = omega (arith, count) in
-    stood_all units words (map datum_of c.loop-at.values.items) (count ∙ c.requires.count)
-    (subst (λ n. Stood (StandsAt units) words n (map datum_of c.loop-at.values.items)) all c.loop-at.invariant.stood)
+    stood_all c.args.how units words (map datum_of c.loop-at.values.items) (count ∙ c.requires.count)
+    (subst (λ n. Stood (StandsAt c.args.how units) words n (map datum_of c.loop-at.values.items)) all c.loop-at.invariant.stood)

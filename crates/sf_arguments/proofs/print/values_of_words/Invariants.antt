@@ -8,7 +8,7 @@ use Rattle.sf_arguments.proofs.print.values_of_words.Given as goal
 -- the values of the words before
 abbrev pub invariant-loop-at : goal.invariant-loop-at
 invariant-loop-at l = record {
-  stood : Stood (StandsAt l.units) (map string_bytes l.words) l.at (map datum_of l.values.items);
+  stood : Stood (StandsAt l.how l.units) (map string_bytes l.words) l.at (map datum_of l.values.items);
   len : vec_len l.values ≡ l.at;
   capacity : length l.words ≤ vec_capacity l.values;
 }

@@ -3,10 +3,10 @@ use Rattle.std.specs.List.{AllByRecursion}
 use Rattle.sf_lines.specs.Turns.{Misses}
 use Rattle.sf_lines.proofs.judge.try_each.Given as goal
 
--- the line is no match by those so far, and nothing was written
+-- the line matches none of those so far, and nothing was written
 abbrev pub invariant-loop-before : goal.invariant-loop-before
 invariant-loop-before g l = record {
   missed : AllByRecursion (Misses l.options l.line) (take l.before l.formats);
-  text : g.R.RecordWriter.text l.writer ≡ g.R.RecordWriter.text l.fn.writer;
+  same : g.M.Maker.work l.maker ≡ g.M.Maker.work l.fn.maker;
   sink : l.to ≡ l.fn.to;
 }

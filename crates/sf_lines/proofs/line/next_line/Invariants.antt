@@ -2,7 +2,7 @@ use Rattle.std.proofs.Common.{◌≡◌, true}
 use Rattle.sf_lines.proofs.Gathering.{Gathering}
 use Rattle.sf_lines.proofs.line.next_line.Given as goal
 
--- the blocks so far; no read has failed, and behind the end nothing was read
+-- the blocks so far; no read has failed, and after the end nothing was read
 abbrev pub invariant-loop-block : goal.invariant-loop-block
 invariant-loop-block g l = record {
   going : Gathering g.S.Source.to_come l.fn.from l.from l.limit l.line.items l.long l._block;

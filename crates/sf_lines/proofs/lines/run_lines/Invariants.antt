@@ -6,16 +6,16 @@ use Rattle.sf_lines.specs.Turns.{work_of}
 use Rattle.sf_lines.proofs.Looping.{Going}
 use Rattle.sf_lines.proofs.lines.run_lines.Given as goal
 
--- the lines so far; what is written and told of each stays the same, neither the source nor the sink has failed, and behind the
--- end nothing was read
+-- the lines so far; what is written and told of each stays the same, neither the source nor the sink has failed, and
+-- after the end nothing was read
 abbrev pub invariant-loop-before : goal.invariant-loop-before
 invariant-loop-before g l = record {
   going : (telling : ℕ → List ℕ → LineFault → List ℕ) (t : List ℕ) → g.E.Teller.says l.fn.teller telling
       → input_of g.S.Source.to_come l.fn.from ≡ Some t
-      → Going (work_of l.options l.formats (g.R.RecordWriter.text l.fn.writer) telling) g.S.Source.to_come t l.from
+      → Going (work_of l.options l.formats.ignored.now l.formats.tried.now (g.M.Maker.work l.fn.maker) telling) g.S.Source.to_come t l.from
       (g.K.Sink.contents l.fn.to) (g.K.Sink.contents l.to) (g.E.Teller.failed l.fn.teller) (g.E.Teller.failed l.teller)
       (g.E.Teller.told l.fn.teller) (g.E.Teller.told l.teller) l.counts.written l.counts.failed l.before;
-  text : g.R.RecordWriter.text l.writer ≡ g.R.RecordWriter.text l.fn.writer;
+  text : g.M.Maker.work l.maker ≡ g.M.Maker.work l.fn.maker;
   teller : Stays g.E.Teller.says g.E.Teller.kept g.E.Teller.failed g.E.Teller.faults l.fn.teller l.teller;
   written : l.counts.written ≤ l.before;
   failed : l.counts.failed ≤ l.before;

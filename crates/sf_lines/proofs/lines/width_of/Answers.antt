@@ -1,4 +1,4 @@
-use Rattle.std.proofs.Common.{sym, ◌∙◌, arith}
+use Rattle.std.proofs.Common.{sym, arith}
 use Rattle.sf_lines.proofs.Rooms.{no_width}
 use Rattle.sf_lines.proofs.lines.width_of.Goals as goal
 

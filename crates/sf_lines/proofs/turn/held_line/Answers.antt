@@ -1,4 +1,4 @@
-use Rattle.std.proofs.Common.{◌≡◌, ◌≤◌, ◌++◌, ◌∷◌, ◌∙◌, ◌+◌, ℕ, List, [], Some, length, take, drop, sym, ap, arith}
+use Rattle.std.proofs.Common.{◌≡◌, ◌∷◌, ◌∙◌, ℕ, List, Some, length, take, sym, ap, arith}
 use Rattle.std.proofs.lemmas.List.{length-append, length-take-le}
 use Rattle.sf_lines.proofs.Holding.{no_line_end, one_front}
 use Rattle.sf_lines.proofs.turn.held_line.Goals.{else-piece-via-else-piece, else-piece-via-then-piece+else-piece-limit}

@@ -8,7 +8,8 @@ use Rattle.sf_lines.proofs.turn.read_line.Goals as goal
 
 pub returns-in-Line-clause-turns : goal.returns-in-Line-clause-turns
 returns-in-Line-clause-turns g c telling said =
-    let w = work_of c.args.options c.args.formats.now (g.R.RecordWriter.text c.args.writer.now) telling in
+    let w = work_of c.args.options.now c.args.formats.now.ignored.now c.args.formats.now.tried.now
+    (g.M.Maker.work c.args.maker.now) telling in
     let (took, short) = rw c.in-Line.is at c.next_line-read.ensures.reads in
     turned g.S.Source.to_come c.args.from.now c.next_line-read.new.from w c.args.number _ _ _ _ _ _ c.next_line-read.new.line.items took
     c.judge.result
@@ -25,7 +26,8 @@ returns-in-Line-clause-source g c =
 
 pub returns-in-TooLong-clause-turns : goal.returns-in-TooLong-clause-turns
 returns-in-TooLong-clause-turns g c telling said =
-    let w = work_of c.args.options c.args.formats.now (g.R.RecordWriter.text c.args.writer.now) telling in
+    let w = work_of c.args.options.now c.args.formats.now.ignored.now c.args.formats.now.tried.now
+    (g.M.Maker.work c.args.maker.now) telling in
     let (line, took, long, front) = rw c.in-TooLong.is at c.next_line-read.ensures.reads in
     turned g.S.Source.to_come c.args.from.now c.next_line-read.new.from w c.args.number _ _ _ _ _ _ line took c.tell.result
     (came_long w c.args.number line c.deref-in-TooLong.result.now (g.K.Sink.contents c.args.to.now) (g.K.Sink.contents c.tell.new.to)

@@ -19,6 +19,7 @@ judge-judged-requires g c =
         c.split_at.ensures.front ∙ ap (take (len + 1)) c.held-held.ensures.held
             ∙ with_line_end held len within c.requires.held.ended ∙ ap (λ (y : List ℕ). y ++ 10 ∷ []) (sym line),
       );
+      ignored = c.requires.ignored;
       proper = c.requires.proper;
       short = omega (arith, ap length line, length-take-le len held within, c.requires.short);
       counts = c.requires.counts;
@@ -28,7 +29,8 @@ pub returns-clause-turns : goal.returns-clause-turns
 returns-clause-turns g c telling said =
     let held : List ℕ = c.args.from.now.held in
     let len : ℕ = c.args.len in
-    let w = work_of c.args.options c.args.formats.now (g.R.RecordWriter.text c.args.writer.now) telling in
+    let w = work_of c.args.options.now c.args.formats.now.ignored.now c.args.formats.now.tried.now
+    (g.M.Maker.work c.args.maker.now) telling in
     let line : c.split_at-2.result.0.now ≡ take len held = c.split_at-2.ensures.front ∙ ap (take len) c.held-held.ensures.held in
     turned g.S.Source.to_come c.args.from.now c.consume.new.self w c.args.number _ _ _ _ _ _ (take len held)
     (takes g.S.Source.to_come c.args.from.now c.consume.new.self len c.requires.held c.requires.open c.consume.ensures.held

@@ -1,28 +1,36 @@
-use Rattle.std.proofs.Common.{Option, Some, None, ◌≤◌, refl, arith}
-use Rattle.std.specs.Prelude.{IfSome, IsErrOf, unwrap_or}
+use Rattle.std.proofs.Common.{Option, Some, None, ◌≡◌, ◌∙◌, ◌≤◌, refl, sym, subst, arith}
+use Rattle.std.specs.Prelude.{IfSome, IsErrOf, IsSome, unwrap_or}
 use Rattle.sf_base.specs.Kept.{Kept}
 use Rattle.sf_format.specs.Widths.{width_sum}
 use Rattle.sf_run.specs.Memory.{capacity_of}
 use Rattle.sf_run.specs.declared.feeding.StartFault.TheVariants.{NoMemory}
 use Rattle.sf_read.specs.declared.row.ScanRowFault.TheVariants.{Start}
-use Rattle.std.proofs.lemmas.Grind.{common_steps}
-use Rattle.sf_read.proofs.Shapes.{given, no_start}
+use Rattle.sf_read.proofs.Shapes.{enough_still, run_no_start}
+use Rattle.sf_read.proofs.row.scan_row_over.Goals.{in_default-via-in-None-1, in_default-via-in-Some+in-None-1}
 use Rattle.sf_read.proofs.row.scan_row_over.Goals as goal
 
-pub row_of-row-requires : goal.row_of-row-requires
-row_of-row-requires g c =
-    let told = c.in-Ok.ensures.told in
-    given g.T.Row.kinds c.args.format.now c.args.limit told.0 told.1 c.in-Ok.scanned.report c.has_shape.ensures.kinded
-    (c.if-not-has_shape.ensures.same.0 refl) told.2
-
-pub returns-in-Err-clause-limit : goal.returns-in-Err-clause-limit
-returns-in-Err-clause-limit g c = grind (arith, common_steps)
-
-pub returns-in-Ok-clause-enough : goal.returns-in-Ok-clause-enough
-returns-in-Ok-clause-enough g c = by c.args.store.now
+pub returns-clause-enough : goal.returns-clause-enough
+returns-clause-enough g c = by c.args.store.now
   where
     by : (o : Option Kept)
-        → IfSome o (λ s. unwrap_or (width_sum c.args.format.now) 0 ≤ capacity_of s → IsErrOf c.row_of-row.result (Start NoMemory) → ⊥)
+        → IfSome o (λ s. unwrap_or (width_sum c.args.format.now) 0 ≤ capacity_of s → IsErrOf c.in-Some-row_held.row (Start NoMemory) → ⊥)
     by None = tt
-    by (Some s) = λ room e. no_start g.T.Row.kinds g.T.Row.listed c.in-Ok.scanned.report c.row_of-row.result c.row_of-row.ensures NoMemory
-        e
+    by (Some s) = λ room e. run_no_start c.in-Some-row_held.row c.in-Some-row_held.ensures.is_run NoMemory e
+
+pub returns-2-clause-enough : goal.returns-2-clause-enough
+returns-2-clause-enough g c = by c.args.store.now refl
+  where
+    by : (o : Option Kept) → c.args.store.now ≡ o
+        → IfSome o (λ s. unwrap_or (width_sum c.args.format.now) 0 ≤ capacity_of s → IsErrOf c.row_by_scan.result (Start NoMemory) → ⊥)
+    by None is = tt
+    by (Some s) is = λ room e.
+        let same : c.has_store.new.store ≡ Some s = (c.has_store.ensures.same (subst IsSome (sym is) refl)).1 ∙ is in
+        elim c.in_default.branch [
+          | in_default-via-in-None-1 w ↦
+              enough_still (IsErrOf c.row_by_scan.result (Start NoMemory)) c.in_default.store s s _ (w.store-is ∙ same)
+              c.row_by_scan.ensures.enough (omega arith) room e
+          | in_default-via-in-Some+in-None-1 w ↦
+              let own : capacity_of s ≡ capacity_of w.in-Some.kept = (let h = sym same ∙ w.in-Some.is in cc) in
+              enough_still (IsErrOf c.row_by_scan.result (Start NoMemory)) c.in_default.store s w.row_held.new.store _ w.store-is
+              c.row_by_scan.ensures.enough (let more = w.row_held.ensures.room in omega (arith, own, more)) room e
+        ]

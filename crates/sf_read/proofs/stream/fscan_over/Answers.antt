@@ -1,4 +1,5 @@
 use Rattle.std.proofs.Common.{rules, ◌≡◌, ◌∙◌, take, drop, refl, sym, ap, subst}
+use Rattle.std.specs.Prelude.{IfOk}
 use Rattle.std.proofs.lemmas.List.{take-append-drop, length-take-le}
 use Rattle.sf_run.specs.Limits.{RunTold}
 use Rattle.sf_read.specs.Ahead.{input_of}
@@ -21,11 +22,9 @@ returns-clause-told g c =
 pub returns-2-clause-scan : goal.returns-2-clause-scan
 returns-2-clause-scan g c t e =
     let stood : c.else-limit-le-MOST_BYTES.from ≡ c.args.from.now = search rules in
-    subst (λ old. Scan g.S.Source.to_come c.args.format.now c.args.limit t old c.run.new.from c.run.result.report) stood
-    (c.run.ensures.scan c.args.format.now c.args.limit t c.in_ok-over.ensures.after (ap (input_of g.S.Source.to_come) stood ∙ e))
-
-pub returns-2-clause-bounded : goal.returns-2-clause-bounded
-returns-2-clause-bounded g c sum = c.run.ensures.bounded c.args.format.now c.args.limit c.in_ok-over.ensures.after sum
+    subst (λ old. IfOk c.fscan_by_scanner.result (λ s. Scan g.S.Source.to_come c.args.format.now c.args.limit t old
+    c.fscan_by_scanner.new.from s.report)) stood
+    (c.fscan_by_scanner.ensures.scan t (ap (input_of g.S.Source.to_come) stood ∙ e))
 
 pub returns-clause-waited : goal.returns-clause-waited
 returns-clause-waited g c =
@@ -40,6 +39,6 @@ returns-clause-waited g c =
 pub returns-2-clause-waited : goal.returns-2-clause-waited
 returns-2-clause-waited g c =
     let stood : c.else-limit-le-MOST_BYTES.from ≡ c.args.from.now = search rules in
-    subst (λ old. WaitedFor g.S.Source.to_come g.S.Source.reads g.row.N c.args.format.now c.args.limit old c.run.new.from
-    c.run.result.report.used) stood
-    (c.run.ensures.waited c.args.format.now c.args.limit c.in_ok-over.ensures.after)
+    subst (λ old. IfOk c.fscan_by_scanner.result (λ s. WaitedFor g.S.Source.to_come g.S.Source.reads g.row.N c.args.format.now c.args.limit
+    old c.fscan_by_scanner.new.from s.report.used)) stood
+    c.fscan_by_scanner.ensures.waited

@@ -11,9 +11,3 @@ returns-clause-report c =
 pub returns-clause-bounded : goal.returns-clause-bounded
 returns-clause-bounded c sum =
     subst (λ report. RunWithin c.args.format.now c.args.limit c.args.text.now End report) (sym c.new.ensures.report) c.in-Some.ensures.run
-
-pub returns-2-clause-report : goal.returns-2-clause-report
-returns-2-clause-report c = c.run_over.ensures.told c.args.format.now c.args.limit c.in_ok-scanner.ensures.after
-
-pub returns-2-clause-bounded : goal.returns-2-clause-bounded
-returns-2-clause-bounded c sum = c.run_over.ensures.bounded c.args.format.now c.args.limit c.in_ok-scanner.ensures.after sum

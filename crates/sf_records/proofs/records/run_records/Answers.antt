@@ -29,8 +29,8 @@ enough_still low high = omega (arith, low, high)
 
 pub loop-records-init : goal.loop-records-init
 loop-records-init g c = record {
-  going = λ t e. begins (g.R.Recorder.work c.args.recorder.now) g.S.Source.to_come c.args.format.now c.args.limit t c.args.from.now
-      (g.K.Sink.contents c.args.to.now) (g.S.Source.failures c.args.from.now.source) e;
+  going = λ t e. begins (g.M.Maker.work c.args.maker.now 1 c.args.format.now) g.S.Source.to_come c.args.format.now c.args.limit t
+      c.args.from.now (g.K.Sink.contents c.args.to.now) (g.S.Source.failures c.args.from.now.source) e;
   same = refl;
   roomy = fresh_roomy _ _ _ c.in-Ok.ensures (c.unwrap_or.ensures ∙ ap (λ sum. unwrap_or sum 0) c.width_sum.ensures);
   unread = λ at_end. refl;
@@ -40,7 +40,8 @@ loop-records-init g c = record {
 
 pub returns-in_default-clause-loops : goal.returns-in_default-clause-loops
 returns-in_default-clause-loops g c t e =
-    no_memory told.one_report (g.R.Recorder.work c.args.recorder.now) g.S.Source.to_come c.args.format.now c.requires.proper
+    no_memory told.one_report (g.M.Maker.work c.args.maker.now 1 c.args.format.now) g.S.Source.to_come c.args.format.now
+    c.destinations.ensures.proper
     c.args.limit t c.args.from.now (g.K.Sink.contents c.args.to.now) (g.S.Source.failures c.args.from.now.source) e
     c.ended_by.result c.ended_by.ensures
 
@@ -49,7 +50,7 @@ loop-records-preserved-in-Ok-write_held g c = record {
   going = λ t e.
       let going = c.loop-records.invariant.going t e in
       let judged = c.in-Ok-write_held.ensures.written in
-      next told.one_report c.requires.proper going c.new-report.result
+      next told.one_report c.destinations.ensures.proper going c.new-report.result
       (scan_as c.new-report.ensures (c.in-Some.ensures.scan going.left going.input))
       (λ at_end. c.fscan_held.ensures.stays ∙ at_end)
       (quiet _ (ap (λ r. r.met) c.new-report.ensures ∙ c.in-Some.ensures.met) (ap g.S.Source.failures c.fscan_held.ensures.no_read))
@@ -65,7 +66,7 @@ loop-records-preserved-in-Ok-write_held g c = record {
 pub returns-in-Err-clause-loops : goal.returns-in-Err-clause-loops
 returns-in-Err-clause-loops g c t e =
     let going = c.loop-records.invariant.going t e in
-    ends_at told.one_report c.requires.proper going c.new-report.result
+    ends_at told.one_report c.destinations.ensures.proper going c.new-report.result
     (scan_as c.new-report.ensures (c.in-Some.ensures.scan going.left going.input)) (λ at_end. c.fscan_held.ensures.stays ∙ at_end)
     (quiet _ (ap (λ r. r.met) c.new-report.ensures ∙ c.in-Some.ensures.met) (ap g.S.Source.failures c.fscan_held.ensures.no_read))
     (λ _. done_fine _ (ap (λ r. r.status) c.new-report.ensures ∙ c.in-Some.ensures.done)) c.loop-records-test.true
@@ -76,7 +77,7 @@ pub returns-in-Some-judge-clause-loops : goal.returns-in-Some-judge-clause-loops
 returns-in-Some-judge-clause-loops g c t e =
     let going = c.loop-records.invariant.going t e in
     let judged = c.in-Some-judge.ensures.judged in
-    ends_at told.one_report c.requires.proper going c.new-report.result
+    ends_at told.one_report c.destinations.ensures.proper going c.new-report.result
     (scan_as c.new-report.ensures (c.in-Some.ensures.scan going.left going.input)) (λ at_end. c.fscan_held.ensures.stays ∙ at_end)
     (quiet _ (ap (λ r. r.met) c.new-report.ensures ∙ c.in-Some.ensures.met) (ap g.S.Source.failures c.fscan_held.ensures.no_read))
     (λ _. done_fine _ (ap (λ r. r.status) c.new-report.ensures ∙ c.in-Some.ensures.done)) c.loop-records-test.true
@@ -88,7 +89,7 @@ loop-records-preserved-in-Some g c = record {
   going = λ t e.
       let going = c.loop-records.invariant.going t e in
       let judged = c.in_default-judge.ensures.judged in
-      next told.one_report c.requires.proper going c.new-report.result
+      next told.one_report c.destinations.ensures.proper going c.new-report.result
       (scan_as c.new-report.ensures (c.in-Some.ensures.scan going.left going.input))
       (λ at_end. c.fscan_held.ensures.stays ∙ at_end)
       (quiet _ (ap (λ r. r.met) c.new-report.ensures ∙ c.in-Some.ensures.met) (ap g.S.Source.failures c.fscan_held.ensures.no_read))
@@ -103,14 +104,14 @@ loop-records-preserved-in-Some g c = record {
 
 pub returns-in_default-fscan_over-clause-loops : goal.returns-in_default-fscan_over-clause-loops
 returns-in_default-fscan_over-clause-loops g c t e =
-    absurd (true≢false (sym (c.in_default-fscan_over.ensures.enough c.requires.limit
+    absurd (true≢false (sym (c.in_default-fscan_over.ensures.enough c.requires
     (enough_still c.loop-records.invariant.roomy c.in_default-fscan_held.ensures.room))))
 
 pub returns-in-Some-judge-2-clause-loops : goal.returns-in-Some-judge-2-clause-loops
 returns-in-Some-judge-2-clause-loops g c t e =
     let going = same_ahead g.S.Source.failures (c.in_default-fscan_held.ensures.none refl) (c.loop-records.invariant.going t e) in
     let judged = c.in-Some-judge-2.ensures.judged in
-    ends_at told.one_report c.requires.proper going c.in-Ok-fscan_over.scanned.report
+    ends_at told.one_report c.destinations.ensures.proper going c.in-Ok-fscan_over.scanned.report
     (c.in-Ok-fscan_over.ensures.scan going.left going.input) c.in-Ok-fscan_over.ensures.stays c.in-Ok-fscan_over.ensures.failures
     c.in-Ok-fscan_over.ensures.bounded c.loop-records-test.true c.in-Some-judge-2.end _
     (rw (← c.report.ensures, ← c.loop-records.invariant.same) judged)
@@ -120,7 +121,7 @@ loop-records-preserved g c = record {
   going = λ t e.
       let going = same_ahead g.S.Source.failures (c.in_default-fscan_held.ensures.none refl) (c.loop-records.invariant.going t e) in
       let judged = c.in_default-judge-2.ensures.judged in
-      next told.one_report c.requires.proper going c.in-Ok-fscan_over.scanned.report
+      next told.one_report c.destinations.ensures.proper going c.in-Ok-fscan_over.scanned.report
       (c.in-Ok-fscan_over.ensures.scan going.left going.input) c.in-Ok-fscan_over.ensures.stays
       c.in-Ok-fscan_over.ensures.failures c.in-Ok-fscan_over.ensures.bounded _
       (rw (← c.report.ensures, ← c.loop-records.invariant.same) judged.0)
@@ -138,4 +139,4 @@ pub returns-clause-loops : goal.returns-clause-loops
 returns-clause-loops g c t e =
     let going = c.loop-records.invariant.going t e in
     let full : c.loop-records.records ≡ 2147483647 = omega (arith, c.loop-records-test.false, c.loop-records.auto.records-end) in
-    too_many told.one_report c.requires.proper going full c.ended_by-2.result c.ended_by-2.ensures
+    too_many told.one_report c.destinations.ensures.proper going full c.ended_by-2.result c.ended_by-2.ensures

@@ -6,14 +6,14 @@ use Rattle.sf_read.specs.Ahead.{input_of}
 use Rattle.sf_records.proofs.Looping.{Going}
 use Rattle.sf_records.proofs.records.run_records.Given as goal
 
--- the records so far; what is made of each stays the same, the sink has not failed, the store has room for the width sum, and
--- behind the end nothing was read
+-- the records so far; what is made of each stays the same, the sink has not failed, the store has room for the width
+-- sum, and after the end nothing was read
 abbrev pub invariant-loop-records : goal.invariant-loop-records
 invariant-loop-records g l = record {
   going : (t : List ℕ) → input_of g.S.Source.to_come l.fn.from ≡ Some t
-      → Going (g.R.Recorder.work l.fn.recorder) g.S.Source.to_come l.format l.limit t l.from (g.K.Sink.contents l.fn.to)
+      → Going (g.M.Maker.work l.fn.maker 1 l.format) g.S.Source.to_come l.format l.limit t l.from (g.K.Sink.contents l.fn.to)
       (g.K.Sink.contents l.to) (g.S.Source.failures l.fn.from.source) (g.S.Source.failures l.from.source) l.records;
-  same : g.R.Recorder.work l.recorder ≡ g.R.Recorder.work l.fn.recorder;
+  same : g.M.Maker.work l.maker ≡ g.M.Maker.work l.fn.maker;
   roomy : unwrap_or (width_sum l.format) 0 ≤ capacity_of l.store;
   unread : l.fn.from.at_end ≡ true → l.from.source ≡ l.fn.from.source;
   ended : l.fn.from.at_end ≡ true → l.from.at_end ≡ true;

@@ -1,7 +1,7 @@
 use Rattle.std.proofs.Common.{◌≡◌, ℕ, suc, ◌++◌, List, [], ◌∷◌, get_or, Fits, w8, Some, subst, ap, ◌∙◌, refl}
 use Rattle.std.specs.Io.KnownBytes.{Appends}
 use Rattle.sf_base.specs.Bytes.{AreBytes}
-use Rattle.sf_records.specs.declared.form.OutputForm.TheVariants.{Tsv}
+use Rattle.sf_records.specs.form.OutputForm.TheVariants.{Tsv}
 use Rattle.sf_records_tests.proofs.reading_back.write_table.Goals as goal
 
 -- what a slice holds is bytes

@@ -1,5 +1,37 @@
-use Rattle.std.proofs.Common.{rules}
+use Rattle.std.proofs.Common.{◌≡◌, ◌∙◌, length, refl, sym, subst, Option, Some, None}
+use Rattle.std.proofs.lemmas.Option.{get_or_from_slice_get, slice_get_read}
+use Rattle.std.specs.Prelude.{IfSome, IsNone, IsSome, slice_get}
+use Rattle.sf_format.specs.declared.directive.Directive.{Directive}
+use Rattle.sf_format.specs.Proper.{IsProper}
+use Rattle.sf_run.specs.declared.directive.Ended.{Ended}
+use Rattle.sf_run.specs.Quick.{IsSure, Passes}
 use Rattle.sf_run.proofs.quick.pass_later.Goals as goal
 
+by_end : {P : Type 0} (o : Option Ended) → (IsSome o → P) → (IsNone o → ⊥) → P
+by_end None some none = absurd (none refl)
+by_end (Some e) some none = some refl
+
+pub pass_so-requires-clause-free : goal.pass_so-requires-clause-free
+pass_so-requires-clause-free c =
+    let ds = c.args.directives.now in
+    let d : Directive = c.index-directives-at.result in
+    c.requires.free d (slice_get_read ds (length ds) c.args.at d refl c.requires.within c.index-directives-at.is)
+
+module _ (c : goal.After-pass_so) (d : Directive) (at : slice_get c.args.directives.now c.args.at ≡ Some d) where
+  same : c.index-directives-at.result ≡ d
+  same = c.index-directives-at.is ∙ get_or_from_slice_get c.args.directives.now c.args.at d c.index-directives-at.result at
+
+pub returns-clause-passes : goal.returns-clause-passes
+returns-clause-passes c d at proper =
+    let is = same c d at in
+    subst (λ (e : Directive). IfSome c.pass_so.result (λ taken. Passes e c.args.used c.args.piece.now taken
+    c.args.store.now c.pass_so.new.store))
+    is (c.pass_so.ensures.passes (subst (λ (e : Directive). IsProper e) (sym is) proper))
+
 pub returns-clause-sure : goal.returns-clause-sure
-returns-clause-sure c = search rules
+returns-clause-sure c d at proper sure =
+    let is = same c d at in
+    let own = subst (λ (e : Directive). IsProper e) (sym is) proper in
+    let here = subst (λ (e : Directive). IsSure e c.args.used c.args.piece.now c.args.store.now.room) (sym is) sure in
+    by_end c.ended_within-ended.result (λ some. c.pass_so.ensures.sure some own here)
+    (λ none. c.ended_within-ended.ensures.waits none own c.args.store.now.room here)

@@ -1,8 +1,7 @@
-use Rattle.std.proofs.Common.{Option, ap, refl, subst, ◌∙◌}
+use Rattle.std.proofs.Common.{Option, refl, subst}
 use Rattle.std.specs.Prelude.{IfSome}
 use Rattle.sf_run.specs.declared.directive.Ended.{Ended}
 use Rattle.sf_run.specs.Pieces.{EndsAtOnce}
-use Rattle.sf_run.specs.Quick.{strayed}
 use Rattle.sf_run.proofs.AtOnce.{free_of, passes_within, sure_given}
 use Rattle.sf_run.proofs.quick.pass_so.Goals as goal
 
@@ -14,23 +13,21 @@ give-requires-clause-free c =
     (λ (o : Option Ended). IfSome o (EndsAtOnce d c.args.used c.args.piece.now)) c.in_ok-ended.was c.requires.ends in
     free_of e.finished d c.args.store.now.values own.fits.given c.requires.free
 
-pub returns-in_err-stores-clause-sure : goal.returns-in_err-stores-clause-sure
-returns-in_err-stores-clause-sure c = λ some proper sure.
+pub returns-in_err-_stores-clause-sure : goal.returns-in_err-_stores-clause-sure
+returns-in_err-_stores-clause-sure c = λ some proper sure.
     let e : Ended = c.in_ok-ended.ended in
     let d = c.args.directive.now in
     let own : EndsAtOnce d c.args.used c.args.piece.now e = subst
     (λ (o : Option Ended). IfSome o (EndsAtOnce d c.args.used c.args.piece.now)) c.in_ok-ended.was c.requires.ends in
-    absurd (sure_given d c.args.used c.args.piece.now c.args.store.now.room e proper own sure (c.in_err-stores.ensures.none refl))
+    absurd (sure_given d c.args.used c.args.piece.now c.args.store.now.room e proper own sure (c.in_err-_stores.ensures.none refl))
 
 pub returns-clause-passes : goal.returns-clause-passes
 returns-clause-passes c = λ proper.
     let e : Ended = c.in_ok-ended.ended in
     let d = c.args.directive.now in
     let own : EndsAtOnce d c.args.used c.args.piece.now e = subst
-    (λ (o : Option Ended). IfSome o (EndsAtOnce d c.args.used c.args.piece.now)) c.in_ok-ended.was c.requires.ends in
-    record {
-      stores = c.in_ok-stores.stores;
-      is = passes_within d c.args.used c.args.piece.now e c.in_ok-stores.stores c.args.store.now c.give.new.store proper own
-          c.in_ok-stores.ensures.gives;
-      counted = c.with.ensures ∙ ap (λ v. strayed v c.in_ok-stores.stores c.args.strays.now) c.requires.counts;
-    }
+    (λ (o : Option Ended). IfSome o (EndsAtOnce d c.args.used c.args.piece.now)) c.in_ok-ended.was c.requires.ends in (
+      c.in_ok-_stores._stores,
+      passes_within d c.args.used c.args.piece.now e c.in_ok-_stores._stores c.args.store.now c.give.new.store proper
+          own c.in_ok-_stores.ensures.gives,
+    )

@@ -1,4 +1,6 @@
 use Rattle.std.proofs.Common.{◌++◌}
+use Rattle.std.specs.Prelude.{option_map}
+use Rattle.sf_tool.specs.Fronts.{in_front}
 use Rattle.sf_tool.proofs.Saying.{said}
 use Rattle.sf_tool.proofs.error_output.tell.Goals as goal
 
@@ -6,5 +8,6 @@ pub returns : goal.returns
 returns g c = (
   c.write_told.ensures.hands,
   said g.C.Console.said g.C.Console.unsaid c.write_told.result
-      (c.args.line.now ++ c.args.notes.now) c.args.err.now c.write_told.new.err c.write_told.ensures.told c.write_told.ensures.faults,
+      (in_front (option_map (λ given. given.now) c.args.file) c.args.line.now ++ c.args.notes.now) c.args.err.now c.write_told.new.err
+      c.write_told.ensures.told c.write_told.ensures.faults,
 )

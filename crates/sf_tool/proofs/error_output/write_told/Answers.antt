@@ -1,13 +1,17 @@
-use Rattle.std.proofs.Common.{◌∙◌, false, inl, refl, sym}
-use Rattle.sf_lines.proofs.Telling.{on_ok, tells_then}
+use Rattle.std.proofs.Common.{false, subst}
+use Rattle.std.specs.Prelude.{option_map}
+use Rattle.sf_lines.specs.Telling.{Tells}
+use Rattle.sf_lines.proofs.Telling.{tells_then}
+use Rattle.sf_tool.specs.Fronts.{in_front}
 use Rattle.sf_tool.proofs.Saying.{written}
 use Rattle.sf_tool.proofs.error_output.write_told.Goals as goal
 
-pub returns-else-is_err-clause-told : goal.returns-else-is_err-clause-told
-returns-else-is_err-clause-told g c =
-    tells_then false false _ (g.C.Console.said c.args.err.now) (g.C.Console.said c.write.new.err)
-    (g.C.Console.said c.write-else-is_err.new.err) c.args.line.now c.args.notes.now
-    (inl (refl, refl, on_ok c.write.result (sym c.is_err.ensures.value ∙ c.if-is_err.false) c.write.ensures.took))
-    (written c.write-else-is_err.result _ (g.C.Console.said c.write.new.err)
-    (g.C.Console.said c.write-else-is_err.new.err) c.args.notes.now c.is_err-else-is_err.ensures.value c.write-else-is_err.ensures.took
-    c.write-else-is_err.ensures.failed)
+pub returns-else-write_line-clause-told : goal.returns-else-write_line-clause-told
+returns-else-write_line-clause-told g c =
+    let line = in_front (option_map (λ given. given.now) c.args.file) c.args.line.now in
+    let before = g.C.Console.said c.args.err.now in
+    let mid = g.C.Console.said c.write_line.new.err in
+    tells_then false false _ before mid (g.C.Console.said c.write.new.err) line c.args.notes.now
+    (subst (λ r. Tells false r before mid line) c.if-write_line.false c.write_line.ensures.told)
+    (written c.write.result _ mid (g.C.Console.said c.write.new.err) c.args.notes.now c.is_err.ensures.value c.write.ensures.took
+    c.write.ensures.failed)

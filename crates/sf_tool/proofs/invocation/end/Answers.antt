@@ -1,4 +1,4 @@
-use Rattle.std.proofs.Common.{◌≡◌, ◌∙◌, ◌++◌, ℕ, List, Ok, Err, subst}
+use Rattle.std.proofs.Common.{◌≡◌, ◌∙◌, ◌++◌, ℕ, List, Ok, Err, refl, subst}
 use Rattle.sf_messages.specs.Texts.{error_line}
 use Rattle.sf_tool.specs.Saying.{Says}
 use Rattle.sf_tool.proofs.invocation.end.Goals as goal
@@ -10,4 +10,4 @@ returns-in-Err g c =
     let said : List ℕ → Type 0 =
     λ text. Says g.C.Console.Hands g.C.Console.said g.C.Console.unsaid
     (text ++ c.args.notes.now) c.args.out.now c.tell.new.out c.args.err.now c.tell.new.err in
-    rw c.in-Err.is (subst said line c.tell.ensures, c.status.ensures)
+    rw c.in-Err.is (subst said line c.tell.ensures, refl)

@@ -1,19 +1,17 @@
 use Rattle.std.proofs.Common.{refl, None, subst}
-use Rattle.sf_tool.specs.Exits.{CanRun, IsRead, unread_of}
+use Rattle.sf_tool.specs.Exits.{CanRun, unread_of}
 use Rattle.sf_tool.proofs.invocation.run_asked.Goals as goal
 
 pub run_source-requires : goal.run_source-requires
 run_source-requires g c = let can = subst CanRun c.in-Ok.is c.requires in record { limit = can.0; texts = can.1 }
 
 pub returns-in-Ok : goal.returns-in-Ok
-returns-in-Ok g c words read = let known = subst (IsRead words) c.in-Ok.is read in rw c.in-Ok.is (c.run_source.ensures words known)
+returns-in-Ok g c = rw c.in-Ok.is c.run_source.ensures
 
 pub returns-in-Err : goal.returns-in-Err
-returns-in-Err g c words read =
-    let known = subst (IsRead words) c.in-Err.is read in
-    rw c.in-Err.is (record {
-      left = unread_of c.args.from;
-      place = None;
-      exits = record { read = known; done = (refl, c.decline.ensures) };
-      placed = tt;
-    })
+returns-in-Err g c = rw c.in-Err.is (record {
+  left = unread_of c.args.from;
+  place = None;
+  done = (refl, c.decline.ensures);
+  placed = tt;
+})

@@ -14,4 +14,4 @@ returns g c =
     let asked = c.read_words-asked.result in
     let read = was_read (map string_bytes c.args.words.now) asked c.read_words-asked.ensures.order c.read_words-asked.ensures.taken
     c.read_words-asked.ensures.refused in
-    (asked, record { read = read; done = c.run_ahead.ensures })
+    (asked, c.run_ahead.result, record { read = read; done = c.run_ahead.ensures }, c.exit_of.ensures)

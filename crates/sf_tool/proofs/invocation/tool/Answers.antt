@@ -10,4 +10,4 @@ returns g c =
     let words = map string_bytes c.args.words.now in
     let read = was_read words c.read_words-asked.result c.read_words-asked.ensures.order c.read_words-asked.ensures.taken
     c.read_words-asked.ensures.refused in
-    (c.read_words-asked.result, c.run_asked.ensures words read)
+    (c.read_words-asked.result, read, c.run_asked.result, c.run_asked.ensures, c.exit_of.ensures)

@@ -1,6 +1,6 @@
 use Rattle.std.proofs.Common.{◌≡◌, ◌∷◌, ◌++◌, ◌+◌, [], drop, map, rules, string_bytes, subst, sym}
 use Rattle.sf_messages.specs.declared.fault.CommandFault.TheVariants.{Memory}
-use Rattle.sf_tool.specs.Checks.{IsNoScanWord, IsScanWord}
+use Rattle.sf_jobs.specs.Checks.{IsNoScanWord, IsScanWord}
 use Rattle.sf_tool.specs.Lines.{IsFirstRefused}
 use Rattle.sf_tool.proofs.Lining.{Opened, all_opened, closed_at, opened_next, refused_at}
 use Rattle.sf_tool.proofs.lines.formats_of.Goals as goal

@@ -1,15 +1,15 @@
 use Rattle.sf_tool.proofs.program.run_open.Goals as goal
 
 pub returns : goal.returns
-returns g c words read = (
-  c.run_asked-ended.new.out,
+returns g c = (
+  c.run_asked_inputs-ended.new.output,
   (
     c.close-status.new.output,
     (
-      c.run_asked-ended.new.err,
+      c.run_asked_inputs-ended.new.errors,
       (
-        c.run_asked-ended.result,
-        c.run_asked-ended.ensures words read,
+        c.run_asked_inputs-ended.result,
+        c.run_asked_inputs-ended.ensures,
         c.close-status.ensures,
         c.into_writer.ensures,
       ),

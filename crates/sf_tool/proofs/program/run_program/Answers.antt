@@ -1,4 +1,4 @@
-use Rattle.std.proofs.Common.{inl, inr, map, string_bytes, sym}
+use Rattle.std.proofs.Common.{inl, inr, map, refl, string_bytes, sym}
 use Rattle.sf_tool.proofs.Asking.{can_run, was_read}
 use Rattle.sf_tool.proofs.program.run_program.Goals as goal
 
@@ -10,7 +10,7 @@ returns-in-Ok g c =
     let words = map string_bytes c.args.words.now in
     let asked = c.read_words-asked.result in
     let read = was_read words asked c.read_words-asked.ensures.order c.read_words-asked.ensures.taken c.read_words-asked.ensures.refused in
-    let (ran, (closed, (said, (answer, exits, closes, back)))) = c.run_open-closed.ensures words read in
+    let (ran, (closed, (said, (answer, exits, closes, back)))) = c.run_open-closed.ensures in
     record {
       first = c.new-errors.result;
       last = c.run_open-closed.new.errors;
@@ -27,7 +27,8 @@ returns-in-Ok g c =
         empty = c.in-Ok.ensures.contents;
         sound = c.in-Ok.ensures.failures;
         fresh = c.in-Ok.ensures.flushed;
-        exits = exits;
+        read = read;
+        runs = exits;
         at_once = λ awaited. c.in-Ok.ensures.nothing (c.is_awaited.ensures.1 awaited);
         closes = closes;
         back = back;
@@ -41,5 +42,5 @@ returns-in-Err g c = record {
   start = c.new-errors.ensures.contents;
   sound = c.new-errors.ensures.failures;
   end = sym c.into_writer-in-Err.ensures;
-  does = inr (c.in-Err.ensures.back, c.say_fault.ensures, c.status.ensures);
+  does = inr (refl, c.in-Err.ensures.back, c.say_fault.ensures, c.status.ensures);
 }

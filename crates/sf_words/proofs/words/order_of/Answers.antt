@@ -1,4 +1,4 @@
-use Rattle.std.proofs.Common.{rules, ◌≡◌, ◌∙◌, [], ◌∷◌, None, Some, ap, subst, sym}
+use Rattle.std.proofs.Common.{rules, ◌≡◌, ◌∙◌, [], ◌∷◌, None, Some, ap, refl, subst, sym}
 use Rattle.clap.specs.Words.{found_of, rows_of, subcommand_rows_of}
 use Rattle.sf_words.specs.Misuses.{misuse_kind, misuse_kinds}
 use Rattle.sf_words.specs.Orders.{HasTextsFor, IsRefusal, entered_faults, own_faults, verb_text}
@@ -29,10 +29,19 @@ returns-clause-order c =
       small = c.limit_of.ensures.small;
       profile = c.profile_of.ensures;
       line_buffered = c.is_set.ensures;
-      explain = c.is_set-2.ensures;
+      notes = c.notes_of.ensures;
       output = c.output_of.ensures;
       lines = c.lines_of.ensures;
+      print = c.in_ok-text_given.ensures;
+      names = c.in_ok-text_given-2.ensures;
+      tag = c.is_set-2.ensures;
+      ignored = c.in_ok-ignored_of.ensures;
+      raw = c.is_set-3.ensures;
+      width = c.width_of.ensures.value;
+      wide = c.width_of.ensures.wide;
       texts = c.in_ok-texts_of.ensures;
+      files = c.in_ok-files_of.ensures;
+      file = refl;
       enough = subst (HasTextsFor c.lines_of.result verb) (sym c.in_ok-texts_of.ensures)
           (enough_for verb rows c.lines_of.result taken.0 taken.1 c.lines_of.ensures (sym c.misuse_of.ensures ∙ ap misuse_kinds none));
     }

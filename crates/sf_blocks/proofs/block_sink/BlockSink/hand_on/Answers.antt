@@ -19,4 +19,5 @@ loop-self-preserved g c =
       block = l.invariant.block;
       failures = l.invariant.failures;
       flushed = l.invariant.flushed;
+      error = l.invariant.error;
     }

@@ -9,6 +9,7 @@ invariant-loop-self g l = record {
   block : l.self.block ≡ l.fn.self.block;
   failures : l.self.failures ≡ l.fn.self.failures;
   flushed : l.self.unflushed ≡ l.fn.self.unflushed;
+  error : l.self.last_error ≡ l.fn.self.last_error;
 }
 
 abbrev pub decreases-loop-self : goal.decreases-loop-self

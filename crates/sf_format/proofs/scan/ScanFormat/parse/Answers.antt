@@ -1,5 +1,6 @@
-use Rattle.std.proofs.Common.{sym, ◌∙◌, ap}
+use Rattle.std.proofs.Common.{sym, ◌∙◌, ap, map}
 use Rattle.std.proofs.lemmas.Result.{err_from_is_err_and}
+use Rattle.sf_format.specs.Layout.{items_assigned, items_taken, row_of}
 use Rattle.sf_format.specs.Widths.{width_sum}
 use Rattle.sf_format.proofs.Meanings.{scan_meaning, scan_slots}
 use Rattle.sf_format.proofs.Accepted.{proper}
@@ -22,7 +23,7 @@ returns-in_err-directives c =
 
 pub sum_of_widths-widths-requires : goal.sum_of_widths-widths-requires
 sum_of_widths-widths-requires c =
-    rw c.deref.ensures.value (proper c.args.profile c.args.text.now c.in_ok-directives.directives.items
+    rw c.deref-2.ensures.value (proper c.args.profile c.args.text.now c.in_ok-directives.directives.items
     c.in_ok-directives.ensures.spelled.0).short
 
 pub invariant_of-result : goal.invariant_of-result
@@ -30,8 +31,24 @@ invariant_of-result c =
     let spelled = c.in_ok-directives.ensures.spelled in record {
       accepted = proper c.args.profile c.args.text.now c.in_ok-directives.directives.items spelled.0;
       counted = spelled.1 ∙ sym (slots_count (scan_slots c.args.profile) spelled.0.0 c.in_ok-directives.directives.items spelled.0.3);
-      summed = c.sum_of_widths-widths.ensures ∙ ap width_sum c.deref.ensures.value;
+      summed = c.sum_of_widths-widths.ensures ∙ ap width_sum c.deref-2.ensures.value;
+      laid = c.in_ok-rows.ensures ∙ ap (map row_of) c.deref.ensures.value;
+      assigned = c.items_assigned-assigned.ensures ∙ ap items_assigned c.deref-3.ensures.value;
+      converted = c.items_taken-converted.ensures ∙ ap items_taken c.deref-4.ensures.value;
     }
 
 pub returns-clause-fault : goal.returns-clause-fault
 returns-clause-fault c = λ at why fault. absurd (cc (c.in_ok-directives.ensures.fault at why fault))
+
+pub returns-in_err-rows-clause-fault : goal.returns-in_err-rows-clause-fault
+returns-in_err-rows-clause-fault c = λ at why fault. absurd (cc (c.in_ok-directives.ensures.fault at why fault))
+
+pub items_assigned-assigned-requires : goal.items_assigned-assigned-requires
+items_assigned-assigned-requires c =
+    rw c.deref-3.ensures.value (proper c.args.profile c.args.text.now c.in_ok-directives.directives.items
+    c.in_ok-directives.ensures.spelled.0).few
+
+pub items_taken-converted-requires : goal.items_taken-converted-requires
+items_taken-converted-requires c =
+    rw c.deref-4.ensures.value (proper c.args.profile c.args.text.now c.in_ok-directives.directives.items
+    c.in_ok-directives.ensures.spelled.0).short

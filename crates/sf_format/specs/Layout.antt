@@ -1,0 +1,86 @@
+-- A scan format laid out: a row for each directive, and what its runs count.
+use Rattle.std.specs.Prelude.{ℕ, ◌^◌, ◌-◌, ◌&&◌, Bool, true, false, List, Option, Some, None, is_some}
+use Rattle.std.specs.List.{count_by}
+use Rattle.sf_base.specs.declared.values.Kind.{Kind}
+use Rattle.sf_base.specs.declared.values.Kind.TheVariants as kinds
+use Rattle.sf_base.specs.Kinds.{bounds_of}
+use Rattle.sf_format.specs.declared.directive.Base.{Base}
+use Rattle.sf_format.specs.declared.directive.Base.TheVariants.{Dec, Hex}
+use Rattle.sf_format.specs.declared.directive.Shape.{Shape}
+use Rattle.sf_format.specs.declared.directive.Shape.TheVariants.{Int, Text, Set, Chars, Count}
+use Rattle.sf_format.specs.declared.directive.Directive.{Directive}
+use Rattle.sf_format.specs.declared.directive.Directive.TheVariants.{Space, Byte, Percent, Conv}
+use Rattle.sf_format.specs.declared.layout.Row.{Row}
+use Rattle.sf_format.specs.declared.layout.Way.{Way}
+use Rattle.sf_format.specs.declared.layout.Way.TheVariants as ways
+
+-- which way an integer of the base is passed
+abbrev pub way_of_integer : Base → Way
+way_of_integer Dec = ways.Decimal
+way_of_integer Hex = ways.Hexadecimal
+way_of_integer _ = ways.Another
+
+-- which way a conversion is passed, whose kind holds numbers or not
+abbrev pub way_of : Shape → Bool → Way
+way_of (Int base) true = way_of_integer base
+way_of (Int base) false = ways.Another
+way_of Text numeric = ways.Text
+way_of (Set members) numeric = ways.Members
+way_of Chars numeric = ways.Characters
+way_of Count numeric = ways.Another
+
+-- the most bytes of an item with the width
+abbrev pub most_of : Option ℕ → ℕ
+most_of None = 2 ^ 64 - 1
+most_of (Some width) = width
+
+-- whether the kind's numbers have a sign
+abbrev pub signed_in : Kind → Bool
+signed_in kind = elim (bounds_of kind) [ None ↦ false | Some bounds ↦ bounds.0 ]
+
+-- the greatest number of the kind
+abbrev pub greatest_in : Kind → ℕ
+greatest_in kind = elim (bounds_of kind) [ None ↦ 0 | Some bounds ↦ bounds.1 ]
+
+-- the row of a directive that is no conversion
+abbrev pub plain_row : Way → ℕ → Row
+plain_row way due = record { way = way; due = due; signed = false; kind = kinds.Text; slot = None; width = 0; greatest = 0 }
+
+-- what a run asks of the directive
+abbrev pub row_of : Directive → Row
+row_of Space = plain_row ways.Space 0
+row_of (Byte due) = plain_row ways.Byte due
+row_of Percent = plain_row ways.Another 0
+row_of (Conv c) = record {
+  way = way_of c.shape (is_some (bounds_of c.kind));
+  due = 0;
+  signed = signed_in c.kind;
+  kind = c.kind;
+  slot = c.slot;
+  width = most_of c.width;
+  greatest = greatest_in c.kind;
+}
+
+-- ---- what a run counts that is Done (C11 7.21.6.2p16)
+
+abbrev pub is_item : Shape → Bool
+is_item Count = false
+is_item _ = true
+
+-- it takes an input item: conversions do, but for n and %%
+abbrev pub takes_item : Directive → Bool
+takes_item (Conv c) = is_item c.shape
+takes_item _ = false
+
+-- it gives an input item to a destination
+abbrev pub assigns_item : Directive → Bool
+assigns_item (Conv c) = is_item c.shape && is_some c.slot
+assigns_item _ = false
+
+-- how many directives take an input item
+abbrev pub items_taken : List Directive → ℕ
+items_taken ds = count_by takes_item ds
+
+-- how many directives give an input item to a destination
+abbrev pub items_assigned : List Directive → ℕ
+items_assigned ds = count_by assigns_item ds

@@ -1,0 +1,159 @@
+//! A scan format laid out: a flat row beside each directive, and what its runs count.
+ghost use Rattle.std.specs.Prelude.{◌≡◌, ◌≤◌, length, map, IfOk};
+ghost use Rattle.sf_format.specs.Layout.{assigns_item, items_assigned, items_taken, plain_row, row_of, takes_item, way_of, way_of_integer};
+ghost use Rattle.sf_format.specs.Proper.{destinations_of};
+
+use crate::directive::{Base, Conversion, Directive, Shape};
+use sf_base::Kind;
+use std::alloc::{AllocError, Global};
+
+/// Which way a directive is passed at once. One that is passed another way is read byte by byte.
+#[derive(Clone, Copy, Debug, PartialEq, Eq)]
+pub enum Way {
+    Space,
+    Byte,
+    Decimal,
+    Hexadecimal,
+    Text,
+    Members,
+    Characters,
+    Another,
+}
+
+/// What a run asks of a directive, laid out flat.
+#[derive(Clone, Copy, Debug)]
+pub struct Row {
+    pub way: Way,
+    /// The byte that is due.
+    pub due: u8,
+    /// Whether numbers of the kind have a sign.
+    pub signed: bool,
+    pub kind: Kind,
+    /// The slot that is given a value.
+    pub slot: Option<u8>,
+    /// The most bytes of an item; without a width the most that there are.
+    pub width: usize,
+    /// The greatest number of the kind.
+    pub greatest: u64,
+}
+
+/// Which way an integer of the base is passed that its kind holds.
+fn way_of_integer(base: Base) -> Way
+    ensures { result ≡ way_of_integer base }
+{
+    match base {
+        Base::Dec => Way::Decimal,
+        Base::Hex => Way::Hexadecimal,
+        Base::Oct | Base::Bin | Base::Auto | Base::AutoBin => Way::Another,
+    }
+}
+
+/// Which way a conversion is passed; `is_numeric` says whether its kind holds numbers.
+fn way_of(shape: &Shape, is_numeric: bool) -> Way
+    ensures { result ≡ way_of shape.now is_numeric }
+{
+    match shape {
+        Shape::Int(base) if is_numeric => way_of_integer(*base),
+        Shape::Text => Way::Text,
+        Shape::Set(_) => Way::Members,
+        Shape::Chars => Way::Characters,
+        Shape::Int(_) | Shape::Count => Way::Another,
+    }
+}
+
+/// The row of a directive that is no conversion.
+fn plain_row(way: Way, due: u8) -> Row
+    ensures { result ≡ plain_row way due }
+{
+    Row {
+        way,
+        due,
+        signed: false,
+        kind: Kind::Text,
+        slot: None,
+        width: 0,
+        greatest: 0,
+    }
+}
+
+/// The row of a directive.
+fn row_of(directive: &Directive) -> Row
+    ensures { result ≡ row_of directive.now }
+{
+    let conversion = match directive {
+        Directive::Space => return plain_row(Way::Space, 0),
+        Directive::Byte(due) => return plain_row(Way::Byte, *due),
+        Directive::Percent => return plain_row(Way::Another, 0),
+        Directive::Conv(conversion) => conversion,
+    };
+    let bounds = conversion.kind.bounds();
+    let (signed, greatest) = bounds.unwrap_or((false, 0));
+    Row {
+        way: way_of(&conversion.shape, bounds.is_some()),
+        due: 0,
+        signed,
+        kind: conversion.kind,
+        slot: conversion.slot,
+        width: conversion.width.map_or(usize::MAX, |width| width as usize),
+        greatest,
+    }
+}
+
+/// The rows of the directives.
+pub(crate) fn rows_of(alloc: Global, directives: &[Directive]) -> Result<Vec<Row>, AllocError>
+    ensures { IfOk result (λ rows. rows.items ≡ map row_of directives.now) }
+{
+    let mut rows = Vec::with_capacity(alloc, directives.len())?;
+    for directive in directives {
+        rows.push_reserved(row_of(directive));
+    }
+    Ok(rows)
+}
+
+/// Whether the directive takes an input item: conversions do, but for `n` and `%%`.
+fn takes_item(directive: &Directive) -> bool
+    ensures { result ≡ takes_item directive.now }
+{
+    match directive {
+        Directive::Space | Directive::Byte(_) | Directive::Percent => false,
+        Directive::Conv(conversion) => !matches!(conversion.shape, Shape::Count),
+    }
+}
+
+/// Whether the directive gives an input item to a destination.
+fn assigns_item(directive: &Directive) -> bool
+    ensures { result ≡ assigns_item directive.now }
+{
+    match directive {
+        Directive::Conv(conversion) => takes_item(directive) && conversion.slot.is_some(),
+        _ => false,
+    }
+}
+
+/// How many directives take an input item.
+pub(crate) fn items_taken(directives: &[Directive]) -> u16
+    requires { length directives.now ≤ 4096 }
+    ensures { result ≡ items_taken directives.now }
+{
+    let mut count = 0;
+    for directive in directives {
+        if takes_item(directive) {
+            count += 1;
+        }
+    }
+    count
+}
+
+/// How many directives give an input item to a destination.
+pub(crate) fn items_assigned(directives: &[Directive]) -> u8
+    requires { length (destinations_of directives.now) ≤ 32 }
+    ensures { result ≡ items_assigned directives.now }
+{
+    let mut count = 0;
+    for directive in directives {
+        if assigns_item(directive) {
+            count += 1;
+        }
+    }
+    count
+}

@@ -1,0 +1,14 @@
+pub mod Columns
+pub mod Csv
+pub mod Escapes
+pub mod Forms
+pub mod Growing
+pub mod Heads
+pub mod JsonReading
+pub mod JsonStrings
+pub mod Lines
+pub mod Lone
+pub mod Quotes
+pub mod ReadingBack
+pub mod Tables
+pub mod Written

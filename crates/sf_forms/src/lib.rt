@@ -1,0 +1,23 @@
+//! How the values of one record are written: in a form, to a list or a sink.
+#![tactic(auto)]
+
+mod columns;
+mod csv;
+mod escape;
+mod form;
+mod form_writer;
+mod heads;
+mod json;
+pub mod laws;
+mod line;
+mod output;
+mod quote;
+mod short_line;
+mod tables;
+
+pub use form::OutputForm;
+pub use form_writer::{FormWriter, RecordFault};
+pub use heads::TAG_NAME;
+pub use line::push_record;
+pub use output::write_whole;
+pub use quote::push_quoted;

@@ -1,0 +1,234 @@
+//! The record of a report, written in place where it is short.
+ghost use Rattle.std.specs.Prelude.{◌≡◌, ◌++◌, ◌+◌, ◌<◌, ◌≤◌, ◌∷◌, [], if◌then◌else◌, map, length, take, IfSome, IsSome};
+ghost use Rattle.std.specs.List.{join_with_byte, range_with_len};
+ghost use Rattle.sf_base.specs.Data.{Bytes};
+ghost use Rattle.sf_forms.specs.Lone.{is_lone_in};
+ghost use Rattle.sf_forms.specs.Forms.{absent_text, closing, opening, record_text, separator, slot_text, value_text};
+
+use crate::csv::write_csv_text;
+use crate::escape::{write_all, write_byte};
+use crate::form::OutputForm;
+use crate::json::write_json_string;
+use crate::quote::{are_plain, write_plain, write_quoted};
+use crate::tables::write_tsv_text;
+use sf_base::{Shown, Store};
+use sf_print::write_number;
+use sf_report::Report;
+
+/// The room for a short line: 1,023 bytes, and as many as the longest number has.
+pub(crate) const LINE_BYTES: usize = 1044;
+
+/// A separator, a minus and the digits of any number.
+const NUMBER_BYTES: usize = 22;
+
+/// Writes a text of which some byte isn't plain. It is a call of its own, so that other texts don't pay for it.
+#[inline(never)]
+fn write_odd(form: OutputForm, text: &[u8], buf: &mut [u8], at: usize) -> Option<usize>
+    requires { at < length buf.old }
+    ensures within { IfSome result (λ end. end ≤ length buf.new) }
+    ensures written { IfSome result (λ end. take end buf.new ≡ take at buf.old ++ value_text form (Bytes text.now)) }
+    ensures answers { at + length (value_text form (Bytes text.now)) + 21 ≤ length buf.old → IsSome result }
+{
+    match form {
+        OutputForm::Plain => write_quoted(text, buf, at),
+        OutputForm::Tsv => write_tsv_text(text, buf, at),
+        OutputForm::Json => write_json_string(text, buf, at),
+        OutputForm::Csv => write_csv_text(text, buf, at),
+    }
+}
+
+/// Writes a text from a place on, and answers where it ends. None where there is no room.
+#[inline(always)]
+fn write_text(form: OutputForm, text: &[u8], buf: &mut [u8], at: usize) -> Option<usize>
+    requires { at < length buf.old }
+    ensures within { IfSome result (λ end. end ≤ length buf.new) }
+    ensures written { IfSome result (λ end. take end buf.new ≡ take at buf.old ++ value_text form (Bytes text.now)) }
+    ensures answers { at + length (value_text form (Bytes text.now)) + 21 ≤ length buf.old → IsSome result }
+{
+    if !are_plain(text) {
+        return write_odd(form, text, buf, at);
+    }
+    match form {
+        OutputForm::Plain | OutputForm::Json => write_plain(text, buf, at),
+        OutputForm::Tsv => write_tsv_text(text, buf, at),
+        OutputForm::Csv => write_csv_text(text, buf, at),
+    }
+}
+
+/// Writes what stands for a slot that was given nothing, and answers where it ends.
+#[inline(never)]
+fn write_absent(form: OutputForm, buf: &mut [u8], at: usize) -> usize
+    requires { at + 4 ≤ length buf.old }
+    ensures within { result ≤ length buf.new }
+    ensures written { take result buf.new ≡ take at buf.old ++ absent_text form }
+{
+    match form {
+        OutputForm::Plain | OutputForm::Tsv | OutputForm::Csv => at,
+        OutputForm::Json => write_all(b"null", buf, at),
+    }
+}
+
+/// Writes what a slot was given from a place on, and answers where it ends. None where there is no room for it.
+#[inline(always)]
+fn write_slot<S: Store>(
+    form: OutputForm,
+    report: &Report<'_, S>,
+    slot: u8,
+    buf: &mut [u8],
+    at: usize,
+) -> Option<usize>
+    requires { at + 21 ≤ length buf.old }
+    ensures within { IfSome result (λ end. end ≤ length buf.new) }
+    ensures written { IfSome result (λ end. take end buf.new ≡ take at buf.old ++ slot_text form report.now slot) }
+    ensures answers { at + length (slot_text form report.now slot) + 21 ≤ length buf.old → IsSome result }
+{
+    match report.shown(slot) {
+        Some(Shown::Number(number)) => {
+            Some(write_number(number.negative, number.magnitude, buf, at))
+        }
+        Some(Shown::Text(text)) => write_text(form, text, buf, at),
+        None => Some(write_absent(form, buf, at)),
+    }
+}
+
+/// Writes the values of a record from a place on, and answers where they end. None where there is no room.
+#[inline(always)]
+fn write_values<S: Store>(
+    form: OutputForm,
+    report: &Report<'_, S>,
+    destinations: u8,
+    buf: &mut [u8],
+    at: usize,
+) -> Option<usize>
+    requires { at ≤ length buf.old }
+    ensures within { IfSome result (λ end. end ≤ length buf.new) }
+    ensures written { IfSome result (λ end. take end buf.new ≡ take at buf.old
+        ++ join_with_byte (separator form) (map (slot_text form report.now) (range_with_len 1 destinations))) }
+    ensures answers { at + length (join_with_byte (separator form) (map (slot_text form report.now)
+        (range_with_len 1 destinations))) + 22 ≤ length buf.old → IsSome result }
+{
+    let mut end = at;
+    for before in 0..destinations {
+        if buf.len() - end < NUMBER_BYTES {
+            return None;
+        }
+        if before > 0 {
+            end = write_byte(form.separator(), buf, end);
+        }
+        end = write_slot(form, report, before + 1, buf, end)?;
+    }
+    Some(end)
+}
+
+/// Writes what stands before the values of a record, and answers where it ends.
+#[inline(always)]
+fn write_opening(form: OutputForm, buf: &mut [u8]) -> usize
+    requires { 1 ≤ length buf.old }
+    ensures within { result ≤ length buf.new }
+    ensures written { take result buf.new ≡ opening form }
+{
+    match form {
+        OutputForm::Plain | OutputForm::Tsv | OutputForm::Csv => 0,
+        OutputForm::Json => write_byte(b'[', buf, 0),
+    }
+}
+
+/// Writes the quotes of a record of so many columns, whose texts are so long, where it has only these, and answers
+/// where they end.
+#[inline(always)]
+fn write_filler(form: OutputForm, columns: usize, len: usize, buf: &mut [u8], at: usize) -> usize
+    requires { at + 2 ≤ length buf.old }
+    ensures most { result ≤ at + 2 }
+    ensures written { take result buf.new
+        ≡ take at buf.old ++ (if is_lone_in form columns len then 34 ∷ 34 ∷ [] else []) }
+{
+    if form.is_lone(columns, len) {
+        let end = write_byte(b'"', buf, at);
+        return write_byte(b'"', buf, end);
+    }
+    at
+}
+
+/// Writes what stands after them, and answers where the record ends.
+#[inline(always)]
+fn write_closing(form: OutputForm, buf: &mut [u8], at: usize) -> usize
+    requires { at + 2 ≤ length buf.old }
+    ensures within { result ≤ length buf.new }
+    ensures written { take result buf.new ≡ take at buf.old ++ closing form }
+{
+    match form {
+        OutputForm::Plain | OutputForm::Tsv | OutputForm::Csv => write_byte(b'\n', buf, at),
+        OutputForm::Json => {
+            let end = write_byte(b']', buf, at);
+            write_byte(b'\n', buf, end)
+        }
+    }
+}
+
+/// Writes the record in a form, as `write_line` does. Plain records have an instance of their own, which the compiler
+/// makes for that form alone.
+#[inline(always)]
+fn write_record<const PLAIN: bool, S: Store>(
+    form: OutputForm,
+    report: &Report<'_, S>,
+    destinations: u8,
+    buf: &mut [u8],
+) -> Option<usize>
+    ensures within { IfSome result (λ end. end ≤ length buf.new) }
+    ensures written { IfSome result (λ end. take end buf.new ≡ record_text form destinations report.now) }
+    ensures answers { length (record_text form destinations report.now) + 21 ≤ length buf.old → IsSome result }
+{
+    if buf.is_empty() {
+        return None;
+    }
+    let start = write_opening(form, buf);
+    let values_end = write_values(form, report, destinations, buf, start)?;
+    if buf.len() - values_end < 4 {
+        return None;
+    }
+    let end = write_filler(
+        form,
+        destinations as usize,
+        values_end - start,
+        buf,
+        values_end,
+    );
+    Some(write_closing(form, buf, end))
+}
+
+/// Writes the record in a form other than the plain one. It is a call of its own, so that plain records don't pay for
+/// it.
+#[inline(never)]
+fn write_other<S: Store>(
+    form: OutputForm,
+    report: &Report<'_, S>,
+    destinations: u8,
+    buf: &mut [u8],
+) -> Option<usize>
+    ensures within { IfSome result (λ end. end ≤ length buf.new) }
+    ensures written { IfSome result (λ end. take end buf.new ≡ record_text form destinations report.now) }
+    ensures answers { length (record_text form destinations report.now) + 21 ≤ length buf.old → IsSome result }
+{
+    write_record::<false, S>(form, report, destinations, buf)
+}
+
+/// Writes the record, in this form, of a format that has so many destinations, by the report of a run, and answers
+/// where it ends. None where it isn't known to be short enough.
+#[inline(always)]
+pub(crate) fn write_line<S: Store>(
+    form: OutputForm,
+    report: &Report<'_, S>,
+    destinations: u8,
+    buf: &mut [u8],
+) -> Option<usize>
+    ensures within { IfSome result (λ end. end ≤ length buf.new) }
+    ensures written { IfSome result (λ end. take end buf.new ≡ record_text form destinations report.now) }
+    ensures answers { length (record_text form destinations report.now) + 21 ≤ length buf.old → IsSome result }
+{
+    match form {
+        OutputForm::Plain => write_record::<true, S>(OutputForm::Plain, report, destinations, buf),
+        OutputForm::Tsv | OutputForm::Json | OutputForm::Csv => {
+            write_other(form, report, destinations, buf)
+        }
+    }
+}

@@ -1,0 +1,5 @@
+pub mod Answering
+pub mod Checking
+pub mod Ones
+pub mod Results
+pub mod Suiting

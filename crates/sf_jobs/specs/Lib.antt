@@ -1,0 +1,5 @@
+pub mod Answers
+pub mod Checks
+pub mod Commands
+pub mod Heads
+pub mod Writings

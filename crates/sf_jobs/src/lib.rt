@@ -1,0 +1,17 @@
+//! What an order of records does, and what the words of an order stand for: its formats, its names, and how it writes.
+#![tactic(auto)]
+
+mod check;
+mod command;
+mod copy;
+mod formats;
+mod heads;
+mod scan_names;
+mod scan_print;
+mod writing;
+
+pub use check::verdict_of;
+pub use command::{carry_out, form_of, grammar_of};
+pub use formats::{RefusedWord, read_print, read_scan};
+pub use heads::{header_fault, is_headed, named_maker, names_text, text_of, write_header};
+pub use writing::{Writing, check_formats, read_writing};

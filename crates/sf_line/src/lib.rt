@@ -1,0 +1,7 @@
+//! Lines: what a line of an input is, and the reading of one.
+#![tactic(auto)]
+
+pub mod laws;
+mod line;
+
+pub use line::{LineRead, next_line};

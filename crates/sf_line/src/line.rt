@@ -1,0 +1,135 @@
+//! Lines of a source.
+ghost use Rattle.std.specs.Prelude.{◌≡◌, ◌≤◌, ◌<◌, ◌+◌, ◌++◌, ◌∷◌, ◌⊎◌, true, false, length, take, drop, vec_len, IfOk};
+ghost use Rattle.std.specs.Prelude.{IsOk, if◌then◌else◌};
+ghost use Rattle.sf_read.specs.Counts.{counted_on};
+ghost use Rattle.sf_line.specs.Cut.{IsLine};
+ghost use Rattle.sf_line.specs.Reading.{Reads, UsesLine, is_failed};
+
+use memchr::memchr;
+use sf_read::{Lookahead, Source};
+use std::alloc::AllocError;
+
+/// What the reading of a line came to.
+#[derive(Clone, Copy, Debug, PartialEq, Eq)]
+pub enum LineRead {
+    /// A line was read.
+    Line,
+    /// A line was passed over that is longer than the limit, but for its first bytes.
+    TooLong,
+    /// The input has no further line.
+    End,
+    /// The source failed within the line.
+    Fault,
+    /// The line has 2^63 bytes or more.
+    Endless,
+    /// Memory for the line was refused.
+    NoMemory,
+}
+
+/// The front of what is held, up to a newline.
+#[derive(Clone, Copy)]
+struct Piece {
+    /// How many bytes it has.
+    len: usize,
+    /// Whether a newline follows.
+    ended: bool,
+}
+
+/// Appends the first bytes of what is held to a line that was gathered so far, up to the limit. Answers whether the
+/// line is longer.
+fn gather(
+    line: &mut Vec<u8>,
+    held: &[u8],
+    len: usize,
+    limit: usize,
+    long: bool,
+) -> Result<bool, AllocError>
+    requires within { len ≤ length held.now }
+    requires kept { vec_len line.old ≤ limit }
+    ensures longer { IfOk result (λ l. l ≡ true → (long ≡ true) ⊎ (limit < vec_len line.old + len)) }
+    ensures short { IfOk result (λ l. l ≡ false → (long ≡ false) × (vec_len line.old + len ≤ limit)) }
+    ensures front { IfOk result (λ _. line.new.items ≡ take limit (line.old.items ++ take len held.now)) }
+    ensures none { limit ≡ 0 → IsOk result }
+{
+    let room = limit - line.len();
+    if room == 0 {
+        return Ok(long || len > 0);
+    }
+    let (piece, _) = held.split_at(len.min(room));
+    line.extend_from_slice(piece)?;
+    Ok(long || len > room)
+}
+
+/// What was read where the input ended within a line, or after the last one.
+fn last_read(long: bool, is_empty: bool) -> LineRead
+    ensures read { result ≡ (if long then LineRead.TooLong else (if is_empty then LineRead.End else LineRead.Line)) }
+    ensures sound { is_failed result ≡ false }
+{
+    if long {
+        LineRead::TooLong
+    } else if is_empty {
+        LineRead::End
+    } else {
+        LineRead::Line
+    }
+}
+
+/// The bytes of the present line that are held.
+fn piece_of(held: &[u8]) -> Piece
+    ensures within { result.len ≤ length held.now }
+    ensures line { IsLine (take result.len held.now) }
+    ensures ended { result.ended ≡ true → held.now ≡ take result.len held.now ++ 10 ∷ drop (result.len + 1) held.now }
+    ensures all { result.ended ≡ false → result.len ≡ length held.now }
+{
+    match memchr(b'\n', held) {
+        Some(len) => Piece { len, ended: true },
+        None => Piece {
+            len: held.len(),
+            ended: false,
+        },
+    }
+}
+
+/// Reads the next line of what the lookahead holds and its source gives, without its newline, in place of what was read
+/// last. Of a line of more than `limit` bytes these first ones are read, and the others passed over; by the limit 0
+/// each line is passed over, and no memory is taken.
+pub fn next_line<S: Source, const N: usize>(
+    from: &mut Lookahead<S, N>,
+    line: &mut Vec<u8>,
+    limit: usize,
+) -> LineRead
+    ensures reads { Reads S.to_come from.old from.new limit line.new.items result }
+    ensures waited { UsesLine S.to_come S.reads N from.old from.new limit line.new.items result }
+    ensures failures { S.failures from.new.source
+        ≡ (if is_failed result then counted_on (S.failures from.old.source) else S.failures from.old.source) }
+    ensures unkept { limit ≡ 0 → result ≡ LineRead.NoMemory → ⊥ }
+    ensures no_read { from.old.at_end ≡ true → from.new.source ≡ from.old.source }
+    ensures stays { from.old.at_end ≡ true → from.new.at_end ≡ true }
+{
+    line.clear();
+    let mut long = false;
+    for _block in 0..u64::MAX {
+        if from.is_at_end() {
+            return last_read(long, line.is_empty());
+        }
+        let held = from.held();
+        let piece = piece_of(held);
+        match gather(line, held, piece.len, limit, long) {
+            Ok(longer) => long = longer,
+            Err(_) => return LineRead::NoMemory,
+        }
+        if piece.ended {
+            from.consume(piece.len + 1);
+            return if long {
+                LineRead::TooLong
+            } else {
+                LineRead::Line
+            };
+        }
+        from.consume(piece.len);
+        if from.refill().is_err() {
+            return LineRead::Fault;
+        }
+    }
+    LineRead::Endless
+}

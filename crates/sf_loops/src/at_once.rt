@@ -1,0 +1,81 @@
+//! The run over a line, where that is seen at once to be Done.
+ghost use Rattle.std.specs.Prelude.{◌≡◌, ◌≤◌, ◌++◌, ◌∷◌, ℕ, List, [], IfSome, IsTrue};
+ghost use Rattle.sf_run.specs.Limits.{RunWithin};
+ghost use Rattle.sf_run.specs.Memory.{capacity_of};
+ghost use Rattle.sf_run.specs.Views.{report_by};
+ghost use Rattle.sf_run.specs.outcome.Ending.TheVariants.{End};
+ghost use Rattle.sf_read.specs.Unbounded.{EndsUnbounded};
+
+use sf_base::HeapStore;
+use sf_format::{Directive, ScanFormat, Shape};
+use sf_run::laws::{done_runs_stay, open_inputs_are_used};
+use sf_run::{Ending, Outcome, quick_run};
+
+/// Whether the last directive is a conversion whose item ends only where a byte doesn't match.
+fn ends_unbounded(directives: &[Directive]) -> bool
+    ensures { IsTrue result → EndsUnbounded directives.now }
+{
+    match directives.last() {
+        Some(Directive::Conv(conversion)) => {
+            conversion.width.is_none()
+                && matches!(
+                    conversion.shape,
+                    Shape::Int(_) | Shape::Text | Shape::Set(_)
+                )
+        }
+        _ => false,
+    }
+}
+
+/// Runs the format over a text that has its newline here, as over the line alone. None where that isn't seen at once to
+/// be Done: then the store may keep something.
+fn run_ended(
+    store: &mut HeapStore,
+    ended: &[u8],
+    format: &ScanFormat,
+    limit: u32,
+) -> Option<Outcome>
+    ensures run { (line : List ℕ) → ended.now ≡ line ++ 10 ∷ []
+        → IfSome result (λ outcome. RunWithin format.now limit line End (report_by outcome store.new.values)) }
+    ensures room { capacity_of store.old ≤ capacity_of store.new }
+{
+    let directives = format.directives();
+    let outcome = quick_run(store, format, limit, ended)?;
+    done_runs_stay();
+    open_inputs_are_used();
+    let left = ended.len() - outcome.used as usize;
+    if left > 1 {
+        return Some(outcome);
+    }
+    if left == 0 || !ends_unbounded(directives) {
+        return None;
+    }
+    Some(Outcome {
+        status: outcome.status,
+        at: outcome.at,
+        assigned: outcome.assigned,
+        converted: outcome.converted,
+        used: outcome.used,
+        met: Some(Ending::End),
+    })
+}
+
+/// Runs the format over a line, with a newline after it meanwhile. None where that isn't seen at once to be Done.
+pub(crate) fn run_at_once(
+    store: &mut HeapStore,
+    line: &mut Vec<u8>,
+    format: &ScanFormat,
+    limit: u32,
+) -> Option<Outcome>
+    ensures run { IfSome result (λ outcome. RunWithin format.now limit line.old.items End
+        (report_by outcome store.new.values)) }
+    ensures line { line.new.items ≡ line.old.items }
+    ensures room { capacity_of store.old ≤ capacity_of store.new }
+{
+    if line.push(b'\n').is_err() {
+        return None;
+    }
+    let outcome = run_ended(store, line, format, limit);
+    let _newline = line.pop();
+    outcome
+}

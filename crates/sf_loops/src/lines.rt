@@ -1,0 +1,107 @@
+//! The lines of an input, one after the other, as rows.
+ghost use Rattle.std.specs.Prelude.{◌≡◌, ◌≤◌, ◌<◌, ◌⊎◌, ◌↔◌, [], false, Option, None, Some, IfErr, IfOk, IsErrOf};
+ghost use Rattle.sf_run.specs.declared.feeding.StartFault.TheVariants as start;
+ghost use Rattle.sf_read.specs.RowScans.{HasShape};
+ghost use Rattle.sf_loops.specs.declared.line_fault.LineStop.{LineStop};
+ghost use Rattle.sf_loops.specs.Lines.{IsNextLineRow, LineEndedWith};
+
+use crate::line_fault::LineFault;
+use crate::line_reports::LineReports;
+use sf_format::ScanFormat;
+use sf_read::{Row, RowFault, ScanRowFault, Source, has_shape};
+use std::alloc::Global;
+use std::marker::{Model, PhantomData};
+
+/// A loop over the lines of an input as rows: tuples of one to six values, or a type of the caller's. Each line is an
+/// input of its own, as C programs have it with fgets and sscanf (C11 7.21.7.2, 7.21.6.7).
+///
+/// `N` is how many bytes are read at once, at least 1. The memory of a line and of its values is used again for the
+/// next one.
+#[derive(Drop)]
+pub struct Lines<'f, T: Row, S: Source, const N: usize> {
+    reports: LineReports<'f, S, N>,
+    of: PhantomData<T>,
+}
+
+impl<'f, T: Row, S: Source, const N: usize> Model for Lines<'f, T, S, N> {
+    ghost use Rattle.sf_read.specs.RowScans.{HasShape};
+    ghost use Rattle.sf_loops.specs.Lines.{LineLoop};
+
+    ghost Value = { LineLoop S };
+
+    ghost view = { λ r. r.reports };
+
+    ghost invariant = { λ r. HasShape T.kinds r.reports.format };
+}
+
+impl<'f, T: Row, S: Source, const N: usize> Lines<'f, T, S, N> {
+    /// The loop before the first line. Each line has at most `limit` bytes.
+    ///
+    /// Refuses with ShapeDiffers where the slots of the row and their kinds are not the destinations of the format and
+    /// theirs; then with Start: a limit above 2147483647 with BadLimit, and NoMemory where memory was refused.
+    pub fn new(
+        alloc: Global,
+        source: S,
+        format: &'f ScanFormat,
+        limit: u32,
+    ) -> Result<Self, ScanRowFault>
+        requires { 1 ≤ N }
+        ensures held { IfOk result (λ r. r.ahead.held ≡ []) }
+        ensures source { IfOk result (λ r. r.ahead.source ≡ source) }
+        ensures fresh { IfOk result (λ r. r.ahead.at_end ≡ false) }
+        ensures format { IfOk result (λ r. (r.format ≡ format.entry.now) × (r.limit ≡ limit)) }
+        ensures none_yet { IfOk result (λ r. (r.read ≡ 0) × (r.line ≡ []) × (r.over ≡ None)) }
+        ensures shape { IsErrOf result ScanRowFault.ShapeDiffers ↔ (HasShape T.kinds format.entry.now → ⊥) }
+        ensures limit { HasShape T.kinds format.entry.now
+            → (IsErrOf result (ScanRowFault.Start start.BadLimit) ↔ (2147483647 < limit)) }
+        ensures memory { IfErr result (λ fault. (fault ≡ ScanRowFault.ShapeDiffers)
+            ⊎ (fault ≡ ScanRowFault.Start start.BadLimit) ⊎ (fault ≡ ScanRowFault.Start start.NoMemory)) }
+    {
+        if !has_shape::<T>(format) {
+            return Err(ScanRowFault::ShapeDiffers);
+        }
+        match LineReports::new(alloc, source, format, limit) {
+            Ok(reports) => Ok(Lines {
+                reports,
+                of: PhantomData,
+            }),
+            Err(fault) => Err(ScanRowFault::Start(fault)),
+        }
+    }
+
+    /// The row of the next line; None at the end of the input.
+    ///
+    /// A line that is no match, or is too long, is a fault with the text of the line; the call after it goes on with
+    /// the next line. After None, and after any other fault, it answers the same again.
+    pub fn next(&mut self) -> Result<Option<T>, LineFault>
+        ensures over { (end : Option LineStop) → self.old.over ≡ Some end
+            → (self.new ≡ self.old) × LineEndedWith None end result }
+        ensures next { self.old.over ≡ None → IsNextLineRow S.to_come S.reads S.failures N T.kinds T.listed self.old
+            self.new result }
+    {
+        match self.reports.advance() {
+            Ok(true) => {}
+            Ok(false) => return Ok(None),
+            Err(fault) => return Err(fault),
+        }
+        let alloc = self.reports.allocator();
+        match T::from_report(alloc, &self.reports.report()) {
+            Ok(row) => Ok(Some(row)),
+            Err(RowFault::NoMemory) => Err(self.reports.refuse_row()),
+        }
+    }
+
+    /// The text of the last line, without its newline, after `next` has answered a row.
+    pub fn line(&self) -> &[u8]
+        ensures { result.now ≡ self.now.line }
+    {
+        self.reports.line()
+    }
+
+    /// How many lines were read.
+    pub fn lines(&self) -> u64
+        ensures { result ≡ self.now.read }
+    {
+        self.reports.lines()
+    }
+}

@@ -1,0 +1,4 @@
+pub mod Faults
+pub mod Naming
+pub mod RowSlots
+pub mod Widening

@@ -1,0 +1,21 @@
+-- What a scan writes of each report: its record, in a form.
+use Rattle.std.specs.Prelude.{ℕ, true, List, length}
+use Rattle.sf_format.specs.declared.directive.Directive.{Directive}
+use Rattle.sf_format.specs.Proper.{destinations_of}
+use Rattle.sf_forms.specs.declared.form.OutputForm.{OutputForm}
+pub use Rattle.sf_forms.specs.Forms.{record_text, row_text}
+pub use Rattle.sf_forms.specs.Heads.{Heading, bare, headed_text, header_text}
+pub use Rattle.sf_forms.specs.Lines.{line_of}
+use Rattle.sf_makers.specs.Works.{Work}
+
+-- the record of the values, in this form
+abbrev pub writing : OutputForm → List Directive → Work
+writing form ds = record { fits = λ r. true; text = record_text form (length (destinations_of ds)) }
+
+-- the line of the values
+abbrev pub scanning : List Directive → Work
+scanning ds = record { fits = λ r. true; text = line_of (length (destinations_of ds)) }
+
+-- the record of the values under this heading, by the format with this number
+abbrev pub writing_under : Heading → ℕ → List Directive → Work
+writing_under h number ds = record { fits = λ r. true; text = headed_text h number (length (destinations_of ds)) }

@@ -1,0 +1,85 @@
+-- Prints of reports by a print format, without a pair.
+use Rattle.std.specs.Prelude.{◌≡◌, ◌≤◌, ◌<◌, ◌&&◌, ◌||◌, not, ℕ, nat_le, Bool, true, false, if◌then◌else◌, List, length, Option, Some, is_ok}
+use Rattle.std.specs.List.{filter_map}
+use Rattle.std.specs.Option.{option_map}
+use Rattle.sf_base.specs.Data.{Assigned, Datum, Number, datum_at}
+use Rattle.sf_base.specs.declared.values.Kind.{Kind}
+use Rattle.sf_base.specs.declared.values.Kind.TheVariants as kind
+use Rattle.sf_format.specs.declared.directive.Directive.{Directive}
+use Rattle.sf_format.specs.declared.unit.Unit.{Unit as PrintUnit}
+use Rattle.sf_format.specs.Proper.{destinations_of, kind_at}
+use Rattle.sf_format.specs.Slots.{kind_with, slots_from}
+use Rattle.sf_format.specs.Units.{is_signed, is_text, values_of}
+use Rattle.sf_print.specs.Printed.{measured, printed}
+use Rattle.sf_report.specs.Runs.{RunReport}
+use Rattle.sf_makers.specs.declared.printable.PrintMismatch.{PrintMismatch}
+use Rattle.sf_makers.specs.declared.printable.PrintMismatch.TheVariants as mismatch
+use Rattle.sf_makers.specs.Works.{Work}
+
+-- ---- kinds
+
+-- how many bits the numbers of the kind have beside the sign (C11 6.2.6.2p2)
+abbrev pub bits_of : Kind → ℕ
+bits_of kind.I8 = 7
+bits_of kind.I16 = 15
+bits_of kind.I32 = 31
+bits_of kind.I64 = 63
+bits_of kind.U8 = 8
+bits_of kind.U16 = 16
+bits_of kind.U32 = 32
+bits_of kind.U64 = 64
+bits_of kind.Text = 0
+
+-- the first kind has each value of the second
+abbrev pub holds_all : Kind → Kind → Bool
+holds_all wide narrow =
+    if is_text narrow then is_text wide else
+    not (is_text wide) && (is_signed wide || not (is_signed narrow)) && nat_le (bits_of narrow) (bits_of wide)
+
+abbrev pub suit : Option Kind → Option Kind → Bool
+suit (Some printed_kind) (Some scanned) = holds_all printed_kind scanned
+suit _ _ = false
+
+-- what the print format prints with the slot has each value that the scan format gives it
+abbrev pub suits : List PrintUnit → List Directive → ℕ → Bool
+suits units ds slot = suit (kind_with slot (values_of units)) (kind_at slot ds)
+
+-- the print format can print what the scan format gives: there are as many values, and each suits
+pub record IsPrintable (units : List PrintUnit) (ds : List Directive) : Type 0 where
+  pub count : length (values_of units) ≡ length (destinations_of ds)
+  pub each : (slot : ℕ) → 1 ≤ slot → slot ≤ length (values_of units) → suits units ds slot ≡ true
+
+-- why it can't: there are not as many values; or this is the lowest slot that doesn't suit, with its kinds
+abbrev pub IsMismatch : List PrintUnit → List Directive → PrintMismatch → Type 0
+IsMismatch units ds (mismatch.Count values destinations) =
+    (values ≡ length (values_of units)) × (destinations ≡ length (destinations_of ds)) × (values ≡ destinations → ⊥)
+IsMismatch units ds (mismatch.Kinds slot print scan) =
+    (length (values_of units) ≡ length (destinations_of ds)) × (kind_with slot (values_of units) ≡ Some print)
+    × (kind_at slot ds ≡ Some scan) × (holds_all print scan ≡ false)
+    × ((lower : ℕ) → 1 ≤ lower → lower < slot → suits units ds lower ≡ true)
+
+-- ---- records
+
+-- a number of a kind that another holds, as one of that
+abbrev pub in_kind : Option Kind → Datum → Datum
+in_kind (Some wide) (Number own n) = if holds_all wide own then Number wide n else Number own n
+in_kind _ value = value
+
+-- the value of the slot, as one of the kind that the print format has there
+abbrev pub printed_at : List PrintUnit → List Assigned → ℕ → Option Datum
+printed_at units values slot = option_map (in_kind (kind_with slot (values_of units))) (datum_at slot values)
+
+-- the values of the slots from 1 to n, so
+abbrev pub printed_row : List PrintUnit → ℕ → List Assigned → List Datum
+printed_row units n values = filter_map (printed_at units values) (slots_from 1 n)
+
+abbrev pub printed_in : List PrintUnit → List Directive → RunReport → List Datum
+printed_in units ds r = printed_row units (length (destinations_of ds)) r.values
+
+-- The text of the values by the print format is written, where the format can print them: there are as many as it prints, of its
+-- kinds, a text that `c` prints has one byte, and the printed text has no more bytes than one may have.
+abbrev pub printing : List PrintUnit → List Directive → Work
+printing units ds = record {
+  fits = λ r. is_ok (measured units (printed_in units ds r));
+  text = λ r. printed units (printed_in units ds r);
+}

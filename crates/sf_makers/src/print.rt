@@ -1,0 +1,131 @@
+//! Prints of reports by a print format, without a pair.
+ghost use Rattle.std.specs.Prelude.{◌≡◌, ◌≤◌, map, is_ok, refl, Some, if◌then◌else◌};
+ghost use Rattle.sf_base.specs.Data.{datum_of, datum_of_number, datum_of_shown};
+ghost use Rattle.sf_format.specs.Slots.{kind_with};
+ghost use Rattle.sf_format.specs.Units.{values_of};
+ghost use Rattle.sf_print.specs.Printed.{measured, printed};
+ghost use Rattle.sf_print.specs.Sinks.{counted_on};
+ghost use Rattle.sf_makers.specs.Prints.{in_kind, printed_row, printing};
+ghost use Rattle.sf_makers.specs.Works.{Writes, sink_failed};
+
+use crate::maker::{Maker, Unwritten};
+use crate::printable::holds_all;
+use crate::rows::{FEW_VALUES, MOST_VALUES};
+use arrayvec::ArrayVec;
+use sf_base::{Kind, Number, Shown, Store, Value};
+use sf_format::{PrintFormat, ScanFormat};
+use sf_print::{PrintFault, Sink, fprint};
+use sf_report::Report;
+use std::marker::Model;
+
+/// Prints the values of each report by a print format.
+#[derive(Drop)]
+pub struct PrintMaker<'p> {
+    print: &'p PrintFormat,
+}
+
+impl<'p> Model for PrintMaker<'p> {
+    ghost use Rattle.std.specs.Prelude.{List};
+    ghost use Rattle.sf_format.specs.declared.unit.Unit.{Unit as PrintUnit};
+
+    ghost Value = { List PrintUnit };
+
+    ghost view = { λ maker. maker.print.now };
+}
+
+impl<'p> PrintMaker<'p> {
+    /// Of prints by this format.
+    pub fn new(print: &'p PrintFormat) -> PrintMaker<'p>
+        ensures { result ≡ print.entry.now }
+    {
+        PrintMaker { print }
+    }
+}
+
+/// A number of a kind that another holds, as one of that.
+fn widened(number: Number, wide: Kind) -> Number
+    ensures { datum_of_number result ≡ in_kind (Some wide) (datum_of_number number) }
+{
+    if !holds_all(wide, number.kind) {
+        return number;
+    }
+    match wide.number(number.negative, number.magnitude) {
+        Some(same) => same,
+        None => unreachable!(),
+    }
+}
+
+/// The value, a number as one of the kind where that holds each of its own.
+fn in_kind<'a>(shown: Shown<'a>, kind: Option<Kind>) -> Value<'a>
+    ensures { datum_of result ≡ in_kind kind (datum_of_shown shown.entry) }
+{
+    match (shown, kind) {
+        (Shown::Number(number), Some(wide)) => widened(number, wide).value(),
+        _ => shown.value(),
+    }
+}
+
+/// The values of a record, slot by slot, each as one of the kind that the print format has there.
+fn row<'r, T: Store, const MOST: usize>(
+    report: &Report<'r, T>,
+    print: &PrintFormat,
+    destinations: u8,
+) -> ArrayVec<Value<'r>, MOST>
+    requires { destinations ≤ MOST }
+    ensures { map datum_of result.items ≡ printed_row print.now destinations report.now.values }
+{
+    let mut values = ArrayVec::new();
+    for before in 0..destinations {
+        match report.shown(before + 1) {
+            Some(shown) => values.push(in_kind(shown, print.kind(before + 1))),
+            None => {}
+        }
+    }
+    values
+}
+
+/// Prints the values, if the format can print them.
+fn print_row<K: Sink>(
+    to: &mut K,
+    print: &PrintFormat,
+    values: &[Value<'_>],
+) -> Result<(), Unwritten>
+    ensures made { Writes (is_ok (measured print.now (map datum_of values.now)))
+        (printed print.now (map datum_of values.now)) (K.contents to.old) (K.contents to.new) result }
+    ensures failures { K.failures to.new
+        ≡ (if sink_failed result then counted_on (K.failures to.old) else K.failures to.old) }
+{
+    match fprint(to, print, values) {
+        Ok(_) => Ok(()),
+        Err(PrintFault::Sink { .. }) => Err(Unwritten::Write),
+        Err(_) => Err(Unwritten::Unfit),
+    }
+}
+
+impl Maker for PrintMaker<'_> {
+    ghost work = { λ units number ds. printing units ds };
+
+    fn write<K: Sink, T: Store>(
+        &mut self,
+        to: &mut K,
+        format: &ScanFormat,
+        _number: usize,
+        report: &Report<'_, T>,
+    ) -> Result<(), Unwritten> {
+        let destinations = format.destinations();
+        if destinations as usize <= FEW_VALUES {
+            return print_row(
+                to,
+                self.print,
+                &row::<T, FEW_VALUES>(report, self.print, destinations),
+            );
+        }
+        print_row(
+            to,
+            self.print,
+            &row::<T, MOST_VALUES>(report, self.print, destinations),
+        )
+    }
+
+    ghost unmet = { λ units number ds report met. record { fits = refl; text = refl } };
+}

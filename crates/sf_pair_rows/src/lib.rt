@@ -1,0 +1,11 @@
+//! Lists of rows by a pair of formats: written one after the other, and read back.
+#![tactic(auto)]
+
+mod below;
+mod fault;
+mod reading;
+mod writing;
+
+pub use fault::{ReadRowsFault, WriteRowsFault};
+pub use reading::read_rows;
+pub use writing::write_rows;

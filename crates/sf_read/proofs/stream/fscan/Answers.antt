@@ -1,0 +1,38 @@
+use Rattle.std.proofs.Common.{rules, ◌≡◌, ◌∙◌, take, drop, refl, sym, ap, subst}
+use Rattle.std.specs.Prelude.{IfOk}
+use Rattle.std.proofs.lemmas.List.{take-append-drop, length-take-le}
+use Rattle.sf_run.specs.Limits.{RunTold}
+use Rattle.sf_run.specs.Runs.{RunReport}
+use Rattle.sf_read.specs.Reads.{WaitedFor}
+use Rattle.sf_read.specs.Scan.{Scan}
+use Rattle.sf_read.proofs.Blocks.{no_reads}
+use Rattle.sf_read.proofs.stream.fscan.Goals as goal
+
+pub returns-in-Some-clause-scan : goal.returns-in-Some-clause-scan
+returns-in-Some-clause-scan g c t e =
+    subst (λ report. Scan g.S.Source.to_come c.args.format.now c.args.limit t c.args.from.now c.fscan_held.new.from report)
+    (sym c.new-in-Some.ensures.report) (c.in-Some.ensures.scan t e)
+
+pub returns-in-Some-clause-told : goal.returns-in-Some-clause-told
+returns-in-Some-clause-told g c =
+    let told = c.in-Some.ensures.told in
+    let report = sym c.new-in-Some.ensures.report in
+    (told.0, told.1, subst (λ report. RunTold c.args.format.now c.args.limit told.0 told.1 report) report told.2)
+
+pub returns-in-Some-clause-waited : goal.returns-in-Some-clause-waited
+returns-in-Some-clause-waited g c =
+    let held : c.fscan_held.new.from.held ≡ drop c.in-Some.outcome.used c.args.from.now.held = c.in-Some.ensures.held in (
+      take c.in-Some.outcome.used c.args.from.now.held,
+      ap (λ (r : RunReport). r.used) c.new-in-Some.ensures.report ∙ sym (length-take-le c.in-Some.outcome.used c.args.from.now.held
+          c.in-Some.ensures.within),
+      no_reads (take c.in-Some.outcome.used c.args.from.now.held) c.fscan_held.new.from
+          (rw (held, take-append-drop) refl) c.fscan_held.ensures.no_read,
+    )
+
+pub returns-clause-waited : goal.returns-clause-waited
+returns-clause-waited g c =
+    let stood : c.fscan_held.new.from ≡ c.args.from.now = search rules in
+    subst (λ old. IfOk c.fscan_by_scanner.result (λ s. WaitedFor g.S.Source.to_come g.S.Source.reads g.row.N
+    c.args.format.now c.args.limit old
+    c.fscan_by_scanner.new.from s.report.used)) stood
+    c.fscan_by_scanner.ensures.waited

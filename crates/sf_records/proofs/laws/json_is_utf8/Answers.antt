@@ -1,5 +1,0 @@
-use Rattle.sf_records.proofs.JsonUtf8.{arrays_utf8}
-use Rattle.sf_records.proofs.laws.json_is_utf8.Goals as goal
-
-pub returns : goal.returns
-returns c = arrays_utf8

@@ -1,5 +1,0 @@
-use Rattle.sf_records.proofs.JsonReading.{arrays_back}
-use Rattle.sf_records.proofs.laws.json_reads_back.Goals as goal
-
-pub returns : goal.returns
-returns c = arrays_back

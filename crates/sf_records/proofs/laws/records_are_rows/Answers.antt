@@ -1,5 +1,0 @@
-use Rattle.sf_records.proofs.RecordRows.{record_is_row}
-use Rattle.sf_records.proofs.laws.records_are_rows.Goals as goal
-
-pub returns : goal.returns
-returns c = record_is_row

@@ -1,5 +1,0 @@
-use Rattle.sf_records.proofs.TableReading.{table_back}
-use Rattle.sf_records.proofs.laws.tsv_reads_back.Goals as goal
-
-pub returns : goal.returns
-returns c = table_back

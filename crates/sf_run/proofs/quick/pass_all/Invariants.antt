@@ -1,0 +1,10 @@
+use Rattle.std.proofs.Common.{◌≤◌}
+use Rattle.sf_report.specs.Memory.{capacity_of}
+use Rattle.sf_run.proofs.AtOnce.{Counted}
+use Rattle.sf_run.proofs.quick.pass_all.Given as goal
+
+abbrev pub invariant-loop-at : goal.invariant-loop-at
+invariant-loop-at l = record {
+  counted : Counted l.directives l.front l.rest l.at l.store;
+  room : capacity_of l.fn.store ≤ capacity_of l.store;
+}

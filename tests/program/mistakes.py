@@ -1,0 +1,476 @@
+r"""Mistakes as people type them: what is said on a terminal, and what in a pipe.
+
+On a terminal the line of the fault is followed by what helps. In a pipe it stands alone, so that what scripts read stays.
+What `clap` says of the words is the same on both. Each row has the command as it is typed, what standard input holds, and
+what a terminal shows.
+"""
+import os
+import pty
+import shlex
+import subprocess
+import unittest
+
+import program
+
+FORMATS = (
+    (r"scan %f", """
+sf: scan format: F5 LeftOut at 1
+  %f: floating point is left out of profiles 1 and 2
+  "%f"
+    ^
+"""),
+    (r"scan '%s %5.2f'", """
+sf: scan format: F4 UnknownLetter at 5
+  ".": floating point is left out of profiles 1 and 2
+  "%s %5.2f"
+        ^
+"""),
+    (r"print %5.2f 1.5", """
+sf: print format: F5 LeftOut at 4
+  %f: floating point is left out of profiles 1 and 2
+  "%5.2f"
+       ^
+"""),
+    (r"scan '\d+'", r"""
+sf: scan format: bad escape at 0
+  \d is no escape: after a backslash stands one of \ n t v f r, or x and two hexadecimal digits
+  "\\d+"
+   ^
+"""),
+    (r"print '%s\n' 'C:\data'", r"""
+sf: value 1: bad escape at 2
+  \d is no escape: after a backslash stands one of \ n t v f r, or x and two hexadecimal digits
+  "C:\\data"
+     ^
+"""),
+    (r"scan 'total 5%'", """
+sf: scan format: F1 Truncated at 8
+  the format ends inside a conversion; %% stands for a percent sign
+  "total 5%"
+           ^
+"""),
+    (r"scan '%0d'", """
+sf: scan format: F2 ZeroWidth at 1
+  a conversion of width 0 takes nothing
+  "%0d"
+    ^
+"""),
+    (r"scan '%70000s'", """
+sf: scan format: F3 TooWide at 1
+  a width is at most 65535
+  "%70000s"
+    ^
+"""),
+    (r"scan '5%, %d'", """
+sf: scan format: F4 UnknownLetter at 2
+  ",": no conversion of this profile is written so; %% stands for a percent sign
+  "5%, %d"
+     ^
+"""),
+    (r"scan '%-5d'", """
+sf: scan format: F4 UnknownLetter at 1
+  "-": a flag stands first in a conversion, and in a print format alone; of two formats the print format comes first
+  "%-5d"
+    ^
+"""),
+    (r"scan '%ls'", """
+sf: scan format: F5 LeftOut at 2
+  %ls: wide characters are not part of sf
+  "%ls"
+     ^
+"""),
+    (r"scan '%ms'", """
+sf: scan format: F5 LeftOut at 1
+  %m: memory of the scan's own is not part of sf
+  "%ms"
+    ^
+"""),
+    (r"scan '%hs'", """
+sf: scan format: F6 BadLength at 2
+  this letter has no such length
+  "%hs"
+     ^
+"""),
+    (r"scan '%[a-z'", """
+sf: scan format: F7 OpenSet at 1
+  no ] closes the set
+  "%[a-z"
+    ^
+"""),
+    (r"scan '%[z-a]'", """
+sf: scan format: F8 BackwardRange at 2
+  the range runs backward
+  "%[z-a]"
+     ^
+"""),
+    (r"scan '%*n'", """
+sf: scan format: F9 BadCount at 2
+  %n has neither a * nor a width
+  "%*n"
+     ^
+"""),
+    (r"scan '%1$d%d'", """
+sf: scan format: F10 MixedNumbering at 4
+  either all conversions have a number with $, or none has
+  "%1$d%d"
+       ^
+"""),
+    (r"scan '%33$d'", """
+sf: scan format: F11 BadNumber at 1
+  a number is 1 to 32, and what is dropped has none
+  "%33$d"
+    ^
+"""),
+    (r"scan '%1$d,%1$d'", """
+sf: scan format: F12 NumberTwice at 5
+  this number stands twice
+  "%1$d,%1$d"
+        ^
+"""),
+    (r"scan '%1$d,%3$d'", """
+sf: scan format: F13 NumberGap at 5
+  the numbers leave a gap
+  "%1$d,%3$d"
+        ^
+"""),
+    (r"scan 'a\x00b'", r"""
+sf: scan format: F14 Nul at 1
+  a format has no NUL
+  "a\x00b"
+    ^
+"""),
+    (r"scan '" + "%d " * 33 + "'", """
+sf: scan format: F16 TooManyDestinations at 96
+  a format has at most 32 values
+  \"""" + "%d " * 33 + """\"
+   """ + " " * 96 + """^
+"""),
+    (r"print %+u 1", """
+sf: print format: F17 BadFlag at 1
+  this letter has no such flag or precision
+  "%+u"
+    ^
+"""),
+    (r"print %.300d 1", """
+sf: print format: F18 PrecisionTooLarge at 2
+  a precision is at most 255
+  "%.300d"
+     ^
+"""),
+)
+
+# `check` and `copy` take the print format first.
+PAIRS = (
+    (r"check '%11d,%20s%*1[\n]' '%d,%s\n'", r"""
+sf: print format: F5 LeftOut at 10
+  %*: a width or a precision among the values is not part of sf; of two formats the print format comes first
+  "%11d,%20s%*1[\x0a]"
+             ^
+"""),
+    (r"copy '%[^,],%d' '%s,%d\n'", """
+sf: print format: F4 UnknownLetter at 1
+  "[": a set stands in a scan format alone; of two formats the print format comes first
+  "%[^,],%d"
+    ^
+"""),
+    (r"copy '%d%n' '%d\n'", """
+sf: print format: F5 LeftOut at 3
+  %n: a count is not part of sf's print formats; of two formats the print format comes first
+  "%d%n"
+      ^
+"""),
+    (r"copy '%d\n' '%d\n'", """
+sf: pair: Q4 NoWidth at 1
+  a conversion that is read back needs a width: write %11d
+  scan format, directive 1: "%d", d i32 width - slot 1
+  print format, directive 1: d i32 flags "" width - precision - slot 1
+"""),
+    (r"copy '%d\n' '%11d\n'", r"""
+sf: pair: Q7 OpenEnd at 2
+  nothing is written after this, so what follows could be read as more of it: end the print format with \n and the scan format with %*1[\n]
+  scan format, directive 2: "\x0a", space
+  print format, directive 2: byte "\x0a"
+"""),
+    (r"copy '%s,%d\n' '%s,%11d%*1[\n]'", """
+sf: pair: Q4 NoWidth at 1
+  a conversion that is read back needs a width: write the most bytes of the text after the %
+  scan format, directive 1: "%s", s text width - slot 1
+  print format, directive 1: s text flags "" width - precision - slot 1
+"""),
+    (r"copy '%d,' '%11d;'", """
+sf: pair: Q1 NotAligned at 2
+  what stands here is not what the other format has in its place
+  scan format, directive 2: ";", byte ";"
+  print format, directive 2: byte ","
+"""),
+    (r"copy '%x\n' '%8u%*1[\n]'", """
+sf: pair: Q2 KindDiffers at 1
+  the kinds or the letters of the two conversions differ
+  scan format, directive 1: "%8u", u u32 width 8 slot 1
+  print format, directive 1: x u32 flags "" width - precision - slot 1
+"""),
+    (r"copy '%2$d-%1$d\n' '%11d-%11d%*1[\n]'", """
+sf: pair: Q3 NumberDiffers at 1
+  the two conversions are of different values
+  scan format, directive 1: "%11d", d i32 width 11 slot 1
+  print format, directive 1: d i32 flags "" width - precision - slot 2
+"""),
+    (r"copy '%05d\n' '%3d%*1[\n]'", """
+sf: pair: Q5 TooNarrow at 1
+  the width is less than the shortest text that is written
+  scan format, directive 1: "%3d", d i32 width 3 slot 1
+  print format, directive 1: d i32 flags "0" width 5 precision - slot 1
+"""),
+    (r"copy '%d%d\n' '%11d%11d%*1[\n]'", """
+sf: pair: Q6 RunsOn at 1
+  what is written next could be read by this directive too: write a byte between them at which it stops
+  scan format, directive 1: "%11d", d i32 width 11 slot 1
+  print format, directive 1: d i32 flags "" width - precision - slot 1
+"""),
+    (r"copy '%05d\n' '%5i%*1[\n]'", """
+sf: pair: Q8 LeadingZero at 1
+  %i reads a leading zero as octal
+  scan format, directive 1: "%5i", i i32 width 5 slot 1
+  print format, directive 1: d i32 flags "0" width 5 precision - slot 1
+"""),
+    (r"copy '%d;' '%11d;%n'", """
+sf: pair: Q9 NotWritten at 3
+  nothing is written for %n
+  scan format, directive 3: "%n", n i32 width - slot 2
+  the print format ends there
+"""),
+    (r"copy '%-5d\n' '%5d%*1[\n]'", """
+sf: pair: Q10 BadFlagHere at 1
+  what this flag, width or precision writes is not read back
+  scan format, directive 1: "%5d", d i32 width 5 slot 1
+  print format, directive 1: d i32 flags "-" width 5 precision - slot 1
+"""),
+    (r"copy 'a\n' 'a%*1[\n]'", """
+sf: pair: Q11 NoValues at 0
+  a pair has at least one value
+"""),
+)
+
+VALUES = (
+    (r"print %d 0x10", """
+sf: value 1: expected i32
+  value 1: "0x10" is no decimal integer from -2147483648 to 2147483647
+"""),
+    (r"print %d x", """
+sf: value 1: expected i32
+  value 1: "x" is no decimal integer from -2147483648 to 2147483647
+"""),
+    (r"print '%s %d' a 99999999999", """
+sf: value 2: expected i32
+  value 2: "99999999999" is no decimal integer from -2147483648 to 2147483647
+"""),
+    (r"print %hhu 256", """
+sf: value 1: expected u8
+  value 1: "256" is no decimal integer from 0 to 255
+"""),
+    (r"print %d 1.5", """
+sf: value 1: expected i32
+  value 1: "1.5" is no decimal integer from -2147483648 to 2147483647
+"""),
+    (r"print %c ab", """
+sf: value 1: expected one byte
+  value 1: "ab" is not one byte
+"""),
+    (r"print %d a b", """
+sf: expected 1 values, got 2
+  "%d" takes 1 value, not 2
+"""),
+    (r"print '%s %s\n' hello", r"""
+sf: expected 2 values, got 1
+  "%s %s\\n" takes 2 values, not 1
+"""),
+)
+
+# The command, what standard input holds, and what is said of it.
+RECORDS = (
+    (r"scan %d,%d", "1,2\n3;4\n", r"""
+sf: record 2: matching failure at 2, used 2, assigned 1
+  directive 2: ",", byte ","
+  at line 2, column 2 of the input
+  there stood ";4\x0a"
+"""),
+    (r"scan --lines %d,%d", "1,2\n3;4\n", """
+sf: line 2: matching failure at 2, used 1, assigned 1
+  directive 2: ",", byte ","
+  there stood ";4"
+"""),
+    (r"scan --lines --whole %d", "1\n2 x\n", """
+sf: line 2: left over at 1
+  there stood " x"
+"""),
+    (r"scan --lines %hhu", "300\n", """
+sf: line 1: out of range at 1, used 3, assigned 0
+  directive 1: "%hhu", u u8 width - slot 1
+  the input ended there
+"""),
+    (r"scan --lines '%[0-9.] %u'", " 62.50 5\n", """
+sf: line 1: matching failure at 1, used 0, assigned 0
+  directive 1: "%[0-9.]", [ text width - slot 1 members 11
+  there stood " 62.50 5"
+  white space stands in front, which only numbers and %s pass over: a blank at the format's front does, too
+"""),
+    (r"scan --lines --limit 5 %s", "abc\nabcdefgh\n", """
+sf: line 2: too long
+  it begins with "abcde"
+"""),
+    # the newline after a record, which the next one begins with
+    (r"scan '%[^=]=%d'", "x=1\ny=2\n", r"""
+sf: record 3: input failure at 2, used 1, assigned 1
+  directive 2: "=", byte "="
+  at line 3, column 1 of the input
+  the input ended there
+  the record is the newline after the last one: a blank at the format's front passes over it, and %*1[\n] at its end takes it
+"""),
+    (r"scan '%[^,],%d'", "a,1\nb,x\n", r"""
+sf: record 2: matching failure at 3, used 3, assigned 1
+  directive 3: "%d", d i32 width - slot 2
+  at line 2, column 3 of the input
+  there stood "x\x0a"
+  the record begins with the newline after the last one: a blank at the format's front passes over it, and %*1[\n] at its end takes it
+"""),
+    (r"scan %c%d", "a1\nb2\n", r"""
+sf: record 2: matching failure at 2, used 1, assigned 1
+  directive 2: "%d", d i32 width - slot 2
+  at line 2, column 1 of the input
+  there stood "b2\x0a"
+  the record begins with the newline after the last one: a blank at the format's front passes over it, and %*1[\n] at its end takes it
+"""),
+    (r"scan '%2[a-z]%d'", "ab 1\ncd 2\n", r"""
+sf: record 2: matching failure at 1, used 0, assigned 0
+  directive 1: "%2[a-z]", [ text width 2 slot 1 members 26
+  at line 1, column 5 of the input
+  there stood "\x0acd 2\x0a"
+  the record begins with white space: a blank at the format's front passes over it, and %*1[\n] at its end takes the newline after a record
+"""),
+    # records that go on over the end of a line
+    (r"scan '%d %d'", "1 2\n3\n4 5\n6 7\n", """
+sf: record 4: input failure at 3, used 3, assigned 1
+  directive 3: "%d", d i32 width - slot 2
+  at line 5, column 1 of the input
+  the input ended there
+  the record goes over a newline: sf scan --lines ends each record with its line
+"""),
+    (r"scan '%[^,],%d'", "a,1\nb\n", """
+sf: record 2: input failure at 2, used 3, assigned 1
+  directive 2: ",", byte ","
+  at line 3, column 1 of the input
+  the input ended there
+  the record goes over a newline: sf scan --lines ends each record with its line
+"""),
+    # no newline is at fault here, though the record begins with one
+    (r"scan '%d %d'", "1 2\n3 x\n", r"""
+sf: record 2: matching failure at 3, used 3, assigned 1
+  directive 3: "%d", d i32 width - slot 2
+  at line 2, column 3 of the input
+  there stood "x\x0a"
+"""),
+)
+
+# What `clap` says of the words, before it shows how the command is called.
+WORDS = (
+    (r"scn %d", """
+error: unrecognized subcommand 'scn'
+
+  tip: a similar subcommand exists: 'scan'
+
+"""),
+    (r"scan", """
+error: the following required arguments were not provided:
+  <FORMAT>
+
+"""),
+    (r"scan --line %d", """
+error: unexpected argument '--line' found
+
+  tip: a similar argument exists: '--lines'
+
+"""),
+    (r"scan --skip 1 %d", """
+error: the argument '--skip <N>' cannot be used without '--lines'
+
+"""),
+    (r"scan --limit 99999999999 %d", """
+error: invalid value '99999999999' for '--limit <N>': 99999999999 is not in 0..=2147483647
+
+"""),
+    (r"scan --output xml %d", """
+error: invalid value 'xml' for '--output <FORM>'
+  [possible values: plain, tsv, json, csv]
+
+"""),
+)
+
+
+def on_terminal(words, text):
+    """The status of a call, and what its error output shows, where that is a terminal."""
+    ours, theirs = pty.openpty()
+    try:
+        status, _, _ = program.run(*words, stdin=text, stderr=theirs)
+        os.write(theirs, b"\0")
+        shown = b""
+        while not shown.endswith(b"\0"):
+            shown += os.read(ours, 65536)
+    finally:
+        os.close(ours)
+        os.close(theirs)
+    return status, shown[:-1].replace(b"\r\n", b"\n").decode()
+
+
+def in_pipe(words, text):
+    status, _, err = program.run(*words, stdin=text, stderr=subprocess.PIPE)
+    return status, err.decode()
+
+
+class Mistakes(unittest.TestCase):
+    maxDiff = None
+
+    def both(self, typed, text, status, shown, piped):
+        words, text = shlex.split(typed), text.encode()
+        with self.subTest(typed):
+            self.assertEqual(on_terminal(words, text), (status, shown))
+            self.assertEqual(in_pipe(words, text), (status, piped))
+
+    def rows(self, table, status):
+        """A pipe gets the first line of what a terminal shows."""
+        self.assertGreater(len(table), 5)
+        for typed, *text, shown in table:
+            shown = shown[1:]
+            self.both(typed, "".join(text), status, shown, shown.split("\n")[0] + "\n")
+
+    def test_formats(self):
+        self.rows(FORMATS, 2)
+
+    def test_pairs(self):
+        self.rows(PAIRS, 2)
+
+    def test_values(self):
+        self.rows(VALUES, 2)
+
+    def test_records(self):
+        self.rows(RECORDS, 1)
+
+    def test_words(self):
+        """The same on a terminal and in a pipe."""
+        for typed, shown in WORDS:
+            words = shlex.split(typed)
+            with self.subTest(typed):
+                status, said = on_terminal(words, b"")
+                self.assertEqual((status, said[: len(shown) - 1]), (2, shown[1:]))
+                self.assertTrue(said.endswith("\nFor more information, try '--help'.\n"))
+                self.assertEqual(in_pipe(words, b""), (status, said))
+
+    def test_no_explain_on_a_terminal(self):
+        for typed, *text, shown in RECORDS:
+            words = shlex.split(typed)
+            words.insert(1, "--no-explain")
+            with self.subTest(typed):
+                self.assertEqual(on_terminal(words, "".join(text).encode()), (1, shown[1:].split("\n")[0] + "\n"))
+
+    def test_nothing_is_printed_before_a_format_is_judged(self):
+        for typed in ("scan %f", "scan --lines %f", r"copy '%d\n' '%d\n'"):
+            self.assertEqual(program.run(*shlex.split(typed), stdin=b"1.5\n")[1], b"")
