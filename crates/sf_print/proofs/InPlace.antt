@@ -32,8 +32,8 @@ more_written f xs i d h begun before new was is =
     ∙ ap (λ (t : List ℕ). begun ++ t) (flat_map_more f xs i d h)
 
 -- a sink that failed took a front of the text
-pub front_taken : (a b : Option (List ℕ)) (text front rest : List ℕ) (n : ℕ) → text ≡ front ++ rest → Appends a b front → n ≡ 0 + length front
-    → 0 < length rest → Appends a b (take n text) × (n < length text)
+pub front_taken : (a b : Option (List ℕ)) (text front rest : List ℕ) (n : ℕ) → text ≡ front ++ rest → Appends a b front
+    → n ≡ 0 + length front → 0 < length rest → Appends a b (take n text) × (n < length text)
 front_taken a b text front rest n is known count more =
     let long : n ≡ length front = omega arith in
     let same : take n text ≡ front = (λ i. take (long i) (is i)) ∙ take-append_seam front rest in
