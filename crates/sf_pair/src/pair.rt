@@ -19,7 +19,8 @@ use sf_format::{PrintFormat, ScanFormat};
 use sf_print::{Sink, fprint};
 use std::marker::Model;
 
-/// A print format, and a scan format that reads back what it prints of values that fit, whatever follows.
+/// A print format (C11 7.21.6.1), and a scan format (C11 7.21.6.2) that reads back what it prints of values that fit,
+/// whatever follows.
 #[derive(Drop)]
 pub struct Pair<'f> {
     print: &'f PrintFormat,
