@@ -24,7 +24,8 @@ use std::marker::Model;
 /// A text of at most so many bytes is written in place, and then handed to the sink at once.
 const LINE_BYTES: usize = 256;
 
-/// A print format, and a scan format that reads back what it prints of values that fit, whatever follows.
+/// A print format (C11 7.21.6.1), and a scan format (C11 7.21.6.2) that reads back what it prints of values that fit,
+/// whatever follows.
 #[derive(Drop)]
 pub struct Pair<'f> {
     print: &'f PrintFormat,
