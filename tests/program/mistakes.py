@@ -398,6 +398,29 @@ error: the argument '--skip <N>' cannot be used without '--lines'
 error: invalid value '99999999999' for '--limit <N>': 99999999999 is not in 0..=2147483647
 
 """),
+    (r"scan --limit -1 %d", """
+error: invalid value '-1' for '--limit <N>': -1 is not in 0..=2147483647
+
+"""),
+    (r"scan --lines --skip -12 %d", """
+error: invalid value '-12' for '--skip <N>': -12 is not in 0..9223372036854775807
+
+"""),
+    (r"scan --lines -s -1 %d", """
+error: invalid value '-1' for '--skip <N>': -1 is not in 0..9223372036854775807
+
+"""),
+    (r"copy -p -1 %d %d", """
+error: invalid value '-1' for '--profile <N>': -1 is not in 1..=2
+
+"""),
+    # here the tip is right
+    (r"print %d -5", """
+error: unexpected argument '-5' found
+
+  tip: to pass '-5' as a value, use '-- -5'
+
+"""),
     (r"scan --output xml %d", """
 error: invalid value 'xml' for '--output <FORM>'
   [possible values: plain, tsv, json, csv]

@@ -199,7 +199,7 @@ pub(crate) fn misuse_of<'a>(verb: Verb, given: &ArgMatches<'a>) -> Option<Misuse
 }
 
 /// An option as it is written, as `--skip <N>`.
-fn push_option(text: &mut String, option: &CommandOption) -> Result<(), AllocError> {
+pub(crate) fn push_option(text: &mut String, option: &CommandOption) -> Result<(), AllocError> {
     match option.short {
         Some(letter) if !option.has_long => write!(text, "-{letter}")?,
         _ => write!(text, "--{}", option.name)?,
