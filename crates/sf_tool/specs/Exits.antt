@@ -9,6 +9,8 @@ use Rattle.sf_words.specs.declared.order.LineOptions.{LineOptions}
 use Rattle.sf_words.specs.declared.order.Notes.{Notes}
 use Rattle.sf_words.specs.declared.order.Notes.TheVariants.{Always, OnTerminal, Never}
 use Rattle.sf_words.specs.declared.order.Order.{Order}
+use Rattle.sf_words.specs.declared.order.Verb.{Verb}
+use Rattle.sf_words.specs.declared.order.Verb.TheVariants as verb
 use Rattle.sf_words.specs.declared.order.WordsFault.{WordsFault}
 use Rattle.sf_words.specs.declared.order.WordsFault.TheVariants.{Help, Usage, NoMemory}
 use Rattle.sf_words.specs.Orders.{HasTextsFor, IsOrder, IsRefusal, faults_of}
@@ -18,6 +20,7 @@ use Rattle.sf_forms.specs.Columns.{name_at}
 use Rattle.sf_jobs.specs.Answers.{Answer}
 use Rattle.sf_jobs.specs.Commands.{CarriesOut, Counts, form_of, grammar_of}
 use Rattle.sf_jobs.specs.Heads.{is_headed, names_text, split}
+use Rattle.sf_tool.specs.Copies.{CopiesTexts}
 use Rattle.sf_tool.specs.Explains.{SaysMore}
 use Rattle.sf_tool.specs.Fronts.{file_name, file_of, in_front}
 use Rattle.sf_tool.specs.Lines.{SaysMoreOfLines, ScansLines}
@@ -106,10 +109,10 @@ module _ {K E : Type 0} (contents : K → Option (List ℕ)) (write_faults : K �
   Declines NoMemory out out' err err' ended = Ends hands said unsaid [] (Err Memory) out out' err err' ended
 
   module _ {S : Type 0} (to_come : S → Option (List ℕ)) (read_faults : S → ℕ) where
-    -- what an order of lines does: what is said of them comes before the line of the fault, and notes after that where a word is
+    -- what an order to scan lines does: what is said of them comes before the line of the fault, and notes after that where a word is
     -- refused
-    abbrev pub EndsLines : Bool → LineOptions → Order → Ahead S → Ahead S → K → K → E → E → Answer → Type 0
-    EndsLines explain options order from from' out out' err err' ended =
+    abbrev pub EndsScans : Bool → LineOptions → Order → Ahead S → Ahead S → K → K → E → E → Answer → Type 0
+    EndsScans explain options order from from' out out' err err' ended =
         (answer : Answer) × ((mid : K) × ((between : E)
         × ScansLines to_come read_faults contents write_faults said unsaid (file_name order) (is_headed order.file)
         (grammar_of order.profile) (form_of order.output) order.tag (names_text order) (option_map string_bytes order.print) options
@@ -120,6 +123,24 @@ module _ {K E : Type 0} (contents : K → Option (List ℕ)) (write_faults : K �
         (map string_bytes order.ignored.items ++ map string_bytes order.texts.items) answer notes
         × EndsOrder hands said unsaid order notes answer mid out' between err' ended)))
 
+    -- what an order to copy lines does: the same, with the notes of a copy of records
+    abbrev pub EndsCopies : Bool → LineOptions → Order → Ahead S → Ahead S → K → K → E → E → Answer → Type 0
+    EndsCopies explain options order from from' out out' err err' ended =
+        (answer : Answer) × ((mid : K) × ((between : E)
+        × CopiesTexts to_come read_faults contents write_faults said unsaid (file_name order) (grammar_of order.profile) options explain
+        order.limit (map string_bytes order.texts.items) from from' out mid err between answer
+        × ((notes : List ℕ)
+        × SaysMore explain order None [] answer notes
+        × EndsOrder hands said unsaid order notes answer mid out' between err' ended)))
+
+    -- what an order of lines does, by its verb
+    abbrev pub EndsLines : Bool → LineOptions → Order → Verb → Ahead S → Ahead S → K → K → E → E → Answer → Type 0
+    EndsLines explain options order verb.Scan from from' out out' err err' ended =
+        EndsScans explain options order from from' out out' err err' ended
+    EndsLines explain options order verb.Copy from from' out out' err err' ended =
+        EndsCopies explain options order from from' out out' err err' ended
+    EndsLines explain options order _ from from' out out' err err' ended = ⊥
+
     -- what an order of records does, or one of lines; explain: more is said of a fault than its line
     abbrev pub DoesOrder : Bool → Option LineOptions → Order → Option Place → Ahead S → Ahead S → K → K → E → E → Answer → Type 0
     DoesOrder explain None order place from from' out out' err err' ended =
@@ -129,7 +150,7 @@ module _ {K E : Type 0} (contents : K → Option (List ℕ)) (write_faults : K �
         × SaysMore explain order place from'.held answer notes
         × EndsOrder hands said unsaid order notes answer mid out' err err' ended))
     DoesOrder explain (Some options) order place from from' out out' err err' ended =
-        EndsLines explain options order from from' out out' err err' ended
+        EndsLines explain options order order.verb from from' out out' err err' ended
 
     -- What is done for what was read of the words: the order, or help, or the words are refused with nothing read. watched: the error
     -- output is a terminal.

@@ -1,13 +1,15 @@
 //! One run of the command, from its words to its exit status.
-ghost use Rattle.std.specs.Prelude.{◌≡◌, ◌≤◌, ◌<◌, ◌++◌, ℕ, List, None, Ok, true, false, IfSome, length, map, option_map, string_bytes};
+ghost use Rattle.std.specs.Prelude.{◌≡◌, ◌≤◌, ◌<◌, ◌++◌, ℕ, List, None, Some, Ok, true, false, IfSome, length, map, option_map, string_bytes};
 ghost use Rattle.sf_words.specs.Orders.{HasTexts, HasTextsFor};
-ghost use Rattle.sf_tool.specs.Exits.{CanRun, Declines, Does, DoesOn, DoesOrder, Ends, EndsLines, EndsOrder};
+ghost use Rattle.sf_words.specs.declared.order.Verb.TheVariants.{Copy};
+ghost use Rattle.sf_tool.specs.Exits.{CanRun, Declines, Does, DoesOn, DoesOrder, Ends, EndsCopies, EndsLines, EndsOrder, EndsScans};
 ghost use Rattle.sf_tool.specs.Exits.{Exits, ExitsOn, Helps, IsTwiceLine, SaysFault, SaysNotes, exit_of, is_explained};
 ghost use Rattle.sf_tool.specs.Fronts.{file_name};
 ghost use Rattle.sf_jobs.specs.Heads.{names_text};
 ghost use Rattle.sf_tool.specs.Saying.{Says};
 
 use crate::console::{Apart, Console};
+use crate::copies::copy_lines;
 use crate::error_output::{say, tell};
 use crate::explain::{Left, notes_of, notes_of_refused};
 use crate::fronts::{file_name, file_of};
@@ -19,7 +21,7 @@ use sf_places::{BLOCK_BYTES, Input, Placed};
 use sf_print::Sink;
 use sf_read::{Lookahead, Source};
 use sf_records::write_whole;
-use sf_words::{LineOptions, Notes, Order, WordsFault, read_words};
+use sf_words::{LineOptions, Notes, Order, Verb, WordsFault, read_words};
 use std::alloc::Global;
 use std::marker::Brand;
 
@@ -164,8 +166,32 @@ pub(crate) fn decline<K: Sink, E, C: Console<K, E>>(
     }
 }
 
+/// Copies lines by an order, and says why the command doesn't end cleanly where it doesn't.
+fn end_copies<S: Source, K: Sink, E, C: Console<K, E>, const N: usize>(
+    alloc: Global,
+    explain: bool,
+    order: &Order,
+    options: LineOptions,
+    from: &mut Lookahead<S, N>,
+    out: &mut K,
+    err: &mut E,
+) -> Result<u8, CommandFault>
+    requires limit { order.now.limit ≤ 2147483647 }
+    requires texts { HasTexts Copy (map string_bytes order.now.texts.items) }
+    ensures { EndsCopies K.contents K.failures C.Hands C.said C.unsaid S.to_come S.failures explain options order.now
+        from.old from.new out.old out.new err.old err.new result }
+{
+    let answer = copy_lines::<S, K, E, C, N>(alloc, explain, order, options, from, out, err);
+    let left = Left {
+        place: None,
+        held: &[],
+    };
+    let notes = notes_of(alloc, explain, order, left, answer);
+    end_order::<K, E, C>(alloc, order, out, err, answer, &notes)
+}
+
 /// Scans lines by an order, and says why the command doesn't end cleanly where it doesn't.
-fn end_lines<S: Source, K: Sink, E, C: Console<K, E>, const N: usize>(
+fn end_scans<S: Source, K: Sink, E, C: Console<K, E>, const N: usize>(
     alloc: Global,
     explain: bool,
     order: &Order,
@@ -176,7 +202,7 @@ fn end_lines<S: Source, K: Sink, E, C: Console<K, E>, const N: usize>(
 ) -> Result<u8, CommandFault>
     requires limit { order.now.limit ≤ 2147483647 }
     requires some { 0 < length order.now.texts.items }
-    ensures { EndsLines K.contents K.failures C.Hands C.said C.unsaid S.to_come S.failures explain options order.now
+    ensures { EndsScans K.contents K.failures C.Hands C.said C.unsaid S.to_come S.failures explain options order.now
         from.old from.new out.old out.new err.old err.new result }
 {
     let profile = grammar_of(order.profile);
@@ -190,6 +216,31 @@ fn end_lines<S: Source, K: Sink, E, C: Console<K, E>, const N: usize>(
         Err(refused) => {
             let notes = notes_of_refused(alloc, explain, refused);
             end_order::<K, E, C>(alloc, order, out, err, Err(refused.fault), &notes)
+        }
+    }
+}
+
+/// Does what an order of lines asks for: a scan, or a copy.
+fn end_lines<S: Source, K: Sink, E, C: Console<K, E>, const N: usize>(
+    alloc: Global,
+    explain: bool,
+    order: &Order,
+    options: LineOptions,
+    from: &mut Lookahead<S, N>,
+    out: &mut K,
+    err: &mut E,
+) -> Result<u8, CommandFault>
+    requires limit { order.now.limit ≤ 2147483647 }
+    requires texts { HasTextsFor (Some options) order.now.verb (map string_bytes order.now.texts.items) }
+    ensures { EndsLines K.contents K.failures C.Hands C.said C.unsaid S.to_come S.failures explain options order.now
+        order.now.verb from.old from.new out.old out.new err.old err.new result }
+{
+    match order.verb {
+        Verb::Copy => {
+            end_copies::<S, K, E, C, N>(alloc, explain, order, options, from, out, err)
+        }
+        Verb::Scan | Verb::Show | Verb::Print | Verb::Check => {
+            end_scans::<S, K, E, C, N>(alloc, explain, order, options, from, out, err)
         }
     }
 }

@@ -2,6 +2,7 @@
 #![tactic(auto)]
 
 mod console;
+mod copies;
 mod error_output;
 mod explain;
 mod files;

@@ -4,7 +4,7 @@ use Rattle.sf_jobs.specs.Commands.{form_of, grammar_of}
 use Rattle.sf_tool.specs.Exits.{EndsOrder}
 use Rattle.sf_tool.specs.Lines.{IsRefused}
 use Rattle.sf_tool.proofs.Lining.{nothing_said}
-use Rattle.sf_tool.proofs.invocation.end_lines.Goals as goal
+use Rattle.sf_tool.proofs.invocation.end_scans.Goals as goal
 
 -- the words are refused
 pub returns-in-Err : goal.returns-in-Err
