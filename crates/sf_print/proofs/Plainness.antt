@@ -8,7 +8,7 @@ use Rattle.std.specs.Str.Parse.{AllDigits}
 use mir.Val.{bool_byte}
 use Rattle.sf_print.specs.Visible.{without_blanks}
 use Rattle.sf_base.specs.Data.{Datum}
-use Rattle.sf_base.specs.Data.Datum.{Number, Bytes}
+use Rattle.sf_base.specs.Data.Datum.{Number, Bytes, Real}
 use Rattle.sf_format.specs.declared.unit.PrintLetter.{PrintLetter}
 use Rattle.sf_format.specs.declared.unit.PrintLetter.TheVariants as letter
 use Rattle.sf_format.specs.declared.unit.PrintConv.{PrintConv}
@@ -119,14 +119,17 @@ pub plain_value : (c : PrintConv) (negative : Bool) (m : ℕ) (value : Datum) �
     → value_text c value ≡ minus negative ++ decimal m
 plain_value c negative m (Number k z) plain (is, proper, small) = ap (integer_text c) is ∙ plain_text c negative m plain proper small
 plain_value c negative m (Bytes bytes) plain is = absurd is
+plain_value c negative m (Real r) plain is = absurd is
 
 pub plain_length : (negative : Bool) (m : ℕ) (value : Datum) → IsOf (printable.Number negative m) value → length (decimal m) ≤ 20
 plain_length negative m (Number k z) (is, proper, small) = length_at_most m small
 plain_length negative m (Bytes bytes) is = absurd is
+plain_length negative m (Real r) is = absurd is
 
 pub plain_fits : (negative : Bool) (m : ℕ) (value : Datum) → IsOf (printable.Number negative m) value → m < 2 ^ 64
 plain_fits negative m (Number k z) (is, proper, small) = small
 plain_fits negative m (Bytes bytes) is = absurd is
+plain_fits negative m (Real r) is = absurd is
 
 -- ---- what is seen of it
 
