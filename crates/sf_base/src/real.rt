@@ -10,7 +10,7 @@ use std::num::{
     f32_from_bits_with_nan, f32_to_bits_with_nan, f64_from_bits_with_nan, f64_to_bits_with_nan,
 };
 
-/// A float by its pattern: the bits of binary32 or of binary64 (IEEE 754), as C11 F.2 has them for `float` and `double`.
+/// A float by its pattern: the bits of binary32 or of binary64 (IEEE 754), which C11 F.2 asks of `float` and `double`.
 #[derive(Clone, Copy, Debug, PartialEq, Eq)]
 pub enum Real {
     F32(u32),
