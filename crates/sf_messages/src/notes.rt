@@ -345,7 +345,8 @@ fn push_wanted(
     ensures { OnOk result (output.new.items ≡ output.old.items ++ wanted_note number range.now) }
 {
     let mut text = Vec::new(alloc);
-    write!(text, "directive {number} wants a number from ").map_err(|_| AllocError)?;
+    write!(text, "directive {number}").map_err(|_| AllocError)?;
+    text.extend_from_slice(b" wants a number from ")?;
     text.extend_from_slice(range.as_bytes())?;
     push_note(output, &text)
 }
