@@ -1,6 +1,7 @@
 -- What is done on a source that stands for another, as told of that other.
 use Rattle.std.proofs.Common.{◌≡◌, ◌∙◌, ℕ, false, inl, inr, ap, List, [], ◌∷◌, map, option_map, string_bytes, Bool, Option, None, Some, Result, Ok, Err}
 use Rattle.std.specs.Prelude.{IfErr}
+use Rattle.std.specs.declared.io.Error.{Error}
 use Rattle.sf_format.specs.declared.directive.Directive.{Directive}
 use Rattle.sf_format.specs.declared.directive.Profile.{Profile}
 use Rattle.sf_format.specs.declared.unit.Unit.{Unit as PrintUnit}
@@ -468,12 +469,13 @@ module _ {T S K E : Type 0} (f : T → S) (to_come : S → Option (List ℕ)) (f
 -- ---- the command
 
 module _ {T S K E : Type 0} (f : T → S) (contents : K → Option (List ℕ)) (write_faults : K → ℕ) (hands : K → K → Type 0)
-    (said : E → Option (List ℕ)) (unsaid : E → ℕ) (to_come : S → Option (List ℕ)) (faults : S → ℕ) where
+    (said : E → Option (List ℕ)) (unsaid : E → ℕ) (to_come : S → Option (List ℕ)) (faults : S → ℕ) (unread : S → Option Error)
+    (unwritten : K → Option Error) (watched : Bool) where
   ends_scans : (explain : Bool) (options : LineOptions) (order : Order) (from from' : Ahead T) (out out' : K) (err err' : E)
       (ended : Answer)
       → EndsScans contents write_faults hands said unsaid (λ s. to_come (f s))
-      (λ s. faults (f s)) explain options order from from' out out' err err' ended
-      → EndsScans contents write_faults hands said unsaid to_come faults explain options order (over f from)
+      (λ s. faults (f s)) (λ s. unread (f s)) unwritten watched explain options order from from' out out' err err' ended
+      → EndsScans contents write_faults hands said unsaid to_come faults unread unwritten watched explain options order (over f from)
       (over f from') out out' err err' ended
   ends_scans explain options order from from' out out' err err' ended (answer, (mid, (between, done, ends))) = (
     answer,
@@ -492,8 +494,8 @@ module _ {T S K E : Type 0} (f : T → S) (contents : K → Option (List ℕ)) (
   ends_copies : (explain : Bool) (options : LineOptions) (order : Order) (from from' : Ahead T) (out out' : K) (err err' : E)
       (ended : Answer)
       → EndsCopies contents write_faults hands said unsaid (λ s. to_come (f s))
-      (λ s. faults (f s)) explain options order from from' out out' err err' ended
-      → EndsCopies contents write_faults hands said unsaid to_come faults explain options order (over f from)
+      (λ s. faults (f s)) (λ s. unread (f s)) unwritten watched explain options order from from' out out' err err' ended
+      → EndsCopies contents write_faults hands said unsaid to_come faults unread unwritten watched explain options order (over f from)
       (over f from') out out' err err' ended
   ends_copies explain options order from from' out out' err err' ended (answer, (mid, (between, done, ends))) = (
     answer,
@@ -511,8 +513,8 @@ module _ {T S K E : Type 0} (f : T → S) (contents : K → Option (List ℕ)) (
   ends_lines : (explain : Bool) (options : LineOptions) (order : Order) (verb : Verb) (from from' : Ahead T) (out out' : K)
       (err err' : E) (ended : Answer)
       → EndsLines contents write_faults hands said unsaid (λ s. to_come (f s))
-      (λ s. faults (f s)) explain options order verb from from' out out' err err' ended
-      → EndsLines contents write_faults hands said unsaid to_come faults explain options order verb (over f from)
+      (λ s. faults (f s)) (λ s. unread (f s)) unwritten watched explain options order verb from from' out out' err err' ended
+      → EndsLines contents write_faults hands said unsaid to_come faults unread unwritten watched explain options order verb (over f from)
       (over f from') out out' err err' ended
   ends_lines explain options order verb.Scan from from' out out' err err' ended done =
       ends_scans explain options order from from' out out' err err' ended done
@@ -526,8 +528,8 @@ module _ {T S K E : Type 0} (f : T → S) (contents : K → Option (List ℕ)) (
       (out out' : K) (err err' : E)
       (ended : Answer)
       → DoesOrder contents write_faults hands said unsaid (λ s. to_come (f s))
-      (λ s. faults (f s)) explain lines order place from from' out out' err err' ended
-      → DoesOrder contents write_faults hands said unsaid to_come faults explain lines order place (over f from)
+      (λ s. faults (f s)) (λ s. unread (f s)) unwritten watched explain lines order place from from' out out' err err' ended
+      → DoesOrder contents write_faults hands said unsaid to_come faults unread unwritten watched explain lines order place (over f from)
       (over f from') out out' err err' ended
   does_order explain None order place from from' out out' err err' ended (answer, (mid, done, more)) =
       (answer, (mid, carries f to_come faults contents write_faults order from from' out mid answer done, more))
