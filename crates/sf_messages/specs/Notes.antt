@@ -124,13 +124,17 @@ abbrev pub stood_notes : Option Ending → List ℕ → List ℕ
 stood_notes (Some End) rest = note (codes "the input ended there")
 stood_notes met rest = rest_notes rest
 
+-- a line that begins with a directive's number: these words after it, and then the others
+abbrev pub numbered_note : ℕ → List ℕ → List ℕ → List ℕ
+numbered_note number words shown = note (codes "directive " ++ (decimal number ++ (words ++ shown)))
+
 -- the directive with this number
 abbrev pub directive_note : ℕ → List ℕ → List ℕ
-directive_note number shown = note (codes "directive " ++ (decimal number ++ (codes ": " ++ shown)))
+directive_note number shown = numbered_note number (codes ": ") shown
 
 -- which numbers the directive with this number takes
 abbrev pub wanted_note : ℕ → List ℕ → List ℕ
-wanted_note number range = note (codes "directive " ++ (decimal number ++ (codes " wants a number from " ++ range)))
+wanted_note number range = numbered_note number (codes " wants a number from ") range
 
 -- the same, by its kind, where it is a conversion
 abbrev pub range_note : ℕ → Option Directive → List ℕ

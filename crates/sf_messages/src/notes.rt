@@ -1,11 +1,10 @@
 //! What is said after the line of a fault, where more is asked for.
 ghost use Rattle.std.specs.Prelude.{◌≡◌, ◌+◌, ◌++◌, OnOk, IfOk, drop, option_map};
-ghost use Rattle.sf_messages.specs.Notes.{blanks, byte_notes, count_notes, cure_notes, cure_of, directive_note};
-ghost use Rattle.sf_messages.specs.Notes.{end_note};
+ghost use Rattle.sf_messages.specs.Notes.{blanks, byte_notes, count_notes, cure_notes, cure_of, end_note};
 ghost use Rattle.sf_messages.specs.Notes.{escape_notes, failed_notes, format_notes, input_notes};
 ghost use Rattle.sf_messages.specs.Notes.{line_notes, line_rest, note, pair_notes, part_note};
 ghost use Rattle.sf_messages.specs.Notes.{place_notes, print_side, rest_notes, scan_side, stood_notes, value_note};
-ghost use Rattle.sf_messages.specs.Notes.{range_note, range_notes, value_notes, wanted_note};
+ghost use Rattle.sf_messages.specs.Notes.{numbered_note, range_note, range_notes, value_notes, wanted_note};
 
 use crate::cures::push_width_cure;
 use crate::facing::{faced, push_unit};
@@ -320,17 +319,19 @@ fn push_stood(
     }
 }
 
-/// Appends the line of a directive.
-fn push_directive(
+/// Appends the line of a directive: these words after its number, and then the others.
+fn push_numbered(
     alloc: Global,
     output: &mut Vec<u8>,
     number: u16,
+    words: &[u8],
     shown: &[u8],
 ) -> Result<(), AllocError>
-    ensures { OnOk result (output.new.items ≡ output.old.items ++ directive_note number shown.now) }
+    ensures { OnOk result (output.new.items ≡ output.old.items ++ numbered_note number words.now shown.now) }
 {
     let mut text = Vec::new(alloc);
-    write!(text, "directive {number}: ").map_err(|_| AllocError)?;
+    write!(text, "directive {number}").map_err(|_| AllocError)?;
+    text.extend_from_slice(words)?;
     text.extend_from_slice(shown)?;
     push_note(output, &text)
 }
@@ -344,11 +345,13 @@ fn push_wanted(
 ) -> Result<(), AllocError>
     ensures { OnOk result (output.new.items ≡ output.old.items ++ wanted_note number range.now) }
 {
-    let mut text = Vec::new(alloc);
-    write!(text, "directive {number}").map_err(|_| AllocError)?;
-    text.extend_from_slice(b" wants a number from ")?;
-    text.extend_from_slice(range.as_bytes())?;
-    push_note(output, &text)
+    push_numbered(
+        alloc,
+        output,
+        number,
+        b" wants a number from ",
+        range.as_bytes(),
+    )
 }
 
 /// Appends the same, where the directive is a conversion.
@@ -428,7 +431,7 @@ pub fn failed_notes(
         ≡ failed_notes directives.now shown.now number outcome place rest.now) }
 {
     let mut notes = Vec::new(alloc);
-    push_directive(alloc, &mut notes, outcome.at, shown)?;
+    push_numbered(alloc, &mut notes, outcome.at, b": ", shown)?;
     push_range_missed(alloc, &mut notes, directives, outcome)?;
     push_input(alloc, &mut notes, place)?;
     push_stood(alloc, &mut notes, outcome.met, rest)?;
