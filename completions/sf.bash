@@ -3,8 +3,8 @@
 _sf() {
     local word=${COMP_WORDS[COMP_CWORD]} before=${COMP_WORDS[COMP_CWORD-1]} at
     local all='-p --profile --explain --no-explain -h --help' records='--limit --line-buffered'
-    local scan='-o --output --print --names -l --lines -e --tag -s --skip --whole -k --keep-going -q --quiet'
-    scan+=' --matching --ignore'
+    local lines='-l --lines -s --skip --whole -k --keep-going -q --quiet'
+    local scan='-o --output --print --names -e --tag --matching --ignore'
     COMPREPLY=()
     # the file of a redirection
     if [[ $before == *[\<\>]* ]]; then
@@ -34,14 +34,14 @@ _sf() {
         help) (( COMP_CWORD == 2 )) && COMPREPLY=( $(compgen -W 'show scan print check copy help' -- "$word") ) ;;
         scan)
             if [[ $word == -* ]]; then
-                COMPREPLY=( $(compgen -W "$all $records $scan" -- "$word") )
+                COMPREPLY=( $(compgen -W "$all $records $lines $scan" -- "$word") )
             else
                 compopt -o default
             fi
             ;;
         copy)
             if [[ $word == -* ]]; then
-                COMPREPLY=( $(compgen -W "$all $records" -- "$word") )
+                COMPREPLY=( $(compgen -W "$all $records $lines" -- "$word") )
             else
                 compopt -o default
             fi

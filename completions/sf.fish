@@ -32,13 +32,13 @@ complete -c sf -n '__sf_has_command show scan print check copy' -s p -l profile 
 complete -c sf -n '__sf_has_command scan' -s o -l output -x -a 'plain tsv json csv' -d 'How values are written'
 complete -c sf -n '__sf_has_command scan' -l print -x -d 'Write each record by this print format, without a newline of its own'
 complete -c sf -n '__sf_has_command scan' -l names -x -d 'The names of the columns, as a,b: a header or keys'
-complete -c sf -n '__sf_has_command scan' -s l -l lines -d 'Take each line as an input of its own'
+complete -c sf -n '__sf_has_command scan copy' -s l -l lines -d 'Take each line as an input of its own'
 complete -c sf -n '__sf_has_command scan' -s e -x -d 'A format of a line'
 complete -c sf -n '__sf_has_command scan' -l tag -d 'Write the number of the -e that counted, as the first column'
-complete -c sf -n '__sf_has_command scan' -s s -l skip -x -d 'Pass over the first lines, as a header'
-complete -c sf -n '__sf_has_command scan' -l whole -d 'Fail lines with trailing text'
-complete -c sf -n '__sf_has_command scan' -s k -l keep-going -d 'Go on after a line that fails'
-complete -c sf -n '__sf_has_command scan' -s q -l quiet -d "Don't report lines that fail"
+complete -c sf -n '__sf_has_command scan copy' -s s -l skip -x -d 'Pass over the first lines, as a header'
+complete -c sf -n '__sf_has_command scan copy' -l whole -d 'Fail lines with trailing text'
+complete -c sf -n '__sf_has_command scan copy' -s k -l keep-going -d 'Go on after a line that fails'
+complete -c sf -n '__sf_has_command scan copy' -s q -l quiet -d "Don't report lines that fail"
 complete -c sf -n '__sf_has_command scan' -l matching -d 'Pass over lines that no format reads'
 complete -c sf -n '__sf_has_command scan' -l ignore -x -d 'Pass over lines that this format reads to their end'
 complete -c sf -n '__sf_has_command print' -l raw -d 'Take the values without escapes'

@@ -59,6 +59,10 @@ class Files(Streams):
     def test_a_copy_of_files(self):
         self.gives(1, b"4\n", b"sf: cd: record 2: matching failure at 2, used 1, assigned 1\n", "copy", r"%d\n", r"%11d%*1[\n]", "empty", "cd")
 
+    def test_a_copy_of_the_lines_of_files(self):
+        words = ("copy", "-lks1", r"%03u\n", r"%3u%*1[\n]", "head", "too", "cd")
+        self.gives(1, b"001\n002\n003\n", b"sf: cd: line 2: left over at 1\n", *words)
+
     def test_records_are_counted_in_each_file(self):
         self.gives(1, b"1\n2\n3\n7\n", b"sf: bad: record 2: matching failure at 1, used 1, assigned 0\n", "scan", "%d", "ab", "bad", "cd")
 

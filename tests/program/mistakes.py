@@ -4,10 +4,12 @@ On a terminal the line of the fault is followed by what helps. In a pipe it stan
 What `clap` says of the words is the same on both. Each row has the command as it is typed, what standard input holds, and
 what a terminal shows.
 """
+import errno
 import os
 import pty
 import shlex
 import subprocess
+import tempfile
 import unittest
 
 import program
@@ -306,7 +308,28 @@ sf: line 2: left over at 1
     (r"scan --lines %hhu", "300\n", """
 sf: line 1: out of range at 1, used 3, assigned 0
   directive 1: "%hhu", u u8 width - slot 1
+  directive 1 wants a number from 0 to 255
   the input ended there
+"""),
+    (r"scan --lines %d,%hhd", "1,2\n3,-129\n", """
+sf: line 2: out of range at 3, used 6, assigned 1
+  directive 3: "%hhd", d i8 width - slot 2
+  directive 3 wants a number from -128 to 127
+  the input ended there
+"""),
+    (r"scan '%d %u'", "1 2\n2147483648 3\n", r"""
+sf: record 2: out of range at 1, used 11, assigned 0
+  directive 1: "%d", d i32 width - slot 1
+  directive 1 wants a number from -2147483648 to 2147483647
+  at line 2, column 11 of the input
+  there stood " 3\x0a"
+"""),
+    (r"scan '%2$lu %1$ld'", "18446744073709551616 1\n", r"""
+sf: record 1: out of range at 1, used 20, assigned 0
+  directive 1: "%2$lu", u u64 width - slot 2
+  directive 1 wants a number from 0 to 18446744073709551615
+  at line 1, column 21 of the input
+  there stood " 1\x0a"
 """),
     (r"scan --lines '%[0-9.] %u'", " 62.50 5\n", """
 sf: line 1: matching failure at 1, used 0, assigned 0
@@ -398,6 +421,29 @@ error: the argument '--skip <N>' cannot be used without '--lines'
 error: invalid value '99999999999' for '--limit <N>': 99999999999 is not in 0..=2147483647
 
 """),
+    (r"scan --limit -1 %d", """
+error: invalid value '-1' for '--limit <N>': -1 is not in 0..=2147483647
+
+"""),
+    (r"scan --lines --skip -12 %d", """
+error: invalid value '-12' for '--skip <N>': -12 is not in 0..9223372036854775807
+
+"""),
+    (r"scan --lines -s -1 %d", """
+error: invalid value '-1' for '--skip <N>': -1 is not in 0..9223372036854775807
+
+"""),
+    (r"copy -p -1 %d %d", """
+error: invalid value '-1' for '--profile <N>': -1 is not in 1..=2
+
+"""),
+    # here the tip is right
+    (r"print %d -5", """
+error: unexpected argument '-5' found
+
+  tip: to pass '-5' as a value, use '-- -5'
+
+"""),
     (r"scan --output xml %d", """
 error: invalid value 'xml' for '--output <FORM>'
   [possible values: plain, tsv, json, csv]
@@ -406,11 +452,17 @@ error: invalid value 'xml' for '--output <FORM>'
 )
 
 
-def on_terminal(words, text):
+# What the system says, in the C library's own words.
+FULL, FOLDER, GONE, DENIED, LONG = (
+    f"  {os.strerror(number)}\n" for number in (errno.ENOSPC, errno.EISDIR, errno.ENOENT, errno.EACCES, errno.ENAMETOOLONG)
+)
+
+
+def on_terminal(words, text, **how):
     """The status of a call, and what its error output shows, where that is a terminal."""
     ours, theirs = pty.openpty()
     try:
-        status, _, _ = program.run(*words, stdin=text, stderr=theirs)
+        status, _, _ = program.run(*words, stdin=text, stderr=theirs, **how)
         os.write(theirs, b"\0")
         shown = b""
         while not shown.endswith(b"\0"):
@@ -421,8 +473,8 @@ def on_terminal(words, text):
     return status, shown[:-1].replace(b"\r\n", b"\n").decode()
 
 
-def in_pipe(words, text):
-    status, _, err = program.run(*words, stdin=text, stderr=subprocess.PIPE)
+def in_pipe(words, text, **how):
+    status, _, err = program.run(*words, stdin=text, stderr=subprocess.PIPE, **how)
     return status, err.decode()
 
 
@@ -470,6 +522,80 @@ class Mistakes(unittest.TestCase):
             words.insert(1, "--no-explain")
             with self.subTest(typed):
                 self.assertEqual(on_terminal(words, "".join(text).encode()), (1, shown[1:].split("\n")[0] + "\n"))
+
+    def reasons(self, words, line, reason, text=b"", **how):
+        """The reason is said on a terminal and under --explain, and nowhere else."""
+        plain, more = ([words[0], flag, *words[1:]] for flag in ("--no-explain", "--explain"))
+        with self.subTest(words):
+            self.assertEqual(on_terminal(words, text, **how), (3, line + reason))
+            self.assertEqual(on_terminal(plain, text, **how), (3, line))
+            self.assertEqual(in_pipe(words, text, **how), (3, line))
+            self.assertEqual(in_pipe(more, text, **how), (3, line + reason))
+
+    def test_a_full_disk(self):
+        with program.full() as disk:
+            for words in (["scan", "%d"], ["scan", "--line-buffered", "%d"], ["scan", "--lines", "%d"]):
+                self.reasons(words, "sf: write fault\n", FULL, b"1\n2\n", stdout=disk)
+            self.reasons(["scan", "%d"], "sf: write fault\n", FULL, b"7\n" * 9000, stdout=disk)
+            self.reasons(["copy", r"%d\n", r"%11d%*1[\n]"], "sf: write fault\n", FULL, b"1\n2\n", stdout=disk)
+            self.reasons(["print", "%d", "5"], "sf: write fault\n", FULL, stdout=disk)
+            self.reasons(["show", "%d"], "sf: write fault\n", FULL, stdout=disk)
+            self.reasons(["check", "%d;", "%11d;"], "sf: write fault\n", FULL, stdout=disk)
+
+    def test_an_input_that_is_a_folder(self):
+        at = "  at line 1, column 1 of the input\n"
+        with program.folder() as unread:
+            self.reasons(["scan", "%d"], "sf: record 1: read fault\n", at + FOLDER, unread)
+            self.reasons(["scan", "--lines", "%d"], "sf: line 1: read fault\n", FOLDER, unread)
+        self.reasons(["scan", "%d", "/"], "sf: /: record 1: read fault\n", at + FOLDER)
+        self.reasons(["scan", "--lines", "%d", "/"], "sf: /: line 1: read fault\n", FOLDER)
+
+    def test_a_file_that_cannot_be_opened(self):
+        for words in (["scan", "%d", "/gone"], ["scan", "--lines", "%d", "/gone"], ["copy", "%d;", "%11d;", "/gone"]):
+            self.reasons(words, "sf: /gone: can't be opened\n", GONE)
+        name = "/" + "n" * 300
+        self.reasons(["scan", "%d", name], f"sf: {name}: can't be opened\n", LONG)
+        both = f"sf: /gone: can't be opened\n{GONE}sf: /lost: can't be opened\n{GONE}"
+        self.assertEqual(on_terminal(["scan", "%d", "/gone", "-", "/lost"], b"1\n"), (3, both))
+
+    @unittest.skipUnless(os.getuid(), "root may read each file")
+    def test_a_file_that_may_not_be_read(self):
+        with tempfile.NamedTemporaryFile() as secret:
+            os.chmod(secret.name, 0)
+            self.reasons(["scan", "%d", secret.name], f"sf: {secret.name}: can't be opened\n", DENIED)
+
+    def closed(self, call, words, text):
+        """The status and the error text of a call whose output nobody reads."""
+        ours, theirs = os.pipe()
+        os.close(ours)
+        try:
+            return call(words, text, stdout=theirs)
+        finally:
+            os.close(theirs)
+
+    def test_nobody_reads_the_output(self):
+        """Nothing is said on a terminal, and elsewhere the line alone; the status is the same."""
+        for words, text in (
+            (["scan", "%d"], b"1\n2\n"),
+            (["scan", "%d"], b"7\n" * 9000),
+            (["scan", "--line-buffered", "%d"], b"1\n2\n"),
+            (["scan", "--lines", "%d"], b"1\n2\n"),
+            (["copy", r"%d\n", r"%11d%*1[\n]"], b"1\n2\n"),
+            (["print", "%d", "5"], b""),
+            (["--help"], b""),
+        ):
+            with self.subTest(words):
+                self.assertEqual(self.closed(on_terminal, words, text), (3, ""))
+                self.assertEqual(self.closed(in_pipe, words, text), (3, "sf: write fault\n"))
+        for flag, shown in (("--no-explain", ""), ("--explain", "")):
+            self.assertEqual(self.closed(on_terminal, ["scan", flag, "%d"], b"1\n"), (3, shown))
+        broken = f"sf: write fault\n  {os.strerror(errno.EPIPE)}\n"
+        self.assertEqual(self.closed(in_pipe, ["scan", "--explain", "%d"], b"1\n"), (3, broken))
+
+    def test_a_record_that_failed_is_told_though_nobody_reads(self):
+        shown = 'sf: record 2: matching failure at 1, used 1, assigned 0\n  directive 1: "%d", d i32 width - slot 1\n'
+        status, said = self.closed(on_terminal, ["scan", "%d"], b"1\nx\n")
+        self.assertEqual((status, said[: len(shown)]), (3, shown))
 
     def test_nothing_is_printed_before_a_format_is_judged(self):
         for typed in ("scan %f", "scan --lines %f", r"copy '%d\n' '%d\n'"):

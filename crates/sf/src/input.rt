@@ -1,11 +1,11 @@
 //! The inputs of the program: standard input, and files.
-ghost use Rattle.std.specs.Prelude.{◌≡◌};
+ghost use Rattle.std.specs.Prelude.{◌≡◌, ◌<◌, Some, IsSome};
 ghost use Rattle.std.specs.Io.{ReadsAtMost};
 ghost use Rattle.std.specs.Io.KnownBytes.{ReadConsumes};
 ghost use Rattle.sf.specs.Inputs.{told};
 
 use sf_read::{Source, SourceFault};
-use sf_tool::{Opened, Opener};
+use sf_tool::{LastError, Opened, Opener};
 use std::fs::{self, File};
 use std::io::{self, Read, Stdin};
 
@@ -24,6 +24,9 @@ pub(crate) struct Input {
     stream: Stream,
     reads: u64,
     failures: u64,
+    /// Why the last of its reads failed that did, or why it couldn't be opened.
+    last_error: Option<io::Error>,
+    ghost known: { 0 < failures → IsSome last_error },
 }
 
 impl Input {
@@ -34,7 +37,31 @@ impl Input {
             stream,
             reads: 0,
             failures: 0,
+            last_error: None,
         }
+    }
+
+    /// Stands for a file that can't be opened, and gives no bytes.
+    fn unopened(error: io::Error) -> Input
+        ensures stream { result.stream ≡ Stream.Nothing }
+        ensures why { result.last_error ≡ Some error }
+    {
+        Input {
+            stream: Stream::Nothing,
+            reads: 0,
+            failures: 0,
+            last_error: Some(error),
+        }
+    }
+
+    /// Keeps why a read failed, in place of what was known of an older one.
+    fn remember(&mut self, error: io::Error)
+        ensures why { self.new.last_error ≡ Some error }
+        ensures stream { self.new.stream ≡ self.old.stream }
+        ensures reads { self.new.reads ≡ self.old.reads }
+        ensures failures { self.new.failures ≡ self.old.failures }
+    {
+        self.last_error = Some(error);
     }
 
     /// Gives those of standard input.
@@ -67,11 +94,20 @@ impl Source for Input {
         self.reads = self.reads.saturating_add(1);
         match self.stream.read(buf) {
             Ok(count) => Ok(count),
-            Err(_) => {
+            Err(error) => {
+                self.remember(error);
                 self.failures = self.failures.saturating_add(1);
                 Err(SourceFault)
             }
         }
+    }
+}
+
+impl LastError for Input {
+    ghost last_error = { λ s. s.last_error };
+
+    fn last_error(&self) -> Option<io::Error> {
+        self.last_error
     }
 }
 
@@ -102,8 +138,8 @@ impl Opener<Input> for Disk<'_> {
                 source: Input::new(Stream::File(file)),
                 is_open: true,
             },
-            Err(_) => Opened {
-                source: Input::new(Stream::Nothing),
+            Err(error) => Opened {
+                source: Input::unopened(error),
                 is_open: false,
             },
         }

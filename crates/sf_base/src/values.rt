@@ -5,17 +5,27 @@ ghost use Rattle.sf_base.specs.Data.{with_sign};
 use crate::Number;
 use num_traits::cast;
 
-/// The kind of a destination: an integer type of the given sign and bits, or a text of bytes.
+/// The kind of a destination: an integer type of the given sign and bits, or a text of bytes. The length and the letter
+/// of a conversion say which (C11 7.21.6.2p11 and p12, 7.21.6.1p7 and p8).
 #[derive(Clone, Copy, Debug, PartialEq, Eq)]
 pub enum Kind {
+    /// A signed integer of 8 bits, from -128 to 127: `%hhd`.
     I8,
+    /// A signed integer of 16 bits, from -32768 to 32767: `%hd`.
     I16,
+    /// A signed integer of 32 bits, from -2147483648 to 2147483647: `%d`.
     I32,
+    /// A signed integer of 64 bits, from -9223372036854775808 to 9223372036854775807: `%ld`.
     I64,
+    /// An unsigned integer of 8 bits, at most 255: `%hhu`.
     U8,
+    /// An unsigned integer of 16 bits, at most 65535: `%hu`.
     U16,
+    /// An unsigned integer of 32 bits, at most 4294967295: `%u`.
     U32,
+    /// An unsigned integer of 64 bits, at most 18446744073709551615: `%lu`.
     U64,
+    /// A text of bytes, of any length and without a NUL after them: `%s`, `%c` and `%[`.
     Text,
 }
 
@@ -119,17 +129,26 @@ impl Kind {
     }
 }
 
-/// What a destination was given. A text is lent.
+/// What a destination was given, or what is printed (C11 7.21.6.1p8, 7.21.6.2p12). A text is lent.
 #[derive(Clone, Copy, Debug, PartialEq, Eq)]
 pub enum Value<'a> {
+    /// A number of the kind `Kind::I8`.
     I8(i8),
+    /// A number of the kind `Kind::I16`.
     I16(i16),
+    /// A number of the kind `Kind::I32`.
     I32(i32),
+    /// A number of the kind `Kind::I64`.
     I64(i64),
+    /// A number of the kind `Kind::U8`.
     U8(u8),
+    /// A number of the kind `Kind::U16`.
     U16(u16),
+    /// A number of the kind `Kind::U32`.
     U32(u32),
+    /// A number of the kind `Kind::U64`.
     U64(u64),
+    /// The bytes of a text, with no NUL after them.
     Text(&'a [u8]),
 }
 

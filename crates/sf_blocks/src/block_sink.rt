@@ -1,5 +1,5 @@
 //! A writer with a block of bytes in front of it.
-ghost use Rattle.std.specs.Prelude.{◌≡◌, ◌≤◌, ◌<◌, ◌+◌, ◌||◌, false, true, [], length, Option, List, ℕ, None, Ok, OnErr, OnOk, IfOk, IfErr, IsSome, is_err};
+ghost use Rattle.std.specs.Prelude.{◌≡◌, ◌≤◌, ◌<◌, ◌+◌, ◌||◌, false, true, [], length, Option, List, ℕ, None, Some, Ok, OnErr, OnOk, IfOk, IfErr, IsSome, is_err};
 ghost use Rattle.std.specs.Bool.{OnTrue, OnFalse};
 ghost use Rattle.std.specs.Io.{WritesAtMost};
 ghost use Rattle.std.specs.Io.KnownBytes.{Appends, Keeps, WriteAppends};
@@ -135,6 +135,19 @@ impl<W: Write + Drop> BlockSink<W> {
         self.last_error
     }
 
+    /// Keeps why a write or a flush failed, in place of what was known of an older one.
+    fn remember(&mut self, error: io::Error)
+        ensures error { last_error_of self.new ≡ Some error }
+        ensures contents { taken_by self.new ≡ taken_by self.old }
+        ensures waiting { waiting_in self.new ≡ waiting_in self.old }
+        ensures writer { writer_of self.new ≡ writer_of self.old }
+        ensures block { self.new.block ≡ self.old.block }
+        ensures failures { self.new.failures ≡ self.old.failures }
+        ensures flushed { has_failed_flush self.new ≡ has_failed_flush self.old }
+    {
+        self.last_error = Some(error);
+    }
+
     /// Hands the writer what waits in the block. Where it fails, what it didn't take waits still.
     fn hand_on(&mut self) -> io::Result<()>
         ensures contents { Keeps (taken_by self.old) (taken_by self.new) }
@@ -183,8 +196,8 @@ impl<W: Write + Drop> BlockSink<W> {
         match self.hand_through() {
             Ok(()) => Ok(()),
             Err(error) => {
+                self.remember(error);
                 self.unflushed = true;
-                self.last_error = Some(error);
                 Err(SinkFault)
             }
         }
@@ -261,8 +274,8 @@ impl<W: Write + Drop> Sink for BlockSink<W> {
         match self.take_behind(bytes) {
             Ok(count) => Ok(count),
             Err(error) => {
+                self.remember(error);
                 self.failures = self.failures.saturating_add(1);
-                self.last_error = Some(error);
                 Err(SinkFault)
             }
         }

@@ -49,7 +49,9 @@ pub enum FormatWhy {
 /// Why a format is refused, and the byte at which that was found, counted from 0.
 #[derive(Clone, Copy, Debug, PartialEq, Eq)]
 pub struct FormatFault {
+    /// The byte of the text at which it was found, from 0.
     pub at: u16,
+    /// Why the text is no format.
     pub why: FormatWhy,
 }
 

@@ -1,5 +1,6 @@
 pub mod Answering
 pub mod Checking
+pub mod Fronts
 pub mod Ones
 pub mod Results
 pub mod Suiting

@@ -1,5 +1,6 @@
 pub mod Answers
 pub mod Checks
 pub mod Commands
+pub mod CopyFormats
 pub mod Heads
 pub mod Writings

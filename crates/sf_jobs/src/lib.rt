@@ -4,6 +4,7 @@
 mod check;
 mod command;
 mod copy;
+mod copy_formats;
 mod formats;
 mod heads;
 mod scan_names;
@@ -12,6 +13,7 @@ mod writing;
 
 pub use check::verdict_of;
 pub use command::{carry_out, form_of, grammar_of};
+pub use copy_formats::{CopyFormats, read_copy_formats};
 pub use formats::{RefusedWord, read_print, read_scan};
 pub use heads::{header_fault, is_headed, named_maker, names_text, text_of, write_header};
 pub use writing::{Writing, check_formats, read_writing};

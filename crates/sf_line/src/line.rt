@@ -1,5 +1,5 @@
 //! Lines of a source.
-ghost use Rattle.std.specs.Prelude.{◌≡◌, ◌≤◌, ◌<◌, ◌+◌, ◌++◌, ◌∷◌, ◌⊎◌, true, false, length, take, drop, vec_len, IfOk};
+ghost use Rattle.std.specs.Prelude.{◌≡◌, ◌≤◌, ◌<◌, ◌+◌, ◌++◌, ◌∷◌, ◌⊎◌, true, false, length, take, drop, vec_capacity, vec_len, IfOk};
 ghost use Rattle.std.specs.Prelude.{IsOk, if◌then◌else◌};
 ghost use Rattle.sf_read.specs.Counts.{counted_on};
 ghost use Rattle.sf_line.specs.Cut.{IsLine};
@@ -50,6 +50,8 @@ fn gather(
     ensures short { IfOk result (λ l. l ≡ false → (long ≡ false) × (vec_len line.old + len ≤ limit)) }
     ensures front { IfOk result (λ _. line.new.items ≡ take limit (line.old.items ++ take len held.now)) }
     ensures none { limit ≡ 0 → IsOk result }
+    ensures enough { limit ≤ vec_capacity line.old → IsOk result }
+    ensures capacity { vec_capacity line.old ≤ vec_capacity line.new }
 {
     let room = limit - line.len();
     if room == 0 {
@@ -91,8 +93,9 @@ fn piece_of(held: &[u8]) -> Piece
 }
 
 /// Reads the next line of what the lookahead holds and its source gives, without its newline, in place of what was read
-/// last. Of a line of more than `limit` bytes these first ones are read, and the others passed over; by the limit 0
-/// each line is passed over, and no memory is taken.
+/// last, as fgets reads one (C11 7.21.7.2). Of a line of more than `limit` bytes these first ones are read, and the
+/// others passed over; by the limit 0 each line is passed over. No memory is taken where the vector has room for
+/// `limit` bytes; where it is refused, the answer is NoMemory, and what was read of the line is lost.
 pub fn next_line<S: Source, const N: usize>(
     from: &mut Lookahead<S, N>,
     line: &mut Vec<u8>,
@@ -103,6 +106,7 @@ pub fn next_line<S: Source, const N: usize>(
     ensures failures { S.failures from.new.source
         ≡ (if is_failed result then counted_on (S.failures from.old.source) else S.failures from.old.source) }
     ensures unkept { limit ≡ 0 → result ≡ LineRead.NoMemory → ⊥ }
+    ensures enough { limit ≤ vec_capacity line.old → result ≡ LineRead.NoMemory → ⊥ }
     ensures no_read { from.old.at_end ≡ true → from.new.source ≡ from.old.source }
     ensures stays { from.old.at_end ≡ true → from.new.at_end ≡ true }
 {

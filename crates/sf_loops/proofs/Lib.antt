@@ -4,6 +4,7 @@ pub mod Given
 pub mod InTurn
 pub mod LineRows
 pub mod LinesInTurn
+pub mod NewlineMasks
 pub mod Rows
 pub mod Scanning
 pub mod ShownBytes

@@ -7,9 +7,10 @@ ghost use Rattle.sf_run.specs.Memory.{HoldsValues, capacity_of};
 ghost use Rattle.sf_run.specs.Views.{report_by};
 ghost use Rattle.sf_loops.specs.Runs.{IsNextRun};
 
+use crate::newlines::count_front;
 use sf_base::HeapStore;
 use sf_format::ScanFormat;
-use sf_read::{Lookahead, Source, count_newlines, fscan_counting};
+use sf_read::{Lookahead, Source, fscan_counting};
 use sf_run::{Outcome, Scanned, quick_run};
 use std::alloc::Global;
 
@@ -30,8 +31,7 @@ pub(crate) fn take_held<S: Source, const N: usize>(
     ensures uncounted { IsNone result → lines.new ≡ lines.old }
 {
     let outcome = quick_run(store, format, limit, from.held())?;
-    let (front, _) = from.held().split_at(outcome.used as usize);
-    count_newlines(lines, front);
+    count_front(lines, from.held(), outcome.used as usize);
     from.consume(outcome.used as usize);
     Some(outcome)
 }

@@ -10,6 +10,7 @@ pub mod laws;
 mod line_fault;
 mod line_reports;
 mod lines;
+mod newlines;
 mod records;
 mod reports;
 mod shown;

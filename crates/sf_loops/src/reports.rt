@@ -4,7 +4,6 @@ ghost use Rattle.sf_format.specs.Proper.{AreKinded};
 ghost use Rattle.sf_read.specs.Counts.{counted_on};
 ghost use Rattle.sf_loops.specs.Loops.{IsNext, ended_with, fault_of};
 ghost use Rattle.sf_loops.specs.Runs.{IsNextRun};
-ghost use Rattle.sf_loops.specs.Turns.{outcome_of};
 
 use crate::fault::{RecordFault, RecordWhy};
 use crate::held::{take_held, take_next};
@@ -104,29 +103,42 @@ impl<'f, S: Source, const N: usize> Reports<'f, S, N> {
     }
 
     /// Runs the format over the next record.
-    fn scan(&mut self) -> Outcome
+    fn scan(&mut self)
         ensures run { IsNextRun S.to_come S.reads S.failures N self.old.format self.old.limit self.old.ahead
             self.new.ahead self.old.lines self.new.lines self.new.report }
-        ensures outcome { result ≡ outcome_of self.new.report }
         ensures format { self.new.format ≡ self.old.format }
         ensures limit { self.new.limit ≡ self.old.limit }
         ensures answered { self.new.answered ≡ self.old.answered }
         ensures over { self.new.over ≡ self.old.over }
     {
-        let Some(mut store) = self.store.take() else {
+        let Some(store) = &mut self.store else {
             unreachable!();
         };
-        if let Some(outcome) = take_held(
-            &mut store,
+        match take_held(
+            store,
             &mut self.from,
             self.format,
             self.limit,
             &mut self.lines,
         ) {
-            self.store = Some(store);
-            self.outcome = outcome;
-            return outcome;
+            Some(outcome) => self.outcome = outcome,
+            None => self.scan_on(),
         }
+    }
+
+    /// As `scan`, by a scanner whatever is held.
+    #[inline(never)]
+    fn scan_on(&mut self)
+        ensures run { IsNextRun S.to_come S.reads S.failures N self.old.format self.old.limit self.old.ahead
+            self.new.ahead self.old.lines self.new.lines self.new.report }
+        ensures format { self.new.format ≡ self.old.format }
+        ensures limit { self.new.limit ≡ self.old.limit }
+        ensures answered { self.new.answered ≡ self.old.answered }
+        ensures over { self.new.over ≡ self.old.over }
+    {
+        let Some(store) = self.store.take() else {
+            unreachable!();
+        };
         let scanned = take_next(
             self.alloc,
             store,
@@ -135,10 +147,8 @@ impl<'f, S: Source, const N: usize> Reports<'f, S, N> {
             self.limit,
             &mut self.lines,
         );
-        let outcome = scanned.outcome();
+        self.outcome = scanned.outcome();
         self.store = Some(scanned.into_store());
-        self.outcome = outcome;
-        outcome
     }
 
     /// The fault of the next record.
@@ -166,8 +176,8 @@ impl<'f, S: Source, const N: usize> Reports<'f, S, N> {
             Some(Some(fault)) => return Err(fault),
             None => {}
         }
-        let outcome = self.scan();
-        match next_turn(outcome) {
+        self.scan();
+        match next_turn(self.outcome) {
             Turn::Goes => {
                 self.answered = self.answered.saturating_add(1);
                 Ok(true)

@@ -1,8 +1,9 @@
 -- What is said after the line of a fault, where more is asked for: lines, each after two blanks.
-use Rattle.std.specs.Prelude.{ℕ, ◌+◌, ◌-◌, nat_eq, nat_lt, if◌then◌else◌, List, [], ◌∷◌, ◌++◌, drop, length, map, min, take, Option, Some, None, slice_get, unwrap_or, codes}
+use Rattle.std.specs.Prelude.{ℕ, ◌+◌, ◌-◌, Bool, true, false, nat_eq, nat_lt, if◌then◌else◌, List, [], ◌∷◌, ◌++◌, drop, length, map, min, take, Option, Some, None, slice_get, unwrap_or, codes}
 use Rattle.std.specs.Fmt.{decimal}
 use Rattle.sf_format.specs.declared.fault.FormatFault.{FormatFault}
 use Rattle.sf_format.specs.declared.directive.Directive.{Directive}
+use Rattle.sf_format.specs.declared.directive.Directive.TheVariants.{Conv as Conversion}
 use Rattle.sf_format.specs.declared.unit.Unit.{Unit as PrintUnit}
 use Rattle.sf_format.specs.declared.unit.Unit.TheVariants.{Conv}
 use Rattle.sf_lines.specs.declared.end.LineFault.{LineFault}
@@ -13,6 +14,8 @@ use Rattle.sf_pair.specs.declared.fault.PairWhy.TheVariants as why
 use Rattle.sf_run.specs.outcome.Ending.{Ending}
 use Rattle.sf_run.specs.outcome.Ending.TheVariants.{End}
 use Rattle.sf_run.specs.outcome.Outcome.{Outcome}
+use Rattle.sf_run.specs.outcome.Status.{Status}
+use Rattle.sf_run.specs.outcome.Status.TheVariants.{OutOfRange}
 use Rattle.sf_places.specs.declared.place.Place.{Place}
 use Rattle.sf_records.specs.Quotes.{quoted}
 use Rattle.sf_messages.specs.declared.fault.FormatName.{FormatName}
@@ -121,9 +124,30 @@ abbrev pub stood_notes : Option Ending → List ℕ → List ℕ
 stood_notes (Some End) rest = note (codes "the input ended there")
 stood_notes met rest = rest_notes rest
 
+-- a line that begins with a directive's number: these words after it, and then the others
+abbrev pub numbered_note : ℕ → List ℕ → List ℕ → List ℕ
+numbered_note number words shown = note (codes "directive " ++ (decimal number ++ (words ++ shown)))
+
 -- the directive with this number
 abbrev pub directive_note : ℕ → List ℕ → List ℕ
-directive_note number shown = note (codes "directive " ++ (decimal number ++ (codes ": " ++ shown)))
+directive_note number shown = numbered_note number (codes ": ") shown
+
+-- which numbers the directive with this number takes
+abbrev pub wanted_note : ℕ → List ℕ → List ℕ
+wanted_note number range = numbered_note number (codes " wants a number from ") range
+
+-- the same, by its kind, where it is a conversion
+abbrev pub range_note : ℕ → Option Directive → List ℕ
+range_note number (Some (Conversion c)) = wanted_note number (range_text c.kind)
+range_note number directive = []
+
+abbrev pub is_out_of_range : Status → Bool
+is_out_of_range OutOfRange = true
+is_out_of_range status = false
+
+-- the same of the directive at which a run met a number out of its range
+abbrev pub range_notes : List Directive → Outcome → List ℕ
+range_notes ds outcome = if is_out_of_range outcome.status then range_note outcome.at (slice_get ds (outcome.at - 1)) else []
 
 -- what helps
 abbrev pub cure_notes : List Directive → ℕ → Outcome → Option Place → List ℕ → List ℕ
@@ -138,7 +162,8 @@ cure_notes ds number outcome place rest =
 abbrev pub failed_notes : List Directive → List ℕ → ℕ → Outcome → Option Place → List ℕ → List ℕ
 failed_notes ds shown number outcome place rest =
     directive_note outcome.at shown
-    ++ (input_notes place ++ (stood_notes outcome.met rest ++ cure_notes ds number outcome place rest))
+    ++ (range_notes ds outcome
+    ++ (input_notes place ++ (stood_notes outcome.met rest ++ cure_notes ds number outcome place rest)))
 
 -- ---- lines
 
@@ -149,8 +174,8 @@ line_rest line used = drop (min used (length line)) line
 -- A line of an input that is no match, by what was read of it, where its directive is shown so: what is said of a run that had
 -- the line alone for its input, but for the place; the bytes that the run left; or what the line begins with, where it is
 -- longer than the limit.
-abbrev pub line_notes : List ℕ → List ℕ → LineFault → List ℕ
-line_notes shown line (Failed outcome) = failed_notes [] shown 1 outcome None (line_rest line outcome.used)
-line_notes shown line (LeftOver at) = rest_notes (line_rest line at)
-line_notes shown line TooLong = byte_notes (codes "it begins with ") line
-line_notes shown line Unfit = []
+abbrev pub line_notes : List Directive → List ℕ → List ℕ → LineFault → List ℕ
+line_notes ds shown line (Failed outcome) = failed_notes ds shown 1 outcome None (line_rest line outcome.used)
+line_notes ds shown line (LeftOver at) = rest_notes (line_rest line at)
+line_notes ds shown line TooLong = byte_notes (codes "it begins with ") line
+line_notes ds shown line Unfit = []

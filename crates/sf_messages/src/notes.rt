@@ -1,11 +1,10 @@
 //! What is said after the line of a fault, where more is asked for.
-ghost use Rattle.std.specs.Prelude.{◌≡◌, ◌+◌, ◌++◌, OnOk, IfOk, drop};
-ghost use Rattle.sf_messages.specs.Notes.{blanks, byte_notes, count_notes, cure_notes, cure_of, directive_note};
-ghost use Rattle.sf_messages.specs.Notes.{end_note};
+ghost use Rattle.std.specs.Prelude.{◌≡◌, ◌+◌, ◌++◌, OnOk, IfOk, drop, option_map};
+ghost use Rattle.sf_messages.specs.Notes.{blanks, byte_notes, count_notes, cure_notes, cure_of, end_note};
 ghost use Rattle.sf_messages.specs.Notes.{escape_notes, failed_notes, format_notes, input_notes};
 ghost use Rattle.sf_messages.specs.Notes.{line_notes, line_rest, note, pair_notes, part_note};
 ghost use Rattle.sf_messages.specs.Notes.{place_notes, print_side, rest_notes, scan_side, stood_notes, value_note};
-ghost use Rattle.sf_messages.specs.Notes.{value_notes};
+ghost use Rattle.sf_messages.specs.Notes.{numbered_note, range_note, range_notes, value_notes, wanted_note};
 
 use crate::cures::push_width_cure;
 use crate::facing::{faced, push_unit};
@@ -25,7 +24,7 @@ use sf_lines::LineFault;
 use sf_pair::{PairFault, PairWhy};
 use sf_places::Place;
 use sf_records::push_quoted;
-use sf_run::{Ending, Outcome};
+use sf_run::{Ending, Outcome, Status};
 use std::alloc::{AllocError, Global};
 use std::io::Write;
 
@@ -320,19 +319,73 @@ fn push_stood(
     }
 }
 
-/// Appends the line of a directive.
-fn push_directive(
+/// Appends the line of a directive: these words after its number, and then the others.
+fn push_numbered(
     alloc: Global,
     output: &mut Vec<u8>,
     number: u16,
+    words: &[u8],
     shown: &[u8],
 ) -> Result<(), AllocError>
-    ensures { OnOk result (output.new.items ≡ output.old.items ++ directive_note number shown.now) }
+    ensures { OnOk result (output.new.items ≡ output.old.items ++ numbered_note number words.now shown.now) }
 {
     let mut text = Vec::new(alloc);
-    write!(text, "directive {number}: ").map_err(|_| AllocError)?;
+    write!(text, "directive {number}").map_err(|_| AllocError)?;
+    text.extend_from_slice(words)?;
     text.extend_from_slice(shown)?;
     push_note(output, &text)
+}
+
+/// Appends which numbers a directive takes.
+fn push_wanted(
+    alloc: Global,
+    output: &mut Vec<u8>,
+    number: u16,
+    range: &str,
+) -> Result<(), AllocError>
+    ensures { OnOk result (output.new.items ≡ output.old.items ++ wanted_note number range.now) }
+{
+    push_numbered(
+        alloc,
+        output,
+        number,
+        b" wants a number from ",
+        range.as_bytes(),
+    )
+}
+
+/// Appends the same, where the directive is a conversion.
+fn push_range(
+    alloc: Global,
+    output: &mut Vec<u8>,
+    number: u16,
+    directive: Option<&Directive>,
+) -> Result<(), AllocError>
+    ensures { OnOk result (output.new.items
+        ≡ output.old.items ++ range_note number (option_map (λ given. given.now) directive.entry)) }
+{
+    match directive {
+        Some(Directive::Conv(conversion)) => {
+            push_wanted(alloc, output, number, range_text(conversion.kind))
+        }
+        _ => Ok(()),
+    }
+}
+
+/// Appends which numbers the directive takes at which a run met one out of its range.
+fn push_range_missed(
+    alloc: Global,
+    output: &mut Vec<u8>,
+    directives: &[Directive],
+    outcome: Outcome,
+) -> Result<(), AllocError>
+    ensures { OnOk result (output.new.items ≡ output.old.items ++ range_notes directives.now outcome) }
+{
+    if outcome.status != Status::OutOfRange {
+        return Ok(());
+    }
+    let place = usize::from(outcome.at).saturating_sub(1);
+    push_range(alloc, output, outcome.at, directives.get(place))
 }
 
 /// Appends what helps.
@@ -364,7 +417,7 @@ fn push_cure(
 
 /// What is said of a record that is no match, by the directives of its format: its number, the directive at which it
 /// failed, as it is shown, the place in the input where the run stopped, where it is known, and the bytes that the run
-/// left.
+/// left. Of a number that is out of range, which numbers the directive takes.
 pub fn failed_notes(
     alloc: Global,
     directives: &[Directive],
@@ -378,7 +431,8 @@ pub fn failed_notes(
         ≡ failed_notes directives.now shown.now number outcome place rest.now) }
 {
     let mut notes = Vec::new(alloc);
-    push_directive(alloc, &mut notes, outcome.at, shown)?;
+    push_numbered(alloc, &mut notes, outcome.at, b": ", shown)?;
+    push_range_missed(alloc, &mut notes, directives, outcome)?;
     push_input(alloc, &mut notes, place)?;
     push_stood(alloc, &mut notes, outcome.met, rest)?;
     push_cure(&mut notes, directives, number, outcome, place, rest)?;
@@ -394,20 +448,21 @@ fn line_rest(line: &[u8], used: u32) -> &[u8]
 
 /// What is said of a line of an input that is no match, by what was read of it, and why it is none: what is said of a
 /// run that had the line alone for its input, but for the place. `shown` is how the directive is shown at which the run
-/// failed.
+/// failed, of those of the format that counts.
 pub fn line_notes(
     alloc: Global,
+    directives: &[Directive],
     shown: &[u8],
     line: &[u8],
     fault: LineFault,
 ) -> Result<Vec<u8>, AllocError>
-    ensures { IfOk result (λ notes. notes.items ≡ line_notes shown.now line.now fault) }
+    ensures { IfOk result (λ notes. notes.items ≡ line_notes directives.now shown.now line.now fault) }
 {
     let mut said = Vec::new(alloc);
     match fault {
         LineFault::Failed { outcome } => {
             let rest = line_rest(line, outcome.used);
-            return failed_notes(alloc, &[], shown, 1, outcome, None, rest);
+            return failed_notes(alloc, directives, shown, 1, outcome, None, rest);
         }
         LineFault::LeftOver { at } => push_rest(alloc, &mut said, line_rest(line, at))?,
         LineFault::TooLong => push_bytes(alloc, &mut said, b"it begins with ", line)?,

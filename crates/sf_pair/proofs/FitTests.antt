@@ -156,8 +156,8 @@ fits_is_fit us ds values = (
 
 -- ---- the loop over the directives
 
-assigned_next : (ds : List Directive) (i : ℕ) (d : Directive) (o : Option Conversion) → drop i ds ≡ d ∷ drop (i + 1) ds → assigned_by d ≡ o
-    → assigned_conversions (drop i ds) ≡ cons_option o (assigned_conversions (drop (i + 1) ds))
+pub assigned_next : (ds : List Directive) (i : ℕ) (d : Directive) (o : Option Conversion) → drop i ds ≡ d ∷ drop (i + 1) ds
+    → assigned_by d ≡ o → assigned_conversions (drop i ds) ≡ cons_option o (assigned_conversions (drop (i + 1) ds))
 assigned_next ds i d o e a = ap assigned_conversions e ∙ ap (λ (o : Option Conversion). cons_option o
     (assigned_conversions (drop (i + 1) ds))) a
 

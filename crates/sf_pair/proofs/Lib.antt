@@ -26,6 +26,7 @@ pub mod Refusals
 pub mod OneStop
 pub mod SlotRows
 pub mod FitTests
+pub mod InPlace
 pub mod Written
 pub mod SlotCounts
 pub mod Nothing

@@ -45,7 +45,7 @@ fn are_members(members: &ByteSet, bytes: &[u8]) -> bool
 
 /// Whether a conversion of the shape and width can read the text, and no more of it.
 #[tactic(auto, using(crate::proofs::FitTests::all_bytes))]
-fn text_fits(read: &Shape, width: u32, bytes: &[u8]) -> bool
+pub(crate) fn text_fits(read: &Shape, width: u32, bytes: &[u8]) -> bool
     ensures fits { result ≡ text_fits read.now width bytes.now }
     ensures bytes { list_all is_byte bytes.now ≡ true }
 {
@@ -91,7 +91,7 @@ fn next_conversion(units: &[Unit]) -> Option<(&PrintConv, &[Unit])>
 }
 
 /// The conversion of the directive, where it assigns a value.
-fn assigned(directive: &Directive) -> Option<&Conversion>
+pub(crate) fn assigned(directive: &Directive) -> Option<&Conversion>
     ensures { MatchOption result (assigned_by directive.entry.now ≡ None)
         (λ scan. assigned_by directive.entry.now ≡ Some scan.now) }
 {
@@ -102,6 +102,7 @@ fn assigned(directive: &Directive) -> Option<&Conversion>
 }
 
 /// Whether each conversion's value fits the conversion that reads it.
+#[inline(never)]
 pub(crate) fn all_fit(units: &[Unit], directives: &[Directive], values: &[Value<'_>]) -> bool
     ensures { result ≡ all_fit (map datum_of values.now) (conversions units.now) (assigned_conversions directives.now) }
 {

@@ -24,7 +24,7 @@ use sf_read::{Lookahead, Source, fscan, fscan_fixed, fscan_over};
 use sf_run::{Scanned, StartFault};
 use std::alloc::Global;
 
-/// Scans by the pair's scan format, as `fscan` does. What was printed of values that fit is read back.
+/// Scans by the pair's scan format, as `fscan` does (C11 7.21.6.2). What was printed of values that fit is read back.
 pub fn read_back<S: Source, const N: usize>(
     alloc: Global,
     from: &mut Lookahead<S, N>,
@@ -60,7 +60,7 @@ pub fn read_back<S: Source, const N: usize>(
     fscan(alloc, from, pair.scan(), limit)
 }
 
-/// As `read_back`, over a store that was used before, as `fscan_over` uses it: its memory is used again.
+/// As `read_back` (C11 7.21.6.2), over a store that was used before, as `fscan_over` uses it: its memory is used again.
 pub fn read_back_over<S: Source, const N: usize>(
     alloc: Global,
     store: HeapStore,
@@ -100,7 +100,7 @@ pub fn read_back_over<S: Source, const N: usize>(
     fscan_over(alloc, store, from, pair.scan(), limit)
 }
 
-/// The same over a store of fixed capacity, as `fscan_fixed`. It takes no memory.
+/// As `read_back` (C11 7.21.6.2), over a store of fixed capacity, as `fscan_fixed`. It takes no memory.
 pub fn read_back_fixed<const CAP: usize, const SLOTS: usize, S: Source, const N: usize>(
     from: &mut Lookahead<S, N>,
     pair: &Pair<'_>,

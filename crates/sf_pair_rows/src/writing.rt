@@ -13,8 +13,8 @@ use sf_print::Sink;
 use sf_read::Row;
 
 /// Writes the rows by the pair's print format, one after the other, as fprintf would (C11 7.21.6.1), and as
-/// `Pair::write` writes each. `read_rows` reads
-/// them back, whatever follows. It takes no memory but what the sink takes.
+/// `Pair::write` writes each. `read_rows` reads them back, whatever follows. It takes no memory but what the sink
+/// takes.
 ///
 /// Stops at the first row that `Pair::write` refuses: the rows before it are written then, and nothing after it.
 pub fn write_rows<T: Row, K: Sink>(

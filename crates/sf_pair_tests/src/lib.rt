@@ -6,6 +6,8 @@ mod bounds;
 #[cfg(test)]
 mod errors;
 #[cfg(test)]
+mod lengths;
+#[cfg(test)]
 mod shared;
 #[cfg(test)]
 mod trips;

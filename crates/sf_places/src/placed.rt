@@ -60,6 +60,13 @@ impl<S: Source, I: Input> Placed<S, I> {
         }
     }
 
+    /// The source.
+    pub fn source(&self) -> &S
+        ensures { result.now ≡ self.now.source }
+    {
+        &self.source
+    }
+
     /// The source, given back.
     pub fn into_source(self) -> S
         ensures { result ≡ self.source }

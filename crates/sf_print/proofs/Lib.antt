@@ -7,6 +7,7 @@ pub mod Plainness
 pub mod Rows
 pub mod Short
 pub mod Staging
+pub mod InPlace
 pub mod Judged
 pub mod Lowest
 pub mod Numerals

@@ -1,13 +1,17 @@
 -- The text of a plain conversion is a minus and digits alone.
-use Rattle.std.proofs.Common.{◌≡◌, ℕ, zero, suc, ◌+◌, ◌-◌, ◌≤◌, ◌<◌, ◌^◌, Bool, true, false, cond, not, ◌&&◌, ◌==◌, is_none, List, [], ◌∷◌, ◌++◌, length, unsigned_abs, unwrap_or, Option, Some, None, eqb, subst, refl, ap, ◌∙◌, arith, append-nil}
-use Rattle.std.proofs.lemmas.Bool.{eqb-true}
+use Rattle.std.proofs.Common.{◌≡◌, ℕ, zero, suc, ◌+◌, ◌-◌, ◌≤◌, ◌<◌, ◌^◌, Bool, true, false, cond, not, ◌&&◌, ◌==◌, is_none, List, [], ◌∷◌, ◌++◌, length, unsigned_abs, unwrap_or, Option, Some, None, eqb, nat_lt, nat_le, subst, refl, ap, ◌∙◌, arith, append-nil}
+use Rattle.std.proofs.lemmas.Bool.{eqb-true, leb-true, ltb-true}
 use Rattle.std.proofs.lemmas.Fmt.{decimal_is_IsNumeral}
 use Rattle.std.specs.Char.{digit_value}
 use Rattle.std.specs.Fmt.{decimal, digits}
 use Rattle.std.specs.Str.Parse.{AllDigits}
 use mir.Val.{bool_byte}
 use Rattle.sf_print.specs.Visible.{without_blanks}
-use Rattle.sf_base.specs.Data.{Datum}
+use Rattle.sf_base.specs.Data.{Datum, datum_of_number}
+use Rattle.sf_base.specs.Kinds.{is_held}
+use Rattle.sf_base.specs.declared.number.Number as number
+use Rattle.sf_base.specs.declared.values.Kind.{Kind}
+use Rattle.sf_base.specs.declared.values.Kind.TheVariants.{I8, I16, I32, I64, U8, U16, U32, U64, Text}
 use Rattle.sf_base.specs.Data.Datum.{Number, Bytes}
 use Rattle.sf_format.specs.declared.unit.PrintLetter.{PrintLetter}
 use Rattle.sf_format.specs.declared.unit.PrintLetter.TheVariants as letter
@@ -150,3 +154,52 @@ pub length_seen : (negative : Bool) (m : ℕ) (text : List ℕ) → m < 2 ^ 64 �
     → length (without_blanks text) ≡ bool_byte negative + length (decimal m)
 length_seen negative m text small is = ap (λ (t : List ℕ). length (without_blanks t)) is ∙ ap length (number_seen negative m small)
     ∙ number_length negative m
+
+-- ---- numbers by their sign and magnitude
+
+some_less : (m : ℕ) (b : Bool) → nat_lt 0 m && b ≡ true → 0 < m
+some_less m b e = by (nat_lt 0 m) refl e
+  where
+    by : (t : Bool) → nat_lt 0 m ≡ t → t && b ≡ true → 0 < m
+    by true h e = ltb-true 0 m h
+    by false h e = absurd cc
+
+some_below : (k : Kind) (negative : Bool) (m : ℕ) → is_held k negative m ≡ true → negative ≡ true → 0 < m
+some_below k false m held e = absurd cc
+some_below I8 true m held e = some_less m (nat_le m (2 ^ 7)) held
+some_below I16 true m held e = some_less m (nat_le m (2 ^ 15)) held
+some_below I32 true m held e = some_less m (nat_le m (2 ^ 31)) held
+some_below I64 true m held e = some_less m (nat_le m (2 ^ 63)) held
+some_below U8 true m held e = absurd cc
+some_below U16 true m held e = absurd cc
+some_below U32 true m held e = absurd cc
+some_below U64 true m held e = absurd cc
+some_below Text true m held e = absurd cc
+
+most_of : (m n : ℕ) (a : Bool) → a && nat_le m n ≡ true → m ≤ n
+most_of m n true e = leb-true m n e
+most_of m n false e = absurd cc
+
+small_of : (k : Kind) (negative : Bool) (m : ℕ) → is_held k negative m ≡ true → m < 2 ^ 64
+small_of I8 false m held = omega (arith, ltb-true m (2 ^ 7) held)
+small_of I16 false m held = omega (arith, ltb-true m (2 ^ 15) held)
+small_of I32 false m held = omega (arith, ltb-true m (2 ^ 31) held)
+small_of I64 false m held = omega (arith, ltb-true m (2 ^ 63) held)
+small_of U8 false m held = omega (arith, ltb-true m (2 ^ 8) held)
+small_of U16 false m held = omega (arith, ltb-true m (2 ^ 16) held)
+small_of U32 false m held = omega (arith, ltb-true m (2 ^ 32) held)
+small_of U64 false m held = omega (arith, ltb-true m (2 ^ 64) held)
+small_of I8 true m held = omega (arith, most_of m (2 ^ 7) (nat_lt 0 m) held)
+small_of I16 true m held = omega (arith, most_of m (2 ^ 15) (nat_lt 0 m) held)
+small_of I32 true m held = omega (arith, most_of m (2 ^ 31) (nat_lt 0 m) held)
+small_of I64 true m held = omega (arith, most_of m (2 ^ 63) (nat_lt 0 m) held)
+small_of U8 true m held = absurd cc
+small_of U16 true m held = absurd cc
+small_of U32 true m held = absurd cc
+small_of U64 true m held = absurd cc
+small_of Text negative m held = absurd cc
+
+pub plain_shown : (c : PrintConv) (n : number.Number) → is_plain c ≡ true
+    → value_text c (datum_of_number n) ≡ minus n.negative ++ decimal n.magnitude
+plain_shown c n plain = plain_text c n.negative n.magnitude plain (some_below n.kind n.negative n.magnitude n.held)
+    (small_of n.kind n.negative n.magnitude n.held)

@@ -5,7 +5,9 @@ ghost use Rattle.sf_print.specs.Sinks.{counted_on};
 ghost use Rattle.sf_print.specs.Handed.{Hands};
 ghost use Rattle.sf_print.specs.Staged.{Puts};
 ghost use Rattle.sf_print.specs.Plain.{minus};
+ghost use Rattle.sf_print.specs.Printed.{WritesText, is_sink_fault};
 
+use crate::fault::PrintFault;
 use crate::sink::{Sink, SinkFault};
 use crate::stage::{STAGE_BYTES, Stage};
 
@@ -24,6 +26,22 @@ fn hand<K: Sink>(to: &mut K, written: u32, piece: &[u8]) -> Result<u32, u32>
         }
     }
     Ok(written + piece.len() as u32)
+}
+
+/// Hands the sink a text, and answers its length.
+///
+/// Where the sink fails, `PrintFault::Sink` has how many bytes of the text it had taken: less than all.
+#[inline]
+pub fn write_text<K: Sink>(to: &mut K, text: &[u8]) -> Result<u32, PrintFault>
+    requires { length text.now ≤ 2147483647 }
+    ensures written { WritesText (K.contents to.old) (K.contents to.new) text.now result }
+    ensures failures { K.failures to.new
+        ≡ (if is_sink_fault result then counted_on (K.failures to.old) else K.failures to.old) }
+{
+    match hand(to, 0, text) {
+        Ok(len) => Ok(len),
+        Err(written) => Err(PrintFault::Sink { written }),
+    }
 }
 
 /// Hands the sink all that is held.

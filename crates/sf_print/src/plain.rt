@@ -21,7 +21,7 @@ fn is_decimal_letter(letter: PrintLetter) -> bool
 }
 
 #[inline]
-fn is_plain_conv(conv: &PrintConv) -> bool
+pub(crate) fn is_plain_conv(conv: &PrintConv) -> bool
     ensures { result ≡ is_plain conv.now }
 {
     is_decimal_letter(conv.letter)

@@ -14,12 +14,13 @@ use crate::text::value_pieces;
 use sf_base::Value;
 use sf_format::PrintConv;
 
-/// The length of the bytes after the blanks that stand first.
-fn visible_bytes(bytes: &[u8]) -> u64
-    ensures { result ≡ length (without_blanks bytes.now) }
+/// The length of a text without the blanks before it.
+#[inline(always)]
+pub fn visible_len(text: &[u8]) -> usize
+    ensures { result ≡ length (without_blanks text.now) }
 {
-    let mut len = bytes.len() as u64;
-    for byte in bytes {
+    let mut len = text.len();
+    for byte in text {
         if *byte != b' ' {
             return len;
         }
@@ -35,7 +36,7 @@ fn visible_piece(piece: &Piece<'_>) -> u64
     match *piece {
         Piece::Run(b' ', _) => 0,
         Piece::Run(_, count) => count as u64,
-        Piece::Bytes(bytes) => visible_bytes(bytes),
+        Piece::Bytes(bytes) => visible_len(bytes) as u64,
     }
 }
 

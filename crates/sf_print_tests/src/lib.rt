@@ -12,6 +12,8 @@ mod errors;
 #[cfg(test)]
 mod formats;
 #[cfg(test)]
+mod in_place;
+#[cfg(test)]
 mod kinds;
 #[cfg(test)]
 mod lengths;

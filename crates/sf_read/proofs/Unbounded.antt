@@ -1,8 +1,8 @@
 -- A run that is Done, has used all of its input and ends with an item that can go on would consume some byte next.
-use Rattle.std.proofs.Common.{◌≡◌, ℕ, ◌+◌, ◌-◌, ◌<◌, ◌≤◌, inl, inr, Bool, true, false, cond, List, [], ◌∷◌, ◌++◌, length, take, Option, Some, None, refl, sym, ap, subst, ◌∙◌, arith, lit<, zero, suc, ◌&&◌}
+use Rattle.std.proofs.Common.{◌≡◌, ℕ, ◌+◌, ◌-◌, ◌<◌, ◌≤◌, inl, inr, Bool, true, false, cond, List, [], ◌∷◌, ◌++◌, length, take, drop, Option, Some, None, refl, sym, ap, subst, ◌∙◌, arith, lit<, zero, suc, ◌&&◌}
 use Rattle.std.specs.Prelude.{slice_get, SomeIff}
 use Rattle.std.proofs.lemmas.Bool.{and_from, and_parts}
-use Rattle.std.proofs.lemmas.List.{append-nil}
+use Rattle.std.proofs.lemmas.List.{append-nil, append_assoc, take-append-drop}
 use Rattle.std.proofs.lemmas.Option.{slice_get_within}
 use Rattle.std.proofs.lemmas.Grind.{common_steps}
 use Rattle.std.specs.List.{list_all}
@@ -313,13 +313,13 @@ is_open_after ds proper ends x done all =
     let here : TakesNext ds 1 nothing_yet x = subst (λ es. TakesNext es 1 nothing_yet x) (sym is) takes in
     open_of ds proper x (record { next = here.0; is_byte = here.1; takes = here.2; all = all ∙ omega arith })
 
--- ---- the report of a text, from that of the text with one byte more
+-- ---- the report of a text, from that of the text with more bytes after it
 
 -- by the law, the run of the text alone is Done too, and what it met says whether the text is open
-done_alone : EachDoneRunStays → (ds : List Directive) → AreProper ds → (m : ℕ) (x : List ℕ) (b : ℕ) (r : RunReport)
-    → RunWithin ds m (x ++ b ∷ []) End r
+done_alone : EachDoneRunStays → (ds : List Directive) → AreProper ds → (m : ℕ) (x rest : List ℕ) (r : RunReport)
+    → RunWithin ds m (x ++ rest) End r
     → r.status ≡ Done → r.used ≤ length x → (met : Option Ending) × RunWithin ds m x End (record r { met = met })
-done_alone stays ds proper m x b r run done le = stays ds proper m x (b ∷ []) End End r run done le
+done_alone stays ds proper m x rest r run done le = stays ds proper m x rest End End r run done le
 
 not_met : (met : Option Ending) (P : Type 0) → SomeIff met P End → (P → ⊥) → met ≡ None
 not_met met P h never = grind arith
@@ -334,10 +334,10 @@ done_run ds m x r done (inl w) = w
 done_run ds m x r done (inr w) = let is = ap (λ (o : RunReport). o.status) w.2 in absurd cc
 
 pub inside_report : EachDoneRunStays → EachOpenInputIsUsed → (ds : List Directive) → AreProper ds
-    → (m : ℕ) (x : List ℕ) (b : ℕ) (r : RunReport)
-    → RunWithin ds m (x ++ b ∷ []) End r → r.status ≡ Done → r.met ≡ None → r.used < length x → RunWithin ds m x End r
-inside_report stays used ds proper m x b r run done none less =
-    let alone = done_alone stays ds proper m x b r run done (omega (arith, less)) in
+    → (m : ℕ) (x rest : List ℕ) (r : RunReport)
+    → RunWithin ds m (x ++ rest) End r → r.status ≡ Done → r.met ≡ None → r.used < length x → RunWithin ds m x End r
+inside_report stays used ds proper m x rest r run done none less =
+    let alone = done_alone stays ds proper m x rest r run done (omega (arith, less)) in
     let own : RunReport = record r { met = alone.0 } in
     let ran : (own.used ≤ m) × Run ds x End own = done_run ds m x own done alone.1 in
     let closed : IsOpen ds x → ⊥ = λ o. let all : own.used ≡ length x = used ds proper x End own o ran.1 in omega (arith, less, all) in
@@ -346,10 +346,10 @@ inside_report stays used ds proper m x b r run done none less =
     subst (λ n. RunWithin ds m x End (record r { met = n })) met alone.1
 
 pub whole_report : EachDoneRunStays → (ds : List Directive) → AreProper ds → EndsUnbounded ds
-    → (m : ℕ) (x : List ℕ) (b : ℕ) (r : RunReport)
-    → RunWithin ds m (x ++ b ∷ []) End r → r.status ≡ Done → r.used ≡ length x → RunWithin ds m x End (record r { met = Some End })
-whole_report stays ds proper ends m x b r run done all =
-    let alone = done_alone stays ds proper m x b r run done (omega (arith, all)) in
+    → (m : ℕ) (x rest : List ℕ) (r : RunReport)
+    → RunWithin ds m (x ++ rest) End r → r.status ≡ Done → r.used ≡ length x → RunWithin ds m x End (record r { met = Some End })
+whole_report stays ds proper ends m x rest r run done all =
+    let alone = done_alone stays ds proper m x rest r run done (omega (arith, all)) in
     let own : RunReport = record r { met = alone.0 } in
     let ran : (own.used ≤ m) × Run ds x End own = done_run ds m x own done alone.1 in
     let is : run_of None ds 1 nothing_yet x ≡ record r { met = None } = run_told ds proper x ran.1.0 ran.1.1
@@ -359,3 +359,11 @@ whole_report stays ds proper ends m x b r run done all =
     let some = (met_within open_all ds proper m x End own alone.1).1 in
     let met : alone.0 ≡ Some End = is_met alone.0 (IsOpen ds x × (length x ≤ m)) some (open', omega (arith, all, ran.0)) in
     subst (λ n. RunWithin ds m x End (record r { met = n })) met alone.1
+
+-- ---- a text that is laid down in a block, with a newline after it
+
+pub laid_down : (text block : List ℕ) → take (length text + 1) block ≡ text ++ 10 ∷ []
+    → block ++ [] ≡ text ++ 10 ∷ drop (length text + 1) block
+laid_down text block front =
+    append-nil block ∙ sym (take-append-drop (length text + 1) block) ∙ ap (λ (x : List ℕ). x ++ drop (length text + 1) block) front
+    ∙ append_assoc text (10 ∷ []) (drop (length text + 1) block)

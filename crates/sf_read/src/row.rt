@@ -205,7 +205,7 @@ fn row_by_scan<T: Row, S: Source, const N: usize>(
     }
 }
 
-/// Scans as `fscan` does, and makes a row of the values.
+/// Scans as `fscan` does (C11 7.21.6.2), and makes a row of the values.
 ///
 /// Refuses with ShapeDiffers where the slots of the row and their kinds are not the destinations of the format and
 /// theirs; then with Start where `fscan` refuses; nothing was read then. A run that doesn't end as Done is reported by
@@ -232,8 +232,8 @@ pub fn scan_row<T: Row, S: Source, const N: usize>(
     scan_row_over(alloc, &mut store, from, format, limit)
 }
 
-/// As `scan_row`, over the store of a row before, whose memory is used again: `None` at first, and then what the call
-/// before left there. A call that scans leaves its store there.
+/// As `scan_row` (C11 7.21.6.2), over the store of a row before, whose memory is used again: `None` at first, and then
+/// what the call before left there. A call that scans leaves its store there.
 pub fn scan_row_over<T: Row, S: Source, const N: usize>(
     alloc: Global,
     store: &mut Option<HeapStore>,

@@ -23,6 +23,7 @@ impl<'a> Model for SliceSource<'a> {
 }
 
 impl<'a> SliceSource<'a> {
+    /// A source of these bytes, from the first on, as sscanf reads a string (C11 7.21.6.7). It takes no memory.
     pub fn new(text: &'a [u8]) -> SliceSource<'a>
         ensures { result ≡ record { to_come = text.entry.now; reads = 0 } }
     {

@@ -15,6 +15,7 @@ pub struct StdSource<R: Read + Drop> {
 }
 
 impl<R: Read + Drop> StdSource<R> {
+    /// A source of the bytes that the reader will give. Nothing is read yet, and it takes no memory.
     pub fn new(reader: R) -> StdSource<R>
         ensures to_come { ⟦<StdSource<R> as Source>⟧.to_come result ≡ R.remaining reader }
         ensures reads { ⟦<StdSource<R> as Source>⟧.reads result ≡ 0 }

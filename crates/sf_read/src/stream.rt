@@ -146,9 +146,10 @@ pub fn fscan<S: Source, const N: usize>(
     fscan_by_scanner(alloc, store, from, format, limit)
 }
 
-/// As `fscan`, over a store that was used before, as `Scanner::over` uses it: what it keeps is taken away, and its
-/// memory is used again. The store of a report is given back by `Scanned::into_store`. A record that is held whole is
-/// scanned without a scanner, as `fscan_held` scans it, where the store has room for the format's width sum.
+/// As `fscan` (C11 7.21.6.2), over a store that was used before, as `Scanner::over` uses it: what it keeps is taken
+/// away, and its memory is used again. The store of a report is given back by `Scanned::into_store`. A record that is
+/// held whole is scanned without a scanner, as `fscan_held` scans it, where the store has room for the format's width
+/// sum.
 pub fn fscan_over<S: Source, const N: usize>(
     alloc: Global,
     mut store: HeapStore,
@@ -292,7 +293,8 @@ pub fn fscan_held<S: Source, const N: usize>(
     Some(outcome)
 }
 
-/// As `fscan`, over a store of fixed capacity. It takes no memory.
+/// As `fscan` (C11 7.21.6.2), over a store of fixed capacity: `CAP` bytes of texts and `SLOTS` values. It takes no
+/// memory.
 ///
 /// Refuses a limit above 2147483647 with BadLimit, then a format without a width sum with Unbounded, then one whose
 /// width sum is above CAP or that has more than SLOTS destinations with TooSmall. Where it refuses, nothing was read.

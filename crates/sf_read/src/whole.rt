@@ -20,6 +20,13 @@ use std::alloc::Global;
 /// A text with fewer bytes is scanned at once, with a newline after it.
 const BLOCK: usize = 256;
 
+/// A text that has this many bytes or fewer is laid down in a block of `SHORT_BLOCK` bytes, which takes fewer steps to
+/// clear. Sixteen bytes follow the text there, as many as are looked at at once.
+const SHORT: usize = 47;
+
+/// How many bytes a short text is laid down in.
+const SHORT_BLOCK: usize = 64;
+
 /// Whether the last directive is a conversion whose item ends only where a byte doesn't match.
 fn ends_unbounded(directives: &[Directive]) -> bool
     ensures { IsTrue result → EndsUnbounded directives.now }
@@ -46,25 +53,26 @@ fn lay_down(text: &[u8], block: &mut [u8])
     block[text.len()] = b'\n';
 }
 
-/// As `scan_at_once`, of a short text: its result with a newline after it is that of the text alone.
+/// As `scan_at_once`, of a text that is laid down in a block of `N` bytes: its result with a newline after it, and
+/// whatever follows that, is the result of the text alone.
 #[inline(never)]
-fn scan_with_newline(
+fn scan_with_newline<const N: usize>(
     store: &mut HeapStore,
     text: &[u8],
     format: &ScanFormat,
     limit: u32,
 ) -> Option<Outcome>
-    requires { length text.now < BLOCK }
+    requires shorter { length text.now < N }
+    requires few { N ≤ BLOCK }
     ensures run { IfSome result (λ outcome. RunWithin format.now limit text.now Ending.End
         (report_by outcome store.new.values)) }
     ensures texts { IfSome result (λ _. HoldsValues store.new) }
     ensures room { capacity_of store.old ≤ capacity_of store.new }
 {
     let directives = format.directives();
-    let mut block = [0; BLOCK];
+    let mut block = [0; N];
     lay_down(text, &mut block);
-    let (front, _) = block.split_at(text.len() + 1);
-    let outcome = quick_run(store, format, limit, front)?;
+    let outcome = quick_run(store, format, limit, &block)?;
     done_runs_stay();
     open_inputs_are_used();
     let used = outcome.used as usize;
@@ -108,7 +116,10 @@ fn scan_at_once(
     {
         return Some(outcome);
     }
-    scan_with_newline(store, text, format, limit)
+    if text.len() <= SHORT {
+        return scan_with_newline::<SHORT_BLOCK>(store, text, format, limit);
+    }
+    scan_with_newline::<BLOCK>(store, text, format, limit)
 }
 
 /// What the run of the scanner comes to, over a whole text.
@@ -181,8 +192,8 @@ pub fn sscan(
     scan_by_scanner(alloc, store, text, format, limit)
 }
 
-/// As `sscan`, over a store that was used before, as `Scanner::over` uses it: what it keeps is taken away, and its
-/// memory is used again. The store of a report is given back by `Scanned::into_store`.
+/// As `sscan` (C11 7.21.6.7), over a store that was used before, as `Scanner::over` uses it: what it keeps is taken
+/// away, and its memory is used again. The store of a report is given back by `Scanned::into_store`.
 pub fn sscan_over(
     alloc: Global,
     mut store: HeapStore,

@@ -49,6 +49,7 @@ impl Status {
 /// What a run came to, but for its values.
 #[derive(Clone, Copy, Debug, PartialEq, Eq)]
 pub struct Outcome {
+    /// Whether each directive has passed, and else how the run failed (C11 7.21.6.2p4).
     pub status: Status,
     /// The directive that failed, counted from 1; 0 for Done.
     pub at: u16,

@@ -45,6 +45,8 @@ pub enum FeedState {
 /// How many bytes of a piece were taken, and what the scanner does now.
 #[derive(Clone, Copy, Debug, PartialEq, Eq)]
 pub struct Fed {
+    /// How many bytes of the piece the run has consumed, from its first on.
     pub taken: usize,
+    /// Whether the scanner waits for more bytes.
     pub state: FeedState,
 }

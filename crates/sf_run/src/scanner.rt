@@ -60,8 +60,8 @@ fn store_bytes<S: Store>(store: &mut S, bytes: &[u8]) -> usize
     push_each(store, bytes)
 }
 
-/// Scans values by a format from bytes that are handed to it, into a store. It keeps no byte of its input but the texts
-/// that it stores.
+/// Scans values by a format from bytes that are handed to it, as fscanf does (C11 7.21.6.2), into a store. It keeps no
+/// byte of its input but the texts that it stores.
 #[derive(Drop)]
 pub struct Scanner<'f, S: Store> {
     directives: &'f [Directive],

@@ -1,6 +1,7 @@
 -- What is done on a source that stands for another, as told of that other.
 use Rattle.std.proofs.Common.{◌≡◌, ◌∙◌, ℕ, false, inl, inr, ap, List, [], ◌∷◌, map, option_map, string_bytes, Bool, Option, None, Some, Result, Ok, Err}
 use Rattle.std.specs.Prelude.{IfErr}
+use Rattle.std.specs.declared.io.Error.{Error}
 use Rattle.sf_format.specs.declared.directive.Directive.{Directive}
 use Rattle.sf_format.specs.declared.directive.Profile.{Profile}
 use Rattle.sf_format.specs.declared.unit.Unit.{Unit as PrintUnit}
@@ -25,7 +26,11 @@ use Rattle.sf_records.specs.Forms.{writing}
 use Rattle.sf_records.specs.form.OutputForm.{OutputForm}
 use Rattle.sf_arguments.specs.declared.word_reading.WordReading.{WordReading}
 use Rattle.sf_jobs.specs.Commands.{CarriesOut, CarriesOutBy, Copies, CopiesBoth, CopiesWords, IsRefusedText, ScansAs, ScansBy, ScansForm, ScansPrint, ScansPrintWords, ScansText, ScansUnder, ScansWord, Unread, form_of, grammar_of, reading_of}
-use Rattle.sf_tool.specs.Exits.{DoesOrder, EndsLines, unread_of}
+use Rattle.sf_jobs.specs.CopyFormats.{line_format}
+use Rattle.sf_jobs.specs.declared.copy_formats.CopyFormats.{CopyFormats}
+use Rattle.sf_records.specs.Copies.{copying}
+use Rattle.sf_tool.specs.Copies.{CopiesPair, CopiesTexts, line_options}
+use Rattle.sf_tool.specs.Exits.{DoesOrder, EndsCopies, EndsLines, EndsScans, unread_of}
 use Rattle.sf_tool.specs.Fronts.{file_name}
 use Rattle.sf_tool.specs.Lines.{RunsForm, RunsLines, RunsUnder, RunsWriting, ScansLines, scanning}
 use Rattle.sf_jobs.specs.declared.writing.Writing.{Writing}
@@ -429,17 +434,50 @@ module _ {T S K E : Type 0} (f : T → S) (to_come : S → Option (List ℕ)) (f
         runs_writing tagged due names writing options limit ignored formats telling from from' out out' err err' answer r,
       )
 
+  copies_pair : (file : Option (List ℕ)) (profile : Profile) (options : LineOptions) (explain : Bool) (limit : ℕ) (formats : CopyFormats)
+      (from from' : Ahead T) (out out' : K) (err err' : E) (answer : Answer)
+      → CopiesPair (λ s. to_come (f s)) (λ s. faults (f s)) contents write_faults said unsaid file profile options explain limit formats
+      from from' out out' err err' answer
+      → CopiesPair to_come faults contents write_faults said unsaid file profile options explain limit formats (over f from)
+      (over f from') out out' err err' answer
+  copies_pair file profile options explain limit formats from from' out out' err err' answer (inl (bad, same, written, silent)) =
+      inl (bad, ap (over f) same, written, silent)
+  copies_pair file profile options explain limit formats from from' out out' err err' answer (inr (aligned, copied)) = inr (
+    aligned,
+    (
+      copied.0,
+      copied.1,
+      runs_lines (λ number ds. copying formats.print formats.scan) (line_options options formats) limit [] (line_format formats ∷ [])
+          copied.0 from from' out out' err err' answer copied.2,
+    ),
+  )
+
+  copies_texts : (file : Option (List ℕ)) (profile : Profile) (options : LineOptions) (explain : Bool) (limit : ℕ)
+      (texts : List (List ℕ)) (from from' : Ahead T) (out out' : K) (err err' : E) (answer : Answer)
+      → CopiesTexts (λ s. to_come (f s)) (λ s. faults (f s)) contents write_faults said unsaid file profile options explain limit texts
+      from from' out out' err err' answer
+      → CopiesTexts to_come faults contents write_faults said unsaid file profile options explain limit texts (over f from)
+      (over f from') out out' err err' answer
+  copies_texts file profile options explain limit [] from from' out out' err err' answer none = absurd none
+  copies_texts file profile options explain limit (print ∷ []) from from' out out' err err' answer none = absurd none
+  copies_texts file profile options explain limit (print ∷ scan ∷ next ∷ more) from from' out out' err err' answer none = absurd none
+  copies_texts file profile options explain limit (print ∷ scan ∷ []) from from' out out' err err' answer
+      (inl (bad, same, written, silent)) = inl (bad, ap (over f) same, written, silent)
+  copies_texts file profile options explain limit (print ∷ scan ∷ []) from from' out out' err err' answer (inr (formats, are, pair)) =
+      inr (formats, are, copies_pair file profile options explain limit formats from from' out out' err err' answer pair)
+
 -- ---- the command
 
 module _ {T S K E : Type 0} (f : T → S) (contents : K → Option (List ℕ)) (write_faults : K → ℕ) (hands : K → K → Type 0)
-    (said : E → Option (List ℕ)) (unsaid : E → ℕ) (to_come : S → Option (List ℕ)) (faults : S → ℕ) where
-  ends_lines : (explain : Bool) (options : LineOptions) (order : Order) (from from' : Ahead T) (out out' : K) (err err' : E)
+    (said : E → Option (List ℕ)) (unsaid : E → ℕ) (to_come : S → Option (List ℕ)) (faults : S → ℕ) (unread : S → Option Error)
+    (unwritten : K → Option Error) (watched : Bool) where
+  ends_scans : (explain : Bool) (options : LineOptions) (order : Order) (from from' : Ahead T) (out out' : K) (err err' : E)
       (ended : Answer)
-      → EndsLines contents write_faults hands said unsaid (λ s. to_come (f s))
-      (λ s. faults (f s)) explain options order from from' out out' err err' ended
-      → EndsLines contents write_faults hands said unsaid to_come faults explain options order (over f from)
+      → EndsScans contents write_faults hands said unsaid (λ s. to_come (f s))
+      (λ s. faults (f s)) (λ s. unread (f s)) unwritten watched explain options order from from' out out' err err' ended
+      → EndsScans contents write_faults hands said unsaid to_come faults unread unwritten watched explain options order (over f from)
       (over f from') out out' err err' ended
-  ends_lines explain options order from from' out out' err err' ended (answer, (mid, (between, done, ends))) = (
+  ends_scans explain options order from from' out out' err err' ended (answer, (mid, (between, done, ends))) = (
     answer,
     (
       mid,
@@ -453,14 +491,47 @@ module _ {T S K E : Type 0} (f : T → S) (contents : K → Option (List ℕ)) (
     ),
   )
 
+  ends_copies : (explain : Bool) (options : LineOptions) (order : Order) (from from' : Ahead T) (out out' : K) (err err' : E)
+      (ended : Answer)
+      → EndsCopies contents write_faults hands said unsaid (λ s. to_come (f s))
+      (λ s. faults (f s)) (λ s. unread (f s)) unwritten watched explain options order from from' out out' err err' ended
+      → EndsCopies contents write_faults hands said unsaid to_come faults unread unwritten watched explain options order (over f from)
+      (over f from') out out' err err' ended
+  ends_copies explain options order from from' out out' err err' ended (answer, (mid, (between, done, ends))) = (
+    answer,
+    (
+      mid,
+      (
+        between,
+        copies_texts f to_come faults contents write_faults said unsaid (file_name order) _ options explain order.limit _ from
+            from' out mid err between answer done,
+        ends,
+      ),
+    ),
+  )
+
+  ends_lines : (explain : Bool) (options : LineOptions) (order : Order) (verb : Verb) (from from' : Ahead T) (out out' : K)
+      (err err' : E) (ended : Answer)
+      → EndsLines contents write_faults hands said unsaid (λ s. to_come (f s))
+      (λ s. faults (f s)) (λ s. unread (f s)) unwritten watched explain options order verb from from' out out' err err' ended
+      → EndsLines contents write_faults hands said unsaid to_come faults unread unwritten watched explain options order verb (over f from)
+      (over f from') out out' err err' ended
+  ends_lines explain options order verb.Scan from from' out out' err err' ended done =
+      ends_scans explain options order from from' out out' err err' ended done
+  ends_lines explain options order verb.Copy from from' out out' err err' ended done =
+      ends_copies explain options order from from' out out' err err' ended done
+  ends_lines explain options order verb.Show from from' out out' err err' ended none = absurd none
+  ends_lines explain options order verb.Print from from' out out' err err' ended none = absurd none
+  ends_lines explain options order verb.Check from from' out out' err err' ended none = absurd none
+
   pub does_order : (explain : Bool) (lines : Option LineOptions) (order : Order) (place : Option Place) (from from' : Ahead T)
       (out out' : K) (err err' : E)
       (ended : Answer)
       → DoesOrder contents write_faults hands said unsaid (λ s. to_come (f s))
-      (λ s. faults (f s)) explain lines order place from from' out out' err err' ended
-      → DoesOrder contents write_faults hands said unsaid to_come faults explain lines order place (over f from)
+      (λ s. faults (f s)) (λ s. unread (f s)) unwritten watched explain lines order place from from' out out' err err' ended
+      → DoesOrder contents write_faults hands said unsaid to_come faults unread unwritten watched explain lines order place (over f from)
       (over f from') out out' err err' ended
   does_order explain None order place from from' out out' err err' ended (answer, (mid, done, more)) =
       (answer, (mid, carries f to_come faults contents write_faults order from from' out mid answer done, more))
   does_order explain (Some options) order place from from' out out' err err' ended done =
-      ends_lines explain options order from from' out out' err err' ended done
+      ends_lines explain options order order.verb from from' out out' err err' ended done

@@ -4,6 +4,7 @@ use Rattle.std.specs.List.{slice_get}
 use Rattle.std.specs.Prelude.{get_or}
 use Rattle.std.proofs.lemmas.List.{length-map}
 use Rattle.std.proofs.lemmas.Option.{slice_get-get_or}
+use Rattle.std.specs.declared.io.Error.{Error}
 use Rattle.sf_words.specs.declared.order.Order.{Order}
 use Rattle.sf_tool.specs.Files.{RunsFile, RunsFiles, Where}
 use Rattle.sf_tool.specs.declared.files.Turn.{Turn}
@@ -29,12 +30,12 @@ is_false false e = refl
 
 module _ {S K E F : Type 0} (opens : F → F → List ℕ → S → Bool → Type 0) (contents : K → Option (List ℕ)) (write_faults : K → ℕ)
     (hands : K → K → Type 0) (said : E → Option (List ℕ)) (unsaid : E → ℕ) (to_come : S → Option (List ℕ)) (read_faults : S → ℕ)
-    (watched : Bool) where
+    (why_unread : S → Option Error) (why_unwritten : K → Option Error) (watched : Bool) where
   abbrev Runs : Order → F → F → K → K → E → E → Turn → Type 0
-  Runs = RunsFile opens contents write_faults hands said unsaid to_come read_faults watched
+  Runs = RunsFile opens contents write_faults hands said unsaid to_come read_faults why_unread why_unwritten watched
 
   abbrev All : ℕ → Order → ℕ → ℕ → F → F → K → K → E → E → ℕ → Type 0
-  All = RunsFiles opens contents write_faults hands said unsaid to_come read_faults watched
+  All = RunsFiles opens contents write_faults hands said unsaid to_come read_faults why_unread why_unwritten watched
 
   -- the next files are read
   pub then_next : (left : ℕ) (order : Order) (place worst : ℕ) (turn : Turn) (files after files' : F) (out mid out' : K)

@@ -1,5 +1,6 @@
 pub mod Asking
 pub mod Carrying
+pub mod Copying
 pub mod Filing
 pub mod Lining
 pub mod OneSaid

@@ -1,6 +1,7 @@
 -- What one run of the command writes, says and answers.
 use Rattle.std.specs.Prelude.{◌≡◌, ◌≤◌, ◌⊎◌, ◌++◌, ℕ, Bool, List, [], ◌∷◌, true, false, Option, Some, None, Result, Ok, Err, IfErr, IfOk, IfSome, map, option_map, string_bytes}
 use Rattle.std.specs.Io.KnownBytes.{Appends}
+use Rattle.std.specs.declared.io.Error.{Error}
 use Rattle.sf_places.specs.Behind.{IsBehind}
 use Rattle.sf_places.specs.declared.place.Place.{Place}
 use Rattle.sf_read.specs.Ahead.{Ahead, input_of}
@@ -9,6 +10,8 @@ use Rattle.sf_words.specs.declared.order.LineOptions.{LineOptions}
 use Rattle.sf_words.specs.declared.order.Notes.{Notes}
 use Rattle.sf_words.specs.declared.order.Notes.TheVariants.{Always, OnTerminal, Never}
 use Rattle.sf_words.specs.declared.order.Order.{Order}
+use Rattle.sf_words.specs.declared.order.Verb.{Verb}
+use Rattle.sf_words.specs.declared.order.Verb.TheVariants as verb
 use Rattle.sf_words.specs.declared.order.WordsFault.{WordsFault}
 use Rattle.sf_words.specs.declared.order.WordsFault.TheVariants.{Help, Usage, NoMemory}
 use Rattle.sf_words.specs.Orders.{HasTextsFor, IsOrder, IsRefusal, faults_of}
@@ -18,9 +21,11 @@ use Rattle.sf_forms.specs.Columns.{name_at}
 use Rattle.sf_jobs.specs.Answers.{Answer}
 use Rattle.sf_jobs.specs.Commands.{CarriesOut, Counts, form_of, grammar_of}
 use Rattle.sf_jobs.specs.Heads.{is_headed, names_text, split}
+use Rattle.sf_tool.specs.Copies.{CopiesTexts}
 use Rattle.sf_tool.specs.Explains.{SaysMore}
 use Rattle.sf_tool.specs.Fronts.{file_name, file_of, in_front}
 use Rattle.sf_tool.specs.Lines.{SaysMoreOfLines, ScansLines}
+use Rattle.sf_reasons.specs.Faults.{IsWithReason, is_unheard, reason_of}
 use Rattle.sf_tool.specs.Saying.{Says}
 use Rattle.sf_messages.specs.Texts.{error_line, name_twice_line, status_of}
 
@@ -64,6 +69,23 @@ EndsOrder hands said unsaid order notes (Ok n) out out' err err' ended = SaysNot
 EndsOrder hands said unsaid order notes (Err fault) out out' err err' ended =
     SaysFault hands said unsaid (names_text order) (file_name order) notes fault out out' err err' × (ended ≡ Err fault)
 
+-- the end of an order with a fault, by why its input and why its output failed last: why it came is said after the notes, where more
+-- is said than the line; nothing is said on a terminal where nobody reads the output any more
+abbrev pub EndsFailed : {K E : Type 0} → (K → K → Type 0) → (E → Option (List ℕ)) → (E → ℕ) → Bool → Bool → Option Error → Option Error
+    → Order → List ℕ → CommandFault → K → K → E → E → Answer → Type 0
+EndsFailed hands said unsaid watched explain unread unwritten order notes fault out out' err err' ended =
+    (is_unheard watched unwritten fault ≡ true) × (out' ≡ out) × (err' ≡ err) × (ended ≡ Err fault)
+    ⊎ (is_unheard watched unwritten fault ≡ false) × ((all : List ℕ)
+    × IsWithReason explain (reason_of unread unwritten fault) notes all
+    × EndsOrder hands said unsaid order all (Err fault) out out' err err' ended)
+
+abbrev pub EndsKnown : {K E : Type 0} → (K → K → Type 0) → (E → Option (List ℕ)) → (E → ℕ) → Bool → Bool → Option Error → Option Error
+    → Order → List ℕ → Answer → K → K → E → E → Answer → Type 0
+EndsKnown hands said unsaid watched explain unread unwritten order notes (Ok n) out out' err err' ended =
+    EndsOrder hands said unsaid order notes (Ok n) out out' err err' ended
+EndsKnown hands said unsaid watched explain unread unwritten order notes (Err fault) out out' err err' ended =
+    EndsFailed hands said unsaid watched explain unread unwritten order notes fault out out' err err' ended
+
 -- help is written to the output
 abbrev pub HelpsBy : List ℕ → Option (List ℕ) → Option (List ℕ) → Answer → Type 0
 HelpsBy text before after (Ok n) = Appends before after text × (n ≡ 0)
@@ -105,11 +127,13 @@ module _ {K E : Type 0} (contents : K → Option (List ℕ)) (write_faults : K �
   Declines (Usage text) out out' err err' ended = Says hands said unsaid (string_bytes text) out out' err err' × (ended ≡ Ok 2)
   Declines NoMemory out out' err err' ended = Ends hands said unsaid [] (Err Memory) out out' err err' ended
 
-  module _ {S : Type 0} (to_come : S → Option (List ℕ)) (read_faults : S → ℕ) where
-    -- what an order of lines does: what is said of them comes before the line of the fault, and notes after that where a word is
+  -- why_unread, why_unwritten: why the last of the reads and of the writes failed that did, where that is known
+  module _ {S : Type 0} (to_come : S → Option (List ℕ)) (read_faults : S → ℕ) (why_unread : S → Option Error)
+      (why_unwritten : K → Option Error) where
+    -- what an order to scan lines does: what is said of them comes before the line of the fault, and notes after that where a word is
     -- refused
-    abbrev pub EndsLines : Bool → LineOptions → Order → Ahead S → Ahead S → K → K → E → E → Answer → Type 0
-    EndsLines explain options order from from' out out' err err' ended =
+    abbrev pub EndsScans : Bool → Bool → LineOptions → Order → Ahead S → Ahead S → K → K → E → E → Answer → Type 0
+    EndsScans watched explain options order from from' out out' err err' ended =
         (answer : Answer) × ((mid : K) × ((between : E)
         × ScansLines to_come read_faults contents write_faults said unsaid (file_name order) (is_headed order.file)
         (grammar_of order.profile) (form_of order.output) order.tag (names_text order) (option_map string_bytes order.print) options
@@ -118,24 +142,45 @@ module _ {K E : Type 0} (contents : K → Option (List ℕ)) (write_faults : K �
         × ((notes : List ℕ)
         × SaysMoreOfLines explain (grammar_of order.profile) (option_map string_bytes order.print)
         (map string_bytes order.ignored.items ++ map string_bytes order.texts.items) answer notes
-        × EndsOrder hands said unsaid order notes answer mid out' between err' ended)))
+        × EndsKnown hands said unsaid watched explain (why_unread from'.source) (why_unwritten mid) order notes answer mid out' between err'
+        ended)))
+
+    -- what an order to copy lines does: the same, with the notes of a copy of records
+    abbrev pub EndsCopies : Bool → Bool → LineOptions → Order → Ahead S → Ahead S → K → K → E → E → Answer → Type 0
+    EndsCopies watched explain options order from from' out out' err err' ended =
+        (answer : Answer) × ((mid : K) × ((between : E)
+        × CopiesTexts to_come read_faults contents write_faults said unsaid (file_name order) (grammar_of order.profile) options explain
+        order.limit (map string_bytes order.texts.items) from from' out mid err between answer
+        × ((notes : List ℕ)
+        × SaysMore explain order None [] answer notes
+        × EndsKnown hands said unsaid watched explain (why_unread from'.source) (why_unwritten mid) order notes answer mid out' between err'
+        ended)))
+
+    -- what an order of lines does, by its verb
+    abbrev pub EndsLines : Bool → Bool → LineOptions → Order → Verb → Ahead S → Ahead S → K → K → E → E → Answer → Type 0
+    EndsLines watched explain options order verb.Scan from from' out out' err err' ended =
+        EndsScans watched explain options order from from' out out' err err' ended
+    EndsLines watched explain options order verb.Copy from from' out out' err err' ended =
+        EndsCopies watched explain options order from from' out out' err err' ended
+    EndsLines watched explain options order _ from from' out out' err err' ended = ⊥
 
     -- what an order of records does, or one of lines; explain: more is said of a fault than its line
-    abbrev pub DoesOrder : Bool → Option LineOptions → Order → Option Place → Ahead S → Ahead S → K → K → E → E → Answer → Type 0
-    DoesOrder explain None order place from from' out out' err err' ended =
+    abbrev pub DoesOrder : Bool → Bool → Option LineOptions → Order → Option Place → Ahead S → Ahead S → K → K → E → E → Answer → Type 0
+    DoesOrder watched explain None order place from from' out out' err err' ended =
         (answer : Answer) × ((mid : K)
         × CarriesOut to_come read_faults contents write_faults order from from' out mid answer
         × ((notes : List ℕ)
         × SaysMore explain order place from'.held answer notes
-        × EndsOrder hands said unsaid order notes answer mid out' err err' ended))
-    DoesOrder explain (Some options) order place from from' out out' err err' ended =
-        EndsLines explain options order from from' out out' err err' ended
+        × EndsKnown hands said unsaid watched explain (why_unread from'.source) (why_unwritten mid) order notes answer mid out' err err'
+        ended))
+    DoesOrder watched explain (Some options) order place from from' out out' err err' ended =
+        EndsLines watched explain options order order.verb from from' out out' err err' ended
 
     -- What is done for what was read of the words: the order, or help, or the words are refused with nothing read. watched: the error
     -- output is a terminal.
     abbrev pub Does : Bool → Result Order WordsFault → Option Place → Ahead S → Ahead S → K → K → E → E → Answer → Type 0
     Does watched (Ok order) place from from' out out' err err' ended =
-        DoesOrder (is_explained watched order.notes) order.lines order place from from' out out' err err' ended
+        DoesOrder watched (is_explained watched order.notes) order.lines order place from from' out out' err err' ended
     Does watched (Err fault) place from from' out out' err err' ended = (from' ≡ from) × Declines fault out out' err err' ended
 
     -- What the command comes to by what was read of the words. `hands` says what becomes of the output where a message comes;

@@ -86,7 +86,7 @@ told_of_line pieces ds _ = []
 
 -- what is said behind the line of one that is no match, by the parts of the format that counts on it, and its directives
 abbrev pub more_of_line : List Piece → List Directive → List ℕ → LineFault → List ℕ
-more_of_line pieces ds line fault = line_notes (told_of_line pieces ds fault) line fault
+more_of_line pieces ds line fault = line_notes ds (told_of_line pieces ds fault) line fault
 
 -- the same by its bytes, where that is asked for
 abbrev pub IsMoreOfLine : Profile → Bool → List ℕ → List Directive → List ℕ → LineFault → List ℕ → Type 0

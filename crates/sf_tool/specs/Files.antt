@@ -1,28 +1,21 @@
 -- The files that words name, read one after the other.
-use Rattle.std.specs.Prelude.{◌≡◌, ◌+◌, ℕ, zero, suc, Bool, true, false, List, [], ◌∷◌, length, max, Option, Some, None, Result, Ok, Err, codes}
+use Rattle.std.specs.Prelude.{◌≡◌, ◌+◌, ◌++◌, ℕ, zero, suc, Bool, true, false, List, [], ◌∷◌, length, max, Option, Some, None, Result, Ok, Err, codes}
 use Rattle.std.specs.Option.{option_map_or}
-use Rattle.sf_lines.specs.declared.end.LinesFault.TheVariants as lines
+use Rattle.std.specs.declared.io.Error.{Error}
 use Rattle.sf_messages.specs.declared.fault.CommandFault.{CommandFault}
-use Rattle.sf_messages.specs.declared.fault.CommandFault.TheVariants.{Lines, Record}
 use Rattle.sf_messages.specs.Texts.{status_of}
-use Rattle.sf_records.specs.declared.end.ToolFault.TheVariants as records
 use Rattle.sf_words.specs.declared.order.Order.{Order}
 use Rattle.sf_words.specs.declared.order.WordsFault.{WordsFault}
 use Rattle.sf_jobs.specs.Answers.{Answer}
-use Rattle.sf_tool.specs.Exits.{Declines, DoesOn, exit_of}
+use Rattle.sf_tool.specs.Exits.{Declines, DoesOn, exit_of, is_explained}
 use Rattle.sf_tool.specs.Fronts.{file_name, in_front}
+use Rattle.sf_reasons.specs.Faults.{IsWithReason, is_read_fault}
 use Rattle.sf_tool.specs.Saying.{Says}
 use Rattle.sf_tool.specs.declared.files.Turn.{Turn}
 
 -- the scan goes on after a line that failed
 abbrev pub keeps_going : Order → Bool
 keeps_going order = option_map_or (λ options. options.keep_going) order.lines false
-
--- the input could not be read to its end
-abbrev pub is_read_fault : CommandFault → Bool
-is_read_fault (Record (records.Read number)) = true
-is_read_fault (Lines (lines.Read line)) = true
-is_read_fault _ = false
 
 -- What the answer for one file makes of the whole: its exit status, and whether the next file is read. After a file that could not be
 -- read to its end it is; after one with a record or a line that failed only where the scan goes on after that.
@@ -36,14 +29,18 @@ abbrev pub unopened_line : List ℕ
 unopened_line = codes "sf: can't be opened\n"
 
 -- What follows the run over a file. One that can't be opened has no bytes, so that its run came to its end, unless the words are
--- refused or the output fails: then it is reported, and the next file is read.
-abbrev pub EndsFile : {K E : Type 0} → (K → K → Type 0) → (E → Option (List ℕ)) → (E → ℕ) → Bool → Bool → List ℕ → Answer → K → K → E → E
+-- refused or the output fails: then it is reported, with the notes after that, and the next file is read.
+abbrev pub EndsFile : {K E : Type 0} → (K → K → Type 0) → (E → Option (List ℕ)) → (E → ℕ) → Bool → Bool → List ℕ → List ℕ → Answer → K →
+    K → E → E
     → Turn → Type 0
-EndsFile hands said unsaid true keep_going name ended out out' err err' turn =
+EndsFile hands said unsaid true keep_going name notes ended out out' err err' turn =
     (out' ≡ out) × (err' ≡ err) × (turn ≡ turn_of keep_going ended)
-EndsFile hands said unsaid false keep_going name (Ok n) out out' err err' turn =
-    Says hands said unsaid (in_front (Some name) unopened_line) out out' err err' × (turn ≡ record { status = 3; goes_on = true })
-EndsFile hands said unsaid false keep_going name (Err fault) out out' err err' turn =
+EndsFile hands said unsaid false keep_going name notes (Ok n) out out' err err' turn =
+    Says hands said unsaid (in_front (Some name) unopened_line ++ notes) out out' err err' × (turn ≡ record {
+      status = 3;
+      goes_on = true;
+    })
+EndsFile hands said unsaid false keep_going name notes (Err fault) out out' err err' turn =
     (out' ≡ out) × (err' ≡ err) × (turn ≡ record { status = status_of fault; goes_on = false })
 
 -- the one, or the other
@@ -51,10 +48,11 @@ abbrev pub Where : Bool → Type 0 → Type 0 → Type 0
 Where true A B = A
 Where false A B = B
 
--- `opens` says what comes of opening a file by its name: the bytes of a source, and whether it could be opened.
+-- `opens` says what comes of opening a file by its name: the bytes of a source, and whether it could be opened. why_unread,
+-- why_unwritten: why the last of the reads and of the writes failed that did, or why a file couldn't be opened, where that is known.
 module _ {S K E F : Type 0} (opens : F → F → List ℕ → S → Bool → Type 0) (contents : K → Option (List ℕ)) (write_faults : K → ℕ)
     (hands : K → K → Type 0) (said : E → Option (List ℕ)) (unsaid : E → ℕ) (to_come : S → Option (List ℕ)) (read_faults : S → ℕ)
-    (watched : Bool) where
+    (why_unread : S → Option Error) (why_unwritten : K → Option Error) (watched : Bool) where
   -- the run over the file that the order names
   pub record RunsFile (order : Order) (files files' : F) (out out' : K) (err err' : E) (turn : Turn) : Type 0 where
     pub name : List ℕ
@@ -63,11 +61,14 @@ module _ {S K E F : Type 0} (opens : F → F → List ℕ → S → Bool → Typ
     pub is_open : Bool
     pub opened : opens files files' name source is_open
     pub empty : is_open ≡ false → to_come source ≡ Some []
+    pub notes : List ℕ
+    pub why : IsWithReason (is_explained watched order.notes) (why_unread source) [] notes
     pub mid : K
     pub between : E
     pub ended : Answer
-    pub runs : DoesOn contents write_faults hands said unsaid to_come read_faults watched (Ok order) source out mid err between ended
-    pub ends : EndsFile hands said unsaid is_open (keeps_going order) name ended mid out' between err' turn
+    pub runs : DoesOn contents write_faults hands said unsaid to_come read_faults why_unread why_unwritten watched (Ok order) source out
+        mid err between ended
+    pub ends : EndsFile hands said unsaid is_open (keeps_going order) name notes ended mid out' between err' turn
 
   -- The files from this place on, of which so many are left: each is read where those before go on. The exit status is the greatest
   -- of all; worst: the greatest of those before.
@@ -83,7 +84,8 @@ module _ {S K E F : Type 0} (opens : F → F → List ℕ → S → Bool → Typ
   -- the inputs of an order: the source alone where there are no files
   abbrev pub RunsInputs : ℕ → Order → S → F → F → K → K → E → E → ℕ → Type 0
   RunsInputs zero order from files files' out out' err err' status =
-      (ended : Answer) × DoesOn contents write_faults hands said unsaid to_come read_faults watched (Ok order) from out out' err err' ended
+      (ended : Answer) × DoesOn contents write_faults hands said unsaid to_come read_faults why_unread why_unwritten watched (Ok order)
+      from out out' err err' ended
       × (files' ≡ files) × (status ≡ exit_of ended)
   RunsInputs (suc n) order from files files' out out' err err' status = RunsFiles (suc n) order 0 0 files files' out out' err err' status
 

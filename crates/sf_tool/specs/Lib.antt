@@ -1,3 +1,4 @@
+pub mod Copies
 pub mod Exits
 pub mod Explains
 pub mod Files

@@ -217,7 +217,7 @@ pub(crate) fn more_of_line(
         return Ok(Vec::new(alloc));
     }
     let told = told_of_line(alloc, profile, text, format, fault)?;
-    line_notes(alloc, &told, line, fault)
+    line_notes(alloc, format.directives(), &told, line, fault)
 }
 
 /// What is said of a record that is no match, by the bytes of its format and what the run left.

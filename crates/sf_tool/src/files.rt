@@ -1,18 +1,17 @@
 //! The files that words name, read one after the other.
-ghost use Rattle.std.specs.Prelude.{◌≡◌, ◌≤◌, ℕ, Bool, false, List, [], Some, length, map, max, string_bytes};
+ghost use Rattle.std.specs.Prelude.{◌≡◌, ◌≤◌, ℕ, Bool, false, List, [], Some, IsSome, length, map, max, string_bytes};
 ghost use Rattle.sf_words.specs.Orders.{HasTextsFor};
-ghost use Rattle.sf_tool.specs.Files.{EndsFile, RunsFile, RunsFiles, RunsInputs, is_read_fault, keeps_going, turn_of};
+ghost use Rattle.sf_tool.specs.Files.{EndsFile, RunsFile, RunsFiles, RunsInputs, keeps_going, turn_of};
 ghost use Rattle.sf_tool.specs.Fronts.{file_name};
 
 use crate::console::Console;
 use crate::error_output::tell;
 use crate::fronts::file_name;
-use crate::invocation::{exit_of, run_source};
-use sf_lines::LinesFault;
+use crate::invocation::{exit_of, is_explained, run_source};
+use crate::reasons::Reasons;
 use sf_messages::CommandFault;
 use sf_print::Sink;
-use sf_read::Source;
-use sf_records::ToolFault;
+use sf_reasons::{LastError, is_read_fault, reason_alone};
 use sf_words::Order;
 use std::alloc::Global;
 
@@ -29,14 +28,15 @@ pub struct Opened<S: Drop> {
 }
 
 /// What opens the files that words name.
-pub trait Opener<S: Source> {
+pub trait Opener<S: LastError> {
     // What comes of opening a file by its name: the source of its bytes, and whether it is open.
     ghost Opens: { Self → Self → List ℕ → S → Bool → Type 0 };
 
-    /// Opens a file by its name. One that can't be opened has no bytes.
+    /// Opens a file by its name. One that can't be opened has no bytes, and knows why it couldn't.
     fn open(&mut self, name: &str) -> Opened<S>
         ensures opens { Opens self.old self.new name.now result.source result.is_open }
-        ensures empty { result.is_open ≡ false → S.to_come result.source ≡ Some [] };
+        ensures empty { result.is_open ≡ false → S.to_come result.source ≡ Some [] }
+        ensures why { result.is_open ≡ false → IsSome (S.last_error result.source) };
 }
 
 /// What the run over one file makes of the whole.
@@ -58,16 +58,6 @@ fn keeps_going(order: &Order) -> bool
     }
 }
 
-/// Whether an input could not be read to its end.
-fn is_read_fault(fault: CommandFault) -> bool
-    ensures { result ≡ is_read_fault fault }
-{
-    matches!(
-        fault,
-        CommandFault::Record(ToolFault::Read { .. }) | CommandFault::Lines(LinesFault::Read { .. })
-    )
-}
-
 /// What the answer for one file makes of the whole.
 fn turn_of(keep_going: bool, answer: Result<u8, CommandFault>) -> Turn
     ensures { result ≡ turn_of keep_going answer }
@@ -84,19 +74,20 @@ fn turn_of(keep_going: bool, answer: Result<u8, CommandFault>) -> Turn
     }
 }
 
-/// Reports a file that can't be opened, after what was done without its bytes.
+/// Reports a file that can't be opened, after what was done without its bytes. The notes are said after that.
 fn end_unopened<K: Sink, E, C: Console<K, E>>(
     name: &str,
+    notes: &[u8],
     answer: Result<u8, CommandFault>,
     out: &mut K,
     err: &mut E,
 ) -> Turn
-    ensures { (keep_going : Bool) → EndsFile C.Hands C.said C.unsaid false keep_going name.now answer out.old out.new
-        err.old err.new result }
+    ensures { (keep_going : Bool) → EndsFile C.Hands C.said C.unsaid false keep_going name.now notes.now answer
+        out.old out.new err.old err.new result }
 {
     match answer {
         Ok(_) => {
-            tell::<K, E, C>(out, err, Some(name), b"sf: can't be opened\n", &[]);
+            tell::<K, E, C>(out, err, Some(name), b"sf: can't be opened\n", notes);
             Turn {
                 status: UNOPENED,
                 goes_on: true,
@@ -114,17 +105,18 @@ fn end_file<K: Sink, E, C: Console<K, E>>(
     is_open: bool,
     keep_going: bool,
     name: &str,
+    notes: &[u8],
     answer: Result<u8, CommandFault>,
     out: &mut K,
     err: &mut E,
 ) -> Turn
-    ensures { EndsFile C.Hands C.said C.unsaid is_open keep_going name.now answer out.old out.new err.old err.new
-        result }
+    ensures { EndsFile C.Hands C.said C.unsaid is_open keep_going name.now notes.now answer out.old out.new
+        err.old err.new result }
 {
     if is_open {
         turn_of(keep_going, answer)
     } else {
-        end_unopened::<K, E, C>(name, answer, out, err)
+        end_unopened::<K, E, C>(name, notes, answer, out, err)
     }
 }
 
@@ -136,7 +128,7 @@ fn greater(one: u8, other: u8) -> u8
 }
 
 /// Opens the file that the order names, and does with it what the order asks for.
-fn run_file<S: Source, K: Sink, E, C: Console<K, E>, F: Opener<S>>(
+fn run_file<S: LastError, K: Sink, E, C: Console<K, E> + Reasons<S>, F: Opener<S>>(
     alloc: Global,
     watched: bool,
     order: &Order,
@@ -147,19 +139,21 @@ fn run_file<S: Source, K: Sink, E, C: Console<K, E>, F: Opener<S>>(
     requires limit { order.now.limit ≤ 2147483647 }
     requires texts { HasTextsFor order.now.lines order.now.verb (map string_bytes order.now.texts.items) }
     requires named { (name : List ℕ) × (file_name order.now ≡ Some name) }
-    ensures { RunsFile F.Opens K.contents K.failures C.Hands C.said C.unsaid S.to_come S.failures watched order.now
-        files.old files.new out.old out.new err.old err.new result }
+    ensures { RunsFile F.Opens K.contents K.failures C.Hands C.said C.unsaid S.to_come S.failures C.why_unread C.why
+        watched order.now files.old files.new out.old out.new err.old err.new result }
 {
     let Some(name) = file_name(order) else {
         unreachable!()
     };
     let Opened { source, is_open } = files.open(name);
+    let why = C::why_unread(&source);
+    let notes = reason_alone(alloc, is_explained(watched, order.notes), why);
     let answer = run_source::<S, K, E, C>(alloc, watched, order, source, out, err);
-    end_file::<K, E, C>(is_open, keeps_going(order), name, answer, out, err)
+    end_file::<K, E, C>(is_open, keeps_going(order), name, &notes, answer, out, err)
 }
 
 /// Reads the files of an order one after the other, and answers the greatest of their exit statuses.
-fn run_files<S: Source, K: Sink, E, C: Console<K, E>, F: Opener<S>>(
+fn run_files<S: LastError, K: Sink, E, C: Console<K, E> + Reasons<S>, F: Opener<S>>(
     alloc: Global,
     watched: bool,
     order: &mut Order,
@@ -169,8 +163,9 @@ fn run_files<S: Source, K: Sink, E, C: Console<K, E>, F: Opener<S>>(
 ) -> u8
     requires limit { order.old.limit ≤ 2147483647 }
     requires texts { HasTextsFor order.old.lines order.old.verb (map string_bytes order.old.texts.items) }
-    ensures { RunsFiles F.Opens K.contents K.failures C.Hands C.said C.unsaid S.to_come S.failures watched
-        (length order.old.files.items) order.old 0 0 files.old files.new out.old out.new err.old err.new result }
+    ensures { RunsFiles F.Opens K.contents K.failures C.Hands C.said C.unsaid S.to_come S.failures C.why_unread C.why
+        watched (length order.old.files.items) order.old 0 0 files.old files.new out.old out.new err.old err.new
+        result }
 {
     let mut worst = 0;
     for place in 0..order.files.len() {
@@ -185,7 +180,7 @@ fn run_files<S: Source, K: Sink, E, C: Console<K, E>, F: Opener<S>>(
 }
 
 /// Does what an order asks for on its inputs: on its files, or on the source where it has none.
-pub(crate) fn run_inputs<S: Source, K: Sink, E, C: Console<K, E>, F: Opener<S>>(
+pub(crate) fn run_inputs<S: LastError, K: Sink, E, C: Console<K, E> + Reasons<S>, F: Opener<S>>(
     alloc: Global,
     watched: bool,
     order: Order,
@@ -196,8 +191,8 @@ pub(crate) fn run_inputs<S: Source, K: Sink, E, C: Console<K, E>, F: Opener<S>>(
 ) -> u8
     requires limit { order.limit ≤ 2147483647 }
     requires texts { HasTextsFor order.lines order.verb (map string_bytes order.texts.items) }
-    ensures { RunsInputs F.Opens K.contents K.failures C.Hands C.said C.unsaid S.to_come S.failures watched
-        (length order.files.items) order from files.old files.new out.old out.new err.old err.new result }
+    ensures { RunsInputs F.Opens K.contents K.failures C.Hands C.said C.unsaid S.to_come S.failures C.why_unread C.why
+        watched (length order.files.items) order from files.old files.new out.old out.new err.old err.new result }
 {
     let mut order = order;
     if order.files.is_empty() {

@@ -1,17 +1,20 @@
 //! One run of the command, from its words to its exit status.
-ghost use Rattle.std.specs.Prelude.{◌≡◌, ◌≤◌, ◌<◌, ◌++◌, ℕ, List, None, Ok, true, false, IfSome, length, map, option_map, string_bytes};
+ghost use Rattle.std.specs.Prelude.{◌≡◌, ◌≤◌, ◌<◌, ◌++◌, ℕ, List, None, Some, Ok, true, false, IfSome, length, map, option_map, string_bytes};
 ghost use Rattle.sf_words.specs.Orders.{HasTexts, HasTextsFor};
-ghost use Rattle.sf_tool.specs.Exits.{CanRun, Declines, Does, DoesOn, DoesOrder, Ends, EndsLines, EndsOrder};
+ghost use Rattle.sf_words.specs.declared.order.Verb.TheVariants.{Copy};
+ghost use Rattle.sf_tool.specs.Exits.{CanRun, Declines, Does, DoesOn, DoesOrder, Ends, EndsCopies, EndsLines, EndsOrder, EndsScans};
 ghost use Rattle.sf_tool.specs.Exits.{Exits, ExitsOn, Helps, IsTwiceLine, SaysFault, SaysNotes, exit_of, is_explained};
 ghost use Rattle.sf_tool.specs.Fronts.{file_name};
 ghost use Rattle.sf_jobs.specs.Heads.{names_text};
 ghost use Rattle.sf_tool.specs.Saying.{Says};
 
 use crate::console::{Apart, Console};
+use crate::copies::copy_lines;
 use crate::error_output::{say, tell};
 use crate::explain::{Left, notes_of, notes_of_refused};
 use crate::fronts::{file_name, file_of};
 use crate::lines::{lines_job, scan_lines};
+use crate::reasons::{Lent, Reasons, end_known};
 use sf_jobs::{carry_out, form_of, grammar_of, names_text};
 use sf_makers::Names;
 use sf_messages::{CommandFault, error_line, name_twice_line};
@@ -19,7 +22,7 @@ use sf_places::{BLOCK_BYTES, Input, Placed};
 use sf_print::Sink;
 use sf_read::{Lookahead, Source};
 use sf_records::write_whole;
-use sf_words::{LineOptions, Notes, Order, WordsFault, read_words};
+use sf_words::{LineOptions, Notes, Order, Verb, WordsFault, read_words};
 use std::alloc::Global;
 use std::marker::Brand;
 
@@ -101,7 +104,7 @@ fn tell_fault<K: Sink, E, C: Console<K, E>>(
 }
 
 /// Ends an order, as `end` does.
-fn end_order<K: Sink, E, C: Console<K, E>>(
+pub(crate) fn end_order<K: Sink, E, C: Console<K, E>>(
     alloc: Global,
     order: &Order,
     out: &mut K,
@@ -164,9 +167,38 @@ pub(crate) fn decline<K: Sink, E, C: Console<K, E>>(
     }
 }
 
-/// Scans lines by an order, and says why the command doesn't end cleanly where it doesn't.
-fn end_lines<S: Source, K: Sink, E, C: Console<K, E>, const N: usize>(
+/// Copies lines by an order, and says why the command doesn't end cleanly where it doesn't.
+fn end_copies<S: Source, K: Sink, E, C: Console<K, E>, R: Reasons<S>, const N: usize>(
     alloc: Global,
+    watched: bool,
+    explain: bool,
+    order: &Order,
+    options: LineOptions,
+    from: &mut Lookahead<S, N>,
+    out: &mut K,
+    err: &mut E,
+) -> Result<u8, CommandFault>
+    requires limit { order.now.limit ≤ 2147483647 }
+    requires texts { HasTexts Copy (map string_bytes order.now.texts.items) }
+    ensures { EndsCopies K.contents K.failures C.Hands C.said C.unsaid S.to_come S.failures R.why_unread C.why watched
+        explain options order.now from.old from.new out.old out.new err.old err.new result }
+{
+    let answer = copy_lines::<S, K, E, C, N>(alloc, explain, order, options, from, out, err);
+    let left = Left {
+        place: None,
+        held: &[],
+    };
+    let notes = notes_of(alloc, explain, order, left, answer);
+    let source = from.source();
+    end_known::<S, K, E, C, R>(
+        alloc, watched, explain, order, source, out, err, answer, &notes,
+    )
+}
+
+/// Scans lines by an order, and says why the command doesn't end cleanly where it doesn't.
+fn end_scans<S: Source, K: Sink, E, C: Console<K, E>, R: Reasons<S>, const N: usize>(
+    alloc: Global,
+    watched: bool,
     explain: bool,
     order: &Order,
     options: LineOptions,
@@ -176,8 +208,8 @@ fn end_lines<S: Source, K: Sink, E, C: Console<K, E>, const N: usize>(
 ) -> Result<u8, CommandFault>
     requires limit { order.now.limit ≤ 2147483647 }
     requires some { 0 < length order.now.texts.items }
-    ensures { EndsLines K.contents K.failures C.Hands C.said C.unsaid S.to_come S.failures explain options order.now
-        from.old from.new out.old out.new err.old err.new result }
+    ensures { EndsScans K.contents K.failures C.Hands C.said C.unsaid S.to_come S.failures R.why_unread C.why watched
+        explain options order.now from.old from.new out.old out.new err.old err.new result }
 {
     let profile = grammar_of(order.profile);
     match lines_job(alloc, profile, form_of(order.output), order) {
@@ -185,19 +217,61 @@ fn end_lines<S: Source, K: Sink, E, C: Console<K, E>, const N: usize>(
             let answer = scan_lines::<S, K, E, C, N>(
                 alloc, explain, &job, order, options, from, out, err,
             );
-            end_order::<K, E, C>(alloc, order, out, err, answer, &[])
+            let source = from.source();
+            end_known::<S, K, E, C, R>(
+                alloc,
+                watched,
+                explain,
+                order,
+                source,
+                out,
+                err,
+                answer,
+                &[],
+            )
         }
         Err(refused) => {
             let notes = notes_of_refused(alloc, explain, refused);
-            end_order::<K, E, C>(alloc, order, out, err, Err(refused.fault), &notes)
+            let source = from.source();
+            let answer = Err(refused.fault);
+            end_known::<S, K, E, C, R>(
+                alloc, watched, explain, order, source, out, err, answer, &notes,
+            )
         }
+    }
+}
+
+/// Does what an order of lines asks for: a scan, or a copy.
+fn end_lines<S: Source, K: Sink, E, C: Console<K, E>, R: Reasons<S>, const N: usize>(
+    alloc: Global,
+    watched: bool,
+    explain: bool,
+    order: &Order,
+    options: LineOptions,
+    from: &mut Lookahead<S, N>,
+    out: &mut K,
+    err: &mut E,
+) -> Result<u8, CommandFault>
+    requires limit { order.now.limit ≤ 2147483647 }
+    requires texts { HasTextsFor (Some options) order.now.verb (map string_bytes order.now.texts.items) }
+    ensures { EndsLines K.contents K.failures C.Hands C.said C.unsaid S.to_come S.failures R.why_unread C.why watched
+        explain options order.now order.now.verb from.old from.new out.old out.new err.old err.new result }
+{
+    match order.verb {
+        Verb::Copy => end_copies::<S, K, E, C, R, N>(
+            alloc, watched, explain, order, options, from, out, err,
+        ),
+        Verb::Scan | Verb::Show | Verb::Print | Verb::Check => end_scans::<S, K, E, C, R, N>(
+            alloc, watched, explain, order, options, from, out, err,
+        ),
     }
 }
 
 /// Does what an order asks for on what the lookahead holds and its source gives. The place in the input isn't told, as
 /// what was used of it before isn't known.
-fn run_order<S: Source, K: Sink, E, C: Console<K, E>, const N: usize>(
+fn run_order<S: Source, K: Sink, E, C: Console<K, E>, R: Reasons<S>, const N: usize>(
     alloc: Global,
+    watched: bool,
     explain: bool,
     order: &Order,
     from: &mut Lookahead<S, N>,
@@ -206,8 +280,8 @@ fn run_order<S: Source, K: Sink, E, C: Console<K, E>, const N: usize>(
 ) -> Result<u8, CommandFault>
     requires limit { order.now.limit ≤ 2147483647 }
     requires texts { HasTextsFor order.now.lines order.now.verb (map string_bytes order.now.texts.items) }
-    ensures { DoesOrder K.contents K.failures C.Hands C.said C.unsaid S.to_come S.failures explain order.now.lines
-        order.now None
+    ensures { DoesOrder K.contents K.failures C.Hands C.said C.unsaid S.to_come S.failures R.why_unread C.why watched
+        explain order.now.lines order.now None
         from.old from.new out.old out.new err.old err.new result }
 {
     match order.lines {
@@ -218,14 +292,19 @@ fn run_order<S: Source, K: Sink, E, C: Console<K, E>, const N: usize>(
                 held: from.held(),
             };
             let notes = notes_of(alloc, explain, order, left, answer);
-            end_order::<K, E, C>(alloc, order, out, err, answer, &notes)
+            let source = from.source();
+            end_known::<S, K, E, C, R>(
+                alloc, watched, explain, order, source, out, err, answer, &notes,
+            )
         }
-        Some(options) => end_lines::<S, K, E, C, N>(alloc, explain, order, options, from, out, err),
+        Some(options) => end_lines::<S, K, E, C, R, N>(
+            alloc, watched, explain, order, options, from, out, err,
+        ),
     }
 }
 
 /// Whether more is said of a fault than its line. `watched`: the error output is a terminal.
-fn is_explained(watched: bool, notes: Notes) -> bool
+pub(crate) fn is_explained(watched: bool, notes: Notes) -> bool
     ensures { result ≡ is_explained watched notes }
 {
     match notes {
@@ -236,7 +315,7 @@ fn is_explained(watched: bool, notes: Notes) -> bool
 }
 
 /// Runs the command on what the lookahead holds and its source gives.
-fn run_ahead<S: Source, K: Sink, E, C: Console<K, E>, const N: usize>(
+fn run_ahead<S: Source, K: Sink, E, C: Console<K, E>, R: Reasons<S>, const N: usize>(
     alloc: Global,
     watched: bool,
     asked: &Asked,
@@ -245,13 +324,14 @@ fn run_ahead<S: Source, K: Sink, E, C: Console<K, E>, const N: usize>(
     err: &mut E,
 ) -> Result<u8, CommandFault>
     requires { CanRun asked.now }
-    ensures { Does K.contents K.failures C.Hands C.said C.unsaid S.to_come S.failures watched asked.now None
+    ensures { Does K.contents K.failures C.Hands C.said C.unsaid S.to_come S.failures R.why_unread C.why watched
+        asked.now None
         from.old from.new out.old out.new err.old err.new result }
 {
     match asked {
         Ok(order) => {
             let explain = is_explained(watched, order.notes);
-            run_order::<S, K, E, C, N>(alloc, explain, order, from, out, err)
+            run_order::<S, K, E, C, R, N>(alloc, watched, explain, order, from, out, err)
         }
         Err(fault) => decline::<K, E, C>(fault, out, err),
     }
@@ -270,15 +350,16 @@ pub fn run_words<S: Source, K: Sink, E: Sink, const N: usize>(
     err: &mut E,
 ) -> u8
     ensures { Exits K.contents K.failures (λ before after. after ≡ before) E.contents E.failures S.to_come S.failures
-        false (map string_bytes words.now) None from.old from.new out.old out.new err.old err.new result }
+        (λ source. None) (λ out. None) false (map string_bytes words.now) None from.old from.new out.old out.new
+        err.old err.new result }
 {
     let asked = read_words(alloc, words);
-    exit_of(run_ahead::<S, K, E, Apart, N>(alloc, false, &asked, from, out, err))
+    exit_of(run_ahead::<S, K, E, Apart, Apart, N>(alloc, false, &asked, from, out, err))
 }
 
 /// Carries out an order of records with an account of the lines of its input, so that the place in the input can be
 /// told.
-fn run_placed<S: Source, K: Sink, E, C: Console<K, E>, I: Input>(
+fn run_placed<S: Source, K: Sink, E, C: Console<K, E> + Reasons<S>, I: Input>(
     alloc: Global,
     watched: bool,
     order: &Order,
@@ -291,19 +372,22 @@ fn run_placed<S: Source, K: Sink, E, C: Console<K, E>, I: Input>(
     requires explained { is_explained watched order.now.notes ≡ true }
     requires limit { order.now.limit ≤ 2147483647 }
     requires texts { HasTexts order.now.verb (map string_bytes order.now.texts.items) }
-    ensures { DoesOn K.contents K.failures C.Hands C.said C.unsaid S.to_come S.failures watched (Ok order.now)
-        from.old out.old out.new err.old err.new result }
+    ensures { DoesOn K.contents K.failures C.Hands C.said C.unsaid S.to_come S.failures C.why_unread C.why watched
+        (Ok order.now) from.old out.old out.new err.old err.new result }
 {
     let mut ahead = Lookahead::<Placed<&mut S, I>, BLOCK_BYTES>::new(Placed::new(from));
     let answer = carry_out(alloc, order, &mut ahead, out);
     let held = ahead.held();
     let place = ahead.source().place_before(held);
     let notes = notes_of(alloc, true, order, Left { place, held }, answer);
-    end_order::<K, E, C>(alloc, order, out, err, answer, &notes)
+    let source = &**ahead.source().source();
+    end_known::<S, K, E, C, C>(
+        alloc, watched, true, order, source, out, err, answer, &notes,
+    )
 }
 
 /// Does what an order asks for on what a source gives, block by block.
-fn run_unplaced<S: Source, K: Sink, E, C: Console<K, E>>(
+fn run_unplaced<S: Source, K: Sink, E, C: Console<K, E> + Reasons<S>>(
     alloc: Global,
     watched: bool,
     order: &Order,
@@ -313,17 +397,19 @@ fn run_unplaced<S: Source, K: Sink, E, C: Console<K, E>>(
 ) -> Result<u8, CommandFault>
     requires limit { order.now.limit ≤ 2147483647 }
     requires texts { HasTextsFor order.now.lines order.now.verb (map string_bytes order.now.texts.items) }
-    ensures { DoesOn K.contents K.failures C.Hands C.said C.unsaid S.to_come S.failures watched (Ok order.now)
-        from out.old out.new err.old err.new result }
+    ensures { DoesOn K.contents K.failures C.Hands C.said C.unsaid S.to_come S.failures C.why_unread C.why watched
+        (Ok order.now) from out.old out.new err.old err.new result }
 {
     let mut source = from;
     let mut ahead = Lookahead::<&mut S, BLOCK_BYTES>::new(&mut source);
     let explain = is_explained(watched, order.notes);
-    run_order::<&mut S, K, E, C, BLOCK_BYTES>(alloc, explain, order, &mut ahead, out, err)
+    run_order::<&mut S, K, E, C, Lent<C>, BLOCK_BYTES>(
+        alloc, watched, explain, order, &mut ahead, out, err,
+    )
 }
 
 /// Does what an order asks for on what a source gives. An account of its lines is kept only where it is asked for.
-pub(crate) fn run_source<S: Source, K: Sink, E, C: Console<K, E>>(
+pub(crate) fn run_source<S: Source, K: Sink, E, C: Console<K, E> + Reasons<S>>(
     alloc: Global,
     watched: bool,
     order: &Order,
@@ -333,8 +419,8 @@ pub(crate) fn run_source<S: Source, K: Sink, E, C: Console<K, E>>(
 ) -> Result<u8, CommandFault>
     requires limit { order.now.limit ≤ 2147483647 }
     requires texts { HasTextsFor order.now.lines order.now.verb (map string_bytes order.now.texts.items) }
-    ensures { DoesOn K.contents K.failures C.Hands C.said C.unsaid S.to_come S.failures watched (Ok order.now)
-        from out.old out.new err.old err.new result }
+    ensures { DoesOn K.contents K.failures C.Hands C.said C.unsaid S.to_come S.failures C.why_unread C.why watched
+        (Ok order.now) from out.old out.new err.old err.new result }
 {
     match order.lines {
         None if is_explained(watched, order.notes) => {
@@ -346,7 +432,7 @@ pub(crate) fn run_source<S: Source, K: Sink, E, C: Console<K, E>>(
 }
 
 /// Runs the command on what a source gives. `watched`: the error output is a terminal.
-pub(crate) fn run_asked<S: Source, K: Sink, E, C: Console<K, E>>(
+pub(crate) fn run_asked<S: Source, K: Sink, E, C: Console<K, E> + Reasons<S>>(
     alloc: Global,
     watched: bool,
     asked: &Asked,
@@ -355,8 +441,8 @@ pub(crate) fn run_asked<S: Source, K: Sink, E, C: Console<K, E>>(
     err: &mut E,
 ) -> Result<u8, CommandFault>
     requires { CanRun asked.now }
-    ensures { DoesOn K.contents K.failures C.Hands C.said C.unsaid S.to_come S.failures watched asked.now
-        from out.old out.new err.old err.new result }
+    ensures { DoesOn K.contents K.failures C.Hands C.said C.unsaid S.to_come S.failures C.why_unread C.why watched
+        asked.now from out.old out.new err.old err.new result }
 {
     match asked {
         Ok(order) => run_source::<S, K, E, C>(alloc, watched, order, from, out, err),
@@ -379,8 +465,9 @@ pub fn tool<S: Source, K: Sink, E: Sink>(
     out: &mut K,
     err: &mut E,
 ) -> u8
-    ensures { ExitsOn K.contents K.failures (λ before after. after ≡ before) E.contents E.failures S.to_come S.failures
-        false (map string_bytes words.now) from out.old out.new err.old err.new result }
+    ensures { ExitsOn K.contents K.failures (λ before after. after ≡ before) E.contents E.failures S.to_come
+        S.failures
+        (λ source. None) (λ out. None) false (map string_bytes words.now) from out.old out.new err.old err.new result }
 {
     let asked = read_words(alloc, words);
     exit_of(run_asked::<S, K, E, Apart>(alloc, false, &asked, from, out, err))

@@ -2,6 +2,7 @@
 #![tactic(auto)]
 
 mod console;
+mod copies;
 mod error_output;
 mod explain;
 mod files;
@@ -10,6 +11,7 @@ mod invocation;
 pub mod laws;
 mod lines;
 mod program;
+mod reasons;
 
 pub use files::{Opened, Opener};
 pub use invocation::{run_words, tool};
@@ -17,5 +19,6 @@ pub use program::{Ended, Terminals, run_program};
 pub use sf_arguments::{ArgumentFault, WordReading, print_values, print_words};
 pub use sf_jobs::carry_out;
 pub use sf_messages::{CommandFault, FormatName};
+pub use sf_reasons::LastError;
 pub use sf_records::{ToolEnd, ToolFault, run_copy, run_scan};
 pub use sf_words::{LineOptions, Notes, Order, Output, Profile, Verb, WordsFault, read_words};

@@ -305,7 +305,7 @@ fn lines_told<M: Maker, S: Source, K: Sink, E, C: Console<K, E>, const N: usize>
 
 /// Scans the lines by the formats, and writes what the maker makes of them; `text` has the bytes of the last format
 /// where more is said of lines.
-fn lines_with<M: Maker, S: Source, K: Sink, E, C: Console<K, E>, const N: usize>(
+pub(crate) fn lines_with<M: Maker, S: Source, K: Sink, E, C: Console<K, E>, const N: usize>(
     alloc: Global,
     explain: bool,
     maker: &mut M,

@@ -1,9 +1,9 @@
 //! The program on streams of its own: what each took, and in which order.
-ghost use Rattle.std.specs.Prelude.{◌≤◌, IfOk, length};
+ghost use Rattle.std.specs.Prelude.{◌≡◌, ◌<◌, ◌≤◌, [], IfOk, IsSome, length};
 
 use crate::shared::{is, words_of};
-use sf_read::SliceSource;
-use sf_tool::{Opened, Opener, Terminals, run_program};
+use sf_read::{SliceSource, Source, SourceFault};
+use sf_tool::{LastError, Opened, Opener, Terminals, run_program};
 use std::alloc::Global;
 use std::cell::RefCell;
 use std::io::{self, ErrorKind, Write};
@@ -16,6 +16,8 @@ struct Log {
     text: Vec<u8>,
     /// How many writes to the output come before those that fail.
     before_failures: u64,
+    /// How those fail.
+    failure: ErrorKind,
 }
 
 /// One of the streams.
@@ -31,7 +33,7 @@ impl Stream<'_> {
     {
         if self.letter == b'o' {
             if log.before_failures == 0 {
-                return Err(io::Error::from(ErrorKind::Other));
+                return Err(io::Error::from(log.failure));
             }
             log.before_failures -= 1;
         }
@@ -54,8 +56,8 @@ impl Write for Stream<'_> {
     }
 }
 
-/// The words, what is read, how many writes to the output succeed, what is written (`o`: to the output, `e`: to the
-/// error output), and the status.
+/// The words, what is read, how many writes to the output succeed and how the next one fails, what is written (`o`: to
+/// the output, `e`: to the error output), and the status.
 struct Case {
     words: &'static str,
     terminal: bool,
@@ -63,11 +65,12 @@ struct Case {
     watched: bool,
     input: &'static [u8],
     writes: u64,
+    failure: ErrorKind,
     log: &'static str,
     status: u8,
 }
 
-static CASES: [Case; 18] = [
+static CASES: [Case; 25] = [
     // the lines before a message go before it
     Case {
         words: "scan/--lines/--keep-going/%d",
@@ -75,6 +78,7 @@ static CASES: [Case; 18] = [
         watched: false,
         input: b"1\n2\nx\n3\n",
         writes: u64::MAX,
+        failure: ErrorKind::Other,
         log: "o1\n2\nesf: line 3: matching failure at 1, used 0, assigned 0\no3\n",
         status: 1,
     },
@@ -85,6 +89,7 @@ static CASES: [Case; 18] = [
         watched: false,
         input: b"1\n2\n3\n",
         writes: u64::MAX,
+        failure: ErrorKind::Other,
         log: "o1\n2\n3\n",
         status: 0,
     },
@@ -95,6 +100,7 @@ static CASES: [Case; 18] = [
         watched: false,
         input: b"1\n2\n3\n",
         writes: u64::MAX,
+        failure: ErrorKind::Other,
         log: "o1\no2\no3\n",
         status: 0,
     },
@@ -104,6 +110,7 @@ static CASES: [Case; 18] = [
         watched: false,
         input: b"1\n2\n3\n",
         writes: u64::MAX,
+        failure: ErrorKind::Other,
         log: "o1\no2\no3\n",
         status: 0,
     },
@@ -114,6 +121,7 @@ static CASES: [Case; 18] = [
         watched: false,
         input: b"1\n2\n3\n",
         writes: 0,
+        failure: ErrorKind::Other,
         log: "esf: write fault\n",
         status: 3,
     },
@@ -124,6 +132,7 @@ static CASES: [Case; 18] = [
         watched: false,
         input: b"1\n2\n3\n",
         writes: 1,
+        failure: ErrorKind::Other,
         log: "o1\nesf: write fault\n",
         status: 3,
     },
@@ -134,6 +143,7 @@ static CASES: [Case; 18] = [
         watched: false,
         input: b"1\nx\n",
         writes: 0,
+        failure: ErrorKind::Other,
         log: "esf: line 2: matching failure at 1, used 0, assigned 0\nesf: write fault\n",
         status: 3,
     },
@@ -143,6 +153,7 @@ static CASES: [Case; 18] = [
         watched: false,
         input: b"",
         writes: u64::MAX,
+        failure: ErrorKind::Other,
         log: "oaccepted\n",
         status: 0,
     },
@@ -153,6 +164,7 @@ static CASES: [Case; 18] = [
         watched: true,
         input: b"1;2",
         writes: u64::MAX,
+        failure: ErrorKind::Other,
         log: concat!(
             "esf: record 1: matching failure at 2, used 1, assigned 1\n",
             "e  directive 2: \",\", byte \",\"\n",
@@ -167,6 +179,7 @@ static CASES: [Case; 18] = [
         watched: true,
         input: b"1;2",
         writes: u64::MAX,
+        failure: ErrorKind::Other,
         log: "esf: record 1: matching failure at 2, used 1, assigned 1\n",
         status: 1,
     },
@@ -176,6 +189,7 @@ static CASES: [Case; 18] = [
         watched: false,
         input: b"1;2",
         writes: u64::MAX,
+        failure: ErrorKind::Other,
         log: "esf: record 1: matching failure at 2, used 1, assigned 1\n",
         status: 1,
     },
@@ -186,6 +200,7 @@ static CASES: [Case; 18] = [
         watched: false,
         input: b"9",
         writes: u64::MAX,
+        failure: ErrorKind::Other,
         log: "o1\n2\n3\n",
         status: 0,
     },
@@ -196,6 +211,7 @@ static CASES: [Case; 18] = [
         watched: false,
         input: b"",
         writes: u64::MAX,
+        failure: ErrorKind::Other,
         log: "o1\n2\nesf: egonee: ecan't be opened\no3\n",
         status: 3,
     },
@@ -206,6 +222,7 @@ static CASES: [Case; 18] = [
         watched: false,
         input: b"",
         writes: u64::MAX,
+        failure: ErrorKind::Other,
         log: concat!(
             "esf: egonee: ecan't be opened\n",
             "esf: ebade: erecord 1: matching failure at 1, used 0, assigned 0\n",
@@ -219,6 +236,7 @@ static CASES: [Case; 18] = [
         watched: false,
         input: b"",
         writes: u64::MAX,
+        failure: ErrorKind::Other,
         log: "esf: ebade: eline 1: matching failure at 1, used 0, assigned 0\n",
         status: 1,
     },
@@ -228,6 +246,7 @@ static CASES: [Case; 18] = [
         watched: false,
         input: b"",
         writes: u64::MAX,
+        failure: ErrorKind::Other,
         log: "esf: ebade: eline 1: matching failure at 1, used 0, assigned 0\no3\n",
         status: 1,
     },
@@ -238,6 +257,7 @@ static CASES: [Case; 18] = [
         watched: false,
         input: b"",
         writes: u64::MAX,
+        failure: ErrorKind::Other,
         log: "on\nesf: egonee: ecan't be opened\no1\n2\n3\n",
         status: 3,
     },
@@ -248,32 +268,171 @@ static CASES: [Case; 18] = [
         watched: false,
         input: b"",
         writes: u64::MAX,
+        failure: ErrorKind::Other,
         log: "esf: pair: Q4 NoWidth at 1\n",
         status: 2,
     },
+    // why a write, a read and the opening of a file failed, where more is said
+    Case {
+        words: "scan/--explain/%d",
+        terminal: false,
+        watched: false,
+        input: b"1\n2\n3\n",
+        writes: 0,
+        failure: ErrorKind::StorageFull,
+        log: "esf: write fault\n  No space left on device\n",
+        status: 3,
+    },
+    Case {
+        words: "scan/--explain/--line-buffered/%d",
+        terminal: false,
+        watched: false,
+        input: b"1\n2\n3\n",
+        writes: 1,
+        failure: ErrorKind::FileTooLarge,
+        log: "o1\nesf: write fault\ne  File too large\n",
+        status: 3,
+    },
+    Case {
+        words: "scan/%d/gone/box/one",
+        terminal: false,
+        watched: true,
+        input: b"",
+        writes: u64::MAX,
+        failure: ErrorKind::Other,
+        log: "esf: egonee: ecan't be opened\ne  No such file or directory\nesf: eboxe: erecord 1: read fault\ne  at line 1, column 1 of the input\n  Is a directory\no3\n",
+        status: 3,
+    },
+    Case {
+        words: "scan/--lines/--explain/%d/box",
+        terminal: false,
+        watched: false,
+        input: b"",
+        writes: u64::MAX,
+        failure: ErrorKind::Other,
+        log: "esf: eboxe: eline 1: read fault\ne  Is a directory\n",
+        status: 3,
+    },
+    // on a terminal nothing is said where nobody reads the output any more
+    Case {
+        words: "scan/%d",
+        terminal: false,
+        watched: true,
+        input: b"1\n2\n3\n",
+        writes: 0,
+        failure: ErrorKind::BrokenPipe,
+        log: "",
+        status: 3,
+    },
+    Case {
+        words: "scan/--no-explain/--line-buffered/%d",
+        terminal: false,
+        watched: true,
+        input: b"1\n2\n3\n",
+        writes: 1,
+        failure: ErrorKind::BrokenPipe,
+        log: "o1\n",
+        status: 3,
+    },
+    // elsewhere that is a write fault as any other
+    Case {
+        words: "scan/--line-buffered/%d",
+        terminal: false,
+        watched: false,
+        input: b"1\n2\n3\n",
+        writes: 1,
+        failure: ErrorKind::BrokenPipe,
+        log: "o1\nesf: write fault\n",
+        status: 3,
+    },
 ];
+
+/// What is read: the bytes of a slice, or a folder, of which each read fails.
+#[derive(Drop)]
+struct Page {
+    text: SliceSource<'static>,
+    is_folder: bool,
+    reads: u64,
+    failures: u64,
+    error: Option<io::Error>,
+    ghost known: { 0 < failures → IsSome error },
+}
+
+impl Page {
+    fn new(text: &'static [u8], is_folder: bool) -> Page {
+        Page {
+            text: SliceSource::new(text),
+            is_folder,
+            reads: 0,
+            failures: 0,
+            error: None,
+        }
+    }
+
+    fn unopened(kind: ErrorKind) -> Page
+        ensures text { result.text.to_come ≡ [] }
+        ensures error { IsSome result.error }
+    {
+        Page {
+            text: SliceSource::new(&[]),
+            is_folder: false,
+            reads: 0,
+            failures: 0,
+            error: Some(io::Error::from(kind)),
+        }
+    }
+}
+
+impl Source for Page {
+    ghost use Rattle.std.specs.Prelude.{Some};
+
+    ghost to_come = { λ p. Some p.text.to_come };
+
+    ghost reads = { λ p. p.reads };
+
+    ghost failures = { λ p. p.failures };
+
+    fn read(&mut self, buf: &mut [u8]) -> Result<usize, SourceFault> {
+        self.reads = self.reads.saturating_add(1);
+        if self.is_folder {
+            self.error = Some(io::Error::from(ErrorKind::IsADirectory));
+            self.failures = self.failures.saturating_add(1);
+            return Err(SourceFault);
+        }
+        self.text.read(buf)
+    }
+}
+
+impl LastError for Page {
+    ghost last_error = { λ p. p.error };
+
+    fn last_error(&self) -> Option<io::Error> {
+        self.error
+    }
+}
 
 /// Files, by their names.
 #[derive(Drop)]
 struct Shelf;
 
-impl Opener<SliceSource<'static>> for Shelf {
+impl Opener<Page> for Shelf {
     ghost Opens = { λ before after name source is_open. Unit {0} };
 
-    fn open(&mut self, name: &str) -> Opened<SliceSource<'static>> {
-        let text: &'static [u8] = match name {
-            "two" => b"1\n2",
-            "one" => b"3",
-            "bad" => b"x",
+    fn open(&mut self, name: &str) -> Opened<Page> {
+        let source = match name {
+            "two" => Page::new(b"1\n2", false),
+            "one" => Page::new(b"3", false),
+            "bad" => Page::new(b"x", false),
+            "box" => Page::new(b"", true),
             _ => {
                 return Opened {
-                    source: SliceSource::new(&[]),
+                    source: Page::unopened(ErrorKind::NotFound),
                     is_open: false,
                 };
             }
         };
         Opened {
-            source: SliceSource::new(text),
+            source,
             is_open: true,
         }
     }
@@ -284,6 +443,7 @@ fn run_case(rt: &impl Abort, alloc: Global, case: &Case) -> Result<(), Fail> {
     let log = RefCell::new(Log {
         text: Vec::new(alloc),
         before_failures: case.writes,
+        failure: case.failure,
     });
     let output = Stream {
         log: &log,
@@ -293,7 +453,7 @@ fn run_case(rt: &impl Abort, alloc: Global, case: &Case) -> Result<(), Fail> {
         log: &log,
         letter: b'e',
     };
-    let from = SliceSource::new(case.input);
+    let from = Page::new(case.input, false);
     let terminals = Terminals {
         output: case.terminal,
         errors: case.watched,

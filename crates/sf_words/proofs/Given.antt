@@ -169,6 +169,12 @@ formats_for [] [] options fine = absurd (no_fault fine)
 formats_for words (text ∷ rest) options fine = tt
 formats_for (word ∷ more) [] options fine = tt
 
+both_for : (texts : List Text) (options : LineOptions) → HasTexts Copy texts → HasTextsFor (Some options) Copy texts
+both_for [] options has = elim has [ ]
+both_for (print ∷ []) options has = elim has [ ]
+both_for (print ∷ scan ∷ []) options has = tt
+both_for (print ∷ scan ∷ next ∷ rest) options has = elim has [ ]
+
 -- without --lines there is no option of lines
 none_without : (lines option : Bool) → lines ≡ false → cond (not lines && option) (kind.MissingRequiredArgument ∷ []) [] ≡ []
     → option ≡ false
@@ -199,7 +205,7 @@ enough_for Print rows (Some options) allowed words has fine = absurd (true≢fal
 enough_for Check rows None allowed words has fine = words
 enough_for Check rows (Some options) allowed words has fine = absurd (true≢false (sym has.0 ∙ allowed))
 enough_for Copy rows None allowed words has fine = words
-enough_for Copy rows (Some options) allowed words has fine = absurd (true≢false (sym has.0 ∙ allowed))
+enough_for Copy rows (Some options) allowed words has fine = both_for (texts_by Copy rows) options words
 enough_for Scan rows None allowed words has fine =
     let lines = faults_apart rows fine in
     let none = first_false _ _ (none_without (is_set (codes "lines") rows) (has_line_option rows) has lines.0) in

@@ -1,5 +1,5 @@
 -- The command line of sf: what clap's definitions read of it.
-use Rattle.std.specs.Prelude.{◌≡◌, ◌^◌, ◌-◌, pos, false, true, ℕ, List, [], ◌∷◌, Some, codes, fold}
+use Rattle.std.specs.Prelude.{◌≡◌, ◌^◌, ◌-◌, pos, false, true, ℕ, [], ◌∷◌, Some, codes}
 use Rattle.clap.specs.Words.{App, Rule, Text, app_of, new_app, new_rule, with_rule, with_subcommand}
 use Rattle.clap.specs.declared.builder.command.Command.{Command}
 use Rattle.clap.specs.declared.builder.command.Command.TheViews.{out-Command}
@@ -96,22 +96,29 @@ with_records a = with_options (with_rule (with_rule a limit_rule) (flag_rule (co
 abbrev pub with_forms : App → App
 with_forms a = with_rule (with_rule (with_rule a output_rule) (text_rule (codes "print"))) (text_rule (codes "names"))
 
--- those of a scan of lines: --lines is -l (108), --keep-going is -k (107), and --quiet is -q (113)
-abbrev pub lines_rules : List Rule
-lines_rules =
-    letter_flag_rule (codes "lines") 108
-    ∷ formats_rule
-    ∷ flag_rule (codes "tag")
-    ∷ skip_rule
-    ∷ flag_rule (codes "whole")
-    ∷ letter_flag_rule (codes "keep-going") 107
-    ∷ letter_flag_rule (codes "quiet") 113
-    ∷ flag_rule (codes "matching")
-    ∷ ignore_rule
-    ∷ []
+-- --lines is -l (108)
+abbrev pub lines_rule : Rule
+lines_rule = letter_flag_rule (codes "lines") 108
 
+-- those of lines: --keep-going is -k (107), and --quiet is -q (113)
+abbrev pub with_line_options : App → App
+with_line_options a =
+    with_rule
+    (with_rule (with_rule (with_rule a skip_rule) (flag_rule (codes "whole"))) (letter_flag_rule (codes "keep-going") 107))
+    (letter_flag_rule (codes "quiet") 113)
+
+-- those of a copy of lines
+abbrev pub with_copied_lines : App → App
+with_copied_lines a = with_line_options (with_rule a lines_rule)
+
+-- those of a scan of lines
 abbrev pub with_lines : App → App
-with_lines a = fold with_rule a lines_rules
+with_lines a =
+    with_rule
+    (with_rule
+    (with_line_options (with_rule (with_rule (with_rule a lines_rule) formats_rule) (flag_rule (codes "tag"))))
+    (flag_rule (codes "matching")))
+    ignore_rule
 
 -- those of each verb
 abbrev pub options_of : Verb → App → App
@@ -119,7 +126,7 @@ options_of Show a = with_options a
 options_of Scan a = with_lines (with_forms (with_records a))
 options_of Print a = with_rule (with_options a) (flag_rule (codes "raw"))
 options_of Check a = with_rule (with_options a) width_rule
-options_of Copy a = with_records a
+options_of Copy a = with_copied_lines (with_records a)
 
 abbrev pub show_app : App
 show_app = with_rule (options_of Show (new_app (codes "show"))) (word_rule (codes "FORMAT"))

@@ -8,7 +8,7 @@ use Rattle.sf_words.specs.Line.{options_of}
 use Rattle.sf_words.specs.Orders.{has_line_option, has_texts, is_set}
 use Rattle.sf_words.specs.declared.options.CommandOption.{CommandOption}
 use Rattle.sf_words.specs.declared.options.OptionOf.{OptionOf}
-use Rattle.sf_words.specs.declared.options.OptionOf.TheVariants.{All, Records, Scan, Lines, Print, Check}
+use Rattle.sf_words.specs.declared.options.OptionOf.TheVariants.{All, Records, Scan, Lines, ScanLines, Print, Check}
 use Rattle.sf_words.specs.declared.options.OptionValue.{OptionValue}
 use Rattle.sf_words.specs.declared.options.OptionValue.TheVariants.{Nothing, Number, Text as OneText, Texts}
 use Rattle.sf_words.specs.declared.order.Verb.{Verb}
@@ -46,6 +46,8 @@ is_of Records verb.Scan = true
 is_of Records verb.Copy = true
 is_of Scan verb.Scan = true
 is_of Lines verb.Scan = true
+is_of Lines verb.Copy = true
+is_of ScanLines verb.Scan = true
 is_of Print verb.Print = true
 is_of Check verb.Check = true
 is_of _ _ = false
@@ -62,6 +64,7 @@ is_given_by _ name rows = has_texts name rows
 -- it was given, and is one of lines
 abbrev pub is_line_option : OptionOf → Bool
 is_line_option Lines = true
+is_line_option ScanLines = true
 is_line_option _ = false
 
 abbrev pub is_given_of_lines : List Row → CommandOption → Bool

@@ -116,10 +116,11 @@ HasTexts Check (print ∷ scan ∷ []) = Unit {0}
 HasTexts Copy (print ∷ scan ∷ []) = Unit {0}
 HasTexts _ _ = ⊥
 
--- the same where lines are scanned: one format or more
+-- the same where lines are: a scan has one format or more
 abbrev pub HasTextsFor : Option LineOptions → Verb → List Text → Type 0
 HasTextsFor None verb texts = HasTexts verb texts
 HasTextsFor (Some options) Scan (format ∷ more) = Unit {0}
+HasTextsFor (Some options) Copy (print ∷ scan ∷ []) = Unit {0}
 HasTextsFor (Some options) _ _ = ⊥
 
 -- the options of lines

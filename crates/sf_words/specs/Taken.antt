@@ -3,7 +3,7 @@ use Rattle.std.specs.Prelude.{◌≡◌, ℕ, false, List, ◌∷◌, Option, So
 use Rattle.clap.specs.Words.{IsSignedIn, Row, Text, one_of, without_minus}
 use Rattle.sf_words.specs.Orders.{HasTexts, is_set, texts_by, values_at, verb_text}
 use Rattle.sf_words.specs.declared.order.Verb.{Verb}
-use Rattle.sf_words.specs.declared.order.Verb.TheVariants.{Scan}
+use Rattle.sf_words.specs.declared.order.Verb.TheVariants.{Copy, Scan}
 
 -- the word names a verb
 abbrev pub IsVerb : Text → Type 0
@@ -23,9 +23,10 @@ abbrev pub HasWords : Verb → List Row → Type 0
 HasWords Scan given = IsOneAtMost (values_at (codes "FORMAT") given)
 HasWords verb given = HasTexts verb (texts_by verb given)
 
--- only a scan is one of lines
+-- only a scan and a copy are of lines
 abbrev pub AllowsLines : Verb → List Row → Type 0
 AllowsLines Scan given = Unit {0}
+AllowsLines Copy given = Unit {0}
 AllowsLines verb given = is_set (codes "lines") given ≡ false
 
 -- the subcommand is one of the verbs, its numbers are in their ranges, and it has the texts that the verb wants

@@ -85,13 +85,15 @@ Exit status:
 pub(crate) const COPY: &str = "Examples:
   sf copy '%d,%s\\n' '%11d,%20s%*1[\\n]' < table   each line without needless blanks and zeros
   sf copy '%+d;' '%3d;' < numbers                each number with its sign
+  sf copy --lines -k '%d\\n' '%11d%*1[\\n]' < numbers  the lines that are read, and a report of the others
 
 It writes a form that reads back: the same command leaves unchanged what it wrote. A pair that doesn't read back is
-refused. To write records in any other form, use sf scan --print PRINT SCAN.
+refused. To write records in any other form, use sf scan --print PRINT SCAN. With --lines, %*1[\\n] at the end of SCAN
+stands for the newline of a line.
 
 Exit status:
-  0  each record was copied, and the input ended before the first conversion of another record
-  1  a record failed or took no bytes, its values did not fit, or there were too many records
+  0  each record or line was copied, and the input ended before the first conversion of another record
+  1  a record or a line failed, its values did not fit, a record took no bytes, or there were too many
   2  the words, a format or the pair of formats were at fault
   3  standard input could not be read, or standard output not written
   4  memory was refused";

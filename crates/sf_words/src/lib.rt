@@ -6,6 +6,7 @@ mod hyphens;
 pub mod laws;
 mod line;
 mod misuse;
+mod numbers;
 mod options;
 mod order;
 mod words;

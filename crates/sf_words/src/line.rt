@@ -181,7 +181,11 @@ fn copy<'a>(alloc: Global) -> Result<Command<'a>, AllocError>
         help::COPY,
     )?
     .arg(word(alloc, "PRINT", "The print format of one record"))?
-    .arg(word(alloc, "SCAN", "The scan format of one record"))?
+    .arg(word(
+        alloc,
+        "SCAN",
+        "The scan format of one record, or of one line",
+    ))?
     .arg(files(alloc))
 }
 

@@ -8,7 +8,7 @@ ghost use Rattle.sf_words.specs.Orders.{IsRefusal, column_faults, form_given, fo
 ghost use Rattle.sf_words.specs.Orders.{has_line_option, has_texts, is_given, is_set, own_faults, verb_text};
 
 use crate::help;
-use crate::options::{CommandOption, OptionOf, OptionValue, all_options};
+use crate::options::{CommandOption, OptionValue, all_options};
 use crate::order::{Verb, WordsFault};
 use clap::ArgMatches;
 use clap::parser::ValueSource;
@@ -116,7 +116,7 @@ fn line_option(given: &ArgMatches<'_>) -> Option<&'static CommandOption>
     ensures { is_some result ≡ has_line_option (rows_of (found_of given.now)) }
 {
     for option in all_options() {
-        if matches!(option.of, OptionOf::Lines) && has_option(given, option) {
+        if option.of.is_of_lines() && has_option(given, option) {
             return Some(option);
         }
     }
@@ -199,7 +199,7 @@ pub(crate) fn misuse_of<'a>(verb: Verb, given: &ArgMatches<'a>) -> Option<Misuse
 }
 
 /// An option as it is written, as `--skip <N>`.
-fn push_option(text: &mut String, option: &CommandOption) -> Result<(), AllocError> {
+pub(crate) fn push_option(text: &mut String, option: &CommandOption) -> Result<(), AllocError> {
     match option.short {
         Some(letter) if !option.has_long => write!(text, "-{letter}")?,
         _ => write!(text, "--{}", option.name)?,

@@ -1,7 +1,7 @@
 //! The options of the command, in one table: `clap`'s line, the help and the misuses of `--lines` come of it.
 ghost use Rattle.std.specs.Prelude.{◌≡◌, false};
 ghost use Rattle.clap.specs.Words.{rule_of};
-ghost use Rattle.sf_words.specs.Options.{AreOptions, is_of, long_rule, option_rule, short_rule, value_rule};
+ghost use Rattle.sf_words.specs.Options.{AreOptions, is_line_option, is_of, long_rule, option_rule, short_rule, value_rule};
 
 use crate::order::Verb;
 use clap::builder::ValueParser;
@@ -39,8 +39,10 @@ pub(crate) enum OptionOf {
     Records,
     /// `scan`.
     Scan,
-    /// `scan`, with `--lines` alone.
+    /// Those that scan records, with `--lines` alone.
     Lines,
+    /// `scan`, with `--lines` alone.
+    ScanLines,
     /// `print`.
     Print,
     /// `check`.
@@ -152,7 +154,7 @@ static OPTIONS: [CommandOption; 19] = [
         has_long: true,
         short: Some('l'),
         value: OptionValue::Nothing,
-        of: OptionOf::Scan,
+        of: OptionOf::Records,
         help: "Take each line as an input of its own",
     },
     CommandOption {
@@ -160,7 +162,7 @@ static OPTIONS: [CommandOption; 19] = [
         has_long: false,
         short: Some('e'),
         value: OptionValue::Texts { name: "FORMAT" },
-        of: OptionOf::Lines,
+        of: OptionOf::ScanLines,
         help: "A format of a line, with --lines; the first of several that is done counts",
     },
     CommandOption {
@@ -212,7 +214,7 @@ static OPTIONS: [CommandOption; 19] = [
         has_long: true,
         short: None,
         value: OptionValue::Nothing,
-        of: OptionOf::Lines,
+        of: OptionOf::ScanLines,
         help: "Pass over lines that no format reads, with --lines",
     },
     CommandOption {
@@ -220,7 +222,7 @@ static OPTIONS: [CommandOption; 19] = [
         has_long: true,
         short: None,
         value: OptionValue::Texts { name: "FORMAT" },
-        of: OptionOf::Lines,
+        of: OptionOf::ScanLines,
         help: "Pass over lines that this format reads to their end, with --lines",
     },
     CommandOption {
@@ -259,11 +261,18 @@ impl OptionOf {
     {
         match self {
             OptionOf::All => true,
-            OptionOf::Records => matches!(verb, Verb::Scan | Verb::Copy),
-            OptionOf::Scan | OptionOf::Lines => matches!(verb, Verb::Scan),
+            OptionOf::Records | OptionOf::Lines => matches!(verb, Verb::Scan | Verb::Copy),
+            OptionOf::Scan | OptionOf::ScanLines => matches!(verb, Verb::Scan),
             OptionOf::Print => matches!(verb, Verb::Print),
             OptionOf::Check => matches!(verb, Verb::Check),
         }
+    }
+
+    /// Whether such an option stands with `--lines` alone.
+    pub(crate) fn is_of_lines(self) -> bool
+        ensures { result ≡ is_line_option self }
+    {
+        matches!(self, OptionOf::Lines | OptionOf::ScanLines)
     }
 }
 

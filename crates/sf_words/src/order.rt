@@ -16,7 +16,7 @@ pub enum Verb {
     Print,
     /// A print format and a scan format are checked as a pair.
     Check,
-    /// The records of the input are scanned by one format and printed by another.
+    /// The records of the input, or its lines, are scanned by one format and printed by another.
     Copy,
 }
 
@@ -83,7 +83,7 @@ pub struct Order {
     pub notes: Notes,
     /// In which form the values of a record are written: plain for each command but `scan`.
     pub output: Output,
-    /// How lines are scanned, where not records but lines are: for `scan` alone.
+    /// How lines are scanned, where not records but lines are: for `scan` and `copy`.
     pub lines: Option<LineOptions>,
     /// The print format by which a scan writes its records, as it was given.
     pub print: Option<String>,

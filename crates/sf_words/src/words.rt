@@ -12,6 +12,7 @@ ghost use Rattle.sf_words.specs.Taken.{IsTaken, IsVerb, IsWithin};
 use crate::hyphens::clap_words;
 use crate::line::line;
 use crate::misuse::{form_given, has_texts, is_set, misuse_of, refusal};
+use crate::numbers::{blames_number, number_fault};
 use crate::order::{LineOptions, Notes, Order, Output, Profile, Verb, WordsFault};
 use clap::error::ErrorKind;
 use clap::{ArgMatches, Error};
@@ -23,8 +24,8 @@ const DEFAULT_LIMIT: u32 = 1048576;
 /// The number of the profile of a command that has none.
 const DEFAULT_PROFILE: u32 = 1;
 
-/// What is reported where clap gave no matches.
-fn fault_of(alloc: Global, error: &Error) -> WordsFault
+/// What is reported where clap gave no matches of the words.
+fn fault_of(alloc: Global, words: &[String], error: &Error) -> WordsFault
     ensures { IsRefusalOf error.now.kind result }
 {
     let kind = error.kind();
@@ -36,6 +37,9 @@ fn fault_of(alloc: Global, error: &Error) -> WordsFault
     };
     match kind {
         ErrorKind::DisplayHelp | ErrorKind::DisplayVersion => WordsFault::Help(text),
+        ErrorKind::UnknownArgument if blames_number(text.as_bytes()) => {
+            number_fault(alloc, words, text)
+        }
         _ => WordsFault::Usage(text),
     }
 }
@@ -293,6 +297,6 @@ pub fn read_words(alloc: Global, words: &[String]) -> Result<Order, WordsFault>
     let line = line(alloc)?;
     match line.try_get_matches_from(all.as_slice()) {
         Ok(matches) => order_of(alloc, &matches),
-        Err(error) => Err(fault_of(alloc, &error)),
+        Err(error) => Err(fault_of(alloc, &joined, &error)),
     }
 }

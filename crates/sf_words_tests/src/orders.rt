@@ -4,7 +4,7 @@ use std::alloc::Global;
 use std::test::Fail;
 
 /// Words, between which bars stand, and the order that they make.
-static ORDERS: [(&str, &str); 97] = [
+static ORDERS: [(&str, &str); 99] = [
     ("show|%3d,%*s", "Show 1048576 |%3d,%*s"),
     ("scan|%d,%d", "Scan 1048576 |%d,%d"),
     ("scan|--limit|3|%s", "Scan 3 |%s"),
@@ -106,6 +106,14 @@ static ORDERS: [(&str, &str); 97] = [
     ("show|--|--lines", "Show 1048576 |--lines"),
     ("show|-p|2|%d", "Show 1048576 profile-2 |%d"),
     ("copy|-p2|%d;|%3d;", "Copy 1048576 profile-2 |%d; |%3d;"),
+    (
+        "copy|--lines|%d;|%3d;",
+        "Copy 1048576 lines skip 0 |%d; |%3d;",
+    ),
+    (
+        "copy|-lkqs|3|--whole|%d;|%3d;|names",
+        "Copy 1048576 lines skip 3 whole keep-going quiet |%d; |%3d; file=names",
+    ),
     (
         "scan|-lks|3|-o|json|-p=2|%d",
         "Scan 1048576 profile-2 Json lines skip 3 keep-going |%d",

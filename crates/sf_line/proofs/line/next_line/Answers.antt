@@ -13,6 +13,7 @@ loop-block-init g c = record {
       c.clear.ensures.items;
   unread = λ at_end. refl;
   sound = refl;
+  capacity = omega (arith, c.clear.ensures.capacity);
 }
 
 pub returns-then-is_at_end-clause-reads : goal.returns-then-is_at_end-clause-reads
@@ -112,6 +113,7 @@ loop-block-preserved g c = record {
       c.refill.ensures.failures ∙ ap (λ (b : Bool). cond b (counted_on (g.S.Source.failures c.consume-in-loop-block.new.self.source))
       (g.S.Source.failures c.consume-in-loop-block.new.self.source)) (sym c.is_err.ensures.value ∙ c.if-is_err.false)
       ∙ ap g.S.Source.failures c.consume-in-loop-block.ensures.source ∙ c.loop-block.invariant.sound;
+  capacity = omega (arith, c.loop-block.invariant.capacity, c.gather.ensures.capacity);
 }
 
 pub returns-clause-reads : goal.returns-clause-reads

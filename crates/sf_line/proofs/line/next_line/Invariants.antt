@@ -1,4 +1,5 @@
-use Rattle.std.proofs.Common.{◌≡◌, true}
+use Rattle.std.proofs.Common.{◌≡◌, ◌≤◌, true}
+use Rattle.std.specs.Prelude.{vec_capacity}
 use Rattle.sf_line.proofs.Gathering.{Gathering}
 use Rattle.sf_line.proofs.Using.{Using}
 use Rattle.sf_line.proofs.line.next_line.Given as goal
@@ -10,4 +11,5 @@ invariant-loop-block g l = record {
   using : Using g.S.Source.to_come g.S.Source.reads g.row.N l.fn.from l.from l.limit l.line.items;
   unread : l.fn.from.at_end ≡ true → l.from.source ≡ l.fn.from.source;
   sound : g.S.Source.failures l.from.source ≡ g.S.Source.failures l.fn.from.source;
+  capacity : vec_capacity l.fn.line ≤ vec_capacity l.line;
 }

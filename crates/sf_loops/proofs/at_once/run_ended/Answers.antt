@@ -15,7 +15,7 @@ returns-then-left-gt1-clause-run c line is =
     let report : RunReport = report_by c.in_ok-outcome.outcome c.quick_run.new.store.values in
     let long : length c.args.ended.now ≡ length line + 1 = ended_length line c.args.ended.now is in
     inside_report c.done_runs_stay.ensures c.open_inputs_are_used.ensures ds
-    (subst AreProper c.directives-directives.ensures.value c.directives-directives.ensures.proper) c.args.limit line 10 report
+    (subst AreProper c.directives-directives.ensures.value c.directives-directives.ensures.proper) c.args.limit line (10 ∷ []) report
     (with_newline ds c.args.limit line c.args.ended.now report is (c.in_ok-outcome.ensures.run [] End))
     c.in_ok-outcome.ensures.done c.in_ok-outcome.ensures.met (omega (arith, long, c.if-left-gt1.true))
 
@@ -26,7 +26,7 @@ returns-clause-run c line is =
     let long : length c.args.ended.now ≡ length line + 1 = ended_length line c.args.ended.now is in
     whole_report c.done_runs_stay.ensures ds
     (subst AreProper c.directives-directives.ensures.value c.directives-directives.ensures.proper)
-    (subst EndsUnbounded c.directives-directives.ensures.value (c.if-not-ends_unbounded.ensures refl)) c.args.limit line 10 report
+    (subst EndsUnbounded c.directives-directives.ensures.value (c.if-not-ends_unbounded.ensures refl)) c.args.limit line (10 ∷ []) report
     (with_newline ds c.args.limit line c.args.ended.now report is (c.in_ok-outcome.ensures.run [] End))
     c.in_ok-outcome.ensures.done
     (omega (arith, long, c.if-left-gt1.false, c.if-left-eq0.false, c.in_ok-outcome.ensures.used))

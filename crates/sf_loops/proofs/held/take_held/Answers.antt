@@ -12,9 +12,9 @@ returns-clause-run g c =
     let held : c.held.result.now ≡ c.args.from.now.held = c.held.ensures.held in
     held_run g.S.Source.to_come g.S.Source.reads g.S.Source.failures g.row.N c.args.format.now c.args.limit c.args.from.now
     c.consume.new.self
-    c.args.lines.now c.count_newlines.new.lines report
+    c.args.lines.now c.count_front.new.lines report
     (λ z ending. subst (λ y. RunWithin c.args.format.now c.args.limit (y ++ z) ending report) held (c.in_ok-outcome.ensures.run z ending))
     c.in_ok-outcome.ensures.done c.in_ok-outcome.ensures.met (omega (arith, c.in_ok-outcome.ensures.used, ap length held))
     c.consume.ensures.held
     c.consume.ensures.source c.consume.ensures.at_end c.consume.ensures.told
-    (c.count_newlines.ensures ∙ ap (lines_after c.args.lines.now) (c.split_at.ensures.front ∙ ap (take report.used) c.held-2.ensures.held))
+    (c.count_front.ensures ∙ ap (λ y. lines_after c.args.lines.now (take report.used y)) c.held-2.ensures.held)

@@ -1,34 +1,34 @@
-use Rattle.std.proofs.Common.{ℕ, ◌≡◌, ◌∷◌, ◌++◌, ◌∙◌, List, [], refl, subst, append-nil, arith}
+use Rattle.std.proofs.Common.{ℕ, ◌≡◌, ◌+◌, ◌∷◌, ◌++◌, ◌∙◌, List, [], length, drop, refl, subst, arith}
 use Rattle.sf_format.specs.Proper.{AreProper}
 use Rattle.sf_run.specs.outcome.Ending.TheVariants.{End}
 use Rattle.sf_run.specs.Limits.{RunWithin}
 use Rattle.sf_run.specs.Runs.{RunReport}
 use Rattle.sf_run.specs.Views.{report_by}
 use Rattle.sf_read.specs.Unbounded.{EndsUnbounded}
-use Rattle.sf_read.proofs.Unbounded.{inside_report, whole_report}
+use Rattle.sf_read.proofs.Unbounded.{inside_report, whole_report, laid_down}
 use Rattle.sf_read.proofs.whole.scan_with_newline.Goals as goal
 
 pub returns-then-used-text-clause-run : goal.returns-then-used-text-clause-run
-returns-then-used-text-clause-run c =
+returns-then-used-text-clause-run g c =
     let ds = c.args.format.now in
     let text : List ℕ = c.args.text.now in
     let report : RunReport = report_by c.in_ok-outcome.outcome c.quick_run.new.store.values in
-    let front : c.split_at.result.0.now ++ [] ≡ text ++ 10 ∷ [] = append-nil c.split_at.result.0.now ∙ c.split_at.ensures.front
-    ∙ c.lay_down.ensures.front in
+    let rest : List ℕ = drop (length text + 1) c.lay_down.new.block in
     inside_report c.done_runs_stay.ensures c.open_inputs_are_used.ensures ds
-    (subst AreProper c.directives-directives.ensures.value c.directives-directives.ensures.proper) c.args.limit text 10 report
-    (subst (λ (x : List ℕ). RunWithin ds c.args.limit x End report) front (c.in_ok-outcome.ensures.run [] End))
+    (subst AreProper c.directives-directives.ensures.value c.directives-directives.ensures.proper) c.args.limit text (10 ∷ rest) report
+    (subst (λ (x : List ℕ). RunWithin ds c.args.limit x End report) (laid_down text c.lay_down.new.block c.lay_down.ensures.front)
+    (c.in_ok-outcome.ensures.run [] End))
     c.in_ok-outcome.ensures.done c.in_ok-outcome.ensures.met c.if-used-text.true
 
 pub returns-clause-run : goal.returns-clause-run
-returns-clause-run c =
+returns-clause-run g c =
     let ds = c.args.format.now in
     let text : List ℕ = c.args.text.now in
     let report : RunReport = report_by c.in_ok-outcome.outcome c.quick_run.new.store.values in
-    let front : c.split_at.result.0.now ++ [] ≡ text ++ 10 ∷ [] = append-nil c.split_at.result.0.now ∙ c.split_at.ensures.front
-    ∙ c.lay_down.ensures.front in
+    let rest : List ℕ = drop (length text + 1) c.lay_down.new.block in
     whole_report c.done_runs_stay.ensures ds
     (subst AreProper c.directives-directives.ensures.value c.directives-directives.ensures.proper)
-    (subst EndsUnbounded c.directives-directives.ensures.value (c.if-not-ends_unbounded.ensures refl)) c.args.limit text 10 report
-    (subst (λ (x : List ℕ). RunWithin ds c.args.limit x End report) front (c.in_ok-outcome.ensures.run [] End))
+    (subst EndsUnbounded c.directives-directives.ensures.value (c.if-not-ends_unbounded.ensures refl)) c.args.limit text (10 ∷ rest) report
+    (subst (λ (x : List ℕ). RunWithin ds c.args.limit x End report) (laid_down text c.lay_down.new.block c.lay_down.ensures.front)
+    (c.in_ok-outcome.ensures.run [] End))
     c.in_ok-outcome.ensures.done (omega arith)

@@ -14,16 +14,18 @@ returns g c =
     (ap (λ s. s.now) c.new-ahead.ensures.source) c.new-ahead.ensures.fresh in
     let does = subst (λ explain.
     DoesOrder g.K.Sink.contents g.K.Sink.failures g.C.Console.Hands g.C.Console.said g.C.Console.unsaid (λ s. g.S.Source.to_come s.now)
-    (λ s. g.S.Source.failures s.now) explain order.lines order None before after c.args.out.now c.run_order.new.out c.args.err.now
-    c.run_order.new.err c.run_order.result) c.is_explained-explain.ensures c.run_order.ensures in
+    (λ s. g.S.Source.failures s.now) (λ s. g.C.Reasons.why_unread s.now) g.C.Console.why c.args.watched explain order.lines order None
+    before after c.args.out.now c.run_order.new.out c.args.err.now c.run_order.new.err c.run_order.result) c.is_explained-explain.ensures
+    c.run_order.ensures in
     record {
       left = over (λ s. s.now) after;
       place = None;
       done = subst (λ (a : Ahead _). Does g.K.Sink.contents g.K.Sink.failures g.C.Console.Hands g.C.Console.said g.C.Console.unsaid
-          g.S.Source.to_come g.S.Source.failures c.args.watched (Ok order) None a (over (λ s. s.now) after) c.args.out.now
-          c.run_order.new.out c.args.err.now c.run_order.new.err c.run_order.result) fresh
+          g.S.Source.to_come g.S.Source.failures g.C.Reasons.why_unread g.C.Console.why c.args.watched (Ok order) None a
+          (over (λ s. s.now) after) c.args.out.now c.run_order.new.out c.args.err.now c.run_order.new.err c.run_order.result) fresh
           (does_order (λ s. s.now) g.K.Sink.contents g.K.Sink.failures g.C.Console.Hands g.C.Console.said g.C.Console.unsaid
-          g.S.Source.to_come g.S.Source.failures (is_explained c.args.watched order.notes) order.lines order None before after
-          c.args.out.now c.run_order.new.out c.args.err.now c.run_order.new.err c.run_order.result does);
+          g.S.Source.to_come g.S.Source.failures g.C.Reasons.why_unread g.C.Console.why c.args.watched
+          (is_explained c.args.watched order.notes) order.lines order None before after c.args.out.now c.run_order.new.out
+          c.args.err.now c.run_order.new.err c.run_order.result does);
       placed = tt;
     }

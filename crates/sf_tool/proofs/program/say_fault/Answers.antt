@@ -1,11 +1,10 @@
-use Rattle.std.proofs.Common.{◌≡◌, ◌∙◌, ℕ, List, inr, subst}
+use Rattle.std.proofs.Common.{◌≡◌, ◌∙◌, ℕ, List, subst}
 use Rattle.sf_blocks.specs.Blocks.{faults_of, handed_to}
 use Rattle.sf_messages.specs.Texts.{error_line}
 use Rattle.sf_tool.specs.Saying.{SaysText}
 use Rattle.sf_tool.proofs.program.say_fault.Goals as goal
 
-pub returns-in-Err : goal.returns-in-Err
-returns-in-Err g c =
+pub returns : goal.returns
+returns g c =
     let line : c.as_bytes.result.now ≡ error_line c.args.fault = c.as_bytes.ensures.value ∙ c.as_str.ensures.value ∙ c.error_line.ensures in
-    subst (λ text. SaysText (handed_to g.E.Write) faults_of text c.args.errors.now c.write_whole.new.to) line
-    (inr (c.in-Err.ensures.failed, c.in-Err.ensures.failures))
+    subst (λ text. SaysText (handed_to g.E.Write) faults_of text c.args.errors.now c.say_text.new.errors) line c.say_text.ensures

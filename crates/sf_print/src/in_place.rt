@@ -1,0 +1,93 @@
+//! Texts of values, written in place.
+ghost use Rattle.std.specs.Prelude.{◌≡◌, ◌≤◌, ◌+◌, ◌++◌, length, take, IfSome, IsSome};
+ghost use Rattle.std.specs.List.{flat_map};
+ghost use Rattle.sf_base.specs.Data.{datum_of, datum_of_shown};
+ghost use Rattle.sf_print.specs.Runs.{piece_bytes};
+ghost use Rattle.sf_print.specs.Text.{value_text};
+
+use crate::copies::copy_over;
+use crate::decimal::write_number;
+use crate::integer::DIGIT_BYTES;
+use crate::piece::Piece;
+use crate::plain::is_plain_conv;
+use crate::text::value_pieces;
+use sf_base::{Shown, Value};
+use sf_format::PrintConv;
+
+/// A minus and the digits of any number.
+const NUMBER_BYTES: usize = 21;
+
+/// Writes a piece from a place on, and answers where it ends. None where there is no room.
+#[inline(always)]
+fn write_piece(piece: &Piece<'_>, buf: &mut [u8], at: usize) -> Option<usize>
+    requires { at ≤ length buf.old }
+    ensures within { IfSome result (λ end. end ≤ length buf.new) }
+    ensures written { IfSome result (λ end. take end buf.new ≡ take at buf.old ++ piece_bytes piece.now) }
+    ensures answers { at + length (piece_bytes piece.now) ≤ length buf.old → IsSome result }
+{
+    match *piece {
+        Piece::Run(byte, count) => {
+            if count as usize > buf.len() - at {
+                return None;
+            }
+            let end = at + count as usize;
+            buf[at..end].fill(byte);
+            Some(end)
+        }
+        Piece::Bytes(bytes) => {
+            if bytes.len() > buf.len() - at {
+                return None;
+            }
+            copy_over(bytes, buf, at);
+            Some(at + bytes.len())
+        }
+    }
+}
+
+/// Writes the text of any value, by its pieces. It is a call of its own, so that plain values pay for no buffer.
+#[inline(never)]
+fn write_padded(conv: &PrintConv, value: &Value<'_>, buf: &mut [u8], at: usize) -> Option<usize>
+    requires { at ≤ length buf.old }
+    ensures within { IfSome result (λ end. end ≤ length buf.new) }
+    ensures written { IfSome result (λ end. take end buf.new
+        ≡ take at buf.old ++ value_text conv.now (datum_of value.now)) }
+    ensures answers { at + length (value_text conv.now (datum_of value.now)) ≤ length buf.old → IsSome result }
+{
+    let mut digits = [0; DIGIT_BYTES];
+    let pieces = value_pieces(conv, *value, &mut digits);
+    let mut end = at;
+    for piece in &pieces {
+        end = write_piece(piece, buf, end)?;
+    }
+    Some(end)
+}
+
+/// Writes the text that the conversion prints of a value from a place on, and answers where it ends (C11 7.21.6.1). It
+/// answers wherever 21 bytes more than the text have room; None says that there is too little. It takes no memory.
+#[inline(always)]
+pub fn write_value(conv: &PrintConv, value: Shown<'_>, buf: &mut [u8], at: usize) -> Option<usize>
+    requires { at ≤ length buf.old }
+    ensures within { IfSome result (λ end. end ≤ length buf.new) }
+    ensures written { IfSome result (λ end. take end buf.new
+        ≡ take at buf.old ++ value_text conv.now (datum_of_shown value.entry)) }
+    ensures answers { at + length (value_text conv.now (datum_of_shown value.entry)) + 21 ≤ length buf.old
+        → IsSome result }
+{
+    match value {
+        Shown::Number(number) => {
+            if !is_plain_conv(conv) {
+                return write_padded(conv, &number.value(), buf, at);
+            }
+            if buf.len() - at < NUMBER_BYTES {
+                return None;
+            }
+            Some(write_number(number.negative, number.magnitude, buf, at))
+        }
+        Shown::Text(bytes) => {
+            if conv.width > 0 || conv.precision.is_some() {
+                return write_padded(conv, &Value::Text(bytes), buf, at);
+            }
+            write_piece(&Piece::Bytes(bytes), buf, at)
+        }
+    }
+}

@@ -1,0 +1,79 @@
+//! Texts of values that are written in place, and texts that a sink is handed.
+use sf_base::Value;
+use sf_format::{PrintConv, PrintFormat, Profile, Unit};
+use sf_print::{ListSink, PrintFault, ScriptSink, WriteStep, visible_len, write_text, write_value};
+use sf_rows::is;
+use std::alloc::Global;
+use std::test::Fail;
+
+/// A conversion, a value, what C's `printf` prints of it, and how many bytes of that stand after the blanks before it.
+type Row = (&'static [u8], Value<'static>, &'static [u8], usize);
+
+static ROWS: [Row; 10] = [
+    (b"%d", Value::I32(-12), b"-12", 3),
+    (b"%5d", Value::I32(-12), b"  -12", 3),
+    (b"%-5d", Value::I32(-12), b"-12  ", 5),
+    (b"% d", Value::I32(7), b" 7", 1),
+    (b"%05u", Value::U32(42), b"00042", 5),
+    (b"%#x", Value::U32(255), b"0xff", 4),
+    (b"%.0d", Value::I32(0), b"", 0),
+    (b"%s", Value::Text(b"\tab "), b"\tab ", 4),
+    (b"%4s", Value::Text(b"ab"), b"  ab", 2),
+    (b"%.3s", Value::Text(b"abcdef"), b"abc", 3),
+];
+
+/// The one conversion of a format.
+fn conversion(format: &PrintFormat) -> Option<PrintConv> {
+    match format.directives() {
+        [Unit::Conv(conv)] => Some(*conv),
+        _ => None,
+    }
+}
+
+/// What stands before the text, and the room after it.
+const FRONT: &[u8] = b"n=";
+
+const ROOM: usize = 64;
+
+/// The text of the row is written after the front.
+fn is_written(alloc: Global, row: &Row) -> Result<(), Fail> {
+    let (format, value, wanted, seen) = row;
+    let format = PrintFormat::parse(alloc, Profile::One, format)?;
+    let conv = conversion(&format).ok_or("not one conversion")?;
+    let mut buf = [b'n'; ROOM];
+    buf[1] = b'=';
+    let end = write_value(&conv, value.shown(), &mut buf, 2).ok_or("no room")?;
+    let text = buf.get(2..end).unwrap_or(b"");
+    is(&text, wanted, row)?;
+    is(&buf.get(..2), &Some(FRONT), row)?;
+    is(&visible_len(text), seen, row)
+}
+
+#[test]
+fn values_are_written_in_place(rt: HostRuntime) -> Result<(), Fail> {
+    for row in &ROWS {
+        is_written(rt.alloc(), row)?;
+    }
+    Ok(())
+}
+
+#[test]
+fn a_full_buffer_has_no_room(rt: HostRuntime) -> Result<(), Fail> {
+    let format = PrintFormat::parse(rt.alloc(), Profile::One, b"%5d")?;
+    let conv = conversion(&format).ok_or("not one conversion")?;
+    let mut buf = [b'|'; 8];
+    let found = write_value(&conv, Value::I32(-12).shown(), &mut buf, 4);
+    is(&found, &None, &"%5d")?;
+    is(&buf.get(..4), &Some(b"||||".as_slice()), &"%5d")
+}
+
+#[test]
+fn a_text_is_handed_over(rt: HostRuntime) -> Result<(), Fail> {
+    let mut list = ListSink::new(rt.alloc());
+    is(&write_text(&mut list, b"12,-7\n"), &Ok(6), &"all")?;
+    is(&list.bytes(), &b"12,-7\n".as_slice(), &"all")?;
+    let mut script = ScriptSink::new(rt.alloc(), &[WriteStep::Accept(4), WriteStep::Fail]);
+    let fault = PrintFault::Sink { written: 4 };
+    is(&write_text(&mut script, b"12,-7\n"), &Err(fault), &"four")?;
+    is(&script.bytes(), &b"12,-".as_slice(), &"four")
+}
