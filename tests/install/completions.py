@@ -4,6 +4,7 @@ import shutil
 import tempfile
 import unittest
 
+import options
 import program
 
 FOLDER = os.path.join(program.ROOT, "completions")
@@ -72,23 +73,14 @@ class Completions:
     def test_nothing_is_an_option_behind_two_dashes(self):
         self.same("sf print %d -- -", [])
 
-    def test_a_limit_is_no_word_to_complete(self):
-        self.same("sf scan --limit ", [])
-        self.same("sf scan --lines --skip ", [])
-        self.same("sf scan --lines -s ", [])
-
-    def test_a_format_is_no_word_to_complete(self):
-        self.same("sf scan --lines -e ", [])
-        self.same("sf scan --print ", [])
-        self.same("sf scan --lines --ignore ", [])
-
-    def test_names_and_a_width_are_no_words_to_complete(self):
-        self.same("sf scan --names ", [])
-        self.same("sf check --width ", [])
-
-    def test_profiles(self):
-        self.same("sf show --profile ", ["1", "2"])
-        self.same("sf show -p ", ["1", "2"])
+    def test_what_stands_after_each_option(self):
+        """The values that the option has, where there are a few; else no word, and no option."""
+        for it in options.table():
+            if it.value:
+                for command in it.commands:
+                    for name in it.names:
+                        self.same(f"sf {command} {name} ", options.VALUES.get(it.name, ()))
+                        self.same(f"sf {command} {name} -", ())
 
     def test_options_behind_those_of_lines(self):
         self.same("sf scan --lines --k", ["--keep-going"])
@@ -98,8 +90,6 @@ class Completions:
         self.same("sf check --w", ["--width"])
 
     def test_forms(self):
-        self.same("sf scan --output ", ["plain", "tsv", "json", "csv"])
-        self.same("sf scan -o ", ["plain", "tsv", "json", "csv"])
         self.same("sf scan --output t", ["tsv"])
 
 

@@ -1,7 +1,6 @@
 -- how a directive is shown
 pub use Rattle.sf_shown.specs.Shown
 -- what is said
-pub mod Cures
 pub mod Facing
 pub mod Faults
 pub mod Joined

@@ -20,7 +20,7 @@ use Rattle.sf_places.specs.declared.place.Place.{Place}
 use Rattle.sf_records.specs.Quotes.{quoted}
 use Rattle.sf_messages.specs.declared.fault.FormatName.{FormatName}
 use Rattle.sf_messages.specs.declared.fault.FormatName.TheVariants as name
-use Rattle.sf_messages.specs.Cures.{width_cure}
+use Rattle.sf_shown.specs.Cures.{width_cure}
 use Rattle.sf_messages.specs.Facing.{faced, unit_text}
 use Rattle.sf_messages.specs.Names.{name_text}
 use Rattle.sf_messages.specs.Newlines.{is_left_white, is_lone_newline, is_newline_taken, is_over_newline, is_white_first}

@@ -1,7 +1,6 @@
 //! What a command says: how formats are shown, why it ends, and what is said after that.
 #![tactic(auto)]
 
-mod cures;
 mod facing;
 mod fault;
 mod names;

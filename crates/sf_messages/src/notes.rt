@@ -6,7 +6,6 @@ ghost use Rattle.sf_messages.specs.Notes.{line_notes, line_rest, note, pair_note
 ghost use Rattle.sf_messages.specs.Notes.{place_notes, print_side, rest_notes, scan_side, stood_notes, value_note};
 ghost use Rattle.sf_messages.specs.Notes.{numbered_note, range_note, range_notes, value_notes, wanted_note};
 
-use crate::cures::push_width_cure;
 use crate::facing::{faced, push_unit};
 use crate::fault::FormatName;
 use crate::names::name_text;
@@ -25,6 +24,7 @@ use sf_pair::{PairFault, PairWhy};
 use sf_places::Place;
 use sf_records::push_quoted;
 use sf_run::{Ending, Outcome, Status};
+use sf_shown::push_width_cure;
 use std::alloc::{AllocError, Global};
 use std::io::Write;
 

@@ -30,6 +30,20 @@ abbrev pub reason_of : Option Error → Option Error → CommandFault → Option
 reason_of unread unwritten fault =
     if is_read_fault fault then unread else (if is_write_fault fault then unwritten else None)
 
+-- the fault is one of the input, and not of the output or of memory
+abbrev pub is_of_input : CommandFault → Bool
+is_of_input (Record records.Write) = false
+is_of_input (Record records.Memory) = false
+is_of_input (Record fault) = true
+is_of_input (Lines lines.Write) = false
+is_of_input (Lines lines.Memory) = false
+is_of_input (Lines fault) = true
+is_of_input _ = false
+
+-- the file that is named with a fault
+abbrev pub file_of : CommandFault → Option (List ℕ) → Option (List ℕ)
+file_of fault file = if is_of_input fault then file else None
+
 -- nobody reads the output any more (POSIX write(), EPIPE)
 abbrev pub is_pipe_kind : ErrorKind → Bool
 is_pipe_kind BrokenPipe = true

@@ -1,7 +1,7 @@
-//! Why a fault of a command came, and what is said of that.
-ghost use Rattle.std.specs.Prelude.{◌≡◌, [], true, Some, IfOk, IfSome};
-ghost use Rattle.sf_reasons.specs.Faults.{IsWithReason, is_broken_pipe, is_read_fault, is_unheard, is_write_fault};
-ghost use Rattle.sf_reasons.specs.Faults.{reason_of};
+//! Why a fault of a command came, what is said of that, and which file is named with it.
+ghost use Rattle.std.specs.Prelude.{◌≡◌, [], true, Some, IfOk, IfSome, option_map};
+ghost use Rattle.sf_reasons.specs.Faults.{IsWithReason, file_of, is_broken_pipe, is_of_input, is_read_fault, is_unheard};
+ghost use Rattle.sf_reasons.specs.Faults.{is_write_fault, reason_of};
 
 use crate::words::reason_notes;
 use sf_lines::LinesFault;
@@ -48,6 +48,24 @@ pub fn reason_of(
     } else {
         None
     }
+}
+
+/// Whether a fault is one of the input, and not of the output or of memory.
+fn is_of_input(fault: CommandFault) -> bool
+    ensures { result ≡ is_of_input fault }
+{
+    match fault {
+        CommandFault::Record(fault) => !matches!(fault, ToolFault::Write | ToolFault::Memory),
+        CommandFault::Lines(fault) => !matches!(fault, LinesFault::Write | LinesFault::Memory),
+        _ => false,
+    }
+}
+
+/// The file that is named with a fault.
+pub fn file_of(fault: CommandFault, file: Option<&str>) -> Option<&str>
+    ensures { option_map (λ given. given.now) result ≡ file_of fault (option_map (λ given. given.now) file.entry) }
+{
+    if is_of_input(fault) { file } else { None }
 }
 
 /// Whether nobody reads the output any more.

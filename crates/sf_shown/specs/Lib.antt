@@ -1,1 +1,2 @@
+pub mod Cures
 pub mod Shown

@@ -23,9 +23,9 @@ use Rattle.sf_jobs.specs.Commands.{CarriesOut, Counts, form_of, grammar_of}
 use Rattle.sf_jobs.specs.Heads.{is_headed, names_text, split}
 use Rattle.sf_tool.specs.Copies.{CopiesTexts}
 use Rattle.sf_tool.specs.Explains.{SaysMore}
-use Rattle.sf_tool.specs.Fronts.{file_name, file_of, in_front}
+use Rattle.sf_tool.specs.Fronts.{file_name, in_front}
 use Rattle.sf_tool.specs.Lines.{SaysMoreOfLines, ScansLines}
-use Rattle.sf_reasons.specs.Faults.{IsWithReason, is_unheard, reason_of}
+use Rattle.sf_reasons.specs.Faults.{IsWithReason, file_of, is_unheard, reason_of}
 use Rattle.sf_tool.specs.Saying.{Says}
 use Rattle.sf_messages.specs.Texts.{error_line, name_twice_line, status_of}
 

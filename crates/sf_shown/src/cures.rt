@@ -1,10 +1,10 @@
 //! What to write in place of a directive without a width.
 ghost use Rattle.std.specs.Prelude.{◌≡◌, ◌++◌, OnOk};
-ghost use Rattle.sf_messages.specs.Cures.{cure_text, is_bare, reading_text, width_cure};
+ghost use Rattle.sf_shown.specs.Cures.{cure_text, is_bare, reading_text, width_cure};
 
+use crate::shown::push_text;
 use sf_base::Kind;
 use sf_format::{PrintConv, PrintLetter};
-use sf_shown::push_text;
 use std::alloc::AllocError;
 
 /// Whether a conversion prints the digits of a number that it needs, and a sign or none.
@@ -63,7 +63,7 @@ fn push_cure(output: &mut Vec<u8>, letter: PrintLetter, directive: &str) -> Resu
 }
 
 /// Appends what to write in place of a directive without a width that faces this conversion.
-pub(crate) fn push_width_cure(output: &mut Vec<u8>, conv: &PrintConv) -> Result<(), AllocError>
+pub fn push_width_cure(output: &mut Vec<u8>, conv: &PrintConv) -> Result<(), AllocError>
     ensures { OnOk result (output.new.items ≡ output.old.items ++ width_cure conv.now) }
 {
     if is_bare(conv) {
