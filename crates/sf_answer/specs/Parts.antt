@@ -2,6 +2,7 @@
 use Rattle.std.specs.Prelude.{ℕ, ◌+◌, ◌≡◌, ◌≢◌, ◌<◌, ◌==◌, ◌&&◌, Bool, true, false, not, if◌then◌else◌, List, [], ◌∷◌, ◌++◌, Option, Some, None, codes}
 use Rattle.std.specs.Fmt.{decimal}
 use Rattle.sf_base.specs.Bytes.{is_white}
+use Rattle.sf_base.specs.Kinds.{bounds_of}
 use Rattle.sf_base.specs.declared.values.Kind.{Kind}
 use Rattle.sf_base.specs.declared.values.Kind.TheVariants as kind
 use Rattle.sf_format.specs.declared.unit.PrintLetter.{PrintLetter}
@@ -37,6 +38,7 @@ length_part kind.I16 = codes "h"
 length_part kind.U16 = codes "h"
 length_part kind.I64 = codes "l"
 length_part kind.U64 = codes "l"
+length_part kind.F64 = codes "l"
 length_part _ = []
 
 -- `d` and `i` by `d`: `i` would take 010 as 8
@@ -73,7 +75,7 @@ in_order n (unit.Conv c ∷ us) = (c.slot == n) && in_order (n + 1) us
 
 -- the width of a number is the length of its longest text. Blanks of a `-`, and a 0 without digits, aren't read back: there it is any
 abbrev pub IsWidthOf : PrintConv → ℕ → Type 0
-IsWidthOf c n = c.kind ≢ kind.Text → c.minus ≡ false → 0 < least_digits c → IsLongest c n
+IsWidthOf c n = bounds_of c.kind ≢ None → c.minus ≡ false → 0 < least_digits c → IsLongest c n
 
 abbrev pub IsNumberPart : Bool → PrintConv → List ℕ → Type 0
 IsNumberPart numbered c part =

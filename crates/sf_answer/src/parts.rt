@@ -76,8 +76,8 @@ fn length_text(kind: Kind) -> &'static str
     match kind {
         Kind::I8 | Kind::U8 => "hh",
         Kind::I16 | Kind::U16 => "h",
-        Kind::I64 | Kind::U64 => "l",
-        Kind::I32 | Kind::U32 | Kind::Text => "",
+        Kind::I64 | Kind::U64 | Kind::F64 => "l",
+        Kind::I32 | Kind::U32 | Kind::Text | Kind::F32 => "",
     }
 }
 

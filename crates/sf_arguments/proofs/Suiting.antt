@@ -34,6 +34,8 @@ kind_itself kind.U16 = refl
 kind_itself kind.U32 = refl
 kind_itself kind.U64 = refl
 kind_itself kind.Text = refl
+kind_itself kind.F32 = refl
+kind_itself kind.F64 = refl
 
 same_text : (k : Kind) → is_text k ≡ true → same_kind kind.Text k ≡ true
 same_text kind.I8 e = absurd (cc)
@@ -45,6 +47,8 @@ same_text kind.U16 e = absurd (cc)
 same_text kind.U32 e = absurd (cc)
 same_text kind.U64 e = absurd (cc)
 same_text kind.Text e = refl
+same_text kind.F32 e = absurd (cc)
+same_text kind.F64 e = absurd (cc)
 
 one_is_one : (n : ℕ) → n ≡ 1 → (n == 1) ≡ true
 one_is_one n e = ap (λ m. m == 1) e

@@ -18,5 +18,7 @@ pub fn kind_text(kind: Kind) -> &'static str
         Kind::U32 => "u32",
         Kind::U64 => "u64",
         Kind::Text => "text",
+        Kind::F32 => "f32",
+        Kind::F64 => "f64",
     }
 }

@@ -65,6 +65,7 @@ length-lt-slots n xs slot apart in_range is_slot absent =
 IsWithin-le : (m n : ℕ) → m ≤ n → (x : Cell) → IsWithin m x → IsWithin n x
 IsWithin-le m n le (cell.Number number) h = h
 IsWithin-le m n le (cell.Text from to) h = (h.0, omega (arith, h.1))
+IsWithin-le m n le (cell.Real r) h = h
 
 -- one entry more, which may be a text that ends where the closed ones now do
 pub IsSound-push : (slots : ℕ) (es : List Entry) (closed closed' len : ℕ) (opened opened' : Option ℕ) (e : Entry)
@@ -102,6 +103,7 @@ closed-all slots taken closed len (Some s) text h none = cc
 -- a text within the first n bytes is the same in all of them
 datum_in-take : (all : List ℕ) (n : ℕ) (cell : Cell) → IsWithin n cell → datum_in all cell ≡ datum_in (take n all) cell
 datum_in-take all n (cell.Number number) h = refl
+datum_in-take all n (cell.Real r) h = refl
 datum_in-take all n (cell.Text from to) h =
     ap Bytes (between_is all from to ∙ (ap (drop from) (sym (take-take to n all h.1)) ∙ sym (between_is (take n all) from to)))
 

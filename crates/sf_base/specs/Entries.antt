@@ -1,7 +1,7 @@
 -- What the entries of a store stand for, and when they are sound.
 use Rattle.std.specs.Prelude.{◌≡◌, ◌≤◌, nat_eq, ℕ, List, Option, Some, None, false, slice_range, map, take, drop}
 use Rattle.std.specs.List.{All, IsDistinct, list_any}
-use Rattle.sf_base.specs.Data.{Datum, Bytes, Assigned, datum_of_number}
+use Rattle.sf_base.specs.Data.{Datum, Bytes, Real, Assigned, datum_of_number}
 use Rattle.sf_base.specs.Kept.{assigned, Opened, Kept}
 use Rattle.sf_base.specs.declared.entries.Cell.{Cell}
 use Rattle.sf_base.specs.declared.entries.Cell.TheVariants as cell
@@ -11,6 +11,7 @@ use Rattle.sf_base.specs.declared.entries.Entry.{Entry}
 abbrev pub datum_in : List ℕ → Cell → Datum
 datum_in closed (cell.Number number) = datum_of_number number
 datum_in closed (cell.Text from to) = Bytes (slice_range closed from to)
+datum_in closed (cell.Real r) = Real r
 
 abbrev pub assigned_in : List ℕ → Entry → Assigned
 assigned_in closed e = assigned e.slot (datum_in closed e.cell)
@@ -32,6 +33,7 @@ kept_of entries all n slot room = record {
 abbrev pub IsWithin : ℕ → Cell → Type 0
 IsWithin n (cell.Number number) = Unit {0}
 IsWithin n (cell.Text from to) = (from ≤ to) × (to ≤ n)
+IsWithin n (cell.Real r) = Unit {0}
 
 abbrev pub slots_of : List Entry → List ℕ
 slots_of = map (λ e. e.slot)

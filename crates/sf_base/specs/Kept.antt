@@ -1,7 +1,7 @@
 -- What a store keeps: the data of the slots, and the bytes of the texts.
 use Rattle.std.specs.Prelude.{◌+◌, ℕ, Bool, false, nat_eq, List, [], ◌∷◌, ◌++◌, length, Option, Some, None}
 use Rattle.std.specs.List.{flat_map}
-use Rattle.sf_base.specs.Data.{Datum, Number, Bytes, Assigned}
+use Rattle.sf_base.specs.Data.{Datum, Number, Bytes, Real, Assigned}
 
 -- the text under way, and the slot that it is for
 pub record Opened : Type 0 where
@@ -74,6 +74,7 @@ with_dropped s = record s { opened = None; room = s.room + length (text_of s.ope
 abbrev pub text_in : Datum → List ℕ
 text_in (Number kind n) = []
 text_in (Bytes text) = text
+text_in (Real r) = []
 
 -- the texts among the data, joined
 abbrev pub texts_in : List Assigned → List ℕ

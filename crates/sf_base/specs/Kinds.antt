@@ -1,7 +1,7 @@
 -- The signs and the magnitudes of the numbers of a kind.
 use Rattle.std.specs.Prelude.{ℕ, ◌^◌, Bool, true, false, ◌&&◌, nat_lt, nat_le, ℤ, pos, neg_ℤ, Option, Some, None, ◌-◌}
 use Rattle.sf_base.specs.declared.values.Kind.{Kind}
-use Rattle.sf_base.specs.declared.values.Kind.TheVariants.{I8, I16, I32, I64, U8, U16, U32, U64, Text}
+use Rattle.sf_base.specs.declared.values.Kind.TheVariants.{I8, I16, I32, I64, U8, U16, U32, U64, Text, F32, F64}
 
 -- the number of a sign (true: a minus) and a magnitude
 abbrev pub with_sign : Bool → ℕ → ℤ
@@ -29,6 +29,8 @@ is_held U16 = is_unsigned 16
 is_held U32 = is_unsigned 32
 is_held U64 = is_unsigned 64
 is_held Text = λ negative m. false
+is_held F32 = λ negative m. false
+is_held F64 = λ negative m. false
 
 -- whether the numbers of the kind have a sign, and the greatest of them
 abbrev pub bounds_of : Kind → Option (Bool × ℕ)
@@ -41,3 +43,5 @@ bounds_of U16 = Some (false, 2 ^ 16 - 1)
 bounds_of U32 = Some (false, 2 ^ 32 - 1)
 bounds_of U64 = Some (false, 2 ^ 64 - 1)
 bounds_of Text = None
+bounds_of F32 = None
+bounds_of F64 = None

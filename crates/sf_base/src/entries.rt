@@ -5,13 +5,14 @@ ghost use Rattle.std.specs.List.{All, IsDistinct};
 ghost use Rattle.sf_base.specs.Data.{datum_of, datum_of_number, datum_of_shown, datum_at, is_number};
 ghost use Rattle.sf_base.specs.Entries.{datum_in, assigned_in, slots_of, IsWithin};
 
-use crate::{Number, Shown, Value};
+use crate::{Number, Real, Shown, Value};
 
-/// A value: a number of a kind, or a part of the buffer.
+/// A value: a number of a kind, a part of the buffer, or a float.
 #[derive(Clone, Copy, Debug)]
 pub(crate) enum Cell {
     Number(Number),
     Text { from: usize, to: usize },
+    Real(Real),
 }
 
 #[derive(Clone, Copy, Debug)]
@@ -40,7 +41,7 @@ pub(crate) fn number_of(value: Value<'_>) -> Number
 {
     match value.shown() {
         Shown::Number(number) => number,
-        Shown::Text(_) => unreachable!(),
+        Shown::Text(_) | Shown::Real(_) => unreachable!(),
     }
 }
 
@@ -58,6 +59,7 @@ fn shown_in<'a>(cell: &Cell, closed: &'a [u8]) -> Shown<'a>
             magnitude: number.magnitude,
         }),
         Cell::Text { from, to } => Shown::Text(&closed[*from..*to]),
+        Cell::Real(real) => Shown::Real(*real),
     }
 }
 

@@ -4,7 +4,7 @@ ghost use Rattle.sf_base.specs.Kept.{buffer_of, nothing_kept};
 
 use crate::entries::{Cell, Entry, find_shown, number_of};
 use crate::store::{Store, StoreFull};
-use crate::{Number, Shown, Value};
+use crate::{Number, Real, Shown, Value};
 use arrayvec::ArrayVec;
 use std::marker::Model;
 
@@ -72,6 +72,11 @@ impl<const CAP: usize, const SLOTS: usize> Store for FixedStore<CAP, SLOTS> {
 
     fn set(&mut self, slot: u8, value: Value<'_>) {
         self.set_number(slot, number_of(value));
+    }
+
+    fn set_real(&mut self, slot: u8, real: Real) {
+        let cell = Cell::Real(real);
+        self.entries.push(Entry { slot, cell });
     }
 
     fn open_text(&mut self, slot: u8) {

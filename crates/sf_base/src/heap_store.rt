@@ -5,7 +5,7 @@ ghost use Rattle.sf_base.specs.Kept.{buffer_of, nothing_kept};
 use crate::buffer::{Buffer, MOVED};
 use crate::entries::{Cell, Entry, find_shown, number_of};
 use crate::store::{Store, StoreFull};
-use crate::{Number, Shown, Value};
+use crate::{Number, Real, Shown, Value};
 use std::alloc::{AllocError, Global};
 use std::marker::Model;
 
@@ -94,6 +94,11 @@ impl Store for HeapStore {
 
     fn set(&mut self, slot: u8, value: Value<'_>) {
         self.set_number(slot, number_of(value));
+    }
+
+    fn set_real(&mut self, slot: u8, real: Real) {
+        let cell = Cell::Real(real);
+        self.entries.push_reserved(Entry { slot, cell });
     }
 
     fn open_text(&mut self, slot: u8) {

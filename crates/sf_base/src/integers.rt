@@ -3,6 +3,7 @@ ghost use Rattle.std.specs.Prelude.{◌≡◌, ◌↔◌, ℤ, None, Some, IsSom
 ghost use Rattle.std.specs.Option.{option_map};
 ghost use Rattle.sf_base.specs.declared.values.Kind.{Kind};
 ghost use Rattle.sf_base.specs.declared.values.Kind.TheVariants.{Text};
+ghost use Rattle.sf_base.specs.Kinds.{bounds_of};
 ghost use Rattle.sf_base.specs.Data.{IsIn, Number as NumberOf, datum_of, kind_of, value_of, with_sign};
 
 use crate::{Kind, Number, Value};
@@ -28,8 +29,11 @@ pub trait ScanInt: PrimInt {
     fn value(self) -> Value<'static>
         ensures { datum_of result ≡ NumberOf own_kind (integer self) };
 
-    // The kind is no text. The integer is the one that the casts speak of, and the type has each number of its kind.
+    // The kind is no text, and no float. The integer is the one that the casts speak of, and the type has each number
+    // of its kind.
     ghost number_law: { own_kind ≡ Text → ⊥ };
+
+    ghost bounds_law: { bounds_of own_kind ≡ None → ⊥ };
 
     ghost integer_law: { (x : Self) → Self.value x ≡ integer x };
 
@@ -90,6 +94,8 @@ impl ScanInt for i8 {
 
     ghost number_law = { λ h. Prim.absurd Prim.cc };
 
+    ghost bounds_law = { λ h. Prim.absurd Prim.cc };
+
     ghost integer_law = { λ x. refl };
 
     ghost fits_law = { λ z h. Prim.search rules };
@@ -110,6 +116,8 @@ impl ScanInt for i16 {
     ghost integer = { λ x. x };
 
     ghost number_law = { λ h. Prim.absurd Prim.cc };
+
+    ghost bounds_law = { λ h. Prim.absurd Prim.cc };
 
     ghost integer_law = { λ x. refl };
 
@@ -132,6 +140,8 @@ impl ScanInt for i32 {
 
     ghost number_law = { λ h. Prim.absurd Prim.cc };
 
+    ghost bounds_law = { λ h. Prim.absurd Prim.cc };
+
     ghost integer_law = { λ x. refl };
 
     ghost fits_law = { λ z h. Prim.search rules };
@@ -152,6 +162,8 @@ impl ScanInt for i64 {
     ghost integer = { λ x. x };
 
     ghost number_law = { λ h. Prim.absurd Prim.cc };
+
+    ghost bounds_law = { λ h. Prim.absurd Prim.cc };
 
     ghost integer_law = { λ x. refl };
 
@@ -174,6 +186,8 @@ impl ScanInt for u8 {
 
     ghost number_law = { λ h. Prim.absurd Prim.cc };
 
+    ghost bounds_law = { λ h. Prim.absurd Prim.cc };
+
     ghost integer_law = { λ x. refl };
 
     ghost fits_law = { λ z h. Prim.search rules };
@@ -194,6 +208,8 @@ impl ScanInt for u16 {
     ghost integer = { λ x. pos x };
 
     ghost number_law = { λ h. Prim.absurd Prim.cc };
+
+    ghost bounds_law = { λ h. Prim.absurd Prim.cc };
 
     ghost integer_law = { λ x. refl };
 
@@ -216,6 +232,8 @@ impl ScanInt for u32 {
 
     ghost number_law = { λ h. Prim.absurd Prim.cc };
 
+    ghost bounds_law = { λ h. Prim.absurd Prim.cc };
+
     ghost integer_law = { λ x. refl };
 
     ghost fits_law = { λ z h. Prim.search rules };
@@ -236,6 +254,8 @@ impl ScanInt for u64 {
     ghost integer = { λ x. pos x };
 
     ghost number_law = { λ h. Prim.absurd Prim.cc };
+
+    ghost bounds_law = { λ h. Prim.absurd Prim.cc };
 
     ghost integer_law = { λ x. refl };
 

@@ -8,7 +8,7 @@ use crate::{Kind, ScanInt, Value};
 /// A number of a kind, by its sign and its magnitude.
 #[derive(Clone, Copy, Debug, PartialEq, Eq)]
 pub struct Number {
-    /// The kind, which is no text.
+    /// The kind, which is no text and no float.
     pub kind: Kind,
     /// Whether the number is below 0.
     pub negative: bool,
@@ -48,7 +48,7 @@ impl Number {
             Kind::U16 => Value::U16(value_in(self)),
             Kind::U32 => Value::U32(value_in(self)),
             Kind::U64 => Value::U64(value_in(self)),
-            Kind::Text => unreachable!(),
+            Kind::Text | Kind::F32 | Kind::F64 => unreachable!(),
         }
     }
 }

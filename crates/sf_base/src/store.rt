@@ -1,10 +1,10 @@
 //! What values and texts are kept in.
 ghost use Rattle.std.specs.Prelude.{◌≡◌, ◌+◌, ◌<◌, ◌≤◌, ℕ, [], ◌∷◌, length, take, true, false, None, IsSome, OnOk, OnErr};
 ghost use Rattle.std.specs.Option.{option_map};
-ghost use Rattle.sf_base.specs.Data.{datum_of, datum_of_number, datum_of_shown, datum_at, is_number};
+ghost use Rattle.sf_base.specs.Data.{Real as RealOf, datum_of, datum_of_number, datum_of_shown, datum_at, is_number};
 ghost use Rattle.sf_base.specs.Kept.{Kept, is_opened, with_value, with_opened, with_bytes, with_closed, with_dropped, with_text};
 
-use crate::{Number, Shown, Value};
+use crate::{Number, Real, Shown, Value};
 use thiserror::Error;
 
 /// A byte could not be stored.
@@ -26,6 +26,14 @@ pub trait Store: Drop {
         requires not_opened { is_opened slot (kept self.old).opened ≡ false }
         requires number { is_number value ≡ true }
         ensures { kept self.new ≡ with_value slot (datum_of value.entry) (kept self.old) };
+
+    /// Gives the slot a float.
+    fn set_real(&mut self, slot: u8, real: Real)
+        requires at_least_one { 1 ≤ slot }
+        requires in_range { slot ≤ slots }
+        requires absent { datum_at slot (kept self.old).values ≡ None }
+        requires not_opened { is_opened slot (kept self.old).opened ≡ false }
+        ensures { kept self.new ≡ with_value slot (RealOf real) (kept self.old) };
 
     /// Begins the text of the slot.
     fn open_text(&mut self, slot: u8)

@@ -2,11 +2,11 @@
 ghost use Rattle.std.specs.Prelude.{◌≡◌};
 ghost use Rattle.sf_base.specs.Data.{with_sign};
 
-use crate::Number;
+use crate::{Number, Real};
 use num_traits::cast;
 
-/// The kind of a destination: an integer type of the given sign and bits, or a text of bytes. The length and the letter
-/// of a conversion say which (C11 7.21.6.2p11 and p12, 7.21.6.1p7 and p8).
+/// The kind of a destination: an integer type of the given sign and bits, a text of bytes, or a float of binary32 or
+/// binary64. The length and the letter of a conversion say which (C11 7.21.6.2p11 and p12, 7.21.6.1p7 and p8).
 #[derive(Clone, Copy, Debug, PartialEq, Eq)]
 pub enum Kind {
     /// A signed integer of 8 bits, from -128 to 127: `%hhd`.
@@ -27,10 +27,14 @@ pub enum Kind {
     U64,
     /// A text of bytes, of any length and without a NUL after them: `%s`, `%c` and `%[`.
     Text,
+    /// A float of 32 bits, binary32 of IEEE 754.
+    F32,
+    /// A float of 64 bits, binary64 of IEEE 754.
+    F64,
 }
 
-/// The greatest number of each kind in turn; a text has none.
-static GREATEST: [u64; 9] = [
+/// The greatest number of each kind in turn; a text has none, nor has a float.
+static GREATEST: [u64; 11] = [
     127,
     32_767,
     2_147_483_647,
@@ -40,6 +44,8 @@ static GREATEST: [u64; 9] = [
     4_294_967_295,
     18_446_744_073_709_551_615,
     0,
+    0,
+    0,
 ];
 
 impl Kind {
@@ -48,12 +54,12 @@ impl Kind {
     ghost use Rattle.sf_base.specs.Kinds.{bounds_of};
     ghost use Rattle.sf_base.specs.Data.{Number as NumberOf, datum_of, datum_of_number, IsIn, value_of};
 
-    /// Whether the kind's numbers have a sign, and the greatest of them. None of a text.
+    /// Whether the kind's numbers have a sign, and the greatest of them. None of a text or a float.
     #[inline(always)]
     pub fn bounds(self) -> Option<(bool, u64)>
         ensures { result ≡ bounds_of self }
     {
-        if self == Kind::Text {
+        if matches!(self, Kind::Text | Kind::F32 | Kind::F64) {
             return None;
         }
         let signed = matches!(self, Kind::I8 | Kind::I16 | Kind::I32 | Kind::I64);
@@ -98,9 +104,9 @@ impl Kind {
     }
 
     /// The number that the kind gives a sign (true: a minus) and a magnitude. None if the kind does not hold it, where
-    /// C leaves open what is stored (C11 7.21.6.2p10); a text holds none. A minus before an unsigned number negates it
-    /// in its kind (C11
-    /// 7.22.1.4p5). The number keeps a sign and a magnitude, so nothing is converted here: `Number::value` converts.
+    /// C leaves open what is stored (C11 7.21.6.2p10); a text holds none, nor does a float. A minus before an unsigned
+    /// number negates it in its kind (C11 7.22.1.4p5). The number keeps a sign and a magnitude, so nothing is converted
+    /// here: `Number::value` converts.
     #[inline(always)]
     pub fn number(self, negative: bool, magnitude: u64) -> Option<Number>
         ensures { option_map datum_of_number result ≡ option_map (NumberOf self) (value_of self negative magnitude) }
@@ -109,7 +115,8 @@ impl Kind {
         self.number_within(signed, greatest, negative, magnitude)
     }
 
-    /// The value of the kind that is this number. None if the kind does not hold it; a text holds none.
+    /// The value of the kind that is this number. None if the kind does not hold it; a text holds none, nor
+    /// does a float.
     pub fn value(self, number: i128) -> Option<Value<'static>>
         ensures held { IfSome result (λ v. IsIn self number × (datum_of v ≡ NumberOf self number)) }
         ensures beyond { IfNone result (¬ (IsIn self number)) }
@@ -123,13 +130,14 @@ impl Kind {
             Kind::U16 => Value::U16(cast(number)?),
             Kind::U32 => Value::U32(cast(number)?),
             Kind::U64 => Value::U64(cast(number)?),
-            Kind::Text => return None,
+            Kind::Text | Kind::F32 | Kind::F64 => return None,
         };
         Some(value)
     }
 }
 
-/// What a destination was given, or what is printed (C11 7.21.6.1p8, 7.21.6.2p12). A text is lent.
+/// What a destination was given, or what is printed (C11 7.21.6.1p8, 7.21.6.2p12). A text is lent. A float is its
+/// pattern, so that equal values are the same value: a scan stores each NaN as the one quiet NaN without a sign.
 #[derive(Clone, Copy, Debug, PartialEq, Eq)]
 pub enum Value<'a> {
     /// A number of the kind `Kind::I8`.
@@ -150,13 +158,19 @@ pub enum Value<'a> {
     U64(u64),
     /// The bytes of a text, with no NUL after them.
     Text(&'a [u8]),
+    /// The pattern of a float of the kind `Kind::F32`.
+    F32(u32),
+    /// The pattern of a float of the kind `Kind::F64`.
+    F64(u64),
 }
 
-/// A value without the Rust type that holds it: a number by its sign and its magnitude, or a text, which is lent.
+/// A value without the Rust type that holds it: a number by its sign and its magnitude, a text, which is lent, or a
+/// float.
 #[derive(Clone, Copy, Debug)]
 pub enum Shown<'a> {
     Number(Number),
     Text(&'a [u8]),
+    Real(Real),
 }
 
 impl<'a> Shown<'a> {
@@ -170,6 +184,7 @@ impl<'a> Shown<'a> {
         match self {
             Shown::Number(number) => number.value(),
             Shown::Text(bytes) => Value::Text(bytes),
+            Shown::Real(real) => real.value(),
         }
     }
 }
@@ -182,8 +197,11 @@ impl<'a> Value<'a> {
     pub fn shown(self) -> Shown<'a>
         ensures { datum_of_shown result ≡ datum_of self.entry }
     {
-        if let Value::Text(bytes) = self {
-            return Shown::Text(bytes);
+        match self {
+            Value::Text(bytes) => return Shown::Text(bytes),
+            Value::F32(bits) => return Shown::Real(Real::F32(bits)),
+            Value::F64(bits) => return Shown::Real(Real::F64(bits)),
+            _ => {}
         }
         match self.sign_and_magnitude() {
             Some((negative, magnitude)) => Shown::Number(Number {
@@ -215,10 +233,12 @@ impl Value<'_> {
             Value::U32(_) => Kind::U32,
             Value::U64(_) => Kind::U64,
             Value::Text(_) => Kind::Text,
+            Value::F32(_) => Kind::F32,
+            Value::F64(_) => Kind::F64,
         }
     }
 
-    /// The sign (true: a minus) and the magnitude of its number. None of a text.
+    /// The sign (true: a minus) and the magnitude of its number. None of a text or a float.
     pub fn sign_and_magnitude(&self) -> Option<(bool, u64)>
         ensures number { option_map (λ p. with_sign p.0 p.1) result ≡ number_in (datum_of self.now) }
         ensures held { IfSome result (λ p. IsIn (kind_of (datum_of self.now)) (with_sign p.0 p.1)) }
@@ -233,12 +253,12 @@ impl Value<'_> {
             Value::U16(n) => (false, u64::from(*n)),
             Value::U32(n) => (false, u64::from(*n)),
             Value::U64(n) => (false, *n),
-            Value::Text(_) => return None,
+            Value::Text(_) | Value::F32(_) | Value::F64(_) => return None,
         };
         Some(parts)
     }
 
-    /// Its number. None of a text.
+    /// Its number. None of a text or a float.
     pub fn number(&self) -> Option<i128>
         ensures { result ≡ number_in (datum_of self.now) }
     {

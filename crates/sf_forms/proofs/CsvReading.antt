@@ -5,7 +5,7 @@ use Rattle.std.proofs.lemmas.Bool.{and_parts, eqb-true, ne_eqb, not-true}
 use Rattle.std.proofs.lemmas.List.{append-nil}
 use Rattle.std.specs.Fmt.{signed_decimal}
 use Rattle.std.specs.List.{AllByRecursion, flat_map, join_with_byte, list_all}
-use Rattle.sf_base.specs.Data.{Datum, Number, Bytes}
+use Rattle.sf_base.specs.Data.{Datum, Number, Bytes, Real}
 use Rattle.sf_forms.specs.declared.form.OutputForm.TheVariants.{Csv}
 use Rattle.sf_forms.specs.Csv.{InBare, InQuotes, Opened, Outside, Behind, Place, Reader, after, csv_escaped, in_bare, is_bare}
 use Rattle.sf_forms.specs.Csv.{opened, rows_in, step_at, with_byte}
@@ -89,6 +89,7 @@ number_bare (b ∷ bytes) all =
 
 stands : (d : Datum) → IsValue d → Stands (text_of_value d) (csv_field d)
 stands (Number kind n) is = inl (number_bare (signed_decimal n) (number_bytes n (bounded kind n is)), refl)
+stands (Real r) is = absurd is
 stands (Bytes bytes) is = go (list_all is_bare bytes) refl
   where
     go : (t : Bool) → list_all is_bare bytes ≡ t → Stands bytes (cond t bytes (34 ∷ (flat_map csv_escaped bytes ++ 34 ∷ [])))

@@ -8,7 +8,7 @@ use Rattle.std.specs.Fmt.{decimal, signed_decimal}
 use Rattle.std.specs.List.{AllByRecursion}
 use Rattle.std.specs.Str.Parse.{AllDigits, digits_value, signed_digits_value}
 use Rattle.sf_base.specs.declared.values.Kind.{Kind}
-use Rattle.sf_base.specs.declared.values.Kind.TheVariants.{I8, I16, I32, I64, U8, U16, U32, U64, Text}
+use Rattle.sf_base.specs.declared.values.Kind.TheVariants.{I8, I16, I32, I64, U8, U16, U32, U64, Text, F32, F64}
 use Rattle.sf_base.specs.Data.{IsIn}
 use lib.Dec.{leb→le, ltb→lt}
 
@@ -32,6 +32,8 @@ bounded U16 z is = let h = unsigned_bound (2 ^ 16) z is.0 is.1 in omega (arith, 
 bounded U32 z is = let h = unsigned_bound (2 ^ 32) z is.0 is.1 in omega (arith, h)
 bounded U64 z is = unsigned_bound (2 ^ 64) z is.0 is.1
 bounded Text z is = absurd is
+bounded F32 z is = absurd is
+bounded F64 z is = absurd is
 
 -- ---- digits
 

@@ -14,7 +14,7 @@ use Rattle.std.specs.Str.{is_utf8}
 use Rattle.std.specs.Str.Parse.{signed_digits_value}
 use Rattle.std.specs.Str.Lossy.{utf8_valid_len, valid_len_up_to}
 use Rattle.sf_base.specs.Bytes.{AreBytes}
-use Rattle.sf_base.specs.Data.{Datum, Number, Bytes}
+use Rattle.sf_base.specs.Data.{Datum, Number, Bytes, Real}
 use Rattle.sf_forms.specs.declared.form.OutputForm.TheVariants.{Json}
 use Rattle.sf_forms.specs.Forms.{json_value, row_text}
 use Rattle.sf_forms.specs.JsonReading.{Arrays, Element, Integer, String, Objects, Outside, Opened, Awaiting, Closed, InNumber, InString, InCode}
@@ -203,6 +203,7 @@ module _ (shape : Shape) where
       ended : step_at shape (InNumber (signed_decimal n)) (at (InNumber (signed_decimal n)) s) e ≡ goes_on shape
           (with_element (Integer (signed_digits_value 10 (signed_decimal n))) s) e
       ended = rw no_digit refl
+  element_read s ready (Real r) is e no_digit rest = absurd is
   element_read s ready (Bytes bytes) is e no_digit rest = string_read s (ready 34 (λ e. omega (arith, e))) bytes is (e ∷ rest)
 
 -- ---- arrays

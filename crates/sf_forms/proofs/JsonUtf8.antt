@@ -10,7 +10,7 @@ use Rattle.std.specs.List.{AllByRecursion, flat_map, join_with_byte}
 use Rattle.std.specs.Str.{IsUtf8, is_utf8}
 use Rattle.std.specs.Str.Lossy.{utf8_valid_len, valid_len_up_to}
 use Rattle.sf_base.specs.Bytes.{AreBytes}
-use Rattle.sf_base.specs.Data.{Datum, Number, Bytes}
+use Rattle.sf_base.specs.Data.{Datum, Number, Bytes, Real}
 use Rattle.sf_forms.specs.declared.form.OutputForm.TheVariants.{Json}
 use Rattle.sf_forms.specs.Forms.{json_value, row_text}
 use Rattle.sf_forms.specs.JsonStrings.{json_escaped, json_from, stray}
@@ -166,6 +166,7 @@ number_ascii (x ∷ xs) all = (omega (arith, all.0.1), number_ascii xs all.1)
 
 value_utf8 : (d : Datum) → IsValue d → IsUtf8 (json_value d)
 value_utf8 (Number kind n) is = ascii_utf8 (signed_decimal n) (number_ascii (signed_decimal n) (number_bytes n (bounded kind n is)))
+value_utf8 (Real r) is = absurd is
 value_utf8 (Bytes bytes) is =
     IsUtf8-append (34 ∷ []) (json_from 0 bytes ++ 34 ∷ []) (ascii_byte 34 (omega arith))
     (IsUtf8-append (json_from 0 bytes) (34 ∷ []) (written (length bytes) bytes (omega arith) is) (ascii_byte 34 (omega arith)))

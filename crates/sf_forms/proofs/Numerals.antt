@@ -8,7 +8,7 @@ use Rattle.sf_base.specs.Data.{Datum, datum_of_number}
 use Rattle.sf_base.specs.Kinds.{is_held, with_sign}
 use Rattle.sf_base.specs.declared.number.Number.{Number}
 use Rattle.sf_base.specs.declared.values.Kind.{Kind}
-use Rattle.sf_base.specs.declared.values.Kind.TheVariants.{I8, I16, I32, I64, U8, U16, U32, U64, Text}
+use Rattle.sf_base.specs.declared.values.Kind.TheVariants.{I8, I16, I32, I64, U8, U16, U32, U64, Text, F32, F64}
 use Rattle.sf_print.specs.Plain.{minus}
 use Rattle.sf_forms.specs.declared.form.OutputForm.{OutputForm}
 use Rattle.sf_forms.specs.declared.form.OutputForm.TheVariants.{Plain, Tsv, Json, Csv}
@@ -32,6 +32,8 @@ some_below U16 true m held e = absurd (true≢false (sym held))
 some_below U32 true m held e = absurd (true≢false (sym held))
 some_below U64 true m held e = absurd (true≢false (sym held))
 some_below Text true m held e = absurd (true≢false (sym held))
+some_below F32 true m held e = absurd (true≢false (sym held))
+some_below F64 true m held e = absurd (true≢false (sym held))
 
 signed_text : (negative : Bool) (m : ℕ) → (negative ≡ true → 0 < m) → signed_decimal (with_sign negative m) ≡ minus negative ++ decimal m
 signed_text true zero some = let lt : 0 < 0 = some refl in absurd (omega arith)

@@ -5,8 +5,8 @@ use Rattle.std.proofs.lemmas.Bool.{eqb-true, ne_eqb}
 use Rattle.std.specs.Fmt.{signed_decimal}
 use Rattle.std.specs.List.{AllByRecursion, flat_map, join_with_byte}
 use Rattle.sf_base.specs.declared.values.Kind.{Kind}
-use Rattle.sf_base.specs.declared.values.Kind.TheVariants.{I8, I16, I32, I64, U8, U16, U32, U64, Text}
-use Rattle.sf_base.specs.Data.{Datum, Number, Bytes, kind_of}
+use Rattle.sf_base.specs.declared.values.Kind.TheVariants.{I8, I16, I32, I64, U8, U16, U32, U64, Text, F32, F64}
+use Rattle.sf_base.specs.Data.{Datum, Number, Bytes, Real, kind_of}
 use Rattle.sf_forms.specs.declared.form.OutputForm.TheVariants.{Tsv}
 use Rattle.sf_forms.specs.Forms.{row_text, tsv_field}
 use Rattle.sf_forms.specs.ReadingBack.{IsValue, TsvNamesReadBack, TsvReadsBack}
@@ -55,6 +55,7 @@ first_field (b ∷ bytes) fields records = ap (with_byte b) (first_field bytes f
 abbrev field_of : Datum → List ℕ
 field_of (Number kind n) = signed_decimal n
 field_of (Bytes bytes) = bytes
+field_of (Real r) = []
 
 number_kept : (bytes : List ℕ) → AllByRecursion IsNumberByte bytes → tsv_text bytes ≡ bytes
 number_kept [] all = refl
@@ -76,6 +77,7 @@ field_read (Number kind n) is text =
     ap (λ (t : List ℕ). table_from false (t ++ text)) (sym (number_kept (signed_decimal n) (number_bytes n (bounded kind n is))))
     ∙ bytes_read (signed_decimal n) text
 field_read (Bytes bytes) is text = bytes_read bytes text
+field_read (Real r) is text = absurd is
 
 -- ---- records
 
@@ -90,6 +92,7 @@ fields_read d (e ∷ row) are text =
 
 datum_back : (d : Datum) → IsValue d → datum_of_field (kind_of d) (field_of d) ≡ d
 datum_back (Bytes bytes) is = refl
+datum_back (Real r) is = absurd is
 datum_back (Number I8 n) is = ap (Number I8) (number_back n (bounded I8 n is))
 datum_back (Number I16 n) is = ap (Number I16) (number_back n (bounded I16 n is))
 datum_back (Number I32 n) is = ap (Number I32) (number_back n (bounded I32 n is))
@@ -99,6 +102,8 @@ datum_back (Number U16 n) is = ap (Number U16) (number_back n (bounded U16 n is)
 datum_back (Number U32 n) is = ap (Number U32) (number_back n (bounded U32 n is))
 datum_back (Number U64 n) is = ap (Number U64) (number_back n (bounded U64 n is))
 datum_back (Number Text n) is = absurd is
+datum_back (Number F32 n) is = absurd is
+datum_back (Number F64 n) is = absurd is
 
 values_back : (row : List Datum) → AllByRecursion IsValue row → values_of (map kind_of row) (map field_of row) ≡ row
 values_back [] are = refl

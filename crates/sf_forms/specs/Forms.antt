@@ -3,7 +3,7 @@ use Rattle.std.specs.Prelude.{ℕ, Bool, false, nat_eq, if◌then◌else◌, Lis
 use Rattle.std.specs.Option.{option_map_or}
 use Rattle.std.specs.List.{join_with_byte, range_with_len}
 use Rattle.std.specs.Fmt.{signed_decimal}
-use Rattle.sf_base.specs.Data.{Datum, Number, Bytes, datum_at}
+use Rattle.sf_base.specs.Data.{Datum, Number, Bytes, Real, datum_at}
 use Rattle.sf_report.specs.Runs.{RunReport}
 use Rattle.sf_forms.specs.declared.form.OutputForm.{OutputForm}
 use Rattle.sf_forms.specs.declared.form.OutputForm.TheVariants.{Plain, Tsv, Json, Csv}
@@ -14,20 +14,24 @@ use Rattle.sf_forms.specs.Tables.{tsv_text}
 
 -- ---- values
 
--- a field of a table: a number in decimal, or a text
+-- A field of a table: a number in decimal, or a text. No conversion stores a float yet: in each form one is written as what stands for a
+-- slot that was given nothing.
 abbrev pub tsv_field : Datum → List ℕ
 tsv_field (Number kind n) = signed_decimal n
 tsv_field (Bytes bytes) = tsv_text bytes
+tsv_field (Real r) = []
 
 -- a value of JSON (RFC 8259, 3): a number in decimal, or a string
 abbrev pub json_value : Datum → List ℕ
 json_value (Number kind n) = signed_decimal n
 json_value (Bytes bytes) = json_string bytes
+json_value (Real r) = codes "null"
 
 -- a field of a row of CSV: a number in decimal, or a text
 abbrev pub csv_field : Datum → List ℕ
 csv_field (Number kind n) = signed_decimal n
 csv_field (Bytes bytes) = csv_text bytes
+csv_field (Real r) = []
 
 abbrev pub value_text : OutputForm → Datum → List ℕ
 value_text Plain = text_of

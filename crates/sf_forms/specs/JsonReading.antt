@@ -5,7 +5,7 @@ use Rattle.std.specs.Prelude.{Some, None, true, false, map}
 use Rattle.std.specs.Option.{option_map}
 use Rattle.std.specs.Char.{digit_value}
 use Rattle.std.specs.Str.Parse.{signed_digits_value}
-use Rattle.sf_base.specs.Data.{Datum, Number, Bytes}
+use Rattle.sf_base.specs.Data.{Datum, Number, Bytes, Real}
 
 -- an element of an array
 pub data Element : Type 0 where
@@ -16,6 +16,7 @@ pub data Element : Type 0 where
 abbrev pub element_of : Datum → Element
 element_of (Number kind n) = Integer n
 element_of (Bytes bytes) = String bytes
+element_of (Real r) = String []
 
 -- what stands on a line
 pub data Shape : Type 0 where

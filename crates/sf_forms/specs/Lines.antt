@@ -3,7 +3,7 @@ use Rattle.std.specs.Prelude.{ℕ, List, [], ◌∷◌, ◌++◌, map}
 use Rattle.std.specs.Option.{option_map_or}
 use Rattle.std.specs.List.{join_with_byte, range_with_len}
 use Rattle.std.specs.Fmt.{signed_decimal}
-use Rattle.sf_base.specs.Data.{Datum, Number, Bytes, datum_at}
+use Rattle.sf_base.specs.Data.{Datum, Number, Bytes, Real, datum_at}
 use Rattle.sf_report.specs.Runs.{RunReport}
 use Rattle.sf_forms.specs.Quotes.{quoted}
 
@@ -11,6 +11,7 @@ use Rattle.sf_forms.specs.Quotes.{quoted}
 abbrev pub text_of : Datum → List ℕ
 text_of (Number kind n) = signed_decimal n
 text_of (Bytes bytes) = quoted bytes
+text_of (Real r) = []
 
 -- the text of what a slot was given
 abbrev pub text_at : RunReport → ℕ → List ℕ

@@ -3,7 +3,7 @@ use Rattle.std.specs.Prelude.{◌≡◌, ◌<◌, ℕ, List, [], ◌∷◌, ◌+
 use Rattle.std.specs.Fmt.{signed_decimal}
 use Rattle.std.specs.List.{AllByRecursion, flat_map}
 use Rattle.sf_base.specs.Bytes.{AreBytes}
-use Rattle.sf_base.specs.Data.{Datum, Number, Bytes, kind_of}
+use Rattle.sf_base.specs.Data.{Datum, Number, Bytes, Real, kind_of}
 use Rattle.sf_base.specs.declared.values.Kind.{Kind}
 use Rattle.sf_report.specs.Rows.{AreRowOf}
 pub use Rattle.sf_report.specs.Rows.{IsValue}
@@ -47,6 +47,7 @@ JsonIsUtf8 = (rows : List (List Datum)) → AreRows rows → IsUtf8 (flat_map (r
 abbrev pub text_of_value : Datum → List ℕ
 text_of_value (Number kind n) = signed_decimal n
 text_of_value (Bytes bytes) = bytes
+text_of_value (Real r) = []
 
 -- rows of CSV give the texts of their values back
 abbrev pub CsvReadsBack : Type 0

@@ -45,7 +45,7 @@ pub(crate) fn push_slot<S: Store>(
     match report.shown(slot) {
         Some(Shown::Number(number)) => push_number(output, number.negative, number.magnitude),
         Some(Shown::Text(text)) => push_text(output, form, text),
-        None => output.extend_from_slice(form.absent()),
+        Some(Shown::Real(_)) | None => output.extend_from_slice(form.absent()),
     }
 }
 

@@ -87,7 +87,7 @@ fn write_slot<S: Store>(
             Some(write_number(number.negative, number.magnitude, buf, at))
         }
         Some(Shown::Text(text)) => write_text(form, text, buf, at),
-        None => Some(write_absent(form, buf, at)),
+        Some(Shown::Real(_)) | None => Some(write_absent(form, buf, at)),
     }
 }
 

@@ -4,7 +4,7 @@ use Rattle.std.proofs.lemmas.Bool.Decides.{nat_tests}
 use Rattle.sf_base.specs.Data.{signed_value, unsigned_value, value_of, with_sign}
 use Rattle.sf_base.specs.Kinds.{is_held, is_signed, is_unsigned}
 use Rattle.sf_base.specs.declared.values.Kind.{Kind}
-use Rattle.sf_base.specs.declared.values.Kind.TheVariants.{I8, I16, I32, I64, U8, U16, U32, U64, Text}
+use Rattle.sf_base.specs.declared.values.Kind.TheVariants.{I8, I16, I32, I64, U8, U16, U32, U64, Text, F32, F64}
 use Rattle.sf_makers.specs.Prints.{holds_all}
 
 and_right : (a b : Bool) → (a && b) ≡ true → b ≡ true
@@ -36,6 +36,8 @@ signed_of a b more true m h = absurd (true≢false (sym h))
 pub held : (wide own : Kind) (negative : Bool) (m : ℕ) → holds_all wide own ≡ true → is_held own negative m ≡ true
     → value_of wide negative m ≡ Some (with_sign negative m)
 held wide Text s m e h = absurd (true≢false (sym h))
+held wide F32 s m e h = absurd (true≢false (sym h))
+held wide F64 s m e h = absurd (true≢false (sym h))
 held I8 I8 s m e h = signed_in 7 7 (omega arith) s m h
 held I8 I16 s m e h = absurd (true≢false (sym e))
 held I8 I32 s m e h = absurd (true≢false (sym e))
@@ -108,3 +110,19 @@ held Text U8 s m e h = absurd (true≢false (sym e))
 held Text U16 s m e h = absurd (true≢false (sym e))
 held Text U32 s m e h = absurd (true≢false (sym e))
 held Text U64 s m e h = absurd (true≢false (sym e))
+held F32 I8 s m e h = absurd (true≢false (sym e))
+held F32 I16 s m e h = absurd (true≢false (sym e))
+held F32 I32 s m e h = absurd (true≢false (sym e))
+held F32 I64 s m e h = absurd (true≢false (sym e))
+held F32 U8 s m e h = absurd (true≢false (sym e))
+held F32 U16 s m e h = absurd (true≢false (sym e))
+held F32 U32 s m e h = absurd (true≢false (sym e))
+held F32 U64 s m e h = absurd (true≢false (sym e))
+held F64 I8 s m e h = absurd (true≢false (sym e))
+held F64 I16 s m e h = absurd (true≢false (sym e))
+held F64 I32 s m e h = absurd (true≢false (sym e))
+held F64 I64 s m e h = absurd (true≢false (sym e))
+held F64 U8 s m e h = absurd (true≢false (sym e))
+held F64 U16 s m e h = absurd (true≢false (sym e))
+held F64 U32 s m e h = absurd (true≢false (sym e))
+held F64 U64 s m e h = absurd (true≢false (sym e))

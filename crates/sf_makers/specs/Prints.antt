@@ -2,7 +2,11 @@
 use Rattle.std.specs.Prelude.{◌≡◌, ◌≤◌, ◌<◌, ◌&&◌, ◌||◌, not, ℕ, nat_le, Bool, true, false, if◌then◌else◌, List, length, Option, Some, is_ok}
 use Rattle.std.specs.List.{filter_map}
 use Rattle.std.specs.Option.{option_map}
-use Rattle.sf_base.specs.Data.{Assigned, Datum, Number, datum_at}
+use Rattle.std.specs.Prelude.{from_bits, to_bits}
+use Rattle.std.specs.Float.Ieee.{binary32, binary64}
+use Rattle.sf_base.specs.Data.{Assigned, Datum, Number, Real, datum_at}
+use Rattle.sf_base.specs.declared.real.Real as real
+use Rattle.sf_base.specs.declared.real.Real.TheVariants as reals
 use Rattle.sf_base.specs.declared.values.Kind.{Kind}
 use Rattle.sf_base.specs.declared.values.Kind.TheVariants as kind
 use Rattle.sf_format.specs.declared.directive.Directive.{Directive}
@@ -29,10 +33,25 @@ bits_of kind.U16 = 16
 bits_of kind.U32 = 32
 bits_of kind.U64 = 64
 bits_of kind.Text = 0
+bits_of kind.F32 = 0
+bits_of kind.F64 = 0
+
+-- a float of the one kind is one of the other: `double` has each value of `float` (C11 6.2.5p10)
+abbrev pub holds_floats : Kind → Kind → Bool
+holds_floats kind.F64 kind.F64 = true
+holds_floats kind.F64 kind.F32 = true
+holds_floats kind.F32 kind.F32 = true
+holds_floats _ _ = false
+
+abbrev pub is_float : Kind → Bool
+is_float kind.F32 = true
+is_float kind.F64 = true
+is_float _ = false
 
 -- the first kind has each value of the second
 abbrev pub holds_all : Kind → Kind → Bool
 holds_all wide narrow =
+    if is_float wide || is_float narrow then holds_floats wide narrow else
     if is_text narrow then is_text wide else
     not (is_text wide) && (is_signed wide || not (is_signed narrow)) && nat_le (bits_of narrow) (bits_of wide)
 
@@ -60,9 +79,15 @@ IsMismatch units ds (mismatch.Kinds slot print scan) =
 
 -- ---- records
 
+-- a float as one of the kind: `float` becomes the same number of `double` (C11 6.3.1.5p1)
+abbrev pub real_in : Kind → real.Real → real.Real
+real_in kind.F64 (reals.F32 bits) = reals.F64 (to_bits binary64 (from_bits binary32 bits))
+real_in _ r = r
+
 -- a number of a kind that another holds, as one of that
 abbrev pub in_kind : Option Kind → Datum → Datum
 in_kind (Some wide) (Number own n) = if holds_all wide own then Number wide n else Number own n
+in_kind (Some wide) (Real r) = Real (real_in wide r)
 in_kind _ value = value
 
 -- the value of the slot, as one of the kind that the print format has there

@@ -5,18 +5,19 @@ ghost use Rattle.sf_format.specs.Slots.{kind_with};
 ghost use Rattle.sf_format.specs.Units.{values_of};
 ghost use Rattle.sf_print.specs.Printed.{measured, printed};
 ghost use Rattle.sf_print.specs.Sinks.{counted_on};
-ghost use Rattle.sf_makers.specs.Prints.{in_kind, printed_row, printing};
+ghost use Rattle.sf_makers.specs.Prints.{in_kind, printed_row, printing, real_in};
 ghost use Rattle.sf_makers.specs.Works.{Writes, sink_failed};
 
 use crate::maker::{Maker, Unwritten};
 use crate::printable::holds_all;
 use crate::rows::{FEW_VALUES, MOST_VALUES};
 use arrayvec::ArrayVec;
-use sf_base::{Kind, Number, Shown, Store, Value};
+use sf_base::{Kind, Number, Real, Shown, Store, Value};
 use sf_format::{PrintFormat, ScanFormat};
 use sf_print::{PrintFault, Sink, fprint};
 use sf_report::Report;
 use std::marker::Model;
+use std::num::{f32_from_bits_with_nan, f64_to_bits_with_nan};
 
 /// Prints the values of each report by a print format.
 #[derive(Drop)]
@@ -55,12 +56,25 @@ fn widened(number: Number, wide: Kind) -> Number
     }
 }
 
+/// The float as one of the kind, where that is f64.
+fn real_in(real: Real, kind: Kind) -> Real
+    ensures { result ≡ real_in kind real }
+{
+    match (real, kind) {
+        (Real::F32(bits), Kind::F64) => {
+            Real::F64(f64_to_bits_with_nan(f64::from(f32_from_bits_with_nan(bits))))
+        }
+        _ => real,
+    }
+}
+
 /// The value, a number as one of the kind where that holds each of its own.
 fn in_kind<'a>(shown: Shown<'a>, kind: Option<Kind>) -> Value<'a>
     ensures { datum_of result ≡ in_kind kind (datum_of_shown shown.entry) }
 {
     match (shown, kind) {
         (Shown::Number(number), Some(wide)) => widened(number, wide).value(),
+        (Shown::Real(real), Some(wide)) => real_in(real, wide).value(),
         _ => shown.value(),
     }
 }

@@ -2,7 +2,7 @@
 ghost use Rattle.std.specs.Prelude.{◌≡◌, ◌≤◌, ◌<◌, ◌+◌, Some, None, IfOk, IfErr, IfSome, MatchOption, length, true, ℕ};
 ghost use Rattle.sf_format.specs.Proper.{destinations_of};
 ghost use Rattle.sf_format.specs.Units.{is_signed, is_text, values_of};
-ghost use Rattle.sf_makers.specs.Prints.{IsMismatch, IsPrintable, bits_of, holds_all, suits};
+ghost use Rattle.sf_makers.specs.Prints.{IsMismatch, IsPrintable, bits_of, holds_all, holds_floats, is_float, suits};
 
 use sf_base::Kind;
 use sf_format::{PrintFormat, ScanFormat};
@@ -42,14 +42,33 @@ fn bits_of(kind: Kind) -> u8
         Kind::U16 => 16,
         Kind::U32 => 32,
         Kind::U64 => 64,
-        Kind::Text => 0,
+        Kind::Text | Kind::F32 | Kind::F64 => 0,
     }
+}
+
+fn is_float(kind: Kind) -> bool
+    ensures { result ≡ is_float kind }
+{
+    matches!(kind, Kind::F32 | Kind::F64)
+}
+
+/// Whether a kind has each float of another.
+fn holds_floats(wide: Kind, narrow: Kind) -> bool
+    ensures { result ≡ holds_floats wide narrow }
+{
+    matches!(
+        (wide, narrow),
+        (Kind::F64, Kind::F64 | Kind::F32) | (Kind::F32, Kind::F32)
+    )
 }
 
 /// Whether a kind has each value of another.
 pub(crate) fn holds_all(wide: Kind, narrow: Kind) -> bool
     ensures { result ≡ holds_all wide narrow }
 {
+    if is_float(wide) || is_float(narrow) {
+        return holds_floats(wide, narrow);
+    }
     if is_text(narrow) {
         return is_text(wide);
     }
@@ -78,8 +97,8 @@ fn mismatch_at(print: &PrintFormat, scan: &ScanFormat, slot: u8) -> Option<Print
 }
 
 /// Whether the print format can print the records of the scan format: it prints as many values as that gives, and each
-/// of a kind that has each value of the kind that is given there, as i16 has each of i8 and of u8. Else the counts, or
-/// the lowest value that doesn't suit. It takes no memory.
+/// of a kind that has each value of the kind that is given there, as i16 has each of i8 and of u8, and f64 each of f32.
+/// Else the counts, or the lowest value that doesn't suit. It takes no memory.
 pub fn check_print(print: &PrintFormat, scan: &ScanFormat) -> Result<(), PrintMismatch>
     ensures printable { IfOk result (λ _. IsPrintable print.now scan.now) }
     ensures mismatch { IfErr result (λ why. IsMismatch print.now scan.now why) }

@@ -145,3 +145,5 @@ range_text kind.U16 = codes "0 to 65535"
 range_text kind.U32 = codes "0 to 4294967295"
 range_text kind.U64 = codes "0 to 18446744073709551615"
 range_text kind.Text = []
+range_text kind.F32 = []
+range_text kind.F64 = []

@@ -171,7 +171,7 @@ pub(crate) fn range_text(kind: Kind) -> &'static str
         Kind::U16 => "0 to 65535",
         Kind::U32 => "0 to 4294967295",
         Kind::U64 => "0 to 18446744073709551615",
-        Kind::Text => "",
+        Kind::Text | Kind::F32 | Kind::F64 => "",
     }
 }
 

@@ -6,7 +6,7 @@ use Rattle.std.specs.Prelude.{◌↔◌, not, MatchOption}
 use Rattle.std.specs.List.{AllByRecursion, list_all, cons_option}
 use Rattle.sf_base.specs.Bytes.{is_white}
 use Rattle.sf_base.specs.Sets.{has_byte}
-use Rattle.sf_base.specs.Data.{Datum, Number, Bytes, value_of}
+use Rattle.sf_base.specs.Data.{Datum, Number, Bytes, Real, value_of}
 use Rattle.sf_base.specs.declared.values.Kind.{Kind}
 use Rattle.sf_base.specs.declared.values.Kind.TheVariants as kind
 use Rattle.sf_format.specs.declared.directive.Shape.{Shape}
@@ -96,6 +96,8 @@ same_itself kind.U16 = refl
 same_itself kind.U32 = refl
 same_itself kind.U64 = refl
 same_itself kind.Text = refl
+same_itself kind.F32 = refl
+same_itself kind.F64 = refl
 
 number_so : (o : Option ℤ) (z : ℤ) → is_number_so o z ≡ true ↔ (o ≡ Some z)
 number_so None z = (λ e. absurd cc, λ e. absurd cc)
@@ -111,6 +113,7 @@ value_is c s (Number k z) = (
       ((number_so (value_of k (is_negative z) (unsigned_abs z)) z).1 h.1))
       (le_true _ _ h.2),
 )
+value_is c s (Real r) = (λ e. absurd cc, λ h. absurd h)
 value_is c s (Bytes bytes) = (
   λ e. let h = and_both (list_all is_byte bytes) (text_fits s.shape (width_of s) bytes) e in
       ((all_is is_byte (λ b. b < 256) byte_is bytes).0 h.0, (text_is s.shape (width_of s) bytes).0 h.1),

@@ -23,6 +23,7 @@ use Rattle.sf_item.specs.Tests.{read, is_within, shape_begins, can_take}
 use Rattle.sf_print.specs.Text.{zeros, base_mark, is_octal, least_digits, pads_with_zeros}
 use Rattle.sf_print.specs.Visible.{without_blanks, visible, least}
 use Rattle.sf_report.specs.Machine.{shape_skips}
+use Rattle.sf_base.specs.Kinds.{bounds_of}
 use Rattle.sf_pair.specs.Below.{LawsBelow}
 use Rattle.sf_pair.specs.Neighbours.{prefix_letters, stop_set}
 use Rattle.sf_pair.specs.Groups.{is_integer, is_chars, is_auto, letters_pair, width_of, always_full}
@@ -38,7 +39,7 @@ use Rattle.sf_pair.proofs.GoesOn.{stops_so, same_radix, zero_goes, digits_go, en
 
 -- ---- kinds
 
-small_of_kind : (k : Kind) → (k ≡ kind.Text → ⊥) → IsOfKind k (pos 0) × IsOfKind k (pos 1)
+small_of_kind : (k : Kind) → (bounds_of k ≡ None → ⊥) → IsOfKind k (pos 0) × IsOfKind k (pos 1)
 small_of_kind kind.I8 n = (refl, refl)
 small_of_kind kind.I16 n = (refl, refl)
 small_of_kind kind.I32 n = (refl, refl)
@@ -48,11 +49,36 @@ small_of_kind kind.U16 n = (refl, refl)
 small_of_kind kind.U32 n = (refl, refl)
 small_of_kind kind.U64 n = (refl, refl)
 small_of_kind kind.Text n = absurd (n refl)
+small_of_kind kind.F32 n = absurd (n refl)
+small_of_kind kind.F64 n = absurd (n refl)
 
 no_text : (l : PrintLetter) (base : Base) → letters_pair l (shape.Int base) ≡ true → prints_kind l kind.Text ≡ true → ⊥
 no_text letter.Text base e h = cc
 no_text letter.One base e h = cc
 no_text _ base e h = cc
+
+no_short : (l : PrintLetter) → prints_kind l kind.F32 ≡ true → ⊥
+no_short letter.Text h = cc
+no_short _ h = cc
+
+no_long : (l : PrintLetter) → prints_kind l kind.F64 ≡ true → ⊥
+no_long letter.Text h = cc
+no_long _ h = cc
+
+-- the kind of an integer's letter has numbers
+has_numbers : (l : PrintLetter) (base : Base) (k : Kind) → letters_pair l (shape.Int base) ≡ true → prints_kind l k ≡ true
+    → bounds_of k ≡ None → ⊥
+has_numbers l base kind.Text e h none = no_text l base e h
+has_numbers l base kind.F32 e h none = no_short l h
+has_numbers l base kind.F64 e h none = no_long l h
+has_numbers l base kind.I8 e h none = absurd cc
+has_numbers l base kind.I16 e h none = absurd cc
+has_numbers l base kind.I32 e h none = absurd cc
+has_numbers l base kind.I64 e h none = absurd cc
+has_numbers l base kind.U8 e h none = absurd cc
+has_numbers l base kind.U16 e h none = absurd cc
+has_numbers l base kind.U32 e h none = absurd cc
+has_numbers l base kind.U64 e h none = absurd cc
 
 -- `i` reads what `d` and `i` print
 auto_signed : (l : PrintLetter) (base : Base) → is_auto (shape.Int base) ≡ true → letters_pair l (shape.Int base) ≡ true → l ≡ letter.Signed
@@ -176,7 +202,7 @@ module _ (laws : LawsBelow) (c : PrintConv) (s : Conversion) (base : Base) (is_i
   letters = ap (letters_pair c.letter) (sym is_int) ∙ p.letters
 
   of_kind : IsOfKind c.kind (pos 0) × IsOfKind c.kind (pos 1)
-  of_kind = small_of_kind c.kind (λ e. no_text c.letter base letters (ap (prints_kind c.letter) (sym e) ∙ proper.kind))
+  of_kind = small_of_kind c.kind (has_numbers c.letter base c.kind letters proper.kind)
 
   wide : length (least c) ≤ width_of s
   wide = at_most (length (least c)) (width_of s) (sym (ap (λ (t : Bool). t && nat_lt (width_of s) (length (least c)))

@@ -97,6 +97,8 @@ kinds_are kind.U16 kind.U16 e = refl
 kinds_are kind.U32 kind.U32 e = refl
 kinds_are kind.U64 kind.U64 e = refl
 kinds_are kind.Text kind.Text e = refl
+kinds_are kind.F32 kind.F32 e = refl
+kinds_are kind.F64 kind.F64 e = refl
 kinds_are _ _ e = absurd cc
 
 -- the width of a conversion that has one
@@ -138,6 +140,8 @@ small_of kind.U16 negative m z e = unsigned_small 16 (lit≤ tt) negative m z e
 small_of kind.U32 negative m z e = unsigned_small 32 (lit≤ tt) negative m z e
 small_of kind.U64 negative m z e = unsigned_small 64 (lit≤ tt) negative m z e
 small_of kind.Text negative m z e = absurd cc
+small_of kind.F32 negative m z e = absurd cc
+small_of kind.F64 negative m z e = absurd cc
 
 unsigned_is : (w n : ℕ) → unsigned_value w true (suc n) ≡ Some (negsuc n) → ⊥
 unsigned_is w n e = by (nat_lt (suc n) (2 ^ w)) e

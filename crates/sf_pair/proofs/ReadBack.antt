@@ -8,7 +8,7 @@ use Rattle.sf_base.specs.Bytes.{AreBytes, is_white}
 use Rattle.sf_base.specs.Sets.{has_byte}
 use Rattle.sf_base.specs.declared.values.Kind.{Kind}
 use Rattle.sf_base.specs.declared.values.Kind.TheVariants as kind
-use Rattle.sf_base.specs.Data.{Datum, Number, Bytes}
+use Rattle.sf_base.specs.Data.{Datum, Number, Bytes, Real}
 use Rattle.sf_format.specs.declared.directive.Base.{Base}
 use Rattle.sf_format.specs.declared.directive.Base.TheVariants.{Dec, Oct, Hex, Bin, Auto, AutoBin}
 use Rattle.sf_format.specs.declared.directive.Shape.{Shape}
@@ -375,4 +375,5 @@ reads_back laws c s v proper width sized p assigned fits = by c.letter s.shape r
         (subst (λ (h : Shape). HasItsWidth h s.width) e sized) bytes f
     by letter.Text h a e pair (Number k z) f = absurd (none_of letter.Text a (λ k h. h) k z f)
     by letter.One h a e pair (Number k z) f = absurd (none_of letter.One a (λ k h. h) k z f)
+    by l h a e pair (Real r) f = absurd f
     by _ _ a e pair v f = absurd cc

@@ -3,7 +3,7 @@ use Rattle.std.proofs.Common.{◌≡◌, ℕ, Bool, true, false, cond, ◌&&◌,
 use Rattle.std.specs.Prelude.{not}
 use Rattle.std.proofs.lemmas.Bool.{eqb-true}
 use Rattle.std.proofs.lemmas.Bool.Decides.{nat_tests}
-use Rattle.sf_base.specs.Data.{Datum, Number, Bytes}
+use Rattle.sf_base.specs.Data.{Datum, Number, Bytes, Real}
 use Rattle.sf_base.specs.declared.values.Kind.{Kind}
 use Rattle.sf_base.specs.declared.values.Kind.TheVariants as kind
 use Rattle.sf_format.specs.declared.directive.Shape.{Shape}
@@ -30,6 +30,8 @@ itself kind.U16 = refl
 itself kind.U32 = refl
 itself kind.U64 = refl
 itself kind.Text = refl
+itself kind.F32 = refl
+itself kind.F64 = refl
 
 text_so : (k : Kind) → is_text k ≡ true → same_kind kind.Text k ≡ true
 text_so kind.Text e = refl
@@ -74,6 +76,7 @@ no_fault c v e f =
 pub fits_unfaulted : (c : PrintConv) (s : Conversion) (v : Datum) → IsProperConv c → Pairs c s → ValueFits c s v → value_fault c v ≡ None
 fits_unfaulted c s (Number k z) proper p fit = no_fault c (Number k z) (ap (λ (k : Kind). same_kind k c.kind) fit.0 ∙ itself c.kind)
     (suits_number c.letter k z)
+fits_unfaulted c s (Real r) proper p fit = absurd fit
 fits_unfaulted c s (Bytes bytes) proper p fit =
     no_fault c (Bytes bytes) (prints_texts c.letter c.kind s.shape (width_of s) bytes p.letters fit.1 proper.kind)
     (suits_so c.letter s.shape (width_of s) bytes p.letters p.single fit.1)

@@ -4,7 +4,7 @@ use Rattle.std.specs.List.{AllByRecursion, filter_map, list_all}
 use Rattle.std.specs.Ordering.{int_eq}
 use Rattle.sf_base.specs.Bytes.{AreBytes, is_white}
 use Rattle.sf_base.specs.Sets.{has_byte}
-use Rattle.sf_base.specs.Data.{Datum, Number, Bytes, value_of}
+use Rattle.sf_base.specs.Data.{Datum, Number, Bytes, Real, value_of}
 use Rattle.sf_base.specs.declared.values.Kind.{Kind}
 use Rattle.sf_format.specs.declared.unit.PrintConv.{PrintConv}
 use Rattle.sf_format.specs.declared.unit.Unit.{Unit as PrintUnit}
@@ -36,10 +36,11 @@ TextFits (shape.Set members) width bytes = (0 < length bytes) × AllByRecursion 
 TextFits shape.Chars width bytes = length bytes ≡ width
 TextFits _ width bytes = ⊥
 
--- what the conversion prints of the value, the scan's conversion can hold
+-- what the conversion prints of the value, the scan's conversion can hold; no conversion prints a float yet
 abbrev pub ValueFits : PrintConv → Conversion → Datum → Type 0
 ValueFits c s (Number kind z) = (kind ≡ c.kind) × IsOfKind kind z × (length (visible c z) ≤ width_of s)
 ValueFits c s (Bytes bytes) = AreBytes bytes × TextFits s.shape (width_of s) bytes
+ValueFits c s (Real r) = ⊥
 
 abbrev pub FitsAt : List Datum → PrintConv → Conversion → Type 0
 FitsAt values c s = (v : Datum) × (value_at values c.slot ≡ Some v) × ValueFits c s v
@@ -94,6 +95,7 @@ text_fits _ width bytes = false
 abbrev pub value_fits : PrintConv → Conversion → Datum → Bool
 value_fits c s (Number kind z) = same_kind kind c.kind && is_of_kind kind z && nat_le (length (visible c z)) (width_of s)
 value_fits c s (Bytes bytes) = list_all is_byte bytes && text_fits s.shape (width_of s) bytes
+value_fits c s (Real r) = false
 
 abbrev pub fits_or_not : PrintConv → Conversion → Option Datum → Bool
 fits_or_not c s None = false

@@ -63,6 +63,7 @@ fn value_fits(conv: &PrintConv, scan: &Conversion, value: Value<'_>) -> bool
 {
     match value {
         Value::Text(bytes) => text_fits(&scan.shape, width_of(scan), bytes),
+        Value::F32(_) | Value::F64(_) => false,
         number => number.kind() == conv.kind && core_len(conv, number) <= width_of(scan),
     }
 }

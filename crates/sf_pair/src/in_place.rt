@@ -38,6 +38,7 @@ fn text_is_read(conv: &PrintConv, scan: &Conversion, value: Shown<'_>, text: &[u
         Shown::Number(number) => {
             number.kind == conv.kind && visible_len(text) <= width_of(scan) as usize
         }
+        Shown::Real(_) => false,
     }
 }
 

@@ -1,5 +1,6 @@
 //! How wide a scan has to be for each number that a conversion prints.
-ghost use Rattle.std.specs.Prelude.{◌≡◌, ◌<◌, false, MatchOption};
+ghost use Rattle.std.specs.Prelude.{◌≡◌, ◌<◌, false, None, MatchOption};
+ghost use Rattle.sf_base.specs.Kinds.{bounds_of};
 ghost use Rattle.sf_base.specs.Data.{datum_of};
 ghost use Rattle.sf_print.specs.Text.{least_digits};
 ghost use Rattle.sf_pair.specs.Widths.{AreExtremes, IsLongest};
@@ -9,9 +10,10 @@ use sf_base::{Kind, Value};
 use sf_format::PrintConv;
 use sf_print::core_len;
 
-/// The least and the greatest number of the kind. None of a text.
+/// The least and the greatest number of the kind. None of a text or a float.
 fn extremes(kind: Kind) -> Option<(Value<'static>, Value<'static>)>
-    ensures { MatchOption result (kind ≡ Kind.Text) (λ ends. AreExtremes kind (datum_of ends.0) (datum_of ends.1)) }
+    ensures { MatchOption result (bounds_of kind ≡ None)
+        (λ ends. AreExtremes kind (datum_of ends.0) (datum_of ends.1)) }
 {
     match kind {
         Kind::I8 => Some((Value::I8(i8::MIN), Value::I8(i8::MAX))),
@@ -22,17 +24,17 @@ fn extremes(kind: Kind) -> Option<(Value<'static>, Value<'static>)>
         Kind::U16 => Some((Value::U16(u16::MIN), Value::U16(u16::MAX))),
         Kind::U32 => Some((Value::U32(u32::MIN), Value::U32(u32::MAX))),
         Kind::U64 => Some((Value::U64(u64::MIN), Value::U64(u64::MAX))),
-        Kind::Text => None,
+        Kind::Text | Kind::F32 | Kind::F64 => None,
     }
 }
 
 /// The length of the longest text that the conversion prints of a number of its kind, without the blanks before it: the
-/// least width of a conversion that reads each of them, as 11 for `%d`. None of a text.
+/// least width of a conversion that reads each of them, as 11 for `%d`. None of a text or a float.
 ///
 /// A `-` pads with blanks after the number, and the precision 0 prints no digit of 0: of such a conversion, which no
 /// scan reads back, the length isn't said.
 pub fn longest_len(conv: &PrintConv) -> Option<u32>
-    ensures { MatchOption result (conv.now.kind ≡ Kind.Text)
+    ensures { MatchOption result (bounds_of conv.now.kind ≡ None)
         (λ n. conv.now.minus ≡ false → 0 < least_digits conv.now → IsLongest conv.now n) }
 {
     laws_below();

@@ -11,8 +11,8 @@ use Rattle.sf_base.specs.Data.{Datum, datum_of_number}
 use Rattle.sf_base.specs.Kinds.{is_held}
 use Rattle.sf_base.specs.declared.number.Number as number
 use Rattle.sf_base.specs.declared.values.Kind.{Kind}
-use Rattle.sf_base.specs.declared.values.Kind.TheVariants.{I8, I16, I32, I64, U8, U16, U32, U64, Text}
-use Rattle.sf_base.specs.Data.Datum.{Number, Bytes}
+use Rattle.sf_base.specs.declared.values.Kind.TheVariants.{I8, I16, I32, I64, U8, U16, U32, U64, Text, F32, F64}
+use Rattle.sf_base.specs.Data.Datum.{Number, Bytes, Real}
 use Rattle.sf_format.specs.declared.unit.PrintLetter.{PrintLetter}
 use Rattle.sf_format.specs.declared.unit.PrintLetter.TheVariants as letter
 use Rattle.sf_format.specs.declared.unit.PrintConv.{PrintConv}
@@ -123,14 +123,17 @@ pub plain_value : (c : PrintConv) (negative : Bool) (m : ℕ) (value : Datum) �
     → value_text c value ≡ minus negative ++ decimal m
 plain_value c negative m (Number k z) plain (is, proper, small) = ap (integer_text c) is ∙ plain_text c negative m plain proper small
 plain_value c negative m (Bytes bytes) plain is = absurd is
+plain_value c negative m (Real r) plain is = absurd is
 
 pub plain_length : (negative : Bool) (m : ℕ) (value : Datum) → IsOf (printable.Number negative m) value → length (decimal m) ≤ 20
 plain_length negative m (Number k z) (is, proper, small) = length_at_most m small
 plain_length negative m (Bytes bytes) is = absurd is
+plain_length negative m (Real r) is = absurd is
 
 pub plain_fits : (negative : Bool) (m : ℕ) (value : Datum) → IsOf (printable.Number negative m) value → m < 2 ^ 64
 plain_fits negative m (Number k z) (is, proper, small) = small
 plain_fits negative m (Bytes bytes) is = absurd is
+plain_fits negative m (Real r) is = absurd is
 
 -- ---- what is seen of it
 
@@ -175,6 +178,8 @@ some_below U16 true m held e = absurd cc
 some_below U32 true m held e = absurd cc
 some_below U64 true m held e = absurd cc
 some_below Text true m held e = absurd cc
+some_below F32 true m held e = absurd cc
+some_below F64 true m held e = absurd cc
 
 most_of : (m n : ℕ) (a : Bool) → a && nat_le m n ≡ true → m ≤ n
 most_of m n true e = leb-true m n e
@@ -198,6 +203,8 @@ small_of U16 true m held = absurd cc
 small_of U32 true m held = absurd cc
 small_of U64 true m held = absurd cc
 small_of Text negative m held = absurd cc
+small_of F32 negative m held = absurd cc
+small_of F64 negative m held = absurd cc
 
 pub plain_shown : (c : PrintConv) (n : number.Number) → is_plain c ≡ true
     → value_text c (datum_of_number n) ≡ minus n.negative ++ decimal n.magnitude

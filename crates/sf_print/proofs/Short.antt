@@ -6,7 +6,7 @@ use Rattle.std.proofs.lemmas.List.Concat.{flat_map-cons}
 use Rattle.std.specs.List.{slice_get}
 use Rattle.std.specs.Fmt.{digits}
 use Rattle.sf_base.specs.Data.{Datum}
-use Rattle.sf_base.specs.Data.Datum.{Number, Bytes}
+use Rattle.sf_base.specs.Data.Datum.{Number, Bytes, Real}
 use Rattle.sf_format.specs.declared.unit.PrintLetter.{PrintLetter}
 use Rattle.sf_format.specs.declared.unit.PrintLetter.TheVariants as letter
 use Rattle.sf_format.specs.declared.unit.PrintConv.{PrintConv}
@@ -144,6 +144,7 @@ bytes_short c bytes wide few =
 value_short : (c : PrintConv) (value : Datum) → IsProperConv c → is_short value ≡ true → length (value_text c value) ≤ 200000
 value_short c (Number k z) proper short = integer_short c z proper.width (least_small c.precision proper.precision)
 value_short c (Bytes bytes) proper short = bytes_short c bytes proper.width (leb-true (length bytes) 65536 short)
+value_short c (Real r) proper short = bytes_short c [] proper.width (omega arith)
 
 found_short : (c : PrintConv) (value : Option Datum) → IsProperConv c → IfSome value (λ v. is_short v ≡ true)
     → length (text_or_none c value) ≤ 200000

@@ -48,6 +48,8 @@ same_kind kind.U16 kind.U16 = true
 same_kind kind.U32 kind.U32 = true
 same_kind kind.U64 kind.U64 = true
 same_kind kind.Text kind.Text = true
+same_kind kind.F32 kind.F32 = true
+same_kind kind.F64 kind.F64 = true
 same_kind _ _ = false
 
 -- c prints one byte

@@ -2,12 +2,13 @@
 use Rattle.std.specs.Prelude.{Bool, true, nat_le, List, length}
 use Rattle.std.specs.List.{list_all}
 use Rattle.sf_base.specs.Data.{Datum}
-use Rattle.sf_base.specs.Data.Datum.{Number, Bytes}
+use Rattle.sf_base.specs.Data.Datum.{Number, Bytes, Real}
 
--- a number, or a text of at most 65536 bytes
+-- a number, a float, or a text of at most 65536 bytes
 abbrev pub is_short : Datum → Bool
 is_short (Number k z) = true
 is_short (Bytes bytes) = nat_le (length bytes) 65536
+is_short (Real r) = true
 
 abbrev pub are_short : List Datum → Bool
 are_short values = list_all is_short values

@@ -89,5 +89,6 @@ pub fn write_value(conv: &PrintConv, value: Shown<'_>, buf: &mut [u8], at: usize
             }
             write_piece(&Piece::Bytes(bytes), buf, at)
         }
+        Shown::Real(real) => write_padded(conv, &real.value(), buf, at),
     }
 }

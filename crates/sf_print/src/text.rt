@@ -38,7 +38,8 @@ fn text_pieces<'a>(conv: &PrintConv, bytes: &'a [u8]) -> Pieces<'a>
     ]
 }
 
-/// What is printed of a value: a sign (true: a minus) and a magnitude, or bytes.
+/// What is printed of a value: a sign (true: a minus) and a magnitude, or bytes. A float has none, since no conversion
+/// takes it yet.
 pub(crate) enum Printable<'a> {
     Number(bool, u64),
     Bytes(&'a [u8]),
@@ -53,7 +54,7 @@ pub(crate) fn printable_of<'a>(value: Value<'a>) -> Printable<'a>
     }
     match value.sign_and_magnitude() {
         Some((negative, magnitude)) => Printable::Number(negative, magnitude),
-        None => unreachable!(),
+        None => Printable::Bytes(&[]),
     }
 }
 

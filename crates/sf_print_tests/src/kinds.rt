@@ -131,7 +131,7 @@ fn by_type(kind: Kind, negative: bool, magnitude: u64, overflowed: bool) -> Opti
         Kind::U16 => Value::U16(integer(kind, negative, magnitude, overflowed)?),
         Kind::U32 => Value::U32(integer(kind, negative, magnitude, overflowed)?),
         Kind::U64 => Value::U64(integer(kind, negative, magnitude, overflowed)?),
-        Kind::Text => return None,
+        Kind::Text | Kind::F32 | Kind::F64 => return None,
     })
 }
 

@@ -10,6 +10,8 @@ mod decimals;
 #[cfg(test)]
 mod errors;
 #[cfg(test)]
+mod floats;
+#[cfg(test)]
 mod formats;
 #[cfg(test)]
 mod in_place;

@@ -2,7 +2,7 @@
 ghost use Rattle.std.specs.Prelude.{◌≡◌, ◌≤◌, None, IsSome, IsTrue, OnOk};
 ghost use Rattle.sf_base.specs.Data.{datum_at};
 
-use sf_base::{FixedStore, HeapStore, Number, Shown, Store, StoreFull, Value, push_each};
+use sf_base::{FixedStore, HeapStore, Number, Real, Shown, Store, StoreFull, Value, push_each};
 use sf_rows::is;
 use std::test::Fail;
 
@@ -20,7 +20,7 @@ enum Bytes {
 /// What a slot is given, and by which calls.
 #[derive(Clone, Copy, Debug)]
 enum Given {
-    /// A number, by `set`.
+    /// A number, by `set`, or a float, by `set_real`.
     Value(Value<'static>),
     /// A number, by `set_number`.
     Number(Value<'static>),
@@ -96,11 +96,11 @@ fn give<S: Store>(store: &mut S, slots: u8, slot: u8, given: &Given) -> Result<u
 {
     let mut taken = 0;
     match given {
-        Given::Value(value) => {
-            if let Shown::Number(number) = value.shown() {
-                store.set(slot, number.value());
-            }
-        }
+        Given::Value(value) => match value.shown() {
+            Shown::Number(number) => store.set(slot, number.value()),
+            Shown::Real(real) => store.set_real(slot, real),
+            Shown::Text(_) => {}
+        },
         Given::Number(value) => {
             if let Shown::Number(number) = value.shown() {
                 store.set_number(slot, number);
@@ -164,6 +164,7 @@ fn shown<S: Store>(store: &S, slot: u8) -> Option<Value<'_>> {
             Some(kind.number(negative, magnitude)?.value())
         }
         Shown::Text(text) => Some(Value::Text(text)),
+        Shown::Real(real) => Some(real.value()),
     }
 }
 
@@ -267,6 +268,24 @@ const AT_ONCE: Row = Row {
     ],
 };
 
+/// Floats of both kinds, and a text.
+const FLOATS: Row = Row {
+    script: &[
+        (3, Given::Value(Value::F64(0x7ff0_0000_0000_0000))),
+        (1, Given::Value(Value::F32(0x3f80_0000))),
+        (2, Given::Text(&[Bytes::All(b"1.0")], 1)),
+    ],
+    taken: 3,
+    left: 6,
+    slots: &[
+        None,
+        Some(Value::F32(0x3f80_0000)),
+        Some(Value::Text(b"1.0")),
+        Some(Value::F64(0x7ff0_0000_0000_0000)),
+        None,
+    ],
+};
+
 /// A text of ten bytes, then one of nine.
 const NINE_BYTES: Row = Row {
     script: &[(
@@ -279,12 +298,20 @@ const NINE_BYTES: Row = Row {
 };
 
 /// What a store of nine bytes makes of each.
-static OF_NINE_BYTES: [Row; 5] = [BY_EACH_CALL, SCATTERED, AT_ONCE, NINE_BYTES, BY_EACH_CALL];
-
-/// What a store that grows makes of them.
-static GROWING: [Row; 4] = [
+static OF_NINE_BYTES: [Row; 6] = [
     BY_EACH_CALL,
     SCATTERED,
+    FLOATS,
+    AT_ONCE,
+    NINE_BYTES,
+    BY_EACH_CALL,
+];
+
+/// What a store that grows makes of them.
+static GROWING: [Row; 5] = [
+    BY_EACH_CALL,
+    SCATTERED,
+    FLOATS,
     Row {
         taken: 13,
         slots: &[
@@ -401,17 +428,21 @@ fn long_texts_grow(rt: HostRuntime) -> Result<(), Fail> {
     has_long_texts(&store)
 }
 
-/// A store that has the seven calls of a store, and no more.
+/// A store that has the eight calls of a store, and no more.
 #[derive(Drop)]
-struct SevenCalls(FixedStore<9, 5>);
+struct EightCalls(FixedStore<9, 5>);
 
-impl Store for SevenCalls {
+impl Store for EightCalls {
     ghost slots = { 5 };
 
     ghost kept = { λ s. s.0 };
 
     fn set(&mut self, slot: u8, value: Value<'_>) {
         self.0.set(slot, value);
+    }
+
+    fn set_real(&mut self, slot: u8, real: Real) {
+        self.0.set_real(slot, real);
     }
 
     fn open_text(&mut self, slot: u8) {
@@ -440,9 +471,9 @@ impl Store for SevenCalls {
 }
 
 #[test]
-fn seven_calls_make_a_store() -> Result<(), Fail> {
+fn eight_calls_make_a_store() -> Result<(), Fail> {
     for row in &OF_NINE_BYTES {
-        fills(&mut SevenCalls(FixedStore::new()), 9, 5, row)?;
+        fills(&mut EightCalls(FixedStore::new()), 9, 5, row)?;
     }
     Ok(())
 }

@@ -43,6 +43,8 @@ value_in kinds.U16 = unsigned_in 16
 value_in kinds.U32 = unsigned_in 32
 value_in kinds.U64 = unsigned_in 64
 value_in kinds.Text = λ negative m z e. absurd cc
+value_in kinds.F32 = λ negative m z e. absurd cc
+value_in kinds.F64 = λ negative m z e. absurd cc
 
 -- ---- the bytes of an input
 

@@ -4,7 +4,7 @@ use Rattle.std.specs.List.{AllByRecursion, filter_map}
 use Rattle.std.specs.Option.{option_map}
 use Rattle.sf_base.specs.Bytes.{AreBytes}
 use Rattle.sf_base.specs.declared.values.Kind.{Kind}
-use Rattle.sf_base.specs.Data.{Datum, Number, Bytes, Assigned, IsIn, datum_at}
+use Rattle.sf_base.specs.Data.{Datum, Number, Bytes, Real, Assigned, IsIn, datum_at}
 pub use Rattle.sf_base.specs.Data.{kind_of}
 use Rattle.sf_format.specs.declared.directive.Directive.{Directive}
 use Rattle.sf_format.specs.Proper.{destinations_of, kind_at}
@@ -28,10 +28,11 @@ AreRowOf n row values = map Some row ≡ given_to n values
 
 -- ---- the row of a format
 
--- a number that its kind holds, or bytes
+-- a number that its kind holds, or bytes; no conversion stores a float yet
 abbrev pub IsValue : Datum → Type 0
 IsValue (Number kind n) = IsIn kind n
 IsValue (Bytes text) = AreBytes text
+IsValue (Real r) = ⊥
 
 -- the kinds of the destinations, from slot 1 on
 abbrev pub kinds_of : List Directive → List Kind

@@ -18,7 +18,9 @@ fn letter_text(shape: &Shape, kind: Kind) -> &'static str
     match shape {
         Shape::Int(Base::Dec) => match kind {
             Kind::I8 | Kind::I16 | Kind::I32 | Kind::I64 => "d",
-            Kind::U8 | Kind::U16 | Kind::U32 | Kind::U64 | Kind::Text => "u",
+            Kind::U8 | Kind::U16 | Kind::U32 | Kind::U64 | Kind::Text | Kind::F32 | Kind::F64 => {
+                "u"
+            }
         },
         Shape::Int(Base::Oct) => "o",
         Shape::Int(Base::Hex) => "x",

@@ -8,7 +8,7 @@ use Rattle.sf_base.proofs.integers.ScanInt.from_value.Goals as goal
 pub returns-in_err-negative-clause-exactly : goal.returns-in_err-negative-clause-exactly
 returns-in_err-negative-clause-exactly g c =
     let same : kind_of (datum_of c.args.value) ≡ g.Self.ScanInt.own_kind = search rules in
-    absurd (g.met.Self.ScanInt.number_law (no_number g.Self.ScanInt.own_kind (datum_of c.args.value) same c.in_err-negative.ensures.number))
+    absurd (g.met.Self.ScanInt.bounds_law (no_number g.Self.ScanInt.own_kind (datum_of c.args.value) same c.in_err-negative.ensures.number))
 
 pub returns-clause-exactly : goal.returns-clause-exactly
 returns-clause-exactly g c =
