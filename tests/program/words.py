@@ -96,7 +96,8 @@ class Examples(unittest.TestCase):
                     file.write(text)
             for count, (command, said) in enumerate(self.examples(*words), 1):
                 status, _, err = program.run_script(f'sf() {{ "$0" "$@"; }}; {command}', cwd=room)
-                self.assertEqual((status, err), (int("refused" in said), b""), command)
+                due = int("refused" in said or "report" in said)
+                self.assertEqual((status, bool(err)), (due, "report" in said), command)
         return count
 
     def test_the_help(self):
