@@ -8,7 +8,7 @@ use Rattle.sf_format.specs.Widths.{width_sum}
 use Rattle.sf_run.specs.outcome.Ending.{Ending}
 use Rattle.sf_run.specs.outcome.Ending.TheVariants.{End}
 use Rattle.sf_run.specs.outcome.Status.TheVariants.{Done}
-use Rattle.sf_run.specs.Limits.{RunTold}
+use Rattle.sf_run.specs.Limits.{RunTold, RunWithin}
 use Rattle.sf_run.specs.Rows.{at_slot, AreRowOf}
 use Rattle.sf_run.specs.Runs.{RunReport}
 use Rattle.sf_run.specs.Stopping.{is_memory_status}
@@ -23,6 +23,10 @@ use Rattle.sf_read.specs.Scan.{Scan, is_fault}
 -- the slots with these kinds are the destinations of the format, with theirs
 abbrev pub HasShape : List Kind → List Directive → Type 0
 HasShape kinds ds = (length kinds ≡ length (destinations_of ds)) × ((slot : ℕ) → at_slot slot kinds ≡ kind_at slot ds)
+
+-- the format stores eight numbers or fewer, and no texts
+abbrev pub IsOfFew : List Directive → Type 0
+IsOfFew ds = (length (destinations_of ds) ≤ 8) × (width_sum ds ≡ Some 0)
 
 -- there was a run
 abbrev pub is_run : {T : Type 0} → Result T ScanRowFault → Bool
@@ -54,3 +58,11 @@ pub record RowScan {S T : Type 0} (to_come : S → Option (List ℕ)) (reads fai
   pub end : report.met ≡ Some End → new.at_end ≡ true
   pub count : reads new.source ≤ reads old.source + report.used + 1
   pub waited : WaitedFor to_come reads N ds m old new report.used
+
+-- there was a run of the whole text, and its one report is answered
+pub record TextRow {T : Type 0} (kinds : List Kind) (listed : T → List Datum) (ds : List Directive) (m : ℕ) (text : List ℕ)
+    (result : Result T ScanRowFault) : Type 0 where
+  pub report : RunReport
+  pub answers : Answers kinds listed report result
+  pub told : RunTold ds m text End report
+  pub bounded : IsSome (width_sum ds) → RunWithin ds m text End report

@@ -11,6 +11,7 @@ mod slice_source;
 mod source;
 mod std_source;
 mod stream;
+mod text_row;
 mod tuples;
 mod whole;
 
@@ -23,4 +24,5 @@ pub use slice_source::SliceSource;
 pub use source::{Source, SourceFault};
 pub use std_source::StdSource;
 pub use stream::{count_newlines, fscan, fscan_counting, fscan_fixed, fscan_held, fscan_over};
+pub use text_row::sscan_row;
 pub use whole::{sscan, sscan_over};

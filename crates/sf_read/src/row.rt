@@ -1,25 +1,31 @@
 //! Rows of what a source gives.
-ghost use Rattle.std.specs.Prelude.{◌≡◌, ◌≤◌, ◌<◌, ◌+◌, ◌⊎◌, ◌↔◌, ℕ, List, true, false, Some, IfErr, IfOk, IfSome, IsErrOf, IsNone, IsOk, IsSome, unwrap_or, if◌then◌else◌};
-ghost use Rattle.sf_format.specs.Proper.{AreKinded};
+ghost use Rattle.std.specs.Prelude.{◌≡◌, length, ◌≤◌, ◌<◌, ◌+◌, ◌⊎◌, ◌↔◌, ℕ, List, true, false, Some, IfErr, IfOk, IfSome, IsErrOf, IsNone, IsOk, IsSome, unwrap_or, if◌then◌else◌};
+ghost use Rattle.sf_base.specs.Kept.{nothing_kept};
+ghost use Rattle.sf_format.specs.Proper.{AreKinded, destinations_of};
 ghost use Rattle.sf_format.specs.Widths.{width_sum};
 ghost use Rattle.sf_run.specs.Limits.{RunTold};
 ghost use Rattle.sf_run.specs.Memory.{capacity_of};
 ghost use Rattle.sf_run.specs.outcome.Status.TheVariants.{Done};
+ghost use Rattle.sf_run.specs.Quick.{IsDoneWithin};
 ghost use Rattle.sf_run.specs.Rows.{AreGiven};
 ghost use Rattle.sf_run.specs.Stopping.{is_memory_status};
 ghost use Rattle.sf_read.specs.Ahead.{input_of};
 ghost use Rattle.sf_read.specs.Counts.{counted_on};
 ghost use Rattle.sf_read.specs.Reads.{WaitedFor};
-ghost use Rattle.sf_read.specs.RowScans.{Answers, HasShape, RowScan, is_run};
+ghost use Rattle.sf_read.specs.RowScans.{Answers, HasShape, IsOfFew, RowScan, is_run};
 ghost use Rattle.sf_read.specs.Scan.{Scan, is_fault};
 
-use crate::{Lookahead, Row, RowFault, Source, fscan, fscan_held, fscan_over};
-use sf_base::{HeapStore, Store};
+use crate::stream::held_into;
+use crate::{Lookahead, Row, RowFault, Source, fscan, fscan_over};
+use sf_base::{FixedStore, HeapStore, Store};
 use sf_format::ScanFormat;
 use sf_run::{Ending, MOST_BYTES, Outcome, Report, Scanned, StartFault, Status};
 use std::alloc::Global;
 use std::error::Error;
 use std::fmt;
+
+/// The most numbers that are kept without memory.
+pub(crate) const FEW_NUMBERS: usize = 8;
 
 /// Why there is no row.
 #[derive(Clone, Copy, Debug, PartialEq, Eq)]
@@ -76,7 +82,10 @@ pub fn has_shape<T: Row>(format: &ScanFormat) -> bool
 }
 
 /// The row of a report, where that is Done.
-fn row_of<T: Row, K: Store>(alloc: Global, scanned: &Scanned<K>) -> Result<T, ScanRowFault>
+pub(crate) fn row_of<T: Row, K: Store>(
+    alloc: Global,
+    scanned: &Scanned<K>,
+) -> Result<T, ScanRowFault>
     requires { scanned.now.report.status ≡ Done → AreGiven T.kinds scanned.now.report.values }
     ensures { Answers T.kinds T.listed scanned.now.report result }
 {
@@ -141,6 +150,36 @@ fn has_store(alloc: Global, store: &mut Option<HeapStore>, format: &ScanFormat) 
     }
 }
 
+/// As `row_held`, into an empty store that has a slot for each destination of the format.
+#[inline(always)]
+fn row_held_into<T: Row, K: Store, S: Source, const N: usize>(
+    alloc: Global,
+    store: &mut K,
+    from: &mut Lookahead<S, N>,
+    format: &ScanFormat,
+    limit: u32,
+) -> Option<Result<T, ScanRowFault>>
+    requires empty { K.kept store.old ≡ nothing_kept (K.kept store.old).room }
+    requires slots { length (destinations_of format.now) ≤ K.slots }
+    requires kinded { AreKinded format.now }
+    requires shape { HasShape T.kinds format.now }
+    ensures run { IfSome result (λ row. RowScan S.to_come S.reads S.failures N T.kinds T.listed format.now limit
+        from.old from.new row) }
+    ensures is_run { IfSome result (λ row. is_run row ≡ true) }
+    ensures answers { IsDoneWithin format.now limit from.old.held (capacity_of (K.kept store.old)) → IsSome result }
+    ensures no_read { from.new.source ≡ from.old.source }
+    ensures stays { from.new.at_end ≡ from.old.at_end }
+    ensures none { IsNone result → from.new ≡ from.old }
+    ensures room { capacity_of (K.kept store.old) ≤ capacity_of (K.kept store.new) }
+{
+    let outcome = held_into(store, from, format, limit)?;
+    let report = Report::new(outcome, store);
+    match T::from_report(alloc, &report) {
+        Ok(row) => Some(Ok(row)),
+        Err(RowFault::NoMemory) => Some(Err(ScanRowFault::NoMemory)),
+    }
+}
+
 /// The row of a record that is held whole, where it is seen at once to be Done: then the record is consumed, and the
 /// store keeps its values. None where that isn't so: then nothing was consumed, and the store may keep something.
 #[inline(always)]
@@ -161,15 +200,43 @@ fn row_held<T: Row, S: Source, const N: usize>(
     ensures none { IsNone result → from.new ≡ from.old }
     ensures room { capacity_of store.old ≤ capacity_of store.new }
 {
-    let outcome = fscan_held(store, from, format, limit)?;
-    let report = Report::new(outcome, store);
-    match T::from_report(alloc, &report) {
-        Ok(row) => Some(Ok(row)),
-        Err(RowFault::NoMemory) => Some(Err(ScanRowFault::NoMemory)),
-    }
+    let _destinations = format.destinations();
+    store.clear();
+    row_held_into(alloc, store, from, format, limit)
 }
 
-/// As `scan_row_over`, by a scan whatever is held.
+/// As `row_held`, where the format stores a few numbers and no texts: they need no memory. None also where the limit is
+/// too high.
+#[inline(always)]
+fn row_of_few<T: Row, S: Source, const N: usize>(
+    alloc: Global,
+    from: &mut Lookahead<S, N>,
+    format: &ScanFormat,
+    limit: u32,
+) -> Option<Result<T, ScanRowFault>>
+    requires kinded { AreKinded format.now }
+    requires shape { HasShape T.kinds format.now }
+    ensures run { IfSome result (λ row. RowScan S.to_come S.reads S.failures N T.kinds T.listed format.now limit
+        from.old from.new row) }
+    ensures is_run { IfSome result (λ row. is_run row ≡ true) }
+    ensures limit { IsSome result → limit ≤ 2147483647 }
+    ensures answers { limit ≤ 2147483647 → IsOfFew format.now → IsDoneWithin format.now limit from.old.held 0
+        → IsSome result }
+    ensures no_read { from.new.source ≡ from.old.source }
+    ensures stays { from.new.at_end ≡ from.old.at_end }
+    ensures none { IsNone result → from.new ≡ from.old }
+{
+    if limit > MOST_BYTES
+        || format.width_sum() != Some(0)
+        || format.destinations() as usize > FEW_NUMBERS
+    {
+        return None;
+    }
+    let mut store = FixedStore::<0, FEW_NUMBERS>::new();
+    row_held_into(alloc, &mut store, from, format, limit)
+}
+
+/// As `row_over`, by a scan whatever is held.
 #[inline(never)]
 fn row_by_scan<T: Row, S: Source, const N: usize>(
     alloc: Global,
@@ -205,12 +272,52 @@ fn row_by_scan<T: Row, S: Source, const N: usize>(
     }
 }
 
+/// As `scan_row_over`, of a row that has the format's shape.
+fn row_over<T: Row, S: Source, const N: usize>(
+    alloc: Global,
+    store: &mut Option<HeapStore>,
+    from: &mut Lookahead<S, N>,
+    format: &ScanFormat,
+    limit: u32,
+) -> Result<T, ScanRowFault>
+    requires kinded { AreKinded format.now }
+    requires shape { HasShape T.kinds format.now }
+    ensures shape { IsErrOf result ScanRowFault.ShapeDiffers → ⊥ }
+    ensures limit { IsErrOf result (ScanRowFault.Start StartFault.BadLimit) ↔ (2147483647 < limit) }
+    ensures start { (fault : StartFault) → IsErrOf result (ScanRowFault.Start fault)
+        → (fault ≡ StartFault.BadLimit) ⊎ (fault ≡ StartFault.NoMemory) }
+    ensures unread { is_run result ≡ false → from.new ≡ from.old }
+    ensures run { is_run result ≡ true → RowScan S.to_come S.reads S.failures N T.kinds T.listed format.now limit
+        from.old from.new result }
+    ensures no_read { from.old.at_end ≡ true → from.new.source ≡ from.old.source }
+    ensures stays { from.old.at_end ≡ true → from.new.at_end ≡ true }
+    ensures enough { IfSome store.old (λ s. unwrap_or (width_sum format.now) 0 ≤ capacity_of s
+        → IsErrOf result (ScanRowFault.Start StartFault.NoMemory) → ⊥) }
+    ensures left { is_run result ≡ true → IsSome store.new }
+    ensures as_much { is_run result ≡ true → IfSome store.old
+        (λ old. IfSome store.new (λ s. capacity_of old ≤ capacity_of s)) }
+{
+    if limit > MOST_BYTES {
+        return Err(ScanRowFault::Start(StartFault::BadLimit));
+    }
+    if !has_store(alloc, store, format) {
+        return Err(ScanRowFault::Start(StartFault::NoMemory));
+    }
+    if let Some(kept) = store
+        && let Some(row) = row_held(alloc, kept, from, format, limit)
+    {
+        return row;
+    }
+    row_by_scan(alloc, store, from, format, limit)
+}
+
 /// Scans as `fscan` does (C11 7.21.6.2), and makes a row of the values.
 ///
 /// Refuses with ShapeDiffers where the slots of the row and their kinds are not the destinations of the format and
 /// theirs; then with Start where `fscan` refuses; nothing was read then. A run that doesn't end as Done is reported by
 /// Failed, and its bytes are consumed. Last comes NoMemory, where memory for the row was refused; its bytes are
-/// consumed too.
+/// consumed too. The numbers of a format that stores at most eight, and no texts, are kept without memory where the
+/// record is held whole.
 pub fn scan_row<T: Row, S: Source, const N: usize>(
     alloc: Global,
     from: &mut Lookahead<S, N>,
@@ -227,9 +334,17 @@ pub fn scan_row<T: Row, S: Source, const N: usize>(
         from.old from.new result }
     ensures no_read { from.old.at_end ≡ true → from.new.source ≡ from.old.source }
     ensures stays { from.old.at_end ≡ true → from.new.at_end ≡ true }
+    ensures few { IsOfFew format.now → IsDoneWithin format.now limit from.old.held 0
+        → IsErrOf result (ScanRowFault.Start StartFault.NoMemory) → ⊥ }
 {
+    if !has_shape::<T>(format) {
+        return Err(ScanRowFault::ShapeDiffers);
+    }
+    if let Some(row) = row_of_few(alloc, from, format, limit) {
+        return row;
+    }
     let mut store = None;
-    scan_row_over(alloc, &mut store, from, format, limit)
+    row_over(alloc, &mut store, from, format, limit)
 }
 
 /// As `scan_row` (C11 7.21.6.2), over the store of a row before, whose memory is used again: `None` at first, and then
@@ -260,16 +375,5 @@ pub fn scan_row_over<T: Row, S: Source, const N: usize>(
     if !has_shape::<T>(format) {
         return Err(ScanRowFault::ShapeDiffers);
     }
-    if limit > MOST_BYTES {
-        return Err(ScanRowFault::Start(StartFault::BadLimit));
-    }
-    if !has_store(alloc, store, format) {
-        return Err(ScanRowFault::Start(StartFault::NoMemory));
-    }
-    if let Some(kept) = store
-        && let Some(row) = row_held(alloc, kept, from, format, limit)
-    {
-        return row;
-    }
-    row_by_scan(alloc, store, from, format, limit)
+    row_over(alloc, store, from, format, limit)
 }

@@ -1,6 +1,6 @@
 //! Scans of what a source gives.
 ghost use Rattle.std.specs.Prelude.{◌≡◌, unwrap_or, IsOk, ◌≤◌, ◌<◌, ◌+◌, ◌⊎◌, ◌↔◌, ℕ, List, [], length, take, drop, true, false, Some, IsSome, IsNone, IfSome, None, IfOk, IfErr, IsErrOf, IsSomeAnd, if◌then◌else◌};
-ghost use Rattle.sf_base.specs.Kept.{buffer_of};
+ghost use Rattle.sf_base.specs.Kept.{buffer_of, nothing_kept};
 ghost use Rattle.sf_format.specs.declared.directive.Directive.{Directive};
 ghost use Rattle.sf_format.specs.Proper.{destinations_of};
 ghost use Rattle.sf_format.specs.Widths.{width_sum};
@@ -21,7 +21,9 @@ ghost use Rattle.sf_read.specs.Scan.{Scan, is_fault};
 use crate::{Lookahead, Source};
 use sf_base::{FixedStore, HeapStore, Store};
 use sf_format::ScanFormat;
-use sf_run::{Ending, FeedState, MOST_BYTES, Outcome, Scanned, Scanner, StartFault, quick_run};
+use sf_run::{
+    Ending, FeedState, MOST_BYTES, Outcome, Scanned, Scanner, StartFault, quick_run_into,
+};
 use std::alloc::Global;
 
 /// Adds the newlines of these bytes. The count stays at 2^64 - 1.
@@ -259,6 +261,37 @@ fn fscan_by_scanner<S: Source, const N: usize>(
     ))
 }
 
+/// As `fscan_held`, into an empty store that has a slot for each destination of the format.
+#[inline(always)]
+pub(crate) fn held_into<K: Store, S: Source, const N: usize>(
+    store: &mut K,
+    from: &mut Lookahead<S, N>,
+    format: &ScanFormat,
+    limit: u32,
+) -> Option<Outcome>
+    requires empty { K.kept store.old ≡ nothing_kept (K.kept store.old).room }
+    requires slots { length (destinations_of format.now) ≤ K.slots }
+    ensures scan { (t : List ℕ) → input_of S.to_come from.old ≡ Some t
+        → IfSome result (λ outcome. Scan S.to_come format.now limit t from.old from.new
+        (report_by outcome (K.kept store.new).values)) }
+    ensures told { IfSome result (λ outcome. (x : List ℕ) × (ending : Ending)
+        × RunTold format.now limit x ending (report_by outcome (K.kept store.new).values)) }
+    ensures done { IfSome result (λ outcome. outcome.status ≡ status.Done) }
+    ensures met { IfSome result (λ outcome. outcome.met ≡ None) }
+    ensures answers { IsDoneWithin format.now limit from.old.held (capacity_of (K.kept store.old)) → IsSome result }
+    ensures texts { IfSome result (λ _. HoldsValues (K.kept store.new)) }
+    ensures room { capacity_of (K.kept store.old) ≤ capacity_of (K.kept store.new) }
+    ensures within { IfSome result (λ outcome. outcome.used ≤ length from.old.held) }
+    ensures held { IfSome result (λ outcome. from.new.held ≡ drop outcome.used from.old.held) }
+    ensures no_read { from.new.source ≡ from.old.source }
+    ensures stays { from.new.at_end ≡ from.old.at_end }
+    ensures none { IsNone result → from.new ≡ from.old }
+{
+    let outcome = quick_run_into(store, format, limit, from.held())?;
+    from.consume(outcome.used as usize);
+    Some(outcome)
+}
+
 /// Scans a record that is held whole, without a scanner: where it is Done before a byte of what the lookahead holds is
 /// lacking, it is consumed, and the store, which is emptied first, has its values; `Report::new` of both is the report
 /// of the scan. The run consumes at most `limit` bytes, and the source isn't read.
@@ -288,9 +321,9 @@ pub fn fscan_held<S: Source, const N: usize>(
     ensures stays { from.new.at_end ≡ from.old.at_end }
     ensures none { IsNone result → from.new ≡ from.old }
 {
-    let outcome = quick_run(store, format, limit, from.held())?;
-    from.consume(outcome.used as usize);
-    Some(outcome)
+    let _destinations = format.destinations();
+    store.clear();
+    held_into(store, from, format, limit)
 }
 
 /// As `fscan` (C11 7.21.6.2), over a store of fixed capacity: `CAP` bytes of texts and `SLOTS` values. It takes no

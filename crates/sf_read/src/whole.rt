@@ -1,8 +1,10 @@
 //! Scans of whole texts.
 ghost use Rattle.std.specs.Prelude.{◌≡◌, ◌<◌, ◌≤◌, ◌+◌, ◌++◌, ◌∷◌, ◌↔◌, ◌⊎◌, ℕ, List, [], length, take, unwrap_or, IfOk, IfErr, IfSome, IsErrOf, IsOk, IsSome, IsTrue};
-ghost use Rattle.sf_base.specs.Kept.{buffer_of};
+ghost use Rattle.sf_base.specs.Kept.{buffer_of, nothing_kept};
 ghost use Rattle.sf_format.specs.declared.directive.Directive.{Directive};
+ghost use Rattle.sf_format.specs.Proper.{destinations_of};
 ghost use Rattle.sf_format.specs.Widths.{width_sum};
+ghost use Rattle.sf_run.specs.outcome.Status.TheVariants.{Done};
 ghost use Rattle.sf_run.specs.Limits.{RunTold, RunWithin};
 ghost use Rattle.sf_run.specs.Memory.{HoldsValues, capacity_of};
 ghost use Rattle.sf_run.specs.Scanner.{kept_by, standing};
@@ -14,7 +16,9 @@ ghost use Rattle.sf_read.specs.Unbounded.{EndsUnbounded};
 use sf_base::{HeapStore, Store};
 use sf_format::{Directive, ScanFormat, Shape};
 use sf_run::laws::{done_runs_stay, open_inputs_are_used};
-use sf_run::{Ending, MOST_BYTES, Outcome, Scanned, Scanner, StartFault, quick_run};
+use sf_run::{
+    Ending, MOST_BYTES, Outcome, Scanned, Scanner, StartFault, quick_run, quick_run_into,
+};
 use std::alloc::Global;
 
 /// A text with fewer bytes is scanned at once, with a newline after it.
@@ -53,26 +57,30 @@ fn lay_down(text: &[u8], block: &mut [u8])
     block[text.len()] = b'\n';
 }
 
-/// As `scan_at_once`, of a text that is laid down in a block of `N` bytes: its result with a newline after it, and
-/// whatever follows that, is the result of the text alone.
+/// As `scan_at_once`, into an empty store that has a slot for each destination of the format, of a text that is laid
+/// down in a block of `N` bytes: its result with a newline after it, and whatever follows that, is the result of the
+/// text alone.
 #[inline(never)]
-fn scan_with_newline<const N: usize>(
-    store: &mut HeapStore,
+fn scan_with_newline<K: Store, const N: usize>(
+    store: &mut K,
     text: &[u8],
     format: &ScanFormat,
     limit: u32,
 ) -> Option<Outcome>
+    requires empty { K.kept store.old ≡ nothing_kept (K.kept store.old).room }
+    requires slots { length (destinations_of format.now) ≤ K.slots }
     requires shorter { length text.now < N }
     requires few { N ≤ BLOCK }
     ensures run { IfSome result (λ outcome. RunWithin format.now limit text.now Ending.End
-        (report_by outcome store.new.values)) }
-    ensures texts { IfSome result (λ _. HoldsValues store.new) }
-    ensures room { capacity_of store.old ≤ capacity_of store.new }
+        (report_by outcome (K.kept store.new).values)) }
+    ensures done { IfSome result (λ outcome. outcome.status ≡ Done) }
+    ensures texts { IfSome result (λ _. HoldsValues (K.kept store.new)) }
+    ensures room { capacity_of (K.kept store.old) ≤ capacity_of (K.kept store.new) }
 {
     let directives = format.directives();
     let mut block = [0; N];
     lay_down(text, &mut block);
-    let outcome = quick_run(store, format, limit, &block)?;
+    let outcome = quick_run_into(store, format, limit, &block)?;
     done_runs_stay();
     open_inputs_are_used();
     let used = outcome.used as usize;
@@ -92,9 +100,9 @@ fn scan_with_newline<const N: usize>(
     })
 }
 
-/// Scans a whole text without a scanner, where it is seen at once to be Done. A text that is long or ends in a newline
-/// is scanned where it stands, a short one that isn't Done there with a newline after it. None where it isn't Done, or
-/// that isn't known here: then the store may keep something.
+/// Scans a whole text into an empty store without a scanner, where it is seen at once to be Done. A text that is long
+/// or ends in a newline is scanned where it stands, a short one that isn't Done there with a newline after it. None
+/// where it isn't Done, or that isn't known here: then the store may keep something.
 #[inline(always)]
 fn scan_at_once(
     store: &mut HeapStore,
@@ -102,24 +110,47 @@ fn scan_at_once(
     format: &ScanFormat,
     limit: u32,
 ) -> Option<Outcome>
+    requires empty { store.old ≡ nothing_kept store.old.room }
     ensures run { IfSome result (λ outcome. RunWithin format.now limit text.now Ending.End
         (report_by outcome store.new.values)) }
     ensures texts { IfSome result (λ _. HoldsValues store.new) }
     ensures room { capacity_of store.old ≤ capacity_of store.new }
 {
+    let _destinations = format.destinations();
     if text.len() >= BLOCK {
-        return quick_run(store, format, limit, text);
+        return quick_run_into(store, format, limit, text);
     }
-    if let Some(last) = text.last()
-        && *last == b'\n'
-        && let Some(outcome) = quick_run(store, format, limit, text)
-    {
-        return Some(outcome);
+    if text.ends_with(b"\n") {
+        if let Some(outcome) = quick_run_into(store, format, limit, text) {
+            return Some(outcome);
+        }
+        store.clear();
     }
     if text.len() <= SHORT {
-        return scan_with_newline::<SHORT_BLOCK>(store, text, format, limit);
+        return scan_with_newline::<HeapStore, SHORT_BLOCK>(store, text, format, limit);
     }
-    scan_with_newline::<BLOCK>(store, text, format, limit)
+    scan_with_newline::<HeapStore, BLOCK>(store, text, format, limit)
+}
+
+/// Scans a short text into an empty store that has a slot for each destination of the format, where it is seen at once
+/// to be Done. None where it is long or isn't Done, or that isn't known here: then the store may keep something.
+#[inline(always)]
+pub(crate) fn scan_short<K: Store>(
+    store: &mut K,
+    text: &[u8],
+    format: &ScanFormat,
+    limit: u32,
+) -> Option<Outcome>
+    requires empty { K.kept store.old ≡ nothing_kept (K.kept store.old).room }
+    requires slots { length (destinations_of format.now) ≤ K.slots }
+    ensures run { IfSome result (λ outcome. RunWithin format.now limit text.now Ending.End
+        (report_by outcome (K.kept store.new).values)) }
+    ensures done { IfSome result (λ outcome. outcome.status ≡ Done) }
+{
+    if text.len() > SHORT {
+        return None;
+    }
+    scan_with_newline::<K, SHORT_BLOCK>(store, text, format, limit)
 }
 
 /// What the run of the scanner comes to, over a whole text.
@@ -167,6 +198,7 @@ fn scan_by_scanner(
 ///
 /// Refuses a limit above 2147483647 with BadLimit; then it answers NoMemory where memory was refused. Where memory for
 /// a text is refused later, the report has it; a format with a width sum needs none then.
+#[inline(always)]
 pub fn sscan(
     alloc: Global,
     text: &[u8],
@@ -194,6 +226,7 @@ pub fn sscan(
 
 /// As `sscan` (C11 7.21.6.7), over a store that was used before, as `Scanner::over` uses it: what it keeps is taken
 /// away, and its memory is used again. The store of a report is given back by `Scanned::into_store`.
+#[inline(always)]
 pub fn sscan_over(
     alloc: Global,
     mut store: HeapStore,

@@ -20,4 +20,5 @@ mod scripts;
 #[cfg(test)]
 mod stores;
 #[cfg(test)]
+mod text_rows;
 mod tuples;

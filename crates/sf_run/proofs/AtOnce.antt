@@ -37,9 +37,10 @@ use Rattle.sf_report.proofs.Inputs.{open_all}
 -- ---- one directive
 
 -- the slot of what it gives is its own
-pub free_of : (f : Finished) (d : Directive) (values : List Assigned) → (is_failing f ≡ false → slot_given f ≡ slot_of d)
-    → MayBeGiven (slot_of d) values → MayBeGiven (slot_given f) values
-free_of f d values own free = grind arith
+pub free_of : (slots : ℕ) (f : Finished) (d : Directive) (values : List Assigned)
+    → (is_failing f ≡ false → slot_given f ≡ slot_of d)
+    → MayBeGiven slots (slot_of d) values → MayBeGiven slots (slot_given f) values
+free_of slots f d values own free = grind arith
 
 pub passes_within : (d : Directive) (n : ℕ) (piece : List ℕ) (e : Ended) (stores : Bool) (old new : Kept) → IsProper d
     → EndsAtOnce d n piece e
@@ -201,10 +202,10 @@ counting_on ds front rest left p d n old new taken at h begins w on =
     }
 
 -- the slot of the next directive is free
-pub free_at : (ds : List Directive) (p : ℕ) (d : Directive) (values : List Assigned) → slice_get ds p ≡ Some d → are_placed 32 ds ≡ true
-    → are_apart (slots_of ds) ≡ true
-    → slots_in values ≡ slots_of (take p ds) → MayBeGiven (slot_of d) values
-free_at ds p d values at placed apart given = grind (arith, slot_placed, slot_free)
+pub free_at : (slots : ℕ) (ds : List Directive) (p : ℕ) (d : Directive) (values : List Assigned) → slice_get ds p ≡ Some d
+    → are_placed slots ds ≡ true → are_apart (slots_of ds) ≡ true
+    → slots_in values ≡ slots_of (take p ds) → MayBeGiven slots (slot_of d) values
+free_at slots ds p d values at placed apart given = grind (arith, slot_placed, slot_free)
 
 -- ---- the end
 

@@ -15,10 +15,10 @@ use Rattle.sf_report.specs.Steps.{StepEnd, Stores}
 use Rattle.sf_run.specs.Tallies.{PassesSo, values_with}
 use Rattle.sf_run.specs.Texts.{slot_of}
 
--- the slot, where there is one, is a slot of a store with these values that may be given something
-abbrev pub MayBeGiven : Option ℕ → List Assigned → Type 0
-MayBeGiven None values = Unit {0}
-MayBeGiven (Some slot) values = (1 ≤ slot) × (slot ≤ 32) × (datum_at slot values ≡ None)
+-- the slot, where there is one, is one of so many of a store with these values, and may be given something
+abbrev pub MayBeGiven : ℕ → Option ℕ → List Assigned → Type 0
+MayBeGiven slots None values = Unit {0}
+MayBeGiven slots (Some slot) values = (1 ≤ slot) × (slot ≤ slots) × (datum_at slot values ≡ None)
 
 -- the store was given what a directive gives that passes so
 pub record GivesTo (end : StepEnd) (stores : Bool) (old new : Kept) : Type 0 where

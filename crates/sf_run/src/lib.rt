@@ -10,6 +10,6 @@ mod scanner;
 mod tally;
 
 pub use feeding::{Fed, FeedState, StartFault};
-pub use quick::quick_run;
+pub use quick::{quick_run, quick_run_into};
 pub use scanner::{MOST_BYTES, Scanner};
 pub use sf_report::{Ending, Outcome, Report, Scanned, Status};

@@ -1,9 +1,9 @@
 //! Runs that begin and pass within a piece of the input, read at once.
 ghost use Rattle.std.specs.Prelude.{◌≡◌, ◌<◌, ◌≤◌, ◌+◌, ◌-◌, ◌^◌, ◌++◌, ℕ, List, length, slice_get, take, drop, true, None, Some, IfSome, IsNone, IsSome};
 ghost use Rattle.sf_format.specs.declared.directive.Directive.{Directive};
-ghost use Rattle.sf_base.specs.Kept.{buffer_of};
+ghost use Rattle.sf_base.specs.Kept.{buffer_of, nothing_kept};
 ghost use Rattle.sf_format.specs.Layout.{row_of};
-ghost use Rattle.sf_format.specs.Proper.{IsProper};
+ghost use Rattle.sf_format.specs.Proper.{IsProper, destinations_of};
 ghost use Rattle.sf_report.specs.declared.outcome.Ending.{Ending};
 ghost use Rattle.sf_report.specs.declared.outcome.Status.TheVariants as status;
 ghost use Rattle.sf_report.specs.Limits.{RunWithin};
@@ -26,18 +26,18 @@ use sf_report::{Outcome, Status};
 /// Gives a store without an opened text what a directive gives that ends so within the piece. Answers whether that is
 /// something. None where the directive fails, or the storing is refused.
 #[inline(always)]
-fn give(store: &mut HeapStore, ended: Ended, piece: &[u8]) -> Option<bool>
-    requires opened { store.old.opened ≡ None }
-    requires free { MayBeGiven (slot_given ended.finished) store.old.values }
+fn give<S: Store>(store: &mut S, ended: Ended, piece: &[u8]) -> Option<bool>
+    requires opened { (S.kept store.old).opened ≡ None }
+    requires free { MayBeGiven S.slots (slot_given ended.finished) (S.kept store.old).values }
     requires number { IsNumberGiven ended.finished }
     requires within { ended.before + ended.item ≤ length piece.now }
     ensures gives { IfSome result (λ stores. GivesTo (end_of
-        (take ended.item (drop ended.before piece.now)) ended.finished) stores store.old store.new) }
+        (take ended.item (drop ended.before piece.now)) ended.finished) stores (S.kept store.old) (S.kept store.new)) }
     ensures none { IsNone result → passed (end_of (take ended.item (drop ended.before piece.now)) ended.finished) ≡ true
-        → store.old.room
+        → (S.kept store.old).room
         < length (text_stored (end_of (take ended.item (drop ended.before piece.now)) ended.finished)) }
-    ensures same { IsNone result → store.new ≡ store.old }
-    ensures room { capacity_of store.old ≤ capacity_of store.new }
+    ensures same { IsNone result → S.kept store.new ≡ S.kept store.old }
+    ensures room { capacity_of (S.kept store.old) ≤ capacity_of (S.kept store.new) }
 {
     match ended.finished {
         Finished::Passes => Some(false),
@@ -69,23 +69,23 @@ fn give(store: &mut HeapStore, ended: Ended, piece: &[u8]) -> Option<bool>
 /// Passes a directive that ends so within the piece, and says how many bytes it took. None where it isn't said to end,
 /// where it fails, or where the storing is refused: then nothing has changed.
 #[inline(always)]
-fn pass_so(
-    store: &mut HeapStore,
+fn pass_so<S: Store>(
+    store: &mut S,
     directive: &Directive,
     ended: Option<Ended>,
     piece: &[u8],
     used: u32,
 ) -> Option<usize>
-    requires opened { store.old.opened ≡ None }
-    requires free { MayBeGiven (slot_of directive.now) store.old.values }
+    requires opened { (S.kept store.old).opened ≡ None }
+    requires free { MayBeGiven S.slots (slot_of directive.now) (S.kept store.old).values }
     requires ends { IfSome ended (EndsAtOnce directive.now used piece.now) }
     ensures passes { IsProper directive.now → IfSome result
-        (λ taken. Passes directive.now used piece.now taken store.old store.new) }
+        (λ taken. Passes directive.now used piece.now taken (S.kept store.old) (S.kept store.new)) }
     ensures within { IfSome result (λ taken. taken ≤ length piece.now) }
-    ensures sure { IsSome ended → IsProper directive.now → IsSure directive.now used piece.now store.old.room
+    ensures sure { IsSome ended → IsProper directive.now → IsSure directive.now used piece.now (S.kept store.old).room
         → IsSome result }
-    ensures same { IsNone result → store.new ≡ store.old }
-    ensures room { capacity_of store.old ≤ capacity_of store.new }
+    ensures same { IsNone result → S.kept store.new ≡ S.kept store.old }
+    ensures room { capacity_of (S.kept store.old) ≤ capacity_of (S.kept store.new) }
 {
     let _directive = directive;
     let _used = used;
@@ -98,23 +98,23 @@ fn pass_so(
 /// fails, or where the storing is refused. It looks the directive up itself, so that a run by rows alone doesn't.
 #[cold]
 #[inline(never)]
-fn pass_later(
-    store: &mut HeapStore,
+fn pass_later<S: Store>(
+    store: &mut S,
     directives: &[Directive],
     at: usize,
     piece: &[u8],
     used: u32,
 ) -> Option<usize>
-    requires opened { store.old.opened ≡ None }
+    requires opened { (S.kept store.old).opened ≡ None }
     requires within { at < length directives.now }
     requires free { (d : Directive) → slice_get directives.now at ≡ Some d
-        → MayBeGiven (slot_of d) store.old.values }
+        → MayBeGiven S.slots (slot_of d) (S.kept store.old).values }
     ensures passes { (d : Directive) → slice_get directives.now at ≡ Some d → IsProper d → IfSome result
-        (λ taken. Passes d used piece.now taken store.old store.new) }
+        (λ taken. Passes d used piece.now taken (S.kept store.old) (S.kept store.new)) }
     ensures within { IfSome result (λ taken. taken ≤ length piece.now) }
     ensures sure { (d : Directive) → slice_get directives.now at ≡ Some d → IsProper d
-        → IsSure d used piece.now store.old.room → IsSome result }
-    ensures room { capacity_of store.old ≤ capacity_of store.new }
+        → IsSure d used piece.now (S.kept store.old).room → IsSome result }
+    ensures room { capacity_of (S.kept store.old) ≤ capacity_of (S.kept store.new) }
 {
     let directive = &directives[at];
     let ended = ended_within(directive, piece, used);
@@ -125,21 +125,21 @@ fn pass_later(
 /// that its row says: how many bytes it took. None where that isn't seen, where it fails, or where the storing is
 /// refused: then nothing has changed.
 #[inline(always)]
-fn pass(
-    store: &mut HeapStore,
+fn pass<S: Store>(
+    store: &mut S,
     directive: &Directive,
     row: &Row,
     piece: &[u8],
     used: u32,
 ) -> Option<usize>
-    requires opened { store.old.opened ≡ None }
-    requires free { MayBeGiven (slot_of directive.now) store.old.values }
+    requires opened { (S.kept store.old).opened ≡ None }
+    requires free { MayBeGiven S.slots (slot_of directive.now) (S.kept store.old).values }
     requires row { row.now ≡ row_of directive.now }
     ensures passes { IsProper directive.now → IfSome result
-        (λ taken. Passes directive.now used piece.now taken store.old store.new) }
+        (λ taken. Passes directive.now used piece.now taken (S.kept store.old) (S.kept store.new)) }
     ensures within { IfSome result (λ taken. taken ≤ length piece.now) }
-    ensures same { IsNone result → store.new ≡ store.old }
-    ensures room { capacity_of store.old ≤ capacity_of store.new }
+    ensures same { IsNone result → S.kept store.new ≡ S.kept store.old }
+    ensures room { capacity_of (S.kept store.old) ≤ capacity_of (S.kept store.new) }
 {
     match row.way {
         Way::Space => {
@@ -174,18 +174,19 @@ fn pass(
     }
 }
 
-/// As `quick_run`: how many bytes the record has.
+/// As `quick_run_into`: how many bytes the record has.
 #[inline(never)]
-fn pass_all(store: &mut HeapStore, format: &ScanFormat, limit: u32, piece: &[u8]) -> Option<usize>
+fn pass_all<S: Store>(store: &mut S, format: &ScanFormat, limit: u32, piece: &[u8]) -> Option<usize>
+    requires empty { S.kept store.old ≡ nothing_kept (S.kept store.old).room }
+    requires slots { length (destinations_of format.now) ≤ S.slots }
     ensures run { IfSome result (λ used. (z : List ℕ) (ending : Ending)
-        → RunWithin format.now limit (piece.now ++ z) ending (done_by format.now used store.new.values)) }
+        → RunWithin format.now limit (piece.now ++ z) ending (done_by format.now used (S.kept store.new).values)) }
     ensures used { IfSome result (λ used. used ≤ length piece.now) }
     ensures low { IfSome result (λ used. used ≤ limit) }
-    ensures answers { IsDoneWithin format.now limit piece.now (capacity_of store.old) → IsSome result }
-    ensures texts { IfSome result (λ _. HoldsValues store.new) }
-    ensures room { capacity_of store.old ≤ capacity_of store.new }
+    ensures answers { IsDoneWithin format.now limit piece.now (capacity_of (S.kept store.old)) → IsSome result }
+    ensures texts { IfSome result (λ _. HoldsValues (S.kept store.new)) }
+    ensures room { capacity_of (S.kept store.old) ≤ capacity_of (S.kept store.new) }
 {
-    store.clear();
     let most = (limit as usize).min(piece.len());
     let (front, _) = piece.split_at(most);
     let directives = format.directives();
@@ -204,13 +205,43 @@ fn pass_all(store: &mut HeapStore, format: &ScanFormat, limit: u32, piece: &[u8]
     Some(front.len() - rest.len())
 }
 
-/// Reads a record at once that begins and passes within a piece of the input: empties the store, which keeps its
-/// memory, and gives it the values. What it answers is the result of the run on every input that begins with the piece,
-/// with every ending; the run consumes at most `limit` bytes. It answers wherever the run is Done before a byte of the
-/// piece or of the limit is lacking, and the store has room for its texts.
+/// Reads a record at once that begins and passes within a piece of the input, and gives an empty store the values. What
+/// it answers is the result of the run on every input that begins with the piece, with every ending; the run consumes
+/// at most `limit` bytes. It answers wherever the run is Done before a byte of the piece or of the limit is lacking,
+/// and the store has room for its texts. The store has a slot for each destination of the format.
 ///
 /// None where the record isn't Done whatever follows the piece, where the limit may be passed or the storing of a text
 /// was refused: then it answers nothing about the run, and the store may keep something.
+#[inline(always)]
+pub fn quick_run_into<S: Store>(
+    store: &mut S,
+    format: &ScanFormat,
+    limit: u32,
+    piece: &[u8],
+) -> Option<Outcome>
+    requires empty { S.kept store.old ≡ nothing_kept (S.kept store.old).room }
+    requires slots { length (destinations_of format.now) ≤ S.slots }
+    ensures run { IfSome result (λ outcome. (z : List ℕ) (ending : Ending)
+        → RunWithin format.now limit (piece.now ++ z) ending (report_by outcome (S.kept store.new).values)) }
+    ensures done { IfSome result (λ outcome. outcome.status ≡ status.Done) }
+    ensures met { IfSome result (λ outcome. outcome.met ≡ None) }
+    ensures used { IfSome result (λ outcome. outcome.used ≤ length piece.now) }
+    ensures answers { IsDoneWithin format.now limit piece.now (capacity_of (S.kept store.old)) → IsSome result }
+    ensures texts { IfSome result (λ _. HoldsValues (S.kept store.new)) }
+    ensures room { capacity_of (S.kept store.old) ≤ capacity_of (S.kept store.new) }
+{
+    let used = pass_all(store, format, limit, piece)?;
+    Some(Outcome {
+        status: Status::Done,
+        at: 0,
+        assigned: format.assigned(),
+        converted: format.converted(),
+        used: used as u32,
+        met: None,
+    })
+}
+
+/// As `quick_run_into`, over a store that was used before: empties it first, and keeps its memory.
 #[inline(always)]
 pub fn quick_run(
     store: &mut HeapStore,
@@ -227,13 +258,7 @@ pub fn quick_run(
     ensures texts { IfSome result (λ _. HoldsValues store.new) }
     ensures room { capacity_of store.old ≤ capacity_of store.new }
 {
-    let used = pass_all(store, format, limit, piece)?;
-    Some(Outcome {
-        status: Status::Done,
-        at: 0,
-        assigned: format.assigned(),
-        converted: format.converted(),
-        used: used as u32,
-        met: None,
-    })
+    let _destinations = format.destinations();
+    store.clear();
+    quick_run_into(store, format, limit, piece)
 }

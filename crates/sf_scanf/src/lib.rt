@@ -17,7 +17,7 @@
 //! - **lines of an input**, each an input of its own: `Lines`, made as `Records` is. A line that is no match is a
 //! `LineFault` with its number and text, and the next call goes on with the line after it. `LineReports` lends each
 //! report instead.
-//! - **a text**: `sscan`, as sscanf; `sscan_over` uses a store again.
+//! - **a text**: `sscan`, as sscanf; `sscan_over` uses a store again; `sscan_row` makes a row of the values.
 //! - **one record of a source**: `scan_row`, or `fscan`, as fscanf, over a `Lookahead` of the source; `fscan_fixed` in
 //! fixed memory.
 //! - **bytes that come in pieces**: a `Scanner`, which is handed them by `feed`, and `end` when there are no more.
@@ -52,6 +52,6 @@ pub use sf_pair_rows::{ReadRowsFault, WriteRowsFault, read_rows, write_rows};
 pub use sf_print::{ListSink, PrintFault, Sink, SinkFault, StdSink, fprint, printed_len};
 pub use sf_read::{
     Field, Lookahead, Row, RowFault, ScanRowFault, SliceSource, Source, SourceFault, StdSource,
-    fscan, fscan_fixed, fscan_over, scan_row, scan_row_over, sscan, sscan_over,
+    fscan, fscan_fixed, fscan_over, scan_row, scan_row_over, sscan, sscan_over, sscan_row,
 };
 pub use sf_run::{Ending, Fed, FeedState, Outcome, Report, Scanned, Scanner, StartFault, Status};

@@ -1,12 +1,16 @@
 //! Calls of the library whose instructions tests/bench counts. Each prints the sum of the numbers that it reads by
-//! `%d,%d`. `records` and `lines` read standard input by the library's loops, `scan` reads it as the command does, and
-//! sums what it stored; `sscan TEXT COUNT` scans a text so many times.
+//! `%d,%d`. `records` and `lines` read standard input by the library's loops, `rows` reads it by `scan_row`, `scan`
+//! reads it as the command does, and sums what it stored; `sscan TEXT COUNT` scans a text so many times,
+//! `over TEXT COUNT` does so over one store, and `row TEXT COUNT` makes a row of it each time.
 #![tactic(auto)]
 
 use sf_base::{HeapStore, Store, Value};
 use sf_format::{Profile, ScanFormat};
 use sf_loops::{Lines, Records};
-use sf_read::{Lookahead, Source, StdSource, fscan_held, fscan_over, sscan};
+use sf_read::{
+    Lookahead, ScanRowFault, Source, StdSource, fscan_held, fscan_over, scan_row, sscan,
+    sscan_over, sscan_row,
+};
 use sf_run::Status;
 use std::alloc::Global;
 use std::env;
@@ -81,6 +85,22 @@ fn sum_scans<S: Source>(
     Ok(sum)
 }
 
+fn sum_rows<S: Source>(
+    alloc: Global,
+    mut from: Lookahead<S, BLOCK_BYTES>,
+    format: &ScanFormat,
+) -> anyhow::Result<i64> {
+    let mut sum = 0;
+    for _ in 0..u64::MAX {
+        match scan_row::<(i32, i32), S, BLOCK_BYTES>(alloc, &mut from, format, LIMIT) {
+            Ok(row) => sum = with_both(sum, row),
+            Err(ScanRowFault::Failed(_)) => break,
+            Err(fault) => return Err(fault.into()),
+        }
+    }
+    Ok(sum)
+}
+
 fn sum_of_text(alloc: Global, text: &[u8], format: &ScanFormat, count: u64) -> anyhow::Result<i64> {
     let mut sum = 0;
     for _ in 0..count {
@@ -96,12 +116,48 @@ fn sum_of_text(alloc: Global, text: &[u8], format: &ScanFormat, count: u64) -> a
     Ok(sum)
 }
 
+fn sum_over(alloc: Global, text: &[u8], format: &ScanFormat, count: u64) -> anyhow::Result<i64> {
+    let mut store = HeapStore::new(alloc, 0)?;
+    let mut sum = 0;
+    for _ in 0..count {
+        let scanned = sscan_over(alloc, store, text, format, LIMIT)?;
+        let report = scanned.report();
+        if let (Some(Value::I32(left)), Some(Value::I32(right))) = (
+            report.value(1),
+            report.value(2),
+        ) {
+            sum = with_both(sum, (left, right));
+        }
+        store = scanned.into_store();
+    }
+    Ok(sum)
+}
+
+fn sum_text_rows(
+    alloc: Global,
+    text: &[u8],
+    format: &ScanFormat,
+    count: u64,
+) -> anyhow::Result<i64> {
+    let mut sum = 0;
+    for _ in 0..count {
+        sum = with_both(sum, sscan_row(alloc, text, format, LIMIT)?);
+    }
+    Ok(sum)
+}
+
 fn main(rt: HostRuntime) -> anyhow::Result<()> {
     let alloc = rt.alloc();
     let words: Vec<String> = env::args(&rt)?.skip(1).collect(alloc)?;
     let format = ScanFormat::parse(alloc, Profile::One, b"%d,%d")?;
     let source = StdSource::new(rt.stdin());
     let sum = match words.as_slice() {
+        [name, text, count] if name.as_str() == "over" => {
+            sum_over(alloc, text.as_bytes(), &format, count.parse()?)?
+        }
+        [name, text, count] if name.as_str() == "row" => {
+            sum_text_rows(alloc, text.as_bytes(), &format, count.parse()?)?
+        }
         [_, text, count] => sum_of_text(alloc, text.as_bytes(), &format, count.parse()?)?,
         [name] if name.as_str() == "records" => {
             sum_records(Records::new(alloc, source, &format, LIMIT)?)?
@@ -109,6 +165,7 @@ fn main(rt: HostRuntime) -> anyhow::Result<()> {
         [name] if name.as_str() == "lines" => {
             sum_lines(Lines::new(alloc, source, &format, LIMIT)?)?
         }
+        [name] if name.as_str() == "rows" => sum_rows(alloc, Lookahead::new(source), &format)?,
         _ => sum_scans(alloc, Lookahead::new(source), &format)?,
     };
     println!(rt; "{sum}")?;

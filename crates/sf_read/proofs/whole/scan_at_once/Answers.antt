@@ -8,18 +8,19 @@ use Rattle.sf_run.specs.Views.{report_by}
 use Rattle.sf_read.proofs.whole.scan_at_once.Goals as goal
 
 pub returns-then-text-ge-BLOCK-clause-run : goal.returns-then-text-ge-BLOCK-clause-run
-returns-then-text-ge-BLOCK-clause-run c = by c.quick_run.result c.quick_run.ensures.run
+returns-then-text-ge-BLOCK-clause-run c = by c.quick_run_into.result c.quick_run_into.ensures.run
   where
     by : (o : Option Outcome)
         → IfSome o (λ outcome. (z : List ℕ) (ending : Ending)
-        → RunWithin c.args.format.now c.args.limit (c.args.text.now ++ z) ending (report_by outcome c.quick_run.new.store.values))
+        → RunWithin c.args.format.now c.args.limit (c.args.text.now ++ z) ending (report_by outcome c.quick_run_into.new.store.values))
         → IfSome o (λ outcome. RunWithin c.args.format.now c.args.limit c.args.text.now End
-        (report_by outcome c.quick_run.new.store.values))
+        (report_by outcome c.quick_run_into.new.store.values))
     by None h = tt
-    by (Some outcome) h = subst (λ x. RunWithin c.args.format.now c.args.limit x End (report_by outcome c.quick_run.new.store.values))
+    by (Some outcome) h = subst (λ x. RunWithin c.args.format.now c.args.limit x End (report_by outcome c.quick_run_into.new.store.values))
         (append-nil c.args.text.now) (h [] End)
 
-pub returns-clause-run : goal.returns-clause-run
-returns-clause-run c =
-    subst (λ x. RunWithin c.args.format.now c.args.limit x End (report_by c.in-Some-quick_run.outcome c.quick_run-2.new.store.values))
-    (append-nil c.args.text.now) (c.in-Some-quick_run.ensures.run [] End)
+pub returns-in-Some-clause-run : goal.returns-in-Some-clause-run
+returns-in-Some-clause-run c =
+    subst (λ x. RunWithin c.args.format.now c.args.limit x End
+    (report_by c.in-Some.outcome c.quick_run_into-then-ends_with.new.store.values))
+    (append-nil c.args.text.now) (c.in-Some.ensures.run [] End)

@@ -1,4 +1,4 @@
-use Rattle.std.proofs.Common.{ℕ, ◌≡◌, ◌+◌, ◌∷◌, ◌++◌, ◌∙◌, List, [], length, drop, refl, subst, arith}
+use Rattle.std.proofs.Common.{ℕ, ◌+◌, ◌∷◌, List, [], length, drop, refl, subst, arith}
 use Rattle.sf_format.specs.Proper.{AreProper}
 use Rattle.sf_run.specs.outcome.Ending.TheVariants.{End}
 use Rattle.sf_run.specs.Limits.{RunWithin}
@@ -12,7 +12,7 @@ pub returns-then-used-text-clause-run : goal.returns-then-used-text-clause-run
 returns-then-used-text-clause-run g c =
     let ds = c.args.format.now in
     let text : List ℕ = c.args.text.now in
-    let report : RunReport = report_by c.in_ok-outcome.outcome c.quick_run.new.store.values in
+    let report : RunReport = report_by c.in_ok-outcome.outcome (g.K.Store.kept c.quick_run_into.new.store).values in
     let rest : List ℕ = drop (length text + 1) c.lay_down.new.block in
     inside_report c.done_runs_stay.ensures c.open_inputs_are_used.ensures ds
     (subst AreProper c.directives-directives.ensures.value c.directives-directives.ensures.proper) c.args.limit text (10 ∷ rest) report
@@ -24,7 +24,7 @@ pub returns-clause-run : goal.returns-clause-run
 returns-clause-run g c =
     let ds = c.args.format.now in
     let text : List ℕ = c.args.text.now in
-    let report : RunReport = report_by c.in_ok-outcome.outcome c.quick_run.new.store.values in
+    let report : RunReport = report_by c.in_ok-outcome.outcome (g.K.Store.kept c.quick_run_into.new.store).values in
     let rest : List ℕ = drop (length text + 1) c.lay_down.new.block in
     whole_report c.done_runs_stay.ensures ds
     (subst AreProper c.directives-directives.ensures.value c.directives-directives.ensures.proper)

@@ -4,7 +4,7 @@ use Rattle.sf_run.proofs.AtOnce.{Counted}
 use Rattle.sf_run.proofs.quick.pass_all.Given as goal
 
 abbrev pub invariant-loop-at : goal.invariant-loop-at
-invariant-loop-at l = record {
-  counted : Counted l.directives l.front l.rest l.at l.store;
-  room : capacity_of l.fn.store ≤ capacity_of l.store;
+invariant-loop-at g l = record {
+  counted : Counted l.directives l.front l.rest l.at (g.S.Store.kept l.store);
+  room : capacity_of (g.S.Store.kept l.fn.store) ≤ capacity_of (g.S.Store.kept l.store);
 }

@@ -12,26 +12,26 @@ by_end None some none = absurd (none refl)
 by_end (Some e) some none = some refl
 
 pub pass_so-requires-clause-free : goal.pass_so-requires-clause-free
-pass_so-requires-clause-free c =
+pass_so-requires-clause-free g c =
     let ds = c.args.directives.now in
     let d : Directive = c.index-directives-at.result in
     c.requires.free d (slice_get_read ds (length ds) c.args.at d refl c.requires.within c.index-directives-at.is)
 
-module _ (c : goal.After-pass_so) (d : Directive) (at : slice_get c.args.directives.now c.args.at ≡ Some d) where
+module _ (g : _) (c : goal.After-pass_so g) (d : Directive) (at : slice_get c.args.directives.now c.args.at ≡ Some d) where
   same : c.index-directives-at.result ≡ d
   same = c.index-directives-at.is ∙ get_or_from_slice_get c.args.directives.now c.args.at d c.index-directives-at.result at
 
 pub returns-clause-passes : goal.returns-clause-passes
-returns-clause-passes c d at proper =
-    let is = same c d at in
+returns-clause-passes g c d at proper =
+    let is = same g c d at in
     subst (λ (e : Directive). IfSome c.pass_so.result (λ taken. Passes e c.args.used c.args.piece.now taken
-    c.args.store.now c.pass_so.new.store))
+    (g.S.Store.kept c.args.store.now) (g.S.Store.kept c.pass_so.new.store)))
     is (c.pass_so.ensures.passes (subst (λ (e : Directive). IsProper e) (sym is) proper))
 
 pub returns-clause-sure : goal.returns-clause-sure
-returns-clause-sure c d at proper sure =
-    let is = same c d at in
+returns-clause-sure g c d at proper sure =
+    let is = same g c d at in
     let own = subst (λ (e : Directive). IsProper e) (sym is) proper in
-    let here = subst (λ (e : Directive). IsSure e c.args.used c.args.piece.now c.args.store.now.room) (sym is) sure in
+    let here = subst (λ (e : Directive). IsSure e c.args.used c.args.piece.now (g.S.Store.kept c.args.store.now).room) (sym is) sure in
     by_end c.ended_within-ended.result (λ some. c.pass_so.ensures.sure some own here)
-    (λ none. c.ended_within-ended.ensures.waits none own c.args.store.now.room here)
+    (λ none. c.ended_within-ended.ensures.waits none own (g.S.Store.kept c.args.store.now).room here)

@@ -6,28 +6,29 @@ use Rattle.sf_run.proofs.AtOnce.{free_of, passes_within, sure_given}
 use Rattle.sf_run.proofs.quick.pass_so.Goals as goal
 
 pub give-requires-clause-free : goal.give-requires-clause-free
-give-requires-clause-free c =
+give-requires-clause-free g c =
     let e : Ended = c.in_ok-ended.ended in
     let d = c.args.directive.now in
     let own : EndsAtOnce d c.args.used c.args.piece.now e = subst
     (λ (o : Option Ended). IfSome o (EndsAtOnce d c.args.used c.args.piece.now)) c.in_ok-ended.was c.requires.ends in
-    free_of e.finished d c.args.store.now.values own.fits.given c.requires.free
+    free_of g.S.Store.slots e.finished d (g.S.Store.kept c.args.store.now).values own.fits.given c.requires.free
 
 pub returns-in_err-_stores-clause-sure : goal.returns-in_err-_stores-clause-sure
-returns-in_err-_stores-clause-sure c = λ some proper sure.
+returns-in_err-_stores-clause-sure g c = λ some proper sure.
     let e : Ended = c.in_ok-ended.ended in
     let d = c.args.directive.now in
     let own : EndsAtOnce d c.args.used c.args.piece.now e = subst
     (λ (o : Option Ended). IfSome o (EndsAtOnce d c.args.used c.args.piece.now)) c.in_ok-ended.was c.requires.ends in
-    absurd (sure_given d c.args.used c.args.piece.now c.args.store.now.room e proper own sure (c.in_err-_stores.ensures.none refl))
+    absurd (sure_given d c.args.used c.args.piece.now (g.S.Store.kept c.args.store.now).room e proper own sure
+    (c.in_err-_stores.ensures.none refl))
 
 pub returns-clause-passes : goal.returns-clause-passes
-returns-clause-passes c = λ proper.
+returns-clause-passes g c = λ proper.
     let e : Ended = c.in_ok-ended.ended in
     let d = c.args.directive.now in
     let own : EndsAtOnce d c.args.used c.args.piece.now e = subst
     (λ (o : Option Ended). IfSome o (EndsAtOnce d c.args.used c.args.piece.now)) c.in_ok-ended.was c.requires.ends in (
       c.in_ok-_stores._stores,
-      passes_within d c.args.used c.args.piece.now e c.in_ok-_stores._stores c.args.store.now c.give.new.store proper
-          own c.in_ok-_stores.ensures.gives,
+      passes_within d c.args.used c.args.piece.now e c.in_ok-_stores._stores (g.S.Store.kept c.args.store.now)
+          (g.S.Store.kept c.give.new.store) proper own c.in_ok-_stores.ensures.gives,
     )

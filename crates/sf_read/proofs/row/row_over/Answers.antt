@@ -6,8 +6,8 @@ use Rattle.sf_run.specs.Memory.{capacity_of}
 use Rattle.sf_run.specs.declared.feeding.StartFault.TheVariants.{NoMemory}
 use Rattle.sf_read.specs.declared.row.ScanRowFault.TheVariants.{Start}
 use Rattle.sf_read.proofs.Shapes.{enough_still, run_no_start}
-use Rattle.sf_read.proofs.row.scan_row_over.Goals.{in_default-via-in-None-1, in_default-via-in-Some+in-None-1}
-use Rattle.sf_read.proofs.row.scan_row_over.Goals as goal
+use Rattle.sf_read.proofs.row.row_over.Goals.{in_default-via-in-None-1, in_default-via-in-Some+in-None-1}
+use Rattle.sf_read.proofs.row.row_over.Goals as goal
 
 pub returns-clause-enough : goal.returns-clause-enough
 returns-clause-enough g c = by c.args.store.now

@@ -3,12 +3,12 @@ use Rattle.sf_run.specs.Rows.{AreRowOf}
 use Rattle.sf_run.specs.Runs.{RunReport}
 use Rattle.sf_run.specs.Views.{report_by}
 use Rattle.sf_read.proofs.Shapes.{given, row_scanned}
-use Rattle.sf_read.proofs.row.row_held.Goals as goal
+use Rattle.sf_read.proofs.row.row_held_into.Goals as goal
 
 pub from_report-requires-clause-given : goal.from_report-requires-clause-given
 from_report-requires-clause-given g c =
     let told = c.in_ok-outcome.ensures.told in
-    let report : RunReport = report_by c.in_ok-outcome.outcome c.fscan_held.new.store.values in
+    let report : RunReport = report_by c.in_ok-outcome.outcome (g.K.Store.kept c.held_into.new.store).values in
     rw (c.new-report.ensures)
     (given g.T.Row.kinds c.args.format.now c.args.limit told.0 told.1 report c.requires.kinded c.requires.shape told.2
     c.in_ok-outcome.ensures.done)
@@ -16,9 +16,9 @@ from_report-requires-clause-given g c =
 pub returns-in-Ok-clause-run : goal.returns-in-Ok-clause-run
 returns-in-Ok-clause-run g c =
     let e = c.in_ok-outcome.ensures in
-    let report : RunReport = report_by c.in_ok-outcome.outcome c.fscan_held.new.store.values in
+    let report : RunReport = report_by c.in_ok-outcome.outcome (g.K.Store.kept c.held_into.new.store).values in
     row_scanned g.S.Source.to_come g.S.Source.reads g.S.Source.failures g.row.N g.T.Row.kinds g.T.Row.listed c.args.format.now
-    c.args.limit c.args.from.now c.fscan_held.new.from report _ e.done e.met c.fscan_held.ensures.no_read e.within e.held (
+    c.args.limit c.args.from.now c.held_into.new.from report _ e.done e.met c.held_into.ensures.no_read e.within e.held (
       e.done,
       subst (λ (r : RunReport). AreRowOf (length g.T.Row.kinds) (g.T.Row.listed c.in-Ok.row) r.values) c.new-report.ensures
           c.in-Ok.ensures,
@@ -28,7 +28,7 @@ returns-in-Ok-clause-run g c =
 pub returns-in-Err-NoMemory-clause-run : goal.returns-in-Err-NoMemory-clause-run
 returns-in-Err-NoMemory-clause-run g c =
     let e = c.in_ok-outcome.ensures in
-    let report : RunReport = report_by c.in_ok-outcome.outcome c.fscan_held.new.store.values in
+    let report : RunReport = report_by c.in_ok-outcome.outcome (g.K.Store.kept c.held_into.new.store).values in
     row_scanned g.S.Source.to_come g.S.Source.reads g.S.Source.failures g.row.N g.T.Row.kinds g.T.Row.listed c.args.format.now
-    c.args.limit c.args.from.now c.fscan_held.new.from report _ e.done e.met c.fscan_held.ensures.no_read e.within e.held e.done
+    c.args.limit c.args.from.now c.held_into.new.from report _ e.done e.met c.held_into.ensures.no_read e.within e.held e.done
     e.scan e.told

@@ -3,11 +3,11 @@ use Rattle.sf_run.specs.outcome.Ending.TheVariants.{End}
 use Rattle.sf_run.specs.Limits.{RunWithin}
 use Rattle.sf_run.specs.Views.{report_by}
 use Rattle.sf_read.proofs.Holding.{held_scan}
-use Rattle.sf_read.proofs.stream.fscan_held.Goals as goal
+use Rattle.sf_read.proofs.stream.held_into.Goals as goal
 
 pub returns-clause-scan : goal.returns-clause-scan
 returns-clause-scan g c t e =
-    let report = report_by c.in_ok-outcome.outcome c.quick_run.new.store.values in
+    let report = report_by c.in_ok-outcome.outcome (g.K.Store.kept c.quick_run_into.new.store).values in
     let held : c.held.result.now ≡ c.args.from.now.held = c.held.ensures.held in
     let used = c.in_ok-outcome.ensures.used in
     held_scan g.S.Source.to_come c.args.format.now c.args.limit c.args.from.now c.consume.new.self report
