@@ -1,5 +1,5 @@
 -- What the reading of a line takes from an input.
-use Rattle.std.specs.Prelude.{◌≡◌, ◌≤◌, ◌<◌, ◌^◌, ◌⊎◌, ℕ, List, [], ◌∷◌, ◌++◌, length, take, Bool, true, false, Option}
+use Rattle.std.specs.Prelude.{◌≡◌, ◌≤◌, ◌<◌, ◌^◌, ◌⊎◌, ◌+◌, ℕ, List, [], ◌∷◌, ◌++◌, length, take, drop, Bool, true, false, Option}
 use Rattle.std.specs.Io.KnownBytes.{Consumes, IsAtEnd}
 use Rattle.sf_read.specs.Ahead.{Ahead, input_of}
 use Rattle.sf_read.specs.Reads.{ReadsWhile}
@@ -22,6 +22,12 @@ pub record Took {S : Type 0} (to_come : S → Option (List ℕ)) (old new : Ahea
 pub record TookPart {S : Type 0} (to_come : S → Option (List ℕ)) (old new : Ahead S) (part : List ℕ) : Type 0 where
   pub is_line : IsLine part
   pub bytes : Loses to_come old new part
+
+-- bytes that are held begin with a line of so many, and its newline
+pub record IsHeld (held : List ℕ) (len : ℕ) : Type 0 where
+  pub within : len < length held
+  pub is_line : IsLine (take len held)
+  pub ended : held ≡ take len held ++ 10 ∷ drop (len + 1) held
 
 -- the most bytes of a line that is counted
 abbrev pub endless : ℕ

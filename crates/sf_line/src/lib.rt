@@ -4,4 +4,4 @@
 pub mod laws;
 mod line;
 
-pub use line::{LineRead, next_line};
+pub use line::{LineRead, held_line, next_line};

@@ -1,13 +1,19 @@
 //! Lines of a source.
-ghost use Rattle.std.specs.Prelude.{◌≡◌, ◌≤◌, ◌<◌, ◌+◌, ◌++◌, ◌∷◌, ◌⊎◌, true, false, length, take, drop, vec_capacity, vec_len, IfOk};
-ghost use Rattle.std.specs.Prelude.{IsOk, if◌then◌else◌};
+ghost use Rattle.std.specs.Prelude.{◌≡◌, ◌==◌, ◌≤◌, ◌<◌, ◌+◌, ◌++◌, ◌∷◌, ◌⊎◌, true, false, ℕ, List, length, map, take, drop};
+ghost use Rattle.std.specs.Prelude.{vec_capacity, vec_len, IfOk, IfSome, IsOk, Some, if◌then◌else◌};
+ghost use Rattle.memchr.specs.Find.{IsFirstByte, is_byte};
+ghost use lib.Lanes.{chunk, mask_l};
 ghost use Rattle.sf_read.specs.Counts.{counted_on};
 ghost use Rattle.sf_line.specs.Cut.{IsLine};
-ghost use Rattle.sf_line.specs.Reading.{Reads, UsesLine, is_failed};
+ghost use Rattle.sf_line.specs.Reading.{IsHeld, Reads, UsesLine, is_failed};
 
 use memchr::memchr;
 use sf_read::{Lookahead, Source};
 use std::alloc::AllocError;
+use std::simd::prelude::*;
+
+/// How many bytes are looked at at once.
+const LANES: usize = 16;
 
 /// What the reading of a line came to.
 #[derive(Clone, Copy, Debug, PartialEq, Eq)]
@@ -76,6 +82,31 @@ fn last_read(long: bool, is_empty: bool) -> LineRead
     }
 }
 
+/// Which of the first sixteen bytes are newlines: a bit each, the first byte's the lowest.
+#[inline(always)]
+fn newline_mask(bytes: &[u8]) -> u64
+    requires { 16 ≤ length bytes.now }
+    ensures { result ≡ mask_l (map (λ b. b == 10) (chunk 0 16 bytes.now)) }
+{
+    u8x16::from_slice(bytes)
+        .simd_eq(u8x16::splat(b'\n'))
+        .to_bitmask()
+}
+
+/// The place of the first newline. Many lines are short, so the first bytes are looked at without a call.
+#[inline(always)]
+fn find_newline(bytes: &[u8]) -> Option<usize>
+    ensures { IsFirstByte (is_byte 10) bytes.now result }
+{
+    if bytes.len() >= LANES {
+        let newlines = newline_mask(bytes);
+        if newlines != 0 {
+            return Some(newlines.trailing_zeros() as usize);
+        }
+    }
+    memchr(b'\n', bytes)
+}
+
 /// The bytes of the present line that are held.
 fn piece_of(held: &[u8]) -> Piece
     ensures within { result.len ≤ length held.now }
@@ -83,12 +114,32 @@ fn piece_of(held: &[u8]) -> Piece
     ensures ended { result.ended ≡ true → held.now ≡ take result.len held.now ++ 10 ∷ drop (result.len + 1) held.now }
     ensures all { result.ended ≡ false → result.len ≡ length held.now }
 {
-    match memchr(b'\n', held) {
+    match find_newline(held) {
         Some(len) => Piece { len, ended: true },
         None => Piece {
             len: held.len(),
             ended: false,
         },
+    }
+}
+
+/// How many bytes the next line has, where it is held whole, with its newline, and is within the limit.
+#[inline(always)]
+pub fn held_line<S: Source, const N: usize>(from: &Lookahead<S, N>, limit: usize) -> Option<usize>
+    ensures held { IfSome result (λ len. IsHeld from.now.held len) }
+    ensures open { IfSome result (λ len. from.now.at_end ≡ false) }
+    ensures short { IfSome result (λ len. len ≤ limit) }
+    ensures answers { (line rest : List ℕ) → IsLine line → from.now.held ≡ line ++ 10 ∷ rest → length line ≤ limit
+        → result ≡ Some (length line) }
+{
+    if from.is_at_end() {
+        return None;
+    }
+    let piece = piece_of(from.held());
+    if piece.ended && piece.len <= limit {
+        Some(piece.len)
+    } else {
+        None
     }
 }
 

@@ -18,7 +18,7 @@ use Rattle.sf_lines.specs.declared.judge.Verdict.{Verdict}
 use Rattle.sf_lines.specs.declared.judge.Verdict.TheVariants.{Is, Fails}
 use Rattle.sf_lines.specs.Coming.{Came, IsTold, Passes, Turns, is_read_fault}
 use Rattle.sf_lines.specs.Judging.{TriesEach, is_matched, is_unwritten, is_write_fault, verdict_by}
-use Rattle.sf_lines.specs.Reading.{Took}
+use Rattle.sf_line.specs.Reading.{Took}
 use Rattle.sf_lines.specs.Turns.{Comes, IsIgnored, IsRead, LineWork, Picks, Turn, fault_of, is_other, judged, written_by, number_of}
 use Rattle.sf_lines.proofs.Telling.{tells_nothing}
 

@@ -1,7 +1,5 @@
 pub mod Choosing
 pub mod Coming
-pub mod Cutting
-pub mod Gathering
 pub mod Holding
 pub mod Looping
 pub mod OneTurn

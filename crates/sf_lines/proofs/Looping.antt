@@ -11,10 +11,10 @@ use Rattle.sf_print.proofs.Appending.{Appends-none, Appends-then, Appends-same}
 use Rattle.sf_lines.specs.declared.end.LinesEnd.{LinesEnd}
 use Rattle.sf_lines.specs.declared.end.LinesFault.{LinesFault}
 use Rattle.sf_lines.specs.declared.end.LinesFault.TheVariants.{Read, Write, Memory, TooMany}
-use Rattle.sf_lines.specs.Cut.{lines_by, lines_of}
-use Rattle.sf_lines.specs.declared.line.LineRead.{LineRead}
-use Rattle.sf_lines.specs.declared.line.LineRead.TheVariants as reads
-use Rattle.sf_lines.specs.Reading.{Took, TookPart, Reads, endless, is_failed}
+use Rattle.sf_line.specs.Cut.{lines_by, lines_of}
+use Rattle.sf_line.specs.declared.line.LineRead.{LineRead}
+use Rattle.sf_line.specs.declared.line.LineRead.TheVariants as reads
+use Rattle.sf_line.specs.Reading.{Took, TookPart, Reads, endless, is_failed}
 use Rattle.sf_lines.specs.Turns.{AreScanned, LineWork, Turn, Comes}
 use Rattle.sf_lines.specs.Loops.{is_write, AreLines, AreLinesAndPart, AreTurns, IsBegun, IsCutShort, TellsLines, goes_on, tellings}
 use Rattle.sf_lines.specs.Loops.{telling_of, texts, text_of, is_written, fault_after, ended, status_by, most_lines}
@@ -26,7 +26,8 @@ use Rattle.sf_forms.specs.Written.{TakesPart}
 use Rattle.sf_lines.specs.Judging.{is_write_fault}
 use Rattle.sf_lines.specs.Telling.{Tells}
 use Rattle.sf_lines.proofs.Telling.{all_said, tells_nothing, tells_then}
-use Rattle.sf_lines.proofs.Reading.{Lined, begins, took, gone_all, are_lines, consumed, lines_and_part, failed_in, at_end}
+use Rattle.sf_line.proofs.Lined.{Lined, begins, took, gone_all, consumed, failed_in, at_end}
+use Rattle.sf_lines.proofs.Reading.{are_lines, lines_and_part}
 use Rattle.sf_lines.proofs.Turning.{Passed, all_went_on, passed_length, passed_then, passed_more, tellings_append, texts_more, count_more}
 use Rattle.sf_lines.proofs.Turning.{turns_behind, if_stopped}
 

@@ -7,11 +7,11 @@ use Rattle.sf_lines.specs.declared.end.LinesFault.{LinesFault}
 use Rattle.sf_lines.specs.declared.end.LinesFault.TheVariants as faults
 use Rattle.sf_lines.specs.declared.judge.Judged.{Judged}
 use Rattle.sf_lines.specs.declared.judge.Judged.TheVariants.{Skipped, Written, Failed, Stopped, Unread}
-use Rattle.sf_lines.specs.declared.line.LineRead.{LineRead}
-use Rattle.sf_lines.specs.declared.line.LineRead.TheVariants as reads
+use Rattle.sf_line.specs.declared.line.LineRead.{LineRead}
+use Rattle.sf_line.specs.declared.line.LineRead.TheVariants as reads
 use Rattle.sf_forms.specs.Written.{TakesPart}
 use Rattle.sf_lines.specs.Loops.{fault_after, telling_of, text_of}
-use Rattle.sf_lines.specs.Reading.{Reads, Took, is_failed}
+use Rattle.sf_line.specs.Reading.{Reads, Took, is_failed}
 use Rattle.sf_lines.specs.Telling.{Tells}
 use Rattle.sf_lines.specs.Turns.{Comes, LineWork, Miss, Turn}
 

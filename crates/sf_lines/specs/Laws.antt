@@ -3,25 +3,9 @@ use Rattle.std.specs.Prelude.{◌≡◌, ◌<◌, ◌⊎◌, ℕ, List, [], ◌�
 use Rattle.std.specs.List.{AllByRecursion}
 use Rattle.sf_run.specs.outcome.Ending.{Ending}
 use Rattle.sf_run.specs.outcome.Ending.TheVariants.{Fault}
-use Rattle.sf_lines.specs.Cut.{IsLine, lines_by, lines_of, joined}
+use Rattle.sf_line.specs.Cut.{IsLine, lines_by, lines_of, joined}
 use Rattle.sf_lines.specs.Turns.{AreScanned, LineWork, Turn}
 use Rattle.sf_lines.specs.Loops.{AreTurns}
-
--- a line is cut off with its newline; the last one may lack that where the text ends, and not where a read failed
-pub record IsCutOff (line : List ℕ) : Type 0 where
-  pub first : (ending : Ending) (rest : List ℕ) → lines_by ending (line ++ 10 ∷ rest) ≡ line ∷ lines_by ending rest
-  pub last : 0 < length line → lines_of line ≡ line ∷ []
-  pub failed : lines_by Fault line ≡ []
-
-abbrev pub EachLineIsCut : Type 0
-EachLineIsCut = (line : List ℕ) → IsLine line → IsCutOff line
-
-abbrev pub LinesAreJoined : Type 0
-LinesAreJoined = (lines : List (List ℕ)) → AllByRecursion IsLine lines → lines_of (joined lines) ≡ lines
-
-abbrev pub TextsAreCut : Type 0
-TextsAreCut = (text : List ℕ) → AllByRecursion IsLine (lines_of text)
-    × ((joined (lines_of text) ≡ text) ⊎ (joined (lines_of text) ≡ text ++ 10 ∷ []))
 
 -- by formats that are accepted, of which one at least is tried, something comes of these lines, and nothing else
 pub record HaveOneTurn (w : LineWork) (n : ℕ) (lines : List (List ℕ)) : Type 0 where

@@ -1,9 +1,7 @@
 pub mod Coming
-pub mod Cut
 pub mod Judging
 pub mod Laws
 pub mod Loops
-pub mod Reading
 pub mod Rooms
 pub mod Telling
 pub mod Texts

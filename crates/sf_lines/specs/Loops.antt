@@ -7,13 +7,13 @@ use Rattle.sf_run.specs.outcome.Ending.{Ending}
 use Rattle.sf_run.specs.outcome.Ending.TheVariants as endings
 use Rattle.sf_read.specs.Ahead.{Ahead, input_of}
 use Rattle.sf_read.specs.Counts.{counted_on}
-use Rattle.sf_lines.specs.declared.line.LineRead.{LineRead}
-use Rattle.sf_lines.specs.declared.line.LineRead.TheVariants as reads
+use Rattle.sf_line.specs.declared.line.LineRead.{LineRead}
+use Rattle.sf_line.specs.declared.line.LineRead.TheVariants as reads
 use Rattle.sf_lines.specs.declared.end.LinesEnd.{LinesEnd}
 use Rattle.sf_lines.specs.declared.end.LinesFault.{LinesFault}
 use Rattle.sf_lines.specs.declared.end.LinesFault.TheVariants.{Read, Write, Memory, TooMany}
-use Rattle.sf_lines.specs.Cut.{IsLine, lines_by, lines_of}
-use Rattle.sf_lines.specs.Reading.{endless}
+use Rattle.sf_line.specs.Cut.{IsLine, lines_by, lines_of}
+use Rattle.sf_line.specs.Reading.{endless}
 use Rattle.sf_lines.specs.Telling.{Tells}
 use Rattle.sf_lines.specs.Turns.{LineWork, Turn, Comes}
 

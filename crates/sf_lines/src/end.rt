@@ -5,7 +5,7 @@ ghost use Rattle.sf_lines.specs.Loops.{fault_after, status_by};
 ghost use Rattle.sf_lines.specs.Texts.{line_fault_text, lines_fault_text};
 
 use crate::judge::Judged;
-use crate::line::LineRead;
+use sf_line::LineRead;
 use sf_run::Outcome;
 use std::error::Error;
 use std::fmt;

@@ -17,11 +17,11 @@ ghost use Rattle.sf_lines.specs.declared.end.LineFault.{LineFault};
 
 use crate::end::{LineFault, LinesFault};
 use crate::formats::LineFormats;
-use crate::line::LineRead;
 use crate::options::LinesOptions;
 use crate::teller::Teller;
 use sf_base::{HeapStore, Store};
 use sf_format::ScanFormat;
+use sf_line::LineRead;
 use sf_makers::{Maker, Unwritten};
 use sf_print::Sink;
 use sf_read::sscan_over;

@@ -5,7 +5,6 @@ mod end;
 mod formats;
 mod judge;
 pub mod laws;
-mod line;
 mod lines;
 mod options;
 mod teller;
@@ -13,7 +12,7 @@ mod turn;
 
 pub use end::{LineFault, LinesEnd, LinesFault};
 pub use formats::LineFormats;
-pub use line::{LineRead, next_line};
 pub use lines::run_lines;
 pub use options::LinesOptions;
+pub use sf_line::{LineRead, next_line};
 pub use teller::Teller;

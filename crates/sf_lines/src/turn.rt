@@ -5,9 +5,9 @@ ghost use Rattle.std.specs.List.{AllByRecursion};
 ghost use Rattle.sf_format.specs.Proper.{AreProper};
 ghost use Rattle.sf_print.specs.Sinks.{counted_on};
 ghost use Rattle.sf_lines.specs.Coming.{Passes, Turns, is_read_fault};
-ghost use Rattle.sf_lines.specs.Cut.{IsLine};
+ghost use Rattle.sf_line.specs.Cut.{IsLine};
 ghost use Rattle.sf_lines.specs.Judging.{is_write_fault};
-ghost use Rattle.sf_lines.specs.Reading.{IsHeld};
+ghost use Rattle.sf_line.specs.Reading.{IsHeld};
 ghost use Rattle.sf_lines.specs.Telling.{Stays};
 ghost use Rattle.sf_lines.specs.Turns.{work_of};
 ghost use Rattle.sf_lines.specs.declared.end.LineFault.{LineFault};
@@ -15,34 +15,14 @@ ghost use Rattle.sf_lines.specs.declared.end.LineFault.{LineFault};
 use crate::end::LineFault;
 use crate::formats::LineFormats;
 use crate::judge::{Judged, judge, tell};
-use crate::line::{LineRead, next_line, piece_of};
 use crate::options::LinesOptions;
 use crate::teller::Teller;
 use sf_base::HeapStore;
+use sf_line::{LineRead, held_line, next_line};
 use sf_makers::Maker;
 use sf_print::Sink;
 use sf_read::{Lookahead, Source};
 use std::alloc::Global;
-
-/// How many bytes the next line has, where it is held whole, with its newline, and is within the limit.
-#[inline(always)]
-fn held_line<S: Source, const N: usize>(from: &Lookahead<S, N>, limit: u32) -> Option<usize>
-    ensures held { IfSome result (λ len. IsHeld from.now.held len) }
-    ensures open { IfSome result (λ len. from.now.at_end ≡ false) }
-    ensures short { IfSome result (λ len. len ≤ limit) }
-    ensures answers { (line rest : List ℕ) → IsLine line → from.now.held ≡ line ++ 10 ∷ rest → length line ≤ limit
-        → result ≡ Some (length line) }
-{
-    if from.is_at_end() {
-        return None;
-    }
-    let piece = piece_of(from.held());
-    if piece.ended && piece.len <= limit as usize {
-        Some(piece.len)
-    } else {
-        None
-    }
-}
 
 /// Takes the next line, of so many bytes, and judges it where it stands.
 #[inline(always)]
@@ -181,7 +161,7 @@ pub(crate) fn turn<M: Maker, E: Teller<K>, S: Source, K: Sink, const N: usize>(
     if before < options.skip {
         return pass_line(from, line);
     }
-    match held_line(from, options.limit) {
+    match held_line(from, options.limit as usize) {
         Some(len) => take_held(
             alloc,
             from,

@@ -1,10 +1,15 @@
-use Rattle.std.proofs.Common.{◌∙◌, ℕ, List, cond, sym, ap, subst}
+use Rattle.std.proofs.Common.{◌∙◌, ℕ, List, [], cond, sym, ap, subst, append-nil}
 use Rattle.sf_print.specs.Sinks.{counted_on}
 use Rattle.sf_lines.specs.Coming.{Came}
-use Rattle.sf_lines.specs.Reading.{is_failed}
+use Rattle.sf_line.specs.Reading.{is_failed}
 use Rattle.sf_lines.specs.Turns.{work_of}
 use Rattle.sf_lines.proofs.Coming.{came_long, turned}
 use Rattle.sf_lines.proofs.turn.read_line.Goals as goal
+
+-- the line is lent twice, with the same bytes
+pub judge-requires-clause-front : goal.judge-requires-clause-front
+judge-requires-clause-front g c =
+    ([], c.deref-in-Line.ensures.value ∙ sym c.deref.ensures.value ∙ sym (append-nil c.deref.result.now))
 
 pub returns-in-Line-clause-turns : goal.returns-in-Line-clause-turns
 returns-in-Line-clause-turns g c telling said =

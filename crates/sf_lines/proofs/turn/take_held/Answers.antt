@@ -4,7 +4,7 @@ use Rattle.sf_print.specs.Sinks.{counted_on}
 use Rattle.sf_lines.specs.Coming.{Came}
 use Rattle.sf_lines.specs.Turns.{work_of}
 use Rattle.sf_lines.proofs.Coming.{turned}
-use Rattle.sf_lines.proofs.Holding.{takes, with_line_end}
+use Rattle.sf_line.proofs.Held.{takes, with_line_end}
 use Rattle.sf_lines.proofs.turn.take_held.Goals as goal
 
 pub judge-judged-requires : goal.judge-judged-requires

@@ -5,7 +5,7 @@ use Rattle.std.specs.List.{prefix_len}
 use lib.Count.{count_trailing_zeros}
 use lib.Lanes.{chunk, mask_l}
 use Rattle.sf_base.proofs.Lanes.{ends_at, front_lt}
-use Rattle.sf_lines.proofs.line.find_newline.Goals as goal
+use Rattle.sf_line.proofs.line.find_newline.Goals as goal
 
 is_true : (b : Bool) → not b ≡ false → b ≡ true
 is_true true e = refl

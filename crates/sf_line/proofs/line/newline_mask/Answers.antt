@@ -2,7 +2,7 @@ use Rattle.std.proofs.Common.{◌≡◌, ◌==◌, ℕ, Bool, true, false, cond,
 use Rattle.std.proofs.lemmas.Simd.{zip2_splat, length-chunk}
 use lib.Lanes.{chunk, top}
 use Rattle.sf_base.proofs.Lanes.{mask_by}
-use Rattle.sf_lines.proofs.line.newline_mask.Goals as goal
+use Rattle.sf_line.proofs.line.newline_mask.Goals as goal
 
 top_of : (b : Bool) → top 7 (cond b 255 0) ≡ b
 top_of true = refl

@@ -1,8 +1,8 @@
 use Rattle.std.proofs.Common.{◌≡◌, ◌∷◌, ◌∙◌, ℕ, List, Some, length, take, sym, ap, arith}
 use Rattle.std.proofs.lemmas.List.{length-append, length-take-le}
-use Rattle.sf_lines.proofs.Holding.{no_line_end, one_front}
-use Rattle.sf_lines.proofs.turn.held_line.Goals.{else-piece-via-else-piece, else-piece-via-then-piece+else-piece-limit}
-use Rattle.sf_lines.proofs.turn.held_line.Goals as goal
+use Rattle.sf_line.proofs.Held.{no_line_end, one_front}
+use Rattle.sf_line.proofs.line.held_line.Goals.{else-piece-via-else-piece, else-piece-via-then-piece+else-piece-limit}
+use Rattle.sf_line.proofs.line.held_line.Goals as goal
 
 pub returns-then-piece-limit-clause-answers : goal.returns-then-piece-limit-clause-answers
 returns-then-piece-limit-clause-answers g c line rest is_line whole short =
