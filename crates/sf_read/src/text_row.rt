@@ -11,8 +11,8 @@ use sf_format::ScanFormat;
 use sf_run::{MOST_BYTES, Report, StartFault};
 use std::alloc::Global;
 
-/// The row of a short text, where the format stores a few numbers and no texts, and the text is seen at once to be Done:
-/// the numbers need no memory. None where that isn't so, and where the limit is too high.
+/// The row of a short text, where the format stores a few numbers and no texts, and the text is seen at once to be
+/// Done: the numbers need no memory. None where that isn't so, and where the limit is too high.
 #[inline(always)]
 fn row_of_short<T: Row>(
     alloc: Global,
@@ -67,8 +67,8 @@ fn row_by_sscan<T: Row>(
 ///
 /// Refuses with ShapeDiffers where the slots of the row and their kinds are not the destinations of the format and
 /// theirs; then with Start where `sscan` refuses. A run that doesn't end as Done is reported by Failed. Last comes
-/// NoMemory, where memory for the row was refused. The numbers of a short text are kept without memory, where the format
-/// stores at most eight, and no texts.
+/// NoMemory, where memory for the row was refused. The numbers of a short text are kept without memory, where the
+/// format stores at most eight, and no texts.
 pub fn sscan_row<T: Row>(
     alloc: Global,
     text: &[u8],
