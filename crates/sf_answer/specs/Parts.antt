@@ -41,7 +41,7 @@ length_part kind.U64 = codes "l"
 length_part kind.F64 = codes "l"
 length_part _ = []
 
--- `d` and `i` by `d`: `i` would take 010 as 8
+-- `d` and `i` by `d`: `i` would take 010 as 8; each float by `f`
 abbrev pub letter_part : PrintLetter → List ℕ
 letter_part letter.Signed = codes "d"
 letter_part letter.Unsigned = codes "u"
@@ -51,6 +51,7 @@ letter_part letter.HexUpper = codes "X"
 letter_part letter.Binary = codes "b"
 letter_part letter.Text = codes "s"
 letter_part letter.One = codes "c"
+letter_part (letter.Float style upper) = codes "f"
 
 abbrev pub opening_part : Bool → ℕ → Option ℕ → List ℕ
 opening_part numbered slot width = codes "%" ++ (number_part numbered slot ++ width_part width)

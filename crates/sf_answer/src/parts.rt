@@ -93,6 +93,7 @@ fn letter_text(letter: PrintLetter) -> &'static str
         PrintLetter::Binary => "b",
         PrintLetter::Text => "s",
         PrintLetter::One => "c",
+        PrintLetter::Float(..) => "f",
     }
 }
 

@@ -1,5 +1,6 @@
 pub mod Escaping
 pub mod Finding
+pub mod Floats
 pub mod Numbers
 pub mod OneAnswer
 pub mod Places

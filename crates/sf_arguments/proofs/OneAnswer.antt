@@ -15,6 +15,7 @@ use Rattle.sf_arguments.specs.declared.argument_fault.ArgumentFault.TheVariants.
 use Rattle.sf_arguments.specs.Words.{IsNumberOf, StandsFor}
 use Rattle.sf_arguments.specs.Arguments.{IsAtFault, IsLowestFault, IsRefusedBy, StandsAt, ValuesOf}
 use Rattle.sf_arguments.specs.Laws.{OneValue, OneList, CountIsTold, FirstIsTold}
+use Rattle.sf_arguments.proofs.Floats.{one_float}
 use Rattle.sf_arguments.proofs.Numbers.{one_number}
 use Rattle.sf_arguments.proofs.Readings.{one_list, one_unread, unread_or_read}
 use Rattle.sf_arguments.specs.declared.word_reading.WordReading.{WordReading}
@@ -36,6 +37,7 @@ one_value_holds how letter.Octal k word a b is too = same_number k word a b is t
 one_value_holds how letter.HexLower k word a b is too = same_number k word a b is too
 one_value_holds how letter.HexUpper k word a b is too = same_number k word a b is too
 one_value_holds how letter.Binary k word a b is too = same_number k word a b is too
+one_value_holds how (letter.Float style upper) k word a b is too = one_float word a b is too
 
 -- ---- one list
 
@@ -98,6 +100,7 @@ module _ (how : WordReading) (units : List PrintUnit) (words : List (List ℕ)) 
   same_refusal letter.HexLower f g c word (none, is) (nor, too) = is ∙ sym too
   same_refusal letter.HexUpper f g c word (none, is) (nor, too) = is ∙ sym too
   same_refusal letter.Binary f g c word (none, is) (nor, too) = is ∙ sym too
+  same_refusal (letter.Float style upper) f g c word (none, is) (nor, too) = is ∙ sym too
 
   same_fault : (f g : ArgumentFault) (slot : ℕ) (word other : List ℕ) → word ≡ other → IsAtFault how units slot word f
       → IsAtFault how units slot other g → f ≡ g

@@ -132,6 +132,7 @@ module _ (how : WordReading) (units : List PrintUnit) (words : List (List ℕ)) 
   refused_stands_for_none letter.HexLower c word fault value (none, is) stands = absurd (none value stands)
   refused_stands_for_none letter.HexUpper c word fault value (none, is) stands = absurd (none value stands)
   refused_stands_for_none letter.Binary c word fault value (none, is) stands = absurd (none value stands)
+  refused_stands_for_none (letter.Float style upper) c word fault value (none, is) stands = absurd (none value stands)
 
   -- a word at fault stands for no value
   pub fault_stands_for_none : {A : Type 0} (slot : ℕ) (word : List ℕ) (fault : ArgumentFault) (value : Datum)

@@ -37,6 +37,7 @@ of_word_by how letter.Octal c word fault (none, is) = ap is_of_word is
 of_word_by how letter.HexLower c word fault (none, is) = ap is_of_word is
 of_word_by how letter.HexUpper c word fault (none, is) = ap is_of_word is
 of_word_by how letter.Binary c word fault (none, is) = ap is_of_word is
+of_word_by how (letter.Float style upper) c word fault (none, is) = ap is_of_word is
 of_word_by how letter.Text c word fault (at, bad, is) = ap is_of_word is
 of_word_by how letter.One c word fault (inl (at, bad, is)) = ap is_of_word is
 of_word_by how letter.One c word fault (inr (bytes, good, other, is)) = ap is_of_word is

@@ -12,11 +12,12 @@ use Rattle.sf_format.specs.declared.unit.PrintConv.{PrintConv}
 use Rattle.sf_format.specs.declared.unit.Unit.{Unit as PrintUnit}
 use Rattle.sf_format.specs.declared.unit.Unit.TheVariants as unit
 use Rattle.sf_format.specs.Slots.{AreSlots}
-use Rattle.sf_format.specs.Units.{AreProperUnits, IsProperUnit, is_text, prints_kind, values_of}
+use Rattle.sf_format.specs.Units.{AreProperUnits, IsProperUnit, is_double, is_text, prints_kind, values_of}
 use Rattle.sf_format.proofs.Outcomes.{by_test}
 use Rattle.sf_print.specs.declared.fault.PrintFault.{PrintFault}
 use Rattle.sf_print.specs.declared.fault.PrintFault.TheVariants as fault
 use Rattle.sf_print.specs.Printed.{value_at, kind_of, same_kind, suits, value_fault, fault_or_none, unit_fault, lower, lowest_fault}
+use Rattle.sf_print.proofs.Judged.{same_is_printed}
 use Rattle.sf_arguments.specs.Words.{StandsFor}
 use Rattle.sf_arguments.specs.declared.word_reading.WordReading.{WordReading}
 use Rattle.sf_arguments.specs.Arguments.{ValuesOf, conv_at}
@@ -50,6 +51,10 @@ same_text kind.Text e = refl
 same_text kind.F32 e = absurd (cc)
 same_text kind.F64 e = absurd (cc)
 
+same_double : (k : Kind) → is_double k ≡ true → same_kind kind.F64 k ≡ true
+same_double kind.F64 e = refl
+same_double _ e = absurd (cc)
+
 one_is_one : (n : ℕ) → n ≡ 1 → (n == 1) ≡ true
 one_is_one n e = ap (λ m. m == 1) e
 
@@ -67,10 +72,13 @@ suited how letter.Octal k word value proper (z, d, i, is) = subst (Suits letter.
 suited how letter.HexLower k word value proper (z, d, i, is) = subst (Suits letter.HexLower k) (sym is) (kind_itself k, refl)
 suited how letter.HexUpper k word value proper (z, d, i, is) = subst (Suits letter.HexUpper k) (sym is) (kind_itself k, refl)
 suited how letter.Binary k word value proper (z, d, i, is) = subst (Suits letter.Binary k) (sym is) (kind_itself k, refl)
+suited how (letter.Float style upper) k word value proper (bits, f, s, is) =
+    subst (Suits (letter.Float style upper) k) (sym is) (same_double k proper, refl)
 
 suits_so : (c : PrintConv) (value : Datum) → Suits c.letter c.kind value → value_fault c value ≡ None
 suits_so c value (same, suit) =
-    ap (λ v. cond (not v) (Some (fault.WrongKind c.slot)) (cond (not (suits c.letter value)) (Some (fault.NotOneByte c.slot)) None)) same
+    ap (λ v. cond (not v) (Some (fault.WrongKind c.slot)) (cond (not (suits c.letter value)) (Some (fault.NotOneByte c.slot)) None))
+    (same_is_printed (kind_of value) c.kind same)
     ∙ ap (λ v. cond (not v) (Some (fault.NotOneByte c.slot)) None) suit
 
 -- ---- each unit

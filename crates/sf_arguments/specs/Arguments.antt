@@ -12,7 +12,7 @@ use Rattle.sf_arguments.specs.declared.argument_fault.ArgumentFault.{ArgumentFau
 use Rattle.sf_arguments.specs.declared.argument_fault.ArgumentFault.TheVariants.{BadEscape, NotInKind, NotOneByte}
 use Rattle.sf_arguments.specs.Readings.{IsUnread, Reads}
 use Rattle.sf_arguments.specs.declared.word_reading.WordReading.{WordReading}
-use Rattle.sf_arguments.specs.Words.{IsNumberOf, IsReading, StandsFor}
+use Rattle.sf_arguments.specs.Words.{IsFloatOf, IsNumberOf, IsReading, StandsFor}
 
 -- ---- words that stand for values
 
@@ -64,10 +64,15 @@ IsNotOne how c word fault = (bytes : List ℕ) × Reads how word bytes × (lengt
 abbrev pub IsNoNumber : PrintConv → List ℕ → ArgumentFault → Type 0
 IsNoNumber c word fault = ((value : Datum) → IsNumberOf c.kind word value → ⊥) × (fault ≡ NotInKind c.slot c.kind)
 
+-- no float, or none that is in range
+abbrev pub IsNoFloat : PrintConv → List ℕ → ArgumentFault → Type 0
+IsNoFloat c word fault = ((value : Datum) → IsFloatOf word value → ⊥) × (fault ≡ NotInKind c.slot c.kind)
+
 -- why a word stands for no value that the letter prints: the first bad escape of a text comes before its length
 abbrev pub IsRefusedBy : WordReading → PrintLetter → PrintConv → List ℕ → ArgumentFault → Type 0
 IsRefusedBy how letter.Text c word fault = IsBadText how c word fault
 IsRefusedBy how letter.One c word fault = IsBadText how c word fault ⊎ IsNotOne how c word fault
+IsRefusedBy how (letter.Float style upper) c word fault = IsNoFloat c word fault
 IsRefusedBy how _ c word fault = IsNoNumber c word fault
 
 -- the word stands for no value of the conversion of the slot, and is refused so

@@ -4,12 +4,14 @@ ghost use Rattle.std.specs.Int.RustNames.{FitsSigned};
 ghost use Rattle.std.specs.Int.{w128};
 ghost use Rattle.sf_base.specs.Data.{Datum, datum_of};
 ghost use Rattle.sf_format.specs.declared.unit.PrintLetter.TheVariants.{One, Text};
-ghost use Rattle.sf_arguments.specs.Arguments.{IsNoNumber, IsRefusedBy};
-ghost use Rattle.sf_arguments.specs.Words.{Denotes, IsNumberOf, IsReading, StandsFor};
+ghost use Rattle.sf_arguments.specs.Arguments.{IsNoFloat, IsNoNumber, IsRefusedBy};
+ghost use Rattle.sf_arguments.specs.Words.{Denotes, IsFloatOf, IsNumberOf, IsReading, StandsFor};
 
 use crate::argument_fault::ArgumentFault;
 use crate::word_reading::{WordReading, bytes_of, read};
 use sf_base::{Kind, Value};
+use sf_float_item::is_float;
+use sf_float_value::value_f64;
 use sf_format::{PrintConv, PrintLetter};
 use std::alloc::{AllocError, Global};
 
@@ -28,6 +30,22 @@ fn integer_of_word<'a>(kind: Kind, word: &str) -> Option<Value<'a>>
 {
     let number = number_of(word)?;
     kind.value(number)
+}
+
+/// The float that a word denotes: one matching sequence of a scan's float, the nearest of binary64, where that is in
+/// range.
+fn float_of_word<'a>(word: &str) -> Option<Value<'a>>
+    ensures some { IfSome result (λ v. IsFloatOf word.now (datum_of v)) }
+    ensures none { IfNone result ((value : Datum) → ¬ (IsFloatOf word.now value)) }
+{
+    let text = word.as_bytes();
+    if !is_float(text) {
+        return None;
+    }
+    match value_f64(text) {
+        Some(bits) => Some(Value::F64(bits)),
+        None => None,
+    }
 }
 
 /// The value that a word stands for where the conversion prints it; `text` has its bytes if it is a text.
@@ -49,6 +67,10 @@ pub(crate) fn value_of_word<'a>(
         | PrintLetter::HexLower
         | PrintLetter::HexUpper
         | PrintLetter::Binary => match integer_of_word(conv.kind, word) {
+            Some(value) => value,
+            None => unreachable!(),
+        },
+        PrintLetter::Float(..) => match float_of_word(word) {
             Some(value) => value,
             None => unreachable!(),
         },
@@ -98,6 +120,20 @@ fn fault_of_number(conv: &PrintConv, word: &str) -> Option<ArgumentFault>
     }
 }
 
+/// Why a word stands for no float.
+fn fault_of_float(conv: &PrintConv, word: &str) -> Option<ArgumentFault>
+    ensures fault { IfSome result (IsNoFloat conv.now word.now) }
+    ensures none { IfNone result ((value : Datum) × IsFloatOf word.now value) }
+{
+    match float_of_word(word) {
+        Some(_) => None,
+        None => Some(ArgumentFault::NotInKind {
+            at: conv.slot,
+            kind: conv.kind,
+        }),
+    }
+}
+
 /// Why a word stands for no value that the conversion prints; None where it stands for one. It takes no memory.
 pub(crate) fn fault_of_word(how: WordReading, conv: &PrintConv, word: &str) -> Option<ArgumentFault>
     ensures fault { IfSome result (IsRefusedBy how conv.now.letter conv.now word.now) }
@@ -112,6 +148,7 @@ pub(crate) fn fault_of_word(how: WordReading, conv: &PrintConv, word: &str) -> O
         | PrintLetter::HexLower
         | PrintLetter::HexUpper
         | PrintLetter::Binary => fault_of_number(conv, word),
+        PrintLetter::Float(..) => fault_of_float(conv, word),
     }
 }
 
@@ -132,6 +169,7 @@ pub(crate) fn text_of_word(
         | PrintLetter::Octal
         | PrintLetter::HexLower
         | PrintLetter::HexUpper
-        | PrintLetter::Binary => Ok(Vec::new(alloc)),
+        | PrintLetter::Binary
+        | PrintLetter::Float(..) => Ok(Vec::new(alloc)),
     }
 }

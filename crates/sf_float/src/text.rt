@@ -2,6 +2,7 @@
 ghost use Rattle.std.specs.Prelude.{◌≡◌, ℕ, ◌+◌, ◌≤◌, ◌<◌, ◌^◌, ◌&&◌, ◌++◌, List, length, take, map, replicate, IsTrue, if◌then◌else◌};
 ghost use Rattle.std.specs.Char.{to_ascii_uppercase};
 ghost use Rattle.std.specs.Float.{float_is_finite, is_sign_negative};
+ghost use Rattle.sf_float.specs.Computed.{float_text};
 ghost use Rattle.sf_float.specs.Printed.{IsDigitsText, IsSizeText, IsSize, IsFloatText, in_case, sign, mark, is_hexadecimal, pads_with_zeros, bare_len, left_blanks, inner_zeros, right_blanks, field_text};
 
 use crate::fixed::write_fixed;
@@ -165,6 +166,9 @@ pub fn write_float(conv: &FloatConv, x: f64, out: &mut [u8; ROOM]) -> (FloatFiel
     ensures text { IsFloatText conv.now x (replicate result.0.left 32 ++ result.0.sign.now ++ result.0.mark.now ++
         replicate result.0.zeros 48
         ++ take result.1 out.new ++ replicate result.0.right 32) }
+    ensures computed { replicate result.0.left 32 ++ result.0.sign.now ++ result.0.mark.now ++
+        replicate result.0.zeros 48
+        ++ take result.1 out.new ++ replicate result.0.right 32 ≡ float_text conv.now x }
 {
     let len = write_size(conv, x, out);
     (field_around(conv, x, len), len)

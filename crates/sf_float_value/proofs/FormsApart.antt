@@ -9,10 +9,10 @@ use Rattle.sf_float_item.proofs.Apart.{either}
 use Rattle.sf_float_item.proofs.Joined.{infinity_of, nan_of}
 use Rattle.sf_float_item.proofs.Parses.{plus_opens_none, minus_opens_none}
 
-lower : (b : ℕ) → b < 65 → to_ascii_lowercase b ≡ b
+pub lower : (b : ℕ) → b < 65 → to_ascii_lowercase b ≡ b
 lower b h = rw (lt-ltb b 65 h) refl
 
-digit_lower : (b : ℕ) → is_ascii_digit b ≡ true → b < 58
+pub digit_lower : (b : ℕ) → is_ascii_digit b ≡ true → b < 58
 digit_lower b h = omega (arith, in_range b h)
   where
     in_range : (b : ℕ) → is_ascii_digit b ≡ true → b < 58
@@ -20,7 +20,7 @@ digit_lower b h = omega (arith, in_range b h)
 
 -- ---- by the first byte
 
-number_first : (b : ℕ) (t : List ℕ) → IsNumber Ten (b ∷ t) → b < 58
+pub number_first : (b : ℕ) (t : List ℕ) → IsNumber Ten (b ∷ t) → b < 58
 number_first b t (inl d) = digit_lower b d.0
 number_first b t (inr p) = omega (arith, p.0)
 
@@ -41,7 +41,7 @@ nan_first b t (inr (inr (inr n))) e = nan_of (b ∷ t) n
 
 -- ---- by the second
 
-no_number : (c : ℕ) (u : List ℕ) → to_ascii_lowercase c ≡ 120 → IsWhole Ten (c ∷ u) → ⊥
+pub no_number : (c : ℕ) (u : List ℕ) → to_ascii_lowercase c ≡ 120 → IsWhole Ten (c ∷ u) → ⊥
 no_number c u e (inl d) = no_letter c 120 (omega (arith, digit_lower c d.0)) e (omega arith)
 no_number c u e (inr (inl p)) = no_letter c 120 (omega (arith, p.0)) e (omega arith)
 no_number c u e (inr (inr x)) =

@@ -2,6 +2,7 @@ pub mod Cutting
 pub mod FormsApart
 pub mod Fronts
 mod HexBack
+pub mod OneStored
 pub mod HexParts
 pub mod HexRounding
 pub mod PatternLemmas

@@ -3,7 +3,7 @@ use Rattle.std.specs.Prelude.{◌≡◌, ℕ, ◌≤◌, Bool, List, Option, Som
 use Rattle.std.specs.Float.{is_sign_negative}
 use Rattle.std.specs.Float.Ieee.{Float, Format, fits, binary64}
 use Rattle.sf_float.specs.Hexadecimal.{IsHexadecimalText}
-use Rattle.sf_float_value.specs.Values.{IsHexValue}
+use Rattle.sf_float_value.specs.Values.{IsHexValue, IsStored}
 
 -- a hexadecimal numeral has one value
 abbrev pub OneHexValue : Type 0
@@ -18,3 +18,7 @@ IsLong (Some decimals) = 13 ≤ decimals
 abbrev pub HexadecimalReadsBack : Type 0
 HexadecimalReadsBack = (x : Float) (alt : Bool) (precision : Option ℕ) (t : List ℕ) → T (fits binary64 x) → IsLong precision
     → IsHexadecimalText alt precision x t → IsHexValue binary64 (is_sign_negative x) t x
+
+-- of a sequence one thing is stored
+abbrev pub OneStored : Type 0
+OneStored = (f : Format) (item : List ℕ) (a b : Option ℕ) → IsStored f item a → IsStored f item b → a ≡ b

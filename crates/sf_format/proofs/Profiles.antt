@@ -1,9 +1,9 @@
--- Both profiles spell the same formats, but for base 2.
-use Rattle.std.proofs.Common.{◌≡◌, ℕ, ◌+◌, List, [], ◌∷◌, length, map, Some, sym, ap, ◌∙◌, arith}
+-- The profiles spell the same formats, but for base 2 and floats.
+use Rattle.std.proofs.Common.{◌≡◌, ℕ, ◌+◌, Bool, true, false, List, [], ◌∷◌, length, map, Some, sym, ap, ◌∙◌, arith}
 use Rattle.std.proofs.lemmas.List.{map-id}
 use Rattle.std.specs.List.{AllByRecursion}
 use Rattle.sf_format.specs.declared.directive.Profile.{Profile}
-use Rattle.sf_format.specs.declared.directive.Profile.TheVariants.{One, Two}
+use Rattle.sf_format.specs.declared.directive.Profile.TheVariants.{One, Two, Three}
 use Rattle.sf_format.specs.declared.directive.Base.{Base}
 use Rattle.sf_format.specs.declared.directive.Base.TheVariants.{Bin}
 use Rattle.sf_format.specs.declared.directive.Conversion.{Conversion}
@@ -11,16 +11,18 @@ use Rattle.sf_format.specs.declared.directive.Directive.{Directive}
 use Rattle.sf_format.specs.Language.{Language, Scan, Print}
 use Rattle.sf_format.specs.declared.letter.Letter.{Letter}
 use Rattle.sf_format.specs.declared.letter.Letter.TheVariants.{Signed, Unsigned, Set}
+use Rattle.sf_format.specs.declared.unit.FloatStyle.{FloatStyle}
+use Rattle.sf_format.specs.declared.unit.FloatStyle.TheVariants.{Fixed, Exponent, General, Hexadecimal}
 use Rattle.sf_format.specs.declared.unit.PrintLetter.{PrintLetter}
-use Rattle.sf_format.specs.declared.unit.PrintLetter.TheVariants.{Binary}
+use Rattle.sf_format.specs.declared.unit.PrintLetter.TheVariants.{Binary, Float}
 use Rattle.sf_format.specs.declared.unit.Unit.{Unit as PrintUnit}
 use Rattle.sf_format.specs.Letters.{letters, letter_of}
 use Rattle.sf_format.specs.PrintLetters.{print_letters, print_letter_of}
 use Rattle.sf_format.specs.Pieces.{Opening, Piece, Ordinary, Percents, Plain, Bracket}
 use Rattle.sf_format.specs.PrintGrammar.{IsPrintPiece, Prints}
 use Rattle.sf_format.specs.Grammar.{Suits, IsScanPiece, IsPiece, IsConversion, destinations, Means, MeanAll, SpellsAs}
-use Rattle.sf_format.specs.Profiles.{shape_with, directive_with, base_in_two, base_in_one, DirectiveHas, IsNotBin, IsOfOne, IsNotBinary, UnitIsNotBinary}
-use Rattle.sf_format.specs.Laws.{TwoSpellsOne, OneSpellsTwo, OneHasOldBases, TwoPrintsOne, OnePrintsTwo}
+use Rattle.sf_format.specs.Profiles.{shape_with, directive_with, base_in_two, base_in_one, DirectiveHas, IsNotBin, IsOfOne, IsNotBinary, IsNotFloat, UnitHas}
+use Rattle.sf_format.specs.Laws.{TwoSpellsOne, OneSpellsTwo, OneHasOldBases, TwoPrintsOne, OnePrintsTwo, ThreeSpellsTwo, TwoSpellsThree, ThreePrintsTwo, TwoPrintsThree}
 use Rattle.sf_format.proofs.Suits.{found, printed}
 use Rattle.sf_format.proofs.Meanings.{mean_each}
 
@@ -137,46 +139,75 @@ one_spells_two =
         found (λ b l. LetterHas IsNotBin l → letter_of One b ≡ Some (letter_with base_in_one l)) (letters Two)
         (assumption no_bin) b letter e
 
+-- the letters of both are the same
+same_part : (p q : Profile) → ((b : ℕ) (letter : Letter) → letter_of p b ≡ Some letter → letter_of q b ≡ Some letter)
+    → (place : ℕ) (piece : Piece) (d : Directive) → IsScanPiece p piece → Means p place piece d → Unit {0}
+    → IsScanPiece q piece × Means q place piece d
+same_part p q in_other place (Plain o b) d (plain, (l, known, suits)) (letter, c, e, is, takes, told) has =
+    ((plain, (l, in_other b l known, suits)), (letter, c, in_other b letter e, is, takes, told))
+same_part p q in_other place (Bracket o list) d piece h has = (piece, h)
+same_part p q in_other place _ d is h has = (is, h)
+
+any_of_them : {D : Type 0} (ds : List D) → AllByRecursion (λ d. Unit {0}) ds
+any_of_them [] = tt
+any_of_them (d ∷ ds) = (tt, any_of_them ds)
+
+same_spells : (p q : Profile) → ((b : ℕ) (letter : Letter) → letter_of p b ≡ Some letter → letter_of q b ≡ Some letter)
+    → (text : List ℕ) (ds : List Directive) → SpellsAs (Scan p) (Means p) text ds → SpellsAs (Scan q) (Means q) text ds
+same_spells p q in_other text ds h =
+    rw (map-id ds) at (spells_through (Scan p) (Scan q) (Means p) (Means q) (λ d. d) (λ d. Unit {0})
+    (same_part p q in_other) text ds h (any_of_them ds))
+
+pub three_spells_two : ThreeSpellsTwo
+three_spells_two = same_spells Two Three (λ b letter e. e)
+
+pub two_spells_three : TwoSpellsThree
+two_spells_three = same_spells Three Two (λ b letter e. e)
+
 -- ---- print formats
 
-print_part : (p q : Profile) → ((b : ℕ) (letter : PrintLetter) → print_letter_of p b ≡ Some letter → IsNotBinary letter
-    → print_letter_of q b ≡ Some letter)
-    → (place : ℕ) (piece : Piece) (u : PrintUnit) → IsPrintPiece p piece → Prints p place piece u → UnitIsNotBinary u
+print_part : (p q : Profile) (P : PrintLetter → Type 0)
+    → ((b : ℕ) (letter : PrintLetter) → print_letter_of p b ≡ Some letter → P letter → print_letter_of q b ≡ Some letter)
+    → (place : ℕ) (piece : Piece) (u : PrintUnit) → IsPrintPiece p piece → Prints p place piece u → UnitHas P u
     → IsPrintPiece q piece × Prints q place piece u
-print_part p q in_other place (Ordinary b) u is h has = (is, h)
-print_part p q in_other place Percents u is h has = (is, h)
-print_part p q in_other place (Plain o b) u (letter, e, suits) (l, c, f, is, told) has =
+print_part p q P in_other place (Ordinary b) u is h has = (is, h)
+print_part p q P in_other place Percents u is h has = (is, h)
+print_part p q P in_other place (Plain o b) u (letter, e, suits) (l, c, f, is, told) has =
     let same : letter ≡ l = let both = sym e ∙ f in cc in
     let there = in_other b l f (rw (told, is.prints) at has) in
     ((l, there, rw same at suits), (l, c, there, is, told))
-print_part p q in_other place _ u is h has = absurd is
+print_part p q P in_other place _ u is h has = absurd is
 
-prints_old : (place : ℕ) (piece : Piece) (u : PrintUnit) → IsPrintPiece One piece → Prints One place piece u → UnitIsNotBinary u
-prints_old place (Ordinary b) u piece h = rw h tt
-prints_old place Percents u piece h = rw h tt
-prints_old place (Plain o b) u piece (letter, c, e, is, told) =
-    rw (told, is.prints) (printed (λ b l. IsNotBinary l) (print_letters One) (assumption) b letter e)
-prints_old place _ u piece h = absurd h
+prints_so : (p : Profile) (P : PrintLetter → Type 0)
+    → ((b : ℕ) (letter : PrintLetter) → print_letter_of p b ≡ Some letter → P letter)
+    → (place : ℕ) (piece : Piece) (u : PrintUnit) → IsPrintPiece p piece → Prints p place piece u → UnitHas P u
+prints_so p P each place (Ordinary b) u piece h = rw h tt
+prints_so p P each place Percents u piece h = rw h tt
+prints_so p P each place (Plain o b) u piece (letter, c, e, is, told) = rw (told, is.prints) (each b letter e)
+prints_so p P each place _ u piece h = absurd h
 
-print_through : (p q : Profile) → ((b : ℕ) (letter : PrintLetter) → print_letter_of p b ≡ Some letter → IsNotBinary letter
-    → print_letter_of q b ≡ Some letter)
-    → (text : List ℕ) (us : List PrintUnit) → SpellsAs (Print p) (Prints p) text us → AllByRecursion UnitIsNotBinary us
+print_through : (p q : Profile) (P : PrintLetter → Type 0)
+    → ((b : ℕ) (letter : PrintLetter) → print_letter_of p b ≡ Some letter → P letter → print_letter_of q b ≡ Some letter)
+    → (text : List ℕ) (us : List PrintUnit) → SpellsAs (Print p) (Prints p) text us → AllByRecursion (UnitHas P) us
     → SpellsAs (Print q) (Prints q) text us
-print_through p q in_other text us h has =
-    rw (map-id us) at (spells_through (Print p) (Print q) (Prints p) (Prints q) (λ u. u) UnitIsNotBinary
-    (print_part p q in_other) text us h has)
+print_through p q P in_other text us h has =
+    rw (map-id us) at (spells_through (Print p) (Print q) (Prints p) (Prints q) (λ u. u) (UnitHas P)
+    (print_part p q P in_other) text us h has)
 
 pub two_prints_one : TwoPrintsOne
 two_prints_one text us h =
     let (pieces, is, e, mean) = h in
-    let old = mean_each UnitIsNotBinary prints_old 1 pieces us is.each mean in
-    (print_through One Two in_two text us h old, old)
+    let old = mean_each (UnitHas IsNotBinary) (prints_so One IsNotBinary not_binary) 1 pieces us is.each mean in
+    (print_through One Two IsNotBinary in_two text us h old, old)
   where
+    not_binary : (b : ℕ) (letter : PrintLetter) → print_letter_of One b ≡ Some letter → IsNotBinary letter
+    not_binary b letter e = printed (λ b l. IsNotBinary l) (print_letters One) (assumption) b letter e
+
     in_two : (b : ℕ) (letter : PrintLetter) → print_letter_of One b ≡ Some letter → IsNotBinary letter → print_letter_of Two b ≡ Some letter
     in_two b letter e = printed (λ b l. IsNotBinary l → print_letter_of Two b ≡ Some l) (print_letters One) (assumption) b letter e
 
 pub one_prints_two : OnePrintsTwo
-one_prints_two = print_through Two One in_one
+one_prints_two = print_through Two One IsNotBinary in_one
   where
     no_binary : IsNotBinary Binary → print_letter_of One 98 ≡ Some Binary
     no_binary h = absurd h
@@ -184,3 +215,38 @@ one_prints_two = print_through Two One in_one
     in_one : (b : ℕ) (letter : PrintLetter) → print_letter_of Two b ≡ Some letter → IsNotBinary letter → print_letter_of One b ≡ Some letter
     in_one b letter e =
         printed (λ b l. IsNotBinary l → print_letter_of One b ≡ Some l) (print_letters Two) (assumption no_binary) b letter e
+
+pub three_prints_two : ThreePrintsTwo
+three_prints_two text us h =
+    let (pieces, is, e, mean) = h in
+    let old = mean_each (UnitHas IsNotFloat) (prints_so Two IsNotFloat no_float) 1 pieces us is.each mean in
+    (print_through Two Three IsNotFloat in_three text us h old, old)
+  where
+    no_float : (b : ℕ) (letter : PrintLetter) → print_letter_of Two b ≡ Some letter → IsNotFloat letter
+    no_float b letter e = printed (λ b l. IsNotFloat l) (print_letters Two) (assumption) b letter e
+
+    in_three : (b : ℕ) (letter : PrintLetter) → print_letter_of Two b ≡ Some letter → IsNotFloat letter
+        → print_letter_of Three b ≡ Some letter
+    in_three b letter e = printed (λ b l. IsNotFloat l → print_letter_of Three b ≡ Some l) (print_letters Two) (assumption) b letter e
+
+pub two_prints_three : TwoPrintsThree
+two_prints_three = print_through Three Two IsNotFloat in_two
+  where
+    no_float : (b : ℕ) (style : FloatStyle) (upper : Bool) → IsNotFloat (Float style upper)
+        → print_letter_of Two b ≡ Some (Float style upper)
+    no_float b style upper h = absurd h
+
+    in_two : (b : ℕ) (letter : PrintLetter) → print_letter_of Three b ≡ Some letter → IsNotFloat letter
+        → print_letter_of Two b ≡ Some letter
+    in_two b letter e =
+        printed (λ b l. IsNotFloat l → print_letter_of Two b ≡ Some l) (print_letters Three)
+        (assumption (
+          no_float 102 Fixed false,
+          no_float 70 Fixed true,
+          no_float 101 Exponent false,
+          no_float 69 Exponent true,
+          no_float 103 General false,
+          no_float 71 General true,
+          no_float 97 Hexadecimal false,
+          no_float 65 Hexadecimal true,
+        )) b letter e

@@ -6,7 +6,7 @@ use Rattle.std.specs.List.{AllByRecursion}
 use Rattle.sf_base.specs.Bytes.{magnitude}
 use Rattle.sf_format.specs.Digits.{is_decimal, IsOptionalNumber}
 use Rattle.sf_format.specs.Lists.{is_any_of, is_written}
-use Rattle.sf_format.specs.Letters.{added_letters, letters, find_letter, letter_of, kind_of, text_kind}
+use Rattle.sf_format.specs.Letters.{added_letters, letters, find_letter, letter_of, kind_of, text_kind, double_kind}
 use Rattle.sf_format.specs.Pieces.{Opening}
 use Rattle.sf_format.specs.Grammar.{SuitsCount, Suits}
 use Rattle.sf_format.specs.Rules.{has_length, is_l}
@@ -32,7 +32,7 @@ use Rattle.sf_format.specs.declared.unit.PrintLetter.{PrintLetter}
 use Rattle.sf_format.specs.PrintLetters.{print_row, added_print_letters, print_letters, print_letter_of, print_kind_of}
 use Rattle.sf_format.specs.Units.{has_flag}
 use Rattle.sf_format.specs.PrintGrammar.{IsPrecision, StartsAboveZero, SuitsPrint}
-use Rattle.sf_format.specs.PrintRules.{flags_place, precision_number, foreign_flag, print_letter_rules, flag_rules}
+use Rattle.sf_format.specs.PrintRules.{is_other_length, flags_place, precision_number, foreign_flag, print_letter_rules, flag_rules}
 
 -- ---- letters
 
@@ -48,6 +48,12 @@ text_allowed size e = grind arith
 pub text_quiet : (size : Length) → IsSome (text_kind size) → (is_l size ≡ false) × (has_length size ≡ false)
 text_quiet size e = grind arith
 
+double_allowed : (size : Length) → is_other_length size ≡ false → IsSome (double_kind size)
+double_allowed size e = grind arith
+
+double_quiet : (size : Length) → IsSome (double_kind size) → is_other_length size ≡ false
+double_quiet size e = grind arith
+
 -- a text has the kind of texts
 pub text_kinded : (size : Length) (k : Kind) → text_kind size ≡ Some k → k ≡ kinds.Text
 text_kinded size k h = grind arith
@@ -59,6 +65,7 @@ ForRows P rows = AllByRecursion (λ row. AllByRecursion (λ b. P b row.1) row.0)
 each_added : (profile : Profile) → ForRows (IsLetterOf profile) (added_letters profile)
 each_added profiles.One = tt
 each_added profiles.Two = assumption
+each_added profiles.Three = assumption
 
 each_letter : (profile : Profile) → ForRows (IsLetterOf profile) (letters profile)
 each_letter profile = assumption (of_text, quiet_text, of_count, quiet_count, each_added profile)
@@ -102,6 +109,7 @@ bracket_is profile b letter e = found IsBracket (letters profile) (assumption (a
     added : (p : Profile) → ForRows IsBracket (added_letters p)
     added profiles.One = tt
     added profiles.Two = ((refl, tt), tt)
+    added profiles.Three = ((refl, tt), tt)
 
 -- ---- numbers
 
@@ -189,6 +197,13 @@ ForLetters P letters = AllByRecursion (λ l. AllByRecursion (λ b. P b l) (print
 each_print_added : (p : Profile) → ForLetters (IsPrintLetterOf p) (added_print_letters p)
 each_print_added profiles.One = tt
 each_print_added profiles.Two = assumption
+each_print_added profiles.Three = assumption (of_double, quiet_double)
+  where
+    of_double : (o : Opening) (q : ℕ) → Quiet (print_letter_rules profiles.Three o 102 q) → IsSome (double_kind o.size)
+    of_double o q h = double_allowed o.size h.1.1.1.1.1.0
+
+    quiet_double : (o : Opening) (q : ℕ) → IsSome (double_kind o.size) → Quiet (print_letter_rules profiles.Three o 102 q)
+    quiet_double o q s = (refl, (refl, (refl, (refl, (refl, (double_quiet o.size s, tt))))))
 
 each_print_letter : (p : Profile) → ForLetters (IsPrintLetterOf p) (print_letters p)
 each_print_letter p = assumption (of_text, quiet_text, each_print_added p)
@@ -197,7 +212,7 @@ each_print_letter p = assumption (of_text, quiet_text, each_print_added p)
     of_text o q h = text_allowed o.size h.1.1.1.1.0
 
     quiet_text : (o : Opening) (q : ℕ) → IsSome (text_kind o.size) → Quiet (print_letter_rules p o 115 q)
-    quiet_text o q s = let t = text_quiet o.size s in (refl, (refl, (refl, (t.0, (t.1, tt)))))
+    quiet_text o q s = let t = text_quiet o.size s in (refl, (refl, (refl, (t.0, (t.1, (refl, tt))))))
 
 pub printed : (P : ℕ → PrintLetter → Type 0) (letters : List PrintLetter) → ForLetters P letters → (b : ℕ) (letter : PrintLetter)
     → find (λ l. is_any_of (print_row l).bytes b) letters ≡ Some letter → P b letter

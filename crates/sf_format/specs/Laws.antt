@@ -2,7 +2,7 @@
 use Rattle.std.specs.Prelude.{◌≡◌, ℕ, ◌≤◌, ◌⊎◌, ◌↔◌, List, length, IsSome}
 use Rattle.sf_base.specs.Bytes.{AreBytes}
 use Rattle.sf_format.specs.declared.directive.Profile.{Profile}
-use Rattle.sf_format.specs.declared.directive.Profile.TheVariants.{One, Two}
+use Rattle.sf_format.specs.declared.directive.Profile.TheVariants.{One, Two, Three}
 use Rattle.sf_format.specs.declared.directive.Directive.{Directive}
 use Rattle.sf_format.specs.Language.{Scan, Print}
 use Rattle.sf_format.specs.declared.unit.Unit.{Unit as PrintUnit}
@@ -13,7 +13,7 @@ use Rattle.sf_format.specs.Grammar.{Spells, SpellsPrint, IsFormat, ArePlaced, de
 use Rattle.sf_format.specs.Proper.{IsAccepted, AreInOrder}
 use Rattle.sf_format.specs.Units.{AreAccepted, ArePrintedInOrder}
 use Rattle.sf_format.specs.Slots.{Slotted, kind_with, AreSlots}
-use Rattle.sf_format.specs.Profiles.{in_two, in_one, HaveBases, IsNotBin, IsOfOne, AreNotBinary}
+use Rattle.sf_format.specs.Profiles.{in_two, in_one, HaveBases, IsNotBin, IsOfOne, AreNotBinary, AreNotFloats}
 
 -- a text spells at most one list
 abbrev pub SpellOne : {D : Type 0} → (Profile → List ℕ → List D → Type 0) → Type 0
@@ -66,7 +66,7 @@ abbrev pub JustSlotsHaveKinds : Type 0
 JustSlotsHaveKinds = (slot : ℕ) (entries : List Slotted) → AreSlots entries
     → IsSome (kind_with slot entries) ↔ ((1 ≤ slot) × (slot ≤ length entries))
 
--- ---- both profiles
+-- ---- the profiles
 
 -- a text that profile 1 spells, profile 2 spells with the same directives, but AutoBin for Auto
 abbrev pub TwoSpellsOne : Type 0
@@ -86,3 +86,17 @@ TwoPrintsOne = (text : List ℕ) (us : List PrintUnit) → SpellsPrint One text 
 
 abbrev pub OnePrintsTwo : Type 0
 OnePrintsTwo = (text : List ℕ) (us : List PrintUnit) → SpellsPrint Two text us → AreNotBinary us → SpellsPrint One text us
+
+-- profile 3 has the scan formats of profile 2, and no others yet
+abbrev pub ThreeSpellsTwo : Type 0
+ThreeSpellsTwo = (text : List ℕ) (ds : List Directive) → Spells Two text ds → Spells Three text ds
+
+abbrev pub TwoSpellsThree : Type 0
+TwoSpellsThree = (text : List ℕ) (ds : List Directive) → Spells Three text ds → Spells Two text ds
+
+-- its print formats without floats are those of profile 2
+abbrev pub ThreePrintsTwo : Type 0
+ThreePrintsTwo = (text : List ℕ) (us : List PrintUnit) → SpellsPrint Two text us → SpellsPrint Three text us × AreNotFloats us
+
+abbrev pub TwoPrintsThree : Type 0
+TwoPrintsThree = (text : List ℕ) (us : List PrintUnit) → SpellsPrint Three text us → AreNotFloats us → SpellsPrint Two text us

@@ -3,7 +3,7 @@ use Rattle.std.specs.Prelude.{ℕ, List, [], ◌∷◌, Option, Some, None, if�
 use Rattle.sf_base.specs.declared.values.Kind.{Kind}
 use Rattle.sf_base.specs.declared.values.Kind.TheVariants as kind
 use Rattle.sf_format.specs.declared.directive.Profile.{Profile}
-use Rattle.sf_format.specs.declared.directive.Profile.TheVariants.{One, Two}
+use Rattle.sf_format.specs.declared.directive.Profile.TheVariants.{One, Two, Three}
 use Rattle.sf_format.specs.declared.directive.Base.{Base}
 use Rattle.sf_format.specs.declared.directive.Base.TheVariants.{Dec, Oct, Hex, Bin, Auto, AutoBin}
 use Rattle.sf_format.specs.declared.letter.Letter.{Letter}
@@ -18,11 +18,13 @@ use Rattle.sf_format.specs.Lists.{is_any_of}
 abbrev pub auto_base : Profile → Base
 auto_base One = Auto
 auto_base Two = AutoBin
+auto_base Three = AutoBin
 
--- b, of profile 2
+-- b, from profile 2 on
 abbrev pub added_letters : Profile → List (List ℕ × Letter)
 added_letters One = []
 added_letters Two = (codes "b", Unsigned Bin) ∷ []
+added_letters Three = (codes "b", Unsigned Bin) ∷ []
 
 -- the table of the letters of scan formats: a row each, as in docs/FORMATS.md
 abbrev pub letters : Profile → List (List ℕ × Letter)
@@ -76,11 +78,18 @@ abbrev pub text_kind : Length → Option Kind
 text_kind NoLength = Some kind.Text
 text_kind _ = None
 
+-- a float of binary64 has no length, or l
+abbrev pub double_kind : Length → Option Kind
+double_kind NoLength = Some kind.F64
+double_kind L = Some kind.F64
+double_kind _ = None
+
 -- the kind of such values with a length, where they have it
 abbrev pub sized_kind : Values → Length → Option Kind
 sized_kind values.Signed size = Some (signed_kind size)
 sized_kind values.Unsigned size = Some (unsigned_kind size)
 sized_kind values.Text size = text_kind size
+sized_kind values.Double size = double_kind size
 
 -- what a letter stores
 abbrev pub stored_values : Letter → Values

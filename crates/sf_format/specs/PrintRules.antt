@@ -4,17 +4,22 @@ use Rattle.std.specs.List.{position_from}
 use Rattle.sf_base.specs.Bytes.{magnitude}
 use Rattle.sf_format.specs.declared.directive.Profile.{Profile}
 use Rattle.sf_format.specs.declared.fault.FormatWhy.TheVariants.{TooWide, UnknownLetter, LeftOut, BadLength, BadNumber, Nul, BadFlag, PrecisionTooLarge}
+use Rattle.sf_format.specs.declared.letter.Length.{Length}
 use Rattle.sf_format.specs.declared.unit.PrintLetter.{PrintLetter}
 use Rattle.sf_format.specs.declared.unit.PrintLetter.TheVariants.{One}
 use Rattle.sf_format.specs.Lists.{is_any_of, is_written}
-use Rattle.sf_format.specs.PrintLetters.{print_letter_of}
+use Rattle.sf_format.specs.PrintLetters.{print_letter_of, has_doubles}
 use Rattle.sf_format.specs.Units.{has_flag}
 use Rattle.sf_format.specs.Pieces.{Opening, number_text}
-use Rattle.sf_format.specs.Rules.{Rule, takes_text, has_length, is_l, or_zero}
+use Rattle.sf_format.specs.Rules.{Rule, takes_text, takes_double, has_length, is_l, or_zero}
 
--- a letter, a length or a mark that C or POSIX has
-abbrev pub is_print_left_out : ℕ → Bool
-is_print_left_out b = is_any_of (codes "*'nLaAeEfFgGpCS") b
+-- a letter, a length or a mark that C or POSIX has; the letters of floats are of profile 3
+abbrev pub is_print_left_out : Profile → ℕ → Bool
+is_print_left_out profile b = is_any_of (codes "*'nLpCS") b || (takes_double b && not (has_doubles profile))
+
+-- a length that floats don't have
+abbrev pub is_other_length : Length → Bool
+is_other_length size = has_length size && not (is_l size)
 
 -- where the flags begin, the width, and the point; p is the place of the %
 abbrev pub flags_place : ℕ → Opening → ℕ
@@ -53,10 +58,11 @@ takes_one _ = false
 abbrev pub print_letter_rules : Profile → Opening → ℕ → ℕ → List Rule
 print_letter_rules profile o b q =
     record { why = Nul; applies = nat_eq b 0; at = q }
-    ∷ record { why = LeftOut; applies = is_print_left_out b; at = q }
+    ∷ record { why = LeftOut; applies = is_print_left_out profile b; at = q }
     ∷ record { why = UnknownLetter; applies = is_none (print_letter_of profile b); at = q }
     ∷ record { why = LeftOut; applies = takes_text b && is_l o.size; at = q }
     ∷ record { why = BadLength; applies = takes_text b && has_length o.size; at = q }
+    ∷ record { why = BadLength; applies = takes_double b && is_other_length o.size; at = q }
     ∷ []
 
 -- what stands before the letter, if the letter doesn't have it

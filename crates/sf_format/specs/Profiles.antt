@@ -1,4 +1,4 @@
--- A format in both profiles.
+-- A format in each profile.
 use Rattle.std.specs.Prelude.{List, map}
 use Rattle.std.specs.List.{AllByRecursion}
 use Rattle.sf_format.specs.declared.directive.Base.{Base}
@@ -8,7 +8,7 @@ use Rattle.sf_format.specs.declared.directive.Shape.TheVariants.{Int}
 use Rattle.sf_format.specs.declared.directive.Directive.{Directive}
 use Rattle.sf_format.specs.declared.directive.Directive.TheVariants.{Conv}
 use Rattle.sf_format.specs.declared.unit.PrintLetter.{PrintLetter}
-use Rattle.sf_format.specs.declared.unit.PrintLetter.TheVariants.{Binary}
+use Rattle.sf_format.specs.declared.unit.PrintLetter.TheVariants.{Binary, Float}
 use Rattle.sf_format.specs.declared.unit.Unit.{Unit as PrintUnit}
 use Rattle.sf_format.specs.declared.unit.Unit.TheVariants as unit
 
@@ -65,9 +65,17 @@ abbrev pub IsNotBinary : PrintLetter → Type 0
 IsNotBinary Binary = ⊥
 IsNotBinary letter = Unit {0}
 
-abbrev pub UnitIsNotBinary : PrintUnit → Type 0
-UnitIsNotBinary (unit.Conv c) = IsNotBinary c.letter
-UnitIsNotBinary u = Unit {0}
+-- of profile 3 alone
+abbrev pub IsNotFloat : PrintLetter → Type 0
+IsNotFloat (Float style upper) = ⊥
+IsNotFloat letter = Unit {0}
+
+abbrev pub UnitHas : (PrintLetter → Type 0) → PrintUnit → Type 0
+UnitHas P (unit.Conv c) = P c.letter
+UnitHas P u = Unit {0}
 
 abbrev pub AreNotBinary : List PrintUnit → Type 0
-AreNotBinary us = AllByRecursion UnitIsNotBinary us
+AreNotBinary us = AllByRecursion (UnitHas IsNotBinary) us
+
+abbrev pub AreNotFloats : List PrintUnit → Type 0
+AreNotFloats us = AllByRecursion (UnitHas IsNotFloat) us

@@ -23,6 +23,10 @@ first_of (rule ∷ rules) = if rule.applies then Some (rule.why, rule.at) else f
 abbrev pub takes_text : ℕ → Bool
 takes_text b = is_any_of (codes "cs[") b
 
+-- the letters of floats
+abbrev pub takes_double : ℕ → Bool
+takes_double b = is_any_of (codes "aAeEfFgG") b
+
 abbrev pub has_length : Length → Bool
 has_length NoLength = false
 has_length _ = true

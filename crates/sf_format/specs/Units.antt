@@ -35,11 +35,16 @@ abbrev pub is_text : Kind → Bool
 is_text kind.Text = true
 is_text _ = false
 
+abbrev pub is_double : Kind → Bool
+is_double kind.F64 = true
+is_double _ = false
+
 -- such values have the kind
 abbrev pub holds_kind : Values → Kind → Bool
 holds_kind values.Signed = is_signed
 holds_kind values.Unsigned = is_unsigned
 holds_kind values.Text = is_text
+holds_kind values.Double = is_double
 
 -- the letter prints values of the kind
 abbrev pub prints_kind : PrintLetter → Kind → Bool

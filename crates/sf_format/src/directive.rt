@@ -8,6 +8,8 @@ pub enum Profile {
     One,
     /// Those, the letter `b` of unsigned binary numbers, and `0b` under `i`.
     Two,
+    /// Those; print formats have the letters of floats beside, `f F e E g G a A`. Scan formats have none of them yet.
+    Three,
 }
 
 /// How the digits of an integer are read.

@@ -6,6 +6,7 @@ ghost use Rattle.sf_format.specs.Laws.{SpellOne, HaveOneFault, AreNeverBoth, Are
 ghost use Rattle.sf_format.specs.Laws.{EachIsProper, EachUnnumberedIsInOrder, EachPrintIsProper, EachUnnumberedPrintIsInOrder};
 ghost use Rattle.sf_format.specs.Laws.{JustSlotsHaveKinds};
 ghost use Rattle.sf_format.specs.Laws.{TwoSpellsOne, OneSpellsTwo, OneHasOldBases, TwoPrintsOne, OnePrintsTwo};
+ghost use Rattle.sf_format.specs.Laws.{ThreeSpellsTwo, TwoSpellsThree, ThreePrintsTwo, TwoPrintsThree};
 
 /// A text spells at most one list of directives, and at most one of units.
 pub fn one_list()
@@ -57,4 +58,13 @@ pub fn profiles()
     ensures scan_old { OneHasOldBases }
     ensures print_two { TwoPrintsOne }
     ensures print_one { OnePrintsTwo }
+{}
+
+/// Profile 3 spells the scan formats of profile 2 and no others yet. It spells the print formats of profile 2, and of
+/// those without a float no others.
+pub fn profile_three()
+    ensures scan_three { ThreeSpellsTwo }
+    ensures scan_two { TwoSpellsThree }
+    ensures print_three { ThreePrintsTwo }
+    ensures print_two { TwoPrintsThree }
 {}

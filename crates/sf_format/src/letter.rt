@@ -2,7 +2,7 @@
 ghost use Rattle.std.specs.Prelude.{◌≡◌};
 ghost use Rattle.sf_format.specs.Letters.{letter_of, stored_values, sized_kind};
 ghost use Rattle.sf_format.specs.Faults.{is_left_out};
-ghost use Rattle.sf_format.specs.Rules.{takes_text, has_length, is_l};
+ghost use Rattle.sf_format.specs.Rules.{takes_text, takes_double, has_length, is_l};
 
 use crate::directive::{Base, Profile};
 use sf_base::Kind;
@@ -24,6 +24,8 @@ pub enum Values {
     Signed,
     Unsigned,
     Text,
+    /// Floats of binary64.
+    Double,
 }
 
 /// The length between the width and the letter.
@@ -47,7 +49,7 @@ pub fn letter_of(profile: Profile, b: u8) -> Option<Letter>
         b'd' => Some(Letter::Signed(Base::Dec)),
         b'i' => match profile {
             Profile::One => Some(Letter::Signed(Base::Auto)),
-            Profile::Two => Some(Letter::Signed(Base::AutoBin)),
+            Profile::Two | Profile::Three => Some(Letter::Signed(Base::AutoBin)),
         },
         b'u' => Some(Letter::Unsigned(Base::Dec)),
         b'o' => Some(Letter::Unsigned(Base::Oct)),
@@ -58,7 +60,7 @@ pub fn letter_of(profile: Profile, b: u8) -> Option<Letter>
         b'n' => Some(Letter::Count),
         b'b' => match profile {
             Profile::One => None,
-            Profile::Two => Some(Letter::Unsigned(Base::Bin)),
+            Profile::Two | Profile::Three => Some(Letter::Unsigned(Base::Bin)),
         },
         _ => None,
     }
@@ -69,6 +71,13 @@ pub fn left_out(b: u8) -> bool
     ensures { result ≡ is_left_out b }
 {
     b"mLaAeEfFgGpCS".contains(&b)
+}
+
+/// Whether the letter is one of those of floats.
+pub fn of_double(b: u8) -> bool
+    ensures { result ≡ takes_double b }
+{
+    b"aAeEfFgG".contains(&b)
 }
 
 /// Whether the letter takes a text.
@@ -110,6 +119,8 @@ impl Values {
             (Values::Unsigned, _) => Some(Kind::U64),
             (Values::Text, Length::NoLength) => Some(Kind::Text),
             (Values::Text, _) => None,
+            (Values::Double, Length::NoLength | Length::L) => Some(Kind::F64),
+            (Values::Double, _) => None,
         }
     }
 }

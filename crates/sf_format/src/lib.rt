@@ -26,4 +26,4 @@ pub use part_text::directive_text;
 pub use print::PrintFormat;
 pub use scan::ScanFormat;
 pub use spans::{Span, Spans};
-pub use unit::{PrintConv, PrintLetter, Unit};
+pub use unit::{FloatStyle, PrintConv, PrintLetter, Unit};

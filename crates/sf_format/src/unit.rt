@@ -1,7 +1,17 @@
 //! The units of a print format.
 use sf_base::Kind;
 
-/// What a conversion of a print format prints: the letters `d i`, `u`, `o`, `x`, `X`, `b`, `s` and `c`.
+/// How the digits of a float are written: the letters `f`, `e`, `g` and `a`.
+#[derive(Clone, Copy, Debug, PartialEq, Eq)]
+pub enum FloatStyle {
+    Fixed,
+    Exponent,
+    General,
+    Hexadecimal,
+}
+
+/// What a conversion of a print format prints: the letters `d i`, `u`, `o`, `x`, `X`, `b`, `s` and `c`, and those of
+/// floats.
 #[derive(Clone, Copy, Debug, PartialEq, Eq)]
 pub enum PrintLetter {
     Signed,
@@ -14,6 +24,8 @@ pub enum PrintLetter {
     Text,
     /// A text of one byte.
     One,
+    /// A float: how its digits are written, and whether the letter is a capital. Of profile 3.
+    Float(FloatStyle, bool),
 }
 
 /// A conversion of a print format.
@@ -35,7 +47,8 @@ pub struct PrintConv {
     pub zero: bool,
     /// The least number of bytes; 0 if there is none.
     pub width: u16,
-    /// The least number of digits of an integer, or the greatest number of bytes of a text.
+    /// The least number of digits of an integer, the greatest number of bytes of a text, or how many digits of a float
+    /// stand after the point (of `g`: in all).
     pub precision: Option<u8>,
 }
 

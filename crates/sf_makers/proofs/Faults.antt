@@ -15,7 +15,7 @@ use Rattle.sf_forms.specs.Written.{TakesPart}
 use Rattle.sf_print.specs.declared.fault.PrintFault.{PrintFault}
 use Rattle.sf_print.specs.declared.fault.PrintFault.TheVariants as fault
 use Rattle.sf_print.specs.Printed.{fault_or_none, length_or_fault, lower, lowest_fault, measured, most_bytes, printed}
-use Rattle.sf_print.specs.Printed.{same_kind, slot_of, suits}
+use Rattle.sf_print.specs.Printed.{is_printed_as, slot_of, suits}
 use Rattle.sf_print.specs.Printed.{unit_fault, WritesText, value_at, kind_of, is_sink_fault}
 
 abbrev of_sink : Option PrintFault → Bool
@@ -29,7 +29,7 @@ of_value false false slot = refl
 
 of_conv : (c : PrintConv) (value : Option Datum) → of_sink (fault_or_none c value) ≡ false
 of_conv c None = refl
-of_conv c (Some value) = of_value (not (same_kind (kind_of value) c.kind)) (not (suits c.letter value)) c.slot
+of_conv c (Some value) = of_value (not (is_printed_as (kind_of value) c.kind)) (not (suits c.letter value)) c.slot
 
 of_unit : (values : List Datum) (u : PrintUnit) → of_sink (unit_fault values u) ≡ false
 of_unit values (unit.Byte b) = refl

@@ -4,9 +4,10 @@ use Rattle.sf_format.specs.declared.directive.Directive.{Directive}
 use Rattle.sf_format.specs.declared.directive.Directive.TheVariants as directive
 use Rattle.sf_format.specs.declared.unit.PrintConv.{PrintConv}
 use Rattle.sf_format.specs.declared.unit.PrintLetter.{PrintLetter}
-use Rattle.sf_format.specs.declared.unit.PrintLetter.TheVariants.{Signed, Unsigned, Octal, HexLower, HexUpper, Binary, Text, One}
+use Rattle.sf_format.specs.declared.unit.PrintLetter.TheVariants.{Signed, Unsigned, Octal, HexLower, HexUpper, Binary, Text, One, Float}
 use Rattle.sf_format.specs.declared.unit.Unit.{Unit as PrintUnit}
 use Rattle.sf_format.specs.declared.unit.Unit.TheVariants.{Byte, Conv}
+use Rattle.sf_format.specs.PrintLetters.{float_bytes}
 use Rattle.sf_pair.specs.Walk.{after_space}
 use Rattle.sf_arguments.specs.Names.{kind_text}
 use Rattle.sf_shown.specs.Shown.{field_text}
@@ -39,6 +40,7 @@ print_letter_text HexUpper = codes "X"
 print_letter_text Binary = codes "b"
 print_letter_text Text = codes "s"
 print_letter_text One = codes "c"
+print_letter_text (Float style upper) = float_bytes style upper
 
 -- the flag, where it is set
 abbrev pub flag_text : Bool → List ℕ → List ℕ

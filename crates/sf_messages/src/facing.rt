@@ -1,5 +1,6 @@
 //! The parts of two formats that face each other where a pair is refused.
 ghost use Rattle.std.specs.Prelude.{◌≡◌, ◌++◌, OnOk, Some};
+ghost use Rattle.sf_format.specs.PrintLetters.{float_bytes};
 ghost use Rattle.sf_pair.specs.Groups.{starts_with_space};
 ghost use Rattle.sf_pair.specs.Walk.{after_space};
 ghost use Rattle.sf_messages.specs.Facing.{behind, faced, flag_text, flags_text, left_behind, print_conv_text};
@@ -7,7 +8,7 @@ ghost use Rattle.sf_messages.specs.Facing.{print_head_text, print_letter_text, u
 
 use sf_arguments::kind_text;
 use sf_base::is_space;
-use sf_format::{Directive, PrintConv, PrintLetter, Unit};
+use sf_format::{Directive, FloatStyle, PrintConv, PrintLetter, Unit};
 use sf_records::push_quoted;
 use sf_shown::{push_field, push_text};
 use std::alloc::{AllocError, Global};
@@ -64,6 +65,22 @@ pub(crate) fn faced<'a>(directives: &[Directive], units: &'a [Unit], number: u16
     left_behind(&directives[..before], units)
 }
 
+/// The letter of a float.
+fn float_letter_text(style: FloatStyle, upper: bool) -> &'static str
+    ensures { result.now ≡ float_bytes style upper }
+{
+    match (style, upper) {
+        (FloatStyle::Fixed, false) => "f",
+        (FloatStyle::Fixed, true) => "F",
+        (FloatStyle::Exponent, false) => "e",
+        (FloatStyle::Exponent, true) => "E",
+        (FloatStyle::General, false) => "g",
+        (FloatStyle::General, true) => "G",
+        (FloatStyle::Hexadecimal, false) => "a",
+        (FloatStyle::Hexadecimal, true) => "A",
+    }
+}
+
 /// The letter of a conversion of a print format.
 fn print_letter_text(letter: PrintLetter) -> &'static str
     ensures { result.now ≡ print_letter_text letter }
@@ -77,6 +94,7 @@ fn print_letter_text(letter: PrintLetter) -> &'static str
         PrintLetter::Binary => "b",
         PrintLetter::Text => "s",
         PrintLetter::One => "c",
+        PrintLetter::Float(style, upper) => float_letter_text(style, upper),
     }
 }
 

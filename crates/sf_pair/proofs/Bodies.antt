@@ -57,6 +57,7 @@ mark_by true letter.HexUpper xs h = refl
 mark_by true letter.Binary xs h = refl
 mark_by true letter.Text xs h = h
 mark_by true letter.One xs h = h
+mark_by true (letter.Float style upper) xs h = h
 mark_by false l xs h = h
 
 sign_ink : (c : PrintConv) (z : ℤ) (xs : List ℕ) → StartsInk xs → StartsInk (bare_sign c z ++ xs)
@@ -95,6 +96,7 @@ mark_byte true letter.HexUpper xs h = omega arith
 mark_byte true letter.Binary xs h = omega arith
 mark_byte true letter.Text xs h = h
 mark_byte true letter.One xs h = h
+mark_byte true (letter.Float style upper) xs h = h
 mark_byte false l xs h = h
 
 sign_byte : (c : PrintConv) (z : ℤ) (xs : List ℕ) → FirstByte xs → FirstByte (bare_sign c z ++ xs)

@@ -44,6 +44,7 @@ marked_first true letter.Signed xs f = f
 marked_first true letter.Unsigned xs f = f
 marked_first true letter.Text xs f = f
 marked_first true letter.One xs f = f
+marked_first true (letter.Float style upper) xs f = f
 
 abbrev plus_sign : List ℕ
 plus_sign = 43 ∷ []
@@ -93,6 +94,7 @@ visible_first letter.HexUpper c z xs (inr n) f = unsigned_first (digits_in 16) c
 visible_first letter.Binary c z xs (inr n) f = unsigned_first (digits_in 2) c z xs n f
 visible_first letter.Text c z xs (inr n) f = unsigned_first (digits_in 10) c z xs n f
 visible_first letter.One c z xs (inr n) f = unsigned_first (digits_in 10) c z xs n f
+visible_first (letter.Float style upper) c z xs (inr n) f = unsigned_first (digits_in 10) c z xs n f
 visible_first _ c z xs (inl e) f = absurd cc
 
 number_then_integer : (c : PrintConv) (b : ℕ) → number_first c.letter c b ≡ true → integer_first c b ≡ true

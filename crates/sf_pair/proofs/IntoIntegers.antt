@@ -61,16 +61,17 @@ no_short : (l : PrintLetter) → prints_kind l kind.F32 ≡ true → ⊥
 no_short letter.Text h = cc
 no_short _ h = cc
 
-no_long : (l : PrintLetter) → prints_kind l kind.F64 ≡ true → ⊥
-no_long letter.Text h = cc
-no_long _ h = cc
+no_long : (l : PrintLetter) (base : Base) → letters_pair l (shape.Int base) ≡ true → prints_kind l kind.F64 ≡ true → ⊥
+no_long letter.Text base e h = cc
+no_long (letter.Float style upper) base e h = cc
+no_long _ base e h = cc
 
 -- the kind of an integer's letter has numbers
 has_numbers : (l : PrintLetter) (base : Base) (k : Kind) → letters_pair l (shape.Int base) ≡ true → prints_kind l k ≡ true
     → bounds_of k ≡ None → ⊥
 has_numbers l base kind.Text e h none = no_text l base e h
 has_numbers l base kind.F32 e h none = no_short l h
-has_numbers l base kind.F64 e h none = no_long l h
+has_numbers l base kind.F64 e h none = no_long l base e h
 has_numbers l base kind.I8 e h none = absurd cc
 has_numbers l base kind.I16 e h none = absurd cc
 has_numbers l base kind.I32 e h none = absurd cc

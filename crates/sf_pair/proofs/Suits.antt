@@ -16,6 +16,7 @@ use Rattle.sf_format.specs.Units.{is_text, prints_kind, IsProperConv}
 use Rattle.sf_print.specs.declared.fault.PrintFault.{PrintFault}
 use Rattle.sf_print.specs.declared.fault.PrintFault.TheVariants as fault
 use Rattle.sf_print.specs.Printed.{kind_of, same_kind, suits, value_fault}
+use Rattle.sf_print.proofs.Judged.{same_is_printed}
 use Rattle.sf_pair.specs.Groups.{is_one, letters_pair, width_of}
 use Rattle.sf_pair.specs.Fits.{TextFits, ValueFits}
 use Rattle.sf_pair.proofs.Paired.{Pairs, not_none}
@@ -50,6 +51,7 @@ prints_texts letter.Octal k _ w bytes e fit is = absurd cc
 prints_texts letter.HexLower k _ w bytes e fit is = absurd cc
 prints_texts letter.HexUpper k _ w bytes e fit is = absurd cc
 prints_texts letter.Binary k _ w bytes e fit is = absurd cc
+prints_texts (letter.Float style upper) k _ w bytes e fit is = absurd cc
 
 one_byte : (h : Shape) (w : ℕ) (bytes : List ℕ) → letters_pair letter.One h ≡ true → not (eqb w 1) ≡ false → TextFits h w bytes
     → nat_eq (length bytes) 1 ≡ true
@@ -70,7 +72,8 @@ suits_number _ k z = refl
 
 no_fault : (c : PrintConv) (v : Datum) → same_kind (kind_of v) c.kind ≡ true → suits c.letter v ≡ true → value_fault c v ≡ None
 no_fault c v e f =
-    ap (λ (t : Bool). cond (not t) (Some (fault.WrongKind c.slot)) (cond (not (suits c.letter v)) (Some (fault.NotOneByte c.slot)) None)) e
+    ap (λ (t : Bool). cond (not t) (Some (fault.WrongKind c.slot)) (cond (not (suits c.letter v)) (Some (fault.NotOneByte c.slot)) None))
+    (same_is_printed (kind_of v) c.kind e)
     ∙ ap (λ (t : Bool). cond {A = Option PrintFault} (not t) (Some (fault.NotOneByte c.slot)) None) f
 
 pub fits_unfaulted : (c : PrintConv) (s : Conversion) (v : Datum) → IsProperConv c → Pairs c s → ValueFits c s v → value_fault c v ≡ None

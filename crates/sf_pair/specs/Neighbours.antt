@@ -56,6 +56,13 @@ number_first l c = digits_in (base_of l)
 abbrev pub integer_first : PrintConv → Bytes
 integer_first c = if nat_lt 0 c.width && not (pads_with_zeros c) then or (only 32) (number_first c.letter c) else number_first c.letter c
 
+-- of a float as of a signed number; its flag `0` counts whatever the precision
+abbrev pub float_digit : PrintConv → Bytes
+float_digit c = or (only 45) (sign_or_digit c)
+
+abbrev pub float_first : PrintConv → Bytes
+float_first c = if nat_lt 0 c.width && not (c.zero && not c.minus) then or (only 32) (float_digit c) else float_digit c
+
 abbrev pub text_first : PrintConv → Shape → Bytes
 text_first c shape.Text = if nat_lt 0 c.width then or (only 32) is_ink else is_ink
 text_first c (shape.Set members) = has_byte members
@@ -70,6 +77,7 @@ one_first _ = no_byte
 abbrev pub first_by_letter : PrintLetter → PrintConv → Shape → Bytes
 first_by_letter letter.Text c read = text_first c read
 first_by_letter letter.One c read = one_first read
+first_by_letter (letter.Float style upper) c read = float_first c
 first_by_letter _ c read = integer_first c
 
 -- the shape of the next directive, where that is an assigned conversion; Count, which reads nothing, where it isn't

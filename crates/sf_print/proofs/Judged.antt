@@ -1,13 +1,21 @@
 -- What is refused before anything is written is no fault of the sink; values of slots.
 use Rattle.std.proofs.Common.{◌≡◌, ℕ, Bool, true, false, cond, not, ◌==◌, nat_le, List, [], ◌∷◌, length, fold, refl, Option, Some, None, Ok, Err}
 use Rattle.sf_base.specs.Data.{Datum}
+use Rattle.sf_base.specs.declared.values.Kind.{Kind}
+use Rattle.sf_base.specs.declared.values.Kind.TheVariants as kind
 use Rattle.sf_format.specs.declared.unit.PrintConv.{PrintConv}
 use Rattle.sf_format.specs.declared.unit.Unit.{Unit as PrintUnit}
 use Rattle.sf_format.specs.declared.unit.Unit.TheVariants as unit
 use Rattle.sf_format.specs.Units.{values_of}
 use Rattle.sf_print.specs.declared.fault.PrintFault.{PrintFault}
 use Rattle.sf_print.specs.declared.fault.PrintFault.TheVariants as fault
-use Rattle.sf_print.specs.Printed.{value_at, printed, value_fault, fault_or_none, unit_fault, lower, slot_of, lowest_fault, most_bytes, length_or_fault, measured, is_sink_fault, same_kind, kind_of, suits}
+use Rattle.sf_print.specs.Printed.{value_at, printed, value_fault, fault_or_none, unit_fault, lower, slot_of, lowest_fault, most_bytes, length_or_fault, measured, is_sink_fault, same_kind, is_printed_as, kind_of, suits}
+
+-- a value of the kind that is due
+pub same_is_printed : (k due : Kind) → same_kind k due ≡ true → is_printed_as k due ≡ true
+same_is_printed kind.F32 kind.F64 e = refl
+same_is_printed kind.F32 _ e = e
+same_is_printed _ due e = e
 
 is_of_sink : Option PrintFault → Bool
 is_of_sink None = false
@@ -25,7 +33,7 @@ lower_kept (Some f) (Some g) h k = by (nat_le (slot_of f) (slot_of g))
 
 value_kept : (c : PrintConv) (value : Datum) → is_of_sink (value_fault c value) ≡ false
 unfolding is_of_sink
-value_kept c value = by (not (same_kind (kind_of value) c.kind)) (not (suits c.letter value))
+value_kept c value = by (not (is_printed_as (kind_of value) c.kind)) (not (suits c.letter value))
   where
     by : (s t : Bool) → is_of_sink (cond s (Some (fault.WrongKind c.slot)) (cond t (Some (fault.NotOneByte c.slot)) None)) ≡ false
     by true t = refl

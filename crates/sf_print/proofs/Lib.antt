@@ -4,6 +4,7 @@ pub mod EndsCopied
 pub mod Digits
 pub mod FourDigits
 pub mod Plainness
+pub mod Reals
 pub mod Rows
 pub mod Short
 pub mod Staging

@@ -54,6 +54,7 @@ decimal_letter letter.HexUpper e = absurd cc
 decimal_letter letter.Binary e = absurd cc
 decimal_letter letter.Text e = absurd cc
 decimal_letter letter.One e = absurd cc
+decimal_letter (letter.Float style upper) e = absurd cc
 
 no_mark : (b : Bool) (m : List ℕ) → m ≡ [] → cond b m [] ≡ []
 no_mark true m e = e

@@ -55,6 +55,7 @@ base_mark_short letter.Unsigned = omega arith
 base_mark_short letter.Octal = omega arith
 base_mark_short letter.Text = omega arith
 base_mark_short letter.One = omega arith
+base_mark_short (letter.Float style upper) = omega arith
 
 prefix_short : (c : PrintConv) (z : ℤ) → length (prefix c z) ≤ 3
 prefix_short c z =
@@ -121,6 +122,7 @@ shown_short letter.HexLower p bytes = omega arith
 shown_short letter.HexUpper p bytes = omega arith
 shown_short letter.Binary p bytes = omega arith
 shown_short letter.One p bytes = omega arith
+shown_short (letter.Float style upper) p bytes = omega arith
 
 bytes_short : (c : PrintConv) (bytes : List ℕ) → c.width ≤ 65535 → length bytes ≤ 65536 → length (bytes_text c bytes) ≤ 200000
 bytes_short c bytes wide few =
@@ -144,7 +146,7 @@ bytes_short c bytes wide few =
 value_short : (c : PrintConv) (value : Datum) → IsProperConv c → is_short value ≡ true → length (value_text c value) ≤ 200000
 value_short c (Number k z) proper short = integer_short c z proper.width (least_small c.precision proper.precision)
 value_short c (Bytes bytes) proper short = bytes_short c bytes proper.width (leb-true (length bytes) 65536 short)
-value_short c (Real r) proper short = bytes_short c [] proper.width (omega arith)
+value_short c (Real r) proper short = absurd cc
 
 found_short : (c : PrintConv) (value : Option Datum) → IsProperConv c → IfSome value (λ v. is_short v ≡ true)
     → length (text_or_none c value) ≤ 200000

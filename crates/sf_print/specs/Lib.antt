@@ -1,3 +1,4 @@
+pub mod Floats
 pub mod Text
 pub mod Printed
 pub mod Numeral

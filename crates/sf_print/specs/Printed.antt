@@ -52,6 +52,11 @@ same_kind kind.F32 kind.F32 = true
 same_kind kind.F64 kind.F64 = true
 same_kind _ _ = false
 
+-- a value of a kind is printed where the other is due: one of that kind, and an f32 where an f64 is due
+abbrev pub is_printed_as : Kind → Kind → Bool
+is_printed_as kind.F32 kind.F64 = true
+is_printed_as k due = same_kind k due
+
 -- c prints one byte
 abbrev pub suits : PrintLetter → Datum → Bool
 suits letter.One (Bytes bytes) = length bytes == 1
@@ -60,7 +65,7 @@ suits _ value = true
 -- what is wrong with a value: its kind, or the number of its bytes
 abbrev pub value_fault : PrintConv → Datum → Option PrintFault
 value_fault c value =
-    if not (same_kind (kind_of value) c.kind) then Some (fault.WrongKind c.slot) else
+    if not (is_printed_as (kind_of value) c.kind) then Some (fault.WrongKind c.slot) else
     (if not (suits c.letter value) then Some (fault.NotOneByte c.slot) else None)
 
 abbrev pub fault_or_none : PrintConv → Option Datum → Option PrintFault

@@ -7,6 +7,7 @@ use Rattle.sf_base.specs.Data.Datum.{Number, Bytes, Real}
 use Rattle.sf_format.specs.declared.unit.PrintLetter.{PrintLetter}
 use Rattle.sf_format.specs.declared.unit.PrintLetter.TheVariants as letter
 use Rattle.sf_format.specs.declared.unit.PrintConv.{PrintConv}
+use Rattle.sf_print.specs.Floats.{real_text}
 
 -- ---- the digits of an integer
 
@@ -120,8 +121,7 @@ padded c bytes = let short = short_by c (length bytes) in
 abbrev pub bytes_text : PrintConv → List ℕ → List ℕ
 bytes_text c bytes = padded c (shown_bytes c.letter c.precision bytes)
 
--- no conversion takes a float yet: each refuses it by its kind, so what stands for its text is never printed
 abbrev pub value_text : PrintConv → Datum → List ℕ
 value_text c (Number kind z) = integer_text c z
 value_text c (Bytes bytes) = bytes_text c bytes
-value_text c (Real r) = bytes_text c []
+value_text c (Real r) = real_text c r

@@ -1,17 +1,19 @@
 //! Texts of values, written in place.
-ghost use Rattle.std.specs.Prelude.{◌≡◌, ◌≤◌, ◌+◌, ◌++◌, length, take, IfSome, IsSome};
+ghost use Rattle.std.specs.Prelude.{◌≡◌, ◌≤◌, ◌+◌, ◌++◌, length, take, IfSome, IsSome, None};
 ghost use Rattle.std.specs.List.{flat_map};
 ghost use Rattle.sf_base.specs.Data.{datum_of, datum_of_shown};
+ghost use Rattle.sf_print.specs.Floats.{real_of, real_text};
 ghost use Rattle.sf_print.specs.Runs.{piece_bytes};
 ghost use Rattle.sf_print.specs.Text.{value_text};
 
 use crate::copies::copy_over;
 use crate::decimal::write_number;
+use crate::floats::{FLOAT_BYTES, float_pieces};
 use crate::integer::DIGIT_BYTES;
 use crate::piece::Piece;
 use crate::plain::is_plain_conv;
 use crate::text::value_pieces;
-use sf_base::{Shown, Value};
+use sf_base::{Real, Shown, Value};
 use sf_format::PrintConv;
 
 /// A minus and the digits of any number.
@@ -44,10 +46,39 @@ fn write_piece(piece: &Piece<'_>, buf: &mut [u8], at: usize) -> Option<usize>
     }
 }
 
-/// Writes the text of any value, by its pieces. It is a call of its own, so that plain values pay for no buffer.
+/// Writes the pieces one after the other from a place on, and answers where they end. None where there is no room.
+fn write_pieces(pieces: &[Piece<'_>], buf: &mut [u8], at: usize) -> Option<usize>
+    requires { at ≤ length buf.old }
+    ensures within { IfSome result (λ end. end ≤ length buf.new) }
+    ensures written { IfSome result (λ end. take end buf.new ≡ take at buf.old ++ flat_map piece_bytes pieces.now) }
+    ensures answers { at + length (flat_map piece_bytes pieces.now) ≤ length buf.old → IsSome result }
+{
+    let mut end = at;
+    for piece in pieces {
+        end = write_piece(piece, buf, end)?;
+    }
+    Some(end)
+}
+
+/// Writes the text of a float, by its pieces. It is a call of its own, so that other values pay for no such buffer.
+#[inline(never)]
+fn write_real(conv: &PrintConv, real: Real, buf: &mut [u8], at: usize) -> Option<usize>
+    requires { at ≤ length buf.old }
+    ensures within { IfSome result (λ end. end ≤ length buf.new) }
+    ensures written { IfSome result (λ end. take end buf.new ≡ take at buf.old ++ real_text conv.now real) }
+    ensures answers { at + length (real_text conv.now real) ≤ length buf.old → IsSome result }
+{
+    let mut digits = [0; FLOAT_BYTES];
+    let pieces = float_pieces(conv, real, &mut digits);
+    write_pieces(&pieces, buf, at)
+}
+
+/// Writes the text of a value other than a float, by its pieces. It is a call of its own, so that plain values pay for
+/// no buffer.
 #[inline(never)]
 fn write_padded(conv: &PrintConv, value: &Value<'_>, buf: &mut [u8], at: usize) -> Option<usize>
-    requires { at ≤ length buf.old }
+    requires place { at ≤ length buf.old }
+    requires other { real_of (datum_of value.now) ≡ None }
     ensures within { IfSome result (λ end. end ≤ length buf.new) }
     ensures written { IfSome result (λ end. take end buf.new
         ≡ take at buf.old ++ value_text conv.now (datum_of value.now)) }
@@ -55,11 +86,7 @@ fn write_padded(conv: &PrintConv, value: &Value<'_>, buf: &mut [u8], at: usize) 
 {
     let mut digits = [0; DIGIT_BYTES];
     let pieces = value_pieces(conv, *value, &mut digits);
-    let mut end = at;
-    for piece in &pieces {
-        end = write_piece(piece, buf, end)?;
-    }
-    Some(end)
+    write_pieces(&pieces, buf, at)
 }
 
 /// Writes the text that the conversion prints of a value from a place on, and answers where it ends (C11 7.21.6.1). It
@@ -89,6 +116,6 @@ pub fn write_value(conv: &PrintConv, value: Shown<'_>, buf: &mut [u8], at: usize
             }
             write_piece(&Piece::Bytes(bytes), buf, at)
         }
-        Shown::Real(real) => write_padded(conv, &real.value(), buf, at),
+        Shown::Real(real) => write_real(conv, real, buf, at),
     }
 }

@@ -1,7 +1,7 @@
 //! What is refused before anything is printed.
 ghost use Rattle.std.specs.Prelude.{◌≡◌, map, MatchOption, Some, None};
 ghost use Rattle.sf_base.specs.Data.{datum_of};
-ghost use Rattle.sf_print.specs.Printed.{same_kind, suits, value_fault, value_at, fault_or_none, unit_fault, slot_of, lower, lowest_fault};
+ghost use Rattle.sf_print.specs.Printed.{same_kind, is_printed_as, suits, value_fault, value_at, fault_or_none, unit_fault, slot_of, lower, lowest_fault};
 
 use crate::fault::PrintFault;
 use sf_base::{Kind, Value};
@@ -12,6 +12,17 @@ fn are_same(a: Kind, b: Kind) -> bool
     ensures { result ≡ same_kind a b }
 {
     a == b
+}
+
+/// Whether a value of the kind is printed where the other is due: an `f32` is an `f64`, too.
+#[inline(always)]
+fn is_printed_as(kind: Kind, due: Kind) -> bool
+    ensures { result ≡ is_printed_as kind due }
+{
+    match (kind, due) {
+        (Kind::F32, Kind::F64) => true,
+        _ => are_same(kind, due),
+    }
 }
 
 /// Whether `c` prints one byte; other letters print every value.
@@ -30,7 +41,7 @@ fn suits_letter(letter: PrintLetter, value: &Value<'_>) -> bool
 fn fault_of(conv: &PrintConv, value: &Value<'_>) -> Option<PrintFault>
     ensures { result ≡ value_fault conv.now (datum_of value.now) }
 {
-    if !are_same(value.kind(), conv.kind) {
+    if !is_printed_as(value.kind(), conv.kind) {
         return Some(PrintFault::WrongKind { at: conv.slot });
     }
     if !suits_letter(conv.letter, value) {

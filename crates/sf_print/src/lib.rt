@@ -4,6 +4,7 @@
 mod copies;
 mod decimal;
 mod fault;
+mod floats;
 mod handing;
 mod in_place;
 mod integer;

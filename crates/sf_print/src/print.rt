@@ -4,12 +4,14 @@ ghost use Rattle.sf_base.specs.Data.{datum_of};
 ghost use Rattle.sf_format.specs.Units.{values_of};
 ghost use Rattle.sf_print.specs.Sinks.{counted_on};
 ghost use Rattle.sf_print.specs.Staged.{Puts, Writes};
+ghost use Rattle.sf_print.specs.Floats.{real_text};
 ghost use Rattle.sf_print.specs.Text.{value_text};
 ghost use Rattle.sf_print.specs.Short.{is_short, are_short};
 ghost use Rattle.sf_print.specs.Printed.{unit_text, printed, length_or_fault, measured, WritesText, is_sink_fault};
 
 use crate::decimal::decimal_len;
 use crate::fault::PrintFault;
+use crate::floats::{FLOAT_BYTES, float_pieces, real_of};
 use crate::handing::{flush, put, put_byte, put_number};
 use crate::integer::DIGIT_BYTES;
 use crate::judging::{find_lowest_fault, value_of_slot};
@@ -18,7 +20,7 @@ use crate::plain::{plain_bytes, plain_number};
 use crate::sink::{Sink, SinkFault};
 use crate::stage::Stage;
 use crate::text::value_pieces;
-use sf_base::Value;
+use sf_base::{Real, Value};
 use sf_format::{PrintConv, PrintFormat, Unit};
 
 /// The greatest length of a printed text.
@@ -27,6 +29,26 @@ const MOST_BYTES: u32 = 2147483647;
 /// The greatest length of a text that needs no measuring: 4096 units of which each prints one, padded to the
 /// greatest width, are within `MOST_BYTES`.
 const SHORT_BYTES: usize = 65536;
+
+/// Puts the text of a float, by its pieces. It is a call of its own, so that other values pay for no such buffer.
+#[inline(never)]
+fn put_float<K: Sink>(
+    to: &mut K,
+    stage: &mut Stage,
+    conv: &PrintConv,
+    real: Real,
+) -> Result<(), SinkFault>
+    requires { stage.old.written + stage.old.len + length (real_text conv.now real) < 2 ^ 32 }
+    ensures text { Puts (K.contents to.old) stage.old (K.contents to.new) stage.new (real_text conv.now real) result }
+    ensures count { OnOk result (stage.new.written + stage.new.len
+        ≡ stage.old.written + stage.old.len + length (real_text conv.now real)) }
+    ensures failures { K.failures to.new
+        ≡ (if is_err result then counted_on (K.failures to.old) else K.failures to.old) }
+{
+    let mut buf = [0; FLOAT_BYTES];
+    let pieces = float_pieces(conv, real, &mut buf);
+    put_pieces(to, stage, &pieces)
+}
 
 /// Puts the text of any value, by its pieces. It is a call of its own, so that plain values pay for no buffer.
 #[inline(never)]
@@ -44,6 +66,9 @@ fn put_padded<K: Sink>(
     ensures failures { K.failures to.new
         ≡ (if is_err result then counted_on (K.failures to.old) else K.failures to.old) }
 {
+    if let Some(real) = real_of(value) {
+        return put_float(to, stage, conv, real);
+    }
     let mut buf = [0; DIGIT_BYTES];
     let pieces = value_pieces(conv, *value, &mut buf);
     put_pieces(to, stage, &pieces)
@@ -74,6 +99,16 @@ fn put_value<K: Sink>(
     put_padded(to, stage, conv, value)
 }
 
+/// The length of a float's text, or the most where it is longer.
+#[inline(never)]
+fn float_len(conv: &PrintConv, real: Real, most: u64) -> u64
+    requires { most < 2 ^ 32 }
+    ensures { result ≡ min most (length (real_text conv.now real)) }
+{
+    let mut buf = [0; FLOAT_BYTES];
+    pieces_len(&float_pieces(conv, real, &mut buf), most)
+}
+
 /// The length of a value's text, or the most where it is longer.
 #[inline]
 fn value_len(conv: &PrintConv, value: &Value<'_>, most: u64) -> u64
@@ -85,6 +120,9 @@ fn value_len(conv: &PrintConv, value: &Value<'_>, most: u64) -> u64
     }
     if let Some(bytes) = plain_bytes(conv, value) {
         return most.min(bytes.len() as u64);
+    }
+    if let Some(real) = real_of(value) {
+        return float_len(conv, real, most);
     }
     let mut buf = [0; DIGIT_BYTES];
     pieces_len(&value_pieces(conv, *value, &mut buf), most)
@@ -221,6 +259,7 @@ fn is_short(value: &Value<'_>) -> bool
 {
     match value {
         Value::Text(bytes) => bytes.len() <= SHORT_BYTES,
+        Value::F32(_) | Value::F64(_) => false,
         _ => true,
     }
 }

@@ -1,7 +1,8 @@
 //! The text of a value, in pieces.
-ghost use Rattle.std.specs.Prelude.{◌≡◌};
+ghost use Rattle.std.specs.Prelude.{◌≡◌, None};
 ghost use Rattle.std.specs.List.{flat_map};
 ghost use Rattle.sf_base.specs.Data.{datum_of};
+ghost use Rattle.sf_print.specs.Floats.{real_of};
 ghost use Rattle.sf_print.specs.Runs.{piece_bytes};
 ghost use Rattle.sf_print.specs.Printables.{IsOf};
 ghost use Rattle.sf_print.specs.Text.{bytes_text, shown_bytes, value_text};
@@ -38,8 +39,7 @@ fn text_pieces<'a>(conv: &PrintConv, bytes: &'a [u8]) -> Pieces<'a>
     ]
 }
 
-/// What is printed of a value: a sign (true: a minus) and a magnitude, or bytes. A float has none, since no conversion
-/// takes it yet.
+/// What is printed of a value other than a float: a sign (true: a minus) and a magnitude, or bytes. Of a float none.
 pub(crate) enum Printable<'a> {
     Number(bool, u64),
     Bytes(&'a [u8]),
@@ -58,12 +58,13 @@ pub(crate) fn printable_of<'a>(value: Value<'a>) -> Printable<'a>
     }
 }
 
-/// The pieces of a value's text; the digits of an integer are written to the buffer.
+/// The pieces of the text of a value other than a float; the digits of an integer are written to the buffer.
 pub(crate) fn value_pieces<'a>(
     conv: &PrintConv,
     value: Value<'a>,
     buf: &'a mut [u8; DIGIT_BYTES],
 ) -> Pieces<'a>
+    requires { real_of (datum_of value) ≡ None }
     ensures { flat_map piece_bytes result ≡ value_text conv.now (datum_of value.entry) }
 {
     match printable_of(value) {

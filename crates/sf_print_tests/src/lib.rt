@@ -10,6 +10,8 @@ mod decimals;
 #[cfg(test)]
 mod errors;
 #[cfg(test)]
+mod float_prints;
+#[cfg(test)]
 mod floats;
 #[cfg(test)]
 mod formats;

@@ -4,7 +4,7 @@ use Rattle.sf_base.specs.declared.values.Kind.{Kind}
 use Rattle.sf_base.specs.declared.values.Kind.TheVariants as kind
 use Rattle.sf_format.specs.declared.unit.PrintConv.{PrintConv}
 use Rattle.sf_format.specs.declared.unit.PrintLetter.{PrintLetter}
-use Rattle.sf_format.specs.declared.unit.PrintLetter.TheVariants.{Signed, Unsigned, Octal, HexLower, HexUpper, Binary, Text, One}
+use Rattle.sf_format.specs.declared.unit.PrintLetter.TheVariants.{Signed, Unsigned, Octal, HexLower, HexUpper, Binary, Text, One, Float}
 
 -- the conversion prints the digits of a number that it needs, and a sign or none: it has neither `-`, `#` nor `0`, and no precision
 abbrev pub is_bare : PrintConv → Bool
@@ -39,10 +39,11 @@ reading_text Binary kind.U32 = codes "%32b"
 reading_text Binary kind.U64 = codes "%64lb"
 reading_text _ _ = []
 
--- what is said after that a width is missing: of a number the directive, of a text what its width has to be
+-- what is said after that a width is missing: of an integer the directive, of a text what its width has to be
 abbrev pub cure_text : PrintLetter → List ℕ → List ℕ
 cure_text Text directive = codes ": write the most bytes of the text after the %"
 cure_text One directive = []
+cure_text (Float style upper) directive = []
 cure_text _ directive = codes ": write " ++ directive
 
 abbrev pub width_cure : PrintConv → List ℕ

@@ -49,7 +49,7 @@ fn push_cure(output: &mut Vec<u8>, letter: PrintLetter, directive: &str) -> Resu
 {
     match letter {
         PrintLetter::Text => push_text(output, ": write the most bytes of the text after the %"),
-        PrintLetter::One => Ok(()),
+        PrintLetter::One | PrintLetter::Float(..) => Ok(()),
         PrintLetter::Signed
         | PrintLetter::Unsigned
         | PrintLetter::Octal

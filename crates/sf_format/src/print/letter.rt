@@ -5,7 +5,7 @@ ghost use Rattle.sf_base.specs.Bytes.{magnitude};
 ghost use Rattle.std.specs.Option.{option_map};
 ghost use Rattle.sf_format.specs.Digits.{is_decimal};
 ghost use Rattle.sf_format.specs.Slots.{slot_of};
-ghost use Rattle.sf_format.specs.PrintLetters.{print_row, print_letter_of, print_kind_of};
+ghost use Rattle.sf_format.specs.PrintLetters.{print_row, print_letter_of, print_kind_of, letter_among, float_letters, has_doubles};
 ghost use Rattle.sf_format.specs.PrintGrammar.{IsPrintConv};
 ghost use Rattle.sf_format.specs.Rules.{first_of};
 ghost use Rattle.sf_format.specs.PrintRules.{is_print_left_out, print_letter_rules, flag_rules, foreign_flag, precision_number};
@@ -13,10 +13,10 @@ ghost use Rattle.sf_format.specs.Passing.{opening_of, fault_in, Converts};
 
 use crate::directive::Profile;
 use crate::fault::{FormatFault, FormatWhy};
-use crate::letter::{Values, of_text};
+use crate::letter::{Values, of_double, of_text};
 use crate::opening::{Written, capped};
 use crate::rule_table::{fault_by, rule};
-use crate::unit::{PrintConv, PrintLetter};
+use crate::unit::{FloatStyle, PrintConv, PrintLetter};
 use sf_base::Kind;
 
 /// What the byte prints as a letter.
@@ -33,17 +33,48 @@ pub fn print_letter_of(profile: Profile, b: u8) -> Option<PrintLetter>
         b'c' => Some(PrintLetter::One),
         b'b' => match profile {
             Profile::One => None,
-            Profile::Two => Some(PrintLetter::Binary),
+            Profile::Two | Profile::Three => Some(PrintLetter::Binary),
         },
-        _ => None,
+        _ => match profile {
+            Profile::One | Profile::Two => None,
+            Profile::Three => float_letter_of(b),
+        },
+    }
+}
+
+/// The letter of a float that the byte is.
+fn float_letter_of(b: u8) -> Option<PrintLetter>
+    ensures { result ≡ letter_among float_letters b }
+{
+    let (style, upper) = match b {
+        b'f' => (FloatStyle::Fixed, false),
+        b'F' => (FloatStyle::Fixed, true),
+        b'e' => (FloatStyle::Exponent, false),
+        b'E' => (FloatStyle::Exponent, true),
+        b'g' => (FloatStyle::General, false),
+        b'G' => (FloatStyle::General, true),
+        b'a' => (FloatStyle::Hexadecimal, false),
+        b'A' => (FloatStyle::Hexadecimal, true),
+        _ => return None,
+    };
+    Some(PrintLetter::Float(style, upper))
+}
+
+/// Whether the profile has the letters of floats.
+fn has_doubles(profile: Profile) -> bool
+    ensures { result ≡ has_doubles profile }
+{
+    match profile {
+        Profile::One | Profile::Two => false,
+        Profile::Three => true,
     }
 }
 
 /// Whether the byte is a letter, a length or a mark that C or POSIX has and print formats here do not.
-fn print_left_out(b: u8) -> bool
-    ensures { result ≡ is_print_left_out b }
+fn print_left_out(profile: Profile, b: u8) -> bool
+    ensures { result ≡ is_print_left_out profile b }
 {
-    b"*'nLaAeEfFgGpCS".contains(&b)
+    b"*'nLpCS".contains(&b) || (of_double(b) && !has_doubles(profile))
 }
 
 /// A row of the table of letters: what the letter prints, and the flags that it has.
@@ -67,6 +98,7 @@ fn print_row(letter: PrintLetter) -> PrintRow
         PrintLetter::Text => (Values::Text, b"-"),
         PrintLetter::One => (Values::Text, b"-"),
         PrintLetter::Binary => (Values::Unsigned, b"-#0"),
+        PrintLetter::Float(..) => (Values::Double, b"-+ #0"),
     };
     PrintRow { prints, flags }
 }
@@ -82,13 +114,19 @@ fn print_letter_fault(
 {
     let is_known = print_letter_of(profile, letter).is_some();
     let is_text = of_text(letter);
+    let is_double = of_double(letter);
     let has_length = written.size.is_written();
     fault_by(&[
         rule(FormatWhy::Nul, at, letter == 0),
-        rule(FormatWhy::LeftOut, at, print_left_out(letter)),
+        rule(FormatWhy::LeftOut, at, print_left_out(profile, letter)),
         rule(FormatWhy::UnknownLetter, at, !is_known),
         rule(FormatWhy::LeftOut, at, is_text && written.size.is_l()),
         rule(FormatWhy::BadLength, at, is_text && has_length),
+        rule(
+            FormatWhy::BadLength,
+            at,
+            is_double && has_length && !written.size.is_l(),
+        ),
     ])
 }
 

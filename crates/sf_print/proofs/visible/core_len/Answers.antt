@@ -4,7 +4,11 @@ use Rattle.sf_print.specs.Runs.{piece_bytes}
 use mir.Val.{bool_byte}
 use Rattle.sf_print.proofs.Blanks.{number_short, without-le}
 use Rattle.sf_print.proofs.Plainness.{length_seen}
+use Rattle.sf_print.proofs.Reals.{no_real}
 use Rattle.sf_print.proofs.visible.core_len.Goals as goal
+
+pub value_pieces-requires : goal.value_pieces-requires
+value_pieces-requires c = no_real c.args.value c.requires
 
 pub visible_pieces-requires : goal.visible_pieces-requires
 visible_pieces-requires c =
