@@ -19,7 +19,7 @@ _sf() {
         --limit|--skip|-s|-e|--print|--names|--ignore|--width) return ;;
     esac
     if [[ $before == --profile || $before == -p ]]; then
-        COMPREPLY=( $(compgen -W '1 2' -- "$word") )
+        COMPREPLY=( $(compgen -W '1 2 3' -- "$word") )
         return
     fi
     if [[ $before == --output || $before == -o ]]; then

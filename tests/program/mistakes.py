@@ -17,19 +17,19 @@ import program
 FORMATS = (
     (r"scan %f", """
 sf: scan format: F5 LeftOut at 1
-  %f: floating point is left out of profiles 1 and 2
+  %f: floating point is left out of profiles 1 and 2; print formats have it by --profile 3
   "%f"
     ^
 """),
     (r"scan '%s %5.2f'", """
 sf: scan format: F4 UnknownLetter at 5
-  ".": floating point is left out of profiles 1 and 2
+  ".": floating point is left out of profiles 1 and 2; print formats have it by --profile 3
   "%s %5.2f"
         ^
 """),
     (r"print %5.2f 1.5", """
 sf: print format: F5 LeftOut at 4
-  %f: floating point is left out of profiles 1 and 2
+  %f: floating point is left out of profiles 1 and 2; print formats have it by --profile 3
   "%5.2f"
        ^
 """),
@@ -434,7 +434,7 @@ error: invalid value '-1' for '--skip <N>': -1 is not in 0..9223372036854775807
 
 """),
     (r"copy -p -1 %d %d", """
-error: invalid value '-1' for '--profile <N>': -1 is not in 1..=2
+error: invalid value '-1' for '--profile <N>': -1 is not in 1..=3
 
 """),
     # here the tip is right

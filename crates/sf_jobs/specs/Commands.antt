@@ -327,6 +327,7 @@ ScansAs to_come read_faults contents write_faults profile form due names (Some p
 abbrev pub grammar_of : GivenProfile → Profile
 grammar_of given.One = grammar.One
 grammar_of given.Two = grammar.Two
+grammar_of given.Three = grammar.Three
 
 -- the form that the words name
 abbrev pub form_of : Output → OutputForm

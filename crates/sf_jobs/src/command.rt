@@ -230,6 +230,7 @@ pub fn grammar_of(profile: GivenProfile) -> Profile
     match profile {
         GivenProfile::One => Profile::One,
         GivenProfile::Two => Profile::Two,
+        GivenProfile::Three => Profile::Three,
     }
 }
 

@@ -22,7 +22,7 @@ left_out_sentence b =
     else if nat_eq b 42 then codes "a width or a precision among the values is not part of sf; of two formats the print format comes first"
     else if nat_eq b 39 then codes "groups of digits are not part of sf"
     else if nat_eq b 110 then codes "a count is not part of sf's print formats; of two formats the print format comes first"
-    else codes "floating point is left out of profiles 1 and 2"
+    else codes "floating point is left out of profiles 1 and 2; print formats have it by --profile 3"
 
 -- ---- a byte that is no letter of a conversion
 
@@ -48,7 +48,7 @@ is_flag b = nat_eq b 45 || (nat_eq b 43 || (nat_eq b 32 || nat_eq b 35))
 -- point too; `[` (91) a set; and flags
 abbrev pub unknown_sentence : ℕ → List ℕ → List ℕ
 unknown_sentence b rest =
-    if nat_eq b 46 && is_float_after rest then codes "floating point is left out of profiles 1 and 2"
+    if nat_eq b 46 && is_float_after rest then codes "floating point is left out of profiles 1 and 2; print formats have it by --profile 3"
     else if nat_eq b 46 then codes "a precision stands in a print format alone; of two formats the print format comes first"
     else if nat_eq b 91 then codes "a set stands in a scan format alone; of two formats the print format comes first"
     else if is_flag b then codes "a flag stands first in a conversion, and in a print format alone; of two formats the print format comes first"

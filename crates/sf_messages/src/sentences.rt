@@ -49,7 +49,7 @@ fn left_out_sentence(b: u8) -> &'static str
         b'n' => {
             "a count is not part of sf's print formats; of two formats the print format comes first"
         }
-        _ => "floating point is left out of profiles 1 and 2",
+        _ => "floating point is left out of profiles 1 and 2; print formats have it by --profile 3",
     }
 }
 
@@ -83,7 +83,8 @@ fn unknown_sentence(b: u8, rest: &[u8]) -> &'static str
     ensures { result.now ≡ unknown_sentence b rest.now }
 {
     match b {
-        b'.' if is_float_after(rest) => "floating point is left out of profiles 1 and 2",
+        b'.' if is_float_after(rest) =>
+            "floating point is left out of profiles 1 and 2; print formats have it by --profile 3",
         b'.' => {
             "a precision stands in a print format alone; of two formats the print format comes first"
         }

@@ -23,14 +23,14 @@ limit_rule = record (new_rule (codes "limit")) {
   parser = Some (Signed (pos 0) (pos 2147483647));
 }
 
--- --profile N, -p N (112): 1 or 2, and 1 where it is not given
+-- --profile N, -p N (112): 1, 2 or 3, and 1 where it is not given
 abbrev pub profile_rule : Rule
 profile_rule = record (new_rule (codes "profile")) {
   long = Some (codes "profile");
   short = Some 112;
   value_names = 1;
   defaults = codes "1" ∷ [];
-  parser = Some (Signed (pos 1) (pos 2));
+  parser = Some (Signed (pos 1) (pos 3));
 }
 
 -- --output FORM, -o FORM (111): any text, and plain where it is not given

@@ -19,7 +19,7 @@ use Rattle.sf_words.specs.declared.order.Order.{Order}
 use Rattle.sf_words.specs.declared.order.Output.{Output}
 use Rattle.sf_words.specs.declared.order.Output.TheVariants.{Plain, Tsv, Json, Csv}
 use Rattle.sf_words.specs.declared.order.Profile.{Profile}
-use Rattle.sf_words.specs.declared.order.Profile.TheVariants.{One, Two}
+use Rattle.sf_words.specs.declared.order.Profile.TheVariants.{One, Two, Three}
 use Rattle.sf_words.specs.declared.order.Verb.{Verb}
 use Rattle.sf_words.specs.declared.order.Verb.TheVariants.{Show, Scan, Print, Check, Copy}
 use Rattle.sf_words.specs.declared.order.WordsFault.{WordsFault}
@@ -82,6 +82,7 @@ number_by other (Some text) = number_in text
 abbrev pub profile_number : Profile → ℕ
 profile_number One = 1
 profile_number Two = 2
+profile_number Three = 3
 
 abbrev pub is_true : Option Text → Bool
 is_true None = false

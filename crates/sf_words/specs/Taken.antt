@@ -35,7 +35,7 @@ pub record IsTaken (entered : Option (Text × List Row)) : Type 0 where
   pub given : List Row
   pub is_given : entered ≡ Some (verb_text verb, given)
   pub limit : IsWithin 0 2147483647 (one_of (codes "limit") given)
-  pub profile : IsWithin 1 2 (one_of (codes "profile") given)
+  pub profile : IsWithin 1 3 (one_of (codes "profile") given)
   pub skip : IsWithin 0 9223372036854775807 (one_of (codes "skip") given)
   pub width : IsWithin 1 255 (one_of (codes "width") given)
   pub lines : AllowsLines verb given

@@ -94,11 +94,11 @@ static OPTIONS: [CommandOption; 19] = [
         short: Some('p'),
         value: OptionValue::Number {
             least: 1,
-            most: 2,
+            most: 3,
             default: Some("1"),
         },
         of: OptionOf::All,
-        help: "The formats that are read: 1 those of C, 2 those of base 2 too",
+        help: "The formats that are read: 1 those of C, 2 base 2 too, 3 printed floats too",
     },
     CommandOption {
         name: "explain",

@@ -27,6 +27,8 @@ pub enum Profile {
     One,
     /// The same, with base 2.
     Two,
+    /// That of `Two`, with floats in print formats.
+    Three,
 }
 
 /// In which form the values of a record are written.

@@ -157,11 +157,12 @@ fn limit_of(given: &ArgMatches<'_>) -> u32
 
 /// By which grammar the formats are read.
 fn profile_of(given: &ArgMatches<'_>) -> Profile
-    requires { IsWithin 1 2 (one_of (codes "profile") (rows_of (found_of given.now))) }
+    requires { IsWithin 1 3 (one_of (codes "profile") (rows_of (found_of given.now))) }
     ensures { profile_number result ≡ number_by 1 (one_of (codes "profile") (rows_of (found_of given.now))) }
 {
     match given.get_one("profile").unwrap_or(DEFAULT_PROFILE) {
         2 => Profile::Two,
+        3 => Profile::Three,
         _ => Profile::One,
     }
 }
