@@ -3,8 +3,7 @@ use Rattle.std.proofs.Common.{◌≡◌, ℕ, zero, suc, ◌+◌, List, [], ◌�
 use Rattle.std.specs.List.{filter_map}
 use Rattle.std.proofs.lemmas.List.{append-nil, map-append}
 use Rattle.std.proofs.lemmas.List.Elements.{filter_map-append}
-use Rattle.sf_base.specs.Data.{Datum, datum_of}
-use Rattle.sf_base.specs.declared.values.Value.{Value}
+use Rattle.sf_base.specs.Data.{Datum}
 use Rattle.sf_format.specs.Slots.{slots_from}
 
 slots_more : (place n : ℕ) → slots_from place (suc n) ≡ slots_from place n ++ (place + n) ∷ []
@@ -22,17 +21,17 @@ row_more at n = ap (row_by at) {x = n + 1} {y = suc n} (omega arith)
     ∙ ap (filter_map at) (slots_more 1 n) ∙ filter_map-append at (slots_from 1 n) ((1 + n) ∷ [])
 
 -- the slot has a value
-pub with_value : (at : ℕ → Option Datum) (n : ℕ) (items new : List Value) (value : Value) → map datum_of items ≡ row_by at n
-    → Some (datum_of value) ≡ at (n + 1) → new ≡ items ++ value ∷ [] → map datum_of new ≡ row_by at (n + 1)
-with_value at n items new value so_far given more =
-    let this : filter_map at ((1 + n) ∷ []) ≡ datum_of value ∷ [] =
+pub with_value : {V : Type 0} (datum : V → Datum) (at : ℕ → Option Datum) (n : ℕ) (items new : List V) (value : V)
+    → map datum items ≡ row_by at n → Some (datum value) ≡ at (n + 1) → new ≡ items ++ value ∷ [] → map datum new ≡ row_by at (n + 1)
+with_value datum at n items new value so_far given more =
+    let this : filter_map at ((1 + n) ∷ []) ≡ datum value ∷ [] =
     rw (← (given ∙ ap at {x = n + 1} {y = 1 + n} (omega arith))) refl in
-    ap (map datum_of) more ∙ map-append datum_of items (value ∷ []) ∙ ap (λ (t : List Datum). t ++ datum_of value ∷ []) so_far
+    ap (map datum) more ∙ map-append datum items (value ∷ []) ∙ ap (λ (t : List Datum). t ++ datum value ∷ []) so_far
     ∙ ap (λ (t : List Datum). row_by at n ++ t) (sym this) ∙ sym (row_more at n)
 
 -- it has none
-pub with_none : (at : ℕ → Option Datum) (n : ℕ) (items : List Value) → map datum_of items ≡ row_by at n → None ≡ at (n + 1)
-    → map datum_of items ≡ row_by at (n + 1)
-with_none at n items so_far given =
+pub with_none : {V : Type 0} (datum : V → Datum) (at : ℕ → Option Datum) (n : ℕ) (items : List V) → map datum items ≡ row_by at n
+    → None ≡ at (n + 1) → map datum items ≡ row_by at (n + 1)
+with_none datum at n items so_far given =
     let this : filter_map at ((1 + n) ∷ []) ≡ [] = rw (← (given ∙ ap at {x = n + 1} {y = 1 + n} (omega arith))) refl in
     so_far ∙ sym (append-nil (row_by at n)) ∙ ap (λ (t : List Datum). row_by at n ++ t) (sym this) ∙ sym (row_more at n)

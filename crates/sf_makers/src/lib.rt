@@ -13,4 +13,4 @@ pub use maker::{Maker, Unwritten};
 pub use names::{Names, NamesFault};
 pub use print::PrintMaker;
 pub use printable::{PrintMismatch, check_print};
-pub use rows::{FEW_VALUES, MOST_VALUES, row};
+pub use rows::{FEW_VALUES, MOST_VALUES, row, shown_row};

@@ -1,10 +1,10 @@
 //! The values of a record.
-ghost use Rattle.std.specs.Prelude.{◌≡◌, ◌≤◌, map};
-ghost use Rattle.sf_base.specs.Data.{datum_of};
+ghost use Rattle.std.specs.Prelude.{◌≡◌, ◌≤◌, length, map, take};
+ghost use Rattle.sf_base.specs.Data.{datum_of, datum_of_shown};
 ghost use Rattle.sf_makers.specs.Row.{row_of};
 
 use arrayvec::ArrayVec;
-use sf_base::{Store, Value};
+use sf_base::{Shown, Store, Value};
 use sf_report::Report;
 
 /// The most values that a record has.
@@ -29,4 +29,29 @@ pub fn row<'r, T: Store, const MOST: usize>(
         }
     }
     values
+}
+
+/// Lays down the values of a record, slot by slot, without the Rust types that hold them, and answers how many there
+/// are. There is a place for each destination.
+#[inline(always)]
+pub fn shown_row<'r, T: Store>(
+    report: &Report<'r, T>,
+    destinations: u8,
+    places: &mut [Shown<'r>],
+) -> usize
+    requires { destinations ≤ length places.old }
+    ensures within { result ≤ length places.new }
+    ensures row { map datum_of_shown (take result places.new) ≡ row_of destinations report.now.values }
+{
+    let mut count = 0;
+    for before in 0..destinations {
+        match report.shown(before + 1) {
+            Some(shown) => {
+                places[count] = shown;
+                count += 1;
+            }
+            None => {}
+        }
+    }
+    count
 }

@@ -8,6 +8,8 @@ use Rattle.sf_format.specs.declared.directive.Directive.{Directive}
 use Rattle.sf_format.specs.declared.unit.Unit.{Unit as PrintUnit}
 use Rattle.sf_forms.specs.Written.{TakesPart}
 use Rattle.sf_makers.proofs.Faults.{front_is_part}
+use Rattle.sf_makers.specs.Works.{Writes}
+use Rattle.sf_makers.specs.declared.maker.Unwritten.{Unwritten}
 use Rattle.sf_pair.specs.declared.fault.WriteFault.{WriteFault}
 use Rattle.sf_pair.specs.declared.fault.WriteFault.TheVariants as write
 use Rattle.sf_pair.specs.Fits.{Fit, FitsIsFit, fits}
@@ -58,3 +60,17 @@ sink_part units ds row old new w f n w_is f_is same unfit P long written = by (f
     by : (b : Bool) → fits units ds row ≡ b → (is_copied units ds row ≡ true) × TakesPart old new (printed units row)
     by true e = long_or_not e (nat_le (length (printed units row)) most_bytes) refl
     by false e = other (Err write.NotFitting) refl (unfit.1 (λ fit. true≢false (sym ((same units ds row).1 fit) ∙ e)))
+
+-- a copy that was written in place, and handed to the sink
+pub sent : (units : List PrintUnit) (ds : List Directive) (row : List Datum) (text : List ℕ) (old new : Option (List ℕ))
+    (r : Result (Unit {0}) Unwritten) → text ≡ printed units row → length text ≤ most_bytes → FitsIsFit → Fit units ds row
+    → Writes true text old new r → Writes (is_copied units ds row) (printed units row) old new r
+sent units ds row text old new r is short same fit writes =
+    let few : nat_le (length (printed units row)) most_bytes ≡ true =
+    ap (λ (t : List ℕ). nat_le (length t) most_bytes) (sym is) ∙ most (length text) short in
+    let copied : is_copied units ds row ≡ true = (λ i. (same units ds row).1 fit i && few i) in
+    subst (λ (b : Bool). Writes b (printed units row) old new r) (sym copied)
+    (subst (λ (t : List ℕ). Writes true t old new r) is writes)
+  where
+    most : (n : ℕ) → n ≤ most_bytes → nat_le n most_bytes ≡ true
+    most n h = grind (arith, nat_tests)

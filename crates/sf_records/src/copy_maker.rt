@@ -1,24 +1,30 @@
 //! Copies of reports by a pair of formats.
-ghost use Rattle.std.specs.Prelude.{◌≡◌, map, refl, if◌then◌else◌};
+ghost use Rattle.std.specs.Prelude.{◌≡◌, ◌≤◌, ◌+◌, length, map, refl, take, true, IfSome, if◌then◌else◌};
 ghost use Rattle.sf_base.specs.Data.{datum_of};
 ghost use Rattle.sf_print.specs.Printed.{printed};
 ghost use Rattle.sf_print.specs.Sinks.{counted_on};
-ghost use Rattle.sf_records.specs.Copies.{copying, is_copied, row_in};
+ghost use Rattle.sf_pair.specs.Fits.{Fit};
+ghost use Rattle.sf_records.specs.Copies.{copying, is_copied, row_in, row_of};
 ghost use Rattle.sf_makers.specs.Works.{Writes, sink_failed};
 
-use sf_base::{Store, Value};
+use sf_base::{Shown, Store, Value};
 use sf_format::ScanFormat;
-use sf_makers::{FEW_VALUES, MOST_VALUES, Maker, Unwritten, row};
+use sf_makers::{FEW_VALUES, MOST_VALUES, Maker, Unwritten, row, shown_row};
 use sf_pair::laws::fits_is_fit;
 use sf_pair::{Pair, WriteFault};
-use sf_print::{PrintFault, Sink};
+use sf_print::{PrintFault, Sink, write_text};
 use sf_run::Report;
 use std::marker::Model;
+
+/// The room for the copy of a record that is written in place: 1,023 bytes, and as many as the longest number has.
+const LINE_BYTES: usize = 1044;
 
 /// Prints the values of each report by a pair, if they fit it.
 #[derive(Drop)]
 pub struct CopyMaker<'p, 'f> {
     pair: &'p Pair<'f>,
+    /// The last copy, where it was written in place.
+    line: [u8; LINE_BYTES],
 }
 
 impl<'p, 'f> Model for CopyMaker<'p, 'f> {
@@ -34,7 +40,10 @@ impl<'p, 'f> CopyMaker<'p, 'f> {
     pub fn new(pair: &'p Pair<'f>) -> CopyMaker<'p, 'f>
         ensures { result ≡ pair.entry.now }
     {
-        CopyMaker { pair }
+        CopyMaker {
+            pair,
+            line: [0; LINE_BYTES],
+        }
     }
 }
 
@@ -53,8 +62,77 @@ fn copy_row<K: Sink>(to: &mut K, pair: &Pair<'_>, values: &[Value<'_>]) -> Resul
     }
 }
 
-/// Prints the values of the record, if they fit the pair.
-fn copy_record<K: Sink, T: Store>(
+/// Writes the copy of a record to a line, by places for its values, and answers where it ends. None where the values
+/// don't fit the pair, or the line has too little room.
+#[inline(always)]
+fn write_line<'r, T: Store>(
+    pair: &Pair<'_>,
+    report: &Report<'r, T>,
+    destinations: u8,
+    places: &mut [Shown<'r>],
+    line: &mut [u8],
+) -> Option<usize>
+    requires { destinations ≤ length places.old }
+    ensures within { IfSome result (λ end. end ≤ length line.new) }
+    ensures written { IfSome result (λ end. take end line.new
+        ≡ printed pair.now.print (row_of destinations report.now.values)) }
+    ensures fits { IfSome result (λ _. Fit pair.now.print pair.now.scan (row_of destinations report.now.values)) }
+{
+    let count = shown_row(report, destinations, places);
+    pair.write_in_place(&places[..count], line)
+}
+
+/// As `write_line`, of a record of many values. It is a call of its own, so that others don't pay for their places.
+#[inline(never)]
+fn write_long_line<T: Store>(
+    pair: &Pair<'_>,
+    report: &Report<'_, T>,
+    destinations: u8,
+    line: &mut [u8],
+) -> Option<usize>
+    requires { destinations ≤ 32 }
+    ensures within { IfSome result (λ end. end ≤ length line.new) }
+    ensures written { IfSome result (λ end. take end line.new
+        ≡ printed pair.now.print (row_of destinations report.now.values)) }
+    ensures fits { IfSome result (λ _. Fit pair.now.print pair.now.scan (row_of destinations report.now.values)) }
+{
+    let mut places = [Shown::Text(&[]); MOST_VALUES];
+    write_line(pair, report, destinations, &mut places, line)
+}
+
+/// Writes the copy of a record to a line, as `write_line` does, whatever the number of its values.
+#[inline(always)]
+fn write_copy<T: Store>(pair: &Pair<'_>, report: &Report<'_, T>, line: &mut [u8]) -> Option<usize>
+    ensures within { IfSome result (λ end. end ≤ length line.new) }
+    ensures written { IfSome result (λ end. take end line.new
+        ≡ printed pair.now.print (row_in pair.now.scan report.now)) }
+    ensures fits { IfSome result (λ _. Fit pair.now.print pair.now.scan (row_in pair.now.scan report.now)) }
+{
+    let destinations = pair.scan().destinations();
+    if destinations as usize <= FEW_VALUES {
+        let mut places = [Shown::Text(&[]); FEW_VALUES];
+        return write_line(pair, report, destinations, &mut places, line);
+    }
+    write_long_line(pair, report, destinations, line)
+}
+
+/// Hands the sink the copy of a record.
+#[inline(always)]
+fn send<K: Sink>(to: &mut K, text: &[u8]) -> Result<(), Unwritten>
+    requires { length text.now ≤ 2147483647 }
+    ensures made { Writes true text.now (K.contents to.old) (K.contents to.new) result }
+    ensures failures { K.failures to.new
+        ≡ (if sink_failed result then counted_on (K.failures to.old) else K.failures to.old) }
+{
+    match write_text(to, text) {
+        Ok(_) => Ok(()),
+        Err(_) => Err(Unwritten::Write),
+    }
+}
+
+/// As `copy_record`, not in place. It is a call of its own, so that copies in place don't pay for it.
+#[inline(never)]
+fn copy_apart<K: Sink, T: Store>(
     to: &mut K,
     pair: &Pair<'_>,
     report: &Report<'_, T>,
@@ -65,10 +143,26 @@ fn copy_record<K: Sink, T: Store>(
         ≡ (if sink_failed result then counted_on (K.failures to.old) else K.failures to.old) }
 {
     let destinations = pair.scan().destinations();
-    if destinations as usize <= FEW_VALUES {
-        return copy_row(to, pair, &row::<T, FEW_VALUES>(report, destinations));
-    }
     copy_row(to, pair, &row::<T, MOST_VALUES>(report, destinations))
+}
+
+/// Prints the values of the record, if they fit the pair.
+fn copy_record<K: Sink, T: Store>(
+    to: &mut K,
+    pair: &Pair<'_>,
+    report: &Report<'_, T>,
+    line: &mut [u8; LINE_BYTES],
+) -> Result<(), Unwritten>
+    ensures made { Writes (is_copied pair.now.print pair.now.scan (row_in pair.now.scan report.now))
+        (printed pair.now.print (row_in pair.now.scan report.now)) (K.contents to.old) (K.contents to.new) result }
+    ensures failures { K.failures to.new
+        ≡ (if sink_failed result then counted_on (K.failures to.old) else K.failures to.old) }
+{
+    fits_is_fit();
+    if let Some(end) = write_copy(pair, report, line) {
+        return send(to, &line[..end]);
+    }
+    copy_apart(to, pair, report)
 }
 
 impl Maker for CopyMaker<'_, '_> {
@@ -81,7 +175,7 @@ impl Maker for CopyMaker<'_, '_> {
         _number: usize,
         report: &Report<'_, T>,
     ) -> Result<(), Unwritten> {
-        copy_record(to, self.pair, report)
+        copy_record(to, self.pair, report, &mut self.line)
     }
 
     ghost unmet = { λ formats number ds report met. record { fits = refl; text = refl } };

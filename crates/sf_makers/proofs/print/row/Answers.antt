@@ -21,13 +21,13 @@ loop-before-preserved g c =
     elim c.match-shown.branch [
       | in-Some w ↦ record {
         few = omega (arith, ap array_vec_len w.values-is, w.push.ensures.len, l.invariant.few);
-        are = with_value at l.before l.values.items c.match-shown.values.items w.in_kind.result l.invariant.are
+        are = with_value datum_of at l.before l.values.items c.match-shown.values.items w.in_kind.result l.invariant.are
             (given _ w.kind.result _ w.in_kind.result _ w.in_kind.ensures w.kind.ensures.kind w.in-Some.ensures)
             (ap (λ v. v.items) w.values-is ∙ w.push.ensures.items);
       }
       | in-None w ↦ record {
         few = omega (arith, ap array_vec_len w.values-is, l.invariant.few);
         are = ap (λ v. map datum_of v.items) w.values-is
-            ∙ with_none at l.before l.values.items l.invariant.are (ap (option_map (in_kind _)) w.in-None.ensures);
+            ∙ with_none datum_of at l.before l.values.items l.invariant.are (ap (option_map (in_kind _)) w.in-None.ensures);
       }
     ]

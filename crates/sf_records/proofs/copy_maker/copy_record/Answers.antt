@@ -1,28 +1,18 @@
-use Rattle.std.proofs.Common.{◌≡◌, ◌∙◌, List, ap, length, map, subst}
-use Rattle.sf_base.specs.Data.{Datum, datum_of}
-use Rattle.sf_format.specs.declared.directive.Directive.{Directive}
-use Rattle.sf_format.specs.Proper.{destinations_of}
-use Rattle.sf_print.specs.Printed.{printed}
-use Rattle.sf_makers.specs.Works.{Writes}
-use Rattle.sf_records.specs.Copies.{is_copied, row_in, row_of}
+use Rattle.std.proofs.Common.{arith, take}
+use Rattle.std.proofs.lemmas.List.{length-take-le}
+use Rattle.sf_records.specs.Copies.{row_in}
+use Rattle.sf_records.proofs.CopyRow.{sent}
 use Rattle.sf_records.proofs.copy_maker.copy_record.Goals as goal
 
-pub returns-then-destinations-le-FEW_VALUES-clause-made : goal.returns-then-destinations-le-FEW_VALUES-clause-made
-returns-then-destinations-le-FEW_VALUES-clause-made g c =
+pub returns-in-Some-clause-made : goal.returns-in-Some-clause-made
+returns-in-Some-clause-made g c =
     let pair = c.args.pair.now in
-    let same : map datum_of c.deref.result.now ≡ row_in pair.scan c.args.report.now =
-    ap (map datum_of) c.deref.ensures.0 ∙ c.row.ensures
-    ∙ ap (λ n. row_of n c.args.report.now.values) (c.destinations-destinations.ensures.count
-    ∙ ap (λ (ds : List Directive). length (destinations_of ds)) c.scan.ensures.value) in
-    subst (λ (row : List Datum). Writes (is_copied pair.print pair.scan row) (printed pair.print row) (g.K.Sink.contents c.args.to.now)
-    (g.K.Sink.contents c.copy_row.new.to) c.copy_row.result) same c.copy_row.ensures.made
-
-pub returns-clause-made : goal.returns-clause-made
-returns-clause-made g c =
-    let pair = c.args.pair.now in
-    let same : map datum_of c.deref-2.result.now ≡ row_in pair.scan c.args.report.now =
-    ap (map datum_of) c.deref-2.ensures.0 ∙ c.row-2.ensures
-    ∙ ap (λ n. row_of n c.args.report.now.values) (c.destinations-destinations.ensures.count
-    ∙ ap (λ (ds : List Directive). length (destinations_of ds)) c.scan.ensures.value) in
-    subst (λ (row : List Datum). Writes (is_copied pair.print pair.scan row) (printed pair.print row) (g.K.Sink.contents c.args.to.now)
-    (g.K.Sink.contents c.copy_row-2.new.to) c.copy_row-2.result) same c.copy_row-2.ensures.made
+    let end = c.in-Some.end in
+    sent pair.print pair.scan (row_in pair.scan c.args.report.now) (take end c.write_copy.new.line) _ _ c.send.result
+    c.in-Some.ensures.written
+    (let taken = length-take-le end c.write_copy.new.line c.in-Some.ensures.within in
+    let within = c.in-Some.ensures.within in
+    let same = c.write_copy.auto.line in
+    let long = c.fits-line in
+    omega (arith, taken, within, same, long)) c.fits_is_fit.ensures
+    c.in-Some.ensures.fits c.send.ensures.made
