@@ -796,6 +796,7 @@ pub(crate) fn whole_byte(due: u8, piece: &[u8]) -> Option<Ended>
 
 /// How the directive ends, which took nothing yet, where it does so within the piece, which comes so many bytes into
 /// the run.
+#[inline(always)]
 pub(crate) fn ended_within(directive: &Directive, piece: &[u8], used: u32) -> Option<Ended>
     ensures ends { IfSome result (EndsAtOnce directive.now used piece.now) }
     ensures waits { IsNone result → IsProper directive.now → (room : ℕ) → IsSure directive.now used piece.now room → ⊥ }
