@@ -1,12 +1,11 @@
 -- What a scan format has before a newline at its end.
-use Rattle.std.proofs.Common.{◌≡◌, ◌∙◌, ◌+◌, ◌-◌, ◌++◌, ◌≢◌, ℕ, List, Option, Some, None, ap, ap₂, sym, subst, arith, inl, inr, length, take}
+use Rattle.std.proofs.Common.{◌≡◌, ◌∙◌, ◌-◌, ◌++◌, ◌≢◌, ℕ, List, Option, Some, None, ap, ap₂, sym, subst, arith, inl, inr, length, take}
 use Rattle.std.specs.Prelude.{is_some}
 use Rattle.std.proofs.Math.Seq.{take-append_seam}
 use Rattle.std.proofs.lemmas.List.{append_cancel_right, length-append}
 use Rattle.sf_format.specs.declared.directive.Directive.{Directive}
 use Rattle.sf_format.specs.declared.directive.Profile.{Profile}
 use Rattle.sf_format.specs.declared.fault.FormatFault.{FormatFault}
-use Rattle.sf_format.specs.declared.fault.FormatWhy.{FormatWhy}
 use Rattle.sf_format.specs.declared.fault.FormatWhy.TheVariants.{NoMemory}
 use Rattle.sf_format.specs.Faults.{IsRefused}
 use Rattle.sf_format.specs.Grammar.{Spells}

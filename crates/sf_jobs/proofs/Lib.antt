@@ -4,3 +4,4 @@ pub mod Fronts
 pub mod Ones
 pub mod Results
 pub mod Suiting
+pub mod Working

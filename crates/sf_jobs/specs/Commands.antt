@@ -294,16 +294,21 @@ pub record ScansUnder {S K : Type 0} (to_come : S → Option (List ℕ)) (read_f
       (read_faults from.source) (read_faults from'.source) (contents mid) (contents out') end)))
   pub stopped : IfErr wrote (λ why. (answer ≡ Err (header_fault why)) × (from' ≡ from) × (out' ≡ mid))
 
--- The word is no scan format; or it is one, and the names in the text are none of its values: then nothing was read or written; or the
--- records are scanned under the names.
+-- the names in the text are none of the values: then nothing was read or written; or the records are scanned under the names
+abbrev pub ScansByNames : {S K : Type 0} → (S → Option (List ℕ)) → (S → ℕ) → (K → Option (List ℕ)) → (K → ℕ) → OutputForm
+    → Bool → List ℕ → ℕ → List Directive → Ahead S → Ahead S → K → K → Answer → Type 0
+ScansByNames to_come read_faults contents write_faults form due names m ds from from' out out' answer =
+    IsFaultOf (IsUnnamed false names (ds ∷ [])) answer × (from' ≡ from) × (out' ≡ out)
+    ⊎ AreNames false (split names) (ds ∷ [])
+    × ScansUnder to_come read_faults contents write_faults due (heading_by form (Some names) false) m ds from from' out out' answer
+
+-- the word is no scan format, and nothing was read or written; or it is one, and its records are scanned under the names
 abbrev pub ScansNamed : {S K : Type 0} → (S → Option (List ℕ)) → (S → ℕ) → (K → Option (List ℕ)) → (K → ℕ) → Profile → OutputForm
     → Bool → List ℕ → ℕ → List ℕ → Ahead S → Ahead S → K → K → Answer → Type 0
 ScansNamed to_come read_faults contents write_faults profile form due names m word from from' out out' answer =
     IsFaultOf (IsNoScanWord profile word) answer × (from' ≡ from) × (out' ≡ out)
     ⊎ ((ds : List Directive) × IsScanWord profile word ds
-    × (IsFaultOf (IsUnnamed false names (ds ∷ [])) answer × (from' ≡ from) × (out' ≡ out)
-    ⊎ AreNames false (split names) (ds ∷ [])
-    × ScansUnder to_come read_faults contents write_faults due (heading_by form (Some names) false) m ds from from' out out' answer))
+    × ScansByNames to_come read_faults contents write_faults form due names m ds from from' out out' answer)
 
 -- records have no names, or those in the text; due: whether a header is
 abbrev pub ScansForm : {S K : Type 0} → (S → Option (List ℕ)) → (S → ℕ) → (K → Option (List ℕ)) → (K → ℕ) → Profile → OutputForm

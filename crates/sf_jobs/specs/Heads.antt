@@ -1,5 +1,5 @@
 -- What the words ask of the columns of records, and what is wrong with names.
-use Rattle.std.specs.Prelude.{◌≡◌, ◌⊎◌, ◌==◌, ℕ, zero, suc, Bool, true, false, if◌then◌else◌, List, [], Option, Some, None, option_map, string_bytes}
+use Rattle.std.specs.Prelude.{◌≡◌, ◌⊎◌, ◌==◌, ℕ, suc, Bool, true, false, if◌then◌else◌, List, [], Option, Some, option_map, string_bytes}
 use Rattle.std.specs.List.{slice_split}
 use Rattle.sf_format.specs.declared.directive.Directive.{Directive}
 use Rattle.sf_makers.specs.Forms.{Heading, header_text}

@@ -3,4 +3,5 @@ pub mod Checks
 pub mod Commands
 pub mod CopyFormats
 pub mod Heads
+pub mod Jobs
 pub mod Writings

@@ -5,7 +5,6 @@ ghost use Rattle.sf_jobs.specs.Checks.{AnswersUnits, AnswersWord, Checks, Checks
 ghost use Rattle.sf_jobs.specs.Checks.{verdict_status, verdict_text};
 ghost use Rattle.sf_jobs.specs.Commands.{ChecksTexts, Counts, IsUnwrittenBy};
 
-use crate::formats::{read_print, read_scan};
 use itoa::Buffer;
 use sf_answer::{NoScanText, escaped, scan_text};
 use sf_format::{PrintFormat, Profile, ScanFormat};
@@ -68,7 +67,10 @@ fn write_line<K: Sink>(line: &[u8], status: u8, out: &mut K) -> Result<u8, Comma
 }
 
 /// Tells a verdict in a line.
-fn tell_verdict<K: Sink>(verdict: Option<PairFault>, out: &mut K) -> Result<u8, CommandFault>
+pub(crate) fn tell_verdict<K: Sink>(
+    verdict: Option<PairFault>,
+    out: &mut K,
+) -> Result<u8, CommandFault>
     ensures tells { TellsLine (verdict_text verdict) (verdict_status verdict) (K.contents out.old) (K.contents out.new)
         result }
     ensures unwritten { IfErr result (λ fault. IsUnwrittenBy fault out.old out.new) }
@@ -76,24 +78,6 @@ fn tell_verdict<K: Sink>(verdict: Option<PairFault>, out: &mut K) -> Result<u8, 
 {
     let line = verdict_line(verdict);
     write_line(line.as_str().as_bytes(), verdict_status(verdict), out)
-}
-
-/// Checks the formats of the words: the first is a print format, the second a scan format. They are judged in this
-/// order.
-fn check_words<K: Sink>(
-    alloc: Global,
-    profile: Profile,
-    print: &str,
-    scan: &str,
-    out: &mut K,
-) -> Result<u8, CommandFault>
-    ensures checks { ChecksWords profile print.now scan.now (K.contents out.old) (K.contents out.new) result }
-    ensures unwritten { IfErr result (λ fault. IsUnwrittenBy fault out.old out.new) }
-    ensures failures { Counts (K.failures out.old) (K.failures out.new) result }
-{
-    let print = read_print(alloc, profile, print)?;
-    let scan = read_scan(alloc, profile, scan)?;
-    tell_verdict(verdict_of(&print, &scan), out)
 }
 
 /// The line of a scan format, as a word.
@@ -106,7 +90,7 @@ fn format_line(alloc: Global, text: &[u8]) -> Result<Vec<u8>, AllocError>
 }
 
 /// Tells the scan format that reads the print format back in a line, or why there is none; `width` is that of texts.
-fn answer_format<K: Sink>(
+pub(crate) fn answer_format<K: Sink>(
     alloc: Global,
     profile: Profile,
     width: Option<u16>,
@@ -125,41 +109,5 @@ fn answer_format<K: Sink>(
         Err(NoScanText::Unpaired(fault)) => tell_verdict(Some(fault), out),
         Err(NoScanText::NoFormat(fault)) => Err(format_fault(fault)),
         Err(NoScanText::NoMemory) => Err(CommandFault::Memory),
-    }
-}
-
-/// Tells the scan format that reads the print format of the word back, or why there is none.
-fn answer_word<K: Sink>(
-    alloc: Global,
-    profile: Profile,
-    width: Option<u16>,
-    print: &str,
-    out: &mut K,
-) -> Result<u8, CommandFault>
-    ensures answers { AnswersWord profile width print.now (K.contents out.old) (K.contents out.new) result }
-    ensures unwritten { IfErr result (λ fault. IsUnwrittenBy fault out.old out.new) }
-    ensures failures { Counts (K.failures out.old) (K.failures out.new) result }
-{
-    let print = read_print(alloc, profile, print)?;
-    answer_format(alloc, profile, width, &print, out)
-}
-
-/// Checks the print format of the first word and the scan format of the second. Where there is no second, the answer is
-/// a scan format that reads back what the first one prints.
-pub(crate) fn check_texts<K: Sink>(
-    alloc: Global,
-    profile: Profile,
-    width: Option<u16>,
-    print: &str,
-    rest: &[String],
-    out: &mut K,
-) -> Result<u8, CommandFault>
-    requires { length rest.now ≤ 1 }
-    ensures { ChecksTexts K.contents K.failures profile width print.now (map string_bytes rest.now) out.old out.new
-        result }
-{
-    match rest {
-        [] => answer_word(alloc, profile, width, print, out),
-        [scan, ..] => check_words(alloc, profile, print, scan.as_str(), out),
     }
 }

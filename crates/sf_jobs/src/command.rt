@@ -1,226 +1,125 @@
 //! What an order asks for: by its formats, on an input and an output.
-ghost use Rattle.std.specs.Prelude.{◌≡◌, ◌≤◌, ◌∷◌, [], ℕ, List, length, map, option_map, string_bytes, IfErr, Some};
-ghost use Rattle.sf_format.specs.Faults.{Fault, PrintFault};
+ghost use Rattle.std.specs.Prelude.{◌≡◌, ◌≤◌, ◌∷◌, ℕ, List, option_map, map, string_bytes, IfErr, Some};
+ghost use Rattle.sf_format.specs.Grammar.{Spells, SpellsPrint};
+ghost use Rattle.sf_format.specs.declared.directive.Profile.{Profile};
 ghost use Rattle.sf_read.specs.Ahead.{input_of};
 ghost use Rattle.sf_records.specs.Forms.{writing};
+ghost use Rattle.sf_records.specs.form.OutputForm.{OutputForm};
 ghost use Rattle.sf_words.specs.Orders.{HasTexts};
-ghost use Rattle.sf_messages.specs.Faults.{format_fault, print_format_fault};
-ghost use Rattle.sf_jobs.specs.Commands.{CarriesOut, CarriesOutBy, ChecksTexts, CopiesBoth, Counts, IsUnwrittenBy, PrintsBy, PrintsWord, ScansAs, ScansBy, ScansForm, ScansWord, ShowsBy, ShowsWord};
+ghost use Rattle.sf_jobs.specs.Commands.{CarriesOut, CarriesOutBy, Counts, IsUnwrittenBy, PrintsBy, ScansAs, ScansBy, ShowsBy, Unread};
+ghost use Rattle.sf_jobs.specs.Commands.{form_of, grammar_of, reading_of};
 ghost use Rattle.sf_jobs.specs.Heads.{is_headed, names_text};
-ghost use Rattle.sf_jobs.specs.Commands.{TellsFault, Unread, form_of, grammar_of, reading_of};
+ghost use Rattle.sf_jobs.specs.Jobs.{IsJob, IsJobBy, IsOwnFault, IsScan};
+ghost use Rattle.sf_jobs.specs.Writings.{IsWriting, Suits};
 
-use crate::check::check_texts;
-use crate::copy::copy_words;
-use crate::formats::resolved;
+use crate::check::{answer_format, tell_verdict};
+use crate::copy::copy_by;
+use crate::formats::ScanText;
 use crate::heads::is_headed;
+use crate::job::{Job, after_first, prepare};
 use crate::scan_names::scan_named;
-use crate::scan_print::scan_print_words;
+use crate::scan_print::scan_print_by;
+use crate::writing::Writing;
 use sf_arguments::{WordReading, print_words};
 use sf_format::{PrintFormat, Profile, ScanFormat};
-use sf_messages::{CommandFault, FormatName, format_fault, print_format_fault, show};
+use sf_messages::{CommandFault, show};
 use sf_print::Sink;
 use sf_read::{Lookahead, Source};
 use sf_records::{OutputForm, run_scan_as, write_whole};
-use sf_words::{Order, Output, Profile as GivenProfile, Verb};
+use sf_words::{Order, Output, Profile as GivenProfile};
 use std::alloc::Global;
 
-/// Scans the records of an input by the format that a text spells, and writes them in a form.
+/// Scans the records of an input by a format, and writes them in a form.
 fn scan_by<S: Source, K: Sink, const N: usize>(
     alloc: Global,
-    profile: Profile,
     form: OutputForm,
-    text: &[u8],
+    format: &ScanFormat,
     limit: u32,
     from: &mut Lookahead<S, N>,
     out: &mut K,
 ) -> Result<u8, CommandFault>
     requires { limit ≤ 2147483647 }
-    ensures scans { (t : List ℕ) → input_of S.to_come from.old ≡ Some t
-        → ScansBy S.to_come profile (writing form) limit text.now t from.new (S.failures from.old.source)
+    ensures scans { (profile : Profile) (text t : List ℕ) → Spells profile text format.now
+        → input_of S.to_come from.old ≡ Some t
+        → ScansBy S.to_come profile (writing form) limit text t from.new (S.failures from.old.source)
         (S.failures from.new.source) (K.contents out.old) (K.contents out.new) result }
-    ensures refused { TellsFault (Fault profile text.now) format_fault result }
     ensures unread { IfErr result (λ fault. Unread fault from.old from.new out.old out.new) }
     ensures failures { Counts (K.failures out.old) (K.failures out.new) result }
 {
-    let format = match ScanFormat::parse(alloc, profile, text) {
-        Ok(format) => format,
-        Err(fault) => return Err(format_fault(fault)),
-    };
-    match run_scan_as(alloc, from, out, &format, form, limit).fault {
+    match run_scan_as(alloc, from, out, format, form, limit).fault {
         None => Ok(0),
         Some(fault) => Err(CommandFault::Record(fault)),
     }
 }
 
-/// Writes the lines that show the format that a text spells.
-fn show_by<K: Sink>(
-    alloc: Global,
-    profile: Profile,
-    text: &[u8],
-    out: &mut K,
-) -> Result<u8, CommandFault>
-    ensures shows { ShowsBy profile text.now (K.contents out.old) (K.contents out.new) result }
-    ensures refused { TellsFault (Fault profile text.now) format_fault result }
+/// Writes the lines that show a format.
+fn show_by<K: Sink>(alloc: Global, format: &ScanFormat, out: &mut K) -> Result<u8, CommandFault>
+    ensures shows { (profile : Profile) (text : List ℕ) → Spells profile text format.now
+        → ShowsBy profile text (K.contents out.old) (K.contents out.new) result }
     ensures unwritten { IfErr result (λ fault. IsUnwrittenBy fault out.old out.new) }
     ensures failures { Counts (K.failures out.old) (K.failures out.new) result }
 {
-    let format = match ScanFormat::parse(alloc, profile, text) {
-        Ok(format) => format,
-        Err(fault) => return Err(format_fault(fault)),
-    };
-    let lines = show(alloc, &format, format.width_sum())?;
+    let lines = show(alloc, format, format.width_sum())?;
     match write_whole(out, &lines) {
         Ok(()) => Ok(0),
         Err(_) => Err(CommandFault::Write),
     }
 }
 
-/// Prints values by the format that a text spells; the words of texts are read in this way.
+/// Prints values by a format; the words of texts are read in this way.
 fn print_by<K: Sink>(
     alloc: Global,
     how: WordReading,
-    profile: Profile,
-    text: &[u8],
+    format: &PrintFormat,
     values: &[String],
     out: &mut K,
 ) -> Result<u8, CommandFault>
-    ensures prints { PrintsBy how profile text.now (map string_bytes values.now) (K.contents out.old)
-        (K.contents out.new) result }
-    ensures refused { TellsFault (PrintFault profile text.now) print_format_fault result }
+    ensures prints { (profile : Profile) (text : List ℕ) → SpellsPrint profile text format.now
+        → PrintsBy how profile text (map string_bytes values.now) (K.contents out.old) (K.contents out.new) result }
     ensures unwritten { IfErr result (λ fault. IsUnwrittenBy fault out.old out.new) }
     ensures failures { Counts (K.failures out.old) (K.failures out.new) result }
 {
-    let format = match PrintFormat::parse(alloc, profile, text) {
-        Ok(format) => format,
-        Err(fault) => return Err(print_format_fault(fault)),
-    };
-    match print_words(alloc, how, &format, values, out) {
+    match print_words(alloc, how, format, values, out) {
         Ok(()) => Ok(0),
         Err(fault) => Err(CommandFault::Values(fault)),
     }
 }
 
-fn scan_word<S: Source, K: Sink, const N: usize>(
+/// Scans the records of an input, and writes them so, under the order's names, where it has any.
+fn scan_written<S: Source, K: Sink, const N: usize>(
     alloc: Global,
-    profile: Profile,
-    form: OutputForm,
-    word: &str,
-    limit: u32,
+    writing: &Writing,
+    order: &Order,
+    scan: &ScanText,
     from: &mut Lookahead<S, N>,
     out: &mut K,
 ) -> Result<u8, CommandFault>
-    requires { limit ≤ 2147483647 }
-    ensures { ScansWord S.to_come S.failures K.contents K.failures profile
-        (writing form) limit word.now from.old from.new
+    requires limit { order.now.limit ≤ 2147483647 }
+    requires suits { Suits writing.now scan.now.format }
+    ensures { (profile : Profile) (form : OutputForm) (word : List ℕ)
+        → IsWriting profile form (option_map string_bytes order.now.print) writing.now → IsScan profile word scan.now
+        → ScansAs S.to_come S.failures K.contents K.failures profile form (is_headed order.now.file)
+        (names_text order.now) (option_map string_bytes order.now.print) order.now.limit word from.old from.new
         out.old out.new result }
 {
-    let text = resolved(alloc, FormatName::Scan, word)?;
-    scan_by(alloc, profile, form, &text, limit, from, out)
-}
-
-fn show_word<K: Sink>(
-    alloc: Global,
-    profile: Profile,
-    word: &str,
-    out: &mut K,
-) -> Result<u8, CommandFault>
-    ensures { ShowsWord K.contents K.failures profile word.now out.old out.new result }
-{
-    let text = resolved(alloc, FormatName::Scan, word)?;
-    show_by(alloc, profile, &text, out)
-}
-
-fn print_word<K: Sink>(
-    alloc: Global,
-    how: WordReading,
-    profile: Profile,
-    word: &str,
-    values: &[String],
-    out: &mut K,
-) -> Result<u8, CommandFault>
-    ensures { PrintsWord K.contents K.failures how profile word.now (map string_bytes values.now) out.old out.new
-        result }
-{
-    let text = resolved(alloc, FormatName::Print, word)?;
-    print_by(alloc, how, profile, &text, values, out)
-}
-
-/// Scans the records of an input by the format of the word, and writes them in the form, under the order's names, where
-/// it has any.
-fn scan_form<S: Source, K: Sink, const N: usize>(
-    alloc: Global,
-    profile: Profile,
-    form: OutputForm,
-    order: &Order,
-    word: &str,
-    from: &mut Lookahead<S, N>,
-    out: &mut K,
-) -> Result<u8, CommandFault>
-    requires { order.now.limit ≤ 2147483647 }
-    ensures { ScansForm S.to_come S.failures K.contents K.failures profile form (is_headed order.now.file)
-        (names_text order.now) order.now.limit word.now from.old from.new out.old out.new result }
-{
-    match &order.names {
-        None => scan_word(alloc, profile, form, word, order.limit, from, out),
-        Some(names) => {
-            let due = is_headed(order);
-            let names = names.as_str();
-            scan_named(
+    match writing {
+        Writing::Print(print) => {
+            scan_print_by(alloc, print, &scan.format, order.limit, from, out)
+        }
+        Writing::Form(form) => match &order.names {
+            None => scan_by(alloc, *form, &scan.format, order.limit, from, out),
+            Some(names) => scan_named(
                 alloc,
-                profile,
-                form,
-                due,
-                names,
-                word,
+                *form,
+                is_headed(order),
+                names.as_str(),
+                &scan.format,
                 order.limit,
                 from,
                 out,
-            )
-        }
+            ),
+        },
     }
-}
-
-/// Scans the records of an input by the format of the word, and writes them in the form, or by the order's print
-/// format.
-fn scan_as<S: Source, K: Sink, const N: usize>(
-    alloc: Global,
-    profile: Profile,
-    form: OutputForm,
-    order: &Order,
-    word: &str,
-    from: &mut Lookahead<S, N>,
-    out: &mut K,
-) -> Result<u8, CommandFault>
-    requires { order.now.limit ≤ 2147483647 }
-    ensures { ScansAs S.to_come S.failures K.contents K.failures profile form (is_headed order.now.file)
-        (names_text order.now) (option_map string_bytes order.now.print) order.now.limit word.now from.old from.new
-        out.old out.new result }
-{
-    match &order.print {
-        None => scan_form(alloc, profile, form, order, word, from, out),
-        Some(print) => {
-            scan_print_words(alloc, profile, print.as_str(), word, order.limit, from, out)
-        }
-    }
-}
-
-/// Copies by the format of a word and that of the other.
-fn copy_both<S: Source, K: Sink, const N: usize>(
-    alloc: Global,
-    profile: Profile,
-    print: &str,
-    rest: &[String],
-    limit: u32,
-    from: &mut Lookahead<S, N>,
-    out: &mut K,
-) -> Result<u8, CommandFault>
-    requires limit { limit ≤ 2147483647 }
-    requires one { length rest.now ≡ 1 }
-    ensures { (scan : List ℕ) × (map string_bytes rest.now ≡ scan ∷ [])
-        × CopiesBoth S.to_come S.failures K.contents K.failures profile limit print.now scan from.old from.new out.old
-        out.new result }
-{
-    copy_words(alloc, profile, print, rest[0].as_str(), limit, from, out)
 }
 
 /// The grammar that the profile of an order is.
@@ -256,33 +155,54 @@ fn reading_of(raw: bool) -> WordReading
     }
 }
 
-/// Does what an order asks for, by the formats of this grammar, with records in this form, and with the words of texts
+/// Does a job of an order, whose formats are of this grammar, with records in this form, and with the words of texts
 /// read so.
-fn carry_out_by<S: Source, K: Sink, const N: usize>(
+fn run_by<S: Source, K: Sink, const N: usize>(
     alloc: Global,
     profile: Profile,
     form: OutputForm,
     how: WordReading,
+    job: &Job,
     order: &Order,
     from: &mut Lookahead<S, N>,
     out: &mut K,
 ) -> Result<u8, CommandFault>
     requires limit { order.now.limit ≤ 2147483647 }
-    requires texts { HasTexts order.now.verb (map string_bytes order.now.texts.items) }
-    ensures { CarriesOutBy S.to_come S.failures K.contents K.failures profile form how order.now order.now.verb
-        (map string_bytes order.now.texts.items)
-        from.old from.new out.old out.new result }
+    requires job { IsJobBy profile form (option_map string_bytes order.now.print) job.now order.now.verb
+        (map string_bytes order.now.texts.items) }
+    ensures does { CarriesOutBy S.to_come S.failures K.contents K.failures profile form how order.now order.now.verb
+        (map string_bytes order.now.texts.items) from.old from.new out.old out.new result }
+    ensures own { IfErr result (IsOwnFault job.now) }
 {
-    let [word, rest @ ..] = order.texts.as_slice() else {
-        unreachable!()
-    };
-    match order.verb {
-        Verb::Scan => scan_as(alloc, profile, form, order, word.as_str(), from, out),
-        Verb::Show => show_word(alloc, profile, word.as_str(), out),
-        Verb::Print => print_word(alloc, how, profile, word.as_str(), rest, out),
-        Verb::Check => check_texts(alloc, profile, order.width, word.as_str(), rest, out),
-        Verb::Copy => copy_both(alloc, profile, word.as_str(), rest, order.limit, from, out),
+    match job {
+        Job::Show { scan } => show_by(alloc, &scan.format, out),
+        Job::Scan { scan, writing } => scan_written(alloc, writing, order, scan, from, out),
+        Job::Print { print } => print_by(alloc, how, print, after_first(&order.texts), out),
+        Job::Answer { print } => answer_format(alloc, profile, order.width, print, out),
+        Job::Check { verdict, .. } => tell_verdict(*verdict, out),
+        Job::Copy { print, scan } => copy_by(alloc, print, &scan.format, order.limit, from, out),
     }
+}
+
+/// Does the job of an order on what the lookahead holds and its source gives, and answers the exit status. Err says why
+/// it was not done, or not to its end.
+pub fn run<S: Source, K: Sink, const N: usize>(
+    alloc: Global,
+    job: &Job,
+    order: &Order,
+    from: &mut Lookahead<S, N>,
+    out: &mut K,
+) -> Result<u8, CommandFault>
+    requires limit { order.now.limit ≤ 2147483647 }
+    requires job { IsJob order.now job.now }
+    ensures does { CarriesOut S.to_come S.failures K.contents K.failures order.now from.old from.new out.old out.new
+        result }
+    ensures own { IfErr result (IsOwnFault job.now) }
+{
+    let profile = grammar_of(order.profile);
+    let form = form_of(order.output);
+    let how = reading_of(order.raw);
+    run_by(alloc, profile, form, how, job, order, from, out)
 }
 
 /// Does what an order asks for, of records and not of lines, on what the lookahead holds and its source gives, and
@@ -297,8 +217,8 @@ pub fn carry_out<S: Source, K: Sink, const N: usize>(
     requires texts { HasTexts order.now.verb (map string_bytes order.now.texts.items) }
     ensures { CarriesOut S.to_come S.failures K.contents K.failures order.now from.old from.new out.old out.new result }
 {
-    let profile = grammar_of(order.profile);
-    let form = form_of(order.output);
-    let how = reading_of(order.raw);
-    carry_out_by(alloc, profile, form, how, order, from, out)
+    match prepare(alloc, order) {
+        Ok(job) => run(alloc, &job, order, from, out),
+        Err(refused) => Err(refused.fault),
+    }
 }

@@ -2,7 +2,6 @@
 ghost use Rattle.std.specs.Prelude.{◌≤◌, IfErr};
 ghost use Rattle.sf_jobs.specs.Commands.{Copies, CopiesWords, Counts, Unread};
 
-use crate::formats::{read_print, read_scan};
 use sf_format::{PrintFormat, Profile, ScanFormat};
 use sf_messages::CommandFault;
 use sf_pair::Pair;
@@ -12,7 +11,7 @@ use sf_records::run_copy;
 use std::alloc::Global;
 
 /// Copies the records of an input by the formats, where they are a pair.
-fn copy_by<S: Source, K: Sink, const N: usize>(
+pub(crate) fn copy_by<S: Source, K: Sink, const N: usize>(
     alloc: Global,
     print: &PrintFormat,
     scan: &ScanFormat,
@@ -34,26 +33,4 @@ fn copy_by<S: Source, K: Sink, const N: usize>(
         None => Ok(0),
         Some(fault) => Err(CommandFault::Record(fault)),
     }
-}
-
-/// Copies the records of an input by the formats of the words: the first is a print format, the second a scan format.
-/// They are judged in this order, and then as a pair.
-pub(crate) fn copy_words<S: Source, K: Sink, const N: usize>(
-    alloc: Global,
-    profile: Profile,
-    print: &str,
-    scan: &str,
-    limit: u32,
-    from: &mut Lookahead<S, N>,
-    out: &mut K,
-) -> Result<u8, CommandFault>
-    requires { limit ≤ 2147483647 }
-    ensures copies { CopiesWords S.to_come S.failures profile limit print.now scan.now from.old from.new
-        (K.contents out.old) (K.contents out.new) result }
-    ensures unread { IfErr result (λ fault. Unread fault from.old from.new out.old out.new) }
-    ensures failures { Counts (K.failures out.old) (K.failures out.new) result }
-{
-    let print = read_print(alloc, profile, print)?;
-    let scan = read_scan(alloc, profile, scan)?;
-    copy_by(alloc, &print, &scan, limit, from, out)
 }

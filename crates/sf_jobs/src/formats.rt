@@ -2,6 +2,7 @@
 ghost use Rattle.std.specs.Prelude.{IfOk, IfErr};
 ghost use Rattle.sf_jobs.specs.Checks.{IsNoPrintWord, IsNoScanWord, IsPrintWord, IsScanWord};
 ghost use Rattle.sf_jobs.specs.Commands.{IsBadText};
+ghost use Rattle.sf_jobs.specs.Jobs.{IsNoPrint, IsNoScan, IsPrint, IsScan};
 ghost use Rattle.sf_arguments.specs.Escapes.{Unescapes};
 
 use sf_arguments::{EscapeFault, unescape};
@@ -27,6 +28,47 @@ pub(crate) fn resolved(alloc: Global, name: FormatName, word: &str) -> Result<Ve
         Ok(text) => Ok(text),
         Err(EscapeFault::Bad { at }) => Err(CommandFault::BadEscape { name, at }),
         Err(EscapeFault::Memory) => Err(CommandFault::Memory),
+    }
+}
+
+/// A scan format, and the bytes that spell it.
+#[derive(Drop)]
+pub struct ScanText {
+    /// The bytes.
+    pub text: Vec<u8>,
+    /// What they spell.
+    pub format: ScanFormat,
+}
+
+/// The scan format that a word spells, and its bytes.
+pub(crate) fn read_scan_text(
+    alloc: Global,
+    profile: Profile,
+    word: &str,
+) -> Result<ScanText, CommandFault>
+    ensures ok { IfOk result (IsScan profile word.now) }
+    ensures err { IfErr result (IsNoScan profile word.now) }
+{
+    let text = resolved(alloc, FormatName::Scan, word)?;
+    match ScanFormat::parse(alloc, profile, &text) {
+        Ok(format) => Ok(ScanText { text, format }),
+        Err(fault) => Err(format_fault(fault)),
+    }
+}
+
+/// The print format that a word spells.
+pub(crate) fn read_print_text(
+    alloc: Global,
+    profile: Profile,
+    word: &str,
+) -> Result<PrintFormat, CommandFault>
+    ensures ok { IfOk result (λ format. IsPrint profile word.now format) }
+    ensures err { IfErr result (IsNoPrint profile word.now) }
+{
+    let text = resolved(alloc, FormatName::Print, word)?;
+    match PrintFormat::parse(alloc, profile, &text) {
+        Ok(format) => Ok(format),
+        Err(fault) => Err(print_format_fault(fault)),
     }
 }
 

@@ -7,13 +7,15 @@ mod copy;
 mod copy_formats;
 mod formats;
 mod heads;
+mod job;
 mod scan_names;
 mod scan_print;
 mod writing;
 
 pub use check::verdict_of;
-pub use command::{carry_out, form_of, grammar_of};
+pub use command::{carry_out, form_of, grammar_of, run};
 pub use copy_formats::{CopyFormats, read_copy_formats};
-pub use formats::{RefusedWord, read_print, read_scan};
+pub use formats::{RefusedWord, ScanText, read_print, read_scan};
 pub use heads::{header_fault, is_headed, named_maker, names_text, text_of, write_header};
+pub use job::{Job, prepare};
 pub use writing::{Writing, check_formats, read_writing};

@@ -1,16 +1,16 @@
 //! Records that a scan writes under names.
 ghost use Rattle.std.specs.Prelude.{◌≡◌, ◌≤◌};
-ghost use Rattle.sf_jobs.specs.Commands.{ScansNamed, ScansUnder};
+ghost use Rattle.sf_jobs.specs.Commands.{ScansByNames, ScansUnder};
 
-use crate::formats::read_scan;
 use crate::heads::{header_fault, named_maker, write_header};
-use sf_format::{Profile, ScanFormat};
+use sf_format::ScanFormat;
 use sf_makers::FormMaker;
 use sf_messages::CommandFault;
 use sf_print::Sink;
 use sf_read::{Lookahead, Source};
 use sf_records::{OutputForm, run_records};
 use std::alloc::Global;
+use std::slice;
 
 /// Writes the header, where it is due, and then scans the records of an input by the format, and has each written.
 fn scan_under<S: Source, K: Sink, const N: usize>(
@@ -35,24 +35,22 @@ fn scan_under<S: Source, K: Sink, const N: usize>(
     }
 }
 
-/// Scans the records of an input by the format of the word, and writes them in this form under the names of the text.
-/// The format is judged first, and then the names. `due`: whether a header is.
+/// Scans the records of an input by the format, and writes them in this form under the names of the text, where these
+/// are names of its values. `due`: whether a header is.
 pub(crate) fn scan_named<S: Source, K: Sink, const N: usize>(
     alloc: Global,
-    profile: Profile,
     form: OutputForm,
     due: bool,
     names: &str,
-    word: &str,
+    format: &ScanFormat,
     limit: u32,
     from: &mut Lookahead<S, N>,
     out: &mut K,
 ) -> Result<u8, CommandFault>
     requires { limit ≤ 2147483647 }
-    ensures { ScansNamed S.to_come S.failures K.contents K.failures profile form due names.now limit word.now
-        from.old from.new out.old out.new result }
+    ensures { ScansByNames S.to_come S.failures K.contents K.failures form due names.now limit format.now from.old
+        from.new out.old out.new result }
 {
-    let formats = [read_scan(alloc, profile, word)?];
-    let mut maker = named_maker(alloc, form, names, false, &formats)?;
-    scan_under(alloc, &mut maker, due, &formats[0], limit, from, out)
+    let mut maker = named_maker(alloc, form, names, false, slice::from_ref(format))?;
+    scan_under(alloc, &mut maker, due, format, limit, from, out)
 }

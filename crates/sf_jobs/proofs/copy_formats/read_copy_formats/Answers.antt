@@ -1,5 +1,4 @@
-use Rattle.std.proofs.Common.{◌≡◌, inr, rules, subst, sym}
-use Rattle.std.specs.Prelude.{is_some}
+use Rattle.std.proofs.Common.{inr, subst, sym}
 use Rattle.sf_format.specs.Faults.{IsRefused}
 use Rattle.sf_format.specs.Grammar.{Spells}
 use Rattle.sf_arguments.specs.Escapes.{Unescapes}
