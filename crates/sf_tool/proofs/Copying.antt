@@ -5,15 +5,17 @@ use Rattle.sf_format.specs.declared.directive.Directive.{Directive}
 use Rattle.sf_format.specs.declared.directive.Profile.{Profile}
 use Rattle.sf_format.specs.Grammar.{Spells}
 use Rattle.sf_lines.specs.declared.end.LineFault.{LineFault}
-use Rattle.sf_jobs.specs.CopyFormats.{ReadsLine}
+use Rattle.sf_jobs.specs.CopyFormats.{HasFront}
+use Rattle.sf_jobs.specs.declared.formats.ScanText.{ScanText}
 use Rattle.sf_tool.specs.Explains.{more_of_line}
 use Rattle.sf_tool.specs.Lines.{SaysLines, SomeIsSaid, line_telling}
 
 -- the bytes of the format by which a line is read spell it
-pub line_spells : (profile : Profile) (own : List ℕ) (scan : List Directive) (front : Option (List Directive)) (text : List ℕ)
-    → ReadsLine profile own front text → Spells profile own scan → Spells profile text (unwrap_or front scan)
-line_spells profile own scan (Some ds) text (ends, spells) whole = spells
-line_spells profile own scan None text (same, none) whole = subst (λ t. Spells profile t scan) (sym same) whole
+pub line_spells : (profile : Profile) (scan : ScanText) (front : Option ScanText) → HasFront profile scan.text.items front
+    → Spells profile scan.text.items scan.format
+    → Spells profile (unwrap_or front scan).text.items (unwrap_or front scan).format
+line_spells profile scan (Some line) (ends, spells) whole = spells
+line_spells profile scan None none whole = whole
 
 -- so that something is said of lines by it
 pub said_by : (file : Option (List ℕ)) (profile : Profile) (quiet explain : Bool) (text : List ℕ) (ds : List Directive)

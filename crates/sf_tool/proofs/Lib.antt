@@ -1,6 +1,7 @@
 pub mod Asking
 pub mod Carrying
 pub mod Copying
+pub mod Explaining
 pub mod Filing
 pub mod Lining
 pub mod OneSaid

@@ -14,13 +14,28 @@ use Rattle.sf_records.specs.Copies.{copying}
 use Rattle.sf_words.specs.declared.order.LineOptions.{LineOptions}
 use Rattle.sf_jobs.specs.Answers.{Answer}
 use Rattle.sf_jobs.specs.Checks.{IsFaultOf}
-use Rattle.sf_jobs.specs.CopyFormats.{AreCopyFormats, AreNoCopyFormats, line_format}
+use Rattle.sf_jobs.specs.CopyFormats.{AreCopyFormats, AreNoCopyFormats, line_of}
+use Rattle.sf_jobs.specs.Jobs.{AreNoTwo}
 use Rattle.sf_jobs.specs.declared.copy_formats.CopyFormats.{CopyFormats}
 use Rattle.sf_tool.specs.Lines.{RunsLines, SaysLines}
 
 -- why the formats are no pair
 abbrev pub IsUnpaired : List PrintUnit → List Directive → CommandFault → Type 0
 IsUnpaired units ds fault = (why : PairFault) × (fault ≡ Pair why) × (pair_fault units ds ≡ Some why)
+
+-- the fault of a pair is that of these formats
+abbrev pub IsOwnUnpaired : CopyFormats → CommandFault → Type 0
+IsOwnUnpaired formats (Pair why) = pair_fault formats.print formats.scan.format ≡ Some why
+IsOwnUnpaired formats _ = Unit {0}
+
+-- two words spell the formats; or they don't, for this, and refused is the word that is at fault
+abbrev pub AreCopies : Profile → List (List ℕ) → CopyFormats → Type 0
+AreCopies profile (print ∷ scan ∷ []) formats = AreCopyFormats profile print scan formats
+AreCopies profile _ formats = ⊥
+
+abbrev pub AreNoCopies : Profile → List (List ℕ) → List ℕ → CommandFault → Type 0
+AreNoCopies profile (print ∷ scan ∷ []) refused fault = AreNoTwo profile print scan refused fault
+AreNoCopies profile _ refused fault = ⊥
 
 -- how lines are scanned: one has to be used whole where an end of the format stands for its newline
 abbrev pub line_options : LineOptions → CopyFormats → LineOptions
@@ -34,15 +49,15 @@ module _ {S K E : Type 0} (to_come : S → Option (List ℕ)) (read_faults : S �
   abbrev pub CopiesAligned : CopyFormats → Ahead S → Ahead S → K → K → E → E → Answer → Type 0
   CopiesAligned formats from from' out out' err err' answer =
       (telling : ℕ → List ℕ → LineFault → List ℕ)
-      × SaysLines file profile options.quiet explain formats.text.items (line_format formats) telling
-      × RunsLines to_come read_faults contents write_faults said unsaid (λ number ds. copying formats.print formats.scan)
-      (line_options options formats) limit [] (line_format formats ∷ []) telling from from' out out' err err' answer
+      × SaysLines file profile options.quiet explain (line_of formats).text.items (line_of formats).format telling
+      × RunsLines to_come read_faults contents write_faults said unsaid (λ number ds. copying formats.print formats.scan.format)
+      (line_options options formats) limit [] ((line_of formats).format ∷ []) telling from from' out out' err err' answer
 
   -- the formats are no pair, with nothing read, written or said; or the lines are copied
   abbrev pub CopiesPair : CopyFormats → Ahead S → Ahead S → K → K → E → E → Answer → Type 0
   CopiesPair formats from from' out out' err err' answer =
-      IsFaultOf (IsUnpaired formats.print formats.scan) answer × (from' ≡ from) × (out' ≡ out) × (err' ≡ err)
-      ⊎ IsAligned formats.print formats.scan × CopiesAligned formats from from' out out' err err' answer
+      IsFaultOf (IsUnpaired formats.print formats.scan.format) answer × (from' ≡ from) × (out' ≡ out) × (err' ≡ err)
+      ⊎ IsAligned formats.print formats.scan.format × CopiesAligned formats from from' out out' err err' answer
 
   -- the words are no formats, with nothing read, written or said; or they are, and the lines are copied by these
   abbrev pub CopiesLines : List ℕ → List ℕ → Ahead S → Ahead S → K → K → E → E → Answer → Type 0

@@ -115,6 +115,21 @@ SaysFailed profile number outcome place rest word notes =
     ((text : List ℕ) × Unescapes word text × SaysFailedText profile number outcome place rest text notes)
     ⊎ ((at : ℕ) × IsBadEscape word at × (notes ≡ []))
 
+-- a word that is refused
+abbrev pub SaysRefused : List ℕ → CommandFault → List ℕ → Type 0
+SaysRefused refused (BadEscape name at) notes = notes ≡ escape_notes refused at
+SaysRefused refused (Format fault) notes = SaysFormat fault refused notes
+SaysRefused refused (PrintFormat fault) notes = SaysFormat fault refused notes
+SaysRefused refused _ notes = notes ≡ []
+
+-- this is said, or nothing, where memory for it was refused
+abbrev pub MaySay : (List ℕ → Type 0) → List ℕ → Type 0
+MaySay says notes = says notes ⊎ (notes ≡ [])
+
+abbrev pub SaysMoreOfRefused : Bool → List ℕ → CommandFault → List ℕ → Type 0
+SaysMoreOfRefused true refused fault notes = MaySay (SaysRefused refused fault) notes
+SaysMoreOfRefused false refused fault notes = notes ≡ []
+
 -- ---- pairs
 
 -- the verdict on both formats, the parts of the scan format being these: why they are no pair, and the parts that face each other

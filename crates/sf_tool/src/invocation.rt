@@ -9,13 +9,13 @@ ghost use Rattle.sf_jobs.specs.Heads.{names_text};
 ghost use Rattle.sf_tool.specs.Saying.{Says};
 
 use crate::console::{Apart, Console};
-use crate::copies::copy_lines;
+use crate::copies::{copies_job, copy_by_formats};
 use crate::error_output::{say, tell};
-use crate::explain::{Left, notes_of, notes_of_refused};
+use crate::explain::{Left, notes_of_copies, notes_of_job, notes_of_refused};
 use crate::fronts::file_name;
 use crate::lines::{lines_job, scan_lines};
 use crate::reasons::{Lent, Reasons, end_known};
-use sf_jobs::{carry_out, form_of, grammar_of, names_text};
+use sf_jobs::{form_of, grammar_of, names_text, prepare, run};
 use sf_makers::Names;
 use sf_messages::{CommandFault, error_line, name_twice_line};
 use sf_places::{BLOCK_BYTES, Input, Placed};
@@ -180,20 +180,31 @@ fn end_copies<S: Source, K: Sink, E, C: Console<K, E>, R: Reasons<S>, const N: u
     err: &mut E,
 ) -> Result<u8, CommandFault>
     requires limit { order.now.limit ≤ 2147483647 }
+    requires copy { order.now.verb ≡ Copy }
     requires texts { HasTexts Copy (map string_bytes order.now.texts.items) }
     ensures { EndsCopies K.contents K.failures C.Hands C.said C.unsaid S.to_come S.failures R.why_unread C.why watched
         explain options order.now from.old from.new out.old out.new err.old err.new result }
 {
-    let answer = copy_lines::<S, K, E, C, N>(alloc, explain, order, options, from, out, err);
-    let left = Left {
-        place: None,
-        held: &[],
-    };
-    let notes = notes_of(alloc, explain, order, left, answer);
-    let source = from.source();
-    end_known::<S, K, E, C, R>(
-        alloc, watched, explain, order, source, out, err, answer, &notes,
-    )
+    match copies_job(alloc, order) {
+        Ok(formats) => {
+            let answer = copy_by_formats::<S, K, E, C, N>(
+                alloc, explain, &formats, order, options, from, out, err,
+            );
+            let notes = notes_of_copies(alloc, explain, order, &formats, answer);
+            let source = from.source();
+            end_known::<S, K, E, C, R>(
+                alloc, watched, explain, order, source, out, err, answer, &notes,
+            )
+        }
+        Err(refused) => {
+            let notes = notes_of_refused(alloc, explain, refused);
+            let source = from.source();
+            let answer = Err(refused.fault);
+            end_known::<S, K, E, C, R>(
+                alloc, watched, explain, order, source, out, err, answer, &notes,
+            )
+        }
+    }
 }
 
 /// Scans lines by an order, and says why the command doesn't end cleanly where it doesn't.
@@ -268,6 +279,45 @@ fn end_lines<S: Source, K: Sink, E, C: Console<K, E>, R: Reasons<S>, const N: us
     }
 }
 
+/// Does what an order of records asks for, and says why the command doesn't end cleanly where it doesn't.
+fn run_records<S: Source, K: Sink, E, C: Console<K, E>, R: Reasons<S>, const N: usize>(
+    alloc: Global,
+    watched: bool,
+    explain: bool,
+    order: &Order,
+    from: &mut Lookahead<S, N>,
+    out: &mut K,
+    err: &mut E,
+) -> Result<u8, CommandFault>
+    requires limit { order.now.limit ≤ 2147483647 }
+    requires texts { HasTexts order.now.verb (map string_bytes order.now.texts.items) }
+    ensures { DoesOrder K.contents K.failures C.Hands C.said C.unsaid S.to_come S.failures R.why_unread C.why watched
+        explain None order.now None from.old from.new out.old out.new err.old err.new result }
+{
+    match prepare(alloc, order) {
+        Ok(job) => {
+            let answer = run(alloc, &job, order, from, out);
+            let left = Left {
+                place: None,
+                held: from.held(),
+            };
+            let notes = notes_of_job(alloc, explain, order, &job, left, answer);
+            let source = from.source();
+            end_known::<S, K, E, C, R>(
+                alloc, watched, explain, order, source, out, err, answer, &notes,
+            )
+        }
+        Err(refused) => {
+            let notes = notes_of_refused(alloc, explain, refused);
+            let source = from.source();
+            let answer = Err(refused.fault);
+            end_known::<S, K, E, C, R>(
+                alloc, watched, explain, order, source, out, err, answer, &notes,
+            )
+        }
+    }
+}
+
 /// Does what an order asks for on what the lookahead holds and its source gives. The place in the input isn't told, as
 /// what was used of it before isn't known.
 fn run_order<S: Source, K: Sink, E, C: Console<K, E>, R: Reasons<S>, const N: usize>(
@@ -286,18 +336,7 @@ fn run_order<S: Source, K: Sink, E, C: Console<K, E>, R: Reasons<S>, const N: us
         from.old from.new out.old out.new err.old err.new result }
 {
     match order.lines {
-        None => {
-            let answer = carry_out(alloc, order, from, out);
-            let left = Left {
-                place: None,
-                held: from.held(),
-            };
-            let notes = notes_of(alloc, explain, order, left, answer);
-            let source = from.source();
-            end_known::<S, K, E, C, R>(
-                alloc, watched, explain, order, source, out, err, answer, &notes,
-            )
-        }
+        None => run_records::<S, K, E, C, R, N>(alloc, watched, explain, order, from, out, err),
         Some(options) => end_lines::<S, K, E, C, R, N>(
             alloc, watched, explain, order, options, from, out, err,
         ),
@@ -377,10 +416,21 @@ fn run_placed<S: Source, K: Sink, E, C: Console<K, E> + Reasons<S>, I: Input>(
         (Ok order.now) from.old out.old out.new err.old err.new result }
 {
     let mut ahead = Lookahead::<Placed<&mut S, I>, BLOCK_BYTES>::new(Placed::new(from));
-    let answer = carry_out(alloc, order, &mut ahead, out);
+    let job = match prepare(alloc, order) {
+        Ok(job) => job,
+        Err(refused) => {
+            let notes = notes_of_refused(alloc, true, refused);
+            let source = &**ahead.source().source();
+            let answer = Err(refused.fault);
+            return end_known::<S, K, E, C, C>(
+                alloc, watched, true, order, source, out, err, answer, &notes,
+            );
+        }
+    };
+    let answer = run(alloc, &job, order, &mut ahead, out);
     let held = ahead.held();
     let place = ahead.source().place_before(held);
-    let notes = notes_of(alloc, true, order, Left { place, held }, answer);
+    let notes = notes_of_job(alloc, true, order, &job, Left { place, held }, answer);
     let source = &**ahead.source().source();
     end_known::<S, K, E, C, C>(
         alloc, watched, true, order, source, out, err, answer, &notes,

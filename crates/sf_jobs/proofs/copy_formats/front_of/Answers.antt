@@ -1,19 +1,7 @@
-use Rattle.std.proofs.Common.{◌≡◌, ◌++◌, Some}
+use Rattle.std.proofs.Common.{◌≡◌, ◌∙◌, ◌++◌, Some, ap, subst, sym}
 use Rattle.std.proofs.lemmas.Slice.Eq.{strip_suffix_is}
 use Rattle.std.proofs.lemmas.Bool.Decides.{Decides-eqb}
+use Rattle.sf_format.specs.Grammar.{Spells}
 use Rattle.sf_jobs.specs.CopyFormats.{newline_end}
 use Rattle.sf_jobs.proofs.Fronts.{is_no_format, no_front}
 use Rattle.sf_jobs.proofs.copy_formats.front_of.Goals as goal
-
-pub returns-in-Ok : goal.returns-in-Ok
-returns-in-Ok c =
-    let ends : c.args.own.now ≡ c.in-Some.front.now ++ newline_end =
-    strip_suffix_is Decides-eqb c.args.own.now newline_end (Some c.in-Some.front) c.in-Some.ensures.cases in
-    (c.in-Some.front.now, ends, c.in-Ok.ensures.spelled)
-
-pub returns-in_default-why : goal.returns-in_default-why
-returns-in_default-why c =
-    let ends : c.args.own.now ≡ c.in-Some.front.now ++ newline_end =
-    strip_suffix_is Decides-eqb c.args.own.now newline_end (Some c.in-Some.front) c.in-Some.ensures.cases in
-    no_front c.args.profile c.args.own.now c.in-Some.front.now ends
-    (is_no_format c.args.profile c.in-Some.front.now c.in-Err.fault c.in_default-why.not-NoMemory c.in-Err.ensures.refused)
