@@ -22,7 +22,7 @@ COMMANDS = {
 }
 
 # What stands after --output, and after --profile: the completions know no other values.
-VALUES = {"output": ("plain", "tsv", "json", "csv"), "profile": ("1", "2")}
+VALUES = {"output": ("plain", "tsv", "json", "csv"), "profile": ("1", "2", "3")}
 
 # An option: its names, the short one first, what stands after it, if anything, its default, and the line of the help.
 Option = namedtuple("Option", "name names value default commands help")

@@ -16,10 +16,11 @@ fn is_whole(alloc: Global, pair: &Pair<'_>, count: usize) -> bool {
     let mut to = ListSink::new(alloc);
     let found = pair.write(&mut to, &[Value::I32(-7), Value::Text(text)]);
     let written = to.bytes();
+    let end = count.saturating_add(3);
     matches!(found, Ok(len) if len as usize == written.len())
         && written.get(..3) == Some(b"-7,".as_slice())
-        && written.get(3..count + 3) == Some(text)
-        && written.get(count + 3..) == Some(b"\n".as_slice())
+        && written.get(3..end) == Some(text)
+        && written.get(end..) == Some(b"\n".as_slice())
 }
 
 /// The first length of a text whose record isn't written whole.

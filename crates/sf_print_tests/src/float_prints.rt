@@ -134,9 +134,13 @@ fn is_written_in_place(conv: &PrintConv, bits: u64, text: &[u8]) -> Result<(), F
     let Some(end) = write_value(conv, shown, &mut buf, 3) else {
         return Err(Fail::new("there is room"));
     };
-    let written = &buf[3..end];
+    let written = buf.get(3..end).unwrap_or(b"");
     is(&text.starts_with(written), &true, &bits)?;
-    is(&(text.len() - written.len() <= 1), &true, &bits)
+    is(
+        &(text.len().saturating_sub(written.len()) <= 1),
+        &true,
+        &bits,
+    )
 }
 
 #[test]
