@@ -82,7 +82,7 @@ def checks():
     yield "a set of 4,000 bytes", says(["scan", "--explain", "%[" + "a" * 4000 + "]"], b'  directive 1: "%[' + b"a" * 4000 + b']", [ text', b"b")
     yield "white space of 4,000 bytes before", says(["scan", "--explain", " " * 4000 + "%d"], b'  directive 2: "%d", d i32', b"\n\nx")
     yield "a million lines before", says(["scan", "--explain", "%d"], b"  at line 1000001, column 1 of the input\n", b"\n" * 1000000 + b"x")
-    for word in ("0", "3", "-1", "1.0", "", "one", "99999999999999999999", "\u0661"):
+    for word in ("0", "4", "-1", "1.0", "", "one", "99999999999999999999", "\u0661"):
         yield f"--profile {word!r}", refused("scan", "--explain", f"--profile={word}", "%d")
     yield "--explain with a value", refused("scan", "--explain=1", "%d")
     yield "--explain twice", refused("scan", "--explain", "--explain", "%d")
