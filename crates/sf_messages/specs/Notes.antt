@@ -26,7 +26,7 @@ use Rattle.sf_messages.specs.Names.{name_text}
 use Rattle.sf_messages.specs.Newlines.{is_left_white, is_lone_newline, is_newline_taken, is_over_newline, is_white_first}
 use Rattle.sf_arguments.specs.declared.argument_fault.ArgumentFault.{ArgumentFault}
 use Rattle.sf_arguments.specs.declared.argument_fault.ArgumentFault.TheVariants as argument
-use Rattle.sf_messages.specs.Sentences.{escape_sentence, left_white_sentence, lone_newline_sentence, newline_taken_sentence, over_newline_sentence, pair_sentence, range_text, typed_escape, typed_text, values_text, white_first_sentence, why_sentence}
+use Rattle.sf_messages.specs.Sentences.{escape_sentence, left_white_sentence, lone_newline_sentence, newline_taken_sentence, no_value_text, over_newline_sentence, pair_sentence, range_text, typed_escape, typed_text, values_text, white_first_sentence, why_sentence}
 
 -- a line of its own
 abbrev pub note : List ℕ → List ℕ
@@ -66,7 +66,7 @@ count_notes format expected got =
 
 -- a word that is no value of a print format; where the number of words is wrong, the word of the format
 abbrev pub value_notes : List ℕ → ArgumentFault → List ℕ
-value_notes word (argument.NotInKind at kind) = value_note at word (codes " is no decimal integer from " ++ range_text kind)
+value_notes word (argument.NotInKind at kind) = value_note at word (no_value_text kind ++ range_text kind)
 value_notes word (argument.NotOneByte at) = value_note at word (codes " is not one byte")
 value_notes word (argument.BadEscape at offset) = escape_notes word offset
 value_notes word (argument.WrongCount expected got) = count_notes word expected got

@@ -134,7 +134,13 @@ over_newline_sentence = codes "the record goes over a newline: sf scan --lines e
 abbrev pub values_text : ℕ → List ℕ
 values_text count = if nat_eq count 1 then codes " value" else codes " values"
 
--- the numbers of a kind; a text has none
+-- what is said of a word that stands for no value of a kind, before the numbers of that kind
+abbrev pub no_value_text : Kind → List ℕ
+no_value_text kind.F32 = codes " is no floating-point number in the range of its kind"
+no_value_text kind.F64 = codes " is no floating-point number in the range of its kind"
+no_value_text _ = codes " is no decimal integer from "
+
+-- the numbers of a kind; a text and a float have none
 abbrev pub range_text : Kind → List ℕ
 range_text kind.I8 = codes "-128 to 127"
 range_text kind.I16 = codes "-32768 to 32767"

@@ -14,8 +14,8 @@ use crate::newlines::{
 };
 use crate::sentences::{
     escape_sentence, left_white_sentence, lone_newline_sentence, newline_taken_sentence,
-    over_newline_sentence, pair_sentence, push_typed, push_typed_escape, range_text, values_text,
-    white_first_sentence, why_sentence,
+    no_value_text, over_newline_sentence, pair_sentence, push_typed, push_typed_escape, range_text,
+    values_text, white_first_sentence, why_sentence,
 };
 use sf_arguments::ArgumentFault;
 use sf_format::{Directive, FormatFault, Unit};
@@ -148,8 +148,9 @@ pub fn value_notes(alloc: Global, word: &[u8], fault: ArgumentFault) -> Result<V
 {
     match fault {
         ArgumentFault::NotInKind { at, kind } => {
+            let front = no_value_text(kind);
             let range = range_text(kind);
-            value_note(alloc, at, word, " is no decimal integer from ", range)
+            value_note(alloc, at, word, front, range)
         }
         ArgumentFault::NotOneByte { at } => value_note(alloc, at, word, " is not one byte", ""),
         ArgumentFault::BadEscape { offset, .. } => escape_notes(alloc, word, offset),

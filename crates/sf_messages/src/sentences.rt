@@ -2,7 +2,7 @@
 ghost use Rattle.std.specs.Prelude.{◌≡◌, ◌++◌, OnOk};
 ghost use Rattle.sf_messages.specs.Sentences.{escape_sentence, left_out_sentence, left_white_sentence};
 ghost use Rattle.sf_messages.specs.Sentences.{lone_newline_sentence, newline_taken_sentence, over_newline_sentence};
-ghost use Rattle.sf_messages.specs.Sentences.{pair_sentence, range_text, typed_escape, values_text};
+ghost use Rattle.sf_messages.specs.Sentences.{no_value_text, pair_sentence, range_text, typed_escape, values_text};
 ghost use Rattle.sf_messages.specs.Sentences.{white_first_sentence};
 ghost use Rattle.sf_messages.specs.Sentences.{is_digit, is_float_after, is_float_letter, typed_text};
 ghost use Rattle.sf_messages.specs.Sentences.{unknown_sentence, why_sentence};
@@ -157,6 +157,16 @@ pub(crate) fn values_text(count: u8) -> &'static str
     ensures { result.now ≡ values_text count }
 {
     if count == 1 { " value" } else { " values" }
+}
+
+/// What is said of a word that stands for no value of a kind, before the numbers of that kind.
+pub(crate) fn no_value_text(kind: Kind) -> &'static str
+    ensures { result.now ≡ no_value_text kind }
+{
+    match kind {
+        Kind::F32 | Kind::F64 => " is no floating-point number in the range of its kind",
+        _ => " is no decimal integer from ",
+    }
 }
 
 /// The numbers of a kind.
