@@ -260,6 +260,7 @@ class Builds(Launcher):
         self.assertEqual(calls[5:], ["ends middle", "begins sf: run -- scan %d", "ends sf"])
 
     def test_the_order_of_the_list_of_crates_is_free(self):
+        self.say("slow", "0.4")
         write(self.clone + "/crates.txt", "sf: middle other\nmiddle: low\nother:\nlow:\n")
         self.expect("first", builds=1)
         begun = [it.split(" ")[1] for it in self.calls() if it.startswith("begins ")]
