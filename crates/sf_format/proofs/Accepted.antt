@@ -15,7 +15,7 @@ use Rattle.sf_format.specs.Digits.{IsOptionalNumber}
 use Rattle.sf_format.specs.Pieces.{Opening, Piece, Ordinary, Plain, Bracket, Percents}
 use Rattle.sf_format.specs.Grammar.{IsScanPiece, shape_of, width_of, Means, Spells, SpellsPrint}
 use Rattle.sf_format.specs.Proper.{HasItsKind, IsKinded, HasItsWidth, IsSized, IsProperShape, IsProperWidth, IsProper, AreProper, AreSized, AreKinded, IsAccepted}
-use Rattle.sf_format.proofs.Suits.{text_kinded}
+use Rattle.sf_format.proofs.Suits.{text_kinded, float_kinded}
 use Rattle.sf_format.proofs.Meanings.{scan_slots, mean_each, print_slots}
 use Rattle.sf_format.proofs.PartSlots.{all_short, format_few, slots_good, slots_count}
 use Rattle.sf_base.specs.Bytes.{magnitude}
@@ -51,7 +51,7 @@ some_member list is byte =
 plain_good : (letter : Letter) (s : Shape) (ds : List ℕ) (size : Length) (k : Kind) → shape_of letter s → kind_of letter size ≡ Some k
     → IsOptionalNumber 65535 ds → let width = width_of letter ds in
     IsProperShape s × IsProperWidth width × HasItsWidth s width × HasItsKind s k
-plain_good letter s ds size k h is number = grind (arith, text_kinded size k)
+plain_good letter s ds size k h is number = grind (arith, text_kinded size k, float_kinded size k)
 
 abbrev IsGoodDirective : Directive → Type 0
 IsGoodDirective d = IsProper d × IsSized d × IsKinded d

@@ -6,11 +6,12 @@ use Rattle.sf_format.specs.Digits.{is_decimal}
 use Rattle.sf_format.specs.Lists.{front, behind, begins, mark_at, is_any_of}
 use Rattle.sf_format.specs.declared.letter.Length.{Length}
 use Rattle.sf_format.specs.declared.letter.Length.TheVariants.{NoLength, HH, H, LL, L, J, Z, T}
-use Rattle.sf_format.specs.Letters.{length_text}
+use Rattle.sf_format.specs.Letters.{has_doubles, length_text}
+use Rattle.sf_format.specs.declared.directive.Profile.{Profile}
 use Rattle.sf_format.specs.PrintLetters.{is_flag}
 use Rattle.sf_format.specs.Language.{Language, Scan, Print}
-use Rattle.sf_format.specs.Pieces.{Opening, number_text, star_text, opening_text, precision_text}
-use Rattle.sf_format.specs.Cut.{number_before, number_at, first_length, length_at, cut, precision_behind, precision_at}
+use Rattle.sf_format.specs.Pieces.{Opening, number_text, star_text, optional_text, opening_text, precision_text}
+use Rattle.sf_format.specs.Cut.{number_before, number_at, first_length, length_at, cut, precision_behind, precision_at, optional_at}
 use Rattle.sf_format.proofs.Prefixes.{Stops, AllPass, front_behind, front_passes, front_of, behind_of, behind_stops}
 use Rattle.sf_format.proofs.Rules.{all_map, all_append}
 use Rattle.sf_format.specs.PrintGrammar.{StartsAboveZero}
@@ -29,9 +30,9 @@ mark_joined text mark (b ∷ x) there none = grind (arith, nat_tests)
 
 -- ---- bytes that parts begin with
 
--- a byte of a star, of flags or of a width
+-- a byte of a star, of a ?, of flags or of a width
 abbrev pub is_inside : ℕ → Bool
-is_inside b = is_decimal b || is_flag b || nat_eq b 42
+is_inside b = is_decimal b || is_flag b || is_any_of (codes "*?") b
 
 -- one that a part before the precision begins with, or %
 abbrev pub is_head : ℕ → Bool
@@ -136,8 +137,8 @@ sized_stops _ letter x last = refl
 
 -- what stands after the % of an opening
 abbrev pub inside : Opening → List ℕ → List ℕ
-inside o y = number_text o.number ++ (star_text o.star ++ (o.flags ++
-    (o.width ++ (precision_text o.precision ++ (length_text o.size ++ y)))))
+inside o y = number_text o.number ++ (star_text o.star ++ (optional_text o.optional ++ (o.flags ++
+    (o.width ++ (precision_text o.precision ++ (length_text o.size ++ y))))))
 
 -- its parts have these bytes
 pub record HasParts (o : Opening) : Type 0 where
@@ -146,9 +147,9 @@ pub record HasParts (o : Opening) : Type 0 where
   pub width : AllPass is_decimal o.width
   pub precision : IfSome o.precision (AllPass is_decimal)
 
-parts_inside : (star : Bool) (flags width : List ℕ) → AllPass is_flag flags → AllPass is_decimal width
-    → AllPass is_inside (star_text star ++ (flags ++ width))
-parts_inside star flags width h k = by_star star
+parts_inside : (star optional : Bool) (flags width : List ℕ) → AllPass is_flag flags → AllPass is_decimal width
+    → AllPass is_inside (star_text star ++ (optional_text optional ++ (flags ++ width)))
+parts_inside star optional flags width h k = by_star star (by_mark optional)
   where
     inside : AllPass is_inside (flags ++ width)
     inside =
@@ -156,15 +157,42 @@ parts_inside star flags width h k = by_star star
         (λ b e. grind arith) flags h)
         (all_map (λ b. is_decimal b ≡ true) (λ b. is_inside b ≡ true) (λ b e. rw e) width k)
 
-    by_star : (v : Bool) → AllPass is_inside (star_text v ++ (flags ++ width))
-    by_star true = (refl, inside)
-    by_star false = inside
+    by_mark : (v : Bool) → AllPass is_inside (optional_text v ++ (flags ++ width))
+    by_mark true = (refl, inside)
+    by_mark false = inside
 
-star_of : (star : Bool) (width z : List ℕ) → AllPass is_decimal width → Stops is_head z
-    → mark_at 42 (star_text star ++ (width ++ z)) ≡ (star, width ++ z)
-star_of true width z digits stops = refl
-star_of false [] z digits stops = mark_none 42 z (stops_less (λ b. nat_eq b 42) is_head (λ b e. grind arith) z stops)
-star_of false (d ∷ ds) z digits stops = mark_none 42 (d ∷ (ds ++ z)) (grind (arith, nat_tests))
+    by_star : (v : Bool) → AllPass is_inside (optional_text optional ++ (flags ++ width))
+        → AllPass is_inside (star_text v ++ (optional_text optional ++ (flags ++ width)))
+    by_star true rest = (refl, rest)
+    by_star false rest = rest
+
+-- neither a * nor a ? begins a width or what follows it
+no_mark : (mark : ℕ) → is_decimal mark ≡ false → is_head mark ≡ true → (width z : List ℕ) → AllPass is_decimal width → Stops is_head z
+    → Stops (λ b. nat_eq b mark) (width ++ z)
+no_mark mark other head [] z digits stops = stops_less (λ b. nat_eq b mark) is_head (λ b e. grind (arith, nat_tests, head)) z stops
+no_mark mark other head (d ∷ ds) z digits stops = grind (arith, nat_tests)
+
+no_star : (optional : Bool) (width z : List ℕ) → AllPass is_decimal width → Stops is_head z
+    → Stops (λ b. nat_eq b 42) (optional_text optional ++ (width ++ z))
+no_star true width z digits stops = refl
+no_star false width z digits stops = no_mark 42 refl refl width z digits stops
+
+star_of : (star optional : Bool) (width z : List ℕ) → AllPass is_decimal width → Stops is_head z
+    → mark_at 42 (star_text star ++ (optional_text optional ++ (width ++ z))) ≡ (star, optional_text optional ++ (width ++ z))
+star_of true optional width z digits stops = refl
+star_of false optional width z digits stops = mark_none 42 (optional_text optional ++ (width ++ z)) (no_star optional width z digits stops)
+
+-- the ? of a profile that has it
+optional_of : (profile : Profile) (optional : Bool) (width z : List ℕ) → (optional ≡ true → has_doubles profile ≡ true)
+    → AllPass is_decimal width → Stops is_head z → optional_at profile (optional_text optional ++ (width ++ z)) ≡ (optional, width ++ z)
+optional_of profile optional width z has digits stops = by_profile (has_doubles profile) optional refl has
+  where
+    by_profile : (v w : Bool) → has_doubles profile ≡ v → (w ≡ true → v ≡ true)
+        → optional_at profile (optional_text w ++ (width ++ z)) ≡ (w, width ++ z)
+    by_profile true true e h = rw e refl
+    by_profile true false e h = rw e (mark_none 63 (width ++ z) (no_mark 63 refl refl width z digits stops))
+    by_profile false true e h = absurd (let f = h refl in cc)
+    by_profile false false e h = rw e refl
 
 width_stops : (width z : List ℕ) → AllPass is_decimal width → StartsAboveZero width → Stops is_head z → Stops is_flag (width ++ z)
 width_stops [] z digits first stops = stops_less is_flag is_head (λ b e. grind arith) z stops
@@ -183,7 +211,11 @@ precision_is (Some ds) z digits stops =
 -- after the number
 cut_behind : (language : Language) (o : Opening) (letter : ℕ) (x : List ℕ) → HasParts o → IsIn language o → IsLast letter
     → number_at (inside o (letter ∷ x))
-    ≡ (o.number, star_text o.star ++ (o.flags ++ (o.width ++ (precision_text o.precision ++ (length_text o.size ++ letter ∷ x)))))
+    ≡ (
+      o.number,
+      star_text o.star ++ (optional_text o.optional ++ (o.flags ++ (o.width ++ (precision_text o.precision
+          ++ (length_text o.size ++ letter ∷ x))))),
+    )
     → cut language (inside o (letter ∷ x)) ≡ record { opening = o; rest = letter ∷ x }
 cut_behind (Scan profile) o letter x parts is last number =
     let z = length_text o.size ++ letter ∷ x in
@@ -193,7 +225,8 @@ cut_behind (Scan profile) o letter x parts is last number =
       number,
       is.0,
       is.1,
-      star_of o.star o.width z parts.width head,
+      star_of o.star o.optional o.width z parts.width head,
+      optional_of profile o.optional o.width z is.2 parts.width head,
       front_of is_decimal o.width z parts.width stops,
       behind_of is_decimal o.width z parts.width stops,
       length_of o.size letter x last,
@@ -204,11 +237,12 @@ cut_behind (Print profile) o letter x parts is last number =
     let z = precision_text o.precision ++ sized in
     let part = sized_stops o.size letter x last in
     let head = precision_stops o.precision sized part in
-    let wide = width_stops o.width z parts.width is.1 head in
+    let wide = width_stops o.width z parts.width is.2 head in
     let stops = digit_stops z head in
     rw (
       number,
       is.0,
+      is.1,
       front_of is_flag o.flags (o.width ++ z) parts.flags wide,
       behind_of is_flag o.flags (o.width ++ z) parts.flags wide,
       front_of is_decimal o.width z parts.width stops,
@@ -226,9 +260,9 @@ cut_of language o letter x parts is last =
     let sized = length_text o.size ++ letter ∷ x in
     let z = precision_text o.precision ++ sized in
     let head = precision_stops o.precision sized (sized_stops o.size letter x last) in
-    let u = star_text o.star ++ (o.flags ++ o.width) in
-    let inner = parts_inside o.star o.flags o.width parts.flags parts.width in
-    let whole : star_text o.star ++ (o.flags ++ (o.width ++ z)) ≡ u ++ z = simp append_assoc in (
+    let u = star_text o.star ++ (optional_text o.optional ++ (o.flags ++ o.width)) in
+    let inner = parts_inside o.star o.optional o.flags o.width parts.flags parts.width in
+    let whole : star_text o.star ++ (optional_text o.optional ++ (o.flags ++ (o.width ++ z))) ≡ u ++ z = simp append_assoc in (
       rw whole (percent_none o.number u z parts.number inner head),
       cut_behind language o letter x parts is last (rw whole (number_of o.number u z parts.number inner head)),
     )
@@ -244,11 +278,32 @@ precision_joined : (point : Bool) (x : List ℕ)
 precision_joined true x = rw (front_behind is_decimal x)
 precision_joined false x = refl
 
+optional_joined : (profile : Profile) (x : List ℕ) → optional_text (optional_at profile x).0 ++ (optional_at profile x).1 ≡ x
+optional_joined profile x = by_profile (has_doubles profile) refl
+  where
+    by_profile : (v : Bool) → has_doubles profile ≡ v → optional_text (optional_at profile x).0 ++ (optional_at profile x).1 ≡ x
+    by_profile true e = rw e (mark_joined optional_text 63 x refl refl)
+    by_profile false e = rw e refl
+
+-- where a ? is cut off, the profile has it
+optional_had : (profile : Profile) (x : List ℕ) → (optional_at profile x).0 ≡ true → has_doubles profile ≡ true
+optional_had profile x found = by_profile (has_doubles profile) refl
+  where
+    by_profile : (v : Bool) → has_doubles profile ≡ v → v ≡ true
+    by_profile true e = refl
+    by_profile false e = rw e at found
+
 pub cut_joined : (language : Language) (x : List ℕ) → inside (cut language x).opening (cut language x).rest ≡ x
 cut_joined (Scan profile) x =
     let number = number_at x in
     let star = mark_at 42 number.1 in
-    rw (length_whole (behind is_decimal star.1), front_behind is_decimal star.1, mark_joined star_text 42 number.1 refl refl)
+    let mark = optional_at profile star.1 in
+    rw (
+      length_whole (behind is_decimal mark.1),
+      front_behind is_decimal mark.1,
+      optional_joined profile star.1,
+      mark_joined star_text 42 number.1 refl refl,
+    )
     (number_whole x)
 cut_joined (Print profile) x =
     let number = number_at x in
@@ -277,7 +332,7 @@ pub cut_parts : (language : Language) (x : List ℕ) → HasParts (cut language 
 cut_parts (Scan profile) x = record {
   number = number_passing x;
   flags = tt;
-  width = front_passes is_decimal (mark_at 42 (number_at x).1).1;
+  width = front_passes is_decimal (optional_at profile (mark_at 42 (number_at x).1).1).1;
   precision = tt;
 }
 cut_parts (Print profile) x =
@@ -291,8 +346,8 @@ cut_parts (Print profile) x =
     }
 
 pub cut_in : (language : Language) (x : List ℕ) → IsIn language (cut language x).opening
-cut_in (Scan profile) x = (refl, refl)
-cut_in (Print profile) x = let number = number_at x in (refl, above_zero (behind is_flag number.1) (behind_stops is_flag number.1))
+cut_in (Scan profile) x = (refl, refl, optional_had profile (mark_at 42 (number_at x).1).1)
+cut_in (Print profile) x = let number = number_at x in (refl, refl, above_zero (behind is_flag number.1) (behind_stops is_flag number.1))
 
 pub opening_regroup : (o : Opening) (y : List ℕ) → opening_text o ++ y ≡ 37 ∷ inside o y
 opening_regroup o y = simp append_assoc
@@ -319,8 +374,9 @@ parts_shorter language x =
     omega (
       arith,
       ap length (cut_joined language x),
-      length-append (number_text o.number) (star_text o.star ++ (o.flags ++ (o.width ++ sized))),
-      length-append (star_text o.star) (o.flags ++ (o.width ++ sized)),
+      length-append (number_text o.number) (star_text o.star ++ (optional_text o.optional ++ (o.flags ++ (o.width ++ sized)))),
+      length-append (star_text o.star) (optional_text o.optional ++ (o.flags ++ (o.width ++ sized))),
+      length-append (optional_text o.optional) (o.flags ++ (o.width ++ sized)),
       length-append o.flags (o.width ++ sized),
       length-append o.width sized,
       number_text_longer o.number,

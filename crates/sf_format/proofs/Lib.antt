@@ -21,4 +21,5 @@ pub mod Profiles
 pub mod PartTexts
 pub mod SpanTexts
 pub mod Rows
+pub mod RowsOfThree
 pub mod Layouts

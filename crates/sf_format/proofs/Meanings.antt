@@ -19,7 +19,7 @@ use Rattle.sf_format.specs.declared.directive.Conversion.{Conversion}
 use Rattle.sf_format.specs.declared.directive.Directive.{Directive}
 use Rattle.sf_format.specs.declared.directive.Directive.TheVariants as directive
 use Rattle.sf_format.specs.declared.letter.Letter.{Letter}
-use Rattle.sf_format.specs.declared.letter.Letter.TheVariants.{Signed, Unsigned, Chars, Text, Set, Count}
+use Rattle.sf_format.specs.declared.letter.Letter.TheVariants.{Signed, Unsigned, Chars, Text, Set, Count, Float}
 use Rattle.sf_format.specs.Letters.{letter_of, kind_of}
 use Rattle.sf_format.specs.Scanlist.{Scanlist, is_member, IsSetOf}
 use Rattle.sf_format.specs.Proper.{destination_of}
@@ -100,16 +100,16 @@ set_same list a b h k =
 
 -- ---- conversions
 
-abbrev made : Shape → Kind → Option ℕ → Option ℕ → Conversion
-made s k w n = record { shape = s; kind = k; width = w; slot = n }
+abbrev made : Shape → Kind → Option ℕ → Option ℕ → Bool → Conversion
+made s k w n m = record { shape = s; kind = k; width = w; slot = n; optional = m }
 
 conversion_same : (place : ℕ) (o : Opening) (letter : Letter) (c d : Conversion) → IsConversion place o letter c
     → IsConversion place o letter d
     → c.shape ≡ d.shape → c ≡ d
 conversion_same place o letter c d h k same =
     let kinds : c.kind ≡ d.kind = let e = sym h.kind ∙ k.kind in cc in
-    let all : made c.shape c.kind c.width c.slot ≡ made d.shape d.kind d.width d.slot =
-    rw (same, kinds, h.width, k.width, h.slot, k.slot) in
+    let all : made c.shape c.kind c.width c.slot c.optional ≡ made d.shape d.kind d.width d.slot d.optional =
+    rw (same, kinds, h.width, k.width, h.slot, k.slot, h.optional, k.optional) in
     all
 
 means_one : (profile : Profile) (place : ℕ) (piece : Piece) (d e : Directive) → Means profile place piece d → Means profile place piece e
@@ -131,6 +131,7 @@ some_shape profile b (Unsigned base) other e = (shape.Int base, refl)
 some_shape profile b Chars other e = (shape.Chars, refl)
 some_shape profile b Text other e = (shape.Text, refl)
 some_shape profile b Count other e = (shape.Count, refl)
+some_shape profile b Float other e = (shape.Float, refl)
 some_shape profile b Set other e = absurd (other (same_byte b 91 (sym (bracket_is profile b Set e))))
 
 some_meaning : (profile : Profile) (place : ℕ) (piece : Piece) → IsScanPiece profile piece → (d : Directive) × Means profile place piece d
@@ -141,12 +142,12 @@ some_meaning profile place (Plain o b) is =
     let letter = is.1.0 in
     let s = some_shape profile b letter is.0 is.1.1 in
     let k = some_of (kind_of letter o.size) is.1.2.size in
-    let c = made s.0 k.0 (width_of letter o.width) (slot_of place o) in
-    (directive.Conv c, (letter, c, is.1.1, record { kind = k.1; width = refl; slot = refl }, s.1, refl))
+    let c = made s.0 k.0 (width_of letter o.width) (slot_of place o) o.optional in
+    (directive.Conv c, (letter, c, is.1.1, record { kind = k.1; width = refl; slot = refl; optional = refl }, s.1, refl))
 some_meaning profile place (Bracket o list) is =
     let k = some_of (kind_of Set o.size) is.0.size in
-    let c = made (shape.Set (set_of list)) k.0 (width_of Set o.width) (slot_of place o) in
-    (directive.Conv c, (c, set_of list, record { kind = k.1; width = refl; slot = refl }, set_is list, refl, refl))
+    let c = made (shape.Set (set_of list)) k.0 (width_of Set o.width) (slot_of place o) o.optional in
+    (directive.Conv c, (c, set_of list, record { kind = k.1; width = refl; slot = refl; optional = refl }, set_is list, refl, refl))
 
 pub scan_meaning : (profile : Profile) → IsMeaning Directive (Scan profile) (Means profile)
 scan_meaning profile = record { one = means_one profile; some = some_meaning profile }

@@ -85,11 +85,11 @@ pub made_means : (profile : Profile) (place q b : ℕ) (x : List ℕ) (o : Openi
     (listed : Listed)
     (d : Directive) → letter_of profile b ≡ Some letter → kind_of letter o.size ≡ Some kind
     → first_of (bracket_rules (is_set letter) q x) ≡ None
-    → IsListed (is_set letter) x listed → slot ≡ slot_of place o → IsMade letter kind o.width slot listed d
+    → IsListed (is_set letter) x listed → slot ≡ slot_of place o → IsMade letter kind o.width slot o.optional listed d
     → Means profile place (letter_at o (b ∷ x)).piece d
 made_means profile place q b x o letter kind slot listed (directive.Conv c) found known none is placed h =
     made_by (is_set letter) profile place q b x o letter listed c refl (sym (bracket_is profile b letter found)) found none is
-    (record { kind = known ∙ ap Some (sym h.0); width = h.1; slot = h.2 ∙ placed }) h.3
+    (record { kind = known ∙ ap Some (sym h.0); width = h.1; slot = h.2 ∙ placed; optional = h.3 }) h.4
 made_means profile place q b x o letter kind slot listed _ found known none is placed h = absurd h
 
 pub number_low : (ds : List ℕ) → (is_written ds && (nat_eq (magnitude 10 ds) 0 || nat_lt 32 (magnitude 10 ds))) ≡ false

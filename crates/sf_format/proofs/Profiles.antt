@@ -1,5 +1,5 @@
--- The profiles spell the same formats, but for base 2 and floats.
-use Rattle.std.proofs.Common.{◌≡◌, ℕ, ◌+◌, Bool, true, false, List, [], ◌∷◌, length, map, Some, sym, ap, ◌∙◌, arith}
+-- The profiles spell the same formats, but for base 2, floats and what may be missing.
+use Rattle.std.proofs.Common.{◌≡◌, ℕ, ◌+◌, Bool, true, false, refl, List, [], ◌∷◌, length, map, Some, sym, ap, ◌∙◌, subst, arith}
 use Rattle.std.proofs.lemmas.List.{map-id}
 use Rattle.std.specs.List.{AllByRecursion}
 use Rattle.sf_format.specs.declared.directive.Profile.{Profile}
@@ -10,18 +10,20 @@ use Rattle.sf_format.specs.declared.directive.Conversion.{Conversion}
 use Rattle.sf_format.specs.declared.directive.Directive.{Directive}
 use Rattle.sf_format.specs.Language.{Language, Scan, Print}
 use Rattle.sf_format.specs.declared.letter.Letter.{Letter}
-use Rattle.sf_format.specs.declared.letter.Letter.TheVariants.{Signed, Unsigned, Set}
+use Rattle.sf_format.specs.declared.letter.Letter.TheVariants as scan
 use Rattle.sf_format.specs.declared.unit.FloatStyle.{FloatStyle}
 use Rattle.sf_format.specs.declared.unit.FloatStyle.TheVariants.{Fixed, Exponent, General, Hexadecimal}
 use Rattle.sf_format.specs.declared.unit.PrintLetter.{PrintLetter}
 use Rattle.sf_format.specs.declared.unit.PrintLetter.TheVariants.{Binary, Float}
 use Rattle.sf_format.specs.declared.unit.Unit.{Unit as PrintUnit}
-use Rattle.sf_format.specs.Letters.{letters, letter_of}
+use Rattle.sf_format.specs.declared.directive.Shape.{Shape}
+use Rattle.sf_format.specs.declared.directive.Directive.TheVariants.{Conv}
+use Rattle.sf_format.specs.Letters.{has_doubles, letters, letter_of}
 use Rattle.sf_format.specs.PrintLetters.{print_letters, print_letter_of}
 use Rattle.sf_format.specs.Pieces.{Opening, Piece, Ordinary, Percents, Plain, Bracket}
 use Rattle.sf_format.specs.PrintGrammar.{IsPrintPiece, Prints}
-use Rattle.sf_format.specs.Grammar.{Suits, IsScanPiece, IsPiece, IsConversion, destinations, Means, MeanAll, SpellsAs}
-use Rattle.sf_format.specs.Profiles.{shape_with, directive_with, base_in_two, base_in_one, DirectiveHas, IsNotBin, IsOfOne, IsNotBinary, IsNotFloat, UnitHas}
+use Rattle.sf_format.specs.Grammar.{Suits, IsScanPiece, IsPiece, IsConversion, shape_of, destinations, Means, MeanAll, SpellsAs}
+use Rattle.sf_format.specs.Profiles.{shape_with, directive_with, base_in_two, base_in_one, DirectiveHas, IsNotBin, IsOfOne, IsNoFloat, IsOfTwo, IsNotBinary, IsNotFloat, UnitHas}
 use Rattle.sf_format.specs.Laws.{TwoSpellsOne, OneSpellsTwo, OneHasOldBases, TwoPrintsOne, OnePrintsTwo, ThreeSpellsTwo, TwoSpellsThree, ThreePrintsTwo, TwoPrintsThree}
 use Rattle.sf_format.proofs.Suits.{found, printed}
 use Rattle.sf_format.proofs.Meanings.{mean_each}
@@ -51,38 +53,54 @@ spells_through p q mean means f P one text ds (pieces, is, e, mean_all) has =
 -- ---- scan formats
 
 abbrev letter_with : (Base → Base) → Letter → Letter
-letter_with other (Signed base) = Signed (other base)
-letter_with other (Unsigned base) = Unsigned (other base)
+letter_with other (scan.Signed base) = scan.Signed (other base)
+letter_with other (scan.Unsigned base) = scan.Unsigned (other base)
 letter_with other letter = letter
 
 abbrev LetterHas : (Base → Type 0) → Letter → Type 0
-LetterHas P (Signed base) = P base
-LetterHas P (Unsigned base) = P base
+LetterHas P (scan.Signed base) = P base
+LetterHas P (scan.Unsigned base) = P base
 LetterHas P _ = Unit {0}
 
-suits_with : (other : Base → Base) (letter : Letter) (o : Opening) → Suits letter o → Suits (letter_with other letter) o
-suits_with other (Signed base) o s = assumption s
-suits_with other (Unsigned base) o s = assumption s
-suits_with other _ o s = s
+-- the ? of an opening in a profile has its place in another
+abbrev MayMark : Profile → Profile → Bool → Type 0
+MayMark p q optional = (optional ≡ true → has_doubles p ≡ true) → optional ≡ true → has_doubles q ≡ true
+
+suits_in : (p q : Profile) (letter : Letter) (o : Opening) → MayMark p q o.optional → Suits p letter o → Suits q letter o
+suits_in p q letter o marks s = record {
+  number = s.number;
+  suppressed = s.suppressed;
+  optional = marks s.optional;
+  flags = s.flags;
+  width = s.width;
+  precision = s.precision;
+  size = s.size;
+  count = s.count;
+}
+
+suits_with : (p : Profile) (other : Base → Base) (letter : Letter) (o : Opening) → Suits p letter o → Suits p (letter_with other letter) o
+suits_with p other (scan.Signed base) o s = assumption s
+suits_with p other (scan.Unsigned base) o s = assumption s
+suits_with p other _ o s = s
 
 abbrev conversion_with : (Base → Base) → Conversion → Conversion
 conversion_with other c = record c { shape = shape_with other c.shape }
 
 is_with : (other : Base → Base) (place : ℕ) (o : Opening) (letter : Letter) (c : Conversion) → IsConversion place o letter c
     → IsConversion place o (letter_with other letter) (conversion_with other c)
-is_with other place o (Signed base) c h = record { kind = h.kind; width = h.width; slot = h.slot }
-is_with other place o _ c h = record { kind = h.kind; width = h.width; slot = h.slot }
+is_with other place o (scan.Signed base) c h = record { kind = h.kind; width = h.width; slot = h.slot; optional = h.optional }
+is_with other place o _ c h = record { kind = h.kind; width = h.width; slot = h.slot; optional = h.optional }
 
 -- a part in another profile, which has such letters too
-scan_part : (p q : Profile) (other : Base → Base) (P : Base → Type 0)
+scan_part : (p q : Profile) (other : Base → Base) (P : Base → Type 0) → ((optional : Bool) → MayMark p q optional)
     → ((b : ℕ) (letter : Letter) → letter_of p b ≡ Some letter → LetterHas P letter → letter_of q b ≡ Some (letter_with other letter))
     → (place : ℕ) (piece : Piece) (d : Directive) → IsScanPiece p piece → Means p place piece d → DirectiveHas P d
     → IsScanPiece q piece × Means q place piece (directive_with other d)
-scan_part p q other P in_other place (Plain o b) d (plain, (l, known, suits)) (letter, c, e, is, takes, told) has =
+scan_part p q other P marks in_other place (Plain o b) d (plain, (l, known, suits)) (letter, c, e, is, takes, told) has =
     let same : l ≡ letter = let both = sym known ∙ e in cc in
     let base = rw told at has in
     let there = in_other b letter e (grind (arith, takes, base)) in (
-      (plain, (letter_with other letter, there, suits_with other letter o (rw same at suits))),
+      (plain, (letter_with other letter, there, suits_with q other letter o (suits_in p q letter o (marks o.optional) (rw same at suits)))),
       (
         letter_with other letter,
         conversion_with other c,
@@ -92,18 +110,18 @@ scan_part p q other P in_other place (Plain o b) d (plain, (l, known, suits)) (l
         ap (directive_with other) told,
       ),
     )
-scan_part p q other P in_other place (Bracket o list) d piece (c, members, is, set, takes, told) has = (
-  piece,
+scan_part p q other P marks in_other place (Bracket o list) d piece (c, members, is, set, takes, told) has = (
+  (suits_in p q scan.Set o (marks o.optional) piece.0, piece.1),
   (
     conversion_with other c,
     members,
-    is_with other place o Set c is,
+    is_with other place o scan.Set c is,
     set,
     ap (shape_with other) takes,
     ap (directive_with other) told,
   ),
 )
-scan_part p q other P in_other place _ d is h has = (is, ap (directive_with other) h)
+scan_part p q other P marks in_other place _ d is h has = (is, ap (directive_with other) h)
 
 means_old : (place : ℕ) (piece : Piece) (d : Directive) → IsScanPiece One piece → Means One place piece d → DirectiveHas IsOfOne d
 means_old place (Plain o b) d piece (letter, c, e, is, takes, told) =
@@ -118,8 +136,11 @@ one_has_old_bases text ds (pieces, is, e, mean) = mean_each (DirectiveHas IsOfOn
 pub two_spells_one : TwoSpellsOne
 two_spells_one text ds h =
     spells_through (Scan One) (Scan Two) (Means One) (Means Two) (directive_with base_in_two) (DirectiveHas IsOfOne)
-    (scan_part One Two base_in_two IsOfOne in_two) text ds h (one_has_old_bases text ds h)
+    (scan_part One Two base_in_two IsOfOne marks in_two) text ds h (one_has_old_bases text ds h)
   where
+    marks : (optional : Bool) → MayMark One Two optional
+    marks optional h e = h e
+
     in_two : (b : ℕ) (letter : Letter) → letter_of One b ≡ Some letter → LetterHas IsOfOne letter
         → letter_of Two b ≡ Some (letter_with base_in_two letter)
     in_two b letter e =
@@ -128,9 +149,12 @@ two_spells_one text ds h =
 pub one_spells_two : OneSpellsTwo
 one_spells_two =
     spells_through (Scan Two) (Scan One) (Means Two) (Means One) (directive_with base_in_one) (DirectiveHas IsNotBin)
-    (scan_part Two One base_in_one IsNotBin in_one)
+    (scan_part Two One base_in_one IsNotBin marks in_one)
   where
-    no_bin : IsNotBin Bin → letter_of One 98 ≡ Some (letter_with base_in_one (Unsigned Bin))
+    marks : (optional : Bool) → MayMark Two One optional
+    marks optional h e = h e
+
+    no_bin : IsNotBin Bin → letter_of One 98 ≡ Some (letter_with base_in_one (scan.Unsigned Bin))
     no_bin h = absurd h
 
     in_one : (b : ℕ) (letter : Letter) → letter_of Two b ≡ Some letter → LetterHas IsNotBin letter
@@ -139,30 +163,87 @@ one_spells_two =
         found (λ b l. LetterHas IsNotBin l → letter_of One b ≡ Some (letter_with base_in_one l)) (letters Two)
         (assumption no_bin) b letter e
 
--- the letters of both are the same
-same_part : (p q : Profile) → ((b : ℕ) (letter : Letter) → letter_of p b ≡ Some letter → letter_of q b ≡ Some letter)
-    → (place : ℕ) (piece : Piece) (d : Directive) → IsScanPiece p piece → Means p place piece d → Unit {0}
+-- ---- what is of profile 3 alone
+
+-- a part in another profile, which has its letter and its ?
+part_in : (p q : Profile) (P : Directive → Type 0)
+    → ((b : ℕ) (letter : Letter) (c : Conversion) → letter_of p b ≡ Some letter → shape_of letter c.shape → P (Conv c)
+    → letter_of q b ≡ Some letter)
+    → ((c : Conversion) → P (Conv c) → MayMark p q c.optional)
+    → (place : ℕ) (piece : Piece) (d : Directive) → IsScanPiece p piece → Means p place piece d → P d
     → IsScanPiece q piece × Means q place piece d
-same_part p q in_other place (Plain o b) d (plain, (l, known, suits)) (letter, c, e, is, takes, told) has =
-    ((plain, (l, in_other b l known, suits)), (letter, c, in_other b letter e, is, takes, told))
-same_part p q in_other place (Bracket o list) d piece h has = (piece, h)
-same_part p q in_other place _ d is h has = (is, h)
+part_in p q P in_other marks place (Plain o b) d (plain, (l, known, suits)) (letter, c, e, is, takes, told) has =
+    let same : l ≡ letter = let both = sym known ∙ e in cc in
+    let of_c = rw told at has in
+    let there = in_other b letter c e takes of_c in
+    let mark = subst (MayMark p q) is.optional (marks c of_c) in
+    ((plain, (letter, there, suits_in p q letter o mark (rw same at suits))), (letter, c, there, is, takes, told))
+part_in p q P in_other marks place (Bracket o list) d (suits, is_list) (c, members, is, set, takes, told) has =
+    let mark = subst (MayMark p q) is.optional (marks c (rw told at has)) in
+    ((suits_in p q scan.Set o mark suits, is_list), (c, members, is, set, takes, told))
+part_in p q P in_other marks place _ d is h has = (is, h)
 
-any_of_them : {D : Type 0} (ds : List D) → AllByRecursion (λ d. Unit {0}) ds
-any_of_them [] = tt
-any_of_them (d ∷ ds) = (tt, any_of_them ds)
+spells_in : (p q : Profile) (P : Directive → Type 0)
+    → ((b : ℕ) (letter : Letter) (c : Conversion) → letter_of p b ≡ Some letter → shape_of letter c.shape → P (Conv c)
+    → letter_of q b ≡ Some letter)
+    → ((c : Conversion) → P (Conv c) → MayMark p q c.optional)
+    → (text : List ℕ) (ds : List Directive) → SpellsAs (Scan p) (Means p) text ds → AllByRecursion P ds
+    → SpellsAs (Scan q) (Means q) text ds
+spells_in p q P in_other marks text ds h has =
+    rw (map-id ds) at (spells_through (Scan p) (Scan q) (Means p) (Means q) (λ d. d) P (part_in p q P in_other marks) text ds h has)
 
-same_spells : (p q : Profile) → ((b : ℕ) (letter : Letter) → letter_of p b ≡ Some letter → letter_of q b ≡ Some letter)
-    → (text : List ℕ) (ds : List Directive) → SpellsAs (Scan p) (Means p) text ds → SpellsAs (Scan q) (Means q) text ds
-same_spells p q in_other text ds h =
-    rw (map-id ds) at (spells_through (Scan p) (Scan q) (Means p) (Means q) (λ d. d) (λ d. Unit {0})
-    (same_part p q in_other) text ds h (any_of_them ds))
+abbrev IsNoFloatLetter : Letter → Type 0
+IsNoFloatLetter scan.Float = ⊥
+IsNoFloatLetter l = Unit {0}
+
+no_float_shape : (letter : Letter) (s : Shape) → shape_of letter s → IsNoFloatLetter letter → IsNoFloat s
+no_float_shape (scan.Signed base) s h is = rw h tt
+no_float_shape (scan.Unsigned base) s h is = rw h tt
+no_float_shape scan.Chars s h is = rw h tt
+no_float_shape scan.Text s h is = rw h tt
+no_float_shape scan.Count s h is = rw h tt
+no_float_shape scan.Float s h is = absurd is
+no_float_shape scan.Set s h is = absurd h
+
+no_float_letter : (letter : Letter) (s : Shape) → shape_of letter s → IsNoFloat s → IsNoFloatLetter letter
+no_float_letter scan.Float s h is = rw h at is
+no_float_letter _ s h is = tt
+
+-- no ? without the profile that has it
+unmarked : (optional : Bool) → (optional ≡ true → has_doubles Two ≡ true) → optional ≡ false
+unmarked true h = sym (h refl)
+unmarked false h = refl
+
+means_of_two : (place : ℕ) (piece : Piece) (d : Directive) → IsScanPiece Two piece → Means Two place piece d → IsOfTwo d
+means_of_two place (Plain o b) d (plain, (l, known, suits)) (letter, c, e, is, takes, told) =
+    let no_float = found (λ b l. IsNoFloatLetter l) (letters Two) (assumption) b letter e in
+    rw told (no_float_shape letter c.shape takes no_float, is.optional ∙ unmarked o.optional suits.optional)
+means_of_two place (Bracket o list) d (suits, is_list) (c, members, is, set, takes, told) =
+    rw (told, takes) (tt, is.optional ∙ unmarked o.optional suits.optional)
+means_of_two place _ d piece h = rw h tt
 
 pub three_spells_two : ThreeSpellsTwo
-three_spells_two = same_spells Two Three (λ b letter e. e)
+three_spells_two text ds h =
+    let (pieces, is, e, mean) = h in
+    let old = mean_each IsOfTwo means_of_two 1 pieces ds is.each mean in
+    (spells_in Two Three IsOfTwo in_three (λ c has h f. refl) text ds h old, old)
+  where
+    in_three : (b : ℕ) (letter : Letter) (c : Conversion) → letter_of Two b ≡ Some letter → shape_of letter c.shape → IsOfTwo (Conv c)
+        → letter_of Three b ≡ Some letter
+    in_three b letter c e takes has = found (λ b l. letter_of Three b ≡ Some l) (letters Two) (assumption) b letter e
 
 pub two_spells_three : TwoSpellsThree
-two_spells_three = same_spells Three Two (λ b letter e. e)
+two_spells_three = spells_in Three Two IsOfTwo in_two (λ c has h f. let g = sym has.1 ∙ f in cc)
+  where
+    no_float : (b : ℕ) → IsNoFloatLetter scan.Float → letter_of Two b ≡ Some scan.Float
+    no_float b h = absurd h
+
+    in_two : (b : ℕ) (letter : Letter) (c : Conversion) → letter_of Three b ≡ Some letter → shape_of letter c.shape → IsOfTwo (Conv c)
+        → letter_of Two b ≡ Some letter
+    in_two b letter c e takes has =
+        found (λ b l. IsNoFloatLetter l → letter_of Two b ≡ Some l) (letters Three)
+        (assumption (no_float 97, no_float 65, no_float 101, no_float 69, no_float 102, no_float 70, no_float 103, no_float 71)) b letter e
+        (no_float_letter letter c.shape takes has.0)
 
 -- ---- print formats
 

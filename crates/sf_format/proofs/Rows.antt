@@ -19,36 +19,36 @@ use Rattle.sf_format.specs.Grammar.{Spells}
 use Rattle.sf_format.specs.Faults.{Fault}
 use Rattle.sf_format.specs.Reading.{judged}
 
-abbrev parts : List Piece → Result (List Piece) (FormatWhy × ℕ)
+abbrev pub parts : List Piece → Result (List Piece) (FormatWhy × ℕ)
 parts pieces = Ok pieces
 
-abbrev at : FormatWhy → ℕ → Result (List Piece) (FormatWhy × ℕ)
+abbrev pub at : FormatWhy → ℕ → Result (List Piece) (FormatWhy × ℕ)
 at why place = Err (why, place)
 
 -- each of the texts is judged so
-abbrev AreJudged : Language → List (List ℕ × Result (List Piece) (FormatWhy × ℕ)) → Type 0
+abbrev pub AreJudged : Language → List (List ℕ × Result (List Piece) (FormatWhy × ℕ)) → Type 0
 AreJudged language rows = map (λ row. judged language row.0) rows ≡ map (λ row. row.1) rows
 
 -- ---- scan formats
 
-abbrev opened : List ℕ → List ℕ → List ℕ → Option (List ℕ) → Length → Opening
+abbrev pub opened : List ℕ → List ℕ → List ℕ → Option (List ℕ) → Length → Opening
 opened number flags width precision size =
-    record { number = number; star = false; flags = flags; width = width; precision = precision; size = size }
+    record { number = number; star = false; optional = false; flags = flags; width = width; precision = precision; size = size }
 
 -- a specification that opens with a width and a length alone
-abbrev sized : List ℕ → Length → Opening
+abbrev pub sized : List ℕ → Length → Opening
 sized width size = opened [] [] width None size
 
-abbrev plain : Opening
+abbrev pub plain : Opening
 plain = sized [] NoLength
 
 abbrev numbered : List ℕ → Opening
 numbered number = opened number [] [] None NoLength
 
-abbrev suppressed : Opening
+abbrev pub suppressed : Opening
 suppressed = record plain { star = true }
 
-abbrev listed : Bool → ℕ → List ℕ → Scanlist
+abbrev pub listed : Bool → ℕ → List ℕ → Scanlist
 listed complemented first others = record { complemented = complemented; first = first; others = others }
 
 abbrev integers : ℕ → List ℕ
@@ -202,7 +202,7 @@ sizes = refl
 -- ---- by the definitions themselves
 
 abbrev integer : Conversion
-integer = record { shape = Int Dec; kind = I32; width = None; slot = Some 1 }
+integer = record { shape = Int Dec; kind = I32; width = None; slot = Some 1; optional = false }
 
 spelled : Spells One (codes "%d") (Conv integer ∷ [])
 spelled = (
@@ -218,6 +218,7 @@ spelled = (
           record {
             number = tt;
             suppressed = λ e. absurd (cc);
+            optional = λ e. absurd (cc);
             flags = refl;
             width = tt;
             precision = refl;
@@ -232,7 +233,7 @@ spelled = (
     slots = inl ((refl, tt), lit≤ tt);
   },
   refl,
-  ((Signed Dec, integer, refl, record { kind = refl; width = refl; slot = refl }, refl, refl), tt),
+  ((Signed Dec, integer, refl, record { kind = refl; width = refl; slot = refl; optional = refl }, refl, refl), tt),
 )
   where
     differs : ◌≢◌ {A = ℕ} 100 91

@@ -1,12 +1,12 @@
 -- An opening and a letter that no rule refuses suit each other, in scan formats and in print formats.
-use Rattle.std.proofs.Common.{◌≡◌, ℕ, ◌<◌, Bool, true, false, ◌&&◌, ◌||◌, nat_eq, nat_lt, List, [], ◌∷◌, Some, is_some, is_none, refl, arith, ◌≢◌, zero, suc, ◌+◌, ◌^◌, length, Option, find}
+use Rattle.std.proofs.Common.{◌≡◌, ℕ, ◌<◌, Bool, true, false, ◌&&◌, ◌||◌, nat_eq, nat_lt, List, [], ◌∷◌, Some, is_some, is_none, refl, arith, ◌≢◌, zero, suc, ◌+◌, ◌^◌, length, Option, find, inl, inr}
 use Rattle.std.specs.Prelude.{IsSome, IfSome}
 use Rattle.std.proofs.lemmas.Bool.Decides.{nat_tests}
 use Rattle.std.specs.List.{AllByRecursion}
 use Rattle.sf_base.specs.Bytes.{magnitude}
 use Rattle.sf_format.specs.Digits.{is_decimal, IsOptionalNumber}
 use Rattle.sf_format.specs.Lists.{is_any_of, is_written}
-use Rattle.sf_format.specs.Letters.{added_letters, letters, find_letter, letter_of, kind_of, text_kind, double_kind}
+use Rattle.sf_format.specs.Letters.{added_letters, letters, find_letter, letter_of, kind_of, text_kind, double_kind, float_kind}
 use Rattle.sf_format.specs.Pieces.{Opening}
 use Rattle.sf_format.specs.Grammar.{SuitsCount, Suits}
 use Rattle.sf_format.specs.Rules.{has_length, is_l}
@@ -19,6 +19,8 @@ use Rattle.sf_format.specs.declared.letter.Letter.TheVariants.{Count}
 use Rattle.sf_base.specs.declared.values.Kind.{Kind}
 use Rattle.sf_base.specs.declared.values.Kind.TheVariants as kinds
 use Rattle.sf_format.specs.declared.letter.Length.{Length}
+use Rattle.sf_format.specs.declared.letter.Length.TheVariants.{NoLength, L}
+use Rattle.sf_format.specs.Proper.{IsFloatKind}
 use Rattle.sf_format.proofs.Outcomes.{not_above, not_zero}
 use Rattle.sf_format.proofs.Prefixes.{AllPass}
 use Rattle.sf_format.proofs.Cutting.{IsLast, HasParts}
@@ -48,6 +50,16 @@ text_allowed size e = grind arith
 pub text_quiet : (size : Length) → IsSome (text_kind size) → (is_l size ≡ false) × (has_length size ≡ false)
 text_quiet size e = grind arith
 
+-- by the rule of scan formats, which asks of floats in the same place
+text_fits : (size : Length) → (has_length size || false) ≡ false → IsSome (text_kind size)
+text_fits size e = grind arith
+
+float_allowed : (size : Length) → is_other_length size ≡ false → IsSome (float_kind size)
+float_allowed size e = grind arith
+
+float_quiet : (size : Length) → IsSome (float_kind size) → is_other_length size ≡ false
+float_quiet size e = grind arith
+
 double_allowed : (size : Length) → is_other_length size ≡ false → IsSome (double_kind size)
 double_allowed size e = grind arith
 
@@ -58,6 +70,12 @@ double_quiet size e = grind arith
 pub text_kinded : (size : Length) (k : Kind) → text_kind size ≡ Some k → k ≡ kinds.Text
 text_kinded size k h = grind arith
 
+-- a float has a kind of floats
+pub float_kinded : (size : Length) (k : Kind) → float_kind size ≡ Some k → IsFloatKind k
+float_kinded NoLength k h = inl (grind (arith, h))
+float_kinded L k h = inr (grind (arith, h))
+float_kinded _ k h = absurd (cc)
+
 -- a fact for each byte of each row
 abbrev pub ForRows : {L : Type 0} → (ℕ → L → Type 0) → List (List ℕ × L) → Type 0
 ForRows P rows = AllByRecursion (λ row. AllByRecursion (λ b. P b row.1) row.0) rows
@@ -65,26 +83,33 @@ ForRows P rows = AllByRecursion (λ row. AllByRecursion (λ b. P b row.1) row.0)
 each_added : (profile : Profile) → ForRows (IsLetterOf profile) (added_letters profile)
 each_added profiles.One = tt
 each_added profiles.Two = assumption
-each_added profiles.Three = assumption
+each_added profiles.Three = assumption (of_float, quiet_float)
+  where
+    of_float : (o : Opening) (q : ℕ) → Quiet (letter_rules profiles.Three o 102 q) → IsSome (float_kind o.size) × Unit {0}
+    of_float o q h = (float_allowed o.size h.1.1.1.1.0, tt)
+
+    quiet_float : (o : Opening) (q : ℕ) → IsSome (float_kind o.size) → Unit {0} → Quiet (letter_rules profiles.Three o 102 q)
+    quiet_float o q s c = (refl, (refl, (refl, (refl, (float_quiet o.size s, (refl, tt))))))
 
 each_letter : (profile : Profile) → ForRows (IsLetterOf profile) (letters profile)
 each_letter profile = assumption (of_text, quiet_text, of_count, quiet_count, each_added profile)
   where
     of_text : (o : Opening) (q : ℕ) → Quiet (letter_rules profile o 115 q) → IsSome (text_kind o.size) × Unit {0}
-    of_text o q h = (text_allowed o.size h.1.1.1.1.0, tt)
+    of_text o q h = (text_fits o.size h.1.1.1.1.0, tt)
 
     quiet_text : (o : Opening) (q : ℕ) → IsSome (text_kind o.size) → Unit {0} → Quiet (letter_rules profile o 115 q)
-    quiet_text o q s c = let t = text_quiet o.size s in (refl, (refl, (refl, (t.0, (t.1, (refl, tt))))))
+    quiet_text o q s c = let t = text_quiet o.size s in (refl, (refl, (refl, (t.0, (rw t.1 refl, (refl, tt))))))
 
     of_count : (o : Opening) (q : ℕ) → Quiet (letter_rules profile o 110 q) → IsSome (kind_of Count o.size) × SuitsCount Count o
-    of_count o q h = (refl, count o.star o.width h.1.1.1.1.1.0)
+    of_count o q h = (refl, count o.star o.width o.optional h.1.1.1.1.1.0)
       where
-        count : (star : Bool) (width : List ℕ) → (star || is_written width) ≡ false → (star ≡ false) × (width ≡ [])
-        count star [] e = (grind arith, refl)
-        count star (d ∷ ds) e = absurd (grind arith)
+        count : (star : Bool) (width : List ℕ) (optional : Bool) → (star || is_written width || optional) ≡ false
+            → (star ≡ false) × (width ≡ []) × (optional ≡ false)
+        count star [] optional e = (grind arith, refl, grind arith)
+        count star (d ∷ ds) optional e = absurd (grind arith)
 
     quiet_count : (o : Opening) (q : ℕ) → IsSome (kind_of Count o.size) → SuitsCount Count o → Quiet (letter_rules profile o 110 q)
-    quiet_count o q s c = rw (c.0, c.1) (refl, (refl, (refl, (refl, (refl, (refl, tt))))))
+    quiet_count o q s c = rw (c.0, c.1, c.2) (refl, (refl, (refl, (refl, (refl, (refl, tt))))))
 
 pub any_of : (P : ℕ → Type 0) (bytes : List ℕ) (b : ℕ) → AllByRecursion P bytes → is_any_of bytes b ≡ true → P b
 any_of P [] b all e = absurd (cc)
@@ -109,7 +134,7 @@ bracket_is profile b letter e = found IsBracket (letters profile) (assumption (a
     added : (p : Profile) → ForRows IsBracket (added_letters p)
     added profiles.One = tt
     added profiles.Two = ((refl, tt), tt)
-    added profiles.Three = ((refl, tt), tt)
+    added profiles.Three = assumption
 
 -- ---- numbers
 
@@ -140,12 +165,14 @@ number_tests limit (d ∷ ds) h =
 -- ---- both
 
 pub suits_from : (profile : Profile) (letter : Letter) (o : Opening) (b p q : ℕ) → letter_of profile b ≡ Some letter → HasParts o
-    → IsIn (Scan profile) o → Quiet (opening_rules (Scan profile) p o) → Quiet (letter_rules profile o b q) → Suits letter o
+    → IsIn (Scan profile) o → Quiet (opening_rules (Scan profile) p o) → Quiet (letter_rules profile o b q)
+    → Suits profile letter o
 suits_from profile letter o b p q e parts own opening rules =
     let h = (letter_is profile b letter e).allowed o q rules in
     record {
       number = slot_from o.number parts.number opening.0;
       suppressed = unnumbered o.number o.star opening.1.0;
+      optional = own.2;
       flags = own.0;
       width = number_from 65535 o.width parts.width opening.1.1.0 opening.1.1.1.0;
       precision = own.1;
@@ -157,7 +184,8 @@ suits_from profile letter o b p q e parts own opening rules =
     unnumbered [] star e s = refl
     unnumbered (d ∷ ds) star e s = absurd (cc)
 
-pub opening_quiet : (profile : Profile) (letter : Letter) (o : Opening) (p : ℕ) → Suits letter o → Quiet (opening_rules (Scan profile) p o)
+pub opening_quiet : (profile : Profile) (letter : Letter) (o : Opening) (p : ℕ) → Suits profile letter o
+    → Quiet (opening_rules (Scan profile) p o)
 opening_quiet profile letter o p suits =
     let width = number_tests 65535 o.width suits.width in
     ((number_tests 32 o.number suits.number).slot, (suppressed o.number o.star suits.suppressed, (width.low, (width.high, tt))))
@@ -166,12 +194,12 @@ opening_quiet profile letter o p suits =
     suppressed ds false h = grind arith
     suppressed ds true h = rw h refl
 
-pub letter_quiet : (profile : Profile) (letter : Letter) (o : Opening) (b q : ℕ) → letter_of profile b ≡ Some letter → Suits letter o
-    → Quiet (letter_rules profile o b q)
+pub letter_quiet : (profile : Profile) (letter : Letter) (o : Opening) (b q : ℕ) → letter_of profile b ≡ Some letter
+    → Suits profile letter o → Quiet (letter_rules profile o b q)
 letter_quiet profile letter o b q e suits = (letter_is profile b letter e).quiet o q suits.size suits.count
 
-pub suits_parts : (letter : Letter) (o : Opening) → Suits letter o → HasParts o
-suits_parts letter o suits = record {
+pub suits_parts : (profile : Profile) (letter : Letter) (o : Opening) → Suits profile letter o → HasParts o
+suits_parts profile letter o suits = record {
   number = (number_tests 32 o.number suits.number).digits;
   flags = rw suits.flags tt;
   width = (number_tests 65535 o.width suits.width).digits;
@@ -262,10 +290,11 @@ pub suits_print_from : (p : Profile) (letter : PrintLetter) (o : Opening) (b pla
 suits_print_from p letter o b place q e parts own opening rules flags = record {
   number = slot_from o.number parts.number opening.0;
   star = own.0;
+  optional = own.1;
   flags = parts.flags;
   had = none_foreign letter (flags_place place o) o.flags flags.0;
-  width = number_from 65535 o.width parts.width (width_low o.width parts.width own.1) opening.1.0;
-  first = own.1;
+  width = number_from 65535 o.width parts.width (width_low o.width parts.width own.2) opening.1.0;
+  first = own.2;
   precision = grind (arith, nat_tests, parts.precision, opening.1.1.0);
   one = grind (arith, flags.1.0);
   size = (print_letter_is p b letter e).allowed o q rules;

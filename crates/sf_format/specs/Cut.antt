@@ -6,7 +6,8 @@ use Rattle.sf_format.specs.Digits.{is_decimal}
 use Rattle.sf_format.specs.Lists.{front, behind, begins, mark_at}
 use Rattle.sf_format.specs.declared.letter.Length.{Length}
 use Rattle.sf_format.specs.declared.letter.Length.TheVariants.{NoLength, HH, H, LL, L, J, Z, T}
-use Rattle.sf_format.specs.Letters.{length_text}
+use Rattle.sf_format.specs.Letters.{has_doubles, length_text}
+use Rattle.sf_format.specs.declared.directive.Profile.{Profile}
 use Rattle.sf_format.specs.Scanlist.{Scanlist, is_inner}
 use Rattle.sf_format.specs.Language.{Language, Scan, Print}
 use Rattle.sf_format.specs.PrintLetters.{is_flag}
@@ -39,28 +40,41 @@ precision_behind point = if point.0 then (Some (front is_decimal point.1), behin
 abbrev pub precision_at : List ℕ → Option (List ℕ) × List ℕ
 precision_at x = precision_behind (mark_at (code ".") x)
 
+-- whether a ? stands there that the profile has, and what follows it
+abbrev pub optional_at : Profile → List ℕ → Bool × List ℕ
+optional_at profile x = if has_doubles profile then mark_at (code "?") x else (false, x)
+
 -- the parts of a specification up to where its letter is due, and the rest
 pub record Cut : Type 0 where
   pub opening : Opening
   pub rest : List ℕ
 
 -- what follows the precision, with the parts before it
-abbrev pub cut_length : List ℕ → Bool → List ℕ → List ℕ → Option (List ℕ) × List ℕ → Cut
-cut_length number star flags width precision = record {
-  opening = record { number = number; star = star; flags = flags; width = width; precision = precision.0; size = length_at precision.1 };
+abbrev pub cut_length : List ℕ → Bool → Bool → List ℕ → List ℕ → Option (List ℕ) × List ℕ → Cut
+cut_length number star optional flags width precision = record {
+  opening = record {
+    number = number;
+    star = star;
+    optional = optional;
+    flags = flags;
+    width = width;
+    precision = precision.0;
+    size = length_at precision.1;
+  };
   rest = drop (length (length_text (length_at precision.1))) precision.1;
 }
 
--- what follows a %: scan formats have no flags and no precision, print formats no star; a 0 that begins no number is a flag
+-- what follows a %: scan formats have no flags and no precision, print formats no star and no ?; a 0 that begins no number is a flag
 abbrev pub cut : Language → List ℕ → Cut
 cut (Scan profile) x =
     let number = number_at x in
     let star = mark_at (code "*") number.1 in
-    cut_length number.0 star.0 [] (front is_decimal star.1) (None, behind is_decimal star.1)
+    let mark = optional_at profile star.1 in
+    cut_length number.0 star.0 mark.0 [] (front is_decimal mark.1) (None, behind is_decimal mark.1)
 cut (Print profile) x =
     let number = number_at x in
     let wide = behind is_flag number.1 in
-    cut_length number.0 false (front is_flag number.1) (front is_decimal wide) (precision_at (behind is_decimal wide))
+    cut_length number.0 false false (front is_flag number.1) (front is_decimal wide) (precision_at (behind is_decimal wide))
 
 -- ---- a scanlist
 

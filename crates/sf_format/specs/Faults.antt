@@ -8,20 +8,20 @@ use Rattle.sf_format.specs.Language.{Language, Scan, Print}
 use Rattle.sf_format.specs.declared.fault.FormatFault.{FormatFault}
 use Rattle.sf_format.specs.declared.fault.FormatWhy.{FormatWhy}
 use Rattle.sf_format.specs.declared.fault.FormatWhy.TheVariants.{Truncated, ZeroWidth, TooWide, UnknownLetter, LeftOut, BadLength, OpenSet, BackwardRange, BadCount, BadNumber, NumberTwice, NumberGap, Nul, FormatTooLong, NoMemory}
-use Rattle.sf_format.specs.Letters.{letter_of}
+use Rattle.sf_format.specs.Letters.{has_doubles, letter_of}
 use Rattle.sf_format.specs.PrintLetters.{print_letter_of}
 use Rattle.sf_format.specs.Scanlist.{backward_range, caret_text}
 use Rattle.sf_format.specs.Lists.{is_any_of, begins, mark_at, is_written}
 use Rattle.sf_format.specs.Cut.{cut, members_at, close_at}
-use Rattle.sf_format.specs.Pieces.{Opening, Piece, number_text, star_text, opening_text, piece_text, text_of}
+use Rattle.sf_format.specs.Pieces.{Opening, Piece, number_text, star_text, optional_text, opening_text, piece_text, text_of}
 use Rattle.sf_format.specs.PrintGrammar.{Prints}
 use Rattle.sf_format.specs.Grammar.{IsPiece, RunsApart, AreAlike, destinations, Means, SpellsAs}
-use Rattle.sf_format.specs.Rules.{Rule, first_of, takes_text, has_length, is_l, place_of, or_zero, slot_rules}
-use Rattle.sf_format.specs.PrintRules.{print_opening_rules, print_letter_rules, flag_rules}
+use Rattle.sf_format.specs.Rules.{Rule, first_of, takes_text, takes_double, has_length, is_l, place_of, or_zero, slot_rules}
+use Rattle.sf_format.specs.PrintRules.{print_opening_rules, print_letter_rules, flag_rules, is_other_length}
 
--- a letter or a length that C or POSIX has
-abbrev pub is_left_out : ℕ → Bool
-is_left_out b = is_any_of (codes "mLaAeEfFgGpCS") b
+-- a letter or a length that C or POSIX has; the letters of floats are of profile 3
+abbrev pub is_left_out : Profile → ℕ → Bool
+is_left_out profile b = is_any_of (codes "mLpCS") b || (takes_double b && not (has_doubles profile))
 
 -- ---- the faults inside one specification
 
@@ -29,7 +29,7 @@ is_left_out b = is_any_of (codes "mLaAeEfFgGpCS") b
 abbrev pub opening_rules : Language → ℕ → Opening → List Rule
 opening_rules (Scan profile) p o =
     let star_at = p + 1 + length (number_text o.number) in
-    let width_at = star_at + length (star_text o.star) in
+    let width_at = star_at + length (star_text o.star) + length (optional_text o.optional) in
     let number = magnitude 10 o.number in
     let width = magnitude 10 o.width in
     record { why = BadNumber; applies = is_written o.number && (nat_eq number 0 || nat_lt 32 number); at = p + 1 }
@@ -43,11 +43,15 @@ opening_rules (Print profile) p o = print_opening_rules p o
 abbrev pub letter_rules : Profile → Opening → ℕ → ℕ → List Rule
 letter_rules profile o letter q =
     record { why = Nul; applies = nat_eq letter 0; at = q }
-    ∷ record { why = LeftOut; applies = is_left_out letter; at = q }
+    ∷ record { why = LeftOut; applies = is_left_out profile letter; at = q }
     ∷ record { why = UnknownLetter; applies = is_none (letter_of profile letter); at = q }
     ∷ record { why = LeftOut; applies = takes_text letter && is_l o.size; at = q }
-    ∷ record { why = BadLength; applies = takes_text letter && has_length o.size; at = q }
-    ∷ record { why = BadCount; applies = nat_eq letter (code "n") && (o.star || is_written o.width); at = q }
+    ∷ record {
+      why = BadLength;
+      applies = (takes_text letter && has_length o.size) || (takes_double letter && is_other_length o.size);
+      at = q;
+    }
+    ∷ record { why = BadCount; applies = nat_eq letter (code "n") && (o.star || is_written o.width || o.optional); at = q }
     ∷ []
 
 -- the members of a scanlist; q is the place of the [, m that of the first member

@@ -11,8 +11,8 @@ use Rattle.sf_format.specs.declared.directive.Conversion.{Conversion}
 use Rattle.sf_format.specs.declared.directive.Directive.{Directive}
 use Rattle.sf_format.specs.declared.directive.Directive.TheVariants as directive
 use Rattle.sf_format.specs.declared.letter.Letter.{Letter}
-use Rattle.sf_format.specs.declared.letter.Letter.TheVariants.{Signed, Unsigned, Chars, Text, Set, Count}
-use Rattle.sf_format.specs.Letters.{letter_of, kind_of}
+use Rattle.sf_format.specs.declared.letter.Letter.TheVariants.{Signed, Unsigned, Chars, Text, Set, Count, Float}
+use Rattle.sf_format.specs.Letters.{has_doubles, letter_of, kind_of}
 use Rattle.sf_format.specs.Scanlist.{IsScanlist, IsSetOf}
 use Rattle.sf_format.specs.Slots.{AreDistinct, slot_of}
 use Rattle.sf_format.specs.Language.{Language, Scan, Print}
@@ -20,15 +20,16 @@ use Rattle.sf_format.specs.declared.unit.Unit.{Unit as PrintUnit}
 use Rattle.sf_format.specs.PrintGrammar.{IsPrintPiece, Prints}
 use Rattle.sf_format.specs.Pieces.{Opening, Piece, WhiteSpace, Ordinary, Percents, Plain, Bracket, text_of}
 
--- n is never suppressed and takes no width
+-- n is never suppressed, takes no width and is never missing
 abbrev pub SuitsCount : Letter → Opening → Type 0
-SuitsCount Count o = (o.star ≡ false) × (o.width ≡ [])
+SuitsCount Count o = (o.star ≡ false) × (o.width ≡ []) × (o.optional ≡ false)
 SuitsCount _ o = Unit {0}
 
 -- the letter may end a conversion specification that opens so
-pub record Suits (letter : Letter) (o : Opening) : Type 0 where
+pub record Suits (profile : Profile) (letter : Letter) (o : Opening) : Type 0 where
   pub number : IsOptionalNumber 32 o.number
   pub suppressed : o.star ≡ true → o.number ≡ []
+  pub optional : o.optional ≡ true → has_doubles profile ≡ true
   pub flags : o.flags ≡ []
   pub width : IsOptionalNumber 65535 o.width
   pub precision : o.precision ≡ None
@@ -40,8 +41,8 @@ abbrev pub IsScanPiece : Profile → Piece → Type 0
 IsScanPiece profile (WhiteSpace bs) = (0 < length bs) × AreWhite bs
 IsScanPiece profile (Ordinary b) = (b < 256) × (b ≢ 0) × (b ≢ code "%") × (is_white b ≡ false)
 IsScanPiece profile Percents = Unit {0}
-IsScanPiece profile (Plain o b) = (b ≢ code "[") × ((letter : Letter) × (letter_of profile b ≡ Some letter) × Suits letter o)
-IsScanPiece profile (Bracket o list) = Suits Set o × IsScanlist list
+IsScanPiece profile (Plain o b) = (b ≢ code "[") × ((letter : Letter) × (letter_of profile b ≡ Some letter) × Suits profile letter o)
+IsScanPiece profile (Bracket o list) = Suits profile Set o × IsScanlist list
 
 -- a part of a format, seen alone
 abbrev pub IsPiece : Language → Piece → Type 0
@@ -95,6 +96,7 @@ shape_of (Unsigned base) s = s ≡ shape.Int base
 shape_of Chars s = s ≡ shape.Chars
 shape_of Text s = s ≡ shape.Text
 shape_of Count s = s ≡ shape.Count
+shape_of Float s = s ≡ shape.Float
 shape_of Set s = ⊥
 
 -- what a conversion specification stands for, but for its shape
@@ -102,6 +104,7 @@ pub record IsConversion (place : ℕ) (o : Opening) (letter : Letter) (c : Conve
   pub kind : kind_of letter o.size ≡ Some c.kind
   pub width : c.width ≡ width_of letter o.width
   pub slot : c.slot ≡ slot_of place o
+  pub optional : c.optional ≡ o.optional
 
 -- the directive that a part stands for
 abbrev pub Means : Profile → ℕ → Piece → Directive → Type 0

@@ -13,7 +13,7 @@ use Rattle.sf_format.specs.Grammar.{Spells, SpellsPrint, IsFormat, ArePlaced, de
 use Rattle.sf_format.specs.Proper.{IsAccepted, AreInOrder}
 use Rattle.sf_format.specs.Units.{AreAccepted, ArePrintedInOrder}
 use Rattle.sf_format.specs.Slots.{Slotted, kind_with, AreSlots}
-use Rattle.sf_format.specs.Profiles.{in_two, in_one, HaveBases, IsNotBin, IsOfOne, AreNotBinary, AreNotFloats}
+use Rattle.sf_format.specs.Profiles.{in_two, in_one, HaveBases, IsNotBin, IsOfOne, AreOfTwo, AreNotBinary, AreNotFloats}
 
 -- a text spells at most one list
 abbrev pub SpellOne : {D : Type 0} → (Profile → List ℕ → List D → Type 0) → Type 0
@@ -87,12 +87,12 @@ TwoPrintsOne = (text : List ℕ) (us : List PrintUnit) → SpellsPrint One text 
 abbrev pub OnePrintsTwo : Type 0
 OnePrintsTwo = (text : List ℕ) (us : List PrintUnit) → SpellsPrint Two text us → AreNotBinary us → SpellsPrint One text us
 
--- profile 3 has the scan formats of profile 2, and no others yet
+-- profile 3 spells the scan formats of profile 2, and others with a float or a ? alone
 abbrev pub ThreeSpellsTwo : Type 0
-ThreeSpellsTwo = (text : List ℕ) (ds : List Directive) → Spells Two text ds → Spells Three text ds
+ThreeSpellsTwo = (text : List ℕ) (ds : List Directive) → Spells Two text ds → Spells Three text ds × AreOfTwo ds
 
 abbrev pub TwoSpellsThree : Type 0
-TwoSpellsThree = (text : List ℕ) (ds : List Directive) → Spells Three text ds → Spells Two text ds
+TwoSpellsThree = (text : List ℕ) (ds : List Directive) → Spells Three text ds → AreOfTwo ds → Spells Two text ds
 
 -- its print formats without floats are those of profile 2
 abbrev pub ThreePrintsTwo : Type 0

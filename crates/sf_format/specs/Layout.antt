@@ -7,7 +7,7 @@ use Rattle.sf_base.specs.Kinds.{bounds_of}
 use Rattle.sf_format.specs.declared.directive.Base.{Base}
 use Rattle.sf_format.specs.declared.directive.Base.TheVariants.{Dec, Hex}
 use Rattle.sf_format.specs.declared.directive.Shape.{Shape}
-use Rattle.sf_format.specs.declared.directive.Shape.TheVariants.{Int, Text, Set, Chars, Count}
+use Rattle.sf_format.specs.declared.directive.Shape.TheVariants.{Int, Text, Set, Chars, Float, Count}
 use Rattle.sf_format.specs.declared.directive.Directive.{Directive}
 use Rattle.sf_format.specs.declared.directive.Directive.TheVariants.{Space, Byte, Percent, Conv}
 use Rattle.sf_format.specs.declared.layout.Row.{Row}
@@ -27,6 +27,7 @@ way_of (Int base) false = ways.Another
 way_of Text numeric = ways.Text
 way_of (Set members) numeric = ways.Members
 way_of Chars numeric = ways.Characters
+way_of Float numeric = ways.Another
 way_of Count numeric = ways.Another
 
 -- the most bytes of an item with the width

@@ -1,5 +1,5 @@
 -- The letters and lengths of conversion specifications (C11 7.21.6.2p11, p12).
-use Rattle.std.specs.Prelude.{ℕ, List, [], ◌∷◌, Option, Some, None, if◌then◌else◌, codes}
+use Rattle.std.specs.Prelude.{ℕ, Bool, true, false, List, [], ◌∷◌, Option, Some, None, if◌then◌else◌, codes}
 use Rattle.sf_base.specs.declared.values.Kind.{Kind}
 use Rattle.sf_base.specs.declared.values.Kind.TheVariants as kind
 use Rattle.sf_format.specs.declared.directive.Profile.{Profile}
@@ -7,7 +7,7 @@ use Rattle.sf_format.specs.declared.directive.Profile.TheVariants.{One, Two, Thr
 use Rattle.sf_format.specs.declared.directive.Base.{Base}
 use Rattle.sf_format.specs.declared.directive.Base.TheVariants.{Dec, Oct, Hex, Bin, Auto, AutoBin}
 use Rattle.sf_format.specs.declared.letter.Letter.{Letter}
-use Rattle.sf_format.specs.declared.letter.Letter.TheVariants.{Signed, Unsigned, Chars, Text, Set, Count}
+use Rattle.sf_format.specs.declared.letter.Letter.TheVariants.{Signed, Unsigned, Chars, Text, Set, Count, Float}
 use Rattle.sf_format.specs.declared.letter.Values.{Values}
 use Rattle.sf_format.specs.declared.letter.Values.TheVariants as values
 use Rattle.sf_format.specs.declared.letter.Length.{Length}
@@ -20,11 +20,16 @@ auto_base One = Auto
 auto_base Two = AutoBin
 auto_base Three = AutoBin
 
--- b, from profile 2 on
+-- the letters of floats and ?, of profile 3
+abbrev pub has_doubles : Profile → Bool
+has_doubles Three = true
+has_doubles _ = false
+
+-- b, from profile 2 on, and floats, from profile 3 on
 abbrev pub added_letters : Profile → List (List ℕ × Letter)
 added_letters One = []
 added_letters Two = (codes "b", Unsigned Bin) ∷ []
-added_letters Three = (codes "b", Unsigned Bin) ∷ []
+added_letters Three = (codes "b", Unsigned Bin) ∷ (codes "aAeEfFgG", Float) ∷ []
 
 -- the table of the letters of scan formats: a row each, as in docs/FORMATS.md
 abbrev pub letters : Profile → List (List ℕ × Letter)
@@ -84,18 +89,26 @@ double_kind NoLength = Some kind.F64
 double_kind L = Some kind.F64
 double_kind _ = None
 
+-- a float that is stored: of binary32, or with l of binary64 (C11 7.21.6.2p11)
+abbrev pub float_kind : Length → Option Kind
+float_kind NoLength = Some kind.F32
+float_kind L = Some kind.F64
+float_kind _ = None
+
 -- the kind of such values with a length, where they have it
 abbrev pub sized_kind : Values → Length → Option Kind
 sized_kind values.Signed size = Some (signed_kind size)
 sized_kind values.Unsigned size = Some (unsigned_kind size)
 sized_kind values.Text size = text_kind size
 sized_kind values.Double size = double_kind size
+sized_kind values.Float size = float_kind size
 
 -- what a letter stores
 abbrev pub stored_values : Letter → Values
 stored_values (Signed base) = values.Signed
 stored_values (Unsigned base) = values.Unsigned
 stored_values Count = values.Signed
+stored_values Float = values.Float
 stored_values _ = values.Text
 
 -- the kind of a letter with a length, where the letter has it

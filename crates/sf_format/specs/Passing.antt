@@ -18,6 +18,7 @@ use Rattle.sf_format.specs.declared.opening.Written.{Written}
 use Rattle.sf_format.specs.declared.slots.Slots.{Slots}
 use Rattle.sf_format.specs.declared.scan.scanlist.Listed.{Listed}
 use Rattle.sf_format.specs.Language.{Language, Scan, Print}
+use Rattle.sf_format.specs.Letters.{has_doubles}
 use Rattle.sf_format.specs.PrintGrammar.{StartsAboveZero}
 use Rattle.sf_format.specs.declared.grammar.Passed.{Passed}
 use Rattle.sf_format.specs.declared.grammar.Literal.{Literal}
@@ -42,6 +43,7 @@ abbrev pub opening_of : Written → Opening
 opening_of o = record {
   number = o.number.now;
   star = o.star;
+  optional = o.optional;
   flags = o.flags.now;
   width = o.width.now;
   precision = precision_of o.point o.precision.now;
@@ -63,8 +65,8 @@ row_of rule = record { why = rule.why.why; applies = rule.applies; at = rule.why
 
 -- what the language has of an opening
 abbrev pub IsIn : Language → Opening → Type 0
-IsIn (Scan profile) o = (o.flags ≡ []) × (o.precision ≡ None)
-IsIn (Print profile) o = (o.star ≡ false) × StartsAboveZero o.width
+IsIn (Scan profile) o = (o.flags ≡ []) × (o.precision ≡ None) × (o.optional ≡ true → has_doubles profile ≡ true)
+IsIn (Print profile) o = (o.star ≡ false) × (o.optional ≡ false) × StartsAboveZero o.width
 
 -- the first fault by the rules, or else the letter that was found, and the kind that it has
 abbrev pub Converts : {L : Type 0} → Option L → (L → Option Kind) → List Rule → Result (L × Kind) FormatFault → Type 0
@@ -96,11 +98,12 @@ abbrev pub ShapeBy : Bool → Letter → Listed → Shape → Type 0
 ShapeBy true letter listed s = (set : List Bool) × IsSetBy listed.complemented listed.members.now set × (s ≡ shape.Set set)
 ShapeBy false letter listed s = shape_of letter s
 
--- the conversion of a letter with this kind, these digits of a width and this slot
-abbrev pub IsMade : Letter → Kind → List ℕ → Option ℕ → Listed → Directive → Type 0
-IsMade letter kind width slot listed (directive.Conv c) =
-    (c.kind ≡ kind) × (c.width ≡ width_of letter width) × (c.slot ≡ slot) × ShapeBy (is_set letter) letter listed c.shape
-IsMade letter kind width slot listed _ = ⊥
+-- the conversion of a letter with this kind, these digits of a width, this slot and this mark
+abbrev pub IsMade : Letter → Kind → List ℕ → Option ℕ → Bool → Listed → Directive → Type 0
+IsMade letter kind width slot optional listed (directive.Conv c) =
+    (c.kind ≡ kind) × (c.width ≡ width_of letter width) × (c.slot ≡ slot) × (c.optional ≡ optional)
+    × ShapeBy (is_set letter) letter listed c.shape
+IsMade letter kind width slot optional listed _ = ⊥
 
 -- ---- parts
 

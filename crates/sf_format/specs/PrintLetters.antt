@@ -55,10 +55,6 @@ float_letters =
     letter.Float Fixed false ∷ letter.Float Fixed true ∷ letter.Float Exponent false ∷ letter.Float Exponent true
     ∷ letter.Float General false ∷ letter.Float General true ∷ letter.Float Hexadecimal false ∷ letter.Float Hexadecimal true ∷ []
 
-abbrev pub has_doubles : Profile → Bool
-has_doubles Three = true
-has_doubles _ = false
-
 -- the letters of a profile
 abbrev pub added_print_letters : Profile → List PrintLetter
 added_print_letters One = []

@@ -8,7 +8,8 @@ use Rattle.sf_format.specs.declared.letter.Length.{Length}
 use Rattle.sf_format.specs.declared.unit.PrintLetter.{PrintLetter}
 use Rattle.sf_format.specs.declared.unit.PrintLetter.TheVariants.{One}
 use Rattle.sf_format.specs.Lists.{is_any_of, is_written}
-use Rattle.sf_format.specs.PrintLetters.{print_letter_of, has_doubles}
+use Rattle.sf_format.specs.Letters.{has_doubles}
+use Rattle.sf_format.specs.PrintLetters.{print_letter_of}
 use Rattle.sf_format.specs.Units.{has_flag}
 use Rattle.sf_format.specs.Pieces.{Opening, number_text}
 use Rattle.sf_format.specs.Rules.{Rule, takes_text, takes_double, has_length, is_l, or_zero}

@@ -1,14 +1,14 @@
 -- A format in each profile.
-use Rattle.std.specs.Prelude.{List, map}
+use Rattle.std.specs.Prelude.{◌≡◌, false, List, map}
 use Rattle.std.specs.List.{AllByRecursion}
 use Rattle.sf_format.specs.declared.directive.Base.{Base}
 use Rattle.sf_format.specs.declared.directive.Base.TheVariants.{Bin, Auto, AutoBin}
 use Rattle.sf_format.specs.declared.directive.Shape.{Shape}
-use Rattle.sf_format.specs.declared.directive.Shape.TheVariants.{Int}
+use Rattle.sf_format.specs.declared.directive.Shape.TheVariants.{Int, Float}
 use Rattle.sf_format.specs.declared.directive.Directive.{Directive}
 use Rattle.sf_format.specs.declared.directive.Directive.TheVariants.{Conv}
 use Rattle.sf_format.specs.declared.unit.PrintLetter.{PrintLetter}
-use Rattle.sf_format.specs.declared.unit.PrintLetter.TheVariants.{Binary, Float}
+use Rattle.sf_format.specs.declared.unit.PrintLetter.TheVariants as letter
 use Rattle.sf_format.specs.declared.unit.Unit.{Unit as PrintUnit}
 use Rattle.sf_format.specs.declared.unit.Unit.TheVariants as unit
 
@@ -46,6 +46,20 @@ abbrev pub DirectiveHas : (Base → Type 0) → Directive → Type 0
 DirectiveHas P (Conv c) = ShapeHas P c.shape
 DirectiveHas P d = Unit {0}
 
+-- ---- what is of profile 3 alone
+
+-- no float, and never missing
+abbrev pub IsNoFloat : Shape → Type 0
+IsNoFloat Float = ⊥
+IsNoFloat shape = Unit {0}
+
+abbrev pub IsOfTwo : Directive → Type 0
+IsOfTwo (Conv c) = IsNoFloat c.shape × (c.optional ≡ false)
+IsOfTwo d = Unit {0}
+
+abbrev pub AreOfTwo : List Directive → Type 0
+AreOfTwo ds = AllByRecursion IsOfTwo ds
+
 -- each integer's base is so
 abbrev pub HaveBases : (Base → Type 0) → List Directive → Type 0
 HaveBases P ds = AllByRecursion (DirectiveHas P) ds
@@ -62,13 +76,13 @@ IsOfOne AutoBin = ⊥
 IsOfOne base = Unit {0}
 
 abbrev pub IsNotBinary : PrintLetter → Type 0
-IsNotBinary Binary = ⊥
-IsNotBinary letter = Unit {0}
+IsNotBinary letter.Binary = ⊥
+IsNotBinary l = Unit {0}
 
 -- of profile 3 alone
 abbrev pub IsNotFloat : PrintLetter → Type 0
-IsNotFloat (Float style upper) = ⊥
-IsNotFloat letter = Unit {0}
+IsNotFloat (letter.Float style upper) = ⊥
+IsNotFloat l = Unit {0}
 
 abbrev pub UnitHas : (PrintLetter → Type 0) → PrintUnit → Type 0
 UnitHas P (unit.Conv c) = P c.letter

@@ -1,12 +1,12 @@
 -- What holds of the directives of each accepted scan format.
-use Rattle.std.specs.Prelude.{◌≡◌, ℕ, ◌<◌, ◌≤◌, true, List, length, map, Option, Some, None, IsSome, IfSome}
-use Rattle.std.specs.List.{AllByRecursion, filter_map}
+use Rattle.std.specs.Prelude.{◌≡◌, ◌⊎◌, ℕ, ◌<◌, ◌≤◌, ◌&&◌, Bool, true, false, nat_eq, List, length, map, Option, Some, None, IsSome, IfSome}
+use Rattle.std.specs.List.{AllByRecursion, filter_map, list_any}
 use Rattle.sf_base.specs.declared.values.Kind.{Kind}
 use Rattle.sf_base.specs.declared.values.Kind.TheVariants as kinds
 use Rattle.sf_base.specs.Sets.{has_byte}
 use Rattle.sf_format.specs.Slots.{Slotted, kind_with, slots_from, AreSlots}
 use Rattle.sf_format.specs.declared.directive.Shape.{Shape}
-use Rattle.sf_format.specs.declared.directive.Shape.TheVariants.{Int, Text, Set, Chars, Count}
+use Rattle.sf_format.specs.declared.directive.Shape.TheVariants.{Int, Text, Set, Chars, Float, Count}
 use Rattle.sf_format.specs.declared.directive.Directive.{Directive}
 use Rattle.sf_format.specs.declared.directive.Directive.TheVariants.{Space, Byte, Percent, Conv}
 
@@ -31,13 +31,18 @@ IsSized _ = Unit {0}
 abbrev pub AreSized : List Directive → Type 0
 AreSized ds = AllByRecursion IsSized ds
 
--- a conversion of a text has the kind of texts
+-- the kinds of floats
+abbrev pub IsFloatKind : Kind → Type 0
+IsFloatKind kind = (kind ≡ kinds.F32) ⊎ (kind ≡ kinds.F64)
+
+-- a conversion of a text has the kind of texts, one of a float a kind of floats
 abbrev pub HasItsKind : Shape → Kind → Type 0
 HasItsKind (Int base) kind = Unit {0}
 HasItsKind Count kind = Unit {0}
 HasItsKind Text kind = kind ≡ kinds.Text
 HasItsKind (Set members) kind = kind ≡ kinds.Text
 HasItsKind Chars kind = kind ≡ kinds.Text
+HasItsKind Float kind = IsFloatKind kind
 
 abbrev pub IsKinded : Directive → Type 0
 IsKinded (Conv c) = HasItsKind c.shape c.kind
@@ -77,6 +82,30 @@ slots_of ds = map (λ d. d.0) (destinations_of ds)
 -- the destinations have the slots from 1 to their count in order
 abbrev pub AreInOrder : List Directive → Type 0
 AreInOrder ds = slots_of ds ≡ slots_from 1 (length (destinations_of ds))
+
+-- ---- what may be missing
+
+abbrev pub has_slot : ℕ → Option ℕ → Bool
+has_slot slot None = false
+has_slot slot (Some n) = nat_eq n slot
+
+-- a conversion with a ?
+abbrev pub is_optional : Directive → Bool
+is_optional (Conv c) = c.optional
+is_optional _ = false
+
+-- one that assigns the slot
+abbrev pub is_optional_for : ℕ → Directive → Bool
+is_optional_for slot (Conv c) = c.optional && has_slot slot c.slot
+is_optional_for slot _ = false
+
+-- some conversion has a ?
+abbrev pub has_optional : List Directive → Bool
+has_optional ds = list_any is_optional ds
+
+-- the slot may be left without a value
+abbrev pub may_miss : ℕ → List Directive → Bool
+may_miss slot ds = list_any (is_optional_for slot) ds
 
 -- ---- what each accepted format has
 

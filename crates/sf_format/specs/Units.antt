@@ -39,12 +39,18 @@ abbrev pub is_double : Kind → Bool
 is_double kind.F64 = true
 is_double _ = false
 
+abbrev pub is_float : Kind → Bool
+is_float kind.F32 = true
+is_float kind.F64 = true
+is_float _ = false
+
 -- such values have the kind
 abbrev pub holds_kind : Values → Kind → Bool
 holds_kind values.Signed = is_signed
 holds_kind values.Unsigned = is_unsigned
 holds_kind values.Text = is_text
 holds_kind values.Double = is_double
+holds_kind values.Float = is_float
 
 -- the letter prints values of the kind
 abbrev pub prints_kind : PrintLetter → Kind → Bool

@@ -8,7 +8,7 @@ pub enum Profile {
     One,
     /// Those, the letter `b` of unsigned binary numbers, and `0b` under `i`.
     Two,
-    /// Those; print formats have the letters of floats beside, `f F e E g G a A`. Scan formats have none of them yet.
+    /// Those, and the letters of floats, `a A e E f F g G`. Scan formats also have `?`, for what may be missing.
     Three,
 }
 
@@ -33,6 +33,8 @@ pub enum Shape {
     Text,
     Set(ByteSet),
     Chars,
+    /// A float, as text: `1.5`, `1e-3`, `0x1p4`, `inf` or `nan`. Of profile 3.
+    Float,
     /// The number of bytes consumed so far; takes none.
     Count,
 }
@@ -44,6 +46,8 @@ pub struct Conversion {
     pub kind: Kind,
     pub width: Option<u16>,
     pub slot: Option<u8>,
+    /// Whether it has a `?`: where its item is missing it passes, and its slot has no value. Of profile 3.
+    pub optional: bool,
 }
 
 /// A directive of a scan format (C11 7.21.6.2p3).

@@ -16,13 +16,13 @@ pub enum FormatWhy {
     UnknownLetter,
     /// F5: a letter, a length or a mark that C or POSIX has and formats here do not.
     LeftOut,
-    /// F6: a length other than `l` with `c`, `s` or `[`.
+    /// F6: a length other than `l` with `c`, `s`, `[` or the letter of a float.
     BadLength,
     /// F7: the scanlist does not close.
     OpenSet,
     /// F8: a range of a scanlist whose low end is above its high end.
     BackwardRange,
-    /// F9: `n` with `*` or a width.
+    /// F9: `n` with `*`, `?` or a width.
     BadCount,
     /// F10: a destination or value with a number and one without.
     MixedNumbering,

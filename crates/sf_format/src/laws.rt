@@ -60,8 +60,8 @@ pub fn profiles()
     ensures print_one { OnePrintsTwo }
 {}
 
-/// Profile 3 spells the scan formats of profile 2 and no others yet. It spells the print formats of profile 2, and of
-/// those without a float no others.
+/// Profile 3 spells the scan formats of profile 2, and of those without a float and without a `?` no others. It spells
+/// the print formats of profile 2, and of those without a float no others.
 pub fn profile_three()
     ensures scan_three { ThreeSpellsTwo }
     ensures scan_two { TwoSpellsThree }

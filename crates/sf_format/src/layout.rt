@@ -57,7 +57,7 @@ fn way_of(shape: &Shape, is_numeric: bool) -> Way
         Shape::Text => Way::Text,
         Shape::Set(_) => Way::Members,
         Shape::Chars => Way::Characters,
-        Shape::Int(_) | Shape::Count => Way::Another,
+        Shape::Int(_) | Shape::Float | Shape::Count => Way::Another,
     }
 }
 

@@ -1,6 +1,6 @@
 //! Letters and lengths of conversion specifications.
 ghost use Rattle.std.specs.Prelude.{◌≡◌};
-ghost use Rattle.sf_format.specs.Letters.{letter_of, stored_values, sized_kind};
+ghost use Rattle.sf_format.specs.Letters.{has_doubles, letter_of, stored_values, sized_kind};
 ghost use Rattle.sf_format.specs.Faults.{is_left_out};
 ghost use Rattle.sf_format.specs.Rules.{takes_text, takes_double, has_length, is_l};
 
@@ -16,6 +16,7 @@ pub enum Letter {
     Text,
     Set,
     Count,
+    Float,
 }
 
 /// What a letter stores or prints: numbers with a sign, numbers without one, or texts.
@@ -24,8 +25,10 @@ pub enum Values {
     Signed,
     Unsigned,
     Text,
-    /// Floats of binary64.
+    /// Floats of binary64, which a print format prints.
     Double,
+    /// Floats of binary32, or of binary64 with an `l`, which a scan format stores.
+    Float,
 }
 
 /// The length between the width and the letter.
@@ -62,15 +65,26 @@ pub fn letter_of(profile: Profile, b: u8) -> Option<Letter>
             Profile::One => None,
             Profile::Two | Profile::Three => Some(Letter::Unsigned(Base::Bin)),
         },
+        _ if has_doubles(profile) && of_double(b) => Some(Letter::Float),
         _ => None,
     }
 }
 
-/// Whether the byte is a letter or a length that C or POSIX has and scan formats here do not.
-pub fn left_out(b: u8) -> bool
-    ensures { result ≡ is_left_out b }
+/// Whether the profile has the letters of floats, and `?` in its scan formats.
+pub fn has_doubles(profile: Profile) -> bool
+    ensures { result ≡ has_doubles profile }
 {
-    b"mLaAeEfFgGpCS".contains(&b)
+    match profile {
+        Profile::One | Profile::Two => false,
+        Profile::Three => true,
+    }
+}
+
+/// Whether the byte is a letter or a length that C or POSIX has and scan formats of the profile do not.
+pub fn left_out(profile: Profile, b: u8) -> bool
+    ensures { result ≡ is_left_out profile b }
+{
+    b"mLpCS".contains(&b) || (of_double(b) && !has_doubles(profile))
 }
 
 /// Whether the letter is one of those of floats.
@@ -121,6 +135,9 @@ impl Values {
             (Values::Text, _) => None,
             (Values::Double, Length::NoLength | Length::L) => Some(Kind::F64),
             (Values::Double, _) => None,
+            (Values::Float, Length::NoLength) => Some(Kind::F32),
+            (Values::Float, Length::L) => Some(Kind::F64),
+            (Values::Float, _) => None,
         }
     }
 }
@@ -134,6 +151,7 @@ impl Letter {
             Letter::Signed(_) | Letter::Count => Values::Signed,
             Letter::Unsigned(_) => Values::Unsigned,
             Letter::Text | Letter::Set | Letter::Chars => Values::Text,
+            Letter::Float => Values::Float,
         }
     }
 }

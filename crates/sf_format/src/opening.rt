@@ -13,6 +13,7 @@ use crate::letter::Length;
 pub struct Written<'a> {
     pub number: &'a [u8],
     pub star: bool,
+    pub optional: bool,
     pub flags: &'a [u8],
     pub width: &'a [u8],
     /// Whether there is a precision.

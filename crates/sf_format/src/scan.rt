@@ -2,7 +2,7 @@
 ghost use Rattle.std.specs.Prelude.{◌≡◌, ◌≤◌, ◌↔◌, IsSome, length, map, IfOk, IfErr, IfSome};
 ghost use Rattle.sf_format.specs.Layout.{items_assigned, items_taken, row_of};
 ghost use Rattle.sf_format.specs.Slots.{AreSlots};
-ghost use Rattle.sf_format.specs.Proper.{AreKinded, AreProper, AreSized, IsAccepted, destinations_of, kind_at};
+ghost use Rattle.sf_format.specs.Proper.{AreKinded, AreProper, AreSized, IsAccepted, destinations_of, has_optional, is_optional, is_optional_for, kind_at, may_miss};
 ghost use Rattle.sf_format.specs.Widths.{width_sum, stored_width};
 ghost use Rattle.sf_format.specs.Grammar.{Spells};
 ghost use Rattle.sf_format.specs.Faults.{Fault, IsRefused, TellsFault, TakesSpelled};
@@ -30,13 +30,14 @@ pub struct ScanFormat {
     widths: Option<u32>,
     assigned: u8,
     converted: u16,
+    optional: bool,
 }
 
 impl Model for ScanFormat {
     ghost use Rattle.std.specs.Prelude.{◌≡◌, List, length, map};
     ghost use Rattle.sf_format.specs.declared.directive.Directive.{Directive};
     ghost use Rattle.sf_format.specs.Layout.{items_assigned, items_taken, row_of};
-    ghost use Rattle.sf_format.specs.Proper.{IsAccepted, destinations_of};
+    ghost use Rattle.sf_format.specs.Proper.{IsAccepted, destinations_of, has_optional};
     ghost use Rattle.sf_format.specs.Widths.{width_sum};
 
     ghost Value = { List Directive };
@@ -50,6 +51,7 @@ impl Model for ScanFormat {
       laid : f.rows.items ≡ map row_of f.directives.items;
       assigned : f.assigned ≡ items_assigned f.directives.items;
       converted : f.converted ≡ items_taken f.directives.items;
+      optional : f.optional ≡ has_optional f.directives.items;
     } };
 }
 
@@ -68,6 +70,50 @@ fn find_kind(directives: &[Directive], slot: u8) -> Option<Kind>
     None
 }
 
+/// Whether the directive is a conversion with a `?`.
+fn is_optional(directive: &Directive) -> bool
+    ensures { result ≡ is_optional directive.now }
+{
+    match directive {
+        Directive::Conv(conversion) => conversion.optional,
+        _ => false,
+    }
+}
+
+/// Whether some conversion has a `?`.
+fn has_optional(directives: &[Directive]) -> bool
+    ensures { result ≡ has_optional directives.now }
+{
+    for directive in directives {
+        if is_optional(directive) {
+            return true;
+        }
+    }
+    false
+}
+
+/// Whether the directive assigns the slot and has a `?`.
+fn is_optional_for(directive: &Directive, slot: u8) -> bool
+    ensures { result ≡ is_optional_for slot directive.now }
+{
+    match directive {
+        Directive::Conv(conversion) => conversion.optional && conversion.slot == Some(slot),
+        _ => false,
+    }
+}
+
+/// Whether the slot may be left without a value.
+fn may_miss(directives: &[Directive], slot: u8) -> bool
+    ensures { result ≡ may_miss slot directives.now }
+{
+    for directive in directives {
+        if is_optional_for(directive, slot) {
+            return true;
+        }
+    }
+    false
+}
+
 /// The bytes that the directive stores at most; a suppressed conversion stores none.
 fn stored_width(directive: &Directive) -> Option<u32>
     ensures value { result ≡ stored_width directive.now }
@@ -81,7 +127,9 @@ fn stored_width(directive: &Directive) -> Option<u32>
     }
     match &conversion.shape {
         Shape::Int(_) | Shape::Count => Some(0),
-        Shape::Text | Shape::Set(_) | Shape::Chars => conversion.width.map(|w| w as u32),
+        Shape::Text | Shape::Set(_) | Shape::Chars | Shape::Float => {
+            conversion.width.map(|w| w as u32)
+        }
     }
 }
 
@@ -110,6 +158,7 @@ impl ScanFormat {
         let widths = sum_of_widths(&directives);
         let assigned = items_assigned(&directives);
         let converted = items_taken(&directives);
+        let optional = has_optional(&directives);
         Ok(ScanFormat {
             directives,
             rows,
@@ -117,6 +166,7 @@ impl ScanFormat {
             widths,
             assigned,
             converted,
+            optional,
         })
     }
 
@@ -141,14 +191,14 @@ impl ScanFormat {
         &self.rows
     }
 
-    /// How many input items a run assigns that is Done (C11 7.21.6.2p16).
+    /// How many input items a run assigns that is Done and misses none (C11 7.21.6.2p16).
     pub fn assigned(&self) -> u8
         ensures { result ≡ items_assigned self.now }
     {
         self.assigned
     }
 
-    /// How many input items a run takes that is Done, suppressed ones among them.
+    /// How many input items a run takes that is Done and misses none, suppressed ones among them.
     pub fn converted(&self) -> u16
         ensures { result ≡ items_taken self.now }
     {
@@ -176,7 +226,21 @@ impl ScanFormat {
         find_kind(self.directives(), slot)
     }
 
-    /// The sum of the widths of the assigned `c`, `s` and `[`. None if one of them has no width.
+    /// Whether some conversion has a `?`, so that its item may be missing.
+    pub fn has_optional(&self) -> bool
+        ensures { result ≡ has_optional self.now }
+    {
+        self.optional
+    }
+
+    /// Whether the destination with the slot has a `?`: a run may leave it without a value.
+    pub fn may_miss(&self, slot: u8) -> bool
+        ensures { result ≡ may_miss slot self.now }
+    {
+        may_miss(self.directives(), slot)
+    }
+
+    /// The sum of the widths of the assigned `c`, `s`, `[` and floats. None if one of them has no width.
     pub fn width_sum(&self) -> Option<u32>
         ensures { result ≡ width_sum self.now }
     {

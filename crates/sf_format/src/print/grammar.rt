@@ -48,6 +48,7 @@ impl Grammar for PrintGrammar {
         let written = Written {
             number,
             star: false,
+            optional: false,
             flags,
             width,
             point,

@@ -5,7 +5,7 @@ ghost use Rattle.sf_base.specs.Bytes.{magnitude};
 ghost use Rattle.std.specs.Option.{option_map};
 ghost use Rattle.sf_format.specs.Digits.{is_decimal};
 ghost use Rattle.sf_format.specs.Slots.{slot_of};
-ghost use Rattle.sf_format.specs.PrintLetters.{print_row, print_letter_of, print_kind_of, letter_among, float_letters, has_doubles};
+ghost use Rattle.sf_format.specs.PrintLetters.{print_row, print_letter_of, print_kind_of, letter_among, float_letters};
 ghost use Rattle.sf_format.specs.PrintGrammar.{IsPrintConv};
 ghost use Rattle.sf_format.specs.Rules.{first_of};
 ghost use Rattle.sf_format.specs.PrintRules.{is_print_left_out, print_letter_rules, flag_rules, foreign_flag, precision_number};
@@ -13,7 +13,7 @@ ghost use Rattle.sf_format.specs.Passing.{opening_of, fault_in, Converts};
 
 use crate::directive::Profile;
 use crate::fault::{FormatFault, FormatWhy};
-use crate::letter::{Values, of_double, of_text};
+use crate::letter::{Values, has_doubles, of_double, of_text};
 use crate::opening::{Written, capped};
 use crate::rule_table::{fault_by, rule};
 use crate::unit::{FloatStyle, PrintConv, PrintLetter};
@@ -58,16 +58,6 @@ fn float_letter_of(b: u8) -> Option<PrintLetter>
         _ => return None,
     };
     Some(PrintLetter::Float(style, upper))
-}
-
-/// Whether the profile has the letters of floats.
-fn has_doubles(profile: Profile) -> bool
-    ensures { result ≡ has_doubles profile }
-{
-    match profile {
-        Profile::One | Profile::Two => false,
-        Profile::Three => true,
-    }
 }
 
 /// Whether the byte is a letter, a length or a mark that C or POSIX has and print formats here do not.

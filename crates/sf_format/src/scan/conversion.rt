@@ -12,7 +12,7 @@ ghost use Rattle.sf_format.specs.Passing.{opening_of, fault_in, Converts, ListsB
 
 use crate::directive::{Conversion, Directive, Profile, Shape};
 use crate::fault::{FormatFault, FormatWhy};
-use crate::letter::{Letter, left_out, letter_of, of_text};
+use crate::letter::{Letter, left_out, letter_of, of_double, of_text};
 use crate::opening::{Written, capped};
 use crate::rule_table::{fault_by, rule};
 use crate::scan::scanlist::{Listed, members_set, scanlist};
@@ -25,13 +25,18 @@ fn letter_fault(profile: Profile, written: &Written, letter: u8, at: u16) -> Opt
     let is_known = letter_of(profile, letter).is_some();
     let is_text = of_text(letter);
     let has_length = written.size.is_written();
-    let is_bounded = written.star || !written.width.is_empty();
+    let is_bounded = written.star || !written.width.is_empty() || written.optional;
+    let is_misfit = of_double(letter) && has_length && !written.size.is_l();
     fault_by(&[
         rule(FormatWhy::Nul, at, letter == 0),
-        rule(FormatWhy::LeftOut, at, left_out(letter)),
+        rule(FormatWhy::LeftOut, at, left_out(profile, letter)),
         rule(FormatWhy::UnknownLetter, at, !is_known),
         rule(FormatWhy::LeftOut, at, is_text && written.size.is_l()),
-        rule(FormatWhy::BadLength, at, is_text && has_length),
+        rule(
+            FormatWhy::BadLength,
+            at,
+            (is_text && has_length) || is_misfit,
+        ),
         rule(FormatWhy::BadCount, at, letter == b'n' && is_bounded),
     ])
 }
@@ -86,6 +91,7 @@ fn shape(letter: Letter, list: &Listed) -> Shape
         Letter::Chars => Shape::Chars,
         Letter::Text => Shape::Text,
         Letter::Count => Shape::Count,
+        Letter::Float => Shape::Float,
     }
 }
 
@@ -116,7 +122,8 @@ pub fn conversion(
     requires digits { AllByRecursion (λ b. is_decimal b ≡ true) written.now.width.now }
     requires bound { magnitude 10 written.now.width.now ≤ 65535 }
     requires forward { is_set letter ≡ true → backward_range 0 list.now.members.now ≡ None }
-    ensures { MatchOption result (wanted ≡ false) (λ d. IsMade letter kind written.now.width.now slot list.now d) }
+    ensures { MatchOption result (wanted ≡ false) (λ d. IsMade letter kind written.now.width.now slot
+        written.now.optional list.now d) }
 {
     if !wanted {
         return None;
@@ -126,5 +133,6 @@ pub fn conversion(
         kind,
         width: width_of(letter, written.width),
         slot,
+        optional: written.optional,
     }))
 }

@@ -1,6 +1,7 @@
 //! The parts of a scan format.
 ghost use Rattle.std.specs.Prelude.{◌≡◌, ◌&&◌};
 ghost use Rattle.sf_format.specs.Lists.{is_written};
+ghost use Rattle.sf_format.specs.Cut.{optional_at};
 ghost use Rattle.sf_format.specs.Language.{Scan};
 ghost use Rattle.sf_format.specs.Grammar.{Means};
 
@@ -8,6 +9,7 @@ use crate::directive::{Directive, Profile};
 use crate::fault::{FormatFault, FormatWhy};
 use crate::fronts::{Class, mark, number, size, split_front};
 use crate::grammar::{Grammar, Literal, Passed};
+use crate::letter::has_doubles;
 use crate::opening::{Written, capped, is_no_slot, is_zero, number_len};
 use crate::rule_table::{fault_by, rule};
 use crate::scan::conversion::{conversion, converted, list_behind};
@@ -18,6 +20,17 @@ use sf_base::is_space;
 #[derive(Clone, Copy)]
 pub struct ScanGrammar {
     pub profile: Profile,
+}
+
+/// Whether a `?` stands in front that the profile has, and what follows it.
+fn optional_mark(profile: Profile, text: &[u8]) -> (bool, &[u8])
+    ensures { (result.0, result.1.now) ≡ optional_at profile text.now }
+{
+    if has_doubles(profile) {
+        mark(b'?', text)
+    } else {
+        (false, text)
+    }
 }
 
 impl Written<'_> {
@@ -55,11 +68,13 @@ impl Grammar for ScanGrammar {
         let none = &text[..0];
         let (number, text) = number(text);
         let (star, text) = mark(b'*', text);
+        let (optional, text) = optional_mark(self.profile, text);
         let (width, text) = split_front(text, Class::Digit);
         let (size, text) = size(text);
         let written = Written {
             number,
             star,
+            optional,
             flags: none,
             width,
             point: false,
@@ -71,7 +86,7 @@ impl Grammar for ScanGrammar {
 
     fn opening_fault(self, at: u16, written: &Written) -> Option<FormatFault> {
         let star_at = at + 1 + number_len(written.number);
-        let width_at = star_at + written.star as u16;
+        let width_at = star_at + written.star as u16 + written.optional as u16;
         let width = capped(written.width);
         fault_by(&[
             rule(FormatWhy::BadNumber, at + 1, is_no_slot(written.number)),

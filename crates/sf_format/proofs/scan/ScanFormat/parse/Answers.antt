@@ -2,6 +2,7 @@ use Rattle.std.proofs.Common.{sym, ◌∙◌, ap, map}
 use Rattle.std.proofs.lemmas.Result.{err_from_is_err_and}
 use Rattle.sf_format.specs.Layout.{items_assigned, items_taken, row_of}
 use Rattle.sf_format.specs.Widths.{width_sum}
+use Rattle.sf_format.specs.Proper.{has_optional}
 use Rattle.sf_format.proofs.Meanings.{scan_meaning, scan_slots}
 use Rattle.sf_format.proofs.Accepted.{proper}
 use Rattle.sf_format.proofs.PartSlots.{slots_count}
@@ -35,6 +36,7 @@ invariant_of-result c =
       laid = c.in_ok-rows.ensures ∙ ap (map row_of) c.deref.ensures.value;
       assigned = c.items_assigned-assigned.ensures ∙ ap items_assigned c.deref-3.ensures.value;
       converted = c.items_taken-converted.ensures ∙ ap items_taken c.deref-4.ensures.value;
+      optional = c.has_optional-optional.ensures ∙ ap has_optional c.deref-5.ensures.value;
     }
 
 pub returns-clause-fault : goal.returns-clause-fault
