@@ -1,8 +1,8 @@
 //! How far a floating-point number has been read.
-ghost use Rattle.std.specs.Prelude.{◌≡◌, ◌↔◌, ◌⊎◌, ℕ, ◌||◌, ◌==◌, IsTrue, List, [], ◌∷◌, true, IfSome};
-ghost use Rattle.std.specs.Char.{to_ascii_lowercase};
-ghost use Rattle.sf_float_item.specs.Sequences.{is_digit, opens_exponent, is_sign, IsDecimal, AllDecimal, IsSignedDecimal, IsExponentPart, IsFraction, IsSomeFraction, IsWhole, IsNumber, IsPayload, IsZeroTail, IsUnsigned};
+ghost use Rattle.std.specs.Prelude.{◌≡◌, ◌↔◌, ◌<◌, ℕ, IsTrue, List, [], ◌∷◌, None};
+ghost use Rattle.sf_float_item.specs.Sequences.{is_digit, opens_exponent, is_sign};
 ghost use Rattle.sf_float_item.specs.Steps.{Completes, Goes};
+ghost use Rattle.sf_float_item.specs.Tests.{after_exponent, after_letter, letter_of_exponent, after_point, after_fraction, after_digits, first_of_number, after_zero, first, in_parentheses, letter, next, is_whole};
 
 /// In which radix the digits of the number are.
 #[derive(Clone, Copy, Debug, PartialEq, Eq)]
@@ -75,8 +75,7 @@ fn sign(b: u8) -> bool
 }
 
 fn after_exponent(b: u8) -> Option<Reached>
-    ensures more { Goes (λ t. AllDecimal (b ∷ t)) result }
-    ensures first { Goes (λ t. IsDecimal (b ∷ t)) result }
+    ensures { result ≡ after_exponent b }
 {
     if b.is_ascii_digit() {
         Some(Reached::Exponent)
@@ -86,7 +85,7 @@ fn after_exponent(b: u8) -> Option<Reached>
 }
 
 fn after_letter(b: u8) -> Option<Reached>
-    ensures { Goes (λ t. IsSignedDecimal (b ∷ t)) result }
+    ensures { result ≡ after_letter b }
 {
     if sign(b) {
         return Some(Reached::LetterSign);
@@ -95,7 +94,7 @@ fn after_letter(b: u8) -> Option<Reached>
 }
 
 fn letter_of_exponent(radix: Radix, b: u8) -> Option<Reached>
-    ensures { Goes (λ t. IsExponentPart radix (b ∷ t)) result }
+    ensures { result ≡ letter_of_exponent radix b }
 {
     if opens(radix, b) {
         Some(Reached::Letter)
@@ -105,7 +104,7 @@ fn letter_of_exponent(radix: Radix, b: u8) -> Option<Reached>
 }
 
 fn after_point(radix: Radix, b: u8) -> Option<Reached>
-    ensures { Goes (λ t. IsSomeFraction radix (b ∷ t)) result }
+    ensures { result ≡ after_point radix b }
 {
     if digit(radix, b) {
         Some(Reached::Fraction(radix))
@@ -115,7 +114,7 @@ fn after_point(radix: Radix, b: u8) -> Option<Reached>
 }
 
 fn after_fraction(radix: Radix, b: u8) -> Option<Reached>
-    ensures { Goes (λ t. IsFraction radix (b ∷ t)) result }
+    ensures { result ≡ after_fraction radix b }
 {
     if digit(radix, b) {
         return Some(Reached::Fraction(radix));
@@ -124,7 +123,7 @@ fn after_fraction(radix: Radix, b: u8) -> Option<Reached>
 }
 
 fn after_digits(radix: Radix, b: u8) -> Option<Reached>
-    ensures { Goes (λ t. IsWhole radix (b ∷ t)) result }
+    ensures { result ≡ after_digits radix b }
 {
     if digit(radix, b) {
         return Some(Reached::Whole(radix));
@@ -136,7 +135,7 @@ fn after_digits(radix: Radix, b: u8) -> Option<Reached>
 }
 
 fn first_of_number(radix: Radix, b: u8) -> Option<Reached>
-    ensures { Goes (λ t. IsNumber radix (b ∷ t)) result }
+    ensures { result ≡ first_of_number radix b }
 {
     if digit(radix, b) {
         return Some(Reached::Whole(radix));
@@ -148,7 +147,7 @@ fn first_of_number(radix: Radix, b: u8) -> Option<Reached>
 }
 
 fn after_zero(b: u8) -> Option<Reached>
-    ensures { Goes (λ t. IsZeroTail (b ∷ t)) result }
+    ensures { result ≡ after_zero b }
 {
     if b == b'x' || b == b'X' {
         return Some(Reached::Prefix);
@@ -157,7 +156,7 @@ fn after_zero(b: u8) -> Option<Reached>
 }
 
 fn first(b: u8) -> Option<Reached>
-    ensures { Goes (λ t. IsUnsigned (b ∷ t)) result }
+    ensures { result ≡ first b }
 {
     match b {
         b'0' => Some(Reached::Zero),
@@ -168,7 +167,7 @@ fn first(b: u8) -> Option<Reached>
 }
 
 fn in_parentheses(b: u8) -> Option<Reached>
-    ensures { Goes (λ t. IsPayload (b ∷ t)) result }
+    ensures { result ≡ in_parentheses b }
 {
     if b == b')' {
         return Some(Reached::Closed);
@@ -180,20 +179,20 @@ fn in_parentheses(b: u8) -> Option<Reached>
 }
 
 /// The next place in a word.
-fn letter(b: u8, letter: u8, next: Reached) -> Option<Reached>
-    ensures { Goes (λ t. (to_ascii_lowercase b ≡ letter) × Completes next t) result }
+fn letter(b: u8, lower: u8, place: Reached) -> Option<Reached>
+    ensures { result ≡ letter b lower place }
 {
-    if b.to_ascii_lowercase() == letter {
-        Some(next)
+    if b.to_ascii_lowercase() == lower {
+        Some(place)
     } else {
         None
     }
 }
 
 impl Reached {
-    /// How far it has been read with one byte more; none where that begins no matching sequence.
-    pub fn then(self, b: u8) -> Option<Reached>
-        ensures { Goes (λ t. Completes self (b ∷ t)) result }
+    /// The place after one byte more, by the table.
+    fn place_after(self, b: u8) -> Option<Reached>
+        ensures { result ≡ next self b }
     {
         match self {
             Reached::Start if sign(b) => Some(Reached::Signed),
@@ -220,13 +219,32 @@ impl Reached {
         }
     }
 
+    /// How far it has been read with one byte more; none where that begins no matching sequence.
+    pub fn then(self, b: u8) -> Option<Reached>
+        ensures goes { Goes (λ t. Completes self (b ∷ t)) result }
+        ensures next { result ≡ next self b }
+    {
+        self.place_after(b)
+    }
+
     /// Whether what was read is a matching sequence.
     pub fn is_match(self) -> bool
-        ensures { IsTrue result ↔ Completes self [] }
+        ensures matches { IsTrue result ↔ Completes self [] }
+        ensures whole { result ≡ is_whole self }
     {
         match self {
             Reached::Zero | Reached::Whole(_) | Reached::Fraction(_) | Reached::Exponent => true,
             Reached::Inf | Reached::Infinity | Reached::Nan | Reached::Closed => true,
+            _ => false,
+        }
+    }
+
+    /// Whether no byte is taken after it: after `infinity`, and after `nan` with parentheses.
+    pub fn is_closed(self) -> bool
+        ensures { IsTrue result ↔ ((b : ℕ) → b < 256 → next self b ≡ None) }
+    {
+        match self {
+            Reached::Infinity | Reached::Closed => true,
             _ => false,
         }
     }

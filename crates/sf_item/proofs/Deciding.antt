@@ -8,9 +8,12 @@ use Rattle.sf_base.specs.Bytes.{AreBytes, is_white}
 use Rattle.sf_base.specs.Sets.{has_byte}
 use Rattle.sf_format.specs.declared.directive.Base.{Base}
 use Rattle.sf_format.specs.declared.directive.Shape.{Shape}
-use Rattle.sf_format.specs.declared.directive.Shape.TheVariants.{Int, Text, Set, Chars, Count}
+use Rattle.sf_format.specs.declared.directive.Shape.TheVariants.{Int, Text, Set, Chars, Float, Count}
 use Rattle.sf_format.specs.declared.directive.Conversion.{Conversion}
 use Rattle.sf_format.specs.Proper.{IsProperShape}
+use Rattle.sf_float_item.specs.Steps.{AllBytes}
+use Rattle.sf_float_item.specs.Tests.{begins_float}
+use Rattle.sf_float_item.proofs.Deciding.{float_decided, begins_decided}
 use Rattle.sf_item.specs.Matching.{IsInteger, ShapeMatches, Matches}
 use Rattle.sf_item.specs.Progress.{Progress, Start, IsAfter, advance}
 use Rattle.sf_item.specs.Taking.{CanTake}
@@ -140,6 +143,7 @@ tests_shape (Set members) width s =
     tests_both (tests_less 0 (length s)) (tests_all (λ b. has_byte members b ≡ true) (has_byte members)
     (λ b. tests_itself (has_byte members b)) s)
 tests_shape Chars width s = tests_same (length s) (unwrap_or width 1)
+tests_shape Float width s = record { from = (float_decided s).0; to = (float_decided s).1 }
 tests_shape Count width s = record { from = λ e. absurd (true≢false (sym e)); to = λ h. absurd h }
 
 pub tests_matches : (c : Conversion) (s : List ℕ) → Tests (matches c s) (Matches c s)
@@ -199,6 +203,20 @@ count_begins f w = record {
   to = λ h. let long = length-append f h.0 in let whole = h.2 in (tests_most (length f) w).to (omega (arith, long, whole));
 }
 
+all_bytes : (t : List ℕ) → AreBytes t → AllBytes t
+all_bytes [] h = tt
+all_bytes (b ∷ t) h = (h.0, all_bytes t h.1)
+
+are_bytes : (t : List ℕ) → AllBytes t → AreBytes t
+are_bytes [] h = tt
+are_bytes (b ∷ t) h = (h.0, are_bytes t h.1)
+
+float_begins : (width : Option ℕ) (f : List ℕ) → Tests (begins_float f) (ShapeBegins Float width f)
+float_begins width f = record {
+  from = λ e. let rest = (begins_decided f).0 e in (rest.0, are_bytes rest.0 rest.1, rest.2);
+  to = λ h. (begins_decided f).1 (h.0, all_bytes h.0 h.1, h.2);
+}
+
 pub tests_begins : (shape : Shape) (width : Option ℕ) → IsProperShape shape → (f : List ℕ)
     → Tests (shape_begins shape width f) (ShapeBegins shape width f)
 tests_begins (Int base) width proper f = integer_begins base width f
@@ -206,6 +224,7 @@ tests_begins Text width proper f = each_begins (λ b. is_white b ≡ false) is_i
 tests_begins (Set members) width proper f =
     each_begins (λ b. has_byte members b ≡ true) (has_byte members) proper.0 proper.1 proper.2 (λ b. tests_itself (has_byte members b)) f
 tests_begins Chars width proper f = count_begins f (unwrap_or width 1)
+tests_begins Float width proper f = float_begins width f
 tests_begins Count width proper f = record { from = λ e. absurd (true≢false (sym e)); to = λ h. absurd h.2 }
 
 tests_within : (width : Option ℕ) (n : ℕ) → Tests (is_within width n) (IfSome width (λ w. n ≤ w))
@@ -229,6 +248,7 @@ some_begins (Set members) width f b =
       to = λ h. all.to (all_front (λ x. has_byte members x ≡ true) g h.0 h.2.1);
     }
 some_begins Chars width f b = tests_begins Chars width tt (f ++ b ∷ [])
+some_begins Float width f b = float_begins width (f ++ b ∷ [])
 some_begins Count width f b = tests_begins Count width tt (f ++ b ∷ [])
 
 pub tests_can_take_more : (c : Conversion) (f : List ℕ) (b : ℕ) → Tests (can_take c (f ++ b ∷ [])) (CanTake c (f ++ b ∷ []))

@@ -7,8 +7,11 @@ use Rattle.std.specs.List.{list_all}
 use Rattle.sf_base.specs.Sets.{has_byte}
 use Rattle.sf_format.specs.declared.directive.Base.{Base}
 use Rattle.sf_format.specs.declared.directive.Shape.{Shape}
-use Rattle.sf_format.specs.declared.directive.Shape.TheVariants.{Int, Text, Set, Chars, Count}
+use Rattle.sf_format.specs.declared.directive.Shape.TheVariants.{Int, Text, Set, Chars, Float, Count}
 use Rattle.sf_format.specs.declared.directive.Conversion.{Conversion}
+use Rattle.sf_float_item.specs.declared.reached.Reached as place
+use Rattle.sf_float_item.specs.declared.reached.Reached.TheVariants as places
+use Rattle.sf_float_item.specs.Tests as floats
 use Rattle.sf_item.specs.Radices.{zero_radix}
 use Rattle.sf_item.specs.Progress.{Progress, Start, Signed, Zero, Prefix, Digits, with_digit, advance}
 use Rattle.sf_item.specs.Taking.{IsInt}
@@ -41,6 +44,12 @@ read_front base None f b e = e
 read_front base (Some p) [] b e = refl
 read_front base (Some p) (x ∷ f) b e = read_front base (advance base p x) f b e
 
+float_front : (o : Option place.Reached) (f : List ℕ) (b : ℕ) → is_some (floats.read o (f ++ b ∷ [])) ≡ true
+    → is_some (floats.read o f) ≡ true
+float_front None f b e = e
+float_front (Some r) [] b e = refl
+float_front (Some r) (x ∷ f) b e = float_front (floats.next r x) f b e
+
 all_front : (p : ℕ → Bool) (f : List ℕ) (b : ℕ) → list_all p (f ++ b ∷ []) ≡ true → list_all p f ≡ true
 all_front p [] b e = refl
 all_front p (x ∷ f) b e =
@@ -59,6 +68,7 @@ shape_front (Int base) width f b e = read_front base (Some Start) f b e
 shape_front Text width f b e = all_front is_ink f b e
 shape_front (Set members) width f b e = all_front (has_byte members) f b e
 shape_front Chars width f b e = short_front f b (unwrap_or width 1) e
+shape_front Float width f b e = float_front (Some places.Start) f b e
 shape_front Count width f b e = e
 
 within_front : (width : Option ℕ) (f : List ℕ) (b : ℕ)
@@ -92,6 +102,7 @@ nothing_begins (Int base) width h = refl
 nothing_begins Text width h = refl
 nothing_begins (Set members) width h = refl
 nothing_begins Chars width h = nothing_fits (unwrap_or width 1)
+nothing_begins Float width h = refl
 nothing_begins Count width h = absurd h
 
 -- before the first byte
@@ -105,6 +116,7 @@ tests_item (Int base) = record { from = λ e. tt; to = λ h. refl }
 tests_item Text = record { from = λ e. tt; to = λ h. refl }
 tests_item (Set members) = record { from = λ e. tt; to = λ h. refl }
 tests_item Chars = record { from = λ e. tt; to = λ h. refl }
+tests_item Float = record { from = λ e. tt; to = λ h. refl }
 tests_item Count = record { from = λ e. absurd (true≢false (sym e)); to = λ h. absurd h }
 
 -- ---- one 0 more

@@ -5,7 +5,7 @@ use Rattle.std.proofs.lemmas.List.{length-take-le, take-append-le, take-take}
 use Rattle.std.proofs.lemmas.Bool.Decides.{nat_tests}
 use Rattle.sf_base.specs.Greatest.{IsGreatest}
 use Rattle.sf_format.specs.declared.directive.Shape.{Shape}
-use Rattle.sf_format.specs.declared.directive.Shape.TheVariants.{Int, Text, Set, Chars, Count}
+use Rattle.sf_format.specs.declared.directive.Shape.TheVariants.{Int, Text, Set, Chars, Float, Count}
 use Rattle.sf_format.specs.declared.directive.Conversion.{Conversion}
 use Rattle.sf_format.specs.Proper.{IsProperShape}
 use Rattle.sf_item.specs.Matching.{Begins, IsWithin, IsItem}
@@ -98,6 +98,7 @@ any_width (Int base) width other f counted h = h
 any_width Text width other f counted h = h
 any_width (Set members) width other f counted h = h
 any_width Chars width other f counted h = absurd (counted refl)
+any_width Float width other f counted h = h
 any_width Count width other f counted h = h
 
 module _ (c : Conversion) (proper : IsProperShape c.shape) (counted : c.shape ≢ Chars) (w : ℕ) (is : c.width ≡ Some w) (x : List ℕ) (k : ℕ)

@@ -7,8 +7,9 @@ use Rattle.sf_base.specs.Bytes.{AreBytes, is_white, magnitude}
 use Rattle.sf_base.specs.Sets.{has_byte}
 use Rattle.sf_format.specs.declared.directive.Base.{Base}
 use Rattle.sf_format.specs.declared.directive.Shape.{Shape}
-use Rattle.sf_format.specs.declared.directive.Shape.TheVariants.{Int, Text, Set, Chars, Count}
+use Rattle.sf_format.specs.declared.directive.Shape.TheVariants.{Int, Text, Set, Chars, Float, Count}
 use Rattle.sf_format.specs.declared.directive.Conversion.{Conversion}
+use Rattle.sf_float_item.specs.Sequences.{IsFloat}
 use Rattle.sf_item.specs.Radices.{first_radix, zero_radix, prefix_radix}
 
 -- one or more digits of the radix, and their number
@@ -51,6 +52,7 @@ ShapeMatches (Int base) width s = (negative : Bool) × (m : ℕ) × IsInteger ba
 ShapeMatches Text width s = (0 < length s) × AllByRecursion (λ b. is_white b ≡ false) s
 ShapeMatches (Set members) width s = (0 < length s) × AllByRecursion (λ b. has_byte members b ≡ true) s
 ShapeMatches Chars width s = length s ≡ unwrap_or width 1
+ShapeMatches Float width s = IsFloat s
 ShapeMatches Count width s = ⊥
 
 -- s is a matching sequence of the conversion

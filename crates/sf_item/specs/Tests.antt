@@ -6,8 +6,9 @@ pub use Rattle.sf_base.specs.Bytes.{is_ink}
 use Rattle.sf_base.specs.Sets.{has_byte}
 use Rattle.sf_format.specs.declared.directive.Base.{Base}
 use Rattle.sf_format.specs.declared.directive.Shape.{Shape}
-use Rattle.sf_format.specs.declared.directive.Shape.TheVariants.{Int, Text, Set, Chars, Count}
+use Rattle.sf_format.specs.declared.directive.Shape.TheVariants.{Int, Text, Set, Chars, Float, Count}
 use Rattle.sf_format.specs.declared.directive.Conversion.{Conversion}
+use Rattle.sf_float_item.specs.Tests.{is_float, begins_float}
 use Rattle.sf_item.specs.Progress.{Progress, Start, advance, integer_of}
 
 -- how far an integer is read with these bytes, where that can be
@@ -31,6 +32,7 @@ shape_matches (Int base) width s = is_some (integer_at base s)
 shape_matches Text width s = nat_lt 0 (length s) && list_all is_ink s
 shape_matches (Set members) width s = nat_lt 0 (length s) && list_all (has_byte members) s
 shape_matches Chars width s = nat_eq (length s) (unwrap_or width 1)
+shape_matches Float width s = is_float s
 shape_matches Count width s = false
 
 -- f is a matching sequence of the shape or a front of one
@@ -39,6 +41,7 @@ shape_begins (Int base) width f = is_some (read base (Some Start) f)
 shape_begins Text width f = list_all is_ink f
 shape_begins (Set members) width f = list_all (has_byte members) f
 shape_begins Chars width f = nat_le (length f) (unwrap_or width 1)
+shape_begins Float width f = begins_float f
 shape_begins Count width f = false
 
 -- n bytes are within the width, where there is one

@@ -1,14 +1,16 @@
 //! The input item of one conversion, byte by byte (C11 7.21.6.2p9).
-ghost use Rattle.std.specs.Prelude.{◌≡◌, ◌≢◌, ◌<◌, ◌≤◌, ◌+◌, ◌↔◌, true, ℕ, List, [], ◌∷◌, ◌++◌, length, take, IsTrue, Option, Some};
+ghost use Rattle.std.specs.Prelude.{◌≡◌, ◌≢◌, ◌<◌, ◌≤◌, ◌+◌, ◌↔◌, if◌then◌else◌, true, ℕ, List, [], ◌∷◌, ◌++◌, length, take, IsTrue, Option, Some};
 ghost use Rattle.sf_format.specs.Layout.{most_of};
 ghost use Rattle.sf_format.specs.Proper.{IsProperShape};
+ghost use Rattle.sf_float_item.specs.Tests.{is_whole};
 ghost use Rattle.sf_item.specs.Tests.{has_item};
 ghost use Rattle.sf_item.specs.Progress.{Progress, integer_of};
 ghost use Rattle.sf_item.specs.Scan.{Shows, most_bytes, HasLeft, FitsLeft, IsOneLess};
 ghost use Rattle.sf_item.specs.Taking.{HasTaken, CanTake, conversion_of, left_of, Ends, EndsAt};
 
 use crate::reached::Reached;
-use crate::reading::{Reading, read_all, read_on, reading_of};
+use crate::reading::{Reading, is_closed, read_all, read_on, reading_of};
+use sf_float_item::FloatScan;
 use sf_format::{Conversion, Shape};
 
 /// Whether the item goes on with a byte.
@@ -25,7 +27,7 @@ pub enum Step {
 pub enum ItemEnd {
     /// No byte was taken.
     Empty,
-    /// Some were, and they only begin a matching sequence, as a lone sign or `0x`.
+    /// Some were, and they only begin a matching sequence, as a lone sign, `0x` or the `1e` of a float.
     Unmatched,
     /// They are a matching sequence of a conversion that is of no integer.
     Matched,
@@ -144,6 +146,17 @@ fn end_of(reached: Reached) -> ItemEnd
     }
 }
 
+// What a float is that was read so far.
+fn end_of_float(scan: FloatScan) -> ItemEnd
+    ensures { result ≡ (if is_whole scan.reached then ItemEnd.Matched else ItemEnd.Unmatched) }
+{
+    if scan.is_match() {
+        ItemEnd::Matched
+    } else {
+        ItemEnd::Unmatched
+    }
+}
+
 impl<'c> ItemScan<'c> {
     /// The item of the conversion, of which no byte was taken yet. The number of bytes consumed has no item.
     pub fn start(conversion: &'c Conversion) -> ItemScan<'c>
@@ -221,7 +234,7 @@ impl<'c> ItemScan<'c> {
         ensures { (f : List ℕ) → HasTaken self.now f → IsProperShape (conversion_of self.now).shape
             → (IsTrue result ↔ ((b : ℕ) → b < 256 → CanTake (conversion_of self.now) (f ++ b ∷ []) → ⊥)) }
     {
-        is_used_up(self.left)
+        is_used_up(self.left) || is_closed(&self.reading)
     }
 
     /// What the bytes that were taken are. The item may go on after it.
@@ -236,6 +249,7 @@ impl<'c> ItemScan<'c> {
             Reading::Text | Reading::Set(_) => ItemEnd::Matched,
             Reading::Chars if is_used_up(self.left) => ItemEnd::Matched,
             Reading::Chars => ItemEnd::Unmatched,
+            Reading::Float(scan) => end_of_float(scan),
         }
     }
 }

@@ -1,14 +1,15 @@
 //! How an item is read, by the shape of its conversion.
-ghost use Rattle.std.specs.Prelude.{◌≡◌, ◌<◌, ◌≤◌, ◌+◌, true, false, if◌then◌else◌, ℕ, List, [], ◌∷◌, ◌++◌, length, take, Some, None};
+ghost use Rattle.std.specs.Prelude.{◌≡◌, ◌↔◌, ◌<◌, ◌≤◌, ◌+◌, true, false, IsTrue, if◌then◌else◌, ℕ, List, [], ◌∷◌, ◌++◌, length, take, Some, None};
 ghost use Rattle.sf_item.specs.Tests.{has_item};
-ghost use Rattle.sf_item.specs.Scan.{shape_of, HasRead, ReadsNext};
+ghost use Rattle.sf_item.specs.Scan.{shape_of, HasRead, ReadsNext, EndsReading};
 
 use crate::integer::{advance, integer_front};
 use crate::reached::Reached;
 use sf_base::{ByteSet, is_space, text_run};
+use sf_float_item::FloatScan;
 use sf_format::{Base, Shape};
 
-/// What an item is read as, and of an integer how far.
+/// What an item is read as, and of an integer or a float how far.
 #[derive(Clone, Copy)]
 pub enum Reading<'c> {
     /// An integer of the base.
@@ -19,6 +20,8 @@ pub enum Reading<'c> {
     Set(&'c ByteSet),
     /// As many bytes as the width is, whichever they are.
     Chars,
+    /// A float.
+    Float(FloatScan),
 }
 
 // How an item of the shape is read, of which no byte was taken yet.
@@ -32,6 +35,7 @@ pub fn reading_of(shape: &Shape) -> Reading<'_>
         Shape::Text => Reading::Text,
         Shape::Set(members) => Reading::Set(members),
         Shape::Chars => Reading::Chars,
+        Shape::Float => Reading::Float(FloatScan::start()),
         Shape::Count => unreachable!(),
     }
 }
@@ -47,6 +51,7 @@ pub fn read_on(reading: &mut Reading<'_>, b: u8) -> bool
         Reading::Text => !is_space(b),
         Reading::Set(members) => members.contains(b),
         Reading::Chars => true,
+        Reading::Float(scan) => scan.step(b),
     }
 }
 
@@ -64,5 +69,16 @@ pub fn read_all(reading: &mut Reading<'_>, piece: &[u8]) -> usize
         Reading::Text => text_run(piece),
         Reading::Set(members) => members.run(piece),
         Reading::Chars => piece.len(),
+        Reading::Float(scan) => scan.take_run(piece),
+    }
+}
+
+// Whether no byte could be read, whichever it is, however many the width leaves: after `infinity` and the like.
+pub fn is_closed(reading: &Reading<'_>) -> bool
+    ensures { IsTrue result ↔ EndsReading reading.now }
+{
+    match reading {
+        Reading::Float(scan) => scan.is_closed(),
+        _ => false,
     }
 }

@@ -18,4 +18,4 @@ returns c =
     let t = c.args.text.now in
     let e : c.loop-b.b-index ≡ length t = omega (arith, c.loop-b-test.false, c.loop-b.auto.b-index-end) in
     let whole : take c.loop-b.b-index t ≡ t = ap (λ k. take k t) e ∙ take-length t in
-    c.is_match.ensures t (subst (λ (s : List ℕ). HasRead c.loop-b.scan.reached s) whole c.loop-b.invariant)
+    c.is_match.ensures.matches t (subst (λ (s : List ℕ). HasRead c.loop-b.scan.reached s) whole c.loop-b.invariant)

@@ -3,6 +3,7 @@ use Rattle.sf_base.specs.Sets.{has_byte}
 use Rattle.sf_base.specs.Bytes.{is_ink}
 use Rattle.sf_item.specs.Scan.{HasRead}
 use Rattle.sf_item.proofs.Readings.{integer_read, integer_ends}
+use Rattle.sf_item.proofs.Scanning.{float_reads, float_stops}
 use Rattle.sf_item.proofs.Runs.{run_within, run_passes, run_stops}
 use Rattle.sf_item.proofs.reading.read_all.Goals as goal
 
@@ -45,3 +46,15 @@ pub returns-in-Set-clause-stops : goal.returns-in-Set-clause-stops
 returns-in-Set-clause-stops c = λ f h below.
     let read = subst (λ r. HasRead r f) c.in-Set.is h in
     rw c.in-Set.is (λ width. run_stops (has_byte c.in-Set.members.now) c.args.piece.now c.run.result c.run.ensures.count f read below)
+
+pub returns-in-Float-clause-read : goal.returns-in-Float-clause-read
+returns-in-Float-clause-read c = λ f h.
+    let read = subst (λ r. HasRead r f) c.in-Float.is h in
+    rw c.in-Float.is
+    (float_reads c.in-Float.scan f (take c.take_run.result c.args.piece.now) read c.take_run.new.self c.take_run.ensures.read)
+
+pub returns-in-Float-clause-stops : goal.returns-in-Float-clause-stops
+returns-in-Float-clause-stops c = λ f h below.
+    let read = subst (λ r. HasRead r f) c.in-Float.is h in
+    rw c.in-Float.is
+    (float_stops c.in-Float.scan f (take (c.take_run.result + 1) c.args.piece.now) read (c.take_run.ensures.stops below))
