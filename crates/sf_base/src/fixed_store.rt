@@ -118,6 +118,11 @@ impl<const CAP: usize, const SLOTS: usize> Store for FixedStore<CAP, SLOTS> {
         self.opened = None;
     }
 
+    fn opened(&self) -> &[u8] {
+        let bytes = self.bytes.as_slice();
+        &bytes[self.closed..]
+    }
+
     fn room(&self) -> usize {
         self.bytes.remaining_capacity()
     }

@@ -140,6 +140,11 @@ impl Store for HeapStore {
         self.opened = None;
     }
 
+    fn opened(&self) -> &[u8] {
+        let bytes = self.bytes.front(self.bytes.len());
+        &bytes[self.closed..]
+    }
+
     fn room(&self) -> usize {
         self.sure - self.bytes.len()
     }

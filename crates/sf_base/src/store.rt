@@ -2,7 +2,7 @@
 ghost use Rattle.std.specs.Prelude.{◌≡◌, ◌+◌, ◌<◌, ◌≤◌, ℕ, [], ◌∷◌, length, take, true, false, None, IsSome, OnOk, OnErr};
 ghost use Rattle.std.specs.Option.{option_map};
 ghost use Rattle.sf_base.specs.Data.{Real as RealOf, datum_of, datum_of_number, datum_of_shown, datum_at, is_number};
-ghost use Rattle.sf_base.specs.Kept.{Kept, is_opened, with_value, with_opened, with_bytes, with_closed, with_dropped, with_text};
+ghost use Rattle.sf_base.specs.Kept.{Kept, is_opened, with_value, with_opened, with_bytes, with_closed, with_dropped, with_text, text_of};
 
 use crate::{Number, Real, Shown, Value};
 use thiserror::Error;
@@ -60,6 +60,10 @@ pub trait Store: Drop {
     fn drop_text(&mut self)
         requires { IsSome (kept self.old).opened }
         ensures { kept self.new ≡ with_dropped (kept self.old) };
+
+    /// The bytes of the opened text so far; none where no text is opened.
+    fn opened(&self) -> &[u8]
+        ensures { result.now ≡ text_of (kept self.now).opened };
 
     /// How many bytes can be pushed for sure.
     fn room(&self) -> usize

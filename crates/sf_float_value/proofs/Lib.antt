@@ -8,3 +8,5 @@ pub mod HexRounding
 pub mod PatternLemmas
 pub mod Rounding
 pub mod RoundingCases
+pub mod StoredBits
+pub mod StoredComputed

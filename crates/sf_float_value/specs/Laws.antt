@@ -1,9 +1,11 @@
--- What `%a` prints of a float is read as that float.
-use Rattle.std.specs.Prelude.{◌≡◌, ℕ, ◌≤◌, Bool, List, Option, Some, None, ⊤, T}
+-- Laws of what is stored. What `%a` prints of a float is read as that float.
+use Rattle.std.specs.Prelude.{◌≡◌, ℕ, ◌≤◌, ◌<◌, ◌^◌, Bool, List, Option, Some, None, ⊤, T, to_bits}
 use Rattle.std.specs.Float.{is_sign_negative}
-use Rattle.std.specs.Float.Ieee.{Float, Format, fits, binary64}
+use Rattle.std.specs.Float.Ieee.{Float, Format, fits, binary32, binary64}
 use Rattle.sf_float.specs.Hexadecimal.{IsHexadecimalText}
+use Rattle.sf_float_item.specs.Sequences.{IsFloat}
 use Rattle.sf_float_value.specs.Values.{IsHexValue, IsStored}
+use Rattle.sf_float_value.specs.Computed.{stored_in}
 
 -- a hexadecimal numeral has one value
 abbrev pub OneHexValue : Type 0
@@ -22,3 +24,18 @@ HexadecimalReadsBack = (x : Float) (alt : Bool) (precision : Option ℕ) (t : Li
 -- of a sequence one thing is stored
 abbrev pub OneStored : Type 0
 OneStored = (f : Format) (item : List ℕ) (a b : Option ℕ) → IsStored f item a → IsStored f item b → a ≡ b
+
+-- it is what the function computes; and it is stored of a matching sequence alone
+abbrev pub StoredIsComputed : Type 0
+StoredIsComputed = (f : Format) (item : List ℕ) → (IsFloat item → IsStored f item (stored_in f item))
+    × ((r : Option ℕ) → IsStored f item r → IsFloat item × (r ≡ stored_in f item))
+
+-- how many bits a pattern has
+abbrev pub width : Format → ℕ
+width binary32 = 32
+width binary64 = 64
+
+-- a pattern that is stored is that of a float of the format
+abbrev pub StoredBits : Type 0
+StoredBits = (f : Format) (item : List ℕ) (bits : ℕ) → IsStored f item (Some bits)
+    → (bits < 2 ^ width f) × ((x : Float) × T (fits f x) × (bits ≡ to_bits f x))

@@ -1,3 +1,4 @@
+pub mod Computed
 pub mod Formats
 pub mod Forms
 pub mod Hexadecimals
