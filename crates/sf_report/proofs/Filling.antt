@@ -1,33 +1,37 @@
 -- What the runs of a format give its slots.
-use Rattle.std.proofs.Common.{◌≡◌, ◌≢◌, ℕ, zero, suc, ◌+◌, inl, inr, true, false, cond, nat_eq, List, [], ◌∷◌, drop, take, Option, Some, None, refl, sym, ap, subst, ◌∙◌, arith}
+use Rattle.std.proofs.Common.{◌≡◌, ◌≢◌, ℕ, zero, suc, ◌+◌, inl, inr, Bool, true, false, cond, ◌&&◌, ◌||◌, map, nat_eq, List, [], ◌∷◌, drop, take, Option, Some, None, refl, sym, ap, subst, ◌∙◌, arith}
 use Rattle.std.proofs.lemmas.Bool.Decides.{nat_tests}
 use Rattle.std.specs.Prelude.{find, ℤ}
+use Rattle.std.specs.List.{AllByRecursion}
 use Rattle.std.specs.Option.{option_map}
+use Rattle.sf_base.specs.declared.real.Real as real
+use Rattle.sf_base.specs.declared.real.Real.TheVariants as reals
 use Rattle.sf_base.specs.declared.values.Kind.{Kind}
 use Rattle.sf_base.specs.declared.values.Kind.TheVariants as kinds
-use Rattle.sf_base.specs.Data.{Datum, Assigned, datum_at, value_of}
+use Rattle.sf_base.specs.Data.{Datum, Assigned, datum_at, kind_of_real, value_of}
 use Rattle.sf_format.specs.declared.directive.Shape.{Shape}
-use Rattle.sf_format.specs.declared.directive.Shape.TheVariants.{Int, Text, Set, Chars, Count}
+use Rattle.sf_format.specs.declared.directive.Shape.TheVariants.{Int, Text, Set, Chars, Float, Count}
 use Rattle.sf_format.specs.declared.directive.Conversion.{Conversion}
 use Rattle.sf_format.specs.declared.directive.Directive.{Directive}
 use Rattle.sf_format.specs.declared.directive.Directive.TheVariants.{Space, Byte, Percent, Conv}
-use Rattle.sf_format.specs.Proper.{AreKinded, HasItsKind, IsKinded, destination_of, destinations_of}
-use Rattle.sf_format.specs.Slots.{Slotted, kind_with}
+use Rattle.sf_format.specs.Proper.{AreKinded, HasItsKind, IsKinded, destination_of, destinations_of, has_optional, has_slot, is_optional, is_optional_for, kind_at, may_miss}
+use Rattle.sf_format.specs.Slots.{AreDistinct, AreSlots, Slotted, kind_with}
 use Rattle.sf_format.proofs.Outcomes.{by_test}
 use Rattle.sf_report.specs.declared.outcome.Ending.{Ending}
 use Rattle.sf_report.specs.declared.outcome.Status.{Status}
 use Rattle.sf_report.specs.declared.outcome.Status.TheVariants.{Done, InputFailure, MatchingFailure, OutOfRange, TooLong, NoMemory}
 use Rattle.sf_report.specs.Limits.{RunTold}
-use Rattle.sf_report.specs.Rows.{FillsSlots, kind_of}
+use Rattle.sf_report.specs.Rows.{Suits, kind_of}
 use Rattle.sf_report.specs.Runs.{GoesOn, Ran, RunReport, Steps, is_shape_converted, status_of, values}
-use Rattle.sf_report.specs.Steps.{ByteStep, ConversionStep, CountStep, EmptyItem, Fails, ItemEnds, ItemPasses, ItemStep, ItemStored, NumberStored, Passes, Step, StepEnd, Stores}
+use Rattle.sf_report.specs.Steps.{ByteStep, ConversionStep, CountStep, EmptyItem, Fails, IsReal, ItemEnds, ItemPasses, ItemStep, ItemStored, Misses, NumberStored, Passes, RealStored, Step, StepEnd, Stores}
 
 -- ---- what a step gives its slot
 
--- a directive that passes has given its slot something of its kind
+-- a directive that passes has given its slot something of its kind, or its item may be missing
 abbrev Fills : Directive → StepEnd → Type 0
 Fills d Passes = destination_of d ≡ None
 Fills d (Stores slot v) = destination_of d ≡ Some (slot, kind_of v)
+Fills d Misses = is_optional d ≡ true
 Fills d (Fails status) = status ≢ Done
 
 not_done : (status : Status) (e : StepEnd) (d : Directive) → status ≢ Done → e ≡ Fails status → Fills d e
@@ -52,6 +56,32 @@ count_fills : (c : Conversion) (slot : Option ℕ) (n : ℕ) (e : StepEnd) → c
 count_fills c None n e is h = rw h (unslotted c is)
 count_fills c (Some slot) n e is h = number_fills c slot (value_of c.kind false n) e is h
 
+real_kind : (k : Kind) (item : List ℕ) (r : real.Real) → IsReal k item (Some r) → k ≡ kind_of_real r
+real_kind kinds.F32 item r (bits, stored, is) = by bits is
+  where
+    by : (o : Option ℕ) → Some r ≡ option_map reals.F32 o → kinds.F32 ≡ kind_of_real r
+    by None e = absurd cc
+    by (Some bits) e = let same : r ≡ reals.F32 bits = cc in rw same refl
+real_kind kinds.F64 item r (bits, stored, is) = by bits is
+  where
+    by : (o : Option ℕ) → Some r ≡ option_map reals.F64 o → kinds.F64 ≡ kind_of_real r
+    by None e = absurd cc
+    by (Some bits) e = let same : r ≡ reals.F64 bits = cc in rw same refl
+real_kind kinds.I8 item r is = absurd cc
+real_kind kinds.I16 item r is = absurd cc
+real_kind kinds.I32 item r is = absurd cc
+real_kind kinds.I64 item r is = absurd cc
+real_kind kinds.U8 item r is = absurd cc
+real_kind kinds.U16 item r is = absurd cc
+real_kind kinds.U32 item r is = absurd cc
+real_kind kinds.U64 item r is = absurd cc
+real_kind kinds.Text item r is = absurd cc
+
+real_fills : (c : Conversion) (slot : ℕ) (k : Kind) (item : List ℕ) (r : Option real.Real) (e : StepEnd) → c.slot ≡ Some slot → c.kind ≡ k
+    → IsReal k item r → RealStored slot r e → Fills (Conv c) e
+real_fills c slot k item None e is kind read h = not_done OutOfRange e (Conv c) (λ f. absurd cc) h
+real_fills c slot k item (Some r) e is kind read h = rw h (slotted c slot (kind_of_real r) is (kind ∙ real_kind k item r read))
+
 stored_fills : (c : Conversion) (slot : ℕ) (shape : Shape) (item : List ℕ) (e : StepEnd) → c.slot ≡ Some slot
     → is_shape_converted shape ≡ true → HasItsKind shape c.kind
     → ItemStored c slot shape item e → Fills (Conv c) e
@@ -59,6 +89,7 @@ stored_fills c slot (Int base) item e is other kind (negative, m, number, h) = n
 stored_fills c slot Text item e is other kind h = rw h (slotted c slot kinds.Text is kind)
 stored_fills c slot (Set members) item e is other kind h = rw h (slotted c slot kinds.Text is kind)
 stored_fills c slot Chars item e is other kind h = rw h (slotted c slot kinds.Text is kind)
+stored_fills c slot Float item e is other kind (r, real, h) = real_fills c slot c.kind item r e is refl real h
 stored_fills c slot Count item e is other kind h = absurd cc
 
 passes_fills : (c : Conversion) (slot : Option ℕ) (item : List ℕ) (e : StepEnd) → c.slot ≡ slot → is_shape_converted c.shape ≡ true
@@ -67,13 +98,14 @@ passes_fills : (c : Conversion) (slot : Option ℕ) (item : List ℕ) (e : StepE
 passes_fills c None item e is other kind h = rw h (unslotted c is)
 passes_fills c (Some slot) item e is other kind h = stored_fills c slot c.shape item e is other kind h
 
-empty_fills : (d : Directive) (x : List ℕ) (e : StepEnd) → EmptyItem x e → Fills d e
-empty_fills d [] e h = not_done InputFailure e d (λ f. absurd cc) h
-empty_fills d (b ∷ x) e h = not_done MatchingFailure e d (λ f. absurd cc) h
+empty_fills : (d : Directive) (optional : Bool) (x : List ℕ) (e : StepEnd) → is_optional d ≡ optional → EmptyItem optional x e → Fills d e
+empty_fills d true x e is h = rw h is
+empty_fills d false [] e is h = not_done InputFailure e d (λ f. absurd cc) h
+empty_fills d false (b ∷ x) e is h = not_done MatchingFailure e d (λ f. absurd cc) h
 
 ends_fill : (c : Conversion) (x : List ℕ) (j : ℕ) (e : StepEnd) → is_shape_converted c.shape ≡ true → HasItsKind c.shape c.kind
     → ItemEnds c x j e → Fills (Conv c) e
-ends_fill c x zero e other kind h = empty_fills (Conv c) x e h
+ends_fill c x zero e other kind h = empty_fills (Conv c) c.optional x e refl h
 ends_fill c x (suc j) e other kind (inl h) = passes_fills c c.slot (take (suc j) x) e refl other kind h.1
 ends_fill c x (suc j) e other kind (inr h) = not_done MatchingFailure e (Conv c) (λ f. absurd cc) h.1
 
@@ -90,6 +122,7 @@ conversion_fills c (Int base) x n k e is kind h = item_fills c (Int base) x k e 
 conversion_fills c Text x n k e is kind h = item_fills c Text x k e is refl kind h
 conversion_fills c (Set members) x n k e is kind h = item_fills c (Set members) x k e is refl kind h
 conversion_fills c Chars x n k e is kind h = item_fills c Chars x k e is refl kind h
+conversion_fills c Float x n k e is kind h = item_fills c Float x k e is refl kind h
 
 step_fills : (d : Directive) (x : List ℕ) (n k : ℕ) (e : StepEnd) → IsKinded d → Step d x n k e → Fills d e
 step_fills Space x n k e kind h = rw h.1 refl
@@ -120,33 +153,148 @@ one_more : (d : Directive) (ds : List Directive) (e : Slotted) → destination_o
     → destinations_of (d ∷ ds) ≡ e ∷ destinations_of ds
 one_more d ds e is = rw is refl
 
+-- ---- each slot suits
+
+abbrev pub AreSuited : List Directive → List Assigned → Type 0
+AreSuited ds values = (slot : ℕ) → Suits ds slot (datum_at slot values)
+
+-- a slot that is none of these has no kind
+none_with : (slot : ℕ) (es : List Slotted) → AllByRecursion (λ m. m ≢ slot) (map (λ (e : Slotted). e.0) es) → kind_with slot es ≡ None
+none_with slot [] other = refl
+none_with slot (e ∷ es) other =
+    by_test (nat_eq e.0 slot) (λ t. option_map (λ (o : Slotted). o.1) (cond t (Some e) (find (λ (o : Slotted). nat_eq o.0 slot) es)) ≡ None)
+    (λ same. let is : e.0 ≡ slot = grind (arith, nat_tests) in absurd (other.0 is)) (λ apart. none_with slot es other.1)
+
+nothing_of : (o : Option Datum) → option_map kind_of o ≡ None → o ≡ None
+nothing_of None e = refl
+nothing_of (Some v) e = absurd cc
+
+-- the slots of a list are apart
+abbrev AreApart : List Directive → Type 0
+AreApart ds = AreDistinct (map (λ (e : Slotted). e.0) (destinations_of ds))
+
+abbrev IsApart : Option Slotted → List Slotted → Type 0
+IsApart None es = Unit {0}
+IsApart (Some e) es = AllByRecursion (λ m. m ≢ e.0) (map (λ (o : Slotted). o.0) es)
+
+apart_parts : (d : Directive) (ds : List Directive) (o : Option Slotted) → destination_of d ≡ o → AreApart (d ∷ ds)
+    → AreApart ds × IsApart o (destinations_of ds)
+apart_parts d ds None is h = (subst (λ (es : List Slotted). AreDistinct (map (λ (e : Slotted). e.0) es)) (none_more d ds is) h, tt)
+apart_parts d ds (Some e) is h =
+    let both = subst (λ (es : List Slotted). AreDistinct (map (λ (o : Slotted). o.0) es)) (one_more d ds e is) h in (both.1, both.0)
+
+may_more : (d : Directive) (ds : List Directive) (slot : ℕ) → may_miss slot ds ≡ true → may_miss slot (d ∷ ds) ≡ true
+may_more d ds slot h = by_test (is_optional_for slot d) (λ t. (t || may_miss slot ds) ≡ true) (λ one. refl) (λ other. h)
+
+-- after a directive that assigns nothing
+suits_none : (d : Directive) (ds : List Directive) (slot : ℕ) (given : Option Datum) → destination_of d ≡ None → Suits ds slot given
+    → Suits (d ∷ ds) slot given
+suits_none d ds slot given none (inl is) = inl (is ∙ sym (ap (kind_with slot) (none_more d ds none)))
+suits_none d ds slot given none (inr (may, nothing)) = inr (may_more d ds slot may, nothing)
+
+own_optional : (d : Directive) (e : Slotted) (slot : ℕ) → destination_of d ≡ Some e → is_optional d ≡ true → nat_eq e.0 slot ≡ true
+    → is_optional_for slot d ≡ true
+own_optional Space e slot is optional same = absurd cc
+own_optional (Byte b) e slot is optional same = absurd cc
+own_optional Percent e slot is optional same = absurd cc
+own_optional (Conv c) e slot is optional same = by c.slot refl is
+  where
+    by : (o : Option ℕ) → c.slot ≡ o → elim o [ None ↦ None | Some n ↦ Some (n, c.kind) ] ≡ Some e
+        → (c.optional && has_slot slot c.slot) ≡ true
+    by None own eq = absurd cc
+    by (Some n) own eq = let first : n ≡ e.0 = cc in rw (optional, own, first) same
+
+-- after one whose item is missing
+suits_missing : (d : Directive) (ds : List Directive) (slot : ℕ) (given : Option Datum) (e : Slotted) → destination_of d ≡ Some e
+    → is_optional d ≡ true → IsApart (Some e) (destinations_of ds) → Suits ds slot given → Suits (d ∷ ds) slot given
+suits_missing d ds slot given e is optional apart suits = by_test (nat_eq e.0 slot) (λ t. nat_eq e.0 slot ≡ t → Suits (d ∷ ds) slot given)
+    (λ same _. own same suits) (λ other _. another other suits) refl
+  where
+    own : nat_eq e.0 slot ≡ true → Suits ds slot given → Suits (d ∷ ds) slot given
+    own same h =
+        let is_slot : e.0 ≡ slot = grind (arith, nat_tests) in
+        let no_kind : kind_at slot ds ≡ None = none_with slot (destinations_of ds)
+        (subst (λ n. AllByRecursion (λ m. m ≢ n) (map (λ (o : Slotted). o.0) (destinations_of ds))) is_slot apart) in
+        let may : may_miss slot (d ∷ ds) ≡ true = rw (own_optional d e slot is optional same) refl in
+        inr (may, elim h [ inl kind ↦ nothing_of given (kind ∙ no_kind) | inr missing ↦ missing.1 ])
+
+    another : nat_eq e.0 slot ≡ false → Suits ds slot given → Suits (d ∷ ds) slot given
+    another other (inl kind) = inl (kind ∙ sym (ap (kind_with slot) (one_more d ds e is) ∙ rw other refl))
+    another other (inr (may, nothing)) = inr (may_more d ds slot may, nothing)
+
+-- after one that stored something
+suits_stored : (d : Directive) (ds : List Directive) (slot s : ℕ) (v : Datum) (values : List Assigned)
+    → destination_of d ≡ Some (s, kind_of v) → Suits ds slot (datum_at slot values)
+    → Suits (d ∷ ds) slot (datum_at slot (record { slot = s; datum = v } ∷ values))
+suits_stored d ds slot s v values is (inl kind) =
+    inl (next_given slot s v values (destinations_of ds) kind ∙ sym (ap (kind_with slot) (one_more d ds (s, kind_of v) is)))
+suits_stored d ds slot s v values is (inr (may, nothing)) =
+    by_test (nat_eq slot s) (λ t. nat_eq slot s ≡ t → Suits (d ∷ ds) slot (datum_at slot (record { slot = s; datum = v } ∷ values)))
+    (λ same _. inl (rw (one_more d ds (s, kind_of v) is, sym (eq_swapped slot s), same) refl))
+    (λ other _. inr (may_more d ds slot may, rw other nothing)) refl
+
+by_destination : (d : Directive) (ds : List Directive) (slot : ℕ) (given : Option Datum) (o : Option Slotted) → destination_of d ≡ o
+    → is_optional d ≡ true → IsApart o (destinations_of ds) → Suits ds slot given → Suits (d ∷ ds) slot given
+by_destination d ds slot given None is optional apart suits = suits_none d ds slot given is suits
+by_destination d ds slot given (Some e) is optional apart suits = suits_missing d ds slot given e is optional apart suits
+
 next_fills : (d : Directive) (ds : List Directive) (b : ℕ) (e : StepEnd) (ran : List Ran) (Rest : Type 0) → Fills d e → GoesOn e Rest ran
-    → (Rest → status_of ran ≡ Done → FillsSlots ds (values ran)) → status_of (record { directive = d; bytes = b; end = e } ∷ ran) ≡ Done
-    → FillsSlots (d ∷ ds) (values (record { directive = d; bytes = b; end = e } ∷ ran))
-next_fills d ds b Passes ran Rest fills goes rest done slot = rest goes done slot ∙ sym (ap (kind_with slot) (none_more d ds fills))
-next_fills d ds b (Stores s v) ran Rest fills goes rest done slot =
-    next_given slot s v (values ran) (destinations_of ds) (rest goes done slot)
-    ∙ sym (ap (kind_with slot) (one_more d ds (s, kind_of v) fills))
-next_fills d ds b (Fails status) ran Rest fills goes rest done slot = absurd (fills done)
+    → IsApart (destination_of d) (destinations_of ds)
+    → (Rest → status_of ran ≡ Done → AreSuited ds (values ran)) → status_of (record { directive = d; bytes = b; end = e } ∷ ran) ≡ Done
+    → AreSuited (d ∷ ds) (values (record { directive = d; bytes = b; end = e } ∷ ran))
+next_fills d ds b Passes ran Rest fills goes apart rest done slot =
+    suits_none d ds slot (datum_at slot (values ran)) fills (rest goes done slot)
+next_fills d ds b (Stores s v) ran Rest fills goes apart rest done slot =
+    suits_stored d ds slot s v (values ran) fills (rest goes done slot)
+next_fills d ds b Misses ran Rest fills goes apart rest done slot =
+    by_destination d ds slot (datum_at slot (values ran)) (destination_of d) refl fills apart (rest goes done slot)
+next_fills d ds b (Fails status) ran Rest fills goes apart rest done slot = absurd (fills done)
 
-steps_fill : (ds : List Directive) (x : List ℕ) (n : ℕ) (ran : List Ran) → AreKinded ds → Steps ds x n ran → status_of ran ≡ Done
-    → FillsSlots ds (values ran)
-steps_fill [] x n [] kinded steps done = λ slot. refl
-steps_fill [] x n (r ∷ ran) kinded steps done = absurd steps
-steps_fill (d ∷ ds) x n [] kinded steps done = absurd steps
-steps_fill (d ∷ ds) x n (r ∷ ran) kinded steps done =
+steps_fill : (ds : List Directive) (x : List ℕ) (n : ℕ) (ran : List Ran) → AreKinded ds → AreApart ds → Steps ds x n ran
+    → status_of ran ≡ Done → AreSuited ds (values ran)
+steps_fill [] x n [] kinded apart steps done = λ slot. inl refl
+steps_fill [] x n (r ∷ ran) kinded apart steps done = absurd steps
+steps_fill (d ∷ ds) x n [] kinded apart steps done = absurd steps
+steps_fill (d ∷ ds) x n (r ∷ ran) kinded apart steps done =
+    let parts = apart_parts d ds (destination_of d) refl apart in
     next_fills d ds r.bytes r.end ran (Steps ds (drop r.bytes x) (n + r.bytes) ran)
-    (step_fills d x n r.bytes r.end kinded.0 steps.1) steps.2
-    (λ rest. steps_fill ds (drop r.bytes x) (n + r.bytes) ran kinded.1 rest) done
+    (step_fills d x n r.bytes r.end kinded.0 steps.1) steps.2 parts.1
+    (λ rest. steps_fill ds (drop r.bytes x) (n + r.bytes) ran kinded.1 parts.0 rest) done
 
--- a Done report has a value of its kind for each destination of the format, and no others
+-- a Done report has a value of its kind for each destination of the format that isn't missing, and no others
 pub done_fills : (ds : List Directive) (m : ℕ) (x : List ℕ) (ending : Ending) (report : RunReport) → AreKinded ds
-    → RunTold ds m x ending report → report.status ≡ Done
-    → FillsSlots ds report.values
-done_fills ds m x ending report kinded (inl (inl (few, (ran, steps, met, is_met, is)))) done =
-    subst (λ (o : RunReport). FillsSlots ds o.values) (sym is) (steps_fill ds x 0 ran kinded steps
+    → AreSlots (destinations_of ds) → RunTold ds m x ending report → report.status ≡ Done
+    → AreSuited ds report.values
+done_fills ds m x ending report kinded slots (inl (inl (few, (ran, steps, met, is_met, is)))) done =
+    subst (λ (o : RunReport). AreSuited ds o.values) (sym is) (steps_fill ds x 0 ran kinded slots.distinct steps
     (ap (λ (o : RunReport). o.status) (sym is) ∙ done))
-done_fills ds m x ending report kinded (inl (inr (before, cut, is))) done = let e : report.status ≡ TooLong =
+done_fills ds m x ending report kinded slots (inl (inr (before, cut, is))) done = let e : report.status ≡ TooLong =
     ap (λ (o : RunReport). o.status) is in absurd cc
-done_fills ds m x ending report kinded (inr (k, low, (before, cut, stores, is))) done = let e : report.status ≡ NoMemory =
+done_fills ds m x ending report kinded slots (inr (k, low, (before, cut, stores, is))) done = let e : report.status ≡ NoMemory =
     ap (λ (o : RunReport). o.status) is in absurd cc
+
+-- without a conversion that may be missing, no slot is
+pub none_may : (slot : ℕ) (ds : List Directive) → has_optional ds ≡ false → may_miss slot ds ≡ false
+none_may slot [] none = refl
+none_may slot (d ∷ ds) none =
+    let parts = or_false (is_optional d) (has_optional ds) none in
+    rw (not_for d parts.0, none_may slot ds parts.1) refl
+  where
+    or_false : (a b : Bool) → (a || b) ≡ false → (a ≡ false) × (b ≡ false)
+    or_false true b e = absurd cc
+    or_false false b e = (refl, e)
+
+    not_for : (d : Directive) → is_optional d ≡ false → is_optional_for slot d ≡ false
+    not_for Space e = refl
+    not_for (Byte b) e = refl
+    not_for Percent e = refl
+    not_for (Conv c) e = rw e refl
+
+-- where none may be missing, each is given
+pub each_given : (ds : List Directive) (values : List Assigned) → ((slot : ℕ) → may_miss slot ds ≡ false) → AreSuited ds values
+    → (slot : ℕ) → option_map kind_of (datum_at slot values) ≡ kind_at slot ds
+each_given ds values none suits slot = by (suits slot)
+  where
+    by : Suits ds slot (datum_at slot values) → option_map kind_of (datum_at slot values) ≡ kind_at slot ds
+    by (inl kind) = kind
+    by (inr (may, nothing)) = let no = none slot in absurd cc

@@ -4,7 +4,7 @@ use Rattle.std.proofs.lemmas.List.{take-append-le, drop-append-le}
 use Rattle.std.proofs.lemmas.List.Sums.{sum_by-cons}
 use Rattle.sf_base.specs.Bytes.{IsSkip}
 use Rattle.sf_format.specs.declared.directive.Shape.{Shape}
-use Rattle.sf_format.specs.declared.directive.Shape.TheVariants.{Int, Text, Set, Chars, Count}
+use Rattle.sf_format.specs.declared.directive.Shape.TheVariants.{Int, Text, Set, Chars, Float, Count}
 use Rattle.sf_format.specs.declared.directive.Conversion.{Conversion}
 use Rattle.sf_format.specs.declared.directive.Directive.{Directive}
 use Rattle.sf_item.specs.Matching.{Begins, IsItem}
@@ -54,6 +54,7 @@ conversion_front c (Int base) x z n k end ok le h = item_front c x z k end ok le
 conversion_front c Text x z n k end ok le h = item_front c x z k end ok le h
 conversion_front c (Set members) x z n k end ok le h = item_front c x z k end ok le h
 conversion_front c Chars x z n k end ok le h = item_front c x z k end ok le h
+conversion_front c Float x z n k end ok le h = item_front c x z k end ok le h
 conversion_front c Count x z n k end ok le h = h
 
 -- a directive that passes makes the same step on every front that has the bytes which it consumed

@@ -12,10 +12,10 @@ use Rattle.sf_format.specs.Proper.{destinations_of, kind_at}
 use Rattle.sf_format.specs.Slots.{AreSlots, slots_from}
 use Rattle.sf_format.proofs.Outcomes.{by_test}
 use Rattle.sf_format.proofs.SlotLookups.{kinds_are}
-use Rattle.sf_report.specs.Laws.{EachDoneRunHasItsRow}
+use Rattle.sf_report.specs.Laws.{EachDoneRunFillsSlots, EachDoneRunHasItsRow}
 use Rattle.sf_report.specs.Rows.{IsValue, at_slot, kind_of, kinds_of}
-use Rattle.sf_report.proofs.Filling.{done_fills}
-use Rattle.sf_report.proofs.Values.{done_given, found_given}
+use Rattle.sf_report.proofs.Filling.{done_fills, each_given, none_may}
+use Rattle.sf_report.proofs.Values.{done_given, found_given, readable_at}
 
 -- ---- lists of what is there for each
 
@@ -117,9 +117,16 @@ module _ (ds : List Directive) (slots : AreSlots (destinations_of ds)) where
           listed_at (λ slot. kind_at slot ds) 1 (length (destinations_of ds)) (slot - 1) kinds_there (omega (arith, low, high))
           ∙ ap (λ (n : ℕ). kind_at n ds) {x = 1 + (slot - 1)} {y = slot} (omega (arith, low)))
 
+pub done_runs_fill_slots : EachDoneRunFillsSlots
+done_runs_fill_slots ds accepted m x ending report bytes told done = record {
+  each = done_fills ds m x ending report accepted.kinded accepted.slots told done;
+  are_values = done_given ds m x ending report bytes told done;
+}
+
 pub done_runs_have_rows : EachDoneRunHasItsRow
-done_runs_have_rows ds accepted m x ending report bytes told done =
-    let fills = done_fills ds m x ending report accepted.kinded told done in
+done_runs_have_rows ds accepted none m x ending report bytes told done =
+    let fills = each_given ds report.values (λ slot. none_may slot ds none)
+    (done_fills ds m x ending report accepted.kinded accepted.slots told done) in
     let stored = done_given ds m x ending report bytes told done in
     let made = row_of (slots_from 1 (length (destinations_of ds))) (λ slot. datum_at slot report.values) (λ slot. kind_at slot ds) fills
     (λ slot v found. found_given slot report.values v stored found) (kinds_there ds accepted.slots) in
@@ -128,5 +135,8 @@ done_runs_have_rows ds accepted m x ending report bytes told done =
       is_row = made.is_row;
       kinds = made.kinds_are;
       are_values = made.are_values;
-      given = λ slot. fills slot ∙ sym (kind_is ds accepted.slots slot);
+      given = λ slot. (
+        fills slot ∙ sym (kind_is ds accepted.slots slot),
+        readable_at ds m x ending report told done slot,
+      );
     }

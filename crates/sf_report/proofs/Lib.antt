@@ -1,3 +1,4 @@
+pub mod FloatBytes
 pub mod Skips
 pub mod Items
 pub mod StepLaws

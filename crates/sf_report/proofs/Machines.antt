@@ -5,7 +5,7 @@ use Rattle.std.proofs.Common.{◌≡◌, ℕ, zero, suc, ◌+◌, ◌<◌, ◌�
 use Rattle.std.specs.List.{list_all}
 use Rattle.sf_base.specs.Bytes.{is_white}
 use Rattle.sf_format.specs.declared.directive.Shape.{Shape}
-use Rattle.sf_format.specs.declared.directive.Shape.TheVariants.{Int, Text, Set, Chars, Count}
+use Rattle.sf_format.specs.declared.directive.Shape.TheVariants.{Int, Text, Set, Chars, Float, Count}
 use Rattle.sf_format.specs.declared.directive.Conversion.{Conversion}
 use Rattle.sf_format.specs.declared.directive.Directive.{Directive}
 use Rattle.sf_format.specs.declared.directive.Directive.TheVariants.{Space, Byte, Percent, Conv}
@@ -15,6 +15,7 @@ use Rattle.sf_item.specs.Taking.{IsInt}
 use Rattle.sf_item.specs.Tests.{is_within, shape_begins, can_take}
 use Rattle.sf_item.proofs.Fronts.{HasItem, can_take_front, integer_goes_on}
 use Rattle.sf_item.proofs.Deciding.{tests_same}
+use Rattle.sf_report.proofs.FloatBytes.{float_byte}
 use Rattle.sf_report.specs.declared.outcome.Status.TheVariants.{TooLong}
 use Rattle.sf_report.specs.Steps.{StepEnd, Fails}
 use Rattle.sf_report.specs.Machine.{Stage, Skipping, Taken, Item, shape_skips, item_stepped, stepped, some_below, is_full, finished, conversion_finished}
@@ -79,32 +80,40 @@ all_with p f b e h one = grind (arith, common_steps)
 abbrev Begins : Shape → Option ℕ → List ℕ → ℕ → Type 0
 Begins shape width f b = shape_begins shape width (f ++ b ∷ []) ≡ true
 
--- a byte that goes on with each item of the shape, where some byte does
+-- a byte that goes on with each item of the shape, which is no float's, where some byte does
 pub item_byte : (shape : Shape) → IsProperShape shape → ℕ
 item_byte (Int base) proper = 48
 item_byte Text proper = 65
 item_byte (Set members) proper = proper.0
 item_byte Chars proper = 0
+item_byte Float proper = 0
 item_byte Count proper = 0
 
 pub item_byte-below : (shape : Shape) (proper : IsProperShape shape) → item_byte shape proper < 256
 unfolding item_byte
 item_byte-below shape proper = grind arith
 
-other_begins : (shape : Shape) (width : Option ℕ) → (IsInt shape → ⊥) → (proper : IsProperShape shape) → (f : List ℕ) (b : ℕ)
+-- the shape is that of a float
+abbrev pub IsReal : Shape → Type 0
+IsReal Float = Unit {0}
+IsReal _ = ⊥
+
+other_begins : (shape : Shape) (width : Option ℕ) → (IsInt shape → ⊥) → (IsReal shape → ⊥) → (proper : IsProperShape shape)
+    → (f : List ℕ) (b : ℕ)
     → Begins shape width f b
     → Begins shape width f (item_byte shape proper)
 unfolding item_byte
-other_begins shape width other proper f b h = grind (arith, all_with, same_length)
+other_begins shape width other no_float proper f b h = grind (arith, all_with, same_length)
 
 integer_byte : (shape : Shape) (proper : IsProperShape shape) → IsInt shape → item_byte shape proper ≡ 48
 unfolding item_byte
 integer_byte shape proper int = grind arith
 
 -- where some number is taken after f, that byte is
-pub item_byte-taken : (c : Conversion) (proper : IsProperShape c.shape) (f : List ℕ) (b : ℕ) → can_take c (f ++ b ∷ []) ≡ true
+pub item_byte-taken : (c : Conversion) (proper : IsProperShape c.shape) → (IsReal c.shape → ⊥) → (f : List ℕ) (b : ℕ)
+    → can_take c (f ++ b ∷ []) ≡ true
     → can_take c (f ++ item_byte c.shape proper ∷ []) ≡ true
-item_byte-taken c proper f b h = by_shape c.shape refl
+item_byte-taken c proper no_float f b h = by_shape c.shape refl
   where
     within : is_within c.width (length (f ++ b ∷ [])) ≡ true
     within = (and_parts (is_within c.width (length (f ++ b ∷ []))) (shape_begins c.shape c.width (f ++ b ∷ [])) h).0
@@ -124,6 +133,30 @@ item_byte-taken c proper f b h = by_shape c.shape refl
     by_shape : (shape : Shape) → c.shape ≡ shape → can_take c (f ++ item_byte c.shape proper ∷ []) ≡ true
     by_shape shape e = grind (arith, integer, other)
 
+-- where some number is taken after f, some byte is
+some_byte-taken : (c : Conversion) (proper : IsProperShape c.shape) (f : List ℕ) (b : ℕ) → can_take c (f ++ b ∷ []) ≡ true
+    → (o : ℕ) × (o < 256) × (can_take c (f ++ o ∷ []) ≡ true)
+some_byte-taken c proper f b h = by_shape c.shape refl
+  where
+    begins : (shape : Shape) → c.shape ≡ shape → shape_begins shape c.width (f ++ b ∷ []) ≡ true
+    begins shape e = ap (λ s. shape_begins s c.width (f ++ b ∷ [])) (sym e)
+        ∙ (and_parts (is_within c.width (length (f ++ b ∷ []))) (shape_begins c.shape c.width (f ++ b ∷ [])) h).1
+
+    fixed : (shape : Shape) → c.shape ≡ shape → (IsReal shape → ⊥) → (o : ℕ) × (o < 256) × (can_take c (f ++ o ∷ []) ≡ true)
+    fixed shape e none = (
+      item_byte c.shape proper,
+      item_byte-below c.shape proper,
+      item_byte-taken c proper (λ real. none (subst IsReal e real)) f b h,
+    )
+
+    by_shape : (shape : Shape) → c.shape ≡ shape → (o : ℕ) × (o < 256) × (can_take c (f ++ o ∷ []) ≡ true)
+    by_shape Float e = (b, float_byte f b (begins Float e), h)
+    by_shape (Int base) e = fixed (Int base) e (λ real. absurd real)
+    by_shape Text e = fixed Text e (λ real. absurd real)
+    by_shape (Set members) e = fixed (Set members) e (λ real. absurd real)
+    by_shape Chars e = fixed Chars e (λ real. absurd real)
+    by_shape Count e = fixed Count e (λ real. absurd real)
+
 -- one that takes a byte isn't full
 takes_one : (d : Directive) (q : Stage) (b : ℕ) (r : Stage) → b < 256 → stepped d q b ≡ Some r → is_full d q ≡ true → ⊥
 takes_one d q b r below e full = true≢false (sym full ∙ not_full d q b r below e)
@@ -138,9 +171,9 @@ item_nothing c proper q f is full b = by_case (can_take c (f ++ b ∷ [])) refl
     by_case : (v : Bool) → can_take c (f ++ b ∷ []) ≡ v → cond v (Some (Item (f ++ b ∷ []))) None ≡ None
     by_case false e = refl
     by_case true e =
-        let o : ℕ = item_byte c.shape proper in
-        absurd (takes_one (Conv c) q o (Item (f ++ o ∷ [])) (item_byte-below c.shape proper)
-        (is o ∙ ap (λ v. cond v (Some (Item (f ++ o ∷ []))) None) (item_byte-taken c proper f b e)) full)
+        let (o, byte, takes) = some_byte-taken c proper f b e in
+        absurd (takes_one (Conv c) q o (Item (f ++ o ∷ [])) byte
+        (is o ∙ ap (λ v. cond v (Some (Item (f ++ o ∷ []))) None) takes) full)
 
 pub full_takes_nothing : (d : Directive) → IsProper d → (q : Stage) (b : ℕ) → is_full d q ≡ true → stepped d q b ≡ None
 full_takes_nothing Space proper q b full = grind (arith, (takes_one Space Skipping 32 Skipping (lit< tt) refl))
@@ -172,6 +205,7 @@ first_begins (Int base) width proper wide item = (48, lit< tt, refl)
 first_begins Text width proper wide item = (65, lit< tt, refl)
 first_begins (Set members) width proper wide item = (proper.0, proper.1, and_from (has_byte members proper.0) true proper.2 refl)
 first_begins Chars width proper wide item = (0, lit< tt, one_char width wide)
+first_begins Float width proper wide item = (48, lit< tt, refl)
 first_begins Count width proper wide item = absurd item
 
 -- a conversion with an item isn't full before it
@@ -239,14 +273,14 @@ keeps_all d q n (b ∷ x) =
 
 -- ---- a byte that is taken whatever the item so far
 
--- what is taken after the item f
-pub item_takes : (c : Conversion) (proper : IsProperShape c.shape) (f : List ℕ) → is_full (Conv c) (Item f) ≡ false
+-- what is taken after the item f, which is no float's
+pub item_takes : (c : Conversion) (proper : IsProperShape c.shape) → (IsReal c.shape → ⊥) → (f : List ℕ) → is_full (Conv c) (Item f) ≡ false
     → (r : Stage) × (stepped (Conv c) (Item f) (item_byte c.shape proper) ≡ Some r)
-item_takes c proper f e =
+item_takes c proper no_float f e =
     let (b, below, r, is) = can_take_one (Conv c) (Item f) e in (
       Item (f ++ item_byte c.shape proper ∷ []),
       ap (λ v. cond v (Some (Item (f ++ item_byte c.shape proper ∷ []))) None)
-          (item_byte-taken c proper f b (can b r is)),
+          (item_byte-taken c proper no_float f b (can b r is)),
     )
   where
     can : (b : ℕ) (r : Stage) → item_stepped c f b ≡ Some r → can_take c (f ++ b ∷ []) ≡ true

@@ -5,7 +5,7 @@ use Rattle.sf_format.specs.declared.directive.Directive.{Directive}
 use Rattle.sf_format.specs.Proper.{IsProper, AreProper}
 use Rattle.sf_report.specs.declared.outcome.Status.{Status}
 use Rattle.sf_report.specs.declared.outcome.Status.TheVariants.{TooLong}
-use Rattle.sf_report.specs.Steps.{StepEnd, Passes, Stores, Fails}
+use Rattle.sf_report.specs.Steps.{StepEnd, Passes, Stores, Misses, Fails}
 use Rattle.sf_report.specs.Runs.{RunReport}
 use Rattle.sf_report.specs.Machine.{Stage, Skipping, stepped, is_full, finished}
 use Rattle.sf_report.specs.Residual.{stepped_all, Tally, Part, choose, one_from, with_used, counted, out_of, by_end, is_over, or_zero, then_on, run_of, run_from}
@@ -117,6 +117,9 @@ by_first Passes d ds at t n x k e (inr w) = inr (λ m z. ap (λ (r : RunReport).
     (out_of TooLong at (with_used (or_zero m) t)) r) (w m z))
 by_first (Stores slot v) d ds at t n x k e (inl w) = inl (w.next, w.is_byte, omega (arith, w.takes), omega (arith, w.all))
 by_first (Stores slot v) d ds at t n x k e (inr w) = inr (λ m z. ap
+    (λ (r : RunReport). cond (is_over m n) (out_of TooLong at (with_used (or_zero m) t)) r) (w m z))
+by_first Misses d ds at t n x k e (inl w) = inl (w.next, w.is_byte, omega (arith, w.takes), omega (arith, w.all))
+by_first Misses d ds at t n x k e (inr w) = inr (λ m z. ap
     (λ (r : RunReport). cond (is_over m n) (out_of TooLong at (with_used (or_zero m) t)) r) (w m z))
 by_first (Fails status) d ds at t n x k e w = inr (λ m z. refl)
 

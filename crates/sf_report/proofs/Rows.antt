@@ -1,5 +1,5 @@
 -- Worked examples: what each format makes of an input, computed, is its one report.
-use Rattle.std.proofs.Common.{◌≡◌, ℕ, zero, suc, ◌+◌, Bool, ◌&&◌, ◌||◌, nat_eq, nat_le, List, [], ◌∷◌, Option, Some, None, pos, negsuc, refl, ◌∙◌, subst, lit<, lit≤}
+use Rattle.std.proofs.Common.{◌≡◌, ℕ, zero, suc, ◌+◌, Bool, false, ◌&&◌, ◌||◌, nat_eq, nat_le, List, [], ◌∷◌, Option, Some, None, pos, negsuc, refl, ◌∙◌, subst, lit<, lit≤}
 use Rattle.sf_base.specs.Data.{Datum, Number, Bytes, Assigned}
 use Rattle.sf_base.specs.declared.values.Kind.{Kind}
 use Rattle.sf_base.specs.declared.values.Kind.TheVariants as kind
@@ -34,19 +34,19 @@ row_is ds proper m x ending told e = record {
 
 -- an integer, assigned to the slot
 abbrev int : Base → Kind → Option ℕ → ℕ → Directive
-int base kind width slot = Conv (record { shape = Int base; kind = kind; width = width; slot = Some slot })
+int base kind width slot = Conv (record { shape = Int base; kind = kind; width = width; slot = Some slot; optional = false })
 
 abbrev suppressed : Base → Kind → Directive
-suppressed base kind = Conv (record { shape = Int base; kind = kind; width = None; slot = None })
+suppressed base kind = Conv (record { shape = Int base; kind = kind; width = None; slot = None; optional = false })
 
 abbrev word : Option ℕ → ℕ → Directive
-word width slot = Conv (record { shape = Text; kind = kind.Text; width = width; slot = Some slot })
+word width slot = Conv (record { shape = Text; kind = kind.Text; width = width; slot = Some slot; optional = false })
 
 abbrev chars : Option ℕ → ℕ → Directive
-chars width slot = Conv (record { shape = Chars; kind = kind.Text; width = width; slot = Some slot })
+chars width slot = Conv (record { shape = Chars; kind = kind.Text; width = width; slot = Some slot; optional = false })
 
 abbrev count : Kind → ℕ → Directive
-count kind slot = Conv (record { shape = Count; kind = kind; width = None; slot = Some slot })
+count kind slot = Conv (record { shape = Count; kind = kind; width = None; slot = Some slot; optional = false })
 
 -- the test at n bytes from b on
 abbrev marks : ℕ → ℕ → (ℕ → Bool) → List Bool
@@ -54,7 +54,7 @@ marks zero b test = []
 marks (suc n) b test = test b ∷ marks n (b + 1) test
 
 abbrev set : (ℕ → Bool) → ℕ → Directive
-set test slot = Conv (record { shape = Set (marks 256 0 test); kind = kind.Text; width = None; slot = Some slot })
+set test slot = Conv (record { shape = Set (marks 256 0 test); kind = kind.Text; width = None; slot = Some slot; optional = false })
 
 -- ---- reports
 

@@ -3,7 +3,7 @@ use Rattle.std.proofs.Common.{◌≡◌, ℕ, ◌+◌, List, [], ◌∷◌, ◌+
 use Rattle.std.specs.Prelude.{slice_get}
 use Rattle.sf_format.specs.declared.directive.Directive.{Directive}
 use Rattle.sf_format.specs.Proper.{AreProper}
-use Rattle.sf_report.specs.Steps.{StepEnd, Passes, Stores, Fails}
+use Rattle.sf_report.specs.Steps.{StepEnd, Passes, Stores, Misses, Fails}
 use Rattle.sf_report.specs.Runs.{Ran, GoesOn, Steps}
 use Rattle.sf_report.specs.Computed.{step_of, go_on, ran_of}
 use Rattle.sf_report.proofs.StepLaws.{step_is, step_only}
@@ -11,6 +11,7 @@ use Rattle.sf_report.proofs.StepLaws.{step_is, step_only}
 goes_is : (end : StepEnd) (P : List Ran → Type 0) (rest : List Ran) → P rest → GoesOn end (P (go_on end rest)) (go_on end rest)
 goes_is Passes P rest h = h
 goes_is (Stores slot v) P rest h = h
+goes_is Misses P rest h = h
 goes_is (Fails status) P rest h = refl
 
 pub steps_is : (ds : List Directive) → AreProper ds → (x : List ℕ) (n : ℕ) → Steps ds x n (ran_of ds x n)
@@ -27,6 +28,7 @@ goes_only : (end : StepEnd) (P : List Ran → Type 0) (rest ran : List Ran) → 
     → GoesOn end (P ran) ran → ran ≡ go_on end rest
 goes_only Passes P rest ran only h = only ran h
 goes_only (Stores slot v) P rest ran only h = only ran h
+goes_only Misses P rest ran only h = only ran h
 goes_only (Fails status) P rest ran only h = h
 
 pub steps_only : (ds : List Directive) → AreProper ds → (x : List ℕ) (n : ℕ) (ran : List Ran) → Steps ds x n ran → ran ≡ ran_of ds x n
@@ -45,6 +47,7 @@ steps_only (d ∷ ds) proper x n (r ∷ ran) h =
 goes : (end : StepEnd) (rest : Type 0) (before : List Ran) (cut : Ran) (more : List Ran) → GoesOn end rest (before ++ cut ∷ more) → rest
 goes Passes rest before cut more h = h
 goes (Stores slot v) rest before cut more h = h
+goes Misses rest before cut more h = h
 goes (Fails status) rest [] cut more h = cc
 goes (Fails status) rest (r ∷ before) cut more h = cc
 

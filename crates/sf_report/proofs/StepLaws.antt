@@ -1,8 +1,19 @@
 -- Each directive makes exactly one step.
-use Rattle.std.proofs.Common.{◌≡◌, ℕ, zero, suc, ◌≤◌, Bool, true, false, cond, List, length, take, Option, refl, sym, ap, ◌∙◌, subst, inl, inr, arith, ℤ, length-drop}
+use Rattle.std.proofs.Common.{◌≡◌, ℕ, zero, suc, ◌≤◌, Bool, true, false, cond, List, [], ◌∷◌, length, take, Option, Some, None, refl, sym, ap, ◌∙◌, subst, inl, inr, arith, ℤ, length-drop}
+use Rattle.std.specs.Option.{option_map}
+use Rattle.std.specs.Float.Ieee.{binary32, binary64}
 use Rattle.sf_base.specs.Data.{value_of}
+use Rattle.sf_base.specs.declared.real.Real as real
+use Rattle.sf_base.specs.declared.real.Real.TheVariants as reals
+use Rattle.sf_base.specs.declared.values.Kind.{Kind}
+use Rattle.sf_base.specs.declared.values.Kind.TheVariants as kinds
+use Rattle.sf_float_item.specs.Sequences.{IsFloat}
+use Rattle.sf_float_item.specs.Tests.{is_float}
+use Rattle.sf_float_item.proofs.Deciding.{decided}
+use Rattle.sf_float_value.specs.Computed.{stored_in}
+use Rattle.sf_float_value.proofs.StoredComputed.{stored_is_computed}
 use Rattle.sf_format.specs.declared.directive.Shape.{Shape}
-use Rattle.sf_format.specs.declared.directive.Shape.TheVariants.{Int, Text, Set, Chars, Count}
+use Rattle.sf_format.specs.declared.directive.Shape.TheVariants.{Int, Text, Set, Chars, Float, Count}
 use Rattle.sf_format.specs.declared.directive.Conversion.{Conversion}
 use Rattle.sf_format.specs.declared.directive.Directive.{Directive}
 use Rattle.sf_format.specs.Proper.{IsProperShape, IsProper}
@@ -10,8 +21,8 @@ use Rattle.sf_item.specs.Matching.{ShapeMatches, Matches}
 use Rattle.sf_item.specs.Tests.{matches}
 use Rattle.sf_item.proofs.Deciding.{integer_at_is, tests_matches}
 use Rattle.sf_report.specs.declared.outcome.Status.TheVariants.{MatchingFailure}
-use Rattle.sf_report.specs.Steps.{StepEnd, Fails, NumberStored, CountStep, ItemStored, ItemPasses, EmptyItem, ItemEnds, IsSkipBefore, ConversionStep, Step}
-use Rattle.sf_report.specs.Machine.{number_end, count_end, integer_end, stored_end, passed_end, nothing_end}
+use Rattle.sf_report.specs.Steps.{StepEnd, Fails, NumberStored, CountStep, IsReal, RealStored, ItemStored, ItemPasses, EmptyItem, ItemEnds, IsSkipBefore, ConversionStep, Step}
+use Rattle.sf_report.specs.Machine.{number_end, count_end, integer_end, real_in, real_at, real_end, stored_end, passed_end, empty_end}
 use Rattle.sf_report.specs.Computed.{skip, has_more, byte_step, skip_before, item_ended, item_step, conversion_step, percent_step, step_of}
 use Rattle.sf_report.proofs.Skips.{skip_is, skip_only, skip-le}
 use Rattle.sf_report.proofs.Items.{len-le, item_is, item_only}
@@ -37,6 +48,59 @@ number_only c slot v end h = grind arith
 count_is : (c : Conversion) (slot : Option ℕ) (n : ℕ) → CountStep c slot n (count_end c slot n)
 count_is c slot n = grind arith
 
+-- a matching sequence passes the test
+float_test : (item : List ℕ) → IsFloat item → is_float item ≡ true
+float_test item h = (decided item).0.1 h
+
+real_test : (k : Kind) (item : List ℕ) → IsFloat item → real_at k item ≡ real_in k item
+real_test k item h = rw (float_test item h) refl
+
+real_in_is : (k : Kind) (item : List ℕ) → IsFloat item → IsReal k item (real_in k item)
+real_in_is kinds.F32 item h = (stored_in binary32 item, (stored_is_computed binary32 item).0 h, refl)
+real_in_is kinds.F64 item h = (stored_in binary64 item, (stored_is_computed binary64 item).0 h, refl)
+real_in_is kinds.I8 item h = refl
+real_in_is kinds.I16 item h = refl
+real_in_is kinds.I32 item h = refl
+real_in_is kinds.I64 item h = refl
+real_in_is kinds.U8 item h = refl
+real_in_is kinds.U16 item h = refl
+real_in_is kinds.U32 item h = refl
+real_in_is kinds.U64 item h = refl
+real_in_is kinds.Text item h = refl
+
+real_is : (k : Kind) (item : List ℕ) → IsFloat item → IsReal k item (real_at k item)
+real_is k item h = subst (IsReal k item) (sym (real_test k item h)) (real_in_is k item h)
+
+-- by the test: of other texts there is none
+no_real : (k : Kind) (v : Bool) (item : List ℕ) → real_in k item ≡ None → None ≡ cond v (real_in k item) None
+no_real k true item e = sym e
+no_real k false item e = refl
+
+real_only : (k : Kind) (item : List ℕ) (r : Option real.Real) → IsReal k item r → r ≡ real_at k item
+real_only kinds.F32 item r (bits, stored, is) =
+    let own = (stored_is_computed binary32 item).1 bits stored in
+    is ∙ ap (option_map reals.F32) own.1 ∙ sym (real_test kinds.F32 item own.0)
+real_only kinds.F64 item r (bits, stored, is) =
+    let own = (stored_is_computed binary64 item).1 bits stored in
+    is ∙ ap (option_map reals.F64) own.1 ∙ sym (real_test kinds.F64 item own.0)
+real_only kinds.I8 item r is = is ∙ no_real kinds.I8 (is_float item) item refl
+real_only kinds.I16 item r is = is ∙ no_real kinds.I16 (is_float item) item refl
+real_only kinds.I32 item r is = is ∙ no_real kinds.I32 (is_float item) item refl
+real_only kinds.I64 item r is = is ∙ no_real kinds.I64 (is_float item) item refl
+real_only kinds.U8 item r is = is ∙ no_real kinds.U8 (is_float item) item refl
+real_only kinds.U16 item r is = is ∙ no_real kinds.U16 (is_float item) item refl
+real_only kinds.U32 item r is = is ∙ no_real kinds.U32 (is_float item) item refl
+real_only kinds.U64 item r is = is ∙ no_real kinds.U64 (is_float item) item refl
+real_only kinds.Text item r is = is ∙ no_real kinds.Text (is_float item) item refl
+
+real_end_is : (slot : ℕ) (r : Option real.Real) → RealStored slot r (real_end slot r)
+real_end_is slot None = refl
+real_end_is slot (Some r) = refl
+
+real_end_only : (slot : ℕ) (r : Option real.Real) (end : StepEnd) → RealStored slot r end → end ≡ real_end slot r
+real_end_only slot None end h = h
+real_end_only slot (Some r) end h = h
+
 stored_is : (c : Conversion) (slot : ℕ) (shape : Shape) (width : Option ℕ) (item : List ℕ) → ShapeMatches shape width item
     → ItemStored c slot shape item (stored_end c slot shape item)
 stored_is c slot (Int base) width item h = (
@@ -49,6 +113,7 @@ stored_is c slot (Int base) width item h = (
 stored_is c slot Text width item h = refl
 stored_is c slot (Set members) width item h = refl
 stored_is c slot Chars width item h = refl
+stored_is c slot Float width item h = (real_at c.kind item, real_is c.kind item h, real_end_is slot (real_at c.kind item))
 stored_is c slot Count width item h = refl
 
 stored_only : (c : Conversion) (slot : ℕ) (shape : Shape) (item : List ℕ) (end : StepEnd) → ItemStored c slot shape item end
@@ -58,6 +123,7 @@ stored_only c slot (Int base) item end h =
 stored_only c slot Text item end h = h
 stored_only c slot (Set members) item end h = h
 stored_only c slot Chars item end h = h
+stored_only c slot Float item end (r, read, h) = real_end_only slot r end h ∙ ap (real_end slot) (real_only c.kind item r read)
 stored_only c slot Count item end h = h
 
 passes_is : (c : Conversion) (slot : Option ℕ) (item : List ℕ) → Matches c item → ItemPasses c slot item (passed_end c slot item)
@@ -66,18 +132,23 @@ passes_is c slot item h = grind (arith, stored_is)
 passes_only : (c : Conversion) (slot : Option ℕ) (item : List ℕ) (end : StepEnd) → ItemPasses c slot item end → end ≡ passed_end c slot item
 passes_only c slot item end h = grind (arith, stored_only)
 
-empty_is : (x : List ℕ) → EmptyItem x (nothing_end (has_more x))
-empty_is x = grind arith
+empty_is : (c : Conversion) (optional : Bool) (x : List ℕ) → c.optional ≡ optional → EmptyItem optional x (empty_end c (has_more x))
+empty_is c true x e = rw e refl
+empty_is c false [] e = rw e refl
+empty_is c false (b ∷ x) e = rw e refl
 
-empty_only : (x : List ℕ) (end : StepEnd) → EmptyItem x end → end ≡ nothing_end (has_more x)
-empty_only x end h = grind arith
+empty_only : (c : Conversion) (optional : Bool) (x : List ℕ) (end : StepEnd) → c.optional ≡ optional → EmptyItem optional x end
+    → end ≡ empty_end c (has_more x)
+empty_only c true x end e h = rw e h
+empty_only c false [] end e h = rw e h
+empty_only c false (b ∷ x) end e h = rw e h
 
 by_match : (c : Conversion) (item : List ℕ) (P : Bool → Type 0) → (Matches c item → P true) → ((Matches c item → ⊥) → P false)
     → P (matches c item)
 by_match c item P left right = grind (arith, (tests_matches c item))
 
 ends_is : (c : Conversion) (x : List ℕ) (j : ℕ) → ItemEnds c x j (item_ended c x j)
-ends_is c x zero = empty_is x
+ends_is c x zero = empty_is c c.optional x refl
 ends_is c x (suc j) =
     let item = take (suc j) x in
     by_match c item (λ v. ItemEnds c x (suc j) (cond v (passed_end c c.slot item) (Fails MatchingFailure)))
@@ -85,7 +156,7 @@ ends_is c x (suc j) =
     (λ n. inr (n, refl))
 
 ends_only : (c : Conversion) (x : List ℕ) (j : ℕ) (end : StepEnd) → ItemEnds c x j end → end ≡ item_ended c x j
-ends_only c x zero end h = empty_only x end h
+ends_only c x zero end h = empty_only c c.optional x end refl h
 ends_only c x (suc j) end h =
     let item = take (suc j) x in
     by_match c item (λ v. end ≡ cond v (passed_end c c.slot item) (Fails MatchingFailure))

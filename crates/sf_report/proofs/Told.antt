@@ -1,6 +1,6 @@
 -- The running totals tell what the list of steps tells.
 use Rattle.std.proofs.lemmas.Grind.{common_steps}
-use Rattle.std.proofs.Common.{◌≡◌, ℕ, zero, suc, ◌+◌, ◌<◌, ◌≤◌, ◌⊎◌, inl, inr, Bool, true, cond, ◌&&◌, nat_eq, nat_le, List, [], ◌∷◌, ◌++◌, length, drop, Option, Some, None, is_some, refl, sym, ap, ap₂, ◌∙◌, subst, arith, append-nil, zero-add, add-zero}
+use Rattle.std.proofs.Common.{◌≡◌, ℕ, zero, suc, ◌+◌, ◌<◌, ◌≤◌, ◌⊎◌, inl, inr, Bool, true, false, cond, ◌&&◌, nat_eq, nat_le, List, [], ◌∷◌, ◌++◌, length, drop, Option, Some, None, is_some, refl, sym, ap, ap₂, ◌∙◌, subst, arith, append-nil, zero-add, add-zero}
 use Rattle.std.specs.Prelude.{SomeIff}
 use Rattle.std.specs.List.{list_any}
 use Rattle.std.proofs.lemmas.Bool.{cases_lt, cond-true, cond-false, lt-ltb, le-ltb}
@@ -11,8 +11,8 @@ use Rattle.sf_format.specs.Proper.{AreProper}
 use Rattle.sf_report.specs.declared.outcome.Ending.{Ending}
 use Rattle.sf_report.specs.declared.outcome.Status.{Status}
 use Rattle.sf_report.specs.declared.outcome.Status.TheVariants.{Done, TooLong}
-use Rattle.sf_report.specs.Steps.{StepEnd}
-use Rattle.sf_report.specs.Runs.{Ran, Steps, used, failure_of, status_of, values, passed, assigned, converted, RunReport, report_of, Uses, IsOpen}
+use Rattle.sf_report.specs.Steps.{StepEnd, Fails}
+use Rattle.sf_report.specs.Runs.{Ran, Steps, used, failure_of, status_of, values, assigned, converted, RunReport, report_of, Uses, IsOpen}
 use Rattle.sf_report.specs.Limits.{cut_report, RunWithin, TellsWithin}
 use Rattle.sf_item.proofs.Deciding.{Tests, tests_both, tests_most}
 use Rattle.sf_report.specs.Laws.{EachHasOneReport}
@@ -44,8 +44,13 @@ sums t ran = tally (t.used + used ran) (t.assigned + assigned ran) (t.converted 
 count_more : (v : Bool) (n k l : ℕ) → l ≡ cond (v && true) 1 0 + k → cond v (n + 1) n + k ≡ n + l
 count_more v n k l e = grind arith
 
+-- the run goes on after it
+abbrev past : StepEnd → Bool
+past (Fails status) = false
+past _ = true
+
 -- a step that passes
-sums_step : (d : Directive) (end : StepEnd) (k : ℕ) (t : Tally) (ran : List Ran) → passed end ≡ true
+sums_step : (d : Directive) (end : StepEnd) (k : ℕ) (t : Tally) (ran : List Ran) → past end ≡ true
     → sums (counted d end (with_used (t.used + k) t)) ran ≡ sums t (ran_one d k end ∷ ran)
 sums_step d end k t ran h = grind (arith, common_steps)
 
@@ -67,7 +72,7 @@ cut_from a t before m = out_of TooLong (a + (length before + 1)) (with_used m (s
 same_out : (status : Status) (i j : ℕ) (t u : Tally) → i ≡ j → t ≡ u → out_of status i t ≡ out_of status j u
 same_out status i j t u p q = ap₂ (out_of status) p q
 
-cut_step : (d : Directive) (end : StepEnd) (k a m : ℕ) (t : Tally) (before : List Ran) → passed end ≡ true
+cut_step : (d : Directive) (end : StepEnd) (k a m : ℕ) (t : Tally) (before : List Ran) → past end ≡ true
     → cut_from (a + 1) (counted d end (with_used (t.used + k) t)) before m ≡ cut_from a t (ran_one d k end ∷ before) m
 cut_step d end k a m t before h = grind (arith, sums_step)
 
@@ -138,13 +143,13 @@ uses_from ds proper x k e = (ran_of ds x 0, steps_is ds proper x 0, sym (ap (λ 
 
 -- ---- under a limit
 
-cut_first : (d : Directive) (end : StepEnd) (k a m : ℕ) (t : Tally) (before : List Ran) (next : RunReport) → passed end ≡ true
+cut_first : (d : Directive) (end : StepEnd) (k a m : ℕ) (t : Tally) (before : List Ran) (next : RunReport) → past end ≡ true
     → next ≡ cut_from (a + 1) (counted d end (with_used (t.used + k) t)) before m
     → by_end end next (λ status. out_of status (a + 1) (with_used (t.used + k) t)) ≡ cut_from a t (ran_one d k end ∷ before) m
 cut_first d end k a m t before next ok h = grind (arith, (cut_step d end k a m t before ok))
 
 gone_on : (end : StepEnd) (l before : List Ran) (cut : Ran) (rest : List Ran) → go_on end l ≡ before ++ cut ∷ rest
-    → (passed end ≡ true) × (l ≡ before ++ cut ∷ rest)
+    → (past end ≡ true) × (l ≡ before ++ cut ∷ rest)
 gone_on end l [] cut rest e = grind arith
 gone_on end l (r ∷ before) cut rest e = grind arith
 

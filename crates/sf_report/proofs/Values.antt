@@ -3,15 +3,20 @@ use Rattle.std.proofs.Common.{◌≡◌, ℕ, zero, suc, ◌+◌, ◌^◌, ◌<�
 use Rattle.std.proofs.lemmas.Bool.Decides.{nat_tests}
 use Rattle.std.proofs.lemmas.Int.{ints}
 use Rattle.std.proofs.lemmas.Nat.{pow_pos}
-use Rattle.std.specs.Prelude.{find, ℤ}
+use Rattle.std.specs.Prelude.{find, IfSome, ℤ}
 use Rattle.std.specs.List.{AllByRecursion}
 use Rattle.std.specs.Option.{option_map}
+use Rattle.std.specs.Float.Ieee.{binary32, binary64}
 use Rattle.sf_base.specs.Bytes.{AreBytes}
+use Rattle.sf_base.specs.declared.real.Real as real
+use Rattle.sf_base.specs.declared.real.Real.TheVariants as reals
+use Rattle.sf_float_value.specs.Values.{IsStored}
+use Rattle.sf_float_value.proofs.StoredBits.{stored_bits}
 use Rattle.sf_base.specs.declared.values.Kind.{Kind}
 use Rattle.sf_base.specs.declared.values.Kind.TheVariants as kinds
-use Rattle.sf_base.specs.Data.{Datum, Assigned, IsIn, IsSigned, IsUnsigned, datum_at, signed_value, unsigned_value, value_of}
+use Rattle.sf_base.specs.Data.{Datum, Number, Bytes, Real, Assigned, IsIn, IsSigned, IsUnsigned, datum_at, signed_value, unsigned_value, value_of}
 use Rattle.sf_format.specs.declared.directive.Shape.{Shape}
-use Rattle.sf_format.specs.declared.directive.Shape.TheVariants.{Int, Text, Set, Chars, Count}
+use Rattle.sf_format.specs.declared.directive.Shape.TheVariants.{Int, Text, Set, Chars, Float, Count}
 use Rattle.sf_format.specs.declared.directive.Conversion.{Conversion}
 use Rattle.sf_format.specs.declared.directive.Directive.{Directive}
 use Rattle.sf_format.specs.declared.directive.Directive.TheVariants.{Space, Byte, Percent, Conv}
@@ -19,9 +24,9 @@ use Rattle.sf_format.proofs.Outcomes.{by_test}
 use Rattle.sf_report.specs.declared.outcome.Ending.{Ending}
 use Rattle.sf_report.specs.declared.outcome.Status.TheVariants.{Done, TooLong, NoMemory}
 use Rattle.sf_report.specs.Limits.{RunTold}
-use Rattle.sf_report.specs.Rows.{IsValue}
+use Rattle.sf_report.specs.Rows.{IsPattern, IsReadable, IsValue}
 use Rattle.sf_report.specs.Runs.{GoesOn, Ran, RunReport, Steps, values}
-use Rattle.sf_report.specs.Steps.{ByteStep, ConversionStep, CountStep, EmptyItem, Fails, ItemEnds, ItemPasses, ItemStep, ItemStored, NumberStored, Passes, Step, StepEnd, Stores}
+use Rattle.sf_report.specs.Steps.{ByteStep, ConversionStep, CountStep, EmptyItem, Fails, IsReal, ItemEnds, ItemPasses, ItemStep, ItemStored, Misses, NumberStored, Passes, RealStored, Step, StepEnd, Stores}
 
 -- ---- the numbers of a kind
 
@@ -60,93 +65,197 @@ bytes_to (suc n) (b ∷ x) h = (h.0, bytes_to n x h.1)
 
 -- ---- what a step stores
 
--- what is stored, if something is, is a value
-abbrev GivesValue : StepEnd → Type 0
-GivesValue (Stores slot v) = IsValue v
-GivesValue _ = Unit {0}
+-- a value, where the texts that are stored have the property
+abbrev ValueOf : (List ℕ → Type 0) → Datum → Type 0
+ValueOf Q (Number kind n) = IsIn kind n
+ValueOf Q (Bytes text) = Q text
+ValueOf Q (Real r) = IsPattern r
 
-number_given : (c : Conversion) (slot : ℕ) (negative : Bool) (m : ℕ) (v : Option ℤ) (e : StepEnd) → value_of c.kind negative m ≡ v
-    → NumberStored c slot v e → GivesValue e
-number_given c slot negative m None e is h = rw h tt
-number_given c slot negative m (Some z) e is h = rw h (value_in c.kind negative m z is)
+-- of an input that has a property which its parts have too
+module _ (Q : List ℕ → Type 0) (from : (n : ℕ) (x : List ℕ) → Q x → Q (drop n x)) (to : (n : ℕ) (x : List ℕ) → Q x → Q (take n x)) where
+  abbrev ValueBy : Datum → Type 0
+  ValueBy v = ValueOf Q v
 
-count_given : (c : Conversion) (slot : Option ℕ) (n : ℕ) (e : StepEnd) → CountStep c slot n e → GivesValue e
-count_given c None n e h = rw h tt
-count_given c (Some slot) n e h = number_given c slot false n (value_of c.kind false n) e refl h
+  -- what is stored, if something is, is a value
+  abbrev GivesValue : StepEnd → Type 0
+  GivesValue (Stores slot v) = ValueBy v
+  GivesValue _ = Unit {0}
 
-stored_given : (c : Conversion) (slot : ℕ) (shape : Shape) (item : List ℕ) (e : StepEnd) → AreBytes item → ItemStored c slot shape item e
-    → GivesValue e
-stored_given c slot (Int base) item e bytes (negative, m, number, h) = number_given c slot negative m (value_of c.kind negative m) e refl h
-stored_given c slot Text item e bytes h = rw h bytes
-stored_given c slot (Set members) item e bytes h = rw h bytes
-stored_given c slot Chars item e bytes h = rw h bytes
-stored_given c slot Count item e bytes h = rw h bytes
+  number_given : (c : Conversion) (slot : ℕ) (negative : Bool) (m : ℕ) (v : Option ℤ) (e : StepEnd) → value_of c.kind negative m ≡ v
+      → NumberStored c slot v e → GivesValue e
+  number_given c slot negative m None e is h = rw h tt
+  number_given c slot negative m (Some z) e is h = rw h (value_in c.kind negative m z is)
 
-passes_given : (c : Conversion) (slot : Option ℕ) (item : List ℕ) (e : StepEnd) → AreBytes item → ItemPasses c slot item e → GivesValue e
-passes_given c None item e bytes h = rw h tt
-passes_given c (Some slot) item e bytes h = stored_given c slot c.shape item e bytes h
+  count_given : (c : Conversion) (slot : Option ℕ) (n : ℕ) (e : StepEnd) → CountStep c slot n e → GivesValue e
+  count_given c None n e h = rw h tt
+  count_given c (Some slot) n e h = number_given c slot false n (value_of c.kind false n) e refl h
 
-empty_given : (x : List ℕ) (e : StepEnd) → EmptyItem x e → GivesValue e
-empty_given [] e h = rw h tt
-empty_given (b ∷ x) e h = rw h tt
+  option_f32 : (o : Option ℕ) (r : real.Real) → Some r ≡ option_map reals.F32 o → (bits : ℕ) × (o ≡ Some bits) × (r ≡ reals.F32 bits)
+  option_f32 None r e = absurd cc
+  option_f32 (Some bits) r e = (bits, refl, cc)
 
-ends_given : (c : Conversion) (x : List ℕ) (j : ℕ) (e : StepEnd) → AreBytes x → ItemEnds c x j e → GivesValue e
-ends_given c x zero e bytes h = empty_given x e h
-ends_given c x (suc j) e bytes (inl h) = passes_given c c.slot (take (suc j) x) e (bytes_to (suc j) x bytes) h.1
-ends_given c x (suc j) e bytes (inr h) = rw h.1 tt
+  option_f64 : (o : Option ℕ) (r : real.Real) → Some r ≡ option_map reals.F64 o → (bits : ℕ) × (o ≡ Some bits) × (r ≡ reals.F64 bits)
+  option_f64 None r e = absurd cc
+  option_f64 (Some bits) r e = (bits, refl, cc)
 
-item_given : (c : Conversion) (x : List ℕ) (k : ℕ) (e : StepEnd) → AreBytes x → ItemStep c x k e → GivesValue e
-item_given c x k e bytes (s, j, skip, item, length, ends) = ends_given c (drop s x) j e (bytes_from s x bytes) ends
+  f32_pattern : (item : List ℕ) (o : Option ℕ) (r : real.Real) → IsStored binary32 item o → Some r ≡ option_map reals.F32 o → IsPattern r
+  f32_pattern item o r stored e =
+      let (bits, some, is) = option_f32 o r e in
+      subst IsPattern (sym is) (stored_bits binary32 item bits (subst (IsStored binary32 item) some stored)).1
 
-conversion_given : (c : Conversion) (shape : Shape) (x : List ℕ) (n k : ℕ) (e : StepEnd) → AreBytes x → ConversionStep c shape x n k e
-    → GivesValue e
-conversion_given c Count x n k e bytes h = count_given c c.slot n e h.1
-conversion_given c (Int base) x n k e bytes h = item_given c x k e bytes h
-conversion_given c Text x n k e bytes h = item_given c x k e bytes h
-conversion_given c (Set members) x n k e bytes h = item_given c x k e bytes h
-conversion_given c Chars x n k e bytes h = item_given c x k e bytes h
+  f64_pattern : (item : List ℕ) (o : Option ℕ) (r : real.Real) → IsStored binary64 item o → Some r ≡ option_map reals.F64 o → IsPattern r
+  f64_pattern item o r stored e =
+      let (bits, some, is) = option_f64 o r e in
+      subst IsPattern (sym is) (stored_bits binary64 item bits (subst (IsStored binary64 item) some stored)).1
 
-byte_given : (b : ℕ) (x : List ℕ) (k : ℕ) (e : StepEnd) → ByteStep b x k e → GivesValue e
-byte_given b [] k e h = rw h.1 tt
-byte_given b (y ∷ x) k e (inl h) = rw h.2 tt
-byte_given b (y ∷ x) k e (inr h) = rw h.2 tt
+  no_real : (r : real.Real) → Some r ≡ None → IsPattern r
+  no_real r e = absurd cc
 
-step_given : (d : Directive) (x : List ℕ) (n k : ℕ) (e : StepEnd) → AreBytes x → Step d x n k e → GivesValue e
-step_given Space x n k e bytes h = rw h.1 tt
-step_given (Byte b) x n k e bytes h = byte_given b x k e h
-step_given Percent x n k e bytes (s, j, skip, byte, length) = byte_given 37 (drop s x) j e byte
-step_given (Conv c) x n k e bytes h = conversion_given c c.shape x n k e bytes h
+  real_pattern : (k : Kind) (item : List ℕ) (r : real.Real) → IsReal k item (Some r) → IsPattern r
+  real_pattern kinds.F32 item r (bits, stored, is) = f32_pattern item bits r stored is
+  real_pattern kinds.F64 item r (bits, stored, is) = f64_pattern item bits r stored is
+  real_pattern kinds.I8 item r is = no_real r is
+  real_pattern kinds.I16 item r is = no_real r is
+  real_pattern kinds.I32 item r is = no_real r is
+  real_pattern kinds.I64 item r is = no_real r is
+  real_pattern kinds.U8 item r is = no_real r is
+  real_pattern kinds.U16 item r is = no_real r is
+  real_pattern kinds.U32 item r is = no_real r is
+  real_pattern kinds.U64 item r is = no_real r is
+  real_pattern kinds.Text item r is = no_real r is
 
--- ---- what a run stores
+  real_given : (k : Kind) (slot : ℕ) (item : List ℕ) (r : Option real.Real) (e : StepEnd) → IsReal k item r → RealStored slot r e
+      → GivesValue e
+  real_given k slot item None e is h = rw h tt
+  real_given k slot item (Some r) e is h = rw h (real_pattern k item r is)
+
+  stored_given : (c : Conversion) (slot : ℕ) (shape : Shape) (item : List ℕ) (e : StepEnd) → Q item → ItemStored c slot shape item e
+      → GivesValue e
+  stored_given c slot (Int base) item e bytes (negative, m, number, h) = number_given c slot negative m (value_of c.kind negative m) e
+      refl h
+  stored_given c slot Text item e bytes h = rw h bytes
+  stored_given c slot (Set members) item e bytes h = rw h bytes
+  stored_given c slot Chars item e bytes h = rw h bytes
+  stored_given c slot Float item e bytes (r, is, h) = real_given c.kind slot item r e is h
+  stored_given c slot Count item e bytes h = rw h bytes
+
+  passes_given : (c : Conversion) (slot : Option ℕ) (item : List ℕ) (e : StepEnd) → Q item → ItemPasses c slot item e → GivesValue e
+  passes_given c None item e bytes h = rw h tt
+  passes_given c (Some slot) item e bytes h = stored_given c slot c.shape item e bytes h
+
+  empty_given : (optional : Bool) (x : List ℕ) (e : StepEnd) → EmptyItem optional x e → GivesValue e
+  empty_given true x e h = rw h tt
+  empty_given false [] e h = rw h tt
+  empty_given false (b ∷ x) e h = rw h tt
+
+  ends_given : (c : Conversion) (x : List ℕ) (j : ℕ) (e : StepEnd) → Q x → ItemEnds c x j e → GivesValue e
+  ends_given c x zero e bytes h = empty_given c.optional x e h
+  ends_given c x (suc j) e bytes (inl h) = passes_given c c.slot (take (suc j) x) e (to (suc j) x bytes) h.1
+  ends_given c x (suc j) e bytes (inr h) = rw h.1 tt
+
+  item_given : (c : Conversion) (x : List ℕ) (k : ℕ) (e : StepEnd) → Q x → ItemStep c x k e → GivesValue e
+  item_given c x k e bytes (s, j, skip, item, length, ends) = ends_given c (drop s x) j e (from s x bytes) ends
+
+  conversion_given : (c : Conversion) (shape : Shape) (x : List ℕ) (n k : ℕ) (e : StepEnd) → Q x → ConversionStep c shape x n k e
+      → GivesValue e
+  conversion_given c Count x n k e bytes h = count_given c c.slot n e h.1
+  conversion_given c (Int base) x n k e bytes h = item_given c x k e bytes h
+  conversion_given c Text x n k e bytes h = item_given c x k e bytes h
+  conversion_given c (Set members) x n k e bytes h = item_given c x k e bytes h
+  conversion_given c Chars x n k e bytes h = item_given c x k e bytes h
+  conversion_given c Float x n k e bytes h = item_given c x k e bytes h
+
+  byte_given : (b : ℕ) (x : List ℕ) (k : ℕ) (e : StepEnd) → ByteStep b x k e → GivesValue e
+  byte_given b [] k e h = rw h.1 tt
+  byte_given b (y ∷ x) k e (inl h) = rw h.2 tt
+  byte_given b (y ∷ x) k e (inr h) = rw h.2 tt
+
+  step_given : (d : Directive) (x : List ℕ) (n k : ℕ) (e : StepEnd) → Q x → Step d x n k e → GivesValue e
+  step_given Space x n k e bytes h = rw h.1 tt
+  step_given (Byte b) x n k e bytes h = byte_given b x k e h
+  step_given Percent x n k e bytes (s, j, skip, byte, length) = byte_given 37 (drop s x) j e byte
+  step_given (Conv c) x n k e bytes h = conversion_given c c.shape x n k e bytes h
+
+  -- ---- what a run stores
+
+  abbrev AreStoredSo : List Assigned → Type 0
+  AreStoredSo vs = AllByRecursion (λ (a : Assigned). ValueBy a.datum) vs
+
+  next_given : (d : Directive) (b : ℕ) (e : StepEnd) (ran : List Ran) (Rest : Type 0) → GivesValue e → GoesOn e Rest ran
+      → (Rest → AreStoredSo (values ran))
+      → AreStoredSo (values (record { directive = d; bytes = b; end = e } ∷ ran))
+  next_given d b Passes ran Rest given goes rest = rest goes
+  next_given d b (Stores s v) ran Rest given goes rest = (given, rest goes)
+  next_given d b Misses ran Rest given goes rest = rest goes
+  next_given d b (Fails status) ran Rest given goes rest = rw goes tt
+
+  steps_given : (ds : List Directive) (x : List ℕ) (n : ℕ) (ran : List Ran) → Q x → Steps ds x n ran → AreStoredSo (values ran)
+  steps_given [] x n [] bytes steps = tt
+  steps_given [] x n (r ∷ ran) bytes steps = absurd steps
+  steps_given (d ∷ ds) x n [] bytes steps = absurd steps
+  steps_given (d ∷ ds) x n (r ∷ ran) bytes steps =
+      next_given r.directive r.bytes r.end ran (Steps ds (drop r.bytes x) (n + r.bytes) ran)
+      (step_given d x n r.bytes r.end bytes steps.1) steps.2
+      (λ rest. steps_given ds (drop r.bytes x) (n + r.bytes) ran (from r.bytes x bytes) rest)
+
+  done_so : (ds : List Directive) (m : ℕ) (x : List ℕ) (ending : Ending) (report : RunReport) → Q x
+      → RunTold ds m x ending report → report.status ≡ Done
+      → AreStoredSo report.values
+  done_so ds m x ending report bytes (inl (inl (few, (ran, steps, met, is_met, is)))) done =
+      subst (λ (o : RunReport). AreStoredSo o.values) (sym is) (steps_given ds x 0 ran bytes steps)
+  done_so ds m x ending report bytes (inl (inr (before, cut, is))) done = let e : report.status ≡ TooLong =
+      ap (λ (o : RunReport). o.status) is in absurd cc
+  done_so ds m x ending report bytes (inr (k, low, (before, cut, stores, is))) done =
+      let e : report.status ≡ NoMemory = ap (λ (o : RunReport). o.status) is in absurd cc
+
+-- ---- what is stored
 
 abbrev pub AreStored : List Assigned → Type 0
 AreStored vs = AllByRecursion (λ (a : Assigned). IsValue a.datum) vs
 
-next_given : (d : Directive) (b : ℕ) (e : StepEnd) (ran : List Ran) (Rest : Type 0) → GivesValue e → GoesOn e Rest ran
-    → (Rest → AreStored (values ran))
-    → AreStored (values (record { directive = d; bytes = b; end = e } ∷ ran))
-next_given d b Passes ran Rest given goes rest = rest goes
-next_given d b (Stores s v) ran Rest given goes rest = (given, rest goes)
-next_given d b (Fails status) ran Rest given goes rest = rw goes tt
+value_is : (v : Datum) → ValueOf AreBytes v → IsValue v
+value_is (Number kind n) h = h
+value_is (Bytes text) h = h
+value_is (Real r) h = h
 
-steps_given : (ds : List Directive) (x : List ℕ) (n : ℕ) (ran : List Ran) → AreBytes x → Steps ds x n ran → AreStored (values ran)
-steps_given [] x n [] bytes steps = tt
-steps_given [] x n (r ∷ ran) bytes steps = absurd steps
-steps_given (d ∷ ds) x n [] bytes steps = absurd steps
-steps_given (d ∷ ds) x n (r ∷ ran) bytes steps =
-    next_given r.directive r.bytes r.end ran (Steps ds (drop r.bytes x) (n + r.bytes) ran)
-    (step_given d x n r.bytes r.end bytes steps.1) steps.2
-    (λ rest. steps_given ds (drop r.bytes x) (n + r.bytes) ran (bytes_from r.bytes x bytes) rest)
+stored_are : (vs : List Assigned) → AllByRecursion (λ (a : Assigned). ValueOf AreBytes a.datum) vs → AreStored vs
+stored_are [] h = tt
+stored_are (a ∷ vs) h = (value_is a.datum h.0, stored_are vs h.1)
 
 pub done_given : (ds : List Directive) (m : ℕ) (x : List ℕ) (ending : Ending) (report : RunReport) → AreBytes x
     → RunTold ds m x ending report → report.status ≡ Done
     → AreStored report.values
-done_given ds m x ending report bytes (inl (inl (few, (ran, steps, met, is_met, is)))) done =
-    subst (λ (o : RunReport). AreStored o.values) (sym is) (steps_given ds x 0 ran bytes steps)
-done_given ds m x ending report bytes (inl (inr (before, cut, is))) done = let e : report.status ≡ TooLong =
-    ap (λ (o : RunReport). o.status) is in absurd cc
-done_given ds m x ending report bytes (inr (k, low, (before, cut, stores, is))) done =
-    let e : report.status ≡ NoMemory = ap (λ (o : RunReport). o.status) is in absurd cc
+done_given ds m x ending report bytes told done =
+    stored_are report.values (done_so AreBytes bytes_from bytes_to ds m x ending report bytes told done)
+
+-- of any input, what is stored can be read
+abbrev AreReadable : List Assigned → Type 0
+AreReadable vs = AllByRecursion (λ (a : Assigned). IsReadable a.datum) vs
+
+readable_is : (v : Datum) → ValueOf (λ t. Unit {0}) v → IsReadable v
+readable_is (Number kind n) h = tt
+readable_is (Bytes text) h = tt
+readable_is (Real r) h = h
+
+readable_are : (vs : List Assigned) → AllByRecursion (λ (a : Assigned). ValueOf (λ t. Unit {0}) a.datum) vs → AreReadable vs
+readable_are [] h = tt
+readable_are (a ∷ vs) h = (readable_is a.datum h.0, readable_are vs h.1)
+
+done_readable : (ds : List Directive) (m : ℕ) (x : List ℕ) (ending : Ending) (report : RunReport)
+    → RunTold ds m x ending report → report.status ≡ Done → AreReadable report.values
+done_readable ds m x ending report told done = readable_are report.values
+    (done_so (λ t. Unit {0}) (λ n y h. tt) (λ n y h. tt) ds m x ending report tt told done)
+
+found_among : (slot : ℕ) (vs : List Assigned) → AreReadable vs → IfSome (datum_at slot vs) IsReadable
+found_among slot [] readable = tt
+found_among slot (a ∷ vs) readable =
+    by_test (nat_eq slot a.slot) (λ t. IfSome (option_map (λ (b : Assigned). b.datum)
+    (cond t (Some a) (find (λ (b : Assigned). nat_eq slot b.slot) vs))) IsReadable)
+    (λ same. readable.0) (λ other. found_among slot vs readable.1)
+
+pub readable_at : (ds : List Directive) (m : ℕ) (x : List ℕ) (ending : Ending) (report : RunReport)
+    → RunTold ds m x ending report → report.status ≡ Done → (slot : ℕ) → IfSome (datum_at slot report.values) IsReadable
+readable_at ds m x ending report told done slot = found_among slot report.values (done_readable ds m x ending report told done)
 
 -- what a slot was given is one of these
 pub found_given : (slot : ℕ) (vs : List Assigned) (v : Datum) → AreStored vs → datum_at slot vs ≡ Some v → IsValue v

@@ -2,14 +2,14 @@
 use Rattle.std.specs.Prelude.{ℕ, zero, suc, ◌+◌, Bool, true, false, if◌then◌else◌, nat_eq, List, [], ◌∷◌, ◌++◌, take, drop}
 use Rattle.sf_base.specs.Bytes.{is_white}
 use Rattle.sf_format.specs.declared.directive.Shape.{Shape}
-use Rattle.sf_format.specs.declared.directive.Shape.TheVariants.{Int, Text, Count}
+use Rattle.sf_format.specs.declared.directive.Shape.TheVariants.{Int, Text, Float, Count}
 use Rattle.sf_format.specs.declared.directive.Conversion.{Conversion}
 use Rattle.sf_format.specs.declared.directive.Directive.{Directive}
 use Rattle.sf_format.specs.declared.directive.Directive.TheVariants.{Space, Byte, Percent, Conv}
 use Rattle.sf_item.specs.Tests.{can_take}
 use Rattle.sf_report.specs.Steps.{StepEnd, Passes, Fails}
 use Rattle.sf_report.specs.Runs.{Ran}
-use Rattle.sf_report.specs.Machine.{count_end, item_end, nothing_end}
+use Rattle.sf_report.specs.Machine.{count_end, item_end, nothing_end, empty_end}
 use Rattle.sf_report.specs.Residual.{Part}
 
 -- the length of the longest front that is white space
@@ -40,11 +40,12 @@ byte_step a (b ∷ x) = byte_choice (nat_eq a b)
 abbrev pub skip_before : Shape → List ℕ → ℕ
 skip_before (Int base) x = skip x
 skip_before Text x = skip x
+skip_before Float x = skip x
 skip_before _ x = 0
 
 -- the end of a conversion whose item is the first j bytes of y
 abbrev pub item_ended : Conversion → List ℕ → ℕ → StepEnd
-item_ended c y zero = nothing_end (has_more y)
+item_ended c y zero = empty_end c (has_more y)
 item_ended c y (suc j) = item_end c (take (suc j) y)
 
 -- the item after s bytes of x, with these

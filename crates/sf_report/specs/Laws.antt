@@ -1,8 +1,8 @@
 -- Laws of runs.
-use Rattle.std.specs.Prelude.{◌≡◌, ◌↔◌, ℕ, ◌<◌, ◌≤◌, Bool, true, List, ◌++◌, length, Option, None}
+use Rattle.std.specs.Prelude.{◌≡◌, ◌↔◌, ℕ, ◌<◌, ◌≤◌, Bool, true, false, List, ◌++◌, length, Option, None}
 use Rattle.sf_base.specs.Bytes.{AreBytes}
 use Rattle.sf_format.specs.declared.directive.Directive.{Directive}
-use Rattle.sf_format.specs.Proper.{IsAccepted, IsProper, AreProper}
+use Rattle.sf_format.specs.Proper.{IsAccepted, IsProper, AreProper, has_optional}
 use Rattle.sf_report.specs.declared.outcome.Ending.{Ending}
 use Rattle.sf_report.specs.declared.outcome.Status.TheVariants.{Done}
 use Rattle.sf_report.specs.Steps.{StepEnd, Step}
@@ -12,7 +12,7 @@ use Rattle.sf_report.specs.Machine.{some_below, Skipping}
 use Rattle.sf_report.specs.Residual.{nothing_yet, one_from, run_of}
 use Rattle.sf_report.specs.Computed.{step_of, part_of, ran_of}
 use Rattle.sf_report.specs.Limits.{RunWithin, RunTold}
-use Rattle.sf_report.specs.Rows.{HasRow}
+use Rattle.sf_report.specs.Rows.{FillsSlots, HasRow}
 
 -- the directives, the input, its ending and the limit have this report and no other
 pub record HasOneReport (ds : List Directive) (m : ℕ) (x : List ℕ) (ending : Ending) : Type 0 where
@@ -43,10 +43,16 @@ EachDoneRunStays =
     → RunWithin ds m (x ++ z) first report → report.status ≡ Done → report.used ≤ length x
     → (met : Option Ending) × RunWithin ds m x second (record report { met = met })
 
--- where a run of an accepted format over bytes is Done, its report has a row of values of the format's kinds
+-- where a run of an accepted format over bytes is Done, each slot was given a value of its kind, or may be missing
+abbrev pub EachDoneRunFillsSlots : Type 0
+EachDoneRunFillsSlots =
+    (ds : List Directive) → IsAccepted ds → (m : ℕ) (x : List ℕ) (ending : Ending) (report : RunReport)
+    → AreBytes x → RunTold ds m x ending report → report.status ≡ Done → FillsSlots ds report.values
+
+-- where such a format has no conversion that may be missing, its report has a row of values of the format's kinds
 abbrev pub EachDoneRunHasItsRow : Type 0
 EachDoneRunHasItsRow =
-    (ds : List Directive) → IsAccepted ds → (m : ℕ) (x : List ℕ) (ending : Ending) (report : RunReport)
+    (ds : List Directive) → IsAccepted ds → has_optional ds ≡ false → (m : ℕ) (x : List ℕ) (ending : Ending) (report : RunReport)
     → AreBytes x → RunTold ds m x ending report → report.status ≡ Done → HasRow ds report.values
 
 -- ---- steps and runs as functions

@@ -1,15 +1,23 @@
 -- Each directive as a machine that is handed bytes. proofs/Ones shows that it makes the directive's step.
 use Rattle.std.specs.Prelude.{ℕ, zero, suc, Bool, true, false, not, ◌&&◌, nat_eq, if◌then◌else◌, List, [], ◌∷◌, ◌++◌, Option, Some, None, is_some, ℤ}
 use Rattle.sf_base.specs.Bytes.{is_white}
-use Rattle.sf_base.specs.Data.{Number, Bytes, value_of}
+use Rattle.std.specs.Option.{option_map}
+use Rattle.std.specs.Float.Ieee.{binary32, binary64}
+use Rattle.sf_base.specs.Data.{Number, Bytes, Real, value_of}
+use Rattle.sf_base.specs.declared.real.Real as real
+use Rattle.sf_base.specs.declared.real.Real.TheVariants as reals
+use Rattle.sf_base.specs.declared.values.Kind.{Kind}
+use Rattle.sf_base.specs.declared.values.Kind.TheVariants as kinds
+use Rattle.sf_float_item.specs.Tests.{is_float}
+use Rattle.sf_float_value.specs.Computed.{stored_in}
 use Rattle.sf_format.specs.declared.directive.Shape.{Shape}
-use Rattle.sf_format.specs.declared.directive.Shape.TheVariants.{Int, Text, Set, Chars, Count}
+use Rattle.sf_format.specs.declared.directive.Shape.TheVariants.{Int, Text, Set, Chars, Float, Count}
 use Rattle.sf_format.specs.declared.directive.Conversion.{Conversion}
 use Rattle.sf_format.specs.declared.directive.Directive.{Directive}
 use Rattle.sf_format.specs.declared.directive.Directive.TheVariants.{Space, Byte, Percent, Conv}
 use Rattle.sf_item.specs.Tests.{integer_at, matches, can_take}
 use Rattle.sf_report.specs.declared.outcome.Status.TheVariants.{InputFailure, MatchingFailure, OutOfRange}
-use Rattle.sf_report.specs.Steps.{StepEnd, Passes, Stores, Fails}
+use Rattle.sf_report.specs.Steps.{StepEnd, Passes, Stores, Misses, Fails}
 
 -- how far a directive has come: it took white space alone, or its one byte, or the bytes of its item
 pub data Stage : Type 0 where
@@ -25,6 +33,7 @@ shape_skips (Int base) = true
 shape_skips Text = true
 shape_skips (Set members) = false
 shape_skips Chars = false
+shape_skips Float = true
 shape_skips Count = false
 
 abbrev pub item_stepped : Conversion → List ℕ → ℕ → Option Stage
@@ -80,8 +89,23 @@ abbrev pub integer_end : Conversion → ℕ → Option (Bool × ℕ) → StepEnd
 integer_end c slot None = Passes
 integer_end c slot (Some i) = number_end c slot (value_of c.kind i.0 i.1)
 
+-- the float of the kind that a matching sequence gives, where that is in range
+abbrev pub real_in : Kind → List ℕ → Option real.Real
+real_in kinds.F32 item = option_map reals.F32 (stored_in binary32 item)
+real_in kinds.F64 item = option_map reals.F64 (stored_in binary64 item)
+real_in _ item = None
+
+-- the same of any text
+abbrev pub real_at : Kind → List ℕ → Option real.Real
+real_at kind item = if is_float item then real_in kind item else None
+
+abbrev pub real_end : ℕ → Option real.Real → StepEnd
+real_end slot None = Fails OutOfRange
+real_end slot (Some r) = Stores slot (Real r)
+
 abbrev pub stored_end : Conversion → ℕ → Shape → List ℕ → StepEnd
 stored_end c slot (Int base) item = integer_end c slot (integer_at base item)
+stored_end c slot Float item = real_end slot (real_at c.kind item)
 stored_end c slot _ item = Stores slot (Bytes item)
 
 abbrev pub passed_end : Conversion → Option ℕ → List ℕ → StepEnd
@@ -96,13 +120,17 @@ item_end c item = if matches c item then passed_end c c.slot item else Fails Mat
 abbrev pub nothing_end : Bool → StepEnd
 nothing_end more = Fails (if more then MatchingFailure else InputFailure)
 
+-- no byte of an item was taken
+abbrev pub empty_end : Conversion → Bool → StepEnd
+empty_end c more = if c.optional then Misses else nothing_end more
+
 abbrev pub byte_finished : Stage → Bool → StepEnd
 byte_finished Skipping more = nothing_end more
 byte_finished Taken more = Passes
 byte_finished (Item f) more = Fails MatchingFailure
 
 abbrev pub item_finished : Conversion → Stage → Bool → StepEnd
-item_finished c Skipping more = nothing_end more
+item_finished c Skipping more = empty_end c more
 item_finished c Taken more = Fails MatchingFailure
 item_finished c (Item f) more = item_end c f
 

@@ -4,7 +4,7 @@ use Rattle.sf_base.specs.Data.{Assigned}
 use Rattle.sf_format.specs.declared.directive.Directive.{Directive}
 use Rattle.sf_report.specs.declared.outcome.Status.{Status}
 use Rattle.sf_report.specs.declared.outcome.Status.TheVariants.{Done, TooLong}
-use Rattle.sf_report.specs.Steps.{StepEnd, Passes, Stores, Fails}
+use Rattle.sf_report.specs.Steps.{StepEnd, Passes, Stores, Misses, Fails}
 use Rattle.sf_report.specs.Runs.{RunReport, is_conversion}
 use Rattle.sf_report.specs.Machine.{Stage, Skipping, stepped, finished}
 
@@ -36,6 +36,7 @@ counted d (Stores slot v) t =
       values =
           t.values ++ record { slot = slot; datum = v } ∷ [];
     }
+counted d Misses t = t
 counted d (Fails status) t = t
 
 abbrev pub out_of : Status → ℕ → Tally → RunReport
@@ -83,6 +84,7 @@ or_zero (Some m) = m
 abbrev pub by_end : {B : Type 0} → StepEnd → B → (Status → B) → B
 by_end Passes y f = y
 by_end (Stores slot v) y f = y
+by_end Misses y f = y
 by_end (Fails status) y f = f status
 
 -- a directive's part, and then the directives after it

@@ -10,7 +10,7 @@ use Rattle.sf_format.specs.declared.directive.Directive.TheVariants.{Conv}
 use Rattle.sf_report.specs.declared.outcome.Ending.{Ending}
 use Rattle.sf_report.specs.declared.outcome.Status.{Status}
 use Rattle.sf_report.specs.declared.outcome.Status.TheVariants.{Done, InputFailure}
-use Rattle.sf_report.specs.Steps.{StepEnd, Passes, Stores, Fails, Step}
+use Rattle.sf_report.specs.Steps.{StepEnd, Passes, Stores, Misses, Fails, Step}
 
 -- a directive that ran: the bytes that it consumed, and how it ended
 pub record Ran : Type 0 where
@@ -22,6 +22,7 @@ pub record Ran : Type 0 where
 abbrev pub GoesOn : StepEnd → Type 0 → List Ran → Type 0
 GoesOn Passes rest ran = rest
 GoesOn (Stores slot v) rest ran = rest
+GoesOn Misses rest ran = rest
 GoesOn (Fails status) rest ran = ran ≡ []
 
 -- The directives that ran are ds up to and including the first that fails, each on what those before it
@@ -52,7 +53,12 @@ place_of_failure ran = if list_any (λ r. is_some (failure_of r.end)) ran then l
 
 -- the values in the order in which they were stored, each with its slot
 abbrev pub value_stored : Ran → Option Assigned
-value_stored r = elim r.end [ Passes ↦ None | Stores slot v ↦ Some (record { slot = slot; datum = v }) | Fails status ↦ None ]
+value_stored r = elim r.end [
+  | Passes ↦ None
+  | Stores slot v ↦ Some (record { slot = slot; datum = v })
+  | Misses ↦ None
+  | Fails status ↦ None
+]
 
 abbrev pub values : List Ran → List Assigned
 values ran = filter_map value_stored ran
@@ -66,8 +72,10 @@ abbrev pub is_conversion : Directive → Bool
 is_conversion (Conv c) = is_shape_converted c.shape
 is_conversion _ = false
 
+-- it passed with an item; one that is missing does not count
 abbrev pub passed : StepEnd → Bool
 passed (Fails status) = false
+passed Misses = false
 passed _ = true
 
 abbrev pub stored : StepEnd → Bool

@@ -1,9 +1,16 @@
 -- One directive of a run (C11 7.21.6.2p4 to p10).
-use Rattle.std.specs.Prelude.{◌≡◌, ◌≢◌, ℕ, zero, suc, ◌+◌, ◌⊎◌, Bool, false, List, [], ◌∷◌, take, drop, Option, Some, None, ℤ}
+use Rattle.std.specs.Prelude.{◌≡◌, ◌≢◌, ℕ, zero, suc, ◌+◌, ◌⊎◌, Bool, true, false, List, [], ◌∷◌, take, drop, Option, Some, None, ℤ}
+use Rattle.std.specs.Option.{option_map}
+use Rattle.std.specs.Float.Ieee.{binary32, binary64}
 use Rattle.sf_base.specs.Bytes.{IsSkip}
-use Rattle.sf_base.specs.Data.{Datum, Number, Bytes, value_of}
+use Rattle.sf_base.specs.Data.{Datum, Number, Bytes, Real, value_of}
+use Rattle.sf_base.specs.declared.real.Real as real
+use Rattle.sf_base.specs.declared.real.Real.TheVariants as reals
+use Rattle.sf_base.specs.declared.values.Kind.{Kind}
+use Rattle.sf_base.specs.declared.values.Kind.TheVariants as kinds
+use Rattle.sf_float_value.specs.Values.{IsStored}
 use Rattle.sf_format.specs.declared.directive.Shape.{Shape}
-use Rattle.sf_format.specs.declared.directive.Shape.TheVariants.{Int, Text, Count}
+use Rattle.sf_format.specs.declared.directive.Shape.TheVariants.{Int, Text, Float, Count}
 use Rattle.sf_format.specs.declared.directive.Conversion.{Conversion}
 use Rattle.sf_format.specs.declared.directive.Directive.{Directive}
 use Rattle.sf_format.specs.declared.directive.Directive.TheVariants.{Space, Byte, Percent, Conv}
@@ -11,10 +18,11 @@ use Rattle.sf_item.specs.Matching.{IsInteger, Matches, IsItem}
 use Rattle.sf_report.specs.declared.outcome.Status.{Status}
 use Rattle.sf_report.specs.declared.outcome.Status.TheVariants.{InputFailure, MatchingFailure, OutOfRange}
 
--- how a directive ends: it passes, perhaps with a value for its slot, or it fails
+-- how a directive ends: it passes, perhaps with a value for its slot; its item is missing, and may be; or it fails
 pub data StepEnd : Type 0 where
   Passes : StepEnd
   Stores : ℕ → Datum → StepEnd
+  Misses : StepEnd
   Fails : Status → StepEnd
 
 -- a byte that has to stand next (C11 7.21.6.2p6)
@@ -32,10 +40,21 @@ abbrev pub CountStep : Conversion → Option ℕ → ℕ → StepEnd → Type 0
 CountStep c None n end = end ≡ Passes
 CountStep c (Some slot) n end = NumberStored c slot (value_of c.kind false n) end
 
+-- the float of the kind that a matching sequence gives, where that is in range (C11 7.21.6.2p10, 7.22.1.3p10)
+abbrev pub IsReal : Kind → List ℕ → Option real.Real → Type 0
+IsReal kinds.F32 item r = (bits : Option ℕ) × IsStored binary32 item bits × (r ≡ option_map reals.F32 bits)
+IsReal kinds.F64 item r = (bits : Option ℕ) × IsStored binary64 item bits × (r ≡ option_map reals.F64 bits)
+IsReal _ item r = r ≡ None
+
+abbrev pub RealStored : ℕ → Option real.Real → StepEnd → Type 0
+RealStored slot None end = end ≡ Fails OutOfRange
+RealStored slot (Some r) end = end ≡ Stores slot (Real r)
+
 -- what an assigned conversion stores of a matching item
 abbrev pub ItemStored : Conversion → ℕ → Shape → List ℕ → StepEnd → Type 0
 ItemStored c slot (Int base) item end =
     (negative : Bool) × (m : ℕ) × IsInteger base item negative m × NumberStored c slot (value_of c.kind negative m) end
+ItemStored c slot Float item end = (r : Option real.Real) × IsReal c.kind item r × RealStored slot r end
 ItemStored c slot _ item end = end ≡ Stores slot (Bytes item)
 
 -- a suppressed conversion stores nothing, and is not checked against its kind
@@ -43,14 +62,16 @@ abbrev pub ItemPasses : Conversion → Option ℕ → List ℕ → StepEnd → T
 ItemPasses c None item end = end ≡ Passes
 ItemPasses c (Some slot) item end = ItemStored c slot c.shape item end
 
--- an item of no byte: the input ended there, or another byte stands there (C11 7.21.6.2p9)
-abbrev pub EmptyItem : List ℕ → StepEnd → Type 0
-EmptyItem [] end = end ≡ Fails InputFailure
-EmptyItem (b ∷ x) end = end ≡ Fails MatchingFailure
+-- An item of no byte: the input ended there, or another byte stands there (C11 7.21.6.2p9). An item that may be missing
+-- is then missing (our own; C has no such conversion).
+abbrev pub EmptyItem : Bool → List ℕ → StepEnd → Type 0
+EmptyItem true x end = end ≡ Misses
+EmptyItem false [] end = end ≡ Fails InputFailure
+EmptyItem false (b ∷ x) end = end ≡ Fails MatchingFailure
 
 -- how a conversion ends whose item is the first j bytes of x (C11 7.21.6.2p10)
 abbrev pub ItemEnds : Conversion → List ℕ → ℕ → StepEnd → Type 0
-ItemEnds c x zero end = EmptyItem x end
+ItemEnds c x zero end = EmptyItem c.optional x end
 ItemEnds c x (suc j) end =
     Matches c (take (suc j) x) × ItemPasses c c.slot (take (suc j) x) end
     ⊎ (Matches c (take (suc j) x) → ⊥) × (end ≡ Fails MatchingFailure)
@@ -59,6 +80,7 @@ ItemEnds c x (suc j) end =
 abbrev pub IsSkipBefore : Shape → List ℕ → ℕ → Type 0
 IsSkipBefore (Int base) x s = IsSkip x s
 IsSkipBefore Text x s = IsSkip x s
+IsSkipBefore Float x s = IsSkip x s
 IsSkipBefore _ x s = s ≡ 0
 
 abbrev pub ItemStep : Conversion → List ℕ → ℕ → StepEnd → Type 0

@@ -2,6 +2,7 @@
 ghost use Rattle.sf_report.specs.Laws.{
   EachByteIsTried,
   EachClosedInputStays,
+  EachDoneRunFillsSlots,
   EachDoneRunHasItsRow,
   EachDoneRunStays,
   EachHasOneReport,
@@ -35,9 +36,11 @@ pub fn done_runs_stay()
 {}
 
 /// A run of an accepted format that is Done has given each slot, from 1 to the count of the destinations, a value of
-/// the slot's kind: a number that the kind holds, or the bytes of a text.
+/// the slot's kind: a number that the kind holds, the bytes of a text, or a float. Only a slot with a `?` may have
+/// been given nothing; without one there is a row of values.
 pub fn done_runs_have_rows()
-    ensures { EachDoneRunHasItsRow }
+    ensures slots { EachDoneRunFillsSlots }
+    ensures row { EachDoneRunHasItsRow }
 {}
 
 /// Each directive makes the step that `step_of` computes, and no other; so does its machine, which is handed the input

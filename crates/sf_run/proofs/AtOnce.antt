@@ -19,7 +19,7 @@ use Rattle.sf_run.specs.declared.tally.Tally as code
 use Rattle.sf_run.specs.Holding.{are_apart, are_placed}
 use Rattle.sf_report.specs.Limits.{RunWithin, TellsWithin}
 use Rattle.sf_report.specs.Machine.{Skipping}
-use Rattle.sf_run.specs.Phases.{end_of, is_failing, slot_given}
+use Rattle.sf_run.specs.Phases.{end_of, is_failing, is_missing, slot_given}
 use Rattle.sf_run.specs.Pieces.{EndsAtOnce}
 use Rattle.sf_run.specs.Places.{is_destination, places_left}
 use Rattle.sf_run.specs.Quick.{GivesTo, IsSure, MayBeGiven, Passes, PassesWithin, done_by, slot_stored, text_stored}
@@ -38,7 +38,7 @@ use Rattle.sf_report.proofs.Inputs.{open_all}
 
 -- the slot of what it gives is its own
 pub free_of : (slots : ℕ) (f : Finished) (d : Directive) (values : List Assigned)
-    → (is_failing f ≡ false → slot_given f ≡ slot_of d)
+    → (is_failing f ≡ false → is_missing f ≡ false → slot_given f ≡ slot_of d)
     → MayBeGiven slots (slot_of d) values → MayBeGiven slots (slot_given f) values
 free_of slots f d values own free = grind arith
 

@@ -17,7 +17,7 @@ use Rattle.sf_run.specs.declared.directive.Phase.{Phase}
 use Rattle.sf_run.specs.declared.directive.Run.{Run}
 use Rattle.sf_run.specs.declared.directive.Phase.TheVariants as phase
 use Rattle.sf_report.specs.declared.outcome.Status.{Status}
-use Rattle.sf_report.specs.Steps.{StepEnd, Fails, Passes, Stores}
+use Rattle.sf_report.specs.Steps.{StepEnd, Fails, Passes, Stores, Misses}
 use Rattle.sf_report.specs.Runs.{Ran, used}
 use Rattle.sf_report.specs.Limits.{IsCut}
 use Rattle.sf_report.specs.Machine.{Stage, Skipping, Item, item_stepped, shape_skips}
@@ -127,6 +127,7 @@ module _ (ds : List Directive) (p : ℕ) (d : Directive) (at : slice_get ds p �
 go_ok : (f : StepEnd) (rest : List Ran) → ((status : Status) → f ≡ Fails status → ⊥) → go_on f rest ≡ rest
 go_ok Passes rest ok = refl
 go_ok (Stores slot v) rest ok = refl
+go_ok Misses rest ok = refl
 go_ok (Fails status) rest ok = absurd (ok status refl)
 
 abbrev ran_one : Directive → ℕ → StepEnd → Ran
@@ -251,6 +252,7 @@ ends_advance new mid old d f y n at here used ends within takes x h still = by f
         → Comes new (x ++ take n y) (drop n y)
     by Passes ends takes = passes Passes (λ status e. cc) ends takes
     by (Stores slot v) ends takes = passes (Stores slot v) (λ status e. cc) ends takes
+    by Misses ends takes = passes Misses (λ status e. cc) ends takes
     by (Fails status) ends takes = let stopped = ends.ended in absurd cc
 
 pub answer_advances : (new mid old : Standing) (d : Directive) (run : Run) (end : Finished) (front y : List ℕ)

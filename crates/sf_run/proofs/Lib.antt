@@ -16,6 +16,7 @@ pub use Rattle.sf_report.proofs.Filling
 pub use Rattle.sf_report.proofs.Values
 pub use Rattle.sf_report.proofs.HaveRows
 -- of what makes one
+pub mod FloatTexts
 pub mod Stages
 pub mod Brought
 pub mod Pieces

@@ -16,7 +16,7 @@ use Rattle.sf_run.specs.declared.directive.Run.{Run}
 use Rattle.sf_report.specs.declared.outcome.Status.{Status}
 use Rattle.sf_report.specs.declared.outcome.Status.TheVariants.{Done, TooLong}
 use Rattle.sf_run.specs.declared.scanner.Stop.{Stop}
-use Rattle.sf_report.specs.Steps.{StepEnd, Passes, Stores, Fails}
+use Rattle.sf_report.specs.Steps.{StepEnd, Passes, Stores, Misses, Fails}
 use Rattle.sf_report.specs.Runs.{RunReport}
 use Rattle.sf_report.specs.Machine.{Stage, Skipping, stepped, finished}
 use Rattle.sf_run.specs.Phases.{Shows, GrowsBy, Brings, end_of, slot_in}
@@ -251,6 +251,8 @@ ends_follows new mid old d Passes y z at waits here ends takes =
     passes_follows new mid old d Passes y z at waits here ends (λ status e. cc) takes
 ends_follows new mid old d (Stores slot v) y z at waits here ends takes =
     passes_follows new mid old d (Stores slot v) y z at waits here ends (λ status e. cc) takes
+ends_follows new mid old d Misses y z at waits here ends takes =
+    passes_follows new mid old d Misses y z at waits here ends (λ status e. cc) takes
 ends_follows new mid old d (Fails status) y z at waits here ends takes = fails_follows new mid old d status y z at waits here ends takes
 
 -- where nothing follows

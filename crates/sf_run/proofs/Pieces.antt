@@ -1,6 +1,6 @@
 -- What a directive makes of a piece.
 use Rattle.std.proofs.lemmas.Grind.{common_steps}
-use Rattle.std.proofs.lemmas.Bool.{false_from_ne_true}
+use Rattle.std.proofs.lemmas.Bool.{and_parts, false_from_ne_true}
 use Rattle.std.proofs.lemmas.List.{take_more}
 use Rattle.std.proofs.Common.{zero-add, add-zero, length-append, ◌≡◌, ◌≢◌, ℕ, zero, suc, ◌+◌, ◌<◌, ◌≤◌, Bool, true, false, cond, ◌&&◌, List, [], ◌∷◌, ◌++◌, length, take, drop, get_or, append_assoc, append-nil, take-append-drop, length-drop, Option, Some, None, refl, sym, ap, subst, ◌∙◌, arith}
 use Rattle.std.specs.Prelude.{IfSome, IsSome, MatchOption, slice_get}
@@ -12,14 +12,14 @@ use Rattle.sf_format.specs.declared.directive.Base.{Base}
 use Rattle.sf_format.specs.declared.directive.Conversion.{Conversion}
 use Rattle.sf_format.specs.declared.directive.Directive.{Directive}
 use Rattle.sf_format.specs.declared.directive.Shape.{Shape}
-use Rattle.sf_format.specs.declared.directive.Shape.TheVariants.{Int, Text, Set, Chars, Count}
+use Rattle.sf_format.specs.declared.directive.Shape.TheVariants.{Int, Text, Set, Chars, Float, Count}
 use Rattle.sf_format.specs.declared.directive.Directive.TheVariants.{Space, Byte, Percent, Conv}
 use Rattle.sf_format.specs.Proper.{IsProper, IsProperShape}
 use Rattle.sf_item.specs.declared.item.ItemScan.{ItemScan}
 use Rattle.sf_item.specs.declared.whole.WholeInteger.{WholeInteger}
 use Rattle.sf_item.specs.Matching.{IsInteger, IsItem, IsWithin}
 use Rattle.sf_item.specs.Taking.{CanTake, HasTaken, conversion_of}
-use Rattle.sf_item.specs.Tests.{can_take}
+use Rattle.sf_item.specs.Tests.{can_take, is_within, shape_begins}
 use Rattle.sf_item.proofs.Deciding.{tests_can_take}
 use Rattle.sf_item.specs.Wholes.{ItemWithin, NoItemWithin}
 use Rattle.sf_run.specs.declared.directive.Ended.{Ended}
@@ -28,15 +28,15 @@ use Rattle.sf_run.specs.declared.directive.Finished.TheVariants as finish
 use Rattle.sf_run.specs.declared.directive.Phase.{Phase}
 use Rattle.sf_run.specs.declared.directive.Phase.TheVariants as phase
 use Rattle.sf_run.specs.declared.directive.Run.{Run}
-use Rattle.sf_report.specs.declared.outcome.Status.TheVariants.{MatchingFailure}
 use Rattle.sf_report.specs.Steps.{StepEnd}
-use Rattle.sf_report.specs.Machine.{Stage, Skipping, Item, shape_skips, count_end, item_end, stepped, is_full}
+use Rattle.sf_report.specs.Machine.{Stage, Skipping, Item, shape_skips, count_end, empty_end, item_end, stepped, is_full}
 use Rattle.sf_run.specs.Phases.{CanAll, GrowsBy, Shows, ShowsItem, end_of, passed_number, slot_in}
 use Rattle.sf_run.specs.Pieces.{Answers, AnswersBy, EndsAt, EndsAtOnce, EndsIn, IsEnd, IsEndIn, IsEndOf, IsTextShape, IsWhole, StaysAt, Suits, item_of, run_of}
 use Rattle.sf_run.specs.Quick.{IsSure}
 use Rattle.sf_report.specs.Residual.{Part, one_from, stepped_all}
-use Rattle.sf_run.specs.Texts.{StoresByte, counts_bytes, is_count, text_slot, slot_of_text}
+use Rattle.sf_run.specs.Texts.{IsInText, StoresByte, counts_bytes, is_count, text_slot, slot_of_text}
 use Rattle.sf_report.proofs.Joined.{all-append, one_from-all}
+use Rattle.sf_run.proofs.FloatTexts.{float_ink}
 use Rattle.sf_run.proofs.Brought.{item_skips, can_all, first_all, item_all, skips_all, take-take}
 use Rattle.sf_report.proofs.Items.{can_take_prefix}
 use Rattle.sf_report.proofs.Machines.{full_refuses, grows}
@@ -222,9 +222,24 @@ count_answers c n piece end proper is e =
 -- ---- items
 
 -- the bytes of an item that is a text belong to it
+in_text : (shape : Shape) (width : Option ℕ) (f : List ℕ) (b : ℕ) → shape_begins shape width (f ++ b ∷ []) ≡ true → IsInText shape b
+in_text Float width f b begins = float_ink f b begins
+in_text Text width f b begins = grind (arith, common_steps)
+in_text (Int base) width f b begins = tt
+in_text (Set members) width f b begins = tt
+in_text Chars width f b begins = tt
+in_text Count width f b begins = tt
+
 pub item_stores : (c : Conversion) (f y : List ℕ) (slot j : ℕ) → CanAll c f y → text_slot (Conv c) ≡ Some slot → j < length y
     → StoresByte (Conv c) (get_or y j 0)
-item_stores c f y slot j can own below = grind (arith, common_steps)
+item_stores c f y slot j can own below =
+    let next : f ++ take (j + 1) y ≡ (f ++ take j y) ++ get_or y j 0 ∷ [] = rw (take_more y j 0 below, append_assoc) refl in
+    let all : can_take c ((f ++ take j y) ++ get_or y j 0 ∷ []) ≡ true = ap (can_take c) (sym next) ∙ can j below in (
+      slot,
+      own,
+      in_text c.shape c.width (f ++ take j y) (get_or y j 0)
+          (and_parts (is_within c.width (length ((f ++ take j y) ++ get_or y j 0 ∷ []))) _ all).1,
+    )
 
 pub stores_behind : (c : Conversion) (f piece : List ℕ) (n slot j : ℕ) → n ≤ length piece → CanAll c f (take n piece)
     → text_slot (Conv c) ≡ Some slot → j < n → StoresByte (Conv c) (get_or piece j 0)
@@ -306,14 +321,14 @@ first_refused c (b ∷ piece) proper some ink never = let no = false_from_ne_tru
     (λ e. never ((tests_can_take c proper (b ∷ [])).from e)) in rw (ink, no) refl
 
 -- nothing of an item is taken where the first byte can't be
-pub nothing_taken : (c : Conversion) (n : ℕ) (piece : List ℕ) → IsProperShape c.shape → is_count c.shape ≡ false → 0 < length piece
-    → (shape_skips c.shape && is_white (get_or piece 0 0)) ≡ false
-    → (CanTake c (take 1 piece) → ⊥) → Answers (Conv c) Skipping n piece
-    (record { before = 0; item = 0; phase = phase.Skipping; ends = Some (finish.Fails MatchingFailure) })
-nothing_taken c n piece proper other some ink never =
-    plain_ends (Conv c) n 0 Skipping piece (finish.Fails MatchingFailure) (omega arith) refl
+pub nothing_taken : (c : Conversion) (n : ℕ) (piece : List ℕ) (end : Finished) → IsProperShape c.shape → is_count c.shape ≡ false
+    → 0 < length piece → (shape_skips c.shape && is_white (get_or piece 0 0)) ≡ false
+    → (CanTake c (take 1 piece) → ⊥) → end_of [] end ≡ empty_end c true → Answers (Conv c) Skipping n piece
+    (record { before = 0; item = 0; phase = phase.Skipping; ends = Some end })
+nothing_taken c n piece end proper other some ink never is =
+    plain_ends (Conv c) n 0 Skipping piece end (omega arith) refl
     (λ m z. stays_next (Conv c) Skipping 0 piece some (first_refused c piece proper some ink never) m z
-    ∙ same_part refl refl (other_finished c c.shape Skipping m true other))
+    ∙ same_part refl refl (other_finished c c.shape Skipping m true other ∙ sym is))
 
 -- an item that is over ends as the code tells
 pub over_ends : (c k : Conversion) (h rest : List ℕ) (end : Finished) → k ≡ c → is_count c.shape ≡ false → StaysAt (Conv k) (Item h) rest
@@ -373,27 +388,23 @@ integer_read c n piece w end is ink ends =
     (ends (take w.bytes piece) ∙ integer_ends c (take w.bytes piece) w.negative w.magnitude false
     (is.base, w.magnitude, is.is, is.ends.integer, refl))
 
+-- an item that is stored as it stands is that of a conversion
+text_shape : (s : Shape) → IsTextShape s → is_count s ≡ false
+text_shape s is = grind arith
+
 pub bytes_read : (c : Conversion) (n item : ℕ) (piece : List ℕ) (end : Finished) → IsProper (Conv c)
-    → ((slot : Option ℕ) → slot_of_text c.shape slot ≡ slot) → is_count c.shape ≡ false
-    → ItemWithin c.shape c.width piece item → (shape_skips c.shape && is_white (get_or piece 0 0)) ≡ false
+    → IsTextShape c.shape → ItemWithin c.shape c.width piece item → (shape_skips c.shape && is_white (get_or piece 0 0)) ≡ false
     → (c.slot ≡ None → end ≡ finish.Passes)
     → ((slot : ℕ) → c.slot ≡ Some slot → end ≡ finish.Closes slot)
     → Answers (Conv c) Skipping n piece (record { before = 0; item = item; phase = phase.Skipping; ends = Some end })
-bytes_read c n item piece end proper text other is ink none some =
-    item_read c n item piece end proper.0 other is.some is.behind (is.item c refl refl proper.0) ink (by_slot c.slot refl)
+bytes_read c n item piece end proper text is ink none some =
+    item_read c n item piece end proper.0 (text_shape c.shape text) is.some is.behind (is.item c refl refl proper.0) ink
+    (by_slot c.slot refl)
   where
     by_slot : (slot : Option ℕ) → c.slot ≡ slot → end_of (take item piece) end ≡ item_end c (take item piece)
     by_slot None e = ap (end_of (take item piece)) (none e) ∙ suppressed_end c (take item piece) e (is.matches c refl refl)
     by_slot (Some slot) e = ap (end_of (take item piece)) (some slot e)
-        ∙ text_end c (take item piece) slot (text c.slot ∙ e) (is.matches c refl refl)
-
--- an item that is stored as it stands is the text of its conversion's slot
-pub text_shape : (s : Shape) → IsTextShape s → ((slot : Option ℕ) → slot_of_text s slot ≡ slot) × (is_count s ≡ false)
-text_shape (Int base) is = absurd is
-text_shape Count is = absurd is
-text_shape Text is = (λ slot. refl, refl)
-text_shape (Set members) is = (λ slot. refl, refl)
-text_shape Chars is = (λ slot. refl, refl)
+        ∙ text_end c (take item piece) slot text e (is.matches c refl refl)
 
 -- an item of the shape, where one was found
 pub item_if : (s t : Shape) (width : Option ℕ) (piece : List ℕ) (o : Option ℕ) → s ≡ t

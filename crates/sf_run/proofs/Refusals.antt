@@ -4,14 +4,14 @@ use Rattle.std.proofs.Common.{◌≡◌, ℕ, ◌+◌, ◌-◌, ◌<◌, ◌≤�
 use Rattle.std.specs.Prelude.{slice_get, IfNone, IsSome}
 use Rattle.sf_base.specs.Bytes.{is_white}
 use Rattle.sf_format.specs.declared.directive.Shape.{Shape}
-use Rattle.sf_format.specs.declared.directive.Shape.TheVariants.{Int, Text, Set, Chars, Count}
+use Rattle.sf_format.specs.declared.directive.Shape.TheVariants.{Int, Text, Set, Chars, Float, Count}
 use Rattle.sf_format.specs.declared.directive.Directive.{Directive}
 use Rattle.sf_format.specs.Proper.{AreProper}
 use Rattle.sf_report.specs.declared.outcome.Ending.{Ending}
 use Rattle.sf_report.specs.declared.outcome.Status.{Status}
 use Rattle.sf_report.specs.declared.outcome.Status.TheVariants.{Done, TooLong, NoMemory}
 use Rattle.sf_run.specs.declared.scanner.Stop.{Stop}
-use Rattle.sf_report.specs.Steps.{StepEnd, Passes, Stores, Fails}
+use Rattle.sf_report.specs.Steps.{StepEnd, Passes, Stores, Misses, Fails}
 use Rattle.sf_report.specs.Runs.{RunReport, report_of, used}
 use Rattle.sf_report.specs.Limits.{IsCut, TellsWithin, RunRefused}
 use Rattle.sf_report.specs.Limits.{Stores as StoresAt, StoresShape}
@@ -38,6 +38,7 @@ is_own _ = true
 own_end : StepEnd → Bool
 own_end Passes = true
 own_end (Stores slot v) = true
+own_end Misses = true
 own_end (Fails status) = is_own status
 
 finish_own : (d : Directive) (q : Stage) (n : ℕ) (more : Bool) → own_end (finished d q n more) ≡ true
@@ -97,6 +98,9 @@ stores_shape (Int base) slot n b u v j e text all = cc
 stores_shape Count slot n b u v j e text all = cc
 stores_shape (Set members) slot n b u v j e text all = (is_some_of slot n e, (0, refl, omega arith))
 stores_shape Chars slot n b u v j e text all = (is_some_of slot n e, (0, refl, omega arith))
+stores_shape Float slot n b u v j e text all =
+    let low = skip_before u b v text in
+    (is_some_of slot n e, (skip (u ++ b ∷ v), skip_is (u ++ b ∷ v), omega (arith, low, all)))
 stores_shape Text slot n b u v j e text all =
     let low = skip_before u b v text in
     (is_some_of slot n e, (skip (u ++ b ∷ v), skip_is (u ++ b ∷ v), omega (arith, low, all)))

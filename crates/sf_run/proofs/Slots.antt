@@ -1,16 +1,17 @@
 -- The slots of a format and those of a store.
 use Rattle.sf_report.proofs.Machines.{some_is}
-use Rattle.std.proofs.lemmas.Bool.{and_from, and_parts, or_from}
+use Rattle.std.proofs.lemmas.Bool.{and_from, and_parts, or_from, or_left, or_right, or_cases, eq-eqb}
 use Rattle.std.proofs.lemmas.Grind.{common_steps}
-use Rattle.std.proofs.Common.{◌≡◌, ℕ, zero, suc, ◌+◌, ◌≤◌, Bool, true, false, not, ◌&&◌, nat_eq, nat_le, List, [], ◌∷◌, ◌++◌, length, take, drop, Option, Some, None, is_some, refl, sym, ap, subst, ◌∙◌, arith, unwrap_or, append-nil, length-append}
+use Rattle.std.proofs.Common.{◌≡◌, ℕ, zero, suc, ◌+◌, ◌≤◌, Bool, true, false, not, ◌&&◌, nat_eq, nat_le, List, [], ◌∷◌, ◌++◌, length, take, drop, Option, Some, None, is_some, refl, sym, ap, subst, ◌∙◌, arith, unwrap_or, append-nil, length-append, inl, inr, true≢false}
 use Rattle.std.specs.Prelude.{◌≢◌, slice_get, IfSome}
 use Rattle.std.specs.List.{AllByRecursion, list_all, list_any}
 use Rattle.std.proofs.lemmas.Bool.{ne_eqb}
 use Rattle.std.proofs.lemmas.Bool.Decides.{nat_tests}
 use Rattle.std.proofs.lemmas.List.{map-append}
 use Rattle.std.proofs.lemmas.List.Sums.{sum_by-cons}
-use Rattle.sf_base.specs.Data.{Datum, Bytes, Assigned, datum_at, datum_of_number}
-use Rattle.sf_base.specs.Kept.{Kept, assigned, with_closed, Opened, text_of, text_in, texts_in, values_closed}
+use Rattle.sf_base.specs.declared.real.Real as real
+use Rattle.sf_base.specs.Data.{Datum, Bytes, Real, Assigned, datum_at, datum_of_number}
+use Rattle.sf_base.specs.Kept.{Kept, assigned, with_closed, with_dropped, Opened, text_of, text_in, texts_in, values_closed}
 use Rattle.sf_report.specs.Memory.{capacity_of}
 use Rattle.sf_base.specs.declared.number.Number.{Number}
 use Rattle.sf_format.specs.declared.directive.Conversion.{Conversion}
@@ -26,7 +27,7 @@ use Rattle.sf_item.specs.Taking.{left_of}
 use Rattle.sf_run.specs.declared.directive.Phase.{Phase}
 use Rattle.sf_run.specs.declared.directive.Phase.TheVariants as phase
 use Rattle.sf_run.specs.declared.scanner.Stop.{Stop}
-use Rattle.sf_run.specs.Holding.{are_placed, are_apart, first_slot, is_text, stored_widths, width_left, widths_from, still_stored, left_before}
+use Rattle.sf_run.specs.Holding.{are_placed, are_apart, are_among, first_slot, is_text, stored_widths, width_left, widths_from, still_stored, left_before}
 use Rattle.sf_run.specs.Places.{is_destination}
 use Rattle.sf_run.specs.Texts.{slot_of, slot_of_text, text_slot, opened_slot, slots_in}
 use Rattle.sf_run.specs.Phases.{slot_in}
@@ -79,6 +80,50 @@ slots_more ds p d values slot v at own is =
     ∙ ap (λ s. slots_of (take p ds) ++ with_slot s []) (sym own) ∙ sym (slots_taken ds p d at)
     ∙ ap (λ n. slots_of (take n ds)) (one_more p)
 
+-- ---- the slots that were given something, among those of the directives that have passed
+
+any_front : (n : ℕ) (xs ys : List ℕ) → list_any (nat_eq n) xs ≡ true → list_any (nat_eq n) (xs ++ ys) ≡ true
+any_front n [] ys h = absurd (true≢false (sym h))
+any_front n (x ∷ xs) ys h = elim (or_cases (nat_eq n x) (list_any (nat_eq n) xs) h) [
+  | inl here ↦ or_left (nat_eq n x) (list_any (nat_eq n) (xs ++ ys)) here
+  | inr later ↦ or_right (nat_eq n x) (list_any (nat_eq n) (xs ++ ys)) (any_front n xs ys later)
+]
+
+any_last : (n : ℕ) (xs : List ℕ) → list_any (nat_eq n) (xs ++ n ∷ []) ≡ true
+any_last n [] = or_left (nat_eq n n) false (eq-eqb n n refl)
+any_last n (x ∷ xs) = or_right (nat_eq n x) (list_any (nat_eq n) (xs ++ n ∷ [])) (any_last n xs)
+
+among_front : (ns xs ys : List ℕ) → are_among ns xs ≡ true → are_among ns (xs ++ ys) ≡ true
+among_front [] xs ys h = refl
+among_front (n ∷ ns) xs ys h =
+    let w = and_parts (list_any (nat_eq n) xs) (are_among ns xs) h in
+    and_from (list_any (nat_eq n) (xs ++ ys)) (are_among ns (xs ++ ys)) (any_front n xs ys w.0) (among_front ns xs ys w.1)
+
+among_last : (ns xs : List ℕ) (n : ℕ) → are_among ns xs ≡ true → are_among (ns ++ n ∷ []) (xs ++ n ∷ []) ≡ true
+among_last [] xs n h = and_from (list_any (nat_eq n) (xs ++ n ∷ [])) true (any_last n xs) refl
+among_last (m ∷ ns) xs n h =
+    let w = and_parts (list_any (nat_eq m) xs) (are_among ns xs) h in
+    and_from (list_any (nat_eq m) (xs ++ n ∷ [])) (are_among (ns ++ n ∷ []) (xs ++ n ∷ [])) (any_front m xs (n ∷ []) w.0)
+    (among_last ns xs n w.1)
+
+-- a directive that gives nothing has ended
+pub given_on : (ds : List Directive) (p : ℕ) (d : Directive) (values : List Assigned) → slice_get ds p ≡ Some d
+    → are_among (slots_in values) (slots_of (take p ds)) ≡ true → are_among (slots_in values) (slots_of (take (p + 1) ds)) ≡ true
+given_on ds p d values at h =
+    ap (are_among (slots_in values)) (ap (λ n. slots_of (take n ds)) (sym (one_more p)) ∙ slots_taken ds p d at)
+    ∙ among_front (slots_in values) (slots_of (take p ds)) (with_slot (slot_of d) []) h
+
+-- one that gives its slot something
+pub given_more : (ds : List Directive) (p : ℕ) (d : Directive) (values : List Assigned) (slot : ℕ) (v : Datum) → slice_get ds p ≡ Some d
+    → slot_of d ≡ Some slot → are_among (slots_in values) (slots_of (take p ds)) ≡ true
+    → are_among (slots_in (values ++ assigned slot v ∷ [])) (slots_of (take (p + 1) ds)) ≡ true
+unfolding with_slot
+given_more ds p d values slot v at own h =
+    let all : slots_of (take (p + 1) ds) ≡ slots_of (take p ds) ++ slot ∷ [] = ap (λ n. slots_of (take n ds)) (sym (one_more p))
+    ∙ slots_taken ds p d at ∙ ap (λ s. slots_of (take p ds) ++ with_slot s []) own in
+    ap (λ l. are_among l (slots_of (take (p + 1) ds))) (map-append (λ (a : Assigned). a.slot) values (assigned slot v ∷ []))
+    ∙ ap (are_among (slots_in values ++ slot ∷ [])) all ∙ among_last (slots_in values) (slots_of (take p ds)) slot h
+
 -- those of the directive at a place are between those before and after it
 slots_at : (ds : List Directive) (p : ℕ) (d : Directive) (slot : ℕ) → slice_get ds p ≡ Some d → slot_of d ≡ Some slot
     → slots_of ds ≡ slots_of (take p ds) ++ slot ∷ slots_of (drop (p + 1) ds)
@@ -114,6 +159,22 @@ no_datum : (slot : ℕ) (values : List Assigned) → list_any (nat_eq slot) (slo
 no_datum slot [] h = refl
 no_datum slot (a ∷ values) h = grind (arith, no_datum slot values)
 
+none_among : (n : ℕ) (ns xs : List ℕ) → are_among ns xs ≡ true → list_any (nat_eq n) xs ≡ false → list_any (nat_eq n) ns ≡ false
+none_among n [] xs h none = refl
+none_among n (m ∷ ns) xs h none =
+    let w = and_parts (list_any (nat_eq m) xs) (are_among ns xs) h in
+    or_from (nat_eq n m) (list_any (nat_eq n) ns) (ne_eqb n m (λ e. true≢false (sym w.0 ∙ ap (λ k. list_any (nat_eq k) xs) (sym e) ∙ none)))
+    (none_among n ns xs w.1 none)
+
+-- nothing of the directives before it gave its slot something
+pub slot_unused : (ds : List Directive) (p : ℕ) (d : Directive) (slot : ℕ) (values : List Assigned) → are_apart (slots_of ds) ≡ true
+    → are_among (slots_in values) (slots_of (take p ds)) ≡ true
+    → slice_get ds p ≡ Some d → slot_of d ≡ Some slot → datum_at slot values ≡ None
+slot_unused ds p d slot values apart h at own =
+    no_datum slot values (none_among slot (slots_in values) (slots_of (take p ds)) h
+    (apart_before (slots_of (take p ds)) slot (slots_of (drop (p + 1) ds))
+    (subst (λ l. are_apart l ≡ true) (slots_at ds p d slot at own) apart)))
+
 pub slot_free : (ds : List Directive) (p : ℕ) (d : Directive) (slot : ℕ) (values : List Assigned) → are_apart (slots_of ds) ≡ true
     → slots_in values ≡ slots_of (take p ds)
     → slice_get ds p ≡ Some d → slot_of d ≡ Some slot → datum_at slot values ≡ None
@@ -139,6 +200,10 @@ pub joined_number : (closed : List ℕ) (values : List Assigned) (slot : ℕ) (n
     → closed ≡ texts_in (values ++ assigned slot (datum_of_number n) ∷ [])
 joined_number closed values slot n is = is ∙ sym (append-nil (texts_in values))
     ∙ sym (texts-push values (assigned slot (datum_of_number n)))
+
+pub joined_real : (closed : List ℕ) (values : List Assigned) (slot : ℕ) (r : real.Real) → closed ≡ texts_in values
+    → closed ≡ texts_in (values ++ assigned slot (Real r) ∷ [])
+joined_real closed values slot r is = is ∙ sym (append-nil (texts_in values)) ∙ sym (texts-push values (assigned slot (Real r)))
 
 pub joined_text : (closed : List ℕ) (values : List Assigned) (slot : ℕ) (text : List ℕ) → closed ≡ texts_in values
     → closed ++ text ≡ texts_in (values ++ assigned slot (Bytes text) ∷ [])
@@ -276,9 +341,18 @@ size_begun closed opened e = ap (λ o. length (closed ++ text_of o)) (sym e)
 pub size_first : (ds : List Directive) → is_some (width_sum ds) ≡ true → widths_from ds phase.Skipping ≡ unwrap_or (width_sum ds) 0
 size_first ds bounded = widths_are ds (unwrap_or (width_sum ds) 0) (some_back (width_sum ds) bounded)
 
--- ---- what the scanner tells of it
+-- the sum is at least what is held without the text under way, and what may still be stored
+pub size_dropped : (ended : Option Stop) (ds : List Directive) (p : ℕ) (d : Directive) (current : Phase) (closed text : List ℕ) (sum : ℕ)
+    → slice_get ds p ≡ Some d → length (closed ++ text) + still_stored ended ds p current ≤ sum
+    → length (closed ++ []) + still_stored ended ds (p + 1) phase.Skipping ≤ sum
+size_dropped ended ds p d current closed text sum at fits =
+    let less = size_passed ended ds p d current (length (closed ++ text)) sum at fits in
+    omega (arith, less, length-append closed text, length-append closed [])
 
 -- ---- what a store can hold
+
+pub dropped_capacity : (kept : Kept) → capacity_of kept ≤ capacity_of (with_dropped kept)
+dropped_capacity kept = omega (arith, length-append kept.closed (text_of kept.opened), length-append kept.closed [])
 
 pub closed_capacity : (kept : Kept) → capacity_of kept ≤ capacity_of (with_closed kept)
 closed_capacity kept = omega (arith, length-append (kept.closed ++ text_of kept.opened) [])

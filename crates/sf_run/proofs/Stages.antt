@@ -6,7 +6,7 @@ use Rattle.std.specs.Prelude.{IsTrue, ◌≢◌, ◌↔◌}
 use Rattle.sf_base.specs.Data.{Bytes, value_of}
 use Rattle.sf_base.specs.declared.values.Kind.{Kind}
 use Rattle.sf_format.specs.declared.directive.Shape.{Shape}
-use Rattle.sf_format.specs.declared.directive.Shape.TheVariants.{Count}
+use Rattle.sf_format.specs.declared.directive.Shape.TheVariants.{Int, Text, Set, Chars, Float, Count}
 use Rattle.sf_format.specs.declared.directive.Conversion.{Conversion}
 use Rattle.sf_format.specs.declared.directive.Directive.{Directive}
 use Rattle.sf_format.specs.declared.directive.Directive.TheVariants.{Space, Byte, Percent, Conv}
@@ -22,7 +22,8 @@ use Rattle.sf_item.specs.declared.item.ItemEnd.TheVariants as ends
 use Rattle.sf_item.proofs.Deciding.{Tests, tests_same, tests_can_take, tests_matches, integer_at_is}
 use Rattle.sf_report.specs.declared.outcome.Status.TheVariants.{MatchingFailure}
 use Rattle.sf_report.specs.Steps.{Passes, Stores, Fails}
-use Rattle.sf_run.specs.Texts.{text_slot, is_count, counts_bytes}
+use Rattle.sf_run.specs.Pieces.{IsTextShape}
+use Rattle.sf_run.specs.Texts.{text_slot, slot_of_text, is_count, counts_bytes}
 use Rattle.sf_report.specs.Machine.{Stage, Skipping, Taken, Item, stepped, is_full, count_end, integer_end, stored_end, passed_end, item_end, item_finished, conversion_finished}
 use Rattle.sf_run.specs.Phases.{ShowsItem, passed_number}
 use Rattle.sf_report.proofs.Machines.{can_take_one, not_full, full_of_none, item_not_full}
@@ -100,14 +101,39 @@ integer_ends c f negative magnitude overflowed is = passes_is c.slot ∙ matched
     passes_is (Some slot) =
         ap (integer_end c slot) (sym (integer_at_is is.0 f negative is.1 is.3)) ∙ ap (λ shape. stored_end c slot shape f) (sym is.2)
 
+-- a matching item that is no integer's and is kept nowhere is that of a suppressed conversion
+pub matched_unstored : (c : Conversion) (f : List ℕ) → Ends c f ends.Matched → text_slot (Conv c) ≡ None → c.slot ≡ None
+matched_unstored c f h none = by_shape c.shape refl
+  where
+    by_shape : (shape : Shape) → c.shape ≡ shape → c.slot ≡ None
+    by_shape (Int base) e = absurd (h.2 (base, e))
+    by_shape Count e = absurd (subst (λ (s : Shape). ShapeMatches s c.width f) e h.1)
+    by_shape Text e = ap (λ s. slot_of_text s c.slot) (sym e) ∙ none
+    by_shape (Set members) e = ap (λ s. slot_of_text s c.slot) (sym e) ∙ none
+    by_shape Chars e = ap (λ s. slot_of_text s c.slot) (sym e) ∙ none
+    by_shape Float e = ap (λ s. slot_of_text s c.slot) (sym e) ∙ none
+
 -- a suppressed one passes
 pub suppressed_end : (c : Conversion) (f : List ℕ) → c.slot ≡ None → Matches c f → Passes ≡ item_end c f
 suppressed_end c f none m = ap (λ slot. passed_end c slot f) (sym none) ∙ matched_end c f m
 
+slot_of_text_is : (shape : Shape) (slot : Option ℕ) (n : ℕ) → slot_of_text shape slot ≡ Some n → slot ≡ Some n
+slot_of_text_is shape slot n e = grind arith
+
+-- a matching item that is kept gives what a conversion of its slot gives
+pub kept_end : (c : Conversion) (f : List ℕ) (slot : ℕ) → text_slot (Conv c) ≡ Some slot → Matches c f
+    → passed_end c (Some slot) f ≡ item_end c f
+kept_end c f slot text m = ap (λ o. passed_end c o f) (sym (slot_of_text_is c.shape c.slot slot text)) ∙ matched_end c f m
+
 -- a text is stored as it stands
-pub text_end : (c : Conversion) (f : List ℕ) (slot : ℕ) → text_slot (Conv c) ≡ Some slot → Matches c f
+text_stored : (c : Conversion) (f : List ℕ) (slot : ℕ) (shape : Shape) → IsTextShape shape
+    → stored_end c slot shape f ≡ Stores slot (Bytes f)
+text_stored c f slot shape text = grind arith
+
+pub text_end : (c : Conversion) (f : List ℕ) (slot : ℕ) → IsTextShape c.shape → c.slot ≡ Some slot → Matches c f
     → Stores slot (Bytes f) ≡ item_end c f
-text_end c f slot text m = grind (arith, matched_end)
+text_end c f slot text own m =
+    sym (text_stored c f slot c.shape text) ∙ ap (λ o. passed_end c o f) (sym own) ∙ matched_end c f m
 
 -- a text that is no match
 pub text_fails : (c : Conversion) (f : List ℕ) (slot : ℕ) (e : ItemEnd) → text_slot (Conv c) ≡ Some slot → f ≢ [] → Ends c f e

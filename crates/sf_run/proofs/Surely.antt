@@ -1,21 +1,26 @@
 -- When a run that begins and passes within a piece is told.
-use Rattle.std.proofs.Common.{◌≡◌, ℕ, ◌+◌, ◌-◌, ◌<◌, ◌≤◌, min, true, List, [], ◌∷◌, ◌++◌, length, take, drop, Option, Some, None, refl, sym, ap, subst, ◌∙◌, arith, length-append, length-drop}
+use Rattle.std.proofs.Common.{◌≡◌, ℕ, zero, suc, ◌+◌, ◌-◌, ◌<◌, ◌≤◌, min, Bool, true, false, cond, List, [], ◌∷◌, ◌++◌, length, take, drop, Option, Some, None, refl, sym, ap, subst, ◌∙◌, arith, length-append, length-drop}
 use Rattle.std.specs.Prelude.{slice_get}
+use Rattle.std.specs.List.{list_any}
+use Rattle.std.proofs.lemmas.Bool.{or_left, or_right}
 use Rattle.std.proofs.lemmas.List.{append-nil, take-append-drop}
+use Rattle.std.proofs.lemmas.List.Sums.{sum_by-append, sum_by-cons}
 use Rattle.sf_base.specs.Kept.{Kept, texts_in, text_of, Opened, buffer_of}
 use Rattle.sf_format.specs.declared.directive.Directive.{Directive}
-use Rattle.sf_format.specs.Proper.{AreProper}
+use Rattle.sf_format.specs.Layout.{items_taken, takes_item}
+use Rattle.sf_format.specs.Proper.{AreProper, has_optional, is_optional}
 use Rattle.sf_report.specs.declared.outcome.Status.TheVariants.{Done}
 use Rattle.sf_run.specs.declared.tally.Tally as code
-use Rattle.sf_report.specs.Machine.{Skipping}
+use Rattle.sf_report.specs.Machine.{Stage, Skipping, finished, stepped}
 use Rattle.sf_report.specs.Memory.{capacity_of}
 use Rattle.sf_run.specs.Quick.{IsDoneWithin, IsSure, text_stored}
 use Rattle.sf_report.specs.Residual.{Part, Tally, by_end, counted, nothing_yet, one_from, out_of, run_of, with_used}
 use Rattle.sf_report.specs.Runs.{RunReport, passed}
-use Rattle.sf_report.specs.Steps.{StepEnd}
+use Rattle.sf_report.specs.Steps.{StepEnd, Passes, Stores, Misses, Fails}
 use Rattle.sf_run.specs.Tallies.{tally_of}
 use Rattle.sf_run.proofs.AtOnce.{Counted, Going}
 use Rattle.sf_run.proofs.Moves.{drop_at}
+use Rattle.sf_report.proofs.Machines.{by_option, some_is}
 use Rattle.sf_report.proofs.Openness.{counted-used, uses_more}
 use Rattle.sf_run.proofs.Refusals.{never_done}
 use Rattle.sf_run.proofs.Slots.{texts-push}
@@ -31,6 +36,34 @@ texts_more : (ds : List Directive) (at : ℕ) (t : Tally) (x : List ℕ)
 texts_more [] at t x = omega arith
 texts_more (d ∷ ds) at t x = grind (arith, texts_counted, length-append, texts_more ds)
 
+-- ---- what a run counts
+
+-- only a conversion that may be missing is, and it counts where it isn't
+misses_only : (d : Directive) (q : Stage) (n : ℕ) (more : Bool) → finished d q n more ≡ Misses
+    → (is_optional d ≡ true) × (takes_item d ≡ true)
+misses_only d q n more e = grind arith
+
+one_misses : (d : Directive) (q : Stage) (n : ℕ) (x : List ℕ) → (one_from d q n x).end ≡ Misses
+    → (is_optional d ≡ true) × (takes_item d ≡ true)
+one_misses d q n [] e = misses_only d q n false e
+one_misses d q n (b ∷ x) e = by_option (λ p. p.end ≡ Misses → (is_optional d ≡ true) × (takes_item d ≡ true)) (stepped d q b) _ _
+    (misses_only d q n true) (λ r. one_misses d r (n + 1) x) e
+
+abbrev one_if : Bool → ℕ
+one_if v = cond v 1 0
+
+items-cons : (d : Directive) (ds : List Directive) → items_taken (d ∷ ds) ≡ one_if (takes_item d) + items_taken ds
+items-cons d ds = sum_by-cons (λ e. one_if (takes_item e)) d ds
+
+counted_most : (d : Directive) (end : StepEnd) (t : Tally) → (counted d end t).converted ≤ t.converted + one_if (takes_item d)
+counted_most d end t = grind arith
+
+-- no more conversions than there are
+converted_most : (ds : List Directive) (at : ℕ) (t : Tally) (x : List ℕ)
+    → (run_of None ds at t x).converted ≤ t.converted + items_taken ds
+converted_most [] at t x = omega arith
+converted_most (d ∷ ds) at t x = grind (arith, counted_most, items-cons, converted_most ds)
+
 -- ---- the next directive of a run that is Done
 
 -- what is known of the first directive of a run that is Done
@@ -44,9 +77,23 @@ abbrev behind : Directive → List Directive → ℕ → Tally → Part → Step
 behind d ds at t p end = by_end end (run_of None ds (at + 1) (counted d end (with_used p.used t)) p.left)
     (λ status. out_of status at (with_used p.used t))
 
+-- where all are counted that a run may count, its first directive isn't missing
+none_missing : (d : Directive) (ds : List Directive) (at : ℕ) (t : Tally) (x : List ℕ)
+    → (is_optional d ≡ true → (run_of None (d ∷ ds) at t x).converted ≡ t.converted + items_taken (d ∷ ds))
+    → (one_from d Skipping t.used x).end ≡ Misses → ⊥
+none_missing d ds at t x whole is =
+    let p : Part = one_from d Skipping t.used x in
+    let (optional, takes) = one_misses d Skipping t.used x is in
+    let all = whole optional in
+    let same = ap (λ (r : RunReport). r.converted) (ap (behind d ds at t p) is) in
+    let most = converted_most ds (at + 1) (with_used p.used t) p.left in
+    let more = items-cons d ds ∙ ap (λ v. one_if v + items_taken ds) takes in
+    omega (arith, all, same, most, more)
+
 first_of : (d : Directive) (ds : List Directive) (at : ℕ) (t : Tally) (x : List ℕ) → (run_of None (d ∷ ds) at t x).status ≡ Done
+    → (is_optional d ≡ true → (run_of None (d ∷ ds) at t x).converted ≡ t.converted + items_taken (d ∷ ds))
     → FirstOf d t x (run_of None (d ∷ ds) at t x)
-first_of d ds at t x done = by_case (one_from d Skipping t.used x).end refl
+first_of d ds at t x done whole = by_case (one_from d Skipping t.used x).end refl
   where
     more : (end : StepEnd) → passed end ≡ true → (one_from d Skipping t.used x).end ≡ end
         → behind d ds at t (one_from d Skipping t.used x) end ≡ run_of None ds (at + 1)
@@ -73,21 +120,39 @@ first_of d ds at t x done = by_case (one_from d Skipping t.used x).end refl
         }
 
     by_case : (end : StepEnd) → (one_from d Skipping t.used x).end ≡ end → FirstOf d t x (run_of None (d ∷ ds) at t x)
-    by_case end is = grind (arith, more, never_done)
+    by_case Misses is = absurd (none_missing d ds at t x whole is)
+    by_case Passes is = more Passes refl is refl
+    by_case (Stores slot v) is = more (Stores slot v) refl is refl
+    by_case (Fails status) is = absurd (never_done d Skipping t.used x status is
+        (ap (λ (r : RunReport). r.status) (sym (ap (behind d ds at t (one_from d Skipping t.used x)) is)) ∙ done))
 
--- where the run on the front and what follows is Done within the front, the next directive passes within it
+optional_at : (ds : List Directive) (p : ℕ) (d : Directive) → slice_get ds p ≡ Some d → is_optional d ≡ true → has_optional ds ≡ true
+optional_at [] p d at is = absurd cc
+optional_at (e ∷ ds) zero d at is = or_left (is_optional e) (list_any is_optional ds) (ap is_optional (some_is e d at) ∙ is)
+optional_at (e ∷ ds) (suc p) d at is = or_right (is_optional e) (list_any is_optional ds) (optional_at ds p d at is)
+
+-- those that take an item are among the first so many, or after them
+items_split : (ds : List Directive) (p : ℕ) → items_taken ds ≡ items_taken (take p ds) + items_taken (drop p ds)
+items_split ds p = ap items_taken (sym (take-append-drop p ds))
+    ∙ sum_by-append (λ e. one_if (takes_item e)) (take p ds) (drop p ds)
+
+-- where the run on the front and what follows is Done within the front, and no item of it is missing, the next directive passes within it
 pub sure_at : (ds : List Directive) (front rest : List ℕ) (p : ℕ) (d : Directive) (t : code.Tally) (kept : Kept) (capacity : ℕ)
     → slice_get ds p ≡ Some d → Going ds front p t kept
     → (run_of None ds 1 nothing_yet (front ++ rest)).status ≡ Done → (run_of None ds 1 nothing_yet (front ++ rest)).used < length front
     → length (texts_in (run_of None ds 1 nothing_yet (front ++ rest)).values) ≤ capacity → capacity ≤ capacity_of kept
+    → t.converted ≡ items_taken (take p ds)
+    → (has_optional ds ≡ true → (run_of None ds 1 nothing_yet (front ++ rest)).converted ≡ items_taken ds)
     → IsSure d t.used (drop t.used front) kept.room
-sure_at ds front rest p d t kept capacity at h done early fits roomy =
+sure_at ds front rest p d t kept capacity at h done early fits roomy counts all =
     let x : List ℕ = drop t.used front ++ rest in
     let u : Tally = tally_of t kept.values in
     let whole : run_of None ds 1 nothing_yet (front ++ rest) ≡ run_of None (d ∷ drop (p + 1) ds) (p + 1) u x =
     h.same rest ∙ ap (λ l. run_of None l (p + 1) u x) (drop_at ds p d at) in
     let first : FirstOf d u x (run_of None (d ∷ drop (p + 1) ds) (p + 1) u x) =
-    first_of d (drop (p + 1) ds) (p + 1) u x (sym (ap (λ (r : RunReport). r.status) whole) ∙ done) in
+    first_of d (drop (p + 1) ds) (p + 1) u x (sym (ap (λ (r : RunReport). r.status) whole) ∙ done)
+    (λ is. sym (ap (λ (r : RunReport). r.converted) whole) ∙ all (optional_at ds p d at is) ∙ items_split ds p
+    ∙ ap (λ n. n + items_taken (drop p ds)) (sym counts) ∙ ap (λ l. t.converted + items_taken l) (drop_at ds p d at)) in
     let used' = ap (λ (r : RunReport). r.used) whole in
     let texts' = ap (λ (r : RunReport). length (texts_in r.values)) whole in
     let left = length-drop t.used front in
@@ -131,5 +196,6 @@ sure_next ds proper limit most n piece front rest p d kept capacity at is long l
     let here : h.tally.used ≡ n = omega (arith, begins, short, within) in
     let sure : IsSure d h.tally.used (drop h.tally.used front) kept.room =
     sure_at ds front (drop most piece) p d h.tally kept capacity at h.going (ap (λ (r : RunReport). r.status) same ∙ done.done)
-    (omega (arith, used', early, low, long, least)) (omega (arith, texts', fits)) roomy in
+    (omega (arith, used', early, low, long, least)) (omega (arith, texts', fits)) roomy h.converted
+    (λ is. ap (λ (r : RunReport). r.converted) same ∙ done.whole is) in
     subst (λ m. IsSure d m rest kept.room) here (subst (λ y. IsSure d h.tally.used y kept.room) (sym h.rest) sure)

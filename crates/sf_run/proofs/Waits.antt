@@ -1,13 +1,17 @@
 -- When a scanner waits, what it has used, and what it tells.
-use Rattle.std.proofs.Common.{◌≡◌, ℕ, ◌+◌, ◌<◌, ◌≤◌, inl, inr, false, List, [], ◌∷◌, ◌++◌, length, drop, Option, Some, None, is_some, refl, sym, ap, subst, ◌∙◌, arith, append_assoc, length-append}
+use Rattle.std.proofs.Common.{◌≡◌, ℕ, ◌+◌, ◌<◌, ◌≤◌, inl, inr, true, false, cond, List, [], ◌∷◌, ◌++◌, length, drop, Option, Some, None, is_some, refl, sym, ap, subst, ◌∙◌, arith, append_assoc, length-append}
 use Rattle.std.specs.Prelude.{slice_get, IfNone, IsSome}
 use Rattle.std.proofs.lemmas.Bool.{le-ltb, cases_lt}
 use Rattle.std.proofs.lemmas.List.{append-nil}
+use Rattle.sf_format.specs.declared.directive.Conversion.{Conversion}
+use Rattle.sf_format.specs.declared.directive.Shape.{Shape}
+use Rattle.sf_format.specs.declared.directive.Shape.TheVariants.{Int, Text, Set, Chars, Float, Count}
 use Rattle.sf_format.specs.declared.directive.Directive.{Directive}
 use Rattle.sf_format.specs.declared.directive.Directive.TheVariants.{Conv}
 use Rattle.sf_format.specs.Proper.{IsProper, AreProper}
 use Rattle.sf_item.specs.declared.item.ItemScan.{ItemScan}
 use Rattle.sf_item.specs.Taking.{conversion_of}
+use Rattle.sf_item.specs.Tests.{can_take}
 use Rattle.sf_run.specs.declared.directive.Phase.{Phase}
 use Rattle.sf_run.specs.declared.directive.Phase.TheVariants as phase
 use Rattle.sf_report.specs.declared.outcome.Ending.{Ending}
@@ -26,7 +30,8 @@ use Rattle.sf_run.specs.Texts.{text_slot, opened_for}
 use Rattle.sf_report.specs.Limits.{RunTold}
 use Rattle.sf_base.specs.Kept.{Opened}
 use Rattle.sf_report.proofs.Inputs.{open_all}
-use Rattle.sf_report.proofs.Machines.{some_is, can_take_one, item_byte, item_byte-below, item_takes}
+use Rattle.sf_report.proofs.Machines.{some_is, can_take_one, IsReal, item_byte, item_byte-below, item_takes}
+use Rattle.sf_run.proofs.FloatTexts.{float_alike}
 use Rattle.sf_run.proofs.Coming.{came, item_of_cut, text_of_cut}
 use Rattle.sf_run.proofs.Moves.{drop_at, proper_at, ended_does, waiting, byte_took, byte_past}
 use Rattle.sf_report.proofs.Openness.{uses_within, within_limit, run_not_too_long, over_is_too_long, rest_too_long_at, rest_uses_nothing}
@@ -50,22 +55,59 @@ pub record OneByteOf (d : Directive) (IsShown : Stage → Type 0) : Type 0 where
 abbrev OneByte : Directive → Phase → Type 0
 OneByte d current = OneByteOf d (Shows d current)
 
-item_one : (d : Directive) → IsProper d → (slot : Option ℕ) (scan : ItemScan) (q : Stage) → ShowsItem d slot scan q
-    → ((p : Stage) → ShowsItem d slot scan p → is_full d p ≡ false)
+-- a float may go on in many ways, but each item that the scan may have taken goes on alike
+float_one : (d : Directive) (slot : Option ℕ) (scan : ItemScan) (q : Stage) → ShowsItem d slot scan q
+    → is_full d q ≡ false → (conversion_of scan).shape ≡ Float → OneByteOf d (ShowsItem d slot scan)
+float_one d slot scan q shows some is =
+    let c : Conversion = conversion_of scan in
+    let (b, below, r, first) = can_take_one (Conv c) (Item shows.item)
+    (subst (λ s. is_full s (Item shows.item) ≡ false) shows.own (subst (λ s. is_full d s ≡ false) shows.stage some)) in
+    record {
+      byte = b;
+      is_byte = below;
+      taken = λ p e.
+          let same = float_alike scan e.item shows.item b is e.taken shows.taken in (
+            Item (e.item ++ b ∷ []),
+            ap (λ s. stepped d s b) e.stage ∙ ap (λ s. stepped s (Item e.item) b) shows.own
+                ∙ ap (λ v. cond v (Some (Item (e.item ++ b ∷ []))) None) (same ∙ taken_by c shows.item b r first),
+          );
+    }
+  where
+    taken_by : (c : Conversion) (f : List ℕ) (b : ℕ) (r : Stage) → stepped (Conv c) (Item f) b ≡ Some r → can_take c (f ++ b ∷ []) ≡ true
+    taken_by c f b r e = grind arith
+
+other_one : (d : Directive) → IsProper d → (slot : Option ℕ) (scan : ItemScan) (q : Stage) → ShowsItem d slot scan q
+    → ((p : Stage) → ShowsItem d slot scan p → is_full d p ≡ false) → (IsReal (conversion_of scan).shape → ⊥)
     → OneByteOf d (ShowsItem d slot scan)
-item_one d proper slot scan q shows more =
+other_one d proper slot scan q shows more no_float =
     let own : IsProper (Conv (conversion_of scan)) = subst IsProper shows.own proper in
     record {
       byte = item_byte (conversion_of scan).shape own.0;
       is_byte = item_byte-below (conversion_of scan).shape own.0;
       taken = λ p e.
-          let (r, is) = item_takes (conversion_of scan) own.0 e.item
+          let (r, is) = item_takes (conversion_of scan) own.0 no_float e.item
           (subst (λ s. is_full s (Item e.item) ≡ false) shows.own (subst (λ s. is_full d s ≡ false) e.stage (more p e))) in (
             r,
             ap (λ s. stepped d s (item_byte (conversion_of scan).shape own.0)) e.stage
                 ∙ ap (λ s. stepped s (Item e.item) (item_byte (conversion_of scan).shape own.0)) shows.own ∙ is,
           );
     }
+
+item_one : (d : Directive) → IsProper d → (slot : Option ℕ) (scan : ItemScan) (q : Stage) → ShowsItem d slot scan q
+    → ((p : Stage) → ShowsItem d slot scan p → is_full d p ≡ false)
+    → OneByteOf d (ShowsItem d slot scan)
+item_one d proper slot scan q shows more = by_shape (conversion_of scan).shape refl
+  where
+    other : (shape : Shape) → (conversion_of scan).shape ≡ shape → (IsReal shape → ⊥) → OneByteOf d (ShowsItem d slot scan)
+    other shape is none = other_one d proper slot scan q shows more (λ real. none (subst IsReal is real))
+
+    by_shape : (shape : Shape) → (conversion_of scan).shape ≡ shape → OneByteOf d (ShowsItem d slot scan)
+    by_shape Float is = float_one d slot scan q shows (more q shows) is
+    by_shape (Int base) is = other (Int base) is (λ real. absurd real)
+    by_shape Text is = other Text is (λ real. absurd real)
+    by_shape (Set members) is = other (Set members) is (λ real. absurd real)
+    by_shape Chars is = other Chars is (λ real. absurd real)
+    by_shape Count is = other Count is (λ real. absurd real)
 
 one_byte : (d : Directive) → IsProper d → (current : Phase) (q : Stage) → Shows d current q
     → ((p : Stage) → Shows d current p → is_full d p ≡ false) → OneByte d current

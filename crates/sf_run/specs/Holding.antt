@@ -22,6 +22,10 @@ abbrev pub are_apart : List ℕ → Bool
 are_apart [] = true
 are_apart (n ∷ ns) = not (list_any (nat_eq n) ns) && are_apart ns
 
+-- each of the numbers is one of the others
+abbrev pub are_among : List ℕ → List ℕ → Bool
+are_among ns others = list_all (λ n. list_any (nat_eq n) others) ns
+
 -- the slot that is given the text of the directive at this place
 abbrev pub first_slot : List Directive → Option ℕ
 first_slot [] = None

@@ -3,7 +3,7 @@ use Rattle.std.specs.Prelude.{◌≡◌, ℕ, false, List}
 use Rattle.sf_format.specs.declared.directive.Directive.{Directive}
 use Rattle.sf_format.specs.Proper.{AreProper}
 use Rattle.sf_report.specs.declared.outcome.Ending.{Ending}
-pub use Rattle.sf_report.specs.Laws.{HasOneReport, EachHasOneReport, EachClosedInputStays, EachOpenInputIsUsed, EachDoneRunStays, EachDoneRunHasItsRow}
+pub use Rattle.sf_report.specs.Laws.{HasOneReport, EachHasOneReport, EachClosedInputStays, EachOpenInputIsUsed, EachDoneRunStays, EachDoneRunFillsSlots, EachDoneRunHasItsRow}
 pub use Rattle.sf_report.specs.Laws.{EachStepIsComputed, EachStepIsWithin, EachMachineSteps, EachRunIsComputed, EachRunIsTold, EachByteIsTried}
 use Rattle.sf_run.specs.Standing.{Standing, Gives, report_of, ran_out}
 

@@ -8,8 +8,8 @@ use Rattle.sf_format.specs.declared.directive.Directive.TheVariants.{Conv}
 use Rattle.sf_item.specs.declared.item.ItemScan.{ItemScan}
 use Rattle.sf_item.specs.Taking.{HasTaken, conversion_of}
 use Rattle.sf_item.specs.Tests.{can_take}
-use Rattle.sf_report.specs.Steps.{StepEnd, Passes, Stores, Fails}
-use Rattle.sf_report.specs.Machine.{Stage, Skipping, Taken, Item, number_end}
+use Rattle.sf_report.specs.Steps.{StepEnd, Passes, Stores, Misses, Fails}
+use Rattle.sf_report.specs.Machine.{Stage, Skipping, Taken, Item, number_end, real_at, real_end}
 use Rattle.sf_report.specs.Residual.{stepped_all}
 use Rattle.sf_run.specs.Texts.{text_slot}
 use Rattle.sf_run.specs.Stopping.{is_memory_status}
@@ -62,7 +62,14 @@ abbrev pub end_of : List ℕ → Finished → StepEnd
 end_of text finish.Passes = Passes
 end_of text (finish.Stores slot kind negative magnitude) = Stores slot (Number kind (with_sign negative magnitude))
 end_of text (finish.Closes slot) = Stores slot (Bytes text)
+end_of text (finish.Reads slot kind) = real_end slot (real_at kind text)
+end_of text finish.Misses = Misses
 end_of text (finish.Fails status) = Fails status
+
+-- the item is missing
+abbrev pub is_missing : Finished → Bool
+is_missing finish.Misses = true
+is_missing _ = false
 
 abbrev pub is_failing : Finished → Bool
 is_failing (finish.Fails status) = true
@@ -71,12 +78,14 @@ is_failing _ = false
 -- the slot whose text is closed
 abbrev pub slot_closed : Finished → Option ℕ
 slot_closed (finish.Closes slot) = Some slot
+slot_closed (finish.Reads slot kind) = Some slot
 slot_closed _ = None
 
 -- the slot that is given something
 abbrev pub slot_given : Finished → Option ℕ
 slot_given (finish.Stores slot kind negative magnitude) = Some slot
 slot_given (finish.Closes slot) = Some slot
+slot_given (finish.Reads slot kind) = Some slot
 slot_given _ = None
 
 abbrev pub is_memory_failure : Finished → Bool

@@ -3,7 +3,7 @@ use Rattle.std.specs.Prelude.{◌≡◌, ℕ, ◌+◌, ◌<◌, ◌≤◌, true,
 use Rattle.sf_format.specs.declared.directive.Base.{Base}
 use Rattle.sf_format.specs.declared.directive.Conversion.{Conversion}
 use Rattle.sf_format.specs.declared.directive.Shape.{Shape}
-use Rattle.sf_format.specs.declared.directive.Shape.TheVariants.{Count, Int}
+use Rattle.sf_format.specs.declared.directive.Shape.TheVariants.{Count, Float, Int}
 use Rattle.sf_format.specs.declared.directive.Directive.{Directive}
 use Rattle.sf_format.specs.declared.layout.Row.{Row}
 use Rattle.sf_format.specs.Layout.{most_of}
@@ -17,7 +17,7 @@ use Rattle.sf_run.specs.declared.directive.Phase.TheVariants as phase
 use Rattle.sf_run.specs.declared.directive.Run.{Run}
 use Rattle.sf_run.specs.Holding.{LeftAfterAll}
 use Rattle.sf_report.specs.Machine.{Stage, Skipping, Taken, Item, finished, is_full}
-use Rattle.sf_run.specs.Phases.{Brings, IsNumberGiven, Shows, end_of, is_failing, is_memory_failure, slot_closed, slot_given, slot_in}
+use Rattle.sf_run.specs.Phases.{Brings, IsNumberGiven, Shows, end_of, is_failing, is_missing, is_memory_failure, slot_closed, slot_given, slot_in}
 use Rattle.sf_report.specs.Residual.{one_from}
 use Rattle.sf_report.specs.Steps.{StepEnd}
 use Rattle.sf_run.specs.Texts.{IsNextSlot, StoresByte, slot_of, text_slot}
@@ -47,7 +47,7 @@ pub record Answers (d : Directive) (q : Stage) (n : ℕ) (piece : List ℕ) (run
 -- the directive, which has come so far, may end so: it closes the text that is under way, and gives its own slot something
 pub record IsEnd (d : Directive) (current : Phase) (end : Finished) : Type 0 where
   pub text : is_failing end ≡ false → slot_in current ≡ slot_closed end
-  pub given : is_failing end ≡ false → slot_given end ≡ slot_of d
+  pub given : is_failing end ≡ false → is_missing end ≡ false → slot_given end ≡ slot_of d
   pub number : IsNumberGiven end
   pub memory : is_memory_failure end ≡ false
 
@@ -90,7 +90,7 @@ run_of e = record { before = e.before; item = e.item; phase = phase.Skipping; en
 -- Such an end fits the directive: it stays within the piece, and gives the directive's own slot something.
 pub record IsEndIn (d : Directive) (piece : List ℕ) (e : Ended) : Type 0 where
   pub within : e.before + e.item ≤ length piece
-  pub given : is_failing e.finished ≡ false → slot_given e.finished ≡ slot_of d
+  pub given : is_failing e.finished ≡ false → is_missing e.finished ≡ false → slot_given e.finished ≡ slot_of d
   pub number : IsNumberGiven e.finished
   pub memory : is_memory_failure e.finished ≡ false
 
@@ -110,6 +110,7 @@ pub record IsNumberRow (row : Row) (base : Base) (c : Conversion) : Type 0 where
 abbrev pub IsTextShape : Shape → Type 0
 IsTextShape (Int base) = ⊥
 IsTextShape Count = ⊥
+IsTextShape Float = ⊥
 IsTextShape _ = Unit {0}
 
 -- it is the row of this conversion, whose item is stored as it stands

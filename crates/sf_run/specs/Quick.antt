@@ -4,6 +4,7 @@ use Rattle.sf_base.specs.Data.{Assigned, datum_at}
 use Rattle.sf_base.specs.Kept.{Kept, text_in, texts_in}
 use Rattle.sf_format.specs.declared.directive.Directive.{Directive}
 use Rattle.sf_format.specs.Layout.{items_assigned, items_taken}
+use Rattle.sf_format.specs.Proper.{has_optional}
 use Rattle.sf_report.specs.declared.outcome.Ending.{Ending}
 use Rattle.sf_report.specs.declared.outcome.Status.TheVariants.{Done}
 use Rattle.sf_report.specs.Limits.{RunWithin}
@@ -45,7 +46,7 @@ pub record IsSure (d : Directive) (n : ℕ) (piece : List ℕ) (room : ℕ) : Ty
   pub fits : length (text_stored (one_from d Skipping n (piece ++ after)).end) ≤ room
 
 -- The run on the piece is Done before a byte of it, or one that the limit allows, is lacking, and a store of this capacity
--- has room for its texts.
+-- has room for its texts; no item of it is missing.
 pub record IsDoneWithin (ds : List Directive) (limit : ℕ) (piece : List ℕ) (capacity : ℕ) : Type 0 where
   pub ending : Ending
   pub report : RunReport
@@ -54,6 +55,8 @@ pub record IsDoneWithin (ds : List Directive) (limit : ℕ) (piece : List ℕ) (
   pub early : report.used < length piece
   pub low : report.used < limit
   pub fits : length (texts_in report.values) ≤ capacity
+  -- no item is missing
+  pub whole : has_optional ds ≡ true → report.converted ≡ items_taken ds
 
 -- the directive has passed within the piece
 pub record PassesWithin (d : Directive) (n : ℕ) (piece : List ℕ) (taken : ℕ) (stores : Bool) (old new : Kept) : Type 0 where

@@ -5,7 +5,7 @@ use Rattle.sf_base.specs.Bytes.{is_white}
 use Rattle.sf_base.specs.Data.{Assigned}
 use Rattle.sf_base.specs.Kept.{Opened, longer}
 use Rattle.sf_format.specs.declared.directive.Shape.{Shape}
-use Rattle.sf_format.specs.declared.directive.Shape.TheVariants.{Int, Text, Set, Chars, Count}
+use Rattle.sf_format.specs.declared.directive.Shape.TheVariants.{Int, Text, Set, Chars, Float, Count}
 use Rattle.sf_format.specs.declared.directive.Directive.{Directive}
 use Rattle.sf_format.specs.declared.directive.Directive.TheVariants.{Conv}
 use Rattle.sf_report.specs.Machine.{Stage, Skipping, Taken, Item}
@@ -16,8 +16,9 @@ slot_of_text Count slot = None
 slot_of_text Text slot = slot
 slot_of_text (Set members) slot = slot
 slot_of_text Chars slot = slot
+slot_of_text Float slot = slot
 
--- the slot that is given the item of the directive as it stands, if there is one
+-- the slot whose text the bytes of the directive's item are, as they stand or while a float is read, if there is one
 abbrev pub text_slot : Directive → Option ℕ
 text_slot (Conv c) = slot_of_text c.shape c.slot
 text_slot _ = None
@@ -60,6 +61,7 @@ opened_with (Some slot) g (Some o) = longer g (Some o)
 -- the byte belongs to a text that the directive stores
 abbrev pub IsInText : Shape → ℕ → Type 0
 IsInText Text b = is_white b ≡ false
+IsInText Float b = is_white b ≡ false
 IsInText _ b = Unit {0}
 
 abbrev pub StoresByte : Directive → ℕ → Type 0

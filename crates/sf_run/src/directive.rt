@@ -1,5 +1,5 @@
 //! What one directive makes of a piece of the input, and how it ends (C11 7.21.6.2p4 to p10).
-ghost use Rattle.std.specs.Prelude.{◌≡◌, ◌≢◌, ◌+◌, ◌<◌, ◌≤◌, ◌&&◌, ◌^◌, true, false, ℕ, ℤ, List, [], ◌++◌, length, take, drop, get_or, not, Option, Some, None, IfSome, IsNone};
+ghost use Rattle.std.specs.Prelude.{◌≡◌, ◌≢◌, ◌+◌, ◌<◌, ◌≤◌, ◌&&◌, ◌^◌, true, false, ℕ, ℤ, List, [], ◌++◌, length, take, drop, get_or, if◌then◌else◌, not, Option, Some, None, IfSome, IsNone};
 ghost use Rattle.sf_base.specs.Bytes.{is_white};
 ghost use Rattle.std.specs.Option.{option_map};
 ghost use Rattle.sf_base.specs.Data.{Number as NumberOf, datum_of_number, value_of};
@@ -17,12 +17,13 @@ ghost use Rattle.sf_item.specs.Wholes.{EndsWithin, ItemWithin};
 ghost use Rattle.sf_report.specs.Steps.{StepEnd};
 ghost use Rattle.sf_run.specs.declared.directive.Phase.TheVariants as phase;
 ghost use Rattle.sf_run.specs.declared.directive.Finished.TheVariants as finish;
-ghost use Rattle.sf_report.specs.Machine.{Stage, Skipping, Item, shape_skips, is_full, item_end, item_finished, count_end, finished};
+ghost use Rattle.sf_report.specs.Machine.{Stage, Skipping, Item, shape_skips, is_full, item_end, passed_end, item_finished, count_end, finished};
 ghost use Rattle.sf_run.specs.Texts.{text_slot, opened_for, slot_of_text, is_count};
 ghost use Rattle.sf_run.specs.Holding.{FallsBy};
-ghost use Rattle.sf_run.specs.Phases.{ShowsItem, Shows, CanAll, IsNumberGiven, end_of, is_failing, is_memory_failure, passed_number, slot_closed, slot_given, slot_in};
+ghost use Rattle.sf_run.specs.Phases.{ShowsItem, Shows, CanAll, IsNumberGiven, end_of, is_failing, is_memory_failure, is_missing, passed_number, slot_closed, slot_given, slot_in};
 ghost use Rattle.sf_run.specs.Pieces.{Answers, EndsAt, EndsAtOnce, IsEnd, IsEndIn, IsEndOf, IsNumberRow, IsTextRow, StaysAt, Suits, run_of};
 ghost use Rattle.sf_run.specs.Quick.{IsSure};
+ghost use Rattle.sf_run.specs.Stopping.{is_memory_status};
 
 use crate::number::number_of;
 use sf_base::{Kind, Number, is_space, space_run};
@@ -40,7 +41,7 @@ pub(crate) enum Phase<'f> {
     Skipping,
     /// It took bytes of an item that is not stored as it stands.
     Item(ItemScan<'f>),
-    /// It took bytes of an item that is the text of this slot.
+    /// It took bytes of an item that is the text of this slot, or of its float.
     Text { slot: u8, scan: ItemScan<'f> },
 }
 
@@ -59,6 +60,13 @@ pub(crate) enum Finished {
     Closes {
         slot: u8,
     },
+    /// The slot is given the float of the kind that the opened text gives, where that is in range.
+    Reads {
+        slot: u8,
+        kind: Kind,
+    },
+    /// The item is missing, and may be.
+    Misses,
     Fails(Status),
 }
 
@@ -85,14 +93,14 @@ pub(crate) struct Ended {
     pub(crate) finished: Finished,
 }
 
-/// The slot that is given the item of the conversion as it stands, if there is one.
+/// The slot whose text the bytes of the item are, as they stand or while a float is read, if there is one.
 #[inline(always)]
 pub(crate) fn text_slot(conversion: &Conversion) -> Option<u8>
     ensures { result ≡ text_slot (directive.Conv conversion.now) }
 {
     match conversion.shape {
         Shape::Int(_) | Shape::Count => None,
-        Shape::Text | Shape::Set(_) | Shape::Chars => conversion.slot,
+        Shape::Text | Shape::Set(_) | Shape::Chars | Shape::Float => conversion.slot,
     }
 }
 
@@ -109,7 +117,7 @@ pub(crate) fn is_count(shape: &Shape) -> bool
 fn skips_space(shape: &Shape) -> bool
     ensures { result ≡ shape_skips shape.now }
 {
-    matches!(shape, Shape::Int(_) | Shape::Text)
+    matches!(shape, Shape::Int(_) | Shape::Text | Shape::Float)
 }
 
 /// How far a directive has come that took bytes of its item; `slot` is that of its text.
@@ -236,18 +244,37 @@ pub(crate) fn finish_item(conversion: &Conversion, scan: ItemScan<'_>) -> Finish
     }
 }
 
-/// An item that is the text of the slot.
-pub(crate) fn finish_text(slot: u8, scan: ItemScan<'_>) -> Finished
+/// A matching item that is the text of the slot, or its float.
+fn finish_kept(conversion: &Conversion, slot: u8) -> Finished
+    ensures end { (f : List ℕ) → text_slot (directive.Conv conversion.now) ≡ Some slot
+        → end_of f result ≡ passed_end conversion.now (Some slot) f }
+    ensures text { Some slot ≡ slot_closed result }
+    ensures given { slot_given result ≡ Some slot }
+    ensures number { IsNumberGiven result }
+    ensures memory { is_memory_failure result ≡ false }
+{
+    match conversion.shape {
+        Shape::Float => Finished::Reads {
+            slot,
+            kind: conversion.kind,
+        },
+        _ => Finished::Closes { slot },
+    }
+}
+
+/// An item that is the text of the slot, or its float.
+pub(crate) fn finish_text(conversion: &Conversion, slot: u8, scan: ItemScan<'_>) -> Finished
     ensures end { (f : List ℕ) → f ≢ [] → HasTaken scan.entry f
-        → text_slot (directive.Conv (conversion_of scan.entry)) ≡ Some slot
-        → end_of f result ≡ item_end (conversion_of scan.entry) f }
+        → conversion.now ≡ conversion_of scan.entry
+        → text_slot (directive.Conv conversion.now) ≡ Some slot
+        → end_of f result ≡ item_end conversion.now f }
     ensures text { is_failing result ≡ false → Some slot ≡ slot_closed result }
     ensures given { is_failing result ≡ false → slot_given result ≡ Some slot }
     ensures number { IsNumberGiven result }
     ensures memory { is_memory_failure result ≡ false }
 {
     match scan.finish() {
-        ItemEnd::Matched => Finished::Closes { slot },
+        ItemEnd::Matched => finish_kept(conversion, slot),
         _ => Finished::Fails(Status::MatchingFailure),
     }
 }
@@ -278,8 +305,25 @@ fn finish_taken(conversion: &Conversion, slot: Option<u8>, scan: ItemScan<'_>) -
     ensures memory { is_memory_failure result ≡ false }
 {
     match slot {
-        Some(slot) => finish_text(slot, scan),
+        Some(slot) => finish_text(conversion, slot, scan),
         None => finish_item(conversion, scan),
+    }
+}
+
+/// A conversion of which nothing was taken; `status` is how it fails where its item may not be missing.
+#[inline(always)]
+fn finish_nothing(conversion: &Conversion, status: Status) -> Finished
+    ensures end { (text : List ℕ) → end_of text result
+        ≡ (if conversion.now.optional then StepEnd.Misses else StepEnd.Fails status) }
+    ensures closes { slot_closed result ≡ None }
+    ensures given { is_failing result ≡ false → is_missing result ≡ false → slot_given result ≡ conversion.now.slot }
+    ensures number { IsNumberGiven result }
+    ensures memory { is_memory_status status ≡ false → is_memory_failure result ≡ false }
+{
+    if conversion.optional {
+        Finished::Misses
+    } else {
+        Finished::Fails(status)
     }
 }
 
@@ -292,9 +336,9 @@ fn finish_conversion(conversion: &Conversion, phase: Phase<'_>) -> Finished
     ensures is { IsEnd (directive.Conv conversion.now) phase.entry result }
 {
     match phase {
-        Phase::Skipping => Finished::Fails(Status::InputFailure),
+        Phase::Skipping => finish_nothing(conversion, Status::InputFailure),
         Phase::Item(scan) => finish_item(conversion, scan),
-        Phase::Text { slot, scan } => finish_text(slot, scan),
+        Phase::Text { slot, scan } => finish_text(conversion, slot, scan),
     }
 }
 
@@ -508,7 +552,7 @@ fn begin_item<'f>(conversion: &'f Conversion, piece: &[u8]) -> Run<'f>
         piece,
     );
     if run.item == 0 {
-        return ends(0, 0, Finished::Fails(Status::MatchingFailure));
+        return ends(0, 0, finish_nothing(conversion, Status::MatchingFailure));
     }
     run
 }

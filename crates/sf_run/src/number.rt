@@ -1,9 +1,12 @@
-//! Numbers of the kinds that a destination can have.
+//! Numbers and floats of the kinds that a destination can have.
 ghost use Rattle.std.specs.Prelude.{◌≡◌, true, None, if◌then◌else◌};
 ghost use Rattle.std.specs.Option.{option_map};
 ghost use Rattle.sf_base.specs.Data.{Number as NumberOf, datum_of_number, value_of};
+ghost use Rattle.sf_report.specs.Machine.{real_at};
 
-use sf_base::{Kind, Number};
+use sf_base::{Kind, Number, Real};
+use sf_float_item::is_float;
+use sf_float_value::{value_f32, value_f64};
 
 /// The number with the sign (true: a minus) and the magnitude, where the kind holds it.
 #[inline(always)]
@@ -20,4 +23,19 @@ pub(crate) fn number_of(
         return None;
     }
     kind.number(negative, magnitude)
+}
+
+/// The float of the kind that a matching sequence gives; None where it is out of range, where the bytes are no matching
+/// sequence, or the kind is of no float.
+pub(crate) fn real_of(kind: Kind, item: &[u8]) -> Option<Real>
+    ensures { result ≡ real_at kind item.now }
+{
+    if !is_float(item) {
+        return None;
+    }
+    match kind {
+        Kind::F32 => Some(Real::F32(value_f32(item)?)),
+        Kind::F64 => Some(Real::F64(value_f64(item)?)),
+        _ => None,
+    }
 }

@@ -19,6 +19,7 @@ use crate::directive::{
     Ended, Finished, characters_at_once, ended_within, members_at_once, number_at_once,
     text_at_once, whole_byte, whole_space,
 };
+use crate::number::real_of;
 use sf_base::{HeapStore, Number, Store};
 use sf_format::{Base, Directive, Row, ScanFormat, Way};
 use sf_report::{Outcome, Status};
@@ -62,7 +63,13 @@ fn give<S: Store>(store: &mut S, ended: Ended, piece: &[u8]) -> Option<bool>
                 Err(_) => None,
             }
         }
-        Finished::Fails(_) => None,
+        Finished::Reads { slot, kind } => {
+            let (_, rest) = piece.split_at(ended.before);
+            let (item, _) = rest.split_at(ended.item);
+            store.set_real(slot, real_of(kind, item)?);
+            Some(true)
+        }
+        Finished::Misses | Finished::Fails(_) => None,
     }
 }
 

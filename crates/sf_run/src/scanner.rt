@@ -3,14 +3,15 @@ ghost use Rattle.std.specs.Prelude.{◌≡◌, ℕ, ◌+◌, ◌<◌, ◌≤◌,
 ghost use Rattle.std.specs.Bool.{OnTrue, OnFalse};
 ghost use Rattle.std.specs.Option.{option_map};
 ghost use Rattle.std.specs.Result.{result_ok};
-ghost use Rattle.sf_base.specs.Data.{Assigned, Bytes, datum_of_number};
+ghost use Rattle.sf_base.specs.Data.{Assigned, Bytes, Real as RealOf, datum_of_number};
+ghost use Rattle.sf_report.specs.Machine.{real_at, real_end};
 ghost use Rattle.sf_base.specs.Kept.{buffer_of, longer, with_bytes, nothing_kept, text_of, texts_in};
 ghost use Rattle.sf_format.specs.declared.directive.Directive.{Directive};
 ghost use Rattle.sf_format.specs.Proper.{AreProper, IsProper, destinations_of, slots_of};
 ghost use Rattle.sf_format.specs.Widths.{width_sum};
 ghost use Rattle.sf_report.specs.declared.outcome.Ending.{Ending};
 ghost use Rattle.sf_report.specs.declared.outcome.Status.TheVariants as status;
-ghost use Rattle.sf_run.specs.Holding.{are_placed, are_apart, first_slot, is_text, still_stored, is_limited, LeftAfterAll, left_before};
+ghost use Rattle.sf_run.specs.Holding.{are_placed, are_apart, are_among, first_slot, is_text, still_stored, is_limited, LeftAfterAll, left_before};
 ghost use Rattle.sf_run.specs.declared.directive.Phase.TheVariants as phase;
 ghost use Rattle.sf_run.specs.Phases.{end_of, slot_in};
 ghost use Rattle.sf_run.specs.Pieces.{IsEnd};
@@ -21,8 +22,9 @@ ghost use Rattle.sf_report.specs.Steps.{StepEnd};
 
 use crate::directive::{Finished, Phase, Run, finish, run_on};
 use crate::feeding::{Fed, FeedState, StartFault};
+use crate::number::real_of;
 use crate::tally::Tally;
-use sf_base::{FixedStore, HeapStore, Number, Store, push_each};
+use sf_base::{FixedStore, HeapStore, Kind, Number, Real, Store, push_each};
 use sf_format::{Directive, ScanFormat};
 use sf_item::ItemScan;
 use sf_report::{Ending, Outcome, Report, Scanned, Status};
@@ -80,10 +82,11 @@ pub struct Scanner<'f, S: Store> {
     ghost converted: { tally.converted ≤ passed },
     ghost bounded: { tally.used ≤ limit },
 
-    // The slots are the store's, and those that were given something are those of the directives that have passed.
+    // The slots are the store's, and those that were given something are among those of the directives that have
+    // passed.
     ghost placed: { are_placed S.slots directives.now ≡ true },
     ghost apart: { are_apart (slots_of directives.now) ≡ true },
-    ghost given: { slots_in (S.kept store).values ≡ slots_of (take passed directives.now) },
+    ghost given: { are_among (slots_in (S.kept store).values) (slots_of (take passed directives.now)) ≡ true },
 
     // The opened text is that of the directive under way.
     ghost under_way: { opened_slot (S.kept store).opened ≡ slot_in phase },
@@ -183,6 +186,51 @@ impl<'f, S: Store> Scanner<'f, S> {
         self.phase = Phase::Skipping;
     }
 
+    /// The directive under way is missing, and stores nothing.
+    fn pass_over(&mut self, directive: &Directive)
+        requires current { slice_get self.old.directives.now self.old.passed ≡ Some directive.now }
+        requires no_text { slot_in self.old.phase ≡ None }
+        ensures { Passes (standing self.new) (standing self.old) directive.now StepEnd.Misses }
+    {
+        let _directive = directive;
+        self.passed += 1;
+        self.phase = Phase::Skipping;
+    }
+
+    /// The directive under way has passed, and gives its slot a float in place of the opened text.
+    fn set_real(&mut self, directive: &Directive, slot: u8, real: Real)
+        requires current { slice_get self.old.directives.now self.old.passed ≡ Some directive.now }
+        requires text { slot_in self.old.phase ≡ Some slot }
+        requires own { slot_of directive.now ≡ Some slot }
+        ensures { Passes (standing self.new) (standing self.old) directive.now (StepEnd.Stores slot (RealOf real)) }
+    {
+        let tally = self.tally.counted(directive, true);
+        self.store.drop_text();
+        self.store.set_real(slot, real);
+        self.tally = tally;
+        self.passed += 1;
+        self.phase = Phase::Skipping;
+    }
+
+    /// The directive under way has matched a float, whose bytes are the opened text.
+    fn read_real(&mut self, directive: &Directive, slot: u8, kind: Kind)
+        requires current { slice_get self.old.directives.now self.old.passed ≡ Some directive.now }
+        requires waits { self.old.ended ≡ None }
+        requires text { slot_in self.old.phase ≡ Some slot }
+        requires own { slot_of directive.now ≡ Some slot }
+        ensures ends { Ends (standing self.new) (standing self.old) directive.now
+            (real_end slot (real_at kind (text_of (kept_by self.old).opened))) }
+        ensures used { self.new.tally.used ≡ self.old.tally.used }
+        ensures keeps { Keeps (standing self.new) (standing self.old) }
+        ensures fewer { turns_left (standing self.new) < turns_left (standing self.old) }
+        ensures memory { ran_out (standing self.new) ≡ false }
+    {
+        match real_of(kind, self.store.opened()) {
+            Some(real) => self.set_real(directive, slot, real),
+            None => self.fail(Status::OutOfRange),
+        }
+    }
+
     /// Ends the directive under way so.
     fn close(&mut self, directive: &Directive, finished: Finished)
         requires current { slice_get self.old.directives.now self.old.passed ≡ Some directive.now }
@@ -212,6 +260,8 @@ impl<'f, S: Store> Scanner<'f, S> {
                 self.set(directive, slot, number)
             }
             Finished::Closes { slot } => self.close_text(directive, slot),
+            Finished::Reads { slot, kind } => self.read_real(directive, slot, kind),
+            Finished::Misses => self.pass_over(directive),
         }
     }
 

@@ -60,6 +60,7 @@ fn conversion_of(shape: Shape, width: Option<u16>) -> Conversion
         kind: Kind::I32,
         width,
         slot: None,
+        optional: false,
     }
 }
 
@@ -237,7 +238,7 @@ fn whole_item(reader: Reader, width: Option<u16>, text: &[u8]) -> Option<usize> 
         Shape::Text => text_item(most_of(width), text),
         Shape::Set(members) => members_item(&members, most_of(width), text),
         Shape::Chars => characters_item(most_of(width), text),
-        Shape::Int(_) | Shape::Count => None,
+        Shape::Int(_) | Shape::Float | Shape::Count => None,
     }
 }
 

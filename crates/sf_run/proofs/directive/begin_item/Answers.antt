@@ -29,11 +29,11 @@ returns-then-run-eq0-clause-answers c proper ink n =
     let some : 0 < length piece = search rules in
     let same : conversion_of c.start.result ≡ k = c.start.ensures.conversion in
     subst (λ (r : Run). Answers (Conv k) Skipping n piece r) (sym c.ends-then-run-eq0.ensures)
-    (nothing_taken k n piece proper.0 c.requires some (ink some) (λ can.
+    (nothing_taken k n piece c.finish_nothing.result proper.0 c.requires some (ink some) (λ can.
     let none : c.go_on-run.result.item ≡ 0 = c.if-run-eq0.true in
     c.go_on-run.ensures.stops [] c.start.ensures.nothing (omega (arith, none, some))
     (subst (λ i. CanTake (conversion_of c.start.result) (take (i + 1) piece)) (sym none)
-    (subst (λ (x : Conversion). CanTake x (take 1 piece)) (sym same) can))))
+    (subst (λ (x : Conversion). CanTake x (take 1 piece)) (sym same) can))) (c.finish_nothing.ensures.end []))
 
 pub returns-clause-answers : goal.returns-clause-answers
 returns-clause-answers c proper ink n =

@@ -8,5 +8,5 @@ returns-in-Some c n =
     let some = first.0 in
     record {
       answers = λ proper. byte_passes c.args.due n c.args.piece.now c.ranges.due.fits some (first.1 ∙ c.if-b-due.true);
-      fits = record { within = omega (arith, some); given = λ ok. refl; number = tt; memory = refl };
+      fits = record { within = omega (arith, some); given = λ ok some. refl; number = tt; memory = refl };
     }

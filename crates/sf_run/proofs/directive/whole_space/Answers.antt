@@ -8,5 +8,5 @@ returns c n =
     let below : c.space_before-before.result < length c.args.piece.now = omega (arith, e.within, c.if-before-piece.false) in
     record {
       answers = λ proper. space_ends c.args.piece.now n c.space_before-before.result e.within e.white below (e.next below);
-      fits = record { within = omega (arith, e.within); given = λ ok. refl; number = tt; memory = refl };
+      fits = record { within = omega (arith, e.within); given = λ ok some. refl; number = tt; memory = refl };
     }

@@ -4,7 +4,7 @@ use Rattle.sf_report.specs.Steps.{Stores}
 use Rattle.std.proofs.Common.{length, arith, true, refl, ◌∙◌}
 use Rattle.sf_run.specs.Scanner.{kept_by}
 use Rattle.sf_run.proofs.Moves.{place_taken}
-use Rattle.sf_run.proofs.Slots.{is_destination_of, slots_more, joined_text, closed_values, room_passed}
+use Rattle.sf_run.proofs.Slots.{is_destination_of, given_more, joined_text, closed_values, room_passed}
 use Rattle.sf_base.specs.Kept.{buffer_of}
 use Rattle.sf_run.proofs.Slots.{closed_capacity, size_passed, size_closed}
 use Rattle.sf_run.proofs.scanner.Scanner.close_text.Goals as goal
@@ -13,7 +13,7 @@ pub invariant_of-self-clause-given : goal.invariant_of-self-clause-given
 invariant_of-self-clause-given g c =
     let s = c.args.self.now in
     let closed = closed_values (kept_by s).values (kept_by s).opened c.args.slot (s.under_way ∙ c.requires.text) in
-    rw (c.close_text.ensures, closed) (slots_more s.directives.now s.passed c.args.directive.now
+    rw (c.close_text.ensures, closed) (given_more s.directives.now s.passed c.args.directive.now
     (kept_by s).values c.args.slot _ c.requires.current c.requires.own s.given)
 
 pub invariant_of-self-clause-joined : goal.invariant_of-self-clause-joined

@@ -2,7 +2,7 @@ use Rattle.std.proofs.Common.{◌≡◌, arith, ◌∙◌}
 use Rattle.sf_item.specs.Taking.{left_of}
 use Rattle.sf_run.specs.Holding.{left_before}
 use Rattle.sf_run.specs.Scanner.{kept_by}
-use Rattle.sf_run.proofs.Slots.{slot_of_own, slot_placed, slot_free, opened_none, left_first, open_limited, room_opened, text_own}
+use Rattle.sf_run.proofs.Slots.{slot_of_own, slot_placed, slot_unused, opened_none, left_first, open_limited, room_opened, text_own}
 use Rattle.sf_run.specs.Holding.{still_stored}
 use Rattle.sf_run.proofs.Slots.{size_begun}
 use Rattle.sf_run.proofs.scanner.Scanner.open.Goals as goal
@@ -14,7 +14,10 @@ pub open_text-requires-clause-in_range : goal.open_text-requires-clause-in_range
 open_text-requires-clause-in_range g c = grind (arith, slot_placed, slot_of_own)
 
 pub open_text-requires-clause-absent : goal.open_text-requires-clause-absent
-open_text-requires-clause-absent g c = grind (arith, slot_free, slot_of_own)
+open_text-requires-clause-absent g c =
+    let s = c.args.self.now in
+    slot_unused s.directives.now s.passed c.args.directive.now c.args.slot (kept_by s).values s.apart s.given c.requires.current
+    (slot_of_own c.args.directive.now c.args.slot c.requires.own)
 
 -- the bytes left as the text begins
 left : (g : _) (c : goal.After-start g) → left_of c.start.result ≡ left_before c.args.directive.now c.args.self.now.phase

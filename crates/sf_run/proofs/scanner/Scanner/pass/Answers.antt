@@ -2,13 +2,14 @@ use Rattle.sf_report.specs.Steps.{Passes}
 use Rattle.std.proofs.Common.{length, arith, false, refl, ◌∙◌}
 use Rattle.sf_run.specs.Scanner.{kept_by}
 use Rattle.sf_run.proofs.Moves.{place_taken}
-use Rattle.sf_run.proofs.Slots.{opened_none, slots_none, room_passed}
+use Rattle.sf_run.proofs.Slots.{opened_none, given_on, room_passed}
 use Rattle.sf_base.specs.Kept.{buffer_of}
 use Rattle.sf_run.proofs.Slots.{size_passed}
 use Rattle.sf_run.proofs.scanner.Scanner.pass.Goals as goal
 
 pub invariant_of-self-clause-given : goal.invariant_of-self-clause-given
-invariant_of-self-clause-given g c = grind (arith, slots_none)
+invariant_of-self-clause-given g c =
+    let s = c.args.self.now in given_on s.directives.now s.passed c.args.directive.now (kept_by s).values c.requires.current s.given
 
 pub invariant_of-self-clause-roomy : goal.invariant_of-self-clause-roomy
 invariant_of-self-clause-roomy g c bounded =

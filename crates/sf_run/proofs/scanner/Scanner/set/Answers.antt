@@ -3,7 +3,7 @@ use Rattle.sf_report.specs.Steps.{Stores}
 use Rattle.std.proofs.Common.{length, arith, true, refl, ◌∙◌}
 use Rattle.sf_run.specs.Scanner.{kept_by}
 use Rattle.sf_run.proofs.Moves.{place_taken}
-use Rattle.sf_run.proofs.Slots.{opened_none, is_destination_of, slots_more, slot_placed, slot_free, joined_number, room_passed}
+use Rattle.sf_run.proofs.Slots.{opened_none, is_destination_of, given_more, slot_placed, slot_unused, joined_number, room_passed}
 use Rattle.sf_base.specs.Kept.{buffer_of}
 use Rattle.sf_run.proofs.Slots.{size_passed}
 use Rattle.sf_run.proofs.scanner.Scanner.set.Goals as goal
@@ -15,12 +15,15 @@ pub set_number-requires-clause-in_range : goal.set_number-requires-clause-in_ran
 set_number-requires-clause-in_range g c = grind (arith, slot_placed)
 
 pub set_number-requires-clause-absent : goal.set_number-requires-clause-absent
-set_number-requires-clause-absent g c = grind (arith, slot_free)
+set_number-requires-clause-absent g c =
+    let s = c.args.self.now in
+    slot_unused s.directives.now s.passed c.args.directive.now c.args.slot (kept_by s).values s.apart s.given c.requires.current
+    c.requires.own
 
 pub invariant_of-self-clause-given : goal.invariant_of-self-clause-given
 invariant_of-self-clause-given g c =
     let s = c.args.self.now in
-    rw c.set_number.ensures (slots_more s.directives.now s.passed c.args.directive.now
+    rw c.set_number.ensures (given_more s.directives.now s.passed c.args.directive.now
     (kept_by s).values c.args.slot _ c.requires.current c.requires.own s.given)
 
 pub invariant_of-self-clause-joined : goal.invariant_of-self-clause-joined

@@ -1,0 +1,133 @@
+-- The texts that floats are read of, and the floats that are read.
+use Rattle.std.proofs.Common.{◌≡◌, ℕ, ◌+◌, ◌<◌, Bool, true, false, cond, ◌&&◌, nat_eq, List, [], ◌∷◌, ◌++◌, length, Option, Some, None, is_some, option_map, refl, sym, ap, subst, ◌∙◌, arith, true≢false, length-append}
+use Rattle.std.specs.Float.Ieee.{Format, binary32, binary64}
+use Rattle.std.proofs.lemmas.Bool.Decides.{nat_tests}
+use Rattle.sf_base.specs.Bytes.{is_white}
+use Rattle.sf_base.specs.declared.real.Real.TheVariants as reals
+use Rattle.sf_base.specs.declared.values.Kind.{Kind}
+use Rattle.sf_base.specs.declared.values.Kind.TheVariants as kinds
+use Rattle.sf_float_item.specs.declared.reached.Reached.{Reached}
+use Rattle.sf_float_item.specs.declared.reached.Reached.TheVariants as at
+use Rattle.sf_float_item.specs.Sequences.{IsFloat}
+use Rattle.sf_float_item.specs.Tests.{next, read, is_float, begins_float}
+use Rattle.sf_float_item.proofs.Deciding.{float_decided, read_more, read_nothing}
+use Rattle.sf_float_value.specs.Computed.{stored_in}
+use Rattle.sf_float_value.specs.Values.{IsStored}
+use Rattle.sf_float_value.proofs.StoredComputed.{stored_is_computed}
+use Rattle.sf_format.specs.declared.directive.Conversion.{Conversion}
+use Rattle.sf_format.specs.declared.directive.Shape.{Shape}
+use Rattle.sf_format.specs.declared.directive.Shape.TheVariants.{Float}
+use Rattle.sf_item.specs.declared.item.ItemScan.{ItemScan}
+use Rattle.sf_item.specs.declared.reading.Reading.{Reading}
+use Rattle.sf_item.specs.declared.reading.Reading.TheVariants as reading
+use Rattle.sf_item.specs.Scan.{HasLeft, HasRead, most_bytes, shape_of}
+use Rattle.sf_item.specs.Taking.{HasTaken, conversion_of}
+use Rattle.sf_item.specs.Tests.{can_take, is_within, shape_begins}
+use Rattle.sf_report.specs.Machine.{real_at, real_in}
+
+-- ---- no white space is read
+
+white_is : (P : ℕ → Type 0) (b : ℕ) → P 9 → P 10 → P 11 → P 12 → P 13 → P 32 → is_white b ≡ true → P b
+white_is P b p9 p10 p11 p12 p13 p32 white = grind (arith, nat_tests)
+
+next_white : (r : Reached) (b : ℕ) → is_white b ≡ true → is_some (next r b) ≡ false
+next_white r b white = white_is (λ n. is_some (next r n) ≡ false) b (tab r) (newline r) (vertical r) (feed r) (back r) (blank r) white
+  where
+    tab : (r : Reached) → is_some (next r 9) ≡ false
+    tab r = grind arith
+
+    newline : (r : Reached) → is_some (next r 10) ≡ false
+    newline r = grind arith
+
+    vertical : (r : Reached) → is_some (next r 11) ≡ false
+    vertical r = grind arith
+
+    feed : (r : Reached) → is_some (next r 12) ≡ false
+    feed r = grind arith
+
+    back : (r : Reached) → is_some (next r 13) ≡ false
+    back r = grind arith
+
+    blank : (r : Reached) → is_some (next r 32) ≡ false
+    blank r = grind arith
+
+pub float_ink : (f : List ℕ) (b : ℕ) → begins_float (f ++ b ∷ []) ≡ true → is_white b ≡ false
+float_ink f b h = by (is_white b) refl
+  where
+    last : (o : Option Reached) → is_some (read o (b ∷ [])) ≡ true → is_white b ≡ true → ⊥
+    last None e white = true≢false (sym e)
+    last (Some r) e white = true≢false (sym e ∙ ap is_some (read_nothing (next r b)) ∙ next_white r b white)
+
+    by : (v : Bool) → is_white b ≡ v → v ≡ false
+    by false e = refl
+    by true e = absurd (last (read (Some at.Start) f) (ap is_some (sym (read_more (Some at.Start) f (b ∷ []))) ∙ h) e)
+
+-- ---- what a scan has taken says what it takes next
+
+read_alike : (reading : Reading) (f g : List ℕ) (b : ℕ) → shape_of reading ≡ Float → HasRead reading f → HasRead reading g
+    → begins_float (f ++ b ∷ []) ≡ begins_float (g ++ b ∷ [])
+read_alike (reading.Integer base reached) f g b is h k = absurd cc
+read_alike reading.Text f g b is h k = absurd cc
+read_alike (reading.Set members) f g b is h k = absurd cc
+read_alike reading.Chars f g b is h k = absurd cc
+read_alike (reading.Float scan) f g b is h k =
+    ap is_some (read_more (Some at.Start) f (b ∷ []) ∙ ap (λ o. read o (b ∷ [])) (h ∙ sym k) ∙ sym (read_more (Some at.Start) g (b ∷ [])))
+
+within_alike : (width left : Option ℕ) (n m : ℕ) → HasLeft width left n → HasLeft width left m
+    → is_within width (n + 1) ≡ is_within width (m + 1)
+within_alike width left n m h k = grind arith
+
+-- after both of two items that one scan of a float may have taken, the same bytes are taken
+pub float_alike : (scan : ItemScan) (f g : List ℕ) (b : ℕ) → (conversion_of scan).shape ≡ Float → HasTaken scan f → HasTaken scan g
+    → can_take (conversion_of scan) (f ++ b ∷ []) ≡ can_take (conversion_of scan) (g ++ b ∷ [])
+float_alike scan f g b is h k =
+    let c : Conversion = conversion_of scan in
+    let left : HasLeft c.width scan.left (length f) = subst (λ s. HasLeft (most_bytes s c.width) scan.left (length f)) is h.left in
+    let same : HasLeft c.width scan.left (length g) = subst (λ s. HasLeft (most_bytes s c.width) scan.left (length g)) is k.left in
+    let within : is_within c.width (length (f ++ b ∷ [])) ≡ is_within c.width (length (g ++ b ∷ [])) =
+    ap (is_within c.width) (length-append f (b ∷ [])) ∙ within_alike c.width scan.left (length f) (length g) left same
+    ∙ ap (is_within c.width) (sym (length-append g (b ∷ []))) in
+    ap (λ v. v && shape_begins c.shape c.width (f ++ b ∷ [])) within
+    ∙ ap (λ s. is_within c.width (length (g ++ b ∷ [])) && shape_begins s c.width (f ++ b ∷ [])) is
+    ∙ ap (λ v. is_within c.width (length (g ++ b ∷ [])) && v) (read_alike scan.reading f g b (h.shape ∙ is) h.read k.read)
+    ∙ ap (λ s. is_within c.width (length (g ++ b ∷ [])) && shape_begins s c.width (g ++ b ∷ [])) (sym is)
+
+-- ---- the float that is read
+
+-- what is stored of a matching sequence is what the function computes
+pub stored_is : (format : Format) (item : List ℕ) (bits : Option ℕ) → IsStored format item bits → bits ≡ stored_in format item
+stored_is format item bits h = ((stored_is_computed format item).1 bits h).1
+
+-- the test, by what it tests
+pub float_test : (item : List ℕ) (test : Bool) → (test ≡ true → IsFloat item) → (IsFloat item → test ≡ true) → is_float item ≡ test
+float_test item true to from = (float_decided item).1 (to refl)
+float_test item false to from = by (is_float item) refl
+  where
+    by : (v : Bool) → is_float item ≡ v → v ≡ false
+    by false e = refl
+    by true e = absurd (true≢false (sym (from ((float_decided item).0 e))))
+
+pub no_float : (kind : Kind) (item : List ℕ) → is_float item ≡ false → None ≡ real_at kind item
+no_float kind item e = ap (λ v. cond v (real_in kind item) None) (sym e)
+
+pub float_in : (kind : Kind) (item : List ℕ) → is_float item ≡ true → real_in kind item ≡ real_at kind item
+float_in kind item e = ap (λ v. cond v (real_in kind item) None) (sym e)
+
+pub read_f32 : (kind : Kind) (item : List ℕ) (bits : Option ℕ) → kind ≡ kinds.F32 → is_float item ≡ true → IsStored binary32 item bits
+    → option_map reals.F32 bits ≡ real_at kind item
+read_f32 kind item bits own is h = ap (option_map reals.F32) (stored_is binary32 item bits h) ∙ ap (λ k. real_in k item) (sym own)
+    ∙ float_in kind item is
+
+pub read_f64 : (kind : Kind) (item : List ℕ) (bits : Option ℕ) → kind ≡ kinds.F64 → is_float item ≡ true → IsStored binary64 item bits
+    → option_map reals.F64 bits ≡ real_at kind item
+read_f64 kind item bits own is h = ap (option_map reals.F64) (stored_is binary64 item bits h) ∙ ap (λ k. real_in k item) (sym own)
+    ∙ float_in kind item is
+
+pub no_real : (kind : Kind) (item : List ℕ) → (kind ≡ kinds.F32 → ⊥) → (kind ≡ kinds.F64 → ⊥) → None ≡ real_at kind item
+no_real kind item no32 no64 = by (is_float item) kind refl
+  where
+    by : (v : Bool) (k : Kind) → kind ≡ k → None ≡ cond v (real_in kind item) None
+    by false k e = refl
+    by true kinds.F32 e = absurd (no32 e)
+    by true kinds.F64 e = absurd (no64 e)
+    by true k e = grind arith
